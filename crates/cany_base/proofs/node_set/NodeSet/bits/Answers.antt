@@ -1,0 +1,5 @@
+use Rattle.cany_base.specs.NodesLaws.{AllBelow-bits}
+use Rattle.cany_base.proofs.node_set.NodeSet.bits.Goals as goal
+
+pub returns-clause-below : goal.returns-clause-below
+returns-clause-below c = rw (← c.self.view_is) (AllBelow-bits (record { bits = c.self.inside.bits }) c.self.invariant)

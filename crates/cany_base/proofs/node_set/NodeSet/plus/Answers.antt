@@ -1,0 +1,5 @@
+use Rattle.cany_base.specs.NodesLaws.{has_or}
+use Rattle.cany_base.proofs.node_set.NodeSet.plus.Goals as goal
+
+pub returns : goal.returns
+returns c i = rw (← c.self.view_is, ← c.o.view_is) (has_or c.self.inside.bits c.o.inside.bits i)

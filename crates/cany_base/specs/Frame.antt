@@ -1,0 +1,70 @@
+-- A frame, the class table, and where its fields lie in the identifier.
+use Rattle.std.specs.Prelude.{◌≡◌, ℕ, ◌+◌, ◌*◌, ◌^◌, Bool, true, false, if◌then◌else◌, List, [], length}
+use Rattle.cany_base.specs.declared.frame.Class.{Class}
+use Rattle.cany_base.specs.declared.frame.Class.TheVariants.{Accept, Rha, Els, Fda, Join, Leave, Confirm, Tot, Rel, Ed}
+use Rattle.cany_base.specs.declared.message.Service.{Service}
+use Rattle.cany_base.specs.declared.message.Service.TheVariants as service
+
+pub record FrameParts : Type 0 where
+  pub class : Class
+  pub number : ℕ
+  pub node : ℕ
+  pub inc : ℕ
+  pub payload : List ℕ
+
+-- the number of a class in the identifier
+abbrev pub class_number : Class → ℕ
+class_number Accept = 0
+class_number Rha = 1
+class_number Els = 2
+class_number Fda = 3
+class_number Join = 4
+class_number Leave = 5
+class_number Confirm = 6
+class_number Tot = 7
+class_number Rel = 8
+class_number Ed = 9
+
+-- whether the frames of a class are remote frames
+abbrev pub is_remote : Class → Bool
+is_remote Rha = false
+is_remote Tot = false
+is_remote Rel = false
+is_remote Ed = false
+is_remote Accept = true
+is_remote Els = true
+is_remote Fda = true
+is_remote Join = true
+is_remote Leave = true
+is_remote Confirm = true
+
+-- the bytes that a frame of a class carries: none in a remote frame, four in a vector
+abbrev pub FitsClass : Class → List ℕ → Type 0
+FitsClass Rha payload = length payload ≡ 4
+FitsClass Tot payload = Unit {0}
+FitsClass Rel payload = Unit {0}
+FitsClass Ed payload = Unit {0}
+FitsClass Accept payload = payload ≡ []
+FitsClass Els payload = payload ≡ []
+FitsClass Fda payload = payload ≡ []
+FitsClass Join payload = payload ≡ []
+FitsClass Leave payload = payload ≡ []
+FitsClass Confirm payload = payload ≡ []
+
+-- what is true of every frame
+abbrev pub IsFormed : Class → ℕ → List ℕ → Type 0
+IsFormed class inc payload = (inc ≡ 0) × FitsClass class payload
+
+-- the class of a message's data frame
+abbrev pub data_class : Service → Class
+data_class service.Ed = Ed
+data_class service.Rel = Rel
+data_class service.Tot = Tot
+
+-- class in bits 28 to 25, number in bits 24 to 9, node in bits 8 to 4, and four bits that are 0
+abbrev pub identifier_of : FrameParts → ℕ
+identifier_of f = class_number f.class * 2 ^ 25 + f.number * 2 ^ 9 + f.node * 2 ^ 4
+
+-- the smaller key wins arbitration: of one identifier a data frame beats a remote frame
+abbrev pub key_of : FrameParts → ℕ
+key_of f = 2 * identifier_of f + (if is_remote f.class then 1 else 0)

@@ -1,0 +1,10 @@
+pub mod Bounded
+pub mod Frame
+pub mod Nodes
+pub mod NodesLaws
+pub mod Params
+pub mod ParamsFields
+pub mod Payload
+pub mod PayloadBytes
+pub mod Scenario
+pub mod ScenarioFields

@@ -1,0 +1,32 @@
+-- A set of nodes. Above this crate two words speak of one: whether it has a node, and the set of those where a test holds.
+use Rattle.std.specs.Prelude.{ℕ, zero, suc, ◌+◌, ◌^◌, ◌<◌, ◌==◌, Bool, List, count_by, IsTrue, if◌then◌else◌}
+use Rattle.std.specs.Int.{bit_at}
+use Rattle.std.specs.List.{range_with_len}
+
+-- node i is in the set where bit i is 1
+pub record Nodes : Type 0 where
+  pub bits : ℕ
+
+unfoldable pub has : Nodes → ℕ → Bool
+has nodes node = bit_at nodes.bits node == 1
+
+-- the sum of 2 ^ i over the i below n at which the test holds
+unfoldable pub bits_where : (ℕ → Bool) → ℕ → ℕ
+bits_where test zero = 0
+bits_where test (suc n) = bits_where test n + (if test n then 2 ^ n else 0)
+
+-- the set of the nodes, of those that there can be, at which the test holds
+unfoldable pub those_where : (ℕ → Bool) → Nodes
+those_where test = record { bits = bits_where test 32 }
+
+-- the numbers of the nodes that there can be, ascending
+abbrev pub node_numbers : List ℕ
+node_numbers = range_with_len 0 32
+
+-- how many nodes the set has
+abbrev pub node_count : Nodes → ℕ
+node_count nodes = count_by (has nodes) node_numbers
+
+-- each node of the set is below the bound
+abbrev pub AllBelow : ℕ → Nodes → Type 0
+AllBelow bound nodes = (node : ℕ) → IsTrue (has nodes node) → node < bound

@@ -1,0 +1,61 @@
+-- A scenario, and when its parts are legal.
+use Rattle.std.specs.Prelude.{◌≡◌, ◌<◌, ◌≤◌, ◌≢◌, List, length, Option, All, AllPairs}
+use Rattle.cany_base.specs.declared.message.SendAsk.{SendAsk}
+use Rattle.cany_base.specs.declared.message.NodeAsk.{NodeAsk}
+use Rattle.cany_base.specs.declared.rule.Rule.{Rule}
+use Rattle.cany_base.specs.declared.rule.Place.{Place}
+use Rattle.cany_base.specs.declared.rule.Place.TheVariants.{At, FrameNth}
+use Rattle.cany_base.specs.declared.rule.Verdict.{Verdict}
+use Rattle.cany_base.specs.declared.rule.Verdict.TheVariants.{Clean, Lost, Partial, Silent}
+use Rattle.cany_base.specs.declared.step.Step.{Step}
+use Rattle.cany_base.specs.Nodes.{Nodes, AllBelow}
+use Rattle.cany_base.specs.Params.{Parameters, IsInRange, MeetsFormulas}
+
+pub record ScenarioParts : Type 0 where
+  pub params : Parameters
+  pub members : Nodes
+  pub sends : List SendAsk
+  pub rules : List Rule
+  pub joins : List NodeAsk
+  pub leaves : List NodeAsk
+  pub journal : Option (List Step)
+
+-- a scripted broadcast happens in a slot of the run, at a node of the bus
+abbrev pub IsSendOf : Parameters → SendAsk → Type 0
+IsSendOf p send = (send.slot < p.slots) × (send.node < p.nodes)
+
+abbrev pub IsAskOf : Parameters → NodeAsk → Type 0
+IsAskOf p ask = (ask.slot < p.slots) × (ask.node < p.nodes)
+
+abbrev pub IsPlaceOf : Parameters → Place → Type 0
+IsPlaceOf p (At slot) = slot < p.slots
+IsPlaceOf p (FrameNth class number node nth) = (node < p.nodes) × (1 ≤ nth) × (nth ≤ 100000)
+
+-- the set of a verdict has nodes of the bus alone
+abbrev pub IsVerdictOf : Parameters → Verdict → Type 0
+IsVerdictOf p Clean = Unit {0}
+IsVerdictOf p Lost = Unit {0}
+IsVerdictOf p (Partial reject) = AllBelow p.nodes reject
+IsVerdictOf p (Silent reject) = AllBelow p.nodes reject
+
+pub record IsRuleOf (p : Parameters) (rule : Rule) : Type 0 where
+  pub place : IsPlaceOf p rule.place
+  pub verdict : IsVerdictOf p rule.verdict
+  pub stop : AllBelow p.nodes rule.stop
+
+abbrev pub HaveOnePlace : Rule → Rule → Type 0
+HaveOnePlace a b = a.place ≡ b.place
+
+pub record IsLegalScenario (s : ScenarioParts) : Type 0 where
+  pub in_range : IsInRange s.params
+  pub formulas : MeetsFormulas s.params
+  pub members : AllBelow s.params.nodes s.members
+  pub sends : All (IsSendOf s.params) s.sends
+  pub rules : All (IsRuleOf s.params) s.rules
+  pub joins : All (IsAskOf s.params) s.joins
+  pub leaves : All (IsAskOf s.params) s.leaves
+  pub few_sends : length s.sends ≤ 20000
+  pub few_rules : length s.rules ≤ 20000
+  pub few_joins : length s.joins ≤ 1000
+  pub few_leaves : length s.leaves ≤ 1000
+  pub places : AllPairs (λ a b. a.place ≢ b.place) s.rules

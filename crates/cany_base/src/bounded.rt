@@ -1,0 +1,132 @@
+ghost use Rattle.std.specs.Prelude.{◌≡◌, ◌+◌, ◌<◌, ◌≤◌, ◌↔◌, [], ◌∷◌, ◌++◌, length, slice_get, slice_set, Some, IfOk, IsTrue};
+ghost use Rattle.std.specs.List.{swap_remove};
+ghost use Rattle.cany_base.specs.Bounded.{Bounded};
+
+use crate::memory::Memory;
+use std::alloc::Global;
+use std::marker::Model;
+
+/// A list whose memory is all taken when it is built: it holds at most `room` items, and no call after `build`
+/// takes memory.
+#[derive(Debug, Drop)]
+pub struct BoundedVec<T> {
+    items: Vec<T>,
+    room: usize,
+}
+
+impl<T> Model for BoundedVec<T> {
+    ghost use Rattle.std.specs.Prelude.{◌≤◌, length, vec_capacity};
+    ghost use Rattle.cany_base.specs.Bounded.{Bounded, bounded_code};
+
+    ghost Value = { Bounded T };
+
+    ghost coded = { bounded_code T.code };
+
+    ghost view = { λ b. record { items = b.items.items; room = b.room } };
+
+    ghost invariant = { λ b. (length b.items.items ≤ b.room) × (b.room ≤ vec_capacity b.items) };
+}
+
+impl<T> BoundedVec<T> {
+    /// An empty list with room for so many items.
+    pub fn build(alloc: Global, room: usize) -> Result<BoundedVec<T>, Memory>
+        ensures { IfOk result (λ list. list ≡ record { items = []; room = room }) }
+    {
+        let items = Vec::with_capacity(alloc, room)?;
+        Ok(BoundedVec { items, room })
+    }
+
+    /// How many items the list can hold.
+    pub fn room(&self) -> usize
+        ensures room { result ≡ self.now.room }
+        ensures fits { length self.now.items ≤ result }
+    {
+        self.room
+    }
+
+    pub fn len(&self) -> usize
+        ensures len { result ≡ length self.now.items }
+        ensures fits { result ≤ self.now.room }
+    {
+        self.items.len()
+    }
+
+    pub fn is_empty(&self) -> bool
+        ensures { IsTrue result ↔ (self.now.items ≡ []) }
+    {
+        self.items.is_empty()
+    }
+
+    pub fn is_full(&self) -> bool
+        ensures full { IsTrue result ↔ (self.now.room ≤ length self.now.items) }
+        ensures fits { length self.now.items ≤ self.now.room }
+    {
+        self.items.len() == self.room
+    }
+
+    /// How many items may still be pushed.
+    pub fn spare(&self) -> usize
+        ensures { result + length self.now.items ≡ self.now.room }
+    {
+        self.room - self.items.len()
+    }
+
+    pub fn as_slice(&self) -> &[T]
+        ensures items { result.now ≡ self.now.items }
+        ensures fits { length result.now ≤ self.now.room }
+    {
+        self.items.as_slice()
+    }
+
+    /// Appends an item.
+    pub fn push(&mut self, item: T)
+        requires { length self.old.items < self.old.room }
+        ensures { self.new ≡ record { items = self.old.items ++ item ∷ []; room = self.old.room } }
+    {
+        self.items.push_reserved(item);
+    }
+
+    /// Removes the item at a place, which the last item takes.
+    pub fn swap_remove(&mut self, i: usize) -> T
+        requires { i < length self.old.items }
+        ensures item { slice_get self.old.items i ≡ Some result }
+        ensures items { self.new.items ≡ swap_remove self.old.items i result }
+        ensures room { self.new.room ≡ self.old.room }
+    {
+        self.items.swap_remove(i)
+    }
+}
+
+impl<T: Drop> BoundedVec<T> {
+    /// Removes all items. The room stays.
+    pub fn clear(&mut self)
+        ensures { self.new ≡ record { items = []; room = self.old.room } }
+    {
+        self.items.clear();
+    }
+
+    /// Puts an item in the place of the one that stands there.
+    pub fn set(&mut self, i: usize, item: T)
+        requires { i < length self.old.items }
+        ensures { self.new ≡ record { items = slice_set self.old.items i item; room = self.old.room } }
+    {
+        self.items[i] = item;
+    }
+}
+
+impl<T: Copy> BoundedVec<T> {
+    /// Appends a copy of an item.
+    pub fn push_copy(&mut self, item: &T)
+        requires { length self.old.items < self.old.room }
+        ensures { self.new ≡ record { items = self.old.items ++ item.now ∷ []; room = self.old.room } }
+    {
+        self.push(*item);
+    }
+
+    pub fn get(&self, i: usize) -> T
+        requires { i < length self.now.items }
+        ensures { slice_get self.now.items i ≡ Some result }
+    {
+        self.items[i]
+    }
+}

@@ -1,0 +1,38 @@
+//! The plain types that every layer shares: nodes and sets of nodes, frames, notices, scenarios and their parameters.
+#![tactic(auto)]
+
+mod actions;
+mod bounded;
+mod frame;
+pub mod laws;
+mod log_entry;
+mod memory;
+mod message;
+mod node;
+mod node_set;
+mod notice;
+mod params;
+mod payload;
+mod rule;
+mod scenario;
+mod sharing;
+mod slot_note;
+mod step;
+#[cfg(test)]
+mod tests;
+
+pub use actions::{Action, Actions};
+pub use bounded::BoundedVec;
+pub use frame::{Class, Format, Frame};
+pub use log_entry::LogEntry;
+pub use memory::Memory;
+pub use message::{MsgKey, NodeAsk, SendAsk, Service};
+pub use node::NodeId;
+pub use node_set::NodeSet;
+pub use notice::{Notice, NoticeKind, Slot};
+pub use params::{ParamFault, ParamName, Params};
+pub use payload::Payload;
+pub use rule::{Place, Rule, Verdict};
+pub use scenario::Scenario;
+pub use slot_note::SlotNote;
+pub use step::Step;

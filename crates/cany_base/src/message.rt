@@ -1,0 +1,34 @@
+use crate::node::NodeId;
+use crate::notice::Slot;
+use crate::payload::Payload;
+
+/// The broadcast protocol that carries a message: EDCAN, RELCAN or TOTCAN.
+#[derive(Clone, Copy, Debug, PartialEq, Eq)]
+pub enum Service {
+    Ed,
+    Rel,
+    Tot,
+}
+
+/// Names a message: its origin, and its place among the messages of that origin, counted from 0 over all services.
+#[derive(Clone, Copy, Debug, PartialEq, Eq)]
+pub struct MsgKey {
+    pub origin: NodeId,
+    pub seq: u16,
+}
+
+/// A scripted broadcast: in its turn of `slot` the node sends the payload by the service.
+#[derive(Clone, Copy, Debug, PartialEq, Eq)]
+pub struct SendAsk {
+    pub slot: Slot,
+    pub node: NodeId,
+    pub service: Service,
+    pub payload: Payload,
+}
+
+/// A scripted join or leave: in its turn of `slot` the node asks for it.
+#[derive(Clone, Copy, Debug, PartialEq, Eq)]
+pub struct NodeAsk {
+    pub slot: Slot,
+    pub node: NodeId,
+}

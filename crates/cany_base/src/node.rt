@@ -1,0 +1,43 @@
+ghost use Rattle.std.specs.Prelude.{◌≡◌, ◌<◌, ◌↔◌, ℕ, IsSome, IfSome};
+
+use std::marker::Model;
+
+/// The number of a node on the bus, 0 to 31.
+#[derive(Clone, Copy, Debug, PartialEq, Eq, PartialOrd, Ord)]
+pub struct NodeId {
+    number: u8,
+}
+
+impl Model for NodeId {
+    ghost Value = { ℕ };
+
+    ghost view = { λ node. node.number };
+
+    ghost invariant = { λ node. node.number < 32 };
+
+    ghost inverse = { λ number. record { number = number } };
+}
+
+impl NodeId {
+    /// How many nodes there can be.
+    pub const COUNT: u8 = 32;
+
+    /// The node of this number, if there can be one.
+    pub fn new(n: u8) -> Option<NodeId>
+        ensures found { IsSome result ↔ (n < 32) }
+        ensures value { IfSome result (λ node. node ≡ n) }
+    {
+        if n < NodeId::COUNT {
+            Some(NodeId { number: n })
+        } else {
+            None
+        }
+    }
+
+    pub fn get(self) -> u8
+        ensures value { result ≡ self }
+        ensures in_range { result < 32 }
+    {
+        self.number
+    }
+}

@@ -1,0 +1,133 @@
+ghost use Rattle.std.specs.Prelude.{◌≡◌, ◌<◌, ◌≤◌, ◌↔◌, ◌==◌, ◌&&◌, ◌||◌, ℕ, not, nat_lt, false, IsTrue, IsSome, IfSome, IfNone};
+ghost use Rattle.cany_base.specs.Nodes.{has, node_count, AllBelow};
+
+use crate::node::NodeId;
+use std::marker::Model;
+
+/// A set of nodes.
+#[derive(Clone, Copy, Debug, PartialEq, Eq)]
+pub struct NodeSet {
+    bits: u32,
+}
+
+impl Model for NodeSet {
+    ghost use Rattle.std.specs.Prelude.{◌<◌, ◌^◌};
+    ghost use Rattle.cany_base.specs.Nodes.{Nodes};
+
+    ghost Value = { Nodes };
+
+    ghost view = { λ set. record { bits = set.bits } };
+
+    ghost invariant = { λ set. set.bits < 2 ^ 32 };
+
+    ghost inverse = { λ nodes. record { bits = nodes.bits } };
+}
+
+impl NodeSet {
+    pub fn empty() -> NodeSet
+        ensures { (i : ℕ) → has result i ≡ false }
+    {
+        NodeSet { bits: 0 }
+    }
+
+    /// The nodes below `nodes`.
+    pub fn all(nodes: u8) -> NodeSet
+        requires { nodes ≤ 32 }
+        ensures has { (i : ℕ) → has result i ≡ nat_lt i nodes }
+        ensures below { AllBelow nodes result }
+    {
+        if nodes < 32 {
+            NodeSet {
+                bits: (1u32 << nodes) - 1,
+            }
+        } else {
+            NodeSet { bits: u32::MAX }
+        }
+    }
+
+    /// The set that has node i where bit i is 1.
+    pub fn of_bits(bits: u32) -> NodeSet
+        ensures { result ≡ record { bits = bits } }
+    {
+        NodeSet { bits }
+    }
+
+    /// The number whose bit i is 1 where the set has node i.
+    pub fn bits(self) -> u32
+        ensures bits { result ≡ self.bits }
+        ensures below { AllBelow 32 self }
+    {
+        self.bits
+    }
+
+    pub fn insert(&mut self, n: NodeId)
+        ensures { (i : ℕ) → has self.new i ≡ (has self.old i || i == n) }
+    {
+        self.bits |= 1u32 << n.get();
+    }
+
+    pub fn remove(&mut self, n: NodeId)
+        ensures { (i : ℕ) → has self.new i ≡ (has self.old i && not (i == n)) }
+    {
+        self.bits &= !(1u32 << n.get());
+    }
+
+    pub fn has(self, n: NodeId) -> bool
+        ensures { result ≡ has self n }
+    {
+        (self.bits >> n.get()) & 1 == 1
+    }
+
+    /// The nodes that stand in both sets.
+    pub fn meet(self, o: NodeSet) -> NodeSet
+        ensures { (i : ℕ) → has result i ≡ (has self i && has o i) }
+    {
+        NodeSet {
+            bits: self.bits & o.bits,
+        }
+    }
+
+    /// The nodes that stand in one of the sets, or in both.
+    pub fn plus(self, o: NodeSet) -> NodeSet
+        ensures { (i : ℕ) → has result i ≡ (has self i || has o i) }
+    {
+        NodeSet {
+            bits: self.bits | o.bits,
+        }
+    }
+
+    /// The nodes of this set that do not stand in the other.
+    pub fn minus(self, o: NodeSet) -> NodeSet
+        ensures { (i : ℕ) → has result i ≡ (has self i && not (has o i)) }
+    {
+        NodeSet {
+            bits: self.bits & !o.bits,
+        }
+    }
+
+    /// How many nodes the set has.
+    pub fn count(self) -> u32
+        ensures count { result ≡ node_count self }
+        ensures small { result ≤ 32 }
+    {
+        let mut count = 0;
+        for i in 0..32u8 {
+            if (self.bits >> i) & 1 == 1 {
+                count += 1;
+            }
+        }
+        count
+    }
+
+    /// The node of the smallest number.
+    pub fn least(self) -> Option<NodeId>
+        ensures none { IfNone result ((i : ℕ) → has self i ≡ false) }
+        ensures found { IfSome result (λ node. IsTrue (has self node)) }
+        ensures least { IfSome result (λ node. (i : ℕ) → IsTrue (has self i) → node ≤ i) }
+    {
+        if self.bits == 0 {
+            return None;
+        }
+        NodeId::new(self.bits.trailing_zeros() as u8)
+    }
+}

@@ -1,0 +1,106 @@
+ghost use Rattle.std.specs.Prelude.{◌≡◌, ◌<◌, ◌≤◌, ◌↔◌, IsOk, IfErr};
+
+use crate::frame::Format;
+use std::marker::Model;
+use thiserror::Error;
+
+/// The parameters of a scenario. Times are in slots.
+#[derive(Clone, Copy, Debug, PartialEq, Eq)]
+pub struct Params {
+    pub format: Format,
+    /// How many nodes there are: 2 to 32.
+    pub nodes: u8,
+    /// How many unread notices a node may have when a slot runs: 0 to 8.
+    pub lag: u32,
+    /// How many Partial slots an identity may meet: 0 to 8.
+    pub omit: u32,
+    /// How many Lost or Partial slots there may be in a window of `bound + lag` slots: 0 to 1000.
+    pub errors: u32,
+    /// The bound: 1 to 4,000,000.
+    pub bound: u64,
+    /// The length of a membership cycle: 1 to 4,000,000.
+    pub cycle: u64,
+    /// The life interval: 1 to 4,000,000.
+    pub life: u64,
+    /// The silence limit: 1 to 4,000,000.
+    pub silence: u64,
+    /// The confirm timer of RELCAN: 1 to 4,000,000.
+    pub confirm: u64,
+    /// The length of the run: 1 to 100,000.
+    pub slots: u64,
+}
+
+impl Model for Params {
+    ghost use Rattle.cany_base.specs.Params.{Parameters, IsInRange};
+
+    ghost Value = { Parameters };
+
+    ghost use Rattle.cany_base.specs.ParamsFields.{parameters_of, fields_of};
+
+    ghost view = { parameters_of };
+
+    ghost invariant = { λ p. IsInRange (parameters_of p) };
+
+    ghost inverse = { fields_of };
+}
+
+/// A parameter that a formula bounds from below, or from above for `Confirm`.
+#[derive(Clone, Copy, Debug, PartialEq, Eq)]
+pub enum ParamName {
+    Bound,
+    Cycle,
+    Life,
+    Silence,
+    Confirm,
+}
+
+/// The first formula that fails, by the parameter that it bounds. `needed` is the least value that it allows, and for
+/// `Confirm` the greatest.
+#[derive(Clone, Copy, Debug, PartialEq, Eq, Error)]
+#[error("{which:?} needs {needed}")]
+pub struct ParamFault {
+    pub which: ParamName,
+    pub needed: u64,
+}
+
+impl Params {
+    ghost use Rattle.cany_base.specs.Params.{Parameters, IsInRange, MeetsFormulas, first_fault};
+
+    /// Checks the formulas in their order: those of the bound, the cycle, the life interval, the silence limit and the
+    /// confirm timer.
+    pub fn check(&self) -> Result<(), ParamFault>
+        ensures first { result ≡ first_fault self.now }
+        ensures ok { IsOk result ↔ MeetsFormulas self.now }
+    {
+        let nodes = u64::from(self.nodes);
+        let lag = u64::from(self.lag);
+        let errors = u64::from(self.errors);
+        let top_frames = 3 * nodes * nodes + 2 * nodes;
+        let bound = 1 + top_frames + errors + lag * (top_frames + errors + nodes + 1);
+        at_least(ParamName::Bound, self.bound, bound)?;
+        at_least(ParamName::Cycle, self.cycle, 2 * self.bound + 2 * lag)?;
+        at_least(ParamName::Life, self.life, self.bound + lag)?;
+        at_least(
+            ParamName::Silence,
+            self.silence,
+            self.life + lag + self.bound + 1,
+        )?;
+        if self.confirm > self.cycle {
+            return Err(ParamFault {
+                which: ParamName::Confirm,
+                needed: self.cycle,
+            });
+        }
+        Ok(())
+    }
+}
+
+fn at_least(which: ParamName, value: u64, needed: u64) -> Result<(), ParamFault>
+    ensures ok { IsOk result ↔ (needed ≤ value) }
+    ensures fault { IfErr result (λ fault. fault ≡ record { which = which; needed = needed }) }
+{
+    if value < needed {
+        return Err(ParamFault { which, needed });
+    }
+    Ok(())
+}

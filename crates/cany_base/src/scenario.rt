@@ -1,0 +1,150 @@
+ghost use Rattle.std.specs.Prelude.{◌≡◌, IfOk, Option, option_map};
+ghost use Rattle.std.specs.Option.{option_copied};
+
+use crate::memory::Memory;
+use crate::message::{NodeAsk, SendAsk};
+use crate::node_set::NodeSet;
+use crate::params::Params;
+use crate::rule::Rule;
+use crate::step::Step;
+use std::alloc::Global;
+use std::marker::Model;
+
+/// What a run is made from: the parameters, view 0, the scripted asks, the fault rules, and the journal if one is given.
+#[derive(Debug, Drop)]
+pub struct Scenario {
+    params: Params,
+    members: NodeSet,
+    sends: Vec<SendAsk>,
+    rules: Vec<Rule>,
+    joins: Vec<NodeAsk>,
+    leaves: Vec<NodeAsk>,
+    journal: Option<Vec<Step>>,
+}
+
+impl Model for Scenario {
+    ghost use Rattle.cany_base.specs.Scenario.{ScenarioParts, IsLegalScenario};
+
+    ghost Value = { ScenarioParts };
+
+    ghost use Rattle.cany_base.specs.ScenarioFields.{parts_of};
+
+    ghost view = { parts_of };
+
+    ghost invariant = { λ s. IsLegalScenario (parts_of s) };
+}
+
+impl Scenario {
+    ghost use Rattle.cany_base.specs.Scenario.{ScenarioParts, IsLegalScenario};
+
+    /// The scenario of these parts.
+    pub fn of_parts(
+        params: Params,
+        members: NodeSet,
+        sends: Vec<SendAsk>,
+        rules: Vec<Rule>,
+        joins: Vec<NodeAsk>,
+        leaves: Vec<NodeAsk>,
+        journal: Option<Vec<Step>>,
+    ) -> Scenario
+        requires { IsLegalScenario (record {
+          params = params;
+          members = members;
+          sends = sends.items;
+          rules = rules.items;
+          joins = joins.items;
+          leaves = leaves.items;
+          journal = option_map (λ steps. steps.items) journal;
+        }) }
+        ensures { result ≡ record {
+          params = params;
+          members = members;
+          sends = sends.items;
+          rules = rules.items;
+          joins = joins.items;
+          leaves = leaves.items;
+          journal = option_map (λ steps. steps.items) journal;
+        } }
+    {
+        Scenario {
+            params,
+            members,
+            sends,
+            rules,
+            joins,
+            leaves,
+            journal,
+        }
+    }
+
+    pub fn params(&self) -> &Params
+        ensures params { result.now ≡ self.now.params }
+        ensures legal { IsLegalScenario self.now }
+    {
+        &self.params
+    }
+
+    /// The members of view 0.
+    pub fn members(&self) -> NodeSet
+        ensures { result ≡ self.now.members }
+    {
+        self.members
+    }
+
+    /// The scripted broadcasts, in file order.
+    pub fn sends(&self) -> &[SendAsk]
+        ensures { result.now ≡ self.now.sends }
+    {
+        self.sends.as_slice()
+    }
+
+    /// The fault rules, in file order.
+    pub fn rules(&self) -> &[Rule]
+        ensures { result.now ≡ self.now.rules }
+    {
+        self.rules.as_slice()
+    }
+
+    /// The scripted joins, in file order.
+    pub fn joins(&self) -> &[NodeAsk]
+        ensures { result.now ≡ self.now.joins }
+    {
+        self.joins.as_slice()
+    }
+
+    /// The scripted leaves, in file order.
+    pub fn leaves(&self) -> &[NodeAsk]
+        ensures { result.now ≡ self.now.leaves }
+    {
+        self.leaves.as_slice()
+    }
+
+    /// The steps that the run is to make, where the scenario fixes them.
+    pub fn journal(&self) -> Option<&[Step]>
+        ensures { option_map (λ steps. steps.now) result ≡ self.now.journal }
+    {
+        match &self.journal {
+            Some(steps) => Some(steps.as_slice()),
+            None => None,
+        }
+    }
+
+    /// An equal scenario.
+    pub fn copy(&self, alloc: Global) -> Result<Scenario, Memory>
+        ensures { IfOk result (λ copy. copy ≡ self.now) }
+    {
+        let journal = match &self.journal {
+            Some(steps) => Some(Vec::from_slice(alloc, steps.as_slice())?),
+            None => None,
+        };
+        Ok(Scenario {
+            params: self.params,
+            members: self.members,
+            sends: Vec::from_slice(alloc, self.sends.as_slice())?,
+            rules: Vec::from_slice(alloc, self.rules.as_slice())?,
+            joins: Vec::from_slice(alloc, self.joins.as_slice())?,
+            leaves: Vec::from_slice(alloc, self.leaves.as_slice())?,
+            journal,
+        })
+    }
+}

@@ -1,0 +1,162 @@
+ghost use Rattle.std.specs.Prelude.{◌≡◌, ◌⊎◌};
+ghost use Rattle.cany_base.specs.Params.{IsInRange, MeetsFormulas};
+
+use crate::actions::{Action, Actions};
+use crate::frame::Format;
+use crate::memory::Memory;
+use crate::node::NodeId;
+use crate::node_set::NodeSet;
+use crate::params::{ParamFault, ParamName, Params};
+use crate::payload::Payload;
+use crate::scenario::Scenario;
+use crate::step::Step;
+use std::alloc::Global;
+use std::test::Fail;
+
+fn three_nodes() -> Params
+    ensures nodes { result.nodes ≡ 3 }
+    ensures ranges { IsInRange result }
+    ensures formulas { MeetsFormulas result }
+{
+    Params {
+        format: Format::One,
+        nodes: 3,
+        lag: 0,
+        omit: 1,
+        errors: 2,
+        bound: 36,
+        cycle: 72,
+        life: 36,
+        silence: 73,
+        confirm: 10,
+        slots: 100,
+    }
+}
+
+fn four_nodes(bound: u64) -> Params
+    requires { (bound ≡ 121) ⊎ (bound ≡ 122) }
+{
+    Params {
+        format: Format::One,
+        nodes: 4,
+        lag: 1,
+        omit: 1,
+        errors: 2,
+        bound,
+        cycle: 246,
+        life: 123,
+        silence: 247,
+        confirm: 10,
+        slots: 100,
+    }
+}
+
+#[test]
+fn parameters_meet_their_formulas(rt: HostRuntime) {
+    assert_eq!(rt; three_nodes().check(), Ok(()));
+    assert_eq!(rt; four_nodes(122).check(), Ok(()));
+}
+
+#[test]
+fn a_bound_below_its_formula_is_a_fault(rt: HostRuntime) {
+    let mut params = three_nodes();
+    params.bound = 35;
+    let needed_36 = ParamFault {
+        which: ParamName::Bound,
+        needed: 36,
+    };
+    assert_eq!(rt; params.check(), Err(needed_36));
+    let needed_122 = ParamFault {
+        which: ParamName::Bound,
+        needed: 122,
+    };
+    assert_eq!(rt; four_nodes(121).check(), Err(needed_122));
+}
+
+#[test]
+fn the_first_fault_is_named(rt: HostRuntime) {
+    let mut params = three_nodes();
+    params.life = 35;
+    params.silence = 71;
+    let fault = ParamFault {
+        which: ParamName::Life,
+        needed: 36,
+    };
+    assert_eq!(rt; params.check(), Err(fault));
+}
+
+fn set_of(bits: u32) -> NodeSet {
+    NodeSet::of_bits(bits)
+}
+
+#[test]
+fn a_vector_has_its_lowest_nodes_last(rt: HostRuntime) -> Result<(), Fail> {
+    let payload = Payload::vector(set_of(0b111), Format::One);
+    assert_eq!(rt;
+        payload,
+        Payload::of(&[0, 0, 0, 7]).ok_or("eight bytes fit")?
+    );
+    assert_eq!(rt; payload.as_vector(Format::One), Some(set_of(0b111)));
+    assert_eq!(rt;
+        Payload::of(&[1, 2])
+            .ok_or("eight bytes fit")?
+            .as_vector(Format::One),
+        None
+    );
+    Ok(())
+}
+
+#[test]
+fn sets_of_nodes(rt: HostRuntime) -> Result<(), Fail> {
+    let two = NodeId::new(2).ok_or("a node below 32")?;
+    let mut set = NodeSet::all(4);
+    assert_eq!(rt; set, set_of(0b1111));
+    set.remove(two);
+    assert_eq!(rt; set, set_of(0b1011));
+    set.insert(two);
+    assert_eq!(rt; set.count(), 4);
+    assert_eq!(rt; set.meet(set_of(0b1_0110)), set_of(0b0110));
+    assert_eq!(rt; set.plus(set_of(0b1_0110)), set_of(0b1_1111));
+    assert_eq!(rt; set.minus(set_of(0b1_0110)), set_of(0b1001));
+    assert_eq!(rt; set_of(0b1100).least(), Some(two));
+    assert_eq!(rt; NodeSet::empty().least(), None);
+    assert!(rt; NodeSet::all(32).has(NodeId::new(31).ok_or("a node below 32")?));
+    Ok(())
+}
+
+#[test]
+fn nodes_are_below_32(rt: HostRuntime) {
+    assert!(rt; NodeId::new(31).is_some());
+    assert!(rt; NodeId::new(32).is_none());
+}
+
+#[test]
+fn memory_is_there(rt: HostRuntime) -> Result<(), Fail> {
+    let mut actions = Actions::build(rt.alloc(), 2)?;
+    actions.push(Action::Withdraw { ident: 7 });
+    assert_eq!(rt; actions.len(), 1);
+    assert_eq!(rt; actions.get(0), Action::Withdraw { ident: 7 });
+    Ok(())
+}
+
+fn quiet_scenario(alloc: Global) -> Result<Scenario, Memory> {
+    let journal = Vec::from_slice(alloc, &[Step::Slot])?;
+    Ok(Scenario::of_parts(
+        three_nodes(),
+        NodeSet::all(3),
+        Vec::new(alloc),
+        Vec::new(alloc),
+        Vec::new(alloc),
+        Vec::new(alloc),
+        Some(journal),
+    ))
+}
+
+#[test]
+fn a_scenario_is_copied(rt: HostRuntime) -> Result<(), Fail> {
+    let scenario = quiet_scenario(rt.alloc())?;
+    let copy = scenario.copy(rt.alloc())?;
+    assert_eq!(rt; copy.journal(), Some([Step::Slot].as_slice()));
+    assert_eq!(rt; copy.members(), NodeSet::all(3));
+    Ok(())
+}

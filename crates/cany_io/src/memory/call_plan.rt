@@ -1,0 +1,47 @@
+ghost use Rattle.std.specs.Prelude.{◌≡◌, ◌≤◌, ◌↔◌, IsTrue};
+ghost use Rattle.cany_io.specs.Faults.{next_count};
+ghost use Rattle.cany_io.specs.InMemory.{FailsNext};
+
+use crate::Failed;
+
+/// Which calls are to fail, counted from 1, and how many were made and failed. Both counts stand
+/// still at their last number.
+#[derive(Debug, Drop)]
+pub struct CallPlan {
+    pub failing: Vec<u32>,
+    pub calls: u64,
+    pub faults: u64,
+}
+
+impl CallPlan {
+    pub fn new(failing: Vec<u32>) -> CallPlan
+        ensures { result ≡ record { failing = failing; calls = 0; faults = 0 } }
+    {
+        CallPlan {
+            failing,
+            calls: 0,
+            faults: 0,
+        }
+    }
+
+    /// Counts a call, and says whether it is one of those that are to fail.
+    pub fn begin(&mut self) -> bool
+        ensures listed { IsTrue result ↔ FailsNext self.old.failing.items self.old.calls }
+        ensures counted { self.new ≡ record self.old { calls = next_count self.old.calls } }
+    {
+        self.calls = self.calls.saturating_add(1);
+        let number = self.calls;
+        self.failing
+            .iter()
+            .any(|listed| u64::from(*listed) == number)
+    }
+
+    /// Counts a fault.
+    pub fn fail(&mut self) -> Failed
+        ensures counted { self.new ≡ record self.old { faults = next_count self.old.faults } }
+        ensures risen { self.old.faults ≤ self.new.faults }
+    {
+        self.faults = self.faults.saturating_add(1);
+        Failed
+    }
+}
