@@ -1,0 +1,4 @@
+pub mod OfferRows
+pub mod Order
+pub mod WalkSteps
+pub mod Winning

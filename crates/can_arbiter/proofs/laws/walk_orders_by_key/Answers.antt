@@ -1,0 +1,5 @@
+use Rattle.can_arbiter.proofs.Order.{walk_by_keys}
+use Rattle.can_arbiter.proofs.laws.walk_orders_by_key.Goals as goal
+
+pub returns : goal.returns
+returns c = walk_by_keys c.args.format

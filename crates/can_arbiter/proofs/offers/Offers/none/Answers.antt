@@ -1,0 +1,9 @@
+use Rattle.std.proofs.Common.{refl}
+use Rattle.can_arbiter.proofs.OfferRows.{no_offer, all_fit}
+use Rattle.can_arbiter.proofs.offers.Offers.none.Goals as goal
+
+pub invariant_of-result : goal.invariant_of-result
+invariant_of-result c = record { whole = refl; fit = all_fit c.args.format }
+
+pub returns-clause-none : goal.returns-clause-none
+returns-clause-none c = no_offer

@@ -1,0 +1,4 @@
+pub mod Levels
+pub mod Offers
+pub mod Outcome
+pub mod Walk

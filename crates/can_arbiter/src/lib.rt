@@ -1,0 +1,17 @@
+//! Bitwise arbitration: of the frames that nodes offer in one slot, which one the bus carries, and
+//! who sends it.
+#![tactic(auto)]
+
+mod arbitration;
+mod laws;
+mod levels;
+mod nodes;
+mod offers;
+mod sharing;
+#[cfg(test)]
+mod tests;
+mod walk;
+
+pub use arbitration::{Outcome, arbitrate};
+pub use laws::{walk_orders_by_key, winner_is_unique};
+pub use offers::Offers;

@@ -1,0 +1,20 @@
+ghost use Rattle.std.specs.Prelude.{ℕ, ◌<◌};
+ghost use Rattle.cany_base.specs.Nodes.{has, AllBelow};
+
+use cany_base::{NodeId, NodeSet};
+
+/// The nodes at which a test holds.
+pub(crate) fn nodes_where<F: Fn(NodeId) -> bool + Drop>(test: F) -> NodeSet
+    requires { F.IsAlwaysCallable test }
+    ensures below { AllBelow 32 result }
+    ensures tested { (i : ℕ) → i < 32 → F.post test i (has result i) }
+{
+    let mut nodes = NodeSet::empty();
+    for i in 0..NodeId::COUNT {
+        let node = NodeId::new(i).unwrap();
+        if test(node) {
+            nodes.insert(node);
+        }
+    }
+    nodes
+}

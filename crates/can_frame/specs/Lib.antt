@@ -1,0 +1,3 @@
+pub mod Decoding
+pub mod Field
+pub mod Identifier

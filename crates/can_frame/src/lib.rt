@@ -1,0 +1,21 @@
+//! The identifiers of frames: how class, number and node lie in the 29 bits, which frame an
+//! identifier stands for, and the key by which frames arbitrate.
+#![tactic(auto)]
+
+mod class;
+mod decoding;
+mod encoding;
+mod field;
+mod laws;
+mod sharing;
+#[cfg(test)]
+mod tests;
+
+pub use class::is_remote;
+pub use decoding::{FrameFault, frame_of};
+pub use encoding::{identifier, key};
+pub use field::Field;
+pub use laws::{
+    data_beats_remote, decoding_is_unique, fits_format_one, identifier_tells_frame,
+    keys_order_frames,
+};
