@@ -1,0 +1,42 @@
+-- What a run has come to. There are no rings, queues, timers or tables of a protocol in it.
+use Rattle.std.specs.Prelude.{ℕ, ◌-◌, Bool, List, [], Option, Some, None, is_none, length, replicate, slice_index_or}
+use Rattle.cany_base.specs.declared.slot_note.SlotNote.{SlotNote}
+use Rattle.cany_base.specs.Frame.{FrameParts}
+
+-- one node: how many notices it has not read, the frames that its controller waits with, in the order in which they win,
+-- its error counters, and the slot of its stop
+pub record NodeState : Type 0 where
+  pub unread : ℕ
+  pub waiting : List FrameParts
+  pub transmit : ℕ
+  pub receive : ℕ
+  pub stopped : Option ℕ
+
+-- the notes of the slots that ran, newest first, and the nodes by number
+pub record RunState : Type 0 where
+  pub trace : List SlotNote
+  pub nodes : List NodeState
+
+abbrev pub fresh : NodeState
+fresh = record { unread = 0; waiting = []; transmit = 0; receive = 0; stopped = None }
+
+-- what stands where there is no node
+abbrev pub absent : NodeState
+absent = record { unread = 0; waiting = []; transmit = 0; receive = 0; stopped = Some 0 }
+
+abbrev pub opening : ℕ → RunState
+opening nodes = record { trace = []; nodes = replicate nodes fresh }
+
+unfoldable pub node_at : List NodeState → ℕ → NodeState
+node_at nodes i = slice_index_or nodes i absent
+
+abbrev pub runs : NodeState → Bool
+runs node = is_none node.stopped
+
+-- how many slots ran
+abbrev pub slots_run : RunState → ℕ
+slots_run s = length s.trace
+
+-- how many notices the node has read
+abbrev pub reads : RunState → ℕ → ℕ
+reads s i = length s.trace - (node_at s.nodes i).unread

@@ -1,0 +1,56 @@
+//! What holds of every run: each law is the contract of a function that does nothing.
+ghost use Rattle.std.specs.Prelude.{◌≡◌, ◌≤◌, ◌↔◌, List, ◌∷◌, Some, None, Contains};
+ghost use Rattle.cany_base.specs.declared.message.Service.TheVariants as service;
+ghost use Rattle.cany_base.specs.declared.slot_note.SlotNote.{SlotNote};
+ghost use Rattle.cany_base.specs.declared.step.Step.{Step};
+ghost use Rattle.cany_base.specs.Params.{Parameters};
+ghost use Rattle.cany_base.specs.Scenario.{ScenarioParts};
+ghost use Rattle.cany_model.specs.Hypothesis.{IsWithin, first_break};
+ghost use Rattle.cany_model.specs.Messages.{Message, messages_of};
+ghost use Rattle.cany_model.specs.RoundRobin.{round_robin};
+ghost use Rattle.cany_model.specs.Run.{IsLegal, IsWhole, run};
+ghost use Rattle.cany_model.specs.Safe.{IsIntegral, IsAgreedOn};
+ghost use Rattle.cany_model.specs.declared.breaks.Break.{Break};
+
+/// Integrity: the log of a node that has not stopped has no message twice, and each message that it delivers is one of
+/// the scenario, with its service and its payload, whose data frame was carried with its origin among the senders in a
+/// slot not after the entry.
+///
+/// It holds of every journal, legal or not, at any lag and under any fault script. A set of nodes has room for 32.
+pub fn integrity()
+    ensures { (scenario : ScenarioParts) (journal : List Step) → scenario.params.nodes ≤ 32 → IsIntegral scenario (run scenario journal) }
+{}
+
+/// Agreement of EDCAN: in every run within the fault hypothesis, a settled EDCAN message whose origin is correct, or that
+/// a correct node delivered, was delivered by every correct node.
+///
+/// It holds for every journal, in whatever order the nodes take their turns and however far they lag, and also where
+/// steps of the journal are refused. It uses no timing, and of the scenario only that its nodes have places in a set of
+/// 32 nodes: a node past those never takes a frame, so the law is false with more of them.
+pub fn edcan_agreement()
+    ensures { (scenario : ScenarioParts) (journal : List Step) → scenario.params.nodes ≤ 32
+        → IsWithin scenario.params (run scenario journal).trace
+        → (m : Message) → Contains (messages_of scenario.sends) m → m.service ≡ service.Ed
+        → IsAgreedOn scenario (run scenario journal) m }
+{}
+
+/// The first break: a run has none exactly if it is within the fault hypothesis. A break stays the first as the run goes
+/// on, and one that is new has the number of the newest slot.
+///
+/// So it is enough to look, at each slot, at the newest frame and at the window that ends there, and the first break
+/// names the slot at which a run leaves the hypothesis.
+pub fn first_break_is_exact()
+    ensures exact { (p : Parameters) (trace : List SlotNote) → (first_break p trace ≡ None) ↔ IsWithin p trace }
+    ensures stays { (p : Parameters) (note : SlotNote) (before : List SlotNote) (b : Break) → first_break p before ≡ Some b
+        → first_break p (note ∷ before) ≡ Some b }
+    ensures named { (p : Parameters) (note : SlotNote) (before : List SlotNote) (b : Break) → first_break p before ≡ None
+        → first_break p (note ∷ before) ≡ Some b → b.slot ≡ note.slot }
+{}
+
+/// The round robin journal: in every scenario each step of it is done, and at its end all slots ran and every running node
+/// has read every notice.
+///
+/// It needs nothing of the scenario: it holds at every lag, under every fault script and for every number of nodes.
+pub fn round_robin_is_whole()
+    ensures { (scenario : ScenarioParts) → IsLegal scenario (round_robin scenario) × IsWhole scenario (round_robin scenario) }
+{}

@@ -1,0 +1,11 @@
+//! What a run is, and what is promised of it: the definitions that every contract above cites, and their laws.
+#![tactic(auto)]
+
+mod breaks;
+pub mod laws;
+mod reply;
+mod share;
+
+pub use breaks::{Break, BreakKind};
+pub use reply::StepReply;
+pub use share::Share;
