@@ -1,0 +1,206 @@
+-- The parts of the report, item by item.
+use Rattle.std.proofs.Common.{◌≡◌, ℕ, zero, suc, Option, Some, slice_get, set, inl, inr, get_or-set_same, get_or-set_other, ◌+◌, ◌*◌, ◌/◌, ◌<◌, ◌≤◌, min, Bool, true, false, cond, List, [], ◌∷◌, ◌++◌, map, take, drop, reverse, get_or, length, refl, sym, ◌∙◌, ap, append_assoc, append-nil, length-append, length-drop, length-take, arith}
+use Rattle.std.specs.Prelude.{filter, if◌then◌else◌, replicate, codes, IfSome}
+use Rattle.std.specs.List.{concat, count_by, flat_map, range_with_len}
+use Rattle.std.proofs.lemmas.Bool.{cases_eq, eq-eqb, ne_eqb}
+use Rattle.std.proofs.lemmas.Option.{slice_get_read}
+use Rattle.std.proofs.lemmas.List.{take_all, take_more, reverse-append, length-reverse, take-append-le, take-append-drop, append_cancel_left, drop-drop}
+use Rattle.std.proofs.lemmas.List.Folds.{concat-append}
+use Rattle.std.proofs.lemmas.List.Sums.{sum_by-cons, count_by-le-length}
+use Rattle.std.proofs.lemmas.List.FromFn.{length-range_with_len, get_or-range_with_len}
+use Rattle.cany_base.specs.declared.slot_note.SlotNote.{SlotNote}
+use Rattle.cany_base.specs.declared.step.Step.{Step}
+use Rattle.cany_base.specs.declared.log_entry.LogEntry.{LogEntry}
+use Rattle.cany_base.specs.declared.message.SendAsk.{SendAsk}
+use Rattle.cany_base.specs.Scenario.{ScenarioParts}
+use Rattle.cany_model.specs.Log.{log}
+use Rattle.cany_model.specs.Messages.{Message, message_of, messages_after, messages_of, is_from}
+use Rattle.cany_base.specs.Params.{Parameters}
+use Rattle.cany_model.specs.declared.breaks.Break.{Break}
+use Rattle.cany_model.specs.Hypothesis.{first_break}
+use Rattle.cany_model.specs.Report.{bus_lines, node_lines, message_lines, report_lines, report}
+use Rattle.cany_model.specs.ReportLines.{line_of, params_line, hypothesis_line, bus_line, is_shown, journal_line, journal_lines, node_line, entry_line, message_line}
+use Rattle.cany_model.specs.Run.{run}
+use Rattle.cany_model.specs.Settled.{is_settled}
+use Rattle.cany_model.specs.State.{RunState, node_at, reads}
+use Rattle.cany_replay.proofs.WrittenLemmas.{concat-map}
+
+-- what is written of a slot
+abbrev pub shown_line : SlotNote → List ℕ
+shown_line note = if is_shown note then bus_line note else []
+
+one_shown : (b : Bool) (note : SlotNote) (notes : List SlotNote) (r : List ℕ) → concat (map bus_line notes) ≡ r
+    → concat (map bus_line (cond b (note ∷ notes) notes)) ≡ (if b then bus_line note else []) ++ r
+one_shown true note notes r same = ap (λ r. bus_line note ++ r) same
+one_shown false note notes r same = same
+
+pub bus_text : (notes : List SlotNote) → concat (map bus_line (filter is_shown notes)) ≡ flat_map shown_line notes
+bus_text [] = refl
+bus_text (note ∷ notes) = one_shown (is_shown note) note (filter is_shown notes) (flat_map shown_line notes) (bus_text notes)
+
+pub shown_line-shown : (note : SlotNote) → is_shown note ≡ true → shown_line note ≡ bus_line note
+shown_line-shown note shown = ap (λ b. if b then bus_line note else []) shown
+
+pub shown_line-hidden : (note : SlotNote) → is_shown note ≡ false → shown_line note ≡ []
+shown_line-hidden note hidden = ap (λ b. if b then bus_line note else []) hidden
+
+-- the numbers below n, as a loop meets them
+pub at_number : (n i : ℕ) → i < n → i ≡ get_or (range_with_len 0 n) i i
+at_number n i inside = sym (get_or-range_with_len 0 n i i inside ∙ omega arith)
+
+pub below_length : (n i : ℕ) → i < n → i < length (range_with_len 0 n)
+below_length n i inside = omega (arith, length-range_with_len 0 n)
+
+pub past_length : (n i : ℕ) → n ≤ i → length (range_with_len 0 n) ≤ i
+past_length n i past = omega (arith, length-range_with_len 0 n)
+
+-- how many lines the journal takes
+abbrev pub line_count : List Step → ℕ
+line_count journal = (length journal + 63) / 64
+
+-- the line of the steps from 64 * k on
+abbrev pub journal_text : List Step → ℕ → List ℕ
+journal_text journal k = journal_line (take 64 (drop (64 * k) journal))
+
+pub journal_lines_text : (journal : List Step) → concat (journal_lines journal) ≡ flat_map (journal_text journal) (range_with_len 0 (line_count journal))
+unfolding journal_lines
+journal_lines_text journal = concat-map (journal_text journal) (range_with_len 0 (line_count journal))
+
+-- at most 64 steps that come off the front are the first 64, where they are fewer only at the end
+first_steps : (x rest' : List Step) → length x ≡ min 64 (length (x ++ rest')) → take 64 (x ++ rest') ≡ x
+first_steps x [] len = ap (take 64) (append-nil x) ∙ take_all 64 x (omega (arith, len))
+first_steps x (y ∷ ys) len =
+    let full : 64 ≤ length x = omega (arith, len, length-append x (y ∷ ys)) in
+    take-append-le 64 x (y ∷ ys) full ∙ take_all 64 x (omega (arith, len))
+
+pub record IsPiece (journal : List Step) (k : ℕ) (x rest' : List Step) : Type 0 where
+  pub line : journal_text journal k ≡ journal_line x
+  pub rest : rest' ≡ drop (64 * (k + 1)) journal
+  pub inside : k < line_count journal
+  pub short : length x ≤ 64
+
+pub next_piece : (journal rest rest' x : List Step) (k : ℕ) → rest ≡ drop (64 * k) journal → rest ≡ x ++ rest' → length x ≡ min 64 (length rest) → 0 < length rest
+    → IsPiece journal k x rest'
+next_piece journal rest rest' x k at_k cut len some =
+    let here : take 64 rest ≡ x = ap (take 64) cut ∙ first_steps x rest' (len ∙ ap (λ r. min 64 (length r)) cut) in
+    let after : drop 64 rest ≡ rest' = append_cancel_left x (drop 64 rest) rest' (ap (λ t. t ++ drop 64 rest) (sym here) ∙ take-append-drop 64 rest ∙ cut) in
+    let next : 64 * k + 64 ≡ 64 * (k + 1) = omega arith in
+    record {
+      line = ap (λ r. journal_line (take 64 r)) (sym at_k) ∙ ap journal_line here;
+      rest = sym after ∙ ap (drop 64) at_k ∙ drop-drop 64 (64 * k) journal ∙ ap (λ n. drop n journal) next;
+      inside = omega (arith, some, ap length at_k, length-drop (64 * k) journal);
+      short = omega (arith, len);
+    }
+
+pub no_more_pieces : (journal rest : List Step) (k : ℕ) → rest ≡ drop (64 * k) journal → length rest ≡ 0 → line_count journal ≤ k
+no_more_pieces journal rest k at_k none = omega (arith, none, ap length at_k, length-drop (64 * k) journal)
+
+-- lines of lists of lines
+pub concat-flat_map : {X : Type 0} (f : X → List (List ℕ)) (xs : List X) → concat (flat_map f xs) ≡ flat_map (λ x. concat (f x)) xs
+concat-flat_map f [] = refl
+concat-flat_map f (x ∷ xs) = concat-append (f x) (flat_map f xs) ∙ ap (λ r. concat (f x) ++ r) (concat-flat_map f xs)
+
+reversed_onto : (x : SendAsk) (xs earlier : List SendAsk) → reverse (x ∷ xs) ++ earlier ≡ reverse xs ++ (x ∷ earlier)
+reversed_onto x xs earlier = ap (λ r. r ++ earlier) (reverse-append (x ∷ []) xs) ∙ append_assoc (reverse xs) (x ∷ []) earlier
+
+-- a node: its own line, and then the lines of its log
+pub node_text : (scenario : ScenarioParts) (s : RunState) (i : ℕ) (stopped : Option ℕ) (read : ℕ) (entries : List LogEntry)
+    → stopped ≡ (node_at s.nodes i).stopped → read ≡ reads s i → entries ≡ log scenario s i
+    → concat (node_lines scenario s i) ≡ node_line i stopped read ++ flat_map entry_line entries
+unfolding node_lines
+node_text scenario s i stopped read entries stopped_is read_is entries_are =
+    rw (stopped_is, read_is, entries_are) (ap (λ r. node_line i (node_at s.nodes i).stopped (reads s i) ++ r) (concat-map entry_line (log scenario s i)))
+
+-- what is written of a message
+abbrev pub message_text : RunState → Message → List ℕ
+message_text s m = message_line m (is_settled s m)
+
+pub message_lines_text : (scenario : ScenarioParts) (s : RunState) → concat (message_lines scenario s) ≡ flat_map (message_text s) (messages_of scenario.sends)
+unfolding message_lines
+message_lines_text scenario s = concat-map (message_text s) (messages_of scenario.sends)
+
+-- the message of the broadcast at a place: those before it count, newest first
+message_after : (earlier sends : List SendAsk) (i : ℕ) (send : SendAsk) (d : Message) → i < length sends → send ≡ get_or sends i send
+    → get_or (messages_after earlier sends) i d ≡ message_of (reverse (take i sends) ++ earlier) send
+unfolding messages_after
+message_after earlier [] i send d inside is = absurd (omega arith)
+message_after earlier (x ∷ sends) zero send d inside is = ap (message_of earlier) (sym is)
+message_after earlier (x ∷ sends) (suc i) send d inside is =
+    message_after (x ∷ earlier) sends i send d (omega arith) is ∙ ap (λ r. message_of r send) (sym (reversed_onto x (take i sends) earlier))
+
+length-messages_after : (earlier sends : List SendAsk) → length (messages_after earlier sends) ≡ length sends
+unfolding messages_after
+length-messages_after earlier [] = refl
+length-messages_after earlier (x ∷ sends) = ap suc (length-messages_after (x ∷ earlier) sends)
+
+pub length-messages_of : (sends : List SendAsk) → length (messages_of sends) ≡ length sends
+length-messages_of sends = length-messages_after [] sends
+
+pub message_at : (sends : List SendAsk) (i : ℕ) (send : SendAsk) → i < length sends → send ≡ get_or sends i send
+    → message_of (reverse (take i sends)) send ≡ get_or (messages_of sends) i (message_of (reverse (take i sends)) send)
+message_at sends i send inside is =
+    ap (λ r. message_of r send) (sym (append-nil (reverse (take i sends))))
+    ∙ sym (message_after [] sends i send (message_of (reverse (take i sends)) send) inside is)
+
+-- how many of the broadcasts before a place a node makes
+abbrev pub sent_before : List SendAsk → ℕ → ℕ → ℕ
+sent_before sends i node = count_by (is_from node) (reverse (take i sends))
+
+pub sent_next : (sends : List SendAsk) (i : ℕ) (send : SendAsk) (node : ℕ) → i < length sends → send ≡ get_or sends i send
+    → sent_before sends (i + 1) node ≡ (if is_from node send then 1 else 0) + sent_before sends i node
+sent_next sends i send node inside is =
+    let next : take (i + 1) sends ≡ take i sends ++ send ∷ [] = take_more sends i send inside ∙ ap (λ x. take i sends ++ x ∷ []) (sym is) in
+    ap (λ xs. count_by (is_from node) (reverse xs)) next
+    ∙ ap (count_by (is_from node)) (reverse-append (take i sends) (send ∷ []))
+    ∙ sum_by-cons (λ x. if is_from node x then 1 else 0) send (reverse (take i sends))
+
+pub sent_before-le : (sends : List SendAsk) (i node : ℕ) → sent_before sends i node ≤ i
+sent_before-le sends i node =
+    omega (arith, count_by-le-length (is_from node) (reverse (take i sends)), length-reverse (take i sends), length-take i sends)
+
+-- what is written of a node
+abbrev pub node_part : ScenarioParts → List Step → ℕ → List ℕ
+node_part scenario journal i = concat (node_lines scenario (run scenario journal) i)
+
+pub zeros : (n i : ℕ) → get_or {A = ℕ} (replicate n 0) i 0 ≡ 0
+zeros zero i = refl
+zeros (suc n) zero = refl
+zeros (suc n) (suc i) = zeros n i
+
+-- the counts of the nodes, after one more broadcast
+pub counts_next : (counts : List ℕ) (sends : List SendAsk) (i : ℕ) (send : SendAsk) (origin : ℕ) → length counts ≡ 32 → origin ≡ send.node → origin < 32
+    → i < length sends → send ≡ get_or sends i send → ((node : ℕ) → node < 32 → get_or counts node 0 ≡ sent_before sends i node)
+    → (node : ℕ) → node < 32 → get_or (set counts origin (get_or counts origin 0 + 1)) node 0 ≡ sent_before sends (i + 1) node
+counts_next counts sends i send origin len origin_is small inside is before node below =
+    elim (cases_eq origin node) [
+      | inl same ↦
+          let from : ◌≡◌ {A = ℕ} (if is_from node send then 1 else 0) 1 = ap (λ b. if b then 1 else 0) (eq-eqb send.node node (sym origin_is ∙ same)) in
+          ap (λ n. get_or (set counts origin (get_or counts origin 0 + 1)) n 0) (sym same)
+          ∙ get_or-set_same counts origin (get_or counts origin 0 + 1) 0 (omega arith)
+          ∙ omega (arith, before origin small, ap (sent_before sends i) same, sent_next sends i send node inside is, from)
+      | inr other ↦
+          let from : ◌≡◌ {A = ℕ} (if is_from node send then 1 else 0) 0 = ap (λ b. if b then 1 else 0) (ne_eqb send.node node (λ e. other (origin_is ∙ e))) in
+          get_or-set_other counts origin node (get_or counts origin 0 + 1) 0 (λ e. other (sym e))
+          ∙ omega (arith, before node below, sent_next sends i send node inside is, from)
+    ]
+
+pub message_is : (s : RunState) (sends : List SendAsk) (i : ℕ) (send : SendAsk) (seq : ℕ) (settled : Bool) → i < length sends → send ≡ get_or sends i send
+    → seq ≡ sent_before sends i send.node → IfSome (slice_get (messages_of sends) i) (λ m. settled ≡ is_settled s m)
+    → message_text s (message_of (reverse (take i sends)) send)
+    ≡ message_line (record { slot = send.slot; origin = send.node; seq = seq; service = send.service; payload = send.payload }) settled
+message_is s sends i send seq settled inside is seq_is settled_is =
+    let here : slice_get (messages_of sends) i ≡ Some (message_of (reverse (take i sends)) send) =
+    slice_get_read (messages_of sends) (length sends) i (message_of (reverse (take i sends)) send) (sym (length-messages_of sends)) inside (message_at sends i send inside is) in
+    let known : settled ≡ is_settled s (message_of (reverse (take i sends)) send) = rw here at settled_is in
+    rw (seq_is, known) refl
+
+-- the report, part by part
+pub report_text : (scenario : ScenarioParts) (journal journal' : List Step) (params : Parameters) (trace : List SlotNote) (found : Option Break)
+    → params ≡ scenario.params → journal' ≡ journal → trace ≡ reverse (run scenario journal).trace → found ≡ first_break scenario.params (run scenario journal).trace
+    → report scenario journal ≡
+    line_of (codes "canely report 1" ∷ []) ++ (params_line params ++ (concat (journal_lines journal') ++ (concat (map bus_line (filter is_shown trace))
+    ++ (hypothesis_line found ++ (concat (flat_map (node_lines scenario (run scenario journal)) (range_with_len 0 scenario.params.nodes))
+    ++ (concat (message_lines scenario (run scenario journal)) ++ line_of (codes "end" ∷ [])))))))
+unfolding report report_lines bus_lines
+report_text scenario journal journal' params trace found params_are journal_is trace_is found_is =
+    rw (params_are, journal_is, trace_is, found_is) (simp (concat-append, append_assoc, append-nil))

@@ -1,0 +1,63 @@
+-- The document of the bytes, and the set of all nodes.
+use Rattle.std.proofs.Common.{◌≡◌, ℕ, ◌≤◌, true, ◌&&◌, nat_lt, nat_le, List, [], Some, None, codes, inl, inr, refl, sym, ◌∙◌, arith}
+use Rattle.std.specs.Str.{IsUtf8, is_utf8}
+use Rattle.std.proofs.lemmas.Bool.{cases_Bool}
+use Rattle.std.proofs.lemmas.Bool.Decides.{nat_tests}
+use Rattle.std.proofs.lemmas.Str.{is_utf8-from_IsUtf8, IsUtf8-from_is_utf8}
+use Rattle.toml.specs.Data.{Members}
+use Rattle.toml.specs.Parse.{parse_document}
+use Rattle.cany_base.specs.Nodes.{Nodes, has, those_where}
+use Rattle.cany_base.specs.NodesLaws.{same_nodes, has-those_where}
+use Rattle.cany_base.specs.declared.message.NodeAsk.{NodeAsk}
+use Rattle.cany_base.specs.declared.message.SendAsk.{SendAsk}
+use Rattle.cany_base.specs.declared.rule.Rule.{Rule}
+use Rattle.cany_base.specs.Params.{Parameters}
+use Rattle.cany_model.specs.FaultsText.{rules_from}
+use Rattle.cany_model.specs.ParamsText.{params_of}
+use Rattle.cany_model.specs.ScenarioText.{document_of, top_keys, scenario_from}
+use Rattle.cany_model.specs.SendsText.{sends_from}
+use Rattle.cany_model.specs.TomlKeys.{has_only, optional}
+
+-- of a text the document is that of `toml`
+pub document_of-text : (bytes : List ℕ) → IsUtf8 bytes → document_of bytes ≡ parse_document bytes
+unfolding document_of
+document_of-text bytes text = rw (is_utf8-from_IsUtf8 bytes text) refl
+
+-- and other bytes are none
+pub document_of-other : (bytes : List ℕ) → ¬ IsUtf8 bytes → document_of bytes ≡ None
+unfolding document_of
+document_of-other bytes other = elim (cases_Bool (is_utf8 bytes)) [
+  | inl text ↦ absurd (other (IsUtf8-from_is_utf8 bytes text))
+  | inr no_text ↦ rw no_text refl
+]
+
+both_below : (i nodes : ℕ) → nodes ≤ 32 → nat_lt i nodes ≡ (nat_lt i 32 && nat_lt i nodes)
+both_below i nodes few = grind (arith, nat_tests)
+
+-- the set that has the nodes below a number
+pub those_where-below : (set : Nodes) (nodes : ℕ) → nodes ≤ 32 → ((i : ℕ) → has set i ≡ nat_lt i nodes) → set ≡ those_where (λ i. nat_lt i nodes)
+those_where-below set nodes few all =
+    same_nodes set (those_where (λ i. nat_lt i nodes)) (λ i. all i ∙ both_below i nodes few ∙ sym (has-those_where (λ i. nat_lt i nodes) i))
+
+in_time-test : (slots life : ℕ) → slots ≤ life → nat_le slots life ≡ true
+in_time-test slots life h = grind (arith, nat_tests)
+
+-- the parts that were read, where q are the parameters as their fields show them
+pub scenario_from-parts : (top : Members) (q params : Parameters) (members : Nodes) (sends : List SendAsk) (rules : List Rule) (joins leaves : List NodeAsk)
+    → has_only top_keys top ≡ true → params_of top ≡ Some params → q ≡ params → q.slots ≤ q.life → q.nodes ≤ 32
+    → ((i : ℕ) → has members i ≡ nat_lt i q.nodes) → optional (sends_from params) [] (codes "send") top ≡ Some sends
+    → optional (rules_from params) [] (codes "fault") top ≡ Some rules → joins ≡ [] → leaves ≡ []
+    → scenario_from top ≡ Some (record {
+      params = params;
+      members = members;
+      sends = sends;
+      rules = rules;
+      joins = joins;
+      leaves = leaves;
+      journal = None;
+    })
+unfolding scenario_from
+scenario_from-parts top q params members sends rules joins leaves known read same in_time few all listed scripted no_joins no_leaves =
+    let test : nat_le params.slots params.life ≡ true = rw (← same) (in_time-test q.slots q.life in_time) in
+    let every : members ≡ those_where (λ i. nat_lt i params.nodes) = rw (← same) (those_where-below members q.nodes few all) in
+    rw (known, read, test, listed, scripted, no_joins, no_leaves, every) refl

@@ -1,0 +1,81 @@
+-- A set of nodes that grows by the entries of an array.
+use Rattle.std.proofs.Common.{◌≡◌, ℕ, ◌+◌, ◌<◌, ◌==◌, ◌&&◌, ◌||◌, nat_lt, Bool, true, false, List, [], length, get_or, Option, Some, None, option_map, refl, ap, sym, ◌∙◌, arith}
+use Rattle.std.specs.List.{list_any}
+use Rattle.std.proofs.Math.Seq.{drop-length}
+use Rattle.std.proofs.lemmas.Bool.{false≢true, lt-ltb}
+use Rattle.std.proofs.lemmas.Bool.Decides.{nat_tests}
+use Rattle.toml.specs.Data.{Data}
+use Rattle.toml.specs.View.{view}
+use Rattle.toml.specs.declared.value.Value.{Value}
+use Rattle.cany_base.specs.Nodes.{Nodes, has, those_where, AllBelow}
+use Rattle.cany_base.specs.NodesLaws.{those_where-ext, same_as_those_where}
+use Rattle.cany_model.specs.TomlKeys.{◌>>=◌}
+use Rattle.cany_model.specs.FaultsText.{set_of}
+use Rattle.cany_replay.proofs.EntriesLemmas.{from_index, from_index-more, in_front}
+
+-- the nodes so far and those with the numbers that are left
+abbrev with_numbers : Nodes → List ℕ → Nodes
+with_numbers nodes numbers = those_where (λ i. has nodes i || list_any (λ number. number == i) numbers)
+
+abbrev pub joined : Nodes → Option (List ℕ) → Option Nodes
+joined nodes rest = option_map (with_numbers nodes) rest
+
+none_and : (a b : Bool) → a ≡ false → b ≡ (a || b)
+none_and a b h = rw h refl
+
+pub joined-none : (nodes : Nodes) → ((i : ℕ) → has nodes i ≡ false) → (rest : Option (List ℕ)) → (rest >>= (λ numbers. Some (set_of numbers))) ≡ joined nodes rest
+joined-none nodes none None = refl
+joined-none nodes none (Some numbers) = ap Some (those_where-ext _ _ (λ i below. none_and (has nodes i) (list_any (λ number. number == i) numbers) (none i)))
+
+one_more : (a b : Bool) (n i : ℕ) → (a || (n == i || b)) ≡ ((a || i == n) || b)
+one_more true b n i = refl
+one_more false true n i = grind (arith, nat_tests)
+one_more false false n i = grind (arith, nat_tests)
+
+joined-more : (old new : Nodes) (number : ℕ) → ((i : ℕ) → has new i ≡ (has old i || i == number)) → (rest : Option (List ℕ)) → joined old (in_front number rest) ≡ joined new rest
+joined-more old new number more None = refl
+joined-more old new number more (Some numbers) =
+    ap Some (those_where-ext _ _ (λ i below.
+    one_more (has old i) (list_any (λ n. n == i) numbers) number i ∙ ap (λ t. t || list_any (λ n. n == i) numbers) (sym (more i))))
+
+-- one more entry that is a number
+pub joined-good : (read : Data → Option ℕ) (entries : List Value) (i : ℕ) (entry : Value) (old new : Nodes) (number : ℕ) → i < length entries → entry ≡ get_or entries i entry
+    → read (view entry) ≡ Some number → ((i : ℕ) → has new i ≡ (has old i || i == number)) → joined old (from_index read entries i) ≡ joined new (from_index read entries (i + 1))
+joined-good read entries i entry old new number here is good more =
+    ap (joined old) (from_index-more read entries i entry here is ∙ rw good refl) ∙ joined-more old new number more (from_index read entries (i + 1))
+
+-- an entry that is none
+pub joined-bad : (read : Data → Option ℕ) (entries : List Value) (i : ℕ) (entry : Value) (nodes : Nodes) → i < length entries → entry ≡ get_or entries i entry
+    → read (view entry) ≡ None → joined nodes (from_index read entries i) ≡ None
+joined-bad read entries i entry nodes here is bad =
+    let none : from_index read entries i ≡ None = from_index-more read entries i entry here is ∙ rw bad refl in
+    rw none
+
+one_below : (i number : ℕ) (old : Bool) → number < 32 → (old ≡ true → i < 32) → (old || i == number) ≡ true → i < 32
+one_below i number true small below h = below refl
+one_below i number false small below h = grind (arith, nat_tests)
+
+and_none : (a : Bool) → (a || false) ≡ a
+and_none true = refl
+and_none false = refl
+
+below_test : (i : ℕ) (t : Bool) → (t ≡ true → i < 32) → t ≡ (nat_lt i 32 && t)
+below_test i true below = sym (ap (λ b. b && true) (lt-ltb i 32 (below refl)))
+below_test i false below = elim (nat_lt i 32) as (λ b. false ≡ (b && false)) [ true ↦ refl | false ↦ refl ]
+
+-- after the last entry
+pub joined-all : (read : Data → Option ℕ) (entries : List Value) (nodes : Nodes) → AllBelow 32 nodes → joined nodes (from_index read entries (length entries)) ≡ Some nodes
+joined-all read entries nodes below =
+    let same : nodes ≡ those_where (has nodes) = same_as_those_where nodes (has nodes) (λ i. below_test i (has nodes i) (below i)) in
+    rw (drop-length entries) (ap Some (those_where-ext _ (has nodes) (λ i small. and_none (has nodes i)) ∙ sym same))
+
+-- an inserted node is one that there can be
+pub AllBelow-insert : (old new : Nodes) (number : ℕ) → number < 32 → ((i : ℕ) → has new i ≡ (has old i || i == number)) → AllBelow 32 old → AllBelow 32 new
+AllBelow-insert old new number small more below i h = one_below i number (has old i) small (below i) (sym (more i) ∙ h)
+
+pub AllBelow-none : (nodes : Nodes) → ((i : ℕ) → has nodes i ≡ false) → AllBelow 32 nodes
+AllBelow-none nodes none i h = absurd (false≢true (sym (none i) ∙ h))
+
+-- the empty set is the set of no numbers
+pub empty-set_of : (nodes : Nodes) → ((i : ℕ) → has nodes i ≡ false) → nodes ≡ set_of []
+empty-set_of nodes none = same_as_those_where nodes (λ i. false) (λ i. none i ∙ below_test i false (λ e. absurd (false≢true e)))

@@ -1,0 +1,17 @@
+use Rattle.std.proofs.Common.{arith, ap, sym, ◌∙◌}
+use Rattle.cany_base.specs.Nodes.{Nodes}
+use Rattle.cany_replay.proofs.BusLemmas.{state_at, state_past}
+use Rattle.cany_model.specs.Slot.{sends}
+use Rattle.cany_replay.proofs.SetLemmas.{so_far_none, so_far_more, so_far_all}
+use Rattle.cany_replay.proofs.world.bus.senders.Goals as goal
+
+pub loop-i-init : goal.loop-i-init
+loop-i-init c = so_far_none _ _ (ap (λ (s : Nodes). s.bits) c.of_bits-set.ensures)
+
+pub loop-i-preserved : goal.loop-i-preserved
+loop-i-preserved c =
+    so_far_more _ _ _ _ _ c.loop-i.invariant c.insert_where.ensures
+    (c.sends-test.ensures ∙ ap (sends c.args.frame.now) (sym (state_at c.args.nodes.now c.loop-i.i c.index-nodes-i.result c.loop-i-test.true c.index-nodes-i.is)))
+
+pub returns : goal.returns
+returns c = so_far_all _ _ _ c.loop-i.invariant (omega arith) (λ k past. ap (sends c.args.frame.now) (state_past c.args.nodes.now k (omega arith)))

@@ -1,0 +1,12 @@
+//! The command `replay`: a scenario text in, the report of its run out.
+#![tactic(auto)]
+
+mod reader;
+mod report;
+mod top;
+mod world;
+
+pub use top::replay_top;
+
+#[cfg(test)]
+mod tests;

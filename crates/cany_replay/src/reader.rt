@@ -1,0 +1,72 @@
+//! Reads a scenario text. What the bytes stand for is `scenario_of` of `cany_model`; the files below meet its parts.
+ghost use Rattle.std.specs.Prelude.{◌≡◌, IfOk, IfErr, Some, None};
+ghost use Rattle.toml.specs.View.{table_view};
+ghost use Rattle.cany_model.specs.ScenarioText.{scenario_from, scenario_of};
+ghost use Rattle.cany_replay.specs.Refusal.{IfLater};
+
+mod document;
+mod faults;
+mod keys;
+mod nodes;
+mod params;
+mod places;
+mod refusal;
+mod sends;
+#[cfg(test)]
+mod tests;
+
+use crate::reader::document::read_document;
+use crate::reader::faults::read_rules;
+use crate::reader::keys::has_only;
+use crate::reader::params::read_params;
+pub(crate) use crate::reader::refusal::{LaterName, ReadRefusal};
+use crate::reader::sends::read_sends;
+use cany_base::{NodeSet, Scenario};
+use std::alloc::Global;
+use toml::Table;
+
+/// The top keys that a text can have so far. The reader refuses each other key of the format, so the parameters of those
+/// keys have their defaults.
+const TOP_KEYS: [&str; 7] = [
+    "format", "nodes", "slots", "omit", "errors", "send", "fault",
+];
+
+/// The scenario that the bytes stand for.
+///
+/// # Errors
+///
+/// `Later` exactly where they stand for none of the form that is read so far, `Memory` for want of memory.
+#[tactic(auto, unfolding(cany_model::specs::ScenarioText::scenario_of))]
+pub(crate) fn read_scenario(alloc: Global, bytes: &[u8]) -> Result<Scenario, ReadRefusal>
+    ensures ok { IfOk result (λ scenario. scenario_of bytes.now ≡ Some scenario) }
+    ensures later { IfErr result (λ refusal. IfLater refusal (scenario_of bytes.now ≡ None)) }
+{
+    let top = read_document(alloc, bytes)?;
+    scenario_from(alloc, &top)
+}
+
+#[tactic(auto, unfolding(cany_model::specs::ScenarioText::scenario_from))]
+fn scenario_from(alloc: Global, top: &Table) -> Result<Scenario, ReadRefusal>
+    ensures ok { IfOk result (λ scenario. scenario_from (table_view top.now) ≡ Some scenario) }
+    ensures later { IfErr result (λ refusal. IfLater refusal (scenario_from (table_view top.now) ≡ None)) }
+{
+    if !has_only(top, &TOP_KEYS) {
+        return Err(ReadRefusal::FORM);
+    }
+    let params = read_params(top).ok_or(ReadRefusal::FORM)?;
+    if params.slots > params.life {
+        return Err(ReadRefusal::FORM);
+    }
+    let sends = read_sends(alloc, &params, top)?;
+    let rules = read_rules(alloc, &params, top)?;
+    let members = NodeSet::all(params.nodes);
+    Ok(Scenario::of_parts(
+        params,
+        members,
+        sends,
+        rules,
+        Vec::new(alloc),
+        Vec::new(alloc),
+        None,
+    ))
+}

@@ -1,0 +1,105 @@
+ghost use Rattle.std.specs.Prelude.{◌≡◌, ◌<◌, map, filter};
+ghost use Rattle.std.specs.List.{concat, flat_map, range_with_len};
+ghost use Rattle.cany_base.specs.Scenario.{ScenarioParts};
+ghost use Rattle.cany_model.specs.Report.{report, bus_lines, node_lines, message_lines};
+ghost use Rattle.cany_model.specs.ReportLines.{bus_line, is_shown as has_line, journal_lines};
+ghost use Rattle.cany_model.specs.Run.{run};
+ghost use Rattle.cany_replay.specs.Written.{IsWritten};
+
+use super::field::Field;
+use super::line::write_line;
+use super::lines::{
+    write_bus_line, write_entry, write_hypothesis, write_message, write_node_line, write_params,
+    write_steps,
+};
+use super::names::has_any;
+use crate::world::World;
+use cany_base::{NodeId, SlotNote, Step};
+use cany_io::{Failed, Sink};
+
+/// How many steps stand in a line of the journal.
+const STEPS: usize = 64;
+
+fn write_journal<K: Sink>(journal: &[Step], sink: &mut K) -> Result<(), Failed>
+    ensures { IsWritten (concat (journal_lines journal.now)) result
+        (K.taken sink.old) (K.taken sink.new) (K.faults sink.old) (K.faults sink.new) }
+{
+    for steps in journal.chunks(STEPS) {
+        write_steps(steps, sink)?;
+    }
+    Ok(())
+}
+
+/// Whether a slot has a line: it carried a frame, or a node stopped in it.
+#[tactic(auto, unfolding(cany_model::specs::ReportLines::is_shown))]
+fn is_shown(note: &SlotNote) -> bool
+    ensures { result ≡ has_line note.now }
+{
+    note.frame.is_some() || has_any(note.stops)
+}
+
+/// Writes the slots of a trace, oldest first.
+fn write_bus<K: Sink>(trace: &[SlotNote], sink: &mut K) -> Result<(), Failed>
+    ensures { IsWritten (concat (map bus_line (filter has_line trace.now))) result
+        (K.taken sink.old) (K.taken sink.new) (K.faults sink.old) (K.faults sink.new) }
+{
+    for note in trace {
+        if is_shown(note) {
+            write_bus_line(note, sink)?;
+        }
+    }
+    Ok(())
+}
+
+/// Writes a node and its log.
+fn write_node<K: Sink>(world: &World, node: NodeId, sink: &mut K) -> Result<(), Failed>
+    requires { node < world.now.scenario.params.nodes }
+    ensures { IsWritten (concat (node_lines world.now.scenario (run world.now.scenario world.now.journal) node)) result
+        (K.taken sink.old) (K.taken sink.new) (K.faults sink.old) (K.faults sink.new) }
+{
+    write_node_line(node, world.stopped(node), world.read(node), sink)?;
+    for entry in world.log(node) {
+        write_entry(entry, sink)?;
+    }
+    Ok(())
+}
+
+fn write_nodes<K: Sink>(world: &World, sink: &mut K) -> Result<(), Failed>
+    ensures { IsWritten (concat (flat_map (node_lines world.now.scenario (run world.now.scenario world.now.journal))
+        (range_with_len 0 world.now.scenario.params.nodes))) result
+        (K.taken sink.old) (K.taken sink.new) (K.faults sink.old) (K.faults sink.new) }
+{
+    for number in 0..world.scenario().params().nodes {
+        write_node(world, NodeId::new(number).unwrap(), sink)?;
+    }
+    Ok(())
+}
+
+/// Writes the messages, and counts those of each origin to number them.
+fn write_messages<K: Sink>(world: &World, sink: &mut K) -> Result<(), Failed>
+    ensures { IsWritten (concat (message_lines world.now.scenario (run world.now.scenario world.now.journal))) result
+        (K.taken sink.old) (K.taken sink.new) (K.faults sink.old) (K.faults sink.new) }
+{
+    let mut counts = [0u64; NodeId::COUNT as usize];
+    for (i, send) in world.scenario().sends().iter().enumerate() {
+        let origin = usize::from(send.node.get());
+        write_message(send, counts[origin], world.settled(i), sink)?;
+        counts[origin] += 1;
+    }
+    Ok(())
+}
+
+/// Writes the report of the world's run. It takes no memory.
+pub fn write_report<K: Sink>(world: &World, sink: &mut K) -> Result<(), Failed>
+    ensures { IsWritten (report world.now.scenario world.now.journal) result
+        (K.taken sink.old) (K.taken sink.new) (K.faults sink.old) (K.faults sink.new) }
+{
+    write_line(&[Field::Text("canely report 1")], sink)?;
+    write_params(world.scenario().params(), sink)?;
+    write_journal(world.journal(), sink)?;
+    write_bus(world.trace(), sink)?;
+    write_hypothesis(world.hypothesis(), sink)?;
+    write_nodes(world, sink)?;
+    write_messages(world, sink)?;
+    write_line(&[Field::Text("end")], sink)
+}

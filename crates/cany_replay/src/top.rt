@@ -1,0 +1,154 @@
+//! The call behind the command `replay`.
+ghost use Rattle.std.specs.Prelude.{◌≡◌, ◌⊎◌, ◌↔◌, ◌<◌, ◌≤◌, map, length, string_bytes, None, IsTrue, IfSome, IsSomeAnd, MatchOption};
+ghost use Rattle.cany_io.specs.Faults.{HasRisen, StandsStill};
+ghost use Rattle.cany_io.specs.Sink.{Takes, TakesPrefix};
+ghost use Rattle.cany_io.specs.Source.{IsAtEnd};
+ghost use Rattle.cany_model.specs.Report.{report};
+ghost use Rattle.cany_model.specs.ScenarioText.{scenario_of};
+ghost use Rattle.cany_replay.specs.Top.{AreReplay, IsReplay, answer_of, refusal};
+
+use crate::reader::{ReadRefusal, read_scenario};
+use crate::report::{write_refusal, write_report};
+use crate::world::{World, round_robin};
+use cany_io::{Failed, ReadFault, Sink, Source, read_all};
+use std::alloc::Global;
+
+/// How many bytes a scenario text has at most.
+const LIMIT: usize = 8_388_608;
+
+// The statuses.
+const DONE: u8 = 0;
+
+const OTHER_WORDS: u8 = 2;
+
+const REFUSED: u8 = 3;
+
+const READ_FAULT: u8 = 4;
+
+const WRITE_FAULT: u8 = 5;
+
+const NO_MEMORY: u8 = 6;
+
+const TOO_LONG: u8 = 7;
+
+fn is_replay(words: &[String]) -> bool
+    ensures { IsTrue result ↔ AreReplay (map string_bytes words.now) }
+{
+    match words {
+        [word] => word.as_str() == "replay",
+        _ => false,
+    }
+}
+
+/// Writes the report of a run.
+fn report_run<K: Sink>(world: &World, sink: &mut K) -> u8
+    ensures done { result ≡ DONE → Takes (K.taken sink.old) (report world.now.scenario world.now.journal) (K.taken sink.new) }
+    ensures write_fault { result ≡ WRITE_FAULT → HasRisen (K.faults sink.old) (K.faults sink.new) }
+    ensures prefix { TakesPrefix (K.taken sink.old) (report world.now.scenario world.now.journal) (K.taken sink.new) }
+    ensures status { (result ≡ DONE) ⊎ (result ≡ WRITE_FAULT) }
+{
+    match write_report(world, sink) {
+        Ok(()) => DONE,
+        Err(Failed) => WRITE_FAULT,
+    }
+}
+
+/// Refuses a text.
+fn refuse<K: Sink>(sink: &mut K) -> u8
+    ensures refused { result ≡ REFUSED → Takes (K.taken sink.old) refusal (K.taken sink.new) }
+    ensures write_fault { result ≡ WRITE_FAULT → HasRisen (K.faults sink.old) (K.faults sink.new) }
+    ensures prefix { TakesPrefix (K.taken sink.old) refusal (K.taken sink.new) }
+    ensures status { (result ≡ REFUSED) ⊎ (result ≡ WRITE_FAULT) }
+{
+    match write_refusal(sink) {
+        Ok(()) => REFUSED,
+        Err(Failed) => WRITE_FAULT,
+    }
+}
+
+/// Runs the scenario of a text and writes the report, or refuses the text. Nothing is written before the run has ended.
+#[tactic(auto, unfolding(crate::specs::Top::answer_of))]
+fn replay_text<K: Sink>(alloc: Global, text: &[u8], sink: &mut K) -> u8
+    ensures done { result ≡ DONE → IsSomeAnd (scenario_of text.now) (λ scenario. IsReplay scenario (K.taken sink.old) (K.taken sink.new)) }
+    ensures refused { result ≡ REFUSED → scenario_of text.now ≡ None }
+    ensures line { result ≡ REFUSED → Takes (K.taken sink.old) refusal (K.taken sink.new) }
+    ensures write_fault { result ≡ WRITE_FAULT → HasRisen (K.faults sink.old) (K.faults sink.new) }
+    ensures prefix { result ≡ WRITE_FAULT → TakesPrefix (K.taken sink.old) (answer_of text.now) (K.taken sink.new) }
+    ensures untouched { result ≡ NO_MEMORY → sink.new ≡ sink.old }
+    ensures status { (result ≡ DONE) ⊎ (result ≡ REFUSED) ⊎ (result ≡ WRITE_FAULT) ⊎ (result ≡ NO_MEMORY) }
+{
+    let scenario = match read_scenario(alloc, text) {
+        Ok(scenario) => scenario,
+        Err(ReadRefusal::Later { .. }) => return refuse(sink),
+        Err(ReadRefusal::Memory) => return NO_MEMORY,
+    };
+    match round_robin(alloc, &scenario) {
+        Ok(world) => report_run(&world, sink),
+        Err(_) => NO_MEMORY,
+    }
+}
+
+/// Replays: reads a scenario text from the source, runs the scenario by its round robin journal, and writes the report to
+/// the sink, a line at a time. It answers the status of the program:
+///
+/// | status | |
+/// |---|---|
+/// | 0 | the report was written |
+/// | 2 | the words are not the one word `replay`; nothing was read or written |
+/// | 3 | the text stands for no scenario of the form that is read so far, and the line of the refusal was written |
+/// | 4 | the source failed; nothing was written |
+/// | 5 | the sink failed; what it took is the start of what 0 or 3 would write |
+/// | 6 | there was no memory; nothing was written |
+/// | 7 | the source has more than 8,388,608 bytes; nothing was written |
+pub fn replay_top<S: Source, K: Sink>(
+    alloc: Global,
+    words: &[String],
+    source: &mut S,
+    sink: &mut K,
+) -> u8
+    // The words alone decide on 2.
+    ensures words { (result ≡ 2) ↔ (AreReplay (map string_bytes words.now) → ⊥) }
+    ensures unread { result ≡ 2 → source.new ≡ source.old }
+
+    // Success. Here and below, `bytes` are all that the source had.
+    ensures done { result ≡ 0 → IfSome (S.left source.old) (λ bytes. IsSomeAnd (scenario_of bytes) (λ scenario.
+        IsReplay scenario (K.taken sink.old) (K.taken sink.new))) }
+
+    // The text is refused.
+    ensures refused { result ≡ 3 → IfSome (S.left source.old) (λ bytes. scenario_of bytes ≡ None) }
+    ensures line { result ≡ 3 → Takes (K.taken sink.old) refusal (K.taken sink.new) }
+
+    // The streams fail.
+    ensures read_fault { result ≡ 4 → HasRisen (S.faults source.old) (S.faults source.new) }
+    ensures write_fault { result ≡ 5 → HasRisen (K.faults sink.old) (K.faults sink.new) }
+    ensures prefix { result ≡ 5 → IfSome (S.left source.old) (λ bytes. TakesPrefix (K.taken sink.old) (answer_of bytes) (K.taken sink.new)) }
+
+    // The source has too many bytes, or all of them were read.
+    ensures too_long { result ≡ 7 → IfSome (S.left source.old) (λ bytes. 8388608 < length bytes) }
+    ensures fits { (result ≡ 0) ⊎ (result ≡ 3) ⊎ (result ≡ 5) → IfSome (S.left source.old) (λ bytes. length bytes ≤ 8388608) }
+    ensures drained { (result ≡ 0) ⊎ (result ≡ 3) ⊎ (result ≡ 5) → IsAtEnd (S.left source.new) }
+
+    // Nothing else writes.
+    ensures unwritten { (result ≡ 2) ⊎ (result ≡ 4) ⊎ (result ≡ 6) ⊎ (result ≡ 7) → sink.new ≡ sink.old }
+    ensures status { (result ≡ 0) ⊎ (result ≡ 2) ⊎ (result ≡ 3) ⊎ (result ≡ 4) ⊎ (result ≡ 5) ⊎ (result ≡ 6) ⊎ (result ≡ 7) }
+
+    // Where neither stream fails, the text decides, but for want of memory.
+    ensures complete { AreReplay (map string_bytes words.now)
+        → StandsStill (S.faults source.old) (S.faults source.new)
+        → StandsStill (K.faults sink.old) (K.faults sink.new)
+        → IfSome (S.left source.old) (λ bytes. length bytes ≤ 8388608
+        → (result ≡ 6) ⊎ MatchOption (scenario_of bytes) (result ≡ 3) (λ _. result ≡ 0)) }
+    ensures complete_too_long { AreReplay (map string_bytes words.now)
+        → StandsStill (S.faults source.old) (S.faults source.new)
+        → IfSome (S.left source.old) (λ bytes. 8388608 < length bytes → (result ≡ 6) ⊎ (result ≡ 7)) }
+{
+    if !is_replay(words) {
+        return OTHER_WORDS;
+    }
+    match read_all(alloc, source, LIMIT) {
+        Ok(text) => replay_text(alloc, &text, sink),
+        Err(ReadFault::Failed) => READ_FAULT,
+        Err(ReadFault::TooLong) => TOO_LONG,
+        Err(ReadFault::Memory) => NO_MEMORY,
+    }
+}
