@@ -1,0 +1,10 @@
+pub mod AttemptFacts
+pub mod CountFacts
+pub mod CountedFacts
+pub mod KeyFacts
+pub mod OmissionFacts
+pub mod OmissionSteps
+pub mod PartialRoom
+pub mod TableFacts
+pub mod TallyFacts
+pub mod WindowFacts

@@ -1,0 +1,10 @@
+pub mod Attempts
+pub mod Counted
+pub mod Counts
+pub mod Names
+pub mod Omissions
+pub mod Rules
+pub mod Table
+pub mod Tally
+pub mod TallyFields
+pub mod Window

@@ -1,0 +1,86 @@
+ghost use Rattle.std.specs.Prelude.{◌≡◌, [], ◌∷◌, ◌++◌, List, Some, IfOk, OnOk, option_map, min, if◌then◌else◌};
+ghost use Rattle.std.specs.BTreeMap.{get};
+ghost use Rattle.std.specs.Ordering.{is_eq};
+ghost use Rattle.cany_base.specs.declared.rule.Rule.{Rule};
+ghost use Rattle.cany_base.specs.declared.slot_note.SlotNote.{SlotNote};
+ghost use Rattle.can_fault.specs.declared.name.FrameName.{FrameName};
+ghost use Rattle.can_fault.specs.Attempts.{AreCountsOf, HasNames, greatest, raised};
+ghost use Rattle.can_fault.specs.Names.{name_cmp};
+ghost use Rattle.can_fault.specs.Rules.{next_attempt};
+
+use crate::name::FrameName;
+use crate::script::Script;
+use cany_base::{Frame, Memory, Place, Rule};
+use std::alloc::Global;
+use std::collections::BTreeMap;
+use std::marker::Model;
+
+/// How often each frame that a rule names was carried.
+#[derive(Debug, Drop)]
+pub struct Attempts {
+    counts: BTreeMap<FrameName, u32>,
+}
+
+impl Model for Attempts {
+    ghost use Rattle.std.specs.Prelude.{List, ℕ};
+    ghost use Rattle.can_fault.specs.declared.name.FrameName.{FrameName};
+
+    ghost Value = { List (FrameName × ℕ) };
+
+    ghost view = { λ a. a.counts.entries };
+}
+
+impl Attempts {
+    /// The counts of a run without slots.
+    pub fn build(alloc: Global, script: &Script) -> Result<Attempts, Memory>
+        ensures { IfOk result (AreCountsOf script.now []) }
+    {
+        let mut counts = BTreeMap::new(alloc);
+        for rule in script.rules() {
+            enter(&mut counts, rule)?;
+        }
+        Ok(Attempts { counts })
+    }
+
+    /// Counts an attempt to carry the frame, and gives its number, counted from 1. For a frame that no rule names the
+    /// number is 0.
+    ///
+    /// A count stands still at the end of its type, which no run of a scenario reaches.
+    pub fn count(&mut self, frame: &Frame) -> u32
+        ensures number { (rules : List Rule) (trace : List SlotNote) → AreCountsOf rules trace self.old
+            → result ≡ min (next_attempt rules trace frame.now) greatest }
+        ensures counted { (rules : List Rule) (trace : List SlotNote) (note : SlotNote) → AreCountsOf rules trace self.old
+            → note.frame ≡ Some frame.now → AreCountsOf rules (note ∷ trace) self.new }
+    {
+        raise(&mut self.counts, &FrameName::of(frame)).unwrap_or(0)
+    }
+}
+
+/// Enters the name of the frame that a rule names, if it names one.
+fn enter(counts: &mut BTreeMap<FrameName, u32>, rule: &Rule) -> Result<(), Memory>
+    ensures { (rules : List Rule) → HasNames rules counts.old.entries → OnOk result (HasNames (rules ++ rule.now ∷ []) counts.new.entries) }
+{
+    match rule.place {
+        Place::At { .. } => Ok(()),
+        Place::FrameNth {
+            class,
+            number,
+            node,
+            ..
+        } => {
+            counts.insert(FrameName::new(class, number, node), 0)?;
+            Ok(())
+        }
+    }
+}
+
+/// Raises the count of a name by one, where there is one, and gives it.
+fn raise(counts: &mut BTreeMap<FrameName, u32>, name: &FrameName) -> Option<u32>
+    ensures answer { result ≡ option_map raised (get name_cmp counts.old name.now) }
+    ensures raised { (other : FrameName) → get name_cmp counts.new other
+        ≡ (if is_eq (name_cmp name.now other) then option_map raised (get name_cmp counts.old other) else get name_cmp counts.old other) }
+{
+    let count = counts.get_mut(name)?;
+    *count = count.saturating_add(1);
+    Some(*count)
+}

@@ -1,0 +1,20 @@
+//! The fault side of the bus: what the scripted rules say of each slot, and whether the run keeps the fault hypothesis.
+#![tactic(auto)]
+
+mod attempts;
+mod counts;
+pub mod laws;
+mod name;
+mod omissions;
+mod script;
+mod sharing;
+mod table;
+mod tally;
+#[cfg(test)]
+mod tests;
+mod window;
+
+pub use attempts::Attempts;
+pub use cany_model::{Break, BreakKind};
+pub use script::{Script, ScriptFault};
+pub use tally::Tally;

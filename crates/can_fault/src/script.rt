@@ -1,0 +1,111 @@
+ghost use Rattle.std.specs.Prelude.{◌≡◌, ℕ, List, length, Err, IfOk, OnOk, option_map};
+ghost use Rattle.cany_base.specs.declared.slot_note.SlotNote.{SlotNote};
+ghost use Rattle.cany_model.specs.Slot.{ruling_of, script};
+ghost use Rattle.can_fault.specs.Rules.{HaveDistinctPlaces, IsFirstRepeated, rule_for, IsCounted};
+
+use crate::table::RuleTable;
+use cany_base::{Frame, Memory, NodeSet, Rule, Slot, Verdict};
+use std::alloc::{AllocError, Global};
+use std::marker::Model;
+use thiserror::Error;
+
+/// Why rules make no script.
+#[derive(Clone, Copy, Debug, PartialEq, Eq, Error)]
+pub enum ScriptFault {
+    /// The rule at `index`, counted from 0, has the place of an earlier one.
+    #[error("rule {index} has the place of an earlier rule")]
+    Repeated { index: usize },
+    /// Want of memory, which no contract ties to a cause.
+    #[error("out of memory")]
+    Memory,
+}
+
+impl From<Memory> for ScriptFault {
+    ghost use Rattle.can_fault.specs.declared.script.ScriptFault.TheVariants as fault;
+
+    ghost from_gives = { λ _ e. e ≡ fault.Memory };
+
+    fn from(_: Memory) -> Self {
+        ScriptFault::Memory
+    }
+}
+
+impl From<AllocError> for ScriptFault {
+    ghost use Rattle.can_fault.specs.declared.script.ScriptFault.TheVariants as fault;
+
+    ghost from_gives = { λ _ e. e ≡ fault.Memory };
+
+    fn from(_: AllocError) -> Self {
+        ScriptFault::Memory
+    }
+}
+
+/// The fault rules of a scenario, each at a place of its own.
+///
+/// It tells the outcome of each slot. A rule is found in a number of steps that grows as the logarithm of their number.
+#[derive(Debug, Drop)]
+pub struct Script {
+    rules: Vec<Rule>,
+    table: RuleTable,
+}
+
+impl Model for Script {
+    ghost use Rattle.std.specs.Prelude.{List};
+    ghost use Rattle.cany_base.specs.declared.rule.Rule.{Rule};
+    ghost use Rattle.can_fault.specs.Table.{IsTableOf};
+
+    ghost Value = { List Rule };
+
+    ghost view = { λ s. s.rules.items };
+
+    ghost invariant = { λ s. IsTableOf s.rules.items s.table };
+}
+
+impl Script {
+    /// The script of these rules.
+    pub fn build(alloc: Global, rules: &[Rule]) -> Result<Script, ScriptFault>
+        ensures ok { IfOk result (λ script. script ≡ rules.now) }
+        ensures distinct { OnOk result (HaveDistinctPlaces rules.now) }
+        ensures repeated { (index : ℕ) → result ≡ Err (ScriptFault.Repeated index) → IsFirstRepeated rules.now index }
+    {
+        let mut table = RuleTable::new(alloc);
+        for (index, rule) in rules.iter().enumerate() {
+            if table.enter(rule)?.is_some() {
+                return Err(ScriptFault::Repeated { index });
+            }
+        }
+        let rules = Vec::from_slice(alloc, rules)?;
+        Ok(Script { rules, table })
+    }
+
+    pub(crate) fn rules(&self) -> &[Rule]
+        ensures { result.now ≡ self.now }
+    {
+        self.rules.as_slice()
+    }
+
+    /// The outcome of a slot, and the nodes that stop at its end. `carried` is the frame that the slot carries, with the
+    /// number of the attempt to carry it, counted from 1. For a frame that no rule names any number will do.
+    ///
+    /// That a rule for the slot is used alone, though the attempt has one too, is this project's own rule.
+    pub fn verdict(&self, slot: Slot, carried: Option<(Frame, u32)>) -> (Verdict, NodeSet)
+        ensures ruling { record { verdict = result.0; stop = result.1 } ≡ ruling_of (rule_for self.now slot carried) }
+        ensures script { (trace : List SlotNote) → slot ≡ length trace → IsCounted self.now trace carried
+            → record { verdict = result.0; stop = result.1 } ≡ script self.now trace (option_map (λ c. c.0) carried) }
+    {
+        match self.rule(slot, carried) {
+            Some(rule) => (rule.verdict, rule.stop),
+            None => (Verdict::Clean, NodeSet::empty()),
+        }
+    }
+
+    fn rule(&self, slot: Slot, carried: Option<(Frame, u32)>) -> Option<Rule>
+        ensures { result ≡ rule_for self.now slot carried }
+    {
+        if let Some(rule) = self.table.for_slot(slot) {
+            return Some(rule);
+        }
+        let (frame, attempt) = carried?;
+        self.table.for_attempt(&frame, attempt)
+    }
+}

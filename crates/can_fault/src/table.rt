@@ -1,0 +1,62 @@
+ghost use Rattle.std.specs.Prelude.{◌≡◌, [], Option, Some, IfOk, OnOk, if◌then◌else◌};
+ghost use Rattle.cany_base.specs.declared.rule.Place.{Place};
+ghost use Rattle.cany_base.specs.declared.rule.Place.TheVariants.{At, FrameNth};
+
+use crate::name::{Attempt, FrameName};
+use cany_base::{Frame, Memory, Place, Rule, Slot};
+use std::alloc::Global;
+use std::collections::BTreeMap;
+
+/// Rules by their places.
+#[derive(Debug, Drop)]
+pub(crate) struct RuleTable {
+    by_slot: BTreeMap<Slot, Rule>,
+    by_attempt: BTreeMap<Attempt, Rule>,
+}
+
+impl RuleTable {
+    ghost use Rattle.can_fault.specs.Table.{is_place, entry_at, IsTableOf};
+
+    pub(crate) fn new(alloc: Global) -> RuleTable
+        ensures { IsTableOf [] result }
+    {
+        RuleTable {
+            by_slot: BTreeMap::new(alloc),
+            by_attempt: BTreeMap::new(alloc),
+        }
+    }
+
+    /// Enters a rule at its place, and gives the one that stood there.
+    pub(crate) fn enter(&mut self, rule: &Rule) -> Result<Option<Rule>, Memory>
+        ensures earlier { IfOk result (λ earlier. earlier ≡ entry_at self.old rule.now.place) }
+        ensures entered { OnOk result ((place : Place) → entry_at self.new place ≡ (if is_place place rule.now.place then Some rule.now else entry_at self.old place)) }
+    {
+        match rule.place {
+            Place::At { slot } => Ok(self.by_slot.insert(slot, *rule)?),
+            Place::FrameNth {
+                class,
+                number,
+                node,
+                nth,
+            } => {
+                let name = FrameName::new(class, number, node);
+                Ok(self.by_attempt.insert(Attempt { name, nth }, *rule)?)
+            }
+        }
+    }
+
+    /// The rule for the slot.
+    pub(crate) fn for_slot(&self, slot: Slot) -> Option<Rule>
+        ensures { result ≡ entry_at self.now (At slot) }
+    {
+        self.by_slot.get(&slot).copied()
+    }
+
+    /// The rule for the attempt to carry the frame.
+    pub(crate) fn for_attempt(&self, frame: &Frame, nth: u32) -> Option<Rule>
+        ensures { result ≡ entry_at self.now (FrameNth frame.now.class frame.now.number frame.now.node nth) }
+    {
+        let name = FrameName::of(frame);
+        self.by_attempt.get(&Attempt { name, nth }).copied()
+    }
+}

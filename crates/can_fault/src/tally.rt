@@ -1,0 +1,106 @@
+ghost use Rattle.std.specs.Prelude.{◌≡◌, ◌+◌, ◌<◌, ◌≤◌, ◌↔◌, ◌∷◌, [], true, List, None, length, IfOk, if◌then◌else◌};
+ghost use Rattle.cany_base.specs.declared.slot_note.SlotNote.{SlotNote};
+ghost use Rattle.cany_base.specs.Params.{Parameters};
+ghost use Rattle.cany_model.specs.Hypothesis.{IsWithin, first_break};
+ghost use Rattle.can_fault.specs.Omissions.{IsKeptOf, HasLimitsOf};
+ghost use Rattle.can_fault.specs.Tally.{is_partial_slot, IsTallyOf};
+
+use crate::omissions::Omissions;
+use cany_base::{Memory, Params, Slot, SlotNote, Verdict};
+use cany_model::Break;
+use std::alloc::Global;
+use std::marker::Model;
+
+/// Tells whether a run keeps the fault hypothesis, from the notes of its slots, and where it first does not.
+///
+/// A note costs no more as the run grows, but for a Partial slot, which is compared with the frames that met one before:
+/// these are at most as many as there are rules.
+#[derive(Drop)]
+pub struct Tally {
+    params: Params,
+    rules: usize,
+    newest: Option<Slot>,
+    partials: usize,
+    first: Option<Break>,
+    omissions: Omissions,
+}
+
+impl Model for Tally {
+    ghost use Rattle.can_fault.specs.Tally.{TallyParts};
+
+    ghost Value = { TallyParts };
+
+    ghost use Rattle.can_fault.specs.TallyFields.{parts_of, IsSound};
+
+    ghost view = { parts_of };
+
+    ghost invariant = { IsSound };
+}
+
+impl Tally {
+    /// The tally of a run without slots, with room for so many Partial slots as there are rules.
+    pub fn build(alloc: Global, params: &Params, rules: usize) -> Result<Tally, Memory>
+        ensures run { IfOk result (IsTallyOf []) }
+        ensures params { IfOk result (λ tally. tally.params ≡ params.now) }
+        ensures rules { IfOk result (λ tally. tally.rules ≡ rules) }
+    {
+        let omissions = Omissions::build(alloc, params, rules)?;
+        Ok(Tally {
+            params: *params,
+            rules,
+            newest: None,
+            partials: 0,
+            first: None,
+            omissions,
+        })
+    }
+
+    /// Notes the next slot.
+    pub fn note(&mut self, note: &SlotNote)
+        requires next { note.now.slot ≡ self.old.slots }
+        requires room { is_partial_slot note.now ≡ true → self.old.partials < self.old.rules }
+        ensures run { (trace : List SlotNote) → IsTallyOf trace self.old → IsTallyOf (note.now ∷ trace) self.new }
+        ensures slots { self.new.slots ≡ self.old.slots + 1 }
+        ensures partials { self.new.partials ≡ self.old.partials + (if is_partial_slot note.now then 1 else 0) }
+        ensures params { self.new.params ≡ self.old.params }
+        ensures rules { self.new.rules ≡ self.old.rules }
+    {
+        self.newest = Some(note.slot);
+        self.first = next_break(self.first, &mut self.omissions, note);
+        self.partials += usize::from(is_partial_slot(note));
+    }
+
+    /// The first slot at which the run leaves the hypothesis.
+    pub fn first_break(&self) -> Option<Break>
+        ensures first { (trace : List SlotNote) → IsTallyOf trace self.now → result ≡ first_break self.now.params trace }
+        ensures within { (trace : List SlotNote) → IsTallyOf trace self.now → (result ≡ None) ↔ IsWithin self.now.params trace }
+    {
+        self.first
+    }
+}
+
+/// The first break after one more slot. The slots after it matter no more.
+fn next_break(first: Option<Break>, omissions: &mut Omissions, note: &SlotNote) -> Option<Break>
+    requires { is_partial_slot note.now ≡ true → length omissions.old.counts.counts.items < omissions.old.counts.counts.room }
+    ensures next { (p : Parameters) (trace : List SlotNote) → note.now.slot ≡ length trace → first ≡ first_break p trace
+        → (first ≡ None → IsKeptOf p trace omissions.old) → result ≡ first_break p (note.now ∷ trace) }
+    ensures kept { (p : Parameters) (trace : List SlotNote) → note.now.slot ≡ length trace → first ≡ first_break p trace
+        → (first ≡ None → IsKeptOf p trace omissions.old) → result ≡ None → IsKeptOf p (note.now ∷ trace) omissions.new }
+    ensures len { length omissions.new.counts.counts.items ≤ length omissions.old.counts.counts.items + (if is_partial_slot note.now then 1 else 0) }
+    ensures limits { HasLimitsOf omissions.old omissions.new }
+    ensures room { omissions.new.counts.counts.room ≡ omissions.old.counts.counts.room }
+{
+    if first.is_some() {
+        return first;
+    }
+    let frame = note.frame?;
+    let kind = omissions.note(note, &frame)?;
+    let slot = note.slot;
+    Some(Break { kind, slot })
+}
+
+fn is_partial_slot(note: &SlotNote) -> bool
+    ensures { result ≡ is_partial_slot note.now }
+{
+    note.frame.is_some() && matches!(note.verdict, Verdict::Partial(_))
+}
