@@ -1,0 +1,5 @@
+pub mod Ascending
+pub mod Fitting
+pub mod Kept
+pub mod Places
+pub mod Seen

@@ -1,0 +1,5 @@
+use Rattle.can_controller.proofs.Fitting.{same_identity_is}
+use Rattle.can_controller.proofs.laws.identifier_is_identity.Goals as goal
+
+pub returns : goal.returns
+returns c = same_identity_is c.args.format

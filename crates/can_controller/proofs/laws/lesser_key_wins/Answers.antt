@@ -1,0 +1,5 @@
+use Rattle.can_controller.proofs.Fitting.{key_order}
+use Rattle.can_controller.proofs.laws.lesser_key_wins.Goals as goal
+
+pub returns : goal.returns
+returns c = key_order c.args.format

@@ -1,0 +1,14 @@
+use Rattle.std.proofs.Common.{◌-◌, ◌≤◌, length, take, drop}
+use Rattle.can_controller.proofs.Ascending.{AllBelow, AllAbove}
+use Rattle.can_controller.proofs.waiting.find.Given as goal
+
+abbrev pub invariant-loop-low : goal.invariant-loop-low
+invariant-loop-low l = record {
+  ordered : l.low ≤ l.high;
+  within : l.high ≤ length l.frames;
+  below : AllBelow l.ident (take l.low l.frames);
+  above : AllAbove l.ident (drop l.high l.frames);
+}
+
+abbrev pub decreases-loop-low : goal.decreases-loop-low
+decreases-loop-low l = l.high - l.low

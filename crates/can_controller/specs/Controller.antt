@@ -1,0 +1,63 @@
+-- What a contract sees of a controller, and what its share in a slot does to it.
+use Rattle.std.specs.Prelude.{ℕ, if◌then◌else◌, List, [], ◌∷◌, ◌++◌, length, Option, Some, None, unwrap_or}
+use Rattle.cany_base.specs.declared.notice.Notice.{Notice}
+use Rattle.cany_base.specs.Frame.{FrameParts}
+use Rattle.cany_base.specs.Params.{Parameters}
+use Rattle.cany_model.specs.declared.share.Share.{Share}
+use Rattle.cany_model.specs.History.{notice_of}
+use Rattle.cany_model.specs.Slot.{after_share, exceeds}
+use Rattle.cany_model.specs.State.{NodeState}
+
+-- what it was built with: its node, the parameters and how many frames may wait; the waiting frames in the order in which
+-- they win; the error counters; the notices not read yet, oldest first, and how many were read; the slot of its stop
+pub record ControllerState : Type 0 where
+  pub node : ℕ
+  pub params : Parameters
+  pub room : ℕ
+  pub waiting : List FrameParts
+  pub transmit : ℕ
+  pub receive : ℕ
+  pub unread : List Notice
+  pub read : ℕ
+  pub stopped : Option ℕ
+
+-- the controller's node, as a run has it
+abbrev pub node_state : ControllerState → NodeState
+node_state c = record {
+  unread = length c.unread;
+  waiting = c.waiting;
+  transmit = c.transmit;
+  receive = c.receive;
+  stopped = c.stopped;
+}
+
+-- nothing waits, nothing was seen
+abbrev pub fresh_controller : ℕ → Parameters → ℕ → ControllerState
+fresh_controller node params room = record {
+  node = node;
+  params = params;
+  room = room;
+  waiting = [];
+  transmit = 0;
+  receive = 0;
+  unread = [];
+  read = 0;
+  stopped = None;
+}
+
+-- a running controller after its share in a slot: its frames and counters are those that the share leaves, one more notice is
+-- unread, and it stops where a counter exceeds the limit
+abbrev pub seen : ℕ → Share → ControllerState → ControllerState
+seen slot share c =
+    let after = after_share share (node_state c) in
+    record c {
+      waiting = after.waiting;
+      transmit = after.transmit;
+      receive = after.receive;
+      unread = c.unread ++ record { slot = slot; kind = notice_of share } ∷ [];
+      stopped = if exceeds after then Some slot else None;
+    }
+
+-- the controller after its stop in a slot: one that has stopped stays as it is
+abbrev pub stopped_at : ℕ → ControllerState → ControllerState
+stopped_at slot c = record c { stopped = Some (unwrap_or c.stopped slot) }

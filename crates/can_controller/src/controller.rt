@@ -1,0 +1,183 @@
+ghost use Rattle.std.specs.Prelude.{◌≡◌, ◌≤◌, ◌<◌, ◌+◌, ◌==◌, ◌↔◌, not, min, [], length, drop, filter, slice_get, All, IfOk, OnSome, IfSome, IfNone, IsNone};
+ghost use Rattle.std.specs.List.{list_any};
+ghost use Rattle.cany_base.specs.Frame.{FrameParts, identifier_of, key_of};
+ghost use Rattle.cany_model.specs.Frames.{identity_of};
+ghost use Rattle.cany_model.specs.Slot.{least_frame};
+ghost use Rattle.cany_model.specs.Waiting.{waits, with_frame, without};
+ghost use Rattle.can_frame.specs.Identifier.{FitsFormat};
+ghost use Rattle.can_controller.specs.Controller.{fresh_controller, seen, stopped_at};
+ghost use Rattle.can_controller.specs.Waiting.{HasRoomFor};
+
+use crate::counters::Counters;
+use crate::notice::notice_of;
+use crate::waiting::Waiting;
+use cany_base::{Frame, Memory, NodeId, Notice, Params, Slot};
+use cany_model::Share;
+use circular_buffer::HeapCircularBuffer;
+use std::alloc::Global;
+use std::marker::Model;
+
+/// The controller of a node. It waits with frames, at most one of an identity, and offers the one that wins, slot after slot,
+/// until a slot confirms it. It counts errors (CAN Specification 2.0 Part B, 8) and stops where a counter exceeds 127, which
+/// is this project's own rule. It keeps the notices of the slots until its node reads them.
+///
+/// All memory is taken by `build`.
+#[derive(Debug, Drop)]
+pub struct Controller {
+    node: NodeId,
+    params: Params,
+    waiting: Waiting,
+    counters: Counters,
+    notices: HeapCircularBuffer<Notice>,
+    read: u64,
+    stopped: Option<Slot>,
+}
+
+impl Model for Controller {
+    ghost use Rattle.can_controller.specs.Controller.{ControllerState};
+
+    ghost Value = { ControllerState };
+
+    ghost use Rattle.can_controller.specs.ControllerFields.{controller_state, IsSound};
+
+    ghost view = { controller_state };
+
+    ghost invariant = { IsSound };
+}
+
+impl Controller {
+    /// A running controller of the node, with room for so many waiting frames and for one unread notice more than the lag.
+    pub fn build(
+        alloc: Global,
+        node: NodeId,
+        params: &Params,
+        room: usize,
+    ) -> Result<Controller, Memory>
+        ensures { IfOk result (λ built. built ≡ fresh_controller node params.now room) }
+    {
+        let waiting = Waiting::build(alloc, params.format, room)?;
+        let notices = HeapCircularBuffer::with_capacity(alloc, params.lag as usize + 1)?;
+        Ok(Controller {
+            node,
+            params: *params,
+            waiting,
+            counters: Counters {
+                transmit: 0,
+                receive: 0,
+            },
+            notices,
+            read: 0,
+            stopped: None,
+        })
+    }
+
+    /// Puts the frame among the waiting frames, in place of one of its identity.
+    pub fn ask(&mut self, frame: Frame)
+        requires fits { FitsFormat self.old.params.format frame }
+        requires room { HasRoomFor frame self.old.waiting self.old.room }
+        ensures { self.new ≡ record self.old { waiting = with_frame frame self.old.waiting } }
+    {
+        self.waiting.ask(frame);
+    }
+
+    /// Takes the frame of this identifier from the waiting frames, if one waits.
+    pub fn withdraw(&mut self, ident: u32)
+        ensures by_identifier { let others = filter (λ f. not (identifier_of f == ident)) self.old.waiting in
+            self.new ≡ record self.old { waiting = others } }
+
+        // The same, where the identifier is that of a frame f.
+        ensures by_identity { (f : FrameParts) → FitsFormat self.old.params.format f → identifier_of f ≡ ident →
+            self.new.waiting ≡ without (identity_of f) self.old.waiting }
+    {
+        self.waiting.withdraw(ident);
+    }
+
+    /// Whether a frame of this identifier waits.
+    pub fn waits(&self, ident: u32) -> bool
+        ensures by_identifier { result ≡ list_any (λ f. identifier_of f == ident) self.now.waiting }
+
+        // The same, where the identifier is that of a frame f.
+        ensures by_identity { (f : FrameParts) → FitsFormat self.now.params.format f → identifier_of f ≡ ident →
+            result ≡ waits (identity_of f) self.now.waiting }
+    {
+        self.waiting.waits(ident)
+    }
+
+    /// How many frames more may wait.
+    pub fn spare(&self) -> usize
+        ensures { result + length self.now.waiting ≡ self.now.room }
+    {
+        self.waiting.spare()
+    }
+
+    /// The waiting frame that wins over the others, which is the one that the controller offers in a slot.
+    pub fn best(&self) -> Option<Frame>
+        ensures none { IsNone result ↔ (self.now.waiting ≡ []) }
+        ensures head { result ≡ slice_get self.now.waiting 0 }
+        ensures least { result ≡ least_frame self.now.waiting }
+        ensures least_key { IfSome result (λ f. All (λ g. key_of f ≤ key_of g) self.now.waiting) }
+        ensures fits { IfSome result (λ f. FitsFormat self.now.params.format f) }
+    {
+        self.waiting.first()
+    }
+
+    /// What the controller did in a slot: it gets the notice, its counters change, a confirmed frame waits no longer, and
+    /// where a counter exceeds 127 it stops.
+    pub fn see(&mut self, slot: Slot, share: Share)
+        requires running { self.old.stopped ≡ None }
+        requires room { length self.old.unread < self.old.params.lag + 1 }
+        ensures { self.new ≡ seen slot share self.old }
+    {
+        self.counters = self.counters.after(&share);
+        self.waiting.settle(&share);
+        let kind = notice_of(share);
+        let _ = self.notices.try_push_back(Notice { slot, kind });
+        if self.counters.exceed_limit() {
+            self.stopped = Some(slot);
+        }
+    }
+
+    /// The controller stops at the end of the slot. One that has stopped stays as it is.
+    pub fn stop(&mut self, slot: Slot)
+        ensures { self.new ≡ stopped_at slot self.old }
+    {
+        if self.stopped.is_none() {
+            self.stopped = Some(slot);
+        }
+    }
+
+    /// The slot at which the controller stopped.
+    pub fn stopped(&self) -> Option<Slot>
+        ensures { result ≡ self.now.stopped }
+    {
+        self.stopped
+    }
+
+    /// The oldest unread notice, which is then read. The count read stays at the greatest `u64` once it is there.
+    pub fn next_notice(&mut self) -> Option<Notice>
+        ensures all_read { IsNone result ↔ (self.old.unread ≡ []) }
+        ensures oldest { result ≡ slice_get self.old.unread 0 }
+        ensures some { let read = min (self.old.read + 1) u64.MAX in
+            OnSome result (self.new ≡ record self.old { unread = drop 1 self.old.unread; read = read }) }
+        ensures none { IfNone result (self.new ≡ self.old) }
+    {
+        let notice = self.notices.pop_front()?;
+        self.read = self.read.saturating_add(1);
+        Some(notice)
+    }
+
+    /// How many notices are unread.
+    pub fn unread(&self) -> u32
+        ensures count { result ≡ length self.now.unread }
+        ensures within { result ≤ self.now.params.lag + 1 }
+    {
+        self.notices.len() as u32
+    }
+
+    /// How many notices were read.
+    pub fn read(&self) -> u64
+        ensures { result ≡ self.now.read }
+    {
+        self.read
+    }
+}

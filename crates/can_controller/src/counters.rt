@@ -1,0 +1,57 @@
+ghost use Rattle.std.specs.Prelude.{◌≡◌, ◌≤◌};
+ghost use Rattle.cany_model.specs.State.{NodeState};
+ghost use Rattle.cany_model.specs.Slot.{after_share, exceeds};
+
+use cany_model::Share;
+
+/// The error counters of a controller.
+#[derive(Clone, Copy, Debug)]
+pub(crate) struct Counters {
+    pub(crate) transmit: u32,
+    pub(crate) receive: u32,
+}
+
+impl Counters {
+    /// The greatest value of a counter at which a node is error active (CAN Specification 2.0 Part B, 8).
+    pub(crate) const LIMIT: u32 = 127;
+
+    /// The counters of a running node after its share in a slot (CAN Specification 2.0 Part B, 8).
+    #[tactic(auto, unfolding(cany_model::specs::Slot::after_share))]
+    pub(crate) fn after(self, share: &Share) -> Counters
+        requires transmit { self.transmit ≤ 127 }
+        requires receive { self.receive ≤ 127 }
+        ensures transmit { (node : NodeState) → node.transmit ≡ self.transmit →
+            result.transmit ≡ (after_share share.now node).transmit }
+        ensures receive { (node : NodeState) → node.receive ≡ self.receive →
+            result.receive ≡ (after_share share.now node).receive }
+    {
+        let Counters { transmit, receive } = self;
+        match share {
+            Share::Idle => self,
+            Share::Took(_) => Counters {
+                transmit,
+                receive: receive.saturating_sub(1),
+            },
+            Share::Rejected => Counters {
+                transmit,
+                receive: receive + 1,
+            },
+            Share::Confirmed(_) => Counters {
+                transmit: transmit.saturating_sub(1),
+                receive,
+            },
+            Share::Errored => Counters {
+                transmit: transmit + 8,
+                receive,
+            },
+        }
+    }
+
+    /// Whether a counter is above the limit.
+    pub(crate) fn exceed_limit(self) -> bool
+        ensures { (node : NodeState) → node.transmit ≡ self.transmit → node.receive ≡ self.receive →
+            result ≡ exceeds node }
+    {
+        self.transmit > Counters::LIMIT || self.receive > Counters::LIMIT
+    }
+}

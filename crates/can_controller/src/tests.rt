@@ -1,0 +1,176 @@
+ghost use Rattle.std.specs.Prelude.{◌≡◌, ◌⊎◌};
+
+use crate::{Controller, Share};
+use can_frame::{fits_format_one, identifier};
+use cany_base::{Class, Format, Frame, NodeId, Notice, NoticeKind, Params, Payload, Slot};
+use std::process::Abort;
+use std::test::Fail;
+
+/// Three notices may be unread.
+fn lag_two() -> Params
+    ensures { result.lag ≡ 2 }
+{
+    Params {
+        format: Format::One,
+        nodes: 3,
+        lag: 2,
+        omit: 1,
+        errors: 2,
+        bound: 114,
+        cycle: 232,
+        life: 116,
+        silence: 233,
+        confirm: 10,
+        slots: 1000,
+    }
+}
+
+fn node(n: u8) -> Result<NodeId, Fail> {
+    Ok(NodeId::new(n).ok_or("no such node")?)
+}
+
+/// A data frame of message 5 of node 1.
+fn message(class: Class, bytes: &[u8]) -> Result<Frame, Fail>
+    requires { (class ≡ Class.Tot) ⊎ (class ≡ Class.Ed) }
+{
+    Ok(Frame {
+        class,
+        number: 5,
+        node: node(1)?,
+        inc: 0,
+        payload: Payload::of(bytes).ok_or("more than 8 bytes")?,
+    })
+}
+
+/// The ACCEPT of message 3 of node 2.
+fn accept() -> Result<Frame, Fail> {
+    Ok(Frame {
+        class: Class::Accept,
+        number: 3,
+        node: node(2)?,
+        inc: 0,
+        payload: Payload::empty(),
+    })
+}
+
+fn ident(frame: &Frame) -> u32 {
+    fits_format_one(frame);
+    identifier(Format::One, frame)
+}
+
+/// Asks for a frame, where there is room for one more.
+fn ask(rt: &impl Abort, controller: &mut Controller, frame: Frame)
+    ensures { controller.new.params ≡ controller.old.params }
+{
+    fits_format_one(&frame);
+    assert!(rt; controller.spare() > 0);
+    controller.ask(frame);
+}
+
+/// One slot of a running controller of which all notices were read, and the notice of this slot.
+fn see(rt: &impl Abort, controller: &mut Controller, slot: Slot, share: Share) -> Option<Notice> {
+    assert!(rt; controller.stopped().is_none());
+    assert!(rt; controller.unread() == 0);
+    controller.see(slot, share);
+    controller.next_notice()
+}
+
+#[test]
+fn frames_wait_in_the_order_of_their_keys(rt: HostRuntime) -> Result<(), Fail> {
+    let mut controller = Controller::build(rt.alloc(), node(0)?, &lag_two(), 4)?;
+    assert_eq!(rt; controller.best(), None);
+    let data = message(Class::Ed, b"\x01")?;
+    let ordered = message(Class::Tot, b"\x02")?;
+    ask(&rt, &mut controller, data);
+    ask(&rt, &mut controller, accept()?);
+    ask(&rt, &mut controller, ordered);
+    assert_eq!(rt; controller.spare(), 1);
+    assert_eq!(rt; controller.best(), Some(accept()?));
+    assert!(rt; controller.waits(ident(&data)));
+    controller.withdraw(ident(&accept()?));
+    controller.withdraw(ident(&accept()?));
+    assert!(rt; !controller.waits(ident(&accept()?)));
+    assert_eq!(rt; controller.best(), Some(ordered));
+    let again = message(Class::Tot, b"\x03")?;
+    ask(&rt, &mut controller, again);
+    assert_eq!(rt; controller.spare(), 2);
+    assert_eq!(rt; controller.best(), Some(again));
+    Ok(())
+}
+
+#[test]
+fn notices_are_read_in_their_order(rt: HostRuntime) -> Result<(), Fail> {
+    let mut controller = Controller::build(rt.alloc(), node(0)?, &lag_two(), 4)?;
+    let data = message(Class::Ed, b"")?;
+    ask(&rt, &mut controller, data);
+    assert!(rt; controller.unread() < 3 && controller.stopped().is_none());
+    controller.see(0, Share::Errored);
+    assert!(rt; controller.unread() < 3 && controller.stopped().is_none());
+    controller.see(1, Share::Confirmed(data));
+    assert!(rt; controller.unread() < 3 && controller.stopped().is_none());
+    controller.see(2, Share::Took(accept()?));
+    assert_eq!(rt; controller.unread(), 3);
+    assert!(rt; !controller.waits(ident(&data)));
+    let kinds = [
+        NoticeKind::Bad,
+        NoticeKind::Sent(data),
+        NoticeKind::Got(accept()?),
+    ];
+    for kind in kinds {
+        let slot = controller.read();
+        assert_eq!(rt; controller.next_notice(), Some(Notice { slot, kind }));
+    }
+    assert_eq!(rt; controller.next_notice(), None);
+    assert_eq!(rt; controller.read(), 3);
+    assert_eq!(rt; controller.unread(), 0);
+    Ok(())
+}
+
+#[test]
+fn sixteen_errors_stop_a_sender(rt: HostRuntime) -> Result<(), Fail> {
+    let mut controller = Controller::build(rt.alloc(), node(0)?, &lag_two(), 4)?;
+    let kind = NoticeKind::Bad;
+    for slot in 1..16 {
+        assert_eq!(rt;
+            see(&rt, &mut controller, slot, Share::Errored),
+            Some(Notice { slot, kind })
+        );
+    }
+    assert_eq!(rt; controller.stopped(), None);
+    assert_eq!(rt;
+        see(&rt, &mut controller, 16, Share::Errored),
+        Some(Notice { slot: 16, kind })
+    );
+    assert_eq!(rt; controller.stopped(), Some(16));
+    controller.stop(20);
+    assert_eq!(rt; controller.stopped(), Some(16));
+    Ok(())
+}
+
+#[test]
+fn a_good_frame_makes_up_for_one_rejected(rt: HostRuntime) -> Result<(), Fail> {
+    let mut controller = Controller::build(rt.alloc(), node(0)?, &lag_two(), 4)?;
+    see(&rt, &mut controller, 0, Share::Took(accept()?));
+    for slot in 1..128 {
+        see(&rt, &mut controller, slot, Share::Rejected);
+    }
+    see(&rt, &mut controller, 128, Share::Took(accept()?));
+    see(&rt, &mut controller, 129, Share::Rejected);
+    assert_eq!(rt; controller.stopped(), None);
+    see(&rt, &mut controller, 130, Share::Rejected);
+    assert_eq!(rt; controller.stopped(), Some(130));
+    Ok(())
+}
+
+#[test]
+fn the_script_stops_a_controller(rt: HostRuntime) -> Result<(), Fail> {
+    let mut controller = Controller::build(rt.alloc(), node(0)?, &lag_two(), 4)?;
+    let kind = NoticeKind::Idle;
+    assert_eq!(rt;
+        see(&rt, &mut controller, 0, Share::Idle),
+        Some(Notice { slot: 0, kind })
+    );
+    controller.stop(0);
+    assert_eq!(rt; controller.stopped(), Some(0));
+    Ok(())
+}

@@ -1,0 +1,150 @@
+ghost use Rattle.std.specs.Prelude.{◌≡◌, ◌<◌, ◌≤◌, ◌+◌, ◌==◌, not, [], length, filter, slice_get, All, IfOk, IfErr, IfSome};
+ghost use Rattle.std.specs.List.{list_any};
+ghost use Rattle.cany_base.specs.Frame.{FrameParts, identifier_of, key_of};
+ghost use Rattle.cany_model.specs.Frames.{identity_of};
+ghost use Rattle.cany_model.specs.Slot.{least_frame, after_share};
+ghost use Rattle.cany_model.specs.State.{NodeState};
+ghost use Rattle.cany_model.specs.Waiting.{waits, with_frame, without};
+ghost use Rattle.can_frame.specs.Identifier.{FitsFormat};
+ghost use Rattle.can_controller.specs.Waiting.{IsAscending, IsPlaceOf, IsGapFor, HasRoomFor};
+
+use crate::identity::same_identity;
+use can_frame::identifier;
+use cany_base::{Format, Frame, Memory};
+use cany_model::Share;
+use std::alloc::Global;
+use std::marker::Model;
+
+/// The frames that a controller waits to send, at most one of an identity. They stand ascending by identifier, which is the
+/// order in which they win, in memory that is all taken at the start.
+#[derive(Debug, Drop)]
+pub(crate) struct Waiting {
+    format: Format,
+    frames: Vec<Frame>,
+    room: usize,
+}
+
+impl Model for Waiting {
+    ghost use Rattle.std.specs.Prelude.{vec_capacity};
+    ghost use Rattle.can_controller.specs.Waiting.{WaitingFrames, IsKept};
+
+    ghost Value = { WaitingFrames };
+
+    ghost view = { λ w. record { format = w.format; frames = w.frames.items; room = w.room } };
+
+    ghost invariant = { λ w. IsKept w.format w.frames.items w.room (vec_capacity w.frames) };
+}
+
+/// The place of the frame of this identifier, or else the place at which it would stand.
+fn find(format: Format, frames: &[Frame], ident: u32) -> Result<usize, usize>
+    requires fit { All (FitsFormat format) frames.now }
+    requires ascending { IsAscending frames.now }
+    ensures found { IfOk result (λ place. IsPlaceOf ident place frames.now) }
+    ensures absent { IfErr result (λ place. IsGapFor ident place frames.now) }
+{
+    let mut low = 0;
+    let mut high = frames.len();
+    while low < high {
+        let middle = low + (high - low) / 2;
+        let there = identifier(format, &frames[middle]);
+        if there == ident {
+            return Ok(middle);
+        }
+        if there < ident {
+            low = middle + 1;
+        } else {
+            high = middle;
+        }
+    }
+    Err(low)
+}
+
+impl Waiting {
+    /// No frame waits, and so many may.
+    pub(crate) fn build(alloc: Global, format: Format, room: usize) -> Result<Waiting, Memory>
+        ensures { IfOk result (λ waiting. waiting ≡ record { format = format; frames = []; room = room }) }
+    {
+        let frames = Vec::with_capacity(alloc, room)?;
+        Ok(Waiting {
+            format,
+            frames,
+            room,
+        })
+    }
+
+    /// Puts the frame in, in place of the one of its identity if there is one.
+    pub(crate) fn ask(&mut self, frame: Frame)
+        requires fits { FitsFormat self.old.format frame }
+        requires room { HasRoomFor frame self.old.frames self.old.room }
+        ensures { self.new ≡ record self.old { frames = with_frame frame self.old.frames } }
+    {
+        let ident = identifier(self.format, &frame);
+        match find(self.format, self.frames.as_slice(), ident) {
+            Ok(place) => self.frames[place] = frame,
+            Err(place) => {
+                // The room was made at the start.
+                let _ = self.frames.insert(place, frame);
+            }
+        }
+    }
+
+    /// Removes the frame of this identifier, if there is one.
+    pub(crate) fn withdraw(&mut self, ident: u32)
+        ensures by_identifier { let others = filter (λ f. not (identifier_of f == ident)) self.old.frames in
+            self.new ≡ record self.old { frames = others } }
+        ensures by_identity { (f : FrameParts) → FitsFormat self.old.format f → identifier_of f ≡ ident →
+            self.new.frames ≡ without (identity_of f) self.old.frames }
+    {
+        if let Ok(place) = find(self.format, self.frames.as_slice(), ident) {
+            self.frames.remove(place);
+        }
+    }
+
+    /// Removes a frame that the slot confirmed.
+    #[tactic(auto, unfolding(cany_model::specs::Slot::after_share))]
+    pub(crate) fn settle(&mut self, share: &Share)
+        ensures frames { (node : NodeState) → node.waiting ≡ self.old.frames →
+            self.new.frames ≡ (after_share share.now node).waiting }
+        ensures format { self.new.format ≡ self.old.format }
+        ensures room { self.new.room ≡ self.old.room }
+    {
+        match share {
+            Share::Confirmed(frame) => self.drop_frame(frame),
+            Share::Idle | Share::Took(_) | Share::Rejected | Share::Errored => {}
+        }
+    }
+
+    /// Removes the frame of this frame's identity, if there is one. This frame may be one that fits no identifier.
+    fn drop_frame(&mut self, frame: &Frame)
+        ensures { let others = without (identity_of frame.now) self.old.frames in
+            self.new ≡ record self.old { frames = others } }
+    {
+        self.frames.retain(|other| !same_identity(frame, other));
+    }
+
+    /// Whether a frame of this identifier waits.
+    pub(crate) fn waits(&self, ident: u32) -> bool
+        ensures by_identifier { result ≡ list_any (λ f. identifier_of f == ident) self.now.frames }
+        ensures by_identity { (f : FrameParts) → FitsFormat self.now.format f → identifier_of f ≡ ident →
+            result ≡ waits (identity_of f) self.now.frames }
+    {
+        find(self.format, self.frames.as_slice(), ident).is_ok()
+    }
+
+    /// How many frames more may wait.
+    pub(crate) fn spare(&self) -> usize
+        ensures { result + length self.now.frames ≡ self.now.room }
+    {
+        self.room - self.frames.len()
+    }
+
+    /// The frame that wins over the others.
+    pub(crate) fn first(&self) -> Option<Frame>
+        ensures head { result ≡ slice_get self.now.frames 0 }
+        ensures least { result ≡ least_frame self.now.frames }
+        ensures least_key { IfSome result (λ f. All (λ g. key_of f ≤ key_of g) self.now.frames) }
+        ensures fits { IfSome result (λ f. FitsFormat self.now.format f) }
+    {
+        self.frames.first().copied()
+    }
+}
