@@ -11,7 +11,7 @@ pub enum Format {
 }
 
 /// The class of a frame: what it is for. In arbitration an earlier class beats a later one.
-#[derive(Clone, Copy, Debug, PartialEq, Eq, PartialOrd, Ord)]
+#[derive(Clone, Copy, Debug, PartialEq, Eq, PartialOrd, Ord, Hash)]
 pub enum Class {
     /// A TOTCAN message is accepted: number and node are its sequence number and its origin.
     Accept,
