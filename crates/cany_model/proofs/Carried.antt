@@ -1,12 +1,13 @@
 -- What a note says of a frame: that the slot carried it, with success, or Clean.
-use Rattle.std.proofs.Common.{◌≡◌, ℕ, ◌⊎◌, inl, inr, true, List, map, drop, Some, Contains, refl}
-use Rattle.std.proofs.lemmas.Bool.{false≢true}
+use Rattle.std.proofs.Common.{◌≡◌, ℕ, ◌==◌, ◌&&◌, ◌⊎◌, inl, inr, true, List, map, drop, Some, Contains, refl}
+use Rattle.std.proofs.lemmas.Bool.{false≢true, and_parts, or_cases}
 use Rattle.cany_base.specs.declared.notice.NoticeKind.{NoticeKind}
 use Rattle.cany_base.specs.declared.notice.NoticeKind.TheVariants.{Idle, Got, Sent, Bad}
 use Rattle.cany_base.specs.declared.rule.Verdict.TheVariants.{Clean}
 use Rattle.cany_base.specs.declared.slot_note.SlotNote.{SlotNote}
 use Rattle.cany_base.specs.Frame.{FrameParts}
 use Rattle.cany_base.specs.Nodes.{has}
+use Rattle.cany_model.specs.Delivery.{brings}
 use Rattle.cany_model.specs.Frames.{Identity, identity_of}
 use Rattle.cany_model.specs.History.{given, is_got, is_sent, has_own}
 use Rattle.cany_model.specs.Slot.{is_success}
@@ -98,3 +99,15 @@ read_note i unread trace f h =
     let w = Among-which (λ note. Has f (given i note)) trace
     (Among-drop (λ note. Has f (given i note)) unread trace (Among-from_map (given i) (Has f) (drop unread trace) h)) in
     (w.0, w.1, frame_of_notice i w.0 f w.2)
+
+-- what follows of the slot whose notice a node has read
+pub read_among : (i : ℕ) (unread : ℕ) (P : NoticeKind → Type 0) (Q : SlotNote → Type 0) → ((note : SlotNote) → P (given i note) → Q note)
+    → (trace : List SlotNote) → Among P (map (given i) (drop unread trace)) → Among Q trace
+read_among i unread P Q f trace h =
+    Among-drop Q unread trace (Among-weaker (λ note. P (given i note)) Q f (drop unread trace) (Among-from_map (given i) P (drop unread trace) h))
+
+pub Carries-from_brought : (i : ℕ) (x : Identity) (note : SlotNote) → brings i x (given i note) ≡ true → Carries x note
+Carries-from_brought i x note h = elim (or_cases (is_got x (given i note)) (x.node == i && is_sent x (given i note)) h) [
+  | inl got ↦ Carries-from_got i x note got
+  | inr sent ↦ (Succeeds-from_sent i x note (and_parts (x.node == i) (is_sent x (given i note)) sent).1).carries
+]

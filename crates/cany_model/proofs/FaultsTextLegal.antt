@@ -2,7 +2,6 @@
 use Rattle.std.proofs.Common.{◌≡◌, ◌≢◌, ℕ, ◌-◌, ◌<◌, ◌≤◌, ◌==◌, Bool, true, false, ◌&&◌, ◌||◌, not, nat_le, nat_lt, List, [], ◌∷◌, length, Option, Some, None, refl, ap, sym, ◌∙◌, arith, lit≤, eq-eqb}
 use Rattle.std.specs.Prelude.{All, AllPairs, codes, if◌then◌else◌}
 use Rattle.std.specs.List.{list_any}
-use Rattle.std.specs.Option.{option_map_or}
 use Rattle.std.specs.Str.{bytes_eq}
 use Rattle.std.proofs.lemmas.Bool.{and_parts, false≢true}
 use Rattle.std.proofs.lemmas.Bool.Decides.{nat_tests}
@@ -15,12 +14,12 @@ use Rattle.cany_base.specs.declared.rule.Place.TheVariants.{At, FrameNth}
 use Rattle.cany_base.specs.declared.rule.Rule.{Rule}
 use Rattle.cany_base.specs.declared.rule.Verdict.{Verdict}
 use Rattle.cany_base.specs.declared.rule.Verdict.TheVariants.{Clean, Lost, Partial, Silent}
-use Rattle.cany_base.specs.Nodes.{Nodes, has, those_where, AllBelow}
+use Rattle.cany_base.specs.Nodes.{Nodes, AllBelow}
 use Rattle.cany_base.specs.NodesLaws.{has-those_where}
 use Rattle.cany_base.specs.Params.{Parameters, IsInRange}
 use Rattle.cany_base.specs.Scenario.{IsPlaceOf, IsVerdictOf, IsRuleOf}
-use Rattle.cany_model.specs.TomlKeys.{◌>>=◌, only_if, has_only, required, optional, number_from, each_of}
-use Rattle.cany_model.specs.FaultsText.{set_of, nodes_from, verdict_named, verdict_from, slot_rule_keys, place_from, rule_from, same_place, have_distinct_places, rules_from}
+use Rattle.cany_model.specs.TomlKeys.{has_only, required, optional, number_from, each_of}
+use Rattle.cany_model.specs.FaultsText.{set_of, nodes_from, verdict_named, verdict_from, class_from, slot_rule_keys, frame_rule_keys, slot_place_from, frame_place_from, is_frame_rule, place_from, rule_from, same_place, have_distinct_places, rules_from}
 use Rattle.cany_model.proofs.TomlSteps.{bind_some, only_if-true, number_from-range, required-range, some_node, below_count, few-from_test, optional-holds, each_of-All}
 
 -- ---- sets of nodes
@@ -71,14 +70,38 @@ verdict_from-of p reject below value verdict h =
     let name = bind_some (as_str value) (λ n. verdict_named n reject) verdict h in
     verdict_of_tests p reject below (bytes_eq name.0 (codes "clean")) (bytes_eq name.0 (codes "lost")) (bytes_eq name.0 (codes "partial")) (bytes_eq name.0 (codes "silent")) verdict name.2
 
-place_from-of : (p : Parameters) → IsInRange p → (entry : Members) (place : Place) → place_from p entry ≡ Some place → IsPlaceOf p place
-unfolding place_from
-place_from-of p r entry place h =
+slot_place_from-of : (p : Parameters) → IsInRange p → (entry : Members) (place : Place) → slot_place_from p entry ≡ Some place → IsPlaceOf p place
+unfolding slot_place_from
+slot_place_from-of p r entry place h =
     let known = only_if-true (has_only slot_rule_keys entry) _ place h in
     let slot = bind_some (required (number_from 0 (p.slots - 1)) (codes "slot") entry) _ place known.1 in
     let made = same_Some (At slot.0) place slot.2 in
     let in_run = below_count p.slots slot.0 r.slots.0 (required-range 0 (p.slots - 1) (codes "slot") entry slot.0 slot.1) in
     rw (← made) in_run
+
+frame_place_from-of : (p : Parameters) → IsInRange p → (entry : Members) (place : Place) → frame_place_from p entry ≡ Some place → IsPlaceOf p place
+unfolding frame_place_from
+frame_place_from-of p r entry place h =
+    let known = only_if-true (has_only frame_rule_keys entry) _ place h in
+    let class = bind_some (required class_from (codes "class") entry) _ place known.1 in
+    let number = bind_some (required (number_from 0 65535) (codes "number") entry) _ place class.2 in
+    let node = bind_some (required (number_from 0 (p.nodes - 1)) (codes "node") entry) _ place number.2 in
+    let nth = bind_some (required (number_from 1 100000) (codes "nth") entry) _ place node.2 in
+    let made = same_Some (FrameNth class.0 number.0 node.0 nth.0) place nth.2 in
+    let on_bus = below_count p.nodes node.0 (some_node p.nodes r.nodes) (required-range 0 (p.nodes - 1) (codes "node") entry node.0 node.1) in
+    let counted = required-range 1 100000 (codes "nth") entry nth.0 nth.1 in
+    rw (← made) (on_bus, counted.0, counted.1)
+
+place_of_test : (p : Parameters) (of_frame of_slot : Option Place) → ((place : Place) → of_frame ≡ Some place → IsPlaceOf p place)
+    → ((place : Place) → of_slot ≡ Some place → IsPlaceOf p place) → (test : Bool) (place : Place) → (if test then of_frame else of_slot) ≡ Some place
+    → IsPlaceOf p place
+place_of_test p of_frame of_slot frames slots true place h = frames place h
+place_of_test p of_frame of_slot frames slots false place h = slots place h
+
+place_from-of : (p : Parameters) → IsInRange p → (entry : Members) (place : Place) → place_from p entry ≡ Some place → IsPlaceOf p place
+unfolding place_from
+place_from-of p r entry place h =
+    place_of_test p (frame_place_from p entry) (slot_place_from p entry) (frame_place_from-of p r entry) (slot_place_from-of p r entry) (is_frame_rule entry) place h
 
 rule_from-of : (p : Parameters) → IsInRange p → (value : Data) (rule : Rule) → rule_from p value ≡ Some rule → IsRuleOf p rule
 unfolding rule_from

@@ -1,43 +1,42 @@
 -- Integrity of every run: no message is delivered twice, or without having been sent.
-use Rattle.std.specs.Prelude.{◌≡◌, ℕ, suc, ◌+◌, ◌-◌, ◌<◌, ◌≤◌, true, List, Some, length, drop, slice_index_or, refl}
+use Rattle.std.specs.Prelude.{◌≡◌, ℕ, suc, ◌+◌, ◌-◌, ◌<◌, ◌≤◌, true, List, Some, length, drop, slice_index_or}
 use Rattle.std.proofs.Common.{sym, ap, ◌∙◌, subst, inl, inr, arith, length-drop}
 use Rattle.std.proofs.lemmas.List.Elements.{Contains-get_or}
-use Rattle.cany_base.specs.declared.frame.Class.TheVariants.{Ed}
 use Rattle.cany_base.specs.declared.log_entry.LogEntry.{LogEntry}
 use Rattle.cany_base.specs.declared.message.Service.{Service}
-use Rattle.cany_base.specs.declared.message.Service.TheVariants as service
+use Rattle.cany_base.specs.declared.message.MsgKey.{MsgKey}
+use Rattle.cany_base.specs.declared.message.Service.TheVariants.{Ed, Rel}
 use Rattle.cany_base.specs.declared.notice.NoticeKind.TheVariants.{Idle}
 use Rattle.cany_base.specs.declared.step.Step.{Step}
 use Rattle.cany_base.specs.Frame.{FrameParts, data_class}
 use Rattle.cany_base.specs.Scenario.{ScenarioParts}
-use Rattle.cany_model.specs.Delivery.{delivery}
+use Rattle.cany_model.specs.Delivery.{brings, delivery}
 use Rattle.cany_model.specs.History.{given, history}
 use Rattle.cany_model.specs.Run.{run}
 use Rattle.cany_model.specs.Safe.{IsSound, IsIntegral}
 use Rattle.cany_model.specs.State.{RunState, node_at}
+use Rattle.cany_model.proofs.Among.{Among, Among-from_any}
+use Rattle.cany_model.proofs.Carried.{Carries, Carries-from_brought, read_among}
 use Rattle.cany_model.proofs.LogFacts.{IsDeliveryAt, log_entry_at}
-use Rattle.cany_model.proofs.LogOnce.{log_once}
+use Rattle.cany_model.proofs.LogOnce.{is_brought, log_once}
+use Rattle.cany_model.proofs.MessageKeys.{data_of}
+use Rattle.cany_model.proofs.OneFrame.{data_carries, data_class-one, one_service}
 use Rattle.cany_model.proofs.Sources.{carries_data, IsSent, IsSourced, sourced}
 use Rattle.cany_model.proofs.Notes.{given-Got, given-Sent}
 use Rattle.cany_model.proofs.Runs.{IsOrderly, orderly, history-length, history-at}
 use Rattle.cany_model.proofs.States.{note_at}
 
-ed_is_data : (f : FrameParts) → f.class ≡ Ed → carries_data f.class ≡ true
-ed_is_data f e = ap (λ c. carries_data c) e
-
-ed_service : (by : Service) → data_class by ≡ Ed → by ≡ service.Ed
-ed_service service.Ed e = refl
-ed_service service.Rel e = cc
-ed_service service.Tot e = cc
+is_data : (by : Service) (f : FrameParts) → f.class ≡ data_class by → carries_data f.class ≡ true
+is_data by f e = ap (λ c. carries_data c) e ∙ data_carries by
 
 -- the delivery of a frame that was sent in this slot is sound
-sound_delivery : (scenario : ScenarioParts) (s : RunState) (f : FrameParts) (slot : ℕ) → f.class ≡ Ed → IsSent scenario s.trace f slot
-    → IsSound scenario s (delivery slot service.Ed f)
-sound_delivery scenario s f slot ed w = (
+sound_delivery : (scenario : ScenarioParts) (s : RunState) (by : Service) (f : FrameParts) (slot : ℕ) → f.class ≡ data_class by
+    → IsSent scenario s.trace f slot → IsSound scenario s (delivery slot by f)
+sound_delivery scenario s by f slot class w = (
   w.message,
   w.stands,
   ap (λ g. record { origin = g.node; seq = g.number }) w.is,
-  ed_service w.message.service (ap (λ g. g.class) w.is ∙ ed),
+  data_class-one w.message.service by (ap (λ g. g.class) w.is ∙ class),
   ap (λ g. g.payload) w.is,
   record { note = w.sent.note; stands = w.sent.stands; by_then = w.sent.by_then; frame = w.sent.frame; sender = w.sent.sender },
 )
@@ -46,9 +45,9 @@ sound_at : (scenario : ScenarioParts) (s : RunState) (i : ℕ) (entry : LogEntry
     → IsSourced scenario s → IsDeliveryAt i (history i s) k entry → IsSound scenario s entry
 sound_at scenario s i entry k o h d =
     subst (λ e. IsSound scenario s e) (sym d.is)
-    (subst (λ slot. IsSound scenario s (delivery slot service.Ed d.frame)) (sym number)
-    (sound_delivery scenario s d.frame (note_at s.trace age).slot d.is_first.class
-    (h.carried (note_at s.trace age) d.frame (Contains-get_or s.trace age _ below) framed (ed_is_data d.frame d.is_first.class))))
+    (subst (λ slot. IsSound scenario s (delivery slot d.by d.frame)) (sym number)
+    (sound_delivery scenario s d.by d.frame (note_at s.trace age).slot d.is_first.class
+    (h.carried (note_at s.trace age) d.frame (Contains-get_or s.trace age _ below) framed (is_data d.by d.frame d.is_first.class))))
   where
     age : ℕ
     age = (node_at s.nodes i).unread + k
@@ -71,9 +70,23 @@ sound_at scenario s i entry k o h d =
       | inr sent ↦ (given-Sent i (note_at s.trace age) d.frame (sym notice ∙ sent)).0
     ]
 
+-- a message that was brought to a node was carried
+brought_carried : (i : ℕ) (by : Service) (key : MsgKey) (s : RunState) → is_brought i by key (history i s) ≡ true → Among (Carries (data_of by key)) s.trace
+unfolding history
+brought_carried i by key s h =
+    read_among i (node_at s.nodes i).unread (λ e. brings i (data_of by key) e ≡ true) (Carries (data_of by key)) (Carries-from_brought i (data_of by key)) s.trace
+    (Among-from_any (brings i (data_of by key)) (history i s) h)
+
+not_both : (scenario : ScenarioParts) (s : RunState) → IsSourced scenario s → (i : ℕ) (key : MsgKey) → is_brought i Ed key (history i s) ≡ true
+    → is_brought i Rel key (history i s) ≡ true → ⊥
+not_both scenario s h i key ed rel =
+    let same : Ed ≡ Rel = one_service scenario s h Ed Rel key (brought_carried i Ed key s ed) (brought_carried i Rel key s rel) in
+    absurd (cc)
+
 pub integral : (scenario : ScenarioParts) (journal : List Step) → scenario.params.nodes ≤ 32 → IsIntegral scenario (run scenario journal)
 integral scenario journal few = record {
-  once = λ i correct key. log_once scenario i key (history i (run scenario journal));
+  once = λ i correct key.
+      log_once scenario i key (history i (run scenario journal)) (not_both scenario (run scenario journal) (sourced scenario journal few) i key);
   sent = λ i correct entry c.
       let at = log_entry_at scenario i (history i (run scenario journal)) entry c in
       sound_at scenario (run scenario journal) i entry at.0 (orderly scenario journal) (sourced scenario journal few) at.1;

@@ -1,9 +1,17 @@
 -- Messages of one scenario that have the same key are the same message.
 use Rattle.std.proofs.Common.{◌≡◌, ◌<◌, ◌≤◌, inl, inr, List, [], ◌∷◌, count_by, ap, sym, ◌∙◌, arith}
 use Rattle.std.proofs.lemmas.Bool.{eq-eqb}
+use Rattle.cany_base.specs.declared.message.MsgKey.{MsgKey}
 use Rattle.cany_base.specs.declared.message.SendAsk.{SendAsk}
+use Rattle.cany_base.specs.declared.message.Service.{Service}
+use Rattle.cany_base.specs.Frame.{data_class}
+use Rattle.cany_model.specs.Frames.{Identity}
 use Rattle.cany_model.specs.Messages.{Message, is_from, message_of, messages_after, messages_of}
 use Rattle.cany_model.proofs.Among.{Among, count-yes, count-grows}
+
+-- the data frame that a service sends for a key
+abbrev pub data_of : Service → MsgKey → Identity
+data_of by key = record { class = data_class by; number = key.seq; node = key.origin }
 
 -- the message is one of these
 abbrev pub IsOneOf : List Message → Message → Type 0

@@ -30,6 +30,7 @@ use Rattle.cany_model.specs.History.{history, copies, has_own}
 use Rattle.cany_model.specs.Hypothesis.{break_at, first_break, count_together}
 use Rattle.cany_model.specs.Log.{log, log_from}
 use Rattle.cany_model.specs.Messages.{messages_after, messages_of}
+use Rattle.cany_model.specs.Relcan.{fell_back, relcan_at, timer_effects, relcan_effects}
 use Rattle.cany_model.specs.RoundRobin.{round, rounds}
 use Rattle.cany_model.specs.Run.{first_lagging, reply, is_done, is_legal_from, has_ended, after_turn, proceed, after_step, run_from, run}
 use Rattle.cany_model.specs.Settled.{is_settled}
@@ -43,6 +44,9 @@ set bits = record { bits = bits }
 
 unfoldable pub send : ℕ → ℕ → List ℕ → SendAsk
 send slot node payload = record { slot = slot; node = node; service = service.Ed; payload = payload }
+
+unfoldable pub send_rel : ℕ → ℕ → List ℕ → SendAsk
+send_rel slot node payload = record { slot = slot; node = node; service = service.Rel; payload = payload }
 
 unfoldable pub slot_rule : ℕ → Verdict → ℕ → Rule
 slot_rule slot verdict stop = record { place = At slot; verdict = verdict; stop = set stop }
@@ -64,6 +68,13 @@ steps bytes = map step_of bytes
 unfoldable pub ed : ℕ → ℕ → List ℕ → FrameParts
 ed origin seq payload = record { class = class.Ed; number = seq; node = origin; inc = 0; payload = payload }
 
+-- the data frame of a RELCAN message, and the frame that confirms it
+unfoldable pub rel : ℕ → ℕ → List ℕ → FrameParts
+rel origin seq payload = record { class = class.Rel; number = seq; node = origin; inc = 0; payload = payload }
+
+unfoldable pub confirm : ℕ → ℕ → FrameParts
+confirm origin seq = record { class = class.Confirm; number = seq; node = origin; inc = 0; payload = [] }
+
 -- a slot that carried a frame: the frame, its senders and takers, the verdict and the stops
 unfoldable pub carries : ℕ → FrameParts → ℕ → ℕ → Verdict → ℕ → SlotNote
 carries slot f senders takers verdict stops = record { slot = slot; frame = Some f; senders = set senders; takers = set takers; verdict = verdict; stops = set stops }
@@ -73,6 +84,9 @@ idle slot stops = record { slot = slot; frame = None; senders = set 0; takers = 
 
 unfoldable pub delivers : ℕ → ℕ → ℕ → List ℕ → LogEntry
 delivers slot origin seq payload = Deliver slot service.Ed (record { origin = origin; seq = seq }) payload
+
+unfoldable pub delivers_rel : ℕ → ℕ → ℕ → List ℕ → LogEntry
+delivers_rel slot origin seq payload = Deliver slot service.Rel (record { origin = origin; seq = seq }) payload
 
 -- ---- what a run shows
 
@@ -103,7 +117,7 @@ node_report sc s i = record { stopped = (node_at s.nodes i).stopped; read = read
 
 -- that of a scenario by a journal; what computes it is opened here, once for all rows
 unfoldable pub report : ScenarioParts → List Step → RunReport
-unfolding shown has bits_where those_where same_class same_identity same_frame is_before messages_after node_at put_in_order least_frame winner script share_of after_share slot_note_of node_after nodes_after after_slot history copies has_own waiting_after entered eager_effects delivery_effects edcan_at edcan_effects send_effects turn_effects log_from first_lagging reply is_legal_from after_turn proceed after_step run_from round rounds break_at first_break count_together is_settled
+unfolding shown has bits_where those_where same_class same_identity same_frame is_before messages_after node_at put_in_order least_frame winner script share_of after_share slot_note_of node_after nodes_after after_slot history copies has_own waiting_after entered eager_effects delivery_effects edcan_at edcan_effects fell_back relcan_at timer_effects relcan_effects send_effects turn_effects log_from first_lagging reply is_legal_from after_turn proceed after_step run_from round rounds break_at first_break count_together is_settled
 report sc journal =
     let s = run sc journal in
     record {
@@ -111,7 +125,7 @@ report sc journal =
       bus = shown s.trace;
       broken = first_break sc.params s.trace;
       nodes = map (node_report sc s) (range_with_len 0 sc.params.nodes);
-      settled = map (is_settled s) (messages_of sc.sends);
+      settled = map (is_settled sc s) (messages_of sc.sends);
       legal = is_legal_from sc (opening sc.params.nodes) journal;
       ended = has_ended sc s;
     }
@@ -174,10 +188,20 @@ one_message = send 0 0 (1 ∷ []) ∷ []
 abbrev pub first_frame : FrameParts
 first_frame = ed 0 0 (1 ∷ [])
 
+-- a RELCAN message instead, and its frames
+abbrev pub one_rel : List SendAsk
+one_rel = send_rel 0 0 (1 ∷ []) ∷ []
+
+abbrev pub first_rel : FrameParts
+first_rel = rel 0 0 (1 ∷ [])
+
+abbrev pub first_confirm : FrameParts
+first_confirm = confirm 0 0
+
 unfoldable pub delivered : ℕ → List LogEntry
 delivered slot = delivers slot 0 0 (1 ∷ []) ∷ []
 
 -- opens all that a row is written with
 unfoldable pub row : Unit {0}
-unfolding report insides follow scenario send slot_rule frame_rule steps ed carries idle delivers three delivered
+unfolding report insides follow scenario send send_rel slot_rule frame_rule steps ed rel confirm carries idle delivers delivers_rel three delivered
 row = tt

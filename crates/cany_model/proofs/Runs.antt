@@ -110,7 +110,7 @@ none_lags lag k (node ∷ nodes) h i running = by_test (none_lags lag (k + 1) no
     by_test rest true e = absurd (some_is_none (k, node.unread) (rw e at h))
     by_test rest false e = first i e (rest (rw e at h)) running
 
-slot_done : (scenario : ScenarioParts) (s : RunState) → is_done (reply scenario s step.Slot) ≡ true → MaySlot scenario s
+pub slot_done : (scenario : ScenarioParts) (s : RunState) → is_done (reply scenario s step.Slot) ≡ true → MaySlot scenario s
 unfolding reply
 slot_done scenario s h = by_room (nat_le scenario.params.slots (slots_run s)) refl
   where
@@ -126,7 +126,7 @@ slot_done scenario s h = by_room (nat_le scenario.params.slots (slots_run s)) re
     by_room true e = absurd (false≢true (rw e at h))
     by_room false e = by_lag (first_lagging scenario.params.lag 0 s.nodes) refl e
 
-turn_done : (scenario : ScenarioParts) (s : RunState) (i : ℕ) → length s.nodes ≡ scenario.params.nodes
+pub turn_done : (scenario : ScenarioParts) (s : RunState) (i : ℕ) → length s.nodes ≡ scenario.params.nodes
     → is_done (reply scenario s (step.Turn i)) ≡ true → MayTurn s i
 unfolding reply
 turn_done scenario s i count h = by_number (nat_le scenario.params.nodes i) refl

@@ -13,10 +13,11 @@ use Rattle.cany_base.specs.Nodes.{those_where, AllBelow}
 use Rattle.cany_base.specs.NodesLaws.{has-those_where}
 use Rattle.cany_base.specs.Params.{Parameters, IsInRange, MeetsFormulas, least_bound, least_cycle, least_life, least_silence, first_fault}
 use Rattle.cany_base.specs.Scenario.{ScenarioParts, IsLegalScenario, IsSendOf}
-use Rattle.cany_model.specs.TomlKeys.{◌>>=◌, only_if, has_only, required, optional, number_from, each_of}
+use Rattle.cany_model.specs.TomlKeys.{has_only, required, optional, number_from, each_of}
 use Rattle.cany_model.specs.ParamsText.{given_params, params_of}
 use Rattle.cany_model.specs.SendsText.{payload_from, service_from, send_keys, send_from, sends_from}
 use Rattle.cany_model.specs.FaultsText.{rules_from}
+use Rattle.cany_model.specs.JournalText.{journal_at}
 use Rattle.cany_model.specs.ScenarioText.{document_of, top_keys, ends_in_time, scenario_from, scenario_of}
 use Rattle.cany_model.proofs.FaultsTextLegal.{AreRulesOf, no_rules, rules_from-legal}
 use Rattle.cany_model.proofs.TomlSteps.{bind_some, only_if-true, number_from-range, required-range, some_node, below_count, few-from_test, optional-holds, each_of-All}
@@ -179,7 +180,8 @@ scenario_from-legal top s h =
     let in_time = only_if-true (ends_in_time params.0) _ s params.2 in
     let sends = bind_some (optional (sends_from params.0) [] (codes "send") top) _ s in_time.1 in
     let rules = bind_some (optional (rules_from params.0) [] (codes "fault") top) _ s sends.2 in
-    let made = same_Some _ s rules.2 in
+    let journal = bind_some (journal_at top) _ s rules.2 in
+    let made = same_Some _ s journal.2 in
     let legal = params_of-legal top params.0 params.1 in
     let legal_sends = optional-holds (AreSendsOf params.0) (sends_from params.0) [] (no_sends params.0) (λ value found. sends_from-legal params.0 value found legal.0) (get_member (codes "send") top) sends.0 sends.1 in
     let legal_rules = optional-holds (AreRulesOf params.0) (rules_from params.0) [] (no_rules params.0) (λ value found. rules_from-legal params.0 value found legal.0) (get_member (codes "fault") top) rules.0 rules.1 in

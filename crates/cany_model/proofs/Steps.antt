@@ -89,7 +89,7 @@ pub after_slot-length : (rules : Script) (s : RunState) → length (after_slot r
 unfolding after_slot
 after_slot-length rules s = length-nodes_after 0 (slot_note_of rules s) s.nodes
 
-after_slot-node : (rules : Script) (s : RunState) (i : ℕ) → i < length s.nodes
+pub after_slot-node : (rules : Script) (s : RunState) (i : ℕ) → i < length s.nodes
     → node_at (after_slot rules s).nodes i ≡ node_after i (slot_note_of rules s) (node_at s.nodes i)
 unfolding after_slot
 after_slot-node rules s i h =

@@ -66,7 +66,7 @@ pub record IsWithin (p : Parameters) (trace : List SlotNote) : Type 0 where
   -- no window of bound + lag consecutive slots, or fewer, has more than errors Lost or Partial slots
   pub errors : (age : ℕ) → error_slots (take (p.bound + p.lag) (drop age trace)) ≤ p.errors
 
--- whether the newest slot is a Partial slot of a frame that met too many by then
+-- whether the newest slot carried a frame that met too many Partial slots by then
 abbrev pub omits_too_often : Parameters → SlotNote → List SlotNote → Bool
 omits_too_often p note before = carried (λ f. nat_lt p.omit (partial_slots (identity_of f) (note ∷ before))) note
 

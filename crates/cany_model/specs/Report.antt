@@ -22,7 +22,7 @@ node_lines scenario s i = node_line i (node_at s.nodes i).stopped (reads s i) �
 
 -- the messages in file order
 unfoldable pub message_lines : ScenarioParts → RunState → List (List ℕ)
-message_lines scenario s = map (λ m. message_line m (is_settled s m)) (messages_of scenario.sends)
+message_lines scenario s = map (λ m. message_line m (is_settled scenario s m)) (messages_of scenario.sends)
 
 unfoldable pub report_lines : ScenarioParts → List Step → RunState → List (List ℕ)
 report_lines scenario journal s =

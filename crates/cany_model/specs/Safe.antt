@@ -3,7 +3,7 @@ use Rattle.std.specs.Prelude.{◌≡◌, ℕ, ◌==◌, ◌&&◌, ◌≤◌, Boo
 use Rattle.cany_base.specs.declared.log_entry.LogEntry.{LogEntry}
 use Rattle.cany_base.specs.declared.log_entry.LogEntry.TheVariants.{Deliver, Failed, View}
 use Rattle.cany_base.specs.declared.message.MsgKey.{MsgKey}
-use Rattle.cany_base.specs.declared.message.Service.TheVariants.{Ed}
+use Rattle.cany_base.specs.declared.message.Service.TheVariants.{Ed, Rel}
 use Rattle.cany_base.specs.declared.slot_note.SlotNote.{SlotNote}
 use Rattle.cany_base.specs.Nodes.{has}
 use Rattle.cany_base.specs.Scenario.{ScenarioParts}
@@ -52,12 +52,12 @@ pub record HasDelivered (scenario : ScenarioParts) (s : RunState) (i : ℕ) (m :
 -- A settled message whose origin is correct, or that a correct node delivered, stands in the log of every correct node.
 abbrev pub IsAgreedOn : ScenarioParts → RunState → Message → Type 0
 IsAgreedOn scenario s m =
-    is_settled s m ≡ true
+    is_settled scenario s m ≡ true
     → (i : ℕ) → IsCorrect scenario s i → (i ≡ m.origin) ⊎ HasDelivered scenario s i m
     → (j : ℕ) → IsCorrect scenario s j → HasDelivered scenario s j m
 
--- What a run within the fault hypothesis keeps. The messages of RELCAN and TOTCAN, the views and the failure signs join
--- it with their parts.
+-- What a run within the fault hypothesis keeps. The messages of TOTCAN, the views and the failure signs join it with
+-- their parts.
 pub record IsSafe (scenario : ScenarioParts) (s : RunState) : Type 0 where
   pub integrity : IsIntegral scenario s
-  pub agreement : (m : Message) → Contains (messages_of scenario.sends) m → m.service ≡ Ed → IsAgreedOn scenario s m
+  pub agreement : (m : Message) → Contains (messages_of scenario.sends) m → (m.service ≡ Ed) ⊎ (m.service ≡ Rel) → IsAgreedOn scenario s m

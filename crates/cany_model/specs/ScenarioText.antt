@@ -8,6 +8,7 @@ use Rattle.cany_base.specs.Params.{Parameters}
 use Rattle.cany_base.specs.Scenario.{ScenarioParts}
 use Rattle.cany_model.specs.TomlKeys.{◌>>=◌, only_if, has_only, optional}
 use Rattle.cany_model.specs.FaultsText.{rules_from}
+use Rattle.cany_model.specs.JournalText.{journal_at}
 use Rattle.cany_model.specs.ParamsText.{params_of}
 use Rattle.cany_model.specs.SendsText.{sends_from}
 
@@ -15,15 +16,17 @@ use Rattle.cany_model.specs.SendsText.{sends_from}
 unfoldable pub document_of : List ℕ → Option Members
 document_of bytes = if is_utf8 bytes then parse_document bytes else None
 
--- the top keys that a text can have so far; each other key of the format is refused, and so has its default
+-- the top keys that a text can have so far; each other key of the format is refused
 abbrev pub top_keys : List (List ℕ)
-top_keys = codes "format" ∷ codes "nodes" ∷ codes "slots" ∷ codes "omit" ∷ codes "errors" ∷ codes "send" ∷ codes "fault" ∷ []
+top_keys =
+    codes "format" ∷ codes "nodes" ∷ codes "slots" ∷ codes "lag" ∷ codes "omit" ∷ codes "errors" ∷ codes "bound" ∷ codes "cycle" ∷ codes "life"
+    ∷ codes "silence" ∷ codes "confirm" ∷ codes "send" ∷ codes "fault" ∷ codes "journal" ∷ []
 
 -- the run is over before the first life sign that falls due could be carried
 abbrev pub ends_in_time : Parameters → Bool
 ends_in_time params = nat_le params.slots params.life
 
--- every node is a member, and there are no joins, leaves and journal
+-- every node is a member, and there are no joins and leaves
 unfoldable pub scenario_from : Members → Option ScenarioParts
 scenario_from top = do
   _ ← only_if (has_only top_keys top)
@@ -31,6 +34,7 @@ scenario_from top = do
   _ ← only_if (ends_in_time params)
   sends ← optional (sends_from params) [] (codes "send") top
   rules ← optional (rules_from params) [] (codes "fault") top
+  journal ← journal_at top
   Some (record {
     params = params;
     members = those_where (λ node. nat_lt node params.nodes);
@@ -38,7 +42,7 @@ scenario_from top = do
     rules = rules;
     joins = [];
     leaves = [];
-    journal = None;
+    journal = journal;
   })
 
 -- the scenario that the bytes stand for, if they stand for one

@@ -5,7 +5,7 @@ use Rattle.std.specs.Str.{bytes_eq}
 use Rattle.hex.specs.Hex.{decode_of}
 use Rattle.toml.specs.Data.{Data, as_str, as_array, as_table}
 use Rattle.cany_base.specs.declared.message.Service.{Service}
-use Rattle.cany_base.specs.declared.message.Service.TheVariants.{Ed}
+use Rattle.cany_base.specs.declared.message.Service.TheVariants.{Ed, Rel}
 use Rattle.cany_base.specs.declared.message.SendAsk.{SendAsk}
 use Rattle.cany_base.specs.Params.{Parameters}
 use Rattle.cany_model.specs.TomlKeys.{◌>>=◌, only_if, has_only, required, optional, number_from, each_of}
@@ -17,11 +17,16 @@ payload_from value = do
   _ ← only_if (nat_le (length digits) 16)
   result_ok (decode_of digits)
 
--- the name of a service; the reader takes no other yet
+-- the service of this name; the reader takes no third one yet
+abbrev pub service_named : List ℕ → Option Service
+service_named name =
+    if bytes_eq name (codes "ed") then Some Ed else
+    if bytes_eq name (codes "rel") then Some Rel else None
+
 unfoldable pub service_from : Data → Option Service
 service_from value = do
   name ← as_str value
-  if bytes_eq name (codes "ed") then Some Ed else None
+  service_named name
 
 abbrev pub send_keys : List (List ℕ)
 send_keys = codes "slot" ∷ codes "node" ∷ codes "service" ∷ codes "data" ∷ []

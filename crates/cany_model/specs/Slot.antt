@@ -150,7 +150,8 @@ note_by slot nodes frame ruling = with_stops ruling.stop nodes (exchange slot no
 unfoldable pub slot_note_of : Script → RunState → SlotNote
 slot_note_of rules s = note_by (length s.trace) s.nodes (winner s.nodes) (rules s.trace (winner s.nodes))
 
--- a node after the slot: one more notice is unread; a node that had stopped before stays as it was
+-- A node after the slot: one more notice is unread. Of a node that had stopped before only this count rises, so that what it
+-- has read stays; it gets no notice.
 unfoldable pub node_after : ℕ → SlotNote → NodeState → NodeState
 node_after i note node =
     if runs node

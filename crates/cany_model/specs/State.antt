@@ -3,7 +3,7 @@ use Rattle.std.specs.Prelude.{ℕ, ◌-◌, Bool, List, [], Option, Some, None, 
 use Rattle.cany_base.specs.declared.slot_note.SlotNote.{SlotNote}
 use Rattle.cany_base.specs.Frame.{FrameParts}
 
--- one node: how many notices it has not read, the frames that its controller waits with, in the order in which they win,
+-- one node: how many of the slots that ran it has not read, the frames that its controller waits with, in the order in which they win,
 -- its error counters, and the slot of its stop
 pub record NodeState : Type 0 where
   pub unread : ℕ

@@ -5,11 +5,12 @@ use Rattle.cany_base.specs.declared.message.Service.TheVariants.{Ed, Rel, Tot}
 use Rattle.cany_model.specs.Edcan.{edcan_effects}
 use Rattle.cany_model.specs.Effect.{Ask, Protocol}
 use Rattle.cany_model.specs.Messages.{Message, messages_of, data_frame}
+use Rattle.cany_model.specs.Relcan.{relcan_effects}
 
 -- whether the origin asks for the data frame in its turn of the scripted slot
 abbrev pub is_sent_at_once : Service → Bool
 is_sent_at_once Ed = true
-is_sent_at_once Rel = false
+is_sent_at_once Rel = true
 is_sent_at_once Tot = false
 
 abbrev pub is_sent_in : ℕ → ℕ → Message → Bool
@@ -22,4 +23,4 @@ send_effects scenario i (notice ∷ before) =
     map (λ m. Ask (data_frame m)) (filter (is_sent_in i (length before)) (messages_of scenario.sends))
 
 unfoldable pub turn_effects : Protocol
-turn_effects scenario i past = edcan_effects scenario i past ++ send_effects scenario i past
+turn_effects scenario i past = edcan_effects scenario i past ++ relcan_effects scenario i past ++ send_effects scenario i past

@@ -5,6 +5,7 @@ ghost use Rattle.cany_base.specs.declared.slot_note.SlotNote.{SlotNote};
 ghost use Rattle.cany_base.specs.declared.step.Step.{Step};
 ghost use Rattle.cany_base.specs.Params.{Parameters};
 ghost use Rattle.cany_base.specs.Scenario.{ScenarioParts};
+ghost use Rattle.cany_model.specs.Follow.{journal_fault};
 ghost use Rattle.cany_model.specs.Hypothesis.{IsWithin, first_break};
 ghost use Rattle.cany_model.specs.Messages.{Message, messages_of};
 ghost use Rattle.cany_model.specs.RoundRobin.{round_robin};
@@ -34,6 +35,19 @@ pub fn edcan_agreement()
         → IsAgreedOn scenario (run scenario journal) m }
 {}
 
+/// Agreement of RELCAN: in every run within the fault hypothesis, a settled RELCAN message whose origin is correct, or that
+/// a correct node delivered, was delivered by every correct node.
+///
+/// It holds for every journal, at every lag and for every length of the timer, by the argument of EDCAN: a node that got the
+/// message read its confirmation, so that its origin had seen success, or fell back to sending it. A message whose timer lies
+/// ahead at a running node is not settled.
+pub fn relcan_agreement()
+    ensures { (scenario : ScenarioParts) (journal : List Step) → scenario.params.nodes ≤ 32
+        → IsWithin scenario.params (run scenario journal).trace
+        → (m : Message) → Contains (messages_of scenario.sends) m → m.service ≡ service.Rel
+        → IsAgreedOn scenario (run scenario journal) m }
+{}
+
 /// The first break: a run has none exactly if it is within the fault hypothesis. A break stays the first as the run goes
 /// on, and one that is new has the number of the newest slot.
 ///
@@ -53,4 +67,13 @@ pub fn first_break_is_exact()
 /// It needs nothing of the scenario: it holds at every lag, under every fault script and for every number of nodes.
 pub fn round_robin_is_whole()
     ensures { (scenario : ScenarioParts) → IsLegal scenario (round_robin scenario) × IsWhole scenario (round_robin scenario) }
+{}
+
+/// Followed journals: a journal has no fault exactly where each step of it is done, and at its end all slots ran and every
+/// running node has read every notice.
+///
+/// So a program that follows a journal and finds no fault has made a run that is legal and whole, and one that finds a fault
+/// refuses a journal that is not.
+pub fn followed_journals()
+    ensures { (scenario : ScenarioParts) (journal : List Step) → (journal_fault scenario journal ≡ None) ↔ (IsLegal scenario journal × IsWhole scenario journal) }
 {}

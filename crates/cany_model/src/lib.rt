@@ -2,10 +2,12 @@
 #![tactic(auto)]
 
 mod breaks;
+mod follow;
 pub mod laws;
 mod reply;
 mod share;
 
 pub use breaks::{Break, BreakKind};
+pub use follow::FollowFault;
 pub use reply::StepReply;
 pub use share::Share;

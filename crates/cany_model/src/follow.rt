@@ -1,0 +1,12 @@
+use crate::reply::StepReply;
+use cany_base::NodeId;
+
+/// Why a journal was not followed to the end of a run.
+#[derive(Clone, Copy, Debug, PartialEq, Eq)]
+pub enum FollowFault {
+    /// The step at this place, counted from 0, is the first that is not done. The reply says why.
+    Refused { place: usize, reply: StepReply },
+    /// Every step was done, and the run has not ended: so many slots ran, and this is the least running node with an unread
+    /// notice, if there is one.
+    Unfinished { ran: u64, node: Option<NodeId> },
+}
