@@ -1,5 +1,4 @@
 pub mod AttemptFacts
-pub mod CountFacts
 pub mod CountedFacts
 pub mod KeyFacts
 pub mod OmissionFacts

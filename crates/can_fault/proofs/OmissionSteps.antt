@@ -79,23 +79,23 @@ module _ (p : Parameters) (before : List SlotNote) (old : Omissions) (note : Slo
     recent = recent_after window e (ap is_error v);
   }
 
-  fits_is : (fits : Bool) → fits ≡ nat_lt (partials_of old.counts.counts.items (counted_of (identity_of f))) old.omit → fits ≡ nat_lt (partial_slots (identity_of f) before) p.omit
+  fits_is : (fits : Bool) → fits ≡ nat_lt (partials_of old.counts.items (counted_of (identity_of f))) old.omit → fits ≡ nat_lt (partial_slots (identity_of f) before) p.omit
   fits_is fits e = e ∙ ap (λ n. nat_lt n old.omit) (kept.counts (identity_of f)) ∙ ap (λ n. nat_lt (partial_slots (identity_of f) before) n) kept.omit
 
-  pub omit_breaks : (reject : Nodes) (fits : Bool) → note.verdict ≡ Partial reject → fits ≡ nat_lt (partials_of old.counts.counts.items (counted_of (identity_of f))) old.omit → fits ≡ false
+  pub omit_breaks : (reject : Nodes) (fits : Bool) → note.verdict ≡ Partial reject → fits ≡ nat_lt (partials_of old.counts.items (counted_of (identity_of f))) old.omit → fits ≡ false
       → Some kind.Omit ≡ break_at p note before
   omit_breaks reject fits v e full =
       let crowded = nat_lt p.errors (error_slots (take (p.bound + p.lag) (note ∷ before))) in
       ap (λ b. if not b then Some kind.Omit else if crowded then Some kind.Errors else None) (sym full) ∙ sym (break_partial p note before f reject fits crowded newest.frame v (fits_is fits e) refl)
 
-  pub partial_breaks : (reject : Nodes) (fits : Bool) (window : Window) (crowded : Bool) → note.verdict ≡ Partial reject → fits ≡ nat_lt (partials_of old.counts.counts.items (counted_of (identity_of f))) old.omit → fits ≡ true
+  pub partial_breaks : (reject : Nodes) (fits : Bool) (window : Window) (crowded : Bool) → note.verdict ≡ Partial reject → fits ≡ nat_lt (partials_of old.counts.items (counted_of (identity_of f))) old.omit → fits ≡ true
       → window ≡ noted old.window note.slot → crowded ≡ is_crowded window note.slot → then_some crowded kind.Errors ≡ break_at p note before
   partial_breaks reject fits window crowded v e free at flag =
       then_some_is crowded ∙ ap (λ b. if not b then Some kind.Omit else if crowded then Some kind.Errors else None) (sym free)
       ∙ sym (break_partial p note before f reject fits crowded newest.frame v (fits_is fits e) (too_many window crowded at flag (ap is_error v)))
 
   pub partial_kept : (reject : Nodes) (window : Window) (counts : PartialCounts) → note.verdict ≡ Partial reject → window ≡ noted old.window note.slot → break_at p note before ≡ None
-      → ((other : Counted) → partials_of counts.counts.items other ≡ partials_of old.counts.counts.items other + (if same_counted other (counted_of (identity_of f)) then 1 else 0))
+      → ((other : Counted) → partials_of counts.items other ≡ partials_of old.counts.items other + (if same_counted other (counted_of (identity_of f)) then 1 else 0))
       → IsKeptOf p (note ∷ before) (record { omit = old.omit; counts = counts; window = window })
   partial_kept reject window counts v e unbroken counted = record {
     numbered = (newest.slot, kept.numbered);
@@ -103,7 +103,7 @@ module _ (p : Parameters) (before : List SlotNote) (old : Omissions) (note : Slo
     omit = kept.omit;
     errors = ap (λ (w : Window). w.errors) e ∙ kept.errors;
     span = ap (λ (w : Window). w.span) e ∙ kept.span;
-    counts = counted_more p note before f old.counts.counts.items counts.counts.items newest.frame (ap is_partial v) kept.counts counted;
+    counts = counted_more p note before f old.counts.items counts.items newest.frame (ap is_partial v) kept.counts counted;
     recent = recent_after window e (ap is_error v);
   }
 

@@ -15,7 +15,7 @@ pub record IsKeptOf (p : Parameters) (trace : List SlotNote) (kept : Omissions) 
   pub omit : kept.omit ≡ p.omit
   pub errors : kept.window.errors ≡ p.errors
   pub span : kept.window.span ≡ p.bound + p.lag
-  pub counts : (x : Identity) → partials_of kept.counts.counts.items (counted_of x) ≡ partial_slots x trace
+  pub counts : (x : Identity) → partials_of kept.counts.items (counted_of x) ≡ partial_slots x trace
   pub recent : kept.window.recent ≡ take (p.errors + 1) (error_places trace)
 
 -- the limits stay

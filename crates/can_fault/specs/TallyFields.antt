@@ -11,7 +11,7 @@ parts_of t = record {
   slots = option_map_or (λ slot. slot + 1) t.newest 0;
   partials = t.partials;
   first = t.first;
-  counts = t.omissions.counts.counts.items;
+  counts = t.omissions.counts.items;
   recent = t.omissions.window.recent;
 }
 
@@ -20,5 +20,5 @@ pub record IsSound (t : Inside) : Type 0 where
   pub omit : t.omissions.omit ≡ t.params.omit
   pub errors : t.omissions.window.errors ≡ t.params.errors
   pub span : t.omissions.window.span ≡ t.params.bound + t.params.lag
-  pub room : t.omissions.counts.counts.room ≡ t.rules
-  pub few : length t.omissions.counts.counts.items ≤ t.partials
+  pub room : t.omissions.counts.room ≡ t.rules
+  pub few : length t.omissions.counts.items ≤ t.partials

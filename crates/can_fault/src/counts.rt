@@ -1,12 +1,14 @@
-ghost use Rattle.std.specs.Prelude.{◌≡◌, ◌+◌, ◌<◌, ◌≤◌, [], nat_lt, length, position, IfOk, IsTrue, if◌then◌else◌};
+ghost use Rattle.std.specs.Prelude.{◌≡◌, ◌+◌, ◌<◌, ◌≤◌, [], nat_lt, length, IfOk, IsTrue, if◌then◌else◌};
 ghost use Rattle.cany_model.specs.Frames.{identity_of};
 
 use crate::name::FrameName;
-use cany_base::{BoundedVec, Class, Frame, Memory};
+use cany_base::{Class, Frame, Memory};
+use indexmap::IndexMap;
 use std::alloc::Global;
+use std::marker::Model;
 
 /// What Partial slots count for.
-#[derive(Clone, Copy, Debug, PartialEq, Eq)]
+#[derive(Clone, Copy, Debug, PartialEq, Eq, Hash)]
 pub(crate) enum Counted {
     /// The vectors of a membership cycle together.
     Vectors { cycle: u16 },
@@ -30,9 +32,25 @@ impl Counted {
 }
 
 /// How many Partial slots there were, by what they count for.
+///
+/// A count is found by the hash of its key, and all memory is taken when the counts are built.
 #[derive(Debug, Drop)]
 pub(crate) struct PartialCounts {
-    counts: BoundedVec<(Counted, u32)>,
+    counts: IndexMap<Counted, u32>,
+    room: usize,
+}
+
+impl Model for PartialCounts {
+    ghost use Rattle.std.specs.Prelude.{ℕ, ◌+◌, ◌≤◌};
+    ghost use Rattle.cany_base.specs.Bounded.{Bounded};
+    ghost use Rattle.indexmap.specs.IndexMap.{index_map_len, spare};
+    ghost use Rattle.can_fault.specs.declared.counts.Counted.{Counted};
+
+    ghost Value = { Bounded (Counted × ℕ) };
+
+    ghost view = { λ c. record { items = c.counts.entries; room = c.room } };
+
+    ghost invariant = { λ c. c.room ≤ index_map_len c.counts + spare c.counts };
 }
 
 impl PartialCounts {
@@ -43,43 +61,35 @@ impl PartialCounts {
 
     /// No counts, with room for so many.
     pub(crate) fn build(alloc: Global, room: usize) -> Result<PartialCounts, Memory>
-        ensures { IfOk result (λ c. c.counts ≡ record { items = []; room = room }) }
+        ensures { IfOk result (λ c. c ≡ record { items = []; room = room }) }
     {
-        let counts = BoundedVec::build(alloc, room)?;
-        Ok(PartialCounts { counts })
+        let counts = IndexMap::with_capacity(alloc, room)?;
+        Ok(PartialCounts { counts, room })
     }
 
     /// Counts one more where the count is below the limit, and says whether it was.
     pub(crate) fn count(&mut self, counted: &Counted, limit: u32) -> bool
-        requires { length self.old.counts.items < self.old.counts.room }
-        ensures below { result ≡ nat_lt (partials_of self.old.counts.items counted.now) limit }
-        ensures counted { IsTrue result → (other : Counted) → partials_of self.new.counts.items other
-            ≡ partials_of self.old.counts.items other + (if same_counted other counted.now then 1 else 0) }
-        ensures len { length self.new.counts.items ≤ length self.old.counts.items + 1 }
-        ensures room { self.new.counts.room ≡ self.old.counts.room }
+        requires { length self.old.items < self.old.room }
+        ensures below { result ≡ nat_lt (partials_of self.old.items counted.now) limit }
+        ensures counted { IsTrue result → (other : Counted) → partials_of self.new.items other
+            ≡ partials_of self.old.items other + (if same_counted other counted.now then 1 else 0) }
+        ensures len { length self.new.items ≤ length self.old.items + 1 }
+        ensures room { self.new.room ≡ self.old.room }
     {
-        match self.place(counted) {
-            Some(place) => {
-                let (_, count) = self.counts.get(place);
-                if count >= limit {
+        match self.counts.get_mut(counted) {
+            Some(count) => {
+                if *count >= limit {
                     return false;
                 }
-                self.counts.set(place, (*counted, count + 1));
+                *count += 1;
             }
             None => {
                 if limit == 0 {
                     return false;
                 }
-                self.counts.push((*counted, 1));
+                self.counts.insert(*counted, 1).unwrap();
             }
         }
         true
-    }
-
-    fn place(&self, counted: &Counted) -> Option<usize>
-        ensures { result ≡ position (λ e. same_counted counted.now e.0) self.now.counts.items }
-    {
-        let counts = self.counts.as_slice();
-        counts.iter().position(|entry| *counted == entry.0)
     }
 }

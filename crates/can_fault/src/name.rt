@@ -4,7 +4,7 @@ ghost use Rattle.cany_model.specs.Frames.{identity_of};
 use cany_base::{Class, Frame, NodeId};
 
 /// What names a frame.
-#[derive(Clone, Copy, Debug, PartialEq, Eq, PartialOrd, Ord)]
+#[derive(Clone, Copy, Debug, PartialEq, Eq, PartialOrd, Ord, Hash)]
 pub(crate) struct FrameName {
     pub(crate) class: Class,
     pub(crate) number: u16,

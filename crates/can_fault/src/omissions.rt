@@ -23,7 +23,7 @@ impl Omissions {
     /// Nothing noted, with room for so many Partial slots.
     pub(crate) fn build(alloc: Global, params: &Params, rules: usize) -> Result<Omissions, Memory>
         ensures kept { IfOk result (IsKeptOf params.now []) }
-        ensures counts { IfOk result (λ o. o.counts.counts ≡ record { items = []; room = rules }) }
+        ensures counts { IfOk result (λ o. o.counts ≡ record { items = []; room = rules }) }
     {
         let counts = PartialCounts::build(alloc, rules)?;
         let window = ErrorWindow::build(alloc, params)?;
@@ -38,14 +38,14 @@ impl Omissions {
     /// Notes a slot that carried the frame, and gives the clause that it breaks, if it breaks one.
     pub(crate) fn note(&mut self, note: &SlotNote, frame: &Frame) -> Option<BreakKind>
         requires frame { note.now.frame ≡ Some frame.now }
-        requires room { is_partial note.now.verdict ≡ true → length self.old.counts.counts.items < self.old.counts.counts.room }
+        requires room { is_partial note.now.verdict ≡ true → length self.old.counts.items < self.old.counts.room }
         ensures broken { (p : Parameters) (trace : List SlotNote) → IsKeptOf p trace self.old → note.now.slot ≡ length trace
             → result ≡ break_at p note.now trace }
         ensures kept { (p : Parameters) (trace : List SlotNote) → IsKeptOf p trace self.old → note.now.slot ≡ length trace
             → result ≡ None → IsKeptOf p (note.now ∷ trace) self.new }
-        ensures len { length self.new.counts.counts.items ≤ length self.old.counts.counts.items + (if is_partial note.now.verdict then 1 else 0) }
+        ensures len { length self.new.counts.items ≤ length self.old.counts.items + (if is_partial note.now.verdict then 1 else 0) }
         ensures limits { HasLimitsOf self.old self.new }
-        ensures room { self.new.counts.counts.room ≡ self.old.counts.counts.room }
+        ensures room { self.new.counts.room ≡ self.old.counts.room }
     {
         match note.verdict {
             Verdict::Clean => None,

@@ -42,7 +42,7 @@ impl From<AllocError> for ScriptFault {
 
 /// The fault rules of a scenario, each at a place of its own.
 ///
-/// It tells the outcome of each slot. A rule is found in a number of steps that grows as the logarithm of their number.
+/// It tells the outcome of each slot. The rules are kept in ordered maps by their places.
 #[derive(Debug, Drop)]
 pub struct Script {
     rules: Vec<Rule>,

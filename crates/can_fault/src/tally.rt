@@ -13,8 +13,8 @@ use std::marker::Model;
 
 /// Tells whether a run keeps the fault hypothesis, from the notes of its slots, and where it first does not.
 ///
-/// A note costs no more as the run grows, but for a Partial slot, which is compared with the frames that met one before:
-/// these are at most as many as there are rules.
+/// Of the run it keeps a hash map of the counts of Partial slots, a ring of the newest slots of errors, one more than a
+/// window may have, and a few numbers. All memory is taken when it is built.
 #[derive(Drop)]
 pub struct Tally {
     params: Params,
@@ -81,14 +81,14 @@ impl Tally {
 
 /// The first break after one more slot. The slots after it matter no more.
 fn next_break(first: Option<Break>, omissions: &mut Omissions, note: &SlotNote) -> Option<Break>
-    requires { is_partial_slot note.now ≡ true → length omissions.old.counts.counts.items < omissions.old.counts.counts.room }
+    requires { is_partial_slot note.now ≡ true → length omissions.old.counts.items < omissions.old.counts.room }
     ensures next { (p : Parameters) (trace : List SlotNote) → note.now.slot ≡ length trace → first ≡ first_break p trace
         → (first ≡ None → IsKeptOf p trace omissions.old) → result ≡ first_break p (note.now ∷ trace) }
     ensures kept { (p : Parameters) (trace : List SlotNote) → note.now.slot ≡ length trace → first ≡ first_break p trace
         → (first ≡ None → IsKeptOf p trace omissions.old) → result ≡ None → IsKeptOf p (note.now ∷ trace) omissions.new }
-    ensures len { length omissions.new.counts.counts.items ≤ length omissions.old.counts.counts.items + (if is_partial_slot note.now then 1 else 0) }
+    ensures len { length omissions.new.counts.items ≤ length omissions.old.counts.items + (if is_partial_slot note.now then 1 else 0) }
     ensures limits { HasLimitsOf omissions.old omissions.new }
-    ensures room { omissions.new.counts.counts.room ≡ omissions.old.counts.counts.room }
+    ensures room { omissions.new.counts.room ≡ omissions.old.counts.room }
 {
     if first.is_some() {
         return first;

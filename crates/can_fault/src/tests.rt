@@ -1,4 +1,4 @@
-ghost use Rattle.std.specs.Prelude.{◌≤◌};
+ghost use Rattle.std.specs.Prelude.{◌<◌, ◌≤◌};
 
 use crate::attempts::Attempts;
 use crate::script::{Script, ScriptFault};
@@ -102,6 +102,7 @@ fn attempts_are_numbered(rt: HostRuntime) -> Result<(), Fail> {
     Ok(())
 }
 
+/// A window has 6 slots.
 fn limits(omit: u32, errors: u32) -> Params
     requires omit { omit ≤ 8 }
     requires errors { errors ≤ 1000 }
@@ -109,10 +110,10 @@ fn limits(omit: u32, errors: u32) -> Params
     Params {
         format: Format::One,
         nodes: 3,
-        lag: 0,
+        lag: 2,
         omit,
         errors,
-        bound: 36,
+        bound: 4,
         cycle: 72,
         life: 36,
         silence: 73,
@@ -149,6 +150,33 @@ fn lost_slots_break_at_the_third(rt: HostRuntime) -> Result<(), Fail> {
     let found = break_of(rt.alloc(), &limits(0, 2), slots.as_slice())?;
     let kind = BreakKind::Errors;
     assert_eq!(rt; found, Some(Break { kind, slot: 3 }));
+    Ok(())
+}
+
+/// Two Lost slots at these places, with idle slots around them. A verdict on an idle slot is no error.
+fn break_of_two_lost(alloc: Global, first: usize, second: usize) -> Result<Option<Break>, Fail>
+    requires first { first < 8 }
+    requires second { second < 8 }
+{
+    let one = NodeId::new(1).ok_or("a node below 32")?;
+    let mut slots = [(None, Verdict::Lost); 8];
+    slots[first] = (Some(data_frame(0, one)), Verdict::Lost);
+    slots[second] = (Some(data_frame(0, one)), Verdict::Lost);
+    break_of(alloc, &limits(0, 1), slots.as_slice())
+}
+
+#[test]
+fn the_last_slot_of_a_window_counts(rt: HostRuntime) -> Result<(), Fail> {
+    let found = break_of_two_lost(rt.alloc(), 1, 6)?;
+    let kind = BreakKind::Errors;
+    assert_eq!(rt; found, Some(Break { kind, slot: 6 }));
+    Ok(())
+}
+
+#[test]
+fn the_slot_after_a_window_does_not_count(rt: HostRuntime) -> Result<(), Fail> {
+    let found = break_of_two_lost(rt.alloc(), 1, 7)?;
+    assert_eq!(rt; found, None);
     Ok(())
 }
 
