@@ -21,7 +21,7 @@ pub record ControllerState : Type 0 where
   pub read : ℕ
   pub stopped : Option ℕ
 
--- the controller's node, as a run has it
+-- the controller's node, as a run has it while it runs: of a stopped node a run goes on counting the slots as unread
 abbrev pub node_state : ControllerState → NodeState
 node_state c = record {
   unread = length c.unread;

@@ -6,7 +6,7 @@ ghost use Rattle.cany_model.specs.Slot.{least_frame};
 ghost use Rattle.cany_model.specs.Waiting.{waits, with_frame, without};
 ghost use Rattle.can_frame.specs.Identifier.{FitsFormat};
 ghost use Rattle.can_controller.specs.Controller.{fresh_controller, seen, stopped_at};
-ghost use Rattle.can_controller.specs.Waiting.{HasRoomFor};
+ghost use Rattle.can_controller.specs.Waiting.{IsAscending, HasRoomFor};
 
 use crate::counters::Counters;
 use crate::notice::notice_of;
@@ -26,7 +26,7 @@ use std::marker::Model;
 pub struct Controller {
     node: NodeId,
     params: Params,
-    waiting: Waiting,
+    pub(crate) waiting: Waiting,
     counters: Counters,
     notices: HeapCircularBuffer<Notice>,
     read: u64,
@@ -117,6 +117,9 @@ impl Controller {
         ensures least { result ≡ least_frame self.now.waiting }
         ensures least_key { IfSome result (λ f. All (λ g. key_of f ≤ key_of g) self.now.waiting) }
         ensures fits { IfSome result (λ f. FitsFormat self.now.params.format f) }
+
+        // The waiting frames stand in the order in which they win, at most one of an identifier.
+        ensures in_order { IsAscending self.now.waiting }
     {
         self.waiting.first()
     }

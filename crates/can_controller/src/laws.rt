@@ -8,7 +8,9 @@ ghost use Rattle.cany_model.specs.Frames.{identity_of, same_identity, is_before}
 ghost use Rattle.cany_model.specs.Slot.{after_share, exceeds, node_after, share_of};
 ghost use Rattle.can_frame.specs.Identifier.{FitsFormat};
 ghost use Rattle.can_controller.specs.Controller.{ControllerState, node_state, seen, stopped_at};
+ghost use Rattle.can_controller.specs.Waiting.{IsAscending};
 
+use crate::controller::Controller;
 use cany_base::Format;
 
 /// Frames that fit have one identifier exactly where they have one identity.
@@ -31,3 +33,10 @@ pub fn seen_is_node_after()
         node_state (let c' = seen note.slot (share_of i note) c in if has note.stops i then stopped_at note.slot c' else c')
         ≡ node_after i note (node_state c) }
 {}
+
+/// The waiting frames ascend by identifier, so that no two of them have one identity.
+pub fn frames_ascend(controller: &Controller)
+    ensures { IsAscending controller.now.waiting }
+{
+    controller.waiting.ascend();
+}

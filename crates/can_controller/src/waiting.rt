@@ -138,12 +138,20 @@ impl Waiting {
         self.room - self.frames.len()
     }
 
+    /// The frames ascend, as they are kept.
+    pub(crate) fn ascend(&self)
+        ensures { IsAscending self.now.frames }
+    {
+        let _frames = &self.frames;
+    }
+
     /// The frame that wins over the others.
     pub(crate) fn first(&self) -> Option<Frame>
         ensures head { result ≡ slice_get self.now.frames 0 }
         ensures least { result ≡ least_frame self.now.frames }
         ensures least_key { IfSome result (λ f. All (λ g. key_of f ≤ key_of g) self.now.frames) }
         ensures fits { IfSome result (λ f. FitsFormat self.now.format f) }
+        ensures in_order { IsAscending self.now.frames }
     {
         self.frames.first().copied()
     }

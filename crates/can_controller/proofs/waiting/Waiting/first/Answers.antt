@@ -14,3 +14,6 @@ pub returns-clause-least_key : goal.returns-clause-least_key
 returns-clause-least_key c =
     rw (← c.self.view_is, c.copied.ensures, c.first.ensures.value, c.deref.ensures.value)
     (head_has_least_key c.self.inside.frames.items c.self.invariant.ascending)
+
+pub returns-clause-in_order : goal.returns-clause-in_order
+returns-clause-in_order c = rw (← c.self.view_is) c.self.invariant.ascending
