@@ -1,0 +1,13 @@
+pub mod After
+pub mod Changed
+pub mod Contested
+pub mod Kept
+pub mod LostRules
+pub mod Noted
+pub mod Offered
+pub mod RowSteps
+pub mod Rows
+pub mod Ruled
+pub mod SetSteps
+pub mod Unread
+pub mod Winner

@@ -1,0 +1,37 @@
+-- The rules of a scenario, and what they say of a slot.
+use Rattle.std.proofs.Common.{◌≡◌, ◌≢◌, ℕ, zero, suc, ◌+◌, ◌<◌, ◌≤◌, List, [], ◌∷◌, length, map, take, get_or, refl, ap, sym, ◌∙◌, arith}
+use Rattle.std.specs.Prelude.{Option, Some, None, AllPairs, Contains, slice_get, min}
+use Rattle.std.specs.Option.{IsSomeAnd}
+use Rattle.std.proofs.lemmas.List.{get_or-map, get_or-take, length-map, length-take}
+use Rattle.std.proofs.lemmas.Option.{get_or_from_slice_get}
+use Rattle.cany_base.specs.declared.rule.Rule.{Rule}
+use Rattle.can_fault.specs.Attempts.{greatest}
+use Rattle.can_fault.specs.Rules.{IsFirstRepeated}
+
+pub there_is : {X : Type 0} (xs : List X) (i : ℕ) (x : X) → slice_get xs i ≡ Some x → i < length xs
+there_is [] i x e = cc
+there_is (y ∷ xs) zero x e = omega arith
+there_is (y ∷ xs) (suc i) x e = let h : i < length xs = there_is xs i x e in omega arith
+
+repeated_at : (rules : List Rule) (index : ℕ) → AllPairs (λ a b. a.place ≢ b.place) rules → (o : Option Rule) → slice_get rules index ≡ o
+    → IsSomeAnd o (λ rule. Contains (map (λ (r : Rule). r.place) (take index rules)) rule.place) → ⊥
+repeated_at rules index apart None e h = h
+repeated_at rules index apart (Some rule) e h =
+    let k : ℕ = h.0 in
+    let within : index < length rules = there_is rules index rule e in
+    let early : k < length (map (λ (r : Rule). r.place) (take index rules)) = h.1 in
+    let long : length (map (λ (r : Rule). r.place) (take index rules)) ≡ length (take index rules) = length-map (take index rules) (λ (r : Rule). r.place) in
+    let before : k < length (take index rules) = omega arith in
+    let less : k < index = omega (arith, length-take index rules) in
+    let place : (get_or rules k rule).place ≡ rule.place =
+    ap (λ (r : Rule). r.place) (sym (get_or-take index rules k rule less))
+    ∙ sym (get_or-map (λ (r : Rule). r.place) (take index rules) k rule rule.place before) ∙ h.2 in
+    apart k index rule less within (place ∙ ap (λ (r : Rule). r.place) (sym (get_or_from_slice_get rules index rule rule e)))
+
+-- the rules of a scenario repeat no place
+pub no_repeated : (rules : List Rule) (index : ℕ) → AllPairs (λ a b. a.place ≢ b.place) rules → IsFirstRepeated rules index → ⊥
+no_repeated rules index apart repeated = repeated_at rules index apart (slice_get rules index) refl repeated.repeated
+
+-- a count that no run reaches
+pub counted_low : (count slots : ℕ) → count ≤ slots + 1 → slots < 1000000 → min count greatest ≡ count
+counted_low count slots few short = omega arith

@@ -1,0 +1,7 @@
+use Rattle.cany_model.specs.State.{node_at, runs}
+use Rattle.can_bus.specs.Row.{nodes_of}
+use Rattle.can_bus.proofs.SetSteps.{SetSoFar}
+use Rattle.can_bus.proofs.nodes.running.Given as goal
+
+abbrev pub invariant-loop-i : goal.invariant-loop-i
+invariant-loop-i l = SetSoFar l.set l.i (λ k. runs (node_at (nodes_of l.controllers) k))

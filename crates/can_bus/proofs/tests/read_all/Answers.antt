@@ -1,0 +1,28 @@
+use Rattle.std.proofs.Common.{◌≡◌, ◌<◌, length, ap, sym, ◌∙◌, arith}
+use Rattle.can_controller.specs.Controller.{ControllerState}
+use Rattle.can_bus.proofs.RowSteps.{row_set, read_more}
+use Rattle.can_bus.proofs.Ruled.{there_is}
+use Rattle.can_bus.proofs.tests.read_all.Goals as goal
+
+pub loop-i-init : goal.loop-i-init
+loop-i-init g c = record { row = λ p row. row; unread = λ k x below e. absurd (omega arith) }
+
+pub loop-i-preserved : goal.loop-i-preserved
+loop-i-preserved g c =
+    let x : ControllerState = c.index-controllers-i.result in
+    record {
+      row = λ p row.
+          row_set p c.loop-i.controllers c.loop-i.i x c.read.new.controller (omega arith) c.index-controllers-i.is
+          (c.read.ensures.node ∙ ap (λ (y : ControllerState). y.node) (sym c.index-controllers-i.is))
+          (c.read.ensures.params ∙ ap (λ (y : ControllerState). y.params) (sym c.index-controllers-i.is)) (c.loop-i.invariant.row p row);
+      unread = read_more c.loop-i.i c.loop-i.controllers c.read.new.controller c.loop-i.invariant.unread c.read.ensures.unread;
+    }
+
+pub returns-clause-row : goal.returns-clause-row
+returns-clause-row g c = λ p row. c.loop-i.invariant.row p row
+
+pub returns-clause-unread : goal.returns-clause-unread
+returns-clause-unread g c = λ lag k x e running.
+    let within : k < length c.loop-i.controllers = there_is c.loop-i.controllers k x e in
+    let none : length x.unread ≡ 0 = c.loop-i.invariant.unread k x (omega arith) e in
+    omega arith

@@ -1,0 +1,51 @@
+-- What arbitration gives, and what is offered to it, in the words of a run.
+use Rattle.std.specs.Prelude.{◌≡◌, ℕ, if◌then◌else◌, is_none, Option, Some, None, List, slice_get}
+use Rattle.cany_base.specs.declared.frame.Format.{Format}
+use Rattle.cany_base.specs.declared.slot_note.SlotNote.{SlotNote}
+use Rattle.cany_base.specs.Frame.{FrameParts}
+use Rattle.cany_base.specs.Nodes.{Nodes, has, those_where}
+use Rattle.cany_model.specs.Slot.{least_frame, offered, sends, share_of, winner}
+use Rattle.cany_model.specs.State.{NodeState, node_at, runs}
+use Rattle.can_frame.specs.Identifier.{FitsFormat}
+use Rattle.can_arbiter.specs.declared.arbitration.Outcome.{Outcome}
+use Rattle.can_arbiter.specs.declared.arbitration.Outcome.TheVariants.{Idle, Won}
+use Rattle.can_arbiter.specs.Offers.{OfferRow, offer_at}
+use Rattle.can_controller.specs.Controller.{ControllerState, seen, stopped_at}
+use Rattle.can_controller.specs.Waiting.{IsAscending}
+
+-- the frames that a controller waits with stand in the order of their identifiers, and the first of them wins
+pub record StandInOrder (frames : List FrameParts) : Type 0 where
+  pub ascending : IsAscending frames
+  pub head : least_frame frames ≡ slice_get frames 0
+
+-- each node offers, of the frames that it waits with, the one that wins
+pub record AreOffersOf (format : Format) (nodes : List NodeState) (offers : OfferRow) : Type 0 where
+  pub each : (i : ℕ) → offer_at offers i ≡ least_frame (offered (node_at nodes i))
+  pub fit : (i : ℕ) (f : FrameParts) → offer_at offers i ≡ Some f → FitsFormat format f
+  pub in_order : (i : ℕ) → StandInOrder (offered (node_at nodes i))
+
+-- the frame that is carried
+abbrev pub frame_of : Outcome → Option FrameParts
+frame_of Idle = None
+frame_of (Won frame senders) = Some frame
+
+-- the senders of a frame that is carried are the nodes that wait with it
+abbrev pub HasSenders : List NodeState → Outcome → Type 0
+HasSenders nodes Idle = Unit {0}
+HasSenders nodes (Won frame senders) = senders ≡ those_where (λ i. sends frame (node_at nodes i))
+
+pub record IsContestOf (nodes : List NodeState) (outcome : Outcome) : Type 0 where
+  pub frame : frame_of outcome ≡ winner nodes
+  pub senders : HasSenders nodes outcome
+
+-- the nodes that run
+abbrev pub running_nodes : List NodeState → Nodes
+running_nodes nodes = those_where (λ i. runs (node_at nodes i))
+
+-- the controller of node i after its share in the slot, before the stops
+abbrev pub seen_by : SlotNote → ℕ → ControllerState → ControllerState
+seen_by note i c = if is_none c.stopped then seen note.slot (share_of i note) c else c
+
+-- the controller of node i after the stops of the slot
+abbrev pub stopped_by : ℕ → Nodes → ℕ → ControllerState → ControllerState
+stopped_by slot stops i c = if has stops i then stopped_at slot c else c

@@ -1,0 +1,5 @@
+pub mod Bus
+pub mod BusFields
+pub mod Contest
+pub mod Each
+pub mod Row

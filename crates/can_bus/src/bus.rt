@@ -1,0 +1,108 @@
+ghost use Rattle.std.specs.Prelude.{◌≡◌, ◌<◌, ◌↔◌, ◌∷◌, [], None, IfOk, length, reverse};
+ghost use Rattle.cany_model.specs.Hypothesis.{IsWithin, first_break};
+ghost use Rattle.cany_model.specs.Slot.{script as script_of, slot_note_of};
+ghost use Rattle.can_bus.specs.Bus.{Follows};
+ghost use Rattle.can_bus.specs.Row.{IsRowFor, NoneLags, controllers_after, nodes_of};
+
+use crate::slot::run_slot;
+use can_controller::Controller;
+use can_fault::{Attempts, Break, Script, ScriptFault, Tally};
+use cany_base::{BoundedVec, Memory, Params, Scenario, Slot, SlotNote};
+use std::alloc::Global;
+use std::marker::Model;
+
+/// The bus of a run: it runs one slot after another, keeps the note of each, and tells whether the run keeps the fault
+/// hypothesis.
+///
+/// All memory is taken by `build`. What a slot costs does not grow with the run or with what was carried, and grows with the
+/// rules as the logarithm of their number.
+#[derive(Drop)]
+pub struct Bus {
+    params: Params,
+    trace: BoundedVec<SlotNote>,
+    attempts: Attempts,
+    tally: Tally,
+}
+
+impl Model for Bus {
+    ghost use Rattle.can_bus.specs.Bus.{BusParts};
+
+    ghost Value = { BusParts };
+
+    ghost use Rattle.can_bus.specs.BusFields.{parts_of, IsSound};
+
+    ghost view = { parts_of };
+
+    ghost invariant = { IsSound };
+}
+
+/// The script of the scenario's rules, which have distinct places.
+fn scenario_script(alloc: Global, scenario: &Scenario) -> Result<Script, Memory>
+    ensures { IfOk result (λ script. script ≡ scenario.now.rules) }
+{
+    let _legal = scenario.params();
+    match Script::build(alloc, scenario.rules()) {
+        Ok(script) => Ok(script),
+        Err(ScriptFault::Memory) => Err(Memory),
+        Err(ScriptFault::Repeated { .. }) => unreachable!(),
+    }
+}
+
+impl Bus {
+    /// The bus of the scenario before its first slot, with room for all of its slots.
+    pub fn build(alloc: Global, scenario: &Scenario) -> Result<Bus, Memory>
+        ensures params { IfOk result (λ bus. bus.params ≡ scenario.now.params) }
+        ensures trace { IfOk result (λ bus. bus.trace ≡ []) }
+        ensures follows { IfOk result (Follows scenario.now.rules) }
+    {
+        let script = scenario_script(alloc, scenario)?;
+        let attempts = Attempts::build(alloc, &script)?;
+        let params = *scenario.params();
+        let tally = Tally::build(alloc, &params, scenario.rules().len())?;
+        let trace = BoundedVec::build(alloc, params.slots as usize)?;
+        Ok(Bus {
+            params,
+            trace,
+            attempts,
+            tally,
+        })
+    }
+
+    /// Runs the next slot: the running controllers compete, the script says what comes of it, each running controller sees
+    /// its share, and those stop that the script names or that have a counter above the limit. `script` is the one that
+    /// ruled the slots before, that of the scenario's rules.
+    pub fn slot(&mut self, controllers: &mut [Controller], script: &Script) -> SlotNote
+        requires row { IsRowFor self.old.params controllers.old }
+        requires reading { NoneLags self.old.params.lag controllers.old }
+        requires left { length self.old.trace < self.old.params.slots }
+        requires follows { Follows script.now self.old }
+
+        ensures note { result ≡ slot_note_of (script_of script.now) (record { trace = self.old.trace; nodes = nodes_of controllers.old }) }
+        ensures trace { self.new.trace ≡ result ∷ self.old.trace }
+        ensures params { self.new.params ≡ self.old.params }
+        ensures follows { Follows script.now self.new }
+        ensures controllers { controllers.new ≡ controllers_after 0 result controllers.old }
+        ensures row { IsRowFor self.new.params controllers.new }
+    {
+        let slot = self.trace.len() as Slot;
+        let note = run_slot(slot, &self.params, controllers, &mut self.attempts, script);
+        self.tally.note(&note);
+        self.trace.push_copy(&note);
+        note
+    }
+
+    /// The notes of the slots that ran, oldest first.
+    pub fn trace(&self) -> &[SlotNote]
+        ensures { result.now ≡ reverse self.now.trace }
+    {
+        self.trace.as_slice()
+    }
+
+    /// The first slot at which the run leaves the fault hypothesis.
+    pub fn first_break(&self) -> Option<Break>
+        ensures first { result ≡ first_break self.now.params self.now.trace }
+        ensures within { (result ≡ None) ↔ IsWithin self.now.params self.now.trace }
+    {
+        self.tally.first_break()
+    }
+}

@@ -1,0 +1,86 @@
+//! What comes of the frame of a slot.
+ghost use Rattle.std.specs.Prelude.{◌≡◌, ◌<◌, ◌&&◌, not, ℕ, List};
+ghost use Rattle.cany_base.specs.Nodes.{has};
+ghost use Rattle.cany_model.specs.Slot.{exchange, lets_accept, is_success, share_of, winner};
+ghost use Rattle.cany_model.specs.State.{NodeState};
+ghost use Rattle.can_bus.specs.Contest.{IsContestOf, running_nodes};
+
+use crate::nodes::{nobody, node_id};
+use can_arbiter::Outcome;
+use can_controller::Share;
+use cany_base::{NodeSet, Slot, SlotNote, Verdict};
+
+/// Those of the running nodes that accept the frame.
+fn takers(running: NodeSet, senders: NodeSet, verdict: &Verdict) -> NodeSet
+    ensures { (i : ℕ) → has result i ≡ (has running i && not (has senders i) && lets_accept verdict.now i) }
+{
+    let receivers = running.minus(senders);
+    match verdict {
+        Verdict::Clean => receivers,
+        Verdict::Lost => NodeSet::empty(),
+        Verdict::Partial(reject) => receivers.minus(*reject),
+        Verdict::Silent(reject) => receivers.minus(*reject),
+    }
+}
+
+/// The note of the slot but for its stops.
+pub(crate) fn exchange(
+    slot: Slot,
+    running: NodeSet,
+    outcome: &Outcome,
+    verdict: &Verdict,
+) -> SlotNote
+    ensures { (nodes : List NodeState) → IsContestOf nodes outcome.now → running ≡ running_nodes nodes
+        → result ≡ exchange slot nodes verdict.now (winner nodes) }
+{
+    match outcome {
+        Outcome::Won { frame, senders } => SlotNote {
+            slot,
+            frame: Some(*frame),
+            senders: *senders,
+            takers: takers(running, *senders, verdict),
+            verdict: *verdict,
+            stops: nobody(),
+        },
+        Outcome::Idle => SlotNote {
+            slot,
+            frame: None,
+            senders: nobody(),
+            takers: nobody(),
+            verdict: Verdict::Clean,
+            stops: nobody(),
+        },
+    }
+}
+
+fn is_success(verdict: &Verdict) -> bool
+    ensures { result ≡ is_success verdict.now }
+{
+    match verdict {
+        Verdict::Clean | Verdict::Silent(_) => true,
+        Verdict::Lost | Verdict::Partial(_) => false,
+    }
+}
+
+/// What running node i did in the slot.
+#[tactic(auto, unfolding(cany_model::specs::Slot::share_of))]
+pub(crate) fn share_of(i: usize, note: &SlotNote) -> Share
+    requires { i < 32 }
+    ensures { result ≡ share_of i note.now }
+{
+    let Some(frame) = note.frame else {
+        return Share::Idle;
+    };
+    let node = node_id(i);
+    if note.senders.has(node) {
+        if is_success(&note.verdict) {
+            Share::Confirmed(frame)
+        } else {
+            Share::Errored
+        }
+    } else if note.takers.has(node) {
+        Share::Took(frame)
+    } else {
+        Share::Rejected
+    }
+}

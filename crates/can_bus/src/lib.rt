@@ -1,0 +1,18 @@
+//! The bus: one slot at a time, the controllers that run compete, the fault script says what comes of it, and each of them
+//! learns its share.
+#![tactic(auto)]
+
+mod bus;
+mod contest;
+mod exchange;
+pub mod laws;
+mod nodes;
+mod offers;
+mod ruling;
+mod seeing;
+mod sharing;
+mod slot;
+#[cfg(test)]
+mod tests;
+
+pub use bus::Bus;

@@ -1,0 +1,55 @@
+//! What the controllers offer to the bus.
+ghost use Rattle.std.specs.Prelude.{◌≡◌, ◌<◌, ◌≤◌, ◌==◌, if◌then◌else◌, ℕ, Some, None, IfSome, length, slice_get};
+ghost use Rattle.cany_base.specs.Frame.{FrameParts};
+ghost use Rattle.cany_model.specs.Slot.{least_frame, offered};
+ghost use Rattle.can_frame.specs.Identifier.{FitsFormat};
+ghost use Rattle.can_arbiter.specs.Offers.{offer_at};
+ghost use Rattle.can_controller.specs.Controller.{ControllerState, node_state};
+ghost use Rattle.can_bus.specs.Contest.{AreOffersOf, StandInOrder};
+ghost use Rattle.can_bus.specs.Row.{nodes_of};
+
+use crate::nodes::node_id;
+use can_arbiter::Offers;
+use can_controller::Controller;
+use cany_base::{Format, Frame};
+
+/// What a controller offers: if it runs, its waiting frame that wins over its others.
+fn offer_of(controller: &Controller) -> Option<Frame>
+    ensures offer { result ≡ least_frame (offered (node_state controller.now)) }
+    ensures fits { IfSome result (FitsFormat controller.now.params.format) }
+    ensures in_order { StandInOrder (offered (node_state controller.now)) }
+{
+    if controller.stopped().is_some() {
+        return None;
+    }
+    controller.best()
+}
+
+/// Puts in what the controller of node i offers.
+fn put_offer(offers: &mut Offers, i: usize, controller: &Controller)
+    requires node { i < 32 }
+    requires format { controller.now.params.format ≡ offers.old.format }
+    requires free { offer_at offers.old i ≡ None }
+    ensures format { offers.new.format ≡ offers.old.format }
+    ensures offers { (k : ℕ) → offer_at offers.new k
+        ≡ (if k == i then least_frame (offered (node_state controller.now)) else offer_at offers.old k) }
+    ensures fits { IfSome (least_frame (offered (node_state controller.now))) (FitsFormat offers.old.format) }
+    ensures in_order { StandInOrder (offered (node_state controller.now)) }
+{
+    if let Some(frame) = offer_of(controller) {
+        offers.put(node_id(i), frame);
+    }
+}
+
+/// What each running controller offers.
+pub(crate) fn offers_of(format: Format, controllers: &[Controller]) -> Offers
+    requires few { length controllers.now ≤ 32 }
+    requires format { (i : ℕ) (c : ControllerState) → slice_get controllers.now i ≡ Some c → c.params.format ≡ format }
+    ensures { AreOffersOf format (nodes_of controllers.now) result }
+{
+    let mut offers = Offers::none(format);
+    for i in 0..controllers.len() {
+        put_offer(&mut offers, i, &controllers[i]);
+    }
+    offers
+}

@@ -1,0 +1,31 @@
+//! What the fault script says of a slot.
+ghost use Rattle.std.specs.Prelude.{◌≡◌, ◌∷◌, ◌<◌, List, length};
+ghost use Rattle.cany_base.specs.declared.slot_note.SlotNote.{SlotNote};
+ghost use Rattle.cany_model.specs.Slot.{script as script_of};
+ghost use Rattle.can_fault.specs.Attempts.{AreCountsOf};
+ghost use Rattle.can_bus.specs.Contest.{frame_of};
+
+use can_arbiter::Outcome;
+use can_fault::{Attempts, Script};
+use cany_base::{NodeSet, Slot, Verdict};
+
+/// The outcome of the slot, and the nodes that the script stops at its end. The attempt is counted.
+pub(crate) fn ruling(
+    slot: Slot,
+    outcome: &Outcome,
+    attempts: &mut Attempts,
+    script: &Script,
+) -> (Verdict, NodeSet)
+    ensures ruling { (trace : List SlotNote) → AreCountsOf script.now trace attempts.old → slot ≡ length trace → slot < 1000000
+        → record { verdict = result.0; stop = result.1 } ≡ script_of script.now trace (frame_of outcome.now) }
+    ensures counts { (trace : List SlotNote) (note : SlotNote) → AreCountsOf script.now trace attempts.old
+        → note.frame ≡ frame_of outcome.now → AreCountsOf script.now (note ∷ trace) attempts.new }
+{
+    match outcome {
+        Outcome::Won { frame, .. } => {
+            let number = attempts.count(frame);
+            script.verdict(slot, Some((*frame, number)))
+        }
+        Outcome::Idle => script.verdict(slot, None),
+    }
+}

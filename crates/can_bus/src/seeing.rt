@@ -1,0 +1,54 @@
+//! What the controllers learn of a slot.
+ghost use Rattle.std.specs.Prelude.{◌≡◌, ◌<◌, ◌≤◌, None, length};
+ghost use Rattle.can_bus.specs.Contest.{seen_by, stopped_by};
+ghost use Rattle.can_bus.specs.Each.{each};
+ghost use Rattle.can_bus.specs.Row.{HaveRoom};
+
+use crate::exchange::share_of;
+use crate::nodes::node_id;
+use can_controller::Controller;
+use cany_base::{NodeSet, Slot, SlotNote};
+
+/// The controller of node i sees its share, if it runs.
+fn see_share(controller: &mut Controller, i: usize, note: &SlotNote)
+    requires node { i < 32 }
+    requires room { controller.old.stopped ≡ None → length controller.old.unread ≤ controller.old.params.lag }
+    ensures { controller.new ≡ seen_by note.now i controller.old }
+{
+    if controller.stopped().is_none() {
+        controller.see(note.slot, share_of(i, note));
+    }
+}
+
+/// Each running controller sees its share.
+pub(crate) fn see_all(controllers: &mut [Controller], note: &SlotNote)
+    requires few { length controllers.old ≤ 32 }
+    requires room { HaveRoom controllers.old }
+    ensures { controllers.new ≡ each (seen_by note.now) 0 controllers.old }
+{
+    for i in 0..controllers.len() {
+        let controller = &mut controllers[i];
+        see_share(controller, i, note);
+    }
+}
+
+/// The controller of node i stops, if the set has it.
+fn stop_one(controller: &mut Controller, i: usize, slot: Slot, stops: NodeSet)
+    requires { i < 32 }
+    ensures { controller.new ≡ stopped_by slot stops i controller.old }
+{
+    if stops.has(node_id(i)) {
+        controller.stop(slot);
+    }
+}
+
+/// The controllers of these nodes stop.
+pub(crate) fn stop_all(controllers: &mut [Controller], slot: Slot, stops: NodeSet)
+    requires { length controllers.old ≤ 32 }
+    ensures { controllers.new ≡ each (stopped_by slot stops) 0 controllers.old }
+{
+    for i in 0..controllers.len() {
+        let controller = &mut controllers[i];
+        stop_one(controller, i, slot, stops);
+    }
+}
