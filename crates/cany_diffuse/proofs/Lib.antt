@@ -1,0 +1,2 @@
+pub mod EagerFacts
+pub mod EntryFacts

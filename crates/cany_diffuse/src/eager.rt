@@ -1,0 +1,115 @@
+ghost use Rattle.std.specs.Prelude.{◌≡◌, IfOk};
+ghost use Rattle.cany_diffuse.specs.Eager.{copies_of, is_owned, is_held, spare_of, learnt_of, HasRoomFor, IsCounted, IsFresh, IsLearnt, IsOwned, IsForgotten};
+
+use crate::counts::{Counts, Entry};
+use crate::diffused::Diffused;
+use crate::learnt::Learnt;
+use cany_base::Memory;
+use std::alloc::Global;
+use std::marker::{Model, PhantomData};
+
+/// The copies of values that a node received, and which of them it sent itself: the rule of eager diffusion.
+///
+/// This project's own rule. At the first copy a node asks for the frame too, unless it has sent it itself; with more than
+/// `omit` copies it withdraws the frame.
+#[derive(Drop)]
+pub struct Eager<K: Diffused> {
+    omit: u32,
+    counts: Counts,
+    of: PhantomData<K>,
+}
+
+impl<K: Diffused> Model for Eager<K> {
+    ghost use Rattle.cany_diffuse.specs.Eager.{EagerParts};
+
+    ghost Value = { EagerParts };
+
+    ghost view = { λ e. record { omit = e.omit; room = e.counts.room; entries = e.counts.items } };
+}
+
+impl<K: Diffused> Eager<K> {
+    /// No copies, for so many omissions of a frame, with room for so many values. No later call takes memory.
+    pub fn build(alloc: Global, omit: u32, room: usize) -> Result<Eager<K>, Memory>
+        ensures { IfOk result (IsFresh omit room) }
+    {
+        let counts = Counts::build(alloc, room)?;
+        Ok(Eager {
+            omit,
+            counts,
+            of: PhantomData,
+        })
+    }
+
+    /// Counts a received copy, and says what it calls for. Once learnt, a value is there from then on.
+    pub fn learn(&mut self, k: K) -> Learnt
+        requires value { K.is_value k }
+        requires room { HasRoomFor (K.key k) self.old }
+        ensures answer { result ≡ learnt_of self.old.omit (copies_of self.new (K.key k)) (is_owned self.old (K.key k)) }
+        ensures learnt { IsLearnt (K.key k) self.old self.new }
+    {
+        let old = self.counts.noted(k.key());
+        let copies = old.copies.saturating_add(1);
+        self.counts.put(Entry { copies, ..old });
+        call_of(self.omit, copies, old.owned)
+    }
+
+    /// Notes that the node's own transmission was read. It is no copy. Once owned, a value is there from then on.
+    pub fn own(&mut self, k: K)
+        requires value { K.is_value k }
+        requires room { HasRoomFor (K.key k) self.old }
+        ensures { IsOwned (K.key k) self.old self.new }
+    {
+        let old = self.counts.noted(k.key());
+        self.counts.put(Entry { owned: true, ..old });
+    }
+
+    /// How many copies were received since the value was last forgotten.
+    pub fn copies(&self, k: &K) -> u32
+        requires value { K.is_value k.now }
+        ensures copies { result ≡ copies_of self.now (K.key k.now) }
+        ensures counted { IsCounted self.now }
+    {
+        self.counts.noted(k.key()).copies
+    }
+
+    /// Whether the value was learnt or owned since it was last forgotten.
+    pub fn holds(&self, k: &K) -> bool
+        requires value { K.is_value k.now }
+        ensures held { result ≡ is_held self.now (K.key k.now) }
+        ensures counted { IsCounted self.now }
+    {
+        self.counts.noted(k.key()).is_held()
+    }
+
+    /// Forgets what was noted of the value. It stays there: no room is given back.
+    pub fn forget(&mut self, k: &K)
+        requires value { K.is_value k.now }
+        ensures { IsForgotten (K.key k.now) self.old self.new }
+    {
+        let key = k.key();
+        if self.counts.has(key) {
+            self.counts.put(Entry::blank(key));
+        }
+    }
+
+    /// How many values more there may be.
+    pub fn spare(&self) -> usize
+        ensures spare { result ≡ spare_of self.now }
+        ensures counted { IsCounted self.now }
+    {
+        self.counts.spare()
+    }
+}
+
+/// What a copy calls for, with so many copies, this one counted, and with or without the node's own transmission.
+fn call_of(omit: u32, copies: u32, owned: bool) -> Learnt
+    ensures { result ≡ learnt_of omit copies owned }
+{
+    if copies > omit {
+        Learnt::Enough { copies }
+    } else if copies == 1 && !owned {
+        Learnt::First
+    } else {
+        Learnt::Again { copies }
+    }
+}

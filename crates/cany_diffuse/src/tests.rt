@@ -1,0 +1,116 @@
+ghost use Rattle.std.specs.Prelude.{◌≡◌, IfSome};
+
+use crate::diffused::Diffused;
+use crate::eager::Eager;
+use crate::learnt::Learnt;
+use cany_base::{Class, Frame, NodeId, Payload};
+use std::test::Fail;
+
+/// The failure sign of node 0 in a cycle.
+#[derive(Clone, Copy)]
+struct Sign {
+    cycle: u16,
+    node: NodeId,
+}
+
+impl Diffused for Sign {
+    ghost use Rattle.std.specs.Prelude.{◌≡◌, [], refl};
+    ghost use Rattle.std.proofs.Common.{sym, ◌∙◌};
+    ghost use Rattle.cany_base.specs.declared.frame.Class.TheVariants.{Fda};
+
+    ghost key = { λ s. s.cycle };
+
+    ghost form = { λ s. record { class = Fda; number = s.cycle; node = s.node; inc = 0; payload = [] } };
+
+    ghost is_value = { λ s. s.node ≡ 0 };
+
+    fn key(&self) -> u64 {
+        u64::from(self.cycle)
+    }
+
+    fn form(&self) -> Frame {
+        Frame {
+            class: Class::Fda,
+            number: self.cycle,
+            node: self.node,
+            inc: 0,
+            payload: Payload::empty(),
+        }
+    }
+
+    ghost one_name_one_key = { λ a b in_a in_b. (λ one. one.number, λ same. record { class = refl; number = same; node = in_a ∙ sym in_b }) };
+}
+
+fn sign_of(cycle: u16) -> Option<Sign>
+    ensures { IfSome result (λ s. s.node ≡ 0) }
+{
+    Some(Sign {
+        cycle,
+        node: NodeId::new(0)?,
+    })
+}
+
+/// Learns through the bound, where there is room.
+fn learn<K: Diffused>(eager: &mut Eager<K>, k: K) -> Option<Learnt>
+    requires { K.is_value k }
+{
+    if eager.spare() == 0 {
+        return None;
+    }
+    Some(eager.learn(k))
+}
+
+/// Owns through the bound, where there is room.
+fn own<K: Diffused>(eager: &mut Eager<K>, k: K)
+    requires { K.is_value k }
+{
+    if eager.spare() > 0 {
+        eager.own(k);
+    }
+}
+
+#[test]
+fn a_first_copy_is_asked_for_until_there_are_enough(rt: HostRuntime) -> Result<(), Fail> {
+    let one = sign_of(1).ok_or("node 0")?;
+    let mut eager = Eager::build(rt.alloc(), 2, 4)?;
+    assert_eq!(rt; learn(&mut eager, one), Some(Learnt::First));
+    assert_eq!(rt; learn(&mut eager, one), Some(Learnt::Again { copies: 2 }));
+    assert_eq!(rt; learn(&mut eager, one), Some(Learnt::Enough { copies: 3 }));
+    assert_eq!(rt; eager.copies(&one), 3);
+    assert_eq!(rt; eager.spare(), 3);
+    Ok(())
+}
+
+#[test]
+fn an_own_frame_is_not_asked_for_again(rt: HostRuntime) -> Result<(), Fail> {
+    let one = sign_of(1).ok_or("node 0")?;
+    let two = sign_of(2).ok_or("node 0")?;
+    let mut eager = Eager::build(rt.alloc(), 2, 4)?;
+    own(&mut eager, one);
+    assert!(rt; eager.holds(&one));
+    assert!(rt; !eager.holds(&two));
+    assert_eq!(rt; learn(&mut eager, one), Some(Learnt::Again { copies: 1 }));
+    assert_eq!(rt; learn(&mut eager, two), Some(Learnt::First));
+    Ok(())
+}
+
+#[test]
+fn a_forgotten_value_is_learnt_anew(rt: HostRuntime) -> Result<(), Fail> {
+    let one = sign_of(1).ok_or("node 0")?;
+    let mut eager = Eager::build(rt.alloc(), 2, 4)?;
+    own(&mut eager, one);
+    assert_eq!(rt; learn(&mut eager, one), Some(Learnt::Again { copies: 1 }));
+    eager.forget(&one);
+    assert!(rt; !eager.holds(&one));
+    assert_eq!(rt; eager.spare(), 3);
+    assert_eq!(rt; learn(&mut eager, one), Some(Learnt::First));
+    Ok(())
+}
+
+#[test]
+fn the_form_of_a_value_has_its_name(rt: HostRuntime) -> Result<(), Fail> {
+    let one = sign_of(1).ok_or("node 0")?;
+    assert_eq!(rt; one.form().number, 1);
+    assert_eq!(rt; one.form().class, Class::Fda);
+    Ok(())
+}
