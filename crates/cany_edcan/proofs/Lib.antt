@@ -1,0 +1,5 @@
+pub mod ActionFacts
+pub mod MessageFacts
+pub mod NoticeFacts
+pub mod PastFacts
+pub mod StandsFacts

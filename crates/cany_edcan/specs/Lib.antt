@@ -1,0 +1,3 @@
+pub mod Edcan
+pub mod EdcanSteps
+pub mod MessageNumbers
