@@ -1,0 +1,158 @@
+-- Which messages have a timer ahead.
+use Rattle.std.specs.Prelude.{nat_lt, Contains}
+use Rattle.std.proofs.Common.{◌≡◌, ℕ, zero, suc, ◌<◌, ◌==◌, ◌&&◌, ◌||◌, Bool, true, false, if◌then◌else◌, not, List, [], ◌∷◌, drop, length, refl, ap, sym, ◌∙◌, arith}
+use Rattle.std.specs.List.{list_any}
+use Rattle.std.proofs.lemmas.Bool.{and_parts, false≢true, false_from_ne_true}
+use Rattle.std.proofs.lemmas.Bool.Decides.{nat_tests}
+use Rattle.std.proofs.lemmas.List.Folds.{list_any-append}
+use Rattle.cany_base.specs.declared.frame.Class.TheVariants as class
+use Rattle.cany_base.specs.declared.message.MsgKey.{MsgKey}
+use Rattle.cany_base.specs.declared.message.Service.{Service}
+use Rattle.cany_base.specs.declared.message.Service.TheVariants as service
+use Rattle.cany_base.specs.declared.notice.NoticeKind.{NoticeKind}
+use Rattle.cany_base.specs.declared.notice.NoticeKind.TheVariants.{Idle, Got, Sent, Bad}
+use Rattle.cany_base.specs.Frame.{data_class}
+use Rattle.cany_base.specs.Scenario.{ScenarioParts}
+use Rattle.cany_diffuse.specs.Eager.{copies_of}
+use Rattle.cany_model.specs.Frames.{Identity, identity_of, is_of, same_class}
+use Rattle.cany_model.specs.History.{is_got}
+use Rattle.cany_model.specs.Messages.{Message, messages_of, message_key, data_frame}
+use Rattle.cany_model.specs.Notices.{NamesMessage}
+use Rattle.cany_model.specs.Relcan.{has_confirm, has_copy, has_timer_ahead, is_timed}
+use Rattle.cany_model.proofs.Among.{Among-drop, Among-from_any, Among-from_Contains, any-from_Among}
+use Rattle.cany_model.proofs.Identities.{same_class-true, same_identity-true}
+use Rattle.cany_model.proofs.MessageKeys.{same_message}
+use Rattle.cany_relcan.specs.declared.timers.Timer.{Timer}
+use Rattle.cany_relcan.specs.MessageNumbers.{message_number}
+use Rattle.cany_relcan.specs.Relcan.{RelcanParts, IsRelcanOf, data_identity}
+use Rattle.cany_relcan.specs.Timers.{is_timer_of, started_by, started_since}
+use Rattle.cany_relcan.proofs.PastFacts.{is_data_of}
+
+abbrev pub data_of : MsgKey → Identity
+data_of msg = data_identity msg.seq msg.origin
+
+and_none : (a b : Bool) → ((a && false) && b) ≡ false
+and_none true b = refl
+and_none false b = refl
+
+and_true : (t b : Bool) → (t && not b) ≡ ((t && true) && not b)
+and_true true b = refl
+and_true false b = refl
+
+one_timer : (starts timed got before this : Bool) → ((starts ≡ true) → this ≡ got) → (got ≡ true → starts ≡ (timed && not before))
+    → ((if starts then this || false else false) ≡ ((timed && got) && not before))
+one_timer true timed true before this same when = rw (same refl) (when refl ∙ and_true timed before)
+one_timer true timed false before this same when = rw (same refl) (sym (and_none timed (not before)))
+one_timer false timed true before this same when = when refl ∙ and_true timed before
+one_timer false timed false before this same when = sym (and_none timed (not before))
+
+timer_in : (msg : MsgKey) (timer : Timer) (starts : Bool) → list_any (is_timer_of msg) (if starts then timer ∷ [] else []) ≡ (if starts then is_timer_of msg timer || false else false)
+timer_in msg timer true = refl
+timer_in msg timer false = refl
+
+started_one : (i : ℕ) (msg : MsgKey) (notice : NoticeKind) (past : List NoticeKind)
+    → list_any (is_timer_of msg) (started_by i notice past) ≡ ((is_timed i (data_of msg) && is_got (data_of msg) notice) && not (has_copy (data_of msg) past))
+started_one i msg Idle past = sym (and_none (is_timed i (data_of msg)) (not (has_copy (data_of msg) past)))
+started_one i msg Bad past = sym (and_none (is_timed i (data_of msg)) (not (has_copy (data_of msg) past)))
+started_one i msg (Sent f) past = sym (and_none (is_timed i (data_of msg)) (not (has_copy (data_of msg) past)))
+started_one i msg (Got f) past =
+    timer_in msg (record { frame = f; first = length past }) (is_timed i (identity_of f) && not (has_copy (identity_of f) past))
+    ∙ one_timer (is_timed i (identity_of f) && not (has_copy (identity_of f) past)) (is_timed i (data_of msg)) (is_of (data_of msg) f) (has_copy (data_of msg) past)
+    (msg.seq == f.number && msg.origin == f.node)
+    (λ starts.
+    let timed = (and_parts (is_timed i (identity_of f)) (not (has_copy (identity_of f) past)) starts).0 in
+    let rel = same_class-true f.class class.Rel (and_parts (same_class f.class class.Rel) (not (f.node == i)) timed).0 in
+    sym (is_data_of msg.seq msg.origin f rel))
+    (λ this. ap (λ x. is_timed i x && not (has_copy x past)) (sym (same_identity-true (data_of msg) (identity_of f) this)))
+
+dropped_copy : (x : Identity) (n : ℕ) (past : List NoticeKind) → has_copy x (drop n past) ≡ true → has_copy x past ≡ true
+dropped_copy x n past h = any-from_Among (is_got x) past (Among-drop (λ e. is_got x e ≡ true) n past (Among-from_any (is_got x) (drop n past) h))
+
+recent : (t c d g : Bool) → (d ≡ true → c ≡ true) → (((t && c) && not d) || ((t && g) && not c)) ≡ ((t && (g || c)) && not d)
+recent false c d g h = refl
+recent true true true true h = refl
+recent true true true false h = refl
+recent true true false true h = refl
+recent true true false false h = refl
+recent true false true g h = absurd (false≢true (h refl))
+recent true false false true h = refl
+recent true false false false h = refl
+
+-- the timers that the newest n notices started
+running_is : (i n : ℕ) (msg : MsgKey) (past : List NoticeKind)
+    → list_any (is_timer_of msg) (started_since i n past) ≡ ((is_timed i (data_of msg) && has_copy (data_of msg) past) && not (has_copy (data_of msg) (drop n past)))
+unfolding started_since
+running_is i zero msg past = none (is_timed i (data_of msg)) (has_copy (data_of msg) past)
+  where
+    none : (t c : Bool) → false ≡ ((t && c) && not c)
+    none true true = refl
+    none true false = refl
+    none false c = refl
+running_is i (suc n) msg [] = none (is_timed i (data_of msg))
+  where
+    none : (t : Bool) → false ≡ ((t && false) && true)
+    none true = refl
+    none false = refl
+running_is i (suc n) msg (notice ∷ before) =
+    list_any-append (is_timer_of msg) (started_since i n before) (started_by i notice before)
+    ∙ ap (λ b. b || list_any (is_timer_of msg) (started_by i notice before)) (running_is i n msg before)
+    ∙ ap (λ b. ((is_timed i (data_of msg) && has_copy (data_of msg) before) && not (has_copy (data_of msg) (drop n before))) || b) (started_one i msg notice before)
+    ∙ recent (is_timed i (data_of msg)) (has_copy (data_of msg) before) (has_copy (data_of msg) (drop n before)) (is_got (data_of msg) notice) (dropped_copy (data_of msg) n before)
+
+-- ---- whether a timer of a message lies ahead
+
+pub none_read : (copies : ℕ) → (copies == 0) ≡ not (nat_lt 0 copies)
+none_read copies = grind (arith, nat_tests)
+
+abbrev is_ahead : ℕ → ℕ → Identity → List NoticeKind → Bool
+is_ahead confirm i x past = is_timed i x && has_copy x past && not (has_copy x (drop confirm past)) && not (has_confirm x past)
+
+not_timed : (t a b c : Bool) → t ≡ false → (((t && a) && b) && c) ≡ false
+not_timed t a b c is = rw is refl
+
+-- the message of a timer that runs is one of RELCAN
+running_named : (scenario : ScenarioParts) (i : ℕ) (past : List NoticeKind) (v : RelcanParts) (msg : MsgKey) → IsRelcanOf scenario i past v
+    → list_any (is_timer_of msg) v.timers.running ≡ true → NamesMessage scenario service.Rel (record { class = class.Rel; number = msg.seq; node = msg.origin; inc = 0; payload = [] })
+running_named scenario i past v msg h runs =
+    let started : ((is_timed i (data_of msg) && has_copy (data_of msg) past) && not (has_copy (data_of msg) (drop scenario.params.confirm past))) ≡ true =
+    sym (ap (list_any (is_timer_of msg)) h.timers ∙ running_is i scenario.params.confirm msg past) ∙ runs in
+    let here = and_parts (is_timed i (data_of msg) && has_copy (data_of msg) past) (not (has_copy (data_of msg) (drop scenario.params.confirm past))) started in
+    let copy = and_parts (is_timed i (data_of msg)) (has_copy (data_of msg) past) here.0 in
+    h.tables.named (record { class = class.Rel; number = msg.seq; node = msg.origin; inc = 0; payload = [] }) refl copy.1
+
+module _ (scenario : ScenarioParts) (i : ℕ) (past : List NoticeKind) (v : RelcanParts) (m : Message) (msg : MsgKey) (h : IsRelcanOf scenario i past v)
+    (stands : Contains (messages_of scenario.sends) m) (key : message_key m ≡ msg) where
+  same_service : NamesMessage scenario service.Rel (record { class = class.Rel; number = msg.seq; node = msg.origin; inc = 0; payload = [] }) → m.service ≡ service.Rel
+  same_service named =
+      let same : named.message ≡ m = same_message scenario.sends named.message m
+      (Among-from_Contains (messages_of scenario.sends) named.message named.stands) (Among-from_Contains (messages_of scenario.sends) m stands)
+      (named.origin ∙ sym (ap (λ (k : MsgKey). k.origin) key)) (named.number ∙ sym (ap (λ (k : MsgKey). k.seq) key)) in
+      ap (λ (k : Message). k.service) (sym same) ∙ named.sent_by
+
+  ahead_none : same_class (data_class m.service) class.Rel ≡ false → (m.service ≡ service.Rel → ⊥)
+      → (list_any (is_timer_of msg) v.timers.running && not (nat_lt 0 (copies_of v.confirms (message_number msg.seq msg.origin)))) ≡ has_timer_ahead scenario m i past
+  ahead_none other apart =
+      let x : Identity = identity_of (data_frame m) in
+      let rests : list_any (is_timer_of msg) v.timers.running ≡ false =
+      false_from_ne_true (list_any (is_timer_of msg) v.timers.running) (λ runs. apart (same_service (running_named scenario i past v msg h runs))) in
+      let timed : is_timed i x ≡ false = rw other refl in
+      (rw rests refl) ∙ sym (not_timed (is_timed i x) (has_copy x past) (not (has_copy x (drop scenario.params.confirm past))) (not (has_confirm x past)) timed)
+
+  ahead_rel : m.service ≡ service.Rel → msg.origin < 32
+      → (list_any (is_timer_of msg) v.timers.running && not (nat_lt 0 (copies_of v.confirms (message_number msg.seq msg.origin)))) ≡ has_timer_ahead scenario m i past
+  ahead_rel is small =
+      let x_is : identity_of (data_frame m) ≡ data_of msg = λ k. record { class = data_class (is k); number = (key k).seq; node = (key k).origin } in
+      ap (λ b. b && not (nat_lt 0 (copies_of v.confirms (message_number msg.seq msg.origin)))) (ap (list_any (is_timer_of msg)) h.timers ∙ running_is i scenario.params.confirm msg past)
+      ∙ ap (λ b. ((is_timed i (data_of msg) && has_copy (data_of msg) past) && not (has_copy (data_of msg) (drop scenario.params.confirm past))) && not b) (h.tables.confirms msg.seq msg.origin small)
+      ∙ ap (λ x. is_ahead scenario.params.confirm i x past) (sym x_is)
+
+  ahead_by : (by : Service) → m.service ≡ by → msg.origin < 32
+      → (list_any (is_timer_of msg) v.timers.running && not (nat_lt 0 (copies_of v.confirms (message_number msg.seq msg.origin)))) ≡ has_timer_ahead scenario m i past
+  unfolding same_class
+  ahead_by service.Ed is small = ahead_none (ap (λ s. same_class (data_class s) class.Rel) is) (λ rel. let no' : service.Ed ≡ service.Rel = sym is ∙ rel in cc)
+  ahead_by service.Tot is small = ahead_none (ap (λ s. same_class (data_class s) class.Rel) is) (λ rel. let no' : service.Tot ≡ service.Rel = sym is ∙ rel in cc)
+  ahead_by service.Rel is small = ahead_rel is small
+
+  pub ahead_is : msg.origin < 32
+      → (list_any (is_timer_of msg) v.timers.running && not (nat_lt 0 (copies_of v.confirms (message_number msg.seq msg.origin)))) ≡ has_timer_ahead scenario m i past
+  ahead_is small = ahead_by m.service refl small

@@ -1,0 +1,260 @@
+-- The value after the timer that ends in the turn of a notice.
+use Rattle.std.specs.Prelude.{nat_lt, nat_le, IfSome}
+use Rattle.std.proofs.Common.{◌≡◌, ℕ, suc, ◌+◌, ◌-◌, ◌<◌, ◌≤◌, ◌==◌, ◌&&◌, ◌||◌, Bool, true, false, if◌then◌else◌, not, inl, inr, List, [], ◌∷◌, ◌++◌, drop, length, Option, Some, None, refl, ap, sym, ◌∙◌, arith, length-append, append_assoc}
+use Rattle.std.specs.List.{list_any}
+use Rattle.std.proofs.lemmas.Bool.{cases_Bool}
+use Rattle.std.proofs.lemmas.List.{map-append}
+use Rattle.std.proofs.lemmas.List.Folds.{list_any-append}
+use Rattle.std.proofs.lemmas.Bool.Decides.{nat_tests}
+use Rattle.cany_base.specs.declared.actions.Action.{Action}
+use Rattle.cany_base.specs.declared.frame.Class.TheVariants as class
+use Rattle.cany_base.specs.declared.notice.NoticeKind.{NoticeKind}
+use Rattle.cany_base.specs.Frame.{FrameParts}
+use Rattle.cany_base.specs.Params.{Parameters}
+use Rattle.cany_base.specs.Scenario.{ScenarioParts}
+use Rattle.cany_model.specs.Actions.{action_of, actions_of}
+use Rattle.cany_model.specs.Eager.{has_enough}
+use Rattle.cany_model.specs.Effect.{Ask}
+use Rattle.cany_model.specs.Frames.{identity_of, is_of}
+use Rattle.cany_model.specs.History.{copies}
+use Rattle.cany_model.specs.Relcan.{fell_back, has_confirm, relcan_at, relcan_effects, timer_effects}
+use Rattle.cany_model.proofs.Identities.{same_identity-true}
+use Rattle.cany_relcan.specs.declared.timers.Timer.{Timer}
+use Rattle.cany_relcan.specs.Relcan.{RelcanParts, HasCopiesOf, HasFallenOf, HasHeard, IsRelcanOf, data_identity, is_key_of}
+use Rattle.cany_relcan.specs.RelcanSteps.{after_timer, ask_actions, asks_at_end, due_frame, is_confirmed, marked, timer_actions, without_due}
+use Rattle.cany_relcan.specs.Timers.{oldest_from, without_from, started_by, started_since}
+use Rattle.cany_relcan.proofs.HeardFacts.{identity_is}
+use Rattle.cany_relcan.proofs.PastFacts.{is_data_of}
+use Rattle.cany_relcan.proofs.TimerFacts.{EndsWith, ends_with, due_class, end_effects, falls_with, fell_back-more, first_frame, started_now, timer_effects-is}
+
+-- ---- how many timers run on
+
+length-without_from : (slot : ℕ) (timers : List Timer) → length (without_from slot timers) ≤ length timers
+length-without_from slot [] = omega arith
+length-without_from slot (t ∷ timers) = go (t.first == slot)
+  where
+    go : (b : Bool) → length (if b then timers else t ∷ timers) ≤ suc (length timers)
+    go true = omega arith
+    go false = omega arith
+
+length-after_oldest : (slot : ℕ) (timers : List Timer) (f : FrameParts) → oldest_from slot timers ≡ Some f → length (without_from slot timers) + 1 ≡ length timers
+length-after_oldest slot [] f is = absurd (cc)
+length-after_oldest slot (t ∷ timers) f is = go (t.first == slot) is
+  where
+    go : (b : Bool) → (if b then Some t.frame else None) ≡ Some f → length (if b then timers else t ∷ timers) + 1 ≡ suc (length timers)
+    go true at = omega arith
+    go false at = absurd (cc)
+
+run_on : (early : Bool) (slot : ℕ) (timers : List Timer) → length (if early then timers else without_from slot timers) ≤ length timers
+run_on true slot timers = omega arith
+run_on false slot timers = length-without_from slot timers
+
+run_on_one : (early : Bool) (slot : ℕ) (timers : List Timer) (f : FrameParts) → (if early then None else oldest_from slot timers) ≡ Some f
+    → length (if early then timers else without_from slot timers) + 1 ≡ length timers
+run_on_one true slot timers f is = absurd (cc)
+run_on_one false slot timers f is = length-after_oldest slot timers f is
+
+marked_fits : (confirmed : Bool) (f : FrameParts) (v : RelcanParts) (n : ℕ)
+    → length v.fallen.items + length v.timers.running + v.timers.spare ≤ v.fallen.room → n + 1 ≡ length v.timers.running
+    → length (if confirmed then v.fallen else marked f v.fallen).items + n + v.timers.spare ≤ (if confirmed then v.fallen else marked f v.fallen).room
+marked_fits true f v n fit one = omega (arith, fit, one)
+marked_fits false f v n fit one = omega (arith, fit, one, length-append v.fallen.items (record { origin = f.node; seq = f.number } ∷ []))
+
+fallen_fits : (slot : ℕ) (v : RelcanParts) (due : Option FrameParts) → due_frame slot v ≡ due
+    → length v.fallen.items + length v.timers.running + v.timers.spare ≤ v.fallen.room
+    → length (after_timer due (without_due slot v)).fallen.items + length (after_timer due (without_due slot v)).timers.running + (after_timer due (without_due slot v)).timers.spare
+    ≤ (after_timer due (without_due slot v)).fallen.room
+fallen_fits slot v None is fit = omega (arith, fit, run_on (nat_lt slot v.confirm) (slot - v.confirm) v.timers.running)
+fallen_fits slot v (Some f) is fit =
+    marked_fits (is_confirmed v f) f v (length (without_due slot v).timers.running) fit
+    (run_on_one (nat_lt slot v.confirm) (slot - v.confirm) v.timers.running f is)
+
+-- ---- the messages for which the node fell back
+
+module _ (scenario : ScenarioParts) (i : ℕ) (past : List NoticeKind) (v : RelcanParts) (h : HasCopiesOf scenario i past v) where
+  confirmed_is : (f : FrameParts) → f.node < 32 → is_confirmed v f ≡ has_confirm (data_identity f.number f.node) past
+  confirmed_is f small = h.confirms f.number f.node small
+
+  fallen_then : (fallen c : Bool) (this : Bool) → ((this && not c) || fallen) ≡ (if c then fallen else (fallen || (this || false)))
+  fallen_then true true this = go this
+    where
+      go : (b : Bool) → ((b && false) || true) ≡ true
+      go true = refl
+      go false = refl
+  fallen_then false true this = go this
+    where
+      go : (b : Bool) → ((b && false) || false) ≡ false
+      go true = refl
+      go false = refl
+  fallen_then true false this = go this
+    where
+      go : (b : Bool) → ((b && true) || true) ≡ true
+      go true = refl
+      go false = refl
+  fallen_then false false this = go this
+    where
+      go : (b : Bool) → ((b && true) || false) ≡ (b || false)
+      go true = refl
+      go false = refl
+
+  marked_when : (s o : ℕ) (f : FrameParts) (c : Bool)
+      → list_any (is_key_of s o) (if c then v.fallen else marked f v.fallen).items
+      ≡ (if c then list_any (is_key_of s o) v.fallen.items else (list_any (is_key_of s o) v.fallen.items || ((s == f.number && o == f.node) || false)))
+  marked_when s o f true = refl
+  marked_when s o f false = list_any-append (is_key_of s o) v.fallen.items (record { origin = f.node; seq = f.number } ∷ [])
+
+  same_confirm : (s o : ℕ) (f : FrameParts) → f.class ≡ class.Rel → is_of (data_identity s o) f ≡ true → has_confirm (data_identity s o) past ≡ has_confirm (data_identity f.number f.node) past
+  same_confirm s o f class is = ap (λ x. has_confirm x past) (same_identity-true (data_identity s o) (identity_of f) is ∙ identity_is f class)
+
+  falls_same : (s o : ℕ) (f : FrameParts) → f.class ≡ class.Rel → falls_with (Some f) (data_identity s o) (has_confirm (data_identity s o) past)
+      ≡ (is_of (data_identity s o) f && not (has_confirm (data_identity f.number f.node) past))
+  falls_same s o f class = elim (cases_Bool (is_of (data_identity s o) f)) [
+    | inl this ↦ rw (this, same_confirm s o f class this) refl
+    | inr other ↦ rw other refl
+  ]
+
+  fallen_after : (due : Option FrameParts) → IfSome due (λ f. f.node < 32) → ((f : FrameParts) → due ≡ Some f → f.class ≡ class.Rel) → (s o : ℕ)
+      → list_any (is_key_of s o) (after_timer due v).fallen.items ≡ (falls_with due (data_identity s o) (has_confirm (data_identity s o) past) || list_any (is_key_of s o) v.fallen.items)
+  fallen_after None small class s o = refl
+  fallen_after (Some f) small class s o =
+      let rel = class f refl in
+      marked_when s o f (is_confirmed v f)
+      ∙ sym (fallen_then (list_any (is_key_of s o) v.fallen.items) (is_confirmed v f) (s == f.number && o == f.node))
+      ∙ ap (λ b. (b && not (is_confirmed v f)) || list_any (is_key_of s o) v.fallen.items) (sym (is_data_of s o f rel))
+      ∙ ap (λ c. (is_of (data_identity s o) f && not c) || list_any (is_key_of s o) v.fallen.items) (confirmed_is f small)
+      ∙ ap (λ b. b || list_any (is_key_of s o) v.fallen.items) (sym (falls_same s o f rel))
+
+  -- ---- actions
+
+  few_is : (omit c : ℕ) → not (nat_lt omit c) ≡ not (nat_le (omit + 1) c)
+  few_is omit c = grind (arith, nat_tests)
+
+  ask_if : (b : Bool) (f : FrameParts) → ask_actions b f ≡ actions_of (if b then Ask f ∷ [] else [])
+  ask_if true f = refl
+  ask_if false f = refl
+
+  end_actions : (p : Parameters) (due : Option FrameParts) → v.omit ≡ p.omit → IfSome due (λ f. f.node < 32) → ((f : FrameParts) → due ≡ Some f → f.class ≡ class.Rel)
+      → timer_actions due v ≡ actions_of (end_effects p past due)
+  end_actions p None omit small class = refl
+  end_actions p (Some f) omit small class =
+      let rel = class f refl in
+      ask_if (asks_at_end v f) f
+      ∙ ap (λ b. actions_of (if b then Ask f ∷ [] else []))
+      (rw (confirmed_is f small, h.copies f.number f.node small, omit, few_is p.omit (copies (data_identity f.number f.node) past)) refl
+      ∙ ap (λ x. not (has_confirm x past) && not (has_enough p.omit x past)) (sym (identity_is f rel)))
+
+-- ---- the turn
+
+-- what ends in the turn of a notice that was heard
+record Ends (scenario : ScenarioParts) (i slot n : ℕ) (notice : NoticeKind) (past : List NoticeKind) (v : RelcanParts) : Type 0 where
+  is : scenario.params.confirm ≡ suc n
+  due : due_frame slot v ≡ first_frame (started_now i (drop n past))
+  rest : (without_due slot v).timers.running ≡ started_since i (suc n) (notice ∷ past)
+
+ends : (scenario : ScenarioParts) (i slot : ℕ) (notice : NoticeKind) (past : List NoticeKind) (v : RelcanParts) → HasHeard scenario i notice past v → slot ≡ length past
+    → Ends scenario i slot (scenario.params.confirm - 1) notice past v
+ends scenario i slot notice past v h at =
+    let is : scenario.params.confirm ≡ suc (scenario.params.confirm - 1) = omega (arith, h.limits.legal.in_range.confirm.0) in
+    let same : v.confirm ≡ suc (scenario.params.confirm - 1) = h.limits.confirm ∙ is in
+    let running = h.timers ∙ ap (λ n. started_since i n past ++ started_by i notice past) is in
+    let e : EndsWith i (scenario.params.confirm - 1) notice past v.timers.running = ends_with i (scenario.params.confirm - 1) notice past v.timers.running running in
+    record {
+      is = is;
+      due = rw (same, at) (e.due);
+      rest = rw (same, at) (e.rest);
+    }
+
+due_rel : (scenario : ScenarioParts) (i slot n : ℕ) (notice : NoticeKind) (past : List NoticeKind) (v : RelcanParts) → Ends scenario i slot n notice past v
+    → (f : FrameParts) → due_frame slot v ≡ Some f → f.class ≡ class.Rel
+due_rel scenario i slot n notice past v e f is = due_class i (drop n past) f (sym e.due ∙ is)
+
+tables_of : (scenario : ScenarioParts) (i slot : ℕ) (past : List NoticeKind) (v : RelcanParts) → HasCopiesOf scenario i past v → HasCopiesOf scenario i past (without_due slot v)
+tables_of scenario i slot past v h = record {
+  copies = h.copies;
+  owned = h.owned;
+  held = h.held;
+  messages = h.messages;
+  confirms = h.confirms;
+  confirmed = h.confirmed;
+  named = h.named;
+}
+
+fallen_is : (scenario : ScenarioParts) (i slot n : ℕ) (notice : NoticeKind) (past : List NoticeKind) (v : RelcanParts) → HasHeard scenario i notice past v
+    → Ends scenario i slot n notice past v → (due : Option FrameParts) → due_frame slot v ≡ due → IfSome due (λ f. f.node < 32)
+    → HasFallenOf scenario.params.confirm i (notice ∷ past) (after_timer due (without_due slot v))
+fallen_is scenario i slot n notice past v h e due is small s o =
+    fallen_after scenario i (notice ∷ past) (without_due slot v) (tables_of scenario i slot (notice ∷ past) v h.tables) due small
+    (λ f at. due_rel scenario i slot n notice past v e f (is ∙ at)) s o
+    ∙ ap (λ d. falls_with d (data_identity s o) (has_confirm (data_identity s o) (notice ∷ past)) || list_any (is_key_of s o) v.fallen.items) (sym is ∙ e.due)
+    ∙ ap (λ b. falls_with (first_frame (started_now i (drop n past))) (data_identity s o) (has_confirm (data_identity s o) (notice ∷ past)) || b)
+    (h.fallen s o ∙ ap (λ k. fell_back k i (data_identity s o) past) e.is)
+    ∙ sym (fell_back-more i n (data_identity s o) notice past)
+    ∙ ap (λ k. fell_back k i (data_identity s o) (notice ∷ past)) (sym e.is)
+
+ended : (scenario : ScenarioParts) (i slot n : ℕ) (notice : NoticeKind) (past : List NoticeKind) (v : RelcanParts) → HasHeard scenario i notice past v
+    → Ends scenario i slot n notice past v → (due : Option FrameParts) → due_frame slot v ≡ due → IfSome due (λ f. f.node < 32)
+    → IsRelcanOf scenario i (notice ∷ past) (after_timer due (without_due slot v))
+ended scenario i slot n notice past v h e None is small = record {
+  limits = record {
+    legal = h.limits.legal;
+    node = h.limits.node;
+    omit = h.limits.omit;
+    confirm = h.limits.confirm;
+    copies_omit = h.limits.copies_omit;
+    copies_room = h.limits.copies_room;
+    confirms_room = h.limits.confirms_room;
+    timers_room = h.limits.timers_room;
+    fallen_room = fallen_fits slot v None is h.limits.fallen_room;
+  };
+  tables = tables_of scenario i slot (notice ∷ past) v h.tables;
+  timers = e.rest ∙ ap (λ k. started_since i k (notice ∷ past)) (sym e.is);
+  fallen = fallen_is scenario i slot n notice past v h e None is small;
+}
+ended scenario i slot n notice past v h e (Some f) is small = record {
+  limits = record {
+    legal = h.limits.legal;
+    node = h.limits.node;
+    omit = h.limits.omit;
+    confirm = h.limits.confirm;
+    copies_omit = h.limits.copies_omit;
+    copies_room = h.limits.copies_room;
+    confirms_room = h.limits.confirms_room;
+    timers_room = h.limits.timers_room;
+    fallen_room = fallen_fits slot v (Some f) is h.limits.fallen_room;
+  };
+  tables = record {
+    copies = h.tables.copies;
+    owned = h.tables.owned;
+    held = h.tables.held;
+    messages = h.tables.messages;
+    confirms = h.tables.confirms;
+    confirmed = h.tables.confirmed;
+    named = h.tables.named;
+  };
+  timers = e.rest ∙ ap (λ k. started_since i k (notice ∷ past)) (sym e.is);
+  fallen = fallen_is scenario i slot n notice past v h e (Some f) is small;
+}
+
+pub ended_stands : (scenario : ScenarioParts) (i slot : ℕ) (notice : NoticeKind) (past : List NoticeKind) (v w : RelcanParts) → HasHeard scenario i notice past v → slot ≡ length past
+    → IfSome (due_frame slot v) (λ f. f.node < 32) → w ≡ after_timer (due_frame slot v) (without_due slot v) → IsRelcanOf scenario i (notice ∷ past) w
+ended_stands scenario i slot notice past v w h at small state =
+    rw state (ended scenario i slot (scenario.params.confirm - 1) notice past v h (ends scenario i slot notice past v h at) (due_frame slot v) refl small)
+
+pub turn_actions : (scenario : ScenarioParts) (i slot : ℕ) (notice : NoticeKind) (past : List NoticeKind) (v : RelcanParts) (before middle after : List Action)
+    → HasHeard scenario i notice past v → slot ≡ length past → IfSome (due_frame slot v) (λ f. f.node < 32)
+    → middle ≡ before ++ actions_of (relcan_at scenario.params i notice past) → after ≡ middle ++ timer_actions (due_frame slot v) v
+    → after ≡ before ++ actions_of (relcan_effects scenario i (notice ∷ past))
+unfolding relcan_effects
+turn_actions scenario i slot notice past v before middle after h at small first second =
+    let n : ℕ = scenario.params.confirm - 1 in
+    let e : Ends scenario i slot n notice past v = ends scenario i slot notice past v h at in
+    let timer : timer_actions (due_frame slot v) v ≡ actions_of (timer_effects scenario.params i (notice ∷ past)) =
+    end_actions scenario i (notice ∷ past) v h.tables scenario.params (due_frame slot v) h.limits.omit small (due_rel scenario i slot n notice past v e)
+    ∙ ap (λ d. actions_of (end_effects scenario.params (notice ∷ past) d)) e.due
+    ∙ ap actions_of (sym (timer_effects-is scenario.params i n notice past e.is)) in
+    second
+    ∙ ap (λ actions. actions ++ timer_actions (due_frame slot v) v) first
+    ∙ append_assoc before (actions_of (relcan_at scenario.params i notice past)) (timer_actions (due_frame slot v) v)
+    ∙ ap (λ actions. before ++ actions)
+    (ap (λ actions. actions_of (relcan_at scenario.params i notice past) ++ actions) timer
+    ∙ sym (map-append action_of (relcan_at scenario.params i notice past) (timer_effects scenario.params i (notice ∷ past))))

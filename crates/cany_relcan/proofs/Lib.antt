@@ -1,0 +1,12 @@
+pub mod ActionFacts
+pub mod AheadFacts
+pub mod CopiesFacts
+pub mod EndFacts
+pub mod HearFacts
+pub mod HeardFacts
+pub mod Lists
+pub mod MessageFacts
+pub mod NoticeFacts
+pub mod OneBroadcast
+pub mod PastFacts
+pub mod TimerFacts

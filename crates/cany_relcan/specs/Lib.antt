@@ -1,0 +1,4 @@
+pub mod MessageNumbers
+pub mod Relcan
+pub mod RelcanSteps
+pub mod Timers

@@ -1,0 +1,14 @@
+//! RELCAN: a node delivers a message at its first copy, the origin confirms it, and a node that reads no confirmation in
+//! time falls back to sending the data frame itself.
+#![tactic(auto)]
+
+mod actions;
+mod confirmation;
+mod data;
+mod relcan;
+mod sharing;
+#[cfg(test)]
+mod tests;
+mod timers;
+
+pub use relcan::Relcan;

@@ -1,0 +1,308 @@
+ghost use Rattle.std.specs.Prelude.{◌≡◌, ℕ, ◌+◌, ◌-◌, ◌<◌, ◌≤◌, ◌==◌, ◌&&◌, [], ◌∷◌, ◌++◌, not, nat_lt, nat_le, reverse, length, if◌then◌else◌, IsTrue, List, replicate, Contains, Some, IfSome, IfOk};
+ghost use Rattle.std.specs.List.{list_any};
+ghost use Rattle.cany_base.specs.declared.actions.Action.TheVariants as action;
+ghost use Rattle.cany_base.specs.declared.frame.Class.TheVariants as class;
+ghost use Rattle.cany_base.specs.declared.message.Service.TheVariants as service;
+ghost use Rattle.cany_base.specs.declared.notice.NoticeKind.{NoticeKind};
+ghost use Rattle.cany_base.specs.declared.notice.NoticeKind.TheVariants.{Idle, Got, Sent};
+ghost use Rattle.cany_base.specs.Frame.{FrameParts};
+ghost use Rattle.cany_base.specs.Scenario.{ScenarioParts};
+ghost use Rattle.cany_diffuse.specs.Eager.{copies_of, is_owned, learnt_of, IsCounted, IsLearnt, IsOwned};
+ghost use Rattle.cany_model.specs.Actions.{actions_of};
+ghost use Rattle.cany_model.specs.Frames.{same_class};
+ghost use Rattle.cany_model.specs.Messages.{Message, messages_of, message_key};
+ghost use Rattle.cany_model.specs.Notices.{IsNextNotice};
+ghost use Rattle.cany_model.specs.Relcan.{confirm_frame, has_timer_ahead, relcan_at, relcan_effects, timer_effects};
+ghost use Rattle.cany_relcan.specs.Relcan.{IsRelcanOf, HasHeard, CanHear, is_key_of};
+ghost use Rattle.cany_relcan.specs.RelcanSteps.{after_timer, ask_actions, asks_at_end, CanTake, delivery_actions, due_frame, frame_number, is_confirmed, is_enough, is_fallen, IsNoted, marked, starts_timer, timer_actions, timers_with, was_delivered, withdraw_actions, without_due};
+
+use crate::actions::{deliver, withdraw};
+use crate::confirmation::{Confirmation, is_confirmation};
+use crate::data::{Data, is_data};
+use crate::timers::{Timer, Timers};
+use cany_base::{
+    Action, Actions, BoundedVec, Frame, Memory, MsgKey, NodeId, Notice, NoticeKind, Payload,
+    Scenario, Slot,
+};
+use cany_diffuse::{Diffused, Eager, Learnt};
+use std::alloc::Global;
+use std::marker::Model;
+
+/// RELCAN at one node: which messages it delivered, which confirmations it read, the timers that run, and for which messages
+/// it fell back.
+///
+/// This project's own rule. A node delivers a message at its first copy of the data frame, or at its own transmission if it
+/// is the origin, which then asks for the confirmation. At every other node the first copy starts a timer of `confirm` slots.
+/// If no confirmation was read when it runs out, the node falls back: it asks for the data frame itself unless it has more
+/// than `omit` copies, and withdraws it once it has.
+#[derive(Drop)]
+pub struct Relcan {
+    node: NodeId,
+    omit: u32,
+    confirm: u64,
+    copies: Eager<Data>,
+    confirms: Eager<Confirmation>,
+    timers: Timers,
+    /// The messages for which the node fell back.
+    fallen: BoundedVec<MsgKey>,
+}
+
+impl Model for Relcan {
+    ghost use Rattle.cany_relcan.specs.Relcan.{RelcanParts};
+
+    ghost Value = { RelcanParts };
+
+    ghost view = { λ r. record { node = r.node; omit = r.omit; confirm = r.confirm; copies = r.copies; confirms = r.confirms; timers = r.timers; fallen = r.fallen } };
+}
+
+impl Relcan {
+    /// The RELCAN of a node that has read nothing, or only notices of idle slots, with room for all messages of the scenario.
+    pub fn build(alloc: Global, node: NodeId, scenario: &Scenario) -> Result<Relcan, Memory>
+        requires { node < scenario.now.params.nodes }
+        ensures { IfOk result (λ relcan. (n : ℕ) → IsRelcanOf scenario.now node (replicate n Idle) relcan) }
+    {
+        let params = *scenario.params();
+        let room = scenario.sends().len();
+        let copies = Eager::build(alloc, params.omit, room)?;
+        let confirms = Eager::build(alloc, params.omit, room)?;
+        let timers = Timers::build(alloc, room)?;
+        let fallen = BoundedVec::build(alloc, room)?;
+        Ok(Relcan {
+            node,
+            omit: params.omit,
+            confirm: params.confirm,
+            copies,
+            confirms,
+            timers,
+            fallen,
+        })
+    }
+
+    /// The node, which is the origin, broadcasts the message: it asks for its data frame.
+    pub fn send(&mut self, msg: MsgKey, payload: Payload, out: &mut Actions)
+        requires { length out.old.items < out.old.room }
+        ensures state { self.new ≡ self.old }
+        ensures asks { let f : FrameParts = record { class = class.Rel; number = msg.seq; node = msg.origin; inc = 0; payload = payload } in
+            out.new ≡ record out.old { items = out.old.items ++ action.Ask f ∷ [] } }
+    {
+        let data = Data { msg, payload };
+        out.push(Action::Ask(data.form()));
+    }
+
+    /// What RELCAN does at a notice, and when the timer runs out that is due in its slot. The notices of the slots before the
+    /// first that a value is given count as idle ones.
+    ///
+    /// At most three actions are appended.
+    pub fn on(&mut self, notice: &Notice, out: &mut Actions)
+        requires hears { CanHear self.old notice.now }
+        requires room { length out.old.items + 3 ≤ out.old.room }
+        ensures actions { (scenario : ScenarioParts) (past : List NoticeKind) → IsRelcanOf scenario self.old.node past self.old → IsNextNotice scenario past notice.now
+            → out.new.items ≡ out.old.items ++ actions_of (relcan_effects scenario self.old.node (notice.now.kind ∷ past)) }
+        ensures stands { (scenario : ScenarioParts) (past : List NoticeKind) → IsRelcanOf scenario self.old.node past self.old → IsNextNotice scenario past notice.now
+            → IsRelcanOf scenario self.old.node (notice.now.kind ∷ past) self.new }
+        ensures few { length out.new.items ≤ length out.old.items + 3 }
+        ensures room { out.new.room ≡ out.old.room }
+    {
+        self.hear(notice, out);
+        self.end_timer(notice.slot, out);
+    }
+
+    /// Whether a timer of the message lies ahead at this node: it runs, and no confirmation was read.
+    pub fn ahead(&self, msg: MsgKey) -> bool
+        ensures { (scenario : ScenarioParts) (past : List NoticeKind) (m : Message) → IsRelcanOf scenario self.now.node past self.now
+            → Contains (messages_of scenario.sends) m → message_key m ≡ msg → result ≡ has_timer_ahead scenario m self.now.node past }
+    {
+        let _origin = msg.origin.get();
+        if !self.timers.is_running(&msg) {
+            return false;
+        }
+        let confirmation = Confirmation { msg };
+        self.confirms.copies(&confirmation) == 0
+    }
+
+    /// What RELCAN does at a notice, whatever timers are due.
+    fn hear(&mut self, notice: &Notice, out: &mut Actions)
+        requires hears { CanHear self.old notice.now }
+        requires room { length out.old.items + 2 ≤ out.old.room }
+        ensures actions { (scenario : ScenarioParts) (past : List NoticeKind) → IsRelcanOf scenario self.old.node past self.old → IsNextNotice scenario past notice.now
+            → out.new.items ≡ out.old.items ++ actions_of (relcan_at scenario.params self.old.node notice.now.kind past) }
+        ensures stands { (scenario : ScenarioParts) (past : List NoticeKind) → IsRelcanOf scenario self.old.node past self.old → IsNextNotice scenario past notice.now
+            → HasHeard scenario self.old.node notice.now.kind past self.new }
+        ensures node { self.new.node ≡ self.old.node }
+        ensures room { out.new.room ≡ out.old.room }
+        ensures few { length out.new.items ≤ length out.old.items + 2 }
+    {
+        match &notice.kind {
+            NoticeKind::Got(frame) => {
+                if is_data(frame) {
+                    self.hear_copy(notice.slot, frame, out);
+                } else if is_confirmation(frame) {
+                    self.hear_confirmation(frame);
+                }
+            }
+            NoticeKind::Sent(frame) => {
+                if self.is_own(frame) {
+                    self.confirm(notice.slot, frame, out);
+                }
+            }
+            NoticeKind::Idle => {}
+            NoticeKind::Bad => {}
+        }
+    }
+
+    /// A copy of a data frame: the message is delivered if it was not before, and at a node other than its origin the first copy
+    /// starts the timer. With enough copies the frame is withdrawn if the node fell back.
+    fn hear_copy(&mut self, slot: Slot, frame: &Frame, out: &mut Actions)
+        requires takes { CanTake self.old frame.now }
+        requires room { length out.old.items + 2 ≤ out.old.room }
+        ensures learnt { IsLearnt (frame_number frame.now) self.old.copies self.new.copies }
+        ensures in_range { frame.now.node < 32 }
+        ensures state { self.new ≡ record self.old { copies = self.new.copies; timers = timers_with (starts_timer self.old frame.now) slot frame.now self.old.timers } }
+        ensures actions { let learnt = learnt_of self.old.copies.omit (copies_of self.new.copies (frame_number frame.now)) (is_owned self.old.copies (frame_number frame.now)) in
+            out.new.items ≡ (out.old.items ++ delivery_actions slot (not (was_delivered self.old frame.now)) frame.now)
+            ++ withdraw_actions (is_enough learnt && is_fallen self.old frame.now) frame.now }
+        ensures room { out.new.room ≡ out.old.room }
+        ensures few { length out.new.items ≤ length out.old.items + 2 }
+    {
+        let is_first = !self.was_delivered(frame);
+        deliver(slot, frame, is_first, out);
+        let learnt = self.copies.learn(Data::of(frame));
+        self.start_timer(slot, frame, is_first);
+        withdraw(frame, self.is_late(&learnt, frame), out);
+    }
+
+    /// The first copy of a message of another node starts its timer.
+    fn start_timer(&mut self, slot: Slot, frame: &Frame, is_first: bool)
+        requires { IsTrue (is_first && not (frame.now.node == self.old.node)) → 0 < self.old.timers.spare }
+        ensures { self.new ≡ record self.old { timers = timers_with (is_first && not (frame.now.node == self.old.node)) slot frame.now self.old.timers } }
+    {
+        if is_first && frame.node.get() != self.node.get() {
+            self.timers.start(Timer {
+                frame: *frame,
+                first: slot,
+            });
+        }
+    }
+
+    /// Whether there are enough copies of a frame for which the node fell back.
+    fn is_late(&self, learnt: &Learnt, frame: &Frame) -> bool
+        ensures { result ≡ (is_enough learnt.now && is_fallen self.now frame.now) }
+    {
+        is_enough(learnt) && self.is_fallen(frame)
+    }
+
+    /// The confirmation of a message is read.
+    fn hear_confirmation(&mut self, frame: &Frame)
+        requires { CanTake self.old frame.now }
+        ensures noted { IsNoted (frame_number frame.now) self.old.confirms self.new.confirms }
+        ensures in_range { frame.now.node < 32 }
+        ensures state { self.new ≡ record self.old { confirms = self.new.confirms } }
+    {
+        let confirmation = Confirmation::of(frame);
+        if self.confirms.copies(&confirmation) == 0 {
+            let _ = self.confirms.learn(confirmation);
+        }
+    }
+
+    /// The origin reads its own transmission of the data frame: it delivers the message if it did not before, and asks for the
+    /// confirmation.
+    fn confirm(&mut self, slot: Slot, frame: &Frame, out: &mut Actions)
+        requires takes { CanTake self.old frame.now }
+        requires room { length out.old.items + 2 ≤ out.old.room }
+        ensures owned { IsOwned (frame_number frame.now) self.old.copies self.new.copies }
+        ensures in_range { frame.now.node < 32 }
+        ensures state { self.new ≡ record self.old { copies = self.new.copies } }
+        ensures actions { out.new.items ≡ (out.old.items ++ delivery_actions slot (not (was_delivered self.old frame.now)) frame.now)
+            ++ action.Ask (confirm_frame frame.now) ∷ [] }
+        ensures room { out.new.room ≡ out.old.room }
+        ensures few { length out.new.items ≤ length out.old.items + 2 }
+    {
+        let delivers = !self.was_delivered(frame);
+        deliver(slot, frame, delivers, out);
+        self.copies.own(Data::of(frame));
+        out.push(Action::Ask(Confirmation::of(frame).form()));
+    }
+
+    /// The timer ends that is due in the turn of a slot, if one is.
+    fn end_timer(&mut self, slot: Slot, out: &mut Actions)
+        requires fits { length self.old.fallen.items + length self.old.timers.running + self.old.timers.spare ≤ self.old.fallen.room }
+        requires room { length out.old.items < out.old.room }
+        ensures state { self.new ≡ after_timer (due_frame slot self.old) (without_due slot self.old) }
+        ensures actions { out.new.items ≡ out.old.items ++ timer_actions (due_frame slot self.old) self.old }
+        ensures in_range { IfSome (due_frame slot self.old) (λ f. f.node < 32) }
+        ensures few { length out.new.items ≤ length out.old.items + 1 }
+        ensures room { out.new.room ≡ out.old.room }
+    {
+        if slot < self.confirm {
+            return;
+        }
+        match self.timers.end_of(slot - self.confirm) {
+            Some(frame) => self.fall_back(&frame, out),
+            None => {}
+        }
+    }
+
+    /// The timer of a message ends: the node falls back unless the confirmation was read.
+    fn fall_back(&mut self, frame: &Frame, out: &mut Actions)
+        requires fits { length self.old.fallen.items < self.old.fallen.room }
+        requires room { length out.old.items < out.old.room }
+        ensures state { self.new ≡ after_timer (Some frame.now) self.old }
+        ensures actions { out.new.items ≡ out.old.items ++ timer_actions (Some frame.now) self.old }
+        ensures in_range { frame.now.node < 32 }
+        ensures few { length out.new.items ≤ length out.old.items + 1 }
+        ensures room { out.new.room ≡ out.old.room }
+    {
+        if self.confirms.copies(&Confirmation::of(frame)) > 0 {
+            return;
+        }
+        let data = Data::of(frame);
+        self.fallen.push(data.msg);
+        if self.copies.copies(&data) <= self.omit {
+            out.push(Action::Ask(*frame));
+        }
+    }
+
+    /// Whether the frame is the data frame of a message of this node.
+    fn is_own(&self, frame: &Frame) -> bool
+        ensures { result ≡ (same_class frame.now.class class.Rel && frame.now.node == self.now.node) }
+    {
+        is_data(frame) && frame.node.get() == self.node.get()
+    }
+
+    /// Whether the message of a data frame was delivered.
+    fn was_delivered(&self, frame: &Frame) -> bool
+        ensures delivered { result ≡ was_delivered self.now frame.now }
+        ensures in_range { frame.now.node < 32 }
+        ensures counted { IsCounted self.now.copies }
+    {
+        self.copies.holds(&Data::of(frame))
+    }
+
+    /// Whether the node fell back for the message of a data frame. The newest are looked at first.
+    #[tactic(auto, using(crate::proofs::Lists::list_any_reversed))]
+    fn is_fallen(&self, frame: &Frame) -> bool
+        ensures { result ≡ is_fallen self.now frame.now }
+    {
+        let node = frame.node.get();
+        has_key(self.fallen.as_slice(), node, frame.number)
+    }
+}
+
+/// Whether a copy is one of more than there may be omissions.
+fn is_enough(learnt: &Learnt) -> bool
+    ensures { result ≡ is_enough learnt.now }
+{
+    match learnt {
+        Learnt::First | Learnt::Again { .. } => false,
+        Learnt::Enough { .. } => true,
+    }
+}
+
+/// Whether the message of an origin is one of these.
+fn has_key(keys: &[MsgKey], origin: u8, seq: u16) -> bool
+    ensures { result ≡ list_any (is_key_of seq origin) (reverse keys.now) }
+{
+    keys.iter()
+        .rev()
+        .any(|key| seq == key.seq && origin == key.origin.get())
+}
