@@ -1,0 +1,88 @@
+-- The next action can be done.
+use Rattle.std.proofs.Common.{◌≡◌, ℕ, ◌+◌, ◌<◌, ◌≤◌, inl, List, [], ◌∷◌, length, take, drop, get_or, ap, sym, subst, ◌∙◌, arith}
+use Rattle.std.specs.List.{AllByRecursion}
+use Rattle.std.proofs.lemmas.List.{length-append, length-map, take_all}
+use Rattle.cany_base.specs.declared.actions.Action.{Action}
+use Rattle.cany_base.specs.declared.log_entry.LogEntry.{LogEntry}
+use Rattle.cany_base.specs.Bounded.{Bounded}
+use Rattle.cany_base.specs.Frame.{FrameParts}
+use Rattle.cany_base.specs.Scenario.{ScenarioParts, IsLegalScenario}
+use Rattle.cany_model.specs.Actions.{action_of, actions_of}
+use Rattle.cany_model.specs.Effect.{Effect, Ask, Withdraw, Enter, waiting_after, entered}
+use Rattle.cany_model.specs.Frames.{identity_of}
+use Rattle.cany_model.specs.Rooms.{waiting_room}
+use Rattle.cany_model.proofs.Waits.{AsksOnly, Each-after}
+use Rattle.can_controller.specs.Controller.{ControllerState}
+use Rattle.can_controller.specs.Waiting.{IsAscending}
+use Rattle.cany_base.specs.declared.frame.Format.{Format}
+use Rattle.cany_node.specs.Apply.{IsAskable, AreAskable, NamesAskable, AreDone, CanApply, CanDo, WithdrawsFitting}
+use Rattle.cany_node.proofs.Applying.{Stands, stands, each-front, each-at, entered-append, done-then}
+use Rattle.cany_node.proofs.Askable.{askable_fits, fits_format}
+use Rattle.cany_node.proofs.Filled.{waiting_below}
+
+pub withdraws_fitting : (scenario : ScenarioParts) (format : Format) (effect : Effect) → IsLegalScenario scenario → NamesAskable scenario effect
+    → WithdrawsFitting format effect
+withdraws_fitting scenario format (Ask f) legal is = tt
+withdraws_fitting scenario format (Withdraw x) legal is = fits_format format _ (askable_fits scenario x legal is)
+withdraws_fitting scenario format (Enter entry) legal is = tt
+
+pub asks_askable : (scenario : ScenarioParts) (effects : List Effect) → AllByRecursion (NamesAskable scenario) effects
+    → AllByRecursion (AsksOnly (λ f. IsAskable scenario (identity_of f))) effects
+asks_askable scenario [] h = tt
+asks_askable scenario (Ask f ∷ effects) h = (h.0, asks_askable scenario effects h.1)
+asks_askable scenario (Withdraw x ∷ effects) h = (tt, asks_askable scenario effects h.1)
+asks_askable scenario (Enter entry ∷ effects) h = (tt, asks_askable scenario effects h.1)
+
+-- what waits after these effects may be asked for
+pub still_askable : (scenario : ScenarioParts) (effects : List Effect) (w : List FrameParts) → AllByRecursion (NamesAskable scenario) effects
+    → AreAskable scenario w → AreAskable scenario (waiting_after effects w)
+still_askable scenario effects w names all = Each-after (λ f. IsAskable scenario (identity_of f)) effects w (asks_askable scenario effects names) all
+
+can_do_effect : (scenario : ScenarioParts) (effect : Effect) (ctl : ControllerState) (log : Bounded LogEntry) → IsLegalScenario scenario → NamesAskable scenario effect
+    → AreAskable scenario ctl.waiting → IsAscending ctl.waiting → ctl.room ≡ waiting_room scenario → length log.items + length (entered (effect ∷ [])) ≤ log.room
+    → CanDo (action_of effect) ctl log
+unfolding entered
+can_do_effect scenario (Ask f) ctl log legal is all up room few =
+    (fits_format ctl.params.format f (askable_fits scenario (identity_of f) legal is), inl (omega (arith, waiting_below scenario ctl.waiting up all, room)))
+can_do_effect scenario (Withdraw x) ctl log legal is all up room few = tt
+can_do_effect scenario (Enter entry) ctl log legal is all up room few = omega (arith, few)
+
+pub can_do : (actions : List Action) (start ctl : ControllerState) (before log : Bounded LogEntry) (can : CanApply actions start before) (i : ℕ) (a : Action)
+    → Stands can.effects i a → AreDone (take i can.effects) start ctl before log → IsAscending ctl.waiting → CanDo a ctl log
+can_do actions start ctl before log can i a at done up =
+    let front : List Effect = take i can.effects in
+    let back : List Effect = drop (i + 1) can.effects in
+    let names = subst (AllByRecursion (NamesAskable can.scenario)) at.whole can.names in
+    let waiting : AreAskable can.scenario ctl.waiting =
+    subst (AreAskable can.scenario) (sym (ap (λ (s : ControllerState). s.waiting) done.controller))
+    (still_askable can.scenario front start.waiting (each-front (NamesAskable can.scenario) front (at.effect ∷ back) names) can.waiting) in
+    let room : ctl.room ≡ waiting_room can.scenario = ap (λ (s : ControllerState). s.room) done.controller ∙ can.room in
+    let all : length (entered can.effects) ≡ length (entered front) + (length (entered (at.effect ∷ [])) + length (entered back)) =
+    ap (λ es. length (entered es)) at.whole ∙ ap length (entered-append front (at.effect ∷ back)) ∙ length-append (entered front) (entered (at.effect ∷ back))
+    ∙ ap (λ n. length (entered front) + n) (ap length (entered-append (at.effect ∷ []) back) ∙ length-append (entered (at.effect ∷ [])) (entered back)) in
+    let made : length log.items ≡ length before.items + length (entered front) = ap length done.entries ∙ length-append before.items (entered front) in
+    subst (λ x. CanDo x ctl log) at.action
+    (can_do_effect can.scenario at.effect ctl log can.legal (each-at (NamesAskable can.scenario) front back at.effect names) waiting up room
+    (omega (arith, all, made, can.entries, done.room)))
+
+-- the effect of the next action
+pub next_stands : (effects : List Effect) (out actions : List Action) (i : ℕ) (a : Action) → out ≡ actions_of effects → actions ≡ out → i < length actions
+    → a ≡ get_or actions i a → Stands effects i a
+next_stands effects out actions i a are same within is =
+    let all : actions ≡ actions_of effects = same ∙ are in
+    stands effects i a (omega (arith, ap length all, length-map effects action_of)) (is ∙ ap (λ x. get_or x i a) all)
+
+pub next_done : (scenario : ScenarioParts) (effects : List Effect) (i : ℕ) (a : Action) (start ctl ctl' : ControllerState) (before log log' : Bounded LogEntry)
+    → IsLegalScenario scenario → AllByRecursion (NamesAskable scenario) effects → Stands effects i a
+    → ((effect : Effect) → action_of effect ≡ a → WithdrawsFitting ctl.params.format effect → AreDone (effect ∷ []) ctl ctl' log log')
+    → AreDone (take i effects) start ctl before log → AreDone (take (i + 1) effects) start ctl' before log'
+next_done scenario effects i a start ctl ctl' before log log' legal names at one done =
+    let named = each-at (NamesAskable scenario) (take i effects) (drop (i + 1) effects) at.effect (subst (AllByRecursion (NamesAskable scenario)) at.whole names) in
+    subst (λ es. AreDone es start ctl' before log') (sym at.taken)
+    (done-then (take i effects) (at.effect ∷ []) start ctl ctl' before log log' done
+    (one at.effect at.action (withdraws_fitting scenario ctl.params.format at.effect legal named)))
+
+pub all_done : (effects : List Effect) (out actions : List Action) (i : ℕ) (start ctl : ControllerState) (before log : Bounded LogEntry) → out ≡ actions_of effects
+    → actions ≡ out → length actions ≤ i → AreDone (take i effects) start ctl before log → AreDone effects start ctl before log
+all_done effects out actions i start ctl before log are same past done =
+    subst (λ es. AreDone es start ctl before log) (take_all i effects (omega (arith, ap length (same ∙ are), length-map effects action_of))) done

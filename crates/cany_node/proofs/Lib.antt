@@ -1,0 +1,11 @@
+pub mod MessageLists
+pub mod AgendaLemmas
+pub mod Applying
+pub mod Askable
+pub mod Identities
+pub mod Filled
+pub mod Doing
+pub mod SendLemmas
+pub mod AskedLemmas
+pub mod TurnSteps
+pub mod WholeTurn

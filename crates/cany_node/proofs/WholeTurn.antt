@@ -1,0 +1,45 @@
+-- A turn from what it reads.
+use Rattle.std.proofs.Common.{◌≡◌, ℕ, ◌+◌, ◌<◌, min, List, ◌∷◌, drop, Some, ap, sym, subst, ◌∙◌, arith}
+use Rattle.std.specs.Prelude.{slice_get}
+use Rattle.cany_base.specs.declared.notice.Notice.{Notice}
+use Rattle.cany_base.specs.declared.notice.NoticeKind.{NoticeKind}
+use Rattle.cany_base.specs.Scenario.{ScenarioParts}
+use Rattle.cany_model.specs.Effect.{waiting_after}
+use Rattle.cany_model.specs.Notices.{IsNextNotice}
+use Rattle.cany_model.specs.Turn.{turn_effects}
+use Rattle.can_controller.specs.Controller.{ControllerState}
+use Rattle.cany_node.specs.Apply.{AreAskable}
+use Rattle.cany_node.specs.Node.{NodeParts, IsNodeOf, Reads, IsTurnOf, turned}
+use Rattle.cany_node.proofs.Askable.{turn_names}
+use Rattle.cany_node.proofs.Doing.{still_askable}
+use Rattle.cany_node.proofs.TurnSteps.{readable}
+
+-- the controller once the notice is read
+abbrev pub notice_read : ℕ → ControllerState → ControllerState
+notice_read most ctl = record ctl { unread = drop 1 ctl.unread; read = min (ctl.read + 1) most }
+
+-- the controller once the actions are done too
+abbrev pub acted : ScenarioParts → List NoticeKind → ℕ → Notice → ControllerState → ControllerState
+acted scenario past i notice ctl = record ctl { waiting = waiting_after (turn_effects scenario i (notice.kind ∷ past)) ctl.waiting }
+
+pub whole_turn : (scenario : ScenarioParts) (past : List NoticeKind) (notice found : Notice) (v v' : NodeParts) (ctl mid ctl' : ControllerState) (most : ℕ)
+    → Reads scenario past notice v ctl → Some found ≡ slice_get ctl.unread 0 → mid ≡ notice_read most ctl → ctl.read < most
+    → ((s : ScenarioParts) (p : List NoticeKind) → IsNodeOf s p v → IsNextNotice s p found → ctl' ≡ acted s p v.node found mid)
+    → ((s : ScenarioParts) (p : List NoticeKind) → IsNodeOf s p v → IsNextNotice s p found → IsNodeOf s (found.kind ∷ p) v')
+    → IsTurnOf scenario past notice v v' ctl ctl'
+whole_turn scenario past notice found v v' ctl mid ctl' most reads oldest is few controls stands =
+    let one : Some found ≡ Some notice = oldest ∙ reads.oldest in
+    let same : notice ≡ found = cc in
+    let next : IsNextNotice scenario past found = subst (IsNextNotice scenario past) same reads.next in
+    let read : min (ctl.read + 1) most ≡ ctl.read + 1 = omega arith in
+    let after : ctl' ≡ turned (turn_effects scenario v.node (notice.kind ∷ past)) ctl =
+    controls scenario past reads.stands next ∙ ap (acted scenario past v.node found) is
+    ∙ ap (λ (n : Notice). acted scenario past v.node n (notice_read most ctl)) (sym same)
+    ∙ ap (λ n. record ctl { unread = drop 1 ctl.unread; read = n; waiting = waiting_after (turn_effects scenario v.node (notice.kind ∷ past)) ctl.waiting }) read in
+    record {
+      controller = after;
+      stands = subst (λ (n : Notice). IsNodeOf scenario (n.kind ∷ past) v') (sym same) (stands scenario past reads.stands next);
+      askable = λ all. subst (AreAskable scenario) (sym (ap (λ (s : ControllerState). s.waiting) after))
+          (still_askable scenario (turn_effects scenario v.node (notice.kind ∷ past)) ctl.waiting
+          (turn_names scenario v.node notice.kind past (readable scenario past notice v reads.stands reads.next, reads.stands.readable)) all);
+    }

@@ -1,0 +1,12 @@
+use Rattle.std.proofs.Common.{ap, ◌∙◌, sym, subst}
+use Rattle.cany_model.specs.Relcan.{has_timer_ahead}
+use Rattle.cany_relcan.specs.Relcan.{IsRelcanOf}
+use Rattle.cany_node.specs.Node.{NodeParts, IsNodeOf}
+use Rattle.cany_node.proofs.node.Node.ahead.Goals as goal
+
+pub returns : goal.returns
+returns c scenario past is m stands named =
+    let kept = subst (IsNodeOf scenario past) (sym c.self.view_is) is in
+    let his = subst (λ i. IsRelcanOf scenario i past c.self.inside.relcan) (sym kept.relcan.limits.node) kept.relcan in
+    c.ahead.ensures scenario past m his stands named
+    ∙ ap (λ i. has_timer_ahead scenario m i past) (kept.relcan.limits.node ∙ ap (λ (v : NodeParts). v.node) c.self.view_is)

@@ -1,0 +1,15 @@
+use Rattle.std.proofs.Common.{◌≡◌, ◌≤◌, ◌+◌, length}
+use Rattle.cany_node.proofs.SendLemmas.{KeepsSending}
+use Rattle.cany_node.proofs.sending.send_due.Given as goal
+
+abbrev pub invariant-loop-planned : goal.invariant-loop-planned
+invariant-loop-planned l = record {
+  keeps : KeepsSending l.node l.slot l.fn.agenda l.agenda l.fn.out.items l.out.items;
+  spare : length l.out.items + length l.agenda.left ≤ l.out.room;
+  room : l.out.room ≡ l.fn.out.room;
+  edcan : l.edcan ≡ l.fn.edcan;
+  relcan : l.relcan ≡ l.fn.relcan;
+}
+
+abbrev pub decreases-loop-planned : goal.decreases-loop-planned
+decreases-loop-planned l = length l.agenda.left

@@ -1,0 +1,61 @@
+-- What becomes of a controller and a log as actions are done.
+use Rattle.std.specs.Prelude.{◌≡◌, ◌≤◌, ◌<◌, ◌+◌, List, [], length, ◌++◌, Contains}
+use Rattle.std.specs.List.{AllByRecursion}
+use Rattle.cany_base.specs.declared.actions.Action.{Action}
+use Rattle.cany_base.specs.declared.actions.Action.TheVariants as action
+use Rattle.cany_base.specs.declared.frame.Format.{Format}
+use Rattle.cany_base.specs.declared.log_entry.LogEntry.{LogEntry}
+use Rattle.cany_base.specs.Bounded.{Bounded}
+use Rattle.cany_base.specs.Frame.{FrameParts}
+use Rattle.cany_base.specs.Scenario.{ScenarioParts, IsLegalScenario}
+use Rattle.cany_model.specs.Actions.{actions_of}
+use Rattle.cany_model.specs.Effect.{Effect, Ask, Withdraw, Enter, waiting_after, entered}
+use Rattle.cany_model.specs.Frames.{Identity, identity_of}
+use Rattle.cany_model.specs.Rooms.{askable, waiting_room}
+use Rattle.can_frame.specs.Identifier.{FitsFormat}
+use Rattle.can_controller.specs.Controller.{ControllerState}
+use Rattle.can_controller.specs.Waiting.{HasRoomFor}
+
+-- the identity is one that a node may ask for
+abbrev pub IsAskable : ScenarioParts → Identity → Type 0
+IsAskable scenario x = Contains (askable scenario) x
+
+-- each waiting frame is one that a node may ask for
+abbrev pub AreAskable : ScenarioParts → List FrameParts → Type 0
+AreAskable scenario waiting = AllByRecursion (λ f. IsAskable scenario (identity_of f)) waiting
+
+-- the effect asks for or withdraws nothing else
+abbrev pub NamesAskable : ScenarioParts → Effect → Type 0
+NamesAskable scenario (Ask f) = IsAskable scenario (identity_of f)
+NamesAskable scenario (Withdraw x) = IsAskable scenario x
+NamesAskable scenario (Enter entry) = Unit {0}
+
+-- these effects are done: on the waiting frames, and on the log
+pub record AreDone (effects : List Effect) (ctl ctl' : ControllerState) (log log' : Bounded LogEntry) : Type 0 where
+  pub controller : ctl' ≡ record ctl { waiting = waiting_after effects ctl.waiting }
+  pub entries : log'.items ≡ log.items ++ entered effects
+  pub room : log'.room ≡ log.room
+
+-- the actions are those of effects that can be done: what they name may be asked for, and there is room for all
+pub record CanApply (actions : List Action) (ctl : ControllerState) (log : Bounded LogEntry) : Type 0 where
+  pub scenario : ScenarioParts
+  pub effects : List Effect
+  pub legal : IsLegalScenario scenario
+  pub are : actions ≡ actions_of effects
+  pub names : AllByRecursion (NamesAskable scenario) effects
+  pub waiting : AreAskable scenario ctl.waiting
+  pub room : ctl.room ≡ waiting_room scenario
+  pub entries : length log.items + length (entered effects) ≤ log.room
+
+-- the action can be done now
+abbrev pub CanDo : Action → ControllerState → Bounded LogEntry → Type 0
+CanDo (action.Ask f) ctl log = FitsFormat ctl.params.format f × HasRoomFor f ctl.waiting ctl.room
+CanDo (action.Withdraw ident) ctl log = Unit {0}
+CanDo (action.Enter entry) ctl log = length log.items < log.room
+
+-- what the effect withdraws has an identifier of its own
+abbrev pub WithdrawsFitting : Format → Effect → Type 0
+WithdrawsFitting format (Ask f) = Unit {0}
+WithdrawsFitting format (Withdraw x) =
+    FitsFormat format (record { class = x.class; number = x.number; node = x.node; inc = 0; payload = [] })
+WithdrawsFitting format (Enter entry) = Unit {0}

@@ -1,0 +1,109 @@
+-- What a contract sees of a node, and what a turn does.
+use Rattle.std.specs.Prelude.{◌≡◌, ◌+◌, ℕ, List, [], ◌∷◌, length, drop, slice_get, Option, Some, None}
+use Rattle.cany_base.specs.declared.actions.Action.{Action}
+use Rattle.cany_base.specs.declared.log_entry.LogEntry.{LogEntry}
+use Rattle.cany_base.specs.declared.notice.Notice.{Notice}
+use Rattle.cany_base.specs.declared.notice.NoticeKind.{NoticeKind}
+use Rattle.cany_base.specs.Bounded.{Bounded}
+use Rattle.cany_base.specs.Scenario.{ScenarioParts, IsLegalScenario}
+use Rattle.cany_model.specs.Effect.{Effect, waiting_after}
+use Rattle.cany_model.specs.Log.{log_from}
+use Rattle.cany_model.specs.Notices.{IsNextNotice, IsReadable}
+use Rattle.cany_model.specs.Turn.{turn_effects}
+use Rattle.cany_model.specs.Rooms.{waiting_room, actions_room, log_room}
+use Rattle.can_controller.specs.Controller.{ControllerState}
+use Rattle.cany_edcan.specs.Edcan.{EdcanParts, IsEdcanOf}
+use Rattle.cany_relcan.specs.Relcan.{RelcanParts, IsRelcanOf}
+use Rattle.cany_node.specs.declared.reply.TurnReply.{TurnReply}
+use Rattle.cany_node.specs.declared.reply.TurnReply.TheVariants.{Turned, NothingYet, Stopped}
+use Rattle.cany_node.specs.Agenda.{AgendaParts, IsAgendaOf}
+use Rattle.cany_node.specs.Apply.{AreAskable}
+
+-- its number, its log and how much the log can hold, how many notices it has read, and the parts that its protocols and its
+-- scripted sends keep
+pub record NodeParts : Type 0 where
+  pub node : ℕ
+  pub log : List LogEntry
+  pub room : ℕ
+  pub read : ℕ
+  pub edcan : EdcanParts
+  pub relcan : RelcanParts
+  pub agenda : AgendaParts
+
+-- each notice that was read belongs to the scenario
+abbrev pub AreReadable : ScenarioParts → List NoticeKind → Type 0
+AreReadable scenario [] = Unit {0}
+AreReadable scenario (kind ∷ past) = IsReadable scenario (length past) kind × AreReadable scenario past
+
+-- the node stands for what it has read, newest first
+pub record IsNodeOf (scenario : ScenarioParts) (past : List NoticeKind) (v : NodeParts) : Type 0 where
+  pub legal : IsLegalScenario scenario
+  pub log : v.log ≡ log_from scenario v.node past
+  pub room : v.room ≡ log_room scenario
+  pub read : v.read ≡ length past
+  pub readable : AreReadable scenario past
+  pub edcan : IsEdcanOf scenario v.node past v.edcan
+  pub relcan : IsRelcanOf scenario v.node past v.relcan
+  pub agenda : IsAgendaOf scenario v.node (length past) v.agenda
+
+-- a turn can be made: the controller is that of the node in a run of the scenario, and continues what the node has read
+pub record CanTurn (v : NodeParts) (ctl : ControllerState) (out : Bounded Action) : Type 0 where
+  pub scenario : ScenarioParts
+  pub past : List NoticeKind
+  pub legal : IsLegalScenario scenario
+  pub stands : IsNodeOf scenario past v
+  pub node : ctl.node ≡ v.node
+  pub params : ctl.params ≡ scenario.params
+  pub room : ctl.room ≡ waiting_room scenario
+  pub askable : AreAskable scenario ctl.waiting
+  pub next : (notice : Notice) → slice_get ctl.unread 0 ≡ Some notice → IsNextNotice scenario past notice
+  pub read : ctl.read ≡ length past
+  pub free : out.items ≡ []
+  pub actions : out.room ≡ actions_room scenario
+
+-- the same while the notice is read: what it leads to can be done
+pub record CanAct (v : NodeParts) (notice : Notice) (ctl : ControllerState) (out : Bounded Action) : Type 0 where
+  pub scenario : ScenarioParts
+  pub past : List NoticeKind
+  pub stands : IsNodeOf scenario past v
+  pub next : IsNextNotice scenario past notice
+  pub room : ctl.room ≡ waiting_room scenario
+  pub askable : AreAskable scenario ctl.waiting
+  pub free : out.items ≡ []
+  pub actions : out.room ≡ actions_room scenario
+
+abbrev pub reply_at : ℕ → Option Notice → Option ℕ → TurnReply
+reply_at read unread (Some slot) = Stopped slot
+reply_at read (Some notice) None = Turned notice.slot
+reply_at read None None = NothingYet read
+
+-- the answer of a turn
+abbrev pub reply_of : ControllerState → TurnReply
+reply_of ctl = reply_at ctl.read (slice_get ctl.unread 0) ctl.stopped
+
+-- the node reads this notice next, after what it stands for
+pub record Reads (scenario : ScenarioParts) (past : List NoticeKind) (notice : Notice) (v : NodeParts) (ctl : ControllerState) : Type 0 where
+  pub stands : IsNodeOf scenario past v
+  pub next : IsNextNotice scenario past notice
+  pub running : ctl.stopped ≡ None
+  pub oldest : slice_get ctl.unread 0 ≡ Some notice
+
+-- the controller after a turn with these effects
+abbrev pub turned : List Effect → ControllerState → ControllerState
+turned effects ctl = record ctl {
+  unread = drop 1 ctl.unread;
+  read = ctl.read + 1;
+  waiting = waiting_after effects ctl.waiting;
+}
+
+-- the node has read the notice: it stands for one more, and its controller waits with what the rules say
+pub record IsTurnOf (scenario : ScenarioParts) (past : List NoticeKind) (notice : Notice) (v v' : NodeParts) (ctl ctl' : ControllerState) : Type 0 where
+  pub controller : ctl' ≡ turned (turn_effects scenario v.node (notice.kind ∷ past)) ctl
+  pub stands : IsNodeOf scenario (notice.kind ∷ past) v'
+  pub askable : AreAskable scenario ctl.waiting → AreAskable scenario ctl'.waiting
+
+-- a node that has stopped, or has nothing to read, stays as it is
+abbrev pub IsRefused : TurnReply → NodeParts → NodeParts → ControllerState → ControllerState → Type 0
+IsRefused (Turned slot) v v' ctl ctl' = Unit {0}
+IsRefused (NothingYet now) v v' ctl ctl' = (v' ≡ v) × (ctl' ≡ ctl)
+IsRefused (Stopped slot) v v' ctl ctl' = (v' ≡ v) × (ctl' ≡ ctl)

@@ -1,0 +1,14 @@
+//! One node: what it does in a turn with what its controller has for it.
+#![tactic(auto)]
+
+mod agenda;
+mod apply;
+mod node;
+mod reply;
+mod rooms;
+mod sending;
+mod sharing;
+
+pub use node::Node;
+pub use reply::TurnReply;
+pub use rooms::{actions_room, log_room, waiting_room};

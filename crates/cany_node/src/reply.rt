@@ -1,0 +1,12 @@
+use cany_base::Slot;
+
+/// The answer of a turn.
+#[derive(Clone, Copy, Debug, PartialEq, Eq)]
+pub enum TurnReply {
+    /// The node read the notice of this slot and did what the rules say.
+    Turned { slot: Slot },
+    /// No notice is unread. So many were read, which is the slot of the next.
+    NothingYet { now: Slot },
+    /// The node stopped in this slot.
+    Stopped { slot: Slot },
+}
