@@ -1,0 +1,13 @@
+pub mod JournalSteps
+pub mod KeptFacts
+pub mod KeyFacts
+pub mod LagFacts
+pub mod OpeningFacts
+pub mod Pairs
+pub mod ReplyFacts
+pub mod SettledBy
+pub mod SlotKept
+pub mod StepFacts
+pub mod TimerPass
+pub mod TurnKept
+pub mod WorldFacts

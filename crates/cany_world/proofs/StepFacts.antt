@@ -1,0 +1,123 @@
+-- One step of a world, by its reply.
+use Rattle.std.specs.Prelude.{◌≡◌, ℕ, ◌+◌, ◌*◌, ◌<◌, ◌≤◌, List, [], ◌∷◌, ◌++◌, length, refl}
+use Rattle.std.proofs.Common.{sym, ap, ◌∙◌, subst, arith}
+use Rattle.std.proofs.lemmas.List.{length-append}
+use Rattle.cany_base.specs.declared.step.Step.{Step}
+use Rattle.cany_base.specs.declared.step.Step.TheVariants.{Slot, Turn}
+use Rattle.cany_base.specs.Scenario.{ScenarioParts}
+use Rattle.cany_model.specs.declared.reply.StepReply.{StepReply}
+use Rattle.cany_model.specs.declared.reply.StepReply.TheVariants.{Done, Lagging, Over, NothingYet, Stopped, NoNode}
+use Rattle.cany_model.specs.Run.{run, reply, slot_reply, turn_reply, is_done, proceed, after_turn, IsLegal}
+use Rattle.cany_model.specs.Slot.{after_slot, script}
+use Rattle.cany_model.specs.State.{RunState, opening, node_at}
+use Rattle.cany_model.proofs.Journals.{run_push, step_is, legal_push, legal_short}
+use Rattle.cany_model.proofs.Runs.{orderly}
+use Rattle.cany_model.proofs.Steps.{after_turn-trace}
+use Rattle.can_bus.specs.Bus.{BusParts}
+use Rattle.can_bus.specs.Row.{IsRowFor}
+use Rattle.can_controller.specs.Controller.{ControllerState}
+use Rattle.cany_node.specs.Node.{NodeParts}
+use Rattle.cany_world.specs.Kept.{IsKeptAs, AreControllersOf, AreNodesOf, IsBusOf, StandFor}
+use Rattle.cany_world.specs.Replies.{IfDone}
+use Rattle.cany_world.proofs.SlotKept.{nodes_slot}
+
+pub row_for : (scenario : ScenarioParts) (s : RunState) (controllers : List ControllerState) → AreControllersOf scenario s controllers → IsRowFor scenario.params controllers
+row_for scenario s controllers kept = record {
+  whole = kept.whole;
+  each = λ i c at. let it : IsKeptAs scenario s.trace i (node_at s.nodes i) c = kept.each i c at in record { node = it.number; params = it.params };
+}
+
+-- what is done leads to more
+if_done : (r : StepReply) (P Q : Type 0) → (P → Q) → IfDone r P (Unit {0}) → IfDone r Q (Unit {0})
+if_done Done P Q f h = f h
+if_done (Lagging node unread) P Q f h = tt
+if_done (Over slots) P Q f h = tt
+if_done (NothingYet now) P Q f h = tt
+if_done (Stopped slot) P Q f h = tt
+if_done (NoNode node) P Q f h = tt
+
+pub is_refused : (r : StepReply) (P : Type 0) → (r ≡ Done → ⊥) → IfDone r (Unit {0}) P → P
+is_refused Done P no_such h = absurd (no_such refl)
+is_refused (Lagging node unread) P no_such h = h
+is_refused (Over slots) P no_such h = h
+is_refused (NothingYet now) P no_such h = h
+is_refused (Stopped slot) P no_such h = h
+is_refused (NoNode node) P no_such h = h
+
+-- ---- the reply to the step
+
+pub slot_replies : (scenario : ScenarioParts) (s : RunState) (step : Step) (r : StepReply) → step ≡ Slot → r ≡ slot_reply scenario s → r ≡ reply scenario s step
+unfolding reply
+slot_replies scenario s step r e is = is ∙ sym (ap (reply scenario s) e)
+
+pub turn_replies : (scenario : ScenarioParts) (s : RunState) (step : Step) (i : ℕ) (r : StepReply) → step ≡ Turn i → r ≡ turn_reply scenario i s → r ≡ reply scenario s step
+unfolding reply
+turn_replies scenario s step i r e is = is ∙ sym (ap (reply scenario s) e)
+
+-- ---- the state after it
+
+proceed_slot : (scenario : ScenarioParts) (s : RunState) (step : Step) → step ≡ Slot → proceed scenario s step ≡ after_slot (script scenario.rules) s
+unfolding proceed
+proceed_slot scenario s step e = ap (proceed scenario s) e
+
+proceed_turn : (scenario : ScenarioParts) (s : RunState) (step : Step) (i : ℕ) → step ≡ Turn i → proceed scenario s step ≡ after_turn scenario i s
+unfolding proceed
+proceed_turn scenario s step i e = ap (proceed scenario s) e
+
+pub slot_stands : (scenario : ScenarioParts) (journal : List Step) (step : Step) (r : StepReply) (bus bus' : BusParts) (controllers after : List ControllerState) (nodes : List NodeParts)
+    → step ≡ Slot → StandFor scenario (run scenario journal) bus controllers nodes
+    → IfDone r (IsBusOf scenario (after_slot (script scenario.rules) (run scenario journal)) bus' × AreControllersOf scenario (after_slot (script scenario.rules) (run scenario journal)) after) (Unit {0})
+    → IfDone r (StandFor scenario (proceed scenario (run scenario journal) step) bus' after nodes) (Unit {0})
+slot_stands scenario journal step r bus bus' controllers after nodes e stands =
+    let s : RunState = run scenario journal in
+    if_done r (IsBusOf scenario (after_slot (script scenario.rules) s) bus' × AreControllersOf scenario (after_slot (script scenario.rules) s) after)
+    (StandFor scenario (proceed scenario s step) bus' after nodes)
+    (λ h. subst (λ (t : RunState). StandFor scenario t bus' after nodes) (sym (proceed_slot scenario s step e))
+    (record { slots = h.0; row = h.1; books = nodes_slot scenario (script scenario.rules) s nodes (orderly scenario journal) stands.books }))
+
+pub turn_stands : (scenario : ScenarioParts) (journal : List Step) (step : Step) (i : ℕ) (r : StepReply) (bus : BusParts) (controllers after : List ControllerState) (nodes nodes' : List NodeParts)
+    → step ≡ Turn i → StandFor scenario (run scenario journal) bus controllers nodes
+    → IfDone r (AreControllersOf scenario (after_turn scenario i (run scenario journal)) after × AreNodesOf scenario (after_turn scenario i (run scenario journal)) nodes') (Unit {0})
+    → IfDone r (StandFor scenario (proceed scenario (run scenario journal) step) bus after nodes') (Unit {0})
+turn_stands scenario journal step i r bus controllers after nodes nodes' e stands =
+    let s : RunState = run scenario journal in
+    if_done r (AreControllersOf scenario (after_turn scenario i s) after × AreNodesOf scenario (after_turn scenario i s) nodes')
+    (StandFor scenario (proceed scenario s step) bus after nodes')
+    (λ h. subst (λ (t : RunState). StandFor scenario t bus after nodes') (sym (proceed_turn scenario s step i e))
+    (record {
+      slots = record { params = stands.slots.params; trace = stands.slots.trace ∙ sym (after_turn-trace scenario i s); follows = stands.slots.follows };
+      row = h.0;
+      books = h.1;
+    }))
+
+-- ---- the journal with one step more
+
+-- there is room for the step
+pub step_room : (scenario : ScenarioParts) (journal : List Step) (step : Step) (r : StepReply) (room : ℕ) → IsLegal scenario journal → r ≡ Done → r ≡ reply scenario (run scenario journal) step
+    → room ≡ scenario.params.slots * (scenario.params.nodes + 1) → length journal < room
+step_room scenario journal step r room legal done is e =
+    let short : length (journal ++ step ∷ []) ≤ scenario.params.slots * (scenario.params.nodes + 1) =
+    legal_short scenario (journal ++ step ∷ []) (legal_push scenario journal step legal (ap is_done (sym is ∙ done))) in
+    let long : length (journal ++ step ∷ []) ≡ length journal + 1 = length-append journal (step ∷ []) in
+    omega (arith, short, long, e)
+
+pub step_runs : (scenario : ScenarioParts) (journal : List Step) (step : Step) (r : StepReply) → r ≡ Done → r ≡ reply scenario (run scenario journal) step
+    → run scenario (journal ++ step ∷ []) ≡ proceed scenario (run scenario journal) step
+step_runs scenario journal step r done is =
+    run_push scenario (opening scenario.params.nodes) journal step ∙ step_is scenario (run scenario journal) step (ap is_done (sym is ∙ done))
+
+pub step_stands : (scenario : ScenarioParts) (journal : List Step) (step : Step) (r : StepReply) (bus : BusParts) (controllers : List ControllerState) (nodes : List NodeParts) → r ≡ Done
+    → r ≡ reply scenario (run scenario journal) step → IfDone r (StandFor scenario (proceed scenario (run scenario journal) step) bus controllers nodes) (Unit {0})
+    → StandFor scenario (run scenario (journal ++ step ∷ [])) bus controllers nodes
+step_stands scenario journal step r bus controllers nodes done is h =
+    let P : Type 0 = StandFor scenario (proceed scenario (run scenario journal) step) bus controllers nodes in
+    subst (λ (t : RunState). StandFor scenario t bus controllers nodes) (sym (step_runs scenario journal step r done is))
+    (subst (λ (x : StepReply). IfDone x P (Unit {0})) done h)
+
+pub same_stands : (scenario : ScenarioParts) (s t : RunState) (bus bus' : BusParts) (controllers after : List ControllerState) (nodes nodes' : List NodeParts) → s ≡ t → bus' ≡ bus → after ≡ controllers
+    → nodes' ≡ nodes → StandFor scenario s bus controllers nodes → StandFor scenario t bus' after nodes'
+same_stands scenario s t bus bus' controllers after nodes nodes' same_state same_bus same_row same_books h =
+    subst (λ (x : List NodeParts). StandFor scenario t bus' after x) (sym same_books)
+    (subst (λ (x : List ControllerState). StandFor scenario t bus' x nodes) (sym same_row)
+    (subst (λ (x : BusParts). StandFor scenario t x controllers nodes) (sym same_bus)
+    (subst (λ (x : RunState). StandFor scenario x bus controllers nodes) same_state h)))

@@ -1,0 +1,16 @@
+use Rattle.std.proofs.Common.{subst}
+use Rattle.cany_model.specs.Safe.{IsIntegral, IsSafe}
+use Rattle.cany_world.specs.World.{WorldParts, state_of}
+use Rattle.cany_world.specs.WorldFields.{world_parts}
+use Rattle.cany_world.proofs.WorldFacts.{world_integral, world_safe, within_run}
+use Rattle.cany_world.proofs.world.World.hypothesis.Goals as goal
+
+pub returns-clause-integrity : goal.returns-clause-integrity
+returns-clause-integrity c =
+    subst (λ (w : WorldParts). IsIntegral w.scenario (state_of w)) c.self.view_is (world_integral (world_parts c.self.inside) c.self.invariant.legal)
+
+pub returns-clause-safe : goal.returns-clause-safe
+returns-clause-safe c none =
+    let w : WorldParts = world_parts c.self.inside in
+    subst (λ (v : WorldParts). IsSafe v.scenario (state_of v)) c.self.view_is
+    (world_safe w c.self.invariant.legal (within_run w.scenario (state_of w) c.self.inside.bus c.self.invariant.stands.slots (c.first_break.ensures.within.0 none)))

@@ -1,0 +1,72 @@
+-- When the controllers, the nodes and the bus of a world are those of a state of a run.
+use Rattle.std.specs.Prelude.{◌≡◌, ℕ, ◌-◌, List, [], length, map, reverse, take, slice_get, Some, None}
+use Rattle.cany_base.specs.declared.actions.Action.{Action}
+use Rattle.cany_base.specs.declared.notice.Notice.{Notice}
+use Rattle.cany_base.specs.declared.rule.Rule.{Rule}
+use Rattle.cany_base.specs.declared.slot_note.SlotNote.{SlotNote}
+use Rattle.cany_base.specs.declared.step.Step.{Step}
+use Rattle.cany_base.specs.Bounded.{Bounded}
+use Rattle.cany_base.specs.Scenario.{ScenarioParts, IsLegalScenario}
+use Rattle.cany_model.specs.History.{given, history}
+use Rattle.cany_model.specs.Rooms.{waiting_room, actions_room}
+use Rattle.cany_model.specs.Run.{run}
+use Rattle.cany_model.specs.State.{NodeState, RunState, node_at}
+use Rattle.can_bus.specs.Bus.{BusParts, Follows}
+use Rattle.can_controller.specs.Controller.{ControllerState}
+use Rattle.cany_node.specs.Node.{NodeParts, IsNodeOf}
+
+-- the notice of a slot for node i
+abbrev pub notice_in : ℕ → SlotNote → Notice
+notice_in i note = record { slot = note.slot; kind = given i note }
+
+-- the notices of the newest slots for node i, oldest first
+unfoldable pub newest_notices : ℕ → ℕ → List SlotNote → List Notice
+newest_notices i count trace = reverse (map (notice_in i) (take count trace))
+
+-- The controller of node i, where the run has this trace and this state of the node. A controller that has stopped gets no
+-- more notices, but what it had before is there.
+pub record IsKeptAs (scenario : ScenarioParts) (trace : List SlotNote) (i : ℕ) (node : NodeState) (c : ControllerState) : Type 0 where
+  pub number : c.node ≡ i
+  pub params : c.params ≡ scenario.params
+  pub room : c.room ≡ waiting_room scenario
+  pub waiting : c.waiting ≡ node.waiting
+  pub transmit : c.transmit ≡ node.transmit
+  pub receive : c.receive ≡ node.receive
+  pub stopped : c.stopped ≡ node.stopped
+  pub read : c.read ≡ length trace - node.unread
+  pub unread : c.unread ≡ take (length c.unread) (newest_notices i node.unread trace)
+  pub all : c.stopped ≡ None → length c.unread ≡ node.unread
+
+-- one controller of each node
+pub record AreControllersOf (scenario : ScenarioParts) (s : RunState) (controllers : List ControllerState) : Type 0 where
+  pub whole : length controllers ≡ scenario.params.nodes
+  pub each : (i : ℕ) (c : ControllerState) → slice_get controllers i ≡ Some c → IsKeptAs scenario s.trace i (node_at s.nodes i) c
+
+-- node i of the world stands for what it has read
+pub record IsKeptNode (scenario : ScenarioParts) (s : RunState) (i : ℕ) (v : NodeParts) : Type 0 where
+  pub number : v.node ≡ i
+  pub stands : IsNodeOf scenario (history i s) v
+
+pub record AreNodesOf (scenario : ScenarioParts) (s : RunState) (nodes : List NodeParts) : Type 0 where
+  pub whole : length nodes ≡ scenario.params.nodes
+  pub each : (i : ℕ) (v : NodeParts) → slice_get nodes i ≡ Some v → IsKeptNode scenario s i v
+
+-- the bus ran the slots of the run
+pub record IsBusOf (scenario : ScenarioParts) (s : RunState) (bus : BusParts) : Type 0 where
+  pub params : bus.params ≡ scenario.params
+  pub trace : bus.trace ≡ s.trace
+  pub follows : Follows scenario.rules bus
+
+-- bus, controllers and nodes are those of a state of a run
+pub record StandFor (scenario : ScenarioParts) (s : RunState) (bus : BusParts) (controllers : List ControllerState) (nodes : List NodeParts) : Type 0 where
+  pub slots : IsBusOf scenario s bus
+  pub row : AreControllersOf scenario s controllers
+  pub books : AreNodesOf scenario s nodes
+
+-- a step can be made: some journal leads to the state that they stand for
+pub record CanStep (scenario : ScenarioParts) (script : List Rule) (bus : BusParts) (controllers : List ControllerState) (nodes : List NodeParts) (actions : Bounded Action) : Type 0 where
+  pub legal : IsLegalScenario scenario
+  pub rules : script ≡ scenario.rules
+  pub journal : List Step
+  pub stands : StandFor scenario (run scenario journal) bus controllers nodes
+  pub free : actions ≡ record { items = []; room = actions_room scenario }

@@ -1,0 +1,59 @@
+//! What a world has before its first step.
+ghost use Rattle.std.specs.Prelude.{◌≡◌, ◌+◌, ◌*◌, IfOk};
+ghost use Rattle.cany_base.specs.Scenario.{IsLegalScenario};
+ghost use Rattle.cany_model.specs.State.{opening};
+ghost use Rattle.cany_world.specs.Kept.{AreControllersOf, AreNodesOf};
+
+use crate::lagging::node_id;
+use can_controller::Controller;
+use can_fault::{Script, ScriptFault};
+use cany_base::{Memory, Params, Scenario};
+use cany_node::{Node, waiting_room};
+use std::alloc::Global;
+
+/// The script of the scenario's rules, which have distinct places.
+pub(crate) fn script_of(alloc: Global, scenario: &Scenario) -> Result<Script, Memory>
+    ensures { IfOk result (λ script. script ≡ scenario.now.rules) }
+{
+    let _legal = scenario.params();
+    match Script::build(alloc, scenario.rules()) {
+        Ok(script) => Ok(script),
+        Err(ScriptFault::Memory) => Err(Memory),
+        Err(ScriptFault::Repeated { .. }) => unreachable!(),
+    }
+}
+
+/// The controllers of the nodes, which have seen nothing.
+pub(crate) fn controllers_of(alloc: Global, scenario: &Scenario) -> Result<Vec<Controller>, Memory>
+    ensures { IfOk result (λ built. AreControllersOf scenario.now (opening scenario.now.params.nodes) built.items) }
+{
+    let params = scenario.params();
+    let count = usize::from(params.nodes);
+    let room = waiting_room(scenario);
+    let mut controllers = Vec::with_capacity(alloc, count)?;
+    for i in 0..count {
+        let controller = Controller::build(alloc, node_id(i), params, room)?;
+        controllers.push(controller)?;
+    }
+    Ok(controllers)
+}
+
+/// The nodes, which have read nothing.
+pub(crate) fn nodes_of(alloc: Global, scenario: &Scenario) -> Result<Vec<Node>, Memory>
+    ensures { IfOk result (λ built. AreNodesOf scenario.now (opening scenario.now.params.nodes) built.items) }
+{
+    let count = usize::from(scenario.params().nodes);
+    let mut nodes = Vec::with_capacity(alloc, count)?;
+    for i in 0..count {
+        let node = Node::build(alloc, node_id(i), scenario)?;
+        nodes.push(node)?;
+    }
+    Ok(nodes)
+}
+
+/// How many steps a run can have: in each slot the slot, and a turn of each node.
+pub(crate) fn journal_room(params: &Params) -> usize
+    ensures { result ≡ params.now.slots * (params.now.nodes + 1) }
+{
+    params.slots as usize * (usize::from(params.nodes) + 1)
+}

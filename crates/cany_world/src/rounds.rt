@@ -1,0 +1,47 @@
+//! The round robin journal.
+ghost use Rattle.std.specs.Prelude.{◌≡◌, ◌<◌, ◌&&◌, ◌∷◌, ◌++◌, [], if◌then◌else◌, IsTrue};
+ghost use Rattle.cany_model.specs.RoundRobin.{round, round_robin};
+ghost use Rattle.cany_model.specs.Run.{IsLegal, has_ended, is_done, reply};
+ghost use Rattle.cany_model.specs.State.{node_at, runs};
+ghost use Rattle.cany_world.specs.World.{WorldParts, state_of};
+
+use crate::lagging::node_id;
+use crate::world::World;
+use cany_base::{NodeId, Step};
+
+/// Makes the turn of the node, if it runs.
+fn run_turn(world: &mut World, node: NodeId)
+    requires { node < world.old.scenario.params.nodes }
+    ensures { let s = state_of world.old in
+        world.new ≡ (if runs (node_at s.nodes node) && is_done (reply world.old.scenario s (Step.Turn node))
+        then record world.old { journal = world.old.journal ++ Step.Turn node ∷ [] } else world.old) }
+{
+    if world.stopped(node).is_none() {
+        world.step(Step::Turn(node));
+    }
+}
+
+/// Makes the steps of one slot: the slot, and then the turns of the nodes that still run, in ascending order.
+fn make_round(world: &mut World)
+    requires { IsLegal world.old.scenario (world.old.journal ++ round world.old.scenario (state_of world.old)) }
+    ensures { world.new ≡ record world.old { journal = world.old.journal ++ round world.old.scenario (state_of world.old) } }
+{
+    world.step(Step::Slot);
+    let count = usize::from(world.scenario().params().nodes);
+    for i in 0..count {
+        run_turn(world, node_id(i));
+    }
+}
+
+/// Runs the whole of the scenario: in each slot the slot, and then the turns of the nodes that still run, in ascending
+/// order.
+pub fn round_robin(world: &mut World)
+    requires { world.old.journal ≡ [] }
+    ensures run { world.new ≡ record { scenario = world.old.scenario; journal = round_robin world.old.scenario } }
+    ensures ended { IsTrue (has_ended world.new.scenario (state_of world.new)) }
+{
+    let slots = world.scenario().params().slots;
+    for _slot in 0..slots {
+        make_round(world);
+    }
+}

@@ -1,0 +1,57 @@
+//! The step in which a node takes its turn.
+ghost use Rattle.std.specs.Prelude.{◌≡◌, List, Some, length, slice_get};
+ghost use Rattle.cany_base.specs.declared.step.Step.{Step};
+ghost use Rattle.cany_base.specs.Scenario.{ScenarioParts};
+ghost use Rattle.cany_model.specs.Run.{after_turn, run, turn_reply};
+ghost use Rattle.can_controller.specs.Controller.{ControllerState};
+ghost use Rattle.cany_node.specs.Node.{CanTurn, NodeParts};
+ghost use Rattle.cany_world.specs.Kept.{AreControllersOf, AreNodesOf};
+ghost use Rattle.cany_world.specs.Replies.{IfDone, step_reply};
+
+use can_controller::Controller;
+use cany_base::{Actions, NodeId};
+use cany_model::StepReply;
+use cany_node::{Node, TurnReply};
+
+/// The answer of a node to its turn, as the reply to the step.
+fn step_reply(reply: TurnReply) -> StepReply
+    ensures { result ≡ step_reply reply }
+{
+    match reply {
+        TurnReply::Turned { .. } => StepReply::Done,
+        TurnReply::NothingYet { now } => StepReply::NothingYet { now },
+        TurnReply::Stopped { slot } => StepReply::Stopped { slot },
+    }
+}
+
+/// The node takes its turn, if there is one of this number and it can.
+pub(crate) fn take_turn(
+    node: NodeId,
+    nodes: &mut [Node],
+    controllers: &mut [Controller],
+    actions: &mut Actions,
+) -> StepReply
+    requires count { length controllers.old ≡ length nodes.old }
+    requires turn { (v : NodeParts) (c : ControllerState) → slice_get nodes.old node ≡ Some v → slice_get controllers.old node ≡ Some c
+        → CanTurn v c actions.old }
+
+    ensures reply { (scenario : ScenarioParts) (journal : List Step) → let s = run scenario journal in
+        AreControllersOf scenario s controllers.old → AreNodesOf scenario s nodes.old → result ≡ turn_reply scenario node s }
+
+    // The controllers and the nodes are those of the run after the turn.
+    ensures done { (scenario : ScenarioParts) (journal : List Step) → let s = run scenario journal in
+        AreControllersOf scenario s controllers.old → AreNodesOf scenario s nodes.old
+        → IfDone result (AreControllersOf scenario (after_turn scenario node s) controllers.new
+        × AreNodesOf scenario (after_turn scenario node s) nodes.new) (Unit {0}) }
+
+    ensures refused { IfDone result (Unit {0}) ((controllers.new ≡ controllers.old) × (nodes.new ≡ nodes.old)) }
+    ensures actions { actions.new ≡ actions.old }
+{
+    let i = usize::from(node.get());
+    if i >= nodes.len() {
+        return StepReply::NoNode { node };
+    }
+    let taker = &mut nodes[i];
+    let controller = &mut controllers[i];
+    step_reply(taker.turn(controller, actions))
+}

@@ -1,0 +1,215 @@
+ghost use Rattle.std.specs.Prelude.{◌≡◌, ◌<◌, ◌↔◌, [], ◌∷◌, ◌++◌, None, if◌then◌else◌, length, reverse, slice_get, IfOk, IfSome};
+ghost use Rattle.cany_model.specs.Follow as following;
+ghost use Rattle.cany_model.specs.Hypothesis.{IsWithin, first_break};
+ghost use Rattle.cany_model.specs.Log as model;
+ghost use Rattle.cany_model.specs.Messages.{messages_of};
+ghost use Rattle.cany_model.specs.Run.{IsLegal, after_step, has_ended, is_done, reply};
+ghost use Rattle.cany_model.specs.Safe.{IsIntegral, IsSafe};
+ghost use Rattle.cany_model.specs.Settled.{is_settled};
+ghost use Rattle.cany_model.specs.State.{node_at, reads, slots_run};
+
+use crate::keys::keys_of;
+use crate::lagging::first_lagging;
+use crate::opening::{controllers_of, journal_room, nodes_of, script_of};
+use crate::settled::{all_read, is_settled};
+use crate::step::make;
+use can_bus::Bus;
+use can_controller::Controller;
+use can_fault::Script;
+use cany_base::{
+    Actions, BoundedVec, LogEntry, Memory, MsgKey, NodeId, Scenario, Slot, SlotNote, Step,
+};
+use cany_model::{Break, StepReply};
+use cany_node::{Node, actions_room};
+use std::alloc::Global;
+use std::marker::Model;
+
+/// A run of a scenario: the steps that were made so far, and what they led to.
+///
+/// A world is at every moment the run of its scenario by its journal, in whatever order the steps were asked for. All memory
+/// is taken by `build`.
+#[derive(Drop)]
+pub struct World {
+    scenario: Scenario,
+    script: Script,
+    bus: Bus,
+    controllers: Vec<Controller>,
+    nodes: Vec<Node>,
+    actions: Actions,
+    journal: BoundedVec<Step>,
+    keys: Vec<MsgKey>,
+}
+
+impl Model for World {
+    ghost use Rattle.cany_world.specs.World.{WorldParts};
+
+    ghost Value = { WorldParts };
+
+    ghost use Rattle.cany_world.specs.WorldFields.{world_parts, IsRun};
+
+    ghost view = { world_parts };
+
+    ghost invariant = { IsRun };
+}
+
+impl World {
+    ghost use Rattle.cany_world.specs.World.{WorldParts, state_of};
+
+    /// The world of the scenario before its first step, with room for every run of it.
+    pub fn build(alloc: Global, scenario: &Scenario) -> Result<World, Memory>
+        ensures { IfOk result (λ world. world ≡ record { scenario = scenario.now; journal = [] }) }
+    {
+        let params = scenario.params();
+        let script = script_of(alloc, scenario)?;
+        let bus = Bus::build(alloc, scenario)?;
+        let controllers = controllers_of(alloc, scenario)?;
+        let nodes = nodes_of(alloc, scenario)?;
+        let actions = Actions::build(alloc, actions_room(scenario))?;
+        let journal = BoundedVec::build(alloc, journal_room(params))?;
+        let keys = keys_of(alloc, scenario.sends())?;
+        let scenario = scenario.copy(alloc)?;
+        Ok(World {
+            scenario,
+            script,
+            bus,
+            controllers,
+            nodes,
+            actions,
+            journal,
+            keys,
+        })
+    }
+
+    /// Makes the step, if it can be made, and then appends it to the journal. A step that is refused changes nothing.
+    ///
+    /// A slot runs where slots are left and no running node lags. A turn reads the oldest unread notice of a node that
+    /// runs. How far a node may lag is a parameter of the scenario.
+    pub fn step(&mut self, step: Step) -> StepReply
+        ensures reply { result ≡ reply self.old.scenario (state_of self.old) step }
+        ensures new { self.new ≡ (if is_done result then record self.old { journal = self.old.journal ++ step ∷ [] } else self.old) }
+        ensures run { result ≡ StepReply.Done → state_of self.new ≡ after_step self.old.scenario (state_of self.old) step }
+    {
+        let reply = make(
+            &self.scenario,
+            &self.script,
+            &mut self.bus,
+            self.controllers.as_mut_slice(),
+            self.nodes.as_mut_slice(),
+            &mut self.actions,
+            step,
+        );
+        match reply {
+            StepReply::Done => {
+                self.journal.push_copy(&step);
+                StepReply::Done
+            }
+            refusal => refusal,
+        }
+    }
+
+    /// Whether all slots ran and every running node has read every notice.
+    pub fn ended(&self) -> bool
+        ensures { result ≡ has_ended self.now.scenario (state_of self.now) }
+    {
+        self.scenario.params().slots <= self.bus.trace().len() as u64
+            && all_read(self.controllers.as_slice())
+    }
+
+    /// The log of a node, oldest entry first.
+    pub fn log(&self, node: NodeId) -> &[LogEntry]
+        requires { node < self.now.scenario.params.nodes }
+        ensures { result.now ≡ model.log self.now.scenario (state_of self.now) node }
+    {
+        let nodes = self.nodes.as_slice();
+        nodes[usize::from(node.get())].log()
+    }
+
+    /// How many notices a node has read.
+    pub fn read(&self, node: NodeId) -> u64
+        requires { node < self.now.scenario.params.nodes }
+        ensures { result ≡ reads (state_of self.now) node }
+    {
+        let controllers = self.controllers.as_slice();
+        controllers[usize::from(node.get())].read()
+    }
+
+    /// The slot in which a node stopped. A node that runs has none.
+    pub fn stopped(&self, node: NodeId) -> Option<Slot>
+        requires { node < self.now.scenario.params.nodes }
+        ensures { result ≡ (node_at (state_of self.now).nodes node).stopped }
+    {
+        let controllers = self.controllers.as_slice();
+        controllers[usize::from(node.get())].stopped()
+    }
+
+    /// The steps that were made, each of them done.
+    pub fn journal(&self) -> &[Step]
+        ensures journal { result.now ≡ self.now.journal }
+        ensures legal { IsLegal self.now.scenario self.now.journal }
+    {
+        self.journal.as_slice()
+    }
+
+    /// The notes of the slots that ran, oldest first.
+    pub fn trace(&self) -> &[SlotNote]
+        ensures oldest_first { result.now ≡ reverse (state_of self.now).trace }
+        ensures newest_first { reverse result.now ≡ (state_of self.now).trace }
+    {
+        self.bus.trace()
+    }
+
+    pub fn scenario(&self) -> &Scenario
+        ensures { result.now ≡ self.now.scenario }
+    {
+        &self.scenario
+    }
+
+    /// Whether the message of a broadcast, by its place in the file, is settled: nothing more is to come of it.
+    pub fn settled(&self, index: usize) -> bool
+        requires { index < length self.now.scenario.sends }
+        ensures { IfSome (slice_get (messages_of self.now.scenario.sends) index) (λ m. result ≡ is_settled self.now.scenario (state_of self.now) m) }
+    {
+        let params = self.scenario.params();
+        let sends = self.scenario.sends();
+        let keys = self.keys.as_slice();
+        let controllers = self.controllers.as_slice();
+        let nodes = self.nodes.as_slice();
+        is_settled(
+            params.format,
+            &sends[index],
+            &keys[index],
+            controllers,
+            nodes,
+        )
+    }
+
+    /// The first slot at which the run leaves the fault hypothesis.
+    ///
+    /// In any case no message stands twice or unsent in the log of a node that runs. Where there is no such slot, the run
+    /// keeps what is promised of a run within the hypothesis.
+    pub fn hypothesis(&self) -> Option<Break>
+        ensures first { result ≡ first_break self.now.scenario.params (state_of self.now).trace }
+        ensures within { (result ≡ None) ↔ IsWithin self.now.scenario.params (state_of self.now).trace }
+        ensures integrity { IsIntegral self.now.scenario (state_of self.now) }
+        ensures safe { result ≡ None → IsSafe self.now.scenario (state_of self.now) }
+    {
+        self.bus.first_break()
+    }
+
+    /// How many slots ran.
+    pub(crate) fn ran(&self) -> u64
+        ensures { result ≡ slots_run (state_of self.now) }
+    {
+        self.bus.trace().len() as u64
+    }
+
+    /// The least running node with an unread notice.
+    pub(crate) fn first_unread(&self) -> Option<NodeId>
+        ensures { result ≡ following.first_unread (state_of self.now) }
+    {
+        match first_lagging(0, self.controllers.as_slice()) {
+            Some((node, _)) => Some(node),
+            None => None,
+        }
+    }
+}
