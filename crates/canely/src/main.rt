@@ -24,11 +24,12 @@ usage: canely replay < SCENARIO > REPORT
        canely --help
        canely --version
 
-replay reads a scenario, runs it by the round robin journal and writes the report of the run.
+replay reads a scenario, runs it by its own journal or, where it has none, by the round robin
+journal, and writes the report of the run.
 
 status 0  done
        2  the words are none of these
-       3  the scenario was refused, and one line says so
+       3  the scenario or its journal was refused, and one line says so
        4  reading failed
        5  writing failed
        6  out of memory, and nothing was written

@@ -1,5 +1,5 @@
 -- The entries of an array, and what they stand for.
-use Rattle.std.proofs.Common.{◌≡◌, ℕ, suc, ◌+◌, ◌<◌, ◌≤◌, true, false, List, [], ◌∷◌, ◌++◌, length, get_or, drop, Option, Some, None, option_map, refl, ap, sym, ◌∙◌, arith, append_assoc}
+use Rattle.std.proofs.Common.{◌≡◌, ℕ, suc, ◌+◌, ◌<◌, ◌≤◌, true, false, List, [], ◌∷◌, ◌++◌, length, get_or, drop, Option, Some, None, refl, ap, sym, ◌∙◌, arith, append_assoc}
 use Rattle.std.proofs.Math.Seq.{drop-length}
 use Rattle.std.proofs.lemmas.List.{append-nil}
 use Rattle.std.specs.Prelude.{nat_le}
@@ -10,6 +10,7 @@ use Rattle.toml.specs.View.{view, items_view}
 use Rattle.toml.specs.declared.value.Value.{Value}
 use Rattle.toml.proofs.Views.{items_view-drop}
 use Rattle.cany_model.specs.TomlKeys.{◌>>=◌, only_if, each_of}
+use Rattle.cany_replay.specs.JournalParts.{after}
 
 -- there are as many as there are entries
 pub each_of-length : {A : Type 0} (read : Data → Option A) (entries : List Value) (found : List A) → each_of read (items_view entries) ≡ Some found → length found ≡ length entries
@@ -45,10 +46,6 @@ only_few-few read next entries found few e =
     let same = each_of-length read entries found e in
     let test : nat_le (length found) 20000 ≡ true = few_test (length found) (omega (arith, same, few)) in
     rw (e, test) refl
-
--- what is found in the rest, after what was found before it
-abbrev pub after : {A : Type 0} → List A → Option (List A) → Option (List A)
-after found rest = option_map (λ others. found ++ others) rest
 
 -- what the entries from index i on stand for
 abbrev pub from_index : {A : Type 0} → (Data → Option A) → List Value → ℕ → Option (List A)

@@ -4,7 +4,7 @@ use Rattle.std.specs.Prelude.{filter, if◌then◌else◌, replicate, codes, IfS
 use Rattle.std.specs.List.{concat, count_by, flat_map, range_with_len}
 use Rattle.std.proofs.lemmas.Bool.{cases_eq, eq-eqb, ne_eqb}
 use Rattle.std.proofs.lemmas.Option.{slice_get_read}
-use Rattle.std.proofs.lemmas.List.{take_all, take_more, reverse-append, length-reverse, take-append-le, take-append-drop, append_cancel_left, drop-drop}
+use Rattle.std.proofs.lemmas.List.{take_all, take_more, reverse-append, length-reverse, take-append-le, take-append-drop, append_cancel_left, drop-drop, reverse-reverse}
 use Rattle.std.proofs.lemmas.List.Folds.{concat-append}
 use Rattle.std.proofs.lemmas.List.Sums.{sum_by-cons, count_by-le-length}
 use Rattle.std.proofs.lemmas.List.FromFn.{length-range_with_len, get_or-range_with_len}
@@ -23,6 +23,7 @@ use Rattle.cany_model.specs.ReportLines.{line_of, params_line, hypothesis_line, 
 use Rattle.cany_model.specs.Run.{run}
 use Rattle.cany_model.specs.Settled.{is_settled}
 use Rattle.cany_model.specs.State.{RunState, node_at, reads}
+use Rattle.cany_replay.specs.ReportParts.{heading_text, bus_text, outcome_text}
 use Rattle.cany_replay.proofs.WrittenLemmas.{concat-map}
 
 -- what is written of a slot
@@ -34,9 +35,9 @@ one_shown : (b : Bool) (note : SlotNote) (notes : List SlotNote) (r : List ℕ) 
 one_shown true note notes r same = ap (λ r. bus_line note ++ r) same
 one_shown false note notes r same = same
 
-pub bus_text : (notes : List SlotNote) → concat (map bus_line (filter is_shown notes)) ≡ flat_map shown_line notes
-bus_text [] = refl
-bus_text (note ∷ notes) = one_shown (is_shown note) note (filter is_shown notes) (flat_map shown_line notes) (bus_text notes)
+pub shown_text : (notes : List SlotNote) → concat (map bus_line (filter is_shown notes)) ≡ flat_map shown_line notes
+shown_text [] = refl
+shown_text (note ∷ notes) = one_shown (is_shown note) note (filter is_shown notes) (flat_map shown_line notes) (shown_text notes)
 
 pub shown_line-shown : (note : SlotNote) → is_shown note ≡ true → shown_line note ≡ bus_line note
 shown_line-shown note shown = ap (λ b. if b then bus_line note else []) shown
@@ -112,12 +113,12 @@ node_text scenario s i stopped read entries stopped_is read_is entries_are =
     rw (stopped_is, read_is, entries_are) (ap (λ r. node_line i (node_at s.nodes i).stopped (reads s i) ++ r) (concat-map entry_line (log scenario s i)))
 
 -- what is written of a message
-abbrev pub message_text : RunState → Message → List ℕ
-message_text s m = message_line m (is_settled s m)
+abbrev pub message_text : ScenarioParts → RunState → Message → List ℕ
+message_text scenario s m = message_line m (is_settled scenario s m)
 
-pub message_lines_text : (scenario : ScenarioParts) (s : RunState) → concat (message_lines scenario s) ≡ flat_map (message_text s) (messages_of scenario.sends)
+pub message_lines_text : (scenario : ScenarioParts) (s : RunState) → concat (message_lines scenario s) ≡ flat_map (message_text scenario s) (messages_of scenario.sends)
 unfolding message_lines
-message_lines_text scenario s = concat-map (message_text s) (messages_of scenario.sends)
+message_lines_text scenario s = concat-map (message_text scenario s) (messages_of scenario.sends)
 
 -- the message of the broadcast at a place: those before it count, newest first
 message_after : (earlier sends : List SendAsk) (i : ℕ) (send : SendAsk) (d : Message) → i < length sends → send ≡ get_or sends i send
@@ -184,23 +185,35 @@ counts_next counts sends i send origin len origin_is small inside is before node
           ∙ omega (arith, before node below, sent_next sends i send node inside is, from)
     ]
 
-pub message_is : (s : RunState) (sends : List SendAsk) (i : ℕ) (send : SendAsk) (seq : ℕ) (settled : Bool) → i < length sends → send ≡ get_or sends i send
-    → seq ≡ sent_before sends i send.node → IfSome (slice_get (messages_of sends) i) (λ m. settled ≡ is_settled s m)
-    → message_text s (message_of (reverse (take i sends)) send)
+pub message_is : (scenario : ScenarioParts) (s : RunState) (sends : List SendAsk) (i : ℕ) (send : SendAsk) (seq : ℕ) (settled : Bool) → i < length sends → send ≡ get_or sends i send
+    → seq ≡ sent_before sends i send.node → IfSome (slice_get (messages_of sends) i) (λ m. settled ≡ is_settled scenario s m)
+    → message_text scenario s (message_of (reverse (take i sends)) send)
     ≡ message_line (record { slot = send.slot; origin = send.node; seq = seq; service = send.service; payload = send.payload }) settled
-message_is s sends i send seq settled inside is seq_is settled_is =
+message_is scenario s sends i send seq settled inside is seq_is settled_is =
     let here : slice_get (messages_of sends) i ≡ Some (message_of (reverse (take i sends)) send) =
     slice_get_read (messages_of sends) (length sends) i (message_of (reverse (take i sends)) send) (sym (length-messages_of sends)) inside (message_at sends i send inside is) in
-    let known : settled ≡ is_settled s (message_of (reverse (take i sends)) send) = rw here at settled_is in
+    let known : settled ≡ is_settled scenario s (message_of (reverse (take i sends)) send) = rw here at settled_is in
     rw (seq_is, known) refl
 
--- the report, part by part
-pub report_text : (scenario : ScenarioParts) (journal journal' : List Step) (params : Parameters) (trace : List SlotNote) (found : Option Break)
-    → params ≡ scenario.params → journal' ≡ journal → trace ≡ reverse (run scenario journal).trace → found ≡ first_break scenario.params (run scenario journal).trace
-    → report scenario journal ≡
-    line_of (codes "canely report 1" ∷ []) ++ (params_line params ++ (concat (journal_lines journal') ++ (concat (map bus_line (filter is_shown trace))
-    ++ (hypothesis_line found ++ (concat (flat_map (node_lines scenario (run scenario journal)) (range_with_len 0 scenario.params.nodes))
-    ++ (concat (message_lines scenario (run scenario journal)) ++ line_of (codes "end" ∷ [])))))))
-unfolding report report_lines bus_lines
-report_text scenario journal journal' params trace found params_are journal_is trace_is found_is =
-    rw (params_are, journal_is, trace_is, found_is) (simp (concat-append, append_assoc, append-nil))
+-- the parts of the report
+pub heading-is : (scenario : ScenarioParts) (params : Parameters) (journal steps : List Step) → params ≡ scenario.params → steps ≡ journal
+    → heading_text scenario journal ≡ line_of (codes "canely report 1" ∷ []) ++ (params_line params ++ concat (journal_lines steps))
+unfolding heading_text
+heading-is scenario params journal steps params_are steps_are = rw (params_are, steps_are) refl
+
+pub bus-is : (scenario : ScenarioParts) (s : RunState) (trace : List SlotNote) (found : Option Break) → reverse trace ≡ s.trace
+    → found ≡ first_break scenario.params s.trace → bus_text scenario s ≡ concat (map bus_line (filter is_shown trace)) ++ hypothesis_line found
+unfolding bus_text bus_lines
+bus-is scenario s trace found notes found_is =
+    let oldest_first : trace ≡ reverse s.trace = sym (reverse-reverse trace) ∙ ap reverse notes in
+    rw (oldest_first, found_is) refl
+
+pub outcome-is : (scenario : ScenarioParts) (s : RunState)
+    → outcome_text scenario s ≡ concat (flat_map (node_lines scenario s) (range_with_len 0 scenario.params.nodes)) ++ (concat (message_lines scenario s) ++ line_of (codes "end" ∷ []))
+unfolding outcome_text
+outcome-is scenario s = refl
+
+pub report-is : (scenario : ScenarioParts) (journal : List Step)
+    → report scenario journal ≡ heading_text scenario journal ++ (bus_text scenario (run scenario journal) ++ outcome_text scenario (run scenario journal))
+unfolding report report_lines heading_text bus_text outcome_text
+report-is scenario journal = simp (concat-append, append_assoc, append-nil)

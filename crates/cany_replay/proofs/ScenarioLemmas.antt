@@ -1,5 +1,5 @@
 -- The document of the bytes, and the set of all nodes.
-use Rattle.std.proofs.Common.{◌≡◌, ℕ, ◌≤◌, true, ◌&&◌, nat_lt, nat_le, List, [], Some, None, codes, inl, inr, refl, sym, ◌∙◌, arith}
+use Rattle.std.proofs.Common.{◌≡◌, ℕ, ◌≤◌, true, ◌&&◌, nat_lt, nat_le, List, [], Option, Some, None, codes, inl, inr, refl, sym, ◌∙◌, arith}
 use Rattle.std.specs.Str.{IsUtf8, is_utf8}
 use Rattle.std.proofs.lemmas.Bool.{cases_Bool}
 use Rattle.std.proofs.lemmas.Bool.Decides.{nat_tests}
@@ -11,8 +11,10 @@ use Rattle.cany_base.specs.NodesLaws.{same_nodes, has-those_where}
 use Rattle.cany_base.specs.declared.message.NodeAsk.{NodeAsk}
 use Rattle.cany_base.specs.declared.message.SendAsk.{SendAsk}
 use Rattle.cany_base.specs.declared.rule.Rule.{Rule}
+use Rattle.cany_base.specs.declared.step.Step.{Step}
 use Rattle.cany_base.specs.Params.{Parameters}
 use Rattle.cany_model.specs.FaultsText.{rules_from}
+use Rattle.cany_model.specs.JournalText.{journal_at}
 use Rattle.cany_model.specs.ParamsText.{params_of}
 use Rattle.cany_model.specs.ScenarioText.{document_of, top_keys, scenario_from}
 use Rattle.cany_model.specs.SendsText.{sends_from}
@@ -44,9 +46,11 @@ in_time-test slots life h = grind (arith, nat_tests)
 
 -- the parts that were read, where q are the parameters as their fields show them
 pub scenario_from-parts : (top : Members) (q params : Parameters) (members : Nodes) (sends : List SendAsk) (rules : List Rule) (joins leaves : List NodeAsk)
+    (journal : Option (List Step))
     → has_only top_keys top ≡ true → params_of top ≡ Some params → q ≡ params → q.slots ≤ q.life → q.nodes ≤ 32
     → ((i : ℕ) → has members i ≡ nat_lt i q.nodes) → optional (sends_from params) [] (codes "send") top ≡ Some sends
     → optional (rules_from params) [] (codes "fault") top ≡ Some rules → joins ≡ [] → leaves ≡ []
+    → journal_at top ≡ Some journal
     → scenario_from top ≡ Some (record {
       params = params;
       members = members;
@@ -54,10 +58,10 @@ pub scenario_from-parts : (top : Members) (q params : Parameters) (members : Nod
       rules = rules;
       joins = joins;
       leaves = leaves;
-      journal = None;
+      journal = journal;
     })
 unfolding scenario_from
-scenario_from-parts top q params members sends rules joins leaves known read same in_time few all listed scripted no_joins no_leaves =
+scenario_from-parts top q params members sends rules joins leaves journal known read same in_time few all listed scripted no_joins no_leaves given =
     let test : nat_le params.slots params.life ≡ true = rw (← same) (in_time-test q.slots q.life in_time) in
     let every : members ≡ those_where (λ i. nat_lt i params.nodes) = rw (← same) (those_where-below members q.nodes few all) in
-    rw (known, read, test, listed, scripted, no_joins, no_leaves, every) refl
+    rw (known, read, test, listed, scripted, no_joins, no_leaves, given, every) refl

@@ -1,63 +1,99 @@
 -- What a replayed scenario keeps, and the words of the command.
-use Rattle.std.proofs.Common.{◌≡◌, ℕ, ◌<◌, ◌≤◌, ◌↔◌, Bool, true, IsTrue, List, [], ◌∷◌, length, map, get_or, Option, Some, IsSomeAnd, sym, ◌∙◌, ap, subst, arith}
+use Rattle.std.proofs.Common.{◌≡◌, ℕ, ◌<◌, ◌≤◌, ◌↔◌, Bool, true, IsTrue, List, [], ◌∷◌, length, map, get_or, Option, Some, None, option_map, option_and_then, unwrap_or, IsSomeAnd, sym, ◌∙◌, ap, subst, arith}
 use Rattle.std.specs.Bool.{Decides}
 use Rattle.std.specs.Str.{bytes_eq}
 use Rattle.std.proofs.lemmas.Slice.Eq.{bytes_eq-Decides}
 use Rattle.std.specs.Option.{option_map_or}
+use Rattle.cany_base.specs.declared.step.Step.{Step}
 use Rattle.cany_base.specs.Scenario.{ScenarioParts, IsLegalScenario}
 use Rattle.cany_io.specs.Sink.{Takes, TakesPrefix}
+use Rattle.cany_model.specs.declared.follow.FollowFault.{FollowFault}
+use Rattle.cany_model.specs.Follow.{journal_fault, journal_of}
+use Rattle.cany_model.specs.RefusalLines.{later_form_line, journal_refusal_line}
 use Rattle.cany_model.specs.Report.{report}
 use Rattle.cany_model.specs.RoundRobin.{round_robin}
+use Rattle.cany_model.specs.Run.{IsLegal, IsWhole}
 use Rattle.cany_model.specs.ScenarioText.{scenario_of}
-use Rattle.cany_model.proofs.EdcanAgrees.{edcan_agrees}
+use Rattle.cany_model.proofs.FollowFacts.{no_fault_exactly}
 use Rattle.cany_model.proofs.Integrity.{integral}
 use Rattle.cany_model.proofs.RoundRobinEnds.{round_robin_ends}
+use Rattle.cany_model.proofs.Safety.{safe}
 use Rattle.cany_model.proofs.ScenarioTextLegal.{scenario_of-legal}
-use Rattle.cany_replay.specs.Top.{IsReplay, answer_of, refusal}
-use Rattle.cany_replay.specs.WorldParts.{WorldParts}
+use Rattle.cany_replay.specs.Top.{IsReplay, own_fault, refusal_for, refusal_of, answer_for, answer_of}
+use Rattle.cany_world.specs.World.{WorldParts}
 
-is_replay : (bytes : List ℕ) (scenario : ScenarioParts) (old new : Option (List ℕ)) → scenario_of bytes ≡ Some scenario
-    → Takes old (report scenario (round_robin scenario)) new → IsReplay scenario old new
-is_replay bytes scenario old new e written =
+-- the journal of a run that ended is legal and whole
+ends : (scenario : ScenarioParts) (o : Option (List Step)) → option_and_then (journal_fault scenario) o ≡ None
+    → IsLegal scenario (unwrap_or o (round_robin scenario)) × IsWhole scenario (unwrap_or o (round_robin scenario))
+ends scenario None h = round_robin_ends scenario
+ends scenario (Some journal) h = (no_fault_exactly scenario journal).0 h
+
+is_replay : (bytes : List ℕ) (scenario : ScenarioParts) (old new : Option (List ℕ)) → scenario_of bytes ≡ Some scenario → own_fault scenario ≡ None
+    → Takes old (report scenario (journal_of scenario)) new → IsReplay scenario old new
+is_replay bytes scenario old new e followed written =
     let legal : IsLegalScenario scenario = scenario_of-legal bytes scenario e in
     let few : scenario.params.nodes ≤ 32 = legal.in_range.nodes.1 in
+    let journal = ends scenario scenario.journal followed in
     record {
       written = written;
-      legal = (round_robin_ends scenario).0;
-      whole = (round_robin_ends scenario).1;
-      integrity = integral scenario (round_robin scenario) few;
-      safe = λ within. record {
-        integrity = integral scenario (round_robin scenario) few;
-        agreement = λ m stands ed. edcan_agrees scenario few (round_robin scenario) within m stands ed;
-      };
+      legal = journal.0;
+      whole = journal.1;
+      integrity = integral scenario (journal_of scenario) few;
+      safe = λ within. safe scenario few (journal_of scenario) within;
     }
 
--- the world is the round robin run of the scenario that the bytes stand for
-pub record IsWorldOf (bytes : List ℕ) (scenario : ScenarioParts) (world : WorldParts) : Type 0 where
-  pub read : scenario_of bytes ≡ Some scenario
-  pub run : world ≡ record { scenario = scenario; journal = round_robin scenario }
-
-pub reported : (bytes : List ℕ) (scenario : ScenarioParts) (world : WorldParts) (old new : Option (List ℕ))
-    → IsWorldOf bytes scenario world → Takes old (report world.scenario world.journal) new
-    → IsSomeAnd (scenario_of bytes) (λ s. IsReplay s old new)
-reported bytes scenario world old new is written =
+pub reported : (bytes : List ℕ) (scenario : ScenarioParts) (old new : Option (List ℕ)) → scenario_of bytes ≡ Some scenario → own_fault scenario ≡ None
+    → Takes old (report scenario (journal_of scenario)) new → IsSomeAnd (scenario_of bytes) (λ s. IsReplay s old new)
+reported bytes scenario old new is followed written =
     let P : Option ScenarioParts → Type 0 = λ o. IsSomeAnd o (λ s. IsReplay s old new) in
-    let Q : WorldParts → Type 0 = λ w. Takes old (report w.scenario w.journal) new in
-    subst P (sym is.read) (is_replay bytes scenario old new is.read (subst Q is.run written))
+    subst P (sym is) (is_replay bytes scenario old new is followed written)
 
-answer_is_report : (bytes : List ℕ) (scenario : ScenarioParts) (world : WorldParts) → IsWorldOf bytes scenario world
-    → answer_of bytes ≡ report world.scenario world.journal
+pub accepted : (bytes : List ℕ) (scenario : ScenarioParts) → scenario_of bytes ≡ Some scenario → own_fault scenario ≡ None → refusal_of bytes ≡ None
+unfolding refusal_of
+accepted bytes scenario is followed = ap refusal_for is ∙ ap (option_map journal_refusal_line) followed
+
+-- the line of a journal's fault
+line_for : (o : Option FollowFault) (old new : Option (List ℕ)) → IsSomeAnd o (λ fault. Takes old (journal_refusal_line fault) new)
+    → IsSomeAnd (option_map journal_refusal_line o) (λ line. Takes old line new)
+line_for None old new h = h
+line_for (Some fault) old new h = h
+
+pub refused_journal : (bytes : List ℕ) (scenario : ScenarioParts) (old new : Option (List ℕ)) → scenario_of bytes ≡ Some scenario
+    → IsSomeAnd (own_fault scenario) (λ fault. Takes old (journal_refusal_line fault) new) → IsSomeAnd (refusal_of bytes) (λ line. Takes old line new)
+unfolding refusal_of
+refused_journal bytes scenario old new is taken =
+    let P : Option ScenarioParts → Type 0 = λ o. IsSomeAnd (refusal_for o) (λ line. Takes old line new) in
+    subst P (sym is) (line_for (own_fault scenario) old new taken)
+
+pub refused_text : (bytes : List ℕ) (old new : Option (List ℕ)) → scenario_of bytes ≡ None → Takes old later_form_line new
+    → IsSomeAnd (refusal_of bytes) (λ line. Takes old line new)
+unfolding refusal_of
+refused_text bytes old new is taken =
+    let P : Option ScenarioParts → Type 0 = λ o. IsSomeAnd (refusal_for o) (λ line. Takes old line new) in
+    subst P (sym is) taken
+
+pub answer_of_scenario : (bytes : List ℕ) (scenario : ScenarioParts) (old new : Option (List ℕ)) → scenario_of bytes ≡ Some scenario
+    → TakesPrefix old (answer_for scenario) new → TakesPrefix old (answer_of bytes) new
 unfolding answer_of
-answer_is_report bytes scenario world is =
-    ap (λ (o : Option ScenarioParts). option_map_or (λ s. report s (round_robin s)) o refusal) is.read
-    ∙ ap (λ (w : WorldParts). report w.scenario w.journal) (sym is.run)
+answer_of_scenario bytes scenario old new is part =
+    let P : Option ScenarioParts → Type 0 = λ o. TakesPrefix old (option_map_or answer_for o later_form_line) new in
+    subst P (sym is) part
 
-pub reported_in_part : (bytes : List ℕ) (scenario : ScenarioParts) (world : WorldParts) (old new : Option (List ℕ))
-    → IsWorldOf bytes scenario world → TakesPrefix old (report world.scenario world.journal) new
+pub answer_of_other : (bytes : List ℕ) (old new : Option (List ℕ)) → scenario_of bytes ≡ None → TakesPrefix old later_form_line new
     → TakesPrefix old (answer_of bytes) new
-reported_in_part bytes scenario world old new is part =
-    let P : List ℕ → Type 0 = λ text. TakesPrefix old text new in
-    subst P (sym (answer_is_report bytes scenario world is)) part
+unfolding answer_of
+answer_of_other bytes old new is part =
+    let P : Option ScenarioParts → Type 0 = λ o. TakesPrefix old (option_map_or answer_for o later_form_line) new in
+    subst P (sym is) part
+
+-- what is written of a run
+pub answer_of_run : (scenario : ScenarioParts) (world : WorldParts) (old new : Option (List ℕ)) → own_fault scenario ≡ None
+    → world ≡ record { scenario = scenario; journal = journal_of scenario } → TakesPrefix old (report world.scenario world.journal) new
+    → TakesPrefix old (answer_for scenario) new
+answer_of_run scenario world old new followed is part =
+    let P : Option FollowFault → Type 0 = λ o. TakesPrefix old (option_map_or journal_refusal_line o (report scenario (journal_of scenario))) new in
+    let Q : WorldParts → Type 0 = λ w. TakesPrefix old (report w.scenario w.journal) new in
+    subst P (sym followed) (subst Q is part)
 
 -- a list of one word
 pub one_word : {A : Type 0} (f : A → List ℕ) (words : List A) (word : A) → 1 ≤ length words → length words < 2

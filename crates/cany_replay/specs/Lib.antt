@@ -1,10 +1,10 @@
 pub mod Fields
+pub mod JournalParts
 pub mod Keys
 pub mod Places
-pub mod Plain
 pub mod Refusal
+pub mod ReportParts
+pub mod RunFaults
 pub mod Sets
 pub mod Top
-pub mod WorldFields
-pub mod WorldParts
 pub mod Written

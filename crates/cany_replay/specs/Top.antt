@@ -1,11 +1,13 @@
 -- The command `replay`: its words, what it writes, and what its success says.
-use Rattle.std.specs.Prelude.{◌≡◌, ℕ, List, [], ◌∷◌, Option, codes}
+use Rattle.std.specs.Prelude.{◌≡◌, ℕ, List, [], ◌∷◌, Option, Some, None, option_map, option_and_then, codes}
 use Rattle.std.specs.Option.{option_map_or}
 use Rattle.cany_base.specs.Scenario.{ScenarioParts}
 use Rattle.cany_io.specs.Sink.{Takes}
+use Rattle.cany_model.specs.declared.follow.FollowFault.{FollowFault}
+use Rattle.cany_model.specs.Follow.{journal_fault, journal_of}
 use Rattle.cany_model.specs.Hypothesis.{IsWithin}
+use Rattle.cany_model.specs.RefusalLines.{later_form_line, journal_refusal_line}
 use Rattle.cany_model.specs.Report.{report}
-use Rattle.cany_model.specs.RoundRobin.{round_robin}
 use Rattle.cany_model.specs.Run.{IsLegal, IsWhole, run}
 use Rattle.cany_model.specs.Safe.{IsIntegral, IsSafe}
 use Rattle.cany_model.specs.ScenarioText.{scenario_of}
@@ -15,26 +17,37 @@ use Rattle.cany_model.specs.State.{RunState}
 abbrev pub AreReplay : List (List ℕ) → Type 0
 AreReplay words = words ≡ codes "replay" ∷ []
 
--- the line of a text that is refused
-abbrev pub refusal : List ℕ
-refusal = codes "refused later form\n"
+-- what keeps the scenario's own journal, where it has one, from being legal and whole
+abbrev pub own_fault : ScenarioParts → Option FollowFault
+own_fault scenario = option_and_then (journal_fault scenario) scenario.journal
 
--- what is written for the bytes of a text: the report of the scenario that they stand for by its round robin journal,
--- or the line of the refusal
+abbrev pub refusal_for : Option ScenarioParts → Option (List ℕ)
+refusal_for None = Some later_form_line
+refusal_for (Some scenario) = option_map journal_refusal_line (own_fault scenario)
+
+-- the line of the refusal, where the bytes stand for no scenario of the form that is read so far, or its journal is refused
+unfoldable pub refusal_of : List ℕ → Option (List ℕ)
+refusal_of bytes = refusal_for (scenario_of bytes)
+
+abbrev pub answer_for : ScenarioParts → List ℕ
+answer_for scenario = option_map_or journal_refusal_line (own_fault scenario) (report scenario (journal_of scenario))
+
+-- what is written for the bytes of a text: the report of the scenario that they stand for by its own journal or, where it has
+-- none, by its round robin journal; or the line of the refusal
 unfoldable pub answer_of : List ℕ → List ℕ
-answer_of bytes = option_map_or (λ scenario. report scenario (round_robin scenario)) (scenario_of bytes) refusal
+answer_of bytes = option_map_or answer_for (scenario_of bytes) later_form_line
 
--- the run of the scenario by its round robin journal
+-- the run of the scenario by its own journal or by its round robin journal
 abbrev pub replayed : ScenarioParts → RunState
-replayed scenario = run scenario (round_robin scenario)
+replayed scenario = run scenario (journal_of scenario)
 
 -- what success says of the scenario and of what the sink had taken before and has taken now
 pub record IsReplay (scenario : ScenarioParts) (old new : Option (List ℕ)) : Type 0 where
   -- the report of the run was written
-  pub written : Takes old (report scenario (round_robin scenario)) new
-  -- each step of the journal could be done, and nothing is left unread
-  pub legal : IsLegal scenario (round_robin scenario)
-  pub whole : IsWhole scenario (round_robin scenario)
+  pub written : Takes old (report scenario (journal_of scenario)) new
+  -- each step of the journal could be done, and at its end all slots ran and nothing is left unread
+  pub legal : IsLegal scenario (journal_of scenario)
+  pub whole : IsWhole scenario (journal_of scenario)
   -- in every run, no message twice or unsent
   pub integrity : IsIntegral scenario (replayed scenario)
   -- what a run within the fault hypothesis keeps

@@ -3,8 +3,8 @@
 
 mod reader;
 mod report;
+mod run;
 mod top;
-mod world;
 
 pub use top::replay_top;
 

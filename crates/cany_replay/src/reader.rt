@@ -6,17 +6,20 @@ ghost use Rattle.cany_replay.specs.Refusal.{IfLater};
 
 mod document;
 mod faults;
+mod journal;
 mod keys;
 mod nodes;
 mod params;
 mod places;
 mod refusal;
+mod rule_place;
 mod sends;
 #[cfg(test)]
 mod tests;
 
 use crate::reader::document::read_document;
 use crate::reader::faults::read_rules;
+use crate::reader::journal::read_journal;
 use crate::reader::keys::has_only;
 use crate::reader::params::read_params;
 pub(crate) use crate::reader::refusal::{LaterName, ReadRefusal};
@@ -25,10 +28,10 @@ use cany_base::{NodeSet, Scenario};
 use std::alloc::Global;
 use toml::Table;
 
-/// The top keys that a text can have so far. The reader refuses each other key of the format, so the parameters of those
-/// keys have their defaults.
-const TOP_KEYS: [&str; 7] = [
-    "format", "nodes", "slots", "omit", "errors", "send", "fault",
+/// The top keys that a text can have so far. The reader refuses each other key of the format.
+const TOP_KEYS: [&str; 14] = [
+    "format", "nodes", "slots", "lag", "omit", "errors", "bound", "cycle", "life", "silence",
+    "confirm", "send", "fault", "journal",
 ];
 
 /// The scenario that the bytes stand for.
@@ -59,6 +62,7 @@ fn scenario_from(alloc: Global, top: &Table) -> Result<Scenario, ReadRefusal>
     }
     let sends = read_sends(alloc, &params, top)?;
     let rules = read_rules(alloc, &params, top)?;
+    let journal = read_journal(alloc, top)?;
     let members = NodeSet::all(params.nodes);
     Ok(Scenario::of_parts(
         params,
@@ -67,6 +71,6 @@ fn scenario_from(alloc: Global, top: &Table) -> Result<Scenario, ReadRefusal>
         rules,
         Vec::new(alloc),
         Vec::new(alloc),
-        None,
+        journal,
     ))
 }

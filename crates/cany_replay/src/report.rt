@@ -1,4 +1,4 @@
-//! The report of a run, and the line of a refusal. Each line goes to the sink in one piece.
+//! The report of a run, and the lines of refusals. Each line goes to the sink in one piece.
 
 mod field;
 mod line;
@@ -8,7 +8,8 @@ mod refusal;
 mod row;
 mod whole;
 
-pub use refusal::write_refusal;
+pub use names::class_name;
+pub use refusal::{write_journal_refusal, write_later_form};
 pub use whole::write_report;
 
 #[cfg(test)]

@@ -3,6 +3,8 @@ use cany_io::{MemSink, MemSource, PlainSource};
 use std::alloc::{AllocError, Global};
 use std::test::Fail;
 
+mod journals;
+mod relcan;
 mod runs;
 mod streams;
 mod words;

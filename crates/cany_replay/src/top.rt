@@ -3,14 +3,19 @@ ghost use Rattle.std.specs.Prelude.{◌≡◌, ◌⊎◌, ◌↔◌, ◌<◌, �
 ghost use Rattle.cany_io.specs.Faults.{HasRisen, StandsStill};
 ghost use Rattle.cany_io.specs.Sink.{Takes, TakesPrefix};
 ghost use Rattle.cany_io.specs.Source.{IsAtEnd};
+ghost use Rattle.cany_model.specs.Follow.{journal_of};
+ghost use Rattle.cany_model.specs.RefusalLines.{later_form_line, journal_refusal_line};
 ghost use Rattle.cany_model.specs.Report.{report};
 ghost use Rattle.cany_model.specs.ScenarioText.{scenario_of};
-ghost use Rattle.cany_replay.specs.Top.{AreReplay, IsReplay, answer_of, refusal};
+ghost use Rattle.cany_replay.specs.Top.{AreReplay, IsReplay, own_fault, refusal_of, answer_for, answer_of};
 
 use crate::reader::{ReadRefusal, read_scenario};
-use crate::report::{write_refusal, write_report};
-use crate::world::{World, round_robin};
+use crate::report::{write_journal_refusal, write_later_form, write_report};
+use crate::run::{RunFault, run};
+use cany_base::Scenario;
 use cany_io::{Failed, ReadFault, Sink, Source, read_all};
+use cany_model::FollowFault;
+use cany_world::World;
 use std::alloc::Global;
 
 /// How many bytes a scenario text has at most.
@@ -53,49 +58,74 @@ fn report_run<K: Sink>(world: &World, sink: &mut K) -> u8
     }
 }
 
-/// Refuses a text.
-fn refuse<K: Sink>(sink: &mut K) -> u8
-    ensures refused { result ≡ REFUSED → Takes (K.taken sink.old) refusal (K.taken sink.new) }
+/// Refuses a text that stands for no scenario of the form that is read so far.
+fn refuse_text<K: Sink>(sink: &mut K) -> u8
+    ensures refused { result ≡ REFUSED → Takes (K.taken sink.old) later_form_line (K.taken sink.new) }
     ensures write_fault { result ≡ WRITE_FAULT → HasRisen (K.faults sink.old) (K.faults sink.new) }
-    ensures prefix { TakesPrefix (K.taken sink.old) refusal (K.taken sink.new) }
+    ensures prefix { TakesPrefix (K.taken sink.old) later_form_line (K.taken sink.new) }
     ensures status { (result ≡ REFUSED) ⊎ (result ≡ WRITE_FAULT) }
 {
-    match write_refusal(sink) {
+    match write_later_form(sink) {
         Ok(()) => REFUSED,
         Err(Failed) => WRITE_FAULT,
     }
 }
 
-/// Runs the scenario of a text and writes the report, or refuses the text. Nothing is written before the run has ended.
-#[tactic(auto, unfolding(crate::specs::Top::answer_of))]
+/// Refuses a scenario for its journal.
+fn refuse_journal<K: Sink>(fault: &FollowFault, sink: &mut K) -> u8
+    ensures refused { result ≡ REFUSED → Takes (K.taken sink.old) (journal_refusal_line fault.now) (K.taken sink.new) }
+    ensures write_fault { result ≡ WRITE_FAULT → HasRisen (K.faults sink.old) (K.faults sink.new) }
+    ensures prefix { TakesPrefix (K.taken sink.old) (journal_refusal_line fault.now) (K.taken sink.new) }
+    ensures status { (result ≡ REFUSED) ⊎ (result ≡ WRITE_FAULT) }
+{
+    match write_journal_refusal(fault, sink) {
+        Ok(()) => REFUSED,
+        Err(Failed) => WRITE_FAULT,
+    }
+}
+
+/// Runs a scenario and writes the report, or refuses its journal. Nothing is written before the run has ended.
+fn replay_scenario<K: Sink>(alloc: Global, scenario: &Scenario, sink: &mut K) -> u8
+    ensures done { result ≡ DONE → Takes (K.taken sink.old) (report scenario.now (journal_of scenario.now)) (K.taken sink.new) }
+    ensures followed { result ≡ DONE → own_fault scenario.now ≡ None }
+    ensures refused { result ≡ REFUSED → IsSomeAnd (own_fault scenario.now) (λ fault. Takes (K.taken sink.old) (journal_refusal_line fault) (K.taken sink.new)) }
+    ensures write_fault { result ≡ WRITE_FAULT → HasRisen (K.faults sink.old) (K.faults sink.new) }
+    ensures prefix { result ≡ WRITE_FAULT → TakesPrefix (K.taken sink.old) (answer_for scenario.now) (K.taken sink.new) }
+    ensures untouched { result ≡ NO_MEMORY → sink.new ≡ sink.old }
+    ensures status { (result ≡ DONE) ⊎ (result ≡ REFUSED) ⊎ (result ≡ WRITE_FAULT) ⊎ (result ≡ NO_MEMORY) }
+{
+    match run(alloc, scenario) {
+        Ok(world) => report_run(&world, sink),
+        Err(RunFault::Journal(fault)) => refuse_journal(&fault, sink),
+        Err(RunFault::Memory) => NO_MEMORY,
+    }
+}
+
+/// Replays the scenario of a text, or refuses the text.
 fn replay_text<K: Sink>(alloc: Global, text: &[u8], sink: &mut K) -> u8
     ensures done { result ≡ DONE → IsSomeAnd (scenario_of text.now) (λ scenario. IsReplay scenario (K.taken sink.old) (K.taken sink.new)) }
-    ensures refused { result ≡ REFUSED → scenario_of text.now ≡ None }
-    ensures line { result ≡ REFUSED → Takes (K.taken sink.old) refusal (K.taken sink.new) }
+    ensures accepted { result ≡ DONE → refusal_of text.now ≡ None }
+    ensures refused { result ≡ REFUSED → IsSomeAnd (refusal_of text.now) (λ line. Takes (K.taken sink.old) line (K.taken sink.new)) }
     ensures write_fault { result ≡ WRITE_FAULT → HasRisen (K.faults sink.old) (K.faults sink.new) }
     ensures prefix { result ≡ WRITE_FAULT → TakesPrefix (K.taken sink.old) (answer_of text.now) (K.taken sink.new) }
     ensures untouched { result ≡ NO_MEMORY → sink.new ≡ sink.old }
     ensures status { (result ≡ DONE) ⊎ (result ≡ REFUSED) ⊎ (result ≡ WRITE_FAULT) ⊎ (result ≡ NO_MEMORY) }
 {
-    let scenario = match read_scenario(alloc, text) {
-        Ok(scenario) => scenario,
-        Err(ReadRefusal::Later { .. }) => return refuse(sink),
-        Err(ReadRefusal::Memory) => return NO_MEMORY,
-    };
-    match round_robin(alloc, &scenario) {
-        Ok(world) => report_run(&world, sink),
-        Err(_) => NO_MEMORY,
+    match read_scenario(alloc, text) {
+        Ok(scenario) => replay_scenario(alloc, &scenario, sink),
+        Err(ReadRefusal::Later { .. }) => refuse_text(sink),
+        Err(ReadRefusal::Memory) => NO_MEMORY,
     }
 }
 
-/// Replays: reads a scenario text from the source, runs the scenario by its round robin journal, and writes the report to
-/// the sink, a line at a time. It answers the status of the program:
+/// Replays: reads a scenario text from the source, runs the scenario by its own journal or, where it has none, by its round
+/// robin journal, and writes the report to the sink, a line at a time. It answers the status of the program:
 ///
 /// | status | |
 /// |---|---|
 /// | 0 | the report was written |
 /// | 2 | the words are not the one word `replay`; nothing was read or written |
-/// | 3 | the text stands for no scenario of the form that is read so far, and the line of the refusal was written |
+/// | 3 | the text stands for no scenario of the form that is read so far, or a step of the scenario's journal could not be done, or slots or notices are left at its end; the line of the refusal was written |
 /// | 4 | the source failed; nothing was written |
 /// | 5 | the sink failed; what it took is the start of what 0 or 3 would write |
 /// | 6 | there was no memory; nothing was written |
@@ -114,9 +144,9 @@ pub fn replay_top<S: Source, K: Sink>(
     ensures done { result ≡ 0 → IfSome (S.left source.old) (λ bytes. IsSomeAnd (scenario_of bytes) (λ scenario.
         IsReplay scenario (K.taken sink.old) (K.taken sink.new))) }
 
-    // The text is refused.
-    ensures refused { result ≡ 3 → IfSome (S.left source.old) (λ bytes. scenario_of bytes ≡ None) }
-    ensures line { result ≡ 3 → Takes (K.taken sink.old) refusal (K.taken sink.new) }
+    // The text or the journal is refused.
+    ensures refused { result ≡ 3 → IfSome (S.left source.old) (λ bytes. IsSomeAnd (refusal_of bytes) (λ line.
+        Takes (K.taken sink.old) line (K.taken sink.new))) }
 
     // The streams fail.
     ensures read_fault { result ≡ 4 → HasRisen (S.faults source.old) (S.faults source.new) }
@@ -137,7 +167,7 @@ pub fn replay_top<S: Source, K: Sink>(
         → StandsStill (S.faults source.old) (S.faults source.new)
         → StandsStill (K.faults sink.old) (K.faults sink.new)
         → IfSome (S.left source.old) (λ bytes. length bytes ≤ 8388608
-        → (result ≡ 6) ⊎ MatchOption (scenario_of bytes) (result ≡ 3) (λ _. result ≡ 0)) }
+        → (result ≡ 6) ⊎ MatchOption (refusal_of bytes) (result ≡ 0) (λ _. result ≡ 3)) }
     ensures complete_too_long { AreReplay (map string_bytes words.now)
         → StandsStill (S.faults source.old) (S.faults source.new)
         → IfSome (S.left source.old) (λ bytes. 8388608 < length bytes → (result ≡ 6) ⊎ (result ≡ 7)) }

@@ -2,19 +2,17 @@
 ghost use Rattle.std.specs.Prelude.{◌≡◌, [], codes, IfOk, IfErr, Some, None};
 ghost use Rattle.toml.specs.View.{view, items_view, table_view};
 ghost use Rattle.cany_model.specs.TomlKeys.{optional, each_of};
-ghost use Rattle.cany_model.specs.FaultsText.{set_of, nodes_from, verdict_from, place_from, rule_from, rules_from};
+ghost use Rattle.cany_model.specs.FaultsText.{set_of, nodes_from, verdict_from, rule_from, rules_from};
 ghost use Rattle.cany_replay.specs.Refusal.{IfLater};
 
-use crate::reader::keys::{has_only, required_number, value_at};
+use crate::reader::keys::value_at;
 use crate::reader::nodes::nodes_from;
 use crate::reader::places::have_distinct_places;
 use crate::reader::refusal::ReadRefusal;
-use cany_base::{NodeSet, Params, Place, Rule, Verdict};
+use crate::reader::rule_place::place_from;
+use cany_base::{NodeSet, Params, Rule, Verdict};
 use std::alloc::Global;
 use toml::{Table, Value};
-
-/// The keys that an entry can have. A rule for a frame has others, and is not taken yet.
-const SLOT_RULE_KEYS: [&str; 4] = ["slot", "verdict", "reject", "stop"];
 
 /// How many entries there can be.
 const MOST_RULES: usize = 20_000;
@@ -90,18 +88,6 @@ fn rule_from(params: &Params, value: &Value) -> Option<Rule>
         verdict,
         stop,
     })
-}
-
-/// Where the rule of an entry acts.
-#[tactic(auto, unfolding(cany_model::specs::FaultsText::place_from))]
-fn place_from(params: &Params, entry: &Table) -> Option<Place>
-    ensures { result ≡ place_from params.now (table_view entry.now) }
-{
-    if !has_only(entry, &SLOT_RULE_KEYS) {
-        return None;
-    }
-    let slot = required_number(entry, "slot", 0, params.slots - 1)?;
-    Some(Place::At { slot })
 }
 
 /// The verdict of the name, where these nodes reject the frame.

@@ -88,6 +88,7 @@ fn service_from(value: &Value) -> Option<Service>
 {
     match value.as_str()? {
         "ed" => Some(Service::Ed),
+        "rel" => Some(Service::Rel),
         _ => None,
     }
 }

@@ -1,15 +1,104 @@
-ghost use Rattle.std.specs.Prelude.{codes};
+//! The lines of the refusals.
+ghost use Rattle.std.specs.Prelude.{◌≤◌, [], ◌∷◌, length, codes, decimal};
+ghost use Rattle.cany_model.specs.declared.follow.FollowFault.TheVariants.{Refused, Unfinished};
+ghost use Rattle.cany_model.specs.RefusalLines.{later_form_line, journal_refusal_line};
+ghost use Rattle.cany_model.specs.ReportLines.{line_of};
 ghost use Rattle.cany_replay.specs.Written.{IsWritten};
 
 use super::field::Field;
 use super::line::write_line;
+use cany_base::NodeId;
 use cany_io::{Failed, Sink};
+use cany_model::{FollowFault, StepReply};
 
-/// Writes the line of the one refusal of a scenario so far: it is not of the form that is read.
-#[tactic(auto, unfolding(cany_model::specs::ReportLines::line_of))]
-pub fn write_refusal<K: Sink>(sink: &mut K) -> Result<(), Failed>
-    ensures { IsWritten (codes "refused later form\n") result
+/// How the line of a refused step begins.
+const STEP: &str = "refused journal step";
+
+/// Writes the line of a text that stands for no scenario of the form that is read so far.
+#[tactic(auto, unfolding(cany_model::specs::RefusalLines::later_form_line))]
+pub fn write_later_form<K: Sink>(sink: &mut K) -> Result<(), Failed>
+    ensures { IsWritten later_form_line result
         (K.taken sink.old) (K.taken sink.new) (K.faults sink.old) (K.faults sink.new) }
 {
     write_line(&[Field::Text("refused later form")], sink)
+}
+
+/// Writes the line of a journal that is refused.
+pub fn write_journal_refusal<K: Sink>(fault: &FollowFault, sink: &mut K) -> Result<(), Failed>
+    ensures { IsWritten (journal_refusal_line fault.now) result
+        (K.taken sink.old) (K.taken sink.new) (K.faults sink.old) (K.faults sink.new) }
+{
+    match *fault {
+        FollowFault::Refused { place, reply } => write_refused_step(place as u64, &reply, sink),
+        FollowFault::Unfinished { ran, node } => write_unfinished(ran, node, sink),
+    }
+}
+
+/// Writes the line of a journal whose step at this place is the first that is not done.
+fn write_refused_step<K: Sink>(place: u64, reply: &StepReply, sink: &mut K) -> Result<(), Failed>
+    ensures { IsWritten (journal_refusal_line (Refused place reply.now)) result
+        (K.taken sink.old) (K.taken sink.new) (K.faults sink.old) (K.faults sink.new) }
+{
+    match *reply {
+        // No step that is done is refused.
+        StepReply::Done => write_line(&[Field::Text(STEP), Field::Number(place)], sink),
+        StepReply::Lagging { node, unread } => write_line(
+            &[
+                Field::Text(STEP),
+                Field::Number(place),
+                Field::Text("lagging node"),
+                Field::Number(u64::from(node.get())),
+                Field::Text("unread"),
+                Field::Number(u64::from(unread)),
+            ],
+            sink,
+        ),
+        StepReply::Over { slots } => write_cause(place, "over slots", slots, sink),
+        StepReply::NothingYet { now } => write_cause(place, "nothing yet now", now, sink),
+        StepReply::Stopped { slot } => write_cause(place, "stopped slot", slot, sink),
+        StepReply::NoNode { node } => write_cause(place, "no node", u64::from(node.get()), sink),
+    }
+}
+
+/// Writes the line of a journal whose step at this place is refused for a cause of some words and a number.
+fn write_cause<K: Sink>(
+    place: u64,
+    words: &'static str,
+    number: u64,
+    sink: &mut K,
+) -> Result<(), Failed>
+    requires { length words.now ≤ 20 }
+    ensures { IsWritten (line_of (codes "refused journal step" ∷ decimal place ∷ words.now ∷ decimal number ∷ [])) result
+        (K.taken sink.old) (K.taken sink.new) (K.faults sink.old) (K.faults sink.new) }
+{
+    write_line(
+        &[
+            Field::Text(STEP),
+            Field::Number(place),
+            Field::Text(words),
+            Field::Number(number),
+        ],
+        sink,
+    )
+}
+
+/// Writes the line of a journal that leaves slots to run or notices to read.
+fn write_unfinished<K: Sink>(ran: u64, node: Option<NodeId>, sink: &mut K) -> Result<(), Failed>
+    ensures { IsWritten (journal_refusal_line (Unfinished ran node)) result
+        (K.taken sink.old) (K.taken sink.new) (K.faults sink.old) (K.faults sink.new) }
+{
+    let unfinished = Field::Text("refused journal unfinished ran");
+    let ran = Field::Number(ran);
+    match node {
+        None => write_line(&[unfinished, ran], sink),
+        Some(node) => write_line(
+            &[
+                unfinished,
+                ran,
+                Field::Text("node"),
+                Field::Number(u64::from(node.get())),
+            ],
+            sink,
+        ),
+    }
 }

@@ -9,14 +9,14 @@ use super::lines::{
     write_bus_line, write_entry, write_hypothesis, write_message, write_node_line, write_params,
     write_steps,
 };
-use super::{write_refusal, write_report};
-use crate::world::World;
+use super::{write_journal_refusal, write_later_form, write_report};
 use cany_base::{
     Class, Format, Frame, LogEntry, MsgKey, NodeId, NodeSet, Params, Payload, SendAsk, Service,
     SlotNote, Step, Verdict,
 };
 use cany_io::{Failed, MemSink, Sink};
-use cany_model::{Break, BreakKind};
+use cany_model::{Break, BreakKind, FollowFault, StepReply};
+use cany_world::World;
 use std::alloc::Global;
 use std::process::Abort;
 use std::test::Fail;
@@ -262,7 +262,7 @@ fn other_lines(rt: HostRuntime) -> Result<(), Fail> {
         payload: Payload::empty(),
     };
     write_message(&send, 7, false, &mut sink)?;
-    write_refusal(&mut sink)?;
+    write_later_form(&mut sink)?;
     let lines: &[u8] = b"hypothesis outside errors 3
 node 0 stopped 16 read 16
 failed 110 2 1
@@ -270,6 +270,42 @@ view 144 2 0,1
 deliver 12 tot 31 7 x00ff0a9c01020304
 message rel 12 7 open
 refused later form
+";
+    assert_eq!(rt; sink.taken(), lines);
+    Ok(())
+}
+
+#[test]
+fn lines_of_refused_journals(rt: HostRuntime) -> Result<(), Fail> {
+    let alloc = rt.alloc();
+    let mut sink = sink(alloc, Vec::new(alloc))?;
+    for reply in [
+        StepReply::Lagging {
+            node: node(31),
+            unread: 9,
+        },
+        StepReply::Over { slots: 100_000 },
+        StepReply::NothingYet { now: 7 },
+        StepReply::Stopped { slot: 3 },
+        StepReply::NoNode { node: node(12) },
+    ] {
+        let fault = FollowFault::Refused {
+            place: 3_300_000,
+            reply,
+        };
+        write_journal_refusal(&fault, &mut sink)?;
+    }
+    for node in [None, Some(node(2))] {
+        let fault = FollowFault::Unfinished { ran: 6, node };
+        write_journal_refusal(&fault, &mut sink)?;
+    }
+    let lines: &[u8] = b"refused journal step 3300000 lagging node 31 unread 9
+refused journal step 3300000 over slots 100000
+refused journal step 3300000 nothing yet now 7
+refused journal step 3300000 stopped slot 3
+refused journal step 3300000 no node 12
+refused journal unfinished ran 6
+refused journal unfinished ran 6 node 2
 ";
     assert_eq!(rt; sink.taken(), lines);
     Ok(())

@@ -3,7 +3,8 @@ ghost use Rattle.std.specs.List.{concat, flat_map, range_with_len};
 ghost use Rattle.cany_base.specs.Scenario.{ScenarioParts};
 ghost use Rattle.cany_model.specs.Report.{report, bus_lines, node_lines, message_lines};
 ghost use Rattle.cany_model.specs.ReportLines.{bus_line, is_shown as has_line, journal_lines};
-ghost use Rattle.cany_model.specs.Run.{run};
+ghost use Rattle.cany_replay.specs.ReportParts.{heading_text, bus_text, outcome_text};
+ghost use Rattle.cany_world.specs.World.{state_of};
 ghost use Rattle.cany_replay.specs.Written.{IsWritten};
 
 use super::field::Field;
@@ -13,9 +14,9 @@ use super::lines::{
     write_steps,
 };
 use super::names::has_any;
-use crate::world::World;
 use cany_base::{NodeId, SlotNote, Step};
 use cany_io::{Failed, Sink};
+use cany_world::World;
 
 /// How many steps stand in a line of the journal.
 const STEPS: usize = 64;
@@ -54,7 +55,7 @@ fn write_bus<K: Sink>(trace: &[SlotNote], sink: &mut K) -> Result<(), Failed>
 /// Writes a node and its log.
 fn write_node<K: Sink>(world: &World, node: NodeId, sink: &mut K) -> Result<(), Failed>
     requires { node < world.now.scenario.params.nodes }
-    ensures { IsWritten (concat (node_lines world.now.scenario (run world.now.scenario world.now.journal) node)) result
+    ensures { IsWritten (concat (node_lines world.now.scenario (state_of world.now) node)) result
         (K.taken sink.old) (K.taken sink.new) (K.faults sink.old) (K.faults sink.new) }
 {
     write_node_line(node, world.stopped(node), world.read(node), sink)?;
@@ -65,7 +66,7 @@ fn write_node<K: Sink>(world: &World, node: NodeId, sink: &mut K) -> Result<(), 
 }
 
 fn write_nodes<K: Sink>(world: &World, sink: &mut K) -> Result<(), Failed>
-    ensures { IsWritten (concat (flat_map (node_lines world.now.scenario (run world.now.scenario world.now.journal))
+    ensures { IsWritten (concat (flat_map (node_lines world.now.scenario (state_of world.now))
         (range_with_len 0 world.now.scenario.params.nodes))) result
         (K.taken sink.old) (K.taken sink.new) (K.faults sink.old) (K.faults sink.new) }
 {
@@ -77,7 +78,7 @@ fn write_nodes<K: Sink>(world: &World, sink: &mut K) -> Result<(), Failed>
 
 /// Writes the messages, and counts those of each origin to number them.
 fn write_messages<K: Sink>(world: &World, sink: &mut K) -> Result<(), Failed>
-    ensures { IsWritten (concat (message_lines world.now.scenario (run world.now.scenario world.now.journal))) result
+    ensures { IsWritten (concat (message_lines world.now.scenario (state_of world.now))) result
         (K.taken sink.old) (K.taken sink.new) (K.faults sink.old) (K.faults sink.new) }
 {
     let mut counts = [0u64; NodeId::COUNT as usize];
@@ -89,17 +90,41 @@ fn write_messages<K: Sink>(world: &World, sink: &mut K) -> Result<(), Failed>
     Ok(())
 }
 
+/// Writes what was run: the heading, the parameters and the journal.
+fn write_heading<K: Sink>(world: &World, sink: &mut K) -> Result<(), Failed>
+    ensures { IsWritten (heading_text world.now.scenario world.now.journal) result
+        (K.taken sink.old) (K.taken sink.new) (K.faults sink.old) (K.faults sink.new) }
+{
+    write_line(&[Field::Text("canely report 1")], sink)?;
+    write_params(world.scenario().params(), sink)?;
+    write_journal(world.journal(), sink)
+}
+
+/// Writes what happened on the bus, and whether it is within the fault hypothesis.
+fn write_bus_part<K: Sink>(world: &World, sink: &mut K) -> Result<(), Failed>
+    ensures { IsWritten (bus_text world.now.scenario (state_of world.now)) result
+        (K.taken sink.old) (K.taken sink.new) (K.faults sink.old) (K.faults sink.new) }
+{
+    write_bus(world.trace(), sink)?;
+    write_hypothesis(world.hypothesis(), sink)
+}
+
+/// Writes what the nodes and the messages came to.
+fn write_outcome<K: Sink>(world: &World, sink: &mut K) -> Result<(), Failed>
+    ensures { IsWritten (outcome_text world.now.scenario (state_of world.now)) result
+        (K.taken sink.old) (K.taken sink.new) (K.faults sink.old) (K.faults sink.new) }
+{
+    write_nodes(world, sink)?;
+    write_messages(world, sink)?;
+    write_line(&[Field::Text("end")], sink)
+}
+
 /// Writes the report of the world's run. It takes no memory.
 pub fn write_report<K: Sink>(world: &World, sink: &mut K) -> Result<(), Failed>
     ensures { IsWritten (report world.now.scenario world.now.journal) result
         (K.taken sink.old) (K.taken sink.new) (K.faults sink.old) (K.faults sink.new) }
 {
-    write_line(&[Field::Text("canely report 1")], sink)?;
-    write_params(world.scenario().params(), sink)?;
-    write_journal(world.journal(), sink)?;
-    write_bus(world.trace(), sink)?;
-    write_hypothesis(world.hypothesis(), sink)?;
-    write_nodes(world, sink)?;
-    write_messages(world, sink)?;
-    write_line(&[Field::Text("end")], sink)
+    write_heading(world, sink)?;
+    write_bus_part(world, sink)?;
+    write_outcome(world, sink)
 }

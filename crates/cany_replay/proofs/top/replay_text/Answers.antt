@@ -1,12 +1,26 @@
-use Rattle.cany_replay.proofs.TopLemmas.{reported, reported_in_part}
+use Rattle.cany_replay.proofs.TopLemmas.{reported, accepted, refused_journal, refused_text, answer_of_scenario, answer_of_other}
 use Rattle.cany_replay.proofs.top.replay_text.Goals as goal
 
-pub returns-in-Ok-round_robin-clause-done : goal.returns-in-Ok-round_robin-clause-done
-returns-in-Ok-round_robin-clause-done g c = λ done.
-    reported c.args.text.now c.in-Ok.scenario c.in-Ok-round_robin.world _ _
-    (record { read = c.in-Ok.ensures.ok; run = c.in-Ok-round_robin.ensures }) (c.report_run.ensures.done done)
+pub returns-in-Ok-clause-done : goal.returns-in-Ok-clause-done
+returns-in-Ok-clause-done g c = λ done.
+    reported c.args.text.now c.in-Ok.scenario _ _ c.in-Ok.ensures.ok (c.replay_scenario.ensures.followed done) (c.replay_scenario.ensures.done done)
 
-pub returns-in-Ok-round_robin-clause-prefix : goal.returns-in-Ok-round_robin-clause-prefix
-returns-in-Ok-round_robin-clause-prefix g c = λ fault.
-    reported_in_part c.args.text.now c.in-Ok.scenario c.in-Ok-round_robin.world _ _
-    (record { read = c.in-Ok.ensures.ok; run = c.in-Ok-round_robin.ensures }) c.report_run.ensures.prefix
+pub returns-in-Ok-clause-accepted : goal.returns-in-Ok-clause-accepted
+returns-in-Ok-clause-accepted g c = λ done.
+    accepted c.args.text.now c.in-Ok.scenario c.in-Ok.ensures.ok (c.replay_scenario.ensures.followed done)
+
+pub returns-in-Ok-clause-refused : goal.returns-in-Ok-clause-refused
+returns-in-Ok-clause-refused g c = λ refused.
+    refused_journal c.args.text.now c.in-Ok.scenario _ _ c.in-Ok.ensures.ok (c.replay_scenario.ensures.refused refused)
+
+pub returns-in-Ok-clause-prefix : goal.returns-in-Ok-clause-prefix
+returns-in-Ok-clause-prefix g c = λ fault.
+    answer_of_scenario c.args.text.now c.in-Ok.scenario _ _ c.in-Ok.ensures.ok (c.replay_scenario.ensures.prefix fault)
+
+pub returns-in-Err-Later-clause-refused : goal.returns-in-Err-Later-clause-refused
+returns-in-Err-Later-clause-refused g c = λ refused.
+    refused_text c.args.text.now _ _ (rw c.in-Err-Later.field-0-is at c.in-Err-Later.ensures.later) (c.refuse_text.ensures.refused refused)
+
+pub returns-in-Err-Later-clause-prefix : goal.returns-in-Err-Later-clause-prefix
+returns-in-Err-Later-clause-prefix g c = λ fault.
+    answer_of_other c.args.text.now _ _ (rw c.in-Err-Later.field-0-is at c.in-Err-Later.ensures.later) c.refuse_text.ensures.prefix

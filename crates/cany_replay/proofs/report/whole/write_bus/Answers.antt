@@ -1,6 +1,6 @@
 use Rattle.std.proofs.Common.{sym, ◌∙◌}
 use Rattle.std.proofs.lemmas.Result.{err_from_is_err_and}
-use Rattle.cany_replay.proofs.ReportLemmas.{shown_line, bus_text, shown_line-shown, shown_line-hidden}
+use Rattle.cany_replay.proofs.ReportLemmas.{shown_line, shown_text, shown_line-shown, shown_line-hidden}
 use Rattle.cany_replay.proofs.WrittenLemmas.{IsWritten-nothing, IsWritten-next, IsWritten-cut, IsWritten-all}
 use Rattle.cany_replay.proofs.report.whole.write_bus.Goals as goal
 use Rattle.cany_replay.proofs.report.whole.write_bus.Goals.{then-is_shown+in_ok-write_bus_line, else-is_shown}
@@ -21,8 +21,8 @@ loop-note-preserved g c = elim c.if-is_shown.branch [
 pub returns-in_err-write_bus_line : goal.returns-in_err-write_bus_line
 returns-in_err-write_bus_line g c =
     let p = err_from_is_err_and c.from_residual.result c.from_residual.ensures.1 in
-    rw (p.1, bus_text) (IsWritten-cut shown_line _ _ _ _ _ _ _ _ _ _ c.loop-note.invariant c.loop-note-test.true c.note-item.is
+    rw (p.1, shown_text) (IsWritten-cut shown_line _ _ _ _ _ _ _ _ _ _ c.loop-note.invariant c.loop-note-test.true c.note-item.is
     (rw (shown_line-shown _ (sym c.is_shown.ensures ∙ c.if-is_shown.true)) c.in_err-write_bus_line.ensures))
 
 pub returns : goal.returns
-returns g c = rw bus_text (IsWritten-all shown_line _ _ _ _ _ _ c.loop-note.invariant c.loop-note-test.false)
+returns g c = rw shown_text (IsWritten-all shown_line _ _ _ _ _ _ c.loop-note.invariant c.loop-note-test.false)

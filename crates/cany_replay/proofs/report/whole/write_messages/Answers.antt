@@ -26,9 +26,9 @@ loop-i-preserved g c =
     let small : c.from-origin.result < 32 = omega (arith, c.from-origin.ensures, c.get.ensures.in_range) in
     let seq = c.loop-i.invariant.counts c.from-origin.result small ∙ ap (sent_before c.args.world.now.scenario.sends c.loop-i.i) origin in
     record {
-      written = IsWritten-next (message_text (run c.args.world.now.scenario c.args.world.now.journal)) _ _ _ _ _ _ _ _ _ c.loop-i.invariant.written
+      written = IsWritten-next (message_text c.args.world.now.scenario (run c.args.world.now.scenario c.args.world.now.journal)) _ _ _ _ _ _ _ _ _ c.loop-i.invariant.written
           (omega (arith, inside, length-messages_of c.args.world.now.scenario.sends))
-          (message_at _ _ _ inside is) (rw (message_is _ _ _ _ _ _ inside is seq c.settled.ensures) c.in_ok-write_message.ensures);
+          (message_at _ _ _ inside is) (rw (message_is _ _ _ _ _ _ _ inside is seq c.settled.ensures) c.in_ok-write_message.ensures);
       len = length-set c.loop-i.counts _ _ ∙ c.loop-i.invariant.len;
       counts = counts_next _ _ _ _ _ c.loop-i.invariant.len origin small inside is c.loop-i.invariant.counts;
     }
@@ -42,12 +42,12 @@ returns-in_err-write_message g c =
     let origin = c.from-origin.ensures ∙ c.get.ensures.value in
     let small : c.from-origin.result < 32 = omega (arith, c.from-origin.ensures, c.get.ensures.in_range) in
     let seq = c.loop-i.invariant.counts c.from-origin.result small ∙ ap (sent_before c.args.world.now.scenario.sends c.loop-i.i) origin in
-    rw (p.1, message_lines_text) (IsWritten-cut (message_text (run c.args.world.now.scenario c.args.world.now.journal)) _ _ _ _ _ _ _ _ _ _ c.loop-i.invariant.written
+    rw (p.1, message_lines_text) (IsWritten-cut (message_text c.args.world.now.scenario (run c.args.world.now.scenario c.args.world.now.journal)) _ _ _ _ _ _ _ _ _ _ c.loop-i.invariant.written
     (omega (arith, inside, length-messages_of c.args.world.now.scenario.sends))
-    (message_at _ _ _ inside is) (rw (message_is _ _ _ _ _ _ inside is seq c.settled.ensures) c.in_err-write_message.ensures))
+    (message_at _ _ _ inside is) (rw (message_is _ _ _ _ _ _ _ inside is seq c.settled.ensures) c.in_err-write_message.ensures))
 
 pub returns : goal.returns
 returns g c =
     let sends = c.sends-send-items.ensures ∙ ap (λ s. s.sends) c.scenario.ensures in
-    rw message_lines_text (IsWritten-all (message_text (run c.args.world.now.scenario c.args.world.now.journal)) _ _ _ _ _ _ c.loop-i.invariant.written
+    rw message_lines_text (IsWritten-all (message_text c.args.world.now.scenario (run c.args.world.now.scenario c.args.world.now.journal)) _ _ _ _ _ _ c.loop-i.invariant.written
     (omega (arith, ap length sends, length-messages_of c.args.world.now.scenario.sends)))

@@ -8,7 +8,7 @@ use Rattle.cany_replay.proofs.report.whole.write_messages.Given as goal
 
 abbrev pub invariant-loop-i : goal.invariant-loop-i
 invariant-loop-i g l = record {
-  written : IsWritten (flat_map (message_text (run l.world.scenario l.world.journal)) (take l.i (messages_of l.world.scenario.sends))) (Ok tt)
+  written : IsWritten (flat_map (message_text l.world.scenario (run l.world.scenario l.world.journal)) (take l.i (messages_of l.world.scenario.sends))) (Ok tt)
       (g.K.Sink.taken l.initial.sink) (g.K.Sink.taken l.sink) (g.K.Sink.faults l.initial.sink) (g.K.Sink.faults l.sink);
   len : length l.counts ≡ 32;
   counts : (node : ℕ) → node < 32 → get_or l.counts node 0 ≡ sent_before l.world.scenario.sends l.i node;

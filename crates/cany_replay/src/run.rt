@@ -1,0 +1,44 @@
+//! Runs a scenario.
+ghost use Rattle.std.specs.Prelude.{◌≡◌, IfOk, IfErr, Some, None};
+ghost use Rattle.cany_model.specs.Follow.{journal_of};
+ghost use Rattle.cany_replay.specs.RunFaults.{IfJournal};
+ghost use Rattle.cany_replay.specs.Top.{own_fault};
+
+use cany_base::Scenario;
+use cany_model::FollowFault;
+use cany_world::{World, follow, round_robin};
+use std::alloc::Global;
+use thiserror::Error;
+
+/// Why a scenario has no run.
+#[derive(Clone, Copy, Debug, PartialEq, Eq, Error)]
+pub(crate) enum RunFault {
+    /// Its own journal is not legal, or not whole.
+    #[error("the journal cannot be followed to the end of a run")]
+    Journal(FollowFault),
+    #[error("out of memory")]
+    Memory,
+}
+
+/// The run of the scenario by its own journal, where it has one, and otherwise by its round robin journal.
+///
+/// # Errors
+///
+/// `Journal` exactly where its own journal has a fault, `Memory` for want of memory.
+pub(crate) fn run(alloc: Global, scenario: &Scenario) -> Result<World, RunFault>
+    ensures ended { IfOk result (λ world. world ≡ record { scenario = scenario.now; journal = journal_of scenario.now }) }
+    ensures followed { IfOk result (λ _. own_fault scenario.now ≡ None) }
+    ensures refused { IfErr result (λ fault. IfJournal fault (λ found. own_fault scenario.now ≡ Some found)) }
+{
+    let Ok(mut world) = World::build(alloc, scenario) else {
+        return Err(RunFault::Memory);
+    };
+    let Some(journal) = scenario.journal() else {
+        round_robin(&mut world);
+        return Ok(world);
+    };
+    match follow(&mut world, journal) {
+        Ok(()) => Ok(world),
+        Err(fault) => Err(RunFault::Journal(fault)),
+    }
+}
