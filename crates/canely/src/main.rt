@@ -18,7 +18,7 @@ const WRITE_FAULT: u8 = 5;
 const NO_MEMORY: u8 = 6;
 
 const HELP: &str = "\
-Runs CANELy, reliable broadcast and site membership over CAN.
+Runs scenarios of reliable broadcast on one CAN bus.
 
 usage: canely replay < SCENARIO > REPORT
        canely --help

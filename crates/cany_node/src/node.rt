@@ -137,9 +137,11 @@ impl Node {
 
     /// Whether a timer of the scripted message of this key lies ahead at the node.
     pub fn ahead(&self, msg: MsgKey) -> bool
-        ensures { (scenario : ScenarioParts) (past : List NoticeKind) → IsNodeOf scenario past self.now →
+        ensures message { (scenario : ScenarioParts) (past : List NoticeKind) → IsNodeOf scenario past self.now →
             (m : Message) → Contains (messages_of scenario.sends) m → message_key m ≡ msg →
             result ≡ has_timer_ahead scenario m self.now.node past }
+        ensures no_message { (scenario : ScenarioParts) (past : List NoticeKind) → IsNodeOf scenario past self.now →
+            ((m : Message) → Contains (messages_of scenario.sends) m → message_key m ≢ msg) → result ≡ false }
     {
         self.relcan.ahead(msg)
     }

@@ -1,6 +1,6 @@
 -- Which messages have a timer ahead.
 use Rattle.std.specs.Prelude.{nat_lt, Contains}
-use Rattle.std.proofs.Common.{◌≡◌, ℕ, zero, suc, ◌<◌, ◌==◌, ◌&&◌, ◌||◌, Bool, true, false, if◌then◌else◌, not, List, [], ◌∷◌, drop, length, refl, ap, sym, ◌∙◌, arith}
+use Rattle.std.proofs.Common.{◌≡◌, ◌≢◌, ℕ, zero, suc, ◌<◌, ◌==◌, ◌&&◌, ◌||◌, Bool, true, false, if◌then◌else◌, not, List, [], ◌∷◌, drop, length, refl, ap, sym, ◌∙◌, arith}
 use Rattle.std.specs.List.{list_any}
 use Rattle.std.proofs.lemmas.Bool.{and_parts, false≢true, false_from_ne_true}
 use Rattle.std.proofs.lemmas.Bool.Decides.{nat_tests}
@@ -119,6 +119,15 @@ running_named scenario i past v msg h runs =
     let here = and_parts (is_timed i (data_of msg) && has_copy (data_of msg) past) (not (has_copy (data_of msg) (drop scenario.params.confirm past))) started in
     let copy = and_parts (is_timed i (data_of msg)) (has_copy (data_of msg) past) here.0 in
     h.tables.named (record { class = class.Rel; number = msg.seq; node = msg.origin; inc = 0; payload = [] }) refl copy.1
+
+-- no timer runs of what is no message
+pub none_runs : (scenario : ScenarioParts) (i : ℕ) (past : List NoticeKind) (v : RelcanParts) (msg : MsgKey) → IsRelcanOf scenario i past v
+    → ((m : Message) → Contains (messages_of scenario.sends) m → message_key m ≢ msg) → list_any (is_timer_of msg) v.timers.running ≡ false
+none_runs scenario i past v msg h none =
+    false_from_ne_true (list_any (is_timer_of msg) v.timers.running)
+    (λ runs.
+    let named = running_named scenario i past v msg h runs in
+    none named.message named.stands (λ k. record { origin = named.origin k; seq = named.number k }))
 
 module _ (scenario : ScenarioParts) (i : ℕ) (past : List NoticeKind) (v : RelcanParts) (m : Message) (msg : MsgKey) (h : IsRelcanOf scenario i past v)
     (stands : Contains (messages_of scenario.sends) m) (key : message_key m ≡ msg) where

@@ -1,4 +1,4 @@
-ghost use Rattle.std.specs.Prelude.{◌≡◌, ℕ, ◌+◌, ◌-◌, ◌<◌, ◌≤◌, ◌==◌, ◌&&◌, [], ◌∷◌, ◌++◌, not, nat_lt, nat_le, reverse, length, if◌then◌else◌, IsTrue, List, replicate, Contains, Some, IfSome, IfOk};
+ghost use Rattle.std.specs.Prelude.{◌≡◌, ◌≢◌, ℕ, false, ◌+◌, ◌-◌, ◌<◌, ◌≤◌, ◌==◌, ◌&&◌, [], ◌∷◌, ◌++◌, not, nat_lt, nat_le, reverse, length, if◌then◌else◌, IsTrue, List, replicate, Contains, Some, IfSome, IfOk};
 ghost use Rattle.std.specs.List.{list_any};
 ghost use Rattle.cany_base.specs.declared.actions.Action.TheVariants as action;
 ghost use Rattle.cany_base.specs.declared.frame.Class.TheVariants as class;
@@ -109,8 +109,10 @@ impl Relcan {
 
     /// Whether a timer of the message lies ahead at this node: it runs, and no confirmation was read.
     pub fn ahead(&self, msg: MsgKey) -> bool
-        ensures { (scenario : ScenarioParts) (past : List NoticeKind) (m : Message) → IsRelcanOf scenario self.now.node past self.now
+        ensures message { (scenario : ScenarioParts) (past : List NoticeKind) (m : Message) → IsRelcanOf scenario self.now.node past self.now
             → Contains (messages_of scenario.sends) m → message_key m ≡ msg → result ≡ has_timer_ahead scenario m self.now.node past }
+        ensures no_message { (scenario : ScenarioParts) (past : List NoticeKind) → IsRelcanOf scenario self.now.node past self.now
+            → ((m : Message) → Contains (messages_of scenario.sends) m → message_key m ≢ msg) → result ≡ false }
     {
         let _origin = msg.origin.get();
         if !self.timers.is_running(&msg) {

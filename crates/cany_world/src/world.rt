@@ -158,6 +158,7 @@ impl World {
         self.bus.trace()
     }
 
+    /// The scenario that the world runs: a copy of the one that it was built with.
     pub fn scenario(&self) -> &Scenario
         ensures { result.now ≡ self.now.scenario }
     {

@@ -4,9 +4,15 @@ use Rattle.cany_relcan.specs.Relcan.{IsRelcanOf}
 use Rattle.cany_node.specs.Node.{NodeParts, IsNodeOf}
 use Rattle.cany_node.proofs.node.Node.ahead.Goals as goal
 
-pub returns : goal.returns
-returns c scenario past is m stands named =
+pub returns-clause-message : goal.returns-clause-message
+returns-clause-message c scenario past is m stands named =
     let kept = subst (IsNodeOf scenario past) (sym c.self.view_is) is in
     let his = subst (λ i. IsRelcanOf scenario i past c.self.inside.relcan) (sym kept.relcan.limits.node) kept.relcan in
-    c.ahead.ensures scenario past m his stands named
+    c.ahead.ensures.message scenario past m his stands named
     ∙ ap (λ i. has_timer_ahead scenario m i past) (kept.relcan.limits.node ∙ ap (λ (v : NodeParts). v.node) c.self.view_is)
+
+pub returns-clause-no_message : goal.returns-clause-no_message
+returns-clause-no_message c scenario past is none =
+    let kept = subst (IsNodeOf scenario past) (sym c.self.view_is) is in
+    let his = subst (λ i. IsRelcanOf scenario i past c.self.inside.relcan) (sym kept.relcan.limits.node) kept.relcan in
+    c.ahead.ensures.no_message scenario past his none

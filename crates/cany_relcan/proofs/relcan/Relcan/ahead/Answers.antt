@@ -1,15 +1,16 @@
 use Rattle.std.specs.Prelude.{nat_lt}
 use Rattle.std.specs.List.{list_any}
 use Rattle.std.proofs.Common.{◌≡◌, ◌<◌, ◌&&◌, true, false, not, ap, sym, ◌∙◌}
+use Rattle.std.proofs.lemmas.Bool.{false≢true}
 use Rattle.cany_diffuse.specs.Eager.{copies_of}
 use Rattle.cany_relcan.specs.MessageNumbers.{message_number}
 use Rattle.cany_relcan.specs.Relcan.{RelcanParts}
 use Rattle.cany_relcan.specs.Timers.{is_timer_of}
-use Rattle.cany_relcan.proofs.AheadFacts.{ahead_is, none_read}
+use Rattle.cany_relcan.proofs.AheadFacts.{ahead_is, none_read, none_runs}
 use Rattle.cany_relcan.proofs.relcan.Relcan.ahead.Goals as goal
 
-pub returns : goal.returns
-returns c = λ scenario past m h stands key.
+pub returns-clause-message : goal.returns-clause-message
+returns-clause-message c = λ scenario past m h stands key.
     let small : c.args.msg.origin < 32 = rw c.get-origin.ensures.value at c.get-origin.ensures.in_range in
     let runs : list_any (is_timer_of c.args.msg) c.args.self.now.timers.running ≡ true =
     ap (λ (v : RelcanParts). list_any (is_timer_of c.args.msg) v.timers.running) (sym c.self.view_is) ∙ sym c.is_running.ensures ∙ c.if-not-is_running.false in
@@ -20,10 +21,16 @@ returns c = λ scenario past m h stands key.
     ∙ ap (λ b. b && not (nat_lt 0 (copies_of c.args.self.now.confirms (message_number c.args.msg.seq c.args.msg.origin)))) (sym runs)
     ∙ ahead_is scenario c.args.self.now.node past c.args.self.now m c.args.msg h stands key small
 
-pub returns-then-not-is_running : goal.returns-then-not-is_running
-returns-then-not-is_running c = λ scenario past m h stands key.
+pub returns-then-not-is_running-clause-message : goal.returns-then-not-is_running-clause-message
+returns-then-not-is_running-clause-message c = λ scenario past m h stands key.
     let small : c.args.msg.origin < 32 = rw c.get-origin.ensures.value at c.get-origin.ensures.in_range in
     let rests : list_any (is_timer_of c.args.msg) c.args.self.now.timers.running ≡ false =
     ap (λ (v : RelcanParts). list_any (is_timer_of c.args.msg) v.timers.running) (sym c.self.view_is) ∙ sym c.is_running.ensures ∙ c.if-not-is_running.true in
     ap (λ b. b && not (nat_lt 0 (copies_of c.args.self.now.confirms (message_number c.args.msg.seq c.args.msg.origin)))) (sym rests)
     ∙ ahead_is scenario c.args.self.now.node past c.args.self.now m c.args.msg h stands key small
+
+pub returns-clause-no_message : goal.returns-clause-no_message
+returns-clause-no_message c = λ scenario past h none.
+    let runs : list_any (is_timer_of c.args.msg) c.args.self.now.timers.running ≡ true =
+    ap (λ (v : RelcanParts). list_any (is_timer_of c.args.msg) v.timers.running) (sym c.self.view_is) ∙ sym c.is_running.ensures ∙ c.if-not-is_running.false in
+    absurd (false≢true (sym (none_runs scenario c.args.self.now.node past c.args.self.now c.args.msg h none) ∙ runs))
