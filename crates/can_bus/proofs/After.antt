@@ -6,8 +6,8 @@ use Rattle.cany_base.specs.declared.slot_note.SlotNote.{SlotNote}
 use Rattle.cany_base.specs.Nodes.{has}
 use Rattle.cany_base.specs.NodesLaws.{has-those_where}
 use Rattle.cany_base.specs.Params.{Parameters}
-use Rattle.cany_model.specs.Slot.{Script, after_share, exceeds, exchange, node_after, share_of, slot_note_of, stopping, winner}
-use Rattle.cany_model.specs.State.{NodeState, node_at, runs}
+use Rattle.cany_model.specs.Bus.Slot.{Script, after_share, exceeds, exchange, node_after, share_of, slot_note_of, stopping, winner}
+use Rattle.cany_model.specs.Bus.State.{NodeState, node_at, runs}
 use Rattle.can_controller.specs.Controller.{ControllerState, node_state, seen, stopped_at}
 use Rattle.can_controller.proofs.Seen.{seen_is_after}
 use Rattle.can_bus.specs.Row.{IsBuiltAs, IsControllerOf, IsRowFor, NoneLags, controller_after, controllers_after, nodes_of}

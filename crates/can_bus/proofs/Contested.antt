@@ -9,11 +9,11 @@ use Rattle.cany_base.specs.declared.frame.Format.{Format}
 use Rattle.cany_base.specs.Frame.{FrameParts, identifier_of, key_of}
 use Rattle.cany_base.specs.Nodes.{Nodes, has, those_where}
 use Rattle.cany_base.specs.NodesLaws.{same_as_those_where}
-use Rattle.cany_model.specs.Frames.{same_frame}
-use Rattle.cany_model.specs.Slot.{least_frame, offered, sends, winner}
-use Rattle.cany_model.specs.State.{NodeState, node_at, runs, absent}
-use Rattle.cany_model.specs.Waiting.{waits_with}
-use Rattle.cany_model.proofs.Identities.{same_frame-true, same_frame_self}
+use Rattle.cany_model.specs.Bus.Frames.{same_frame}
+use Rattle.cany_model.specs.Bus.Slot.{least_frame, offered, sends, winner}
+use Rattle.cany_model.specs.Bus.State.{NodeState, node_at, runs, absent}
+use Rattle.cany_model.specs.Bus.Waiting.{waits_with}
+use Rattle.cany_model.proofs.Bus.Identities.{same_frame-true, same_frame_self}
 use Rattle.can_arbiter.specs.declared.arbitration.Outcome.{Outcome}
 use Rattle.can_arbiter.specs.declared.arbitration.Outcome.TheVariants.{Idle, Won}
 use Rattle.can_arbiter.specs.Offers.{OfferRow, offer_at}

@@ -4,8 +4,8 @@ use Rattle.std.specs.Prelude.{count_by}
 use Rattle.std.proofs.lemmas.List.{length-reverse, reverse-append}
 use Rattle.cany_base.specs.declared.rule.Rule.{Rule}
 use Rattle.cany_base.specs.declared.slot_note.SlotNote.{SlotNote}
-use Rattle.cany_model.specs.Slot.{script, slot_note_of}
-use Rattle.cany_model.specs.State.{NodeState}
+use Rattle.cany_model.specs.Bus.Slot.{script, slot_note_of}
+use Rattle.cany_model.specs.Bus.State.{NodeState}
 use Rattle.can_fault.specs.Attempts.{AreCountsOf}
 use Rattle.can_fault.specs.Rules.{IsRuledBy}
 use Rattle.can_fault.specs.Tally.{is_partial_slot}

@@ -6,8 +6,8 @@ use Rattle.cany_base.specs.declared.slot_note.SlotNote.{SlotNote}
 use Rattle.cany_base.specs.Frame.{FrameParts}
 use Rattle.cany_base.specs.Nodes.{Nodes, has, those_where}
 use Rattle.cany_base.specs.NodesLaws.{has-those_where, same_as_those_where}
-use Rattle.cany_model.specs.Slot.{Ruling, Script, after_share, exceeds, exchange, lets_accept, nobody, note_by, sends, share_of, slot_note_of, stopping, winner, with_stops}
-use Rattle.cany_model.specs.State.{NodeState, node_at, runs}
+use Rattle.cany_model.specs.Bus.Slot.{Ruling, Script, after_share, exceeds, exchange, lets_accept, nobody, note_by, sends, share_of, slot_note_of, stopping, winner, with_stops}
+use Rattle.cany_model.specs.Bus.State.{NodeState, node_at, runs}
 use Rattle.can_arbiter.specs.declared.arbitration.Outcome.{Outcome}
 use Rattle.can_arbiter.specs.declared.arbitration.Outcome.TheVariants.{Won}
 use Rattle.can_controller.specs.Controller.{ControllerState}

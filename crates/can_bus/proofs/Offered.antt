@@ -4,8 +4,8 @@ use Rattle.std.specs.Prelude.{Option, Some, None, IfSome, is_none, is_some, ifâ—
 use Rattle.std.proofs.lemmas.Bool.{cases_lt, cases_eq, eq-eqb, ne_eqb}
 use Rattle.cany_base.specs.declared.frame.Format.{Format}
 use Rattle.cany_base.specs.Frame.{FrameParts}
-use Rattle.cany_model.specs.Slot.{least_frame, offered}
-use Rattle.cany_model.specs.State.{NodeState, node_at, absent}
+use Rattle.cany_model.specs.Bus.Slot.{least_frame, offered}
+use Rattle.cany_model.specs.Bus.State.{NodeState, node_at, absent}
 use Rattle.can_frame.specs.Identifier.{FitsFormat}
 use Rattle.can_arbiter.specs.Offers.{OfferRow, offer_at}
 use Rattle.can_controller.specs.Waiting.{IsAscending}

@@ -5,8 +5,8 @@ use Rattle.std.proofs.lemmas.Option.{same_Some}
 use Rattle.std.proofs.lemmas.List.{get_or_past, length-map}
 use Rattle.cany_base.specs.declared.slot_note.SlotNote.{SlotNote}
 use Rattle.cany_base.specs.Nodes.{Nodes, has}
-use Rattle.cany_model.specs.Slot.{after_share, exceeds, share_in, share_of}
-use Rattle.cany_model.specs.State.{NodeState, node_at, runs, absent}
+use Rattle.cany_model.specs.Bus.Slot.{after_share, exceeds, share_in, share_of}
+use Rattle.cany_model.specs.Bus.State.{NodeState, node_at, runs, absent}
 use Rattle.can_controller.specs.Controller.{ControllerState, node_state, seen, stopped_at}
 use Rattle.can_bus.specs.Contest.{seen_by, stopped_by}
 use Rattle.can_bus.specs.Each.{each}

@@ -8,8 +8,8 @@ use Rattle.cany_base.specs.Frame.{FrameParts}
 use Rattle.cany_base.specs.Nodes.{Nodes, has, those_where}
 use Rattle.cany_model.specs.declared.share.Share.{Share}
 use Rattle.cany_model.specs.declared.share.Share.TheVariants.{Idle, Took, Rejected, Confirmed, Errored}
-use Rattle.cany_model.specs.Slot.{Ruling, Script, after_share, exceeds, exchange, lets_accept, least_frame, note_by, offered, sends, share_of, slot_note_of, stopping, winner, with_stops}
-use Rattle.cany_model.specs.State.{NodeState, node_at, runs}
+use Rattle.cany_model.specs.Bus.Slot.{Ruling, Script, after_share, exceeds, exchange, lets_accept, least_frame, note_by, offered, sends, share_of, slot_note_of, stopping, winner, with_stops}
+use Rattle.cany_model.specs.Bus.State.{NodeState, node_at, runs}
 use Rattle.can_bus.specs.Row.{IsSameBut}
 
 -- the node with every notice read

@@ -6,9 +6,9 @@ use Rattle.std.proofs.lemmas.Bool.Decides.{nat_tests}
 use Rattle.std.proofs.lemmas.Option.{same_Some}
 use Rattle.cany_base.specs.declared.frame.Format.{Format}
 use Rattle.cany_base.specs.Frame.{FrameParts, class_number, key_of}
-use Rattle.cany_model.specs.Frames.{is_before, same_class}
-use Rattle.cany_model.specs.Slot.{better, least_frame, offered, winner}
-use Rattle.cany_model.specs.State.{NodeState, node_at}
+use Rattle.cany_model.specs.Bus.Frames.{is_before, same_class}
+use Rattle.cany_model.specs.Bus.Slot.{better, least_frame, offered, winner}
+use Rattle.cany_model.specs.Bus.State.{NodeState, node_at}
 use Rattle.can_frame.specs.Identifier.{FitsFormat}
 use Rattle.can_controller.proofs.Fitting.{key_order}
 

@@ -4,8 +4,8 @@ use Rattle.cany_base.specs.declared.frame.Format.{Format}
 use Rattle.cany_base.specs.declared.slot_note.SlotNote.{SlotNote}
 use Rattle.cany_base.specs.Frame.{FrameParts}
 use Rattle.cany_base.specs.Nodes.{Nodes, has, those_where}
-use Rattle.cany_model.specs.Slot.{least_frame, offered, sends, share_of, winner}
-use Rattle.cany_model.specs.State.{NodeState, node_at, runs}
+use Rattle.cany_model.specs.Bus.Slot.{least_frame, offered, sends, share_of, winner}
+use Rattle.cany_model.specs.Bus.State.{NodeState, node_at, runs}
 use Rattle.can_frame.specs.Identifier.{FitsFormat}
 use Rattle.can_arbiter.specs.declared.arbitration.Outcome.{Outcome}
 use Rattle.can_arbiter.specs.declared.arbitration.Outcome.TheVariants.{Idle, Won}

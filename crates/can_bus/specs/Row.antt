@@ -3,8 +3,8 @@ use Rattle.std.specs.Prelude.{◌≡◌, ℕ, ◌+◌, ◌≤◌, if◌then◌el
 use Rattle.cany_base.specs.declared.slot_note.SlotNote.{SlotNote}
 use Rattle.cany_base.specs.Nodes.{has}
 use Rattle.cany_base.specs.Params.{Parameters}
-use Rattle.cany_model.specs.Slot.{share_of}
-use Rattle.cany_model.specs.State.{NodeState}
+use Rattle.cany_model.specs.Bus.Slot.{share_of}
+use Rattle.cany_model.specs.Bus.State.{NodeState}
 use Rattle.can_controller.specs.Controller.{ControllerState, node_state, seen, stopped_at}
 
 -- the nodes of the controllers, as a run has them

@@ -1,6 +1,6 @@
 ghost use Rattle.std.specs.Prelude.{◌≡◌, ◌<◌, ◌↔◌, ◌∷◌, [], None, IfOk, length, reverse};
-ghost use Rattle.cany_model.specs.Hypothesis.{IsWithin, first_break};
-ghost use Rattle.cany_model.specs.Slot.{script as script_of, slot_note_of};
+ghost use Rattle.cany_model.specs.Promises.Hypothesis.{IsWithin, first_break};
+ghost use Rattle.cany_model.specs.Bus.Slot.{script as script_of, slot_note_of};
 ghost use Rattle.can_bus.specs.Bus.{Follows};
 ghost use Rattle.can_bus.specs.Row.{IsRowFor, NoneLags, controllers_after, nodes_of};
 

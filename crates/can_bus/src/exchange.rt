@@ -1,8 +1,8 @@
 //! What comes of the frame of a slot.
 ghost use Rattle.std.specs.Prelude.{◌≡◌, ◌<◌, ◌&&◌, not, ℕ, List};
 ghost use Rattle.cany_base.specs.Nodes.{has};
-ghost use Rattle.cany_model.specs.Slot.{exchange, lets_accept, is_success, share_of, winner};
-ghost use Rattle.cany_model.specs.State.{NodeState};
+ghost use Rattle.cany_model.specs.Bus.Slot.{exchange, lets_accept, is_success, share_of, winner};
+ghost use Rattle.cany_model.specs.Bus.State.{NodeState};
 ghost use Rattle.can_bus.specs.Contest.{IsContestOf, running_nodes};
 
 use crate::nodes::{nobody, node_id};
@@ -63,7 +63,7 @@ fn is_success(verdict: &Verdict) -> bool
 }
 
 /// What running node i did in the slot.
-#[tactic(auto, unfolding(cany_model::specs::Slot::share_of))]
+#[tactic(auto, unfolding(cany_model::specs::Bus::Slot::share_of))]
 pub(crate) fn share_of(i: usize, note: &SlotNote) -> Share
     requires { i < 32 }
     ensures { result ≡ share_of i note.now }

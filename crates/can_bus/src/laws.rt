@@ -1,8 +1,8 @@
 //! What ties a slot of the bus to the definitions of a run, each law as the contract of a function that does nothing.
 ghost use Rattle.std.specs.Prelude.{◌≡◌, ◌<◌, ◌≤◌, ◌+◌, ℕ, List, Some, None, length, slice_get, option_map};
 ghost use Rattle.cany_base.specs.declared.slot_note.SlotNote.{SlotNote};
-ghost use Rattle.cany_model.specs.Slot.{Script, node_after, slot_note_of};
-ghost use Rattle.cany_model.specs.State.{NodeState, node_at};
+ghost use Rattle.cany_model.specs.Bus.Slot.{Script, node_after, slot_note_of};
+ghost use Rattle.cany_model.specs.Bus.State.{NodeState, node_at};
 ghost use Rattle.can_controller.specs.Controller.{ControllerState, node_state};
 ghost use Rattle.can_bus.specs.Row.{IsBuiltAs, IsSameBut, NoneLags, controller_after, controllers_after, nodes_of};
 

@@ -1,7 +1,7 @@
 //! What the controllers offer to the bus.
 ghost use Rattle.std.specs.Prelude.{◌≡◌, ◌<◌, ◌≤◌, ◌==◌, if◌then◌else◌, ℕ, Some, None, IfSome, length, slice_get};
 ghost use Rattle.cany_base.specs.Frame.{FrameParts};
-ghost use Rattle.cany_model.specs.Slot.{least_frame, offered};
+ghost use Rattle.cany_model.specs.Bus.Slot.{least_frame, offered};
 ghost use Rattle.can_frame.specs.Identifier.{FitsFormat};
 ghost use Rattle.can_arbiter.specs.Offers.{offer_at};
 ghost use Rattle.can_controller.specs.Controller.{ControllerState, node_state};

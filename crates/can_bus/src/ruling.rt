@@ -1,7 +1,7 @@
 //! What the fault script says of a slot.
 ghost use Rattle.std.specs.Prelude.{◌≡◌, ◌∷◌, ◌<◌, List, length};
 ghost use Rattle.cany_base.specs.declared.slot_note.SlotNote.{SlotNote};
-ghost use Rattle.cany_model.specs.Slot.{script as script_of};
+ghost use Rattle.cany_model.specs.Bus.Slot.{script as script_of};
 ghost use Rattle.can_fault.specs.Attempts.{AreCountsOf};
 ghost use Rattle.can_bus.specs.Contest.{frame_of};
 

@@ -1,7 +1,7 @@
 //! One slot of the bus.
 ghost use Rattle.std.specs.Prelude.{◌≡◌, ◌∷◌, ◌≤◌, ◌<◌, ℕ, List, Some, length, slice_get};
 ghost use Rattle.cany_base.specs.declared.slot_note.SlotNote.{SlotNote};
-ghost use Rattle.cany_model.specs.Slot.{script as script_of, slot_note_of};
+ghost use Rattle.cany_model.specs.Bus.Slot.{script as script_of, slot_note_of};
 ghost use Rattle.can_controller.specs.Controller.{ControllerState};
 ghost use Rattle.can_fault.specs.Attempts.{AreCountsOf};
 ghost use Rattle.can_bus.specs.Row.{HaveRoom, controllers_after, nodes_of};

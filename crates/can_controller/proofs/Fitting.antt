@@ -5,7 +5,7 @@ use Rattle.cany_base.specs.declared.frame.Class.{Class}
 use Rattle.cany_base.specs.declared.frame.Format.{Format}
 use Rattle.cany_base.specs.declared.frame.Format.TheVariants.{One}
 use Rattle.cany_base.specs.Frame.{FrameParts, class_number, identifier_of, is_remote, key_of}
-use Rattle.cany_model.specs.Frames.{identity_of, same_class, same_identity, is_before}
+use Rattle.cany_model.specs.Bus.Frames.{identity_of, same_class, same_identity, is_before}
 use Rattle.can_frame.specs.Identifier.{FitsFormat}
 
 -- two numbers of three digits, the lower two of which have 16 and 5 bits

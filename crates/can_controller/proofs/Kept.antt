@@ -6,8 +6,8 @@ use Rattle.std.proofs.lemmas.List.{length-set}
 use Rattle.std.proofs.lemmas.List.Elements.{All-cons, All-append, All-set, All-take, All-drop, All-filter}
 use Rattle.cany_base.specs.declared.frame.Format.{Format}
 use Rattle.cany_base.specs.Frame.{FrameParts, identifier_of}
-use Rattle.cany_model.specs.Frames.{Identity, identity_of, is_of}
-use Rattle.cany_model.specs.Waiting.{waits, without}
+use Rattle.cany_model.specs.Bus.Frames.{Identity, identity_of, is_of}
+use Rattle.cany_model.specs.Bus.Waiting.{waits, without}
 use Rattle.can_frame.specs.Identifier.{FitsFormat}
 use Rattle.can_controller.specs.Waiting.{IsKept, IsPlaceOf, IsGapFor, HasRoomFor}
 use Rattle.can_controller.proofs.Ascending.{ascending-filter, ascending-insert, ascending-set}

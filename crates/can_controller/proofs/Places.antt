@@ -8,9 +8,9 @@ use Rattle.std.proofs.lemmas.List.Elements.{All-cons, All-head, All-tail, All-ap
 use Rattle.std.proofs.lemmas.List.Folds.{list_any_at, list_any_none}
 use Rattle.cany_base.specs.declared.frame.Format.{Format}
 use Rattle.cany_base.specs.Frame.{FrameParts, identifier_of, key_of}
-use Rattle.cany_model.specs.Frames.{identity_of, same_identity, is_before}
-use Rattle.cany_model.specs.Slot.{least_frame}
-use Rattle.cany_model.specs.Waiting.{put_in_order, waits, with_frame, without}
+use Rattle.cany_model.specs.Bus.Frames.{identity_of, same_identity, is_before}
+use Rattle.cany_model.specs.Bus.Slot.{least_frame}
+use Rattle.cany_model.specs.Bus.Waiting.{put_in_order, waits, with_frame, without}
 use Rattle.can_frame.specs.Identifier.{FitsFormat}
 use Rattle.can_controller.specs.Waiting.{IsAscending, IsPlaceOf, IsGapFor}
 use Rattle.can_controller.proofs.Ascending.{AllBelow, AllAbove}

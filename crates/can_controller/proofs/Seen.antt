@@ -8,9 +8,9 @@ use Rattle.cany_base.specs.declared.notice.NoticeKind.{NoticeKind}
 use Rattle.cany_base.specs.declared.slot_note.SlotNote.{SlotNote}
 use Rattle.cany_base.specs.Nodes.{has}
 use Rattle.cany_model.specs.declared.share.Share.{Share}
-use Rattle.cany_model.specs.History.{notice_of}
-use Rattle.cany_model.specs.Slot.{after_share, exceeds, node_after, share_of}
-use Rattle.cany_model.specs.State.{NodeState}
+use Rattle.cany_model.specs.Bus.History.{notice_of}
+use Rattle.cany_model.specs.Bus.Slot.{after_share, exceeds, node_after, share_of}
+use Rattle.cany_model.specs.Bus.State.{NodeState}
 use Rattle.can_controller.specs.declared.controller.Controller.TheInside.{Inside}
 use Rattle.can_controller.specs.declared.counters.Counters.{Counters}
 use Rattle.can_controller.specs.Controller.{ControllerState, node_state, seen, stopped_at}

@@ -4,9 +4,9 @@ use Rattle.cany_base.specs.declared.notice.Notice.{Notice}
 use Rattle.cany_base.specs.Frame.{FrameParts}
 use Rattle.cany_base.specs.Params.{Parameters}
 use Rattle.cany_model.specs.declared.share.Share.{Share}
-use Rattle.cany_model.specs.History.{notice_of}
-use Rattle.cany_model.specs.Slot.{after_share, exceeds}
-use Rattle.cany_model.specs.State.{NodeState}
+use Rattle.cany_model.specs.Bus.History.{notice_of}
+use Rattle.cany_model.specs.Bus.Slot.{after_share, exceeds}
+use Rattle.cany_model.specs.Bus.State.{NodeState}
 
 -- what it was built with: its node, the parameters and how many frames may wait; the waiting frames in the order in which
 -- they win; the error counters; the notices not read yet, oldest first, and how many were read; the slot of its stop

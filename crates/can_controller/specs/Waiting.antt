@@ -3,8 +3,8 @@ use Rattle.std.specs.Prelude.{◌≡◌, ℕ, ◌<◌, ◌≤◌, ◌⊎◌, Lis
 use Rattle.std.specs.List.{HoldsAt}
 use Rattle.cany_base.specs.declared.frame.Format.{Format}
 use Rattle.cany_base.specs.Frame.{FrameParts, identifier_of}
-use Rattle.cany_model.specs.Frames.{identity_of}
-use Rattle.cany_model.specs.Waiting.{waits}
+use Rattle.cany_model.specs.Bus.Frames.{identity_of}
+use Rattle.cany_model.specs.Bus.Waiting.{waits}
 use Rattle.can_frame.specs.Identifier.{FitsFormat}
 
 -- the frames in the order in which they win, and how many there may be

@@ -1,9 +1,9 @@
 ghost use Rattle.std.specs.Prelude.{◌≡◌, ◌≤◌, ◌<◌, ◌+◌, ◌==◌, ◌↔◌, not, min, [], length, drop, filter, slice_get, All, IfOk, OnSome, IfSome, IfNone, IsNone};
 ghost use Rattle.std.specs.List.{list_any};
 ghost use Rattle.cany_base.specs.Frame.{FrameParts, identifier_of, key_of};
-ghost use Rattle.cany_model.specs.Frames.{identity_of};
-ghost use Rattle.cany_model.specs.Slot.{least_frame};
-ghost use Rattle.cany_model.specs.Waiting.{waits, with_frame, without};
+ghost use Rattle.cany_model.specs.Bus.Frames.{identity_of};
+ghost use Rattle.cany_model.specs.Bus.Slot.{least_frame};
+ghost use Rattle.cany_model.specs.Bus.Waiting.{waits, with_frame, without};
 ghost use Rattle.can_frame.specs.Identifier.{FitsFormat};
 ghost use Rattle.can_controller.specs.Controller.{fresh_controller, seen, stopped_at};
 ghost use Rattle.can_controller.specs.Waiting.{IsAscending, HasRoomFor};

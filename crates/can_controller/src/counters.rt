@@ -1,6 +1,6 @@
 ghost use Rattle.std.specs.Prelude.{◌≡◌, ◌≤◌};
-ghost use Rattle.cany_model.specs.State.{NodeState};
-ghost use Rattle.cany_model.specs.Slot.{after_share, exceeds};
+ghost use Rattle.cany_model.specs.Bus.State.{NodeState};
+ghost use Rattle.cany_model.specs.Bus.Slot.{after_share, exceeds};
 
 use cany_model::Share;
 
@@ -16,7 +16,7 @@ impl Counters {
     pub(crate) const LIMIT: u32 = 127;
 
     /// The counters of a running node after its share in a slot (CAN Specification 2.0 Part B, 8).
-    #[tactic(auto, unfolding(cany_model::specs::Slot::after_share))]
+    #[tactic(auto, unfolding(cany_model::specs::Bus::Slot::after_share))]
     pub(crate) fn after(self, share: &Share) -> Counters
         requires transmit { self.transmit ≤ 127 }
         requires receive { self.receive ≤ 127 }

@@ -4,8 +4,8 @@ ghost use Rattle.std.specs.Prelude.{◌≡◌, ◌==◌, ℕ, nat_lt, if◌then�
 ghost use Rattle.cany_base.specs.declared.slot_note.SlotNote.{SlotNote};
 ghost use Rattle.cany_base.specs.Frame.{FrameParts, identifier_of, key_of};
 ghost use Rattle.cany_base.specs.Nodes.{has};
-ghost use Rattle.cany_model.specs.Frames.{identity_of, same_identity, is_before};
-ghost use Rattle.cany_model.specs.Slot.{after_share, exceeds, node_after, share_of};
+ghost use Rattle.cany_model.specs.Bus.Frames.{identity_of, same_identity, is_before};
+ghost use Rattle.cany_model.specs.Bus.Slot.{after_share, exceeds, node_after, share_of};
 ghost use Rattle.can_frame.specs.Identifier.{FitsFormat};
 ghost use Rattle.can_controller.specs.Controller.{ControllerState, node_state, seen, stopped_at};
 ghost use Rattle.can_controller.specs.Waiting.{IsAscending};

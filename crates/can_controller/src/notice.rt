@@ -1,5 +1,5 @@
 ghost use Rattle.std.specs.Prelude.{◌≡◌};
-ghost use Rattle.cany_model.specs.History.{notice_of};
+ghost use Rattle.cany_model.specs.Bus.History.{notice_of};
 
 use cany_base::NoticeKind;
 use cany_model::Share;

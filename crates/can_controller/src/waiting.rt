@@ -1,10 +1,10 @@
 ghost use Rattle.std.specs.Prelude.{◌≡◌, ◌<◌, ◌≤◌, ◌+◌, ◌==◌, not, [], length, filter, slice_get, All, IfOk, IfErr, IfSome};
 ghost use Rattle.std.specs.List.{list_any};
 ghost use Rattle.cany_base.specs.Frame.{FrameParts, identifier_of, key_of};
-ghost use Rattle.cany_model.specs.Frames.{identity_of};
-ghost use Rattle.cany_model.specs.Slot.{least_frame, after_share};
-ghost use Rattle.cany_model.specs.State.{NodeState};
-ghost use Rattle.cany_model.specs.Waiting.{waits, with_frame, without};
+ghost use Rattle.cany_model.specs.Bus.Frames.{identity_of};
+ghost use Rattle.cany_model.specs.Bus.Slot.{least_frame, after_share};
+ghost use Rattle.cany_model.specs.Bus.State.{NodeState};
+ghost use Rattle.cany_model.specs.Bus.Waiting.{waits, with_frame, without};
 ghost use Rattle.can_frame.specs.Identifier.{FitsFormat};
 ghost use Rattle.can_controller.specs.Waiting.{IsAscending, IsPlaceOf, IsGapFor, HasRoomFor};
 
@@ -101,7 +101,7 @@ impl Waiting {
     }
 
     /// Removes a frame that the slot confirmed.
-    #[tactic(auto, unfolding(cany_model::specs::Slot::after_share))]
+    #[tactic(auto, unfolding(cany_model::specs::Bus::Slot::after_share))]
     pub(crate) fn settle(&mut self, share: &Share)
         ensures frames { (node : NodeState) → node.waiting ≡ self.old.frames →
             self.new.frames ≡ (after_share share.now node).waiting }

@@ -10,9 +10,9 @@ use Rattle.cany_base.specs.declared.rule.Place.TheVariants.{At, FrameNth}
 use Rattle.cany_base.specs.declared.rule.Rule.{Rule}
 use Rattle.cany_base.specs.declared.slot_note.SlotNote.{SlotNote}
 use Rattle.cany_base.specs.Frame.{FrameParts}
-use Rattle.cany_model.specs.Frames.{Identity, identity_of, same_identity, is_of}
-use Rattle.cany_model.specs.Slot.{attempts, carried}
-use Rattle.cany_model.proofs.Identities.{same_identity-true, same_identity_self}
+use Rattle.cany_model.specs.Bus.Frames.{Identity, identity_of, same_identity, is_of}
+use Rattle.cany_model.specs.Bus.Slot.{attempts, carried}
+use Rattle.cany_model.proofs.Bus.Identities.{same_identity-true, same_identity_self}
 use Rattle.can_fault.specs.declared.name.FrameName.{FrameName}
 use Rattle.can_fault.specs.Attempts.{AreCountsOf, HasNames, count_of, greatest, raised}
 use Rattle.can_fault.specs.Names.{name_cmp, name_of}

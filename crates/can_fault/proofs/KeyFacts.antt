@@ -11,8 +11,8 @@ use Rattle.can_fault.specs.declared.name.Attempt.{Attempt}
 use Rattle.can_fault.specs.Names.{name_cmp, attempt_cmp, name_of, attempt_of}
 use Rattle.can_fault.specs.contracts.name.FrameNameOrd.TheImpl.Laws as name_laws
 use Rattle.can_fault.specs.contracts.name.AttemptOrd.TheImpl.Laws as attempt_laws
-use Rattle.cany_model.specs.Frames.{Identity, same_identity}
-use Rattle.cany_model.proofs.Identities.{same_identity-true, same_identity_self}
+use Rattle.cany_model.specs.Bus.Frames.{Identity, same_identity}
+use Rattle.cany_model.proofs.Bus.Identities.{same_identity-true, same_identity_self}
 
 pub name_total : IsTotalOrder name_cmp
 name_total = name_laws.total-law

@@ -11,16 +11,16 @@ use Rattle.cany_base.specs.Nodes.{Nodes}
 use Rattle.cany_base.specs.Params.{Parameters}
 use Rattle.cany_model.specs.declared.breaks.BreakKind.{BreakKind}
 use Rattle.cany_model.specs.declared.breaks.BreakKind.TheVariants as kind
-use Rattle.cany_model.specs.Frames.{Identity, identity_of, same_class, same_identity}
-use Rattle.cany_model.specs.Hypothesis.{IsWithin, is_silent, is_partial, is_error, is_silent_slot, is_error_slot, is_partial_slot_of, count_together, partial_slots, error_slots, break_at, first_break}
-use Rattle.cany_model.specs.Slot.{carried}
-use Rattle.cany_model.proofs.Identities.{same_identity_self}
+use Rattle.cany_model.specs.Bus.Frames.{Identity, identity_of, same_class, same_identity}
+use Rattle.cany_model.specs.Promises.Hypothesis.{IsWithin, is_silent, is_partial, is_error, is_silent_slot, is_error_slot, is_partial_slot_of, count_together, partial_slots, error_slots, break_at, first_break}
+use Rattle.cany_model.specs.Bus.Slot.{carried}
+use Rattle.cany_model.proofs.Bus.Identities.{same_identity_self}
 use Rattle.can_fault.specs.declared.counts.Counted.{Counted}
 use Rattle.can_fault.specs.Counted.{same_counted, counted_of}
 use Rattle.can_fault.specs.Counts.{partials_of}
 use Rattle.can_fault.specs.Window.{Window, IsNumbered, is_crowded, error_places}
 use Rattle.can_fault.proofs.AttemptFacts.{count-yes, count-no}
-use Rattle.cany_model.proofs.BreakFacts.{first_break_exact}
+use Rattle.cany_model.proofs.Promises.BreakFacts.{first_break_exact}
 use Rattle.can_fault.proofs.CountedFacts.{together}
 use Rattle.can_fault.proofs.WindowFacts.{errors_in_window, quiet_window}
 

@@ -8,8 +8,8 @@ use Rattle.cany_base.specs.Frame.{FrameParts}
 use Rattle.cany_base.specs.Nodes.{Nodes}
 use Rattle.cany_base.specs.Params.{Parameters}
 use Rattle.cany_model.specs.declared.breaks.BreakKind.TheVariants as kind
-use Rattle.cany_model.specs.Frames.{identity_of}
-use Rattle.cany_model.specs.Hypothesis.{is_partial, is_error, partial_slots, error_slots, break_at}
+use Rattle.cany_model.specs.Bus.Frames.{identity_of}
+use Rattle.cany_model.specs.Promises.Hypothesis.{is_partial, is_error, partial_slots, error_slots, break_at}
 use Rattle.can_fault.specs.declared.counts.Counted.{Counted}
 use Rattle.can_fault.specs.declared.counts.PartialCounts.{PartialCounts}
 use Rattle.can_fault.specs.declared.omissions.Omissions.{Omissions}

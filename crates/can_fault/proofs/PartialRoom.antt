@@ -10,10 +10,10 @@ use Rattle.cany_base.specs.declared.rule.Place.TheVariants.{At, FrameNth}
 use Rattle.cany_base.specs.declared.rule.Rule.{Rule}
 use Rattle.cany_base.specs.declared.slot_note.SlotNote.{SlotNote}
 use Rattle.cany_base.specs.Frame.{FrameParts}
-use Rattle.cany_model.specs.Frames.{Identity, identity_of, is_of}
-use Rattle.cany_model.specs.Hypothesis.{is_partial}
-use Rattle.cany_model.specs.Slot.{ruling_of, script, carried, attempts, slot_rule, frame_rule}
-use Rattle.cany_model.proofs.Identities.{same_identity_self}
+use Rattle.cany_model.specs.Bus.Frames.{Identity, identity_of, is_of}
+use Rattle.cany_model.specs.Promises.Hypothesis.{is_partial}
+use Rattle.cany_model.specs.Bus.Slot.{ruling_of, script, carried, attempts, slot_rule, frame_rule}
+use Rattle.cany_model.proofs.Bus.Identities.{same_identity_self}
 use Rattle.can_fault.specs.Rules.{IsRuledBy}
 use Rattle.can_fault.specs.Table.{is_place}
 use Rattle.can_fault.specs.Tally.{is_partial_slot}

@@ -12,9 +12,9 @@ use Rattle.cany_base.specs.declared.rule.Place.TheVariants.{At, FrameNth}
 use Rattle.cany_base.specs.declared.rule.Rule.{Rule}
 use Rattle.cany_base.specs.declared.slot_note.SlotNote.{SlotNote}
 use Rattle.cany_base.specs.Frame.{FrameParts}
-use Rattle.cany_model.specs.Frames.{Identity, identity_of, same_identity}
-use Rattle.cany_model.specs.Slot.{ruling_of, script, slot_rule, frame_rule, attempts}
-use Rattle.cany_model.proofs.Identities.{same_identity-true, same_identity_self}
+use Rattle.cany_model.specs.Bus.Frames.{Identity, identity_of, same_identity}
+use Rattle.cany_model.specs.Bus.Slot.{ruling_of, script, slot_rule, frame_rule, attempts}
+use Rattle.cany_model.proofs.Bus.Identities.{same_identity-true, same_identity_self}
 use Rattle.can_fault.specs.declared.name.Attempt.{Attempt}
 use Rattle.can_fault.specs.declared.table.RuleTable.{RuleTable}
 use Rattle.can_fault.specs.Names.{attempt_cmp, attempt_of}

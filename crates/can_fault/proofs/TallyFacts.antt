@@ -3,7 +3,7 @@ use Rattle.std.proofs.Common.{◌≡◌, ℕ, ◌+◌, List, ◌∷◌, Option, 
 use Rattle.std.specs.List.{count_by}
 use Rattle.cany_base.specs.declared.slot_note.SlotNote.{SlotNote}
 use Rattle.cany_model.specs.declared.breaks.Break.{Break}
-use Rattle.cany_model.specs.Hypothesis.{first_break}
+use Rattle.cany_model.specs.Promises.Hypothesis.{first_break}
 use Rattle.can_fault.specs.declared.omissions.Omissions.{Omissions}
 use Rattle.can_fault.specs.declared.tally.Tally.TheInside.{Inside}
 use Rattle.can_fault.specs.Omissions.{IsKeptOf}

@@ -5,7 +5,7 @@ use Rattle.std.specs.Option.{option_map_or}
 use Rattle.std.proofs.lemmas.Bool.{cases_Bool, lt-ltb, le-ltb}
 use Rattle.std.proofs.lemmas.Bool.Decides.{nat_tests}
 use Rattle.cany_base.specs.declared.slot_note.SlotNote.{SlotNote}
-use Rattle.cany_model.specs.Hypothesis.{is_error_slot, error_slots}
+use Rattle.cany_model.specs.Promises.Hypothesis.{is_error_slot, error_slots}
 use Rattle.can_fault.specs.Window.{IsNumbered, error_places}
 use Rattle.can_fault.proofs.AttemptFacts.{count-cons, count-yes, count-no}
 

@@ -4,8 +4,8 @@ use Rattle.std.specs.BTreeMap.{is_at}
 use Rattle.std.specs.Map.{lookup}
 use Rattle.cany_base.specs.declared.rule.Rule.{Rule}
 use Rattle.cany_base.specs.declared.slot_note.SlotNote.{SlotNote}
-use Rattle.cany_model.specs.Frames.{Identity}
-use Rattle.cany_model.specs.Slot.{attempts}
+use Rattle.cany_model.specs.Bus.Frames.{Identity}
+use Rattle.cany_model.specs.Bus.Slot.{attempts}
 use Rattle.can_fault.specs.declared.name.FrameName.{FrameName}
 use Rattle.can_fault.specs.Names.{name_cmp, name_of}
 use Rattle.can_fault.specs.Rules.{is_named}

@@ -1,7 +1,7 @@
 -- What Partial slots count for, as a key.
 use Rattle.std.specs.Prelude.{Bool, if◌then◌else◌}
 use Rattle.cany_base.specs.declared.frame.Class.TheVariants.{Rha}
-use Rattle.cany_model.specs.Frames.{Identity, same_class}
+use Rattle.cany_model.specs.Bus.Frames.{Identity, same_class}
 use Rattle.can_fault.specs.declared.counts.Counted.{Counted}
 use Rattle.can_fault.specs.declared.counts.Counted.TheVariants.{Vectors, Frame}
 use Rattle.can_fault.specs.contracts.counts.CountedPartialEq.TheImpl as counted_eq

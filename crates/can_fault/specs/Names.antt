@@ -5,7 +5,7 @@ use Rattle.can_fault.specs.declared.name.FrameName.{FrameName}
 use Rattle.can_fault.specs.declared.name.Attempt.{Attempt}
 use Rattle.can_fault.specs.contracts.name.FrameNameOrd.TheImpl as name_ord
 use Rattle.can_fault.specs.contracts.name.AttemptOrd.TheImpl as attempt_ord
-use Rattle.cany_model.specs.Frames.{Identity}
+use Rattle.cany_model.specs.Bus.Frames.{Identity}
 
 -- the order of names
 abbrev pub name_cmp : FrameName → FrameName → Ordering

@@ -2,8 +2,8 @@
 use Rattle.std.specs.Prelude.{◌≡◌, ◌+◌, List, None, take}
 use Rattle.cany_base.specs.declared.slot_note.SlotNote.{SlotNote}
 use Rattle.cany_base.specs.Params.{Parameters}
-use Rattle.cany_model.specs.Frames.{Identity}
-use Rattle.cany_model.specs.Hypothesis.{partial_slots, first_break}
+use Rattle.cany_model.specs.Bus.Frames.{Identity}
+use Rattle.cany_model.specs.Promises.Hypothesis.{partial_slots, first_break}
 use Rattle.can_fault.specs.declared.omissions.Omissions.{Omissions}
 use Rattle.can_fault.specs.Counted.{counted_of}
 use Rattle.can_fault.specs.Counts.{partials_of}

@@ -7,8 +7,8 @@ use Rattle.cany_base.specs.declared.rule.Place.TheVariants.{At, FrameNth}
 use Rattle.cany_base.specs.declared.rule.Rule.{Rule}
 use Rattle.cany_base.specs.declared.slot_note.SlotNote.{SlotNote}
 use Rattle.cany_base.specs.Frame.{FrameParts}
-use Rattle.cany_model.specs.Frames.{Identity, identity_of, same_identity}
-use Rattle.cany_model.specs.Slot.{slot_rule, frame_rule, attempts, script}
+use Rattle.cany_model.specs.Bus.Frames.{Identity, identity_of, same_identity}
+use Rattle.cany_model.specs.Bus.Slot.{slot_rule, frame_rule, attempts, script}
 
 -- no two rules have one place
 abbrev pub HaveDistinctPlaces : List Rule → Type 0

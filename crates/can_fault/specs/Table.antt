@@ -5,7 +5,7 @@ use Rattle.std.specs.Ordering.{nat_cmp}
 use Rattle.cany_base.specs.declared.rule.Place.{Place}
 use Rattle.cany_base.specs.declared.rule.Place.TheVariants.{At, FrameNth}
 use Rattle.cany_base.specs.declared.rule.Rule.{Rule}
-use Rattle.cany_model.specs.Frames.{same_identity}
+use Rattle.cany_model.specs.Bus.Frames.{same_identity}
 use Rattle.can_fault.specs.Names.{attempt_cmp, attempt_of}
 use Rattle.can_fault.specs.declared.table.RuleTable.{RuleTable}
 

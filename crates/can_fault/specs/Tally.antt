@@ -3,9 +3,9 @@ use Rattle.std.specs.Prelude.{◌≡◌, ℕ, ◌+◌, ◌&&◌, Bool, true, Lis
 use Rattle.cany_base.specs.declared.slot_note.SlotNote.{SlotNote}
 use Rattle.cany_base.specs.Params.{Parameters}
 use Rattle.cany_model.specs.declared.breaks.Break.{Break}
-use Rattle.cany_model.specs.Frames.{Identity}
-use Rattle.cany_model.specs.Hypothesis.{is_partial, partial_slots, first_break}
-use Rattle.cany_model.specs.Slot.{carried}
+use Rattle.cany_model.specs.Bus.Frames.{Identity}
+use Rattle.cany_model.specs.Promises.Hypothesis.{is_partial, partial_slots, first_break}
+use Rattle.cany_model.specs.Bus.Slot.{carried}
 use Rattle.can_fault.specs.declared.counts.Counted.{Counted}
 use Rattle.can_fault.specs.Counted.{counted_of}
 use Rattle.can_fault.specs.Counts.{partials_of}

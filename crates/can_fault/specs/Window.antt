@@ -2,7 +2,7 @@
 use Rattle.std.specs.Prelude.{◌≡◌, ℕ, ◌-◌, Bool, false, List, [], ◌∷◌, length, map, filter, nat_lt, slice_get}
 use Rattle.std.specs.Option.{option_map_or}
 use Rattle.cany_base.specs.declared.slot_note.SlotNote.{SlotNote}
-use Rattle.cany_model.specs.Hypothesis.{is_error_slot}
+use Rattle.cany_model.specs.Promises.Hypothesis.{is_error_slot}
 
 -- the slots kept, newest first, the number that a window may have, and the length of a window
 pub record Window : Type 0 where

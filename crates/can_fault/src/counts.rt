@@ -1,5 +1,5 @@
 ghost use Rattle.std.specs.Prelude.{◌≡◌, ◌+◌, ◌<◌, ◌≤◌, [], nat_lt, length, IfOk, IsTrue, if◌then◌else◌};
-ghost use Rattle.cany_model.specs.Frames.{identity_of};
+ghost use Rattle.cany_model.specs.Bus.Frames.{identity_of};
 
 use crate::name::FrameName;
 use cany_base::{Class, Frame, Memory};

@@ -1,5 +1,5 @@
 ghost use Rattle.std.specs.Prelude.{◌≡◌};
-ghost use Rattle.cany_model.specs.Frames.{identity_of};
+ghost use Rattle.cany_model.specs.Bus.Frames.{identity_of};
 
 use cany_base::{Class, Frame, NodeId};
 

@@ -1,7 +1,7 @@
 ghost use Rattle.std.specs.Prelude.{◌≡◌, ◌+◌, ◌<◌, ◌≤◌, ◌∷◌, [], true, List, None, length, IfOk, Some, if◌then◌else◌};
 ghost use Rattle.cany_base.specs.declared.slot_note.SlotNote.{SlotNote};
 ghost use Rattle.cany_base.specs.Params.{Parameters};
-ghost use Rattle.cany_model.specs.Hypothesis.{is_partial, break_at};
+ghost use Rattle.cany_model.specs.Promises.Hypothesis.{is_partial, break_at};
 
 use crate::counts::{Counted, PartialCounts};
 use crate::window::ErrorWindow;

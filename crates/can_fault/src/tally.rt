@@ -1,7 +1,7 @@
 ghost use Rattle.std.specs.Prelude.{◌≡◌, ◌+◌, ◌<◌, ◌≤◌, ◌↔◌, ◌∷◌, [], true, List, None, length, IfOk, if◌then◌else◌};
 ghost use Rattle.cany_base.specs.declared.slot_note.SlotNote.{SlotNote};
 ghost use Rattle.cany_base.specs.Params.{Parameters};
-ghost use Rattle.cany_model.specs.Hypothesis.{IsWithin, first_break};
+ghost use Rattle.cany_model.specs.Promises.Hypothesis.{IsWithin, first_break};
 ghost use Rattle.can_fault.specs.Omissions.{IsKeptOf, HasLimitsOf};
 ghost use Rattle.can_fault.specs.Tally.{is_partial_slot, IsTallyOf};
 

@@ -12,14 +12,14 @@ use Rattle.cany_base.specs.Frame.{FrameParts}
 use Rattle.cany_base.specs.Scenario.{ScenarioParts}
 use Rattle.cany_diffuse.specs.declared.learnt.Learnt.TheVariants.{First, Again, Enough}
 use Rattle.cany_diffuse.specs.Eager.{copies_of, is_owned, learnt_of}
-use Rattle.cany_model.specs.Actions.{action_of, actions_of}
-use Rattle.cany_model.specs.Delivery.{brings, delivery, delivery_effects, is_delivery}
-use Rattle.cany_model.specs.Eager.{eager_effects}
-use Rattle.cany_model.specs.Edcan.{edcan_at, edcan_effects}
-use Rattle.cany_model.specs.Effect.{Ask, Withdraw, Enter}
-use Rattle.cany_model.specs.Frames.{identity_of, same_class}
-use Rattle.cany_model.specs.History.{copies, has_own}
-use Rattle.cany_model.proofs.Identities.{same_identity_self}
+use Rattle.cany_model.specs.Rules.Actions.{action_of, actions_of}
+use Rattle.cany_model.specs.Rules.Delivery.{brings, delivery, delivery_effects, is_delivery}
+use Rattle.cany_model.specs.Rules.Eager.{eager_effects}
+use Rattle.cany_model.specs.Rules.Edcan.{edcan_at, edcan_effects}
+use Rattle.cany_model.specs.Rules.Effect.{Ask, Withdraw, Enter}
+use Rattle.cany_model.specs.Bus.Frames.{identity_of, same_class}
+use Rattle.cany_model.specs.Bus.History.{copies, has_own}
+use Rattle.cany_model.proofs.Bus.Identities.{same_identity_self}
 use Rattle.cany_edcan.specs.Edcan.{EdcanParts, IsEdcanOf, data_identity}
 use Rattle.cany_edcan.specs.EdcanSteps.{frame_number, was_delivered, delivery_actions, relay_actions}
 use Rattle.cany_edcan.proofs.PastFacts.{brought, has_own-more}

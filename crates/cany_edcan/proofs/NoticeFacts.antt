@@ -10,11 +10,11 @@ use Rattle.cany_base.specs.declared.notice.NoticeKind.TheVariants.{Idle, Got, Se
 use Rattle.cany_base.specs.Frame.{FrameParts}
 use Rattle.cany_base.specs.Scenario.{ScenarioParts}
 use Rattle.cany_diffuse.specs.Eager.{copies_of, is_owned, learnt_of, IsLearnt, IsOwned}
-use Rattle.cany_model.specs.Actions.{actions_of}
-use Rattle.cany_model.specs.Edcan.{edcan_effects, edcan_at}
-use Rattle.cany_model.specs.Frames.{same_class}
-use Rattle.cany_model.specs.Notices.{IsDataOf, IsNextNotice, IsReadable, BelongsTo}
-use Rattle.cany_model.proofs.Identities.{same_class-true}
+use Rattle.cany_model.specs.Rules.Actions.{actions_of}
+use Rattle.cany_model.specs.Rules.Edcan.{edcan_effects, edcan_at}
+use Rattle.cany_model.specs.Bus.Frames.{same_class}
+use Rattle.cany_model.specs.Rules.Notices.{IsDataOf, IsNextNotice, IsReadable, BelongsTo}
+use Rattle.cany_model.proofs.Bus.Identities.{same_class-true}
 use Rattle.cany_edcan.specs.Edcan.{EdcanParts, IsEdcanOf, CanHear}
 use Rattle.cany_edcan.specs.EdcanSteps.{frame_number, was_delivered, delivery_actions, relay_actions, CanTake}
 use Rattle.cany_edcan.proofs.ActionFacts.{got_actions, sent_actions, other_actions}

@@ -8,9 +8,9 @@ use Rattle.cany_base.specs.declared.frame.Class.TheVariants.{Ed}
 use Rattle.cany_base.specs.declared.notice.NoticeKind.{NoticeKind}
 use Rattle.cany_base.specs.declared.notice.NoticeKind.TheVariants.{Idle}
 use Rattle.cany_base.specs.Frame.{FrameParts, class_number}
-use Rattle.cany_model.specs.Delivery.{brings}
-use Rattle.cany_model.specs.Frames.{Identity, is_of, same_class, same_identity}
-use Rattle.cany_model.specs.History.{copies, has_own, is_got, is_sent}
+use Rattle.cany_model.specs.Rules.Delivery.{brings}
+use Rattle.cany_model.specs.Bus.Frames.{Identity, is_of, same_class, same_identity}
+use Rattle.cany_model.specs.Bus.History.{copies, has_own, is_got, is_sent}
 use Rattle.cany_model.proofs.Among.{count-yes, count-no}
 use Rattle.cany_edcan.specs.Edcan.{data_identity}
 

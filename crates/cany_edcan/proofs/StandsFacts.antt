@@ -9,9 +9,9 @@ use Rattle.cany_base.specs.declared.notice.NoticeKind.TheVariants.{Idle, Got, Se
 use Rattle.cany_base.specs.Frame.{FrameParts}
 use Rattle.cany_base.specs.Scenario.{ScenarioParts, IsLegalScenario}
 use Rattle.cany_diffuse.specs.Eager.{EagerParts, is_there, is_among, raised, IsFresh, IsPut, IsLearnt, IsOwned}
-use Rattle.cany_model.specs.Frames.{is_of}
-use Rattle.cany_model.specs.History.{copies, has_own, is_got, is_sent}
-use Rattle.cany_model.specs.Notices.{IsDataOf}
+use Rattle.cany_model.specs.Bus.Frames.{is_of}
+use Rattle.cany_model.specs.Bus.History.{copies, has_own, is_got, is_sent}
+use Rattle.cany_model.specs.Rules.Notices.{IsDataOf}
 use Rattle.cany_edcan.specs.Edcan.{EdcanParts, IsEdcanOf, message_number, message_numbers, data_identity}
 use Rattle.cany_edcan.specs.EdcanSteps.{frame_number}
 use Rattle.cany_edcan.specs.MessageNumbers.{same_number}

@@ -5,10 +5,10 @@ use Rattle.cany_base.specs.declared.notice.Notice.{Notice}
 use Rattle.cany_base.specs.declared.notice.NoticeKind.{NoticeKind}
 use Rattle.cany_base.specs.Scenario.{ScenarioParts, IsLegalScenario}
 use Rattle.cany_diffuse.specs.Eager.{EagerParts, copies_of, is_owned, is_there, is_among}
-use Rattle.cany_model.specs.Frames.{Identity}
-use Rattle.cany_model.specs.History.{copies, has_own}
-use Rattle.cany_model.specs.Messages.{messages_of}
-use Rattle.cany_model.specs.Notices.{IsNextNotice}
+use Rattle.cany_model.specs.Bus.Frames.{Identity}
+use Rattle.cany_model.specs.Bus.History.{copies, has_own}
+use Rattle.cany_model.specs.Rules.Messages.{messages_of}
+use Rattle.cany_model.specs.Rules.Notices.{IsNextNotice}
 
 -- the node, and the copies of data frames
 pub record EdcanParts : Type 0 where

@@ -10,8 +10,8 @@ use Rattle.cany_base.specs.Scenario.{ScenarioParts}
 use Rattle.cany_diffuse.specs.declared.learnt.Learnt.{Learnt}
 use Rattle.cany_diffuse.specs.declared.learnt.Learnt.TheVariants.{First, Again, Enough}
 use Rattle.cany_diffuse.specs.Eager.{copies_of, is_held}
-use Rattle.cany_model.specs.Delivery.{delivery}
-use Rattle.cany_model.specs.Notices.{IsDataOf}
+use Rattle.cany_model.specs.Rules.Delivery.{delivery}
+use Rattle.cany_model.specs.Rules.Notices.{IsDataOf}
 use Rattle.cany_edcan.specs.Edcan.{EdcanParts, IsEdcanOf, message_number}
 
 abbrev pub frame_number : FrameParts → ℕ

@@ -6,9 +6,9 @@ ghost use Rattle.cany_base.specs.declared.notice.NoticeKind.TheVariants.{Idle, G
 ghost use Rattle.cany_base.specs.Frame.{FrameParts};
 ghost use Rattle.cany_base.specs.Scenario.{ScenarioParts};
 ghost use Rattle.cany_diffuse.specs.Eager.{copies_of, is_owned, learnt_of, IsCounted, IsLearnt, IsOwned};
-ghost use Rattle.cany_model.specs.Actions.{actions_of};
-ghost use Rattle.cany_model.specs.Edcan.{edcan_effects};
-ghost use Rattle.cany_model.specs.Notices.{IsNextNotice};
+ghost use Rattle.cany_model.specs.Rules.Actions.{actions_of};
+ghost use Rattle.cany_model.specs.Rules.Edcan.{edcan_effects};
+ghost use Rattle.cany_model.specs.Rules.Notices.{IsNextNotice};
 ghost use Rattle.cany_edcan.specs.Edcan.{IsEdcanOf, CanHear};
 ghost use Rattle.cany_edcan.specs.EdcanSteps.{frame_number, was_delivered, delivery_actions, relay_actions, CanTake};
 

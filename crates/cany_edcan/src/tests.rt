@@ -2,7 +2,7 @@ ghost use Rattle.std.specs.Prelude.{◌≡◌, ◌+◌, ◌<◌, ◌≤◌, [], 
 ghost use Rattle.cany_base.specs.declared.frame.Class.TheVariants as class;
 ghost use Rattle.cany_base.specs.declared.message.Service.TheVariants.{Ed};
 ghost use Rattle.cany_base.specs.Params.{IsInRange, MeetsFormulas};
-ghost use Rattle.cany_model.specs.Notices.{IsDataOf};
+ghost use Rattle.cany_model.specs.Rules.Notices.{IsDataOf};
 
 use crate::edcan::Edcan;
 use cany_base::{

@@ -5,12 +5,12 @@ ghost use Rattle.cany_base.specs.declared.slot_note.SlotNote.{SlotNote};
 ghost use Rattle.cany_base.specs.declared.step.Step.{Step};
 ghost use Rattle.cany_base.specs.Params.{Parameters};
 ghost use Rattle.cany_base.specs.Scenario.{ScenarioParts};
-ghost use Rattle.cany_model.specs.Follow.{journal_fault};
-ghost use Rattle.cany_model.specs.Hypothesis.{IsWithin, first_break};
-ghost use Rattle.cany_model.specs.Messages.{Message, messages_of};
-ghost use Rattle.cany_model.specs.RoundRobin.{round_robin};
-ghost use Rattle.cany_model.specs.Run.{IsLegal, IsWhole, run};
-ghost use Rattle.cany_model.specs.Safe.{IsIntegral, IsAgreedOn};
+ghost use Rattle.cany_model.specs.Bus.Follow.{journal_fault};
+ghost use Rattle.cany_model.specs.Promises.Hypothesis.{IsWithin, first_break};
+ghost use Rattle.cany_model.specs.Rules.Messages.{Message, messages_of};
+ghost use Rattle.cany_model.specs.Bus.RoundRobin.{round_robin};
+ghost use Rattle.cany_model.specs.Bus.Run.{IsLegal, IsWhole, run};
+ghost use Rattle.cany_model.specs.Promises.Safe.{IsIntegral, IsAgreedOn};
 ghost use Rattle.cany_model.specs.declared.breaks.Break.{Break};
 
 /// Integrity: the log of a node that has not stopped has no message twice, and each message that it delivers is one of

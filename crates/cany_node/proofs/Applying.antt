@@ -6,10 +6,10 @@ use Rattle.cany_base.specs.declared.actions.Action.TheVariants as action
 use Rattle.cany_base.specs.declared.log_entry.LogEntry.{LogEntry}
 use Rattle.cany_base.specs.Bounded.{Bounded}
 use Rattle.cany_base.specs.Frame.{FrameParts}
-use Rattle.cany_model.specs.Actions.{ident_of, action_of, actions_of}
-use Rattle.cany_model.specs.Effect.{Effect, Ask, Withdraw, Enter, waiting_after, entered}
-use Rattle.cany_model.specs.Frames.{Identity}
-use Rattle.cany_model.specs.Waiting.{with_frame, without}
+use Rattle.cany_model.specs.Rules.Actions.{ident_of, action_of, actions_of}
+use Rattle.cany_model.specs.Rules.Effect.{Effect, Ask, Withdraw, Enter, waiting_after, entered}
+use Rattle.cany_model.specs.Bus.Frames.{Identity}
+use Rattle.cany_model.specs.Bus.Waiting.{with_frame, without}
 use Rattle.can_controller.specs.Controller.{ControllerState}
 use Rattle.cany_node.specs.Apply.{AreDone}
 

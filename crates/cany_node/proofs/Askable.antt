@@ -17,19 +17,19 @@ use Rattle.cany_base.specs.declared.notice.NoticeKind.TheVariants.{Idle, Got, Se
 use Rattle.cany_base.specs.Frame.{FrameParts}
 use Rattle.cany_base.specs.Params.{Parameters}
 use Rattle.cany_base.specs.Scenario.{ScenarioParts, IsLegalScenario, IsSendOf}
-use Rattle.cany_model.specs.Delivery.{is_delivery, delivery, delivery_effects}
-use Rattle.cany_model.specs.Eager.{has_enough, is_first_copy, eager_effects}
-use Rattle.cany_model.specs.Edcan.{edcan_at, edcan_effects}
-use Rattle.cany_model.specs.Effect.{Effect, Ask, Withdraw, Enter}
-use Rattle.cany_model.specs.Frames.{Identity, identity_of, same_class}
-use Rattle.cany_model.specs.Messages.{Message, is_from, messages_after, messages_of, data_frame}
-use Rattle.cany_model.specs.Notices.{IsDataOf, BelongsTo, IsReadable}
-use Rattle.cany_model.specs.Relcan.{confirm_effects, confirm_frame, fall_back_effects, falls_back, fell_back, is_first_got, is_timed, late_copy_effects, relcan_at, relcan_effects, timer_effects}
-use Rattle.cany_model.specs.Rooms.{askable, companions, data_identity}
-use Rattle.cany_model.specs.Turn.{is_sent_in, send_effects, turn_effects}
+use Rattle.cany_model.specs.Rules.Delivery.{is_delivery, delivery, delivery_effects}
+use Rattle.cany_model.specs.Rules.Eager.{has_enough, is_first_copy, eager_effects}
+use Rattle.cany_model.specs.Rules.Edcan.{edcan_at, edcan_effects}
+use Rattle.cany_model.specs.Rules.Effect.{Effect, Ask, Withdraw, Enter}
+use Rattle.cany_model.specs.Bus.Frames.{Identity, identity_of, same_class}
+use Rattle.cany_model.specs.Rules.Messages.{Message, is_from, messages_after, messages_of, data_frame}
+use Rattle.cany_model.specs.Rules.Notices.{IsDataOf, BelongsTo, IsReadable}
+use Rattle.cany_model.specs.Rules.Relcan.{confirm_effects, confirm_frame, fall_back_effects, falls_back, fell_back, is_first_got, is_timed, late_copy_effects, relcan_at, relcan_effects, timer_effects}
+use Rattle.cany_model.specs.Rules.Rooms.{askable, companions, data_identity}
+use Rattle.cany_model.specs.Rules.Turn.{is_sent_in, send_effects, turn_effects}
 use Rattle.cany_model.proofs.Among.{Among, Among-append_cases, Among-from_Contains, Contains-from_Among, Each-append}
-use Rattle.cany_model.proofs.Belonging.{message_askable}
-use Rattle.cany_model.proofs.Identities.{same_class-true}
+use Rattle.cany_model.proofs.Promises.Belonging.{message_askable}
+use Rattle.cany_model.proofs.Bus.Identities.{same_class-true}
 use Rattle.can_frame.specs.Identifier.{FitsFormat}
 use Rattle.cany_node.specs.Apply.{IsAskable, NamesAskable}
 use Rattle.cany_node.specs.Node.{AreReadable}

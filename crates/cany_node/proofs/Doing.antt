@@ -7,11 +7,11 @@ use Rattle.cany_base.specs.declared.log_entry.LogEntry.{LogEntry}
 use Rattle.cany_base.specs.Bounded.{Bounded}
 use Rattle.cany_base.specs.Frame.{FrameParts}
 use Rattle.cany_base.specs.Scenario.{ScenarioParts, IsLegalScenario}
-use Rattle.cany_model.specs.Actions.{action_of, actions_of}
-use Rattle.cany_model.specs.Effect.{Effect, Ask, Withdraw, Enter, waiting_after, entered}
-use Rattle.cany_model.specs.Frames.{identity_of}
-use Rattle.cany_model.specs.Rooms.{waiting_room}
-use Rattle.cany_model.proofs.Waits.{AsksOnly, Each-after}
+use Rattle.cany_model.specs.Rules.Actions.{action_of, actions_of}
+use Rattle.cany_model.specs.Rules.Effect.{Effect, Ask, Withdraw, Enter, waiting_after, entered}
+use Rattle.cany_model.specs.Bus.Frames.{identity_of}
+use Rattle.cany_model.specs.Rules.Rooms.{waiting_room}
+use Rattle.cany_model.proofs.Bus.Waits.{AsksOnly, Each-after}
 use Rattle.can_controller.specs.Controller.{ControllerState}
 use Rattle.can_controller.specs.Waiting.{IsAscending}
 use Rattle.cany_base.specs.declared.frame.Format.{Format}

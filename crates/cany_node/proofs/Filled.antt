@@ -11,18 +11,18 @@ use Rattle.cany_base.specs.declared.message.Service.TheVariants.{Ed, Rel, Tot}
 use Rattle.cany_base.specs.declared.notice.NoticeKind.{NoticeKind}
 use Rattle.cany_base.specs.Frame.{FrameParts, data_class, identifier_of}
 use Rattle.cany_base.specs.Scenario.{ScenarioParts}
-use Rattle.cany_model.specs.Delivery.{brings, delivery}
-use Rattle.cany_model.specs.Effect.{entered}
-use Rattle.cany_model.specs.Frames.{Identity, identity_of, same_identity}
-use Rattle.cany_model.specs.Log.{log_from}
-use Rattle.cany_model.specs.Messages.{messages_of}
-use Rattle.cany_model.specs.Notices.{IsDataOf, BelongsTo, IsReadable}
-use Rattle.cany_model.specs.Rooms.{askable, data_identity, waiting_room, log_room}
-use Rattle.cany_model.specs.Turn.{turn_effects}
+use Rattle.cany_model.specs.Rules.Delivery.{brings, delivery}
+use Rattle.cany_model.specs.Rules.Effect.{entered}
+use Rattle.cany_model.specs.Bus.Frames.{Identity, identity_of, same_identity}
+use Rattle.cany_model.specs.Rules.Log.{log_from}
+use Rattle.cany_model.specs.Rules.Messages.{messages_of}
+use Rattle.cany_model.specs.Rules.Notices.{IsDataOf, BelongsTo, IsReadable}
+use Rattle.cany_model.specs.Rules.Rooms.{askable, data_identity, waiting_room, log_room}
+use Rattle.cany_model.specs.Rules.Turn.{turn_effects}
 use Rattle.cany_model.proofs.Among.{Among, Among-from_Contains, Among-map, Among-weaker}
-use Rattle.cany_model.proofs.Carried.{Has}
-use Rattle.cany_model.proofs.Entries.{TurnEntries, enters_none, delivers, turn_entries}
-use Rattle.cany_model.proofs.Identities.{same_identity-true}
+use Rattle.cany_model.proofs.Bus.Carried.{Has}
+use Rattle.cany_model.proofs.Rules.Entries.{TurnEntries, enters_none, delivers, turn_entries}
+use Rattle.cany_model.proofs.Bus.Identities.{same_identity-true}
 use Rattle.can_controller.specs.Waiting.{IsAscending}
 use Rattle.cany_node.specs.Apply.{AreAskable}
 use Rattle.cany_node.specs.Node.{AreReadable}

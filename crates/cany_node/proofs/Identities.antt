@@ -4,9 +4,9 @@ use Rattle.std.specs.List.{AllByRecursion, list_any, IsDistinct}
 use Rattle.std.specs.Cmp.{IsEquivalence}
 use Rattle.std.proofs.lemmas.Bool.{cases_Bool, false≢true}
 use Rattle.std.proofs.lemmas.Map.Made.{length-le_from_is_member}
-use Rattle.cany_model.specs.Frames.{Identity, same_identity}
+use Rattle.cany_model.specs.Bus.Frames.{Identity, same_identity}
 use Rattle.cany_model.proofs.Among.{Among, Among-with, Among-gives, Among-weaker, Among-from_any, any-from_Among}
-use Rattle.cany_model.proofs.Identities.{same_identity-true, same_identity_self, same_identity-from}
+use Rattle.cany_model.proofs.Bus.Identities.{same_identity-true, same_identity_self, same_identity-from}
 
 flips : (x y : Identity) → same_identity x y ≡ same_identity y x
 flips x y = elim (cases_Bool (same_identity x y)) [

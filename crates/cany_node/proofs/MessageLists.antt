@@ -5,7 +5,7 @@ use Rattle.std.proofs.lemmas.Bool.{eq-eqb, cases_Bool, cond-true, cond-false, co
 use Rattle.std.proofs.lemmas.List.{length-append, length-map, map-append, append-nil, take_more, get_or-map}
 use Rattle.std.proofs.lemmas.List.Elements.{filter-append}
 use Rattle.cany_base.specs.declared.message.SendAsk.{SendAsk}
-use Rattle.cany_model.specs.Messages.{Message, is_from, message_of, messages_after, messages_of}
+use Rattle.cany_model.specs.Rules.Messages.{Message, is_from, message_of, messages_after, messages_of}
 use Rattle.cany_model.proofs.Among.{Among, count-cons, count-yes, count-no, Among-from_Contains, Contains-from_Among}
 use Rattle.cany_node.specs.declared.agenda.Planned.{Planned}
 use Rattle.cany_node.specs.Agenda.{message_from, is_of_node}

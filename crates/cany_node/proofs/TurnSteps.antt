@@ -15,18 +15,18 @@ use Rattle.cany_base.specs.Bounded.{Bounded}
 use Rattle.cany_base.specs.Frame.{FrameParts}
 use Rattle.cany_base.specs.Params.{Parameters}
 use Rattle.cany_base.specs.Scenario.{ScenarioParts, IsLegalScenario}
-use Rattle.cany_model.specs.Actions.{action_of, actions_of}
-use Rattle.cany_model.specs.Delivery.{is_delivery, delivery, delivery_effects}
-use Rattle.cany_model.specs.Eager.{has_enough, is_first_copy, eager_effects}
-use Rattle.cany_model.specs.Edcan.{edcan_at, edcan_effects}
-use Rattle.cany_model.specs.Effect.{Effect, Ask, Withdraw, Enter, entered}
-use Rattle.cany_model.specs.Frames.{identity_of, same_class}
-use Rattle.cany_model.specs.Log.{log_from}
-use Rattle.cany_model.specs.Messages.{messages_of}
-use Rattle.cany_model.specs.Notices.{IsNextNotice, IsReadable}
-use Rattle.cany_model.specs.Relcan.{confirm_effects, confirm_frame, fall_back_effects, falls_back, fell_back, late_copy_effects, relcan_at, relcan_effects, timer_effects}
-use Rattle.cany_model.specs.Rooms.{waiting_room, actions_room}
-use Rattle.cany_model.specs.Turn.{send_effects, turn_effects}
+use Rattle.cany_model.specs.Rules.Actions.{action_of, actions_of}
+use Rattle.cany_model.specs.Rules.Delivery.{is_delivery, delivery, delivery_effects}
+use Rattle.cany_model.specs.Rules.Eager.{has_enough, is_first_copy, eager_effects}
+use Rattle.cany_model.specs.Rules.Edcan.{edcan_at, edcan_effects}
+use Rattle.cany_model.specs.Rules.Effect.{Effect, Ask, Withdraw, Enter, entered}
+use Rattle.cany_model.specs.Bus.Frames.{identity_of, same_class}
+use Rattle.cany_model.specs.Rules.Log.{log_from}
+use Rattle.cany_model.specs.Rules.Messages.{messages_of}
+use Rattle.cany_model.specs.Rules.Notices.{IsNextNotice, IsReadable}
+use Rattle.cany_model.specs.Rules.Relcan.{confirm_effects, confirm_frame, fall_back_effects, falls_back, fell_back, late_copy_effects, relcan_at, relcan_effects, timer_effects}
+use Rattle.cany_model.specs.Rules.Rooms.{waiting_room, actions_room}
+use Rattle.cany_model.specs.Rules.Turn.{send_effects, turn_effects}
 use Rattle.can_controller.specs.Controller.{ControllerState}
 use Rattle.cany_edcan.specs.Edcan.{IsEdcanOf}
 use Rattle.cany_relcan.specs.Relcan.{IsRelcanOf}

@@ -4,9 +4,9 @@ use Rattle.std.specs.Prelude.{slice_get}
 use Rattle.cany_base.specs.declared.notice.Notice.{Notice}
 use Rattle.cany_base.specs.declared.notice.NoticeKind.{NoticeKind}
 use Rattle.cany_base.specs.Scenario.{ScenarioParts}
-use Rattle.cany_model.specs.Effect.{waiting_after}
-use Rattle.cany_model.specs.Notices.{IsNextNotice}
-use Rattle.cany_model.specs.Turn.{turn_effects}
+use Rattle.cany_model.specs.Rules.Effect.{waiting_after}
+use Rattle.cany_model.specs.Rules.Notices.{IsNextNotice}
+use Rattle.cany_model.specs.Rules.Turn.{turn_effects}
 use Rattle.can_controller.specs.Controller.{ControllerState}
 use Rattle.cany_node.specs.Apply.{AreAskable}
 use Rattle.cany_node.specs.Node.{NodeParts, IsNodeOf, Reads, IsTurnOf, turned}

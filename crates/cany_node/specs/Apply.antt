@@ -8,10 +8,10 @@ use Rattle.cany_base.specs.declared.log_entry.LogEntry.{LogEntry}
 use Rattle.cany_base.specs.Bounded.{Bounded}
 use Rattle.cany_base.specs.Frame.{FrameParts}
 use Rattle.cany_base.specs.Scenario.{ScenarioParts, IsLegalScenario}
-use Rattle.cany_model.specs.Actions.{actions_of}
-use Rattle.cany_model.specs.Effect.{Effect, Ask, Withdraw, Enter, waiting_after, entered}
-use Rattle.cany_model.specs.Frames.{Identity, identity_of}
-use Rattle.cany_model.specs.Rooms.{askable, waiting_room}
+use Rattle.cany_model.specs.Rules.Actions.{actions_of}
+use Rattle.cany_model.specs.Rules.Effect.{Effect, Ask, Withdraw, Enter, waiting_after, entered}
+use Rattle.cany_model.specs.Bus.Frames.{Identity, identity_of}
+use Rattle.cany_model.specs.Rules.Rooms.{askable, waiting_room}
 use Rattle.can_frame.specs.Identifier.{FitsFormat}
 use Rattle.can_controller.specs.Controller.{ControllerState}
 use Rattle.can_controller.specs.Waiting.{HasRoomFor}

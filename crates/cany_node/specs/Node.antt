@@ -6,11 +6,11 @@ use Rattle.cany_base.specs.declared.notice.Notice.{Notice}
 use Rattle.cany_base.specs.declared.notice.NoticeKind.{NoticeKind}
 use Rattle.cany_base.specs.Bounded.{Bounded}
 use Rattle.cany_base.specs.Scenario.{ScenarioParts, IsLegalScenario}
-use Rattle.cany_model.specs.Effect.{Effect, waiting_after}
-use Rattle.cany_model.specs.Log.{log_from}
-use Rattle.cany_model.specs.Notices.{IsNextNotice, IsReadable}
-use Rattle.cany_model.specs.Turn.{turn_effects}
-use Rattle.cany_model.specs.Rooms.{waiting_room, actions_room, log_room}
+use Rattle.cany_model.specs.Rules.Effect.{Effect, waiting_after}
+use Rattle.cany_model.specs.Rules.Log.{log_from}
+use Rattle.cany_model.specs.Rules.Notices.{IsNextNotice, IsReadable}
+use Rattle.cany_model.specs.Rules.Turn.{turn_effects}
+use Rattle.cany_model.specs.Rules.Rooms.{waiting_room, actions_room, log_room}
 use Rattle.can_controller.specs.Controller.{ControllerState}
 use Rattle.cany_edcan.specs.Edcan.{EdcanParts, IsEdcanOf}
 use Rattle.cany_relcan.specs.Relcan.{RelcanParts, IsRelcanOf}

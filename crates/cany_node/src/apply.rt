@@ -1,8 +1,8 @@
 ghost use Rattle.std.specs.Prelude.{◌≡◌, [], ◌∷◌, List};
 ghost use Rattle.std.specs.List.{AllByRecursion};
 ghost use Rattle.cany_base.specs.Scenario.{ScenarioParts, IsLegalScenario};
-ghost use Rattle.cany_model.specs.Actions.{action_of, actions_of};
-ghost use Rattle.cany_model.specs.Effect.{Effect};
+ghost use Rattle.cany_model.specs.Rules.Actions.{action_of, actions_of};
+ghost use Rattle.cany_model.specs.Rules.Effect.{Effect};
 ghost use Rattle.cany_node.specs.Apply.{NamesAskable, AreDone, CanApply, CanDo, WithdrawsFitting};
 
 use can_controller::Controller;

@@ -2,11 +2,11 @@ ghost use Rattle.std.specs.Prelude.{◌≡◌, ◌≢◌, ◌<◌, ◌&&◌, [],
 ghost use Rattle.cany_base.specs.declared.notice.Notice.{Notice};
 ghost use Rattle.cany_base.specs.declared.notice.NoticeKind.{NoticeKind};
 ghost use Rattle.cany_base.specs.Scenario.{ScenarioParts};
-ghost use Rattle.cany_model.specs.Messages.{Message, messages_of, message_key};
-ghost use Rattle.cany_model.specs.Notices.{IsNextNotice};
-ghost use Rattle.cany_model.specs.Relcan.{has_timer_ahead};
-ghost use Rattle.cany_model.specs.Turn.{is_sent_at_once, turn_effects};
-ghost use Rattle.cany_model.specs.Effect.{waiting_after};
+ghost use Rattle.cany_model.specs.Rules.Messages.{Message, messages_of, message_key};
+ghost use Rattle.cany_model.specs.Rules.Notices.{IsNextNotice};
+ghost use Rattle.cany_model.specs.Rules.Relcan.{has_timer_ahead};
+ghost use Rattle.cany_model.specs.Rules.Turn.{is_sent_at_once, turn_effects};
+ghost use Rattle.cany_model.specs.Rules.Effect.{waiting_after};
 ghost use Rattle.cany_node.specs.Node.{IsNodeOf, CanTurn, CanAct, Reads, IsTurnOf, IsRefused, reply_of};
 
 use crate::agenda::Agenda;

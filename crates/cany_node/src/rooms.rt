@@ -1,5 +1,5 @@
 ghost use Rattle.std.specs.Prelude.{◌≡◌, ◌/◌, ◌^◌, ◌<◌, ◌≤◌};
-ghost use Rattle.cany_model.specs.Rooms as rooms;
+ghost use Rattle.cany_model.specs.Rules.Rooms as rooms;
 
 use cany_base::{Params, Scenario};
 

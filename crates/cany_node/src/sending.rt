@@ -1,7 +1,7 @@
 ghost use Rattle.std.specs.Prelude.{◌≡◌, ◌<◌, ◌≤◌, ◌+◌, ◌++◌, length};
 ghost use Rattle.cany_base.specs.Scenario.{ScenarioParts};
-ghost use Rattle.cany_model.specs.Actions.{actions_of};
-ghost use Rattle.cany_model.specs.Messages.{messages_of};
+ghost use Rattle.cany_model.specs.Rules.Actions.{actions_of};
+ghost use Rattle.cany_model.specs.Rules.Messages.{messages_of};
 ghost use Rattle.cany_node.specs.Agenda.{IsAgendaOf, asked_by, sent_asks};
 
 use crate::agenda::{Agenda, Planned};

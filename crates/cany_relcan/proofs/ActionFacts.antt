@@ -14,14 +14,14 @@ use Rattle.cany_base.specs.Params.{Parameters}
 use Rattle.cany_base.specs.Scenario.{ScenarioParts}
 use Rattle.cany_diffuse.specs.declared.learnt.Learnt.TheVariants.{First, Again, Enough}
 use Rattle.cany_diffuse.specs.Eager.{copies_of, is_owned, learnt_of}
-use Rattle.cany_model.specs.Actions.{action_of, actions_of}
-use Rattle.cany_model.specs.Delivery.{brings, delivery, delivery_effects, is_delivery}
-use Rattle.cany_model.specs.Eager.{has_enough}
-use Rattle.cany_model.specs.Effect.{Effect, Ask, Withdraw, Enter}
-use Rattle.cany_model.specs.Frames.{identity_of, same_class}
-use Rattle.cany_model.specs.History.{copies, has_own}
-use Rattle.cany_model.specs.Relcan.{confirm_effects, confirm_frame, fell_back, late_copy_effects, relcan_at}
-use Rattle.cany_model.proofs.Identities.{same_identity_self}
+use Rattle.cany_model.specs.Rules.Actions.{action_of, actions_of}
+use Rattle.cany_model.specs.Rules.Delivery.{brings, delivery, delivery_effects, is_delivery}
+use Rattle.cany_model.specs.Rules.Eager.{has_enough}
+use Rattle.cany_model.specs.Rules.Effect.{Effect, Ask, Withdraw, Enter}
+use Rattle.cany_model.specs.Bus.Frames.{identity_of, same_class}
+use Rattle.cany_model.specs.Bus.History.{copies, has_own}
+use Rattle.cany_model.specs.Rules.Relcan.{confirm_effects, confirm_frame, fell_back, late_copy_effects, relcan_at}
+use Rattle.cany_model.proofs.Bus.Identities.{same_identity_self}
 use Rattle.cany_relcan.specs.Relcan.{RelcanParts, HasCopiesOf, HasHeard, IsRelcanOf}
 use Rattle.cany_relcan.specs.RelcanSteps.{frame_number, is_enough, is_fallen, was_delivered, delivery_actions, withdraw_actions}
 use Rattle.cany_relcan.proofs.HeardFacts.{identity_is}

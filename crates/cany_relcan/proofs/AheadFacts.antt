@@ -14,14 +14,14 @@ use Rattle.cany_base.specs.declared.notice.NoticeKind.TheVariants.{Idle, Got, Se
 use Rattle.cany_base.specs.Frame.{data_class}
 use Rattle.cany_base.specs.Scenario.{ScenarioParts}
 use Rattle.cany_diffuse.specs.Eager.{copies_of}
-use Rattle.cany_model.specs.Frames.{Identity, identity_of, is_of, same_class}
-use Rattle.cany_model.specs.History.{is_got}
-use Rattle.cany_model.specs.Messages.{Message, messages_of, message_key, data_frame}
-use Rattle.cany_model.specs.Notices.{NamesMessage}
-use Rattle.cany_model.specs.Relcan.{has_confirm, has_copy, has_timer_ahead, is_timed}
+use Rattle.cany_model.specs.Bus.Frames.{Identity, identity_of, is_of, same_class}
+use Rattle.cany_model.specs.Bus.History.{is_got}
+use Rattle.cany_model.specs.Rules.Messages.{Message, messages_of, message_key, data_frame}
+use Rattle.cany_model.specs.Rules.Notices.{NamesMessage}
+use Rattle.cany_model.specs.Rules.Relcan.{has_confirm, has_copy, has_timer_ahead, is_timed}
 use Rattle.cany_model.proofs.Among.{Among-drop, Among-from_any, Among-from_Contains, any-from_Among}
-use Rattle.cany_model.proofs.Identities.{same_class-true, same_identity-true}
-use Rattle.cany_model.proofs.MessageKeys.{same_message}
+use Rattle.cany_model.proofs.Bus.Identities.{same_class-true, same_identity-true}
+use Rattle.cany_model.proofs.Rules.MessageKeys.{same_message}
 use Rattle.cany_relcan.specs.declared.timers.Timer.{Timer}
 use Rattle.cany_relcan.specs.MessageNumbers.{message_number}
 use Rattle.cany_relcan.specs.Relcan.{RelcanParts, IsRelcanOf, data_identity}

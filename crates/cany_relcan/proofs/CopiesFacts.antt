@@ -9,11 +9,11 @@ use Rattle.cany_base.specs.declared.notice.NoticeKind.TheVariants.{Idle, Got, Se
 use Rattle.cany_base.specs.Frame.{FrameParts}
 use Rattle.cany_base.specs.Scenario.{ScenarioParts}
 use Rattle.cany_diffuse.specs.Eager.{EagerParts, copies_of, is_owned, is_there, is_held, is_among, raised, IsFresh, IsPut, IsLearnt, IsOwned}
-use Rattle.cany_model.specs.Frames.{identity_of, is_of}
-use Rattle.cany_model.specs.History.{copies, has_own, is_got, is_sent}
-use Rattle.cany_model.specs.Notices.{NamesMessage}
-use Rattle.cany_model.specs.Relcan.{confirm_of, has_confirm, has_copy}
-use Rattle.cany_model.proofs.Identities.{same_identity-true}
+use Rattle.cany_model.specs.Bus.Frames.{identity_of, is_of}
+use Rattle.cany_model.specs.Bus.History.{copies, has_own, is_got, is_sent}
+use Rattle.cany_model.specs.Rules.Notices.{NamesMessage}
+use Rattle.cany_model.specs.Rules.Relcan.{confirm_of, has_confirm, has_copy}
+use Rattle.cany_model.proofs.Bus.Identities.{same_identity-true}
 use Rattle.cany_relcan.specs.MessageNumbers.{message_number, message_numbers, same_number}
 use Rattle.cany_relcan.specs.Relcan.{RelcanParts, HasCopiesOf, data_identity}
 use Rattle.cany_relcan.specs.RelcanSteps.{frame_number, IsNoted}

@@ -12,13 +12,13 @@ use Rattle.cany_base.specs.declared.notice.NoticeKind.{NoticeKind}
 use Rattle.cany_base.specs.Frame.{FrameParts}
 use Rattle.cany_base.specs.Params.{Parameters}
 use Rattle.cany_base.specs.Scenario.{ScenarioParts}
-use Rattle.cany_model.specs.Actions.{action_of, actions_of}
-use Rattle.cany_model.specs.Eager.{has_enough}
-use Rattle.cany_model.specs.Effect.{Ask}
-use Rattle.cany_model.specs.Frames.{identity_of, is_of}
-use Rattle.cany_model.specs.History.{copies}
-use Rattle.cany_model.specs.Relcan.{fell_back, has_confirm, relcan_at, relcan_effects, timer_effects}
-use Rattle.cany_model.proofs.Identities.{same_identity-true}
+use Rattle.cany_model.specs.Rules.Actions.{action_of, actions_of}
+use Rattle.cany_model.specs.Rules.Eager.{has_enough}
+use Rattle.cany_model.specs.Rules.Effect.{Ask}
+use Rattle.cany_model.specs.Bus.Frames.{identity_of, is_of}
+use Rattle.cany_model.specs.Bus.History.{copies}
+use Rattle.cany_model.specs.Rules.Relcan.{fell_back, has_confirm, relcan_at, relcan_effects, timer_effects}
+use Rattle.cany_model.proofs.Bus.Identities.{same_identity-true}
 use Rattle.cany_relcan.specs.declared.timers.Timer.{Timer}
 use Rattle.cany_relcan.specs.Relcan.{RelcanParts, HasCopiesOf, HasFallenOf, HasHeard, IsRelcanOf, data_identity, is_key_of}
 use Rattle.cany_relcan.specs.RelcanSteps.{after_timer, ask_actions, asks_at_end, due_frame, is_confirmed, marked, timer_actions, without_due}

@@ -7,9 +7,9 @@ use Rattle.cany_base.specs.declared.notice.NoticeKind.TheVariants.{Idle, Got, Se
 use Rattle.cany_base.specs.Frame.{FrameParts}
 use Rattle.cany_base.specs.Params.{Parameters}
 use Rattle.cany_base.specs.Scenario.{ScenarioParts}
-use Rattle.cany_model.specs.Frames.{is_of, same_class}
-use Rattle.cany_model.specs.Relcan.{relcan_at}
-use Rattle.cany_model.proofs.Identities.{same_class-true}
+use Rattle.cany_model.specs.Bus.Frames.{is_of, same_class}
+use Rattle.cany_model.specs.Rules.Relcan.{relcan_at}
+use Rattle.cany_model.proofs.Bus.Identities.{same_class-true}
 use Rattle.cany_relcan.specs.Relcan.{RelcanParts, HasHeard, IsRelcanOf, data_identity}
 use Rattle.cany_relcan.proofs.ActionFacts.{relayed_none, sent_none}
 use Rattle.cany_relcan.proofs.HeardFacts.{heard_other, no_timer}

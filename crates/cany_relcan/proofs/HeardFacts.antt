@@ -10,10 +10,10 @@ use Rattle.cany_base.specs.declared.notice.NoticeKind.TheVariants.{Got, Sent}
 use Rattle.cany_base.specs.Frame.{FrameParts}
 use Rattle.cany_base.specs.Scenario.{ScenarioParts}
 use Rattle.cany_diffuse.specs.Eager.{is_there, spare_of, IsPut, IsLearnt, IsOwned}
-use Rattle.cany_model.specs.Frames.{identity_of, same_class}
-use Rattle.cany_model.specs.History.{copies, has_own, is_got, is_sent}
-use Rattle.cany_model.specs.Notices.{NamesMessage}
-use Rattle.cany_model.specs.Relcan.{confirm_of, has_copy, is_timed}
+use Rattle.cany_model.specs.Bus.Frames.{identity_of, same_class}
+use Rattle.cany_model.specs.Bus.History.{copies, has_own, is_got, is_sent}
+use Rattle.cany_model.specs.Rules.Notices.{NamesMessage}
+use Rattle.cany_model.specs.Rules.Relcan.{confirm_of, has_copy, is_timed}
 use Rattle.cany_relcan.specs.declared.timers.Timer.{Timer}
 use Rattle.cany_relcan.specs.Relcan.{RelcanParts, HasCopiesOf, IsRelcanOf, HasHeard, data_identity, is_key_of}
 use Rattle.cany_relcan.specs.RelcanSteps.{frame_number, starts_timer, timers_with, IsNoted}

@@ -8,9 +8,9 @@ use Rattle.cany_base.specs.declared.notice.NoticeKind.{NoticeKind}
 use Rattle.cany_base.specs.declared.notice.NoticeKind.TheVariants.{Got, Sent}
 use Rattle.cany_base.specs.Frame.{FrameParts}
 use Rattle.cany_base.specs.Scenario.{ScenarioParts}
-use Rattle.cany_model.specs.Frames.{same_class}
-use Rattle.cany_model.specs.Notices.{BelongsTo, IsDataOf, IsNextNotice, IsReadable, NamesMessage}
-use Rattle.cany_model.proofs.Identities.{same_class-true}
+use Rattle.cany_model.specs.Bus.Frames.{same_class}
+use Rattle.cany_model.specs.Rules.Notices.{BelongsTo, IsDataOf, IsNextNotice, IsReadable, NamesMessage}
+use Rattle.cany_model.proofs.Bus.Identities.{same_class-true}
 use Rattle.cany_relcan.specs.Relcan.{RelcanParts, CanHear, IsRelcanOf}
 use Rattle.cany_relcan.specs.RelcanSteps.{CanTake}
 

@@ -6,8 +6,8 @@ use Rattle.cany_base.specs.declared.message.Service.TheVariants.{Rel}
 use Rattle.cany_base.specs.declared.notice.NoticeKind.{NoticeKind}
 use Rattle.cany_base.specs.declared.notice.NoticeKind.TheVariants.{Got}
 use Rattle.cany_base.specs.Scenario.{ScenarioParts}
-use Rattle.cany_model.specs.Messages.{message_of, messages_after, messages_of}
-use Rattle.cany_model.specs.Notices.{IsNextNotice}
+use Rattle.cany_model.specs.Rules.Messages.{message_of, messages_after, messages_of}
+use Rattle.cany_model.specs.Rules.Notices.{IsNextNotice}
 
 only_message : (scenario : ScenarioParts) (send : SendAsk) → scenario.sends ≡ send ∷ [] → Contains (messages_of scenario.sends) (message_of [] send)
 unfolding messages_after

@@ -8,10 +8,10 @@ use Rattle.cany_base.specs.declared.frame.Class.TheVariants.{Rel, Confirm}
 use Rattle.cany_base.specs.declared.notice.NoticeKind.{NoticeKind}
 use Rattle.cany_base.specs.declared.notice.NoticeKind.TheVariants.{Idle}
 use Rattle.cany_base.specs.Frame.{FrameParts, class_number}
-use Rattle.cany_model.specs.Delivery.{brings}
-use Rattle.cany_model.specs.Frames.{Identity, is_of, same_class, same_identity}
-use Rattle.cany_model.specs.History.{copies, has_own, is_got, is_sent}
-use Rattle.cany_model.specs.Relcan.{confirm_of, has_copy}
+use Rattle.cany_model.specs.Rules.Delivery.{brings}
+use Rattle.cany_model.specs.Bus.Frames.{Identity, is_of, same_class, same_identity}
+use Rattle.cany_model.specs.Bus.History.{copies, has_own, is_got, is_sent}
+use Rattle.cany_model.specs.Rules.Relcan.{confirm_of, has_copy}
 use Rattle.cany_model.proofs.Among.{count-yes, count-no}
 use Rattle.cany_relcan.specs.Relcan.{data_identity}
 

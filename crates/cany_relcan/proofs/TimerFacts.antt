@@ -9,12 +9,12 @@ use Rattle.cany_base.specs.declared.notice.NoticeKind.{NoticeKind}
 use Rattle.cany_base.specs.declared.notice.NoticeKind.TheVariants.{Idle, Got, Sent, Bad}
 use Rattle.cany_base.specs.Frame.{FrameParts}
 use Rattle.cany_base.specs.Params.{Parameters}
-use Rattle.cany_model.specs.Eager.{has_enough}
-use Rattle.cany_model.specs.Effect.{Effect, Ask}
-use Rattle.cany_model.specs.Frames.{Identity, identity_of, is_of, same_class}
-use Rattle.cany_model.specs.Relcan.{fall_back_effects, fell_back, has_confirm, has_copy, is_first_got, is_timed, timer_effects}
+use Rattle.cany_model.specs.Rules.Eager.{has_enough}
+use Rattle.cany_model.specs.Rules.Effect.{Effect, Ask}
+use Rattle.cany_model.specs.Bus.Frames.{Identity, identity_of, is_of, same_class}
+use Rattle.cany_model.specs.Rules.Relcan.{fall_back_effects, fell_back, has_confirm, has_copy, is_first_got, is_timed, timer_effects}
 use Rattle.cany_model.proofs.Among.{Each-append, Each-weaker}
-use Rattle.cany_model.proofs.Identities.{same_class-true, same_identity-true, same_identity_self}
+use Rattle.cany_model.proofs.Bus.Identities.{same_class-true, same_identity-true, same_identity_self}
 use Rattle.cany_relcan.specs.declared.timers.Timer.{Timer}
 use Rattle.cany_relcan.specs.Timers.{oldest_from, without_from, started_by, started_since}
 

@@ -4,7 +4,7 @@ use Rattle.std.proofs.lemmas.Bool.{cases_eq, ne_eqb}
 use Rattle.cany_base.specs.Frame.{FrameParts}
 use Rattle.cany_base.specs.Scenario.{ScenarioParts}
 use Rattle.cany_diffuse.specs.Eager.{HaveOneName}
-use Rattle.cany_model.specs.Messages.{messages_of}
+use Rattle.cany_model.specs.Rules.Messages.{messages_of}
 
 -- the number that stands for the message of an origin
 abbrev pub message_number : (seq origin : ℕ) → ℕ

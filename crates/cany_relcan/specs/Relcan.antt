@@ -10,10 +10,10 @@ use Rattle.cany_base.specs.Bounded.{Bounded}
 use Rattle.cany_base.specs.Frame.{FrameParts}
 use Rattle.cany_base.specs.Scenario.{ScenarioParts, IsLegalScenario}
 use Rattle.cany_diffuse.specs.Eager.{EagerParts, copies_of, is_owned, is_there, is_held, spare_of, is_among}
-use Rattle.cany_model.specs.Frames.{Identity, identity_of}
-use Rattle.cany_model.specs.History.{copies, has_own}
-use Rattle.cany_model.specs.Notices.{IsNextNotice, NamesMessage}
-use Rattle.cany_model.specs.Relcan.{fell_back, has_confirm, has_copy}
+use Rattle.cany_model.specs.Bus.Frames.{Identity, identity_of}
+use Rattle.cany_model.specs.Bus.History.{copies, has_own}
+use Rattle.cany_model.specs.Rules.Notices.{IsNextNotice, NamesMessage}
+use Rattle.cany_model.specs.Rules.Relcan.{fell_back, has_confirm, has_copy}
 use Rattle.cany_relcan.specs.MessageNumbers.{message_number, message_numbers}
 use Rattle.cany_relcan.specs.Timers.{TimersParts, started_by, started_since}
 

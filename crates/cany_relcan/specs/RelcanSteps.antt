@@ -12,8 +12,8 @@ use Rattle.cany_base.specs.Scenario.{ScenarioParts}
 use Rattle.cany_diffuse.specs.declared.learnt.Learnt.{Learnt}
 use Rattle.cany_diffuse.specs.declared.learnt.Learnt.TheVariants.{First, Again, Enough}
 use Rattle.cany_diffuse.specs.Eager.{EagerParts, copies_of, is_held, is_there}
-use Rattle.cany_model.specs.Delivery.{delivery}
-use Rattle.cany_model.specs.Notices.{NamesMessage}
+use Rattle.cany_model.specs.Rules.Delivery.{delivery}
+use Rattle.cany_model.specs.Rules.Notices.{NamesMessage}
 use Rattle.cany_relcan.specs.MessageNumbers.{message_number}
 use Rattle.cany_relcan.specs.Relcan.{RelcanParts, IsRelcanOf, is_key_of}
 use Rattle.cany_relcan.specs.Timers.{TimersParts, oldest_from, without_from, with_timer}

@@ -4,8 +4,8 @@ use Rattle.cany_base.specs.declared.message.MsgKey.{MsgKey}
 use Rattle.cany_base.specs.declared.notice.NoticeKind.{NoticeKind}
 use Rattle.cany_base.specs.declared.notice.NoticeKind.TheVariants.{Idle, Got, Sent, Bad}
 use Rattle.cany_base.specs.Frame.{FrameParts}
-use Rattle.cany_model.specs.Frames.{identity_of}
-use Rattle.cany_model.specs.Relcan.{has_copy, is_timed}
+use Rattle.cany_model.specs.Bus.Frames.{identity_of}
+use Rattle.cany_model.specs.Rules.Relcan.{has_copy, is_timed}
 use Rattle.cany_relcan.specs.declared.timers.Timer.{Timer}
 
 -- the timers that run, oldest first, and how many more may be started

@@ -1,6 +1,6 @@
 ghost use Rattle.std.specs.Prelude.{◌≡◌, ◌<◌};
 ghost use Rattle.cany_base.specs.declared.frame.Class.TheVariants as class;
-ghost use Rattle.cany_model.specs.Frames.{same_class};
+ghost use Rattle.cany_model.specs.Bus.Frames.{same_class};
 
 use cany_base::{Class, Frame, MsgKey, Payload};
 use cany_diffuse::Diffused;
@@ -60,7 +60,7 @@ impl Diffused for Data {
 }
 
 /// Whether the frame is the data frame of a RELCAN message.
-#[tactic(auto, unfolding(cany_model::specs::Frames::same_class))]
+#[tactic(auto, unfolding(cany_model::specs::Bus::Frames::same_class))]
 pub(crate) fn is_data(frame: &Frame) -> bool
     ensures { result ≡ same_class frame.now.class class.Rel }
 {

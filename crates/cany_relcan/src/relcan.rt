@@ -8,11 +8,11 @@ ghost use Rattle.cany_base.specs.declared.notice.NoticeKind.TheVariants.{Idle, G
 ghost use Rattle.cany_base.specs.Frame.{FrameParts};
 ghost use Rattle.cany_base.specs.Scenario.{ScenarioParts};
 ghost use Rattle.cany_diffuse.specs.Eager.{copies_of, is_owned, learnt_of, IsCounted, IsLearnt, IsOwned};
-ghost use Rattle.cany_model.specs.Actions.{actions_of};
-ghost use Rattle.cany_model.specs.Frames.{same_class};
-ghost use Rattle.cany_model.specs.Messages.{Message, messages_of, message_key};
-ghost use Rattle.cany_model.specs.Notices.{IsNextNotice};
-ghost use Rattle.cany_model.specs.Relcan.{confirm_frame, has_timer_ahead, relcan_at, relcan_effects, timer_effects};
+ghost use Rattle.cany_model.specs.Rules.Actions.{actions_of};
+ghost use Rattle.cany_model.specs.Bus.Frames.{same_class};
+ghost use Rattle.cany_model.specs.Rules.Messages.{Message, messages_of, message_key};
+ghost use Rattle.cany_model.specs.Rules.Notices.{IsNextNotice};
+ghost use Rattle.cany_model.specs.Rules.Relcan.{confirm_frame, has_timer_ahead, relcan_at, relcan_effects, timer_effects};
 ghost use Rattle.cany_relcan.specs.Relcan.{IsRelcanOf, HasHeard, CanHear, is_key_of};
 ghost use Rattle.cany_relcan.specs.RelcanSteps.{after_timer, ask_actions, asks_at_end, CanTake, delivery_actions, due_frame, frame_number, is_confirmed, is_enough, is_fallen, IsNoted, marked, starts_timer, timer_actions, timers_with, was_delivered, withdraw_actions, without_due};
 

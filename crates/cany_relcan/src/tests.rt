@@ -2,7 +2,7 @@ ghost use Rattle.std.specs.Prelude.{◌≡◌, ◌+◌, ◌<◌, ◌≤◌, [], 
 ghost use Rattle.cany_base.specs.declared.message.Service.TheVariants.{Rel};
 ghost use Rattle.cany_base.specs.declared.notice.NoticeKind.TheVariants.{Idle};
 ghost use Rattle.cany_base.specs.Params.{IsInRange, MeetsFormulas};
-ghost use Rattle.cany_model.specs.Notices.{IsNextNotice};
+ghost use Rattle.cany_model.specs.Rules.Notices.{IsNextNotice};
 
 use crate::relcan::Relcan;
 use cany_base::{

@@ -9,7 +9,7 @@ use Rattle.toml.specs.Data.{Data}
 use Rattle.toml.specs.View.{view, items_view}
 use Rattle.toml.specs.declared.value.Value.{Value}
 use Rattle.toml.proofs.Views.{items_view-drop}
-use Rattle.cany_model.specs.TomlKeys.{◌>>=◌, only_if, each_of}
+use Rattle.cany_model.specs.Texts.TomlKeys.{◌>>=◌, only_if, each_of}
 use Rattle.cany_replay.specs.JournalParts.{after}
 
 -- there are as many as there are entries

@@ -3,7 +3,7 @@ use Rattle.std.proofs.Common.{◌≡◌, ℕ, zero, suc, ◌+◌, ◌<◌, ◌�
 use Rattle.std.specs.List.{join_with_byte}
 use Rattle.std.proofs.lemmas.List.{take_more, take-append-drop, map-append, length-map}
 use Rattle.std.proofs.Math.Seq.{take-length}
-use Rattle.cany_model.specs.ReportLines.{line_of}
+use Rattle.cany_model.specs.Texts.ReportLines.{line_of}
 use Rattle.cany_replay.specs.declared.report.field.Field.{Field}
 use Rattle.cany_replay.specs.Fields.{field_text, most_bytes, room_of}
 use Rattle.cany_replay.proofs.TextLemmas.{join_with_byte-append}

@@ -9,9 +9,9 @@ use Rattle.toml.specs.View.{view, items_view}
 use Rattle.toml.specs.declared.value.Value.{Value}
 use Rattle.toml.proofs.Views.{items_view-drop}
 use Rattle.cany_base.specs.declared.step.Step.{Step}
-use Rattle.cany_model.specs.JournalText.{step_of, steps_of}
-use Rattle.cany_model.specs.TomlKeys.{◌>>=◌, each_of}
-use Rattle.cany_model.proofs.TomlSteps.{bind_some}
+use Rattle.cany_model.specs.Texts.JournalText.{step_of, steps_of}
+use Rattle.cany_model.specs.Texts.TomlKeys.{◌>>=◌, each_of}
+use Rattle.cany_model.proofs.Texts.TomlSteps.{bind_some}
 use Rattle.cany_replay.specs.declared.reader.refusal.ReadRefusal.{ReadRefusal}
 use Rattle.cany_replay.specs.declared.reader.refusal.ReadRefusal.TheVariants.{Later, Memory}
 use Rattle.cany_replay.specs.JournalParts.{after, joined}

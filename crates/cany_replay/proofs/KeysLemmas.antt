@@ -6,7 +6,7 @@ use Rattle.std.specs.Str.{bytes_eq}
 use Rattle.cany_replay.specs.Keys.{is_one_of}
 use Rattle.toml.specs.declared.value.Value.{Value}
 use Rattle.toml.specs.View.{members_view}
-use Rattle.cany_model.specs.TomlKeys.{has_only}
+use Rattle.cany_model.specs.Texts.TomlKeys.{has_only}
 
 -- each key is one of the texts
 abbrev pub all_are_among : List (Bor (List ℕ)) → List (String Global) → Bool

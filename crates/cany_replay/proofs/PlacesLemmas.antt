@@ -11,7 +11,7 @@ use Rattle.cany_base.specs.declared.rule.Place.{Place}
 use Rattle.cany_base.specs.declared.rule.Place.TheVariants.{At, FrameNth}
 use Rattle.cany_base.specs.declared.rule.Rule.{Rule}
 use Rattle.cany_base.specs.Frame.{class_number}
-use Rattle.cany_model.specs.FaultsText.{same_place, have_distinct_places}
+use Rattle.cany_model.specs.Texts.FaultsText.{same_place, have_distinct_places}
 use Rattle.cany_replay.specs.Places.{key_of}
 use Rattle.cany_replay.specs.declared.reader.places.PlaceKey.{PlaceKey}
 use Rattle.cany_replay.specs.declared.reader.places.PlaceKey.TheVariants.{Slot, Attempt}

@@ -13,16 +13,16 @@ use Rattle.cany_base.specs.declared.step.Step.{Step}
 use Rattle.cany_base.specs.declared.log_entry.LogEntry.{LogEntry}
 use Rattle.cany_base.specs.declared.message.SendAsk.{SendAsk}
 use Rattle.cany_base.specs.Scenario.{ScenarioParts}
-use Rattle.cany_model.specs.Log.{log}
-use Rattle.cany_model.specs.Messages.{Message, message_of, messages_after, messages_of, is_from}
+use Rattle.cany_model.specs.Rules.Log.{log}
+use Rattle.cany_model.specs.Rules.Messages.{Message, message_of, messages_after, messages_of, is_from}
 use Rattle.cany_base.specs.Params.{Parameters}
 use Rattle.cany_model.specs.declared.breaks.Break.{Break}
-use Rattle.cany_model.specs.Hypothesis.{first_break}
-use Rattle.cany_model.specs.Report.{bus_lines, node_lines, message_lines, report_lines, report}
-use Rattle.cany_model.specs.ReportLines.{line_of, params_line, hypothesis_line, bus_line, is_shown, journal_line, journal_lines, node_line, entry_line, message_line}
-use Rattle.cany_model.specs.Run.{run}
-use Rattle.cany_model.specs.Settled.{is_settled}
-use Rattle.cany_model.specs.State.{RunState, node_at, reads}
+use Rattle.cany_model.specs.Promises.Hypothesis.{first_break}
+use Rattle.cany_model.specs.Texts.Report.{bus_lines, node_lines, message_lines, report_lines, report}
+use Rattle.cany_model.specs.Texts.ReportLines.{line_of, params_line, hypothesis_line, bus_line, is_shown, journal_line, journal_lines, node_line, entry_line, message_line}
+use Rattle.cany_model.specs.Bus.Run.{run}
+use Rattle.cany_model.specs.Promises.Settled.{is_settled}
+use Rattle.cany_model.specs.Bus.State.{RunState, node_at, reads}
 use Rattle.cany_replay.specs.ReportParts.{heading_text, bus_text, outcome_text}
 use Rattle.cany_replay.proofs.WrittenLemmas.{concat-map}
 

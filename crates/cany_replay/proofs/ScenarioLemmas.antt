@@ -13,12 +13,12 @@ use Rattle.cany_base.specs.declared.message.SendAsk.{SendAsk}
 use Rattle.cany_base.specs.declared.rule.Rule.{Rule}
 use Rattle.cany_base.specs.declared.step.Step.{Step}
 use Rattle.cany_base.specs.Params.{Parameters}
-use Rattle.cany_model.specs.FaultsText.{rules_from}
-use Rattle.cany_model.specs.JournalText.{journal_at}
-use Rattle.cany_model.specs.ParamsText.{params_of}
-use Rattle.cany_model.specs.ScenarioText.{document_of, top_keys, scenario_from}
-use Rattle.cany_model.specs.SendsText.{sends_from}
-use Rattle.cany_model.specs.TomlKeys.{has_only, optional}
+use Rattle.cany_model.specs.Texts.FaultsText.{rules_from}
+use Rattle.cany_model.specs.Texts.JournalText.{journal_at}
+use Rattle.cany_model.specs.Texts.ParamsText.{params_of}
+use Rattle.cany_model.specs.Texts.ScenarioText.{document_of, top_keys, scenario_from}
+use Rattle.cany_model.specs.Texts.SendsText.{sends_from}
+use Rattle.cany_model.specs.Texts.TomlKeys.{has_only, optional}
 
 -- of a text the document is that of `toml`
 pub document_of-text : (bytes : List ℕ) → IsUtf8 bytes → document_of bytes ≡ parse_document bytes

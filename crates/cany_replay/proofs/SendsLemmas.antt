@@ -5,8 +5,8 @@ use Rattle.toml.specs.View.{items_view}
 use Rattle.toml.specs.declared.value.Value.{Value}
 use Rattle.cany_base.specs.declared.message.SendAsk.{SendAsk}
 use Rattle.cany_base.specs.Params.{Parameters}
-use Rattle.cany_model.specs.TomlKeys.{each_of}
-use Rattle.cany_model.specs.SendsText.{send_from, sends_from}
+use Rattle.cany_model.specs.Texts.TomlKeys.{each_of}
+use Rattle.cany_model.specs.Texts.SendsText.{send_from, sends_from}
 use Rattle.cany_replay.proofs.EntriesLemmas.{only_few-many, only_few-few}
 
 -- more than 20,000 entries stand for nothing

@@ -7,7 +7,7 @@ use Rattle.std.proofs.lemmas.List.{map-append}
 use Rattle.std.proofs.lemmas.List.Elements.{filter-append}
 use Rattle.std.proofs.lemmas.Fmt.{length-decimal-le}
 use Rattle.cany_base.specs.Nodes.{Nodes, has}
-use Rattle.cany_model.specs.ReportLines.{set_text, numbers_text}
+use Rattle.cany_model.specs.Texts.ReportLines.{set_text, numbers_text}
 use Rattle.cany_replay.proofs.TextLemmas.{join_with_byte-append, range_more}
 
 -- the numbers below k of the nodes of the set

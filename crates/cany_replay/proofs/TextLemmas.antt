@@ -5,7 +5,7 @@ use Rattle.std.proofs.lemmas.List.{map-id, take_more, flat_map_more}
 use Rattle.std.proofs.lemmas.List.FromFn.{map-range_with_len_more}
 use Rattle.std.proofs.lemmas.Option.{get_or_from_slice_get}
 use Rattle.std.proofs.Math.Seq.{take-length}
-use Rattle.cany_model.specs.ReportLines.{byte_text, payload_text}
+use Rattle.cany_model.specs.Texts.ReportLines.{byte_text, payload_text}
 
 -- one more piece, after a separator
 pub join_with_byte-append : (c : ℕ) (x : List ℕ) (xs : List (List ℕ)) (y : List ℕ) → join_with_byte c ((x ∷ xs) ++ y ∷ []) ≡ join_with_byte c (x ∷ xs) ++ (c ∷ y)

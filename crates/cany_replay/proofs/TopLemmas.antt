@@ -8,17 +8,17 @@ use Rattle.cany_base.specs.declared.step.Step.{Step}
 use Rattle.cany_base.specs.Scenario.{ScenarioParts, IsLegalScenario}
 use Rattle.cany_io.specs.Sink.{Takes, TakesPrefix}
 use Rattle.cany_model.specs.declared.follow.FollowFault.{FollowFault}
-use Rattle.cany_model.specs.Follow.{journal_fault, journal_of}
-use Rattle.cany_model.specs.RefusalLines.{later_form_line, journal_refusal_line}
-use Rattle.cany_model.specs.Report.{report}
-use Rattle.cany_model.specs.RoundRobin.{round_robin}
-use Rattle.cany_model.specs.Run.{IsLegal, IsWhole}
-use Rattle.cany_model.specs.ScenarioText.{scenario_of}
-use Rattle.cany_model.proofs.FollowFacts.{no_fault_exactly}
-use Rattle.cany_model.proofs.Integrity.{integral}
-use Rattle.cany_model.proofs.RoundRobinEnds.{round_robin_ends}
-use Rattle.cany_model.proofs.Safety.{safe}
-use Rattle.cany_model.proofs.ScenarioTextLegal.{scenario_of-legal}
+use Rattle.cany_model.specs.Bus.Follow.{journal_fault, journal_of}
+use Rattle.cany_model.specs.Texts.RefusalLines.{later_form_line, journal_refusal_line}
+use Rattle.cany_model.specs.Texts.Report.{report}
+use Rattle.cany_model.specs.Bus.RoundRobin.{round_robin}
+use Rattle.cany_model.specs.Bus.Run.{IsLegal, IsWhole}
+use Rattle.cany_model.specs.Texts.ScenarioText.{scenario_of}
+use Rattle.cany_model.proofs.Bus.FollowFacts.{no_fault_exactly}
+use Rattle.cany_model.proofs.Promises.Integrity.{integral}
+use Rattle.cany_model.proofs.Bus.RoundRobinEnds.{round_robin_ends}
+use Rattle.cany_model.proofs.Promises.Safety.{safe}
+use Rattle.cany_model.proofs.Texts.ScenarioTextLegal.{scenario_of-legal}
 use Rattle.cany_replay.specs.Top.{IsReplay, own_fault, refusal_for, refusal_of, answer_for, answer_of}
 use Rattle.cany_world.specs.World.{WorldParts}
 

@@ -2,7 +2,7 @@
 use Rattle.std.specs.Prelude.{ℕ, ◌+◌, List, [], ◌∷◌, length, map, decimal}
 use Rattle.cany_replay.specs.declared.report.field.Field.{Field}
 use Rattle.cany_replay.specs.declared.report.field.Field.TheVariants.{Text, Number, Bytes, Set, Steps}
-use Rattle.cany_model.specs.ReportLines.{payload_text, set_text, step_letter}
+use Rattle.cany_model.specs.Texts.ReportLines.{payload_text, set_text, step_letter}
 
 abbrev pub field_text : Field → List ℕ
 field_text (Text text) = text.now

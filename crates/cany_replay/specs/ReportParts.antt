@@ -3,10 +3,10 @@ use Rattle.std.specs.Prelude.{ℕ, List, [], ◌∷◌, ◌++◌, codes}
 use Rattle.std.specs.List.{concat, flat_map, range_with_len}
 use Rattle.cany_base.specs.declared.step.Step.{Step}
 use Rattle.cany_base.specs.Scenario.{ScenarioParts}
-use Rattle.cany_model.specs.Hypothesis.{first_break}
-use Rattle.cany_model.specs.Report.{bus_lines, node_lines, message_lines}
-use Rattle.cany_model.specs.ReportLines.{line_of, params_line, journal_lines, hypothesis_line}
-use Rattle.cany_model.specs.State.{RunState}
+use Rattle.cany_model.specs.Promises.Hypothesis.{first_break}
+use Rattle.cany_model.specs.Texts.Report.{bus_lines, node_lines, message_lines}
+use Rattle.cany_model.specs.Texts.ReportLines.{line_of, params_line, journal_lines, hypothesis_line}
+use Rattle.cany_model.specs.Bus.State.{RunState}
 
 -- what was run
 unfoldable pub heading_text : ScenarioParts → List Step → List ℕ

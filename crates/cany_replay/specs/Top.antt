@@ -4,14 +4,14 @@ use Rattle.std.specs.Option.{option_map_or}
 use Rattle.cany_base.specs.Scenario.{ScenarioParts}
 use Rattle.cany_io.specs.Sink.{Takes}
 use Rattle.cany_model.specs.declared.follow.FollowFault.{FollowFault}
-use Rattle.cany_model.specs.Follow.{journal_fault, journal_of}
-use Rattle.cany_model.specs.Hypothesis.{IsWithin}
-use Rattle.cany_model.specs.RefusalLines.{later_form_line, journal_refusal_line}
-use Rattle.cany_model.specs.Report.{report}
-use Rattle.cany_model.specs.Run.{IsLegal, IsWhole, run}
-use Rattle.cany_model.specs.Safe.{IsIntegral, IsSafe}
-use Rattle.cany_model.specs.ScenarioText.{scenario_of}
-use Rattle.cany_model.specs.State.{RunState}
+use Rattle.cany_model.specs.Bus.Follow.{journal_fault, journal_of}
+use Rattle.cany_model.specs.Promises.Hypothesis.{IsWithin}
+use Rattle.cany_model.specs.Texts.RefusalLines.{later_form_line, journal_refusal_line}
+use Rattle.cany_model.specs.Texts.Report.{report}
+use Rattle.cany_model.specs.Bus.Run.{IsLegal, IsWhole, run}
+use Rattle.cany_model.specs.Promises.Safe.{IsIntegral, IsSafe}
+use Rattle.cany_model.specs.Texts.ScenarioText.{scenario_of}
+use Rattle.cany_model.specs.Bus.State.{RunState}
 
 -- the words are the one word of the command
 abbrev pub AreReplay : List (List ℕ) → Type 0

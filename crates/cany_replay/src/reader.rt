@@ -1,7 +1,7 @@
 //! Reads a scenario text. What the bytes stand for is `scenario_of` of `cany_model`; the files below meet its parts.
 ghost use Rattle.std.specs.Prelude.{◌≡◌, IfOk, IfErr, Some, None};
 ghost use Rattle.toml.specs.View.{table_view};
-ghost use Rattle.cany_model.specs.ScenarioText.{scenario_from, scenario_of};
+ghost use Rattle.cany_model.specs.Texts.ScenarioText.{scenario_from, scenario_of};
 ghost use Rattle.cany_replay.specs.Refusal.{IfLater};
 
 mod document;
@@ -39,7 +39,7 @@ const TOP_KEYS: [&str; 14] = [
 /// # Errors
 ///
 /// `Later` exactly where they stand for none of the form that is read so far, `Memory` for want of memory.
-#[tactic(auto, unfolding(cany_model::specs::ScenarioText::scenario_of))]
+#[tactic(auto, unfolding(cany_model::specs::Texts::ScenarioText::scenario_of))]
 pub(crate) fn read_scenario(alloc: Global, bytes: &[u8]) -> Result<Scenario, ReadRefusal>
     ensures ok { IfOk result (λ scenario. scenario_of bytes.now ≡ Some scenario) }
     ensures later { IfErr result (λ refusal. IfLater refusal (scenario_of bytes.now ≡ None)) }
@@ -48,7 +48,7 @@ pub(crate) fn read_scenario(alloc: Global, bytes: &[u8]) -> Result<Scenario, Rea
     scenario_from(alloc, &top)
 }
 
-#[tactic(auto, unfolding(cany_model::specs::ScenarioText::scenario_from))]
+#[tactic(auto, unfolding(cany_model::specs::Texts::ScenarioText::scenario_from))]
 fn scenario_from(alloc: Global, top: &Table) -> Result<Scenario, ReadRefusal>
     ensures ok { IfOk result (λ scenario. scenario_from (table_view top.now) ≡ Some scenario) }
     ensures later { IfErr result (λ refusal. IfLater refusal (scenario_from (table_view top.now) ≡ None)) }

@@ -3,10 +3,10 @@ ghost use Rattle.std.specs.Prelude.{◌≡◌, ◌⊎◌, ◌↔◌, ◌<◌, �
 ghost use Rattle.cany_io.specs.Faults.{HasRisen, StandsStill};
 ghost use Rattle.cany_io.specs.Sink.{Takes, TakesPrefix};
 ghost use Rattle.cany_io.specs.Source.{IsAtEnd};
-ghost use Rattle.cany_model.specs.Follow.{journal_of};
-ghost use Rattle.cany_model.specs.RefusalLines.{later_form_line, journal_refusal_line};
-ghost use Rattle.cany_model.specs.Report.{report};
-ghost use Rattle.cany_model.specs.ScenarioText.{scenario_of};
+ghost use Rattle.cany_model.specs.Bus.Follow.{journal_of};
+ghost use Rattle.cany_model.specs.Texts.RefusalLines.{later_form_line, journal_refusal_line};
+ghost use Rattle.cany_model.specs.Texts.Report.{report};
+ghost use Rattle.cany_model.specs.Texts.ScenarioText.{scenario_of};
 ghost use Rattle.cany_replay.specs.Top.{AreReplay, IsReplay, own_fault, refusal_of, answer_for, answer_of};
 
 use crate::reader::{ReadRefusal, read_scenario};

@@ -8,13 +8,13 @@ use Rattle.cany_model.specs.declared.follow.FollowFault.{FollowFault}
 use Rattle.cany_model.specs.declared.follow.FollowFault.TheVariants.{Refused, Unfinished}
 use Rattle.cany_model.specs.declared.reply.StepReply.{StepReply}
 use Rattle.cany_model.specs.declared.reply.StepReply.TheVariants.{Done, Lagging, Over, NothingYet, Stopped, NoNode}
-use Rattle.cany_model.specs.Follow.{first_unread, journal_fault, steps_made}
-use Rattle.cany_model.specs.RoundRobin.{round, rounds, round_robin}
-use Rattle.cany_model.specs.Run.{IsLegal, has_ended, is_done, reply, run}
-use Rattle.cany_model.specs.State.{RunState, opening, node_at, runs, slots_run}
-use Rattle.cany_model.proofs.Following.{IsFollowed, IsFaultOf, followed_more, followed_refused, followed_whole, followed_part}
-use Rattle.cany_model.proofs.RoundRobinEnds.{round_robin_ends}
-use Rattle.cany_model.proofs.Rounds.{RoundSoFar, round_begins, round_turn, round_skips, round_ends, round_slot_done, round_turn_done, rounds_next, rounds_none, rounds_opening, next_round_legal}
+use Rattle.cany_model.specs.Bus.Follow.{first_unread, journal_fault, steps_made}
+use Rattle.cany_model.specs.Bus.RoundRobin.{round, rounds, round_robin}
+use Rattle.cany_model.specs.Bus.Run.{IsLegal, has_ended, is_done, reply, run}
+use Rattle.cany_model.specs.Bus.State.{RunState, opening, node_at, runs, slots_run}
+use Rattle.cany_model.proofs.Bus.Following.{IsFollowed, IsFaultOf, followed_more, followed_refused, followed_whole, followed_part}
+use Rattle.cany_model.proofs.Bus.RoundRobinEnds.{round_robin_ends}
+use Rattle.cany_model.proofs.Bus.Rounds.{RoundSoFar, round_begins, round_turn, round_skips, round_ends, round_slot_done, round_turn_done, rounds_next, rounds_none, rounds_opening, next_round_legal}
 use Rattle.cany_world.specs.World.{WorldParts, state_of}
 
 -- the world after a step with this reply

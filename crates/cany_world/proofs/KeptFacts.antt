@@ -8,10 +8,10 @@ use Rattle.cany_base.specs.declared.notice.Notice.{Notice}
 use Rattle.cany_base.specs.declared.slot_note.SlotNote.{SlotNote}
 use Rattle.cany_base.specs.Nodes.{has}
 use Rattle.cany_base.specs.Scenario.{ScenarioParts}
-use Rattle.cany_model.specs.Effect.{Effect, waiting_after}
-use Rattle.cany_model.specs.Slot.{node_after, share_of}
-use Rattle.cany_model.specs.State.{NodeState, runs}
-use Rattle.cany_model.proofs.States.{no_note, note_at}
+use Rattle.cany_model.specs.Rules.Effect.{Effect, waiting_after}
+use Rattle.cany_model.specs.Bus.Slot.{node_after, share_of}
+use Rattle.cany_model.specs.Bus.State.{NodeState, runs}
+use Rattle.cany_model.proofs.Bus.States.{no_note, note_at}
 use Rattle.can_bus.specs.Row.{controller_after}
 use Rattle.can_controller.specs.Controller.{ControllerState, node_state, seen, stopped_at}
 use Rattle.cany_node.specs.Node.{turned}

@@ -6,7 +6,7 @@ use Rattle.std.proofs.lemmas.Bool.{cases_Bool, cases_eq, eq-eqb, ne_eqb}
 use Rattle.std.proofs.lemmas.List.{drop_all, append-nil, length-take-le, length-reverse, reverse-append, get_or-set_same, get_or-set_other, get_or-replicate, length-replicate, length-set}
 use Rattle.cany_base.specs.declared.message.SendAsk.{SendAsk}
 use Rattle.cany_base.specs.declared.message.MsgKey.{MsgKey}
-use Rattle.cany_model.specs.Messages.{is_from, message_key, message_of, messages_after, messages_of}
+use Rattle.cany_model.specs.Rules.Messages.{is_from, message_key, message_of, messages_after, messages_of}
 use Rattle.cany_model.proofs.Among.{count-yes, count-no}
 use Rattle.cany_world.proofs.LagFacts.{first_of}
 

@@ -2,7 +2,7 @@
 use Rattle.std.specs.Prelude.{◌≡◌, ℕ, zero, suc, ◌+◌, ◌<◌, ◌≤◌, ◌&&◌, Bool, true, false, nat_lt, is_none, if◌then◌else◌, List, [], ◌∷◌, length, drop, Option, Some, None, refl}
 use Rattle.std.proofs.Common.{sym, ap, ◌∙◌, subst, arith, add-one, drop-cons, get_or, ltb-false}
 use Rattle.std.proofs.lemmas.List.{drop_all}
-use Rattle.cany_model.specs.Run.{first_lagging}
+use Rattle.cany_model.specs.Bus.Run.{first_lagging}
 use Rattle.can_bus.specs.Row.{nodes_of, NoneLags}
 use Rattle.can_controller.specs.Controller.{ControllerState}
 

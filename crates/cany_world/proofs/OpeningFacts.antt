@@ -4,10 +4,10 @@ use Rattle.std.proofs.Common.{sym, ap, ◌∙◌, subst, arith}
 use Rattle.std.proofs.lemmas.List.{length-append}
 use Rattle.std.proofs.lemmas.Option.{slice_get_within}
 use Rattle.cany_base.specs.Scenario.{ScenarioParts}
-use Rattle.cany_model.specs.Rooms.{waiting_room}
-use Rattle.cany_model.specs.State.{NodeState, fresh, opening}
-use Rattle.cany_model.proofs.Runs.{history-opening}
-use Rattle.cany_model.proofs.States.{node_at-opening}
+use Rattle.cany_model.specs.Rules.Rooms.{waiting_room}
+use Rattle.cany_model.specs.Bus.State.{NodeState, fresh, opening}
+use Rattle.cany_model.proofs.Bus.Runs.{history-opening}
+use Rattle.cany_model.proofs.Bus.States.{node_at-opening}
 use Rattle.can_controller.specs.Controller.{ControllerState, fresh_controller}
 use Rattle.cany_node.specs.Node.{NodeParts, IsNodeOf}
 use Rattle.cany_world.specs.Kept.{IsKeptAs, AreControllersOf, IsKeptNode, AreNodesOf}

@@ -4,12 +4,12 @@ use Rattle.std.specs.List.{list_any, list_all}
 use Rattle.std.proofs.Common.{sym, ap, ◌∙◌, arith}
 use Rattle.cany_base.specs.Frame.{FrameParts}
 use Rattle.cany_base.specs.Scenario.{ScenarioParts}
-use Rattle.cany_model.specs.Frames.{Identity}
-use Rattle.cany_model.specs.Run.{first_lagging, all_read}
-use Rattle.cany_model.specs.Settled.{is_awaited}
-use Rattle.cany_model.specs.State.{NodeState, RunState, node_at, runs}
-use Rattle.cany_model.specs.Waiting.{waits}
-use Rattle.cany_model.proofs.Runs.{IsOrderly}
+use Rattle.cany_model.specs.Bus.Frames.{Identity}
+use Rattle.cany_model.specs.Bus.Run.{first_lagging, all_read}
+use Rattle.cany_model.specs.Promises.Settled.{is_awaited}
+use Rattle.cany_model.specs.Bus.State.{NodeState, RunState, node_at, runs}
+use Rattle.cany_model.specs.Bus.Waiting.{waits}
+use Rattle.cany_model.proofs.Bus.Runs.{IsOrderly}
 use Rattle.can_bus.specs.Row.{nodes_of}
 use Rattle.can_controller.specs.Controller.{ControllerState}
 use Rattle.cany_world.specs.Controllers.{has_read, awaits}

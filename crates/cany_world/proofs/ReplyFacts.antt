@@ -9,9 +9,9 @@ use Rattle.cany_base.specs.Params.{Parameters}
 use Rattle.cany_base.specs.Scenario.{ScenarioParts}
 use Rattle.cany_model.specs.declared.reply.StepReply.{StepReply}
 use Rattle.cany_model.specs.declared.reply.StepReply.TheVariants.{Done, Lagging, Over, NothingYet, Stopped, NoNode}
-use Rattle.cany_model.specs.Run.{run, turn_reply, slot_reply, lagging_reply, first_lagging}
-use Rattle.cany_model.specs.State.{RunState, node_at, reads}
-use Rattle.cany_model.proofs.Runs.{IsOrderly, orderly}
+use Rattle.cany_model.specs.Bus.Run.{run, turn_reply, slot_reply, lagging_reply, first_lagging}
+use Rattle.cany_model.specs.Bus.State.{RunState, node_at, reads}
+use Rattle.cany_model.proofs.Bus.Runs.{IsOrderly, orderly}
 use Rattle.can_bus.specs.Bus.{BusParts}
 use Rattle.can_bus.specs.Row.{nodes_of}
 use Rattle.can_controller.specs.Controller.{ControllerState}

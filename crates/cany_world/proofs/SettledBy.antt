@@ -7,11 +7,11 @@ use Rattle.cany_base.specs.declared.message.SendAsk.{SendAsk}
 use Rattle.cany_base.specs.declared.message.Service.{Service}
 use Rattle.cany_base.specs.declared.step.Step.{Step}
 use Rattle.cany_base.specs.Scenario.{ScenarioParts}
-use Rattle.cany_model.specs.Messages.{Message, message_key}
-use Rattle.cany_model.specs.Run.{all_read, run}
-use Rattle.cany_model.specs.Settled.{is_settled, is_awaited, is_timer_ahead, frames_of}
-use Rattle.cany_model.specs.State.{RunState, node_at, reads, runs}
-use Rattle.cany_model.proofs.Runs.{orderly}
+use Rattle.cany_model.specs.Rules.Messages.{Message, message_key}
+use Rattle.cany_model.specs.Bus.Run.{all_read, run}
+use Rattle.cany_model.specs.Promises.Settled.{is_settled, is_awaited, is_timer_ahead, frames_of}
+use Rattle.cany_model.specs.Bus.State.{RunState, node_at, reads, runs}
+use Rattle.cany_model.proofs.Bus.Runs.{orderly}
 use Rattle.can_controller.specs.Controller.{ControllerState}
 use Rattle.cany_world.specs.Controllers.{has_read, awaits, frames_named}
 use Rattle.cany_world.specs.Kept.{IsKeptAs, AreControllersOf}

@@ -7,11 +7,11 @@ use Rattle.cany_base.specs.declared.rule.Rule.{Rule}
 use Rattle.cany_base.specs.declared.slot_note.SlotNote.{SlotNote}
 use Rattle.cany_base.specs.declared.step.Step.{Step}
 use Rattle.cany_base.specs.Scenario.{ScenarioParts}
-use Rattle.cany_model.specs.Run.{run}
-use Rattle.cany_model.specs.Slot.{Script, script, slot_note_of, after_slot, node_after}
-use Rattle.cany_model.specs.State.{NodeState, RunState, node_at}
-use Rattle.cany_model.proofs.Runs.{IsOrderly, orderly}
-use Rattle.cany_model.proofs.Steps.{after_slot-node, after_slot-trace, after_slot-history}
+use Rattle.cany_model.specs.Bus.Run.{run}
+use Rattle.cany_model.specs.Bus.Slot.{Script, script, slot_note_of, after_slot, node_after}
+use Rattle.cany_model.specs.Bus.State.{NodeState, RunState, node_at}
+use Rattle.cany_model.proofs.Bus.Runs.{IsOrderly, orderly}
+use Rattle.cany_model.proofs.Bus.Steps.{after_slot-node, after_slot-trace, after_slot-history}
 use Rattle.can_bus.specs.Bus.{BusParts, Follows}
 use Rattle.can_bus.specs.Row.{controller_after, controllers_after, nodes_of, IsSameBut}
 use Rattle.can_bus.proofs.After.{get_after, length-controllers_after, node_is}

@@ -7,12 +7,12 @@ use Rattle.cany_base.specs.declared.step.Step.TheVariants.{Slot, Turn}
 use Rattle.cany_base.specs.Scenario.{ScenarioParts}
 use Rattle.cany_model.specs.declared.reply.StepReply.{StepReply}
 use Rattle.cany_model.specs.declared.reply.StepReply.TheVariants.{Done, Lagging, Over, NothingYet, Stopped, NoNode}
-use Rattle.cany_model.specs.Run.{run, reply, slot_reply, turn_reply, is_done, proceed, after_turn, IsLegal}
-use Rattle.cany_model.specs.Slot.{after_slot, script}
-use Rattle.cany_model.specs.State.{RunState, opening, node_at}
-use Rattle.cany_model.proofs.Journals.{run_push, step_is, legal_push, legal_short}
-use Rattle.cany_model.proofs.Runs.{orderly}
-use Rattle.cany_model.proofs.Steps.{after_turn-trace}
+use Rattle.cany_model.specs.Bus.Run.{run, reply, slot_reply, turn_reply, is_done, proceed, after_turn, IsLegal}
+use Rattle.cany_model.specs.Bus.Slot.{after_slot, script}
+use Rattle.cany_model.specs.Bus.State.{RunState, opening, node_at}
+use Rattle.cany_model.proofs.Bus.Journals.{run_push, step_is, legal_push, legal_short}
+use Rattle.cany_model.proofs.Bus.Runs.{orderly}
+use Rattle.cany_model.proofs.Bus.Steps.{after_turn-trace}
 use Rattle.can_bus.specs.Bus.{BusParts}
 use Rattle.can_bus.specs.Row.{IsRowFor}
 use Rattle.can_controller.specs.Controller.{ControllerState}

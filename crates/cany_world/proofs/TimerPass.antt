@@ -3,9 +3,9 @@ use Rattle.std.proofs.Common.{◌≡◌, ℕ, suc, ◌+◌, ◌-◌, ◌<◌, �
 use Rattle.std.specs.List.{list_any, range_with_len}
 use Rattle.cany_base.specs.declared.message.MsgKey.{MsgKey}
 use Rattle.cany_base.specs.Scenario.{ScenarioParts}
-use Rattle.cany_model.specs.Messages.{Message, message_key, messages_of}
-use Rattle.cany_model.specs.Settled.{is_timer_ahead}
-use Rattle.cany_model.specs.State.{RunState}
+use Rattle.cany_model.specs.Rules.Messages.{Message, message_key, messages_of}
+use Rattle.cany_model.specs.Promises.Settled.{is_timer_ahead}
+use Rattle.cany_model.specs.Bus.State.{RunState}
 use Rattle.can_controller.specs.Controller.{ControllerState}
 use Rattle.cany_node.specs.Node.{NodeParts}
 use Rattle.cany_world.specs.Kept.{AreControllersOf, AreNodesOf}

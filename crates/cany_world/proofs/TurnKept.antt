@@ -10,19 +10,19 @@ use Rattle.cany_base.specs.Bounded.{Bounded}
 use Rattle.cany_base.specs.Scenario.{ScenarioParts, IsLegalScenario}
 use Rattle.cany_model.specs.declared.reply.StepReply.{StepReply}
 use Rattle.cany_model.specs.declared.reply.StepReply.TheVariants.{Done}
-use Rattle.cany_model.specs.Frames.{identity_of}
-use Rattle.cany_model.specs.History.{history}
-use Rattle.cany_model.specs.Notices.{IsNextNotice, IsReadable}
-use Rattle.cany_model.specs.Rooms.{askable, actions_room}
-use Rattle.cany_model.specs.Run.{run, after_turn}
-use Rattle.cany_model.specs.State.{NodeState, RunState, node_at}
-use Rattle.cany_model.specs.Turn.{turn_effects}
+use Rattle.cany_model.specs.Bus.Frames.{identity_of}
+use Rattle.cany_model.specs.Bus.History.{history}
+use Rattle.cany_model.specs.Rules.Notices.{IsNextNotice, IsReadable}
+use Rattle.cany_model.specs.Rules.Rooms.{askable, actions_room}
+use Rattle.cany_model.specs.Bus.Run.{run, after_turn}
+use Rattle.cany_model.specs.Bus.State.{NodeState, RunState, node_at}
+use Rattle.cany_model.specs.Rules.Turn.{turn_effects}
 use Rattle.cany_model.proofs.Among.{Each-weaker}
-use Rattle.cany_model.proofs.Belonging.{IsOfMessage, of_messages, readable, message_askable}
-use Rattle.cany_model.proofs.Journals.{trace_short}
-use Rattle.cany_model.proofs.Runs.{IsOrderly, orderly, history-length}
-use Rattle.cany_model.proofs.States.{no_note, note_at}
-use Rattle.cany_model.proofs.Steps.{MayTurn, next_notice, node_after_turn, after_turn-node, after_turn-other, after_turn-trace, after_turn-history, after_turn-other_history}
+use Rattle.cany_model.proofs.Promises.Belonging.{IsOfMessage, of_messages, readable, message_askable}
+use Rattle.cany_model.proofs.Bus.Journals.{trace_short}
+use Rattle.cany_model.proofs.Bus.Runs.{IsOrderly, orderly, history-length}
+use Rattle.cany_model.proofs.Bus.States.{no_note, note_at}
+use Rattle.cany_model.proofs.Bus.Steps.{MayTurn, next_notice, node_after_turn, after_turn-node, after_turn-other, after_turn-trace, after_turn-history, after_turn-other_history}
 use Rattle.can_controller.specs.Controller.{ControllerState}
 use Rattle.cany_node.specs.Apply.{AreAskable}
 use Rattle.cany_node.specs.declared.reply.TurnReply.{TurnReply}

@@ -11,18 +11,18 @@ use Rattle.cany_base.specs.declared.message.SendAsk.{SendAsk}
 use Rattle.cany_base.specs.declared.slot_note.SlotNote.{SlotNote}
 use Rattle.cany_base.specs.declared.step.Step.{Step}
 use Rattle.cany_base.specs.Scenario.{ScenarioParts, IsLegalScenario, IsSendOf}
-use Rattle.cany_model.specs.Follow.{first_unread}
-use Rattle.cany_model.specs.Hypothesis.{IsWithin}
-use Rattle.cany_model.specs.Log.{log, log_from}
-use Rattle.cany_model.specs.History.{history}
-use Rattle.cany_model.specs.Messages.{Message, messages_of, messages_after, message_of, message_key}
-use Rattle.cany_model.specs.Run.{run, has_ended, first_lagging}
-use Rattle.cany_model.specs.Safe.{IsIntegral, IsSafe}
-use Rattle.cany_model.specs.State.{RunState, opening, slots_run}
-use Rattle.cany_model.proofs.Integrity.{integral}
-use Rattle.cany_model.proofs.Journals.{run_none}
-use Rattle.cany_model.proofs.Runs.{orderly}
-use Rattle.cany_model.proofs.Safety.{safe}
+use Rattle.cany_model.specs.Bus.Follow.{first_unread}
+use Rattle.cany_model.specs.Promises.Hypothesis.{IsWithin}
+use Rattle.cany_model.specs.Rules.Log.{log, log_from}
+use Rattle.cany_model.specs.Bus.History.{history}
+use Rattle.cany_model.specs.Rules.Messages.{Message, messages_of, messages_after, message_of, message_key}
+use Rattle.cany_model.specs.Bus.Run.{run, has_ended, first_lagging}
+use Rattle.cany_model.specs.Promises.Safe.{IsIntegral, IsSafe}
+use Rattle.cany_model.specs.Bus.State.{RunState, opening, slots_run}
+use Rattle.cany_model.proofs.Promises.Integrity.{integral}
+use Rattle.cany_model.proofs.Bus.Journals.{run_none}
+use Rattle.cany_model.proofs.Bus.Runs.{orderly}
+use Rattle.cany_model.proofs.Promises.Safety.{safe}
 use Rattle.can_bus.specs.Bus.{BusParts, Follows}
 use Rattle.can_bus.specs.Row.{nodes_of}
 use Rattle.can_controller.specs.Controller.{ControllerState}

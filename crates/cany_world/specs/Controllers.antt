@@ -6,8 +6,8 @@ use Rattle.cany_base.specs.declared.frame.Format.{Format}
 use Rattle.cany_base.specs.declared.message.MsgKey.{MsgKey}
 use Rattle.cany_base.specs.declared.message.Service.{Service}
 use Rattle.cany_base.specs.Frame.{data_class}
-use Rattle.cany_model.specs.Frames.{Identity}
-use Rattle.cany_model.specs.Waiting.{waits}
+use Rattle.cany_model.specs.Bus.Frames.{Identity}
+use Rattle.cany_model.specs.Bus.Waiting.{waits}
 use Rattle.can_controller.specs.Controller.{ControllerState}
 
 -- whether the controller has stopped, or its node has read every notice

@@ -7,10 +7,10 @@ use Rattle.cany_base.specs.declared.slot_note.SlotNote.{SlotNote}
 use Rattle.cany_base.specs.declared.step.Step.{Step}
 use Rattle.cany_base.specs.Bounded.{Bounded}
 use Rattle.cany_base.specs.Scenario.{ScenarioParts, IsLegalScenario}
-use Rattle.cany_model.specs.History.{given, history}
-use Rattle.cany_model.specs.Rooms.{waiting_room, actions_room}
-use Rattle.cany_model.specs.Run.{run}
-use Rattle.cany_model.specs.State.{NodeState, RunState, node_at}
+use Rattle.cany_model.specs.Bus.History.{given, history}
+use Rattle.cany_model.specs.Rules.Rooms.{waiting_room, actions_room}
+use Rattle.cany_model.specs.Bus.Run.{run}
+use Rattle.cany_model.specs.Bus.State.{NodeState, RunState, node_at}
 use Rattle.can_bus.specs.Bus.{BusParts, Follows}
 use Rattle.can_controller.specs.Controller.{ControllerState}
 use Rattle.cany_node.specs.Node.{NodeParts, IsNodeOf}

@@ -1,6 +1,6 @@
 //! The keys of the scripted messages.
 ghost use Rattle.std.specs.Prelude.{◌≡◌, ◌≤◌, IfOk, length, map};
-ghost use Rattle.cany_model.specs.Messages.{message_key, messages_of};
+ghost use Rattle.cany_model.specs.Rules.Messages.{message_key, messages_of};
 
 use cany_base::{Memory, MsgKey, SendAsk};
 use std::alloc::Global;

@@ -1,6 +1,6 @@
 //! Which running node has too many unread notices.
 ghost use Rattle.std.specs.Prelude.{◌≡◌, ◌<◌, ◌≤◌, ◌&&◌, nat_lt, length, is_none};
-ghost use Rattle.cany_model.specs.Run.{first_lagging};
+ghost use Rattle.cany_model.specs.Bus.Run.{first_lagging};
 ghost use Rattle.can_bus.specs.Row.{nodes_of};
 
 use can_controller::Controller;

@@ -1,7 +1,7 @@
 //! What a world has before its first step.
 ghost use Rattle.std.specs.Prelude.{◌≡◌, ◌+◌, ◌*◌, IfOk};
 ghost use Rattle.cany_base.specs.Scenario.{IsLegalScenario};
-ghost use Rattle.cany_model.specs.State.{opening};
+ghost use Rattle.cany_model.specs.Bus.State.{opening};
 ghost use Rattle.cany_world.specs.Kept.{AreControllersOf, AreNodesOf};
 
 use crate::lagging::node_id;

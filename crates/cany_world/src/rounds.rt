@@ -1,8 +1,8 @@
 //! The round robin journal.
 ghost use Rattle.std.specs.Prelude.{◌≡◌, ◌<◌, ◌&&◌, ◌∷◌, ◌++◌, [], if◌then◌else◌, IsTrue};
-ghost use Rattle.cany_model.specs.RoundRobin.{round, round_robin};
-ghost use Rattle.cany_model.specs.Run.{IsLegal, has_ended, is_done, reply};
-ghost use Rattle.cany_model.specs.State.{node_at, runs};
+ghost use Rattle.cany_model.specs.Bus.RoundRobin.{round, round_robin};
+ghost use Rattle.cany_model.specs.Bus.Run.{IsLegal, has_ended, is_done, reply};
+ghost use Rattle.cany_model.specs.Bus.State.{node_at, runs};
 ghost use Rattle.cany_world.specs.World.{WorldParts, state_of};
 
 use crate::lagging::node_id;

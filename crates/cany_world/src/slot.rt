@@ -1,8 +1,8 @@
 //! The step that runs a bus slot.
 ghost use Rattle.std.specs.Prelude.{◌≡◌, ◌<◌, ◌≤◌, if◌then◌else◌, nat_le, List, length};
 ghost use Rattle.cany_base.specs.declared.step.Step.{Step};
-ghost use Rattle.cany_model.specs.Run.{first_lagging, lagging_reply, run, slot_reply};
-ghost use Rattle.cany_model.specs.Slot.{after_slot, script as script_of};
+ghost use Rattle.cany_model.specs.Bus.Run.{first_lagging, lagging_reply, run, slot_reply};
+ghost use Rattle.cany_model.specs.Bus.Slot.{after_slot, script as script_of};
 ghost use Rattle.can_bus.specs.Bus.{Follows};
 ghost use Rattle.can_bus.specs.Row.{IsRowFor, nodes_of};
 ghost use Rattle.cany_world.specs.Kept.{AreControllersOf, IsBusOf};

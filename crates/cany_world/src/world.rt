@@ -1,12 +1,12 @@
 ghost use Rattle.std.specs.Prelude.{◌≡◌, ◌<◌, ◌↔◌, [], ◌∷◌, ◌++◌, None, if◌then◌else◌, length, reverse, slice_get, IfOk, IfSome};
-ghost use Rattle.cany_model.specs.Follow as following;
-ghost use Rattle.cany_model.specs.Hypothesis.{IsWithin, first_break};
-ghost use Rattle.cany_model.specs.Log as model;
-ghost use Rattle.cany_model.specs.Messages.{messages_of};
-ghost use Rattle.cany_model.specs.Run.{IsLegal, after_step, has_ended, is_done, reply};
-ghost use Rattle.cany_model.specs.Safe.{IsIntegral, IsSafe};
-ghost use Rattle.cany_model.specs.Settled.{is_settled};
-ghost use Rattle.cany_model.specs.State.{node_at, reads, slots_run};
+ghost use Rattle.cany_model.specs.Bus.Follow as following;
+ghost use Rattle.cany_model.specs.Promises.Hypothesis.{IsWithin, first_break};
+ghost use Rattle.cany_model.specs.Rules.Log as model;
+ghost use Rattle.cany_model.specs.Rules.Messages.{messages_of};
+ghost use Rattle.cany_model.specs.Bus.Run.{IsLegal, after_step, has_ended, is_done, reply};
+ghost use Rattle.cany_model.specs.Promises.Safe.{IsIntegral, IsSafe};
+ghost use Rattle.cany_model.specs.Promises.Settled.{is_settled};
+ghost use Rattle.cany_model.specs.Bus.State.{node_at, reads, slots_run};
 
 use crate::keys::keys_of;
 use crate::lagging::first_lagging;

@@ -1,8 +1,8 @@
 //! The scripted faults of a scenario text.
 ghost use Rattle.std.specs.Prelude.{◌≡◌, [], codes, IfOk, IfErr, Some, None};
 ghost use Rattle.toml.specs.View.{view, items_view, table_view};
-ghost use Rattle.cany_model.specs.TomlKeys.{optional, each_of};
-ghost use Rattle.cany_model.specs.FaultsText.{set_of, nodes_from, verdict_from, rule_from, rules_from};
+ghost use Rattle.cany_model.specs.Texts.TomlKeys.{optional, each_of};
+ghost use Rattle.cany_model.specs.Texts.FaultsText.{set_of, nodes_from, verdict_from, rule_from, rules_from};
 ghost use Rattle.cany_replay.specs.Refusal.{IfLater};
 
 use crate::reader::keys::value_at;
@@ -32,7 +32,7 @@ pub(crate) fn read_rules(
     }
 }
 
-#[tactic(auto, unfolding(cany_model::specs::FaultsText::rules_from))]
+#[tactic(auto, unfolding(cany_model::specs::Texts::FaultsText::rules_from))]
 fn rules_from(alloc: Global, params: &Params, value: &Value) -> Result<Vec<Rule>, ReadRefusal>
     ensures ok { IfOk result (λ rules. rules_from params.now (view value.now) ≡ Some rules.items) }
     ensures later { IfErr result (λ refusal. IfLater refusal (rules_from params.now (view value.now) ≡ None)) }
@@ -71,7 +71,7 @@ fn each_rule(alloc: Global, params: &Params, entries: &[Value]) -> Result<Vec<Ru
     Ok(rules)
 }
 
-#[tactic(auto, unfolding(cany_model::specs::FaultsText::rule_from))]
+#[tactic(auto, unfolding(cany_model::specs::Texts::FaultsText::rule_from))]
 fn rule_from(params: &Params, value: &Value) -> Option<Rule>
     ensures { result ≡ rule_from params.now (view value.now) }
 {
@@ -91,7 +91,7 @@ fn rule_from(params: &Params, value: &Value) -> Option<Rule>
 }
 
 /// The verdict of the name, where these nodes reject the frame.
-#[tactic(auto, unfolding(cany_model::specs::FaultsText::verdict_from))]
+#[tactic(auto, unfolding(cany_model::specs::Texts::FaultsText::verdict_from))]
 fn verdict_from(reject: NodeSet, value: &Value) -> Option<Verdict>
     ensures { result ≡ verdict_from reject (view value.now) }
 {

@@ -1,7 +1,7 @@
 //! The journal of a scenario text.
 ghost use Rattle.std.specs.Prelude.{◌≡◌, option_map, IfOk, IfErr, Some, None};
 ghost use Rattle.toml.specs.View.{view, items_view, table_view};
-ghost use Rattle.cany_model.specs.JournalText.{step_of, steps_of, journal_from, journal_at};
+ghost use Rattle.cany_model.specs.Texts.JournalText.{step_of, steps_of, journal_from, journal_at};
 ghost use Rattle.cany_replay.specs.JournalParts.{after, joined};
 ghost use Rattle.cany_replay.specs.Refusal.{IfLater};
 
@@ -12,7 +12,7 @@ use std::alloc::Global;
 use toml::{Table, Value};
 
 /// The steps that the top key `journal` lists, where the key is there.
-#[tactic(auto, unfolding(cany_model::specs::JournalText::journal_at))]
+#[tactic(auto, unfolding(cany_model::specs::Texts::JournalText::journal_at))]
 pub(crate) fn read_journal(alloc: Global, top: &Table) -> Result<Option<Vec<Step>>, ReadRefusal>
     ensures ok { IfOk result (λ journal. journal_at (table_view top.now) ≡ Some (option_map (λ steps. steps.items) journal)) }
     ensures later { IfErr result (λ refusal. IfLater refusal (journal_at (table_view top.now) ≡ None)) }
@@ -24,7 +24,7 @@ pub(crate) fn read_journal(alloc: Global, top: &Table) -> Result<Option<Vec<Step
     Ok(Some(steps))
 }
 
-#[tactic(auto, unfolding(cany_model::specs::JournalText::journal_from))]
+#[tactic(auto, unfolding(cany_model::specs::Texts::JournalText::journal_from))]
 fn journal_from(alloc: Global, value: &Value) -> Result<Vec<Step>, ReadRefusal>
     ensures ok { IfOk result (λ steps. journal_from (view value.now) ≡ Some steps.items) }
     ensures later { IfErr result (λ refusal. IfLater refusal (journal_from (view value.now) ≡ None)) }
@@ -61,7 +61,7 @@ fn push_steps(steps: &mut Vec<Step>, letters: &[u8]) -> Result<(), ReadRefusal>
 }
 
 /// The step that a letter writes.
-#[tactic(auto, unfolding(cany_model::specs::JournalText::step_of))]
+#[tactic(auto, unfolding(cany_model::specs::Texts::JournalText::step_of))]
 fn step_of(letter: u8) -> Option<Step>
     ensures { result ≡ step_of letter }
 {

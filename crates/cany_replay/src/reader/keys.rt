@@ -2,7 +2,7 @@
 ghost use Rattle.std.specs.Prelude.{◌≡◌, ◌≤◌, option_map, IfSome, map, min, max};
 ghost use Rattle.toml.specs.Data.{get_member};
 ghost use Rattle.toml.specs.View.{view, table_view};
-ghost use Rattle.cany_model.specs.TomlKeys.{has_only, required, optional, number_from};
+ghost use Rattle.cany_model.specs.Texts.TomlKeys.{has_only, required, optional, number_from};
 ghost use Rattle.cany_replay.specs.Keys.{is_one_of};
 
 use toml::{Table, Value};

@@ -1,7 +1,7 @@
 //! Sets of nodes in a scenario text.
 ghost use Rattle.std.specs.Prelude.{◌≡◌};
 ghost use Rattle.toml.specs.View.{view, items_view};
-ghost use Rattle.cany_model.specs.FaultsText.{nodes_from};
+ghost use Rattle.cany_model.specs.Texts.FaultsText.{nodes_from};
 ghost use Rattle.cany_replay.specs.Sets.{each_node};
 
 use crate::reader::keys::number_from;
@@ -9,7 +9,7 @@ use cany_base::{NodeId, NodeSet, Params};
 use toml::Value;
 
 /// The nodes whose numbers an array has. A number may stand twice.
-#[tactic(auto, unfolding(cany_model::specs::FaultsText::nodes_from))]
+#[tactic(auto, unfolding(cany_model::specs::Texts::FaultsText::nodes_from))]
 pub(crate) fn nodes_from(params: &Params, value: &Value) -> Option<NodeSet>
     ensures { result ≡ nodes_from params.now (view value.now) }
 {

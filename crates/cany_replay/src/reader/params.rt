@@ -2,14 +2,14 @@
 ghost use Rattle.std.specs.Prelude.{◌≡◌, ◌≤◌};
 ghost use Rattle.toml.specs.View.{table_view};
 ghost use Rattle.cany_base.specs.Params as formula;
-ghost use Rattle.cany_model.specs.ParamsText.{given_params, params_of};
+ghost use Rattle.cany_model.specs.Texts.ParamsText.{given_params, params_of};
 
 use crate::reader::keys::{number_or, required_number};
 use cany_base::{Format, Params};
 use toml::Table;
 
 /// The parameters that the top keys give, which meet the formulas. `None` where they give none.
-#[tactic(auto, unfolding(cany_model::specs::ParamsText::params_of))]
+#[tactic(auto, unfolding(cany_model::specs::Texts::ParamsText::params_of))]
 pub(crate) fn read_params(top: &Table) -> Option<Params>
     ensures { result ≡ params_of (table_view top.now) }
 {
@@ -18,7 +18,7 @@ pub(crate) fn read_params(top: &Table) -> Option<Params>
     Some(params)
 }
 
-#[tactic(auto, unfolding(cany_model::specs::ParamsText::given_params))]
+#[tactic(auto, unfolding(cany_model::specs::Texts::ParamsText::given_params))]
 fn given_params(top: &Table) -> Option<Params>
     ensures { result ≡ given_params (table_view top.now) }
 {

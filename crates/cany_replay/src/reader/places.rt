@@ -1,6 +1,6 @@
 //! Whether fault rules have distinct places.
 ghost use Rattle.std.specs.Prelude.{◌≡◌, IfOk};
-ghost use Rattle.cany_model.specs.FaultsText.{have_distinct_places};
+ghost use Rattle.cany_model.specs.Texts.FaultsText.{have_distinct_places};
 ghost use Rattle.cany_replay.specs.Places.{key_of};
 
 use cany_base::{Place, Rule};

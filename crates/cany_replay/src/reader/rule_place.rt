@@ -1,7 +1,7 @@
 //! Where a fault rule of a scenario text acts.
 ghost use Rattle.std.specs.Prelude.{◌≡◌};
 ghost use Rattle.toml.specs.View.{view, table_view};
-ghost use Rattle.cany_model.specs.FaultsText.{class_named, class_from, slot_place_from, frame_place_from, place_from};
+ghost use Rattle.cany_model.specs.Texts.FaultsText.{class_named, class_from, slot_place_from, frame_place_from, place_from};
 
 use crate::reader::keys::{has_only, required_number, value_at};
 use crate::report::class_name;
@@ -35,7 +35,7 @@ const CLASSES: [Class; 10] = [
 
 /// Where the rule of an entry acts: at a frame where the entry has the key `class`, whatever that holds, and at a slot
 /// elsewhere.
-#[tactic(auto, unfolding(cany_model::specs::FaultsText::place_from))]
+#[tactic(auto, unfolding(cany_model::specs::Texts::FaultsText::place_from))]
 pub(crate) fn place_from(params: &Params, entry: &Table) -> Option<Place>
     ensures { result ≡ place_from params.now (table_view entry.now) }
 {
@@ -46,7 +46,7 @@ pub(crate) fn place_from(params: &Params, entry: &Table) -> Option<Place>
     }
 }
 
-#[tactic(auto, unfolding(cany_model::specs::FaultsText::slot_place_from))]
+#[tactic(auto, unfolding(cany_model::specs::Texts::FaultsText::slot_place_from))]
 fn slot_place_from(params: &Params, entry: &Table) -> Option<Place>
     ensures { result ≡ slot_place_from params.now (table_view entry.now) }
 {
@@ -57,7 +57,7 @@ fn slot_place_from(params: &Params, entry: &Table) -> Option<Place>
     Some(Place::At { slot })
 }
 
-#[tactic(auto, unfolding(cany_model::specs::FaultsText::frame_place_from))]
+#[tactic(auto, unfolding(cany_model::specs::Texts::FaultsText::frame_place_from))]
 fn frame_place_from(params: &Params, entry: &Table) -> Option<Place>
     ensures { result ≡ frame_place_from params.now (table_view entry.now) }
 {
@@ -77,7 +77,7 @@ fn frame_place_from(params: &Params, entry: &Table) -> Option<Place>
     })
 }
 
-#[tactic(auto, unfolding(cany_model::specs::FaultsText::class_from))]
+#[tactic(auto, unfolding(cany_model::specs::Texts::FaultsText::class_from))]
 fn class_from(value: &Value) -> Option<Class>
     ensures { result ≡ class_from (view value.now) }
 {

@@ -1,8 +1,8 @@
 //! The scripted broadcasts of a scenario text.
 ghost use Rattle.std.specs.Prelude.{◌≡◌, [], codes, IfOk, IfErr, Some, None};
 ghost use Rattle.toml.specs.View.{view, items_view, table_view};
-ghost use Rattle.cany_model.specs.TomlKeys.{optional, each_of};
-ghost use Rattle.cany_model.specs.SendsText.{payload_from, service_from, send_from, sends_from};
+ghost use Rattle.cany_model.specs.Texts.TomlKeys.{optional, each_of};
+ghost use Rattle.cany_model.specs.Texts.SendsText.{payload_from, service_from, send_from, sends_from};
 ghost use Rattle.cany_replay.specs.Refusal.{IfLater};
 
 use crate::reader::keys::{has_only, required_number, value_at};
@@ -35,7 +35,7 @@ pub(crate) fn read_sends(
     }
 }
 
-#[tactic(auto, unfolding(cany_model::specs::SendsText::sends_from))]
+#[tactic(auto, unfolding(cany_model::specs::Texts::SendsText::sends_from))]
 fn sends_from(alloc: Global, params: &Params, value: &Value) -> Result<Vec<SendAsk>, ReadRefusal>
     ensures ok { IfOk result (λ sends. sends_from params.now (view value.now) ≡ Some sends.items) }
     ensures later { IfErr result (λ refusal. IfLater refusal (sends_from params.now (view value.now) ≡ None)) }
@@ -58,7 +58,7 @@ fn each_send(alloc: Global, params: &Params, entries: &[Value]) -> Result<Vec<Se
     Ok(sends)
 }
 
-#[tactic(auto, unfolding(cany_model::specs::SendsText::send_from))]
+#[tactic(auto, unfolding(cany_model::specs::Texts::SendsText::send_from))]
 fn send_from(params: &Params, value: &Value) -> Option<SendAsk>
     ensures { result ≡ send_from params.now (view value.now) }
 {
@@ -82,7 +82,7 @@ fn send_from(params: &Params, value: &Value) -> Option<SendAsk>
     })
 }
 
-#[tactic(auto, unfolding(cany_model::specs::SendsText::service_from))]
+#[tactic(auto, unfolding(cany_model::specs::Texts::SendsText::service_from))]
 fn service_from(value: &Value) -> Option<Service>
     ensures { result ≡ service_from (view value.now) }
 {
@@ -93,7 +93,7 @@ fn service_from(value: &Value) -> Option<Service>
     }
 }
 
-#[tactic(auto, unfolding(cany_model::specs::SendsText::payload_from))]
+#[tactic(auto, unfolding(cany_model::specs::Texts::SendsText::payload_from))]
 fn payload_from(value: &Value) -> Option<Payload>
     ensures { result ≡ payload_from (view value.now) }
 {

@@ -1,5 +1,5 @@
 ghost use Rattle.std.specs.Prelude.{◌+◌, ◌≤◌, ◌≡◌, ◌++◌, length, map};
-ghost use Rattle.cany_model.specs.ReportLines.{line_of};
+ghost use Rattle.cany_model.specs.Texts.ReportLines.{line_of};
 ghost use Rattle.cany_replay.specs.Fields.{field_text, most_bytes, room_of};
 ghost use Rattle.cany_replay.specs.Written.{IsWritten};
 

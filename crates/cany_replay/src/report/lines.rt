@@ -1,6 +1,6 @@
 ghost use Rattle.std.specs.Prelude.{◌≡◌, ◌≤◌, length};
 ghost use Rattle.cany_base.specs.Frame.{is_remote};
-ghost use Rattle.cany_model.specs.ReportLines as report;
+ghost use Rattle.cany_model.specs.Texts.ReportLines as report;
 ghost use Rattle.cany_replay.specs.Fields.{field_text, most_bytes};
 ghost use Rattle.cany_replay.specs.Written.{IsWritten};
 
@@ -12,7 +12,7 @@ use cany_io::{Failed, Sink};
 use cany_model::Break;
 
 /// Writes the line of the parameters.
-#[tactic(auto, unfolding(cany_model::specs::ReportLines::params_line))]
+#[tactic(auto, unfolding(cany_model::specs::Texts::ReportLines::params_line))]
 pub fn write_params<K: Sink>(params: &Params, sink: &mut K) -> Result<(), Failed>
     ensures { IsWritten (report.params_line params.now) result
         (K.taken sink.old) (K.taken sink.new) (K.faults sink.old) (K.faults sink.new) }
@@ -45,7 +45,7 @@ pub fn write_params<K: Sink>(params: &Params, sink: &mut K) -> Result<(), Failed
 }
 
 /// Writes the line of some steps of the journal, of which there are at most 64.
-#[tactic(auto, unfolding(cany_model::specs::ReportLines::journal_line))]
+#[tactic(auto, unfolding(cany_model::specs::Texts::ReportLines::journal_line))]
 pub fn write_steps<K: Sink>(steps: &[Step], sink: &mut K) -> Result<(), Failed>
     requires { length steps.now ≤ 64 }
     ensures { IsWritten (report.journal_line steps.now) result
@@ -66,7 +66,7 @@ fn frame_payload(frame: &Frame) -> Field<'static>
 }
 
 /// Writes the line of a slot.
-#[tactic(auto, unfolding(cany_model::specs::ReportLines::bus_line))]
+#[tactic(auto, unfolding(cany_model::specs::Texts::ReportLines::bus_line))]
 pub fn write_bus_line<K: Sink>(note: &SlotNote, sink: &mut K) -> Result<(), Failed>
     ensures { IsWritten (report.bus_line note.now) result
         (K.taken sink.old) (K.taken sink.new) (K.faults sink.old) (K.faults sink.new) }
@@ -109,7 +109,7 @@ pub fn write_bus_line<K: Sink>(note: &SlotNote, sink: &mut K) -> Result<(), Fail
 }
 
 /// Writes the line of the fault hypothesis.
-#[tactic(auto, unfolding(cany_model::specs::ReportLines::hypothesis_line))]
+#[tactic(auto, unfolding(cany_model::specs::Texts::ReportLines::hypothesis_line))]
 pub fn write_hypothesis<K: Sink>(found: Option<Break>, sink: &mut K) -> Result<(), Failed>
     ensures { IsWritten (report.hypothesis_line found) result
         (K.taken sink.old) (K.taken sink.new) (K.faults sink.old) (K.faults sink.new) }
@@ -128,7 +128,7 @@ pub fn write_hypothesis<K: Sink>(found: Option<Break>, sink: &mut K) -> Result<(
 }
 
 /// Writes the line of a node: whether it stopped, and how many notices it read.
-#[tactic(auto, unfolding(cany_model::specs::ReportLines::node_line))]
+#[tactic(auto, unfolding(cany_model::specs::Texts::ReportLines::node_line))]
 pub fn write_node_line<K: Sink>(
     node: NodeId,
     stopped: Option<Slot>,
@@ -163,7 +163,7 @@ pub fn write_node_line<K: Sink>(
 }
 
 /// Writes the line of an entry of a log.
-#[tactic(auto, unfolding(cany_model::specs::ReportLines::entry_line))]
+#[tactic(auto, unfolding(cany_model::specs::Texts::ReportLines::entry_line))]
 pub fn write_entry<K: Sink>(entry: &LogEntry, sink: &mut K) -> Result<(), Failed>
     ensures { IsWritten (report.entry_line entry.now) result
         (K.taken sink.old) (K.taken sink.new) (K.faults sink.old) (K.faults sink.new) }
@@ -211,7 +211,7 @@ pub fn write_entry<K: Sink>(entry: &LogEntry, sink: &mut K) -> Result<(), Failed
 }
 
 /// Writes the line of a scripted broadcast's message, which has this sequence number.
-#[tactic(auto, unfolding(cany_model::specs::ReportLines::message_line))]
+#[tactic(auto, unfolding(cany_model::specs::Texts::ReportLines::message_line))]
 pub fn write_message<K: Sink>(
     send: &SendAsk,
     seq: u64,

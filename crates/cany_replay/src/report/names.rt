@@ -1,5 +1,5 @@
 ghost use Rattle.std.specs.Prelude.{◌≡◌, ◌≤◌, ◌<◌, length};
-ghost use Rattle.cany_model.specs.ReportLines as report;
+ghost use Rattle.cany_model.specs.Texts.ReportLines as report;
 
 use cany_base::{Class, NodeSet, Service, Step, Verdict};
 use cany_model::BreakKind;
@@ -7,7 +7,7 @@ use cany_model::BreakKind;
 /// The letters of the turns of nodes 0 to 31 in a journal.
 const TURNS: &[u8; 32] = b"0123456789abcdefghijklmnopqrstuv";
 
-#[tactic(auto, unfolding(cany_model::specs::ReportLines::class_name))]
+#[tactic(auto, unfolding(cany_model::specs::Texts::ReportLines::class_name))]
 pub fn class_name(class: Class) -> &'static str
     ensures name { result.now ≡ report.class_name class }
     ensures short { length result.now ≤ 7 }
@@ -26,7 +26,7 @@ pub fn class_name(class: Class) -> &'static str
     }
 }
 
-#[tactic(auto, unfolding(cany_model::specs::ReportLines::service_name))]
+#[tactic(auto, unfolding(cany_model::specs::Texts::ReportLines::service_name))]
 pub fn service_name(service: Service) -> &'static str
     ensures name { result.now ≡ report.service_name service }
     ensures short { length result.now ≤ 3 }
@@ -38,7 +38,7 @@ pub fn service_name(service: Service) -> &'static str
     }
 }
 
-#[tactic(auto, unfolding(cany_model::specs::ReportLines::verdict_name))]
+#[tactic(auto, unfolding(cany_model::specs::Texts::ReportLines::verdict_name))]
 pub fn verdict_name(verdict: Verdict) -> &'static str
     ensures name { result.now ≡ report.verdict_name verdict }
     ensures short { length result.now ≤ 7 }
@@ -51,7 +51,7 @@ pub fn verdict_name(verdict: Verdict) -> &'static str
     }
 }
 
-#[tactic(auto, unfolding(cany_model::specs::ReportLines::break_name))]
+#[tactic(auto, unfolding(cany_model::specs::Texts::ReportLines::break_name))]
 pub fn break_name(kind: BreakKind) -> &'static str
     ensures name { result.now ≡ report.break_name kind }
     ensures short { length result.now ≤ 6 }
@@ -64,7 +64,7 @@ pub fn break_name(kind: BreakKind) -> &'static str
 }
 
 /// The letter of a step in a journal.
-#[tactic(auto, unfolding(cany_model::specs::ReportLines::step_letter))]
+#[tactic(auto, unfolding(cany_model::specs::Texts::ReportLines::step_letter))]
 pub fn letter(step: Step) -> u8
     ensures { result ≡ report.step_letter step }
 {
@@ -74,7 +74,7 @@ pub fn letter(step: Step) -> u8
     }
 }
 
-#[tactic(auto, unfolding(cany_model::specs::ReportLines::has_any))]
+#[tactic(auto, unfolding(cany_model::specs::Texts::ReportLines::has_any))]
 pub fn has_any(nodes: NodeSet) -> bool
     ensures { result ≡ report.has_any nodes }
 {

@@ -1,8 +1,8 @@
 //! The lines of the refusals.
 ghost use Rattle.std.specs.Prelude.{◌≤◌, [], ◌∷◌, length, codes, decimal};
 ghost use Rattle.cany_model.specs.declared.follow.FollowFault.TheVariants.{Refused, Unfinished};
-ghost use Rattle.cany_model.specs.RefusalLines.{later_form_line, journal_refusal_line};
-ghost use Rattle.cany_model.specs.ReportLines.{line_of};
+ghost use Rattle.cany_model.specs.Texts.RefusalLines.{later_form_line, journal_refusal_line};
+ghost use Rattle.cany_model.specs.Texts.ReportLines.{line_of};
 ghost use Rattle.cany_replay.specs.Written.{IsWritten};
 
 use super::field::Field;
@@ -15,7 +15,7 @@ use cany_model::{FollowFault, StepReply};
 const STEP: &str = "refused journal step";
 
 /// Writes the line of a text that stands for no scenario of the form that is read so far.
-#[tactic(auto, unfolding(cany_model::specs::RefusalLines::later_form_line))]
+#[tactic(auto, unfolding(cany_model::specs::Texts::RefusalLines::later_form_line))]
 pub fn write_later_form<K: Sink>(sink: &mut K) -> Result<(), Failed>
     ensures { IsWritten later_form_line result
         (K.taken sink.old) (K.taken sink.new) (K.faults sink.old) (K.faults sink.new) }

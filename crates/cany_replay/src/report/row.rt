@@ -1,5 +1,5 @@
 ghost use Rattle.std.specs.Prelude.{◌≡◌, ◌+◌, ◌<◌, ◌≤◌, [], ◌∷◌, ◌++◌, length, map, decimal};
-ghost use Rattle.cany_model.specs.ReportLines.{byte_text, payload_text, set_text, step_letter};
+ghost use Rattle.cany_model.specs.Texts.ReportLines.{byte_text, payload_text, set_text, step_letter};
 
 use super::names::letter;
 use arrayvec::ArrayVec;

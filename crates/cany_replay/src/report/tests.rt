@@ -1,7 +1,7 @@
 ghost use Rattle.std.specs.Prelude.{◌≡◌, ◌⊎◌, ◌<◌, ◌≤◌, length};
 ghost use Rattle.cany_io.specs.Faults.{HasRisen, StandsStill};
 ghost use Rattle.cany_io.specs.Sink.{Takes, TakesPrefix};
-ghost use Rattle.cany_model.specs.Report.{report};
+ghost use Rattle.cany_model.specs.Texts.Report.{report};
 
 use super::field::Field;
 use super::line::write_line;

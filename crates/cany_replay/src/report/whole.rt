@@ -1,8 +1,8 @@
 ghost use Rattle.std.specs.Prelude.{◌≡◌, ◌<◌, map, filter};
 ghost use Rattle.std.specs.List.{concat, flat_map, range_with_len};
 ghost use Rattle.cany_base.specs.Scenario.{ScenarioParts};
-ghost use Rattle.cany_model.specs.Report.{report, bus_lines, node_lines, message_lines};
-ghost use Rattle.cany_model.specs.ReportLines.{bus_line, is_shown as has_line, journal_lines};
+ghost use Rattle.cany_model.specs.Texts.Report.{report, bus_lines, node_lines, message_lines};
+ghost use Rattle.cany_model.specs.Texts.ReportLines.{bus_line, is_shown as has_line, journal_lines};
 ghost use Rattle.cany_replay.specs.ReportParts.{heading_text, bus_text, outcome_text};
 ghost use Rattle.cany_world.specs.World.{state_of};
 ghost use Rattle.cany_replay.specs.Written.{IsWritten};
@@ -32,7 +32,7 @@ fn write_journal<K: Sink>(journal: &[Step], sink: &mut K) -> Result<(), Failed>
 }
 
 /// Whether a slot has a line: it carried a frame, or a node stopped in it.
-#[tactic(auto, unfolding(cany_model::specs::ReportLines::is_shown))]
+#[tactic(auto, unfolding(cany_model::specs::Texts::ReportLines::is_shown))]
 fn is_shown(note: &SlotNote) -> bool
     ensures { result ≡ has_line note.now }
 {

@@ -1,5 +1,5 @@
 use Rattle.std.proofs.Common.{ap, sym, arith}
-use Rattle.cany_model.specs.State.{runs}
+use Rattle.cany_model.specs.Bus.State.{runs}
 use Rattle.can_bus.proofs.Changed.{got}
 use Rattle.can_bus.proofs.Rows.{state_at, state_past}
 use Rattle.can_bus.proofs.SetSteps.{so_far_none, so_far_more, so_far_all}

@@ -1,4 +1,4 @@
-use Rattle.cany_model.specs.State.{node_at, runs}
+use Rattle.cany_model.specs.Bus.State.{node_at, runs}
 use Rattle.can_bus.specs.Row.{nodes_of}
 use Rattle.can_bus.proofs.SetSteps.{SetSoFar}
 use Rattle.can_bus.proofs.nodes.running.Given as goal

@@ -1,5 +1,5 @@
 use Rattle.std.proofs.Common.{◌≡◌, ◌≤◌, ◌+◌, sym, ap, subst, ◌∙◌}
-use Rattle.cany_model.specs.Slot.{script}
+use Rattle.cany_model.specs.Bus.Slot.{script}
 use Rattle.can_arbiter.specs.declared.arbitration.Outcome.{Outcome}
 use Rattle.can_fault.specs.Rules.{next_attempt}
 use Rattle.can_fault.proofs.AttemptFacts.{few_attempts}

@@ -1,6 +1,6 @@
 use Rattle.std.proofs.Common.{◌≡◌, ap, sym, ◌∙◌}
 use Rattle.cany_base.specs.declared.slot_note.SlotNote.{SlotNote}
-use Rattle.cany_model.specs.Slot.{exchange, script, stopping, winner}
+use Rattle.cany_model.specs.Bus.Slot.{exchange, script, stopping, winner}
 use Rattle.can_bus.specs.Contest.{seen_by, stopped_by}
 use Rattle.can_bus.specs.Each.{each}
 use Rattle.can_bus.specs.Row.{nodes_of}

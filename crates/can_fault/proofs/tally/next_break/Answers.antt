@@ -5,9 +5,9 @@ use Rattle.std.proofs.lemmas.Bool.{false≢true}
 use Rattle.cany_base.specs.declared.slot_note.SlotNote.{SlotNote}
 use Rattle.cany_base.specs.Params.{Parameters}
 use Rattle.cany_model.specs.declared.breaks.Break.{Break}
-use Rattle.cany_model.specs.Hypothesis.{first_break}
+use Rattle.cany_model.specs.Promises.Hypothesis.{first_break}
 use Rattle.std.proofs.Common.{List, ◌∷◌}
-use Rattle.cany_model.proofs.BreakFacts.{first_break_stays}
+use Rattle.cany_model.proofs.Promises.BreakFacts.{first_break_stays}
 use Rattle.can_fault.proofs.OmissionFacts.{broken_next, unbroken_more}
 use Rattle.can_fault.proofs.OmissionSteps.{idle_breaks, idle_kept}
 use Rattle.can_fault.proofs.tally.next_break.Goals as goal

@@ -3,8 +3,8 @@ use Rattle.cany_base.specs.declared.frame.Class.TheVariants as class
 use Rattle.cany_base.specs.declared.message.Service.TheVariants.{Ed}
 use Rattle.cany_base.specs.declared.message.SendAsk.{SendAsk}
 use Rattle.cany_base.specs.Scenario.{ScenarioParts}
-use Rattle.cany_model.specs.Messages.{message_of, messages_after}
-use Rattle.cany_model.specs.Notices.{IsDataOf}
+use Rattle.cany_model.specs.Rules.Messages.{message_of, messages_after}
+use Rattle.cany_model.specs.Rules.Notices.{IsDataOf}
 use Rattle.cany_edcan.proofs.tests.a_copy_is_delivered_and_relayed.Goals as goal
 
 -- the frame of the only broadcast

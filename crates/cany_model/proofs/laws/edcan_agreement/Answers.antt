@@ -1,5 +1,5 @@
 -- The law is a lemma on every run.
-use Rattle.cany_model.proofs.EdcanAgrees.{edcan_agrees}
+use Rattle.cany_model.proofs.Promises.EdcanAgrees.{edcan_agrees}
 use Rattle.cany_model.proofs.laws.edcan_agreement.Goals as goal
 
 pub returns : goal.returns

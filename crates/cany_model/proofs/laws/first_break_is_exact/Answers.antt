@@ -1,5 +1,5 @@
 -- The laws are lemmas on every trace.
-use Rattle.cany_model.proofs.BreakFacts.{first_break_exact, first_break_stays, first_break_named}
+use Rattle.cany_model.proofs.Promises.BreakFacts.{first_break_exact, first_break_stays, first_break_named}
 use Rattle.cany_model.proofs.laws.first_break_is_exact.Goals as goal
 
 pub returns : goal.returns

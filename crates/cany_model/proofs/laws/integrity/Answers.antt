@@ -1,4 +1,4 @@
-use Rattle.cany_model.proofs.Integrity.{integral}
+use Rattle.cany_model.proofs.Promises.Integrity.{integral}
 use Rattle.cany_model.proofs.laws.integrity.Goals as goal
 
 pub returns : goal.returns

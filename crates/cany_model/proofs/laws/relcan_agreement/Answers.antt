@@ -1,5 +1,5 @@
 -- The law is a lemma on every run.
-use Rattle.cany_model.proofs.RelcanAgrees.{relcan_agrees}
+use Rattle.cany_model.proofs.Promises.RelcanAgrees.{relcan_agrees}
 use Rattle.cany_model.proofs.laws.relcan_agreement.Goals as goal
 
 pub returns : goal.returns

@@ -1,8 +1,8 @@
 use Rattle.std.proofs.Common.{◌≡◌, List, take}
 use Rattle.std.specs.List.{AllByRecursion}
 use Rattle.cany_base.specs.Scenario.{ScenarioParts, IsLegalScenario}
-use Rattle.cany_model.specs.Actions.{actions_of}
-use Rattle.cany_model.specs.Effect.{Effect}
+use Rattle.cany_model.specs.Rules.Actions.{actions_of}
+use Rattle.cany_model.specs.Rules.Effect.{Effect}
 use Rattle.cany_node.specs.Apply.{NamesAskable, AreDone}
 use Rattle.cany_node.proofs.apply.apply_all.Given as goal
 

@@ -1,5 +1,5 @@
 use Rattle.std.proofs.Common.{◌≡◌, drop}
-use Rattle.cany_model.specs.Run.{first_lagging}
+use Rattle.cany_model.specs.Bus.Run.{first_lagging}
 use Rattle.can_bus.specs.Row.{nodes_of}
 use Rattle.cany_world.proofs.lagging.first_lagging.Given as goal
 

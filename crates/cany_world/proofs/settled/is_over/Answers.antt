@@ -1,7 +1,7 @@
 use Rattle.std.proofs.Common.{◌&&◌, Bool, ap, sym, ◌∙◌}
 use Rattle.std.specs.Prelude.{not}
 use Rattle.std.specs.List.{list_any, list_all}
-use Rattle.cany_model.specs.Settled.{is_timer_ahead}
+use Rattle.cany_model.specs.Promises.Settled.{is_timer_ahead}
 use Rattle.cany_world.specs.Controllers.{has_read, awaits, frames_named}
 use Rattle.cany_world.proofs.settled.is_over.Goals as goal
 

@@ -2,8 +2,8 @@ use Rattle.std.proofs.Common.{◌≡◌, ◌&&◌, Bool, refl, ap, sym, ◌∙�
 use Rattle.std.specs.Prelude.{slice_get, Some, not}
 use Rattle.std.specs.List.{list_any, list_all}
 use Rattle.std.proofs.lemmas.Option.{slice_get_read}
-use Rattle.cany_model.specs.Run.{run}
-use Rattle.cany_model.specs.Settled.{is_timer_ahead}
+use Rattle.cany_model.specs.Bus.Run.{run}
+use Rattle.cany_model.specs.Promises.Settled.{is_timer_ahead}
 use Rattle.cany_world.specs.Controllers.{has_read, awaits, frames_named}
 use Rattle.cany_world.proofs.SettledBy.{settled_by}
 use Rattle.cany_world.proofs.settled.is_settled.Goals as goal

@@ -3,7 +3,7 @@ use Rattle.std.proofs.lemmas.List.{length-reverse}
 use Rattle.cany_base.specs.declared.slot_note.SlotNote.{SlotNote}
 use Rattle.std.specs.Prelude.{List}
 use Rattle.cany_base.specs.Params.{Parameters}
-use Rattle.cany_model.specs.Run.{first_lagging}
+use Rattle.cany_model.specs.Bus.Run.{first_lagging}
 use Rattle.can_bus.specs.Row.{nodes_of, NoneLags}
 use Rattle.cany_world.proofs.LagFacts.{none_lags}
 use Rattle.cany_world.proofs.ReplyFacts.{done_parts, not_done, reply_of_slot}

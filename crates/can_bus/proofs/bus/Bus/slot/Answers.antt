@@ -1,7 +1,7 @@
 use Rattle.std.proofs.Common.{ap, subst, sym, ◌∙◌}
 use Rattle.cany_base.specs.declared.slot_note.SlotNote.{SlotNote}
 use Rattle.cany_base.specs.Bounded.{Bounded}
-use Rattle.cany_model.specs.Slot.{script}
+use Rattle.cany_model.specs.Bus.Slot.{script}
 use Rattle.can_bus.specs.Bus.{BusParts, Follows}
 use Rattle.can_bus.specs.BusFields.{parts_of}
 use Rattle.can_bus.specs.Row.{IsRowFor, nodes_of}

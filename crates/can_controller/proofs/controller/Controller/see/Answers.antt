@@ -1,7 +1,7 @@
 use Rattle.std.proofs.Common.{◌≡◌, ◌+◌, ◌<◌, length, true, false, ap, sym, ◌∙◌, refl, arith}
 use Rattle.std.specs.Prelude.{Some, None, if◌then◌else◌}
-use Rattle.cany_model.specs.Slot.{after_share, exceeds}
-use Rattle.cany_model.specs.State.{NodeState}
+use Rattle.cany_model.specs.Bus.Slot.{after_share, exceeds}
+use Rattle.cany_model.specs.Bus.State.{NodeState}
 use Rattle.circular_buffer.specs.Buffer.{Buffer}
 use Rattle.cany_base.specs.declared.notice.Notice.{Notice}
 use Rattle.can_controller.specs.Controller.{node_state}

@@ -2,7 +2,7 @@
 use Rattle.std.proofs.Common.{refl, ap, add-one}
 use Rattle.cany_base.specs.Params.{Parameters}
 use Rattle.cany_base.specs.Bounded.{Bounded}
-use Rattle.cany_model.specs.Hypothesis.{first_break}
+use Rattle.cany_model.specs.Promises.Hypothesis.{first_break}
 use Rattle.can_fault.specs.declared.counts.Counted.{Counted}
 use Rattle.can_fault.specs.Counted.{counted_of}
 use Rattle.can_fault.specs.Counts.{partials_of}

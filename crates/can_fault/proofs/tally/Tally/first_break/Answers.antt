@@ -1,7 +1,7 @@
 -- There is no first break exactly where the run is within the hypothesis.
 use Rattle.std.proofs.Common.{ap, sym, ◌∙◌}
 use Rattle.can_fault.specs.Tally.{TallyParts}
-use Rattle.cany_model.proofs.BreakFacts.{first_break_exact}
+use Rattle.cany_model.proofs.Promises.BreakFacts.{first_break_exact}
 use Rattle.can_fault.proofs.tally.Tally.first_break.Goals as goal
 
 pub returns-clause-within : goal.returns-clause-within

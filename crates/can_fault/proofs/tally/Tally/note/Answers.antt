@@ -1,6 +1,6 @@
 -- One more slot.
 use Rattle.std.proofs.Common.{◌≡◌, ℕ, ◌+◌, ◌<◌, Bool, true, false, refl, ap, sym, ◌∙◌, arith, subst, length, if◌then◌else◌}
-use Rattle.cany_model.specs.Hypothesis.{first_break}
+use Rattle.cany_model.specs.Promises.Hypothesis.{first_break}
 use Rattle.can_fault.specs.Tally.{TallyParts, IsTallyOf, is_partial_slot}
 use Rattle.can_fault.specs.TallyFields.{parts_of}
 use Rattle.can_fault.proofs.TallyFacts.{kept_of, noted_run}

@@ -1,7 +1,7 @@
 use Rattle.std.proofs.Common.{◌≡◌, true, false, sym, ◌∙◌}
 use Rattle.cany_base.specs.declared.frame.Class.TheVariants as class
 use Rattle.cany_base.specs.declared.notice.NoticeKind.TheVariants.{Idle, Got, Sent, Bad}
-use Rattle.cany_model.specs.Frames.{same_class}
+use Rattle.cany_model.specs.Bus.Frames.{same_class}
 use Rattle.cany_edcan.proofs.ActionFacts.{got_none, sent_none, idle_none, bad_none}
 use Rattle.cany_edcan.proofs.NoticeFacts.{takes_got, takes_sent, got_stands, sent_stands, got_acts, sent_acts, other_got_stands, other_sent_stands, idle_stands, bad_stands, none_acts}
 use Rattle.cany_edcan.proofs.edcan.Edcan.on.Goals as goal

@@ -1,6 +1,6 @@
 use Rattle.std.proofs.Common.{ap, ◌∙◌, sym, subst, refl, ◌∷◌}
-use Rattle.cany_model.specs.Effect.{waiting_after}
-use Rattle.cany_model.specs.Turn.{turn_effects}
+use Rattle.cany_model.specs.Rules.Effect.{waiting_after}
+use Rattle.cany_model.specs.Rules.Turn.{turn_effects}
 use Rattle.cany_edcan.specs.Edcan.{IsEdcanOf}
 use Rattle.cany_relcan.specs.Relcan.{IsRelcanOf}
 use Rattle.cany_node.specs.Node.{NodeParts, IsNodeOf}

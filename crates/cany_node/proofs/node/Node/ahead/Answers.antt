@@ -1,5 +1,5 @@
 use Rattle.std.proofs.Common.{ap, ◌∙◌, sym, subst}
-use Rattle.cany_model.specs.Relcan.{has_timer_ahead}
+use Rattle.cany_model.specs.Rules.Relcan.{has_timer_ahead}
 use Rattle.cany_relcan.specs.Relcan.{IsRelcanOf}
 use Rattle.cany_node.specs.Node.{NodeParts, IsNodeOf}
 use Rattle.cany_node.proofs.node.Node.ahead.Goals as goal

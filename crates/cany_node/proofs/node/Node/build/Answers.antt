@@ -1,7 +1,7 @@
 use Rattle.std.proofs.Common.{ap, ◌∙◌, refl}
 use Rattle.cany_base.specs.Bounded.{Bounded}
 use Rattle.cany_base.specs.declared.log_entry.LogEntry.{LogEntry}
-use Rattle.cany_model.specs.Log.{log_from}
+use Rattle.cany_model.specs.Rules.Log.{log_from}
 use Rattle.cany_node.proofs.node.Node.build.Goals as goal
 
 pub returns-clause-stands : goal.returns-clause-stands

@@ -3,8 +3,8 @@ use Rattle.std.proofs.Common.{◌≡◌, ◌==◌, true, false, sym, ◌∙◌}
 use Rattle.std.proofs.lemmas.Bool.{and_parts, eqb-true}
 use Rattle.cany_base.specs.declared.frame.Class.TheVariants as class
 use Rattle.cany_base.specs.declared.notice.NoticeKind.TheVariants.{Idle, Got, Sent, Bad}
-use Rattle.cany_model.specs.Frames.{same_class}
-use Rattle.cany_model.proofs.Identities.{same_class-true}
+use Rattle.cany_model.specs.Bus.Frames.{same_class}
+use Rattle.cany_model.proofs.Bus.Identities.{same_class-true}
 use Rattle.cany_relcan.specs.Relcan.{HasHeard}
 use Rattle.cany_relcan.proofs.ActionFacts.{got_actions, sent_actions, no_actions, got_none, idle_none, bad_none}
 use Rattle.cany_relcan.proofs.HearFacts.{other_got_stands, other_sent_none, other_sent_stands, idle_stands, bad_stands}

@@ -2,7 +2,7 @@ use Rattle.std.proofs.Common.{◌≡◌, ◌∙◌, ap, length, Some, None, arit
 use Rattle.std.proofs.lemmas.Result.{err_from_is_err_and}
 use Rattle.toml.specs.Data.{as_str}
 use Rattle.toml.specs.View.{view}
-use Rattle.cany_model.specs.JournalText.{steps_of}
+use Rattle.cany_model.specs.Texts.JournalText.{steps_of}
 use Rattle.cany_replay.specs.JournalParts.{after}
 use Rattle.cany_replay.proofs.JournalLemmas.{joined_from, texts_more, texts_done, texts_bad, IfLater-weaker}
 use Rattle.cany_replay.proofs.reader.journal.joined.Goals as goal

@@ -1,5 +1,5 @@
 use Rattle.std.proofs.Common.{◌≡◌, ◌∙◌, ◌+◌, sym, ap, drop, length, arith}
-use Rattle.cany_model.specs.JournalText.{steps_of}
+use Rattle.cany_model.specs.Texts.JournalText.{steps_of}
 use Rattle.cany_replay.specs.JournalParts.{after}
 use Rattle.cany_replay.proofs.JournalLemmas.{letters_more, letters_done, letters_bad}
 use Rattle.cany_replay.proofs.reader.journal.push_steps.Goals as goal

@@ -1,5 +1,5 @@
 use Rattle.std.proofs.Common.{◌≡◌, drop}
-use Rattle.cany_model.specs.JournalText.{steps_of}
+use Rattle.cany_model.specs.Texts.JournalText.{steps_of}
 use Rattle.cany_replay.specs.JournalParts.{after}
 use Rattle.cany_replay.proofs.reader.journal.push_steps.Given as goal
 

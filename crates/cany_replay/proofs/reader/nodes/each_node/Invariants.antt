@@ -1,7 +1,7 @@
 use Rattle.std.proofs.Common.{◌≡◌, ◌-◌}
 use Rattle.toml.specs.View.{items_view}
 use Rattle.cany_base.specs.Nodes.{AllBelow}
-use Rattle.cany_model.specs.TomlKeys.{number_from}
+use Rattle.cany_model.specs.Texts.TomlKeys.{number_from}
 use Rattle.cany_replay.specs.Sets.{each_node}
 use Rattle.cany_replay.proofs.EntriesLemmas.{from_index}
 use Rattle.cany_replay.proofs.SetsLemmas.{joined}

@@ -1,5 +1,5 @@
 use Rattle.std.proofs.Common.{◌≡◌}
-use Rattle.cany_model.specs.SendsText.{send_from}
+use Rattle.cany_model.specs.Texts.SendsText.{send_from}
 use Rattle.cany_replay.specs.JournalParts.{after}
 use Rattle.cany_replay.proofs.EntriesLemmas.{from_index}
 use Rattle.cany_replay.proofs.reader.sends.each_send.Given as goal

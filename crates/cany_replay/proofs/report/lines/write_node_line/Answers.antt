@@ -1,4 +1,4 @@
-use Rattle.cany_model.specs.ReportLines.{node_line}
+use Rattle.cany_model.specs.Texts.ReportLines.{node_line}
 use Rattle.cany_replay.proofs.report.lines.write_node_line.Goals as goal
 
 pub returns-in-None : goal.returns-in-None

@@ -1,4 +1,4 @@
-use Rattle.cany_model.specs.ReportLines.{params_line}
+use Rattle.cany_model.specs.Texts.ReportLines.{params_line}
 use Rattle.cany_replay.proofs.report.lines.write_params.Goals as goal
 
 pub returns : goal.returns

@@ -1,4 +1,4 @@
-use Rattle.cany_model.specs.RefusalLines.{journal_refusal_line}
+use Rattle.cany_model.specs.Texts.RefusalLines.{journal_refusal_line}
 use Rattle.cany_replay.proofs.report.refusal.write_unfinished.Goals as goal
 
 pub returns-in-None : goal.returns-in-None

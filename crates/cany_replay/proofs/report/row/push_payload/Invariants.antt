@@ -1,6 +1,6 @@
 use Rattle.std.proofs.Common.{◌≡◌, ◌+◌, ◌*◌, ◌++◌, length, take}
 use Rattle.std.specs.List.{flat_map}
-use Rattle.cany_model.specs.ReportLines.{byte_text}
+use Rattle.cany_model.specs.Texts.ReportLines.{byte_text}
 use Rattle.cany_replay.proofs.report.row.push_payload.Given as goal
 
 abbrev pub invariant-loop-i : goal.invariant-loop-i

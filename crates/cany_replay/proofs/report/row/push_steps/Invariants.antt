@@ -1,5 +1,5 @@
 use Rattle.std.proofs.Common.{◌≡◌, ◌++◌, map, take}
-use Rattle.cany_model.specs.ReportLines.{step_letter}
+use Rattle.cany_model.specs.Texts.ReportLines.{step_letter}
 use Rattle.cany_replay.proofs.report.row.push_steps.Given as goal
 
 abbrev pub invariant-loop-step : goal.invariant-loop-step

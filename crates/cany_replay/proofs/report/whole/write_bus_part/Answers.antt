@@ -1,6 +1,6 @@
 use Rattle.std.proofs.Common.{refl}
 use Rattle.std.proofs.lemmas.Result.{err_from_is_err_and}
-use Rattle.cany_model.specs.Hypothesis.{first_break}
+use Rattle.cany_model.specs.Promises.Hypothesis.{first_break}
 use Rattle.cany_world.specs.World.{state_of}
 use Rattle.cany_replay.proofs.ReportLemmas.{bus-is}
 use Rattle.cany_replay.proofs.WrittenLemmas.{IsWritten-then, IsWritten-short}

@@ -4,11 +4,11 @@ use Rattle.cany_base.specs.declared.step.Step.{Step}
 use Rattle.cany_base.specs.Bounded.{Bounded}
 use Rattle.cany_base.specs.Params.{Parameters}
 use Rattle.cany_base.specs.Scenario.{ScenarioParts, IsLegalScenario}
-use Rattle.cany_model.specs.Messages.{message_key, messages_of}
-use Rattle.cany_model.specs.Rooms.{actions_room}
-use Rattle.cany_model.specs.Run.{IsLegal, run}
-use Rattle.cany_model.specs.State.{opening}
-use Rattle.cany_model.proofs.Journals.{legal_none}
+use Rattle.cany_model.specs.Rules.Messages.{message_key, messages_of}
+use Rattle.cany_model.specs.Rules.Rooms.{actions_room}
+use Rattle.cany_model.specs.Bus.Run.{IsLegal, run}
+use Rattle.cany_model.specs.Bus.State.{opening}
+use Rattle.cany_model.proofs.Bus.Journals.{legal_none}
 use Rattle.cany_world.specs.Kept.{StandFor}
 use Rattle.cany_world.proofs.WorldFacts.{opening_stands}
 use Rattle.cany_world.proofs.world.World.build.Goals as goal

@@ -1,8 +1,8 @@
 use Rattle.std.proofs.Common.{ap, ◌∙◌, List}
 use Rattle.can_controller.specs.Controller.{ControllerState}
 use Rattle.can_bus.specs.Row.{nodes_of}
-use Rattle.cany_model.specs.Follow.{first_unread}
-use Rattle.cany_model.specs.Run.{first_lagging}
+use Rattle.cany_model.specs.Bus.Follow.{first_unread}
+use Rattle.cany_model.specs.Bus.Run.{first_lagging}
 use Rattle.cany_world.specs.World.{WorldParts, state_of}
 use Rattle.cany_world.proofs.WorldFacts.{first_unread_is}
 use Rattle.cany_world.proofs.world.World.first_unread.Goals as goal

@@ -1,5 +1,5 @@
 use Rattle.std.proofs.Common.{subst}
-use Rattle.cany_model.specs.Safe.{IsIntegral, IsSafe}
+use Rattle.cany_model.specs.Promises.Safe.{IsIntegral, IsSafe}
 use Rattle.cany_world.specs.World.{WorldParts, state_of}
 use Rattle.cany_world.specs.WorldFields.{world_parts}
 use Rattle.cany_world.proofs.WorldFacts.{world_integral, world_safe, within_run}

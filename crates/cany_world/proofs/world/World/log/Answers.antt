@@ -1,6 +1,6 @@
 use Rattle.std.proofs.Common.{◌≡◌, ◌<◌, length, ap, subst, ◌∙◌, arith}
 use Rattle.std.specs.Prelude.{slice_get, Some}
-use Rattle.cany_model.specs.Log.{log}
+use Rattle.cany_model.specs.Rules.Log.{log}
 use Rattle.cany_world.specs.World.{WorldParts, state_of}
 use Rattle.cany_world.specs.WorldFields.{world_parts}
 use Rattle.cany_world.proofs.WorldFacts.{found, log_is}

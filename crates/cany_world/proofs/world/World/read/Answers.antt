@@ -1,6 +1,6 @@
 use Rattle.std.proofs.Common.{◌≡◌, ◌<◌, length, ap, subst, ◌∙◌, arith}
 use Rattle.std.specs.Prelude.{slice_get, Some}
-use Rattle.cany_model.specs.State.{reads}
+use Rattle.cany_model.specs.Bus.State.{reads}
 use Rattle.cany_world.specs.World.{WorldParts, state_of}
 use Rattle.cany_world.proofs.WorldFacts.{found}
 use Rattle.cany_world.proofs.world.World.read.Goals as goal

@@ -2,8 +2,8 @@ use Rattle.std.proofs.Common.{◌≡◌, ◌<◌, length, refl, ap, subst, sym, 
 use Rattle.std.specs.Prelude.{slice_get, IfSome, Option}
 use Rattle.can_controller.specs.Controller.{ControllerState}
 use Rattle.cany_base.specs.declared.message.MsgKey.{MsgKey}
-use Rattle.cany_model.specs.Messages.{Message, messages_of}
-use Rattle.cany_model.specs.Settled.{is_settled}
+use Rattle.cany_model.specs.Rules.Messages.{Message, messages_of}
+use Rattle.cany_model.specs.Promises.Settled.{is_settled}
 use Rattle.cany_node.specs.Node.{NodeParts}
 use Rattle.cany_world.specs.Kept.{AreControllersOf, AreNodesOf}
 use Rattle.cany_world.specs.World.{WorldParts, state_of}

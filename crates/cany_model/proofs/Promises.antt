@@ -1,0 +1,15 @@
+-- What is promised of a run, proved.
+pub mod Agrees
+pub mod Belonging
+pub mod BreakFacts
+pub mod Confirms
+pub mod Diffusion
+pub mod DiffusionRun
+pub mod EdcanAgrees
+pub mod Integrity
+pub mod LogOnce
+pub mod OneFrame
+pub mod RelcanAgrees
+pub mod Safety
+pub mod SettledFacts
+pub mod Sources

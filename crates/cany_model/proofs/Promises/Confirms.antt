@@ -1,0 +1,77 @@
+-- Where confirmations come from: of each that waits or was carried, a slot had carried the message's data frame with success.
+use Rattle.std.specs.Prelude.{◌≡◌, ℕ, ◌<◌, ◌≤◌, List, ◌∷◌, length}
+use Rattle.std.specs.List.{AllByRecursion}
+use Rattle.std.proofs.Common.{sym, ap, inr, arith}
+use Rattle.cany_base.specs.declared.frame.Class.TheVariants.{Confirm, Rel}
+use Rattle.cany_base.specs.declared.message.Service.{Service}
+use Rattle.cany_base.specs.declared.message.Service.TheVariants as service
+use Rattle.cany_base.specs.declared.notice.NoticeKind.TheVariants.{Sent}
+use Rattle.cany_base.specs.declared.slot_note.SlotNote.{SlotNote}
+use Rattle.cany_base.specs.declared.step.Step.{Step}
+use Rattle.cany_base.specs.Frame.{FrameParts, data_class}
+use Rattle.cany_base.specs.Scenario.{ScenarioParts}
+use Rattle.cany_model.specs.Bus.Frames.{Identity, identity_of}
+use Rattle.cany_model.specs.Bus.History.{history}
+use Rattle.cany_model.specs.Rules.Relcan.{confirm_of}
+use Rattle.cany_model.specs.Bus.Run.{run}
+use Rattle.cany_model.specs.Bus.State.{RunState, node_at}
+use Rattle.cany_model.specs.Rules.Turn.{turn_effects}
+use Rattle.cany_model.proofs.Among.{Among, Among-get_or, Among-which}
+use Rattle.cany_model.proofs.Bus.Carried.{Carries, Succeeds, Succeeds-from_sent, is_sent-from}
+use Rattle.cany_model.proofs.Bus.FrameInvariants.{HoldsOfFrames, IsKeptByFrames, holds_of_frames, turn_note}
+use Rattle.cany_model.proofs.Bus.Runs.{IsOrderly}
+use Rattle.cany_model.proofs.Bus.States.{no_note, note_at}
+use Rattle.cany_model.proofs.Bus.Steps.{MayTurn, next_age, next_notice}
+use Rattle.cany_model.proofs.Rules.TurnFacts.{turn_only}
+use Rattle.cany_model.proofs.Bus.Waits.{AsksOnly}
+
+-- the data frame whose message a frame confirms
+abbrev confirmed_by : FrameParts → Identity
+confirmed_by f = record { class = Rel; number = f.number; node = f.node }
+
+-- a frame that confirms a message does so of one whose data frame succeeded
+abbrev IsTrue : List SlotNote → ℕ → FrameParts → Type 0
+IsTrue trace k f = f.class ≡ Confirm → Among (Succeeds (confirmed_by f)) trace
+
+abbrev pub IsConfirmed : RunState → Type 0
+IsConfirmed s = HoldsOfFrames IsTrue IsTrue s
+
+data_confirms_none : (by : Service) → data_class by ≡ Confirm → ⊥
+data_confirms_none service.Ed e = cc
+data_confirms_none service.Rel e = cc
+data_confirms_none service.Tot e = cc
+
+-- the notice of a turn that is the node's own transmission
+own_succeeds : (s : RunState) (i : ℕ) (f : FrameParts) → MayTurn s i → (node_at s.nodes i).unread ≤ length s.trace → next_notice s i ≡ Sent f → f.class ≡ Rel
+    → Among (Succeeds (confirmed_by f)) s.trace
+own_succeeds s i f may short sent rel =
+    let same : confirmed_by f ≡ identity_of f = λ k. record { class = (sym rel) k; number = f.number; node = f.node } in
+    let below : next_age s i < length s.trace = omega (arith, may.unread, short) in
+    Among-get_or (Succeeds (confirmed_by f)) s.trace (next_age s i) no_note below
+    (Succeeds-from_sent i (confirmed_by f) (note_at s.trace (next_age s i)) (is_sent-from (confirmed_by f) f (next_notice s i) sent same))
+
+asked_true : (scenario : ScenarioParts) (s : RunState) (i : ℕ) → IsOrderly scenario.params.nodes s → MayTurn s i → IsConfirmed s
+    → AllByRecursion (AsksOnly (IsTrue s.trace i)) (turn_effects scenario i (next_notice s i ∷ history i s))
+asked_true scenario s i o may h =
+    turn_only (IsTrue s.trace i) scenario i (next_notice s i) (history i s)
+    (λ f got. let note = turn_note scenario s i f may (o.unread i) got in h.carried note.0 f note.1 note.2)
+    (λ f sent rel own confirms. own_succeeds s i f may (o.unread i) sent rel)
+    (λ m is own confirms. absurd (data_confirms_none m.service confirms))
+
+confirms_kept : (scenario : ScenarioParts) → IsKeptByFrames scenario IsTrue IsTrue
+confirms_kept scenario = record {
+  waiting_later = λ note trace i f h confirms. inr (h confirms);
+  carried_later = λ note trace slot f h confirms. inr (h confirms);
+  sent = λ note trace i f number frame sender h confirms. inr (h confirms);
+  asked = asked_true scenario;
+}
+
+pub confirmed : (scenario : ScenarioParts) (journal : List Step) → scenario.params.nodes ≤ 32 → IsConfirmed (run scenario journal)
+confirmed scenario journal few = holds_of_frames scenario IsTrue IsTrue (confirms_kept scenario) journal few
+
+-- a message whose confirmation was carried had its data frame carried with success
+pub confirm_carried : (s : RunState) → IsConfirmed s → (x : Identity) → x.class ≡ Rel → Among (Carries (confirm_of x)) s.trace → Among (Succeeds x) s.trace
+confirm_carried s h x rel c =
+    let w = Among-which (Carries (confirm_of x)) s.trace c in
+    let same : x ≡ confirmed_by w.2.what = λ k. record { class = rel k; number = (w.2.identity k).number; node = (w.2.identity k).node } in
+    rw same (h.carried w.0 w.2.what w.1 w.2.frame (sym (ap (λ (y : Identity). y.class) w.2.identity)))

@@ -1,0 +1,162 @@
+-- Where data frames come from: each one that waits or was carried is that of a message, and its origin sent it first.
+use Rattle.std.specs.Prelude.{◌≡◌, ℕ, suc, ◌≤◌, Bool, true, false, List, ◌∷◌, Some, length, Contains, ◌⊎◌, refl}
+use Rattle.std.specs.List.{AllByRecursion}
+use Rattle.std.proofs.Common.{sym, ap, ◌∙◌, inl, inr, arith}
+use Rattle.std.proofs.lemmas.Bool.{false≢true}
+use Rattle.cany_base.specs.declared.frame.Class.{Class}
+use Rattle.cany_base.specs.declared.frame.Class.TheVariants.{Accept, Rha, Els, Fda, Join, Leave, Confirm, Tot, Rel, Ed}
+use Rattle.cany_base.specs.declared.notice.NoticeKind.TheVariants.{Got}
+use Rattle.cany_base.specs.declared.slot_note.SlotNote.{SlotNote}
+use Rattle.cany_base.specs.declared.step.Step.{Step}
+use Rattle.cany_base.specs.Frame.{FrameParts}
+use Rattle.cany_base.specs.Nodes.{has}
+use Rattle.cany_base.specs.Scenario.{ScenarioParts}
+use Rattle.cany_model.specs.Bus.History.{history}
+use Rattle.cany_model.specs.Rules.Messages.{Message, messages_of, data_frame}
+use Rattle.cany_model.specs.Bus.Run.{run}
+use Rattle.cany_model.specs.Bus.State.{RunState}
+use Rattle.cany_model.specs.Rules.Turn.{turn_effects}
+use Rattle.cany_model.proofs.Among.{Among, Contains-cons, Contains-head, Contains-from_Among}
+use Rattle.cany_model.proofs.Bus.FrameInvariants.{HoldsOfFrames, IsKeptByFrames, holds_of_frames, slot_of_note, turn_note}
+use Rattle.cany_model.proofs.Bus.Runs.{IsOrderly}
+use Rattle.cany_model.proofs.Bus.Steps.{MayTurn, next_notice}
+use Rattle.cany_model.proofs.Rules.TurnFacts.{turn_only}
+use Rattle.cany_model.proofs.Bus.Waits.{AsksOnly}
+
+-- whether the frames of a class carry messages
+abbrev pub carries_data : Class → Bool
+carries_data Accept = false
+carries_data Rha = false
+carries_data Els = false
+carries_data Fda = false
+carries_data Join = false
+carries_data Leave = false
+carries_data Confirm = false
+carries_data Tot = true
+carries_data Rel = true
+carries_data Ed = true
+
+-- the data frame of the message was carried, with its origin among the senders, in a slot not after this one
+pub record WasSent (trace : List SlotNote) (m : Message) (slot : ℕ) : Type 0 where
+  pub note : SlotNote
+  pub stands : Contains trace note
+  pub by_then : note.slot ≤ slot
+  pub frame : note.frame ≡ Some (data_frame m)
+  pub sender : has note.senders m.origin ≡ true
+
+-- the frame is that of a message which its origin had sent by then
+pub record IsSent (scenario : ScenarioParts) (trace : List SlotNote) (f : FrameParts) (slot : ℕ) : Type 0 where
+  pub message : Message
+  pub stands : Contains (messages_of scenario.sends) message
+  pub is : data_frame message ≡ f
+  pub sent : WasSent trace message slot
+
+-- node i may wait with the frame: it is that of its own message, or of one that its origin has sent
+pub record MayWait (scenario : ScenarioParts) (trace : List SlotNote) (i : ℕ) (f : FrameParts) : Type 0 where
+  pub message : Message
+  pub stands : Contains (messages_of scenario.sends) message
+  pub is : data_frame message ≡ f
+  pub why : (message.origin ≡ i) ⊎ WasSent trace message (length trace)
+
+-- the frame, if it carries a message, may wait at node i
+abbrev pub MayHold : ScenarioParts → List SlotNote → ℕ → FrameParts → Type 0
+MayHold scenario trace i f = carries_data f.class ≡ true → MayWait scenario trace i f
+
+-- the frame, if it carries a message, was that of one that its origin had sent
+abbrev pub WasData : ScenarioParts → List SlotNote → ℕ → FrameParts → Type 0
+WasData scenario trace slot f = carries_data f.class ≡ true → IsSent scenario trace f slot
+
+abbrev pub IsSourced : ScenarioParts → RunState → Type 0
+IsSourced scenario s = HoldsOfFrames (MayHold scenario) (WasData scenario) s
+
+-- ---- a longer trace
+
+sent_later : (note : SlotNote) (trace : List SlotNote) (m : Message) (early late : ℕ) → early ≤ late → WasSent trace m early → WasSent (note ∷ trace) m late
+sent_later note trace m early late h w = record {
+  note = w.note;
+  stands = Contains-cons note w.note trace w.stands;
+  by_then = omega (arith, w.by_then);
+  frame = w.frame;
+  sender = w.sender;
+}
+
+may_wait_later : (scenario : ScenarioParts) (note : SlotNote) (trace : List SlotNote) (i : ℕ) (f : FrameParts)
+    → MayWait scenario trace i f → MayWait scenario (note ∷ trace) i f
+may_wait_later scenario note trace i f w = record {
+  message = w.message;
+  stands = w.stands;
+  is = w.is;
+  why = elim w.why [ inl own ↦ inl own | inr sent ↦ inr (sent_later note trace w.message (length trace) (suc (length trace)) (omega arith) sent) ];
+}
+
+sent_then : (scenario : ScenarioParts) (note : SlotNote) (trace : List SlotNote) (f : FrameParts) (slot : ℕ)
+    → IsSent scenario trace f slot → IsSent scenario (note ∷ trace) f slot
+sent_then scenario note trace f slot w = record {
+  message = w.message;
+  stands = w.stands;
+  is = w.is;
+  sent = sent_later note trace w.message slot slot (omega arith) w.sent;
+}
+
+-- ---- a slot
+
+-- the frame of a new note was offered by a node that may wait with it
+sent_now : (scenario : ScenarioParts) (note : SlotNote) (trace : List SlotNote) (i : ℕ) (f : FrameParts) → note.slot ≡ length trace → note.frame ≡ Some f
+    → has note.senders i ≡ true → MayWait scenario trace i f → IsSent scenario (note ∷ trace) f note.slot
+sent_now scenario note trace i f number frame sender w = record {
+  message = w.message;
+  stands = w.stands;
+  is = w.is;
+  sent = elim w.why [
+    | inl own ↦ record {
+      note = note;
+      stands = Contains-head note trace;
+      by_then = omega arith;
+      frame = frame ∙ ap (λ x. Some x) (sym w.is);
+      sender = ap (λ k. has note.senders k) own ∙ sender;
+    }
+    | inr sent ↦ sent_later note trace w.message (length trace) note.slot (omega arith) sent
+  ];
+}
+
+-- ---- a turn
+
+-- a frame that was sent may wait anywhere
+may_wait_sent : (scenario : ScenarioParts) (trace : List SlotNote) (i : ℕ) (f : FrameParts) (slot : ℕ) → slot ≤ length trace
+    → IsSent scenario trace f slot → MayWait scenario trace i f
+may_wait_sent scenario trace i f slot h w = record {
+  message = w.message;
+  stands = w.stands;
+  is = w.is;
+  why = inr (record { note = w.sent.note; stands = w.sent.stands; by_then = omega (arith, w.sent.by_then); frame = w.sent.frame; sender = w.sent.sender });
+}
+
+-- so may one that the node has got, with the notice of its turn
+may_hold_got : (scenario : ScenarioParts) (s : RunState) (i : ℕ) (f : FrameParts) → IsOrderly scenario.params.nodes s → MayTurn s i → IsSourced scenario s
+    → Among (λ n. n ≡ Got f) (next_notice s i ∷ history i s) → MayHold scenario s.trace i f
+may_hold_got scenario s i f o may h got carries =
+    may_wait_sent scenario s.trace i f note.0.slot (slot_of_note scenario.params.nodes s o note.0 note.1) (h.carried note.0 f note.1 note.2 carries)
+  where
+    note : (note : SlotNote) × Contains s.trace note × (note.frame ≡ Some f)
+    note = turn_note scenario s i f may (o.unread i) got
+
+may_hold_asked : (scenario : ScenarioParts) (s : RunState) (i : ℕ) → IsOrderly scenario.params.nodes s → MayTurn s i → IsSourced scenario s
+    → AllByRecursion (AsksOnly (MayHold scenario s.trace i)) (turn_effects scenario i (next_notice s i ∷ history i s))
+may_hold_asked scenario s i o may h =
+    turn_only (MayHold scenario s.trace i) scenario i (next_notice s i) (history i s)
+    (λ f got. may_hold_got scenario s i f o may h got)
+    (λ f sent rel own carries. absurd (false≢true carries))
+    (λ m is own carries. record { message = m; stands = Contains-from_Among (messages_of scenario.sends) m is; is = refl; why = inl own })
+
+-- ---- every run
+
+sources_kept : (scenario : ScenarioParts) → IsKeptByFrames scenario (MayHold scenario) (WasData scenario)
+sources_kept scenario = record {
+  waiting_later = λ note trace i f may carries. may_wait_later scenario note trace i f (may carries);
+  carried_later = λ note trace slot f was carries. sent_then scenario note trace f slot (was carries);
+  sent = λ note trace i f number frame sender may carries. sent_now scenario note trace i f number frame sender (may carries);
+  asked = may_hold_asked scenario;
+}
+
+pub sourced : (scenario : ScenarioParts) (journal : List Step) → scenario.params.nodes ≤ 32 → IsSourced scenario (run scenario journal)
+sourced scenario journal few = holds_of_frames scenario (MayHold scenario) (WasData scenario) (sources_kept scenario) journal few

@@ -1,0 +1,153 @@
+-- Worked reports, computed from the definitions.
+use Rattle.std.specs.Prelude.{ℕ, ◌≡◌, List, [], ◌∷◌, ◌++◌, Some, None, false, length, replicate, codes, refl}
+use Rattle.std.specs.List.{concat, flat_map}
+use Rattle.std.specs.Fmt.{digits}
+use Rattle.cany_base.specs.declared.frame.Format.TheVariants.{One}
+use Rattle.cany_base.specs.declared.message.Service.TheVariants as service
+use Rattle.cany_base.specs.declared.rule.Rule.{Rule}
+use Rattle.cany_base.specs.declared.rule.Place.TheVariants.{At}
+use Rattle.cany_base.specs.declared.rule.Verdict.TheVariants.{Clean, Lost, Partial}
+use Rattle.cany_base.specs.declared.frame.Class.TheVariants.{Els}
+use Rattle.cany_base.specs.declared.log_entry.LogEntry.{LogEntry}
+use Rattle.cany_base.specs.declared.log_entry.LogEntry.TheVariants.{Deliver, Failed, View}
+use Rattle.cany_base.specs.declared.step.Step.TheVariants.{Slot, Turn}
+use Rattle.cany_model.specs.declared.breaks.BreakKind.TheVariants as kind
+use Rattle.cany_base.specs.Nodes.{Nodes, has, bits_where, those_where}
+use Rattle.cany_base.specs.Params.{Parameters}
+use Rattle.cany_base.specs.Scenario.{ScenarioParts}
+use Rattle.cany_model.specs.Promises.Hypothesis.{break_at, first_break, count_together}
+use Rattle.cany_model.specs.Promises.Settled.{is_settled}
+use Rattle.cany_model.specs.Bus.Frames.{same_class, same_identity, same_frame, is_before}
+use Rattle.cany_model.specs.Rules.Messages.{messages_after}
+use Rattle.cany_model.specs.Bus.State.{node_at}
+use Rattle.cany_model.specs.Bus.Waiting.{put_in_order}
+use Rattle.cany_model.specs.Bus.Slot.{least_frame, winner, script, share_of, after_share, slot_note_of, node_after, nodes_after, after_slot}
+use Rattle.cany_model.specs.Bus.History.{history, copies, has_own}
+use Rattle.cany_model.specs.Rules.Effect.{waiting_after, entered}
+use Rattle.cany_model.specs.Rules.Eager.{eager_effects}
+use Rattle.cany_model.specs.Rules.Delivery.{delivery_effects}
+use Rattle.cany_model.specs.Rules.Edcan.{edcan_at, edcan_effects}
+use Rattle.cany_model.specs.Rules.Relcan.{fell_back, relcan_at, relcan_effects, timer_effects}
+use Rattle.cany_model.specs.Rules.Turn.{send_effects, turn_effects}
+use Rattle.cany_model.specs.Rules.Log.{log_from}
+use Rattle.cany_model.specs.Texts.Report.{bus_lines, node_lines, message_lines, report_lines, report}
+use Rattle.cany_model.specs.Texts.ReportLines.{line_of, class_name, service_name, verdict_name, break_name, payload_text, set_text, step_letter, params_line, journal_line, journal_lines, has_any, bus_line, is_shown, hypothesis_line, node_line, entry_line, message_line}
+use Rattle.cany_model.specs.Bus.Run.{first_lagging, reply, is_legal_from, after_turn, proceed, after_step, run_from}
+use Rattle.cany_model.specs.Bus.RoundRobin.{round, rounds, round_robin}
+
+-- the parameters of three nodes, with everything else by default, at lag 0
+unfoldable params : ℕ → Parameters
+params slots = record {
+  format = One;
+  nodes = 3;
+  lag = 0;
+  omit = 1;
+  errors = 2;
+  bound = 36;
+  cycle = 72;
+  life = 36;
+  silence = 73;
+  confirm = 10;
+  slots = slots;
+}
+
+-- one EDCAN message of node 0 at slot 0, with one byte
+unfoldable one_send : ℕ → List Rule → ScenarioParts
+one_send slots rules = record {
+  params = params slots;
+  members = record { bits = 7 };
+  sends = record { slot = 0; node = 0; service = service.Ed; payload = 1 ∷ [] } ∷ [];
+  rules = rules;
+  joins = [];
+  leaves = [];
+  journal = None;
+}
+
+unfoldable text_of : ScenarioParts → List ℕ
+unfolding digits line_of class_name service_name verdict_name break_name payload_text set_text step_letter params_line journal_line journal_lines has_any bus_line is_shown hypothesis_line node_line entry_line message_line bus_lines node_lines message_lines report_lines report has bits_where those_where same_class same_identity same_frame is_before messages_after node_at put_in_order least_frame winner script share_of after_share slot_note_of node_after nodes_after after_slot history copies has_own waiting_after entered eager_effects delivery_effects edcan_at edcan_effects fell_back relcan_at timer_effects relcan_effects send_effects turn_effects log_from first_lagging reply is_legal_from after_turn proceed after_step run_from round rounds break_at first_break count_together is_settled
+text_of scenario = report scenario (round_robin scenario)
+
+-- one message, no fault: all deliver it, and the others relay it together
+one_message_no_fault : text_of (one_send 5 []) ≡ concat (
+    codes "canely report 1\n"
+    ∷ codes "params nodes 3 lag 0 omit 1 errors 2 bound 36 cycle 72 life 36 silence 73 confirm 10 slots 5\n"
+    ∷ codes "journal .012.012.012.012.012\n"
+    ∷ codes "bus 1 ed 0 0 x01 from 0 to 1,2 clean\n"
+    ∷ codes "bus 2 ed 0 0 x01 from 1,2 to 0 clean\n"
+    ∷ codes "hypothesis within\n"
+    ∷ codes "node 0 correct read 5\n"
+    ∷ codes "deliver 1 ed 0 0 x01\n"
+    ∷ codes "node 1 correct read 5\n"
+    ∷ codes "deliver 1 ed 0 0 x01\n"
+    ∷ codes "node 2 correct read 5\n"
+    ∷ codes "deliver 1 ed 0 0 x01\n"
+    ∷ codes "message ed 0 0 settled\n"
+    ∷ codes "end\n" ∷ [])
+unfolding text_of params one_send digits line_of class_name service_name verdict_name break_name payload_text set_text step_letter params_line journal_line journal_lines has_any bus_line is_shown hypothesis_line node_line entry_line message_line bus_lines node_lines message_lines report_lines report has bits_where those_where same_class same_identity same_frame is_before messages_after node_at put_in_order least_frame winner script share_of after_share slot_note_of node_after nodes_after after_slot history copies has_own waiting_after entered eager_effects delivery_effects edcan_at edcan_effects fell_back relcan_at timer_effects relcan_effects send_effects turn_effects log_from first_lagging reply is_legal_from after_turn proceed after_step run_from round rounds break_at first_break count_together is_settled
+one_message_no_fault = refl
+
+-- the sender stops after only node 1 accepted its frame: node 1 relays it
+edcan_sender_stops_after_partial :
+    text_of (one_send 6 (record { place = At 1; verdict = Partial (record { bits = 4 }); stop = record { bits = 1 } } ∷ [])) ≡ concat (
+    codes "canely report 1\n"
+    ∷ codes "params nodes 3 lag 0 omit 1 errors 2 bound 36 cycle 72 life 36 silence 73 confirm 10 slots 6\n"
+    ∷ codes "journal .012.12.12.12.12.12\n"
+    ∷ codes "bus 1 ed 0 0 x01 from 0 to 1 partial stop 0\n"
+    ∷ codes "bus 2 ed 0 0 x01 from 1 to 2 clean\n"
+    ∷ codes "bus 3 ed 0 0 x01 from 2 to 1 clean\n"
+    ∷ codes "hypothesis within\n"
+    ∷ codes "node 0 stopped 1 read 1\n"
+    ∷ codes "node 1 correct read 6\n"
+    ∷ codes "deliver 1 ed 0 0 x01\n"
+    ∷ codes "node 2 correct read 6\n"
+    ∷ codes "deliver 2 ed 0 0 x01\n"
+    ∷ codes "message ed 0 0 settled\n"
+    ∷ codes "end\n" ∷ [])
+unfolding text_of params one_send digits line_of class_name service_name verdict_name break_name payload_text set_text step_letter params_line journal_line journal_lines has_any bus_line is_shown hypothesis_line node_line entry_line message_line bus_lines node_lines message_lines report_lines report has bits_where those_where same_class same_identity same_frame is_before messages_after node_at put_in_order least_frame winner script share_of after_share slot_note_of node_after nodes_after after_slot history copies has_own waiting_after entered eager_effects delivery_effects edcan_at edcan_effects fell_back relcan_at timer_effects relcan_effects send_effects turn_effects log_from first_lagging reply is_legal_from after_turn proceed after_step run_from round rounds break_at first_break count_together is_settled
+edcan_sender_stops_after_partial = refl
+
+-- Lines that these runs do not have.
+
+unfoldable nodes : ℕ → Nodes
+nodes bits = record { bits = bits }
+
+unfoldable lines_of_entries : List LogEntry → List ℕ
+lines_of_entries entries = flat_map entry_line entries
+
+entry_lines : lines_of_entries (
+    Failed 110 2 1 ∷ View 144 2 (nodes 3) ∷ View 144 3 (nodes 0) ∷ Deliver 3 service.Rel (record { origin = 1; seq = 65535 }) []
+    ∷ Deliver 12 service.Tot (record { origin = 31; seq = 0 }) (0 ∷ 255 ∷ 10 ∷ 156 ∷ []) ∷ []) ≡ concat (
+    codes "failed 110 2 1\n"
+    ∷ codes "view 144 2 0,1\n"
+    ∷ codes "view 144 3 -\n"
+    ∷ codes "deliver 3 rel 1 65535 x\n"
+    ∷ codes "deliver 12 tot 31 0 x00ff0a9c\n" ∷ [])
+unfolding lines_of_entries nodes entry_line line_of digits service_name payload_text set_text has
+entry_lines = refl
+
+-- a stop in an idle slot, and a remote frame that nobody took
+bus_lines_alone : bus_lines (
+    record { slot = 9; frame = Some (record { class = Els; number = 4; node = 2; inc = 0; payload = [] }); senders = nodes 4; takers = nodes 0; verdict = Lost; stops = nodes 0 }
+    ∷ record { slot = 8; frame = None; senders = nodes 0; takers = nodes 0; verdict = Clean; stops = nodes 0 }
+    ∷ record { slot = 7; frame = None; senders = nodes 0; takers = nodes 0; verdict = Clean; stops = nodes 9 } ∷ [])
+    ≡ codes "bus 7 idle stop 0,3\n" ∷ codes "bus 9 els 2 4 r from 2 to - lost\n" ∷ []
+unfolding bus_lines nodes bus_line is_shown has_any line_of digits class_name verdict_name payload_text set_text has
+bus_lines_alone = refl
+
+hypothesis_broken : hypothesis_line (Some (record { kind = kind.Errors; slot = 3 })) ≡ codes "hypothesis outside errors 3\n"
+unfolding hypothesis_line line_of digits break_name
+hypothesis_broken = refl
+
+message_open : message_line (record { slot = 0; origin = 12; seq = 7; service = service.Tot; payload = [] }) false ≡ codes "message tot 12 7 open\n"
+unfolding message_line line_of digits service_name
+message_open = refl
+
+-- 64 steps a line
+journal_of_65_steps : journal_lines (replicate 64 (Turn 31) ++ Slot ∷ []) ≡ line_of (codes "journal" ∷ replicate 64 118 ∷ []) ∷ codes "journal .\n" ∷ []
+unfolding journal_lines journal_line line_of step_letter
+journal_of_65_steps = refl
+
+-- the longest set
+set_of_32_nodes : length (set_text (nodes 4294967295)) ≡ 85
+unfolding set_text nodes has digits
+set_of_32_nodes = refl

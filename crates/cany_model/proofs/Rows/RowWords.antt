@@ -1,0 +1,207 @@
+-- What a worked row is written with, and what a run shows.
+use Rattle.std.specs.Prelude.{ℕ, ◌+◌, ◌-◌, ◌*◌, ◌==◌, Bool, not, ◌||◌, ◌&&◌, nat_lt, if◌then◌else◌, List, [], ◌∷◌, ◌++◌, length, Option, Some, None, is_some, find, map}
+use Rattle.std.specs.List.{range_with_len}
+use Rattle.cany_base.specs.declared.frame.Class.{Class}
+use Rattle.cany_base.specs.declared.frame.Class.TheVariants as class
+use Rattle.cany_base.specs.declared.frame.Format.TheVariants.{One}
+use Rattle.cany_base.specs.declared.log_entry.LogEntry.{LogEntry}
+use Rattle.cany_base.specs.declared.log_entry.LogEntry.TheVariants.{Deliver}
+use Rattle.cany_base.specs.declared.message.SendAsk.{SendAsk}
+use Rattle.cany_base.specs.declared.message.Service.TheVariants as service
+use Rattle.cany_base.specs.declared.rule.Place.TheVariants.{At, FrameNth}
+use Rattle.cany_base.specs.declared.rule.Rule.{Rule}
+use Rattle.cany_base.specs.declared.rule.Verdict.{Verdict}
+use Rattle.cany_base.specs.declared.rule.Verdict.TheVariants.{Clean}
+use Rattle.cany_base.specs.declared.slot_note.SlotNote.{SlotNote}
+use Rattle.cany_base.specs.declared.step.Step.{Step}
+use Rattle.cany_base.specs.declared.step.Step.TheVariants.{Slot, Turn}
+use Rattle.cany_base.specs.Frame.{FrameParts}
+use Rattle.cany_base.specs.Nodes.{Nodes, has, bits_where, those_where}
+use Rattle.cany_base.specs.Params.{Parameters}
+use Rattle.cany_base.specs.Scenario.{ScenarioParts}
+use Rattle.cany_model.specs.declared.breaks.Break.{Break}
+use Rattle.cany_model.specs.declared.reply.StepReply.{StepReply}
+use Rattle.cany_model.specs.Rules.Delivery.{delivery_effects}
+use Rattle.cany_model.specs.Rules.Eager.{eager_effects}
+use Rattle.cany_model.specs.Rules.Edcan.{edcan_at, edcan_effects}
+use Rattle.cany_model.specs.Rules.Effect.{waiting_after, entered}
+use Rattle.cany_model.specs.Bus.Frames.{same_class, same_identity, same_frame, is_before}
+use Rattle.cany_model.specs.Bus.History.{history, copies, has_own}
+use Rattle.cany_model.specs.Promises.Hypothesis.{break_at, first_break, count_together}
+use Rattle.cany_model.specs.Rules.Log.{log, log_from}
+use Rattle.cany_model.specs.Rules.Messages.{messages_after, messages_of}
+use Rattle.cany_model.specs.Rules.Relcan.{fell_back, relcan_at, timer_effects, relcan_effects}
+use Rattle.cany_model.specs.Bus.RoundRobin.{round, rounds}
+use Rattle.cany_model.specs.Bus.Run.{first_lagging, reply, is_done, is_legal_from, has_ended, after_turn, proceed, after_step, run_from, run}
+use Rattle.cany_model.specs.Promises.Settled.{is_settled}
+use Rattle.cany_model.specs.Bus.Slot.{least_frame, winner, script, share_of, after_share, slot_note_of, node_after, nodes_after, after_slot}
+use Rattle.cany_model.specs.Bus.State.{RunState, node_at, opening, reads}
+use Rattle.cany_model.specs.Rules.Turn.{send_effects, turn_effects}
+use Rattle.cany_model.specs.Bus.Waiting.{put_in_order}
+
+abbrev pub set : ℕ → Nodes
+set bits = record { bits = bits }
+
+unfoldable pub send : ℕ → ℕ → List ℕ → SendAsk
+send slot node payload = record { slot = slot; node = node; service = service.Ed; payload = payload }
+
+unfoldable pub send_rel : ℕ → ℕ → List ℕ → SendAsk
+send_rel slot node payload = record { slot = slot; node = node; service = service.Rel; payload = payload }
+
+unfoldable pub slot_rule : ℕ → Verdict → ℕ → Rule
+slot_rule slot verdict stop = record { place = At slot; verdict = verdict; stop = set stop }
+
+unfoldable pub frame_rule : Class → ℕ → ℕ → ℕ → Verdict → ℕ → Rule
+frame_rule class number node nth verdict stop = record { place = FrameNth class number node nth; verdict = verdict; stop = set stop }
+
+unfoldable pub scenario : Parameters → List SendAsk → List Rule → ScenarioParts
+scenario p sends rules = record { params = p; members = set 0; sends = sends; rules = rules; joins = []; leaves = []; journal = None }
+
+-- a journal in its alphabet: a dot is a slot, and a digit or a letter is the turn of a node
+abbrev pub step_of : ℕ → Step
+step_of byte = if byte == 46 then Slot else if nat_lt byte 58 then Turn (byte - 48) else Turn (byte - 87)
+
+unfoldable pub steps : List ℕ → List Step
+steps bytes = map step_of bytes
+
+-- the data frame of an EDCAN message
+unfoldable pub ed : ℕ → ℕ → List ℕ → FrameParts
+ed origin seq payload = record { class = class.Ed; number = seq; node = origin; inc = 0; payload = payload }
+
+-- the data frame of a RELCAN message, and the frame that confirms it
+unfoldable pub rel : ℕ → ℕ → List ℕ → FrameParts
+rel origin seq payload = record { class = class.Rel; number = seq; node = origin; inc = 0; payload = payload }
+
+unfoldable pub confirm : ℕ → ℕ → FrameParts
+confirm origin seq = record { class = class.Confirm; number = seq; node = origin; inc = 0; payload = [] }
+
+-- a slot that carried a frame: the frame, its senders and takers, the verdict and the stops
+unfoldable pub carries : ℕ → FrameParts → ℕ → ℕ → Verdict → ℕ → SlotNote
+carries slot f senders takers verdict stops = record { slot = slot; frame = Some f; senders = set senders; takers = set takers; verdict = verdict; stops = set stops }
+
+unfoldable pub idle : ℕ → ℕ → SlotNote
+idle slot stops = record { slot = slot; frame = None; senders = set 0; takers = set 0; verdict = Clean; stops = set stops }
+
+unfoldable pub delivers : ℕ → ℕ → ℕ → List ℕ → LogEntry
+delivers slot origin seq payload = Deliver slot service.Ed (record { origin = origin; seq = seq }) payload
+
+unfoldable pub delivers_rel : ℕ → ℕ → ℕ → List ℕ → LogEntry
+delivers_rel slot origin seq payload = Deliver slot service.Rel (record { origin = origin; seq = seq }) payload
+
+-- ---- what a run shows
+
+abbrev pub is_shown : SlotNote → Bool
+is_shown note = is_some note.frame || not (note.stops.bits == 0)
+
+-- the slots that carried a frame or at whose end a node stopped, oldest first
+unfoldable pub shown : List SlotNote → List SlotNote
+shown [] = []
+shown (note ∷ before) = shown before ++ (if is_shown note then note ∷ [] else [])
+
+pub record NodeReport : Type 0 where
+  pub stopped : Option ℕ
+  pub read : ℕ
+  pub log : List LogEntry
+
+pub record RunReport : Type 0 where
+  pub journal : List Step
+  pub bus : List SlotNote
+  pub broken : Option Break
+  pub nodes : List NodeReport
+  pub settled : List Bool
+  pub legal : Bool
+  pub ended : Bool
+
+abbrev pub node_report : ScenarioParts → RunState → ℕ → NodeReport
+node_report sc s i = record { stopped = (node_at s.nodes i).stopped; read = reads s i; log = log sc s i }
+
+-- that of a scenario by a journal; what computes it is opened here, once for all rows
+unfoldable pub report : ScenarioParts → List Step → RunReport
+unfolding shown has bits_where those_where same_class same_identity same_frame is_before messages_after node_at put_in_order least_frame winner script share_of after_share slot_note_of node_after nodes_after after_slot history copies has_own waiting_after entered eager_effects delivery_effects edcan_at edcan_effects fell_back relcan_at timer_effects relcan_effects send_effects turn_effects log_from first_lagging reply is_legal_from after_turn proceed after_step run_from round rounds break_at first_break count_together is_settled
+report sc journal =
+    let s = run sc journal in
+    record {
+      journal = journal;
+      bus = shown s.trace;
+      broken = first_break sc.params s.trace;
+      nodes = map (node_report sc s) (range_with_len 0 sc.params.nodes);
+      settled = map (is_settled sc s) (messages_of sc.sends);
+      legal = is_legal_from sc (opening sc.params.nodes) journal;
+      ended = has_ended sc s;
+    }
+
+-- the counters and the waiting frames of a node
+pub record NodeInside : Type 0 where
+  pub transmit : ℕ
+  pub receive : ℕ
+  pub waiting : List FrameParts
+
+unfoldable pub insides : ScenarioParts → List Step → List NodeInside
+unfolding report
+insides sc journal = map (λ node. record { transmit = node.transmit; receive = node.receive; waiting = node.waiting }) (run sc journal).nodes
+
+-- what stops a journal: the first step that is not done, or that slots or notices are left at its end
+pub data Followed : Type 0 where
+  Followed-all : Followed
+  Refused : ℕ → StepReply → Followed
+  Unfinished : ℕ → Option ℕ → Followed
+
+abbrev pub left_over : ScenarioParts → RunState → Followed
+left_over sc s =
+    if has_ended sc s then Followed-all
+    else Unfinished (length s.trace)
+    (find (λ i. not ((node_at s.nodes i).unread == 0) && not (is_some (node_at s.nodes i).stopped)) (range_with_len 0 sc.params.nodes))
+
+unfoldable pub follow_from : ScenarioParts → RunState → ℕ → List Step → Followed
+follow_from sc s place [] = left_over sc s
+follow_from sc s place (step ∷ journal) =
+    if is_done (reply sc s step) then follow_from sc (after_step sc s step) (place + 1) journal else Refused place (reply sc s step)
+
+unfoldable pub follow : ScenarioParts → List Step → Followed
+unfolding report follow_from
+follow sc journal = follow_from sc (opening sc.params.nodes) 0 journal
+
+-- three nodes at lag 0, with everything else by default
+unfoldable pub three : ℕ → ℕ → ℕ → Parameters
+three slots omit errors = record {
+  format = One;
+  nodes = 3;
+  lag = 0;
+  omit = omit;
+  errors = errors;
+  bound = 34 + errors;
+  cycle = 68 + 2 * errors;
+  life = 34 + errors;
+  silence = 69 + 2 * errors;
+  confirm = 10;
+  slots = slots;
+}
+
+-- the same at lag 1
+unfoldable pub lag_1 : ℕ → ℕ → Parameters
+lag_1 slots omit = record { format = One; nodes = 3; lag = 1; omit = omit; errors = 2; bound = 75; cycle = 152; life = 76; silence = 153; confirm = 10; slots = slots }
+
+-- the one message of most rows, sent by node 0 at slot 0, and its frame
+abbrev pub one_message : List SendAsk
+one_message = send 0 0 (1 ∷ []) ∷ []
+
+abbrev pub first_frame : FrameParts
+first_frame = ed 0 0 (1 ∷ [])
+
+-- a RELCAN message instead, and its frames
+abbrev pub one_rel : List SendAsk
+one_rel = send_rel 0 0 (1 ∷ []) ∷ []
+
+abbrev pub first_rel : FrameParts
+first_rel = rel 0 0 (1 ∷ [])
+
+abbrev pub first_confirm : FrameParts
+first_confirm = confirm 0 0
+
+unfoldable pub delivered : ℕ → List LogEntry
+delivered slot = delivers slot 0 0 (1 ∷ []) ∷ []
+
+-- opens all that a row is written with
+unfoldable pub row : Unit {0}
+unfolding report insides follow scenario send send_rel slot_rule frame_rule steps ed rel confirm carries idle delivers delivers_rel three delivered
+row = tt

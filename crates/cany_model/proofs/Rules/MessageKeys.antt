@@ -1,0 +1,55 @@
+-- Messages of one scenario that have the same key are the same message.
+use Rattle.std.proofs.Common.{◌≡◌, ◌<◌, ◌≤◌, inl, inr, List, [], ◌∷◌, count_by, ap, sym, ◌∙◌, arith}
+use Rattle.std.proofs.lemmas.Bool.{eq-eqb}
+use Rattle.cany_base.specs.declared.message.MsgKey.{MsgKey}
+use Rattle.cany_base.specs.declared.message.SendAsk.{SendAsk}
+use Rattle.cany_base.specs.declared.message.Service.{Service}
+use Rattle.cany_base.specs.Frame.{data_class}
+use Rattle.cany_model.specs.Bus.Frames.{Identity}
+use Rattle.cany_model.specs.Rules.Messages.{Message, is_from, message_of, messages_after, messages_of}
+use Rattle.cany_model.proofs.Among.{Among, count-yes, count-grows}
+
+-- the data frame that a service sends for a key
+abbrev pub data_of : Service → MsgKey → Identity
+data_of by key = record { class = data_class by; number = key.seq; node = key.origin }
+
+-- the message is one of these
+abbrev pub IsOneOf : List Message → Message → Type 0
+IsOneOf messages m = Among (λ k. k ≡ m) messages
+
+seq_from : (earlier sends : List SendAsk) (m : Message) → IsOneOf (messages_after earlier sends) m → count_by (is_from m.origin) earlier ≤ m.seq
+unfolding messages_after
+seq_from earlier [] m h = absurd h
+seq_from earlier (send ∷ sends) m (inl e) =
+    let at : (message_of earlier send).seq ≡ m.seq = ap (λ k. k.seq) e in
+    let from : count_by (is_from send.node) earlier ≡ count_by (is_from m.origin) earlier = ap (λ (k : Message). count_by (is_from k.origin) earlier) e in
+    omega arith
+seq_from earlier (send ∷ sends) m (inr h) =
+    omega (arith, seq_from (send ∷ earlier) sends m h, count-grows (is_from m.origin) send earlier)
+
+later_seq : (earlier sends : List SendAsk) (send : SendAsk) (m : Message) → IsOneOf (messages_after (send ∷ earlier) sends) m → send.node ≡ m.origin
+    → count_by (is_from m.origin) earlier < m.seq
+later_seq earlier sends send m h e =
+    omega (arith, seq_from (send ∷ earlier) sends m h, count-yes (is_from m.origin) send earlier (eq-eqb send.node m.origin e))
+
+-- a message of a later broadcast has another key
+apart : (earlier sends : List SendAsk) (send : SendAsk) (k m : Message) → message_of earlier send ≡ k → IsOneOf (messages_after (send ∷ earlier) sends) m
+    → k.origin ≡ m.origin → k.seq ≡ m.seq → ⊥
+apart earlier sends send k m is h origin seq =
+    let at : (message_of earlier send).seq ≡ k.seq = ap (λ (n : Message). n.seq) is in
+    let node : send.node ≡ m.origin = ap (λ (n : Message). n.origin) is ∙ origin in
+    let counts : count_by (is_from send.node) earlier ≡ count_by (is_from m.origin) earlier = ap (λ n. count_by (is_from n) earlier) node in
+    omega (arith, later_seq earlier sends send m h node)
+
+unique : (earlier sends : List SendAsk) (k m : Message) → IsOneOf (messages_after earlier sends) k → IsOneOf (messages_after earlier sends) m
+    → k.origin ≡ m.origin → k.seq ≡ m.seq → k ≡ m
+unfolding messages_after
+unique earlier [] k m a b origin seq = absurd a
+unique earlier (send ∷ sends) k m (inl a) (inl b) origin seq = sym a ∙ b
+unique earlier (send ∷ sends) k m (inl a) (inr b) origin seq = absurd (apart earlier sends send k m a b origin seq)
+unique earlier (send ∷ sends) k m (inr a) (inl b) origin seq = absurd (apart earlier sends send m k b a (sym origin) (sym seq))
+unique earlier (send ∷ sends) k m (inr a) (inr b) origin seq = unique (send ∷ earlier) sends k m a b origin seq
+
+pub same_message : (sends : List SendAsk) (k m : Message) → IsOneOf (messages_of sends) k → IsOneOf (messages_of sends) m
+    → k.origin ≡ m.origin → k.seq ≡ m.seq → k ≡ m
+same_message sends k m a b origin seq = unique [] sends k m a b origin seq

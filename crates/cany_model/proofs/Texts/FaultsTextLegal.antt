@@ -1,0 +1,178 @@
+-- The rules that a text gives are legal.
+use Rattle.std.proofs.Common.{◌≡◌, ◌≢◌, ℕ, ◌-◌, ◌<◌, ◌≤◌, ◌==◌, Bool, true, false, ◌&&◌, ◌||◌, not, nat_le, nat_lt, List, [], ◌∷◌, length, Option, Some, None, refl, ap, sym, ◌∙◌, arith, lit≤, eq-eqb}
+use Rattle.std.specs.Prelude.{All, AllPairs, codes, if◌then◌else◌}
+use Rattle.std.specs.List.{list_any}
+use Rattle.std.specs.Str.{bytes_eq}
+use Rattle.std.proofs.lemmas.Bool.{and_parts, false≢true}
+use Rattle.std.proofs.lemmas.Bool.Decides.{nat_tests}
+use Rattle.std.proofs.lemmas.List.Elements.{All-nil, All-cons, All-head, All-tail}
+use Rattle.std.proofs.lemmas.List.Kept.{AllPairs-cons}
+use Rattle.std.proofs.lemmas.Option.{same_Some}
+use Rattle.toml.specs.Data.{Data, as_str, as_array, as_table, Members, get_member}
+use Rattle.cany_base.specs.declared.rule.Place.{Place}
+use Rattle.cany_base.specs.declared.rule.Place.TheVariants.{At, FrameNth}
+use Rattle.cany_base.specs.declared.rule.Rule.{Rule}
+use Rattle.cany_base.specs.declared.rule.Verdict.{Verdict}
+use Rattle.cany_base.specs.declared.rule.Verdict.TheVariants.{Clean, Lost, Partial, Silent}
+use Rattle.cany_base.specs.Nodes.{Nodes, AllBelow}
+use Rattle.cany_base.specs.NodesLaws.{has-those_where}
+use Rattle.cany_base.specs.Params.{Parameters, IsInRange}
+use Rattle.cany_base.specs.Scenario.{IsPlaceOf, IsVerdictOf, IsRuleOf}
+use Rattle.cany_model.specs.Texts.TomlKeys.{has_only, required, optional, number_from, each_of}
+use Rattle.cany_model.specs.Texts.FaultsText.{set_of, nodes_from, verdict_named, verdict_from, class_from, slot_rule_keys, frame_rule_keys, slot_place_from, frame_place_from, is_frame_rule, place_from, rule_from, same_place, have_distinct_places, rules_from}
+use Rattle.cany_model.proofs.Texts.TomlSteps.{bind_some, only_if-true, number_from-range, required-range, some_node, below_count, few-from_test, optional-holds, each_of-All}
+
+-- ---- sets of nodes
+
+one_more_below : (bound number node : ℕ) (among : Bool) → number < bound → (among ≡ true → node < bound) → (number == node || among) ≡ true → node < bound
+one_more_below bound number node true here rest h = rest refl
+one_more_below bound number node false here rest h = grind (arith, nat_tests)
+
+among_below : (bound : ℕ) (numbers : List ℕ) (node : ℕ) → All (λ number. number < bound) numbers → list_any (λ number. number == node) numbers ≡ true → node < bound
+among_below bound [] node all h = absurd (false≢true h)
+among_below bound (number ∷ rest) node all h =
+    let IsBelow : ℕ → Type 0 = λ n. n < bound in
+    one_more_below bound number node (list_any (λ n. n == node) rest) (All-head IsBelow number rest all) (among_below bound rest node (All-tail IsBelow number rest all)) h
+
+set_of-below : (bound : ℕ) (numbers : List ℕ) → All (λ number. number < bound) numbers → AllBelow bound (set_of numbers)
+set_of-below bound numbers all node h =
+    let tests = sym (has-those_where (λ n. list_any (λ number. number == n) numbers) node) ∙ h in
+    among_below bound numbers node all (and_parts (nat_lt node 32) _ tests).1
+
+nodes_from-below : (p : Parameters) → IsInRange p → (value : Data) (nodes : Nodes) → nodes_from p value ≡ Some nodes → AllBelow p.nodes nodes
+unfolding nodes_from
+nodes_from-below p r value nodes h =
+    let entries = bind_some (as_array value) _ nodes h in
+    let numbers = bind_some (each_of (number_from 0 (p.nodes - 1)) entries.0) _ nodes entries.2 in
+    let made = same_Some (set_of numbers.0) nodes numbers.2 in
+    let all = each_of-All (λ number. number < p.nodes) (number_from 0 (p.nodes - 1))
+    (λ entry number e. below_count p.nodes number (some_node p.nodes r.nodes) (number_from-range 0 (p.nodes - 1) entry number e)) entries.0 numbers.0 numbers.1 in
+    rw (← made) (set_of-below p.nodes numbers.0 all)
+
+nodes_at-below : (p : Parameters) → IsInRange p → (key : List ℕ) (entry : Members) (nodes : Nodes) → optional (nodes_from p) (set_of []) key entry ≡ Some nodes → AllBelow p.nodes nodes
+nodes_at-below p r key entry nodes h =
+    optional-holds (AllBelow p.nodes) (nodes_from p) (set_of []) (set_of-below p.nodes [] (All-nil _)) (nodes_from-below p r) (get_member key entry) nodes h
+
+-- ---- a rule
+
+verdict_of_tests : (p : Parameters) (reject : Nodes) → AllBelow p.nodes reject → (clean lost partial silent : Bool) (verdict : Verdict)
+    → (if clean then Some Clean else if lost then Some Lost else if partial then Some (Partial reject) else if silent then Some (Silent reject) else None) ≡ Some verdict
+    → IsVerdictOf p verdict
+verdict_of_tests p reject below true lost partial silent verdict h = let e = same_Some Clean verdict h in rw (← e) tt
+verdict_of_tests p reject below false true partial silent verdict h = let e = same_Some Lost verdict h in rw (← e) tt
+verdict_of_tests p reject below false false true silent verdict h = let e = same_Some (Partial reject) verdict h in rw (← e) below
+verdict_of_tests p reject below false false false true verdict h = let e = same_Some (Silent reject) verdict h in rw (← e) below
+verdict_of_tests p reject below false false false false verdict h = cc h
+
+verdict_from-of : (p : Parameters) (reject : Nodes) → AllBelow p.nodes reject → (value : Data) (verdict : Verdict) → verdict_from reject value ≡ Some verdict → IsVerdictOf p verdict
+unfolding verdict_from
+verdict_from-of p reject below value verdict h =
+    let name = bind_some (as_str value) (λ n. verdict_named n reject) verdict h in
+    verdict_of_tests p reject below (bytes_eq name.0 (codes "clean")) (bytes_eq name.0 (codes "lost")) (bytes_eq name.0 (codes "partial")) (bytes_eq name.0 (codes "silent")) verdict name.2
+
+slot_place_from-of : (p : Parameters) → IsInRange p → (entry : Members) (place : Place) → slot_place_from p entry ≡ Some place → IsPlaceOf p place
+unfolding slot_place_from
+slot_place_from-of p r entry place h =
+    let known = only_if-true (has_only slot_rule_keys entry) _ place h in
+    let slot = bind_some (required (number_from 0 (p.slots - 1)) (codes "slot") entry) _ place known.1 in
+    let made = same_Some (At slot.0) place slot.2 in
+    let in_run = below_count p.slots slot.0 r.slots.0 (required-range 0 (p.slots - 1) (codes "slot") entry slot.0 slot.1) in
+    rw (← made) in_run
+
+frame_place_from-of : (p : Parameters) → IsInRange p → (entry : Members) (place : Place) → frame_place_from p entry ≡ Some place → IsPlaceOf p place
+unfolding frame_place_from
+frame_place_from-of p r entry place h =
+    let known = only_if-true (has_only frame_rule_keys entry) _ place h in
+    let class = bind_some (required class_from (codes "class") entry) _ place known.1 in
+    let number = bind_some (required (number_from 0 65535) (codes "number") entry) _ place class.2 in
+    let node = bind_some (required (number_from 0 (p.nodes - 1)) (codes "node") entry) _ place number.2 in
+    let nth = bind_some (required (number_from 1 100000) (codes "nth") entry) _ place node.2 in
+    let made = same_Some (FrameNth class.0 number.0 node.0 nth.0) place nth.2 in
+    let on_bus = below_count p.nodes node.0 (some_node p.nodes r.nodes) (required-range 0 (p.nodes - 1) (codes "node") entry node.0 node.1) in
+    let counted = required-range 1 100000 (codes "nth") entry nth.0 nth.1 in
+    rw (← made) (on_bus, counted.0, counted.1)
+
+place_of_test : (p : Parameters) (of_frame of_slot : Option Place) → ((place : Place) → of_frame ≡ Some place → IsPlaceOf p place)
+    → ((place : Place) → of_slot ≡ Some place → IsPlaceOf p place) → (test : Bool) (place : Place) → (if test then of_frame else of_slot) ≡ Some place
+    → IsPlaceOf p place
+place_of_test p of_frame of_slot frames slots true place h = frames place h
+place_of_test p of_frame of_slot frames slots false place h = slots place h
+
+place_from-of : (p : Parameters) → IsInRange p → (entry : Members) (place : Place) → place_from p entry ≡ Some place → IsPlaceOf p place
+unfolding place_from
+place_from-of p r entry place h =
+    place_of_test p (frame_place_from p entry) (slot_place_from p entry) (frame_place_from-of p r entry) (slot_place_from-of p r entry) (is_frame_rule entry) place h
+
+rule_from-of : (p : Parameters) → IsInRange p → (value : Data) (rule : Rule) → rule_from p value ≡ Some rule → IsRuleOf p rule
+unfolding rule_from
+rule_from-of p r value rule h =
+    let entry = bind_some (as_table value) _ rule h in
+    let place = bind_some (place_from p entry.0) _ rule entry.2 in
+    let reject = bind_some (optional (nodes_from p) (set_of []) (codes "reject") entry.0) _ rule place.2 in
+    let verdict = bind_some (optional (verdict_from reject.0) Clean (codes "verdict") entry.0) _ rule reject.2 in
+    let stop = bind_some (optional (nodes_from p) (set_of []) (codes "stop") entry.0) _ rule verdict.2 in
+    let made = same_Some _ rule stop.2 in
+    let rejects = nodes_at-below p r (codes "reject") entry.0 reject.0 reject.1 in
+    rw (← made) (record {
+      place = place_from-of p r entry.0 place.0 place.1;
+      verdict = optional-holds (IsVerdictOf p) (verdict_from reject.0) Clean tt (verdict_from-of p reject.0 rejects) (get_member (codes "verdict") entry.0) verdict.0 verdict.1;
+      stop = nodes_at-below p r (codes "stop") entry.0 stop.0 stop.1;
+    })
+
+-- ---- the places
+
+four_true : (a b c d : Bool) → a ≡ true → b ≡ true → c ≡ true → d ≡ true → (a && b && c && d) ≡ true
+four_true a b c d ha hb hc hd = rw (ha, hb, hc, hd) refl
+
+same_place-itself : (place : Place) → same_place place place ≡ true
+same_place-itself (At slot) = eq-eqb slot slot refl
+same_place-itself (FrameNth class number node nth) = four_true _ _ _ _ (eq-eqb _ _ refl) (eq-eqb number number refl) (eq-eqb node node refl) (eq-eqb nth nth refl)
+
+apart : (a b : Place) → same_place a b ≡ false → a ≢ b
+apart a b other e = false≢true (sym other ∙ ap (same_place a) (sym e) ∙ same_place-itself a)
+
+not_true : (b : Bool) → not b ≡ true → b ≡ false
+not_true true h = cc h
+not_true false h = refl
+
+neither : (a b : Bool) → (a || b) ≡ false → (a ≡ false) × (b ≡ false)
+neither true b h = cc h
+neither false b h = (refl, h)
+
+none_passes : (test : Rule → Bool) (rules : List Rule) → list_any test rules ≡ false → All (λ rule. test rule ≡ false) rules
+none_passes test [] h = All-nil _
+none_passes test (rule ∷ rest) h =
+    let parts = neither (test rule) (list_any test rest) h in
+    All-cons (λ r. test r ≡ false) rule rest parts.0 (none_passes test rest parts.1)
+
+pub AllPairs-from_test : (rules : List Rule) → have_distinct_places rules ≡ true → AllPairs (λ a b. a.place ≢ b.place) rules
+unfolding have_distinct_places
+AllPairs-from_test [] h = λ i j d before within. absurd (omega arith)
+AllPairs-from_test (rule ∷ rest) h =
+    let parts = and_parts (not (list_any (λ later. same_place rule.place later.place) rest)) (have_distinct_places rest) h in
+    let others = none_passes (λ later. same_place rule.place later.place) rest (not_true _ parts.0) in
+    AllPairs-cons (λ a b. a.place ≢ b.place) rule rest (λ k d within. apart rule.place _ (others k d within)) (AllPairs-from_test rest parts.1)
+
+-- ---- all of them
+
+pub record AreRulesOf (p : Parameters) (rules : List Rule) : Type 0 where
+  pub all : All (IsRuleOf p) rules
+  pub few : length rules ≤ 20000
+  pub apart : AllPairs (λ a b. a.place ≢ b.place) rules
+
+pub no_rules : (p : Parameters) → AreRulesOf p []
+no_rules p = record { all = All-nil _; few = lit≤ tt; apart = λ i j d before within. absurd (omega arith) }
+
+pub rules_from-legal : (p : Parameters) (value : Data) (rules : List Rule) → IsInRange p → rules_from p value ≡ Some rules → AreRulesOf p rules
+unfolding rules_from
+rules_from-legal p value rules r h =
+    let entries = bind_some (as_array value) _ rules h in
+    let each = bind_some (each_of (rule_from p) entries.0) _ rules entries.2 in
+    let few = only_if-true (nat_le (length each.0) 20000) _ rules each.2 in
+    let distinct = only_if-true (have_distinct_places each.0) _ rules few.1 in
+    let same = same_Some each.0 rules distinct.1 in
+    rw (← same) (record {
+      all = each_of-All (IsRuleOf p) (rule_from p) (rule_from-of p r) entries.0 each.0 each.1;
+      few = few-from_test (length each.0) few.0;
+      apart = AllPairs-from_test each.0 distinct.0;
+    })

@@ -1,0 +1,63 @@
+-- What is promised of a run.
+use Rattle.std.specs.Prelude.{◌≡◌, ℕ, ◌==◌, ◌&&◌, ◌≤◌, Bool, true, false, Some, Contains, count_by, ◌⊎◌}
+use Rattle.cany_base.specs.declared.log_entry.LogEntry.{LogEntry}
+use Rattle.cany_base.specs.declared.log_entry.LogEntry.TheVariants.{Deliver, Failed, View}
+use Rattle.cany_base.specs.declared.message.MsgKey.{MsgKey}
+use Rattle.cany_base.specs.declared.message.Service.TheVariants.{Ed, Rel}
+use Rattle.cany_base.specs.declared.slot_note.SlotNote.{SlotNote}
+use Rattle.cany_base.specs.Nodes.{has}
+use Rattle.cany_base.specs.Scenario.{ScenarioParts}
+use Rattle.cany_model.specs.Rules.Log.{log}
+use Rattle.cany_model.specs.Rules.Messages.{Message, messages_of, message_key, data_frame}
+use Rattle.cany_model.specs.Promises.Settled.{IsCorrect, is_settled}
+use Rattle.cany_model.specs.Bus.State.{RunState}
+
+abbrev pub delivers_key : MsgKey → LogEntry → Bool
+delivers_key key (Deliver slot service msg payload) = msg.origin == key.origin && msg.seq == key.seq
+delivers_key key (Failed slot node cycle) = false
+delivers_key key (View slot number members) = false
+
+-- the data frame of the message was carried, with its origin among the senders, in a slot not after this one
+pub record WasSentBy (s : RunState) (m : Message) (slot : ℕ) : Type 0 where
+  pub note : SlotNote
+  pub stands : Contains s.trace note
+  pub by_then : note.slot ≤ slot
+  pub frame : note.frame ≡ Some (data_frame m)
+  pub sender : has note.senders m.origin ≡ true
+
+-- what an entry delivers is a message of the scenario that was sent
+abbrev pub IsSound : ScenarioParts → RunState → LogEntry → Type 0
+IsSound scenario s (Deliver slot service msg payload) =
+    (m : Message) × Contains (messages_of scenario.sends) m × (message_key m ≡ msg) × (m.service ≡ service)
+    × (m.payload ≡ payload) × WasSentBy s m slot
+IsSound scenario s (Failed slot node cycle) = Unit {0}
+IsSound scenario s (View slot number members) = Unit {0}
+
+-- no message twice or unsent in the log of a correct node
+pub record IsIntegral (scenario : ScenarioParts) (s : RunState) : Type 0 where
+  pub once : (i : ℕ) → IsCorrect scenario s i → (key : MsgKey) → count_by (delivers_key key) (log scenario s i) ≤ 1
+  pub sent : (i : ℕ) → IsCorrect scenario s i → (entry : LogEntry) → Contains (log scenario s i) entry → IsSound scenario s entry
+
+-- the log delivers the message
+abbrev pub is_delivery_of : Message → LogEntry → Type 0
+is_delivery_of m (Deliver slot service msg payload) = (message_key m ≡ msg) × (m.service ≡ service) × (m.payload ≡ payload)
+is_delivery_of m (Failed slot node cycle) = ⊥
+is_delivery_of m (View slot number members) = ⊥
+
+pub record HasDelivered (scenario : ScenarioParts) (s : RunState) (i : ℕ) (m : Message) : Type 0 where
+  pub entry : LogEntry
+  pub stands : Contains (log scenario s i) entry
+  pub delivers : is_delivery_of m entry
+
+-- A settled message whose origin is correct, or that a correct node delivered, stands in the log of every correct node.
+abbrev pub IsAgreedOn : ScenarioParts → RunState → Message → Type 0
+IsAgreedOn scenario s m =
+    is_settled scenario s m ≡ true
+    → (i : ℕ) → IsCorrect scenario s i → (i ≡ m.origin) ⊎ HasDelivered scenario s i m
+    → (j : ℕ) → IsCorrect scenario s j → HasDelivered scenario s j m
+
+-- What a run within the fault hypothesis keeps. The messages of TOTCAN, the views and the failure signs join it with
+-- their parts.
+pub record IsSafe (scenario : ScenarioParts) (s : RunState) : Type 0 where
+  pub integrity : IsIntegral scenario s
+  pub agreement : (m : Message) → Contains (messages_of scenario.sends) m → (m.service ≡ Ed) ⊎ (m.service ≡ Rel) → IsAgreedOn scenario s m

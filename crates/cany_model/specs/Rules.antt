@@ -1,0 +1,12 @@
+-- The rules of a node: what it does in a turn, one file a protocol.
+pub mod Actions
+pub mod Delivery
+pub mod Eager
+pub mod Edcan
+pub mod Effect
+pub mod Log
+pub mod Messages
+pub mod Notices
+pub mod Relcan
+pub mod Rooms
+pub mod Turn
