@@ -1,6 +1,6 @@
 -- That some element of a list has a property, by cases on the list.
-use Rattle.std.proofs.Common.{◌≡◌, ℕ, zero, suc, ◌+◌, ◌<◌, ◌≤◌, ◌⊎◌, inl, inr, Bool, true, false, cond, List, [], ◌∷◌, ◌++◌, map, drop, length, get_or, Contains, count_by, refl, arith, suc-le-suc, le_of_suc-le-suc}
-use Rattle.std.specs.List.{AllByRecursion, list_any}
+use Rattle.std.proofs.Common.{◌≡◌, ℕ, zero, suc, ◌+◌, ◌<◌, ◌≤◌, ◌⊎◌, inl, inr, Bool, true, false, cond, List, [], ◌∷◌, ◌++◌, map, drop, length, get_or, Contains, count_by, refl, subst, arith, suc-le-suc, le_of_suc-le-suc}
+use Rattle.std.specs.List.{AllByRecursion, flat_map, list_any}
 use Rattle.std.proofs.lemmas.Bool.{or_cases, or_left, or_right, false≢true, cond-true, cond-false, cases_Bool}
 use Rattle.std.proofs.lemmas.List.Sums.{sum_by-cons}
 
@@ -45,6 +45,12 @@ pub Each-weaker : {X : Type 0} (P Q : X → Type 0) → ((x : X) → P x → Q x
 Each-weaker P Q f [] h = tt
 Each-weaker P Q f (x ∷ xs) h = (f x h.0, Each-weaker P Q f xs h.1)
 
+-- what every element has, one of them has
+pub Each-of : {X : Type 0} (P : X → Type 0) (x : X) (xs : List X) → AllByRecursion P xs → Among (λ y. y ≡ x) xs → P x
+Each-of P x [] all h = absurd h
+Each-of P x (y ∷ xs) all (inl e) = subst P e all.0
+Each-of P x (y ∷ xs) all (inr h) = Each-of P x xs all.1 h
+
 pub Among-from_map : {X Y : Type 0} (f : X → Y) (P : Y → Type 0) (xs : List X) → Among P (map f xs) → Among (λ x. P (f x)) xs
 Among-from_map f P [] h = h
 Among-from_map f P (x ∷ xs) (inl p) = inl p
@@ -72,6 +78,20 @@ Among-append_cases P (x ∷ xs) ys (inr h) = elim (Among-append_cases P xs ys h)
 pub Each-append : {X : Type 0} (P : X → Type 0) (xs ys : List X) → AllByRecursion P xs → AllByRecursion P ys → AllByRecursion P (xs ++ ys)
 Each-append P [] ys a b = b
 Each-append P (x ∷ xs) ys a b = (a.0, Each-append P xs ys a.1 b)
+
+-- of lists one after another
+pub Among-from_flat_map : {X Y : Type 0} (f : X → List Y) (P : Y → Type 0) (xs : List X) → Among P (flat_map f xs) → Among (λ x. Among P (f x)) xs
+Among-from_flat_map f P [] h = h
+Among-from_flat_map f P (x ∷ xs) h = elim (Among-append_cases P (f x) (flat_map f xs) h) [ inl a ↦ inl a | inr b ↦ inr (Among-from_flat_map f P xs b) ]
+
+pub Among-flat_map : {X Y : Type 0} (f : X → List Y) (P : Y → Type 0) (xs : List X) → Among (λ x. Among P (f x)) xs → Among P (flat_map f xs)
+Among-flat_map f P [] h = h
+Among-flat_map f P (x ∷ xs) (inl a) = Among-append_left P (f x) (flat_map f xs) a
+Among-flat_map f P (x ∷ xs) (inr b) = Among-append_right P (f x) (flat_map f xs) (Among-flat_map f P xs b)
+
+pub Each-flat_map : {X Y : Type 0} (f : X → List Y) (P : Y → Type 0) (xs : List X) → AllByRecursion (λ x. AllByRecursion P (f x)) xs → AllByRecursion P (flat_map f xs)
+Each-flat_map f P [] h = tt
+Each-flat_map f P (x ∷ xs) h = Each-append P (f x) (flat_map f xs) h.0 (Each-flat_map f P xs h.1)
 
 -- between the test and the property
 pub Among-from_any : {X : Type 0} (p : X → Bool) (xs : List X) → list_any p xs ≡ true → Among (λ x. p x ≡ true) xs
@@ -118,6 +138,14 @@ pub Among-get_or : {X : Type 0} (P : X → Type 0) (xs : List X) (k : ℕ) (d : 
 Among-get_or P [] k d within p = absurd (omega arith)
 Among-get_or P (x ∷ xs) zero d within p = inl p
 Among-get_or P (x ∷ xs) (suc k) d within p = inr (Among-get_or P xs k d (omega arith) p)
+
+-- the place of an element past the first n
+pub Among-place : {X : Type 0} (P : X → Type 0) (d : X) (n : ℕ) (xs : List X) → Among P (drop n xs) → (k : ℕ) × (n ≤ k) × (k < length xs) × P (get_or xs k d)
+Among-place P d zero [] h = absurd h
+Among-place P d zero (x ∷ xs) (inl p) = (0, omega arith, omega arith, p)
+Among-place P d zero (x ∷ xs) (inr h) = let w = Among-place P d zero xs h in (suc w.0, omega arith, suc-le-suc w.2, w.3)
+Among-place P d (suc n) [] h = absurd h
+Among-place P d (suc n) (x ∷ xs) h = let w = Among-place P d n xs h in (suc w.0, suc-le-suc w.1, suc-le-suc w.2, w.3)
 
 -- ---- by `Contains`
 

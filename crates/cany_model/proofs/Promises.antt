@@ -1,4 +1,5 @@
 -- What is promised of a run, proved.
+pub mod Agreement
 pub mod Agrees
 pub mod Belonging
 pub mod BreakFacts
@@ -7,7 +8,6 @@ pub mod Diffusion
 pub mod DiffusionRun
 pub mod EdcanAgrees
 pub mod Integrity
-pub mod LogOnce
 pub mod OneFrame
 pub mod RelcanAgrees
 pub mod Safety

@@ -1,10 +1,12 @@
 -- What the rules of a node ask for, withdraw and enter.
+pub mod AskedFacts
 pub mod DeliveryFacts
 pub mod EagerFacts
 pub mod EdcanFacts
-pub mod Entries
 pub mod LogFacts
 pub mod MessageKeys
+pub mod ProtocolFacts
+pub mod Protocols
 pub mod RelcanFacts
 pub mod SendFacts
 pub mod Timers

@@ -7,6 +7,8 @@ pub mod Effect
 pub mod Log
 pub mod Messages
 pub mod Notices
+pub mod Protocol
 pub mod Relcan
 pub mod Rooms
+pub mod Sends
 pub mod Turn

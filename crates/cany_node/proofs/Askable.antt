@@ -26,7 +26,8 @@ use Rattle.cany_model.specs.Rules.Messages.{Message, is_from, messages_after, me
 use Rattle.cany_model.specs.Rules.Notices.{IsDataOf, BelongsTo, IsReadable}
 use Rattle.cany_model.specs.Rules.Relcan.{confirm_effects, confirm_frame, fall_back_effects, falls_back, fell_back, is_first_got, is_timed, late_copy_effects, relcan_at, relcan_effects, timer_effects}
 use Rattle.cany_model.specs.Rules.Rooms.{askable, companions, data_identity}
-use Rattle.cany_model.specs.Rules.Turn.{is_sent_in, send_effects, turn_effects}
+use Rattle.cany_model.specs.Rules.Sends.{is_sent_in, send_effects}
+use Rattle.cany_model.specs.Rules.Turn.{turn_effects}
 use Rattle.cany_model.proofs.Among.{Among, Among-append_cases, Among-from_Contains, Contains-from_Among, Each-append}
 use Rattle.cany_model.proofs.Promises.Belonging.{message_askable}
 use Rattle.cany_model.proofs.Bus.Identities.{same_class-true}

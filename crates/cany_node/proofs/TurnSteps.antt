@@ -26,7 +26,8 @@ use Rattle.cany_model.specs.Rules.Messages.{messages_of}
 use Rattle.cany_model.specs.Rules.Notices.{IsNextNotice, IsReadable}
 use Rattle.cany_model.specs.Rules.Relcan.{confirm_effects, confirm_frame, fall_back_effects, falls_back, fell_back, late_copy_effects, relcan_at, relcan_effects, timer_effects}
 use Rattle.cany_model.specs.Rules.Rooms.{waiting_room, actions_room}
-use Rattle.cany_model.specs.Rules.Turn.{send_effects, turn_effects}
+use Rattle.cany_model.specs.Rules.Sends.{send_effects}
+use Rattle.cany_model.specs.Rules.Turn.{turn_effects}
 use Rattle.can_controller.specs.Controller.{ControllerState}
 use Rattle.cany_edcan.specs.Edcan.{IsEdcanOf}
 use Rattle.cany_relcan.specs.Relcan.{IsRelcanOf}

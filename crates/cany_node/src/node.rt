@@ -5,7 +5,8 @@ ghost use Rattle.cany_base.specs.Scenario.{ScenarioParts};
 ghost use Rattle.cany_model.specs.Rules.Messages.{Message, messages_of, message_key};
 ghost use Rattle.cany_model.specs.Rules.Notices.{IsNextNotice};
 ghost use Rattle.cany_model.specs.Rules.Relcan.{has_timer_ahead};
-ghost use Rattle.cany_model.specs.Rules.Turn.{is_sent_at_once, turn_effects};
+ghost use Rattle.cany_model.specs.Rules.Sends.{is_sent_at_once};
+ghost use Rattle.cany_model.specs.Rules.Turn.{turn_effects};
 ghost use Rattle.cany_model.specs.Rules.Effect.{waiting_after};
 ghost use Rattle.cany_node.specs.Node.{IsNodeOf, CanTurn, CanAct, Reads, IsTurnOf, IsRefused, reply_of};
 

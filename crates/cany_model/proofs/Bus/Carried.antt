@@ -12,8 +12,7 @@ use Rattle.cany_model.specs.Bus.Frames.{Identity, identity_of}
 use Rattle.cany_model.specs.Bus.History.{given, is_got, is_sent, has_own}
 use Rattle.cany_model.specs.Bus.Slot.{is_success}
 use Rattle.cany_model.proofs.Among.{Among, Among-which, Among-drop, Among-from_any, Among-from_map, Among-weaker}
-use Rattle.cany_model.proofs.Bus.Identities.{same_identity-from}
-use Rattle.cany_model.proofs.Bus.Identities.{same_identity-true}
+use Rattle.cany_model.proofs.Bus.Identities.{same_identity-from, same_identity-true}
 use Rattle.cany_model.proofs.Bus.Notes.{given-Got, given-Sent}
 
 -- the slot carried a frame of the identity
@@ -87,6 +86,18 @@ Succeeds-from_own i x trace h =
 -- the notice has the frame
 abbrev pub Has : FrameParts → NoticeKind → Type 0
 Has f notice = (notice ≡ Got f) ⊎ (notice ≡ Sent f)
+
+-- what brings a frame has it, or one of its identity
+pub record Brought (i : ℕ) (x : Identity) (e : NoticeKind) : Type 0 where
+  pub what : FrameParts
+  pub has : Has what e
+  pub identity : x ≡ identity_of what
+
+pub brings-true : (i : ℕ) (x : Identity) (e : NoticeKind) → brings i x e ≡ true → Brought i x e
+brings-true i x e h = elim (or_cases (is_got x e) (x.node == i && is_sent x e) h) [
+  | inl got ↦ let g = is_got-true x e got in record { what = g.what; has = inl g.was; identity = g.identity }
+  | inr sent ↦ let g = is_sent-true x e (and_parts (x.node == i) (is_sent x e) sent).1 in record { what = g.what; has = inr g.was; identity = g.identity }
+]
 
 pub frame_of_notice : (i : ℕ) (note : SlotNote) (f : FrameParts) → Has f (given i note) → note.frame ≡ Some f
 frame_of_notice i note f (inl got) = (given-Got i note f got).0

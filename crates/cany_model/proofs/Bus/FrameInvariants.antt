@@ -5,7 +5,6 @@ use Rattle.std.proofs.Common.{sym, ap, ◌∙◌, subst, inl, inr, arith}
 use Rattle.std.proofs.lemmas.Bool.{cases_eq}
 use Rattle.std.proofs.lemmas.List.{get_or_default}
 use Rattle.std.proofs.lemmas.List.Elements.{All-contains, All-from_recursion}
-use Rattle.cany_base.specs.declared.notice.NoticeKind.TheVariants.{Got}
 use Rattle.cany_base.specs.declared.slot_note.SlotNote.{SlotNote}
 use Rattle.cany_base.specs.declared.step.Step.{Step}
 use Rattle.cany_base.specs.Frame.{FrameParts}
@@ -16,7 +15,7 @@ use Rattle.cany_model.specs.Bus.Run.{after_turn, run}
 use Rattle.cany_model.specs.Bus.Slot.{Script, script, slot_note_of, after_slot}
 use Rattle.cany_model.specs.Bus.State.{RunState, opening, node_at, runs}
 use Rattle.cany_model.specs.Rules.Turn.{turn_effects}
-use Rattle.cany_model.proofs.Among.{Among, Among-weaker, Each-weaker, Contains-cons_cases, Contains-none}
+use Rattle.cany_model.proofs.Among.{Among, Each-weaker, Contains-cons_cases, Contains-none}
 use Rattle.cany_model.proofs.Bus.Carried.{Has, read_note}
 use Rattle.cany_model.proofs.Bus.Notes.{note_of-slot, note_of-offered, waiting_sends}
 use Rattle.cany_model.proofs.Bus.Runs.{IsOrderly, along_run, opening_within}
@@ -95,16 +94,14 @@ slot_of_note nodes s o note c =
     let number = o.numbered c.0 c.1 in
     omega (arith, at, number)
 
--- a frame that a node has got, or gets in its turn, was carried
+-- a frame that a node has read, or reads in its turn, was carried
 pub turn_note : (scenario : ScenarioParts) (s : RunState) (i : ℕ) (f : FrameParts) → MayTurn s i → (node_at s.nodes i).unread ≤ length s.trace
-    → Among (λ n. n ≡ Got f) (next_notice s i ∷ history i s) → (note : SlotNote) × Contains s.trace note × (note.frame ≡ Some f)
+    → Among (Has f) (next_notice s i ∷ history i s) → (note : SlotNote) × Contains s.trace note × (note.frame ≡ Some f)
 unfolding history
-turn_note scenario s i f may short got =
+turn_note scenario s i f may short h =
     let t : RunState = after_turn scenario i s in
-    let has : Among (Has f) (next_notice s i ∷ history i s) =
-    Among-weaker (λ n. n ≡ Got f) (Has f) (λ n e. inl e) (next_notice s i ∷ history i s) got in
     subst (λ trace. (note : SlotNote) × Contains trace note × (note.frame ≡ Some f)) (after_turn-trace scenario i s)
-    (read_note i (node_at t.nodes i).unread t.trace f (subst (Among (Has f)) (sym (after_turn-history scenario i s may short)) has))
+    (read_note i (node_at t.nodes i).unread t.trace f (subst (Among (Has f)) (sym (after_turn-history scenario i s may short)) h))
 
 waiting_turn : (scenario : ScenarioParts) (W : OfWaiting) (C : OfCarried) → IsKeptByFrames scenario W C → (s : RunState) (i : ℕ) → IsOrderly scenario.params.nodes s
     → MayTurn s i → HoldsOfFrames W C s → AllByRecursion (W s.trace i) (node_at (after_turn scenario i s).nodes i).waiting

@@ -1,27 +1,27 @@
 -- Where confirmations come from: of each that waits or was carried, a slot had carried the message's data frame with success.
 use Rattle.std.specs.Prelude.{◌≡◌, ℕ, ◌<◌, ◌≤◌, List, ◌∷◌, length}
 use Rattle.std.specs.List.{AllByRecursion}
-use Rattle.std.proofs.Common.{sym, ap, inr, arith}
+use Rattle.std.proofs.Common.{sym, ap, ◌∙◌, subst, inl, inr, arith}
 use Rattle.cany_base.specs.declared.frame.Class.TheVariants.{Confirm, Rel}
 use Rattle.cany_base.specs.declared.message.Service.{Service}
 use Rattle.cany_base.specs.declared.message.Service.TheVariants as service
-use Rattle.cany_base.specs.declared.notice.NoticeKind.TheVariants.{Sent}
+use Rattle.cany_base.specs.declared.notice.NoticeKind.TheVariants.{Got, Sent}
 use Rattle.cany_base.specs.declared.slot_note.SlotNote.{SlotNote}
 use Rattle.cany_base.specs.declared.step.Step.{Step}
 use Rattle.cany_base.specs.Frame.{FrameParts, data_class}
 use Rattle.cany_base.specs.Scenario.{ScenarioParts}
 use Rattle.cany_model.specs.Bus.Frames.{Identity, identity_of}
-use Rattle.cany_model.specs.Bus.History.{history}
-use Rattle.cany_model.specs.Rules.Relcan.{confirm_of}
-use Rattle.cany_model.specs.Bus.Run.{run}
+use Rattle.cany_model.specs.Bus.History.{given, history}
+use Rattle.cany_model.specs.Rules.Relcan.{confirm_frame, confirm_of}
+use Rattle.cany_model.specs.Bus.Run.{after_turn, run}
 use Rattle.cany_model.specs.Bus.State.{RunState, node_at}
 use Rattle.cany_model.specs.Rules.Turn.{turn_effects}
-use Rattle.cany_model.proofs.Among.{Among, Among-get_or, Among-which}
-use Rattle.cany_model.proofs.Bus.Carried.{Carries, Succeeds, Succeeds-from_sent, is_sent-from}
+use Rattle.cany_model.proofs.Among.{Among, Among-weaker, Among-which}
+use Rattle.cany_model.proofs.Bus.Carried.{Carries, Has, Succeeds, Succeeds-from_sent, is_sent-from, read_among}
 use Rattle.cany_model.proofs.Bus.FrameInvariants.{HoldsOfFrames, IsKeptByFrames, holds_of_frames, turn_note}
 use Rattle.cany_model.proofs.Bus.Runs.{IsOrderly}
-use Rattle.cany_model.proofs.Bus.States.{no_note, note_at}
-use Rattle.cany_model.proofs.Bus.Steps.{MayTurn, next_age, next_notice}
+use Rattle.cany_model.proofs.Bus.Steps.{MayTurn, next_notice, after_turn-history, after_turn-trace}
+use Rattle.cany_model.proofs.Rules.ProtocolFacts.{MayAsk, confirms, originates, relays}
 use Rattle.cany_model.proofs.Rules.TurnFacts.{turn_only}
 use Rattle.cany_model.proofs.Bus.Waits.{AsksOnly}
 
@@ -41,22 +41,32 @@ data_confirms_none service.Ed e = cc
 data_confirms_none service.Rel e = cc
 data_confirms_none service.Tot e = cc
 
--- the notice of a turn that is the node's own transmission
-own_succeeds : (s : RunState) (i : ℕ) (f : FrameParts) → MayTurn s i → (node_at s.nodes i).unread ≤ length s.trace → next_notice s i ≡ Sent f → f.class ≡ Rel
-    → Among (Succeeds (confirmed_by f)) s.trace
-own_succeeds s i f may short sent rel =
+-- a frame that a node has sent, or reads in its turn that it sent, succeeded
+own_succeeds : (scenario : ScenarioParts) (s : RunState) (i : ℕ) (f : FrameParts) → MayTurn s i → (node_at s.nodes i).unread ≤ length s.trace → f.class ≡ Rel
+    → Among (λ n. n ≡ Sent f) (next_notice s i ∷ history i s) → Among (Succeeds (confirmed_by f)) s.trace
+unfolding history
+own_succeeds scenario s i f may short rel h =
+    let t : RunState = after_turn scenario i s in
     let same : confirmed_by f ≡ identity_of f = λ k. record { class = (sym rel) k; number = f.number; node = f.node } in
-    let below : next_age s i < length s.trace = omega (arith, may.unread, short) in
-    Among-get_or (Succeeds (confirmed_by f)) s.trace (next_age s i) no_note below
-    (Succeeds-from_sent i (confirmed_by f) (note_at s.trace (next_age s i)) (is_sent-from (confirmed_by f) f (next_notice s i) sent same))
+    let read : Among (λ n. n ≡ Sent f) (history i t) = subst (Among (λ n. n ≡ Sent f)) (sym (after_turn-history scenario i s may short)) h in
+    subst (Among (Succeeds (confirmed_by f))) (after_turn-trace scenario i s)
+    (read_among i (node_at t.nodes i).unread (λ n. n ≡ Sent f) (Succeeds (confirmed_by f))
+    (λ note is. Succeeds-from_sent i (confirmed_by f) note (is_sent-from (confirmed_by f) f (given i note) is same)) t.trace read)
 
 asked_true : (scenario : ScenarioParts) (s : RunState) (i : ℕ) → IsOrderly scenario.params.nodes s → MayTurn s i → IsConfirmed s
     → AllByRecursion (AsksOnly (IsTrue s.trace i)) (turn_effects scenario i (next_notice s i ∷ history i s))
-asked_true scenario s i o may h =
-    turn_only (IsTrue s.trace i) scenario i (next_notice s i) (history i s)
-    (λ f got. let note = turn_note scenario s i f may (o.unread i) got in h.carried note.0 f note.1 note.2)
-    (λ f sent rel own confirms. own_succeeds s i f may (o.unread i) sent rel)
-    (λ m is own confirms. absurd (data_confirms_none m.service confirms))
+asked_true scenario s i o may h = turn_only (IsTrue s.trace i) scenario i (next_notice s i ∷ history i s) (λ f. by_reason f)
+  where
+    confirmed_frame : (g f : FrameParts) → confirm_frame g ≡ f → confirmed_by g ≡ confirmed_by f
+    confirmed_frame g f e = λ k. record { class = Rel; number = (e k).number; node = (e k).node }
+
+    by_reason : (f : FrameParts) → MayAsk scenario i (next_notice s i ∷ history i s) f → IsTrue s.trace i f
+    by_reason f (relays got) = λ is.
+        let note = turn_note scenario s i f may (o.unread i) (Among-weaker (λ n. n ≡ Got f) (Has f) (λ n e. inl e) (next_notice s i ∷ history i s) got) in
+        h.carried note.0 f note.1 note.2 is
+    by_reason f (originates m is origin slot frame) = λ confirms. absurd (data_confirms_none m.service (ap (λ (x : FrameParts). x.class) frame ∙ confirms))
+    by_reason f (confirms g sent rel own frame) = λ is.
+        subst (λ x. Among (Succeeds x) s.trace) (confirmed_frame g f frame) (own_succeeds scenario s i g may (o.unread i) rel sent)
 
 confirms_kept : (scenario : ScenarioParts) → IsKeptByFrames scenario IsTrue IsTrue
 confirms_kept scenario = record {

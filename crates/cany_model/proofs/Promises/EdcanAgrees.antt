@@ -1,5 +1,5 @@
 -- Agreement of EDCAN: each node that got the frame of a message is to send it.
-use Rattle.std.proofs.Common.{◌≡◌, ℕ, suc, ◌<◌, ◌≤◌, ◌⊎◌, inl, inr, true, false, List, [], ◌∷◌, length, Contains, ap, arith}
+use Rattle.std.proofs.Common.{◌≡◌, ℕ, suc, ◌<◌, ◌≤◌, ◌⊎◌, inl, inr, true, false, List, [], ◌∷◌, length, Contains, ap, sym, subst, arith}
 use Rattle.std.proofs.lemmas.Bool.{cases_lt, cases_Bool}
 use Rattle.cany_base.specs.declared.frame.Class.TheVariants as class
 use Rattle.cany_base.specs.declared.message.Service.TheVariants.{Ed}
@@ -10,21 +10,28 @@ use Rattle.cany_base.specs.Scenario.{ScenarioParts}
 use Rattle.cany_model.specs.Bus.Frames.{Identity}
 use Rattle.cany_model.specs.Bus.History.{copies, has_own, is_got}
 use Rattle.cany_model.specs.Promises.Hypothesis.{IsWithin}
-use Rattle.cany_model.specs.Rules.Messages.{Message, messages_of}
+use Rattle.cany_model.specs.Rules.Messages.{Message, messages_of, data_id}
 use Rattle.cany_model.specs.Bus.Run.{run}
+use Rattle.cany_model.specs.Rules.Edcan.{edcan}
 use Rattle.cany_model.specs.Promises.Safe.{IsAgreedOn}
 use Rattle.cany_model.specs.Bus.State.{RunState}
-use Rattle.cany_model.specs.Rules.Turn.{is_sent_at_once, turn_effects}
-use Rattle.cany_model.proofs.Promises.Agrees.{Rules, duty_of, frame_id, owed_carried, run_agrees}
+use Rattle.cany_model.specs.Rules.Sends.{is_sent_at_once}
+use Rattle.cany_model.specs.Rules.Turn.{turn_effects}
+use Rattle.cany_model.proofs.Promises.Agreement.{owed_carried}
+use Rattle.cany_model.proofs.Promises.Agrees.{Rules, duty_of, run_agrees}
 use Rattle.cany_model.proofs.Among.{Among, count-yes, count-no}
 use Rattle.cany_model.proofs.Promises.Diffusion.{IsDiffused}
 use Rattle.cany_model.proofs.Rules.MessageKeys.{IsOneOf}
 use Rattle.cany_model.proofs.Rules.TurnFacts.{turn_withdraws, turn_cause, turn_relays, turn_sends}
 use Rattle.cany_model.proofs.Bus.Waits.{Asks}
+use Rattle.cany_model.proofs.Rules.DeliveryFacts.{DeliversAtOnce}
+use Rattle.cany_model.proofs.Rules.EdcanFacts.{edcan_delivers}
+use Rattle.cany_model.proofs.Rules.ProtocolFacts.{is_diffused}
+use Rattle.cany_model.proofs.Rules.Protocols.{edcan_is_one}
 
 -- a node is to send the frame of an EDCAN message once it got a copy, or as origin once it has read its slot
 abbrev pub OwesEd : Message → ℕ → List NoticeKind → Type 0
-OwesEd m i past = (0 < copies (frame_id m) past) ⊎ ((m.origin ≡ i) × (m.slot < length past))
+OwesEd m i past = (0 < copies (data_id m) past) ⊎ ((m.origin ≡ i) × (m.slot < length past))
 
 copies_none : (x : Identity) → 0 < copies x [] → ⊥
 unfolding copies
@@ -40,18 +47,18 @@ copies_other x e past h = count-no (is_got x) e past h
 
 abbrev Asked : ScenarioParts → Message → ℕ → NoticeKind → List NoticeKind → Type 0
 Asked scenario m i e past =
-    Among (Asks (frame_id m)) (turn_effects scenario i (e ∷ past)) ⊎ ((scenario.params.omit < copies (frame_id m) (e ∷ past)) ⊎ (has_own (frame_id m) (e ∷ past) ≡ true))
+    Among (Asks (data_id m)) (turn_effects scenario i (e ∷ past)) ⊎ ((scenario.params.omit < copies (data_id m) (e ∷ past)) ⊎ (has_own (data_id m) (e ∷ past) ≡ true))
 
-class_of_ed : (m : Message) → m.service ≡ Ed → (frame_id m).class ≡ class.Ed
+class_of_ed : (m : Message) → m.service ≡ Ed → (data_id m).class ≡ class.Ed
 class_of_ed m ed = ap data_class ed
 
-asked_got : (scenario : ScenarioParts) (m : Message) → m.service ≡ Ed → (i : ℕ) (e : NoticeKind) (past : List NoticeKind) → 0 < copies (frame_id m) (e ∷ past)
-    → (0 < copies (frame_id m) past) ⊎ Asked scenario m i e past
-asked_got scenario m ed i e past some = elim (cases_Bool (is_got (frame_id m) e)) [
-  | inr other ↦ inl (omega (arith, some, copies_other (frame_id m) e past other))
-  | inl got ↦ elim (cases_lt 0 (copies (frame_id m) past)) [
+asked_got : (scenario : ScenarioParts) (m : Message) → m.service ≡ Ed → (i : ℕ) (e : NoticeKind) (past : List NoticeKind) → 0 < copies (data_id m) (e ∷ past)
+    → (0 < copies (data_id m) past) ⊎ Asked scenario m i e past
+asked_got scenario m ed i e past some = elim (cases_Bool (is_got (data_id m) e)) [
+  | inr other ↦ inl (omega (arith, some, copies_other (data_id m) e past other))
+  | inl got ↦ elim (cases_lt 0 (copies (data_id m) past)) [
     | inl before ↦ inl before
-    | inr none ↦ inr (turn_relays scenario i (frame_id m) e past (class_of_ed m ed) got (omega (arith, none, copies_got (frame_id m) e past got)))
+    | inr none ↦ inr (turn_relays scenario i (data_id m) e past (class_of_ed m ed) got (omega (arith, none, copies_got (data_id m) e past got)))
   ]
 ]
 
@@ -64,26 +71,29 @@ asked_slot scenario m is ed i e past origin at = elim (cases_lt m.slot (length p
 
 -- EDCAN diffuses the frames of its messages
 pub ed_is_diffused : (scenario : ScenarioParts) (m : Message) → IsOneOf (messages_of scenario.sends) m → m.service ≡ Ed
-    → IsDiffused (turn_effects scenario) scenario.params.omit (frame_id m) (duty_of m (OwesEd m))
+    → IsDiffused (turn_effects scenario) scenario.params.omit (data_id m) (duty_of m (OwesEd m))
 ed_is_diffused scenario m is ed = record {
-  at_first = λ i owes. elim owes [ inl some ↦ copies_none (frame_id m) some | inr origin ↦ absurd (omega (arith, origin.1)) ];
+  at_first = λ i owes. elim owes [ inl some ↦ copies_none (data_id m) some | inr origin ↦ absurd (omega (arith, origin.1)) ];
   starts_stays = λ i e past origin. origin;
   asked = λ i e past owes. elim owes [
     | inl some ↦ elim (asked_got scenario m ed i e past some) [ inl before ↦ inl (inl before) | inr asked ↦ inr asked ]
     | inr origin ↦ elim (asked_slot scenario m is ed i e past origin.0 origin.1) [ inl before ↦ inl (inr (origin.0, before)) | inr asked ↦ inr asked ]
   ];
-  withdrawn = λ i past h. turn_withdraws scenario i (frame_id m) past h;
-  cause = λ i past h. turn_cause scenario i (frame_id m) past h;
+  withdrawn = λ i past h. turn_withdraws scenario i (data_id m) past (ap (λ by. is_diffused (data_class by)) ed) h;
+  cause = λ i past h. turn_cause scenario i (data_id m) past h;
 }
 
-ed_rules : (scenario : ScenarioParts) (m : Message) (s : RunState) → Rules scenario m (OwesEd m) s
-ed_rules scenario m s = record {
+ed_rules : (scenario : ScenarioParts) (m : Message) (s : RunState) → m.service ≡ Ed → Rules scenario m (OwesEd m) s
+ed_rules scenario m s ed = record {
+  protocol = edcan;
+  is_one = edcan_is_one;
+  delivers = subst (DeliversAtOnce edcan) (sym ed) edcan_delivers;
   origin_owes = λ i past origin long. inr (origin, long);
-  got_carried = λ g i correct some. owed_carried scenario m (OwesEd m) s g i correct (inl some);
+  got_carried = λ g i correct some. owed_carried scenario (data_id m) (duty_of m (OwesEd m)) s g.rest i correct (inl some);
 }
 
 pub edcan_agrees : (scenario : ScenarioParts) → scenario.params.nodes ≤ 32 → (journal : List Step) → IsWithin scenario.params (run scenario journal).trace
     → (m : Message) → Contains (messages_of scenario.sends) m → m.service ≡ Ed → IsAgreedOn scenario (run scenario journal) m
 edcan_agrees scenario few journal within m stands ed =
     run_agrees scenario few journal within m stands (ap is_sent_at_once ed) (OwesEd m) (λ is. ed_is_diffused scenario m is ed)
-    (ed_rules scenario m (run scenario journal))
+    (ed_rules scenario m (run scenario journal) ed)

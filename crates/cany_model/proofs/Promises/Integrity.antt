@@ -1,93 +1,138 @@
 -- Integrity of every run: no message is delivered twice, or without having been sent.
-use Rattle.std.specs.Prelude.{◌≡◌, ℕ, suc, ◌+◌, ◌-◌, ◌<◌, ◌≤◌, true, List, Some, length, drop, slice_index_or}
-use Rattle.std.proofs.Common.{sym, ap, ◌∙◌, subst, inl, inr, arith, length-drop}
+use Rattle.std.specs.Prelude.{◌≡◌, ℕ, suc, ◌+◌, ◌-◌, ◌<◌, ◌≤◌, ◌==◌, ◌&&◌, true, List, Some, length, drop, count_by, Contains}
+use Rattle.std.proofs.Common.{sym, ap, ◌∙◌, subst, inl, inr, arith, length-drop, eqb-true, refl}
+use Rattle.std.proofs.lemmas.Bool.{and_parts}
 use Rattle.std.proofs.lemmas.List.Elements.{Contains-get_or}
 use Rattle.cany_base.specs.declared.log_entry.LogEntry.{LogEntry}
-use Rattle.cany_base.specs.declared.message.Service.{Service}
+use Rattle.cany_base.specs.declared.log_entry.LogEntry.TheVariants.{Deliver, Failed, View}
 use Rattle.cany_base.specs.declared.message.MsgKey.{MsgKey}
-use Rattle.cany_base.specs.declared.message.Service.TheVariants.{Ed, Rel}
+use Rattle.cany_base.specs.declared.message.Service.{Service}
+use Rattle.cany_base.specs.declared.notice.NoticeKind.{NoticeKind}
 use Rattle.cany_base.specs.declared.notice.NoticeKind.TheVariants.{Idle}
+use Rattle.cany_base.specs.declared.slot_note.SlotNote.{SlotNote}
 use Rattle.cany_base.specs.declared.step.Step.{Step}
 use Rattle.cany_base.specs.Frame.{FrameParts, data_class}
 use Rattle.cany_base.specs.Scenario.{ScenarioParts}
-use Rattle.cany_model.specs.Rules.Delivery.{brings, delivery}
+use Rattle.cany_model.specs.Bus.Frames.{identity_of}
 use Rattle.cany_model.specs.Bus.History.{given, history}
 use Rattle.cany_model.specs.Bus.Run.{run}
-use Rattle.cany_model.specs.Promises.Safe.{IsSound, IsIntegral}
 use Rattle.cany_model.specs.Bus.State.{RunState, node_at}
-use Rattle.cany_model.proofs.Among.{Among, Among-from_any}
-use Rattle.cany_model.proofs.Bus.Carried.{Carries, Carries-from_brought, read_among}
-use Rattle.cany_model.proofs.Rules.LogFacts.{IsDeliveryAt, log_entry_at}
-use Rattle.cany_model.proofs.Promises.LogOnce.{is_brought, log_once}
-use Rattle.cany_model.proofs.Rules.MessageKeys.{data_of}
-use Rattle.cany_model.proofs.Promises.OneFrame.{data_carries, data_class-one, one_service}
-use Rattle.cany_model.proofs.Promises.Sources.{carries_data, IsSent, IsSourced, sourced}
-use Rattle.cany_model.proofs.Bus.Notes.{given-Got, given-Sent}
+use Rattle.cany_model.specs.Promises.Safe.{IsSound, IsIntegral, delivers_key}
+use Rattle.cany_model.specs.Rules.Log.{log}
+use Rattle.cany_model.specs.Rules.Messages.{data_of}
+use Rattle.cany_model.specs.Rules.Protocol.{Protocol}
+use Rattle.cany_model.proofs.Among.{Among, Among-from_Contains, Among-from_count, Among-get_or, Among-place}
+use Rattle.cany_model.proofs.Bus.Carried.{Carries, Has, frame_of_notice}
 use Rattle.cany_model.proofs.Bus.Runs.{IsOrderly, orderly, history-length, history-at}
-use Rattle.cany_model.proofs.Bus.States.{note_at}
+use Rattle.cany_model.proofs.Bus.States.{no_note, note_at}
+use Rattle.cany_model.proofs.Promises.OneFrame.{data_carries, data_class-one, one_service}
+use Rattle.cany_model.proofs.Promises.Sources.{carries_data, IsSent, IsSourced, sent_later, sourced}
+use Rattle.cany_model.proofs.Rules.LogFacts.{IsMade, log_once, log_split, made_by}
+use Rattle.cany_model.proofs.Rules.ProtocolFacts.{IsFoundedEntry, IsLawful, IsRead, log_by}
 
-is_data : (by : Service) (f : FrameParts) → f.class ≡ data_class by → carries_data f.class ≡ true
-is_data by f e = ap (λ c. carries_data c) e ∙ data_carries by
+-- ---- what was read by some slot, was carried by then
 
--- the delivery of a frame that was sent in this slot is sound
-sound_delivery : (scenario : ScenarioParts) (s : RunState) (by : Service) (f : FrameParts) (slot : ℕ) → f.class ≡ data_class by
-    → IsSent scenario s.trace f slot → IsSound scenario s (delivery slot by f)
-sound_delivery scenario s by f slot class w = (
-  w.message,
-  w.stands,
-  ap (λ g. record { origin = g.node; seq = g.number }) w.is,
-  data_class-one w.message.service by (ap (λ g. g.class) w.is ∙ class),
-  ap (λ g. g.payload) w.is,
-  record { note = w.sent.note; stands = w.sent.stands; by_then = w.sent.by_then; frame = w.sent.frame; sender = w.sent.sender },
-)
+record WasCarried (s : RunState) (f : FrameParts) (slot : ℕ) : Type 0 where
+  age : ℕ
+  below : age < length s.trace
+  frame : (note_at s.trace age).frame ≡ Some f
+  by_then : (note_at s.trace age).slot ≤ slot
 
-sound_at : (scenario : ScenarioParts) (s : RunState) (i : ℕ) (entry : LogEntry) (k : ℕ) → IsOrderly scenario.params.nodes s
-    → IsSourced scenario s → IsDeliveryAt i (history i s) k entry → IsSound scenario s entry
-sound_at scenario s i entry k o h d =
-    subst (λ e. IsSound scenario s e) (sym d.is)
-    (subst (λ slot. IsSound scenario s (delivery slot d.by d.frame)) (sym number)
-    (sound_delivery scenario s d.by d.frame (note_at s.trace age).slot d.is_first.class
-    (h.carried (note_at s.trace age) d.frame (Contains-get_or s.trace age _ below) framed (is_data d.by d.frame d.is_first.class))))
-  where
-    age : ℕ
-    age = (node_at s.nodes i).unread + k
+read_carried : (nodes : ℕ) (s : RunState) (i : ℕ) → IsOrderly nodes s → (f : FrameParts) (place slot : ℕ) → length (drop place (history i s)) ≡ suc slot
+    → Among (Has f) (drop place (history i s)) → WasCarried s f slot
+read_carried nodes s i o f place slot len h =
+    let w = Among-place (Has f) Idle place (history i s) h in
+    let read : length (history i s) ≡ length s.trace - (node_at s.nodes i).unread = history-length i s in
+    let later : place ≤ w.0 = w.1 in
+    let within : w.0 < length (history i s) = w.2 in
+    let age : ℕ = (node_at s.nodes i).unread + w.0 in
+    let below : age < length s.trace = omega arith in
+    let number : (note_at s.trace age).slot ≡ length s.trace - 1 - age = o.numbered age below in
+    let rest : length (drop place (history i s)) ≡ length (history i s) - place = length-drop place (history i s) in
+    record {
+      age = age;
+      below = below;
+      frame = frame_of_notice i (note_at s.trace age) f (subst (Has f) (history-at i s w.0 Idle within) w.3);
+      by_then = omega arith;
+    }
 
-    read : length (history i s) ≡ length s.trace - (node_at s.nodes i).unread
-    read = history-length i s
+carries_of : (s : RunState) (by : Service) (key : MsgKey) (f : FrameParts) (slot : ℕ) → data_of by key ≡ identity_of f → WasCarried s f slot
+    → Among (Carries (data_of by key)) s.trace
+carries_of s by key f slot same w =
+    Among-get_or (Carries (data_of by key)) s.trace w.age no_note w.below (record { what = f; frame = w.frame; identity = same })
 
-    below : age < length s.trace
-    below = omega (arith, d.below, read)
+-- ---- what is delivered was sent
 
-    number : length (drop (suc k) (history i s)) ≡ (note_at s.trace age).slot
-    number = omega (arith, length-drop (suc k) (history i s), o.numbered age below, read, d.below)
+sent_of : (scenario : ScenarioParts) (s : RunState) → IsSourced scenario s → (f : FrameParts) (by : Service) (slot : ℕ) → f.class ≡ data_class by → (w : WasCarried s f slot)
+    → IsSent scenario s.trace f (note_at s.trace w.age).slot
+sent_of scenario s h f by slot class w =
+    h.carried (note_at s.trace w.age) f (Contains-get_or s.trace w.age no_note w.below) w.frame (ap (λ c. carries_data c) class ∙ data_carries by)
 
-    notice : slice_index_or (history i s) k Idle ≡ given i (note_at s.trace age)
-    notice = history-at i s k Idle d.below
+sound : (scenario : ScenarioParts) (s : RunState) (i : ℕ) → IsOrderly scenario.params.nodes s → IsSourced scenario s → (p : Protocol) (place : ℕ) (entry : LogEntry)
+    → IsFoundedEntry p (drop place (history i s)) entry → IsSound scenario s entry
+sound scenario s i o h p place (Deliver slot by msg payload) r =
+    let w = read_carried scenario.params.nodes s i o r.frame place slot r.now r.read in
+    let sent = sent_of scenario s h r.frame by slot r.class w in (
+      sent.message,
+      sent.stands,
+      ap (λ (g : FrameParts). record { origin = g.node; seq = g.number }) sent.is ∙ r.key,
+      data_class-one sent.message.service by (ap (λ (g : FrameParts). g.class) sent.is ∙ r.class),
+      ap (λ (g : FrameParts). g.payload) sent.is ∙ r.carries,
+      record { note = sent.sent.note; stands = sent.sent.stands; by_then = omega (arith, sent.sent.by_then, w.by_then); frame = sent.sent.frame; sender = sent.sent.sender },
+    )
+sound scenario s i o h p place (Failed slot node cycle) r = tt
+sound scenario s i o h p place (View slot number members) r = tt
 
-    framed : (note_at s.trace age).frame ≡ Some d.frame
-    framed = elim d.is_first.carries [
-      | inl got ↦ (given-Got i (note_at s.trace age) d.frame (sym notice ∙ got)).0
-      | inr sent ↦ (given-Sent i (note_at s.trace age) d.frame (sym notice ∙ sent)).0
-    ]
+-- ---- and once
 
--- a message that was brought to a node was carried
-brought_carried : (i : ℕ) (by : Service) (key : MsgKey) (s : RunState) → is_brought i by key (history i s) ≡ true → Among (Carries (data_of by key)) s.trace
-unfolding history
-brought_carried i by key s h =
-    read_among i (node_at s.nodes i).unread (λ e. brings i (data_of by key) e ≡ true) (Carries (data_of by key)) (Carries-from_brought i (data_of by key)) s.trace
-    (Among-from_any (brings i (data_of by key)) (history i s) h)
+-- the service by which a protocol delivered a message of the key, which a slot carried
+record Served (s : RunState) (p : Protocol) (key : MsgKey) : Type 0 where
+  by : Service
+  serves : p.delivers by ≡ true
+  carried : Among (Carries (data_of by key)) s.trace
 
-not_both : (scenario : ScenarioParts) (s : RunState) → IsSourced scenario s → (i : ℕ) (key : MsgKey) → is_brought i Ed key (history i s) ≡ true
-    → is_brought i Rel key (history i s) ≡ true → ⊥
-not_both scenario s h i key ed rel =
-    let same : Ed ≡ Rel = one_service scenario s h Ed Rel key (brought_carried i Ed key s ed) (brought_carried i Rel key s rel) in
-    absurd (cc)
+served_by : (nodes : ℕ) (s : RunState) (i : ℕ) → IsOrderly nodes s → (p : Protocol) (key : MsgKey) (place : ℕ) (entry : LogEntry) → delivers_key key entry ≡ true
+    → IsFoundedEntry p (drop place (history i s)) entry → Served s p key
+served_by nodes s i o p key place (Deliver slot by msg payload) is r =
+    let parts = and_parts (msg.origin == key.origin) (msg.seq == key.seq) is in
+    let origin : r.frame.node ≡ key.origin = ap (λ (k : MsgKey). k.origin) r.key ∙ eqb-true msg.origin key.origin parts.0 in
+    let seq : r.frame.number ≡ key.seq = ap (λ (k : MsgKey). k.seq) r.key ∙ eqb-true msg.seq key.seq parts.1 in
+    let same : data_of by key ≡ identity_of r.frame = λ k. record { class = (sym r.class) k; number = (sym seq) k; node = (sym origin) k } in
+    record { by = by; serves = r.serves; carried = carries_of s by key r.frame slot same (read_carried nodes s i o r.frame place slot r.now r.read) }
+served_by nodes s i o p key place (Failed slot node cycle) is r = absurd (cc)
+served_by nodes s i o p key place (View slot number members) is r = absurd (cc)
+
+served : (scenario : ScenarioParts) (s : RunState) (i : ℕ) → IsOrderly scenario.params.nodes s → (key : MsgKey) (p : Protocol) → IsLawful p
+    → 0 < count_by (delivers_key key) (log_by p scenario i (history i s)) → Served s p key
+served scenario s i o key p lawful some =
+    let made = made_by (λ entry. delivers_key key entry ≡ true) scenario p lawful i (history i s)
+    (Among-from_count (delivers_key key) (log_by p scenario i (history i s)) some) in
+    served_by scenario.params.nodes s i o p key made.place made.entry made.is made.founded
+
+-- messages of one key have one service
+one_serves : (scenario : ScenarioParts) (s : RunState) → IsSourced scenario s → (key : MsgKey) (p q : Protocol) (first : Served s p key) → Served s q key
+    → q.delivers first.by ≡ true
+one_serves scenario s h key p q first next =
+    let same : next.by ≡ first.by = one_service scenario s h next.by first.by key next.carried first.carried in
+    ap (λ by. q.delivers by) (sym same) ∙ next.serves
+
+delivered_once : (scenario : ScenarioParts) (s : RunState) → IsOrderly scenario.params.nodes s → IsSourced scenario s → (i : ℕ) (key : MsgKey)
+    → count_by (delivers_key key) (log scenario s i) ≤ 1
+delivered_once scenario s o h i key =
+    log_once scenario i key (history i s) (λ p lawful some. (
+      (served scenario s i o key p lawful some).by,
+      λ q other more. one_serves scenario s h key p q (served scenario s i o key p lawful some) (served scenario s i o key q other more),
+    ))
+
+sound_entry : (scenario : ScenarioParts) (s : RunState) → IsOrderly scenario.params.nodes s → IsSourced scenario s → (i : ℕ) (entry : LogEntry)
+    → Contains (log scenario s i) entry → IsSound scenario s entry
+sound_entry scenario s o h i entry c =
+    let split = log_split (λ y. y ≡ entry) scenario i (history i s) (Among-from_Contains (log scenario s i) entry c) in
+    let made = made_by (λ y. y ≡ entry) scenario split.0 split.1 i (history i s) split.2 in
+    sound scenario s i o h split.0 made.place entry (subst (IsFoundedEntry split.0 (drop made.place (history i s))) made.is made.founded)
 
 pub integral : (scenario : ScenarioParts) (journal : List Step) → scenario.params.nodes ≤ 32 → IsIntegral scenario (run scenario journal)
 integral scenario journal few = record {
-  once = λ i correct key.
-      log_once scenario i key (history i (run scenario journal)) (not_both scenario (run scenario journal) (sourced scenario journal few) i key);
-  sent = λ i correct entry c.
-      let at = log_entry_at scenario i (history i (run scenario journal)) entry c in
-      sound_at scenario (run scenario journal) i entry at.0 (orderly scenario journal) (sourced scenario journal few) at.1;
+  once = λ i correct key. delivered_once scenario (run scenario journal) (orderly scenario journal) (sourced scenario journal few) i key;
+  sent = λ i correct entry c. sound_entry scenario (run scenario journal) (orderly scenario journal) (sourced scenario journal few) i entry c;
 }

@@ -7,11 +7,11 @@ use Rattle.cany_base.specs.declared.slot_note.SlotNote.{SlotNote}
 use Rattle.cany_base.specs.Frame.{FrameParts, data_class}
 use Rattle.cany_base.specs.Scenario.{ScenarioParts}
 use Rattle.cany_model.specs.Bus.Frames.{Identity, identity_of}
-use Rattle.cany_model.specs.Rules.Messages.{Message, messages_of, data_frame}
+use Rattle.cany_model.specs.Rules.Messages.{Message, messages_of, data_frame, data_of}
 use Rattle.cany_model.specs.Bus.State.{RunState}
 use Rattle.cany_model.proofs.Among.{Among, Among-which, Among-from_Contains}
 use Rattle.cany_model.proofs.Bus.Carried.{Carries}
-use Rattle.cany_model.proofs.Rules.MessageKeys.{IsOneOf, data_of, same_message}
+use Rattle.cany_model.proofs.Rules.MessageKeys.{IsOneOf, same_message}
 use Rattle.cany_model.proofs.Promises.Sources.{carries_data, IsSent, IsSourced}
 
 pub data_carries : (by : Service) → carries_data (data_class by) ≡ true

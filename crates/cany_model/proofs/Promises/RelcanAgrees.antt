@@ -1,6 +1,6 @@
 -- Agreement of RELCAN: a node that got the frame of a message read a confirmation of it, so that a slot had carried the frame
 -- with success, or fell back to sending it.
-use Rattle.std.proofs.Common.{◌≡◌, ℕ, ◌<◌, ◌≤◌, ◌==◌, ◌⊎◌, inl, inr, true, false, not, List, [], ◌∷◌, length, drop, Contains, ap, sym, ◌∙◌, arith}
+use Rattle.std.proofs.Common.{◌≡◌, ℕ, ◌<◌, ◌≤◌, ◌==◌, ◌⊎◌, inl, inr, true, false, not, List, [], ◌∷◌, length, drop, Contains, ap, sym, ◌∙◌, subst, arith}
 use Rattle.std.proofs.lemmas.Bool.{false≢true, and_from, both_ways, cases_Bool, cases_eq, cases_lt, ne_eqb, not_from_false, or_cases}
 use Rattle.cany_base.specs.declared.frame.Class.TheVariants as class
 use Rattle.cany_base.specs.declared.message.Service.TheVariants.{Rel}
@@ -11,14 +11,16 @@ use Rattle.cany_base.specs.Scenario.{ScenarioParts}
 use Rattle.cany_model.specs.Bus.Frames.{Identity, same_class}
 use Rattle.cany_model.specs.Bus.History.{copies, has_own, history, is_got}
 use Rattle.cany_model.specs.Promises.Hypothesis.{IsWithin}
-use Rattle.cany_model.specs.Rules.Messages.{Message, messages_of}
-use Rattle.cany_model.specs.Rules.Relcan.{confirm_of, falls_back, fell_back, has_confirm, has_copy, has_timer_ahead, is_timed}
+use Rattle.cany_model.specs.Rules.Messages.{Message, messages_of, data_id}
+use Rattle.cany_model.specs.Rules.Relcan.{confirm_of, falls_back, fell_back, has_confirm, has_copy, has_timer_ahead, is_timed, relcan}
 use Rattle.cany_model.specs.Bus.Run.{run}
 use Rattle.cany_model.specs.Promises.Safe.{IsAgreedOn}
 use Rattle.cany_model.specs.Promises.Settled.{IsCorrect}
 use Rattle.cany_model.specs.Bus.State.{RunState, node_at}
-use Rattle.cany_model.specs.Rules.Turn.{is_sent_at_once, turn_effects}
-use Rattle.cany_model.proofs.Promises.Agrees.{Ground, duty_of, frame_id, origin_owed, owed_carried, run_agrees}
+use Rattle.cany_model.specs.Rules.Sends.{is_sent_at_once}
+use Rattle.cany_model.specs.Rules.Turn.{turn_effects}
+use Rattle.cany_model.proofs.Promises.Agreement.{owed_carried}
+use Rattle.cany_model.proofs.Promises.Agrees.{Ground, duty_of, origin_owed, run_agrees}
 use Rattle.cany_model.proofs.Among.{Among, Among-from_any, Among-from_count, any-from_Among}
 use Rattle.cany_model.proofs.Bus.Carried.{Carries, CarriesClean, Carries-from_got, read_among}
 use Rattle.cany_model.proofs.Promises.Confirms.{IsConfirmed, confirm_carried, confirmed}
@@ -26,30 +28,34 @@ use Rattle.cany_model.proofs.Bus.Counting.{clean_from_success}
 use Rattle.cany_model.proofs.Promises.Diffusion.{IsDiffused}
 use Rattle.cany_model.proofs.Bus.Identities.{same_class_self}
 use Rattle.cany_model.proofs.Rules.MessageKeys.{IsOneOf}
-use Rattle.cany_model.proofs.Promises.SettledFacts.{settled_in_time}
+use Rattle.cany_model.proofs.Promises.SettledFacts.{settled_none_ahead}
 use Rattle.cany_model.proofs.Rules.Timers.{overdue_falls_back}
 use Rattle.cany_model.proofs.Rules.TurnFacts.{turn_withdraws, turn_cause, turn_falls_back, turn_sends}
 use Rattle.cany_model.proofs.Bus.Waits.{Asks}
+use Rattle.cany_model.proofs.Rules.DeliveryFacts.{DeliversAtOnce}
+use Rattle.cany_model.proofs.Rules.ProtocolFacts.{is_diffused}
+use Rattle.cany_model.proofs.Rules.Protocols.{relcan_is_one}
+use Rattle.cany_model.proofs.Rules.RelcanFacts.{relcan_delivers}
 
 -- a node is to send the frame of a RELCAN message once it fell back, or as origin once it has read its slot
 abbrev pub OwesRel : ScenarioParts → Message → ℕ → List NoticeKind → Type 0
-OwesRel scenario m i past = (fell_back scenario.params.confirm i (frame_id m) past ≡ true) ⊎ ((m.origin ≡ i) × (m.slot < length past))
+OwesRel scenario m i past = (fell_back scenario.params.confirm i (data_id m) past ≡ true) ⊎ ((m.origin ≡ i) × (m.slot < length past))
 
 abbrev Asked : ScenarioParts → Message → ℕ → NoticeKind → List NoticeKind → Type 0
 Asked scenario m i e past =
-    Among (Asks (frame_id m)) (turn_effects scenario i (e ∷ past)) ⊎ ((scenario.params.omit < copies (frame_id m) (e ∷ past)) ⊎ (has_own (frame_id m) (e ∷ past) ≡ true))
+    Among (Asks (data_id m)) (turn_effects scenario i (e ∷ past)) ⊎ ((scenario.params.omit < copies (data_id m) (e ∷ past)) ⊎ (has_own (data_id m) (e ∷ past) ≡ true))
 
 never_fell_back : (timer i : ℕ) (x : Identity) → fell_back timer i x [] ≡ true → ⊥
 unfolding fell_back
 never_fell_back timer i x h = false≢true h
 
 asked_late : (scenario : ScenarioParts) (m : Message) (i : ℕ) (e : NoticeKind) (past : List NoticeKind)
-    → fell_back scenario.params.confirm i (frame_id m) (e ∷ past) ≡ true
-    → (fell_back scenario.params.confirm i (frame_id m) past ≡ true) ⊎ Asked scenario m i e past
+    → fell_back scenario.params.confirm i (data_id m) (e ∷ past) ≡ true
+    → (fell_back scenario.params.confirm i (data_id m) past ≡ true) ⊎ Asked scenario m i e past
 unfolding fell_back
 asked_late scenario m i e past h =
-    elim (or_cases (falls_back scenario.params.confirm i (frame_id m) (e ∷ past)) (fell_back scenario.params.confirm i (frame_id m) past) h) [
-      | inl now ↦ elim (turn_falls_back scenario i (frame_id m) e past now) [ inl asks ↦ inr (inl asks) | inr many ↦ inr (inr (inl many)) ]
+    elim (or_cases (falls_back scenario.params.confirm i (data_id m) (e ∷ past)) (fell_back scenario.params.confirm i (data_id m) past) h) [
+      | inl now ↦ elim (turn_falls_back scenario i (data_id m) e past now) [ inl asks ↦ inr (inl asks) | inr many ↦ inr (inr (inl many)) ]
       | inr before ↦ inl before
     ]
 
@@ -62,16 +68,16 @@ asked_slot scenario m is rel i e past origin at = elim (cases_lt m.slot (length 
 
 -- RELCAN diffuses the frames of its messages
 rel_is_diffused : (scenario : ScenarioParts) (m : Message) → IsOneOf (messages_of scenario.sends) m → m.service ≡ Rel
-    → IsDiffused (turn_effects scenario) scenario.params.omit (frame_id m) (duty_of m (OwesRel scenario m))
+    → IsDiffused (turn_effects scenario) scenario.params.omit (data_id m) (duty_of m (OwesRel scenario m))
 rel_is_diffused scenario m is rel = record {
-  at_first = λ i owes. elim owes [ inl fell ↦ never_fell_back scenario.params.confirm i (frame_id m) fell | inr origin ↦ absurd (omega (arith, origin.1)) ];
+  at_first = λ i owes. elim owes [ inl fell ↦ never_fell_back scenario.params.confirm i (data_id m) fell | inr origin ↦ absurd (omega (arith, origin.1)) ];
   starts_stays = λ i e past origin. origin;
   asked = λ i e past owes. elim owes [
     | inl fell ↦ elim (asked_late scenario m i e past fell) [ inl before ↦ inl (inl before) | inr asked ↦ inr asked ]
     | inr origin ↦ elim (asked_slot scenario m is rel i e past origin.0 origin.1) [ inl before ↦ inl (inr (origin.0, before)) | inr asked ↦ inr asked ]
   ];
-  withdrawn = λ i past h. turn_withdraws scenario i (frame_id m) past h;
-  cause = λ i past h. turn_cause scenario i (frame_id m) past h;
+  withdrawn = λ i past h. turn_withdraws scenario i (data_id m) past (ap (λ by. is_diffused (data_class by)) rel) h;
+  cause = λ i past h. turn_cause scenario i (data_id m) past h;
 }
 
 -- ---- one state
@@ -80,36 +86,36 @@ rel_origin_owes : (scenario : ScenarioParts) (m : Message) (i : ℕ) (past : Lis
 rel_origin_owes scenario m i past origin long = inr (origin, long)
 
 -- a confirmation that a node read, a slot carried
-confirm_read : (m : Message) (s : RunState) (i : ℕ) → has_confirm (frame_id m) (history i s) ≡ true → Among (Carries (confirm_of (frame_id m))) s.trace
+confirm_read : (m : Message) (s : RunState) (i : ℕ) → has_confirm (data_id m) (history i s) ≡ true → Among (Carries (confirm_of (data_id m))) s.trace
 unfolding history
 confirm_read m s i h =
-    read_among i (node_at s.nodes i).unread (λ e. is_got (confirm_of (frame_id m)) e ≡ true) (Carries (confirm_of (frame_id m)))
-    (Carries-from_got i (confirm_of (frame_id m))) s.trace (Among-from_any (is_got (confirm_of (frame_id m))) (history i s) h)
+    read_among i (node_at s.nodes i).unread (λ e. is_got (confirm_of (data_id m)) e ≡ true) (Carries (confirm_of (data_id m)))
+    (Carries-from_got i (confirm_of (data_id m))) s.trace (Among-from_any (is_got (confirm_of (data_id m))) (history i s) h)
 
 -- so the data frame was carried Clean
 confirmed_carried : (scenario : ScenarioParts) (m : Message) (s : RunState) → m.service ≡ Rel → IsConfirmed s → IsWithin scenario.params s.trace
-    → (i : ℕ) → has_confirm (frame_id m) (history i s) ≡ true → Among (CarriesClean (frame_id m)) s.trace
+    → (i : ℕ) → has_confirm (data_id m) (history i s) ≡ true → Among (CarriesClean (data_id m)) s.trace
 confirmed_carried scenario m s rel c within i h =
-    clean_from_success scenario.params (frame_id m) s.trace within (confirm_carried s c (frame_id m) (ap data_class rel) (confirm_read m s i h))
+    clean_from_success scenario.params (data_id m) s.trace within (confirm_carried s c (data_id m) (ap data_class rel) (confirm_read m s i h))
 
-timed : (m : Message) (i : ℕ) → m.service ≡ Rel → (m.origin ≡ i → ⊥) → is_timed i (frame_id m) ≡ true
+timed : (m : Message) (i : ℕ) → m.service ≡ Rel → (m.origin ≡ i → ⊥) → is_timed i (data_id m) ≡ true
 timed m i rel other =
     and_from (same_class (data_class m.service) class.Rel) (not (m.origin == i))
     (ap (λ by. same_class (data_class by) class.Rel) rel ∙ same_class_self class.Rel)
     (not_from_false (m.origin == i) (ne_eqb m.origin i other))
 
 -- a timer that started, and is not ahead, ran out or was stopped
-timer_done : (scenario : ScenarioParts) (m : Message) (i : ℕ) (past : List NoticeKind) → is_timed i (frame_id m) ≡ true → has_copy (frame_id m) past ≡ true
-    → has_timer_ahead scenario m i past ≡ false → (has_confirm (frame_id m) past ≡ true) ⊎ (fell_back scenario.params.confirm i (frame_id m) past ≡ true)
+timer_done : (scenario : ScenarioParts) (m : Message) (i : ℕ) (past : List NoticeKind) → is_timed i (data_id m) ≡ true → has_copy (data_id m) past ≡ true
+    → has_timer_ahead scenario m i past ≡ false → (has_confirm (data_id m) past ≡ true) ⊎ (fell_back scenario.params.confirm i (data_id m) past ≡ true)
 timer_done scenario m i past timed some done =
-    elim (cases_Bool (has_confirm (frame_id m) past)) [
+    elim (cases_Bool (has_confirm (data_id m) past)) [
       | inl confirmed ↦ inl confirmed
-      | inr none ↦ elim (cases_Bool (has_copy (frame_id m) (drop scenario.params.confirm past))) [
-        | inl late ↦ inr (overdue_falls_back scenario.params.confirm i (frame_id m) past timed late none)
+      | inr none ↦ elim (cases_Bool (has_copy (data_id m) (drop scenario.params.confirm past))) [
+        | inl late ↦ inr (overdue_falls_back scenario.params.confirm i (data_id m) past timed late none)
         | inr early ↦
-            let started = and_from (is_timed i (frame_id m)) (has_copy (frame_id m) past) timed some in
-            let running = and_from _ (not (has_copy (frame_id m) (drop scenario.params.confirm past))) started (not_from_false _ early) in
-            absurd (both_ways (has_timer_ahead scenario m i past) done (and_from _ (not (has_confirm (frame_id m) past)) running (not_from_false _ none)))
+            let started = and_from (is_timed i (data_id m)) (has_copy (data_id m) past) timed some in
+            let running = and_from _ (not (has_copy (data_id m) (drop scenario.params.confirm past))) started (not_from_false _ early) in
+            absurd (both_ways (has_timer_ahead scenario m i past) done (and_from _ (not (has_confirm (data_id m) past)) running (not_from_false _ none)))
       ]
     ]
 
@@ -119,13 +125,13 @@ copied x past some = any-from_Among (is_got x) past (Among-from_count (is_got x)
 
 -- a frame that a correct node got was carried Clean
 got_carried : (scenario : ScenarioParts) (m : Message) (s : RunState) → m.service ≡ Rel → IsConfirmed s → Ground scenario m (OwesRel scenario m) s
-    → (i : ℕ) → IsCorrect scenario s i → 0 < copies (frame_id m) (history i s) → Among (CarriesClean (frame_id m)) s.trace
+    → (i : ℕ) → IsCorrect scenario s i → 0 < copies (data_id m) (history i s) → Among (CarriesClean (data_id m)) s.trace
 got_carried scenario m s rel c g i correct some = elim (cases_eq m.origin i) [
   | inl origin ↦ origin_owed scenario m (OwesRel scenario m) s g (rel_origin_owes scenario m) i correct (sym origin)
   | inr other ↦
-      elim (timer_done scenario m i (history i s) (timed m i rel other) (copied (frame_id m) (history i s) some) (settled_in_time scenario s m g.settled i correct)) [
-        | inl confirm ↦ confirmed_carried scenario m s rel c g.within i confirm
-        | inr fell ↦ owed_carried scenario m (OwesRel scenario m) s g i correct (inl fell)
+      elim (timer_done scenario m i (history i s) (timed m i rel other) (copied (data_id m) (history i s) some) (settled_none_ahead scenario s m g.settled i correct relcan relcan_is_one)) [
+        | inl confirm ↦ confirmed_carried scenario m s rel c g.rest.within i confirm
+        | inr fell ↦ owed_carried scenario (data_id m) (duty_of m (OwesRel scenario m)) s g.rest i correct (inl fell)
       ]
 ]
 
@@ -136,6 +142,9 @@ pub relcan_agrees : (scenario : ScenarioParts) → scenario.params.nodes ≤ 32 
 relcan_agrees scenario few journal within m stands rel =
     run_agrees scenario few journal within m stands (ap is_sent_at_once rel) (OwesRel scenario m) (λ is. rel_is_diffused scenario m is rel)
     (record {
+      protocol = relcan;
+      is_one = relcan_is_one;
+      delivers = subst (DeliversAtOnce relcan) (sym rel) relcan_delivers;
       origin_owes = rel_origin_owes scenario m;
       got_carried = got_carried scenario m (run scenario journal) rel (confirmed scenario journal few);
     })

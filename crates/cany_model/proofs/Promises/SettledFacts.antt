@@ -1,47 +1,50 @@
 -- What it says of a node that a message is settled.
 use Rattle.std.proofs.Common.{◌≡◌, ℕ, ◌<◌, ◌==◌, ◌&&◌, ◌||◌, inl, inr, Bool, true, false, not, get_or, ap, sym, ◌∙◌, subst, arith}
 use Rattle.std.specs.List.{list_any, list_all, range_with_len}
-use Rattle.std.proofs.lemmas.Bool.{both_ways, and_parts, and_from, or_cases, or_left, not-true, ltb-true, eqb-true, false_from_ne_true}
+use Rattle.std.proofs.lemmas.Bool.{both_ways, and_parts, and_from, or_cases, or_left, not-true, eqb-true, false_from_ne_true}
 use Rattle.std.proofs.lemmas.List.Folds.{list_any_at}
 use Rattle.std.proofs.lemmas.List.FromFn.{get_or-range_with_len, length-range_with_len}
 use Rattle.std.proofs.lemmas.List.Sums.{AllPass-from_list_all}
 use Rattle.cany_base.specs.Scenario.{ScenarioParts}
 use Rattle.cany_model.specs.Bus.Frames.{identity_of}
 use Rattle.cany_model.specs.Bus.History.{history}
-use Rattle.cany_model.specs.Rules.Messages.{Message, data_frame}
-use Rattle.cany_model.specs.Rules.Relcan.{has_timer_ahead}
+use Rattle.cany_model.specs.Rules.Messages.{Message, data_frame, frames_of}
+use Rattle.cany_model.specs.Rules.Protocol.{Protocol}
+use Rattle.cany_model.specs.Rules.Turn.{is_ahead_at, protocols}
 use Rattle.cany_model.specs.Bus.Run.{all_read}
-use Rattle.cany_model.specs.Promises.Settled.{IsCorrect, is_settled, frames_of, is_awaited, is_timer_ahead, has_asked}
-use Rattle.cany_model.specs.Bus.State.{NodeState, RunState, absent, node_at, runs, reads}
+use Rattle.cany_model.specs.Promises.Settled.{IsCorrect, is_settled, is_awaited, is_ahead, origin_has_asked}
+use Rattle.cany_model.specs.Bus.State.{NodeState, RunState, absent, node_at, runs}
 use Rattle.cany_model.specs.Bus.Waiting.{waits}
+use Rattle.cany_model.proofs.Among.{Among-weaker, any-from_Among}
 use Rattle.cany_model.proofs.Bus.States.{runs_within}
+use Rattle.cany_model.proofs.Rules.Protocols.{IsProtocol}
 
 -- the parts of what is said of a settled message
 record Parts (scenario : ScenarioParts) (s : RunState) (m : Message) : Type 0 where
-  asked : (has_asked s m || not (runs (node_at s.nodes m.origin))) ≡ true
+  asked : (origin_has_asked scenario s m || not (runs (node_at s.nodes m.origin))) ≡ true
   quiet : is_awaited (frames_of m) s ≡ false
   read : all_read s ≡ true
-  in_time : is_timer_ahead scenario s m ≡ false
+  none_ahead : is_ahead scenario s m ≡ false
 
 parts : (scenario : ScenarioParts) (s : RunState) (m : Message) → is_settled scenario s m ≡ true → Parts scenario s m
 unfolding is_settled
 parts scenario s m h =
-    let asked : Bool = has_asked s m || not (runs (node_at s.nodes m.origin)) in
-    let whole = and_parts (asked && not (is_awaited (frames_of m) s) && all_read s) (not (is_timer_ahead scenario s m)) h in
+    let asked : Bool = origin_has_asked scenario s m || not (runs (node_at s.nodes m.origin)) in
+    let whole = and_parts (asked && not (is_awaited (frames_of m) s) && all_read s) (not (is_ahead scenario s m)) h in
     let outer = and_parts (asked && not (is_awaited (frames_of m) s)) (all_read s) whole.0 in
     let inner = and_parts asked (not (is_awaited (frames_of m) s)) outer.0 in
     record {
       asked = inner.0;
       quiet = not-true (is_awaited (frames_of m) s) inner.1;
       read = outer.1;
-      in_time = not-true (is_timer_ahead scenario s m) whole.1;
+      none_ahead = not-true (is_ahead scenario s m) whole.1;
     }
 
 -- an origin that runs has asked for it
 pub settled_asked : (scenario : ScenarioParts) (s : RunState) (m : Message) → is_settled scenario s m ≡ true → runs (node_at s.nodes m.origin) ≡ true
-    → m.slot < reads s m.origin
-settled_asked scenario s m h running = elim (or_cases (has_asked s m) (not (runs (node_at s.nodes m.origin))) (parts scenario s m h).asked) [
-  | inl asked ↦ ltb-true m.slot (reads s m.origin) asked
+    → origin_has_asked scenario s m ≡ true
+settled_asked scenario s m h running = elim (or_cases (origin_has_asked scenario s m) (not (runs (node_at s.nodes m.origin))) (parts scenario s m h).asked) [
+  | inl asked ↦ asked
   | inr stopped ↦ absurd (both_ways (runs (node_at s.nodes m.origin)) (not-true (runs (node_at s.nodes m.origin)) stopped) running)
 ]
 
@@ -71,16 +74,19 @@ settled_read scenario s m h i running =
       | inr read ↦ eqb-true (get_or s.nodes i absent).unread 0 read
     ]
 
--- a correct node has no timer of it ahead
-pub settled_in_time : (scenario : ScenarioParts) (s : RunState) (m : Message) → is_settled scenario s m ≡ true → (i : ℕ) → IsCorrect scenario s i
-    → has_timer_ahead scenario m i (history i s) ≡ false
-settled_in_time scenario s m h i correct =
-    let ahead : ℕ → Bool = λ k. has_timer_ahead scenario m k (history k s) in
+-- at a correct node no protocol has anything of it ahead
+pub settled_none_ahead : (scenario : ScenarioParts) (s : RunState) (m : Message) → is_settled scenario s m ≡ true → (i : ℕ) → IsCorrect scenario s i
+    → (p : Protocol) → IsProtocol p → p.ahead scenario m i (history i s) ≡ false
+settled_none_ahead scenario s m h i correct p is =
+    let ahead : ℕ → Bool = λ k. is_ahead_at scenario m k (history k s) in
     let test : ℕ → Bool = λ k. runs (node_at s.nodes k) && ahead k in
-    let none : list_any test (range_with_len 0 scenario.params.nodes) ≡ false = (parts scenario s m h).in_time in
+    let none : list_any test (range_with_len 0 scenario.params.nodes) ≡ false = (parts scenario s m h).none_ahead in
     let at : get_or (range_with_len 0 scenario.params.nodes) i 0 ≡ i = get_or-range_with_len 0 scenario.params.nodes i 0 correct.there ∙ omega arith in
-    false_from_ne_true (ahead i) (λ yes'.
+    false_from_ne_true (p.ahead scenario m i (history i s)) (λ yes'.
+    let here : ahead i ≡ true =
+    any-from_Among (λ q. q.ahead scenario m i (history i s)) protocols
+    (Among-weaker (λ q. q ≡ p) (λ q. q.ahead scenario m i (history i s) ≡ true) (λ q e. ap (λ (r : Protocol). r.ahead scenario m i (history i s)) e ∙ yes') protocols is) in
     both_ways (list_any test (range_with_len 0 scenario.params.nodes)) none
     (list_any_at test (range_with_len 0 scenario.params.nodes) i 0
     (subst (λ n. i < n) (sym (length-range_with_len 0 scenario.params.nodes)) correct.there)
-    (ap test at ∙ and_from (runs (node_at s.nodes i)) (ahead i) correct.running yes')))
+    (ap test at ∙ and_from (runs (node_at s.nodes i)) (ahead i) correct.running here)))

@@ -12,14 +12,17 @@ use Rattle.cany_base.specs.Frame.{FrameParts}
 use Rattle.cany_base.specs.Nodes.{has}
 use Rattle.cany_base.specs.Scenario.{ScenarioParts}
 use Rattle.cany_model.specs.Bus.History.{history}
+use Rattle.cany_model.specs.Promises.Safe.{WasSent}
 use Rattle.cany_model.specs.Rules.Messages.{Message, messages_of, data_frame}
 use Rattle.cany_model.specs.Bus.Run.{run}
 use Rattle.cany_model.specs.Bus.State.{RunState}
 use Rattle.cany_model.specs.Rules.Turn.{turn_effects}
-use Rattle.cany_model.proofs.Among.{Among, Contains-cons, Contains-head, Contains-from_Among}
+use Rattle.cany_model.proofs.Among.{Among, Among-weaker, Contains-cons, Contains-head, Contains-from_Among}
+use Rattle.cany_model.proofs.Bus.Carried.{Has}
 use Rattle.cany_model.proofs.Bus.FrameInvariants.{HoldsOfFrames, IsKeptByFrames, holds_of_frames, slot_of_note, turn_note}
 use Rattle.cany_model.proofs.Bus.Runs.{IsOrderly}
 use Rattle.cany_model.proofs.Bus.Steps.{MayTurn, next_notice}
+use Rattle.cany_model.proofs.Rules.ProtocolFacts.{MayAsk, confirms, originates, relays}
 use Rattle.cany_model.proofs.Rules.TurnFacts.{turn_only}
 use Rattle.cany_model.proofs.Bus.Waits.{AsksOnly}
 
@@ -35,14 +38,6 @@ carries_data Confirm = false
 carries_data Tot = true
 carries_data Rel = true
 carries_data Ed = true
-
--- the data frame of the message was carried, with its origin among the senders, in a slot not after this one
-pub record WasSent (trace : List SlotNote) (m : Message) (slot : ℕ) : Type 0 where
-  pub note : SlotNote
-  pub stands : Contains trace note
-  pub by_then : note.slot ≤ slot
-  pub frame : note.frame ≡ Some (data_frame m)
-  pub sender : has note.senders m.origin ≡ true
 
 -- the frame is that of a message which its origin had sent by then
 pub record IsSent (scenario : ScenarioParts) (trace : List SlotNote) (f : FrameParts) (slot : ℕ) : Type 0 where
@@ -71,7 +66,7 @@ IsSourced scenario s = HoldsOfFrames (MayHold scenario) (WasData scenario) s
 
 -- ---- a longer trace
 
-sent_later : (note : SlotNote) (trace : List SlotNote) (m : Message) (early late : ℕ) → early ≤ late → WasSent trace m early → WasSent (note ∷ trace) m late
+pub sent_later : (note : SlotNote) (trace : List SlotNote) (m : Message) (early late : ℕ) → early ≤ late → WasSent trace m early → WasSent (note ∷ trace) m late
 sent_later note trace m early late h w = record {
   note = w.note;
   stands = Contains-cons note w.note trace w.stands;
@@ -138,15 +133,16 @@ may_hold_got scenario s i f o may h got carries =
     may_wait_sent scenario s.trace i f note.0.slot (slot_of_note scenario.params.nodes s o note.0 note.1) (h.carried note.0 f note.1 note.2 carries)
   where
     note : (note : SlotNote) × Contains s.trace note × (note.frame ≡ Some f)
-    note = turn_note scenario s i f may (o.unread i) got
+    note = turn_note scenario s i f may (o.unread i) (Among-weaker (λ n. n ≡ Got f) (Has f) (λ n e. inl e) (next_notice s i ∷ history i s) got)
 
 may_hold_asked : (scenario : ScenarioParts) (s : RunState) (i : ℕ) → IsOrderly scenario.params.nodes s → MayTurn s i → IsSourced scenario s
     → AllByRecursion (AsksOnly (MayHold scenario s.trace i)) (turn_effects scenario i (next_notice s i ∷ history i s))
-may_hold_asked scenario s i o may h =
-    turn_only (MayHold scenario s.trace i) scenario i (next_notice s i) (history i s)
-    (λ f got. may_hold_got scenario s i f o may h got)
-    (λ f sent rel own carries. absurd (false≢true carries))
-    (λ m is own carries. record { message = m; stands = Contains-from_Among (messages_of scenario.sends) m is; is = refl; why = inl own })
+may_hold_asked scenario s i o may h = turn_only (MayHold scenario s.trace i) scenario i (next_notice s i ∷ history i s) (λ f. by_reason f)
+  where
+    by_reason : (f : FrameParts) → MayAsk scenario i (next_notice s i ∷ history i s) f → MayHold scenario s.trace i f
+    by_reason f (relays got) = may_hold_got scenario s i f o may h got
+    by_reason f (originates m is origin slot frame) = λ carries. record { message = m; stands = Contains-from_Among (messages_of scenario.sends) m is; is = frame; why = inl origin }
+    by_reason f (confirms g sent rel own frame) = λ carries. absurd (false≢true (ap (λ (x : FrameParts). carries_data x.class) frame ∙ carries))
 
 -- ---- every run
 

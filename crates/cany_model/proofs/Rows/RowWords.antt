@@ -36,7 +36,8 @@ use Rattle.cany_model.specs.Bus.Run.{first_lagging, reply, is_done, is_legal_fro
 use Rattle.cany_model.specs.Promises.Settled.{is_settled}
 use Rattle.cany_model.specs.Bus.Slot.{least_frame, winner, script, share_of, after_share, slot_note_of, node_after, nodes_after, after_slot}
 use Rattle.cany_model.specs.Bus.State.{RunState, node_at, opening, reads}
-use Rattle.cany_model.specs.Rules.Turn.{send_effects, turn_effects}
+use Rattle.cany_model.specs.Rules.Sends.{send_effects}
+use Rattle.cany_model.specs.Rules.Turn.{has_asked, turn_effects}
 use Rattle.cany_model.specs.Bus.Waiting.{put_in_order}
 
 abbrev pub set : ℕ → Nodes
@@ -117,7 +118,7 @@ node_report sc s i = record { stopped = (node_at s.nodes i).stopped; read = read
 
 -- that of a scenario by a journal; what computes it is opened here, once for all rows
 unfoldable pub report : ScenarioParts → List Step → RunReport
-unfolding shown has bits_where those_where same_class same_identity same_frame is_before messages_after node_at put_in_order least_frame winner script share_of after_share slot_note_of node_after nodes_after after_slot history copies has_own waiting_after entered eager_effects delivery_effects edcan_at edcan_effects fell_back relcan_at timer_effects relcan_effects send_effects turn_effects log_from first_lagging reply is_legal_from after_turn proceed after_step run_from round rounds break_at first_break count_together is_settled
+unfolding shown has bits_where those_where same_class same_identity same_frame is_before messages_after node_at put_in_order least_frame winner script share_of after_share slot_note_of node_after nodes_after after_slot history copies has_own waiting_after entered eager_effects delivery_effects edcan_at edcan_effects fell_back relcan_at timer_effects relcan_effects send_effects turn_effects has_asked log_from first_lagging reply is_legal_from after_turn proceed after_step run_from round rounds break_at first_break count_together is_settled
 report sc journal =
     let s = run sc journal in
     record {

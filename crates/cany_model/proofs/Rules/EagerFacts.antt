@@ -1,47 +1,37 @@
 -- What the eager rule asks for and withdraws.
 use Rattle.std.proofs.Common.{◌≡◌, ℕ, ◌+◌, ◌<◌, ◌==◌, ◌⊎◌, inl, inr, Bool, true, not, cond, List, [], ◌∷◌, ap, sym, ◌∙◌, arith}
 use Rattle.std.specs.List.{AllByRecursion}
-use Rattle.std.proofs.lemmas.Bool.{and_parts, and_from, cases_Bool, cond_both, leb-true, eq-eqb, eqb-true, not_from_false}
+use Rattle.std.proofs.lemmas.Bool.{and_from, cases_Bool, cond_both, leb-true, eq-eqb, not_from_false}
 use Rattle.cany_base.specs.declared.notice.NoticeKind.{NoticeKind}
+use Rattle.cany_base.specs.declared.notice.NoticeKind.TheVariants.{Got}
 use Rattle.cany_base.specs.Frame.{FrameParts}
+use Rattle.cany_base.specs.Scenario.{ScenarioParts}
 use Rattle.cany_model.specs.Rules.Eager.{has_enough, is_first_copy, eager_effects}
-use Rattle.cany_model.specs.Rules.Effect.{Effect, Ask}
+use Rattle.cany_model.specs.Rules.Effect.{Effect, Ask, Withdraw}
+use Rattle.cany_model.specs.Rules.Protocol.{Protocol}
 use Rattle.cany_model.specs.Bus.Frames.{Identity, identity_of}
 use Rattle.cany_model.specs.Bus.History.{copies, has_own}
 use Rattle.cany_model.proofs.Among.{Among}
-use Rattle.cany_model.proofs.Bus.Waits.{Asks, Withdraws, AsksOnly}
+use Rattle.cany_model.proofs.Bus.Waits.{Asks}
+use Rattle.cany_model.proofs.Rules.DeliveryFacts.{EntersNone}
+use Rattle.cany_model.proofs.Rules.ProtocolFacts.{IsFounded, relays}
 
-pub eager_withdraws : (omit : ℕ) (x : Identity) (f : FrameParts) (past : List NoticeKind) → Among (Withdraws x) (eager_effects omit f past) → omit < copies x past
+-- it asks for a frame that was got, and withdraws it with more than omit copies
+pub eager_founded : (scenario : ScenarioParts) (p : Protocol) (i : ℕ) (f : FrameParts) (past : List NoticeKind) → Among (λ n. n ≡ Got f) past
+    → p.names f.class ≡ true → AllByRecursion (IsFounded scenario p i past) (eager_effects scenario.params.omit f past)
 unfolding eager_effects
-eager_withdraws omit x f past =
-    cond_both (has_enough omit (identity_of f) past) _ _ (λ effects. Among (Withdraws x) effects → omit < copies x past)
-    (λ many h. elim h [
-      | inl e ↦ let at : copies x past ≡ copies (identity_of f) past = ap (λ y. copies y past) e in omega (arith, leb-true (omit + 1) (copies (identity_of f) past) many)
-      | inr none ↦ absurd none
-    ])
-    (λ few. cond_both (is_first_copy (identity_of f) past) (Ask f ∷ []) [] (λ effects. Among (Withdraws x) effects → omit < copies x past)
-    (λ first h. elim h [ inl none ↦ absurd none | inr none ↦ absurd none ])
-    (λ other h. absurd h))
+eager_founded scenario p i f past got names =
+    cond_both (has_enough scenario.params.omit (identity_of f) past) _ _ (AllByRecursion (IsFounded scenario p i past))
+    (λ many. (((λ _. omega (arith, leb-true (scenario.params.omit + 1) (copies (identity_of f) past) many)), names), tt))
+    (λ _. cond_both (is_first_copy (identity_of f) past) (Ask f ∷ []) [] (AllByRecursion (IsFounded scenario p i past))
+    (λ _. ((relays got, names), tt))
+    (λ _. tt))
 
-pub eager_cause : (omit : ℕ) (x : Identity) (f : FrameParts) (past : List NoticeKind) → Among (Asks x) (eager_effects omit f past) → 0 < copies x past
+pub eager_enters : (omit : ℕ) (f : FrameParts) (past : List NoticeKind) → AllByRecursion EntersNone (eager_effects omit f past)
 unfolding eager_effects
-eager_cause omit x f past =
-    cond_both (has_enough omit (identity_of f) past) _ _ (λ effects. Among (Asks x) effects → 0 < copies x past)
-    (λ many h. elim h [ inl none ↦ absurd none | inr none ↦ absurd none ])
-    (λ few. cond_both (is_first_copy (identity_of f) past) (Ask f ∷ []) [] (λ effects. Among (Asks x) effects → 0 < copies x past)
-    (λ first h. elim h [
-      | inl e ↦
-          let at : copies x past ≡ copies (identity_of f) past = ap (λ y. copies y past) e in
-          omega (arith, eqb-true (copies (identity_of f) past) 1 (and_parts (copies (identity_of f) past == 1) (not (has_own (identity_of f) past)) first).0)
-      | inr none ↦ absurd none
-    ])
-    (λ other h. absurd h))
-
-pub eager_only : (P : FrameParts → Type 0) (omit : ℕ) (f : FrameParts) (past : List NoticeKind) → P f → AllByRecursion (AsksOnly P) (eager_effects omit f past)
-unfolding eager_effects
-eager_only P omit f past p =
-    cond_both (has_enough omit (identity_of f) past) _ _ (AllByRecursion (AsksOnly P)) (λ _. (tt, tt))
-    (λ _. cond_both (is_first_copy (identity_of f) past) (Ask f ∷ []) [] (AllByRecursion (AsksOnly P)) (λ _. (p, tt)) (λ _. tt))
+eager_enters omit f past =
+    cond_both (has_enough omit (identity_of f) past) _ _ (AllByRecursion EntersNone) (λ _. (tt, tt))
+    (λ _. cond_both (is_first_copy (identity_of f) past) (Ask f ∷ []) [] (AllByRecursion EntersNone) (λ _. (tt, tt)) (λ _. tt))
 
 -- at the first copy the frame is asked for, unless the copies are enough already or the node has sent it
 pub eager_asks : (omit : ℕ) (x : Identity) (f : FrameParts) (past : List NoticeKind) → x ≡ identity_of f → copies x past ≡ 1

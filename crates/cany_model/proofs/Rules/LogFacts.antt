@@ -1,152 +1,201 @@
--- A log delivers an EDCAN or RELCAN message exactly if a notice that was read brings its frame.
-use Rattle.std.specs.Prelude.{slice_index_or}
-use Rattle.std.proofs.Common.{◌≡◌, ℕ, suc, ◌<◌, ◌==◌, ◌&&◌, inl, inr, true, false, not, subst, List, [], ◌∷◌, length, drop, Contains, refl, ap, sym, ◌∙◌, arith, suc-le-suc}
-use Rattle.std.specs.List.{list_any}
-use Rattle.std.proofs.lemmas.Bool.{and_parts, and_from, or_cases, cases_Bool, not_from_false}
-use Rattle.std.proofs.lemmas.List.Elements.{Contains-append_cases}
+-- What stands in a log: the entries of the protocols, each with its reason, and of one key at most one.
+use Rattle.std.proofs.Common.{◌≡◌, ℕ, suc, ◌+◌, ◌<◌, ◌≤◌, inl, inr, Bool, true, false, cond, List, [], ◌∷◌, ◌++◌, length, drop, count_by, refl, ap, sym, ◌∙◌, subst, arith, suc-le-suc}
+use Rattle.std.specs.List.{AllByRecursion, flat_map}
+use Rattle.std.proofs.lemmas.Bool.{cases_lt, false≢true}
+use Rattle.std.proofs.lemmas.List.Sums.{sum_by-append, sum_by-cons}
 use Rattle.cany_base.specs.declared.log_entry.LogEntry.{LogEntry}
-use Rattle.cany_base.specs.declared.log_entry.LogEntry.TheVariants.{Deliver, Failed, View}
-use Rattle.cany_base.specs.declared.message.Service.{Service}
 use Rattle.cany_base.specs.declared.message.MsgKey.{MsgKey}
+use Rattle.cany_base.specs.declared.message.Service.{Service}
 use Rattle.cany_base.specs.declared.notice.NoticeKind.{NoticeKind}
-use Rattle.cany_base.specs.declared.notice.NoticeKind.TheVariants.{Idle}
-use Rattle.cany_base.specs.Frame.{FrameParts, data_class}
 use Rattle.cany_base.specs.Scenario.{ScenarioParts}
-use Rattle.cany_model.specs.Rules.Delivery.{brings, is_delivery, delivery}
-use Rattle.cany_model.specs.Rules.Effect.{entered}
-use Rattle.cany_model.specs.Bus.Frames.{Identity, identity_of}
-use Rattle.cany_model.specs.Bus.History.{is_got, is_sent}
+use Rattle.cany_model.specs.Promises.Safe.{delivers_key}
+use Rattle.cany_model.specs.Rules.Effect.{Effect, Ask, Withdraw, Enter, entered}
 use Rattle.cany_model.specs.Rules.Log.{log_from}
-use Rattle.cany_model.specs.Rules.Messages.{Message, data_frame}
-use Rattle.cany_model.specs.Promises.Safe.{is_delivery_of}
-use Rattle.cany_model.specs.Rules.Turn.{is_sent_at_once, turn_effects}
-use Rattle.cany_model.proofs.Among.{Among, Among-append_left, Among-append_right, Among-from_any, Among-get_or, Contains-none, Contains-one}
-use Rattle.cany_model.proofs.Bus.Carried.{Has, is_got-true, is_sent-true}
-use Rattle.cany_model.proofs.Rules.Entries.{IsFirstDelivery, TurnEntries, enters_none, delivers, turn_entries, turn_delivers}
+use Rattle.cany_model.specs.Rules.Protocol.{Protocol}
+use Rattle.cany_model.specs.Rules.Turn.{protocols, turn_effects}
+use Rattle.cany_model.proofs.Among.{Among, Among-append_cases, Among-append_left, Among-append_right, Among-from_flat_map, Among-which, Among-with, Each-weaker}
+use Rattle.cany_model.proofs.Rules.DeliveryFacts.{entered-append}
+use Rattle.cany_model.proofs.Rules.ProtocolFacts.{IsFounded, IsFoundedEntry, IsLawful, log_by}
+use Rattle.cany_model.proofs.Rules.Protocols.{IsProtocol, are_lawful, one_delivers}
+use Rattle.cany_model.proofs.Rules.TurnFacts.{turn_has}
+
+-- ---- what a turn enters
+
+-- the effect makes an entry that has the property
+abbrev EntersSome : (LogEntry → Type 0) → Effect → Type 0
+EntersSome P (Ask f) = ⊥
+EntersSome P (Withdraw x) = ⊥
+EntersSome P (Enter entry) = P entry
+
+entered-from : (P : LogEntry → Type 0) (effects : List Effect) → Among P (entered effects) → Among (EntersSome P) effects
+unfolding entered
+entered-from P [] h = h
+entered-from P (Ask f ∷ effects) h = inr (entered-from P effects h)
+entered-from P (Withdraw x ∷ effects) h = inr (entered-from P effects h)
+entered-from P (Enter entry ∷ effects) (inl here) = inl here
+entered-from P (Enter entry ∷ effects) (inr h) = inr (entered-from P effects h)
+
+entered-to : (P : LogEntry → Type 0) (effects : List Effect) → Among (EntersSome P) effects → Among P (entered effects)
+unfolding entered
+entered-to P [] h = h
+entered-to P (Ask f ∷ effects) (inl none) = absurd none
+entered-to P (Ask f ∷ effects) (inr h) = entered-to P effects h
+entered-to P (Withdraw x ∷ effects) (inl none) = absurd none
+entered-to P (Withdraw x ∷ effects) (inr h) = entered-to P effects h
+entered-to P (Enter entry ∷ effects) (inl here) = inl here
+entered-to P (Enter entry ∷ effects) (inr h) = inr (entered-to P effects h)
 
 -- ---- from the log to what was read
 
--- the entry is the delivery of a data frame by the notice at place k of what was read
-pub record IsDeliveryAt (i : ℕ) (past : List NoticeKind) (k : ℕ) (entry : LogEntry) : Type 0 where
-  pub below : k < length past
-  pub by : Service
-  pub frame : FrameParts
-  pub is_first : IsFirstDelivery by i (slice_index_or past k Idle) (drop (suc k) past) frame
-  pub is : entry ≡ delivery (length (drop (suc k) past)) by frame
+-- an entry that has the property, which the protocol made in the turn of the notice at this place of what was read
+pub record IsMade (P : LogEntry → Type 0) (p : Protocol) (past : List NoticeKind) : Type 0 where
+  pub entry : LogEntry
+  pub is : P entry
+  pub place : ℕ
+  pub below : place < length past
+  pub founded : IsFoundedEntry p (drop place past) entry
 
-later_place : (i : ℕ) (notice : NoticeKind) (before : List NoticeKind) (k : ℕ) (entry : LogEntry)
-    → IsDeliveryAt i before k entry → IsDeliveryAt i (notice ∷ before) (suc k) entry
-later_place i notice before k entry d = record { below = suc-le-suc d.below; by = d.by; frame = d.frame; is_first = d.is_first; is = d.is }
+entry_of : (P : LogEntry → Type 0) (scenario : ScenarioParts) (p : Protocol) (i : ℕ) (past : List NoticeKind) (e : Effect) → EntersSome P e
+    → IsFounded scenario p i past e → (entry : LogEntry) × P entry × IsFoundedEntry p past entry
+entry_of P scenario p i past (Ask f) h k = absurd h
+entry_of P scenario p i past (Withdraw x) h k = absurd h
+entry_of P scenario p i past (Enter entry) h k = (entry, h, k)
 
-this_place : (i : ℕ) (notice : NoticeKind) (before : List NoticeKind) (entries : List LogEntry) (entry : LogEntry)
-    → TurnEntries i notice before entries → Contains entries entry → IsDeliveryAt i (notice ∷ before) 0 entry
-this_place i notice before entries entry (enters_none e) c = absurd (Contains-none entry (subst (λ es. Contains es entry) e c))
-this_place i notice before entries entry (delivers by f first e) c = record {
-  below = omega arith;
-  by = by;
-  frame = f;
-  is_first = first;
-  is = sym (Contains-one _ entry (subst (λ es. Contains es entry) e c));
-}
-
--- each entry of a log is a delivery by some notice that was read
-pub log_entry_at : (scenario : ScenarioParts) (i : ℕ) (past : List NoticeKind) (entry : LogEntry) → Contains (log_from scenario i past) entry
-    → (k : ℕ) × IsDeliveryAt i past k entry
-unfolding log_from
-log_entry_at scenario i [] entry c = absurd (Contains-none entry c)
-log_entry_at scenario i (notice ∷ before) entry c =
-    elim (Contains-append_cases (log_from scenario i before) (entered (turn_effects scenario i (notice ∷ before))) entry c) [
+-- each entry of a protocol has its reason
+pub made_by : (P : LogEntry → Type 0) (scenario : ScenarioParts) (p : Protocol) → IsLawful p → (i : ℕ) (past : List NoticeKind)
+    → Among P (log_by p scenario i past) → IsMade P p past
+made_by P scenario p lawful i [] h = absurd h
+made_by P scenario p lawful i (notice ∷ before) h =
+    elim (Among-append_cases P (log_by p scenario i before) (entered (p.effects scenario i (notice ∷ before))) h) [
       | inl earlier ↦
-          let d = log_entry_at scenario i before entry earlier in (suc d.0, later_place i notice before d.0 entry d.1)
+          let w = made_by P scenario p lawful i before earlier in
+          record { entry = w.entry; is = w.is; place = suc w.place; below = suc-le-suc w.below; founded = w.founded }
       | inr now ↦
-          (0, this_place i notice before (entered (turn_effects scenario i (notice ∷ before))) entry (turn_entries scenario i notice before) now)
+          let effects = p.effects scenario i (notice ∷ before) in
+          let w = Among-which (λ e. EntersSome P e × IsFounded scenario p i (notice ∷ before) e) effects
+          (Among-with (EntersSome P) (IsFounded scenario p i (notice ∷ before)) effects (lawful.founded scenario i (notice ∷ before)) (entered-from P effects now)) in
+          let made = entry_of P scenario p i (notice ∷ before) w.0 w.2.0 w.2.1 in
+          record { entry = made.0; is = made.1; place = 0; below = omega arith; founded = made.2 }
     ]
 
-entry_cases : (m : Message) (entry : LogEntry) (slot : ℕ) (by : Service) (f : FrameParts) → entry ≡ delivery slot by f → is_delivery_of m entry
-    → (m.seq ≡ f.number) × (m.origin ≡ f.node) × (m.service ≡ by)
-entry_cases m (Deliver at service msg payload) slot by f e h =
-    let key : msg ≡ record { origin = f.node; seq = f.number } = cc in
-    let is : service ≡ by = cc in
-    let same = h.0 ∙ key in
-    (ap (λ (k : MsgKey). k.seq) same, ap (λ (k : MsgKey). k.origin) same, h.1 ∙ is)
-entry_cases m (Failed at node cycle) slot by f e h = absurd h
-entry_cases m (View at number members) slot by f e h = absurd h
+-- each entry of a log was made by one of the protocols
+pub log_split : (P : LogEntry → Type 0) (scenario : ScenarioParts) (i : ℕ) (past : List NoticeKind) → Among P (log_from scenario i past)
+    → (p : Protocol) × IsLawful p × Among P (log_by p scenario i past)
+unfolding log_from turn_effects
+log_split P scenario i [] h = absurd h
+log_split P scenario i (notice ∷ before) h =
+    elim (Among-append_cases P (log_from scenario i before) (entered (turn_effects scenario i (notice ∷ before))) h) [
+      | inl earlier ↦
+          let w = log_split P scenario i before earlier in
+          (w.0, w.1, Among-append_left P (log_by w.0 scenario i before) (entered (w.0.effects scenario i (notice ∷ before))) w.2)
+      | inr now ↦
+          let w = Among-which (λ p. Among (EntersSome P) (p.effects scenario i (notice ∷ before)) × IsLawful p) protocols
+          (Among-with (λ p. Among (EntersSome P) (p.effects scenario i (notice ∷ before))) IsLawful protocols are_lawful
+          (Among-from_flat_map (λ p. p.effects scenario i (notice ∷ before)) (EntersSome P) protocols
+          (entered-from P (turn_effects scenario i (notice ∷ before)) now))) in (
+            w.0,
+            w.2.1,
+            Among-append_right P (log_by w.0 scenario i before) (entered (w.0.effects scenario i (notice ∷ before)))
+                (entered-to P (w.0.effects scenario i (notice ∷ before)) w.2.0),
+          )
+    ]
 
-identity_from : (m : Message) (by : Service) (f : FrameParts) → m.seq ≡ f.number → m.origin ≡ f.node → m.service ≡ by → f.class ≡ data_class by
-    → identity_of f ≡ identity_of (data_frame m)
-identity_from m by f number node service is =
-    let class : f.class ≡ data_class m.service = is ∙ sym (ap data_class service) in
-    λ k. record { class = class k; number = (sym number) k; node = (sym node) k }
+-- ---- from the log of a protocol to the log
 
--- a delivery in the log comes from a notice that brings the message's frame
-pub brought_from_log : (scenario : ScenarioParts) (i : ℕ) (m : Message) (past : List NoticeKind) (entry : LogEntry) → is_delivery_of m entry
-    → Contains (log_from scenario i past) entry → Among (λ e. brings i (identity_of (data_frame m)) e ≡ true) past
-brought_from_log scenario i m past entry is c =
-    let at = log_entry_at scenario i past entry c in
-    let parts = entry_cases m entry _ at.1.by at.1.frame at.1.is is in
-    let same : identity_of at.1.frame ≡ identity_of (data_frame m) = identity_from m at.1.by at.1.frame parts.0 parts.1 parts.2 at.1.is_first.class in
-    Among-get_or (λ e. brings i (identity_of (data_frame m)) e ≡ true) past at.0 Idle at.1.below
-    (subst (λ x. brings i x (slice_index_or past at.0 Idle) ≡ true) same at.1.is_first.here)
-
--- ---- from what was read to the log
-
--- what brings a frame has it, or one of its identity
-pub record Brought (i : ℕ) (x : Identity) (e : NoticeKind) : Type 0 where
-  pub what : FrameParts
-  pub has : Has what e
-  pub identity : x ≡ identity_of what
-
-pub brings-true : (i : ℕ) (x : Identity) (e : NoticeKind) → brings i x e ≡ true → Brought i x e
-brings-true i x e h = elim (or_cases (is_got x e) (x.node == i && is_sent x e) h) [
-  | inl got ↦ let g = is_got-true x e got in record { what = g.what; has = inl g.was; identity = g.identity }
-  | inr sent ↦ let g = is_sent-true x e (and_parts (x.node == i) (is_sent x e) sent).1 in record { what = g.what; has = inr g.was; identity = g.identity }
-]
-
--- the delivery that a log has of an identity
-pub record HasEntry (scenario : ScenarioParts) (i : ℕ) (by : Service) (x : Identity) (past : List NoticeKind) : Type 0 where
-  pub what : FrameParts
-  pub identity : x ≡ identity_of what
-  pub read : Among (Has what) past
-  pub slot : ℕ
-  pub stands : Among (λ y. y ≡ delivery slot by what) (log_from scenario i past)
-
-entry_later : (scenario : ScenarioParts) (i : ℕ) (by : Service) (x : Identity) (e : NoticeKind) (before : List NoticeKind) → HasEntry scenario i by x before
-    → HasEntry scenario i by x (e ∷ before)
+pub log_has : (P : LogEntry → Type 0) (scenario : ScenarioParts) (i : ℕ) (p : Protocol) → IsProtocol p → (past : List NoticeKind)
+    → Among P (log_by p scenario i past) → Among P (log_from scenario i past)
 unfolding log_from
-entry_later scenario i by x e before h =
-    record {
-      what = h.what;
-      identity = h.identity;
-      read = inr h.read;
-      slot = h.slot;
-      stands = Among-append_left (λ y. y ≡ delivery h.slot by h.what) (log_from scenario i before) (entered (turn_effects scenario i (e ∷ before))) h.stands;
-    }
+log_has P scenario i p is [] h = h
+log_has P scenario i p is (notice ∷ before) h =
+    elim (Among-append_cases P (log_by p scenario i before) (entered (p.effects scenario i (notice ∷ before))) h) [
+      | inl earlier ↦ Among-append_left P (log_from scenario i before) (entered (turn_effects scenario i (notice ∷ before))) (log_has P scenario i p is before earlier)
+      | inr now ↦
+          Among-append_right P (log_from scenario i before) (entered (turn_effects scenario i (notice ∷ before)))
+          (entered-to P (turn_effects scenario i (notice ∷ before))
+          (turn_has (EntersSome P) scenario i (notice ∷ before) p is (entered-from P (p.effects scenario i (notice ∷ before)) now)))
+    ]
 
-entry_now : (scenario : ScenarioParts) (i : ℕ) (by : Service) (x : Identity) (e : NoticeKind) (before : List NoticeKind) → is_sent_at_once by ≡ true
-    → x.class ≡ data_class by → brings i x e ≡ true → list_any (brings i x) before ≡ false → HasEntry scenario i by x (e ∷ before)
-unfolding log_from
-entry_now scenario i by x e before at_once class b none =
-    let w = brings-true i x e b in
-    let is : w.what.class ≡ data_class by = sym (ap (λ (y : Identity). y.class) w.identity) ∙ class in
-    let first : is_delivery i w.what e before ≡ true =
-    and_from (brings i (identity_of w.what) e) (not (list_any (brings i (identity_of w.what)) before)) (rw w.identity at b) (not_from_false _ (rw w.identity at none)) in
-    record {
-      what = w.what;
-      identity = w.identity;
-      read = inl w.has;
-      slot = length before;
-      stands = Among-append_right (λ y. y ≡ delivery (length before) by w.what) (log_from scenario i before) (entered (turn_effects scenario i (e ∷ before)))
-          (rw (turn_delivers scenario i by w.what e before at_once is w.has first) (inl refl));
-    }
+-- ---- at most one of a key
 
--- what brings an EDCAN or RELCAN frame makes an entry
-pub entry_from_brought : (scenario : ScenarioParts) (i : ℕ) (by : Service) (x : Identity) (past : List NoticeKind) → is_sent_at_once by ≡ true
-    → x.class ≡ data_class by → Among (λ e. brings i x e ≡ true) past → HasEntry scenario i by x past
-entry_from_brought scenario i by x [] at_once class h = absurd h
-entry_from_brought scenario i by x (e ∷ before) at_once class h = elim (cases_Bool (list_any (brings i x) before)) [
-  | inl early ↦ entry_later scenario i by x e before (entry_from_brought scenario i by x before at_once class (Among-from_any (brings i x) before early))
-  | inr none ↦ elim h [
-    | inl now ↦ entry_now scenario i by x e before at_once class now none
-    | inr early ↦ entry_later scenario i by x e before (entry_from_brought scenario i by x before at_once class early)
-  ]
-]
+abbrev count : MsgKey → List LogEntry → ℕ
+count key entries = count_by (delivers_key key) entries
+
+count-append : (key : MsgKey) (first rest : List LogEntry) → count key (first ++ rest) ≡ count key first + count key rest
+count-append key first rest = sum_by-append (λ entry. cond (delivers_key key entry) 1 0) first rest
+
+-- the sum over protocols
+abbrev total : (Protocol → ℕ) → List Protocol → ℕ
+total f [] = 0
+total f (p ∷ ps) = f p + total f ps
+
+total-plus : (f g : Protocol → ℕ) (ps : List Protocol) → total (λ p. f p + g p) ps ≡ total f ps + total g ps
+total-plus f g [] = refl
+total-plus f g (p ∷ ps) = omega (arith, total-plus f g ps)
+
+total-same : (f g : Protocol → ℕ) → ((p : Protocol) → f p ≡ g p) → (ps : List Protocol) → total f ps ≡ total g ps
+total-same f g e [] = refl
+total-same f g e (p ∷ ps) = omega (arith, e p, total-same f g e ps)
+
+count_turn : (scenario : ScenarioParts) (i : ℕ) (key : MsgKey) (past : List NoticeKind) (ps : List Protocol)
+    → count key (entered (flat_map (λ p. p.effects scenario i past) ps)) ≡ total (λ p. count key (entered (p.effects scenario i past))) ps
+unfolding entered
+count_turn scenario i key past [] = refl
+count_turn scenario i key past (p ∷ ps) =
+    ap (count key) (entered-append (p.effects scenario i past) (flat_map (λ q. q.effects scenario i past) ps))
+    ∙ count-append key (entered (p.effects scenario i past)) (entered (flat_map (λ q. q.effects scenario i past) ps))
+    ∙ ap (λ n. count key (entered (p.effects scenario i past)) + n) (count_turn scenario i key past ps)
+
+none_counted : (key : MsgKey) (scenario : ScenarioParts) (i : ℕ) (ps : List Protocol) → 0 ≡ total (λ p. count key (log_by p scenario i [])) ps
+none_counted key scenario i [] = refl
+none_counted key scenario i (p ∷ ps) = omega (arith, none_counted key scenario i ps)
+
+-- a log has as many deliveries of a key as the protocols together
+count_log : (scenario : ScenarioParts) (i : ℕ) (key : MsgKey) (past : List NoticeKind)
+    → count key (log_from scenario i past) ≡ total (λ p. count key (log_by p scenario i past)) protocols
+unfolding log_from turn_effects
+count_log scenario i key [] = none_counted key scenario i protocols
+count_log scenario i key (notice ∷ before) =
+    let now : Protocol → ℕ = λ p. count key (entered (p.effects scenario i (notice ∷ before))) in
+    let earlier : Protocol → ℕ = λ p. count key (log_by p scenario i before) in
+    let whole : Protocol → ℕ = λ p. count key (log_by p scenario i (notice ∷ before)) in
+    let split = count-append key (log_from scenario i before) (entered (turn_effects scenario i (notice ∷ before))) in
+    let a = count_log scenario i key before in
+    let b = count_turn scenario i key (notice ∷ before) protocols in
+    let c = total-same whole (λ p. earlier p + now p) (λ p. count-append key (log_by p scenario i before) (entered (p.effects scenario i (notice ∷ before)))) protocols in
+    let d = total-plus earlier now protocols in
+    split ∙ omega (arith, a, b, c, d)
+
+abbrev one_if : Bool → ℕ
+one_if b = cond b 1 0
+
+-- where each has at most one, and none where the test fails
+few_in : (f : Protocol → ℕ) (test : Protocol → Bool) (ps : List Protocol) → AllByRecursion (λ p. f p ≤ one_if (test p)) ps → total f ps ≤ count_by test ps
+few_in f test [] all = omega arith
+few_in f test (p ∷ ps) all = omega (arith, all.0, few_in f test ps all.1, sum_by-cons (λ q. cond (test q) 1 0) p ps)
+
+some_in : (f : Protocol → ℕ) (ps : List Protocol) → AllByRecursion IsLawful ps → 0 < total f ps → (p : Protocol) × IsLawful p × (0 < f p)
+some_in f [] all h = absurd (omega arith)
+some_in f (p ∷ ps) all h = elim (cases_lt 0 (f p)) [ inl here ↦ (p, all.0, here) | inr none ↦ some_in f ps all.1 (omega arith) ]
+
+one_of : (n : ℕ) (test : Bool) → n ≤ 1 → (0 < n → test ≡ true) → n ≤ one_if test
+one_of n true few h = few
+one_of n false few h = elim (cases_lt 0 n) [ inl some ↦ absurd (false≢true (h some)) | inr none ↦ none ]
+
+-- a log has at most one delivery of a key, where all protocols that made one deliver the messages of one service
+pub log_once : (scenario : ScenarioParts) (i : ℕ) (key : MsgKey) (past : List NoticeKind)
+    → ((p : Protocol) → IsLawful p → 0 < count_by (delivers_key key) (log_by p scenario i past)
+    → (by : Service) × ((q : Protocol) → IsLawful q → 0 < count_by (delivers_key key) (log_by q scenario i past) → q.delivers by ≡ true))
+    → count_by (delivers_key key) (log_from scenario i past) ≤ 1
+log_once scenario i key past alone =
+    let f : Protocol → ℕ = λ p. count key (log_by p scenario i past) in
+    let same : count key (log_from scenario i past) ≡ total f protocols = count_log scenario i key past in
+    elim (cases_lt 0 (total f protocols)) [
+      | inr none ↦ omega (arith, same, none)
+      | inl some ↦
+          let first = some_in f protocols are_lawful some in
+          let by = alone first.0 first.1 first.2 in
+          let few : total f protocols ≤ count_by (λ p. p.delivers by.0) protocols =
+          few_in f (λ p. p.delivers by.0) protocols
+          (Each-weaker IsLawful (λ p. f p ≤ one_if (p.delivers by.0)) (λ p lawful. one_of (f p) (p.delivers by.0) (lawful.once scenario i key past) (by.1 p lawful)) protocols are_lawful) in
+          omega (arith, same, few, one_delivers by.0)
+    ]

@@ -1,17 +1,9 @@
 -- Messages of one scenario that have the same key are the same message.
 use Rattle.std.proofs.Common.{◌≡◌, ◌<◌, ◌≤◌, inl, inr, List, [], ◌∷◌, count_by, ap, sym, ◌∙◌, arith}
 use Rattle.std.proofs.lemmas.Bool.{eq-eqb}
-use Rattle.cany_base.specs.declared.message.MsgKey.{MsgKey}
 use Rattle.cany_base.specs.declared.message.SendAsk.{SendAsk}
-use Rattle.cany_base.specs.declared.message.Service.{Service}
-use Rattle.cany_base.specs.Frame.{data_class}
-use Rattle.cany_model.specs.Bus.Frames.{Identity}
 use Rattle.cany_model.specs.Rules.Messages.{Message, is_from, message_of, messages_after, messages_of}
 use Rattle.cany_model.proofs.Among.{Among, count-yes, count-grows}
-
--- the data frame that a service sends for a key
-abbrev pub data_of : Service → MsgKey → Identity
-data_of by key = record { class = data_class by; number = key.seq; node = key.origin }
 
 -- the message is one of these
 abbrev pub IsOneOf : List Message → Message → Type 0
@@ -32,7 +24,7 @@ later_seq : (earlier sends : List SendAsk) (send : SendAsk) (m : Message) → Is
 later_seq earlier sends send m h e =
     omega (arith, seq_from (send ∷ earlier) sends m h, count-yes (is_from m.origin) send earlier (eq-eqb send.node m.origin e))
 
--- a message of a later broadcast has another key
+-- the message of a later send has another key
 apart : (earlier sends : List SendAsk) (send : SendAsk) (k m : Message) → message_of earlier send ≡ k → IsOneOf (messages_after (send ∷ earlier) sends) m
     → k.origin ≡ m.origin → k.seq ≡ m.seq → ⊥
 apart earlier sends send k m is h origin seq =

@@ -1,8 +1,8 @@
--- What the rules of RELCAN ask for and withdraw in a turn.
+-- What the rules of RELCAN do in a turn.
 use Rattle.std.specs.Prelude.{slice_index_or}
-use Rattle.std.proofs.Common.{◌≡◌, ℕ, ◌+◌, ◌<◌, ◌==◌, ◌&&◌, ◌⊎◌, inl, inr, true, not, List, [], ◌∷◌, drop, length, refl, ap, sym, ◌∙◌, subst, arith, add-zero}
+use Rattle.std.proofs.Common.{◌≡◌, ℕ, ◌+◌, ◌<◌, ◌==◌, ◌&&◌, ◌⊎◌, inl, inr, true, not, List, [], ◌∷◌, ◌++◌, drop, length, refl, ap, sym, ◌∙◌, subst, arith, add-zero, append-nil}
 use Rattle.std.specs.List.{AllByRecursion}
-use Rattle.std.proofs.lemmas.Bool.{false≢true, and_parts, and_from, cases_Bool, cases_lt, cond_both, leb-true, eqb-true, not_from_false}
+use Rattle.std.proofs.lemmas.Bool.{false≢true, and_parts, and_from, cases_Bool, cases_lt, cond_both, leb-true, eqb-true, not_from_false, or_left}
 use Rattle.std.proofs.lemmas.List.{get_or-drop, get_or_past}
 use Rattle.cany_base.specs.declared.frame.Class.TheVariants as class
 use Rattle.cany_base.specs.declared.message.Service.TheVariants.{Rel}
@@ -10,124 +10,80 @@ use Rattle.cany_base.specs.declared.notice.NoticeKind.{NoticeKind}
 use Rattle.cany_base.specs.declared.notice.NoticeKind.TheVariants.{Idle, Got, Sent, Bad}
 use Rattle.cany_base.specs.Frame.{FrameParts}
 use Rattle.cany_base.specs.Params.{Parameters}
-use Rattle.cany_model.specs.Rules.Delivery.{delivery_effects}
-use Rattle.cany_model.specs.Rules.Eager.{has_enough}
-use Rattle.cany_model.specs.Rules.Effect.{Effect, Ask, Withdraw, Enter}
+use Rattle.cany_base.specs.Scenario.{ScenarioParts}
 use Rattle.cany_model.specs.Bus.Frames.{Identity, identity_of, same_class}
 use Rattle.cany_model.specs.Bus.History.{copies, is_got}
-use Rattle.cany_model.specs.Rules.Relcan.{confirm_frame, confirm_effects, fall_back_effects, falls_back, fell_back, has_confirm, has_copy, is_first_got, is_timed, late_copy_effects, relcan_at, timer_effects}
-use Rattle.cany_model.proofs.Among.{Among, Among-append_cases, Among-get_or, Among-weaker, Each-append, count-from_Among}
-use Rattle.cany_model.proofs.Bus.Carried.{is_got-true, is_got-from}
-use Rattle.cany_model.proofs.Rules.DeliveryFacts.{delivery_enters, no_withdraw, no_ask, asks_nothing}
+use Rattle.cany_model.specs.Rules.Delivery.{delivery_effects}
+use Rattle.cany_model.specs.Rules.Eager.{has_enough}
+use Rattle.cany_model.specs.Rules.Effect.{Effect, Ask, Withdraw, Enter, entered}
+use Rattle.cany_model.specs.Rules.Messages.{is_service}
+use Rattle.cany_model.specs.Rules.Relcan.{confirm_frame, confirm_effects, fall_back_effects, falls_back, fell_back, has_confirm, has_copy, is_first_got, is_timed, late_copy_effects, relcan, relcan_at, relcan_effects, timer_effects}
+use Rattle.cany_model.proofs.Among.{Among, Among-append_right, Among-get_or, Each-append}
+use Rattle.cany_model.proofs.Bus.Carried.{is_got-true}
 use Rattle.cany_model.proofs.Bus.Identities.{same_class-true}
-use Rattle.cany_model.proofs.Bus.Waits.{Asks, Withdraws, AsksOnly}
+use Rattle.cany_model.proofs.Bus.Waits.{Asks}
+use Rattle.cany_model.proofs.Rules.DeliveryFacts.{DeliversAtOnce, EntersNone, delivers_once, delivery_enters, delivery_founded, entered-append, entered-none, entries_at}
+use Rattle.cany_model.proofs.Rules.ProtocolFacts.{IsFounded, IsLawful, confirms, relays}
+
+serves : relcan.delivers Rel ≡ true
+unfolding is_service same_class
+serves = refl
+
+names_confirm : relcan.names class.Confirm ≡ true
+unfolding same_class
+names_confirm = refl
 
 -- ---- the notice
 
-late_withdraws : (p : Parameters) (i : ℕ) (x : Identity) (f : FrameParts) (past : List NoticeKind) → Among (Withdraws x) (late_copy_effects p i f past)
-    → p.omit < copies x (Got f ∷ past)
-late_withdraws p i x f past =
-    cond_both (fell_back p.confirm i (identity_of f) past && has_enough p.omit (identity_of f) (Got f ∷ past)) (Withdraw (identity_of f) ∷ []) []
-    (λ effects. Among (Withdraws x) effects → p.omit < copies x (Got f ∷ past))
-    (λ late h. elim h [
-      | inl e ↦
-          let many = leb-true (p.omit + 1) (copies (identity_of f) (Got f ∷ past)) (and_parts (fell_back p.confirm i (identity_of f) past) (has_enough p.omit (identity_of f) (Got f ∷ past)) late).1 in
-          let at : copies x (Got f ∷ past) ≡ copies (identity_of f) (Got f ∷ past) = ap (λ y. copies y (Got f ∷ past)) e in
-          omega (arith, many)
-      | inr none ↦ absurd none
-    ])
-    (λ _ h. absurd h)
-
-late_asks_none : (x : Identity) (p : Parameters) (i : ℕ) (f : FrameParts) (past : List NoticeKind) → Among (Asks x) (late_copy_effects p i f past) → ⊥
-late_asks_none x p i f past =
-    cond_both (fell_back p.confirm i (identity_of f) past && has_enough p.omit (identity_of f) (Got f ∷ past)) (Withdraw (identity_of f) ∷ []) []
-    (λ effects. Among (Asks x) effects → ⊥)
-    (λ _ h. elim h [ inl none ↦ absurd none | inr none ↦ absurd none ])
-    (λ _ h. h)
-
-late_only : (P : FrameParts → Type 0) (p : Parameters) (i : ℕ) (f : FrameParts) (past : List NoticeKind) → AllByRecursion (AsksOnly P) (late_copy_effects p i f past)
-late_only P p i f past =
-    cond_both (fell_back p.confirm i (identity_of f) past && has_enough p.omit (identity_of f) (Got f ∷ past)) (Withdraw (identity_of f) ∷ []) []
-    (AllByRecursion (AsksOnly P)) (λ _. (tt, tt)) (λ _. tt)
-
-confirm_withdraws_none : (x : Identity) (i : ℕ) (f : FrameParts) → Among (Withdraws x) (confirm_effects i f) → ⊥
-confirm_withdraws_none x i f =
-    cond_both (f.node == i) (Ask (confirm_frame f) ∷ []) [] (λ effects. Among (Withdraws x) effects → ⊥)
-    (λ _ h. elim h [ inl none ↦ absurd none | inr none ↦ absurd none ])
-    (λ _ h. h)
-
-confirm_cause : (x : Identity) (i : ℕ) (f : FrameParts) → Among (Asks x) (confirm_effects i f) → x.node ≡ i
-confirm_cause x i f =
-    cond_both (f.node == i) (Ask (confirm_frame f) ∷ []) [] (λ effects. Among (Asks x) effects → x.node ≡ i)
-    (λ own h. elim h [ inl e ↦ ap (λ (y : Identity). y.node) e ∙ eqb-true f.node i own | inr none ↦ absurd none ])
-    (λ _ h. absurd h)
-
-confirm_only : (P : FrameParts → Type 0) (i : ℕ) (f : FrameParts) → (f.node ≡ i → P (confirm_frame f)) → AllByRecursion (AsksOnly P) (confirm_effects i f)
-confirm_only P i f own =
-    cond_both (f.node == i) (Ask (confirm_frame f) ∷ []) [] (AllByRecursion (AsksOnly P)) (λ e. (own (eqb-true f.node i e), tt)) (λ _. tt)
-
-pub relcan_withdraws : (p : Parameters) (i : ℕ) (x : Identity) (e : NoticeKind) (past : List NoticeKind) → Among (Withdraws x) (relcan_at p i e past)
-    → p.omit < copies x (e ∷ past)
-unfolding relcan_at
-relcan_withdraws p i x Idle past h = absurd h
-relcan_withdraws p i x Bad past h = absurd h
-relcan_withdraws p i x (Got f) past h =
-    cond_both (same_class f.class class.Rel) _ [] (λ effects. Among (Withdraws x) effects → p.omit < copies x (Got f ∷ past))
-    (λ _ k. elim (Among-append_cases (Withdraws x) (delivery_effects Rel i f (Got f) past) (late_copy_effects p i f past) k) [
-      | inl d ↦ absurd (no_withdraw x (delivery_effects Rel i f (Got f) past) (delivery_enters Rel i f (Got f) past) d)
-      | inr late ↦ late_withdraws p i x f past late
-    ])
-    (λ _ k. absurd k)
-    h
-relcan_withdraws p i x (Sent f) past h =
-    cond_both (same_class f.class class.Rel) _ [] (λ effects. Among (Withdraws x) effects → p.omit < copies x (Sent f ∷ past))
-    (λ _ k. elim (Among-append_cases (Withdraws x) (delivery_effects Rel i f (Sent f) past) (confirm_effects i f) k) [
-      | inl d ↦ absurd (no_withdraw x (delivery_effects Rel i f (Sent f) past) (delivery_enters Rel i f (Sent f) past) d)
-      | inr c ↦ absurd (confirm_withdraws_none x i f c)
-    ])
-    (λ _ k. absurd k)
-    h
-
--- only an origin asks at a notice
-pub relcan_cause : (p : Parameters) (i : ℕ) (x : Identity) (e : NoticeKind) (past : List NoticeKind) → Among (Asks x) (relcan_at p i e past) → x.node ≡ i
-unfolding relcan_at
-relcan_cause p i x Idle past h = absurd h
-relcan_cause p i x Bad past h = absurd h
-relcan_cause p i x (Got f) past h =
-    cond_both (same_class f.class class.Rel) _ [] (λ effects. Among (Asks x) effects → x.node ≡ i)
-    (λ _ k. elim (Among-append_cases (Asks x) (delivery_effects Rel i f (Got f) past) (late_copy_effects p i f past) k) [
-      | inl d ↦ absurd (no_ask x (delivery_effects Rel i f (Got f) past) (delivery_enters Rel i f (Got f) past) d)
-      | inr late ↦ absurd (late_asks_none x p i f past late)
-    ])
-    (λ _ k. absurd k)
-    h
-relcan_cause p i x (Sent f) past h =
-    cond_both (same_class f.class class.Rel) _ [] (λ effects. Among (Asks x) effects → x.node ≡ i)
-    (λ _ k. elim (Among-append_cases (Asks x) (delivery_effects Rel i f (Sent f) past) (confirm_effects i f) k) [
-      | inl d ↦ absurd (no_ask x (delivery_effects Rel i f (Sent f) past) (delivery_enters Rel i f (Sent f) past) d)
-      | inr c ↦ confirm_cause x i f c
-    ])
-    (λ _ k. absurd k)
-    h
-
--- and that for the confirmation of a message of its own that it has sent
-pub relcan_only : (P : FrameParts → Type 0) (p : Parameters) (i : ℕ) (e : NoticeKind) (past : List NoticeKind)
-    → ((f : FrameParts) → e ≡ Sent f → f.class ≡ class.Rel → f.node ≡ i → P (confirm_frame f)) → AllByRecursion (AsksOnly P) (relcan_at p i e past)
-unfolding relcan_at
-relcan_only P p i Idle past sent = tt
-relcan_only P p i Bad past sent = tt
-relcan_only P p i (Got f) past sent =
-    cond_both (same_class f.class class.Rel) _ [] (AllByRecursion (AsksOnly P))
-    (λ _. Each-append (AsksOnly P) (delivery_effects Rel i f (Got f) past) (late_copy_effects p i f past)
-    (asks_nothing P (delivery_effects Rel i f (Got f) past) (delivery_enters Rel i f (Got f) past))
-    (late_only P p i f past))
+late_founded : (scenario : ScenarioParts) (i : ℕ) (f : FrameParts) (past : List NoticeKind) → same_class f.class class.Rel ≡ true
+    → AllByRecursion (IsFounded scenario relcan i (Got f ∷ past)) (late_copy_effects scenario.params i f past)
+late_founded scenario i f past rel =
+    cond_both (fell_back scenario.params.confirm i (identity_of f) past && has_enough scenario.params.omit (identity_of f) (Got f ∷ past))
+    (Withdraw (identity_of f) ∷ []) [] (AllByRecursion (IsFounded scenario relcan i (Got f ∷ past)))
+    (λ late.
+    let many = (and_parts (fell_back scenario.params.confirm i (identity_of f) past) (has_enough scenario.params.omit (identity_of f) (Got f ∷ past)) late).1 in
+    (((λ _. omega (arith, leb-true (scenario.params.omit + 1) (copies (identity_of f) (Got f ∷ past)) many)), or_left _ (same_class f.class class.Confirm) rel), tt))
     (λ _. tt)
-relcan_only P p i (Sent f) past sent =
-    cond_both (same_class f.class class.Rel) _ [] (AllByRecursion (AsksOnly P))
-    (λ rel. Each-append (AsksOnly P) (delivery_effects Rel i f (Sent f) past) (confirm_effects i f)
-    (asks_nothing P (delivery_effects Rel i f (Sent f) past) (delivery_enters Rel i f (Sent f) past))
-    (confirm_only P i f (λ own. sent f refl (same_class-true f.class class.Rel rel) own)))
+
+late_enters : (p : Parameters) (i : ℕ) (f : FrameParts) (past : List NoticeKind) → AllByRecursion EntersNone (late_copy_effects p i f past)
+late_enters p i f past =
+    cond_both (fell_back p.confirm i (identity_of f) past && has_enough p.omit (identity_of f) (Got f ∷ past)) (Withdraw (identity_of f) ∷ []) []
+    (AllByRecursion EntersNone) (λ _. (tt, tt)) (λ _. tt)
+
+confirm_founded : (scenario : ScenarioParts) (i : ℕ) (f : FrameParts) (past : List NoticeKind) → f.class ≡ class.Rel
+    → AllByRecursion (IsFounded scenario relcan i (Sent f ∷ past)) (confirm_effects i f)
+confirm_founded scenario i f past rel =
+    cond_both (f.node == i) (Ask (confirm_frame f) ∷ []) [] (AllByRecursion (IsFounded scenario relcan i (Sent f ∷ past)))
+    (λ own. ((confirms f (inl refl) rel (eqb-true f.node i own) refl, names_confirm), tt))
     (λ _. tt)
+
+confirm_enters : (i : ℕ) (f : FrameParts) → AllByRecursion EntersNone (confirm_effects i f)
+confirm_enters i f = cond_both (f.node == i) (Ask (confirm_frame f) ∷ []) [] (AllByRecursion EntersNone) (λ _. (tt, tt)) (λ _. tt)
+
+notice_founded : (scenario : ScenarioParts) (i : ℕ) (e : NoticeKind) (past : List NoticeKind)
+    → AllByRecursion (IsFounded scenario relcan i (e ∷ past)) (relcan_at scenario.params i e past)
+unfolding relcan_at
+notice_founded scenario i Idle past = tt
+notice_founded scenario i Bad past = tt
+notice_founded scenario i (Got f) past =
+    cond_both (same_class f.class class.Rel) _ [] (AllByRecursion (IsFounded scenario relcan i (Got f ∷ past)))
+    (λ rel. Each-append (IsFounded scenario relcan i (Got f ∷ past)) (delivery_effects Rel i f (Got f) past) (late_copy_effects scenario.params i f past)
+    (delivery_founded scenario relcan Rel i f (Got f) past serves (same_class-true f.class class.Rel rel) (inl refl))
+    (late_founded scenario i f past rel))
+    (λ _. tt)
+notice_founded scenario i (Sent f) past =
+    cond_both (same_class f.class class.Rel) _ [] (AllByRecursion (IsFounded scenario relcan i (Sent f ∷ past)))
+    (λ rel. Each-append (IsFounded scenario relcan i (Sent f ∷ past)) (delivery_effects Rel i f (Sent f) past) (confirm_effects i f)
+    (delivery_founded scenario relcan Rel i f (Sent f) past serves (same_class-true f.class class.Rel rel) (inr refl))
+    (confirm_founded scenario i f past (same_class-true f.class class.Rel rel)))
+    (λ _. tt)
+
+notice_enters : (p : Parameters) (i : ℕ) (e : NoticeKind) (past : List NoticeKind) → entered (relcan_at p i e past) ≡ entries_at Rel i e past
+unfolding relcan_at entered
+notice_enters p i Idle past = refl
+notice_enters p i Bad past = refl
+notice_enters p i (Got f) past = delivery_enters Rel i f (Got f) past (late_copy_effects p i f past) (late_enters p i f past)
+notice_enters p i (Sent f) past = delivery_enters Rel i f (Sent f) past (confirm_effects i f) (confirm_enters i f)
 
 -- ---- the timer
 
@@ -138,53 +94,67 @@ got_at n f past at = elim (cases_lt n (length past)) [
   | inr over ↦ let none : Idle ≡ Got f = sym (get_or_past past n Idle over) ∙ at in absurd (cc)
 ]
 
+timed_class : (p : Parameters) (i : ℕ) (x : Identity) (past : List NoticeKind) → falls_back p.confirm i x past ≡ true → same_class x.class class.Rel ≡ true
+timed_class p i x past falls =
+    let started = and_parts (is_timed i x && is_first_got x (drop p.confirm past)) (not (has_confirm x past)) falls in
+    (and_parts (same_class x.class class.Rel) (not (x.node == i)) (and_parts (is_timed i x) (is_first_got x (drop p.confirm past)) started.0).0).0
+
 -- what a timer asks for, if the notice that started it was this one
-fall_back_only : (P : FrameParts → Type 0) (p : Parameters) (i : ℕ) (past : List NoticeKind) (e : NoticeKind) → ((f : FrameParts) → e ≡ Got f → P f)
-    → AllByRecursion (AsksOnly P) (fall_back_effects p i past e)
-fall_back_only P p i past Idle got = tt
-fall_back_only P p i past Bad got = tt
-fall_back_only P p i past (Sent f) got = tt
-fall_back_only P p i past (Got f) got =
+fall_back_founded : (scenario : ScenarioParts) (i : ℕ) (past : List NoticeKind) (e : NoticeKind) → ((f : FrameParts) → e ≡ Got f → Among (λ n. n ≡ Got f) past)
+    → AllByRecursion (IsFounded scenario relcan i past) (fall_back_effects scenario.params i past e)
+fall_back_founded scenario i past Idle got = tt
+fall_back_founded scenario i past Bad got = tt
+fall_back_founded scenario i past (Sent f) got = tt
+fall_back_founded scenario i past (Got f) got =
+    cond_both (falls_back scenario.params.confirm i (identity_of f) past && not (has_enough scenario.params.omit (identity_of f) past)) (Ask f ∷ []) []
+    (AllByRecursion (IsFounded scenario relcan i past))
+    (λ asks.
+    let falls = (and_parts (falls_back scenario.params.confirm i (identity_of f) past) (not (has_enough scenario.params.omit (identity_of f) past)) asks).0 in
+    ((relays (got f refl), or_left _ (same_class f.class class.Confirm) (timed_class scenario.params i (identity_of f) past falls)), tt))
+    (λ _. tt)
+
+timer_founded : (scenario : ScenarioParts) (i : ℕ) (past : List NoticeKind) → AllByRecursion (IsFounded scenario relcan i past) (timer_effects scenario.params i past)
+unfolding timer_effects
+timer_founded scenario i past =
+    fall_back_founded scenario i past (slice_index_or past scenario.params.confirm Idle) (λ f at. got_at scenario.params.confirm f past at)
+
+fall_back_enters : (p : Parameters) (i : ℕ) (past : List NoticeKind) (e : NoticeKind) → AllByRecursion EntersNone (fall_back_effects p i past e)
+fall_back_enters p i past Idle = tt
+fall_back_enters p i past Bad = tt
+fall_back_enters p i past (Sent f) = tt
+fall_back_enters p i past (Got f) =
     cond_both (falls_back p.confirm i (identity_of f) past && not (has_enough p.omit (identity_of f) past)) (Ask f ∷ []) []
-    (AllByRecursion (AsksOnly P)) (λ _. (got f refl, tt)) (λ _. tt)
+    (AllByRecursion EntersNone) (λ _. (tt, tt)) (λ _. tt)
 
--- a timer asks for a frame that was got
-pub timer_only : (P : FrameParts → Type 0) (p : Parameters) (i : ℕ) (past : List NoticeKind) → ((f : FrameParts) → Among (λ e. e ≡ Got f) past → P f)
-    → AllByRecursion (AsksOnly P) (timer_effects p i past)
+timer_enters : (p : Parameters) (i : ℕ) (past : List NoticeKind) → AllByRecursion EntersNone (timer_effects p i past)
 unfolding timer_effects
-timer_only P p i past got = fall_back_only P p i past (slice_index_or past p.confirm Idle) (λ f at. got f (got_at p.confirm f past at))
+timer_enters p i past = fall_back_enters p i past (slice_index_or past p.confirm Idle)
 
-asked_has : (P : FrameParts → Type 0) (x : Identity) (C : Type 0) → ((f : FrameParts) → x ≡ identity_of f → P f → C) → (effects : List Effect)
-    → AllByRecursion (AsksOnly P) effects → Among (Asks x) effects → C
-asked_has P x C gives [] all h = absurd h
-asked_has P x C gives (Ask f ∷ effects) all (inl e) = gives f e all.0
-asked_has P x C gives (Ask f ∷ effects) all (inr h) = asked_has P x C gives effects all.1 h
-asked_has P x C gives (Withdraw y ∷ effects) all (inl h) = absurd h
-asked_has P x C gives (Withdraw y ∷ effects) all (inr h) = asked_has P x C gives effects all.1 h
-asked_has P x C gives (Enter entry ∷ effects) all (inl h) = absurd h
-asked_has P x C gives (Enter entry ∷ effects) all (inr h) = asked_has P x C gives effects all.1 h
+-- ---- a turn
 
-pub timer_cause : (p : Parameters) (i : ℕ) (x : Identity) (past : List NoticeKind) → Among (Asks x) (timer_effects p i past) → 0 < copies x past
-unfolding copies
-timer_cause p i x past h =
-    asked_has (λ f. Among (λ e. e ≡ Got f) past) x (0 < copies x past)
-    (λ f same got. count-from_Among (is_got x) past
-    (Among-weaker (λ e. e ≡ Got f) (λ e. is_got x e ≡ true) (λ e is. is_got-from x f e is same) past got))
-    (timer_effects p i past) (timer_only (λ f. Among (λ e. e ≡ Got f) past) p i past (λ f got. got)) h
+pub relcan_delivers : DeliversAtOnce relcan Rel
+unfolding relcan_effects
+relcan_delivers scenario i e past =
+    entered-append (relcan_at scenario.params i e past) (timer_effects scenario.params i (e ∷ past))
+    ∙ ap (λ rest. entered (relcan_at scenario.params i e past) ++ rest) (entered-none (timer_effects scenario.params i (e ∷ past)) (timer_enters scenario.params i (e ∷ past)))
+    ∙ append-nil (entered (relcan_at scenario.params i e past))
+    ∙ notice_enters scenario.params i e past
 
-fall_back_withdraws_none : (x : Identity) (p : Parameters) (i : ℕ) (past : List NoticeKind) (e : NoticeKind) → Among (Withdraws x) (fall_back_effects p i past e) → ⊥
-fall_back_withdraws_none x p i past Idle h = h
-fall_back_withdraws_none x p i past Bad h = h
-fall_back_withdraws_none x p i past (Sent f) h = h
-fall_back_withdraws_none x p i past (Got f) h =
-    cond_both (falls_back p.confirm i (identity_of f) past && not (has_enough p.omit (identity_of f) past)) (Ask f ∷ []) [] (λ effects. Among (Withdraws x) effects → ⊥)
-    (λ _ k. elim k [ inl none ↦ absurd none | inr none ↦ absurd none ])
-    (λ _ k. k)
-    h
+pub relcan_is_lawful : IsLawful relcan
+unfolding relcan_effects
+relcan_is_lawful = record {
+  idle = λ scenario i. refl;
+  founded = λ scenario i past. each scenario i past;
+  once = delivers_once relcan Rel relcan_delivers;
+}
+  where
+    each : (scenario : ScenarioParts) (i : ℕ) (past : List NoticeKind) → AllByRecursion (IsFounded scenario relcan i past) (relcan_effects scenario i past)
+    each scenario i [] = tt
+    each scenario i (e ∷ past) =
+        Each-append (IsFounded scenario relcan i (e ∷ past)) (relcan_at scenario.params i e past) (timer_effects scenario.params i (e ∷ past))
+        (notice_founded scenario i e past) (timer_founded scenario i (e ∷ past))
 
-pub timer_withdraws_none : (x : Identity) (p : Parameters) (i : ℕ) (past : List NoticeKind) → Among (Withdraws x) (timer_effects p i past) → ⊥
-unfolding timer_effects
-timer_withdraws_none x p i past h = fall_back_withdraws_none x p i past (slice_index_or past p.confirm Idle) h
+-- ---- a node that falls back
 
 first_got_head : (x : Identity) (past : List NoticeKind) → is_first_got x past ≡ true → is_got x (slice_index_or past 0 Idle) ≡ true
 first_got_head x [] h = absurd (false≢true h)
@@ -206,7 +176,7 @@ fall_back_asks p i x past f e falls = elim (cases_Bool (has_enough p.omit x past
 ]
 
 -- a node that falls back asks for the frame, unless the copies are enough
-pub timer_asks : (p : Parameters) (i : ℕ) (x : Identity) (past : List NoticeKind) → falls_back p.confirm i x past ≡ true
+timer_asks : (p : Parameters) (i : ℕ) (x : Identity) (past : List NoticeKind) → falls_back p.confirm i x past ≡ true
     → Among (Asks x) (timer_effects p i past) ⊎ (p.omit < copies x past)
 unfolding timer_effects
 timer_asks p i x past falls =
@@ -214,3 +184,12 @@ timer_asks p i x past falls =
     (and_parts (is_timed i x) (is_first_got x (drop p.confirm past)) (and_parts (is_timed i x && is_first_got x (drop p.confirm past)) (not (has_confirm x past)) falls).0).1 in
     let g = is_got-true x (slice_index_or past p.confirm Idle) (first_got_at x p.confirm past first) in
     subst (λ e. Among (Asks x) (fall_back_effects p i past e) ⊎ (p.omit < copies x past)) (sym g.was) (fall_back_asks p i x past g.what g.identity falls)
+
+pub relcan_falls_back : (scenario : ScenarioParts) (i : ℕ) (x : Identity) (e : NoticeKind) (past : List NoticeKind)
+    → falls_back scenario.params.confirm i x (e ∷ past) ≡ true
+    → Among (Asks x) (relcan_effects scenario i (e ∷ past)) ⊎ (scenario.params.omit < copies x (e ∷ past))
+unfolding relcan_effects
+relcan_falls_back scenario i x e past falls = elim (timer_asks scenario.params i x (e ∷ past) falls) [
+  | inl a ↦ inl (Among-append_right (Asks x) (relcan_at scenario.params i e past) (timer_effects scenario.params i (e ∷ past)) a)
+  | inr many ↦ inr many
+]

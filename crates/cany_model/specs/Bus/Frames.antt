@@ -1,5 +1,5 @@
 -- Identities of frames, and the order in which frames win arbitration.
-use Rattle.std.specs.Prelude.{ℕ, Bool, ◌==◌, ◌&&◌, nat_lt, if◌then◌else◌}
+use Rattle.std.specs.Prelude.{ℕ, Bool, ◌==◌, ◌&&◌, nat_lt, if◌then◌else◌, []}
 use Rattle.std.specs.Str.{bytes_eq}
 use Rattle.cany_base.specs.declared.frame.Class.{Class}
 use Rattle.cany_base.specs.Frame.{FrameParts, class_number}
@@ -12,6 +12,10 @@ pub record Identity : Type 0 where
 
 abbrev pub identity_of : FrameParts → Identity
 identity_of f = record { class = f.class; number = f.number; node = f.node }
+
+-- a frame of this identity, without payload
+abbrev pub bare : Identity → FrameParts
+bare x = record { class = x.class; number = x.number; node = x.node; inc = 0; payload = [] }
 
 unfoldable pub same_class : Class → Class → Bool
 same_class a b = class_number a == class_number b

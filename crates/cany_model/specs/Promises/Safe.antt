@@ -1,5 +1,5 @@
 -- What is promised of a run.
-use Rattle.std.specs.Prelude.{◌≡◌, ℕ, ◌==◌, ◌&&◌, ◌≤◌, Bool, true, false, Some, Contains, count_by, ◌⊎◌}
+use Rattle.std.specs.Prelude.{◌≡◌, ℕ, ◌==◌, ◌&&◌, ◌≤◌, Bool, true, false, List, Some, Contains, count_by, ◌⊎◌}
 use Rattle.cany_base.specs.declared.log_entry.LogEntry.{LogEntry}
 use Rattle.cany_base.specs.declared.log_entry.LogEntry.TheVariants.{Deliver, Failed, View}
 use Rattle.cany_base.specs.declared.message.MsgKey.{MsgKey}
@@ -18,9 +18,9 @@ delivers_key key (Failed slot node cycle) = false
 delivers_key key (View slot number members) = false
 
 -- the data frame of the message was carried, with its origin among the senders, in a slot not after this one
-pub record WasSentBy (s : RunState) (m : Message) (slot : ℕ) : Type 0 where
+pub record WasSent (trace : List SlotNote) (m : Message) (slot : ℕ) : Type 0 where
   pub note : SlotNote
-  pub stands : Contains s.trace note
+  pub stands : Contains trace note
   pub by_then : note.slot ≤ slot
   pub frame : note.frame ≡ Some (data_frame m)
   pub sender : has note.senders m.origin ≡ true
@@ -29,7 +29,7 @@ pub record WasSentBy (s : RunState) (m : Message) (slot : ℕ) : Type 0 where
 abbrev pub IsSound : ScenarioParts → RunState → LogEntry → Type 0
 IsSound scenario s (Deliver slot service msg payload) =
     (m : Message) × Contains (messages_of scenario.sends) m × (message_key m ≡ msg) × (m.service ≡ service)
-    × (m.payload ≡ payload) × WasSentBy s m slot
+    × (m.payload ≡ payload) × WasSent s.trace m slot
 IsSound scenario s (Failed slot node cycle) = Unit {0}
 IsSound scenario s (View slot number members) = Unit {0}
 

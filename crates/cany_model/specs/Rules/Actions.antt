@@ -1,14 +1,14 @@
 -- The effects of rules as the actions that the code lists: a withdrawal names the identifier.
-use Rattle.std.specs.Prelude.{ℕ, ◌+◌, ◌*◌, ◌^◌, List, map}
+use Rattle.std.specs.Prelude.{ℕ, List, map}
 use Rattle.cany_base.specs.declared.actions.Action.{Action}
 use Rattle.cany_base.specs.declared.actions.Action.TheVariants as action
-use Rattle.cany_base.specs.Frame.{class_number}
+use Rattle.cany_base.specs.Frame.{identifier_of}
 use Rattle.cany_model.specs.Rules.Effect.{Effect, Ask, Withdraw, Enter}
-use Rattle.cany_model.specs.Bus.Frames.{Identity}
+use Rattle.cany_model.specs.Bus.Frames.{Identity, bare}
 
 -- the identifier of the frames of this identity
 abbrev pub ident_of : Identity → ℕ
-ident_of x = class_number x.class * 2 ^ 25 + x.number * 2 ^ 9 + x.node * 2 ^ 4
+ident_of x = identifier_of (bare x)
 
 abbrev pub action_of : Effect → Action
 action_of (Ask f) = action.Ask f

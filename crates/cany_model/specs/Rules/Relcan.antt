@@ -11,10 +11,11 @@ use Rattle.cany_base.specs.Params.{Parameters}
 use Rattle.cany_base.specs.Scenario.{ScenarioParts}
 use Rattle.cany_model.specs.Rules.Delivery.{delivery_effects}
 use Rattle.cany_model.specs.Rules.Eager.{has_enough}
-use Rattle.cany_model.specs.Rules.Effect.{Effect, Ask, Withdraw, Protocol}
+use Rattle.cany_model.specs.Rules.Effect.{Effect, Ask, Withdraw, TurnRule}
 use Rattle.cany_model.specs.Bus.Frames.{Identity, identity_of, same_class}
 use Rattle.cany_model.specs.Bus.History.{is_got}
-use Rattle.cany_model.specs.Rules.Messages.{Message, data_frame}
+use Rattle.cany_model.specs.Rules.Messages.{Message, data_frame, is_service}
+use Rattle.cany_model.specs.Rules.Protocol.{Protocol}
 
 -- ---- confirmations
 
@@ -98,7 +99,16 @@ unfoldable pub timer_effects : Parameters → ℕ → List NoticeKind → List E
 timer_effects p i past = fall_back_effects p i past (slice_index_or past p.confirm Idle)
 
 -- the notice, and then the timer that is due at its slot
-unfoldable pub relcan_effects : Protocol
+unfoldable pub relcan_effects : TurnRule
 relcan_effects scenario i [] = []
 relcan_effects scenario i (notice ∷ before) =
     relcan_at scenario.params i notice before ++ timer_effects scenario.params i (notice ∷ before)
+
+abbrev pub relcan : Protocol
+relcan = record {
+  effects = relcan_effects;
+  originates = false;
+  ahead = has_timer_ahead;
+  names = λ c. same_class c class.Rel || same_class c class.Confirm;
+  delivers = λ by. is_service by service.Rel;
+}

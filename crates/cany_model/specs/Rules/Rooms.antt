@@ -1,32 +1,66 @@
 -- How much a node can come to hold in a run: what it may ask for, what it may enter.
-use Rattle.std.specs.Prelude.{ℕ, ◌+◌, ◌*◌, ◌/◌, List, [], ◌∷◌, length}
-use Rattle.std.specs.List.{flat_map}
-use Rattle.cany_base.specs.declared.frame.Class.TheVariants.{Accept, Confirm}
+use Rattle.std.specs.Prelude.{◌≡◌, ℕ, ◌+◌, ◌*◌, ◌/◌, length, count_by, Contains, Option, Some, None}
+use Rattle.cany_base.specs.declared.frame.Class.{Class}
+use Rattle.cany_base.specs.declared.frame.Class.TheVariants.{Accept, Rha, Els, Fda, Join, Leave, Confirm, Tot, Rel, Ed}
 use Rattle.cany_base.specs.declared.message.Service.{Service}
-use Rattle.cany_base.specs.declared.message.Service.TheVariants.{Ed, Rel, Tot}
-use Rattle.cany_base.specs.Frame.{data_class}
+use Rattle.cany_base.specs.declared.message.Service.TheVariants as service
 use Rattle.cany_base.specs.Scenario.{ScenarioParts}
 use Rattle.cany_model.specs.Bus.Frames.{Identity}
-use Rattle.cany_model.specs.Rules.Messages.{Message, messages_of}
+use Rattle.cany_model.specs.Rules.Messages.{Message, messages_of, is_service}
 
-abbrev pub data_identity : Message → Identity
-data_identity m = record { class = data_class m.service; number = m.seq; node = m.origin }
+-- the service of the messages that frames of this class belong to
+abbrev pub service_of : Class → Option Service
+service_of Accept = Some service.Tot
+service_of Rha = None
+service_of Els = None
+service_of Fda = None
+service_of Join = None
+service_of Leave = None
+service_of Confirm = Some service.Rel
+service_of Tot = Some service.Tot
+service_of Rel = Some service.Rel
+service_of Ed = Some service.Ed
 
--- the frames that follow the data of a message: the confirmation of RELCAN, the acceptance of TOTCAN
-abbrev pub companions : Service → Message → List Identity
-companions Ed m = []
-companions Rel m = record { class = Confirm; number = m.seq; node = m.origin } ∷ []
-companions Tot m = record { class = Accept; number = m.seq; node = m.origin } ∷ []
+-- the identity is that of a frame of a message of this service
+pub record IsOfMessage (scenario : ScenarioParts) (by : Service) (x : Identity) : Type 0 where
+  pub message : Message
+  pub stands : Contains (messages_of scenario.sends) message
+  pub sent_by : message.service ≡ by
+  pub number : message.seq ≡ x.number
+  pub origin : message.origin ≡ x.node
 
--- what a node may ask for in a run of the scenario
-abbrev pub askable : ScenarioParts → List Identity
-askable scenario = flat_map (λ m. data_identity m ∷ companions m.service m) (messages_of scenario.sends)
+abbrev pub IsAskableBy : ScenarioParts → Identity → Option Service → Type 0
+IsAskableBy scenario x (Some by) = IsOfMessage scenario by x
+IsAskableBy scenario x None = ⊥
+
+-- A frame of this identity may come to wait at a node, by its class: it is a frame of a message of the service. No protocol
+-- asks for frames of the other classes yet.
+abbrev pub IsAskable : ScenarioParts → Identity → Type 0
+IsAskable scenario x = IsAskableBy scenario x (service_of x.class)
 
 -- how many membership cycles start after slot 0
 abbrev pub cycles : ScenarioParts → ℕ
 cycles scenario = scenario.params.slots / scenario.params.cycle
 
--- the frames that may wait at a node
+-- how many sends are by this service
+abbrev pub sends_by : ScenarioParts → Service → ℕ
+sends_by scenario by = count_by (λ send. is_service by send.service) scenario.sends
+
+-- How many frames of a class may wait at a node: one of each message of the service; of each cycle its own vector, and a
+-- failure sign of each node; two life signs; and each scripted ask to join and to leave.
+abbrev pub class_room : ScenarioParts → Class → ℕ
+class_room scenario Accept = sends_by scenario service.Tot
+class_room scenario Rha = cycles scenario + 1
+class_room scenario Els = 2
+class_room scenario Fda = scenario.params.nodes * (cycles scenario + 1)
+class_room scenario Join = length scenario.joins
+class_room scenario Leave = length scenario.leaves
+class_room scenario Confirm = sends_by scenario service.Rel
+class_room scenario Tot = sends_by scenario service.Tot
+class_room scenario Rel = sends_by scenario service.Rel
+class_room scenario Ed = sends_by scenario service.Ed
+
+-- the frames that may wait at a node: at least as many as the classes have together
 abbrev pub waiting_room : ScenarioParts → ℕ
 waiting_room scenario =
     2 * length scenario.sends + (scenario.params.nodes + 1) * (cycles scenario + 2)

@@ -1,26 +1,40 @@
--- What a node does in a turn: the rules of the protocols in their order, and then the scripted asks.
-use Rattle.std.specs.Prelude.{ℕ, ◌==◌, ◌&&◌, Bool, true, false, [], ◌∷◌, ◌++◌, length, filter, map}
-use Rattle.cany_base.specs.declared.message.Service.{Service}
-use Rattle.cany_base.specs.declared.message.Service.TheVariants.{Ed, Rel, Tot}
-use Rattle.cany_model.specs.Rules.Edcan.{edcan_effects}
-use Rattle.cany_model.specs.Rules.Effect.{Ask, Protocol}
-use Rattle.cany_model.specs.Rules.Messages.{Message, messages_of, data_frame}
-use Rattle.cany_model.specs.Rules.Relcan.{relcan_effects}
+-- What a node does in a turn: what each protocol does, in their order.
+use Rattle.std.specs.Prelude.{ℕ, ◌||◌, Bool, false, if◌then◌else◌, List, [], ◌∷◌}
+use Rattle.std.specs.List.{flat_map, list_any}
+use Rattle.cany_base.specs.declared.notice.NoticeKind.{NoticeKind}
+use Rattle.cany_base.specs.Scenario.{ScenarioParts}
+use Rattle.cany_model.specs.Bus.Frames.{Identity, is_of}
+use Rattle.cany_model.specs.Rules.Edcan.{edcan}
+use Rattle.cany_model.specs.Rules.Effect.{Effect, Ask, Withdraw, Enter, TurnRule}
+use Rattle.cany_model.specs.Rules.Messages.{Message, data_id}
+use Rattle.cany_model.specs.Rules.Protocol.{Protocol}
+use Rattle.cany_model.specs.Rules.Relcan.{relcan}
+use Rattle.cany_model.specs.Rules.Sends.{scripted_sends}
 
--- whether the origin asks for the data frame in its turn of the scripted slot
-abbrev pub is_sent_at_once : Service → Bool
-is_sent_at_once Ed = true
-is_sent_at_once Rel = true
-is_sent_at_once Tot = false
+-- the protocols, in the order in which a turn goes through them
+abbrev pub protocols : List Protocol
+protocols = edcan ∷ relcan ∷ scripted_sends ∷ []
 
-abbrev pub is_sent_in : ℕ → ℕ → Message → Bool
-is_sent_in i slot m = is_sent_at_once m.service && m.origin == i && m.slot == slot
+-- one after another
+unfoldable pub turn_effects : TurnRule
+turn_effects scenario i past = flat_map (λ protocol. protocol.effects scenario i past) protocols
 
--- the origin asks for the data frames of its messages of this slot, in file order
-unfoldable pub send_effects : Protocol
-send_effects scenario i [] = []
-send_effects scenario i (notice ∷ before) =
-    map (λ m. Ask (data_frame m)) (filter (is_sent_in i (length before)) (messages_of scenario.sends))
+-- whether one of them has something of the message ahead at node i
+abbrev pub is_ahead_at : ScenarioParts → Message → ℕ → List NoticeKind → Bool
+is_ahead_at scenario m i past = list_any (λ protocol. protocol.ahead scenario m i past) protocols
 
-unfoldable pub turn_effects : Protocol
-turn_effects scenario i past = edcan_effects scenario i past ++ relcan_effects scenario i past ++ send_effects scenario i past
+-- what an origin does in a turn for its own messages
+abbrev pub origin_effects : TurnRule
+origin_effects scenario i past =
+    flat_map (λ protocol. if protocol.originates then protocol.effects scenario i past else []) protocols
+
+abbrev pub asks_for : Identity → Effect → Bool
+asks_for x (Ask f) = is_of x f
+asks_for x (Withdraw y) = false
+asks_for x (Enter entry) = false
+
+-- whether node i, as the origin, asked for the data frame of the message in one of its turns so far
+unfoldable pub has_asked : ScenarioParts → Message → ℕ → List NoticeKind → Bool
+has_asked scenario m i [] = false
+has_asked scenario m i (notice ∷ before) =
+    list_any (asks_for (data_id m)) (origin_effects scenario i (notice ∷ before)) || has_asked scenario m i before

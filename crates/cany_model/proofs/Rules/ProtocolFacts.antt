@@ -1,0 +1,116 @@
+-- What is proved of each protocol. Proofs about runs see a turn through these facts and the list of protocols alone.
+use Rattle.std.proofs.Common.{◌≡◌, ℕ, suc, ◌<◌, ◌≤◌, ◌⊎◌, inl, inr, Bool, true, false, List, [], ◌∷◌, ◌++◌, length, count_by, ap, sym, ◌∙◌}
+use Rattle.std.specs.List.{AllByRecursion}
+use Rattle.cany_base.specs.declared.frame.Class.{Class}
+use Rattle.cany_base.specs.declared.frame.Class.TheVariants as class
+use Rattle.cany_base.specs.declared.log_entry.LogEntry.{LogEntry}
+use Rattle.cany_base.specs.declared.log_entry.LogEntry.TheVariants.{Deliver, Failed, View}
+use Rattle.cany_base.specs.declared.message.MsgKey.{MsgKey}
+use Rattle.cany_base.specs.declared.message.Service.{Service}
+use Rattle.cany_base.specs.declared.notice.NoticeKind.{NoticeKind}
+use Rattle.cany_base.specs.declared.notice.NoticeKind.TheVariants.{Got, Sent}
+use Rattle.cany_base.specs.Frame.{FrameParts, data_class}
+use Rattle.cany_base.specs.Scenario.{ScenarioParts}
+use Rattle.cany_model.specs.Bus.Frames.{Identity, identity_of}
+use Rattle.cany_model.specs.Bus.History.{copies, is_got}
+use Rattle.cany_model.specs.Promises.Safe.{delivers_key}
+use Rattle.cany_model.specs.Rules.Effect.{Effect, Ask, Withdraw, Enter, entered}
+use Rattle.cany_model.specs.Rules.Messages.{Message, messages_of, data_frame}
+use Rattle.cany_model.specs.Rules.Protocol.{Protocol}
+use Rattle.cany_model.specs.Rules.Relcan.{confirm_frame}
+use Rattle.cany_model.proofs.Among.{Among, Among-weaker, count-from_Among}
+use Rattle.cany_model.proofs.Bus.Carried.{Has, is_got-from}
+use Rattle.cany_model.proofs.Bus.Waits.{Asks, Withdraws, AsksOnly}
+use Rattle.cany_model.proofs.Rules.MessageKeys.{IsOneOf}
+
+-- ---- one effect
+
+-- why a node may ask for a frame, by what it has read
+pub data MayAsk (scenario : ScenarioParts) (i : ℕ) (past : List NoticeKind) (f : FrameParts) : Type 0 where
+  -- it has got the frame
+  relays : Among (λ n. n ≡ Got f) past → MayAsk scenario i past f
+  -- the frame carries a message of its own, whose slot it has read
+  originates : (m : Message) → IsOneOf (messages_of scenario.sends) m → m.origin ≡ i → m.slot < length past → data_frame m ≡ f
+      → MayAsk scenario i past f
+  -- the frame confirms a message of its own that it has sent
+  confirms : (g : FrameParts) → Among (λ n. n ≡ Sent g) past → g.class ≡ class.Rel → g.node ≡ i → confirm_frame g ≡ f
+      → MayAsk scenario i past f
+
+-- what is delivered in the turn of the newest notice is what a data frame of the service carried, which the node has read by then
+pub record IsRead (p : Protocol) (past : List NoticeKind) (slot : ℕ) (by : Service) (msg : MsgKey) (payload : List ℕ) : Type 0 where
+  pub frame : FrameParts
+  pub read : Among (Has frame) past
+  pub class : frame.class ≡ data_class by
+  pub key : record { origin = frame.node; seq = frame.number } ≡ msg
+  pub carries : frame.payload ≡ payload
+  pub now : length past ≡ suc slot
+  pub serves : p.delivers by ≡ true
+
+abbrev pub IsFoundedEntry : Protocol → List NoticeKind → LogEntry → Type 0
+IsFoundedEntry p past (Deliver slot by msg payload) = IsRead p past slot by msg payload
+IsFoundedEntry p past (Failed slot node cycle) = Unit {0}
+IsFoundedEntry p past (View slot number members) = Unit {0}
+
+-- the frames that are withdrawn only with more than omit copies: those of eager diffusion, and those of a node that falls back
+abbrev pub is_diffused : Class → Bool
+is_diffused class.Accept = false
+is_diffused class.Rha = false
+is_diffused class.Els = false
+is_diffused class.Fda = true
+is_diffused class.Join = false
+is_diffused class.Leave = false
+is_diffused class.Confirm = false
+is_diffused class.Tot = false
+is_diffused class.Rel = true
+is_diffused class.Ed = true
+
+-- the effect has its reason in what was read, and names only what the protocol names
+abbrev pub IsFounded : ScenarioParts → Protocol → ℕ → List NoticeKind → Effect → Type 0
+IsFounded scenario p i past (Ask f) = MayAsk scenario i past f × (p.names f.class ≡ true)
+IsFounded scenario p i past (Withdraw x) = (is_diffused x.class ≡ true → scenario.params.omit < copies x past) × (p.names x.class ≡ true)
+IsFounded scenario p i past (Enter entry) = IsFoundedEntry p past entry
+
+-- ---- a protocol
+
+-- the entries that it makes
+abbrev pub log_by : Protocol → ScenarioParts → ℕ → List NoticeKind → List LogEntry
+log_by p scenario i [] = []
+log_by p scenario i (notice ∷ before) = log_by p scenario i before ++ entered (p.effects scenario i (notice ∷ before))
+
+pub record IsLawful (p : Protocol) : Type 0 where
+  -- it does nothing without a notice
+  pub idle : (scenario : ScenarioParts) (i : ℕ) → p.effects scenario i [] ≡ []
+  -- each effect has its reason
+  pub founded : (scenario : ScenarioParts) (i : ℕ) (past : List NoticeKind) → AllByRecursion (IsFounded scenario p i past) (p.effects scenario i past)
+  -- it delivers no message twice
+  pub once : (scenario : ScenarioParts) (i : ℕ) (key : MsgKey) (past : List NoticeKind) → count_by (delivers_key key) (log_by p scenario i past) ≤ 1
+
+-- ---- what follows of an effect
+
+-- a frame is asked for because a copy was read, or by the node that it names
+pub asked_cause : (scenario : ScenarioParts) (i : ℕ) (past : List NoticeKind) (x : Identity) (f : FrameParts) → x ≡ identity_of f → MayAsk scenario i past f
+    → (x.node ≡ i) ⊎ (0 < copies x past)
+unfolding copies
+asked_cause scenario i past x f same (relays got) =
+    inr (count-from_Among (is_got x) past (Among-weaker (λ n. n ≡ Got f) (λ n. is_got x n ≡ true) (λ n is. is_got-from x f n is same) past got))
+asked_cause scenario i past x f same (originates m is origin slot frame) = inl (ap (λ (y : Identity). y.node) same ∙ sym (ap (λ (g : FrameParts). g.node) frame) ∙ origin)
+asked_cause scenario i past x f same (confirms g sent rel own frame) = inl (ap (λ (y : Identity). y.node) same ∙ sym (ap (λ (g : FrameParts). g.node) frame) ∙ own)
+
+-- an effect that asks, withdraws or enters among effects that have their reason
+pub ask_of : (scenario : ScenarioParts) (p : Protocol) (i : ℕ) (past : List NoticeKind) (x : Identity) (e : Effect) → Asks x e → IsFounded scenario p i past e
+    → (f : FrameParts) × (x ≡ identity_of f) × MayAsk scenario i past f
+ask_of scenario p i past x (Ask f) h k = (f, h, k.0)
+ask_of scenario p i past x (Withdraw y) h k = absurd h
+ask_of scenario p i past x (Enter entry) h k = absurd h
+
+pub withdrawal_of : (scenario : ScenarioParts) (p : Protocol) (i : ℕ) (past : List NoticeKind) (x : Identity) (e : Effect) → Withdraws x e
+    → IsFounded scenario p i past e → is_diffused x.class ≡ true → scenario.params.omit < copies x past
+withdrawal_of scenario p i past x (Ask f) h k d = absurd h
+withdrawal_of scenario p i past x (Withdraw y) h k d = rw h (k.0 (rw (← h) d))
+withdrawal_of scenario p i past x (Enter entry) h k d = absurd h
+
+pub asks_only : (scenario : ScenarioParts) (p : Protocol) (i : ℕ) (past : List NoticeKind) (P : FrameParts → Type 0) (e : Effect)
+    → ((f : FrameParts) → MayAsk scenario i past f → P f) → IsFounded scenario p i past e → AsksOnly P e
+asks_only scenario p i past P (Ask f) gives k = gives f k.0
+asks_only scenario p i past P (Withdraw y) gives k = tt
+asks_only scenario p i past P (Enter entry) gives k = tt
