@@ -1,5 +1,6 @@
 pub mod Bounded
 pub mod Frame
+pub mod Limits
 pub mod Nodes
 pub mod NodesLaws
 pub mod Params

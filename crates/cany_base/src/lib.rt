@@ -3,8 +3,10 @@
 
 mod actions;
 mod bounded;
+mod formulas;
 mod frame;
 pub mod laws;
+pub mod limits;
 mod log_entry;
 mod memory;
 mod message;
