@@ -21,10 +21,11 @@ pub record ScenarioParts : Type 0 where
   pub leaves : List NodeAsk
   pub journal : Option (List Step)
 
--- a scripted broadcast happens in a slot of the run, at a node of the bus
+-- a scripted send happens in a slot of the run, at a node of the bus
 abbrev pub IsSendOf : Parameters → SendAsk → Type 0
 IsSendOf p send = (send.slot < p.slots) × (send.node < p.nodes)
 
+-- so does a scripted join or leave
 abbrev pub IsAskOf : Parameters → NodeAsk → Type 0
 IsAskOf p ask = (ask.slot < p.slots) × (ask.node < p.nodes)
 
@@ -43,9 +44,6 @@ pub record IsRuleOf (p : Parameters) (rule : Rule) : Type 0 where
   pub place : IsPlaceOf p rule.place
   pub verdict : IsVerdictOf p rule.verdict
   pub stop : AllBelow p.nodes rule.stop
-
-abbrev pub HaveOnePlace : Rule → Rule → Type 0
-HaveOnePlace a b = a.place ≡ b.place
 
 pub record IsLegalScenario (s : ScenarioParts) : Type 0 where
   pub in_range : IsInRange s.params
