@@ -10,6 +10,7 @@ pub mod Notes
 pub mod RoundRobinEnds
 pub mod Rounds
 pub mod Runs
+pub mod SlotStates
 pub mod States
 pub mod Steps
 pub mod Waits

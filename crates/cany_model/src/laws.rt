@@ -1,5 +1,5 @@
 //! What holds of every run: each law is the contract of a function that does nothing.
-ghost use Rattle.std.specs.Prelude.{◌≡◌, ◌≤◌, ◌↔◌, List, ◌∷◌, Some, None, Contains};
+ghost use Rattle.std.specs.Prelude.{◌≡◌, ◌≤◌, ◌+◌, ◌↔◌, ℕ, true, List, ◌∷◌, Some, None, Contains};
 ghost use Rattle.cany_base.specs.declared.message.Service.TheVariants as service;
 ghost use Rattle.cany_base.specs.declared.slot_note.SlotNote.{SlotNote};
 ghost use Rattle.cany_base.specs.declared.step.Step.{Step};
@@ -10,6 +10,7 @@ ghost use Rattle.cany_model.specs.Promises.Hypothesis.{IsWithin, first_break};
 ghost use Rattle.cany_model.specs.Rules.Messages.{Message, messages_of};
 ghost use Rattle.cany_model.specs.Bus.RoundRobin.{round_robin};
 ghost use Rattle.cany_model.specs.Bus.Run.{IsLegal, IsWhole, run};
+ghost use Rattle.cany_model.specs.Bus.State.{node_at, runs};
 ghost use Rattle.cany_model.specs.Promises.Safe.{IsIntegral, IsAgreedOn};
 ghost use Rattle.cany_model.specs.declared.breaks.Break.{Break};
 
@@ -59,6 +60,15 @@ pub fn first_break_is_exact()
         → first_break p (note ∷ before) ≡ Some b }
     ensures named { (p : Parameters) (note : SlotNote) (before : List SlotNote) (b : Break) → first_break p before ≡ None
         → first_break p (note ∷ before) ≡ Some b → b.slot ≡ note.slot }
+{}
+
+/// Unread notices: in every run a running node has at most one unread notice more than the lag.
+///
+/// A slot runs only where no running node has more unread notices than `lag`, and gives each one more. It holds of every
+/// journal, legal or not, and asks for nothing of the scenario.
+pub fn unread_notices()
+    ensures { (scenario : ScenarioParts) (journal : List Step) (i : ℕ) → runs (node_at (run scenario journal).nodes i) ≡ true
+        → (node_at (run scenario journal).nodes i).unread ≤ scenario.params.lag + 1 }
 {}
 
 /// The round robin journal: in every scenario each step of it is done, and at its end all slots ran and every running node

@@ -6,6 +6,7 @@ mod follow;
 pub mod laws;
 mod reply;
 mod share;
+mod threads;
 
 pub use breaks::{Break, BreakKind};
 pub use follow::FollowFault;

@@ -77,6 +77,20 @@ run_from scenario s (step ∷ journal) = run_from scenario (after_step scenario 
 abbrev pub run : ScenarioParts → List Step → RunState
 run scenario journal = run_from scenario (opening scenario.params.nodes) journal
 
+-- whether the step, made in this state, runs slot t
+abbrev pub runs_slot : ScenarioParts → ℕ → RunState → Step → Bool
+runs_slot scenario t s step.Slot = is_done (reply scenario s step.Slot) && slots_run s == t
+runs_slot scenario t s (step.Turn i) = false
+
+unfoldable pub slot_state_from : ScenarioParts → ℕ → RunState → List Step → Option RunState
+slot_state_from scenario t s [] = None
+slot_state_from scenario t s (step ∷ journal) =
+    if runs_slot scenario t s step then Some s else slot_state_from scenario t (after_step scenario s step) journal
+
+-- the state in which slot t is run, where the journal runs it
+abbrev pub slot_state : ScenarioParts → ℕ → List Step → Option RunState
+slot_state scenario t journal = slot_state_from scenario t (opening scenario.params.nodes) journal
+
 unfoldable pub is_legal_from : ScenarioParts → RunState → List Step → Bool
 is_legal_from scenario s [] = true
 is_legal_from scenario s (step ∷ journal) =

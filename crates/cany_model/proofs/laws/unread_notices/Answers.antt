@@ -1,0 +1,5 @@
+use Rattle.cany_model.proofs.Bus.Journals.{unread_within}
+use Rattle.cany_model.proofs.laws.unread_notices.Goals as goal
+
+pub returns : goal.returns
+returns c = unread_within

@@ -1,0 +1,15 @@
+//! Replies, faults, breaks and shares may move to another thread and be shared by threads.
+
+use crate::breaks::Break;
+use crate::follow::FollowFault;
+use crate::reply::StepReply;
+use crate::share::Share;
+
+fn is_thread_safe<T: Send + Sync>() {}
+
+fn all_cross_threads() {
+    is_thread_safe::<Break>();
+    is_thread_safe::<FollowFault>();
+    is_thread_safe::<Share>();
+    is_thread_safe::<StepReply>();
+}
