@@ -111,9 +111,10 @@ trace_grows scenario s (next ∷ journal) =
   where
     by_step : (made : Step) → (newer : List SlotNote) × ((run_from scenario (after_step scenario s next) journal).trace ≡ newer ++ (proceed scenario s made).trace)
         → (newer : List SlotNote) × ((run_from scenario (after_step scenario s next) journal).trace ≡ newer ++ s.trace)
-    by_step step.Slot h =
-        (h.0 ++ (slot_note_of (script scenario.rules) s ∷ []),
-        h.1 ∙ ap (λ trace. h.0 ++ trace) (after_slot-trace (script scenario.rules) s) ∙ sym (append_assoc h.0 (slot_note_of (script scenario.rules) s ∷ []) s.trace))
+    by_step step.Slot h = (
+      h.0 ++ (slot_note_of (script scenario.rules) s ∷ []),
+      h.1 ∙ ap (λ trace. h.0 ++ trace) (after_slot-trace (script scenario.rules) s) ∙ sym (append_assoc h.0 (slot_note_of (script scenario.rules) s ∷ []) s.trace),
+    )
     by_step (step.Turn i) h = (h.0, h.1 ∙ ap (λ trace. h.0 ++ trace) (after_turn-trace scenario i s))
 
 -- the note of a slot in the trace of the run is that of the state in which it is run

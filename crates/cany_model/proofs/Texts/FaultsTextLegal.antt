@@ -9,6 +9,7 @@ use Rattle.std.proofs.lemmas.List.Elements.{All-nil, All-cons, All-head, All-tai
 use Rattle.std.proofs.lemmas.List.Kept.{AllPairs-cons}
 use Rattle.std.proofs.lemmas.Option.{same_Some}
 use Rattle.toml.specs.Data.{Data, as_str, as_array, as_table, Members, get_member}
+use Rattle.cany_base.specs.Limits.{greatest_attempt, most_rules}
 use Rattle.cany_base.specs.declared.rule.Place.{Place}
 use Rattle.cany_base.specs.declared.rule.Place.TheVariants.{At, FrameNth}
 use Rattle.cany_base.specs.declared.rule.Rule.{Rule}
@@ -86,10 +87,10 @@ frame_place_from-of p r entry place h =
     let class = bind_some (required class_from (codes "class") entry) _ place known.1 in
     let number = bind_some (required (number_from 0 65535) (codes "number") entry) _ place class.2 in
     let node = bind_some (required (number_from 0 (p.nodes - 1)) (codes "node") entry) _ place number.2 in
-    let nth = bind_some (required (number_from 1 100000) (codes "nth") entry) _ place node.2 in
+    let nth = bind_some (required (number_from 1 greatest_attempt) (codes "nth") entry) _ place node.2 in
     let made = same_Some (FrameNth class.0 number.0 node.0 nth.0) place nth.2 in
     let on_bus = below_count p.nodes node.0 (some_node p.nodes r.nodes) (required-range 0 (p.nodes - 1) (codes "node") entry node.0 node.1) in
-    let counted = required-range 1 100000 (codes "nth") entry nth.0 nth.1 in
+    let counted = required-range 1 greatest_attempt (codes "nth") entry nth.0 nth.1 in
     rw (← made) (on_bus, counted.0, counted.1)
 
 place_of_test : (p : Parameters) (of_frame of_slot : Option Place) → ((place : Place) → of_frame ≡ Some place → IsPlaceOf p place)
@@ -157,7 +158,7 @@ AllPairs-from_test (rule ∷ rest) h =
 
 pub record AreRulesOf (p : Parameters) (rules : List Rule) : Type 0 where
   pub all : All (IsRuleOf p) rules
-  pub few : length rules ≤ 20000
+  pub few : length rules ≤ most_rules
   pub apart : AllPairs (λ a b. a.place ≢ b.place) rules
 
 pub no_rules : (p : Parameters) → AreRulesOf p []
@@ -168,11 +169,11 @@ unfolding rules_from
 rules_from-legal p value rules r h =
     let entries = bind_some (as_array value) _ rules h in
     let each = bind_some (each_of (rule_from p) entries.0) _ rules entries.2 in
-    let few = only_if-true (nat_le (length each.0) 20000) _ rules each.2 in
+    let few = only_if-true (nat_le (length each.0) most_rules) _ rules each.2 in
     let distinct = only_if-true (have_distinct_places each.0) _ rules few.1 in
     let same = same_Some each.0 rules distinct.1 in
     rw (← same) (record {
       all = each_of-All (IsRuleOf p) (rule_from p) (rule_from-of p r) entries.0 each.0 each.1;
-      few = few-from_test (length each.0) few.0;
+      few = few-from_test (length each.0) most_rules few.0;
       apart = AllPairs-from_test each.0 distinct.0;
     })

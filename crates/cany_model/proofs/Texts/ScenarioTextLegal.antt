@@ -11,6 +11,7 @@ use Rattle.cany_base.specs.declared.frame.Format.TheVariants.{One}
 use Rattle.cany_base.specs.declared.params.ParamFault.{ParamFault}
 use Rattle.cany_base.specs.Nodes.{those_where, AllBelow}
 use Rattle.cany_base.proofs.NodesFacts.{has-those_where}
+use Rattle.cany_base.specs.Limits.{greatest_errors, greatest_given, greatest_lag, greatest_omit, greatest_slots, most_sends}
 use Rattle.cany_base.specs.Params.{Parameters, IsInRange, MeetsFormulas, least_bound, least_cycle, least_life, least_silence, first_fault}
 use Rattle.cany_base.specs.Scenario.{ScenarioParts, IsLegalScenario, IsSendOf}
 use Rattle.cany_model.specs.Texts.TomlKeys.{has_only, required, optional, number_from, each_of}
@@ -33,21 +34,21 @@ optional-near low high default None n h = let e = same_Some default n h in (omeg
 optional-near low high default (Some value) n h =
     let p = number_from-range low high value n h in (omega (arith, p), omega (arith, p))
 
-least_bound-small : (nodes lag errors : ℕ) → nodes ≤ 32 → lag ≤ 8 → errors ≤ 1000 → (1 ≤ least_bound nodes lag errors) × (least_bound nodes lag errors ≤ 1000000)
+least_bound-small : (nodes lag errors : ℕ) → nodes ≤ 32 → lag ≤ greatest_lag → errors ≤ greatest_errors → (1 ≤ least_bound nodes lag errors) × (least_bound nodes lag errors ≤ greatest_given)
 least_bound-small nodes lag errors n l e = grind arith
 
-least_bound-near : (nodes lag errors : ℕ) → (2 ≤ nodes) × (nodes ≤ 32) → IsNear 0 8 0 lag → IsNear 0 1000 2 errors
-    → (1 ≤ least_bound nodes lag errors) × (least_bound nodes lag errors ≤ 1000000)
+least_bound-near : (nodes lag errors : ℕ) → (2 ≤ nodes) × (nodes ≤ 32) → IsNear 0 greatest_lag 0 lag → IsNear 0 greatest_errors 2 errors
+    → (1 ≤ least_bound nodes lag errors) × (least_bound nodes lag errors ≤ greatest_given)
 least_bound-near nodes lag errors n l e = least_bound-small nodes lag errors (omega arith) (omega arith) (omega arith)
 
-near_bound : (default bound : ℕ) → (1 ≤ default) × (default ≤ 1000000) → IsNear 1 1000000 default bound → (1 ≤ bound) × (bound ≤ 1000000)
+near_bound : (default bound : ℕ) → (1 ≤ default) × (default ≤ greatest_given) → IsNear 1 greatest_given default bound → (1 ≤ bound) × (bound ≤ greatest_given)
 near_bound default bound d near = (omega arith, omega arith)
 
 -- each from the values before it
 in_range : (nodes slots lag omit errors bound cycle life silence confirm : ℕ)
-    → (2 ≤ nodes) × (nodes ≤ 32) → (1 ≤ slots) × (slots ≤ 100000) → IsNear 0 8 0 lag → IsNear 0 8 1 omit → IsNear 0 1000 2 errors
-    → (1 ≤ bound) × (bound ≤ 1000000) → IsNear 1 1000000 (least_cycle lag bound) cycle → IsNear 1 1000000 (least_life lag bound) life
-    → IsNear 1 1000000 (least_silence lag bound life) silence → IsNear 1 cycle 10 confirm
+    → (2 ≤ nodes) × (nodes ≤ 32) → (1 ≤ slots) × (slots ≤ greatest_slots) → IsNear 0 greatest_lag 0 lag → IsNear 0 greatest_omit 1 omit → IsNear 0 greatest_errors 2 errors
+    → (1 ≤ bound) × (bound ≤ greatest_given) → IsNear 1 greatest_given (least_cycle lag bound) cycle → IsNear 1 greatest_given (least_life lag bound) life
+    → IsNear 1 greatest_given (least_silence lag bound life) silence → IsNear 1 cycle 10 confirm
     → IsInRange (record {
       format = One;
       nodes = nodes;
@@ -79,26 +80,26 @@ unfolding given_params
 given_params-range top p h =
     let format = bind_some (required (number_from 1 1) (codes "format") top) _ p h in
     let nodes = bind_some (required (number_from 2 32) (codes "nodes") top) _ p format.2 in
-    let slots = bind_some (required (number_from 1 100000) (codes "slots") top) _ p nodes.2 in
-    let lag = bind_some (optional (number_from 0 8) 0 (codes "lag") top) _ p slots.2 in
-    let omit = bind_some (optional (number_from 0 8) 1 (codes "omit") top) _ p lag.2 in
-    let errors = bind_some (optional (number_from 0 1000) 2 (codes "errors") top) _ p omit.2 in
-    let bound = bind_some (optional (number_from 1 1000000) (least_bound nodes.0 lag.0 errors.0) (codes "bound") top) _ p errors.2 in
-    let cycle = bind_some (optional (number_from 1 1000000) (least_cycle lag.0 bound.0) (codes "cycle") top) _ p bound.2 in
-    let life = bind_some (optional (number_from 1 1000000) (least_life lag.0 bound.0) (codes "life") top) _ p cycle.2 in
-    let silence = bind_some (optional (number_from 1 1000000) (least_silence lag.0 bound.0 life.0) (codes "silence") top) _ p life.2 in
+    let slots = bind_some (required (number_from 1 greatest_slots) (codes "slots") top) _ p nodes.2 in
+    let lag = bind_some (optional (number_from 0 greatest_lag) 0 (codes "lag") top) _ p slots.2 in
+    let omit = bind_some (optional (number_from 0 greatest_omit) 1 (codes "omit") top) _ p lag.2 in
+    let errors = bind_some (optional (number_from 0 greatest_errors) 2 (codes "errors") top) _ p omit.2 in
+    let bound = bind_some (optional (number_from 1 greatest_given) (least_bound nodes.0 lag.0 errors.0) (codes "bound") top) _ p errors.2 in
+    let cycle = bind_some (optional (number_from 1 greatest_given) (least_cycle lag.0 bound.0) (codes "cycle") top) _ p bound.2 in
+    let life = bind_some (optional (number_from 1 greatest_given) (least_life lag.0 bound.0) (codes "life") top) _ p cycle.2 in
+    let silence = bind_some (optional (number_from 1 greatest_given) (least_silence lag.0 bound.0 life.0) (codes "silence") top) _ p life.2 in
     let confirm = bind_some (optional (number_from 1 cycle.0) 10 (codes "confirm") top) _ p silence.2 in
     let made = same_Some _ p confirm.2 in
     let n = required-range 2 32 (codes "nodes") top nodes.0 nodes.1 in
-    let s = required-range 1 100000 (codes "slots") top slots.0 slots.1 in
-    let l = optional-near 0 8 0 (get_member (codes "lag") top) lag.0 lag.1 in
-    let j = optional-near 0 8 1 (get_member (codes "omit") top) omit.0 omit.1 in
-    let e = optional-near 0 1000 2 (get_member (codes "errors") top) errors.0 errors.1 in
+    let s = required-range 1 greatest_slots (codes "slots") top slots.0 slots.1 in
+    let l = optional-near 0 greatest_lag 0 (get_member (codes "lag") top) lag.0 lag.1 in
+    let j = optional-near 0 greatest_omit 1 (get_member (codes "omit") top) omit.0 omit.1 in
+    let e = optional-near 0 greatest_errors 2 (get_member (codes "errors") top) errors.0 errors.1 in
     let least = least_bound-near nodes.0 lag.0 errors.0 n l e in
-    let b = optional-near 1 1000000 (least_bound nodes.0 lag.0 errors.0) (get_member (codes "bound") top) bound.0 bound.1 in
-    let c = optional-near 1 1000000 (least_cycle lag.0 bound.0) (get_member (codes "cycle") top) cycle.0 cycle.1 in
-    let f = optional-near 1 1000000 (least_life lag.0 bound.0) (get_member (codes "life") top) life.0 life.1 in
-    let g = optional-near 1 1000000 (least_silence lag.0 bound.0 life.0) (get_member (codes "silence") top) silence.0 silence.1 in
+    let b = optional-near 1 greatest_given (least_bound nodes.0 lag.0 errors.0) (get_member (codes "bound") top) bound.0 bound.1 in
+    let c = optional-near 1 greatest_given (least_cycle lag.0 bound.0) (get_member (codes "cycle") top) cycle.0 cycle.1 in
+    let f = optional-near 1 greatest_given (least_life lag.0 bound.0) (get_member (codes "life") top) life.0 life.1 in
+    let g = optional-near 1 greatest_given (least_silence lag.0 bound.0 life.0) (get_member (codes "silence") top) silence.0 silence.1 in
     let r = optional-near 1 cycle.0 10 (get_member (codes "confirm") top) confirm.0 confirm.1 in
     rw (← made) (in_range nodes.0 slots.0 lag.0 omit.0 errors.0 bound.0 cycle.0 life.0 silence.0 confirm.0 n s l j e (near_bound _ bound.0 least b) c f g r)
 
@@ -150,7 +151,7 @@ send_from-legal p value send r h =
     rw (← made) (in_run, on_bus)
 
 abbrev AreSendsOf : Parameters → List SendAsk → Type 0
-AreSendsOf p sends = All (IsSendOf p) sends × (length sends ≤ 20000)
+AreSendsOf p sends = All (IsSendOf p) sends × (length sends ≤ most_sends)
 
 no_sends : (p : Parameters) → AreSendsOf p []
 no_sends p = (All-nil (IsSendOf p), lit≤ tt)
@@ -160,9 +161,9 @@ unfolding sends_from
 sends_from-legal p value sends r h =
     let entries = bind_some (as_array value) _ sends h in
     let each = bind_some (each_of (send_from p) entries.0) _ sends entries.2 in
-    let few = only_if-true (nat_le (length each.0) 20000) _ sends each.2 in
+    let few = only_if-true (nat_le (length each.0) most_sends) _ sends each.2 in
     let same = same_Some each.0 sends few.1 in
-    rw (← same) (each_of-All (IsSendOf p) (send_from p) (λ value send. send_from-legal p value send r) entries.0 each.0 each.1, few-from_test (length each.0) few.0)
+    rw (← same) (each_of-All (IsSendOf p) (send_from p) (λ value send. send_from-legal p value send r) entries.0 each.0 each.1, few-from_test (length each.0) most_sends few.0)
 
 -- ---- the scenario
 

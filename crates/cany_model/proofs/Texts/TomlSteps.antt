@@ -37,7 +37,7 @@ some_node nodes r = omega arith
 pub below_count : (count n : ℕ) → 1 ≤ count → (0 ≤ n) × (n ≤ count - 1) → n < count
 below_count count n some h = omega arith
 
-pub few-from_test : (n : ℕ) → nat_le n 20000 ≡ true → n ≤ 20000
+pub few-from_test : (n most : ℕ) → nat_le n most ≡ true → n ≤ most
 few-from_test n h = grind (arith, nat_tests)
 
 -- what holds of the default and of all that is read

@@ -9,6 +9,7 @@ use Rattle.cany_base.specs.declared.rule.Verdict.{Verdict}
 use Rattle.cany_base.specs.declared.rule.Verdict.TheVariants.{Clean, Lost, Partial, Silent}
 use Rattle.cany_base.specs.declared.slot_note.SlotNote.{SlotNote}
 use Rattle.cany_base.specs.Frame.{FrameParts}
+use Rattle.cany_base.specs.Limits.{greatest_error_counter}
 use Rattle.cany_base.specs.Nodes.{Nodes, has, those_where}
 use Rattle.cany_model.specs.Bus.Frames.{Identity, identity_of, same_identity, is_of, is_before}
 use Rattle.cany_model.specs.declared.share.Share.{Share}
@@ -133,7 +134,7 @@ after_share Errored node = record node { transmit = node.transmit + 8 }
 
 -- whether a counter is above the limit at which a node stops
 abbrev pub exceeds : NodeState → Bool
-exceeds node = nat_lt 127 node.transmit || nat_lt 127 node.receive
+exceeds node = nat_lt greatest_error_counter node.transmit || nat_lt greatest_error_counter node.receive
 
 -- the running nodes that stop at the end of the slot: by the script or by their counters
 abbrev pub stopping : Nodes → List NodeState → SlotNote → Nodes

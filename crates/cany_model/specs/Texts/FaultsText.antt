@@ -3,6 +3,7 @@ use Rattle.std.specs.Prelude.{ℕ, ◌-◌, ◌==◌, ◌&&◌, not, nat_le, Boo
 use Rattle.std.specs.List.{list_any}
 use Rattle.std.specs.Str.{bytes_eq}
 use Rattle.toml.specs.Data.{Data, as_str, as_array, as_table, Members, get_member}
+use Rattle.cany_base.specs.Limits.{greatest_attempt, most_rules}
 use Rattle.cany_base.specs.declared.frame.Class.{Class}
 use Rattle.cany_base.specs.declared.frame.Class.TheVariants.{Accept, Rha, Els, Fda, Join, Leave, Confirm, Tot, Rel, Ed}
 use Rattle.cany_base.specs.declared.rule.Place.{Place}
@@ -74,7 +75,7 @@ frame_place_from params entry = do
   class ← required class_from (codes "class") entry
   number ← required (number_from 0 65535) (codes "number") entry
   node ← required (number_from 0 (params.nodes - 1)) (codes "node") entry
-  nth ← required (number_from 1 100000) (codes "nth") entry
+  nth ← required (number_from 1 greatest_attempt) (codes "nth") entry
   Some (FrameNth class number node nth)
 
 -- an entry with the key `class`, whatever it holds, is a rule for a frame
@@ -111,6 +112,6 @@ unfoldable pub rules_from : Parameters → Data → Option (List Rule)
 rules_from params value = do
   entries ← as_array value
   rules ← each_of (rule_from params) entries
-  _ ← only_if (nat_le (length rules) 20000)
+  _ ← only_if (nat_le (length rules) most_rules)
   _ ← only_if (have_distinct_places rules)
   Some rules

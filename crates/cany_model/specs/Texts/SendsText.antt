@@ -7,6 +7,7 @@ use Rattle.toml.specs.Data.{Data, as_str, as_array, as_table}
 use Rattle.cany_base.specs.declared.message.Service.{Service}
 use Rattle.cany_base.specs.declared.message.Service.TheVariants.{Ed, Rel}
 use Rattle.cany_base.specs.declared.message.SendAsk.{SendAsk}
+use Rattle.cany_base.specs.Limits.{most_sends}
 use Rattle.cany_base.specs.Params.{Parameters}
 use Rattle.cany_model.specs.Texts.TomlKeys.{◌>>=◌, only_if, has_only, required, optional, number_from, each_of}
 
@@ -47,5 +48,5 @@ unfoldable pub sends_from : Parameters → Data → Option (List SendAsk)
 sends_from params value = do
   entries ← as_array value
   sends ← each_of (send_from params) entries
-  _ ← only_if (nat_le (length sends) 20000)
+  _ ← only_if (nat_le (length sends) most_sends)
   Some sends
