@@ -6,10 +6,11 @@ ghost use Rattle.can_fault.specs.Attempts.{AreCountsOf};
 ghost use Rattle.can_bus.specs.Contest.{frame_of};
 
 use can_arbiter::Outcome;
+use can_fault::laws::attempts_are_at_most_slots;
 use can_fault::{Attempts, Script};
 use cany_base::{NodeSet, Slot, Verdict};
 
-/// The outcome of the slot, and the nodes that the script stops at its end. The attempt is counted.
+/// The ruling of the script on the slot: the verdict, and the nodes that it stops at the end. The attempt is counted.
 pub(crate) fn ruling(
     slot: Slot,
     outcome: &Outcome,
@@ -23,6 +24,8 @@ pub(crate) fn ruling(
 {
     match outcome {
         Outcome::Won { frame, .. } => {
+            // So no count of a run stands still at the end of its type.
+            attempts_are_at_most_slots();
             let number = attempts.count(frame);
             script.verdict(slot, Some((*frame, number)))
         }
