@@ -5,7 +5,7 @@ use Rattle.std.proofs.lemmas.Bool.{lt-ltb}
 use Rattle.std.proofs.lemmas.Option.{slice_get_within}
 use Rattle.cany_base.specs.declared.slot_note.SlotNote.{SlotNote}
 use Rattle.cany_base.specs.Nodes.{Nodes, has}
-use Rattle.cany_base.specs.NodesLaws.{has-those_where}
+use Rattle.cany_base.proofs.NodesFacts.{has-those_where}
 use Rattle.cany_base.specs.Params.{Parameters}
 use Rattle.cany_model.specs.Bus.Slot.{after_share, exceeds, node_after, share_of, stopping}
 use Rattle.cany_model.specs.Bus.State.{NodeState, node_at, runs}

@@ -6,6 +6,7 @@ use Rattle.circular_buffer.specs.Buffer.{Buffer, buffer}
 use Rattle.cany_base.specs.declared.notice.Notice.{Notice}
 use Rattle.cany_base.specs.declared.notice.NoticeKind.{NoticeKind}
 use Rattle.cany_base.specs.declared.slot_note.SlotNote.{SlotNote}
+use Rattle.cany_base.specs.Limits.{greatest_error_counter}
 use Rattle.cany_base.specs.Nodes.{has}
 use Rattle.cany_model.specs.declared.share.Share.{Share}
 use Rattle.cany_model.specs.Bus.History.{notice_of}
@@ -27,12 +28,12 @@ pub pushed : {X T : Type 0} (r : Result T X) (old new : Buffer X) (x : X) → le
     → new ≡ buffer (old.items ++ x ∷ []) old.capacity
 pushed r old new x room fits ok = on_ok r (new ≡ buffer (old.items ++ x ∷ []) old.capacity) (fits.1 room) ok
 
-both : (a b : ℕ) → (nat_lt 127 a || nat_lt 127 b) ≡ false → (a ≤ 127) × (b ≤ 127)
-both a b e = (grind (arith, nat_tests), grind (arith, nat_tests))
+both : (a b limit : ℕ) → (nat_lt limit a || nat_lt limit b) ≡ false → (a ≤ limit) × (b ≤ limit)
+both a b limit e = (grind (arith, nat_tests), grind (arith, nat_tests))
 
 -- counters that do not exceed the limit
-pub within_limit : (node : NodeState) → exceeds node ≡ false → (node.transmit ≤ 127) × (node.receive ≤ 127)
-within_limit node low = both node.transmit node.receive low
+pub within_limit : (node : NodeState) → exceeds node ≡ false → (node.transmit ≤ greatest_error_counter) × (node.receive ≤ greatest_error_counter)
+within_limit node low = both node.transmit node.receive greatest_error_counter low
 
 -- the fields that a share leaves are those of the state that it leaves
 pub state_seen : (slot : ℕ) (share : Share) (old : Inside) (waiting : WaitingFrames) (counters : Counters) (notices : Buffer Notice) (kind : NoticeKind) (stopped : Option ℕ)

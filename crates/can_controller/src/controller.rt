@@ -18,8 +18,8 @@ use std::alloc::Global;
 use std::marker::Model;
 
 /// The controller of a node. It waits with frames, at most one of an identity, and offers the one that wins, slot after slot,
-/// until it was sent with success. It counts errors (CAN Specification 2.0 Part B, 8) and stops where a counter exceeds 127, which
-/// is this project's own rule. It keeps the notices of the slots until its node reads them.
+/// until it was sent with success. It counts errors (CAN Specification 2.0 Part B, 8) and stops where a counter exceeds
+/// `GREATEST_ERROR_COUNTER`, which is this project's own rule. It keeps the notices of the slots until its node reads them.
 ///
 /// All memory is taken by `build`.
 #[derive(Debug, Drop)]
@@ -124,7 +124,7 @@ impl Controller {
     }
 
     /// What the controller did in a slot: it gets the notice, its counters change, a frame sent with success waits no longer, and
-    /// where a counter exceeds 127 it stops.
+    /// where a counter exceeds the limit it stops.
     pub fn see(&mut self, slot: Slot, share: Share)
         requires running { self.old.stopped ≡ None }
         requires room { length self.old.unread < self.old.params.lag + 1 }
