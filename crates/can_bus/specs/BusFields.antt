@@ -20,4 +20,4 @@ pub record IsSound (b : Inside) : Type 0 where
   pub tally : IsTallyOf (reverse b.trace.items) b.tally
   pub params : b.tally.params ≡ b.params
   pub room : b.trace.room ≡ b.params.slots
-  pub few : length b.trace.items ≤ b.params.slots
+  pub in_room : length b.trace.items ≤ b.params.slots

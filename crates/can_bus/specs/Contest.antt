@@ -1,8 +1,8 @@
 -- What arbitration gives, and what is offered to it, in the words of a run.
-use Rattle.std.specs.Prelude.{◌≡◌, ℕ, if◌then◌else◌, is_none, Option, Some, None, List, slice_get}
+use Rattle.std.specs.Prelude.{◌≡◌, ℕ, ◌<◌, ◌⊎◌, if◌then◌else◌, is_none, Option, Some, None, IfSome, List, All, slice_get}
 use Rattle.cany_base.specs.declared.frame.Format.{Format}
 use Rattle.cany_base.specs.declared.slot_note.SlotNote.{SlotNote}
-use Rattle.cany_base.specs.Frame.{FrameParts}
+use Rattle.cany_base.specs.Frame.{FrameParts, key_of}
 use Rattle.cany_base.specs.Nodes.{Nodes, has, those_where}
 use Rattle.cany_model.specs.Bus.Slot.{least_frame, offered, sends, share_of, winner}
 use Rattle.cany_model.specs.Bus.State.{NodeState, node_at, runs}
@@ -11,12 +11,11 @@ use Rattle.can_arbiter.specs.declared.arbitration.Outcome.{Outcome}
 use Rattle.can_arbiter.specs.declared.arbitration.Outcome.TheVariants.{Idle, Won}
 use Rattle.can_arbiter.specs.Offers.{OfferRow, offer_at}
 use Rattle.can_controller.specs.Controller.{ControllerState, seen, stopped_at}
-use Rattle.can_controller.specs.Waiting.{IsAscending}
 
--- the frames that a controller waits with stand in the order of their identifiers, and the first of them wins
+-- of the frames that a controller waits with the first wins, and each other has a greater key
 pub record StandInOrder (frames : List FrameParts) : Type 0 where
-  pub ascending : IsAscending frames
   pub head : least_frame frames ≡ slice_get frames 0
+  pub least_key : IfSome (slice_get frames 0) (λ f. All (λ g. (g ≡ f) ⊎ (key_of f < key_of g)) frames)
 
 -- each node offers, of the frames that it waits with, the one that wins
 pub record AreOffersOf (format : Format) (nodes : List NodeState) (offers : OfferRow) : Type 0 where

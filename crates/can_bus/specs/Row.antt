@@ -1,10 +1,10 @@
 -- The controllers on the bus, one of each node, and what a slot does to them.
-use Rattle.std.specs.Prelude.{◌≡◌, ℕ, ◌+◌, ◌≤◌, if◌then◌else◌, is_none, List, [], ◌∷◌, length, map, Some, None, slice_get}
+use Rattle.std.specs.Prelude.{◌≡◌, ℕ, ◌≤◌, if◌then◌else◌, is_none, List, length, map, Some, None, slice_get, option_map}
 use Rattle.cany_base.specs.declared.slot_note.SlotNote.{SlotNote}
 use Rattle.cany_base.specs.Nodes.{has}
 use Rattle.cany_base.specs.Params.{Parameters}
-use Rattle.cany_model.specs.Bus.Slot.{share_of}
-use Rattle.cany_model.specs.Bus.State.{NodeState}
+use Rattle.cany_model.specs.Bus.Slot.{node_after, share_of}
+use Rattle.cany_model.specs.Bus.State.{NodeState, node_at}
 use Rattle.can_controller.specs.Controller.{ControllerState, node_state, seen, stopped_at}
 
 -- the nodes of the controllers, as a run has them
@@ -38,16 +38,11 @@ controller_after i note c =
     if is_none c.stopped then (if has note.stops i then stopped_at note.slot (seen note.slot (share_of i note) c) else seen note.slot (share_of i note) c)
     else c
 
--- the controllers of node i and of those after it
-unfoldable pub controllers_after : ℕ → SlotNote → List ControllerState → List ControllerState
-controllers_after i note [] = []
-controllers_after i note (c ∷ controllers) = controller_after i note c ∷ controllers_after (i + 1) note controllers
-
--- the controllers were built with the same node, parameters and room
-pub record IsBuiltAs (old new : ControllerState) : Type 0 where
-  pub node : new.node ≡ old.node
-  pub params : new.params ≡ old.params
-  pub room : new.room ≡ old.room
+-- the controllers after a slot: each is changed by its place, and one that ran is now the node after the slot
+pub record AreAfter (note : SlotNote) (old new : List ControllerState) : Type 0 where
+  pub whole : length new ≡ length old
+  pub each : (i : ℕ) → slice_get new i ≡ option_map (controller_after i note) (slice_get old i)
+  pub node : (i : ℕ) (c : ControllerState) → slice_get old i ≡ Some c → c.stopped ≡ None → node_state (controller_after i note c) ≡ node_after i note (node_state c)
 
 -- the nodes are the same but for their unread notices
 pub record IsSameBut (a b : NodeState) : Type 0 where
@@ -55,3 +50,8 @@ pub record IsSameBut (a b : NodeState) : Type 0 where
   pub transmit : a.transmit ≡ b.transmit
   pub receive : a.receive ≡ b.receive
   pub stopped : a.stopped ≡ b.stopped
+
+-- the controllers are these nodes but for the unread notices, of which a stopped node of a run has more and more
+pub record StandFor (controllers : List ControllerState) (nodes : List NodeState) : Type 0 where
+  pub whole : length nodes ≡ length controllers
+  pub each : (i : ℕ) (c : ControllerState) → slice_get controllers i ≡ Some c → IsSameBut (node_state c) (node_at nodes i)

@@ -1,12 +1,14 @@
-ghost use Rattle.std.specs.Prelude.{◌≡◌, ◌<◌, ◌↔◌, ◌∷◌, [], None, IfOk, length, reverse};
+ghost use Rattle.std.specs.Prelude.{◌≡◌, ◌<◌, ◌↔◌, ◌∷◌, [], List, None, IfOk, length, reverse};
 ghost use Rattle.cany_model.specs.Promises.Hypothesis.{IsWithin, first_break};
 ghost use Rattle.cany_model.specs.Bus.Slot.{script as script_of, slot_note_of};
+ghost use Rattle.cany_model.specs.Bus.State.{NodeState};
 ghost use Rattle.can_bus.specs.Bus.{Follows};
-ghost use Rattle.can_bus.specs.Row.{IsRowFor, NoneLags, controllers_after, nodes_of};
+ghost use Rattle.can_bus.specs.Row.{AreAfter, IsRowFor, NoneLags, StandFor};
 
 use crate::slot::run_slot;
 use can_controller::Controller;
-use can_fault::{Attempts, Break, Script, ScriptFault, Tally};
+use can_fault::laws::partial_slots_are_fewer_than_rules;
+use can_fault::{Attempts, Break, Script, Tally};
 use cany_base::{BoundedVec, Memory, Params, Scenario, Slot, SlotNote};
 use std::alloc::Global;
 use std::marker::Model;
@@ -36,18 +38,6 @@ impl Model for Bus {
     ghost invariant = { IsSound };
 }
 
-/// The script of the scenario's rules, which have distinct places.
-fn scenario_script(alloc: Global, scenario: &Scenario) -> Result<Script, Memory>
-    ensures { IfOk result (λ script. script ≡ scenario.now.rules) }
-{
-    let _legal = scenario.params();
-    match Script::build(alloc, scenario.rules()) {
-        Ok(script) => Ok(script),
-        Err(ScriptFault::Memory) => Err(Memory),
-        Err(ScriptFault::Repeated { .. }) => unreachable!(),
-    }
-}
-
 impl Bus {
     /// The bus of the scenario before its first slot, with room for all of its slots.
     pub fn build(alloc: Global, scenario: &Scenario) -> Result<Bus, Memory>
@@ -55,7 +45,7 @@ impl Bus {
         ensures trace { IfOk result (λ bus. bus.trace ≡ []) }
         ensures follows { IfOk result (Follows scenario.now.rules) }
     {
-        let script = scenario_script(alloc, scenario)?;
+        let script = Script::of_scenario(alloc, scenario)?;
         let attempts = Attempts::build(alloc, &script)?;
         let params = *scenario.params();
         let tally = Tally::build(alloc, &params, scenario.rules().len())?;
@@ -77,15 +67,20 @@ impl Bus {
         requires left { length self.old.trace < self.old.params.slots }
         requires follows { Follows script.now self.old }
 
-        ensures note { result ≡ slot_note_of (script_of script.now) (record { trace = self.old.trace; nodes = nodes_of controllers.old }) }
+        // The note is that of the nodes, whatever they have not read.
+        ensures note { (nodes : List NodeState) → StandFor controllers.old nodes
+            → result ≡ slot_note_of (script_of script.now) (record { trace = self.old.trace; nodes = nodes }) }
+
         ensures trace { self.new.trace ≡ result ∷ self.old.trace }
         ensures params { self.new.params ≡ self.old.params }
         ensures follows { Follows script.now self.new }
-        ensures controllers { controllers.new ≡ controllers_after 0 result controllers.old }
+        ensures controllers { AreAfter result controllers.old controllers.new }
         ensures row { IsRowFor self.new.params controllers.new }
     {
         let slot = self.trace.len() as Slot;
         let note = run_slot(slot, &self.params, controllers, &mut self.attempts, script);
+        // So the tally has room for one more where the slot was Partial.
+        partial_slots_are_fewer_than_rules();
         self.tally.note(&note);
         self.trace.push_copy(&note);
         note

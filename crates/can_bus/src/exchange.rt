@@ -5,10 +5,10 @@ ghost use Rattle.cany_model.specs.Bus.Slot.{exchange, lets_accept, is_success, s
 ghost use Rattle.cany_model.specs.Bus.State.{NodeState};
 ghost use Rattle.can_bus.specs.Contest.{IsContestOf, running_nodes};
 
-use crate::nodes::{nobody, node_id};
+use crate::nodes::nobody;
 use can_arbiter::Outcome;
 use can_controller::Share;
-use cany_base::{NodeSet, Slot, SlotNote, Verdict};
+use cany_base::{NodeId, NodeSet, Slot, SlotNote, Verdict};
 
 /// Those of the running nodes that accept the frame.
 fn takers(running: NodeSet, senders: NodeSet, verdict: &Verdict) -> NodeSet
@@ -71,7 +71,7 @@ pub(crate) fn share_of(i: usize, note: &SlotNote) -> Share
     let Some(frame) = note.frame else {
         return Share::Idle;
     };
-    let node = node_id(i);
+    let node = NodeId::of_index(i);
     if note.senders.has(node) {
         if is_success(&note.verdict) {
             Share::Confirmed(frame)

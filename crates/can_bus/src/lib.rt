@@ -5,14 +5,13 @@
 mod bus;
 mod contest;
 mod exchange;
-pub mod laws;
 mod nodes;
 mod offers;
 mod ruling;
 mod seeing;
-mod sharing;
 mod slot;
 #[cfg(test)]
 mod tests;
+mod threads;
 
 pub use bus::Bus;

@@ -7,14 +7,6 @@ ghost use Rattle.can_bus.specs.Row.{nodes_of};
 use can_controller::Controller;
 use cany_base::{NodeId, NodeSet};
 
-/// The node of a number.
-pub(crate) fn node_id(i: usize) -> NodeId
-    requires { i < 32 }
-    ensures { result ≡ i }
-{
-    NodeId::new(i as u8).unwrap()
-}
-
 pub(crate) fn nobody() -> NodeSet
     ensures { result ≡ record { bits = 0 } }
 {
@@ -27,7 +19,7 @@ fn insert_running(set: &mut NodeSet, i: usize, controller: &Controller)
     ensures { (k : ℕ) → has set.new k ≡ (has set.old k || (is_none controller.now.stopped && k == i)) }
 {
     if controller.stopped().is_none() {
-        set.insert(node_id(i));
+        set.insert(NodeId::of_index(i));
     }
 }
 

@@ -8,10 +8,9 @@ ghost use Rattle.can_controller.specs.Controller.{ControllerState, node_state};
 ghost use Rattle.can_bus.specs.Contest.{AreOffersOf, StandInOrder};
 ghost use Rattle.can_bus.specs.Row.{nodes_of};
 
-use crate::nodes::node_id;
 use can_arbiter::Offers;
 use can_controller::Controller;
-use cany_base::{Format, Frame};
+use cany_base::{Format, Frame, NodeId};
 
 /// What a controller offers: if it runs, its waiting frame that wins over its others.
 fn offer_of(controller: &Controller) -> Option<Frame>
@@ -37,7 +36,7 @@ fn put_offer(offers: &mut Offers, i: usize, controller: &Controller)
     ensures in_order { StandInOrder (offered (node_state controller.now)) }
 {
     if let Some(frame) = offer_of(controller) {
-        offers.put(node_id(i), frame);
+        offers.put(NodeId::of_index(i), frame);
     }
 }
 

@@ -5,9 +5,8 @@ ghost use Rattle.can_bus.specs.Each.{each};
 ghost use Rattle.can_bus.specs.Row.{HaveRoom};
 
 use crate::exchange::share_of;
-use crate::nodes::node_id;
 use can_controller::Controller;
-use cany_base::{NodeSet, Slot, SlotNote};
+use cany_base::{NodeId, NodeSet, Slot, SlotNote};
 
 /// The controller of node i sees its share, if it runs.
 fn see_share(controller: &mut Controller, i: usize, note: &SlotNote)
@@ -37,7 +36,7 @@ fn stop_one(controller: &mut Controller, i: usize, slot: Slot, stops: NodeSet)
     requires { i < 32 }
     ensures { controller.new ≡ stopped_by slot stops i controller.old }
 {
-    if stops.has(node_id(i)) {
+    if stops.has(NodeId::of_index(i)) {
         controller.stop(slot);
     }
 }

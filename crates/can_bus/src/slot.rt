@@ -1,10 +1,11 @@
 //! One slot of the bus.
-ghost use Rattle.std.specs.Prelude.{◌≡◌, ◌∷◌, ◌≤◌, ◌<◌, ℕ, List, Some, length, slice_get};
+ghost use Rattle.std.specs.Prelude.{◌≡◌, ◌∷◌, ◌≤◌, ℕ, List, Some, length, slice_get};
 ghost use Rattle.cany_base.specs.declared.slot_note.SlotNote.{SlotNote};
+ghost use Rattle.cany_base.specs.Limits.{greatest_slots};
 ghost use Rattle.cany_model.specs.Bus.Slot.{script as script_of, slot_note_of};
 ghost use Rattle.can_controller.specs.Controller.{ControllerState};
 ghost use Rattle.can_fault.specs.Attempts.{AreCountsOf};
-ghost use Rattle.can_bus.specs.Row.{HaveRoom, controllers_after, nodes_of};
+ghost use Rattle.can_bus.specs.Row.{AreAfter, HaveRoom, nodes_of};
 
 use crate::contest::contest;
 use crate::exchange::exchange;
@@ -12,6 +13,7 @@ use crate::nodes::{running, stopping};
 use crate::ruling::ruling;
 use crate::seeing::{see_all, stop_all};
 use can_controller::Controller;
+use can_controller::laws::seen_is_node_after;
 use can_fault::{Attempts, Script};
 use cany_base::{Params, Slot, SlotNote};
 
@@ -26,25 +28,20 @@ pub(crate) fn run_slot(
     requires few { length controllers.old ≤ 32 }
     requires format { (i : ℕ) (c : ControllerState) → slice_get controllers.old i ≡ Some c → c.params.format ≡ params.now.format }
     requires room { HaveRoom controllers.old }
-    ensures note { (trace : List SlotNote) → AreCountsOf script.now trace attempts.old → slot ≡ length trace → slot < 1000000
+    ensures note { (trace : List SlotNote) → AreCountsOf script.now trace attempts.old → slot ≡ length trace → slot ≤ greatest_slots
         → result ≡ slot_note_of (script_of script.now) (record { trace = trace; nodes = nodes_of controllers.old }) }
     ensures counts { (trace : List SlotNote) → AreCountsOf script.now trace attempts.old → AreCountsOf script.now (result ∷ trace) attempts.new }
-    ensures controllers { controllers.new ≡ controllers_after 0 result controllers.old }
+    ensures controllers { AreAfter result controllers.old controllers.new }
 {
     let before = running(controllers);
     let outcome = contest(params, controllers);
     let (verdict, scripted) = ruling(slot, &outcome, attempts, script);
-    let heard = exchange(slot, before, &outcome, &verdict);
-    see_all(controllers, &heard);
+    let note = exchange(slot, before, &outcome, &verdict);
+    see_all(controllers, &note);
     let after = running(controllers);
     let stops = stopping(before, after, scripted);
     stop_all(controllers, slot, stops);
-    SlotNote {
-        slot: heard.slot,
-        frame: heard.frame,
-        senders: heard.senders,
-        takers: heard.takers,
-        verdict: heard.verdict,
-        stops,
-    }
+    // So each controller that ran is the node after the slot.
+    seen_is_node_after();
+    SlotNote { stops, ..note }
 }

@@ -1,5 +1,5 @@
-pub mod Ascending
-pub mod Fitting
-pub mod Kept
-pub mod Places
-pub mod Seen
+pub mod AscendingFacts
+pub mod IdentifierFacts
+pub mod KeptFacts
+pub mod PlaceFacts
+pub mod SeenFacts

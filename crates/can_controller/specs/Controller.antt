@@ -1,11 +1,13 @@
 -- What a contract sees of a controller, and what its share in a slot does to it.
-use Rattle.std.specs.Prelude.{ℕ, if◌then◌else◌, List, [], ◌∷◌, ◌++◌, length, Option, Some, None, unwrap_or}
+use Rattle.std.specs.Prelude.{◌≡◌, ℕ, true, if◌then◌else◌, List, [], ◌∷◌, ◌++◌, length, Option, Some, None, unwrap_or}
 use Rattle.cany_base.specs.declared.notice.Notice.{Notice}
+use Rattle.cany_base.specs.declared.slot_note.SlotNote.{SlotNote}
 use Rattle.cany_base.specs.Frame.{FrameParts}
+use Rattle.cany_base.specs.Nodes.{has}
 use Rattle.cany_base.specs.Params.{Parameters}
 use Rattle.cany_model.specs.declared.share.Share.{Share}
 use Rattle.cany_model.specs.Bus.History.{notice_of}
-use Rattle.cany_model.specs.Bus.Slot.{after_share, exceeds}
+use Rattle.cany_model.specs.Bus.Slot.{after_share, exceeds, node_after, share_of}
 use Rattle.cany_model.specs.Bus.State.{NodeState}
 
 -- what it was built with: its node, the parameters and how many frames may wait; the waiting frames in the order in which
@@ -61,3 +63,10 @@ seen slot share c =
 -- the controller after its stop in a slot: one that has stopped stays as it is
 abbrev pub stopped_at : ℕ → ControllerState → ControllerState
 stopped_at slot c = record c { stopped = Some (unwrap_or c.stopped slot) }
+
+-- a running controller that sees its share, and then stops where the note stops its node, is the node after the slot, where
+-- the note stops a node whose counters exceed the limit
+abbrev pub SeenIsNodeAfter : ℕ → SlotNote → ControllerState → Type 0
+SeenIsNodeAfter i note c =
+    c.stopped ≡ None → (exceeds (after_share (share_of i note) (node_state c)) ≡ true → has note.stops i ≡ true)
+    → node_state (let c' = seen note.slot (share_of i note) c in if has note.stops i then stopped_at note.slot c' else c') ≡ node_after i note (node_state c)

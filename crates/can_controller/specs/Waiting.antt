@@ -1,9 +1,9 @@
 -- The waiting frames as the program keeps them.
-use Rattle.std.specs.Prelude.{◌≡◌, ℕ, ◌<◌, ◌≤◌, ◌⊎◌, List, [], ◌∷◌, length, take, drop, All, IsTrue}
+use Rattle.std.specs.Prelude.{◌≡◌, ℕ, ◌<◌, ◌≤◌, ◌⊎◌, List, [], ◌∷◌, length, take, drop, nat_lt, All, IsTrue}
 use Rattle.std.specs.List.{HoldsAt}
 use Rattle.cany_base.specs.declared.frame.Format.{Format}
-use Rattle.cany_base.specs.Frame.{FrameParts, identifier_of}
-use Rattle.cany_model.specs.Bus.Frames.{identity_of}
+use Rattle.cany_base.specs.Frame.{FrameParts, identifier_of, key_of}
+use Rattle.cany_model.specs.Bus.Frames.{identity_of, is_before}
 use Rattle.cany_model.specs.Bus.Waiting.{waits}
 use Rattle.can_frame.specs.Identifier.{FitsFormat}
 
@@ -22,7 +22,7 @@ IsAscending (f ∷ fs) = All (λ g. identifier_of f < identifier_of g) fs × IsA
 pub record IsKept (format : Format) (frames : List FrameParts) (room capacity : ℕ) : Type 0 where
   pub fit : All (FitsFormat format) frames
   pub ascending : IsAscending frames
-  pub few : length frames ≤ room
+  pub in_room : length frames ≤ room
   pub reserved : room ≤ capacity
 
 -- a frame may be asked for: there is room for one more, or one of its identity waits
@@ -39,3 +39,7 @@ pub record IsGapFor (ident place : ℕ) (frames : List FrameParts) : Type 0 wher
   pub within : place ≤ length frames
   pub before : All (λ f. identifier_of f < ident) (take place frames)
   pub after : All (λ f. ident < identifier_of f) (drop place frames)
+
+-- of frames that fit, one wins over another exactly where its key is less
+abbrev pub LesserKeyWins : Format → Type 0
+LesserKeyWins format = (a b : FrameParts) → FitsFormat format a → FitsFormat format b → is_before a b ≡ nat_lt (key_of a) (key_of b)

@@ -1,4 +1,4 @@
-ghost use Rattle.std.specs.Prelude.{◌≡◌, ◌≤◌, ◌<◌, ◌+◌, ◌==◌, ◌↔◌, not, min, [], length, drop, filter, slice_get, All, IfOk, OnSome, IfSome, IfNone, IsNone};
+ghost use Rattle.std.specs.Prelude.{◌≡◌, ◌≤◌, ◌<◌, ◌+◌, ◌==◌, ◌↔◌, ◌⊎◌, not, min, [], length, drop, filter, slice_get, All, IfOk, OnSome, IfSome, IfNone, IsNone};
 ghost use Rattle.std.specs.List.{list_any};
 ghost use Rattle.cany_base.specs.Frame.{FrameParts, identifier_of, key_of};
 ghost use Rattle.cany_model.specs.Bus.Frames.{identity_of};
@@ -6,7 +6,7 @@ ghost use Rattle.cany_model.specs.Bus.Slot.{least_frame};
 ghost use Rattle.cany_model.specs.Bus.Waiting.{waits, with_frame, without};
 ghost use Rattle.can_frame.specs.Identifier.{FitsFormat};
 ghost use Rattle.can_controller.specs.Controller.{fresh_controller, seen, stopped_at};
-ghost use Rattle.can_controller.specs.Waiting.{IsAscending, HasRoomFor};
+ghost use Rattle.can_controller.specs.Waiting.{HasRoomFor};
 
 use crate::counters::Counters;
 use crate::notice::notice_of;
@@ -18,8 +18,8 @@ use std::alloc::Global;
 use std::marker::Model;
 
 /// The controller of a node. It waits with frames, at most one of an identity, and offers the one that wins, slot after slot,
-/// until a slot confirms it. It counts errors (CAN Specification 2.0 Part B, 8) and stops where a counter exceeds 127, which
-/// is this project's own rule. It keeps the notices of the slots until its node reads them.
+/// until it was sent with success. It counts errors (CAN Specification 2.0 Part B, 8) and stops where a counter exceeds
+/// `GREATEST_ERROR_COUNTER`, which is this project's own rule. It keeps the notices of the slots until its node reads them.
 ///
 /// All memory is taken by `build`.
 #[derive(Debug, Drop)]
@@ -115,17 +115,16 @@ impl Controller {
         ensures none { IsNone result ↔ (self.now.waiting ≡ []) }
         ensures head { result ≡ slice_get self.now.waiting 0 }
         ensures least { result ≡ least_frame self.now.waiting }
-        ensures least_key { IfSome result (λ f. All (λ g. key_of f ≤ key_of g) self.now.waiting) }
         ensures fits { IfSome result (λ f. FitsFormat self.now.params.format f) }
 
-        // The waiting frames stand in the order in which they win, at most one of an identifier.
-        ensures in_order { IsAscending self.now.waiting }
+        // Each other waiting frame has a greater key.
+        ensures least_key { IfSome result (λ f. All (λ g. (g ≡ f) ⊎ (key_of f < key_of g)) self.now.waiting) }
     {
         self.waiting.first()
     }
 
-    /// What the controller did in a slot: it gets the notice, its counters change, a confirmed frame waits no longer, and
-    /// where a counter exceeds 127 it stops.
+    /// What the controller did in a slot: it gets the notice, its counters change, a frame sent with success waits no longer, and
+    /// where a counter exceeds the limit it stops.
     pub fn see(&mut self, slot: Slot, share: Share)
         requires running { self.old.stopped ≡ None }
         requires room { length self.old.unread < self.old.params.lag + 1 }
@@ -134,6 +133,7 @@ impl Controller {
         self.counters = self.counters.after(&share);
         self.waiting.settle(&share);
         let kind = notice_of(share);
+        // The ring has room, as this call requires.
         let _ = self.notices.try_push_back(Notice { slot, kind });
         if self.counters.exceed_limit() {
             self.stopped = Some(slot);

@@ -1,7 +1,9 @@
 ghost use Rattle.std.specs.Prelude.{◌≡◌, ◌≤◌};
+ghost use Rattle.cany_base.specs.Limits.{greatest_error_counter};
 ghost use Rattle.cany_model.specs.Bus.State.{NodeState};
 ghost use Rattle.cany_model.specs.Bus.Slot.{after_share, exceeds};
 
+use cany_base::limits::GREATEST_ERROR_COUNTER;
 use cany_model::Share;
 
 /// The error counters of a controller.
@@ -12,14 +14,11 @@ pub(crate) struct Counters {
 }
 
 impl Counters {
-    /// The greatest value of a counter at which a node is error active (CAN Specification 2.0 Part B, 8).
-    pub(crate) const LIMIT: u32 = 127;
-
     /// The counters of a running node after its share in a slot (CAN Specification 2.0 Part B, 8).
     #[tactic(auto, unfolding(cany_model::specs::Bus::Slot::after_share))]
     pub(crate) fn after(self, share: &Share) -> Counters
-        requires transmit { self.transmit ≤ 127 }
-        requires receive { self.receive ≤ 127 }
+        requires transmit { self.transmit ≤ greatest_error_counter }
+        requires receive { self.receive ≤ greatest_error_counter }
         ensures transmit { (node : NodeState) → node.transmit ≡ self.transmit →
             result.transmit ≡ (after_share share.now node).transmit }
         ensures receive { (node : NodeState) → node.receive ≡ self.receive →
@@ -52,6 +51,6 @@ impl Counters {
         ensures { (node : NodeState) → node.transmit ≡ self.transmit → node.receive ≡ self.receive →
             result ≡ exceeds node }
     {
-        self.transmit > Counters::LIMIT || self.receive > Counters::LIMIT
+        self.transmit > GREATEST_ERROR_COUNTER || self.receive > GREATEST_ERROR_COUNTER
     }
 }

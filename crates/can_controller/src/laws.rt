@@ -1,14 +1,12 @@
 //! What ties the calls of a controller to the definitions of a run, each law as the contract of a function that does
 //! nothing.
-ghost use Rattle.std.specs.Prelude.{◌≡◌, ◌==◌, ℕ, nat_lt, if◌then◌else◌, true, None};
+ghost use Rattle.std.specs.Prelude.{◌≡◌, ◌==◌, ℕ};
 ghost use Rattle.cany_base.specs.declared.slot_note.SlotNote.{SlotNote};
-ghost use Rattle.cany_base.specs.Frame.{FrameParts, identifier_of, key_of};
-ghost use Rattle.cany_base.specs.Nodes.{has};
-ghost use Rattle.cany_model.specs.Bus.Frames.{identity_of, same_identity, is_before};
-ghost use Rattle.cany_model.specs.Bus.Slot.{after_share, exceeds, node_after, share_of};
+ghost use Rattle.cany_base.specs.Frame.{FrameParts, identifier_of};
+ghost use Rattle.cany_model.specs.Bus.Frames.{identity_of, same_identity};
 ghost use Rattle.can_frame.specs.Identifier.{FitsFormat};
-ghost use Rattle.can_controller.specs.Controller.{ControllerState, node_state, seen, stopped_at};
-ghost use Rattle.can_controller.specs.Waiting.{IsAscending};
+ghost use Rattle.can_controller.specs.Controller.{ControllerState, SeenIsNodeAfter};
+ghost use Rattle.can_controller.specs.Waiting.{IsAscending, LesserKeyWins};
 
 use crate::controller::Controller;
 use cany_base::Format;
@@ -21,17 +19,13 @@ pub fn identifier_is_identity(format: Format)
 
 /// Of frames that fit, one wins over another exactly where its key is less.
 pub fn lesser_key_wins(format: Format)
-    ensures { (a b : FrameParts) → FitsFormat format a → FitsFormat format b →
-        is_before a b ≡ nat_lt (key_of a) (key_of b) }
+    ensures { LesserKeyWins format }
 {}
 
-/// A running controller that sees its share in a slot, and is then stopped where the note of the slot stops its node, is
-/// the node after the slot. The note is one that stops a node whose counters exceed the limit.
+/// A running controller that sees its share in a slot, and then stops where the note of the slot stops its node, is the
+/// node after the slot. The note is one that stops a node whose counters exceed the limit.
 pub fn seen_is_node_after()
-    ensures { (i : ℕ) (note : SlotNote) (c : ControllerState) → c.stopped ≡ None →
-        (exceeds (after_share (share_of i note) (node_state c)) ≡ true → has note.stops i ≡ true) →
-        node_state (let c' = seen note.slot (share_of i note) c in if has note.stops i then stopped_at note.slot c' else c')
-        ≡ node_after i note (node_state c) }
+    ensures { (i : ℕ) (note : SlotNote) (c : ControllerState) → SeenIsNodeAfter i note c }
 {}
 
 /// The waiting frames ascend by identifier, so that no two of them have one identity.

@@ -6,9 +6,9 @@ mod counters;
 mod identity;
 pub mod laws;
 mod notice;
-mod sharing;
 #[cfg(test)]
 mod tests;
+mod threads;
 mod waiting;
 
 pub use cany_model::Share;

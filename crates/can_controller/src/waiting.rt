@@ -1,4 +1,4 @@
-ghost use Rattle.std.specs.Prelude.{◌≡◌, ◌<◌, ◌≤◌, ◌+◌, ◌==◌, not, [], length, filter, slice_get, All, IfOk, IfErr, IfSome};
+ghost use Rattle.std.specs.Prelude.{◌≡◌, ◌<◌, ◌+◌, ◌==◌, ◌⊎◌, not, [], length, filter, slice_get, All, IfOk, IfErr, IfSome};
 ghost use Rattle.std.specs.List.{list_any};
 ghost use Rattle.cany_base.specs.Frame.{FrameParts, identifier_of, key_of};
 ghost use Rattle.cany_model.specs.Bus.Frames.{identity_of};
@@ -36,6 +36,8 @@ impl Model for Waiting {
 }
 
 /// The place of the frame of this identifier, or else the place at which it would stand.
+///
+/// It is written by hand since std's search may ask for the key of any frame, and only one that fits has an identifier.
 fn find(format: Format, frames: &[Frame], ident: u32) -> Result<usize, usize>
     requires fit { All (FitsFormat format) frames.now }
     requires ascending { IsAscending frames.now }
@@ -100,7 +102,7 @@ impl Waiting {
         }
     }
 
-    /// Removes a frame that the slot confirmed.
+    /// Removes the frame that the controller sent with success, if the share says so.
     #[tactic(auto, unfolding(cany_model::specs::Bus::Slot::after_share))]
     pub(crate) fn settle(&mut self, share: &Share)
         ensures frames { (node : NodeState) → node.waiting ≡ self.old.frames →
@@ -142,6 +144,7 @@ impl Waiting {
     pub(crate) fn ascend(&self)
         ensures { IsAscending self.now.frames }
     {
+        // A read of a field gives the proof what holds of all fields.
         let _frames = &self.frames;
     }
 
@@ -149,9 +152,8 @@ impl Waiting {
     pub(crate) fn first(&self) -> Option<Frame>
         ensures head { result ≡ slice_get self.now.frames 0 }
         ensures least { result ≡ least_frame self.now.frames }
-        ensures least_key { IfSome result (λ f. All (λ g. key_of f ≤ key_of g) self.now.frames) }
+        ensures least_key { IfSome result (λ f. All (λ g. (g ≡ f) ⊎ (key_of f < key_of g)) self.now.frames) }
         ensures fits { IfSome result (λ f. FitsFormat self.now.format f) }
-        ensures in_order { IsAscending self.now.frames }
     {
         self.frames.first().copied()
     }

@@ -107,12 +107,7 @@ raised_counts rules trace note f old new counts e raise x =
     ∙ after (is_named rules x) (same_identity x y) (attempts x trace) (attempts x (note ∷ trace))
     (one_more x trace note f e) (no_more x trace note f e)
 
--- ---- laws
-
-pub idle_counts : (rules : List Rule) (trace : List SlotNote) (note : SlotNote) (counts : List (FrameName × ℕ)) → AreCountsOf rules trace counts → note.frame ≡ None → AreCountsOf rules (note ∷ trace) counts
-idle_counts rules trace note counts has idle x =
-    let same : attempts x (note ∷ trace) ≡ attempts x trace = count-no (carried (is_of x)) note trace (ap (λ o. option_map_or (is_of x) o false) idle) in
-    has x ∙ ap (λ n. if is_named rules x then Some (min n greatest) else None) (sym same)
+-- ---- their number
 
 few_or_none : (named : Bool) (n m : ℕ) → n ≤ m → (if named then n + 1 else 0) ≤ m + 1
 few_or_none true n m h = omega arith

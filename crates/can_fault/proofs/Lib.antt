@@ -1,9 +1,10 @@
 pub mod AttemptFacts
+pub mod BreakFacts
 pub mod CountedFacts
+pub mod KeptFacts
 pub mod KeyFacts
-pub mod OmissionFacts
-pub mod OmissionSteps
-pub mod PartialRoom
+pub mod PartialFacts
+pub mod RepeatedFacts
 pub mod TableFacts
 pub mod TallyFacts
 pub mod WindowFacts

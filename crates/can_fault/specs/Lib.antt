@@ -1,8 +1,8 @@
 pub mod Attempts
+pub mod Breaks
 pub mod Counted
 pub mod Counts
 pub mod Names
-pub mod Omissions
 pub mod Rules
 pub mod Table
 pub mod Tally

@@ -11,14 +11,14 @@ parts_of t = record {
   slots = option_map_or (λ slot. slot + 1) t.newest 0;
   partials = t.partials;
   first = t.first;
-  counts = t.omissions.counts.items;
-  recent = t.omissions.window.recent;
+  counts = t.breaks.counts.items;
+  recent = t.breaks.window.recent;
 }
 
 -- the limits are those of the parameters, there is room for each rule, and each count stands for a Partial slot
 pub record IsSound (t : Inside) : Type 0 where
-  pub omit : t.omissions.omit ≡ t.params.omit
-  pub errors : t.omissions.window.errors ≡ t.params.errors
-  pub span : t.omissions.window.span ≡ t.params.bound + t.params.lag
-  pub room : t.omissions.counts.room ≡ t.rules
-  pub few : length t.omissions.counts.items ≤ t.partials
+  pub omit : t.breaks.omit ≡ t.params.omit
+  pub errors : t.breaks.window.errors ≡ t.params.errors
+  pub span : t.breaks.window.span ≡ t.params.bound + t.params.lag
+  pub room : t.breaks.counts.room ≡ t.rules
+  pub counted : length t.breaks.counts.items ≤ t.partials

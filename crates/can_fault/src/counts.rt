@@ -73,7 +73,7 @@ impl PartialCounts {
         ensures below { result ≡ nat_lt (partials_of self.old.items counted.now) limit }
         ensures counted { IsTrue result → (other : Counted) → partials_of self.new.items other
             ≡ partials_of self.old.items other + (if same_counted other counted.now then 1 else 0) }
-        ensures len { length self.new.items ≤ length self.old.items + 1 }
+        ensures growth { length self.new.items ≤ length self.old.items + 1 }
         ensures room { self.new.room ≡ self.old.room }
     {
         match self.counts.get_mut(counted) {

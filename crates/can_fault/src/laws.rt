@@ -1,19 +1,11 @@
 //! Laws of scripts along runs. A call of one hands its fact to a proof, and does nothing.
 
-ghost use Rattle.std.specs.Prelude.{◌≡◌, ◌+◌, ◌<◌, ◌≤◌, ◌∷◌, ℕ, true, List, None, length, count_by};
+ghost use Rattle.std.specs.Prelude.{◌≡◌, ◌+◌, ◌<◌, ◌≤◌, ◌∷◌, true, List, length, count_by};
 ghost use Rattle.cany_base.specs.declared.rule.Rule.{Rule};
 ghost use Rattle.cany_base.specs.declared.slot_note.SlotNote.{SlotNote};
 ghost use Rattle.cany_base.specs.Frame.{FrameParts};
-ghost use Rattle.can_fault.specs.declared.name.FrameName.{FrameName};
-ghost use Rattle.can_fault.specs.Attempts.{AreCountsOf};
 ghost use Rattle.can_fault.specs.Rules.{IsRuledBy, next_attempt};
 ghost use Rattle.can_fault.specs.Tally.{is_partial_slot};
-
-/// An idle slot leaves the counts of attempts as they are.
-pub fn idle_slots_are_no_attempts()
-    ensures { (rules : List Rule) (trace : List SlotNote) (note : SlotNote) (attempts : List (FrameName × ℕ)) → AreCountsOf rules trace attempts
-        → note.frame ≡ None → AreCountsOf rules (note ∷ trace) attempts }
-{}
 
 /// The number of an attempt is at most the number of slots with the one that makes it.
 pub fn attempts_are_at_most_slots()

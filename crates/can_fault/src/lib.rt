@@ -2,16 +2,16 @@
 #![tactic(auto)]
 
 mod attempts;
+mod breaks;
 mod counts;
 pub mod laws;
 mod name;
-mod omissions;
 mod script;
-mod sharing;
 mod table;
 mod tally;
 #[cfg(test)]
 mod tests;
+mod threads;
 mod window;
 
 pub use attempts::Attempts;

@@ -4,7 +4,7 @@ ghost use Rattle.cany_model.specs.Bus.Slot.{ruling_of, script};
 ghost use Rattle.can_fault.specs.Rules.{HaveDistinctPlaces, IsFirstRepeated, rule_for, IsCounted};
 
 use crate::table::RuleTable;
-use cany_base::{Frame, Memory, NodeSet, Rule, Slot, Verdict};
+use cany_base::{Frame, Memory, NodeSet, Rule, Scenario, Slot, Verdict};
 use std::alloc::{AllocError, Global};
 use std::marker::Model;
 use thiserror::Error;
@@ -42,7 +42,7 @@ impl From<AllocError> for ScriptFault {
 
 /// The fault rules of a scenario, each at a place of its own.
 ///
-/// It tells the outcome of each slot. The rules are kept in ordered maps by their places.
+/// It tells the verdict on each slot. The rules are kept in ordered maps by their places.
 #[derive(Debug, Drop)]
 pub struct Script {
     rules: Vec<Rule>,
@@ -78,13 +78,26 @@ impl Script {
         Ok(Script { rules, table })
     }
 
+    /// The script of the scenario's rules, which have distinct places.
+    pub fn of_scenario(alloc: Global, scenario: &Scenario) -> Result<Script, Memory>
+        ensures { IfOk result (λ script. script ≡ scenario.now.rules) }
+    {
+        // It is the contract of this call that says that the scenario is legal.
+        let _legal = scenario.params();
+        match Script::build(alloc, scenario.rules()) {
+            Ok(script) => Ok(script),
+            Err(ScriptFault::Memory) => Err(Memory),
+            Err(ScriptFault::Repeated { .. }) => unreachable!(),
+        }
+    }
+
     pub(crate) fn rules(&self) -> &[Rule]
         ensures { result.now ≡ self.now }
     {
         self.rules.as_slice()
     }
 
-    /// The outcome of a slot, and the nodes that stop at its end. `carried` is the frame that the slot carries, with the
+    /// The verdict on a slot, and the nodes that stop at its end. `carried` is the frame that the slot carries, with the
     /// number of the attempt to carry it, counted from 1. For a frame that no rule names any number will do.
     ///
     /// That a rule for the slot is used alone, though the attempt has one too, is this project's own rule.

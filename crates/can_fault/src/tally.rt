@@ -2,10 +2,10 @@ ghost use Rattle.std.specs.Prelude.{◌≡◌, ◌+◌, ◌<◌, ◌≤◌, ◌�
 ghost use Rattle.cany_base.specs.declared.slot_note.SlotNote.{SlotNote};
 ghost use Rattle.cany_base.specs.Params.{Parameters};
 ghost use Rattle.cany_model.specs.Promises.Hypothesis.{IsWithin, first_break};
-ghost use Rattle.can_fault.specs.Omissions.{IsKeptOf, HasLimitsOf};
+ghost use Rattle.can_fault.specs.Breaks.{IsKeptOf, HasLimitsOf};
 ghost use Rattle.can_fault.specs.Tally.{is_partial_slot, IsTallyOf};
 
-use crate::omissions::Omissions;
+use crate::breaks::Breaks;
 use cany_base::{Memory, Params, Slot, SlotNote, Verdict};
 use cany_model::Break;
 use std::alloc::Global;
@@ -22,7 +22,7 @@ pub struct Tally {
     newest: Option<Slot>,
     partials: usize,
     first: Option<Break>,
-    omissions: Omissions,
+    breaks: Breaks,
 }
 
 impl Model for Tally {
@@ -44,14 +44,14 @@ impl Tally {
         ensures params { IfOk result (λ tally. tally.params ≡ params.now) }
         ensures rules { IfOk result (λ tally. tally.rules ≡ rules) }
     {
-        let omissions = Omissions::build(alloc, params, rules)?;
+        let breaks = Breaks::build(alloc, params, rules)?;
         Ok(Tally {
             params: *params,
             rules,
             newest: None,
             partials: 0,
             first: None,
-            omissions,
+            breaks,
         })
     }
 
@@ -66,7 +66,7 @@ impl Tally {
         ensures rules { self.new.rules ≡ self.old.rules }
     {
         self.newest = Some(note.slot);
-        self.first = next_break(self.first, &mut self.omissions, note);
+        self.first = next_break(self.first, &mut self.breaks, note);
         self.partials += usize::from(is_partial_slot(note));
     }
 
@@ -80,21 +80,21 @@ impl Tally {
 }
 
 /// The first break after one more slot. The slots after it matter no more.
-fn next_break(first: Option<Break>, omissions: &mut Omissions, note: &SlotNote) -> Option<Break>
-    requires { is_partial_slot note.now ≡ true → length omissions.old.counts.items < omissions.old.counts.room }
+fn next_break(first: Option<Break>, breaks: &mut Breaks, note: &SlotNote) -> Option<Break>
+    requires { is_partial_slot note.now ≡ true → length breaks.old.counts.items < breaks.old.counts.room }
     ensures next { (p : Parameters) (trace : List SlotNote) → note.now.slot ≡ length trace → first ≡ first_break p trace
-        → (first ≡ None → IsKeptOf p trace omissions.old) → result ≡ first_break p (note.now ∷ trace) }
+        → (first ≡ None → IsKeptOf p trace breaks.old) → result ≡ first_break p (note.now ∷ trace) }
     ensures kept { (p : Parameters) (trace : List SlotNote) → note.now.slot ≡ length trace → first ≡ first_break p trace
-        → (first ≡ None → IsKeptOf p trace omissions.old) → result ≡ None → IsKeptOf p (note.now ∷ trace) omissions.new }
-    ensures len { length omissions.new.counts.items ≤ length omissions.old.counts.items + (if is_partial_slot note.now then 1 else 0) }
-    ensures limits { HasLimitsOf omissions.old omissions.new }
-    ensures room { omissions.new.counts.room ≡ omissions.old.counts.room }
+        → (first ≡ None → IsKeptOf p trace breaks.old) → result ≡ None → IsKeptOf p (note.now ∷ trace) breaks.new }
+    ensures growth { length breaks.new.counts.items ≤ length breaks.old.counts.items + (if is_partial_slot note.now then 1 else 0) }
+    ensures limits { HasLimitsOf breaks.old breaks.new }
+    ensures room { breaks.new.counts.room ≡ breaks.old.counts.room }
 {
     if first.is_some() {
         return first;
     }
     let frame = note.frame?;
-    let kind = omissions.note(note, &frame)?;
+    let kind = breaks.note(note, &frame)?;
     let slot = note.slot;
     Some(Break { kind, slot })
 }

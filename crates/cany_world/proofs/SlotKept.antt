@@ -1,7 +1,6 @@
 -- A slot keeps the controllers and the nodes of a world those of the run.
-use Rattle.std.specs.Prelude.{◌≡◌, ℕ, zero, suc, ◌<◌, ◌≤◌, List, [], ◌∷◌, length, slice_get, option_map, Option, Some, None, refl}
+use Rattle.std.specs.Prelude.{◌≡◌, ℕ, ◌<◌, List, ◌∷◌, length, slice_get, option_map, Option, Some, None, refl}
 use Rattle.std.proofs.Common.{sym, ap, ◌∙◌, subst, arith}
-use Rattle.std.proofs.lemmas.List.{length-map}
 use Rattle.std.proofs.lemmas.Option.{slice_get_within}
 use Rattle.cany_base.specs.declared.rule.Rule.{Rule}
 use Rattle.cany_base.specs.declared.slot_note.SlotNote.{SlotNote}
@@ -13,10 +12,7 @@ use Rattle.cany_model.specs.Bus.State.{NodeState, RunState, node_at}
 use Rattle.cany_model.proofs.Bus.Runs.{IsOrderly, orderly}
 use Rattle.cany_model.proofs.Bus.Steps.{after_slot-node, after_slot-trace, after_slot-history}
 use Rattle.can_bus.specs.Bus.{BusParts, Follows}
-use Rattle.can_bus.specs.Row.{controller_after, controllers_after, nodes_of, IsSameBut}
-use Rattle.can_bus.proofs.After.{get_after, length-controllers_after, node_is}
-use Rattle.can_bus.proofs.Rows.{state_at}
-use Rattle.can_bus.proofs.Unread.{slot_without_unread}
+use Rattle.can_bus.specs.Row.{AreAfter, StandFor, controller_after}
 use Rattle.can_controller.specs.Controller.{ControllerState, node_state}
 use Rattle.cany_node.specs.Node.{NodeParts, IsNodeOf}
 use Rattle.cany_world.specs.Kept.{IsKeptAs, AreControllersOf, IsKeptNode, AreNodesOf, IsBusOf}
@@ -28,16 +24,16 @@ pub record IsAfter (note : SlotNote) (controllers : List ControllerState) (i : �
   pub at : slice_get controllers i ≡ Some before
   pub is : controller_after i note before ≡ c'
 
-after_at : (note : SlotNote) (controllers : List ControllerState) (i : ℕ) (c' : ControllerState) → slice_get (controllers_after 0 note controllers) i ≡ Some c'
+after_at : (note : SlotNote) (controllers after : List ControllerState) → AreAfter note controllers after → (i : ℕ) (c' : ControllerState) → slice_get after i ≡ Some c'
     → IsAfter note controllers i c'
-after_at note controllers i c' e = go (slice_get controllers i) refl
+after_at note controllers after are i c' e = go (slice_get controllers i) refl
   where
     go : (o : Option ControllerState) → slice_get controllers i ≡ o → IsAfter note controllers i c'
     go None h =
-        let none : None ≡ Some c' = sym (get_after note controllers i ∙ ap (option_map (controller_after i note)) h) ∙ e in
+        let none : None ≡ Some c' = sym (are.each i ∙ ap (option_map (controller_after i note)) h) ∙ e in
         absurd (cc)
     go (Some c) h =
-        let some : Some (controller_after i note c) ≡ Some c' = sym (get_after note controllers i ∙ ap (option_map (controller_after i note)) h) ∙ e in
+        let some : Some (controller_after i note c) ≡ Some c' = sym (are.each i ∙ ap (option_map (controller_after i note)) h) ∙ e in
         record { before = c; at = h; is = cc }
 
 controller_slot : (scenario : ScenarioParts) (rules : Script) (s : RunState) (controllers : List ControllerState) → IsOrderly scenario.params.nodes s
@@ -56,15 +52,12 @@ controller_slot scenario rules s controllers o kept law i c' after =
     (subst (λ (n : NodeState). IsKeptAs scenario (note ∷ s.trace) i n c') (sym state)
     (subst (IsKeptAs scenario (note ∷ s.trace) i (node_after i note (node_at s.nodes i))) after.is there))
 
-pub controllers_slot : (scenario : ScenarioParts) (rules : Script) (s : RunState) (controllers : List ControllerState) → IsOrderly scenario.params.nodes s
-    → AreControllersOf scenario s controllers
-    → ((i : ℕ) (c : ControllerState) → slice_get controllers i ≡ Some c → c.stopped ≡ None
-    → node_state (controller_after i (slot_note_of rules s) c) ≡ node_after i (slot_note_of rules s) (node_state c))
-    → AreControllersOf scenario (after_slot rules s) (controllers_after 0 (slot_note_of rules s) controllers)
-controllers_slot scenario rules s controllers o kept law = record {
-  whole = length-controllers_after 0 (slot_note_of rules s) controllers ∙ kept.whole;
+controllers_slot : (scenario : ScenarioParts) (rules : Script) (s : RunState) (controllers after : List ControllerState) → IsOrderly scenario.params.nodes s
+    → AreControllersOf scenario s controllers → AreAfter (slot_note_of rules s) controllers after → AreControllersOf scenario (after_slot rules s) after
+controllers_slot scenario rules s controllers after o kept are = record {
+  whole = are.whole ∙ kept.whole;
   each = λ i c' at.
-      controller_slot scenario rules s controllers o kept law i c' (after_at (slot_note_of rules s) controllers i c' at);
+      controller_slot scenario rules s controllers o kept are.node i c' (after_at (slot_note_of rules s) controllers after are i c' at);
 }
 
 pub nodes_slot : (scenario : ScenarioParts) (rules : Script) (s : RunState) (nodes : List NodeParts) → IsOrderly scenario.params.nodes s
@@ -80,69 +73,37 @@ nodes_slot scenario rules s nodes o kept = record {
       };
 }
 
--- ---- the note of the slot
+-- ---- the slot of the bus
 
 -- the controllers are the nodes of the run but for what stopped nodes have unread
-same_nodes : (scenario : ScenarioParts) (s : RunState) (controllers : List ControllerState) (i : ℕ) (c : ControllerState) → AreControllersOf scenario s controllers
-    → slice_get controllers i ≡ Some c → IsSameBut (node_at (nodes_of controllers) i) (node_at s.nodes i)
-same_nodes scenario s controllers i c kept at =
-    let it : IsKeptAs scenario s.trace i (node_at s.nodes i) c = kept.each i c at in
-    let is : node_at (nodes_of controllers) i ≡ node_state c = state_at controllers i c at in
-    subst (λ (n : NodeState). IsSameBut n (node_at s.nodes i)) (sym is)
-    (record { waiting = it.waiting; transmit = it.transmit; receive = it.receive; stopped = it.stopped })
-
-place_of : {X : Type 0} (xs : List X) (i : ℕ) → i < length xs → (x : X) × (slice_get xs i ≡ Some x)
-place_of [] i h = absurd (omega arith)
-place_of (x ∷ xs) zero h = (x, refl)
-place_of (x ∷ xs) (suc i) h = place_of xs i (omega arith)
-
--- the note of a slot of these controllers is that of the run
-pub same_note : (scenario : ScenarioParts) (rules : Script) (s : RunState) (controllers : List ControllerState) → IsOrderly scenario.params.nodes s
-    → AreControllersOf scenario s controllers
-    → slot_note_of rules (record { trace = s.trace; nodes = nodes_of controllers }) ≡ slot_note_of rules s
-same_note scenario rules s controllers o kept =
-    let count : length (nodes_of controllers) ≡ length controllers = length-map controllers node_state in
-    slot_without_unread rules s.trace (nodes_of controllers) s.nodes (omega (arith, count, kept.whole, o.count))
-    (λ i h. let c = place_of controllers i (omega (arith, count)) in same_nodes scenario s controllers i c.0 kept c.1)
-
--- ---- the whole slot
-
--- after a slot of the bus the controllers are those of the run after its slot
-pub bus_slot : (scenario : ScenarioParts) (rules : Script) (s : RunState) (controllers after : List ControllerState) (note : SlotNote) → IsOrderly scenario.params.nodes s
-    → scenario.params.nodes ≤ 32 → AreControllersOf scenario s controllers
-    → note ≡ slot_note_of rules (record { trace = s.trace; nodes = nodes_of controllers }) → after ≡ controllers_after 0 note controllers
-    → AreControllersOf scenario (after_slot rules s) after × (note ≡ slot_note_of rules s)
-bus_slot scenario rules s controllers after note o few kept is then =
-    let same : note ≡ slot_note_of rules s = is ∙ same_note scenario rules s controllers o kept in
-    let is' : slot_note_of rules s ≡ slot_note_of rules (record { trace = s.trace; nodes = nodes_of controllers }) = sym (same_note scenario rules s controllers o kept) in (
-      subst (AreControllersOf scenario (after_slot rules s)) (sym (then ∙ ap (λ n. controllers_after 0 n controllers) same))
-          (controllers_slot scenario rules s controllers o kept
-          (λ i c at running. node_is rules s.trace controllers i c
-          (let within : i < length controllers = slice_get_within controllers i c at in omega (arith, kept.whole, few)) at running (slot_note_of rules s) is')),
-      same,
-    )
+stand_for : (scenario : ScenarioParts) (s : RunState) (controllers : List ControllerState) → IsOrderly scenario.params.nodes s → AreControllersOf scenario s controllers
+    → StandFor controllers s.nodes
+stand_for scenario s controllers o kept = record {
+  whole = omega (arith, kept.whole, o.count);
+  each = λ i c at.
+      let it : IsKeptAs scenario s.trace i (node_at s.nodes i) c = kept.each i c at in
+      record { waiting = it.waiting; transmit = it.transmit; receive = it.receive; stopped = it.stopped };
+}
 
 -- the bus and the controllers after a slot are those of the run after its slot
 pub bus_done : (scenario : ScenarioParts) (journal : List Step) (rules : List Rule) (bus bus' : BusParts) (controllers after : List ControllerState) (note : SlotNote)
-    → scenario.params.nodes ≤ 32 → rules ≡ scenario.rules → IsBusOf scenario (run scenario journal) bus → AreControllersOf scenario (run scenario journal) controllers
-    → note ≡ slot_note_of (script rules) (record { trace = bus.trace; nodes = nodes_of controllers }) → bus'.trace ≡ note ∷ bus.trace → bus'.params ≡ bus.params
-    → Follows rules bus' → after ≡ controllers_after 0 note controllers
+    → rules ≡ scenario.rules → IsBusOf scenario (run scenario journal) bus → AreControllersOf scenario (run scenario journal) controllers
+    → ((nodes : List NodeState) → StandFor controllers nodes → note ≡ slot_note_of (script rules) (record { trace = bus.trace; nodes = nodes }))
+    → bus'.trace ≡ note ∷ bus.trace → bus'.params ≡ bus.params → Follows rules bus' → AreAfter note controllers after
     → IsBusOf scenario (after_slot (script scenario.rules) (run scenario journal)) bus' × AreControllersOf scenario (after_slot (script scenario.rules) (run scenario journal)) after
-bus_done scenario journal rules bus bus' controllers after note few same of kept is trace params follows then = (
+bus_done scenario journal rules bus bus' controllers after note same of kept is trace params follows then = (
   record {
     params = params ∙ of.params;
-    trace = trace ∙ ap (λ t. note ∷ t) of.trace ∙ ap (λ n. n ∷ s.trace) whole.1 ∙ sym (after_slot-trace (script scenario.rules) s);
+    trace = trace ∙ ap (λ t. note ∷ t) of.trace ∙ ap (λ n. n ∷ s.trace) is' ∙ sym (after_slot-trace (script scenario.rules) s);
     follows = subst (λ (r : List Rule). Follows r bus') same follows;
   },
-  whole.0,
+  controllers_slot scenario (script scenario.rules) s controllers after (orderly scenario journal) kept (subst (λ (n : SlotNote). AreAfter n controllers after) is' then),
 )
   where
     s : RunState
     s = run scenario journal
 
-    is' : note ≡ slot_note_of (script scenario.rules) (record { trace = s.trace; nodes = nodes_of controllers })
-    is' = is ∙ ap (λ (r : List Rule). slot_note_of (script r) (record { trace = bus.trace; nodes = nodes_of controllers })) same
-        ∙ ap (λ (t : List SlotNote). slot_note_of (script scenario.rules) (record { trace = t; nodes = nodes_of controllers })) of.trace
-
-    whole : AreControllersOf scenario (after_slot (script scenario.rules) s) after × (note ≡ slot_note_of (script scenario.rules) s)
-    whole = bus_slot scenario (script scenario.rules) s controllers after note (orderly scenario journal) few kept is' then
+    is' : note ≡ slot_note_of (script scenario.rules) s
+    is' = is s.nodes (stand_for scenario s controllers (orderly scenario journal) kept)
+        ∙ ap (λ (r : List Rule). slot_note_of (script r) (record { trace = bus.trace; nodes = s.nodes })) same
+        ∙ ap (λ (t : List SlotNote). slot_note_of (script scenario.rules) (record { trace = t; nodes = s.nodes })) of.trace

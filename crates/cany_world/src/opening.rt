@@ -6,22 +6,9 @@ ghost use Rattle.cany_world.specs.Kept.{AreControllersOf, AreNodesOf};
 
 use crate::lagging::node_id;
 use can_controller::Controller;
-use can_fault::{Script, ScriptFault};
 use cany_base::{Memory, Params, Scenario};
 use cany_node::{Node, waiting_room};
 use std::alloc::Global;
-
-/// The script of the scenario's rules, which have distinct places.
-pub(crate) fn script_of(alloc: Global, scenario: &Scenario) -> Result<Script, Memory>
-    ensures { IfOk result (λ script. script ≡ scenario.now.rules) }
-{
-    let _legal = scenario.params();
-    match Script::build(alloc, scenario.rules()) {
-        Ok(script) => Ok(script),
-        Err(ScriptFault::Memory) => Err(Memory),
-        Err(ScriptFault::Repeated { .. }) => unreachable!(),
-    }
-}
 
 /// The controllers of the nodes, which have seen nothing.
 pub(crate) fn controllers_of(alloc: Global, scenario: &Scenario) -> Result<Vec<Controller>, Memory>

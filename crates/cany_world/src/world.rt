@@ -10,7 +10,7 @@ ghost use Rattle.cany_model.specs.Bus.State.{node_at, reads, slots_run};
 
 use crate::keys::keys_of;
 use crate::lagging::first_lagging;
-use crate::opening::{controllers_of, journal_room, nodes_of, script_of};
+use crate::opening::{controllers_of, journal_room, nodes_of};
 use crate::settled::{all_read, is_settled};
 use crate::step::make;
 use can_bus::Bus;
@@ -60,7 +60,7 @@ impl World {
         ensures { IfOk result (λ world. world ≡ record { scenario = scenario.now; journal = [] }) }
     {
         let params = scenario.params();
-        let script = script_of(alloc, scenario)?;
+        let script = Script::of_scenario(alloc, scenario)?;
         let bus = Bus::build(alloc, scenario)?;
         let controllers = controllers_of(alloc, scenario)?;
         let nodes = nodes_of(alloc, scenario)?;

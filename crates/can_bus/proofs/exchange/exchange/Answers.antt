@@ -1,4 +1,4 @@
-use Rattle.can_bus.proofs.Noted.{exchanged}
+use Rattle.can_bus.proofs.NoteFacts.{exchanged}
 use Rattle.can_bus.proofs.exchange.exchange.Goals as goal
 
 pub returns-in-Won : goal.returns-in-Won

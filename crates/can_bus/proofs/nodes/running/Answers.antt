@@ -1,8 +1,8 @@
 use Rattle.std.proofs.Common.{ap, sym, arith}
 use Rattle.cany_model.specs.Bus.State.{runs}
-use Rattle.can_bus.proofs.Changed.{got}
-use Rattle.can_bus.proofs.Rows.{state_at, state_past}
-use Rattle.can_bus.proofs.SetSteps.{so_far_none, so_far_more, so_far_all}
+use Rattle.can_bus.proofs.EachFacts.{got}
+use Rattle.can_bus.proofs.NodeFacts.{state_at, state_past}
+use Rattle.can_bus.proofs.SetFacts.{so_far_none, so_far_more, so_far_all}
 use Rattle.can_bus.proofs.nodes.running.Goals as goal
 
 pub loop-i-init : goal.loop-i-init

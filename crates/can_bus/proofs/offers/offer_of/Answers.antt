@@ -1,5 +1,5 @@
 use Rattle.can_controller.specs.Controller.{node_state}
-use Rattle.can_bus.proofs.Offered.{stopped_offers, stopped_in_order}
+use Rattle.can_bus.proofs.OfferFacts.{stopped_offers, stopped_in_order}
 use Rattle.can_bus.proofs.offers.offer_of.Goals as goal
 
 pub returns-then-is_some-clause-offer : goal.returns-then-is_some-clause-offer

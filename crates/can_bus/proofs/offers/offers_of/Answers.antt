@@ -1,9 +1,9 @@
 use Rattle.std.proofs.Common.{sym, ◌∙◌, arith}
 use Rattle.can_controller.specs.Controller.{ControllerState, node_state}
 use Rattle.can_bus.specs.Row.{nodes_of}
-use Rattle.can_bus.proofs.Changed.{got}
-use Rattle.can_bus.proofs.Offered.{none_so_far, one_more_offers, all_offers}
-use Rattle.can_bus.proofs.Rows.{state_at, state_past}
+use Rattle.can_bus.proofs.EachFacts.{got}
+use Rattle.can_bus.proofs.OfferFacts.{none_so_far, one_more_offers, all_offers}
+use Rattle.can_bus.proofs.NodeFacts.{state_at, state_past}
 use Rattle.can_bus.proofs.offers.offers_of.Goals as goal
 
 pub loop-i-init : goal.loop-i-init

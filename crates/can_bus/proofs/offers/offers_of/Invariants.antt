@@ -1,5 +1,5 @@
 use Rattle.can_bus.specs.Row.{nodes_of}
-use Rattle.can_bus.proofs.Offered.{OffersSoFar}
+use Rattle.can_bus.proofs.OfferFacts.{OffersSoFar}
 use Rattle.can_bus.proofs.offers.offers_of.Given as goal
 
 abbrev pub invariant-loop-i : goal.invariant-loop-i

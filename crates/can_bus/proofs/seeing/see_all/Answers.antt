@@ -2,7 +2,7 @@ use Rattle.std.proofs.Common.{◌≡◌, ◌≤◌, length, get_or, ap, subst, s
 use Rattle.std.specs.Prelude.{None}
 use Rattle.can_controller.specs.Controller.{ControllerState}
 use Rattle.can_bus.specs.Contest.{seen_by}
-use Rattle.can_bus.proofs.Changed.{changed_next, changed_more, changed_all, got}
+use Rattle.can_bus.proofs.EachFacts.{changed_next, changed_more, changed_all, got}
 use Rattle.can_bus.proofs.seeing.see_all.Goals as goal
 
 pub see_share-requires-clause-room : goal.see_share-requires-clause-room

@@ -1,6 +1,6 @@
 use Rattle.std.proofs.Common.{ap, sym, ◌∙◌, arith}
 use Rattle.can_bus.specs.Contest.{stopped_by}
-use Rattle.can_bus.proofs.Changed.{changed_more, changed_all}
+use Rattle.can_bus.proofs.EachFacts.{changed_more, changed_all}
 use Rattle.can_bus.proofs.seeing.stop_all.Goals as goal
 
 pub loop-i-preserved : goal.loop-i-preserved

@@ -1,6 +1,6 @@
 use Rattle.std.proofs.Common.{ap, sym, ◌∙◌}
 use Rattle.can_controller.specs.Controller.{ControllerState}
-use Rattle.can_bus.proofs.RowSteps.{row_set}
+use Rattle.can_bus.proofs.RowFacts.{row_set}
 use Rattle.can_bus.proofs.tests.ask.Goals as goal
 
 pub returns : goal.returns

@@ -2,7 +2,7 @@ use Rattle.std.proofs.Common.{◌≡◌, List, length, ap, subst, sym, ◌∙◌
 use Rattle.std.specs.Prelude.{All, AllPairs}
 use Rattle.cany_base.specs.declared.rule.Rule.{Rule}
 use Rattle.cany_base.specs.Scenario.{IsRuleOf}
-use Rattle.can_bus.proofs.LostRules.{lost_until, lost_more, all_rules, length-lost_until, apart}
+use Rattle.can_bus.proofs.LostRuleFacts.{lost_until, lost_more, all_rules, length-lost_until, apart}
 use Rattle.can_bus.proofs.tests.lost_slots.Goals as goal
 
 pub loop-before-preserved : goal.loop-before-preserved

@@ -1,7 +1,7 @@
 use Rattle.std.proofs.Common.{◌≡◌, ◌<◌, length, ap, sym, ◌∙◌, arith}
 use Rattle.can_controller.specs.Controller.{ControllerState}
-use Rattle.can_bus.proofs.RowSteps.{row_set, read_more}
-use Rattle.can_bus.proofs.Ruled.{there_is}
+use Rattle.can_bus.proofs.RowFacts.{row_set, read_more}
+use Rattle.std.proofs.lemmas.Option.{slice_get_within}
 use Rattle.can_bus.proofs.tests.read_all.Goals as goal
 
 pub loop-i-init : goal.loop-i-init
@@ -23,6 +23,6 @@ returns-clause-row g c = λ p row. c.loop-i.invariant.row p row
 
 pub returns-clause-unread : goal.returns-clause-unread
 returns-clause-unread g c = λ lag k x e running.
-    let within : k < length c.loop-i.controllers = there_is c.loop-i.controllers k x e in
+    let within : k < length c.loop-i.controllers = slice_get_within c.loop-i.controllers k x e in
     let none : length x.unread ≡ 0 = c.loop-i.invariant.unread k x (omega arith) e in
     omega arith

@@ -1,6 +1,6 @@
 use Rattle.cany_base.specs.Params.{Parameters}
 use Rattle.can_bus.specs.Row.{IsRowFor}
-use Rattle.can_bus.proofs.RowSteps.{ReadUpTo}
+use Rattle.can_bus.proofs.RowFacts.{ReadUpTo}
 use Rattle.can_bus.proofs.tests.read_all.Given as goal
 
 abbrev pub invariant-loop-i : goal.invariant-loop-i

@@ -1,4 +1,4 @@
-use Rattle.can_controller.proofs.Fitting.{same_identity_is}
+use Rattle.can_controller.proofs.IdentifierFacts.{same_identity_is}
 use Rattle.can_controller.proofs.laws.identifier_is_identity.Goals as goal
 
 pub returns : goal.returns

@@ -1,4 +1,4 @@
-use Rattle.can_controller.proofs.Fitting.{key_order}
+use Rattle.can_controller.proofs.IdentifierFacts.{key_order}
 use Rattle.can_controller.proofs.laws.lesser_key_wins.Goals as goal
 
 pub returns : goal.returns

@@ -1,6 +1,6 @@
 use Rattle.std.proofs.Common.{◌+◌, ◌-◌, ◌/◌, ◌<◌, ℕ, length, add-one, arith}
 use Rattle.cany_base.specs.Frame.{identifier_of}
-use Rattle.can_controller.proofs.Ascending.{below_to, above_from}
+use Rattle.can_controller.proofs.AscendingFacts.{below_to, above_from}
 use Rattle.can_controller.proofs.waiting.find.Goals as goal
 
 pub loop-low-preserved-then-there-ident-2 : goal.loop-low-preserved-then-there-ident-2

@@ -1,5 +1,5 @@
 use Rattle.std.proofs.Common.{◌-◌, ◌≤◌, length, take, drop}
-use Rattle.can_controller.proofs.Ascending.{AllBelow, AllAbove}
+use Rattle.can_controller.proofs.AscendingFacts.{AllBelow, AllAbove}
 use Rattle.can_controller.proofs.waiting.find.Given as goal
 
 abbrev pub invariant-loop-low : goal.invariant-loop-low

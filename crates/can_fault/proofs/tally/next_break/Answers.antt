@@ -8,8 +8,8 @@ use Rattle.cany_model.specs.declared.breaks.Break.{Break}
 use Rattle.cany_model.specs.Promises.Hypothesis.{first_break}
 use Rattle.std.proofs.Common.{List, ◌∷◌}
 use Rattle.cany_model.proofs.Promises.BreakFacts.{first_break_stays}
-use Rattle.can_fault.proofs.OmissionFacts.{broken_next, unbroken_more}
-use Rattle.can_fault.proofs.OmissionSteps.{idle_breaks, idle_kept}
+use Rattle.can_fault.proofs.BreakFacts.{broken_next, unbroken_more}
+use Rattle.can_fault.proofs.KeptFacts.{idle_breaks, idle_kept}
 use Rattle.can_fault.proofs.tally.next_break.Goals as goal
 
 none_from : (o : Option Break) → is_some o ≡ false → o ≡ None
@@ -27,12 +27,12 @@ returns-then-is_some-clause-next c = λ p trace slot e kept.
 pub returns-in_err-frame-clause-next : goal.returns-in_err-frame-clause-next
 returns-in_err-frame-clause-next c = λ p trace slot e kept.
     let none = none_from c.args.first (sym c.is_some.ensures ∙ c.if-is_some.false) in
-    c.from_residual.ensures ∙ sym (unbroken_more p c.args.note.now trace (sym e ∙ none) (idle_breaks p trace c.args.omissions.now c.args.note.now (kept none) c.in_err-frame.was slot))
+    c.from_residual.ensures ∙ sym (unbroken_more p c.args.note.now trace (sym e ∙ none) (idle_breaks p trace c.args.breaks.now c.args.note.now (kept none) c.in_err-frame.was slot))
 
 pub returns-in_err-frame-clause-kept : goal.returns-in_err-frame-clause-kept
 returns-in_err-frame-clause-kept c = λ p trace slot e kept unbroken.
     let none = none_from c.args.first (sym c.is_some.ensures ∙ c.if-is_some.false) in
-    idle_kept p trace c.args.omissions.now c.args.note.now (kept none) c.in_err-frame.was slot
+    idle_kept p trace c.args.breaks.now c.args.note.now (kept none) c.in_err-frame.was slot
 
 pub returns-clause-next : goal.returns-clause-next
 returns-clause-next c = λ p trace slot e kept.

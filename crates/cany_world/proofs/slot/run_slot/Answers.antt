@@ -25,7 +25,7 @@ returns-in-Done-clause-reply c journal of kept =
 pub returns-in-Done-clause-done : goal.returns-in-Done-clause-done
 returns-in-Done-clause-done c journal of kept =
     bus_done c.args.scenario.now journal c.args.script.now c.args.bus.now c.slot.new.self c.args.controllers.now c.slot.new.controllers c.slot.result
-    (omega (arith, c.params.ensures.legal.in_range.nodes.1)) c.requires.script of kept c.slot.ensures.note c.slot.ensures.trace c.slot.ensures.params c.slot.ensures.follows c.slot.ensures.controllers
+    c.requires.script of kept c.slot.ensures.note c.slot.ensures.trace c.slot.ensures.params c.slot.ensures.follows c.slot.ensures.controllers
 
 pub returns-in_default : goal.returns-in_default
 returns-in_default c =

@@ -1,4 +1,4 @@
-use Rattle.can_controller.proofs.Places.{no_head}
+use Rattle.can_controller.proofs.PlaceFacts.{no_head}
 use Rattle.can_controller.proofs.controller.Controller.best.Goals as goal
 
 pub returns-clause-none : goal.returns-clause-none

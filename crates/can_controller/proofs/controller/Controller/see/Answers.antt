@@ -6,7 +6,7 @@ use Rattle.circular_buffer.specs.Buffer.{Buffer}
 use Rattle.cany_base.specs.declared.notice.Notice.{Notice}
 use Rattle.can_controller.specs.Controller.{node_state}
 use Rattle.can_controller.specs.ControllerFields.{controller_state}
-use Rattle.can_controller.proofs.Seen.{pushed, within_limit, state_seen}
+use Rattle.can_controller.proofs.SeenFacts.{pushed, within_limit, state_seen}
 use Rattle.can_controller.proofs.controller.Controller.see.Goals as goal
 
 pub invariant_of-self-else-exceed_limit : goal.invariant_of-self-else-exceed_limit
@@ -17,12 +17,12 @@ invariant_of-self-else-exceed_limit c =
     let after : NodeState = after_share c.args.share (node_state (controller_state c.self.inside)) in
     let transmit = c.after-self-inside.ensures.transmit (node_state (controller_state c.self.inside)) refl in
     let receive = c.after-self-inside.ensures.receive (node_state (controller_state c.self.inside)) refl in
-    let few : exceeds after ≡ false = sym (c.exceed_limit.ensures after (sym transmit) (sym receive)) ∙ c.if-exceed_limit.false in
+    let low : exceeds after ≡ false = sym (c.exceed_limit.ensures after (sym transmit) (sym receive)) ∙ c.if-exceed_limit.false in
     record {
       format = c.settle.ensures.format ∙ c.self.invariant.format;
       lag = c.self.invariant.lag;
       ring = ap (λ (b : Buffer Notice). b.capacity) notices ∙ c.self.invariant.ring;
-      counting = λ _. rw (transmit, receive) (within_limit after few);
+      counting = λ _. rw (transmit, receive) (within_limit after low);
     }
 
 pub returns-then-exceed_limit : goal.returns-then-exceed_limit
@@ -47,9 +47,9 @@ returns-else-exceed_limit c =
     let after : NodeState = after_share c.args.share (node_state (controller_state c.self.inside)) in
     let transmit = c.after-self-inside.ensures.transmit (node_state (controller_state c.self.inside)) refl in
     let receive = c.after-self-inside.ensures.receive (node_state (controller_state c.self.inside)) refl in
-    let few : exceeds after ≡ false = sym (c.exceed_limit.ensures after (sym transmit) (sym receive)) ∙ c.if-exceed_limit.false in
+    let low : exceeds after ≡ false = sym (c.exceed_limit.ensures after (sym transmit) (sym receive)) ∙ c.if-exceed_limit.false in
     let running : c.self.inside.stopped ≡ None = rw (← c.self.view_is) at c.requires.running in
     rw (← c.self.view_is)
     (state_seen c.args.slot c.args.share c.self.inside c.settle.new.self c.after-self-inside.result c.try_push_back.new.self c.notice_of-kind.result c.self.inside.stopped
     (c.settle.ensures.frames (node_state (controller_state c.self.inside)) refl) c.settle.ensures.room transmit receive notices c.notice_of-kind.ensures
-    (running ∙ ap (λ b. if b then Some c.args.slot else None) (sym few)))
+    (running ∙ ap (λ b. if b then Some c.args.slot else None) (sym low)))

@@ -3,8 +3,8 @@ use Rattle.std.specs.Prelude.{insert, IsOk}
 use Rattle.cany_base.specs.Frame.{FrameParts, identifier_of}
 use Rattle.can_frame.specs.Identifier.{FitsFormat}
 use Rattle.can_controller.specs.Waiting.{IsPlaceOf, IsGapFor, HasRoomFor}
-use Rattle.can_controller.proofs.Kept.{kept-set, kept-insert, gap_spare, inserted}
-use Rattle.can_controller.proofs.Places.{place_with, gap_with}
+use Rattle.can_controller.proofs.KeptFacts.{kept-set, kept-insert, gap_spare, inserted}
+use Rattle.can_controller.proofs.PlaceFacts.{place_with, gap_with}
 use Rattle.can_controller.proofs.waiting.Waiting.ask.Goals as goal
 
 pub invariant_of-self : goal.invariant_of-self

@@ -4,7 +4,7 @@ use Rattle.std.proofs.lemmas.Fn.{filter_same}
 use Rattle.cany_base.specs.Frame.{FrameParts}
 use Rattle.cany_model.specs.Bus.Frames.{identity_of}
 use Rattle.cany_model.specs.Bus.Waiting.{without}
-use Rattle.can_controller.proofs.Kept.{kept-without}
+use Rattle.can_controller.proofs.KeptFacts.{kept-without}
 use Rattle.can_controller.proofs.waiting.Waiting.drop_frame.Goals as goal
 
 -- what `retain` leaves

@@ -1,7 +1,7 @@
 use Rattle.std.proofs.Common.{◌∙◌}
 use Rattle.std.specs.Prelude.{All}
 use Rattle.can_frame.specs.Identifier.{FitsFormat}
-use Rattle.can_controller.proofs.Places.{found_waits, waits_is}
+use Rattle.can_controller.proofs.PlaceFacts.{found_waits, waits_is}
 use Rattle.can_controller.proofs.waiting.Waiting.waits.Goals as goal
 
 pub returns-clause-by_identifier : goal.returns-clause-by_identifier

@@ -3,8 +3,8 @@ use Rattle.std.specs.Prelude.{All}
 use Rattle.cany_base.specs.Frame.{FrameParts}
 use Rattle.can_frame.specs.Identifier.{FitsFormat}
 use Rattle.can_controller.specs.Waiting.{WaitingFrames, IsPlaceOf, IsGapFor}
-use Rattle.can_controller.proofs.Kept.{kept-remove}
-use Rattle.can_controller.proofs.Places.{place_removed, gap_kept, without_is}
+use Rattle.can_controller.proofs.KeptFacts.{kept-remove}
+use Rattle.can_controller.proofs.PlaceFacts.{place_removed, gap_kept, without_is}
 use Rattle.can_controller.proofs.waiting.Waiting.withdraw.Goals as goal
 
 pub invariant_of-self : goal.invariant_of-self

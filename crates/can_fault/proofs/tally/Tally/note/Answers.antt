@@ -31,7 +31,7 @@ returns-clause-run c = λ trace run.
     let slot : c.args.note.now.slot ≡ length trace = c.requires.next ∙ run.slots in
     let first : c.self.inside.first ≡ first_break c.self.inside.params trace = old.first in
     let kept = kept_of trace c.self.inside c.self.invariant old in
-    noted_run trace c.self.inside c.args.note.now c.next_break-self-inside.result c.next_break-self-inside.new.omissions c.from.result old slot
+    noted_run trace c.self.inside c.args.note.now c.next_break-self-inside.result c.next_break-self-inside.new.breaks c.from.result old slot
     (c.next_break-self-inside.ensures.next c.self.inside.params trace slot first kept)
     (c.next_break-self-inside.ensures.kept c.self.inside.params trace slot first kept)
     (c.from.ensures ∙ byte_is c.is_partial_slot.result ∙ ap {B = ℕ} (λ t. if t then 1 else 0) c.is_partial_slot.ensures)

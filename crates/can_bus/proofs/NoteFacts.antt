@@ -1,0 +1,114 @@
+-- The note of a slot.
+use Rattle.std.proofs.Common.{◌≡◌, ℕ, ◌&&◌, ◌||◌, not, Bool, true, false, nat_lt, List, length, refl, ap, sym, subst, ◌∙◌}
+use Rattle.std.specs.Prelude.{Option, Some, None, IfSome}
+use Rattle.cany_base.specs.declared.rule.Verdict.{Verdict}
+use Rattle.cany_base.specs.declared.slot_note.SlotNote.{SlotNote}
+use Rattle.cany_base.specs.Frame.{FrameParts}
+use Rattle.cany_base.specs.Nodes.{Nodes, has, those_where}
+use Rattle.cany_base.proofs.NodesFacts.{has-those_where, same_as_those_where}
+use Rattle.cany_model.specs.Bus.Slot.{Ruling, Script, after_share, exceeds, exchange, lets_accept, nobody, note_by, sends, share_of, slot_note_of, stopping, winner, with_stops}
+use Rattle.cany_model.specs.Bus.State.{NodeState, node_at, runs}
+use Rattle.can_arbiter.specs.declared.arbitration.Outcome.{Outcome}
+use Rattle.can_arbiter.specs.declared.arbitration.Outcome.TheVariants.{Won}
+use Rattle.can_controller.specs.Controller.{ControllerState}
+use Rattle.can_bus.specs.Contest.{IsContestOf, running_nodes, seen_by}
+use Rattle.can_bus.specs.Each.{each}
+use Rattle.can_bus.specs.Row.{nodes_of}
+use Rattle.can_bus.proofs.NodeFacts.{runs_seen}
+
+-- ---- the takers
+
+taking : (l r s a : Bool) → ((l && r) && not (l && s) && a) ≡ (l && (r && not s && a))
+taking true r s a = refl
+taking false r s a = refl
+
+takers_are : (nodes : List NodeState) (f : FrameParts) (verdict : Verdict) (running senders takers : Nodes) → running ≡ running_nodes nodes
+    → senders ≡ those_where (λ i. sends f (node_at nodes i)) → ((i : ℕ) → has takers i ≡ (has running i && not (has senders i) && lets_accept verdict i))
+    → takers ≡ those_where (λ i. runs (node_at nodes i) && not (sends f (node_at nodes i)) && lets_accept verdict i)
+takers_are nodes f verdict running senders takers run sent step =
+    same_as_those_where takers (λ i. runs (node_at nodes i) && not (sends f (node_at nodes i)) && lets_accept verdict i) (λ i.
+    step i
+    ∙ ap (λ b. b && not (has senders i) && lets_accept verdict i) (ap (λ s. has s i) run ∙ has-those_where (λ k. runs (node_at nodes k)) i)
+    ∙ ap (λ b. (nat_lt i 32 && runs (node_at nodes i)) && not b && lets_accept verdict i) (ap (λ s. has s i) sent ∙ has-those_where (λ k. sends f (node_at nodes k)) i)
+    ∙ taking (nat_lt i 32) (runs (node_at nodes i)) (sends f (node_at nodes i)) (lets_accept verdict i))
+
+pub exchanged : (slot : ℕ) (nodes : List NodeState) (outcome : Outcome) (f : FrameParts) (senders running takers none : Nodes) (verdict : Verdict) → outcome ≡ Won f senders
+    → IsContestOf nodes outcome → running ≡ running_nodes nodes → ((i : ℕ) → has takers i ≡ (has running i && not (has senders i) && lets_accept verdict i)) → none ≡ nobody
+    → ◌≡◌ {A = SlotNote} (record { slot = slot; frame = Some f; senders = senders; takers = takers; verdict = verdict; stops = none }) (exchange slot nodes verdict (winner nodes))
+exchanged slot nodes outcome f senders running takers none verdict won contest run step no_stops =
+    let P : Outcome → Type 0 = λ o. IsContestOf nodes o in
+    let it : IsContestOf nodes (Won f senders) = subst P won contest in
+    let take : takers ≡ those_where (λ i. runs (node_at nodes i) && not (sends f (node_at nodes i)) && lets_accept verdict i) =
+    takers_are nodes f verdict running senders takers run it.senders step in
+    (λ j. record { slot = slot; frame = Some f; senders = it.senders j; takers = take j; verdict = verdict; stops = no_stops j })
+    ∙ ap (exchange slot nodes verdict) it.frame
+
+-- ---- the stops
+
+abbrev stops_at : Nodes → List NodeState → SlotNote → ℕ → Bool
+stops_at scripted nodes note i = runs (node_at nodes i) && (has scripted i || exceeds (after_share (share_of i note) (node_at nodes i)))
+
+stopping_by : (l r s x : Bool) → ((l && r) && not ((l && (r && not x)) && not s)) ≡ (l && (r && (s || x)))
+stopping_by false r s x = refl
+stopping_by true false s x = refl
+stopping_by true true true true = refl
+stopping_by true true true false = refl
+stopping_by true true false true = refl
+stopping_by true true false false = refl
+
+-- those that ran before the shares, and are named or do not run after them
+pub stops_are : (scripted : Nodes) (controllers : List ControllerState) (bare : SlotNote) (seen : List ControllerState) (before after stops : Nodes)
+    → seen ≡ each (seen_by bare) 0 controllers → before ≡ running_nodes (nodes_of controllers) → after ≡ running_nodes (nodes_of seen)
+    → ((i : ℕ) → has stops i ≡ (has before i && not (has after i && not (has scripted i)))) → stops ≡ stopping scripted (nodes_of controllers) bare
+stops_are scripted controllers bare seen before after stops all ran runs_on step =
+    same_as_those_where stops (stops_at scripted (nodes_of controllers) bare) (λ i.
+    let over : Bool = exceeds (after_share (share_of i bare) (node_at (nodes_of controllers) i)) in
+    let still : has after i ≡ (nat_lt i 32 && (runs (node_at (nodes_of controllers) i) && not over)) =
+    ap (λ s. has s i) runs_on ∙ has-those_where (λ k. runs (node_at (nodes_of seen) k)) i
+    ∙ ap (λ (cs : List ControllerState). nat_lt i 32 && runs (node_at (nodes_of cs) i)) all
+    ∙ ap (λ b. nat_lt i 32 && b) (runs_seen bare controllers i) in
+    step i
+    ∙ ap (λ b. b && not (has after i && not (has scripted i))) (ap (λ s. has s i) ran ∙ has-those_where (λ k. runs (node_at (nodes_of controllers) k)) i)
+    ∙ ap (λ b. (nat_lt i 32 && runs (node_at (nodes_of controllers) i)) && not (b && not (has scripted i))) still
+    ∙ stopping_by (nat_lt i 32) (runs (node_at (nodes_of controllers) i)) (has scripted i) over)
+
+-- ---- the whole note
+
+pub noted : (rules : Script) (trace : List SlotNote) (nodes : List NodeState) (slot : ℕ) (ruling : Ruling) (bare : SlotNote) (stops : Nodes) → slot ≡ length trace
+    → ruling ≡ rules trace (winner nodes) → bare ≡ exchange slot nodes ruling.verdict (winner nodes) → stops ≡ stopping ruling.stop nodes bare
+    → record bare { stops = stops } ≡ slot_note_of rules (record { trace = trace; nodes = nodes })
+unfolding slot_note_of
+noted rules trace nodes slot ruling bare stops at ruled exchanged_ stopped =
+    ap (λ (s : Nodes). record bare { stops = s }) stopped
+    ∙ ap (with_stops ruling.stop nodes) exchanged_
+    ∙ ap (note_by slot nodes (winner nodes)) ruled
+    ∙ ap (λ n. note_by n nodes (winner nodes) (rules trace (winner nodes))) at
+
+-- the frame of a note that is not whole yet
+pub frame_noted : (slot : ℕ) (nodes : List NodeState) (verdict : Verdict) (o : Option FrameParts) → (exchange slot nodes verdict o).frame ≡ o
+frame_noted slot nodes verdict None = refl
+frame_noted slot nodes verdict (Some f) = refl
+
+pub slot_noted : (slot : ℕ) (nodes : List NodeState) (verdict : Verdict) (o : Option FrameParts) → (exchange slot nodes verdict o).slot ≡ slot
+slot_noted slot nodes verdict None = refl
+slot_noted slot nodes verdict (Some f) = refl
+
+-- a note has the number of the slots before it
+pub note_numbered : (rules : Script) (trace : List SlotNote) (nodes : List NodeState) (note : SlotNote)
+    → note ≡ slot_note_of rules (record { trace = trace; nodes = nodes }) → note.slot ≡ length trace
+unfolding slot_note_of
+note_numbered rules trace nodes note is =
+    ap (λ (n : SlotNote). n.slot) is ∙ slot_noted (length trace) nodes (rules trace (winner nodes)).verdict (winner nodes)
+
+ruled_by : (slot : ℕ) (nodes : List NodeState) (ruling : Option FrameParts → Ruling) (o : Option FrameParts)
+    → IfSome (note_by slot nodes o (ruling o)).frame (λ f. (note_by slot nodes o (ruling o)).verdict ≡ (ruling (Some f)).verdict)
+ruled_by slot nodes ruling None = tt
+ruled_by slot nodes ruling (Some f) = refl
+
+-- the verdict of a note is that of the script
+pub note_ruled : (rules : Script) (trace : List SlotNote) (nodes : List NodeState) (note : SlotNote)
+    → note ≡ slot_note_of rules (record { trace = trace; nodes = nodes }) → IfSome note.frame (λ f. note.verdict ≡ (rules trace (Some f)).verdict)
+unfolding slot_note_of
+note_ruled rules trace nodes note is =
+    let P : SlotNote → Type 0 = λ n. IfSome n.frame (λ f. n.verdict ≡ (rules trace (Some f)).verdict) in
+    subst P (sym is) (ruled_by (length trace) nodes (rules trace) (winner nodes))

@@ -1,0 +1,44 @@
+-- A row of controllers of which one after another reads.
+use Rattle.std.proofs.Common.{◌≡◌, ◌≢◌, ℕ, zero, suc, ◌+◌, ◌<◌, ◌⊎◌, inl, inr, List, [], ◌∷◌, length, get_or, set, refl, ap, sym, subst, ◌∙◌, arith}
+use Rattle.std.specs.Prelude.{Some, slice_get}
+use Rattle.std.proofs.lemmas.List.{length-set}
+use Rattle.std.proofs.lemmas.Option.{same_Some}
+use Rattle.cany_base.specs.Params.{Parameters}
+use Rattle.can_controller.specs.Controller.{ControllerState}
+use Rattle.can_bus.specs.Row.{IsControllerOf, IsRowFor}
+use Rattle.can_bus.proofs.EachFacts.{got}
+
+-- what stands at a place after a write is what was written there, or what stood there
+got_set : {X : Type 0} (xs : List X) (i k : ℕ) (y x : X) → slice_get (set xs i y) k ≡ Some x → ((k ≡ i) × (y ≡ x)) ⊎ ((k ≢ i) × (slice_get xs k ≡ Some x))
+got_set [] i k y x e = cc
+got_set (z ∷ xs) zero zero y x e = inl (refl, same_Some y x e)
+got_set (z ∷ xs) zero (suc k) y x e = inr (omega arith, e)
+got_set (z ∷ xs) (suc i) zero y x e = inr (omega arith, e)
+got_set (z ∷ xs) (suc i) (suc k) y x e = elim (got_set xs i k y x e) [
+  | inl there ↦ inl (ap suc there.0, there.1)
+  | inr other ↦ inr (omega (arith, other.0), other.1)
+]
+
+pub row_set : (p : Parameters) (controllers : List ControllerState) (i : ℕ) (old new : ControllerState) → i < length controllers → old ≡ get_or controllers i old
+    → new.node ≡ old.node → new.params ≡ old.params → IsRowFor p controllers → IsRowFor p (set controllers i new)
+row_set p controllers i old new within is node params row =
+    let was : IsControllerOf p i old = row.each i old (got controllers i old within is) in
+    let now : IsControllerOf p i new = record { node = node ∙ was.node; params = params ∙ was.params } in
+    record {
+      whole = length-set controllers i new ∙ row.whole;
+      each = λ k c e. elim (got_set controllers i k new c e) [
+        | inl there ↦ subst (λ (x : ControllerState). IsControllerOf p k x) there.1 (subst (λ j. IsControllerOf p j new) (sym there.0) now)
+        | inr other ↦ row.each k c other.1
+      ];
+    }
+
+-- the first controllers have read all
+abbrev pub ReadUpTo : ℕ → List ControllerState → Type 0
+ReadUpTo n controllers = (k : ℕ) (c : ControllerState) → k < n → slice_get controllers k ≡ Some c → length c.unread ≡ 0
+
+pub read_more : (n : ℕ) (controllers : List ControllerState) (new : ControllerState) → ReadUpTo n controllers → length new.unread ≡ 0
+    → ReadUpTo (n + 1) (set controllers n new)
+read_more n controllers new so read k c below e = elim (got_set controllers n k new c e) [
+  | inl there ↦ ap (λ (x : ControllerState). length x.unread) (sym there.1) ∙ read
+  | inr other ↦ so k c (omega (arith, other.0)) other.1
+]

@@ -1,9 +1,0 @@
-//! A controller may move to another thread and be shared among threads.
-
-use crate::controller::Controller;
-
-fn crosses_threads<T: Send + Sync>() {}
-
-fn all_cross_threads() {
-    crosses_threads::<Controller>();
-}

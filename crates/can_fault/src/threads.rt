@@ -1,0 +1,14 @@
+//! The script, the counts and the tally may move to another thread and be shared by threads, as the bounds below show.
+
+use crate::attempts::Attempts;
+use crate::script::{Script, ScriptFault};
+use crate::tally::Tally;
+
+fn is_thread_safe<T: Send + Sync>() {}
+
+fn all_are_thread_safe() {
+    is_thread_safe::<Script>();
+    is_thread_safe::<ScriptFault>();
+    is_thread_safe::<Attempts>();
+    is_thread_safe::<Tally>();
+}
