@@ -1,0 +1,5 @@
+pub mod DeliveryFacts
+pub mod HistoryFacts
+pub mod NoticeFacts
+pub mod NumberFacts
+pub mod TableFacts

@@ -1,0 +1,11 @@
+//! What the broadcast protocols share: the number that stands for a message, the frames that name it, the actions that
+//! deliver it and withdraw its frame, and the sequence numbers of scripted sends.
+#![tactic(auto)]
+
+mod actions;
+mod frame;
+mod number;
+
+pub use actions::{deliver, withdraw};
+pub use frame::{FrameClass, MessageFrame, is_of_class};
+pub use number::message_number;
