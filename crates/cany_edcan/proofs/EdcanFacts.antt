@@ -109,11 +109,11 @@ module _ (scenario : ScenarioParts) (past : List NoticeKind) (v w : EdcanParts) 
       → after ≡ before ++ actions_of (edcan_effects scenario v.node (notice.kind ∷ past))
   unfolding edcan_effects edcan_at
   got_acts before after kind stands acts =
-      let then : IsEdcanOf scenario v.node (Got f ∷ past) w = rw kind at stands in
+      let stood : IsEdcanOf scenario v.node (Got f ∷ past) w = rw kind at stands in
       rw (kind, is)
       ((rw next.slot at acts)
       ∙ both_actions before (delivery_effects service.Ed v.node f (Got f) past) (eager_effects scenario.params.omit f (Got f ∷ past)) _ _
-      (delivery_got service.Ed v.node past f (was_delivered v f) delivered_is) (relay_is then))
+      (delivery_got service.Ed v.node past f (was_delivered v f) delivered_is) (relay_is stood))
 
   pub sent_acts : (before after : List Action) → notice.kind ≡ Sent f → after ≡ before ++ delivery_actions service.Ed notice.slot (f.node == v.node && not (was_delivered v f)) f
       → after ≡ before ++ actions_of (edcan_effects scenario v.node (notice.kind ∷ past))

@@ -16,13 +16,13 @@ ghost use Rattle.cany_model.specs.Rules.Notices.{IsNextNotice};
 ghost use Rattle.cany_edcan.specs.Edcan.{IsEdcanOf, CanHear};
 ghost use Rattle.cany_edcan.specs.EdcanSteps.{was_delivered, relay_actions};
 
-use crate::data::Data;
+use crate::data::{Data, is_data};
 use cany_base::{
-    Action, Actions, Class, Frame, Memory, MsgKey, NodeId, Notice, NoticeKind, Payload, Scenario,
-    Service, Slot,
+    Action, Actions, Frame, Memory, MsgKey, NodeId, Notice, NoticeKind, Payload, Scenario, Service,
+    Slot,
 };
 use cany_diffuse::{Diffused, Eager, Learnt};
-use cany_message::{deliver, is_of_class, withdraw};
+use cany_message::{deliver, withdraw};
 use std::alloc::Global;
 use std::marker::Model;
 
@@ -81,12 +81,12 @@ impl Edcan {
     {
         match &notice.kind {
             NoticeKind::Got(frame) => {
-                if is_of_class(frame, Class::Ed) {
+                if is_data(frame) {
                     self.on_copy(notice.slot, frame, out);
                 }
             }
             NoticeKind::Sent(frame) => {
-                if is_of_class(frame, Class::Ed) {
+                if is_data(frame) {
                     self.on_own(notice.slot, frame, out);
                 }
             }

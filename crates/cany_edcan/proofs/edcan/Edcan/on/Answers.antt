@@ -5,50 +5,50 @@ use Rattle.cany_edcan.proofs.edcan.Edcan.on.Goals as goal
 
 pub on_copy-requires-clause-takes : goal.on_copy-requires-clause-takes
 on_copy-requires-clause-takes c =
-    takes_got c.args.self.now c.args.notice.now c.in-Got.frame c.requires.hears c.in-Got.is (sym c.is_of_class.ensures ∙ c.if-is_of_class.true)
+    takes_got c.args.self.now c.args.notice.now c.in-Got.frame c.requires.hears c.in-Got.is (sym c.is_data.ensures ∙ c.if-is_data.true)
 
 pub on_own-requires-clause-takes : goal.on_own-requires-clause-takes
 on_own-requires-clause-takes c =
-    takes_sent c.args.self.now c.args.notice.now c.in-Sent.frame c.requires.hears c.in-Sent.is (sym c.is_of_class-in-Sent.ensures ∙ c.if-is_of_class-2.true)
+    takes_sent c.args.self.now c.args.notice.now c.in-Sent.frame c.requires.hears c.in-Sent.is (sym c.is_data-in-Sent.ensures ∙ c.if-is_data-2.true)
 
-pub returns-then-is_of_class-clause-stands : goal.returns-then-is_of_class-clause-stands
-returns-then-is_of_class-clause-stands c = λ scenario past h next.
-    got_stands scenario past c.args.self.now c.on_copy.new.self c.args.notice.now c.in-Got.frame h next (sym c.is_of_class.ensures ∙ c.if-is_of_class.true)
+pub returns-then-is_data-clause-stands : goal.returns-then-is_data-clause-stands
+returns-then-is_data-clause-stands c = λ scenario past h next.
+    got_stands scenario past c.args.self.now c.on_copy.new.self c.args.notice.now c.in-Got.frame h next (sym c.is_data.ensures ∙ c.if-is_data.true)
     c.on_copy.ensures.in_range c.in-Got.is c.on_copy.ensures.learnt c.on_copy.ensures.node
 
-pub returns-then-is_of_class-clause-actions : goal.returns-then-is_of_class-clause-actions
-returns-then-is_of_class-clause-actions c = λ scenario past h next.
-    got_acts scenario past c.args.self.now c.on_copy.new.self c.args.notice.now c.in-Got.frame h next (sym c.is_of_class.ensures ∙ c.if-is_of_class.true)
+pub returns-then-is_data-clause-actions : goal.returns-then-is_data-clause-actions
+returns-then-is_data-clause-actions c = λ scenario past h next.
+    got_acts scenario past c.args.self.now c.on_copy.new.self c.args.notice.now c.in-Got.frame h next (sym c.is_data.ensures ∙ c.if-is_data.true)
     c.on_copy.ensures.in_range c.args.out.now.items c.on_copy.new.out.items c.in-Got.is
-    (returns-then-is_of_class-clause-stands c scenario past h next) c.on_copy.ensures.actions
+    (returns-then-is_data-clause-stands c scenario past h next) c.on_copy.ensures.actions
 
-pub returns-else-is_of_class-clause-stands : goal.returns-else-is_of_class-clause-stands
-returns-else-is_of_class-clause-stands c = λ scenario past h next.
-    other_stands scenario c.args.self.now.node past c.args.notice.now.kind (Got c.in-Got.frame) c.in-Got.is (sym c.is_of_class.ensures ∙ c.if-is_of_class.false) c.args.self.now h
+pub returns-else-is_data-clause-stands : goal.returns-else-is_data-clause-stands
+returns-else-is_data-clause-stands c = λ scenario past h next.
+    other_stands scenario c.args.self.now.node past c.args.notice.now.kind (Got c.in-Got.frame) c.in-Got.is (sym c.is_data.ensures ∙ c.if-is_data.false) c.args.self.now h
 
-pub returns-else-is_of_class-clause-actions : goal.returns-else-is_of_class-clause-actions
-returns-else-is_of_class-clause-actions c = λ scenario past h next.
-    other_acts scenario c.args.self.now.node past c.args.notice.now.kind (Got c.in-Got.frame) c.in-Got.is (sym c.is_of_class.ensures ∙ c.if-is_of_class.false) c.args.out.now.items
+pub returns-else-is_data-clause-actions : goal.returns-else-is_data-clause-actions
+returns-else-is_data-clause-actions c = λ scenario past h next.
+    other_acts scenario c.args.self.now.node past c.args.notice.now.kind (Got c.in-Got.frame) c.in-Got.is (sym c.is_data.ensures ∙ c.if-is_data.false) c.args.out.now.items
 
-pub returns-then-is_of_class-2-clause-stands : goal.returns-then-is_of_class-2-clause-stands
-returns-then-is_of_class-2-clause-stands c = λ scenario past h next.
-    sent_stands scenario past c.args.self.now c.on_own.new.self c.args.notice.now c.in-Sent.frame h next (sym c.is_of_class-in-Sent.ensures ∙ c.if-is_of_class-2.true)
+pub returns-then-is_data-2-clause-stands : goal.returns-then-is_data-2-clause-stands
+returns-then-is_data-2-clause-stands c = λ scenario past h next.
+    sent_stands scenario past c.args.self.now c.on_own.new.self c.args.notice.now c.in-Sent.frame h next (sym c.is_data-in-Sent.ensures ∙ c.if-is_data-2.true)
     c.on_own.ensures.in_range c.in-Sent.is c.on_own.ensures.owned c.on_own.ensures.node
 
-pub returns-then-is_of_class-2-clause-actions : goal.returns-then-is_of_class-2-clause-actions
-returns-then-is_of_class-2-clause-actions c = λ scenario past h next.
-    sent_acts scenario past c.args.self.now c.on_own.new.self c.args.notice.now c.in-Sent.frame h next (sym c.is_of_class-in-Sent.ensures ∙ c.if-is_of_class-2.true)
+pub returns-then-is_data-2-clause-actions : goal.returns-then-is_data-2-clause-actions
+returns-then-is_data-2-clause-actions c = λ scenario past h next.
+    sent_acts scenario past c.args.self.now c.on_own.new.self c.args.notice.now c.in-Sent.frame h next (sym c.is_data-in-Sent.ensures ∙ c.if-is_data-2.true)
     c.on_own.ensures.in_range c.args.out.now.items c.on_own.new.out.items c.in-Sent.is c.on_own.ensures.actions
 
-pub returns-else-is_of_class-2-clause-stands : goal.returns-else-is_of_class-2-clause-stands
-returns-else-is_of_class-2-clause-stands c = λ scenario past h next.
+pub returns-else-is_data-2-clause-stands : goal.returns-else-is_data-2-clause-stands
+returns-else-is_data-2-clause-stands c = λ scenario past h next.
     other_stands scenario c.args.self.now.node past c.args.notice.now.kind (Sent c.in-Sent.frame) c.in-Sent.is
-    (sent_other c.in-Sent.frame (sym c.is_of_class-in-Sent.ensures ∙ c.if-is_of_class-2.false)) c.args.self.now h
+    (sent_other c.in-Sent.frame (sym c.is_data-in-Sent.ensures ∙ c.if-is_data-2.false)) c.args.self.now h
 
-pub returns-else-is_of_class-2-clause-actions : goal.returns-else-is_of_class-2-clause-actions
-returns-else-is_of_class-2-clause-actions c = λ scenario past h next.
+pub returns-else-is_data-2-clause-actions : goal.returns-else-is_data-2-clause-actions
+returns-else-is_data-2-clause-actions c = λ scenario past h next.
     other_acts scenario c.args.self.now.node past c.args.notice.now.kind (Sent c.in-Sent.frame) c.in-Sent.is
-    (sent_other c.in-Sent.frame (sym c.is_of_class-in-Sent.ensures ∙ c.if-is_of_class-2.false)) c.args.out.now.items
+    (sent_other c.in-Sent.frame (sym c.is_data-in-Sent.ensures ∙ c.if-is_data-2.false)) c.args.out.now.items
 
 pub returns-in-Idle-clause-stands : goal.returns-in-Idle-clause-stands
 returns-in-Idle-clause-stands c = λ scenario past h next. other_stands scenario c.args.self.now.node past c.args.notice.now.kind Idle c.in-Idle.is tt c.args.self.now h
