@@ -75,17 +75,18 @@ module _ (scenario : ScenarioParts) (i slot : ℕ) (past : List NoticeKind) (v w
       let confirms : actions_of (confirm_effects i f) ≡ action.Ask (confirm_frame f) ∷ [] = rw (eq-eqb f.node i own) refl in
       rw (is, at) (both_actions before (delivery_effects service.Rel i f (Sent f) past) (confirm_effects i f) _ _ delivers confirms)
 
--- notices that call for nothing
+-- ---- notices that call for nothing
+
+sent_none : (i : ℕ) (f : FrameParts) (past : List NoticeKind) (rel own : Bool) → (f.node == i) ≡ own → (rel && own) ≡ false
+    → (if rel then delivery_effects service.Rel i f (Sent f) past ++ confirm_effects i f else []) ≡ []
+unfolding delivery_effects
+sent_none i f past true true is none = absurd (cc)
+sent_none i f past true false is none = rw is refl
+sent_none i f past false own is none = refl
+
 pub none_at : (p : Parameters) (i : ℕ) (notice : NoticeKind) (past : List NoticeKind) → IsOther class.Rel (of_own i) notice → relcan_at p i notice past ≡ []
 unfolding relcan_at
 none_at p i Idle past other = refl
 none_at p i Bad past other = refl
 none_at p i (Got f) past other = rw other refl
-none_at p i (Sent f) past other = go (same_class f.class class.Rel) (f.node == i) refl other
-  where
-    go : (rel own : Bool) → (f.node == i) ≡ own → (rel && own) ≡ false
-        → (if rel then delivery_effects service.Rel i f (Sent f) past ++ confirm_effects i f else []) ≡ []
-    unfolding delivery_effects
-    go true true is none = absurd (cc)
-    go true false is none = rw is refl
-    go false own is none = refl
+none_at p i (Sent f) past other = sent_none i f past (same_class f.class class.Rel) (f.node == i) refl other

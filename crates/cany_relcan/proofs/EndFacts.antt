@@ -63,16 +63,16 @@ marked_fits false f v n fit one = omega (arith, fit, one, length-append v.fallen
 
 fallen_fits : (slot : ℕ) (v : RelcanParts) (due : Option FrameParts) → due_frame slot v ≡ due
     → length v.fallen.items + length v.timers.running + v.timers.spare ≤ v.fallen.room
-    → length (fallen_after due v).items + length (without_due slot v).timers.running + v.timers.spare ≤ (fallen_after due v).room
+    → length (fallen_after due v.confirms v.fallen).items + length (without_due slot v).timers.running + v.timers.spare ≤ (fallen_after due v.confirms v.fallen).room
 fallen_fits slot v None is fit = omega (arith, fit, run_on (nat_lt slot v.confirm) (slot - v.confirm) v.timers.running)
 fallen_fits slot v (Some f) is fit =
-    marked_fits (is_confirmed v f) f v (length (without_due slot v).timers.running) fit
+    marked_fits (is_confirmed v.confirms f) f v (length (without_due slot v).timers.running) fit
     (run_on_one (nat_lt slot v.confirm) (slot - v.confirm) v.timers.running f is)
 
 -- ---- the messages for which the node fell back
 
 module _ (scenario : ScenarioParts) (i : ℕ) (past : List NoticeKind) (v : RelcanParts) (h : AreTablesOf scenario i past v.copies v.confirms) where
-  read_is : (f : FrameParts) → f.node < origins → is_confirmed v f ≡ has_confirm (data_identity f.number f.node) past
+  read_is : (f : FrameParts) → f.node < origins → is_confirmed v.confirms f ≡ has_confirm (data_identity f.number f.node) past
   read_is f small = confirmed_is scenario i past v.copies v.confirms h f.number f.node small
 
   fallen_then : (fallen c : Bool) (this : Bool) → ((this && not c) || fallen) ≡ (if c then fallen else (fallen || (this || false)))
@@ -114,13 +114,13 @@ module _ (scenario : ScenarioParts) (i : ℕ) (past : List NoticeKind) (v : Relc
   ]
 
   marks_after : (due : Option FrameParts) → IfSome due (λ f. f.node < origins) → ((f : FrameParts) → due ≡ Some f → f.class ≡ class.Rel) → (s o : ℕ)
-      → list_any (is_key_of s o) (fallen_after due v).items ≡ (falls_with due (data_identity s o) (has_confirm (data_identity s o) past) || list_any (is_key_of s o) v.fallen.items)
+      → list_any (is_key_of s o) (fallen_after due v.confirms v.fallen).items ≡ (falls_with due (data_identity s o) (has_confirm (data_identity s o) past) || list_any (is_key_of s o) v.fallen.items)
   marks_after None small rels s o = refl
   marks_after (Some f) small rels s o =
       let rel = rels f refl in
-      marked_when s o f (is_confirmed v f)
-      ∙ sym (fallen_then (list_any (is_key_of s o) v.fallen.items) (is_confirmed v f) (s == f.number && o == f.node))
-      ∙ ap (λ b. (b && not (is_confirmed v f)) || list_any (is_key_of s o) v.fallen.items) (sym (is_this class.Rel s o f rel))
+      marked_when s o f (is_confirmed v.confirms f)
+      ∙ sym (fallen_then (list_any (is_key_of s o) v.fallen.items) (is_confirmed v.confirms f) (s == f.number && o == f.node))
+      ∙ ap (λ b. (b && not (is_confirmed v.confirms f)) || list_any (is_key_of s o) v.fallen.items) (sym (is_this class.Rel s o f rel))
       ∙ ap (λ c. (is_of (data_identity s o) f && not c) || list_any (is_key_of s o) v.fallen.items) (read_is f small)
       ∙ ap (λ b. b || list_any (is_key_of s o) v.fallen.items) (sym (falls_same s o f rel))
 
@@ -170,7 +170,7 @@ due_rel scenario i slot n notice past v e f is = due_class i (drop n past) f (sy
 
 marks_are : (scenario : ScenarioParts) (i slot n : ℕ) (notice : NoticeKind) (past : List NoticeKind) (v : RelcanParts) → HasHeard scenario i notice past v
     → Ends scenario i slot n notice past v → (due : Option FrameParts) → due_frame slot v ≡ due → IfSome due (λ f. f.node < origins)
-    → AreMarksOf scenario.params.confirm i (notice ∷ past) (fallen_after due v)
+    → AreMarksOf scenario.params.confirm i (notice ∷ past) (fallen_after due v.confirms v.fallen)
 marks_are scenario i slot n notice past v h e due is small s o =
     marks_after scenario i (notice ∷ past) v h.tables due small (λ f at. due_rel scenario i slot n notice past v e f (is ∙ at)) s o
     ∙ ap (λ d. falls_with d (data_identity s o) (has_confirm (data_identity s o) (notice ∷ past)) || list_any (is_key_of s o) v.fallen.items) (sym is ∙ e.due)

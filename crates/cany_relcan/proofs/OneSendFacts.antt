@@ -1,4 +1,4 @@
--- The frames of the only broadcast of a scenario.
+-- The frames of the only send of a scenario.
 use Rattle.std.proofs.Common.{◌≡◌, ℕ, ◌<◌, List, [], ◌∷◌, length, Contains, refl, arith}
 use Rattle.cany_base.specs.declared.frame.Class.TheVariants as class
 use Rattle.cany_base.specs.declared.message.SendAsk.{SendAsk}

@@ -55,7 +55,7 @@ confirmation_other : (f : FrameParts) → f.class ≡ class.Confirm → same_cla
 unfolding same_class
 confirmation_other f is = rw is refl
 
-none_noted : (f : FrameParts) → (same_class f.class class.Confirm && false) ≡ false
+pub none_noted : (f : FrameParts) → (same_class f.class class.Confirm && false) ≡ false
 none_noted f = go (same_class f.class class.Confirm)
   where
     go : (b : Bool) → (b && false) ≡ false

@@ -8,7 +8,7 @@ use Rattle.cany_base.specs.Bounded.{Bounded}
 use Rattle.cany_base.specs.Frame.{FrameParts}
 use Rattle.cany_diffuse.specs.declared.learnt.Learnt.{Learnt}
 use Rattle.cany_diffuse.specs.declared.learnt.Learnt.TheVariants.{First, Again, Enough}
-use Rattle.cany_diffuse.specs.Eager.{copies_of, is_held}
+use Rattle.cany_diffuse.specs.Eager.{EagerParts, copies_of, is_held}
 use Rattle.cany_message.specs.Numbers.{frame_number}
 use Rattle.cany_relcan.specs.Relcan.{RelcanParts, is_key_of}
 use Rattle.cany_relcan.specs.Timers.{TimersParts, oldest_from, without_from, with_timer}
@@ -27,8 +27,8 @@ starts_timer v f = not (was_delivered v f) && not (f.node == v.node)
 abbrev pub is_fallen : RelcanParts → FrameParts → Bool
 is_fallen v f = list_any (is_key_of f.number f.node) v.fallen.items
 
-abbrev pub is_confirmed : RelcanParts → FrameParts → Bool
-is_confirmed v f = nat_lt 0 (copies_of v.confirms (frame_number f))
+abbrev pub is_confirmed : EagerParts → FrameParts → Bool
+is_confirmed confirms f = nat_lt 0 (copies_of confirms (frame_number f))
 
 abbrev pub is_enough : Learnt → Bool
 is_enough First = false
@@ -55,12 +55,12 @@ abbrev pub marked : FrameParts → Bounded MsgKey → Bounded MsgKey
 marked f fallen = record { items = fallen.items ++ key_of_frame f ∷ []; room = fallen.room }
 
 -- the node falls back for the message whose timer ran out, unless its confirmation was read
-abbrev pub fallen_after : Option FrameParts → RelcanParts → Bounded MsgKey
-fallen_after None v = v.fallen
-fallen_after (Some f) v = if is_confirmed v f then v.fallen else marked f v.fallen
+abbrev pub fallen_after : Option FrameParts → EagerParts → Bounded MsgKey → Bounded MsgKey
+fallen_after None confirms fallen = fallen
+fallen_after (Some f) confirms fallen = if is_confirmed confirms f then fallen else marked f fallen
 
 abbrev pub after_timer : Option FrameParts → RelcanParts → RelcanParts
-after_timer due v = record v { fallen = fallen_after due v }
+after_timer due v = record v { fallen = fallen_after due v.confirms v.fallen }
 
 -- ---- actions
 
@@ -69,7 +69,7 @@ ask_actions asks f = if asks then Ask f ∷ [] else []
 
 -- whether the node asks for the frame of a timer that runs out
 abbrev pub asks_at_end : RelcanParts → FrameParts → Bool
-asks_at_end v f = not (is_confirmed v f) && not (nat_lt v.copies.omit (copies_of v.copies (frame_number f)))
+asks_at_end v f = not (is_confirmed v.confirms f) && not (nat_lt v.copies.omit (copies_of v.copies (frame_number f)))
 
 abbrev pub timer_actions : Option FrameParts → RelcanParts → List Action
 timer_actions None v = []

@@ -19,14 +19,14 @@ ghost use Rattle.cany_model.specs.Rules.Relcan.{confirm_frame, has_timer_ahead, 
 ghost use Rattle.cany_relcan.specs.Relcan.{IsRelcanOf, HasHeard, CanHear, is_key_of};
 ghost use Rattle.cany_relcan.specs.RelcanSteps.{after_timer, due_frame, is_enough, is_fallen, starts_timer, timer_actions, timers_with, was_delivered, without_due};
 
-use crate::frames::{Confirmation, Data, confirmation_of};
+use crate::frames::{Confirmation, Data, confirmation_of, is_confirmation, is_data};
 use crate::timers::{Timer, Timers};
 use cany_base::{
-    Action, Actions, BoundedVec, Class, Frame, Memory, MsgKey, NodeId, Notice, NoticeKind, Payload,
+    Action, Actions, BoundedVec, Frame, Memory, MsgKey, NodeId, Notice, NoticeKind, Payload,
     Scenario, Service, Slot,
 };
 use cany_diffuse::{Diffused, Eager, Learnt};
-use cany_message::{deliver, is_of_class, withdraw};
+use cany_message::{deliver, withdraw};
 use std::alloc::Global;
 use std::marker::Model;
 
@@ -136,9 +136,9 @@ impl Relcan {
     {
         match &notice.kind {
             NoticeKind::Got(frame) => {
-                if is_of_class(frame, Class::Rel) {
+                if is_data(frame) {
                     self.on_copy(notice.slot, frame, out);
-                } else if is_of_class(frame, Class::Confirm) {
+                } else if is_confirmation(frame) {
                     self.on_confirmation(frame);
                 }
             }
@@ -273,7 +273,7 @@ impl Relcan {
     fn is_own(&self, frame: &Frame) -> bool
         ensures { result ≡ (same_class frame.now.class class.Rel && frame.now.node == self.now.node) }
     {
-        is_of_class(frame, Class::Rel) && frame.node.get() == self.node.get()
+        is_data(frame) && frame.node.get() == self.node.get()
     }
 
     /// Whether the message of a data frame was delivered.
