@@ -4,8 +4,15 @@
 
 mod actions;
 mod frame;
+mod keys;
 mod number;
+mod sequence;
+#[cfg(test)]
+mod tests;
+mod threads;
 
 pub use actions::{deliver, withdraw};
 pub use frame::{FrameClass, MessageFrame, is_of_class};
+pub use keys::keys_of;
 pub use number::message_number;
+pub use sequence::SequenceNumbers;
