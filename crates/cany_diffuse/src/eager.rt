@@ -92,6 +92,13 @@ impl<K: Diffused> Eager<K> {
         }
     }
 
+    /// How many omissions of a frame there may be.
+    pub fn omit(&self) -> u32
+        ensures omit { result ≡ self.now.omit }
+    {
+        self.omit
+    }
+
     /// How many values more there may be.
     pub fn spare(&self) -> usize
         ensures spare { result ≡ spare_of self.now }

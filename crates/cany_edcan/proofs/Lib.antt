@@ -1,5 +1,1 @@
-pub mod ActionFacts
-pub mod MessageFacts
-pub mod NoticeFacts
-pub mod PastFacts
-pub mod StandsFacts
+pub mod EdcanFacts

@@ -1,3 +1,2 @@
 pub mod Edcan
 pub mod EdcanSteps
-pub mod MessageNumbers

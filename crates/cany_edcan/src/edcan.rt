@@ -1,24 +1,28 @@
 ghost use Rattle.std.specs.Prelude.{◌≡◌, ℕ, ◌+◌, ◌<◌, ◌≤◌, ◌==◌, ◌&&◌, [], ◌∷◌, ◌++◌, not, length, List, replicate, IfOk};
 ghost use Rattle.cany_base.specs.declared.actions.Action.TheVariants as action;
 ghost use Rattle.cany_base.specs.declared.frame.Class.TheVariants as class;
+ghost use Rattle.cany_base.specs.declared.message.Service.TheVariants as service;
 ghost use Rattle.cany_base.specs.declared.notice.NoticeKind.{NoticeKind};
-ghost use Rattle.cany_base.specs.declared.notice.NoticeKind.TheVariants.{Idle, Got, Sent};
+ghost use Rattle.cany_base.specs.declared.notice.NoticeKind.TheVariants.{Idle};
 ghost use Rattle.cany_base.specs.Frame.{FrameParts};
 ghost use Rattle.cany_base.specs.Scenario.{ScenarioParts};
 ghost use Rattle.cany_diffuse.specs.Eager.{copies_of, is_owned, learnt_of, IsCounted, IsLearnt, IsOwned};
+ghost use Rattle.cany_message.specs.Actions.{delivery_actions};
+ghost use Rattle.cany_message.specs.Numbers.{frame_number, origins};
+ghost use Rattle.cany_message.specs.Table.{CanTake};
 ghost use Rattle.cany_model.specs.Rules.Actions.{actions_of};
 ghost use Rattle.cany_model.specs.Rules.Edcan.{edcan_effects};
 ghost use Rattle.cany_model.specs.Rules.Notices.{IsNextNotice};
 ghost use Rattle.cany_edcan.specs.Edcan.{IsEdcanOf, CanHear};
-ghost use Rattle.cany_edcan.specs.EdcanSteps.{frame_number, was_delivered, delivery_actions, relay_actions, CanTake};
+ghost use Rattle.cany_edcan.specs.EdcanSteps.{was_delivered, relay_actions};
 
 use crate::data::{Data, is_data};
-use can_frame::{fits_format_one, identifier};
 use cany_base::{
-    Action, Actions, Format, Frame, LogEntry, Memory, MsgKey, NodeId, Notice, NoticeKind, Payload,
-    Scenario, Service, Slot,
+    Action, Actions, Frame, Memory, MsgKey, NodeId, Notice, NoticeKind, Payload, Scenario, Service,
+    Slot,
 };
 use cany_diffuse::{Diffused, Eager, Learnt};
+use cany_message::{deliver, withdraw};
 use std::alloc::Global;
 use std::marker::Model;
 
@@ -51,14 +55,14 @@ impl Edcan {
         Ok(Edcan { node, copies })
     }
 
-    /// The node, which is the origin, broadcasts the message: it asks for its data frame.
+    /// The node, which is the origin, sends the message: it asks for its data frame.
     pub fn send(&mut self, msg: MsgKey, payload: Payload, out: &mut Actions)
         requires { length out.old.items < out.old.room }
         ensures state { self.new ≡ self.old }
         ensures asks { let f : FrameParts = record { class = class.Ed; number = msg.seq; node = msg.origin; inc = 0; payload = payload } in
             out.new ≡ record out.old { items = out.old.items ++ action.Ask f ∷ [] } }
     {
-        let data = Data { msg, payload };
+        let data = Data::new(msg, payload);
         out.push(Action::Ask(data.form()));
     }
 
@@ -78,12 +82,12 @@ impl Edcan {
         match &notice.kind {
             NoticeKind::Got(frame) => {
                 if is_data(frame) {
-                    self.hear(notice.slot, frame, out);
+                    self.on_copy(notice.slot, frame, out);
                 }
             }
             NoticeKind::Sent(frame) => {
                 if is_data(frame) {
-                    self.confirm(notice.slot, frame, out);
+                    self.on_own(notice.slot, frame, out);
                 }
             }
             NoticeKind::Idle => {}
@@ -92,71 +96,51 @@ impl Edcan {
     }
 
     /// A copy of a data frame: the message is delivered if none was before, and the frame is relayed.
-    fn hear(&mut self, slot: Slot, frame: &Frame, out: &mut Actions)
-        requires takes { CanTake self.old frame.now }
+    fn on_copy(&mut self, slot: Slot, frame: &Frame, out: &mut Actions)
+        requires takes { CanTake (frame_number frame.now) self.old.copies }
         requires room { length out.old.items + 2 ≤ out.old.room }
         ensures learnt { IsLearnt (frame_number frame.now) self.old.copies self.new.copies }
         ensures node { self.new.node ≡ self.old.node }
-        ensures in_range { frame.now.node < 32 }
+        ensures in_range { frame.now.node < origins }
         ensures actions { let learnt = learnt_of self.old.copies.omit (copies_of self.new.copies (frame_number frame.now)) (is_owned self.old.copies (frame_number frame.now)) in
-            out.new.items ≡ (out.old.items ++ delivery_actions slot (not (was_delivered self.old frame.now)) frame.now) ++ relay_actions learnt frame.now }
+            out.new.items ≡ (out.old.items ++ delivery_actions service.Ed slot (not (was_delivered self.old frame.now)) frame.now) ++ relay_actions learnt frame.now }
         ensures few { length out.new.items ≤ length out.old.items + 2 }
         ensures room { out.new.room ≡ out.old.room }
     {
-        let delivers = !self.was_delivered(frame);
-        deliver(slot, frame, delivers, out);
+        let is_first = !self.was_delivered(frame);
+        deliver(Service::Ed, slot, frame, is_first, out);
         let learnt = self.copies.learn(Data::of(frame));
         relay(&learnt, frame, out);
     }
 
     /// The node's own transmission of a data frame: the message is delivered if the node is its origin and none was before.
-    fn confirm(&mut self, slot: Slot, frame: &Frame, out: &mut Actions)
-        requires takes { CanTake self.old frame.now }
+    fn on_own(&mut self, slot: Slot, frame: &Frame, out: &mut Actions)
+        requires takes { CanTake (frame_number frame.now) self.old.copies }
         requires room { length out.old.items + 2 ≤ out.old.room }
         ensures owned { IsOwned (frame_number frame.now) self.old.copies self.new.copies }
         ensures node { self.new.node ≡ self.old.node }
-        ensures in_range { frame.now.node < 32 }
+        ensures in_range { frame.now.node < origins }
         ensures actions { let delivers = frame.now.node == self.old.node && not (was_delivered self.old frame.now) in
-            out.new.items ≡ out.old.items ++ delivery_actions slot delivers frame.now }
+            out.new.items ≡ out.old.items ++ delivery_actions service.Ed slot delivers frame.now }
         ensures few { length out.new.items ≤ length out.old.items + 1 }
         ensures room { out.new.room ≡ out.old.room }
     {
         let was_delivered = self.was_delivered(frame);
         let delivers = frame.node.get() == self.node.get() && !was_delivered;
-        deliver(slot, frame, delivers, out);
+        deliver(Service::Ed, slot, frame, delivers, out);
         self.copies.own(Data::of(frame));
     }
 
-    /// Whether the message of a data frame was delivered: a copy was received, or the node is the origin and has sent it.
+    /// Whether the message of a data frame was delivered: the node got a copy, or it is the origin and has sent the frame.
     fn was_delivered(&self, frame: &Frame) -> bool
         ensures delivered { result ≡ was_delivered self.now frame.now }
-        ensures in_range { frame.now.node < 32 }
+        ensures in_range { frame.now.node < origins }
         ensures counted { IsCounted self.now.copies }
     {
         let data = Data::of(frame);
         let is_held = self.copies.holds(&data);
         let is_own = frame.node.get() == self.node.get();
         self.copies.copies(&data) > 0 || (is_own && is_held)
-    }
-}
-
-/// Delivers the message of a data frame, or does nothing.
-fn deliver(slot: Slot, frame: &Frame, delivers: bool, out: &mut Actions)
-    requires { length out.old.items < out.old.room }
-    ensures actions { out.new.items ≡ out.old.items ++ delivery_actions slot delivers frame.now }
-    ensures room { out.new.room ≡ out.old.room }
-    ensures few { length out.new.items ≤ length out.old.items + 1 }
-{
-    if delivers {
-        out.push(Action::Enter(LogEntry::Deliver {
-            slot,
-            service: Service::Ed,
-            msg: MsgKey {
-                origin: frame.node,
-                seq: frame.number,
-            },
-            payload: frame.payload,
-        }));
     }
 }
 
@@ -170,10 +154,6 @@ fn relay(learnt: &Learnt, frame: &Frame, out: &mut Actions)
     match learnt {
         Learnt::First => out.push(Action::Ask(*frame)),
         Learnt::Again { .. } => {}
-        Learnt::Enough { .. } => {
-            fits_format_one(frame);
-            let ident = identifier(Format::One, frame);
-            out.push(Action::Withdraw { ident });
-        }
+        Learnt::Enough { .. } => withdraw(frame, true, out),
     }
 }

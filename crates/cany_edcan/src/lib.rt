@@ -1,10 +1,10 @@
-//! EDCAN: every node that receives the data frame of a message delivers the message and relays the frame by eager diffusion.
+//! EDCAN: every node that gets the data frame of a message delivers the message and relays the frame by eager diffusion.
 #![tactic(auto)]
 
 mod data;
 mod edcan;
-mod sharing;
 #[cfg(test)]
 mod tests;
+mod threads;
 
 pub use edcan::Edcan;

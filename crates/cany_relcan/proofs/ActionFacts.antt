@@ -1,8 +1,7 @@
 -- The actions that RELCAN takes for a notice, from what it has.
 use Rattle.std.specs.Prelude.{nat_lt, nat_le}
-use Rattle.std.proofs.Common.{◌≡◌, ℕ, ◌+◌, ◌<◌, ◌==◌, ◌&&◌, ◌||◌, Bool, true, false, if◌then◌else◌, not, List, [], ◌∷◌, ◌++◌, length, refl, ap, sym, ◌∙◌, append_assoc, eq-eqb}
 use Rattle.std.specs.List.{list_any}
-use Rattle.std.proofs.lemmas.List.{map-append, append-nil}
+use Rattle.std.proofs.Common.{◌≡◌, ℕ, ◌+◌, ◌<◌, ◌==◌, ◌&&◌, ◌||◌, Bool, true, false, if◌then◌else◌, not, List, [], ◌∷◌, ◌++◌, length, refl, ap, sym, ◌∙◌, eq-eqb}
 use Rattle.cany_base.specs.declared.actions.Action.{Action}
 use Rattle.cany_base.specs.declared.actions.Action.TheVariants as action
 use Rattle.cany_base.specs.declared.frame.Class.TheVariants as class
@@ -14,52 +13,20 @@ use Rattle.cany_base.specs.Params.{Parameters}
 use Rattle.cany_base.specs.Scenario.{ScenarioParts}
 use Rattle.cany_diffuse.specs.declared.learnt.Learnt.TheVariants.{First, Again, Enough}
 use Rattle.cany_diffuse.specs.Eager.{copies_of, is_owned, learnt_of}
-use Rattle.cany_model.specs.Rules.Actions.{action_of, actions_of}
-use Rattle.cany_model.specs.Rules.Delivery.{brings, delivery, delivery_effects, is_delivery}
+use Rattle.cany_message.specs.Actions.{delivery_actions, withdraw_actions}
+use Rattle.cany_message.specs.Numbers.{origins, frame_number}
+use Rattle.cany_message.proofs.DeliveryFacts.{both_actions, delivery_got, delivery_sent}
+use Rattle.cany_message.proofs.HistoryFacts.{brought, identity_is}
+use Rattle.cany_message.proofs.TableFacts.{IsOther}
+use Rattle.cany_model.specs.Rules.Actions.{actions_of}
+use Rattle.cany_model.specs.Rules.Delivery.{brings, delivery_effects}
 use Rattle.cany_model.specs.Rules.Eager.{has_enough}
-use Rattle.cany_model.specs.Rules.Effect.{Effect, Ask, Withdraw, Enter}
+use Rattle.cany_model.specs.Rules.Effect.{Ask, Withdraw}
 use Rattle.cany_model.specs.Bus.Frames.{identity_of, same_class}
 use Rattle.cany_model.specs.Bus.History.{copies, has_own}
 use Rattle.cany_model.specs.Rules.Relcan.{confirm_effects, confirm_frame, fell_back, late_copy_effects, relcan_at}
-use Rattle.cany_model.proofs.Bus.Identities.{same_identity_self}
-use Rattle.cany_relcan.specs.Relcan.{RelcanParts, HasCopiesOf, HasHeard, IsRelcanOf}
-use Rattle.cany_relcan.specs.RelcanSteps.{frame_number, is_enough, is_fallen, was_delivered, delivery_actions, withdraw_actions}
-use Rattle.cany_relcan.proofs.HeardFacts.{identity_is}
-use Rattle.cany_relcan.proofs.PastFacts.{brought}
-
--- the value knows which messages were delivered
-delivered_is : (scenario : ScenarioParts) (i : ℕ) (past : List NoticeKind) (v : RelcanParts) (f : FrameParts) → HasCopiesOf scenario i past v → f.class ≡ class.Rel → f.node < 32
-    → list_any (brings i (identity_of f)) past ≡ was_delivered v f
-delivered_is scenario i past v f h c small =
-    brought i (identity_of f) past
-    ∙ ap (λ x. nat_lt 0 (copies x past) || (x.node == i && has_own x past)) (identity_is f c)
-    ∙ (rw (h.copies f.number f.node small, h.owned f.number f.node small) refl)
-
-delivery_if : (slot : ℕ) (f : FrameParts) (b : Bool) → actions_of (if b then Enter (delivery slot service.Rel f) ∷ [] else []) ≡ delivery_actions slot b f
-delivery_if slot f true = refl
-delivery_if slot f false = refl
-
-module _ (scenario : ScenarioParts) (i : ℕ) (past : List NoticeKind) (v : RelcanParts) (f : FrameParts)
-    (h : HasCopiesOf scenario i past v) (class : f.class ≡ class.Rel) (small : f.node < 32) where
-  delivery_got : actions_of (delivery_effects service.Rel i f (Got f) past) ≡ delivery_actions (length past) (not (was_delivered v f)) f
-  unfolding delivery_effects
-  delivery_got =
-      delivery_if (length past) f (is_delivery i f (Got f) past)
-      ∙ ap (λ b. delivery_actions (length past) b f)
-      (rw (same_identity_self (identity_of f), delivered_is scenario i past v f h class small) refl)
-
-  delivery_sent : f.node ≡ i → actions_of (delivery_effects service.Rel i f (Sent f) past) ≡ delivery_actions (length past) (not (was_delivered v f)) f
-  unfolding delivery_effects
-  delivery_sent own =
-      delivery_if (length past) f (is_delivery i f (Sent f) past)
-      ∙ ap (λ b. delivery_actions (length past) b f)
-      (rw (same_identity_self (identity_of f), delivered_is scenario i past v f h class small, eq-eqb f.node i own) refl)
-
-delivery_sent_none : (i : ℕ) (past : List NoticeKind) (f : FrameParts) → (f.node == i) ≡ false → delivery_effects service.Rel i f (Sent f) past ≡ []
-unfolding delivery_effects
-delivery_sent_none i past f other = rw other refl
-
--- ---- late copies
+use Rattle.cany_relcan.specs.Relcan.{RelcanParts, HasHeard, IsRelcanOf, of_own}
+use Rattle.cany_relcan.specs.RelcanSteps.{is_enough, is_fallen, was_delivered}
 
 enough_is : (omit c : ℕ) (own : Bool) → is_enough (learnt_of omit c own) ≡ nat_le (omit + 1) c
 enough_is omit c own = go (nat_le (omit + 1) c) (c == 1 && not own)
@@ -75,66 +42,51 @@ late_if true false f = refl
 late_if false true f = refl
 late_if false false f = refl
 
-pub got_actions : (scenario : ScenarioParts) (i slot : ℕ) (past : List NoticeKind) (v w : RelcanParts) (f : FrameParts) (before : List Action)
-    → IsRelcanOf scenario i past v → HasHeard scenario i (Got f) past w → f.class ≡ class.Rel → same_class f.class class.Rel ≡ true → f.node < 32 → slot ≡ length past
-    → (before ++ delivery_actions slot (not (was_delivered v f)) f)
-    ++ withdraw_actions (is_enough (learnt_of v.copies.omit (copies_of w.copies (frame_number f)) (is_owned v.copies (frame_number f))) && is_fallen v f) f
-    ≡ before ++ actions_of (relcan_at scenario.params i (Got f) past)
-unfolding relcan_at
-got_actions scenario i slot past v w f before h after class is small at =
-    let late : actions_of (late_copy_effects scenario.params i f past)
-    ≡ withdraw_actions (is_enough (learnt_of v.copies.omit (copies_of w.copies (frame_number f)) (is_owned v.copies (frame_number f))) && is_fallen v f) f =
-    late_if (fell_back scenario.params.confirm i (identity_of f) past) (has_enough scenario.params.omit (identity_of f) (Got f ∷ past)) f
-    ∙ ap (λ x. withdraw_actions (has_enough scenario.params.omit x (Got f ∷ past) && fell_back scenario.params.confirm i x past) f) (identity_is f class)
-    ∙ (rw (enough_is v.copies.omit (copies_of w.copies (frame_number f)) (is_owned v.copies (frame_number f)), after.tables.copies f.number f.node small, h.limits.copies_omit, h.fallen f.number f.node) refl) in
-    append_assoc before (delivery_actions slot (not (was_delivered v f)) f) _
-    ∙ ap (λ actions. before ++ actions)
-    (rw (is, at)
-    (sym (map-append action_of (delivery_effects service.Rel i f (Got f) past) (late_copy_effects scenario.params i f past)
-    ∙ ap (λ actions. actions ++ actions_of (late_copy_effects scenario.params i f past)) (delivery_got scenario i past v f h.tables class small)
-    ∙ ap (λ actions. delivery_actions (length past) (not (was_delivered v f)) f ++ actions) late)))
+module _ (scenario : ScenarioParts) (i slot : ℕ) (past : List NoticeKind) (v w : RelcanParts) (f : FrameParts) (before : List Action)
+    (h : IsRelcanOf scenario i past v) (rel : f.class ≡ class.Rel) (is : same_class f.class class.Rel ≡ true) (small : f.node < origins) (at : slot ≡ length past) where
+  -- the value knows which messages were delivered
+  delivered_is : list_any (brings i (identity_of f)) past ≡ was_delivered v f
+  delivered_is =
+      brought i (identity_of f) past
+      ∙ ap (λ x. nat_lt 0 (copies x past) || (x.node == i && has_own x past)) (identity_is class.Rel f rel)
+      ∙ (rw (h.tables.data_frames.copies f.number f.node small, h.tables.data_frames.owned f.number f.node small) refl)
 
-pub sent_actions : (scenario : ScenarioParts) (i slot : ℕ) (past : List NoticeKind) (v : RelcanParts) (f : FrameParts) (before : List Action)
-    → IsRelcanOf scenario i past v → f.class ≡ class.Rel → same_class f.class class.Rel ≡ true → f.node < 32 → f.node ≡ i → slot ≡ length past
-    → (before ++ delivery_actions slot (not (was_delivered v f)) f) ++ action.Ask (confirm_frame f) ∷ [] ≡ before ++ actions_of (relcan_at scenario.params i (Sent f) past)
-unfolding relcan_at
-sent_actions scenario i slot past v f before h class is small own at =
-    let confirms : confirm_effects i f ≡ Ask (confirm_frame f) ∷ [] = rw (eq-eqb f.node i own) refl in
-    append_assoc before (delivery_actions slot (not (was_delivered v f)) f) _
-    ∙ ap (λ actions. before ++ actions)
-    (rw (is, at)
-    (sym (map-append action_of (delivery_effects service.Rel i f (Sent f) past) (confirm_effects i f)
-    ∙ ap (λ actions. actions ++ actions_of (confirm_effects i f)) (delivery_sent scenario i past v f h.tables class small own)
-    ∙ ap (λ effects. delivery_actions (length past) (not (was_delivered v f)) f ++ actions_of effects) confirms)))
+  pub got_actions : HasHeard scenario i (Got f) past w
+      → (before ++ delivery_actions service.Rel slot (not (was_delivered v f)) f)
+      ++ withdraw_actions (is_enough (learnt_of v.copies.omit (copies_of w.copies (frame_number f)) (is_owned v.copies (frame_number f))) && is_fallen v f) f
+      ≡ before ++ actions_of (relcan_at scenario.params i (Got f) past)
+  unfolding relcan_at
+  got_actions after =
+      let late : actions_of (late_copy_effects scenario.params i f past)
+      ≡ withdraw_actions (is_enough (learnt_of v.copies.omit (copies_of w.copies (frame_number f)) (is_owned v.copies (frame_number f))) && is_fallen v f) f =
+      late_if (fell_back scenario.params.confirm i (identity_of f) past) (has_enough scenario.params.omit (identity_of f) (Got f ∷ past)) f
+      ∙ ap (λ x. withdraw_actions (has_enough scenario.params.omit x (Got f ∷ past) && fell_back scenario.params.confirm i x past) f) (identity_is class.Rel f rel)
+      ∙ (rw (enough_is v.copies.omit (copies_of w.copies (frame_number f)) (is_owned v.copies (frame_number f)), after.tables.data_frames.copies f.number f.node small, h.tables.data_frames.omit, h.fallen f.number f.node) refl) in
+      rw (is, at)
+      (both_actions before (delivery_effects service.Rel i f (Got f) past) (late_copy_effects scenario.params i f past) _ _
+      (delivery_got service.Rel i past f (was_delivered v f) delivered_is) late)
+
+  pub sent_actions : f.node ≡ i
+      → (before ++ delivery_actions service.Rel slot (not (was_delivered v f)) f) ++ action.Ask (confirm_frame f) ∷ [] ≡ before ++ actions_of (relcan_at scenario.params i (Sent f) past)
+  unfolding relcan_at
+  sent_actions own =
+      let delivers : actions_of (delivery_effects service.Rel i f (Sent f) past) ≡ delivery_actions service.Rel (length past) (not (was_delivered v f)) f =
+      delivery_sent service.Rel i past f (was_delivered v f) delivered_is ∙ ap (λ b. delivery_actions service.Rel (length past) (b && not (was_delivered v f)) f) (eq-eqb f.node i own) in
+      let confirms : actions_of (confirm_effects i f) ≡ action.Ask (confirm_frame f) ∷ [] = rw (eq-eqb f.node i own) refl in
+      rw (is, at) (both_actions before (delivery_effects service.Rel i f (Sent f) past) (confirm_effects i f) _ _ delivers confirms)
 
 -- ---- notices that call for nothing
 
-pub no_actions : (p : Parameters) (i : ℕ) (notice : NoticeKind) (past : List NoticeKind) (before : List Action) → relcan_at p i notice past ≡ []
-    → before ≡ before ++ actions_of (relcan_at p i notice past)
-no_actions p i notice past before none = sym (ap (λ effects. before ++ actions_of effects) none ∙ append-nil before)
+sent_none : (i : ℕ) (f : FrameParts) (past : List NoticeKind) (rel own : Bool) → (f.node == i) ≡ own → (rel && own) ≡ false
+    → (if rel then delivery_effects service.Rel i f (Sent f) past ++ confirm_effects i f else []) ≡ []
+unfolding delivery_effects
+sent_none i f past true true is none = absurd (cc)
+sent_none i f past true false is none = rw is refl
+sent_none i f past false own is none = refl
 
-pub got_none : (p : Parameters) (i : ℕ) (f : FrameParts) (past : List NoticeKind) → same_class f.class class.Rel ≡ false → relcan_at p i (Got f) past ≡ []
+pub none_at : (p : Parameters) (i : ℕ) (notice : NoticeKind) (past : List NoticeKind) → IsOther class.Rel (of_own i) notice → relcan_at p i notice past ≡ []
 unfolding relcan_at
-got_none p i f past other = rw other refl
-
-pub sent_none : (p : Parameters) (i : ℕ) (f : FrameParts) (past : List NoticeKind) → same_class f.class class.Rel ≡ false → relcan_at p i (Sent f) past ≡ []
-unfolding relcan_at
-sent_none p i f past other = rw other refl
-
-both_none : (b : Bool) (effects : List Effect) → effects ≡ [] → (if b then effects else []) ≡ []
-both_none true effects none = none
-both_none false effects none = refl
-
-pub relayed_none : (p : Parameters) (i : ℕ) (f : FrameParts) (past : List NoticeKind) → (f.node == i) ≡ false → relcan_at p i (Sent f) past ≡ []
-unfolding relcan_at
-relayed_none p i f past other =
-    both_none (same_class f.class class.Rel) (delivery_effects service.Rel i f (Sent f) past ++ confirm_effects i f)
-    (rw (delivery_sent_none i past f other, other) refl)
-
-pub idle_none : (p : Parameters) (i : ℕ) (past : List NoticeKind) → relcan_at p i Idle past ≡ []
-unfolding relcan_at
-idle_none p i past = refl
-
-pub bad_none : (p : Parameters) (i : ℕ) (past : List NoticeKind) → relcan_at p i Bad past ≡ []
-unfolding relcan_at
-bad_none p i past = refl
+none_at p i Idle past other = refl
+none_at p i Bad past other = refl
+none_at p i (Got f) past other = rw other refl
+none_at p i (Sent f) past other = sent_none i f past (same_class f.class class.Rel) (f.node == i) refl other

@@ -14,6 +14,8 @@ use Rattle.cany_base.specs.declared.notice.NoticeKind.TheVariants.{Idle, Got, Se
 use Rattle.cany_base.specs.Frame.{data_class}
 use Rattle.cany_base.specs.Scenario.{ScenarioParts}
 use Rattle.cany_diffuse.specs.Eager.{copies_of}
+use Rattle.cany_message.specs.Numbers.{message_number, origins}
+use Rattle.cany_message.proofs.HistoryFacts.{is_this}
 use Rattle.cany_model.specs.Bus.Frames.{Identity, identity_of, is_of, same_class}
 use Rattle.cany_model.specs.Bus.History.{is_got}
 use Rattle.cany_model.specs.Rules.Messages.{Message, messages_of, message_key, data_frame}
@@ -23,10 +25,9 @@ use Rattle.cany_model.proofs.Among.{Among-drop, Among-from_any, Among-from_Conta
 use Rattle.cany_model.proofs.Bus.Identities.{same_class-true, same_identity-true}
 use Rattle.cany_model.proofs.Rules.MessageKeys.{same_message}
 use Rattle.cany_relcan.specs.declared.timers.Timer.{Timer}
-use Rattle.cany_relcan.specs.MessageNumbers.{message_number}
 use Rattle.cany_relcan.specs.Relcan.{RelcanParts, IsRelcanOf, data_identity}
 use Rattle.cany_relcan.specs.Timers.{is_timer_of, started_by, started_since}
-use Rattle.cany_relcan.proofs.PastFacts.{is_data_of}
+use Rattle.cany_relcan.proofs.TablesFacts.{confirmed_is}
 
 abbrev pub data_of : MsgKey → Identity
 data_of msg = data_identity msg.seq msg.origin
@@ -62,7 +63,7 @@ started_one i msg (Got f) past =
     (λ starts.
     let timed = (and_parts (is_timed i (identity_of f)) (not (has_copy (identity_of f) past)) starts).0 in
     let rel = same_class-true f.class class.Rel (and_parts (same_class f.class class.Rel) (not (f.node == i)) timed).0 in
-    sym (is_data_of msg.seq msg.origin f rel))
+    sym (is_this class.Rel msg.seq msg.origin f rel))
     (λ this. ap (λ x. is_timed i x && not (has_copy x past)) (sym (same_identity-true (data_of msg) (identity_of f) this)))
 
 dropped_copy : (x : Identity) (n : ℕ) (past : List NoticeKind) → has_copy x (drop n past) ≡ true → has_copy x past ≡ true
@@ -147,21 +148,21 @@ module _ (scenario : ScenarioParts) (i : ℕ) (past : List NoticeKind) (v : Relc
       let timed : is_timed i x ≡ false = rw other refl in
       (rw rests refl) ∙ sym (not_timed (is_timed i x) (has_copy x past) (not (has_copy x (drop scenario.params.confirm past))) (not (has_confirm x past)) timed)
 
-  ahead_rel : m.service ≡ service.Rel → msg.origin < 32
+  ahead_rel : m.service ≡ service.Rel → msg.origin < origins
       → (list_any (is_timer_of msg) v.timers.running && not (nat_lt 0 (copies_of v.confirms (message_number msg.seq msg.origin)))) ≡ has_timer_ahead scenario m i past
   ahead_rel is small =
       let x_is : identity_of (data_frame m) ≡ data_of msg = λ k. record { class = data_class (is k); number = (key k).seq; node = (key k).origin } in
       ap (λ b. b && not (nat_lt 0 (copies_of v.confirms (message_number msg.seq msg.origin)))) (ap (list_any (is_timer_of msg)) h.timers ∙ running_is i scenario.params.confirm msg past)
-      ∙ ap (λ b. ((is_timed i (data_of msg) && has_copy (data_of msg) past) && not (has_copy (data_of msg) (drop scenario.params.confirm past))) && not b) (h.tables.confirms msg.seq msg.origin small)
+      ∙ ap (λ b. ((is_timed i (data_of msg) && has_copy (data_of msg) past) && not (has_copy (data_of msg) (drop scenario.params.confirm past))) && not b) (confirmed_is scenario i past v.copies v.confirms h.tables msg.seq msg.origin small)
       ∙ ap (λ x. is_ahead scenario.params.confirm i x past) (sym x_is)
 
-  ahead_by : (by : Service) → m.service ≡ by → msg.origin < 32
+  ahead_by : (by : Service) → m.service ≡ by → msg.origin < origins
       → (list_any (is_timer_of msg) v.timers.running && not (nat_lt 0 (copies_of v.confirms (message_number msg.seq msg.origin)))) ≡ has_timer_ahead scenario m i past
   unfolding same_class
   ahead_by service.Ed is small = ahead_none (ap (λ s. same_class (data_class s) class.Rel) is) (λ rel. let no' : service.Ed ≡ service.Rel = sym is ∙ rel in cc)
   ahead_by service.Tot is small = ahead_none (ap (λ s. same_class (data_class s) class.Rel) is) (λ rel. let no' : service.Tot ≡ service.Rel = sym is ∙ rel in cc)
   ahead_by service.Rel is small = ahead_rel is small
 
-  pub ahead_is : msg.origin < 32
+  pub ahead_is : msg.origin < origins
       → (list_any (is_timer_of msg) v.timers.running && not (nat_lt 0 (copies_of v.confirms (message_number msg.seq msg.origin)))) ≡ has_timer_ahead scenario m i past
   ahead_is small = ahead_by m.service refl small

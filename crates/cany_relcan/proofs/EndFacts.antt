@@ -12,6 +12,8 @@ use Rattle.cany_base.specs.declared.notice.NoticeKind.{NoticeKind}
 use Rattle.cany_base.specs.Frame.{FrameParts}
 use Rattle.cany_base.specs.Params.{Parameters}
 use Rattle.cany_base.specs.Scenario.{ScenarioParts}
+use Rattle.cany_message.specs.Numbers.{origins}
+use Rattle.cany_message.proofs.HistoryFacts.{identity_is, is_this}
 use Rattle.cany_model.specs.Rules.Actions.{action_of, actions_of}
 use Rattle.cany_model.specs.Rules.Eager.{has_enough}
 use Rattle.cany_model.specs.Rules.Effect.{Ask}
@@ -20,11 +22,10 @@ use Rattle.cany_model.specs.Bus.History.{copies}
 use Rattle.cany_model.specs.Rules.Relcan.{fell_back, has_confirm, relcan_at, relcan_effects, timer_effects}
 use Rattle.cany_model.proofs.Bus.Identities.{same_identity-true}
 use Rattle.cany_relcan.specs.declared.timers.Timer.{Timer}
-use Rattle.cany_relcan.specs.Relcan.{RelcanParts, HasCopiesOf, HasFallenOf, HasHeard, IsRelcanOf, data_identity, is_key_of}
-use Rattle.cany_relcan.specs.RelcanSteps.{after_timer, ask_actions, asks_at_end, due_frame, is_confirmed, marked, timer_actions, without_due}
+use Rattle.cany_relcan.specs.Relcan.{RelcanParts, AreMarksOf, AreTablesOf, HasHeard, IsRelcanOf, data_identity, is_key_of}
+use Rattle.cany_relcan.specs.RelcanSteps.{after_timer, ask_actions, asks_at_end, due_frame, fallen_after, is_confirmed, marked, timer_actions, without_due}
 use Rattle.cany_relcan.specs.Timers.{oldest_from, without_from, started_by, started_since}
-use Rattle.cany_relcan.proofs.HeardFacts.{identity_is}
-use Rattle.cany_relcan.proofs.PastFacts.{is_data_of}
+use Rattle.cany_relcan.proofs.TablesFacts.{confirmed_is}
 use Rattle.cany_relcan.proofs.TimerFacts.{EndsWith, ends_with, due_class, end_effects, falls_with, fell_back-more, first_frame, started_now, timer_effects-is}
 
 -- ---- how many timers run on
@@ -62,18 +63,17 @@ marked_fits false f v n fit one = omega (arith, fit, one, length-append v.fallen
 
 fallen_fits : (slot : ℕ) (v : RelcanParts) (due : Option FrameParts) → due_frame slot v ≡ due
     → length v.fallen.items + length v.timers.running + v.timers.spare ≤ v.fallen.room
-    → length (after_timer due (without_due slot v)).fallen.items + length (after_timer due (without_due slot v)).timers.running + (after_timer due (without_due slot v)).timers.spare
-    ≤ (after_timer due (without_due slot v)).fallen.room
+    → length (fallen_after due v.confirms v.fallen).items + length (without_due slot v).timers.running + v.timers.spare ≤ (fallen_after due v.confirms v.fallen).room
 fallen_fits slot v None is fit = omega (arith, fit, run_on (nat_lt slot v.confirm) (slot - v.confirm) v.timers.running)
 fallen_fits slot v (Some f) is fit =
-    marked_fits (is_confirmed v f) f v (length (without_due slot v).timers.running) fit
+    marked_fits (is_confirmed v.confirms f) f v (length (without_due slot v).timers.running) fit
     (run_on_one (nat_lt slot v.confirm) (slot - v.confirm) v.timers.running f is)
 
 -- ---- the messages for which the node fell back
 
-module _ (scenario : ScenarioParts) (i : ℕ) (past : List NoticeKind) (v : RelcanParts) (h : HasCopiesOf scenario i past v) where
-  confirmed_is : (f : FrameParts) → f.node < 32 → is_confirmed v f ≡ has_confirm (data_identity f.number f.node) past
-  confirmed_is f small = h.confirms f.number f.node small
+module _ (scenario : ScenarioParts) (i : ℕ) (past : List NoticeKind) (v : RelcanParts) (h : AreTablesOf scenario i past v.copies v.confirms) where
+  read_is : (f : FrameParts) → f.node < origins → is_confirmed v.confirms f ≡ has_confirm (data_identity f.number f.node) past
+  read_is f small = confirmed_is scenario i past v.copies v.confirms h f.number f.node small
 
   fallen_then : (fallen c : Bool) (this : Bool) → ((this && not c) || fallen) ≡ (if c then fallen else (fallen || (this || false)))
   fallen_then true true this = go this
@@ -104,24 +104,24 @@ module _ (scenario : ScenarioParts) (i : ℕ) (past : List NoticeKind) (v : Relc
   marked_when s o f false = list_any-append (is_key_of s o) v.fallen.items (record { origin = f.node; seq = f.number } ∷ [])
 
   same_confirm : (s o : ℕ) (f : FrameParts) → f.class ≡ class.Rel → is_of (data_identity s o) f ≡ true → has_confirm (data_identity s o) past ≡ has_confirm (data_identity f.number f.node) past
-  same_confirm s o f class is = ap (λ x. has_confirm x past) (same_identity-true (data_identity s o) (identity_of f) is ∙ identity_is f class)
+  same_confirm s o f rel is = ap (λ x. has_confirm x past) (same_identity-true (data_identity s o) (identity_of f) is ∙ identity_is class.Rel f rel)
 
   falls_same : (s o : ℕ) (f : FrameParts) → f.class ≡ class.Rel → falls_with (Some f) (data_identity s o) (has_confirm (data_identity s o) past)
       ≡ (is_of (data_identity s o) f && not (has_confirm (data_identity f.number f.node) past))
-  falls_same s o f class = elim (cases_Bool (is_of (data_identity s o) f)) [
-    | inl this ↦ rw (this, same_confirm s o f class this) refl
+  falls_same s o f rel = elim (cases_Bool (is_of (data_identity s o) f)) [
+    | inl this ↦ rw (this, same_confirm s o f rel this) refl
     | inr other ↦ rw other refl
   ]
 
-  fallen_after : (due : Option FrameParts) → IfSome due (λ f. f.node < 32) → ((f : FrameParts) → due ≡ Some f → f.class ≡ class.Rel) → (s o : ℕ)
-      → list_any (is_key_of s o) (after_timer due v).fallen.items ≡ (falls_with due (data_identity s o) (has_confirm (data_identity s o) past) || list_any (is_key_of s o) v.fallen.items)
-  fallen_after None small class s o = refl
-  fallen_after (Some f) small class s o =
-      let rel = class f refl in
-      marked_when s o f (is_confirmed v f)
-      ∙ sym (fallen_then (list_any (is_key_of s o) v.fallen.items) (is_confirmed v f) (s == f.number && o == f.node))
-      ∙ ap (λ b. (b && not (is_confirmed v f)) || list_any (is_key_of s o) v.fallen.items) (sym (is_data_of s o f rel))
-      ∙ ap (λ c. (is_of (data_identity s o) f && not c) || list_any (is_key_of s o) v.fallen.items) (confirmed_is f small)
+  marks_after : (due : Option FrameParts) → IfSome due (λ f. f.node < origins) → ((f : FrameParts) → due ≡ Some f → f.class ≡ class.Rel) → (s o : ℕ)
+      → list_any (is_key_of s o) (fallen_after due v.confirms v.fallen).items ≡ (falls_with due (data_identity s o) (has_confirm (data_identity s o) past) || list_any (is_key_of s o) v.fallen.items)
+  marks_after None small rels s o = refl
+  marks_after (Some f) small rels s o =
+      let rel = rels f refl in
+      marked_when s o f (is_confirmed v.confirms f)
+      ∙ sym (fallen_then (list_any (is_key_of s o) v.fallen.items) (is_confirmed v.confirms f) (s == f.number && o == f.node))
+      ∙ ap (λ b. (b && not (is_confirmed v.confirms f)) || list_any (is_key_of s o) v.fallen.items) (sym (is_this class.Rel s o f rel))
+      ∙ ap (λ c. (is_of (data_identity s o) f && not c) || list_any (is_key_of s o) v.fallen.items) (read_is f small)
       ∙ ap (λ b. b || list_any (is_key_of s o) v.fallen.items) (sym (falls_same s o f rel))
 
   -- ---- actions
@@ -133,15 +133,15 @@ module _ (scenario : ScenarioParts) (i : ℕ) (past : List NoticeKind) (v : Relc
   ask_if true f = refl
   ask_if false f = refl
 
-  end_actions : (p : Parameters) (due : Option FrameParts) → v.omit ≡ p.omit → IfSome due (λ f. f.node < 32) → ((f : FrameParts) → due ≡ Some f → f.class ≡ class.Rel)
+  end_actions : (p : Parameters) (due : Option FrameParts) → v.copies.omit ≡ p.omit → IfSome due (λ f. f.node < origins) → ((f : FrameParts) → due ≡ Some f → f.class ≡ class.Rel)
       → timer_actions due v ≡ actions_of (end_effects p past due)
-  end_actions p None omit small class = refl
-  end_actions p (Some f) omit small class =
-      let rel = class f refl in
+  end_actions p None omit small rels = refl
+  end_actions p (Some f) omit small rels =
+      let rel = rels f refl in
       ask_if (asks_at_end v f) f
       ∙ ap (λ b. actions_of (if b then Ask f ∷ [] else []))
-      (rw (confirmed_is f small, h.copies f.number f.node small, omit, few_is p.omit (copies (data_identity f.number f.node) past)) refl
-      ∙ ap (λ x. not (has_confirm x past) && not (has_enough p.omit x past)) (sym (identity_is f rel)))
+      (rw (read_is f small, h.data_frames.copies f.number f.node small, omit, few_is p.omit (copies (data_identity f.number f.node) past)) refl
+      ∙ ap (λ x. not (has_confirm x past) && not (has_enough p.omit x past)) (sym (identity_is class.Rel f rel)))
 
 -- ---- the turn
 
@@ -168,80 +168,36 @@ due_rel : (scenario : ScenarioParts) (i slot n : ℕ) (notice : NoticeKind) (pas
     → (f : FrameParts) → due_frame slot v ≡ Some f → f.class ≡ class.Rel
 due_rel scenario i slot n notice past v e f is = due_class i (drop n past) f (sym e.due ∙ is)
 
-tables_of : (scenario : ScenarioParts) (i slot : ℕ) (past : List NoticeKind) (v : RelcanParts) → HasCopiesOf scenario i past v → HasCopiesOf scenario i past (without_due slot v)
-tables_of scenario i slot past v h = record {
-  copies = h.copies;
-  owned = h.owned;
-  held = h.held;
-  messages = h.messages;
-  confirms = h.confirms;
-  confirmed = h.confirmed;
-  named = h.named;
-}
-
-fallen_is : (scenario : ScenarioParts) (i slot n : ℕ) (notice : NoticeKind) (past : List NoticeKind) (v : RelcanParts) → HasHeard scenario i notice past v
-    → Ends scenario i slot n notice past v → (due : Option FrameParts) → due_frame slot v ≡ due → IfSome due (λ f. f.node < 32)
-    → HasFallenOf scenario.params.confirm i (notice ∷ past) (after_timer due (without_due slot v))
-fallen_is scenario i slot n notice past v h e due is small s o =
-    fallen_after scenario i (notice ∷ past) (without_due slot v) (tables_of scenario i slot (notice ∷ past) v h.tables) due small
-    (λ f at. due_rel scenario i slot n notice past v e f (is ∙ at)) s o
+marks_are : (scenario : ScenarioParts) (i slot n : ℕ) (notice : NoticeKind) (past : List NoticeKind) (v : RelcanParts) → HasHeard scenario i notice past v
+    → Ends scenario i slot n notice past v → (due : Option FrameParts) → due_frame slot v ≡ due → IfSome due (λ f. f.node < origins)
+    → AreMarksOf scenario.params.confirm i (notice ∷ past) (fallen_after due v.confirms v.fallen)
+marks_are scenario i slot n notice past v h e due is small s o =
+    marks_after scenario i (notice ∷ past) v h.tables due small (λ f at. due_rel scenario i slot n notice past v e f (is ∙ at)) s o
     ∙ ap (λ d. falls_with d (data_identity s o) (has_confirm (data_identity s o) (notice ∷ past)) || list_any (is_key_of s o) v.fallen.items) (sym is ∙ e.due)
     ∙ ap (λ b. falls_with (first_frame (started_now i (drop n past))) (data_identity s o) (has_confirm (data_identity s o) (notice ∷ past)) || b)
     (h.fallen s o ∙ ap (λ k. fell_back k i (data_identity s o) past) e.is)
     ∙ sym (fell_back-more i n (data_identity s o) notice past)
     ∙ ap (λ k. fell_back k i (data_identity s o) (notice ∷ past)) (sym e.is)
 
-ended : (scenario : ScenarioParts) (i slot n : ℕ) (notice : NoticeKind) (past : List NoticeKind) (v : RelcanParts) → HasHeard scenario i notice past v
-    → Ends scenario i slot n notice past v → (due : Option FrameParts) → due_frame slot v ≡ due → IfSome due (λ f. f.node < 32)
-    → IsRelcanOf scenario i (notice ∷ past) (after_timer due (without_due slot v))
-ended scenario i slot n notice past v h e None is small = record {
-  limits = record {
-    legal = h.limits.legal;
-    node = h.limits.node;
-    omit = h.limits.omit;
-    confirm = h.limits.confirm;
-    copies_omit = h.limits.copies_omit;
-    copies_room = h.limits.copies_room;
-    confirms_room = h.limits.confirms_room;
-    timers_room = h.limits.timers_room;
-    fallen_room = fallen_fits slot v None is h.limits.fallen_room;
-  };
-  tables = tables_of scenario i slot (notice ∷ past) v h.tables;
-  timers = e.rest ∙ ap (λ k. started_since i k (notice ∷ past)) (sym e.is);
-  fallen = fallen_is scenario i slot n notice past v h e None is small;
-}
-ended scenario i slot n notice past v h e (Some f) is small = record {
-  limits = record {
-    legal = h.limits.legal;
-    node = h.limits.node;
-    omit = h.limits.omit;
-    confirm = h.limits.confirm;
-    copies_omit = h.limits.copies_omit;
-    copies_room = h.limits.copies_room;
-    confirms_room = h.limits.confirms_room;
-    timers_room = h.limits.timers_room;
-    fallen_room = fallen_fits slot v (Some f) is h.limits.fallen_room;
-  };
-  tables = record {
-    copies = h.tables.copies;
-    owned = h.tables.owned;
-    held = h.tables.held;
-    messages = h.tables.messages;
-    confirms = h.tables.confirms;
-    confirmed = h.tables.confirmed;
-    named = h.tables.named;
-  };
-  timers = e.rest ∙ ap (λ k. started_since i k (notice ∷ past)) (sym e.is);
-  fallen = fallen_is scenario i slot n notice past v h e (Some f) is small;
-}
-
 pub ended_stands : (scenario : ScenarioParts) (i slot : ℕ) (notice : NoticeKind) (past : List NoticeKind) (v w : RelcanParts) → HasHeard scenario i notice past v → slot ≡ length past
-    → IfSome (due_frame slot v) (λ f. f.node < 32) → w ≡ after_timer (due_frame slot v) (without_due slot v) → IsRelcanOf scenario i (notice ∷ past) w
+    → IfSome (due_frame slot v) (λ f. f.node < origins) → w ≡ after_timer (due_frame slot v) (without_due slot v) → IsRelcanOf scenario i (notice ∷ past) w
 ended_stands scenario i slot notice past v w h at small state =
-    rw state (ended scenario i slot (scenario.params.confirm - 1) notice past v h (ends scenario i slot notice past v h at) (due_frame slot v) refl small)
+    let e : Ends scenario i slot (scenario.params.confirm - 1) notice past v = ends scenario i slot notice past v h at in
+    rw state (record {
+      limits = record {
+        legal = h.limits.legal;
+        node = h.limits.node;
+        confirm = h.limits.confirm;
+        timers_room = h.limits.timers_room;
+        fallen_room = fallen_fits slot v (due_frame slot v) refl h.limits.fallen_room;
+      };
+      tables = h.tables;
+      timers = e.rest ∙ ap (λ k. started_since i k (notice ∷ past)) (sym e.is);
+      fallen = marks_are scenario i slot (scenario.params.confirm - 1) notice past v h e (due_frame slot v) refl small;
+    })
 
 pub turn_actions : (scenario : ScenarioParts) (i slot : ℕ) (notice : NoticeKind) (past : List NoticeKind) (v : RelcanParts) (before middle after : List Action)
-    → HasHeard scenario i notice past v → slot ≡ length past → IfSome (due_frame slot v) (λ f. f.node < 32)
+    → HasHeard scenario i notice past v → slot ≡ length past → IfSome (due_frame slot v) (λ f. f.node < origins)
     → middle ≡ before ++ actions_of (relcan_at scenario.params i notice past) → after ≡ middle ++ timer_actions (due_frame slot v) v
     → after ≡ before ++ actions_of (relcan_effects scenario i (notice ∷ past))
 unfolding relcan_effects
@@ -249,7 +205,7 @@ turn_actions scenario i slot notice past v before middle after h at small first 
     let n : ℕ = scenario.params.confirm - 1 in
     let e : Ends scenario i slot n notice past v = ends scenario i slot notice past v h at in
     let timer : timer_actions (due_frame slot v) v ≡ actions_of (timer_effects scenario.params i (notice ∷ past)) =
-    end_actions scenario i (notice ∷ past) v h.tables scenario.params (due_frame slot v) h.limits.omit small (due_rel scenario i slot n notice past v e)
+    end_actions scenario i (notice ∷ past) v h.tables scenario.params (due_frame slot v) h.tables.data_frames.omit small (due_rel scenario i slot n notice past v e)
     ∙ ap (λ d. actions_of (end_effects scenario.params (notice ∷ past) d)) e.due
     ∙ ap actions_of (sym (timer_effects-is scenario.params i n notice past e.is)) in
     second

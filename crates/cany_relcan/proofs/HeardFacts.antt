@@ -1,31 +1,58 @@
 -- The value after a notice, before the timer that ends in its turn.
 use Rattle.std.specs.Prelude.{nat_lt}
-use Rattle.std.proofs.Common.{◌≡◌, ℕ, ◌+◌, ◌<◌, ◌≤◌, ◌==◌, ◌&&◌, ◌||◌, Bool, true, false, if◌then◌else◌, not, List, [], ◌∷◌, ◌++◌, length, refl, ap, sym, ◌∙◌, arith, length-append}
 use Rattle.std.specs.List.{list_any}
+use Rattle.std.proofs.Common.{◌≡◌, ℕ, ◌+◌, ◌<◌, ◌≤◌, ◌==◌, ◌&&◌, ◌||◌, Bool, true, false, if◌then◌else◌, not, List, [], ◌∷◌, ◌++◌, length, refl, ap, subst, sym, ◌∙◌, arith, length-append}
+use Rattle.std.proofs.lemmas.Bool.{and_parts, false≢true}
 use Rattle.std.proofs.lemmas.List.{append-nil}
 use Rattle.cany_base.specs.declared.frame.Class.TheVariants as class
 use Rattle.cany_base.specs.declared.message.Service.TheVariants as service
+use Rattle.cany_base.specs.declared.notice.Notice.{Notice}
 use Rattle.cany_base.specs.declared.notice.NoticeKind.{NoticeKind}
-use Rattle.cany_base.specs.declared.notice.NoticeKind.TheVariants.{Got, Sent}
+use Rattle.cany_base.specs.declared.notice.NoticeKind.TheVariants.{Idle, Got, Sent, Bad}
 use Rattle.cany_base.specs.Frame.{FrameParts}
 use Rattle.cany_base.specs.Scenario.{ScenarioParts}
-use Rattle.cany_diffuse.specs.Eager.{is_there, spare_of, IsPut, IsLearnt, IsOwned}
+use Rattle.cany_diffuse.specs.Eager.{EagerParts, is_held, is_there, spare_of, IsPut, IsLearnt, IsOwned}
+use Rattle.cany_message.specs.Numbers.{origins, frame_number}
+use Rattle.cany_message.proofs.HistoryFacts.{has_copy-counted, identity_is}
+use Rattle.cany_message.proofs.TableFacts.{IsOther}
 use Rattle.cany_model.specs.Bus.Frames.{identity_of, same_class}
-use Rattle.cany_model.specs.Bus.History.{copies, has_own, is_got, is_sent}
-use Rattle.cany_model.specs.Rules.Notices.{NamesMessage}
-use Rattle.cany_model.specs.Rules.Relcan.{confirm_of, has_copy, is_timed}
+use Rattle.cany_model.specs.Bus.History.{copies, has_own}
+use Rattle.cany_model.specs.Rules.Notices.{IsNextNotice, NamesMessage}
+use Rattle.cany_model.specs.Rules.Relcan.{has_copy, is_timed}
 use Rattle.cany_relcan.specs.declared.timers.Timer.{Timer}
-use Rattle.cany_relcan.specs.Relcan.{RelcanParts, HasCopiesOf, IsRelcanOf, HasHeard, data_identity, is_key_of}
-use Rattle.cany_relcan.specs.RelcanSteps.{frame_number, starts_timer, timers_with, IsNoted}
+use Rattle.cany_relcan.specs.Relcan.{RelcanParts, HasLimitsOf, IsRelcanOf, HasHeard, CanHear, data_identity, is_key_of, of_own, of_none}
+use Rattle.cany_relcan.specs.RelcanSteps.{starts_timer, timers_with, was_delivered}
 use Rattle.cany_relcan.specs.Timers.{TimersParts, started_by, started_since}
-use Rattle.cany_relcan.proofs.CopiesFacts.{copies_got, copies_confirmed, copies_sent, copies_other}
-use Rattle.cany_relcan.proofs.MessageFacts.{new_entry, spare_falls}
-use Rattle.cany_relcan.proofs.PastFacts.{has_copy-counted}
+use Rattle.cany_relcan.proofs.TablesFacts.{tables_confirmed, tables_got, tables_other, tables_sent}
 
-pub identity_is : (f : FrameParts) → f.class ≡ class.Rel → identity_of f ≡ data_identity f.number f.node
-identity_is f c = λ k. record { class = c k; number = f.number; node = f.node }
+-- ---- what a caller meets
+
+-- a value knows its node
+pub at_own_node : (scenario : ScenarioParts) (i : ℕ) (past : List NoticeKind) (v : RelcanParts) → IsRelcanOf scenario i past v → IsRelcanOf scenario v.node past v
+at_own_node scenario i past v h = subst (λ n. IsRelcanOf scenario n past v) (sym h.limits.node) h
+
+pub can_hear : (scenario : ScenarioParts) (i : ℕ) (past : List NoticeKind) (v : RelcanParts) (notice : Notice) → IsRelcanOf scenario i past v
+    → IsNextNotice scenario past notice → CanHear v notice
+can_hear scenario i past v notice h next = record { scenario = scenario; past = past; stands = at_own_node scenario i past v h; next = next }
 
 -- ---- room
+
+not_true : (b : Bool) → not b ≡ true → b ≡ false
+not_true true h = absurd (false≢true h)
+not_true false h = refl
+
+-- a message that was not delivered has no entry yet
+new_entry : (v : RelcanParts) (f : FrameParts) → is_there v.copies (frame_number f) ≡ is_held v.copies (frame_number f) → starts_timer v f ≡ true
+    → is_there v.copies (frame_number f) ≡ false
+new_entry v f there starts = there ∙ not_true (was_delivered v f) (and_parts (not (was_delivered v f)) (not (f.node == v.node)) starts).0
+
+spare_falls : (v : RelcanParts) (f : FrameParts) (new : EagerParts) → IsPut (frame_number f) v.copies new → is_there v.copies (frame_number f) ≡ false
+    → spare_of new + 1 ≡ spare_of v.copies
+spare_falls v f new put absent = rw absent at (put.spare)
+
+pub spare_for_timer : (v : RelcanParts) (f : FrameParts) (new : EagerParts) → is_there v.copies (frame_number f) ≡ is_held v.copies (frame_number f)
+    → spare_of v.copies ≤ v.timers.spare → IsPut (frame_number f) v.copies new → starts_timer v f ≡ true → 0 < v.timers.spare
+spare_for_timer v f new there fit put starts = omega (arith, fit, spare_falls v f new put (new_entry v f there starts))
 
 timers_fit : (b : Bool) (slot : ℕ) (f : FrameParts) (v w : RelcanParts) → w.timers ≡ timers_with b slot f v.timers → IsPut (frame_number f) v.copies w.copies
     → (b ≡ true → is_there v.copies (frame_number f) ≡ false) → spare_of v.copies ≤ v.timers.spare → spare_of w.copies ≤ w.timers.spare
@@ -40,7 +67,7 @@ fallen_fit true slot f v w is same some fit =
     rw (is, same) (omega (arith, fit, some refl, one))
 fallen_fit false slot f v w is same some fit = rw (is, same) fit
 
--- ---- a copy of a data frame
+-- ---- which copy starts a timer
 
 starts_when : (c at own : Bool) → (not (c || (at && own)) && not at) ≡ ((true && not at) && not c)
 starts_when true true own = refl
@@ -52,114 +79,103 @@ starts_when false true own = and_none (not own)
     and_none false = refl
 starts_when false false own = refl
 
-starts_is : (scenario : ScenarioParts) (i : ℕ) (past : List NoticeKind) (v : RelcanParts) (f : FrameParts) → HasCopiesOf scenario i past v → v.node ≡ i → f.class ≡ class.Rel
-    → same_class f.class class.Rel ≡ true → f.node < 32 → starts_timer v f ≡ (is_timed i (identity_of f) && not (has_copy (identity_of f) past))
-starts_is scenario i past v f h node class is small =
-    (rw (h.copies f.number f.node small, h.owned f.number f.node small, node)
-    (starts_when (nat_lt 0 (copies (data_identity f.number f.node) past)) (f.node == i) (has_own (data_identity f.number f.node) past)))
-    ∙ ap (λ b. (true && not (f.node == i)) && not b) (sym (has_copy-counted (data_identity f.number f.node) past))
-    ∙ ap (λ x. (true && not (f.node == i)) && not (has_copy x past)) (sym (identity_is f class))
-    ∙ ap (λ b. (b && not (f.node == i)) && not (has_copy (identity_of f) past)) (sym is)
-
 with_is : (b : Bool) (slot at : ℕ) (f : FrameParts) (timers : TimersParts) → slot ≡ at
     → (timers_with b slot f timers).running ≡ timers.running ++ (if b then record { frame = f; first = at } ∷ [] else [])
 with_is true slot at f timers is = rw is refl
 with_is false slot at f timers is = sym (append-nil timers.running)
 
-pub heard_copy : (scenario : ScenarioParts) (i slot : ℕ) (past : List NoticeKind) (v w : RelcanParts) (f : FrameParts) → IsRelcanOf scenario i past v
-    → f.class ≡ class.Rel → same_class f.class class.Rel ≡ true → f.node < 32 → NamesMessage scenario service.Rel f → slot ≡ length past → slot < scenario.params.slots
-    → IsLearnt (frame_number f) v.copies w.copies → w ≡ record v { copies = w.copies; timers = timers_with (starts_timer v f) slot f v.timers }
-    → HasHeard scenario i (Got f) past w
-heard_copy scenario i slot past v w f h class is small named at within learnt state =
-    let timers : w.timers ≡ timers_with (starts_timer v f) slot f v.timers = ap (λ (x : RelcanParts). x.timers) state in
-    let fallen : w.fallen ≡ v.fallen = ap (λ (x : RelcanParts). x.fallen) state in
-    let absent : starts_timer v f ≡ true → is_there v.copies (frame_number f) ≡ false = new_entry v f h.tables.held in
-    let some : starts_timer v f ≡ true → 0 < v.timers.spare = λ starts.
-    omega (arith, h.limits.timers_room, spare_falls v f w.copies learnt.put (absent starts)) in
-    record {
-      limits = record {
-        legal = h.limits.legal;
-        node = ap (λ (x : RelcanParts). x.node) state ∙ h.limits.node;
-        omit = ap (λ (x : RelcanParts). x.omit) state ∙ h.limits.omit;
-        confirm = ap (λ (x : RelcanParts). x.confirm) state ∙ h.limits.confirm;
-        copies_omit = learnt.put.omit ∙ h.limits.copies_omit;
-        copies_room = learnt.put.room ∙ h.limits.copies_room;
-        confirms_room = ap (λ (x : RelcanParts). x.confirms.room) state ∙ h.limits.confirms_room;
-        timers_room = timers_fit (starts_timer v f) slot f v w timers learnt.put absent h.limits.timers_room;
-        fallen_room = fallen_fit (starts_timer v f) slot f v w timers fallen some h.limits.fallen_room;
-      };
-      tables = copies_got f small scenario i past v w h.tables class named (omega (arith, at, within, h.limits.legal.in_range.slots)) learnt (ap (λ (x : RelcanParts). x.confirms) state);
-      timers =
-          ap (λ (t : TimersParts). t.running) timers
-          ∙ with_is (starts_timer v f) slot (length past) f v.timers at
-          ∙ ap (λ running. running ++ (if starts_timer v f then record { frame = f; first = length past } ∷ [] else [])) h.timers
-          ∙ ap (λ b. started_since i scenario.params.confirm past ++ (if b then record { frame = f; first = length past } ∷ [] else [])) (starts_is scenario i past v f h.tables h.limits.node class is small);
-      fallen = λ s o. ap (λ keys. list_any (is_key_of s o) keys.items) fallen ∙ h.fallen s o;
-    }
-
--- ---- the other notices
-
-pub no_timer : (i : ℕ) (f : FrameParts) (past : List NoticeKind) → same_class f.class class.Rel ≡ false → started_by i (Got f) past ≡ []
-no_timer i f past other = rw other refl
-
 none_started : (i confirm : ℕ) (notice : NoticeKind) (past : List NoticeKind) (running : List Timer) → running ≡ started_since i confirm past → started_by i notice past ≡ []
     → running ≡ started_since i confirm past ++ started_by i notice past
 none_started i confirm notice past running is none = rw none (is ∙ sym (append-nil (started_since i confirm past)))
 
-pub heard_confirmation : (scenario : ScenarioParts) (i : ℕ) (past : List NoticeKind) (v w : RelcanParts) (f : FrameParts) → IsRelcanOf scenario i past v
-    → f.class ≡ class.Confirm → same_class f.class class.Rel ≡ false → f.node < 32 → NamesMessage scenario service.Rel f
-    → IsNoted (frame_number f) v.confirms w.confirms → w ≡ record v { confirms = w.confirms } → HasHeard scenario i (Got f) past w
-heard_confirmation scenario i past v w f h class other small named noted state =
-    let copies_same = ap (λ (x : RelcanParts). x.copies) state in
-    let timers_same = ap (λ (x : RelcanParts). x.timers) state in
-    let fallen_same = ap (λ (x : RelcanParts). x.fallen) state in
-    record {
-      limits = record {
-        legal = h.limits.legal;
-        node = ap (λ (x : RelcanParts). x.node) state ∙ h.limits.node;
-        omit = ap (λ (x : RelcanParts). x.omit) state ∙ h.limits.omit;
-        confirm = ap (λ (x : RelcanParts). x.confirm) state ∙ h.limits.confirm;
-        copies_omit = ap (λ (x : RelcanParts). x.copies.omit) state ∙ h.limits.copies_omit;
-        copies_room = ap (λ (x : RelcanParts). x.copies.room) state ∙ h.limits.copies_room;
-        confirms_room = noted.room ∙ h.limits.confirms_room;
-        timers_room = rw (copies_same, timers_same) h.limits.timers_room;
-        fallen_room = rw (timers_same, fallen_same) h.limits.fallen_room;
-      };
-      tables = copies_confirmed f small scenario i past v w h.tables class named noted copies_same;
-      timers = none_started i scenario.params.confirm (Got f) past w.timers.running (ap (λ (x : RelcanParts). x.timers.running) state ∙ h.timers) (no_timer i f past other);
-      fallen = λ s o. ap (λ keys. list_any (is_key_of s o) keys.items) fallen_same ∙ h.fallen s o;
-    }
+-- a notice that is no copy of a data frame starts none
+no_timer : (i : ℕ) (notice : NoticeKind) (past : List NoticeKind) → IsOther class.Rel (of_own i) notice → started_by i notice past ≡ []
+no_timer i Idle past other = refl
+no_timer i Bad past other = refl
+no_timer i (Sent f) past other = refl
+no_timer i (Got f) past other = rw other refl
 
-pub heard_sent : (scenario : ScenarioParts) (i : ℕ) (past : List NoticeKind) (v w : RelcanParts) (f : FrameParts) → IsRelcanOf scenario i past v
-    → f.class ≡ class.Rel → f.node < 32 → f.node ≡ i → NamesMessage scenario service.Rel f → IsOwned (frame_number f) v.copies w.copies → w ≡ record v { copies = w.copies }
-    → HasHeard scenario i (Sent f) past w
-heard_sent scenario i past v w f h class small own named owned state =
-    let timers_same = ap (λ (x : RelcanParts). x.timers) state in
-    let fallen_same = ap (λ (x : RelcanParts). x.fallen) state in
-    record {
-      limits = record {
-        legal = h.limits.legal;
-        node = ap (λ (x : RelcanParts). x.node) state ∙ h.limits.node;
-        omit = ap (λ (x : RelcanParts). x.omit) state ∙ h.limits.omit;
-        confirm = ap (λ (x : RelcanParts). x.confirm) state ∙ h.limits.confirm;
-        copies_omit = owned.put.omit ∙ h.limits.copies_omit;
-        copies_room = owned.put.room ∙ h.limits.copies_room;
-        confirms_room = ap (λ (x : RelcanParts). x.confirms.room) state ∙ h.limits.confirms_room;
-        timers_room = rw timers_same (omega (arith, owned.put.spare, h.limits.timers_room));
-        fallen_room = rw (timers_same, fallen_same) h.limits.fallen_room;
-      };
-      tables = copies_sent f small scenario i past v w h.tables class named own owned (ap (λ (x : RelcanParts). x.confirms) state);
-      timers = none_started i scenario.params.confirm (Sent f) past w.timers.running (ap (λ (x : RelcanParts). x.timers.running) state ∙ h.timers) refl;
-      fallen = λ s o. ap (λ keys. list_any (is_key_of s o) keys.items) fallen_same ∙ h.fallen s o;
-    }
+-- ---- a frame of RELCAN
 
+module _ (scenario : ScenarioParts) (i : ℕ) (past : List NoticeKind) (v w : RelcanParts) (f : FrameParts) (h : IsRelcanOf scenario i past v)
+    (small : f.node < origins) (named : NamesMessage scenario service.Rel f) where
+  starts_is : f.class ≡ class.Rel → same_class f.class class.Rel ≡ true → starts_timer v f ≡ (is_timed i (identity_of f) && not (has_copy (identity_of f) past))
+  starts_is rel is =
+      (rw (h.tables.data_frames.copies f.number f.node small, h.tables.data_frames.owned f.number f.node small, h.limits.node)
+      (starts_when (nat_lt 0 (copies (data_identity f.number f.node) past)) (f.node == i) (has_own (data_identity f.number f.node) past)))
+      ∙ ap (λ b. (true && not (f.node == i)) && not b) (sym (has_copy-counted (data_identity f.number f.node) past))
+      ∙ ap (λ x. (true && not (f.node == i)) && not (has_copy x past)) (sym (identity_is class.Rel f rel))
+      ∙ ap (λ b. (b && not (f.node == i)) && not (has_copy (identity_of f) past)) (sym is)
+
+  -- a copy of a data frame
+  pub heard_copy : (slot : ℕ) → f.class ≡ class.Rel → same_class f.class class.Rel ≡ true → slot ≡ length past → slot < scenario.params.slots
+      → IsLearnt (frame_number f) v.copies w.copies → w ≡ record v { copies = w.copies; timers = timers_with (starts_timer v f) slot f v.timers }
+      → HasHeard scenario i (Got f) past w
+  heard_copy slot rel is at within learnt state =
+      let timers : w.timers ≡ timers_with (starts_timer v f) slot f v.timers = ap (λ (x : RelcanParts). x.timers) state in
+      let fallen : w.fallen ≡ v.fallen = ap (λ (x : RelcanParts). x.fallen) state in
+      let confirms = ap (λ (x : RelcanParts). x.confirms) state in
+      let there = h.tables.data_frames.there (frame_number f) in
+      record {
+        limits = record {
+          legal = h.limits.legal;
+          node = ap (λ (x : RelcanParts). x.node) state ∙ h.limits.node;
+          confirm = ap (λ (x : RelcanParts). x.confirm) state ∙ h.limits.confirm;
+          timers_room = timers_fit (starts_timer v f) slot f v w timers learnt.put (new_entry v f there) h.limits.timers_room;
+          fallen_room = fallen_fit (starts_timer v f) slot f v w timers fallen (spare_for_timer v f w.copies there h.limits.timers_room learnt.put) h.limits.fallen_room;
+        };
+        tables = rw confirms (tables_got scenario i past v.copies v.confirms h.tables f small named w.copies rel (omega (arith, at, within, h.limits.legal.in_range.slots)) learnt);
+        timers =
+            ap (λ (t : TimersParts). t.running) timers
+            ∙ with_is (starts_timer v f) slot (length past) f v.timers at
+            ∙ ap (λ running. running ++ (if starts_timer v f then record { frame = f; first = length past } ∷ [] else [])) h.timers
+            ∙ ap (λ b. started_since i scenario.params.confirm past ++ (if b then record { frame = f; first = length past } ∷ [] else [])) (starts_is rel is);
+        fallen = λ s o. ap (λ keys. list_any (is_key_of s o) keys.items) fallen ∙ h.fallen s o;
+      }
+
+  -- a confirmation
+  pub heard_confirmation : f.class ≡ class.Confirm → same_class f.class class.Rel ≡ false → length past < scenario.params.slots
+      → IsLearnt (frame_number f) v.confirms w.confirms → w ≡ record v { confirms = w.confirms } → HasHeard scenario i (Got f) past w
+  heard_confirmation is other within learnt state = subst (HasHeard scenario i (Got f) past) (sym state) (record {
+    limits = same_limits;
+    tables = tables_confirmed scenario i past v.copies v.confirms h.tables f small named w.confirms is (omega (arith, within, h.limits.legal.in_range.slots)) learnt;
+    timers = none_started i scenario.params.confirm (Got f) past v.timers.running h.timers (no_timer i (Got f) past other);
+    fallen = h.fallen;
+  })
+    where
+      same_limits : HasLimitsOf scenario i (record v { confirms = w.confirms })
+      same_limits = record {
+        legal = h.limits.legal;
+        node = h.limits.node;
+        confirm = h.limits.confirm;
+        timers_room = h.limits.timers_room;
+        fallen_room = h.limits.fallen_room;
+      }
+
+  -- the node's own transmission of the data frame of its own message
+  pub heard_sent : f.class ≡ class.Rel → f.node ≡ i → IsOwned (frame_number f) v.copies w.copies → w ≡ record v { copies = w.copies } → HasHeard scenario i (Sent f) past w
+  heard_sent rel own owned state = subst (HasHeard scenario i (Sent f) past) (sym state) (record {
+    limits = same_limits;
+    tables = tables_sent scenario i past v.copies v.confirms h.tables f small named w.copies rel own owned;
+    timers = none_started i scenario.params.confirm (Sent f) past v.timers.running h.timers refl;
+    fallen = h.fallen;
+  })
+    where
+      same_limits : HasLimitsOf scenario i (record v { copies = w.copies })
+      same_limits = record {
+        legal = h.limits.legal;
+        node = h.limits.node;
+        confirm = h.limits.confirm;
+        timers_room = omega (arith, owned.put.spare, h.limits.timers_room);
+        fallen_room = h.limits.fallen_room;
+      }
+
+-- any other notice
 pub heard_other : (scenario : ScenarioParts) (i : ℕ) (notice : NoticeKind) (past : List NoticeKind) (v : RelcanParts)
-    → ((s o : ℕ) → is_got (data_identity s o) notice ≡ false) → ((s o : ℕ) → (o == i && is_sent (data_identity s o) notice) ≡ false)
-    → ((s o : ℕ) → is_got (confirm_of (data_identity s o)) notice ≡ false) → started_by i notice past ≡ []
-    → IsRelcanOf scenario i past v → HasHeard scenario i notice past v
-heard_other scenario i notice past v got sent confirmed none h = record {
+    → IsOther class.Rel (of_own i) notice → IsOther class.Confirm of_none notice → IsRelcanOf scenario i past v → HasHeard scenario i notice past v
+heard_other scenario i notice past v no_data no_confirm h = record {
   limits = h.limits;
-  tables = copies_other scenario i notice past v got sent confirmed (λ f rel. ap (λ x. is_got x notice) (identity_is f rel) ∙ got f.number f.node) h.tables;
-  timers = none_started i scenario.params.confirm notice past v.timers.running h.timers none;
+  tables = tables_other scenario i past v.copies v.confirms h.tables notice no_data no_confirm;
+  timers = none_started i scenario.params.confirm notice past v.timers.running h.timers (no_timer i notice past no_data);
   fallen = h.fallen;
 }

@@ -1,12 +1,8 @@
 pub mod ActionFacts
 pub mod AheadFacts
-pub mod CopiesFacts
 pub mod EndFacts
-pub mod HearFacts
 pub mod HeardFacts
-pub mod Lists
-pub mod MessageFacts
-pub mod NoticeFacts
-pub mod OneBroadcast
-pub mod PastFacts
+pub mod ListFacts
+pub mod OneSendFacts
+pub mod TablesFacts
 pub mod TimerFacts

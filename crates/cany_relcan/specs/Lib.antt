@@ -1,4 +1,3 @@
-pub mod MessageNumbers
 pub mod Relcan
 pub mod RelcanSteps
 pub mod Timers

@@ -1,25 +1,17 @@
 -- What RELCAN does with a frame and at the end of a timer, from what the value has.
-use Rattle.std.specs.Prelude.{◌≡◌, ℕ, ◌-◌, ◌==◌, ◌&&◌, ◌||◌, Bool, true, false, not, nat_lt, if◌then◌else◌, List, [], ◌∷◌, ◌++◌, Option, Some, None}
+use Rattle.std.specs.Prelude.{ℕ, ◌-◌, ◌==◌, ◌&&◌, Bool, true, false, not, nat_lt, if◌then◌else◌, List, [], ◌∷◌, ◌++◌, Option, Some, None}
 use Rattle.std.specs.List.{list_any}
 use Rattle.cany_base.specs.declared.actions.Action.{Action}
-use Rattle.cany_base.specs.declared.actions.Action.TheVariants.{Ask, Withdraw, Enter}
+use Rattle.cany_base.specs.declared.actions.Action.TheVariants.{Ask}
 use Rattle.cany_base.specs.declared.message.MsgKey.{MsgKey}
-use Rattle.cany_base.specs.declared.message.Service.TheVariants.{Rel}
-use Rattle.cany_base.specs.declared.notice.NoticeKind.{NoticeKind}
 use Rattle.cany_base.specs.Bounded.{Bounded}
-use Rattle.cany_base.specs.Frame.{FrameParts, identifier_of}
-use Rattle.cany_base.specs.Scenario.{ScenarioParts}
+use Rattle.cany_base.specs.Frame.{FrameParts}
 use Rattle.cany_diffuse.specs.declared.learnt.Learnt.{Learnt}
 use Rattle.cany_diffuse.specs.declared.learnt.Learnt.TheVariants.{First, Again, Enough}
-use Rattle.cany_diffuse.specs.Eager.{EagerParts, copies_of, is_held, is_there}
-use Rattle.cany_model.specs.Rules.Delivery.{delivery}
-use Rattle.cany_model.specs.Rules.Notices.{NamesMessage}
-use Rattle.cany_relcan.specs.MessageNumbers.{message_number}
-use Rattle.cany_relcan.specs.Relcan.{RelcanParts, IsRelcanOf, is_key_of}
+use Rattle.cany_diffuse.specs.Eager.{EagerParts, copies_of, is_held}
+use Rattle.cany_message.specs.Numbers.{frame_number}
+use Rattle.cany_relcan.specs.Relcan.{RelcanParts, is_key_of}
 use Rattle.cany_relcan.specs.Timers.{TimersParts, oldest_from, without_from, with_timer}
-
-abbrev pub frame_number : FrameParts → ℕ
-frame_number f = message_number f.number f.node
 
 abbrev pub key_of_frame : FrameParts → MsgKey
 key_of_frame f = record { origin = f.node; seq = f.number }
@@ -35,8 +27,8 @@ starts_timer v f = not (was_delivered v f) && not (f.node == v.node)
 abbrev pub is_fallen : RelcanParts → FrameParts → Bool
 is_fallen v f = list_any (is_key_of f.number f.node) v.fallen.items
 
-abbrev pub is_confirmed : RelcanParts → FrameParts → Bool
-is_confirmed v f = nat_lt 0 (copies_of v.confirms (frame_number f))
+abbrev pub is_confirmed : EagerParts → FrameParts → Bool
+is_confirmed confirms f = nat_lt 0 (copies_of confirms (frame_number f))
 
 abbrev pub is_enough : Learnt → Bool
 is_enough First = false
@@ -63,40 +55,22 @@ abbrev pub marked : FrameParts → Bounded MsgKey → Bounded MsgKey
 marked f fallen = record { items = fallen.items ++ key_of_frame f ∷ []; room = fallen.room }
 
 -- the node falls back for the message whose timer ran out, unless its confirmation was read
-abbrev pub after_timer : Option FrameParts → RelcanParts → RelcanParts
-after_timer None v = v
-after_timer (Some f) v = record v { fallen = if is_confirmed v f then v.fallen else marked f v.fallen }
+abbrev pub fallen_after : Option FrameParts → EagerParts → Bounded MsgKey → Bounded MsgKey
+fallen_after None confirms fallen = fallen
+fallen_after (Some f) confirms fallen = if is_confirmed confirms f then fallen else marked f fallen
 
--- a confirmation of a message was read
-pub record IsNoted (number : ℕ) (old new : EagerParts) : Type 0 where
-  pub room : new.room ≡ old.room
-  pub read : (q : ℕ) → nat_lt 0 (copies_of new q) ≡ (q == number || nat_lt 0 (copies_of old q))
-  pub there : (q : ℕ) → is_there new q ≡ true → (q == number || is_there old q) ≡ true
+abbrev pub after_timer : Option FrameParts → RelcanParts → RelcanParts
+after_timer due v = record v { fallen = fallen_after due v.confirms v.fallen }
 
 -- ---- actions
-
-abbrev pub delivery_actions : ℕ → Bool → FrameParts → List Action
-delivery_actions slot delivers f = if delivers then Enter (delivery slot Rel f) ∷ [] else []
-
-abbrev pub withdraw_actions : Bool → FrameParts → List Action
-withdraw_actions withdraws f = if withdraws then Withdraw (identifier_of f) ∷ [] else []
 
 abbrev pub ask_actions : Bool → FrameParts → List Action
 ask_actions asks f = if asks then Ask f ∷ [] else []
 
 -- whether the node asks for the frame of a timer that runs out
 abbrev pub asks_at_end : RelcanParts → FrameParts → Bool
-asks_at_end v f = not (is_confirmed v f) && not (nat_lt v.omit (copies_of v.copies (frame_number f)))
+asks_at_end v f = not (is_confirmed v.confirms f) && not (nat_lt v.copies.omit (copies_of v.copies (frame_number f)))
 
 abbrev pub timer_actions : Option FrameParts → RelcanParts → List Action
 timer_actions None v = []
 timer_actions (Some f) v = ask_actions (asks_at_end v f) f
-
--- ---- conditions
-
--- there are notices that the value stands for, and the frame names a message of the scenario
-pub record CanTake (v : RelcanParts) (f : FrameParts) : Type 0 where
-  pub scenario : ScenarioParts
-  pub past : List NoticeKind
-  pub stands : IsRelcanOf scenario v.node past v
-  pub message : NamesMessage scenario Rel f

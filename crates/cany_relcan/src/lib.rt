@@ -2,13 +2,11 @@
 //! time falls back to sending the data frame itself.
 #![tactic(auto)]
 
-mod actions;
-mod confirmation;
-mod data;
+mod frames;
 mod relcan;
-mod sharing;
 #[cfg(test)]
 mod tests;
+mod threads;
 mod timers;
 
 pub use relcan::Relcan;

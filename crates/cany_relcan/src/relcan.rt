@@ -1,30 +1,32 @@
-ghost use Rattle.std.specs.Prelude.{◌≡◌, ◌≢◌, ℕ, false, ◌+◌, ◌-◌, ◌<◌, ◌≤◌, ◌==◌, ◌&&◌, [], ◌∷◌, ◌++◌, not, nat_lt, nat_le, reverse, length, if◌then◌else◌, IsTrue, List, replicate, Contains, Some, IfSome, IfOk};
+ghost use Rattle.std.specs.Prelude.{◌≡◌, ◌≢◌, ℕ, ◌+◌, ◌-◌, ◌<◌, ◌≤◌, ◌==◌, ◌&&◌, false, [], ◌∷◌, ◌++◌, not, reverse, length, IsTrue, List, replicate, Contains, Some, IfSome, IfOk};
 ghost use Rattle.std.specs.List.{list_any};
 ghost use Rattle.cany_base.specs.declared.actions.Action.TheVariants as action;
 ghost use Rattle.cany_base.specs.declared.frame.Class.TheVariants as class;
 ghost use Rattle.cany_base.specs.declared.message.Service.TheVariants as service;
 ghost use Rattle.cany_base.specs.declared.notice.NoticeKind.{NoticeKind};
-ghost use Rattle.cany_base.specs.declared.notice.NoticeKind.TheVariants.{Idle, Got, Sent};
+ghost use Rattle.cany_base.specs.declared.notice.NoticeKind.TheVariants.{Idle};
 ghost use Rattle.cany_base.specs.Frame.{FrameParts};
 ghost use Rattle.cany_base.specs.Scenario.{ScenarioParts};
-ghost use Rattle.cany_diffuse.specs.Eager.{copies_of, is_owned, learnt_of, IsCounted, IsLearnt, IsOwned};
+ghost use Rattle.cany_diffuse.specs.Eager.{copies_of, is_held, is_owned, is_there, learnt_of, spare_of, IsCounted, IsLearnt, IsOwned};
+ghost use Rattle.cany_message.specs.Actions.{delivery_actions, withdraw_actions};
+ghost use Rattle.cany_message.specs.Numbers.{frame_number, origins};
+ghost use Rattle.cany_message.specs.Table.{CanTake};
 ghost use Rattle.cany_model.specs.Rules.Actions.{actions_of};
 ghost use Rattle.cany_model.specs.Bus.Frames.{same_class};
 ghost use Rattle.cany_model.specs.Rules.Messages.{Message, messages_of, message_key};
 ghost use Rattle.cany_model.specs.Rules.Notices.{IsNextNotice};
-ghost use Rattle.cany_model.specs.Rules.Relcan.{confirm_frame, has_timer_ahead, relcan_at, relcan_effects, timer_effects};
+ghost use Rattle.cany_model.specs.Rules.Relcan.{confirm_frame, has_timer_ahead, relcan_at, relcan_effects};
 ghost use Rattle.cany_relcan.specs.Relcan.{IsRelcanOf, HasHeard, CanHear, is_key_of};
-ghost use Rattle.cany_relcan.specs.RelcanSteps.{after_timer, ask_actions, asks_at_end, CanTake, delivery_actions, due_frame, frame_number, is_confirmed, is_enough, is_fallen, IsNoted, marked, starts_timer, timer_actions, timers_with, was_delivered, withdraw_actions, without_due};
+ghost use Rattle.cany_relcan.specs.RelcanSteps.{after_timer, due_frame, is_enough, is_fallen, starts_timer, timer_actions, timers_with, was_delivered, without_due};
 
-use crate::actions::{deliver, withdraw};
-use crate::confirmation::{Confirmation, is_confirmation};
-use crate::data::{Data, is_data};
+use crate::frames::{Confirmation, Data, confirmation_of, is_confirmation, is_data};
 use crate::timers::{Timer, Timers};
 use cany_base::{
     Action, Actions, BoundedVec, Frame, Memory, MsgKey, NodeId, Notice, NoticeKind, Payload,
-    Scenario, Slot,
+    Scenario, Service, Slot,
 };
 use cany_diffuse::{Diffused, Eager, Learnt};
+use cany_message::{deliver, withdraw};
 use std::alloc::Global;
 use std::marker::Model;
 
@@ -38,7 +40,6 @@ use std::marker::Model;
 #[derive(Drop)]
 pub struct Relcan {
     node: NodeId,
-    omit: u32,
     confirm: u64,
     copies: Eager<Data>,
     confirms: Eager<Confirmation>,
@@ -52,7 +53,7 @@ impl Model for Relcan {
 
     ghost Value = { RelcanParts };
 
-    ghost view = { λ r. record { node = r.node; omit = r.omit; confirm = r.confirm; copies = r.copies; confirms = r.confirms; timers = r.timers; fallen = r.fallen } };
+    ghost view = { λ r. record { node = r.node; confirm = r.confirm; copies = r.copies; confirms = r.confirms; timers = r.timers; fallen = r.fallen } };
 }
 
 impl Relcan {
@@ -69,7 +70,6 @@ impl Relcan {
         let fallen = BoundedVec::build(alloc, room)?;
         Ok(Relcan {
             node,
-            omit: params.omit,
             confirm: params.confirm,
             copies,
             confirms,
@@ -78,14 +78,14 @@ impl Relcan {
         })
     }
 
-    /// The node, which is the origin, broadcasts the message: it asks for its data frame.
+    /// The node, which is the origin, sends the message: it asks for its data frame.
     pub fn send(&mut self, msg: MsgKey, payload: Payload, out: &mut Actions)
         requires { length out.old.items < out.old.room }
         ensures state { self.new ≡ self.old }
         ensures asks { let f : FrameParts = record { class = class.Rel; number = msg.seq; node = msg.origin; inc = 0; payload = payload } in
             out.new ≡ record out.old { items = out.old.items ++ action.Ask f ∷ [] } }
     {
-        let data = Data { msg, payload };
+        let data = Data::new(msg, payload);
         out.push(Action::Ask(data.form()));
     }
 
@@ -114,12 +114,12 @@ impl Relcan {
         ensures no_message { (scenario : ScenarioParts) (past : List NoticeKind) → IsRelcanOf scenario self.now.node past self.now
             → ((m : Message) → Contains (messages_of scenario.sends) m → message_key m ≢ msg) → result ≡ false }
     {
+        // Read for what it ensures: that the origin is in range.
         let _origin = msg.origin.get();
         if !self.timers.is_running(&msg) {
             return false;
         }
-        let confirmation = Confirmation { msg };
-        self.confirms.copies(&confirmation) == 0
+        self.confirms.copies(&confirmation_of(msg)) == 0
     }
 
     /// What RELCAN does at a notice, whatever timers are due.
@@ -137,14 +137,14 @@ impl Relcan {
         match &notice.kind {
             NoticeKind::Got(frame) => {
                 if is_data(frame) {
-                    self.hear_copy(notice.slot, frame, out);
+                    self.on_copy(notice.slot, frame, out);
                 } else if is_confirmation(frame) {
-                    self.hear_confirmation(frame);
+                    self.on_confirmation(frame);
                 }
             }
             NoticeKind::Sent(frame) => {
                 if self.is_own(frame) {
-                    self.confirm(notice.slot, frame, out);
+                    self.on_own(notice.slot, frame, out);
                 }
             }
             NoticeKind::Idle => {}
@@ -154,20 +154,22 @@ impl Relcan {
 
     /// A copy of a data frame: the message is delivered if it was not before, and at a node other than its origin the first copy
     /// starts the timer. With enough copies the frame is withdrawn if the node fell back.
-    fn hear_copy(&mut self, slot: Slot, frame: &Frame, out: &mut Actions)
-        requires takes { CanTake self.old frame.now }
+    fn on_copy(&mut self, slot: Slot, frame: &Frame, out: &mut Actions)
+        requires takes { CanTake (frame_number frame.now) self.old.copies }
+        requires there { is_there self.old.copies (frame_number frame.now) ≡ is_held self.old.copies (frame_number frame.now) }
+        requires timers { spare_of self.old.copies ≤ self.old.timers.spare }
         requires room { length out.old.items + 2 ≤ out.old.room }
         ensures learnt { IsLearnt (frame_number frame.now) self.old.copies self.new.copies }
-        ensures in_range { frame.now.node < 32 }
+        ensures in_range { frame.now.node < origins }
         ensures state { self.new ≡ record self.old { copies = self.new.copies; timers = timers_with (starts_timer self.old frame.now) slot frame.now self.old.timers } }
         ensures actions { let learnt = learnt_of self.old.copies.omit (copies_of self.new.copies (frame_number frame.now)) (is_owned self.old.copies (frame_number frame.now)) in
-            out.new.items ≡ (out.old.items ++ delivery_actions slot (not (was_delivered self.old frame.now)) frame.now)
+            out.new.items ≡ (out.old.items ++ delivery_actions service.Rel slot (not (was_delivered self.old frame.now)) frame.now)
             ++ withdraw_actions (is_enough learnt && is_fallen self.old frame.now) frame.now }
         ensures room { out.new.room ≡ out.old.room }
         ensures few { length out.new.items ≤ length out.old.items + 2 }
     {
         let is_first = !self.was_delivered(frame);
-        deliver(slot, frame, is_first, out);
+        deliver(Service::Rel, slot, frame, is_first, out);
         let learnt = self.copies.learn(Data::of(frame));
         self.start_timer(slot, frame, is_first);
         withdraw(frame, self.is_late(&learnt, frame), out);
@@ -194,35 +196,38 @@ impl Relcan {
     }
 
     /// The confirmation of a message is read.
-    fn hear_confirmation(&mut self, frame: &Frame)
-        requires { CanTake self.old frame.now }
-        ensures noted { IsNoted (frame_number frame.now) self.old.confirms self.new.confirms }
-        ensures in_range { frame.now.node < 32 }
+    fn on_confirmation(&mut self, frame: &Frame)
+        requires { CanTake (frame_number frame.now) self.old.confirms }
+        ensures learnt { IsLearnt (frame_number frame.now) self.old.confirms self.new.confirms }
+        ensures in_range { frame.now.node < origins }
         ensures state { self.new ≡ record self.old { confirms = self.new.confirms } }
     {
-        let confirmation = Confirmation::of(frame);
-        if self.confirms.copies(&confirmation) == 0 {
-            let _ = self.confirms.learn(confirmation);
-        }
+        let confirmation = confirmation_of(Data::of(frame).msg);
+        // Taken before it is counted, for what it ensures: that there is room.
+        let _copies = self.confirms.copies(&confirmation);
+        // Confirmations are not relayed, so what this copy calls for is not done.
+        let _ = self.confirms.learn(confirmation);
     }
 
     /// The origin reads its own transmission of the data frame: it delivers the message if it did not before, and asks for the
     /// confirmation.
-    fn confirm(&mut self, slot: Slot, frame: &Frame, out: &mut Actions)
-        requires takes { CanTake self.old frame.now }
+    fn on_own(&mut self, slot: Slot, frame: &Frame, out: &mut Actions)
+        requires takes { CanTake (frame_number frame.now) self.old.copies }
         requires room { length out.old.items + 2 ≤ out.old.room }
         ensures owned { IsOwned (frame_number frame.now) self.old.copies self.new.copies }
-        ensures in_range { frame.now.node < 32 }
+        ensures in_range { frame.now.node < origins }
         ensures state { self.new ≡ record self.old { copies = self.new.copies } }
-        ensures actions { out.new.items ≡ (out.old.items ++ delivery_actions slot (not (was_delivered self.old frame.now)) frame.now)
+        ensures actions { out.new.items ≡ (out.old.items ++ delivery_actions service.Rel slot (not (was_delivered self.old frame.now)) frame.now)
             ++ action.Ask (confirm_frame frame.now) ∷ [] }
         ensures room { out.new.room ≡ out.old.room }
         ensures few { length out.new.items ≤ length out.old.items + 2 }
     {
         let delivers = !self.was_delivered(frame);
-        deliver(slot, frame, delivers, out);
-        self.copies.own(Data::of(frame));
-        out.push(Action::Ask(Confirmation::of(frame).form()));
+        deliver(Service::Rel, slot, frame, delivers, out);
+        let data = Data::of(frame);
+        let confirmation = confirmation_of(data.msg);
+        self.copies.own(data);
+        out.push(Action::Ask(confirmation.form()));
     }
 
     /// The timer ends that is due in the turn of a slot, if one is.
@@ -231,7 +236,7 @@ impl Relcan {
         requires room { length out.old.items < out.old.room }
         ensures state { self.new ≡ after_timer (due_frame slot self.old) (without_due slot self.old) }
         ensures actions { out.new.items ≡ out.old.items ++ timer_actions (due_frame slot self.old) self.old }
-        ensures in_range { IfSome (due_frame slot self.old) (λ f. f.node < 32) }
+        ensures in_range { IfSome (due_frame slot self.old) (λ f. f.node < origins) }
         ensures few { length out.new.items ≤ length out.old.items + 1 }
         ensures room { out.new.room ≡ out.old.room }
     {
@@ -250,16 +255,16 @@ impl Relcan {
         requires room { length out.old.items < out.old.room }
         ensures state { self.new ≡ after_timer (Some frame.now) self.old }
         ensures actions { out.new.items ≡ out.old.items ++ timer_actions (Some frame.now) self.old }
-        ensures in_range { frame.now.node < 32 }
+        ensures in_range { frame.now.node < origins }
         ensures few { length out.new.items ≤ length out.old.items + 1 }
         ensures room { out.new.room ≡ out.old.room }
     {
-        if self.confirms.copies(&Confirmation::of(frame)) > 0 {
+        let data = Data::of(frame);
+        if self.confirms.copies(&confirmation_of(data.msg)) > 0 {
             return;
         }
-        let data = Data::of(frame);
         self.fallen.push(data.msg);
-        if self.copies.copies(&data) <= self.omit {
+        if self.copies.copies(&data) <= self.copies.omit() {
             out.push(Action::Ask(*frame));
         }
     }
@@ -274,14 +279,14 @@ impl Relcan {
     /// Whether the message of a data frame was delivered.
     fn was_delivered(&self, frame: &Frame) -> bool
         ensures delivered { result ≡ was_delivered self.now frame.now }
-        ensures in_range { frame.now.node < 32 }
+        ensures in_range { frame.now.node < origins }
         ensures counted { IsCounted self.now.copies }
     {
         self.copies.holds(&Data::of(frame))
     }
 
     /// Whether the node fell back for the message of a data frame. The newest are looked at first.
-    #[tactic(auto, using(crate::proofs::Lists::list_any_reversed))]
+    #[tactic(auto, using(crate::proofs::ListFacts::list_any_reversed))]
     fn is_fallen(&self, frame: &Frame) -> bool
         ensures { result ≡ is_fallen self.now frame.now }
     {

@@ -8,7 +8,7 @@ use Rattle.cany_base.specs.Frame.{FrameParts}
 use Rattle.cany_base.specs.Scenario.{ScenarioParts}
 use Rattle.cany_model.specs.Rules.Notices.{IsDataOf, IsNextNotice, BelongsTo}
 use Rattle.cany_edcan.specs.Edcan.{IsEdcanOf}
-use Rattle.cany_edcan.proofs.NoticeFacts.{at_own_node, can_hear}
+use Rattle.cany_edcan.proofs.EdcanFacts.{at_own_node, can_hear}
 use Rattle.cany_edcan.proofs.tests.read_twice.Goals as goal
 
 belongs : (scenario : ScenarioParts) (slot : ℕ) (k : Class) (f : FrameParts) → k ≡ class.Ed → IsDataOf scenario service.Ed f → BelongsTo scenario slot k f

@@ -3,7 +3,7 @@ use Rattle.cany_base.specs.declared.frame.Class.TheVariants as class
 use Rattle.cany_base.specs.declared.message.SendAsk.{SendAsk}
 use Rattle.cany_base.specs.declared.message.Service.TheVariants.{Rel}
 use Rattle.cany_base.specs.declared.notice.NoticeKind.TheVariants.{Idle, Got}
-use Rattle.cany_relcan.proofs.OneBroadcast.{data_next, confirmation_next}
+use Rattle.cany_relcan.proofs.OneSendFacts.{data_next, confirmation_next}
 use Rattle.cany_relcan.proofs.tests.a_confirmation_in_time_ends_the_wait.Goals as goal
 
 pub read_three-requires-clause-first : goal.read_three-requires-clause-first

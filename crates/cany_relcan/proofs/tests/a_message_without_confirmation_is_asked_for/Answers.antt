@@ -2,7 +2,7 @@ use Rattle.std.proofs.Common.{replicate, refl, arith}
 use Rattle.cany_base.specs.declared.message.SendAsk.{SendAsk}
 use Rattle.cany_base.specs.declared.message.Service.TheVariants.{Rel}
 use Rattle.cany_base.specs.declared.notice.NoticeKind.TheVariants.{Idle}
-use Rattle.cany_relcan.proofs.OneBroadcast.{data_next}
+use Rattle.cany_relcan.proofs.OneSendFacts.{data_next}
 use Rattle.cany_relcan.proofs.tests.a_message_without_confirmation_is_asked_for.Goals as goal
 
 pub read_three-requires-clause-first : goal.read_three-requires-clause-first

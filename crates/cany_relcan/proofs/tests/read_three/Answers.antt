@@ -1,7 +1,7 @@
 use Rattle.std.proofs.Common.{◌∷◌, replicate}
 use Rattle.cany_base.specs.declared.notice.NoticeKind.TheVariants.{Idle}
 use Rattle.cany_relcan.specs.Relcan.{IsRelcanOf}
-use Rattle.cany_relcan.proofs.NoticeFacts.{at_own_node, can_hear}
+use Rattle.cany_relcan.proofs.HeardFacts.{at_own_node, can_hear}
 use Rattle.cany_relcan.proofs.tests.read_three.Goals as goal
 
 pub on-requires-clause-hears : goal.on-requires-clause-hears

@@ -1,0 +1,7 @@
+pub mod DeliveryFacts
+pub mod HistoryFacts
+pub mod KeyFacts
+pub mod NoticeFacts
+pub mod NumberFacts
+pub mod SequenceFacts
+pub mod TableFacts

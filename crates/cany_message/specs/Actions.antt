@@ -1,0 +1,13 @@
+-- The actions that deliver the message of a data frame, and that withdraw a frame.
+use Rattle.std.specs.Prelude.{ℕ, Bool, if◌then◌else◌, List, [], ◌∷◌}
+use Rattle.cany_base.specs.declared.actions.Action.{Action}
+use Rattle.cany_base.specs.declared.actions.Action.TheVariants.{Withdraw, Enter}
+use Rattle.cany_base.specs.declared.message.Service.{Service}
+use Rattle.cany_base.specs.Frame.{FrameParts, identifier_of}
+use Rattle.cany_model.specs.Rules.Delivery.{delivery}
+
+abbrev pub delivery_actions : Service → ℕ → Bool → FrameParts → List Action
+delivery_actions service slot delivers f = if delivers then Enter (delivery slot service f) ∷ [] else []
+
+abbrev pub withdraw_actions : Bool → FrameParts → List Action
+withdraw_actions withdraws f = if withdraws then Withdraw (identifier_of f) ∷ [] else []

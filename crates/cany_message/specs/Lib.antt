@@ -1,0 +1,4 @@
+pub mod Actions
+pub mod Numbers
+pub mod Sequence
+pub mod Table

@@ -1,0 +1,39 @@
+ghost use Rattle.std.specs.Prelude.{◌≡◌, ◌+◌, ◌<◌, ◌≤◌, ◌++◌, length};
+ghost use Rattle.cany_message.specs.Actions.{delivery_actions, withdraw_actions};
+
+use can_frame::{fits_format_one, identifier};
+use cany_base::{Action, Actions, Format, Frame, LogEntry, MsgKey, Service, Slot};
+
+/// Delivers the message of a data frame, or does nothing.
+pub fn deliver(service: Service, slot: Slot, frame: &Frame, delivers: bool, out: &mut Actions)
+    requires { length out.old.items < out.old.room }
+    ensures actions { out.new.items ≡ out.old.items ++ delivery_actions service slot delivers frame.now }
+    ensures room { out.new.room ≡ out.old.room }
+    ensures few { length out.new.items ≤ length out.old.items + 1 }
+{
+    if delivers {
+        out.push(Action::Enter(LogEntry::Deliver {
+            slot,
+            service,
+            msg: MsgKey {
+                origin: frame.node,
+                seq: frame.number,
+            },
+            payload: frame.payload,
+        }));
+    }
+}
+
+/// Withdraws a frame, or does nothing.
+pub fn withdraw(frame: &Frame, withdraws: bool, out: &mut Actions)
+    requires { length out.old.items < out.old.room }
+    ensures actions { out.new.items ≡ out.old.items ++ withdraw_actions withdraws frame.now }
+    ensures room { out.new.room ≡ out.old.room }
+    ensures few { length out.new.items ≤ length out.old.items + 1 }
+{
+    if withdraws {
+        fits_format_one(frame);
+        let ident = identifier(Format::One, frame);
+        out.push(Action::Withdraw { ident });
+    }
+}

@@ -1,0 +1,18 @@
+//! What the broadcast protocols share: the number that stands for a message, the frames that name it, the actions that
+//! deliver it and withdraw its frame, and the sequence numbers of scripted sends.
+#![tactic(auto)]
+
+mod actions;
+mod frame;
+mod keys;
+mod number;
+mod sequence;
+#[cfg(test)]
+mod tests;
+mod threads;
+
+pub use actions::{deliver, withdraw};
+pub use frame::{FrameClass, MessageFrame, is_of_class};
+pub use keys::keys_of;
+pub use number::message_number;
+pub use sequence::SequenceNumbers;

@@ -1,0 +1,123 @@
+ghost use Rattle.std.specs.Prelude.{◌≡◌};
+ghost use Rattle.cany_base.specs.declared.frame.Class.TheVariants as class;
+
+use crate::actions::{deliver, withdraw};
+use crate::frame::{FrameClass, MessageFrame, is_of_class};
+use crate::keys::keys_of;
+use crate::number::message_number;
+use crate::sequence::SequenceNumbers;
+use cany_base::{
+    Action, Actions, Class, Frame, LogEntry, MsgKey, NodeId, Payload, SendAsk, Service,
+};
+use cany_diffuse::Diffused;
+use std::test::Fail;
+
+/// The class of the frames that carry messages of TOTCAN.
+#[derive(Drop)]
+struct TotClass;
+
+impl FrameClass for TotClass {
+    ghost class = { class.Tot };
+
+    fn class() -> Class {
+        Class::Tot
+    }
+}
+
+fn key_of<K: Diffused>(value: &K) -> u64
+    requires { K.is_value value.now }
+    ensures { result ≡ K.key value.now }
+{
+    value.key()
+}
+
+fn form_of<K: Diffused>(value: &K) -> Frame
+    requires { K.is_value value.now }
+    ensures { result ≡ K.form value.now }
+{
+    value.form()
+}
+
+#[test]
+fn a_frame_says_which_message_it_carries(rt: HostRuntime) -> Result<(), Fail> {
+    let origin = NodeId::new(5).ok_or("a node below 32")?;
+    let frame = Frame {
+        class: Class::Tot,
+        number: 3,
+        node: origin,
+        inc: 0,
+        payload: Payload::of(&[7]).ok_or("at most eight bytes")?,
+    };
+    let said = MessageFrame::<TotClass>::of(&frame);
+    assert_eq!(rt; message_number(&said.msg), 101);
+    assert_eq!(rt; key_of(&said), 101);
+    assert_eq!(rt; form_of(&said), frame);
+    assert_eq!(rt; is_of_class(&frame, Class::Tot), true);
+    assert_eq!(rt; is_of_class(&frame, Class::Rel), false);
+    Ok(())
+}
+
+#[test]
+fn a_message_is_delivered_and_its_frame_withdrawn(rt: HostRuntime) -> Result<(), Fail> {
+    let origin = NodeId::new(2).ok_or("a node below 32")?;
+    let payload = Payload::of(&[7]).ok_or("at most eight bytes")?;
+    let frame = Frame {
+        class: Class::Ed,
+        number: 0,
+        node: origin,
+        inc: 0,
+        payload,
+    };
+    let mut out = Actions::build(rt.alloc(), 4)?;
+    deliver(Service::Ed, 3, &frame, true, &mut out);
+    withdraw(&frame, true, &mut out);
+    let delivery = Action::Enter(LogEntry::Deliver {
+        slot: 3,
+        service: Service::Ed,
+        msg: MsgKey { origin, seq: 0 },
+        payload,
+    });
+    assert_eq!(rt;
+        out.as_slice(),
+        [delivery, Action::Withdraw { ident: 301_989_920 }].as_slice()
+    );
+    Ok(())
+}
+
+#[test]
+fn messages_are_counted_by_origin(rt: HostRuntime) -> Result<(), Fail> {
+    let one = NodeId::new(1).ok_or("a node below 32")?;
+    let two = NodeId::new(2).ok_or("a node below 32")?;
+    let send = SendAsk {
+        slot: 0,
+        node: two,
+        service: Service::Ed,
+        payload: Payload::empty(),
+    };
+    let other = SendAsk { node: one, ..send };
+    let keys = keys_of(rt.alloc(), &[send, other, send])?;
+    let expected = [
+        MsgKey {
+            origin: two,
+            seq: 0,
+        },
+        MsgKey {
+            origin: one,
+            seq: 0,
+        },
+        MsgKey {
+            origin: two,
+            seq: 1,
+        },
+    ];
+    assert_eq!(rt; keys.as_slice(), expected.as_slice());
+    Ok(())
+}
+
+#[test]
+fn the_first_number_is_zero(rt: HostRuntime) -> Result<(), Fail> {
+    let node = NodeId::new(31).ok_or("a node below 32")?;
+    let mut numbers = SequenceNumbers::new();
+    assert_eq!(rt; numbers.next(node), 0);
+    Ok(())
+}
