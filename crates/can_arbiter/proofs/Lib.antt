@@ -1,4 +1,4 @@
-pub mod OfferRows
-pub mod Order
-pub mod WalkSteps
-pub mod Winning
+pub mod OfferFacts
+pub mod OrderFacts
+pub mod WalkFacts
+pub mod WinnerFacts

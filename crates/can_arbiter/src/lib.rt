@@ -7,9 +7,9 @@ mod laws;
 mod levels;
 mod nodes;
 mod offers;
-mod sharing;
 #[cfg(test)]
 mod tests;
+mod threads;
 mod walk;
 
 pub use arbitration::{Outcome, arbitrate};

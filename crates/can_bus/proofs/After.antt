@@ -4,7 +4,7 @@ use Rattle.std.specs.Prelude.{Option, Some, None, is_none, if◌then◌else◌, 
 use Rattle.std.proofs.lemmas.Bool.{lt-ltb}
 use Rattle.cany_base.specs.declared.slot_note.SlotNote.{SlotNote}
 use Rattle.cany_base.specs.Nodes.{has}
-use Rattle.cany_base.specs.NodesLaws.{has-those_where}
+use Rattle.cany_base.proofs.NodesFacts.{has-those_where}
 use Rattle.cany_base.specs.Params.{Parameters}
 use Rattle.cany_model.specs.Bus.Slot.{Script, after_share, exceeds, exchange, node_after, share_of, slot_note_of, stopping, winner}
 use Rattle.cany_model.specs.Bus.State.{NodeState, node_at, runs}

@@ -8,7 +8,7 @@ use Rattle.std.proofs.lemmas.Option.{same_Some}
 use Rattle.cany_base.specs.declared.frame.Format.{Format}
 use Rattle.cany_base.specs.Frame.{FrameParts, identifier_of, key_of}
 use Rattle.cany_base.specs.Nodes.{Nodes, has, those_where}
-use Rattle.cany_base.specs.NodesLaws.{same_as_those_where}
+use Rattle.cany_base.proofs.NodesFacts.{same_as_those_where}
 use Rattle.cany_model.specs.Bus.Frames.{same_frame}
 use Rattle.cany_model.specs.Bus.Slot.{least_frame, offered, sends, winner}
 use Rattle.cany_model.specs.Bus.State.{NodeState, node_at, runs, absent}

@@ -8,7 +8,7 @@ use Rattle.cany_base.specs.declared.rule.Place.TheVariants.{At}
 use Rattle.cany_base.specs.declared.rule.Rule.{Rule}
 use Rattle.cany_base.specs.declared.rule.Verdict.TheVariants.{Lost}
 use Rattle.cany_base.specs.Nodes.{Nodes, AllBelow}
-use Rattle.cany_base.specs.NodesLaws.{has_none}
+use Rattle.cany_base.proofs.NodesFacts.{has_none}
 use Rattle.cany_base.specs.Params.{Parameters}
 use Rattle.cany_base.specs.Scenario.{IsRuleOf}
 

@@ -5,7 +5,7 @@ use Rattle.cany_base.specs.declared.rule.Verdict.{Verdict}
 use Rattle.cany_base.specs.declared.slot_note.SlotNote.{SlotNote}
 use Rattle.cany_base.specs.Frame.{FrameParts}
 use Rattle.cany_base.specs.Nodes.{Nodes, has, those_where}
-use Rattle.cany_base.specs.NodesLaws.{has-those_where, same_as_those_where}
+use Rattle.cany_base.proofs.NodesFacts.{has-those_where, same_as_those_where}
 use Rattle.cany_model.specs.Bus.Slot.{Ruling, Script, after_share, exceeds, exchange, lets_accept, nobody, note_by, sends, share_of, slot_note_of, stopping, winner, with_stops}
 use Rattle.cany_model.specs.Bus.State.{NodeState, node_at, runs}
 use Rattle.can_arbiter.specs.declared.arbitration.Outcome.{Outcome}

@@ -2,7 +2,7 @@
 use Rattle.std.proofs.Common.{◌≡◌, ◌≢◌, ℕ, ◌≤◌, ◌+◌, ◌==◌, ◌&&◌, ◌||◌, Bool, true, false, nat_lt, refl, ap, sym, ◌∙◌, arith, inl, inr}
 use Rattle.std.proofs.lemmas.Bool.{cases_lt, cases_eq, lt-ltb, le-ltb, eq-eqb, ne_eqb}
 use Rattle.cany_base.specs.Nodes.{Nodes, has, those_where}
-use Rattle.cany_base.specs.NodesLaws.{has_none, same_as_those_where}
+use Rattle.cany_base.proofs.NodesFacts.{has_none, same_as_those_where}
 
 -- the set has the nodes below i at which the test holds
 abbrev pub SetSoFar : Nodes → ℕ → (ℕ → Bool) → Type 0

@@ -1,2 +1,2 @@
-pub mod FieldBits
-pub mod Identity
+pub mod FieldFacts
+pub mod IdentityFacts

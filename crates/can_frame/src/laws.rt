@@ -12,6 +12,7 @@ use cany_base::{Format, Frame};
 pub fn fits_format_one(frame: &Frame)
     ensures { FitsFormat One frame.now }
 {
+    // Reading the two fields gives the prover their ranges.
     let _number = frame.number;
     let _node = frame.node.get();
 }

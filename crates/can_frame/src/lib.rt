@@ -7,9 +7,9 @@ mod decoding;
 mod encoding;
 mod field;
 mod laws;
-mod sharing;
 #[cfg(test)]
 mod tests;
+mod threads;
 
 pub use class::is_remote;
 pub use decoding::{FrameFault, frame_of};

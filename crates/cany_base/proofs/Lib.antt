@@ -1,1 +1,2 @@
-pub mod PayloadRows
+pub mod NodesFacts
+pub mod PayloadFacts

@@ -1,7 +1,7 @@
 pub mod Bounded
 pub mod Frame
+pub mod Limits
 pub mod Nodes
-pub mod NodesLaws
 pub mod Params
 pub mod ParamsFields
 pub mod Payload

@@ -1,9 +1,11 @@
 -- The parameters of a scenario, their ranges and the formulas that they have to meet.
 use Rattle.std.specs.Prelude.{ℕ, ◌+◌, ◌*◌, ◌≤◌, nat_lt, if◌then◌else◌, Result, Ok, Err}
 use Rattle.cany_base.specs.declared.frame.Format.{Format}
+use Rattle.cany_base.specs.declared.frame.Format.TheVariants.{One}
 use Rattle.cany_base.specs.declared.params.ParamName.{ParamName}
 use Rattle.cany_base.specs.declared.params.ParamName.TheVariants.{Bound, Cycle, Life, Silence, Confirm}
 use Rattle.cany_base.specs.declared.params.ParamFault.{ParamFault}
+use Rattle.cany_base.specs.Limits.{greatest_lag, greatest_omit, greatest_errors, greatest_default, greatest_slots}
 
 pub record Parameters : Type 0 where
   pub format : Format
@@ -23,15 +25,15 @@ IsFrom low high value = (low ≤ value) × (value ≤ high)
 
 pub record IsInRange (p : Parameters) : Type 0 where
   pub nodes : IsFrom 2 32 p.nodes
-  pub lag : p.lag ≤ 8
-  pub omit : p.omit ≤ 8
-  pub errors : p.errors ≤ 1000
-  pub bound : IsFrom 1 4000000 p.bound
-  pub cycle : IsFrom 1 4000000 p.cycle
-  pub life : IsFrom 1 4000000 p.life
-  pub silence : IsFrom 1 4000000 p.silence
-  pub confirm : IsFrom 1 4000000 p.confirm
-  pub slots : IsFrom 1 100000 p.slots
+  pub lag : p.lag ≤ greatest_lag
+  pub omit : p.omit ≤ greatest_omit
+  pub errors : p.errors ≤ greatest_errors
+  pub bound : IsFrom 1 greatest_default p.bound
+  pub cycle : IsFrom 1 greatest_default p.cycle
+  pub life : IsFrom 1 greatest_default p.life
+  pub silence : IsFrom 1 greatest_default p.silence
+  pub confirm : IsFrom 1 greatest_default p.confirm
+  pub slots : IsFrom 1 greatest_slots p.slots
 
 -- how many Clean frames of the top classes a window of `bound + lag` slots can have
 abbrev pub top_frames : ℕ → ℕ
@@ -69,3 +71,22 @@ first_fault p =
     else if nat_lt p.silence (least_silence p.lag p.bound p.life) then fault Silence (least_silence p.lag p.bound p.life)
     else if nat_lt p.cycle p.confirm then fault Confirm p.cycle
     else Ok tt
+
+-- the parameters of so many nodes and so many slots where a text gives no others: the derived ones have their least values
+abbrev pub default_parameters : (nodes slots : ℕ) → Parameters
+default_parameters nodes slots =
+    let bound = least_bound nodes 0 2 in
+    let life = least_life 0 bound in
+    record {
+      format = One;
+      nodes = nodes;
+      lag = 0;
+      omit = 1;
+      errors = 2;
+      bound = bound;
+      cycle = least_cycle 0 bound;
+      life = life;
+      silence = least_silence 0 bound life;
+      confirm = 10;
+      slots = slots;
+    }

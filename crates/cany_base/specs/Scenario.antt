@@ -8,6 +8,7 @@ use Rattle.cany_base.specs.declared.rule.Place.TheVariants.{At, FrameNth}
 use Rattle.cany_base.specs.declared.rule.Verdict.{Verdict}
 use Rattle.cany_base.specs.declared.rule.Verdict.TheVariants.{Clean, Lost, Partial, Silent}
 use Rattle.cany_base.specs.declared.step.Step.{Step}
+use Rattle.cany_base.specs.Limits.{most_sends, most_rules, most_joins, most_leaves, greatest_attempt}
 use Rattle.cany_base.specs.Nodes.{Nodes, AllBelow}
 use Rattle.cany_base.specs.Params.{Parameters, IsInRange, MeetsFormulas}
 
@@ -20,16 +21,17 @@ pub record ScenarioParts : Type 0 where
   pub leaves : List NodeAsk
   pub journal : Option (List Step)
 
--- a scripted broadcast happens in a slot of the run, at a node of the bus
+-- a scripted send happens in a slot of the run, at a node of the bus
 abbrev pub IsSendOf : Parameters → SendAsk → Type 0
 IsSendOf p send = (send.slot < p.slots) × (send.node < p.nodes)
 
+-- so does a scripted join or leave
 abbrev pub IsAskOf : Parameters → NodeAsk → Type 0
 IsAskOf p ask = (ask.slot < p.slots) × (ask.node < p.nodes)
 
 abbrev pub IsPlaceOf : Parameters → Place → Type 0
 IsPlaceOf p (At slot) = slot < p.slots
-IsPlaceOf p (FrameNth class number node nth) = (node < p.nodes) × (1 ≤ nth) × (nth ≤ 100000)
+IsPlaceOf p (FrameNth class number node nth) = (node < p.nodes) × (1 ≤ nth) × (nth ≤ greatest_attempt)
 
 -- the set of a verdict has nodes of the bus alone
 abbrev pub IsVerdictOf : Parameters → Verdict → Type 0
@@ -43,9 +45,6 @@ pub record IsRuleOf (p : Parameters) (rule : Rule) : Type 0 where
   pub verdict : IsVerdictOf p rule.verdict
   pub stop : AllBelow p.nodes rule.stop
 
-abbrev pub HaveOnePlace : Rule → Rule → Type 0
-HaveOnePlace a b = a.place ≡ b.place
-
 pub record IsLegalScenario (s : ScenarioParts) : Type 0 where
   pub in_range : IsInRange s.params
   pub formulas : MeetsFormulas s.params
@@ -54,8 +53,8 @@ pub record IsLegalScenario (s : ScenarioParts) : Type 0 where
   pub rules : All (IsRuleOf s.params) s.rules
   pub joins : All (IsAskOf s.params) s.joins
   pub leaves : All (IsAskOf s.params) s.leaves
-  pub few_sends : length s.sends ≤ 20000
-  pub few_rules : length s.rules ≤ 20000
-  pub few_joins : length s.joins ≤ 1000
-  pub few_leaves : length s.leaves ≤ 1000
+  pub few_sends : length s.sends ≤ most_sends
+  pub few_rules : length s.rules ≤ most_rules
+  pub few_joins : length s.joins ≤ most_joins
+  pub few_leaves : length s.leaves ≤ most_leaves
   pub places : AllPairs (λ a b. a.place ≢ b.place) s.rules

@@ -42,14 +42,6 @@ impl Actions {
         Ok(Actions { list })
     }
 
-    /// How many actions the list can hold.
-    pub fn room(&self) -> usize
-        ensures room { result ≡ self.now.room }
-        ensures fits { length self.now.items ≤ result }
-    {
-        self.list.room()
-    }
-
     pub fn len(&self) -> usize
         ensures len { result ≡ length self.now.items }
         ensures fits { result ≤ self.now.room }

@@ -1,5 +1,4 @@
-ghost use Rattle.std.specs.Prelude.{◌≡◌, ◌+◌, ◌<◌, ◌≤◌, ◌↔◌, [], ◌∷◌, ◌++◌, length, slice_get, slice_set, Some, IfOk, IsTrue};
-ghost use Rattle.std.specs.List.{swap_remove};
+ghost use Rattle.std.specs.Prelude.{◌≡◌, ◌+◌, ◌<◌, ◌≤◌, [], ◌∷◌, ◌++◌, length, slice_get, slice_set, Some, IfOk};
 ghost use Rattle.cany_base.specs.Bounded.{Bounded};
 
 use crate::memory::Memory;
@@ -36,32 +35,11 @@ impl<T> BoundedVec<T> {
         Ok(BoundedVec { items, room })
     }
 
-    /// How many items the list can hold.
-    pub fn room(&self) -> usize
-        ensures room { result ≡ self.now.room }
-        ensures fits { length self.now.items ≤ result }
-    {
-        self.room
-    }
-
     pub fn len(&self) -> usize
         ensures len { result ≡ length self.now.items }
         ensures fits { result ≤ self.now.room }
     {
         self.items.len()
-    }
-
-    pub fn is_empty(&self) -> bool
-        ensures { IsTrue result ↔ (self.now.items ≡ []) }
-    {
-        self.items.is_empty()
-    }
-
-    pub fn is_full(&self) -> bool
-        ensures full { IsTrue result ↔ (self.now.room ≤ length self.now.items) }
-        ensures fits { length self.now.items ≤ self.now.room }
-    {
-        self.items.len() == self.room
     }
 
     /// How many items may still be pushed.
@@ -84,16 +62,6 @@ impl<T> BoundedVec<T> {
         ensures { self.new ≡ record { items = self.old.items ++ item ∷ []; room = self.old.room } }
     {
         self.items.push_reserved(item);
-    }
-
-    /// Removes the item at a place, which the last item takes.
-    pub fn swap_remove(&mut self, i: usize) -> T
-        requires { i < length self.old.items }
-        ensures item { slice_get self.old.items i ≡ Some result }
-        ensures items { self.new.items ≡ swap_remove self.old.items i result }
-        ensures room { self.new.room ≡ self.old.room }
-    {
-        self.items.swap_remove(i)
     }
 }
 

@@ -3,8 +3,9 @@
 
 mod actions;
 mod bounded;
+mod formulas;
 mod frame;
-pub mod laws;
+pub mod limits;
 mod log_entry;
 mod memory;
 mod message;
@@ -15,11 +16,11 @@ mod params;
 mod payload;
 mod rule;
 mod scenario;
-mod sharing;
 mod slot_note;
 mod step;
 #[cfg(test)]
 mod tests;
+mod threads;
 
 pub use actions::{Action, Actions};
 pub use bounded::BoundedVec;

@@ -17,7 +17,7 @@ pub struct MsgKey {
     pub seq: u16,
 }
 
-/// A scripted broadcast: in its turn of `slot` the node sends the payload by the service.
+/// A scripted send: in its turn of `slot` the node sends the payload by the service.
 #[derive(Clone, Copy, Debug, PartialEq, Eq)]
 pub struct SendAsk {
     pub slot: Slot,

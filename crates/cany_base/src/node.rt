@@ -34,6 +34,14 @@ impl NodeId {
         }
     }
 
+    /// The node at this index of a row of nodes.
+    pub fn of_index(i: usize) -> NodeId
+        requires { i < 32 }
+        ensures { result ≡ i }
+    {
+        NodeId { number: i as u8 }
+    }
+
     pub fn get(self) -> u8
         ensures value { result ≡ self }
         ensures in_range { result < 32 }

@@ -122,7 +122,7 @@ impl NodeSet {
     /// The node of the smallest number.
     pub fn least(self) -> Option<NodeId>
         ensures none { IfNone result ((i : ℕ) → has self i ≡ false) }
-        ensures found { IfSome result (λ node. IsTrue (has self node)) }
+        ensures has { IfSome result (λ node. IsTrue (has self node)) }
         ensures least { IfSome result (λ node. (i : ℕ) → IsTrue (has self i) → node ≤ i) }
     {
         if self.bits == 0 {

@@ -10,8 +10,8 @@ pub struct Notice {
     pub kind: NoticeKind,
 }
 
-/// What a node learns of a slot: no frame, a frame that it received, its own frame that it sent with success,
-/// or an error or a rejected frame.
+/// What a node learns of a slot: no frame, a frame that it accepted, the success of its own transmission, or an error or a
+/// rejected frame.
 #[derive(Clone, Copy, Debug, PartialEq, Eq)]
 pub enum NoticeKind {
     Idle,

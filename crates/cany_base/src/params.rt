@@ -64,7 +64,34 @@ pub struct ParamFault {
 }
 
 impl Params {
-    ghost use Rattle.cany_base.specs.Params.{Parameters, IsInRange, MeetsFormulas, first_fault};
+    ghost use Rattle.cany_base.specs.Limits as limit;
+    ghost use Rattle.cany_base.specs.Params.{IsInRange, MeetsFormulas, default_parameters, first_fault};
+
+    /// The parameters of so many nodes and so many slots where a scenario text gives no others: `lag` 0, `omit` 1, `errors`
+    /// 2, `confirm` 10, and the least legal `bound`, `cycle`, `life` and `silence`.
+    pub fn with_defaults(nodes: u8, slots: u64) -> Params
+        requires nodes { (2 ≤ nodes) × (nodes ≤ 32) }
+        requires slots { (1 ≤ slots) × (slots ≤ limit.greatest_slots) }
+        ensures value { result ≡ default_parameters nodes slots }
+        ensures ranges { IsInRange result }
+        ensures formulas { MeetsFormulas result }
+    {
+        let bound = Params::least_bound(u64::from(nodes), 0, 2);
+        let life = Params::least_life(0, bound);
+        Params {
+            format: Format::One,
+            nodes,
+            lag: 0,
+            omit: 1,
+            errors: 2,
+            bound,
+            cycle: Params::least_cycle(0, bound),
+            life,
+            silence: Params::least_silence(0, bound, life),
+            confirm: 10,
+            slots,
+        }
+    }
 
     /// Checks the formulas in their order: those of the bound, the cycle, the life interval, the silence limit and the
     /// confirm timer.
@@ -75,16 +102,14 @@ impl Params {
         let nodes = u64::from(self.nodes);
         let lag = u64::from(self.lag);
         let errors = u64::from(self.errors);
-        let top_frames = 3 * nodes * nodes + 2 * nodes;
-        let bound = 1 + top_frames + errors + lag * (top_frames + errors + nodes + 1);
+        let bound = Params::least_bound(nodes, lag, errors);
         at_least(ParamName::Bound, self.bound, bound)?;
-        at_least(ParamName::Cycle, self.cycle, 2 * self.bound + 2 * lag)?;
-        at_least(ParamName::Life, self.life, self.bound + lag)?;
-        at_least(
-            ParamName::Silence,
-            self.silence,
-            self.life + lag + self.bound + 1,
-        )?;
+        let cycle = Params::least_cycle(lag, self.bound);
+        at_least(ParamName::Cycle, self.cycle, cycle)?;
+        let life = Params::least_life(lag, self.bound);
+        at_least(ParamName::Life, self.life, life)?;
+        let silence = Params::least_silence(lag, self.bound, self.life);
+        at_least(ParamName::Silence, self.silence, silence)?;
         if self.confirm > self.cycle {
             return Err(ParamFault {
                 which: ParamName::Confirm,

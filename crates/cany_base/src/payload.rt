@@ -100,12 +100,6 @@ impl Payload {
         self.len
     }
 
-    pub fn is_empty(&self) -> bool
-        ensures { IsTrue result ↔ (self.now ≡ []) }
-    {
-        self.len == 0
-    }
-
     /// The byte at a place, counted from 0.
     pub fn byte(&self, i: u8) -> u8
         requires { i < length self.now }
@@ -119,6 +113,7 @@ impl Payload {
         ensures bytes { result ≡ vector_bytes set }
         ensures back { vector_of result ≡ Some set }
     {
+        // A vector of another format has another length.
         let Format::One = format;
         Payload::of(&set.bits().to_be_bytes()).unwrap()
     }
@@ -129,6 +124,7 @@ impl Payload {
         ensures found { IsSome result ↔ (length self.now ≡ 4) }
         ensures back { IfSome result (λ set. vector_bytes set ≡ self.now) }
     {
+        // As in `vector`.
         let Format::One = format;
         if self.len != 4 {
             return None;

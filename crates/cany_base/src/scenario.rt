@@ -91,7 +91,7 @@ impl Scenario {
         self.members
     }
 
-    /// The scripted broadcasts, in file order.
+    /// The scripted sends, in file order.
     pub fn sends(&self) -> &[SendAsk]
         ensures { result.now ≡ self.now.sends }
     {

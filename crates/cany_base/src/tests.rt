@@ -1,5 +1,5 @@
 ghost use Rattle.std.specs.Prelude.{◌≡◌, ◌⊎◌};
-ghost use Rattle.cany_base.specs.Params.{IsInRange, MeetsFormulas};
+ghost use Rattle.cany_base.specs.Params.{default_parameters};
 
 use crate::actions::{Action, Actions};
 use crate::frame::Format;
@@ -14,23 +14,9 @@ use std::alloc::Global;
 use std::test::Fail;
 
 fn three_nodes() -> Params
-    ensures nodes { result.nodes ≡ 3 }
-    ensures ranges { IsInRange result }
-    ensures formulas { MeetsFormulas result }
+    ensures { result ≡ default_parameters 3 100 }
 {
-    Params {
-        format: Format::One,
-        nodes: 3,
-        lag: 0,
-        omit: 1,
-        errors: 2,
-        bound: 36,
-        cycle: 72,
-        life: 36,
-        silence: 73,
-        confirm: 10,
-        slots: 100,
-    }
+    Params::with_defaults(3, 100)
 }
 
 fn four_nodes(bound: u64) -> Params
@@ -55,6 +41,16 @@ fn four_nodes(bound: u64) -> Params
 fn parameters_meet_their_formulas(rt: HostRuntime) {
     assert_eq!(rt; three_nodes().check(), Ok(()));
     assert_eq!(rt; four_nodes(122).check(), Ok(()));
+}
+
+#[test]
+fn defaults_are_the_least_values(rt: HostRuntime) {
+    let params = three_nodes();
+    assert_eq!(rt; params.bound, 36);
+    assert_eq!(rt; params.cycle, 72);
+    assert_eq!(rt; params.life, 36);
+    assert_eq!(rt; params.silence, 73);
+    assert_eq!(rt; params.confirm, 10);
 }
 
 #[test]
@@ -128,6 +124,7 @@ fn sets_of_nodes(rt: HostRuntime) -> Result<(), Fail> {
 fn nodes_are_below_32(rt: HostRuntime) {
     assert!(rt; NodeId::new(31).is_some());
     assert!(rt; NodeId::new(32).is_none());
+    assert_eq!(rt; NodeId::of_index(31).get(), 31);
 }
 
 #[test]

@@ -90,7 +90,7 @@ IsPut-entered omit old new e put room = record {
   omit = refl;
   room = put.room;
   there = λ q. is_there-put old new e q put;
-  spare = rw (length-keys_of omit old, length-keys_of omit new, put.room) (spare-some old.room (length old.items) (length new.items) (is_some (entry_in old.items e.key)) put.len room);
+  spare = rw (length-keys_of omit old, length-keys_of omit new, put.room) (spare-some old.room (length old.items) (length new.items) (is_some (entry_in old.items e.key)) put.grown room);
 }
 
 pub IsLearnt-entered : (omit : ℕ) (old new : Bounded Entry) (e : Entry) (key : ℕ) → IsEntered e old new → e.key ≡ key → HasRoomFor key (kept omit old)
@@ -145,7 +145,7 @@ IsForgotten-entered omit old new key put there =
         | inr other ↦ rw (ne_eqb q key other) refl
       ]);
       spare =
-          let same : length new.items ≡ length old.items = put.len ∙ (rw (there, add-zero) refl) in
+          let same : length new.items ≡ length old.items = put.grown ∙ (rw (there, add-zero) refl) in
           rw (length-keys_of omit old, length-keys_of omit new, put.room, same) refl;
     }
 

@@ -91,7 +91,7 @@ IsEntered-set old place e once is =
     let there : entry_in old.items e.key ≡ Some (get_or old.items place e) = entry_at old.items place e.key e once is.within (is.named e) in
     record {
       entries = λ q. entry_in-set old.items place e e q once is.within (is.named e);
-      len = rw (there, add-zero) (length-set old.items place e);
+      grown = rw (there, add-zero) (length-set old.items place e);
       room = refl;
     }
 
@@ -99,7 +99,7 @@ pub IsEntered-push : (old : Bounded Entry) (e : Entry) → entry_in old.items e.
     → IsEntered e old (record { items = old.items ++ e ∷ []; room = old.room })
 IsEntered-push old e none = record {
   entries = λ q. entry_in-push old.items e q none;
-  len = rw none (length-append old.items (e ∷ []));
+  grown = rw none (length-append old.items (e ∷ []));
   room = refl;
 }
 

@@ -1,2 +1,3 @@
 pub mod EagerFacts
 pub mod EntryFacts
+pub mod RoomFacts

@@ -30,5 +30,5 @@ pub record IsPlaceOf (key place : ℕ) (entries : List Entry) : Type 0 where
 -- the entry stands in place of the one of its key if there was one, and all others are as before
 pub record IsEntered (entry : Entry) (old new : Bounded Entry) : Type 0 where
   pub entries : (q : ℕ) → entry_in new.items q ≡ (if q == entry.key then Some entry else entry_in old.items q)
-  pub len : length new.items ≡ length old.items + (if is_some (entry_in old.items entry.key) then 0 else 1)
+  pub grown : length new.items ≡ length old.items + (if is_some (entry_in old.items entry.key) then 0 else 1)
   pub room : new.room ≡ old.room

@@ -19,7 +19,7 @@ pub record EagerParts : Type 0 where
   pub room : ℕ
   pub entries : List Entry
 
--- the copies of a key received since it was last forgotten
+-- the copies of a key read since it was last forgotten
 unfoldable pub copies_of : EagerParts → ℕ → ℕ
 copies_of parts key = (noted_in parts.entries key).copies
 

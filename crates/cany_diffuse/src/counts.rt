@@ -9,7 +9,7 @@ use std::marker::Model;
 #[derive(Clone, Copy, Debug, PartialEq, Eq)]
 pub(crate) struct Entry {
     pub(crate) key: u64,
-    /// The copies received since the key was last forgotten. The count stands still at the end of its type.
+    /// The copies read since the key was last forgotten. The count stands still at the end of its type.
     pub(crate) copies: u32,
     /// The node's own transmission was read since then.
     pub(crate) owned: bool,

@@ -8,7 +8,7 @@ use cany_base::Memory;
 use std::alloc::Global;
 use std::marker::{Model, PhantomData};
 
-/// The copies of values that a node received, and which of them it sent itself: the rule of eager diffusion.
+/// The copies of values that a node read, and which of the values it sent itself: the rule of eager diffusion.
 ///
 /// This project's own rule. At the first copy a node asks for the frame too, unless it has sent it itself; with more than
 /// `omit` copies it withdraws the frame.
@@ -40,7 +40,7 @@ impl<K: Diffused> Eager<K> {
         })
     }
 
-    /// Counts a received copy, and says what it calls for. Once learnt, a value is there from then on.
+    /// Counts a copy that was read, and says what it calls for. Once learnt, a value is there from then on.
     pub fn learn(&mut self, k: K) -> Learnt
         requires value { K.is_value k }
         requires room { HasRoomFor (K.key k) self.old }
@@ -63,7 +63,7 @@ impl<K: Diffused> Eager<K> {
         self.counts.put(Entry { owned: true, ..old });
     }
 
-    /// How many copies were received since the value was last forgotten.
+    /// How many copies were read since the value was last forgotten.
     pub fn copies(&self, k: &K) -> u32
         requires value { K.is_value k.now }
         ensures copies { result ≡ copies_of self.now (K.key k.now) }

@@ -1,4 +1,4 @@
-/// What a received copy calls for. The copies are those received since the value was last forgotten, this one counted.
+/// What a copy calls for. The copies are those read since the value was last forgotten, this one counted.
 #[derive(Clone, Copy, Debug, PartialEq, Eq)]
 pub enum Learnt {
     /// It is the first copy of a frame that the node has not sent itself: the node asks for the frame.

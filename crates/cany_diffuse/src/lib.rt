@@ -1,14 +1,13 @@
-//! Eager diffusion: how many copies of each frame a node received, whether it sent the frame itself, and what a received
-//! copy calls for.
+//! Eager diffusion: how many copies of each frame a node read, whether it sent the frame itself, and what a copy calls for.
 #![tactic(auto)]
 
 mod counts;
 mod diffused;
 mod eager;
 mod learnt;
-mod sharing;
 #[cfg(test)]
 mod tests;
+mod threads;
 
 pub use diffused::Diffused;
 pub use eager::Eager;

@@ -1,3 +1,3 @@
-pub mod FaultLemmas
-pub mod SinkLemmas
-pub mod SourceLemmas
+pub mod FaultFacts
+pub mod SinkFacts
+pub mod SourceFacts

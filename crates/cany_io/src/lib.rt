@@ -8,6 +8,7 @@ mod memory;
 mod sink;
 mod source;
 mod standard;
+mod threads;
 mod whole;
 
 pub use failed::Failed;

@@ -3,11 +3,10 @@ ghost use Rattle.cany_io.specs.Faults.{HasRisen, StandsStill};
 ghost use Rattle.cany_io.specs.Sink.{Takes, TakesPrefix};
 
 use crate::*;
+use cany_base::limits::MOST_TEXT_BYTES as LIMIT;
 use std::alloc::{AllocError, Global};
 use std::io;
 use std::test::Fail;
-
-const LIMIT: usize = 8_388_608;
 
 // Writes all that a source gives, as a program does, and answers with a status. That a caller can
 // say so much of both streams, with no proof of its own, is what the two contracts are for.
@@ -68,24 +67,8 @@ impl io::Write for Broken {
     }
 }
 
-fn is_send_and_sync<T: Send + Sync>(_: &T) -> bool {
-    true
-}
-
 fn list(alloc: Global, numbers: &[u32]) -> Result<Vec<u32>, AllocError> {
     numbers.to_vec(alloc)
-}
-
-#[test]
-fn streams_in_memory_go_to_other_threads(rt: HostRuntime) -> Result<(), Fail> {
-    let alloc = rt.alloc();
-    let plain = PlainSource::new(Vec::new(alloc));
-    let source = MemSource::new(Vec::new(alloc), Vec::new(alloc));
-    let sink = MemSink::new(alloc, Vec::new(alloc), 1)?;
-    assert!(rt; is_send_and_sync(&plain));
-    assert!(rt; is_send_and_sync(&source));
-    assert!(rt; is_send_and_sync(&sink));
-    Ok(())
 }
 
 #[test]

@@ -7,7 +7,7 @@ use Rattle.cany_base.specs.declared.message.Service.TheVariants.{Rel}
 use Rattle.cany_base.specs.Frame.{FrameParts}
 use Rattle.cany_base.specs.Scenario.{ScenarioParts}
 use Rattle.cany_diffuse.specs.Eager.{EagerParts, is_among, is_held, is_there, spare_of, IsCounted, IsPut, HasRoomFor}
-use Rattle.cany_diffuse.specs.EagerLaws.{room_within}
+use Rattle.cany_diffuse.proofs.RoomFacts.{room_within}
 use Rattle.cany_model.specs.Rules.Messages.{Message, messages_after, messages_of}
 use Rattle.cany_model.specs.Rules.Notices.{NamesMessage}
 use Rattle.cany_model.proofs.Among.{Among, Among-from_Contains}

@@ -8,7 +8,7 @@ use Rattle.toml.specs.Data.{Data}
 use Rattle.toml.specs.View.{view}
 use Rattle.toml.specs.declared.value.Value.{Value}
 use Rattle.cany_base.specs.Nodes.{Nodes, has, those_where, AllBelow}
-use Rattle.cany_base.specs.NodesLaws.{those_where-ext, same_as_those_where}
+use Rattle.cany_base.proofs.NodesFacts.{those_where-ext, same_as_those_where}
 use Rattle.cany_model.specs.Texts.TomlKeys.{◌>>=◌}
 use Rattle.cany_model.specs.Texts.FaultsText.{set_of}
 use Rattle.cany_replay.proofs.EntriesFacts.{from_index, from_index-more, in_front}

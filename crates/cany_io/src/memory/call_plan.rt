@@ -27,7 +27,7 @@ impl CallPlan {
     /// Counts a call, and says whether it is one of those that are to fail.
     pub fn begin(&mut self) -> bool
         ensures listed { IsTrue result ↔ FailsNext self.old.failing.items self.old.calls }
-        ensures counted { self.new ≡ record self.old { calls = next_count self.old.calls } }
+        ensures called { self.new ≡ record self.old { calls = next_count self.old.calls } }
     {
         self.calls = self.calls.saturating_add(1);
         let number = self.calls;
@@ -38,8 +38,8 @@ impl CallPlan {
 
     /// Counts a fault.
     pub fn fail(&mut self) -> Failed
-        ensures counted { self.new ≡ record self.old { faults = next_count self.old.faults } }
-        ensures risen { self.old.faults ≤ self.new.faults }
+        ensures failed { self.new ≡ record self.old { faults = next_count self.old.faults } }
+        ensures count { self.old.faults ≤ self.new.faults }
     {
         self.faults = self.faults.saturating_add(1);
         Failed

@@ -50,7 +50,7 @@ impl Source for PlainSource {
 
 // Copies bytes to the start of a buffer, as many as there are or as fit, and says how many.
 fn copy_front(bytes: &[u8], buf: &mut [u8]) -> usize
-    ensures count { result ≡ min (length bytes.now) (length buf.old) }
+    ensures filled { result ≡ min (length bytes.now) (length buf.old) }
     ensures copied { take result buf.new ≡ take result bytes.now }
 {
     let count = bytes.len().min(buf.len());

@@ -7,7 +7,7 @@ use Rattle.std.proofs.lemmas.List.Elements.{Contains-append_cases}
 use Rattle.cany_base.specs.declared.slot_note.SlotNote.{SlotNote}
 use Rattle.cany_base.specs.Frame.{FrameParts}
 use Rattle.cany_base.specs.Nodes.{has, those_where}
-use Rattle.cany_base.specs.NodesLaws.{has-those_where}
+use Rattle.cany_base.proofs.NodesFacts.{has-those_where}
 use Rattle.cany_model.specs.Bus.Slot.{Script, better, least_frame, offered, winner, lets_accept, is_success, sends, exchange, share_in, share_of, slot_note_of}
 use Rattle.cany_model.specs.Bus.State.{NodeState, RunState, node_at, runs}
 use Rattle.cany_model.specs.Bus.Frames.{same_frame, is_before}

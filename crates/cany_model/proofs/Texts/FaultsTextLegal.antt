@@ -15,7 +15,7 @@ use Rattle.cany_base.specs.declared.rule.Rule.{Rule}
 use Rattle.cany_base.specs.declared.rule.Verdict.{Verdict}
 use Rattle.cany_base.specs.declared.rule.Verdict.TheVariants.{Clean, Lost, Partial, Silent}
 use Rattle.cany_base.specs.Nodes.{Nodes, AllBelow}
-use Rattle.cany_base.specs.NodesLaws.{has-those_where}
+use Rattle.cany_base.proofs.NodesFacts.{has-those_where}
 use Rattle.cany_base.specs.Params.{Parameters, IsInRange}
 use Rattle.cany_base.specs.Scenario.{IsPlaceOf, IsVerdictOf, IsRuleOf}
 use Rattle.cany_model.specs.Texts.TomlKeys.{has_only, required, optional, number_from, each_of}

@@ -10,7 +10,7 @@ use Rattle.cany_base.specs.declared.message.SendAsk.{SendAsk}
 use Rattle.cany_base.specs.declared.frame.Format.TheVariants.{One}
 use Rattle.cany_base.specs.declared.params.ParamFault.{ParamFault}
 use Rattle.cany_base.specs.Nodes.{those_where, AllBelow}
-use Rattle.cany_base.specs.NodesLaws.{has-those_where}
+use Rattle.cany_base.proofs.NodesFacts.{has-those_where}
 use Rattle.cany_base.specs.Params.{Parameters, IsInRange, MeetsFormulas, least_bound, least_cycle, least_life, least_silence, first_fault}
 use Rattle.cany_base.specs.Scenario.{ScenarioParts, IsLegalScenario, IsSendOf}
 use Rattle.cany_model.specs.Texts.TomlKeys.{has_only, required, optional, number_from, each_of}

@@ -1,7 +1,7 @@
 use Rattle.std.proofs.Common.{◌≡◌, Some, refl, rules, ap, ◌∙◌, slice_index, is_some}
 use Rattle.cany_base.specs.Nodes.{has}
 use Rattle.can_arbiter.specs.Offers.{offer_at}
-use Rattle.can_arbiter.proofs.Winning.{IsDone, still_sends, wins}
+use Rattle.can_arbiter.proofs.WinnerFacts.{IsDone, still_sends, wins}
 use Rattle.can_arbiter.proofs.arbitration.arbitrate.Goals as goal
 
 pub returns : goal.returns
@@ -11,7 +11,7 @@ returns c =
       words = c.words.ensures;
       offers_known = c.offering.ensures.offering;
       walked = c.walk-sending.ensures;
-      sends = c.in-Some.ensures.found;
+      sends = c.in-Some.ensures.has;
       least = c.in-Some.ensures.least;
       offered = offered;
     } in (

@@ -1,4 +1,4 @@
-use Rattle.can_arbiter.proofs.Order.{walk_by_keys}
+use Rattle.can_arbiter.proofs.OrderFacts.{walk_by_keys}
 use Rattle.can_arbiter.proofs.laws.walk_orders_by_key.Goals as goal
 
 pub returns : goal.returns

@@ -1,7 +1,7 @@
 use Rattle.std.proofs.Common.{◌≡◌, ◌<◌, length, None, Some, slice_index_or, ◌∙◌, arith}
 use Rattle.std.proofs.Math.ListN.{length-set}
 use Rattle.std.proofs.lemmas.List.{get_or_default}
-use Rattle.can_arbiter.proofs.OfferRows.{one_more_word, no_more_word}
+use Rattle.can_arbiter.proofs.OfferFacts.{one_more_word, no_more_word}
 use Rattle.can_arbiter.proofs.offers.words_of.Goals as goal
 use Rattle.can_arbiter.proofs.offers.words_of.Goals.{in-Some, in_default}
 

@@ -1,5 +1,5 @@
 use Rattle.std.proofs.Common.{◌≡◌, length}
-use Rattle.can_arbiter.proofs.OfferRows.{HasWords}
+use Rattle.can_arbiter.proofs.OfferFacts.{HasWords}
 use Rattle.can_arbiter.proofs.offers.words_of.Given as goal
 
 abbrev pub invariant-loop-i : goal.invariant-loop-i

@@ -1,4 +1,4 @@
-use Rattle.can_frame.proofs.Identity.{same_identity, same_identifier}
+use Rattle.can_frame.proofs.IdentityFacts.{same_identity, same_identifier}
 use Rattle.can_frame.proofs.laws.identifier_tells_frame.Goals as goal
 
 pub returns : goal.returns

@@ -1,6 +1,6 @@
 use Rattle.std.proofs.Common.{◌+◌, ◌++◌, take, arith}
 use Rattle.std.proofs.lemmas.List.{length-take}
-use Rattle.cany_io.proofs.SourceLemmas.{Gives-append, length-append-take}
+use Rattle.cany_io.proofs.SourceFacts.{Gives-append, length-append-take}
 use Rattle.cany_io.proofs.whole.read_all.Goals as goal
 
 -- the bytes of this turn come after those of the turns before, where memory or the limit ends the reading too

@@ -1,6 +1,6 @@
 use Rattle.std.proofs.Common.{length, refl, ap, arith}
 use Rattle.std.proofs.lemmas.List.{take_rest}
-use Rattle.cany_io.proofs.SinkLemmas.{Takes-take-add}
+use Rattle.cany_io.proofs.SinkFacts.{Takes-take-add}
 use Rattle.cany_io.proofs.whole.write_whole.Goals as goal
 
 pub pieces-preserved : goal.pieces-preserved

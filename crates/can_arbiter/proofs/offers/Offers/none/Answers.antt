@@ -1,5 +1,5 @@
 use Rattle.std.proofs.Common.{refl}
-use Rattle.can_arbiter.proofs.OfferRows.{no_offer, all_fit}
+use Rattle.can_arbiter.proofs.OfferFacts.{no_offer, all_fit}
 use Rattle.can_arbiter.proofs.offers.Offers.none.Goals as goal
 
 pub invariant_of-result : goal.invariant_of-result

@@ -1,7 +1,7 @@
 use Rattle.std.proofs.Common.{◌∙◌, ap, ◌+◌, ◌*◌, ◌^◌}
 use Rattle.std.specs.Int.{bit_at}
 use Rattle.can_frame.specs.Field.{field_of}
-use Rattle.can_frame.proofs.FieldBits.{put_is, field_of-with_field, with_field-sum, bit_at-with_field}
+use Rattle.can_frame.proofs.FieldFacts.{put_is, field_of-with_field, with_field-sum, bit_at-with_field}
 use Rattle.can_frame.proofs.field.Field.put.Goals as goal
 
 pub returns-clause-taken : goal.returns-clause-taken

@@ -1,4 +1,4 @@
-use Rattle.can_frame.proofs.FieldBits.{take_is}
+use Rattle.can_frame.proofs.FieldFacts.{take_is}
 use Rattle.can_frame.proofs.field.Field.take.Goals as goal
 
 pub returns : goal.returns

@@ -3,7 +3,7 @@ use Rattle.std.proofs.Common.{◌≡◌, ℕ, ◌-◌, ◌*◌, ◌^◌, ◌%◌
 use Rattle.std.proofs.Math.Nat.{mod-eq_of_lt}
 use Rattle.std.proofs.Math.Pow.{pow-lt}
 use Rattle.cany_base.specs.Nodes.{has}
-use Rattle.cany_base.specs.NodesLaws.{has_ones, AllBelow-ones}
+use Rattle.cany_base.proofs.NodesFacts.{has_ones, AllBelow-ones}
 use Rattle.cany_base.proofs.node_set.NodeSet.all.Goals as goal
 
 shifted : (n : ℕ) → n < 32 → 1 * 2 ^ n % 4294967296 ≡ 2 ^ n

@@ -1,4 +1,4 @@
-use Rattle.cany_base.specs.NodesLaws.{AllBelow-bits}
+use Rattle.cany_base.proofs.NodesFacts.{AllBelow-bits}
 use Rattle.cany_base.proofs.node_set.NodeSet.bits.Goals as goal
 
 pub returns-clause-below : goal.returns-clause-below

@@ -1,6 +1,6 @@
 use Rattle.std.proofs.Common.{arith}
 use Rattle.cany_base.specs.Nodes.{has}
-use Rattle.cany_base.specs.NodesLaws.{count_more, has_from_test, has_not_from_test}
+use Rattle.cany_base.proofs.NodesFacts.{count_more, has_from_test, has_not_from_test}
 use Rattle.cany_base.proofs.node_set.NodeSet.count.Goals as goal
 use Rattle.cany_base.proofs.node_set.NodeSet.count.Goals.{then-self-i-eq1, else-self-i-eq1}
 

@@ -1,4 +1,4 @@
-use Rattle.cany_base.specs.NodesLaws.{has_none}
+use Rattle.cany_base.proofs.NodesFacts.{has_none}
 use Rattle.cany_base.proofs.node_set.NodeSet.empty.Goals as goal
 
 pub returns : goal.returns

@@ -1,4 +1,4 @@
-use Rattle.cany_base.specs.NodesLaws.{has_test}
+use Rattle.cany_base.proofs.NodesFacts.{has_test}
 use Rattle.cany_base.proofs.node_set.NodeSet.has.Goals as goal
 
 pub returns : goal.returns

@@ -1,4 +1,4 @@
-use Rattle.cany_base.specs.NodesLaws.{has_set}
+use Rattle.cany_base.proofs.NodesFacts.{has_set}
 use Rattle.cany_base.proofs.node_set.NodeSet.insert.Goals as goal
 
 pub returns : goal.returns

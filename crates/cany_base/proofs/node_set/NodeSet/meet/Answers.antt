@@ -1,4 +1,4 @@
-use Rattle.cany_base.specs.NodesLaws.{has_and}
+use Rattle.cany_base.proofs.NodesFacts.{has_and}
 use Rattle.cany_base.proofs.node_set.NodeSet.meet.Goals as goal
 
 pub returns : goal.returns

@@ -1,4 +1,4 @@
-use Rattle.cany_base.specs.NodesLaws.{has_or}
+use Rattle.cany_base.proofs.NodesFacts.{has_or}
 use Rattle.cany_base.proofs.node_set.NodeSet.plus.Goals as goal
 
 pub returns : goal.returns

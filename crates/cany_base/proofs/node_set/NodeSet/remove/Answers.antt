@@ -1,4 +1,4 @@
-use Rattle.cany_base.specs.NodesLaws.{has_clear}
+use Rattle.cany_base.proofs.NodesFacts.{has_clear}
 use Rattle.cany_base.proofs.node_set.NodeSet.remove.Goals as goal
 
 pub returns : goal.returns

@@ -1,7 +1,7 @@
 -- The bytes are the four that the set was made from.
 use Rattle.std.proofs.Common.{ap, ◌∙◌}
 use Rattle.cany_base.specs.Nodes.{Nodes}
-use Rattle.cany_base.proofs.PayloadRows.{bytes_of-back}
+use Rattle.cany_base.proofs.PayloadFacts.{bytes_of-back}
 use Rattle.cany_base.proofs.payload.Payload.as_vector.Goals as goal
 
 pub returns-clause-back : goal.returns-clause-back

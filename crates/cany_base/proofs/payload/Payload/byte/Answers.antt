@@ -1,4 +1,4 @@
-use Rattle.cany_base.proofs.PayloadRows.{row_of-get}
+use Rattle.cany_base.proofs.PayloadFacts.{row_of-get}
 use Rattle.cany_base.proofs.payload.Payload.byte.Goals as goal
 
 pub returns : goal.returns

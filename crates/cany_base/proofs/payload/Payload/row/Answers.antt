@@ -1,4 +1,4 @@
-use Rattle.cany_base.proofs.PayloadRows.{row_of-kept}
+use Rattle.cany_base.proofs.PayloadFacts.{row_of-kept}
 use Rattle.cany_base.proofs.payload.Payload.row.Goals as goal
 
 pub returns-clause-row : goal.returns-clause-row

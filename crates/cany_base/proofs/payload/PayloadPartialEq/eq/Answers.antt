@@ -1,6 +1,6 @@
 -- Of one length, the bytes are equal where the rows are.
 use Rattle.std.proofs.Common.{◌≡◌, length, sym, ◌∙◌}
-use Rattle.cany_base.proofs.PayloadRows.{rows_decide, length-bytes_of}
+use Rattle.cany_base.proofs.PayloadFacts.{rows_decide, length-bytes_of}
 use Rattle.cany_base.proofs.payload.PayloadPartialEq.eq.Goals as goal
 
 pub returns-then-self-other : goal.returns-then-self-other

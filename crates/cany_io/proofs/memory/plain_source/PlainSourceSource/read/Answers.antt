@@ -1,6 +1,6 @@
 use Rattle.std.proofs.Common.{◌++◌, ◌+◌, drop, sym, ap, ◌∙◌}
 use Rattle.std.proofs.lemmas.List.{take_rest}
-use Rattle.cany_io.proofs.SourceLemmas.{take-append-drop-add}
+use Rattle.cany_io.proofs.SourceFacts.{take-append-drop-add}
 use Rattle.cany_io.proofs.memory.plain_source.PlainSourceSource.read.Goals as goal
 
 -- the copied bytes stand before those that are left

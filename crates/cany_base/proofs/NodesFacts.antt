@@ -1,4 +1,4 @@
--- Laws of sets of nodes: membership after each operation, and when two sets are equal.
+-- Sets of nodes: membership after each operation, and when two sets are equal.
 use Rattle.std.proofs.Common.{◌≡◌, ◌≢◌, ℕ, zero, suc, ◌+◌, ◌-◌, ◌*◌, ◌%◌, ◌/◌, ◌^◌, ◌<◌, ◌≤◌, ◌==◌, ◌&&◌, ◌||◌, inl, inr, List, [], ◌∷◌, map, min, max, Bool, true, false, not, nat_lt, nat_eq, if◌then◌else◌, IsTrue, refl, ap, sym, ◌∙◌, bit_and, bit_or, w32, arith, add-zero}
 use Rattle.std.proofs.Math.Nat.{two-pow-succ}
 use Rattle.std.specs.Int.{bit_at, bit_not, trailing_zeros}
@@ -190,10 +190,6 @@ pub has-those_where : (test : ℕ → Bool) (i : ℕ) → has (those_where test)
 unfolding those_where
 has-those_where test i = has-bits_where test 32 i
 
-pub bits-those_where-lt : (test : ℕ → Bool) → (those_where test).bits < 2 ^ 32
-unfolding those_where
-bits-those_where-lt test = bits_where-lt test 32
-
 bits_where-ext : (p q : ℕ → Bool) (n : ℕ) → ((i : ℕ) → i < n → p i ≡ q i) → bits_where p n ≡ bits_where q n
 unfolding bits_where
 bits_where-ext p q zero same = refl
@@ -212,18 +208,6 @@ AllBelow-bits nodes small i h = elim (cases_lt i 32) [
   | inl below ↦ below
   | inr above ↦ absurd (false≢true (sym (has_above nodes.bits i small above) ∙ h))
 ]
-
-pub AllBelow-those_where : (test : ℕ → Bool) → AllBelow 32 (those_where test)
-AllBelow-those_where test = AllBelow-bits (those_where test) (bits-those_where-lt test)
-
-both_below : (i : ℕ) (t : Bool) → (t ≡ true → i < 32) → (nat_lt i 32 && t) ≡ t
-both_below i true below = rw (lt-ltb i 32 (below refl)) refl
-both_below i false below = elim (nat_lt i 32) as (λ b. (b && false) ≡ false) [ true ↦ refl | false ↦ refl ]
-
--- a set of 32 bits is the set of those that it has
-pub those_where-has : (nodes : Nodes) → nodes.bits < 2 ^ 32 → those_where (has nodes) ≡ nodes
-those_where-has nodes small = same_nodes (those_where (has nodes)) nodes (λ i.
-    has-those_where (has nodes) i ∙ both_below i (has nodes i) (AllBelow-bits nodes small i))
 
 map_same : (xs : List ℕ) → map (λ x. x) xs ≡ xs
 map_same [] = refl

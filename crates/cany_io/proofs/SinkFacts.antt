@@ -17,10 +17,6 @@ Takes-append old mid new xs ys first second = rw (second, first) (append_known-a
 pub Takes-take-add : (old mid new : Option (List ℕ)) (bytes : List ℕ) (i n : ℕ) → Takes old (take i bytes) mid → Takes mid (take n (drop i bytes)) new → Takes old (take (i + n) bytes) new
 Takes-take-add old mid new bytes i n first second = rw (take-add i n bytes) (Takes-append old mid new (take i bytes) (take n (drop i bytes)) first second)
 
--- all bytes are a prefix
-pub TakesPrefix-all : (old new : Option (List ℕ)) (xs : List ℕ) → Takes old xs new → TakesPrefix old xs new
-TakesPrefix-all old new xs taken = (length xs, omega arith, rw take-length taken)
-
 -- a prefix of bytes is one of a longer list
 pub TakesPrefix-append : (old new : Option (List ℕ)) (xs ys : List ℕ) → TakesPrefix old xs new → TakesPrefix old (xs ++ ys) new
 TakesPrefix-append old new xs ys (n, within, taken) = (n, omega (arith, length-append xs ys), rw take-append-le taken)

@@ -27,14 +27,6 @@ leads_too offering word place i k h o same = record {
   least = λ m p. omega (arith, h.least m p);
 }
 
--- no bit is walked yet
-pub none_walked : (offering : ℕ → Bool) (word : ℕ → ℕ) → ((i : ℕ) → word i < 2 ^ 32) → IsWalked offering offering word 32
-none_walked offering word fits = record {
-  leads = λ i s. record { offers = s; least = λ k o. omega (arith, fits i) };
-  stays = λ i h. h.offers;
-  nobody = λ h. h;
-}
-
 -- where all send recessive, nobody stops
 pub all_recessive : (offering sending : ℕ → Bool) (word : ℕ → ℕ) (place : ℕ) → IsWalked offering sending word (place + 1) → ((i : ℕ) → IsTrue (sending i) → bit_at (word i) place ≡ 1) → IsWalked offering sending word place
 all_recessive offering sending word place walked recessive = record {

@@ -5,7 +5,7 @@ use Rattle.can_arbiter.specs.Levels.{levels_of}
 use Rattle.can_arbiter.specs.Offers.{OfferRow, offer_at}
 use Rattle.can_arbiter.specs.Outcome.{IsWinner}
 use Rattle.can_arbiter.specs.Walk.{Leads, IsWalked}
-use Rattle.can_arbiter.proofs.Order.{keys_at_most, levels_same}
+use Rattle.can_arbiter.proofs.OrderFacts.{keys_at_most, levels_same}
 
 -- the walk over the offers is done, and the first of those that still send offers the frame
 pub record IsDone (offers : OfferRow) (offering sending : ℕ → Bool) (word : ℕ → ℕ) (first : ℕ) (frame : FrameParts) : Type 0 where

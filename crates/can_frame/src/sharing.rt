@@ -1,9 +1,0 @@
-//! What a worker holds of this crate may move to another thread and be shared among threads.
-
-use crate::decoding::FrameFault;
-
-fn crosses_threads<T: Send + Sync>() {}
-
-fn all_cross_threads() {
-    crosses_threads::<FrameFault>();
-}

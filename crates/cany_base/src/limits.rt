@@ -1,0 +1,66 @@
+//! The limits of scenarios, texts and reports: the numbers of `specs/Limits.antt`, in the types in which code uses them.
+
+ghost use Rattle.std.specs.Prelude.{◌≡◌};
+ghost use Rattle.cany_base.specs.Limits as limit;
+
+/// The greatest error counter with which a node still runs, in errors. Above it a controller of the CAN Specification
+/// (2.0 Part B, 8) is error passive, and a node of this project stops.
+pub const GREATEST_ERROR_COUNTER: u32 = 127;
+
+/// The most scripted sends of a scenario, by the form of its text.
+pub const MOST_SENDS: usize = 20_000;
+
+/// The most fault rules of a scenario, by the form of its text.
+pub const MOST_RULES: usize = 20_000;
+
+/// The most scripted joins of a scenario, by the form of its text.
+pub const MOST_JOINS: usize = 1_000;
+
+/// The most scripted leaves of a scenario, by the form of its text.
+pub const MOST_LEAVES: usize = 1_000;
+
+/// The greatest `lag`, in unread notices.
+pub const GREATEST_LAG: u64 = 8;
+
+/// The greatest `omit`, in Partial slots of an identity.
+pub const GREATEST_OMIT: u64 = 8;
+
+/// The greatest `errors`, in Lost or Partial slots of a window.
+pub const GREATEST_ERRORS: u64 = 1_000;
+
+/// The greatest `bound`, `cycle`, `life`, `silence` or `confirm` that a scenario text may give, in slots.
+pub const GREATEST_GIVEN: u64 = 1_000_000;
+
+/// The greatest value, in slots, of one of these where the text leaves it to its default. A default is computed from
+/// values that the text gives, so it may exceed `GREATEST_GIVEN`.
+pub const GREATEST_DEFAULT: u64 = 4_000_000;
+
+/// The length of the longest run in format one, in slots.
+pub const GREATEST_SLOTS: u64 = 100_000;
+
+/// The greatest attempt that a fault rule may name, counted from 1: a run has no more attempts than slots.
+pub const GREATEST_ATTEMPT: u64 = 100_000;
+
+/// The most bytes of a scenario text.
+pub const MOST_TEXT_BYTES: usize = 8_388_608;
+
+/// The most bytes of a report line, its newline counted: the length of the buffer in which a line is made.
+pub const MOST_LINE_BYTES: usize = 1_024;
+
+/// The limits of code are those of the definitions.
+pub fn are_those_of_the_definitions()
+    ensures error_counter { GREATEST_ERROR_COUNTER ≡ limit.greatest_error_counter }
+    ensures sends { MOST_SENDS ≡ limit.most_sends }
+    ensures rules { MOST_RULES ≡ limit.most_rules }
+    ensures joins { MOST_JOINS ≡ limit.most_joins }
+    ensures leaves { MOST_LEAVES ≡ limit.most_leaves }
+    ensures lag { GREATEST_LAG ≡ limit.greatest_lag }
+    ensures omit { GREATEST_OMIT ≡ limit.greatest_omit }
+    ensures errors { GREATEST_ERRORS ≡ limit.greatest_errors }
+    ensures given { GREATEST_GIVEN ≡ limit.greatest_given }
+    ensures default { GREATEST_DEFAULT ≡ limit.greatest_default }
+    ensures slots { GREATEST_SLOTS ≡ limit.greatest_slots }
+    ensures attempt { GREATEST_ATTEMPT ≡ limit.greatest_attempt }
+    ensures text_bytes { MOST_TEXT_BYTES ≡ limit.most_text_bytes }
+    ensures line_bytes { MOST_LINE_BYTES ≡ limit.most_line_bytes }
+{}
