@@ -3,38 +3,13 @@
 
 use cany_io::{Failed, StdSink, StdSource, write_whole};
 use cany_replay::replay_top;
-use std::alloc::AllocError;
+use cany_replay::status::{
+    DONE, NO_MEMORY, OTHER_WORDS, READ_FAULT, REFUSED, TOO_LONG, WRITE_FAULT,
+};
+use std::alloc::{AllocError, Global};
 use std::process::ExitCode;
 use std::{env, io};
 use thiserror::Error;
-
-// The statuses that the program ends with before any call.
-const DONE: u8 = 0;
-
-const OTHER_WORDS: u8 = 2;
-
-const WRITE_FAULT: u8 = 5;
-
-const NO_MEMORY: u8 = 6;
-
-const HELP: &str = "\
-Runs scenarios of reliable broadcast on one CAN bus.
-
-usage: canely replay < SCENARIO > REPORT
-       canely --help
-       canely --version
-
-replay reads a scenario, runs it by its own journal or, where it has none, by the round robin
-journal, and writes the report of the run.
-
-status 0  done
-       2  the words are none of these
-       3  the scenario or its journal was refused, and one line says so
-       4  reading failed
-       5  writing failed
-       6  out of memory, and nothing was written
-       7  more than 8388608 bytes were read
-";
 
 const VERSION: &str = "canely 1\n";
 
@@ -67,16 +42,41 @@ impl From<AllocError> for WordsFault {
 /// The words after the program's name.
 fn words_of(rt: &HostRuntime) -> Result<Vec<String>, WordsFault> {
     let mut args = env::args(rt)?;
+    // The first is the program's name.
     let _program = args.next();
     Ok(args.collect(rt.alloc())?)
 }
 
+/// What the program is for, and what its words and statuses are.
+fn help(alloc: Global) -> Result<String, AllocError> {
+    format!(in alloc;
+        "\
+Runs scenarios of reliable broadcast on one CAN bus.
+
+usage: canely replay < SCENARIO > REPORT
+       canely --help
+       canely --version
+
+replay reads a scenario, runs it by its own journal or, where it has none, by the round robin
+journal, and writes the report of the run.
+
+status {DONE}  done
+       {OTHER_WORDS}  the words are none of these
+       {REFUSED}  the scenario or its journal was refused, and one line says so
+       {READ_FAULT}  reading failed
+       {WRITE_FAULT}  writing failed
+       {NO_MEMORY}  out of memory, and nothing was written
+       {TOO_LONG}  more than 8388608 bytes were read
+"
+    )
+}
+
 /// The text that the words ask for, where they are `--help` or `--version` alone.
-fn text_for(words: &[String]) -> Option<&'static str> {
+fn text_for(alloc: Global, words: &[String]) -> Result<Option<String>, AllocError> {
     match words {
-        [word] if word.as_str() == "--help" => Some(HELP),
-        [word] if word.as_str() == "--version" => Some(VERSION),
-        _ => None,
+        [word] if word.as_str() == "--help" => Ok(Some(help(alloc)?)),
+        [word] if word.as_str() == "--version" => Ok(Some(String::from_str(alloc, VERSION)?)),
+        _ => Ok(None),
     }
 }
 
@@ -94,8 +94,10 @@ fn run(rt: &HostRuntime) -> u8 {
         Err(WordsFault::Memory) => return NO_MEMORY,
         Err(WordsFault::Other) => return OTHER_WORDS,
     };
-    if let Some(text) = text_for(&words) {
-        return print(rt, text);
+    match text_for(rt.alloc(), &words) {
+        Ok(Some(text)) => return print(rt, text.as_str()),
+        Ok(None) => {}
+        Err(AllocError) => return NO_MEMORY,
     }
     let mut source = StdSource::new(rt.stdin());
     let mut sink = StdSink::new(rt.stdout());
@@ -105,3 +107,6 @@ fn run(rt: &HostRuntime) -> u8 {
 fn main(rt: HostRuntime) -> ExitCode {
     ExitCode::from(run(&rt))
 }
+
+#[cfg(test)]
+mod tests;

@@ -6,5 +6,6 @@ pub mod Refusal
 pub mod ReportParts
 pub mod RunFaults
 pub mod Sets
+pub mod Status
 pub mod Top
 pub mod Written

@@ -17,7 +17,7 @@ unfoldable pub bus_text : ScenarioParts → RunState → List ℕ
 bus_text scenario s = concat (bus_lines s.trace) ++ hypothesis_line (first_break scenario.params s.trace)
 
 -- what the nodes and the messages came to
-unfoldable pub outcome_text : ScenarioParts → RunState → List ℕ
-outcome_text scenario s =
+unfoldable pub nodes_and_messages_text : ScenarioParts → RunState → List ℕ
+nodes_and_messages_text scenario s =
     concat (flat_map (node_lines scenario s) (range_with_len 0 scenario.params.nodes))
     ++ (concat (message_lines scenario s) ++ line_of (codes "end" ∷ []))

@@ -41,10 +41,8 @@ answer_of bytes = option_map_or answer_for (scenario_of bytes) later_form_line
 abbrev pub replayed : ScenarioParts → RunState
 replayed scenario = run scenario (journal_of scenario)
 
--- what success says of the scenario and of what the sink had taken before and has taken now
-pub record IsReplay (scenario : ScenarioParts) (old new : Option (List ℕ)) : Type 0 where
-  -- the report of the run was written
-  pub written : Takes old (report scenario (journal_of scenario)) new
+-- what is promised of that run
+pub record KeepsPromises (scenario : ScenarioParts) : Type 0 where
   -- each step of the journal could be done, and at its end all slots ran and nothing is left unread
   pub legal : IsLegal scenario (journal_of scenario)
   pub whole : IsWhole scenario (journal_of scenario)
@@ -52,3 +50,9 @@ pub record IsReplay (scenario : ScenarioParts) (old new : Option (List ℕ)) : T
   pub integrity : IsIntegral scenario (replayed scenario)
   -- what a run within the fault hypothesis keeps
   pub safe : IsWithin scenario.params (replayed scenario).trace → IsSafe scenario (replayed scenario)
+
+-- what success says of the scenario and of what the sink had taken before and has taken now
+pub record IsReplay (scenario : ScenarioParts) (old new : Option (List ℕ)) : Type 0 where
+  -- the report of the run was written
+  pub written : Takes old (report scenario (journal_of scenario)) new
+  pub promises : KeepsPromises scenario

@@ -4,6 +4,7 @@
 mod reader;
 mod report;
 mod run;
+pub mod status;
 mod top;
 
 pub use top::replay_top;

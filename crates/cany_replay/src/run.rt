@@ -2,10 +2,11 @@
 ghost use Rattle.std.specs.Prelude.{◌≡◌, IfOk, IfErr, Some, None};
 ghost use Rattle.cany_model.specs.Bus.Follow.{journal_of};
 ghost use Rattle.cany_replay.specs.RunFaults.{IfJournal};
-ghost use Rattle.cany_replay.specs.Top.{own_fault};
+ghost use Rattle.cany_replay.specs.Top.{KeepsPromises, own_fault};
 
 use cany_base::Scenario;
 use cany_model::FollowFault;
+use cany_model::laws::{followed_journals, round_robin_is_whole};
 use cany_world::{World, follow, round_robin};
 use std::alloc::Global;
 use thiserror::Error;
@@ -28,17 +29,26 @@ pub(crate) enum RunFault {
 pub(crate) fn run(alloc: Global, scenario: &Scenario) -> Result<World, RunFault>
     ensures ended { IfOk result (λ world. world ≡ record { scenario = scenario.now; journal = journal_of scenario.now }) }
     ensures followed { IfOk result (λ _. own_fault scenario.now ≡ None) }
+    ensures promises { IfOk result (λ _. KeepsPromises scenario.now) }
     ensures refused { IfErr result (λ fault. IfJournal fault (λ found. own_fault scenario.now ≡ Some found)) }
 {
+    // The laws by which the journal that is made or followed is legal and whole.
+    round_robin_is_whole();
+    followed_journals();
     let Ok(mut world) = World::build(alloc, scenario) else {
         return Err(RunFault::Memory);
     };
     let Some(journal) = scenario.journal() else {
         round_robin(&mut world);
+        // What this call says of the run is a part of the contract here, too.
+        world.hypothesis();
         return Ok(world);
     };
     match follow(&mut world, journal) {
-        Ok(()) => Ok(world),
+        Ok(()) => {
+            world.hypothesis();
+            Ok(world)
+        }
         Err(fault) => Err(RunFault::Journal(fault)),
     }
 }

@@ -1,4 +1,5 @@
 use crate::replay_top;
+use crate::status::{DONE, OTHER_WORDS, READ_FAULT, REFUSED, TOO_LONG, WRITE_FAULT};
 use cany_io::{MemSink, MemSource, PlainSource};
 use std::alloc::{AllocError, Global};
 use std::test::Fail;
@@ -12,7 +13,7 @@ mod words;
 /// More bytes than any report here has.
 const ROOM: usize = 65_536;
 
-/// A broadcast of node 0 in slot 0.
+/// A send of node 0 in slot 0.
 const SEND: &str = "
 [[send]]
 slot = 0

@@ -7,11 +7,13 @@ ghost use Rattle.cany_model.specs.Bus.Follow.{journal_of};
 ghost use Rattle.cany_model.specs.Texts.RefusalLines.{later_form_line, journal_refusal_line};
 ghost use Rattle.cany_model.specs.Texts.Report.{report};
 ghost use Rattle.cany_model.specs.Texts.ScenarioText.{scenario_of};
-ghost use Rattle.cany_replay.specs.Top.{AreReplay, IsReplay, own_fault, refusal_of, answer_for, answer_of};
+ghost use Rattle.cany_replay.specs.Status.{HasAnswered, HasNoAnswer};
+ghost use Rattle.cany_replay.specs.Top.{AreReplay, IsReplay, KeepsPromises, own_fault, refusal_of, answer_for, answer_of};
 
 use crate::reader::{ReadRefusal, read_scenario};
 use crate::report::{write_journal_refusal, write_later_form, write_report};
 use crate::run::{RunFault, run};
+use crate::status::{DONE, NO_MEMORY, OTHER_WORDS, READ_FAULT, REFUSED, TOO_LONG, WRITE_FAULT};
 use cany_base::Scenario;
 use cany_io::{Failed, ReadFault, Sink, Source, read_all};
 use cany_model::FollowFault;
@@ -20,21 +22,6 @@ use std::alloc::Global;
 
 /// How many bytes a scenario text has at most.
 const LIMIT: usize = 8_388_608;
-
-// The statuses.
-const DONE: u8 = 0;
-
-const OTHER_WORDS: u8 = 2;
-
-const REFUSED: u8 = 3;
-
-const READ_FAULT: u8 = 4;
-
-const WRITE_FAULT: u8 = 5;
-
-const NO_MEMORY: u8 = 6;
-
-const TOO_LONG: u8 = 7;
 
 fn is_replay(words: &[String]) -> bool
     ensures { IsTrue result ↔ AreReplay (map string_bytes words.now) }
@@ -88,6 +75,7 @@ fn refuse_journal<K: Sink>(fault: &FollowFault, sink: &mut K) -> u8
 fn replay_scenario<K: Sink>(alloc: Global, scenario: &Scenario, sink: &mut K) -> u8
     ensures done { result ≡ DONE → Takes (K.taken sink.old) (report scenario.now (journal_of scenario.now)) (K.taken sink.new) }
     ensures followed { result ≡ DONE → own_fault scenario.now ≡ None }
+    ensures promises { result ≡ DONE → KeepsPromises scenario.now }
     ensures refused { result ≡ REFUSED → IsSomeAnd (own_fault scenario.now) (λ fault. Takes (K.taken sink.old) (journal_refusal_line fault) (K.taken sink.new)) }
     ensures write_fault { result ≡ WRITE_FAULT → HasRisen (K.faults sink.old) (K.faults sink.new) }
     ensures prefix { result ≡ WRITE_FAULT → TakesPrefix (K.taken sink.old) (answer_for scenario.now) (K.taken sink.new) }
@@ -104,7 +92,7 @@ fn replay_scenario<K: Sink>(alloc: Global, scenario: &Scenario, sink: &mut K) ->
 /// Replays the scenario of a text, or refuses the text.
 fn replay_text<K: Sink>(alloc: Global, text: &[u8], sink: &mut K) -> u8
     ensures done { result ≡ DONE → IsSomeAnd (scenario_of text.now) (λ scenario. IsReplay scenario (K.taken sink.old) (K.taken sink.new)) }
-    ensures accepted { result ≡ DONE → refusal_of text.now ≡ None }
+    ensures not_refused { result ≡ DONE → refusal_of text.now ≡ None }
     ensures refused { result ≡ REFUSED → IsSomeAnd (refusal_of text.now) (λ line. Takes (K.taken sink.old) line (K.taken sink.new)) }
     ensures write_fault { result ≡ WRITE_FAULT → HasRisen (K.faults sink.old) (K.faults sink.new) }
     ensures prefix { result ≡ WRITE_FAULT → TakesPrefix (K.taken sink.old) (answer_of text.now) (K.taken sink.new) }
@@ -119,58 +107,50 @@ fn replay_text<K: Sink>(alloc: Global, text: &[u8], sink: &mut K) -> u8
 }
 
 /// Replays: reads a scenario text from the source, runs the scenario by its own journal or, where it has none, by its round
-/// robin journal, and writes the report to the sink, a line at a time. It answers the status of the program:
-///
-/// | status | |
-/// |---|---|
-/// | 0 | the report was written |
-/// | 2 | the words are not the one word `replay`; nothing was read or written |
-/// | 3 | the text stands for no scenario of the form that is read so far, or a step of the scenario's journal could not be done, or slots or notices are left at its end; the line of the refusal was written |
-/// | 4 | the source failed; nothing was written |
-/// | 5 | the sink failed; what it took is the start of what 0 or 3 would write |
-/// | 6 | there was no memory; nothing was written |
-/// | 7 | the source has more than 8,388,608 bytes; nothing was written |
+/// robin journal, and writes the report to the sink, a line at a time. It answers the status of the program, one of those in
+/// `status`. The words are the one word `replay`; causes are looked at in this order: the words, the reading, the text, the
+/// journal, the writing.
 pub fn replay_top<S: Source, K: Sink>(
     alloc: Global,
     words: &[String],
     source: &mut S,
     sink: &mut K,
 ) -> u8
-    // The words alone decide on 2.
-    ensures words { (result ≡ 2) ↔ (AreReplay (map string_bytes words.now) → ⊥) }
-    ensures unread { result ≡ 2 → source.new ≡ source.old }
+    // The words alone decide on this status.
+    ensures words { (result ≡ OTHER_WORDS) ↔ (AreReplay (map string_bytes words.now) → ⊥) }
+    ensures unread { result ≡ OTHER_WORDS → source.new ≡ source.old }
 
     // Success. Here and below, `bytes` are all that the source had.
-    ensures done { result ≡ 0 → IfSome (S.left source.old) (λ bytes. IsSomeAnd (scenario_of bytes) (λ scenario.
+    ensures done { result ≡ DONE → IfSome (S.left source.old) (λ bytes. IsSomeAnd (scenario_of bytes) (λ scenario.
         IsReplay scenario (K.taken sink.old) (K.taken sink.new))) }
 
     // The text or the journal is refused.
-    ensures refused { result ≡ 3 → IfSome (S.left source.old) (λ bytes. IsSomeAnd (refusal_of bytes) (λ line.
+    ensures refused { result ≡ REFUSED → IfSome (S.left source.old) (λ bytes. IsSomeAnd (refusal_of bytes) (λ line.
         Takes (K.taken sink.old) line (K.taken sink.new))) }
 
     // The streams fail.
-    ensures read_fault { result ≡ 4 → HasRisen (S.faults source.old) (S.faults source.new) }
-    ensures write_fault { result ≡ 5 → HasRisen (K.faults sink.old) (K.faults sink.new) }
-    ensures prefix { result ≡ 5 → IfSome (S.left source.old) (λ bytes. TakesPrefix (K.taken sink.old) (answer_of bytes) (K.taken sink.new)) }
+    ensures read_fault { result ≡ READ_FAULT → HasRisen (S.faults source.old) (S.faults source.new) }
+    ensures write_fault { result ≡ WRITE_FAULT → HasRisen (K.faults sink.old) (K.faults sink.new) }
+    ensures prefix { result ≡ WRITE_FAULT → IfSome (S.left source.old) (λ bytes. TakesPrefix (K.taken sink.old) (answer_of bytes) (K.taken sink.new)) }
 
     // The source has too many bytes, or all of them were read.
-    ensures too_long { result ≡ 7 → IfSome (S.left source.old) (λ bytes. 8388608 < length bytes) }
-    ensures fits { (result ≡ 0) ⊎ (result ≡ 3) ⊎ (result ≡ 5) → IfSome (S.left source.old) (λ bytes. length bytes ≤ 8388608) }
-    ensures drained { (result ≡ 0) ⊎ (result ≡ 3) ⊎ (result ≡ 5) → IsAtEnd (S.left source.new) }
+    ensures too_long { result ≡ TOO_LONG → IfSome (S.left source.old) (λ bytes. 8388608 < length bytes) }
+    ensures fits { HasAnswered result → IfSome (S.left source.old) (λ bytes. length bytes ≤ 8388608) }
+    ensures drained { HasAnswered result → IsAtEnd (S.left source.new) }
 
     // Nothing else writes.
-    ensures unwritten { (result ≡ 2) ⊎ (result ≡ 4) ⊎ (result ≡ 6) ⊎ (result ≡ 7) → sink.new ≡ sink.old }
-    ensures status { (result ≡ 0) ⊎ (result ≡ 2) ⊎ (result ≡ 3) ⊎ (result ≡ 4) ⊎ (result ≡ 5) ⊎ (result ≡ 6) ⊎ (result ≡ 7) }
+    ensures unwritten { HasNoAnswer result → sink.new ≡ sink.old }
+    ensures status { HasAnswered result ⊎ HasNoAnswer result }
 
     // Where neither stream fails, the text decides, but for want of memory.
     ensures complete { AreReplay (map string_bytes words.now)
         → StandsStill (S.faults source.old) (S.faults source.new)
         → StandsStill (K.faults sink.old) (K.faults sink.new)
         → IfSome (S.left source.old) (λ bytes. length bytes ≤ 8388608
-        → (result ≡ 6) ⊎ MatchOption (refusal_of bytes) (result ≡ 0) (λ _. result ≡ 3)) }
+        → (result ≡ NO_MEMORY) ⊎ MatchOption (refusal_of bytes) (result ≡ DONE) (λ _. result ≡ REFUSED)) }
     ensures complete_too_long { AreReplay (map string_bytes words.now)
         → StandsStill (S.faults source.old) (S.faults source.new)
-        → IfSome (S.left source.old) (λ bytes. 8388608 < length bytes → (result ≡ 6) ⊎ (result ≡ 7)) }
+        → IfSome (S.left source.old) (λ bytes. 8388608 < length bytes → (result ≡ NO_MEMORY) ⊎ (result ≡ TOO_LONG)) }
 {
     if !is_replay(words) {
         return OTHER_WORDS;

@@ -49,7 +49,7 @@ fn joined(alloc: Global, texts: &[Value]) -> Result<Vec<Step>, ReadRefusal>
 /// Appends the steps that the letters write.
 fn push_steps(steps: &mut Vec<Step>, letters: &[u8]) -> Result<(), ReadRefusal>
     ensures ok { IfOk result (λ _. after steps.old.items (steps_of letters.now) ≡ Some steps.new.items) }
-    ensures later { IfErr result (λ refusal. IfLater refusal (steps_of letters.now ≡ None)) }
+    ensures later { IfErr result (λ refusal. IfLater refusal (after steps.old.items (steps_of letters.now) ≡ None)) }
 {
     for letter in letters {
         let Some(step) = step_of(*letter) else {

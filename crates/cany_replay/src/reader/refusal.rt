@@ -4,17 +4,17 @@ ghost use Rattle.cany_replay.specs.declared.reader.refusal.ReadRefusal.TheVarian
 use std::alloc::{AllocError, AllocFailed};
 use thiserror::Error;
 
-/// What a text would have to be for the reader to take it.
+/// What a text is of, that the reader does not read yet.
 #[derive(Clone, Copy, Debug, PartialEq, Eq)]
 pub(crate) enum LaterName {
-    /// Another form of the scenario text: one that a later version may take, or none at all.
+    /// Another form of the scenario text: one that a later version may read, or none at all.
     Form,
 }
 
 /// Why a text gave no scenario.
 #[derive(Clone, Copy, Debug, PartialEq, Eq, Error)]
 pub(crate) enum ReadRefusal {
-    /// The bytes are not a scenario of the form that the reader takes so far.
+    /// The bytes are not a scenario of the form that is read so far.
     #[error("not a scenario text of the form that is read so far")]
     Later { name: LaterName },
     #[error("out of memory")]

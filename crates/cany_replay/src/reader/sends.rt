@@ -1,4 +1,4 @@
-//! The scripted broadcasts of a scenario text.
+//! The scripted sends of a scenario text.
 ghost use Rattle.std.specs.Prelude.{◌≡◌, [], codes, IfOk, IfErr, Some, None};
 ghost use Rattle.toml.specs.View.{view, items_view, table_view};
 ghost use Rattle.cany_model.specs.Texts.TomlKeys.{optional, each_of};
@@ -20,7 +20,7 @@ const MOST_SENDS: usize = 20_000;
 /// How many digits a payload can have.
 const MOST_DIGITS: usize = 16;
 
-/// The broadcasts that the top key `send` lists, in file order: none where the key is absent.
+/// The sends that the top key `send` lists, in file order: none where the key is absent.
 pub(crate) fn read_sends(
     alloc: Global,
     params: &Params,

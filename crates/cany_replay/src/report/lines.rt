@@ -210,7 +210,7 @@ pub fn write_entry<K: Sink>(entry: &LogEntry, sink: &mut K) -> Result<(), Failed
     }
 }
 
-/// Writes the line of a scripted broadcast's message, which has this sequence number.
+/// Writes the line of the message of a send, which has this sequence number.
 #[tactic(auto, unfolding(cany_model::specs::Texts::ReportLines::message_line))]
 pub fn write_message<K: Sink>(
     send: &SendAsk,

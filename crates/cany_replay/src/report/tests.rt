@@ -10,6 +10,7 @@ use super::lines::{
     write_steps,
 };
 use super::{write_journal_refusal, write_later_form, write_report};
+use crate::status::{DONE, WRITE_FAULT};
 use cany_base::{
     Class, Format, Frame, LogEntry, MsgKey, NodeId, NodeSet, Params, Payload, SendAsk, Service,
     SlotNote, Step, Verdict,
@@ -24,15 +25,15 @@ use std::test::Fail;
 // Answers with a status, as a program does. That a caller can say so much of the sink, with no proof
 // of its own, is what the contract is for.
 fn report_status<K: Sink>(world: &World, sink: &mut K) -> u8
-    ensures whole { result ≡ 0 → Takes (K.taken sink.old) (report world.now.scenario world.now.journal) (K.taken sink.new) }
+    ensures whole { result ≡ DONE → Takes (K.taken sink.old) (report world.now.scenario world.now.journal) (K.taken sink.new) }
     ensures prefix { TakesPrefix (K.taken sink.old) (report world.now.scenario world.now.journal) (K.taken sink.new) }
-    ensures fault { result ≡ 5 → HasRisen (K.faults sink.old) (K.faults sink.new) }
-    ensures two { (result ≡ 0) ⊎ (result ≡ 5) }
-    ensures complete { StandsStill (K.faults sink.old) (K.faults sink.new) → result ≡ 0 }
+    ensures fault { result ≡ WRITE_FAULT → HasRisen (K.faults sink.old) (K.faults sink.new) }
+    ensures two { (result ≡ DONE) ⊎ (result ≡ WRITE_FAULT) }
+    ensures complete { StandsStill (K.faults sink.old) (K.faults sink.new) → result ≡ DONE }
 {
     match write_report(world, sink) {
-        Ok(()) => 0,
-        Err(Failed) => 5,
+        Ok(()) => DONE,
+        Err(Failed) => WRITE_FAULT,
     }
 }
 

@@ -3,7 +3,7 @@ ghost use Rattle.std.specs.List.{concat, flat_map, range_with_len};
 ghost use Rattle.cany_base.specs.Scenario.{ScenarioParts};
 ghost use Rattle.cany_model.specs.Texts.Report.{report, bus_lines, node_lines, message_lines};
 ghost use Rattle.cany_model.specs.Texts.ReportLines.{bus_line, is_shown as has_line, journal_lines};
-ghost use Rattle.cany_replay.specs.ReportParts.{heading_text, bus_text, outcome_text};
+ghost use Rattle.cany_replay.specs.ReportParts.{heading_text, bus_text, nodes_and_messages_text};
 ghost use Rattle.cany_world.specs.World.{state_of};
 ghost use Rattle.cany_replay.specs.Written.{IsWritten};
 
@@ -110,8 +110,8 @@ fn write_bus_part<K: Sink>(world: &World, sink: &mut K) -> Result<(), Failed>
 }
 
 /// Writes what the nodes and the messages came to.
-fn write_outcome<K: Sink>(world: &World, sink: &mut K) -> Result<(), Failed>
-    ensures { IsWritten (outcome_text world.now.scenario (state_of world.now)) result
+fn write_nodes_and_messages<K: Sink>(world: &World, sink: &mut K) -> Result<(), Failed>
+    ensures { IsWritten (nodes_and_messages_text world.now.scenario (state_of world.now)) result
         (K.taken sink.old) (K.taken sink.new) (K.faults sink.old) (K.faults sink.new) }
 {
     write_nodes(world, sink)?;
@@ -126,5 +126,5 @@ pub fn write_report<K: Sink>(world: &World, sink: &mut K) -> Result<(), Failed>
 {
     write_heading(world, sink)?;
     write_bus_part(world, sink)?;
-    write_outcome(world, sink)
+    write_nodes_and_messages(world, sink)
 }

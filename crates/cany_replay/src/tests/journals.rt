@@ -19,7 +19,7 @@ fn copies_read_in_a_row(rt: HostRuntime) -> Result<(), Fail> {
     let alloc = rt.alloc();
     let text = at_lag_2(alloc, ".012.01.0122.012.012.012")?;
     let done = replay(alloc, text.as_str())?;
-    assert_eq!(rt; done.status, 0);
+    assert_eq!(rt; done.status, DONE);
     let report = "canely report 1
 params nodes 3 lag 2 omit 1 errors 2 bound 114 cycle 232 life 116 silence 233 confirm 10 slots 6
 journal .012.01.0122.012.012.012
@@ -45,7 +45,7 @@ fn one_node_reads_as_late_as_is_legal(rt: HostRuntime) -> Result<(), Fail> {
     let alloc = rt.alloc();
     let text = at_lag_2(alloc, ".01.01.012.012.012.01222")?;
     let done = replay(alloc, text.as_str())?;
-    assert_eq!(rt; done.status, 0);
+    assert_eq!(rt; done.status, DONE);
     let report = "canely report 1
 params nodes 3 lag 2 omit 1 errors 2 bound 114 cycle 232 life 116 silence 233 confirm 10 slots 6
 journal .01.01.012.012.012.01222
@@ -67,7 +67,7 @@ end
     // One notice later it would be too late.
     let text = at_lag_2(alloc, ".01.01.01.012.012.012222")?;
     let done = replay(alloc, text.as_str())?;
-    assert_eq!(rt; done.status, 3);
+    assert_eq!(rt; done.status, REFUSED);
     let line = "refused journal step 9 lagging node 2 unread 3\n";
     assert_eq!(rt; done.sink.taken(), line.as_bytes());
     Ok(())
@@ -81,7 +81,7 @@ fn round_robin_may_be_given(rt: HostRuntime) -> Result<(), Fail> {
         "journal = [\".012.0\", \"\", \"12.012.012.012\"]\n{ONE_MESSAGE}"
     )?;
     let done = replay(alloc, text.as_str())?;
-    assert_eq!(rt; done.status, 0);
+    assert_eq!(rt; done.status, DONE);
     assert_eq!(rt; done.sink.taken(), ONE_MESSAGE_REPORT.as_bytes());
     Ok(())
 }
@@ -102,7 +102,7 @@ fn refused_journals(rt: HostRuntime) -> Result<(), Fail> {
     ] {
         let text = two_slots(alloc, journal)?;
         let done = replay(alloc, text.as_str())?;
-        assert_eq!(rt; done.status, 3, "at {journal}");
+        assert_eq!(rt; done.status, REFUSED, "at {journal}");
         let wanted = format!(in alloc; "refused journal {line}\n")?;
         assert_eq!(rt; done.sink.taken(), wanted.as_bytes(), "at {journal}");
     }
@@ -117,7 +117,7 @@ fn a_stopped_node_takes_no_turn(rt: HostRuntime) -> Result<(), Fail> {
         "format = 1\nnodes = 3\nslots = 2\njournal = [\".021.02\"]\n{fault}"
     )?;
     let done = replay(alloc, text.as_str())?;
-    assert_eq!(rt; done.status, 3);
+    assert_eq!(rt; done.status, REFUSED);
     let line = "refused journal step 3 stopped slot 0\n";
     assert_eq!(rt; done.sink.taken(), line.as_bytes());
     Ok(())
@@ -136,7 +136,7 @@ fn other_letters_are_of_another_form(rt: HostRuntime) -> Result<(), Fail> {
     ] {
         let text = two_slots(alloc, journal)?;
         let done = replay(alloc, text.as_str())?;
-        assert_eq!(rt; done.status, 3, "at {journal}");
+        assert_eq!(rt; done.status, REFUSED, "at {journal}");
         assert_eq!(rt; done.sink.taken(), REFUSAL.as_bytes(), "at {journal}");
     }
     Ok(())
@@ -147,7 +147,7 @@ fn the_write_of_a_refused_journal_fails(rt: HostRuntime) -> Result<(), Fail> {
     let alloc = rt.alloc();
     let text = two_slots(alloc, "[\".3\"]")?;
     let done = call(alloc, &["replay"], text.as_bytes(), &[], &[1])?;
-    assert_eq!(rt; done.status, 5);
+    assert_eq!(rt; done.status, WRITE_FAULT);
     assert_eq!(rt; done.sink.taken(), b"".as_slice());
     Ok(())
 }

@@ -1,7 +1,7 @@
 //! Runs with RELCAN messages, and with rules for frames.
 use super::*;
 
-/// A broadcast of node 0 in slot 0.
+/// A send of node 0 in slot 0.
 const REL_SEND: &str = "
 [[send]]
 slot = 0
@@ -32,7 +32,7 @@ end
 fn reports(alloc: Global, lines: &str, report: &str) -> Result<bool, Fail> {
     let text = format!(in alloc; "format = 1\nnodes = 3\n{lines}")?;
     let done = replay(alloc, text.as_str())?;
-    Ok(done.status == 0 && done.sink.taken() == report.as_bytes())
+    Ok(done.status == DONE && done.sink.taken() == report.as_bytes())
 }
 
 #[test]

@@ -5,13 +5,13 @@ use super::*;
 fn one_message_no_fault(rt: HostRuntime) -> Result<(), Fail> {
     let alloc = rt.alloc();
     let done = replay(alloc, ONE_MESSAGE)?;
-    assert_eq!(rt; done.status, 0);
+    assert_eq!(rt; done.status, DONE);
     assert_eq!(rt; done.sink.taken(), ONE_MESSAGE_REPORT.as_bytes());
 
     let words = words_of(alloc, &["replay"])?;
     let mut source = PlainSource::new(ONE_MESSAGE.as_bytes().to_vec(alloc)?);
     let mut sink = MemSink::new(alloc, Vec::new(alloc), ROOM)?;
-    assert_eq!(rt; replay_top(alloc, &words, &mut source, &mut sink), 0);
+    assert_eq!(rt; replay_top(alloc, &words, &mut source, &mut sink), DONE);
     assert_eq!(rt; sink.taken(), ONE_MESSAGE_REPORT.as_bytes());
     Ok(())
 }
@@ -19,7 +19,7 @@ fn one_message_no_fault(rt: HostRuntime) -> Result<(), Fail> {
 #[test]
 fn nothing_sent(rt: HostRuntime) -> Result<(), Fail> {
     let done = replay(rt.alloc(), "format = 1\nnodes = 3\nslots = 1\n")?;
-    assert_eq!(rt; done.status, 0);
+    assert_eq!(rt; done.status, DONE);
     let report = "canely report 1
 params nodes 3 lag 0 omit 1 errors 2 bound 36 cycle 72 life 36 silence 73 confirm 10 slots 1
 journal .012
@@ -39,7 +39,7 @@ fn payload_digits(rt: HostRuntime) -> Result<(), Fail> {
     let head = "format = 1\nnodes = 2\nslots = 4\n[[send]]\nslot = 0\nnode = 0\nservice = \"ed\"\n";
     let text = format!(in alloc; "{head}data = \"0123456789ABCDEF\"\n")?;
     let done = replay(alloc, text.as_str())?;
-    assert_eq!(rt; done.status, 0);
+    assert_eq!(rt; done.status, DONE);
     let report = "canely report 1
 params nodes 2 lag 0 omit 1 errors 2 bound 19 cycle 38 life 19 silence 39 confirm 10 slots 4
 journal .01.01.01.01
@@ -57,7 +57,7 @@ end
 
     let longer = format!(in alloc; "{head}data = \"0123456789ABCDEF01\"\n")?;
     let done = replay(alloc, longer.as_str())?;
-    assert_eq!(rt; done.status, 3);
+    assert_eq!(rt; done.status, REFUSED);
     assert_eq!(rt; done.sink.taken(), REFUSAL.as_bytes());
     Ok(())
 }
@@ -65,7 +65,7 @@ end
 #[test]
 fn an_empty_text(rt: HostRuntime) -> Result<(), Fail> {
     let done = replay(rt.alloc(), "")?;
-    assert_eq!(rt; done.status, 3);
+    assert_eq!(rt; done.status, REFUSED);
     assert_eq!(rt; done.sink.taken(), REFUSAL.as_bytes());
     Ok(())
 }
@@ -83,7 +83,7 @@ stop = [0]
 "
     )?;
     let done = replay(alloc, text.as_str())?;
-    assert_eq!(rt; done.status, 0);
+    assert_eq!(rt; done.status, DONE);
     let report = "canely report 1
 params nodes 3 lag 0 omit 1 errors 2 bound 36 cycle 72 life 36 silence 73 confirm 10 slots 6
 journal .012.12.12.12.12.12
@@ -103,7 +103,7 @@ end
     Ok(())
 }
 
-// A slot that is Silent: the sender sees success though node 2 took nothing.
+// A slot that is Silent: the sender sees success though node 2 rejects the frame.
 #[test]
 fn silent_omission_is_outside(rt: HostRuntime) -> Result<(), Fail> {
     let alloc = rt.alloc();
@@ -116,7 +116,7 @@ reject = [2]
 "
     )?;
     let done = replay(alloc, text.as_str())?;
-    assert_eq!(rt; done.status, 0);
+    assert_eq!(rt; done.status, DONE);
     let report = "canely report 1
 params nodes 3 lag 0 omit 1 errors 2 bound 36 cycle 72 life 36 silence 73 confirm 10 slots 6
 journal .012.012.012.012.012.012
@@ -167,7 +167,7 @@ end
 ",
     )?;
     let done = replay(alloc, text.as_str())?;
-    assert_eq!(rt; done.status, 0);
+    assert_eq!(rt; done.status, DONE);
     assert_eq!(rt; done.sink.taken(), report.as_bytes());
     Ok(())
 }
@@ -187,7 +187,7 @@ fn all_but(alloc: Global, count: u8, left_out: u8) -> Result<String, AllocError>
     Ok(set)
 }
 
-// Two of 32 nodes broadcast in one slot: the frame of the lower number goes first.
+// Two of 32 nodes have a send in one slot: the frame of the lower node is the winner.
 #[test]
 fn thirty_two_nodes(rt: HostRuntime) -> Result<(), Fail> {
     let alloc = rt.alloc();
@@ -232,7 +232,7 @@ hypothesis within
     }
     report.push_str("message ed 31 0 settled\nmessage ed 0 0 settled\nend\n")?;
     let done = replay(alloc, text)?;
-    assert_eq!(rt; done.status, 0);
+    assert_eq!(rt; done.status, DONE);
     assert_eq!(rt; done.sink.taken(), report.as_bytes());
     Ok(())
 }

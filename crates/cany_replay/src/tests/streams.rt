@@ -6,7 +6,7 @@ const LIMIT: usize = 8_388_608;
 #[test]
 fn the_third_write_fails(rt: HostRuntime) -> Result<(), Fail> {
     let done = call(rt.alloc(), &["replay"], ONE_MESSAGE.as_bytes(), &[], &[3])?;
-    assert_eq!(rt; done.status, 5);
+    assert_eq!(rt; done.status, WRITE_FAULT);
     let heading: &[u8] = b"canely report 1
 params nodes 3 lag 0 omit 1 errors 2 bound 36 cycle 72 life 36 silence 73 confirm 10 slots 5
 ";
@@ -20,7 +20,11 @@ fn each_write_fails_in_turn(rt: HostRuntime) -> Result<(), Fail> {
     let alloc = rt.alloc();
     for k in 1..16u32 {
         let done = call(alloc, &["replay"], ONE_MESSAGE.as_bytes(), &[], &[k])?;
-        assert_eq!(rt; done.status, if k < 15 { 5 } else { 0 }, "at {k}");
+        assert_eq!(rt;
+            done.status,
+            if k < 15 { WRITE_FAULT } else { DONE },
+            "at {k}"
+        );
         let lines = first_lines(alloc, ONE_MESSAGE_REPORT, k as usize - 1)?;
         assert_eq!(rt; done.sink.taken(), lines.as_slice(), "at {k}");
     }
@@ -30,7 +34,7 @@ fn each_write_fails_in_turn(rt: HostRuntime) -> Result<(), Fail> {
 #[test]
 fn the_write_of_a_refusal_fails(rt: HostRuntime) -> Result<(), Fail> {
     let done = call(rt.alloc(), &["replay"], b"", &[], &[1])?;
-    assert_eq!(rt; done.status, 5);
+    assert_eq!(rt; done.status, WRITE_FAULT);
     assert_eq!(rt; done.sink.taken(), b"".as_slice());
     Ok(())
 }
@@ -43,7 +47,11 @@ fn each_read_fails_in_turn(rt: HostRuntime) -> Result<(), Fail> {
     assert_eq!(rt; done.source.calls(), 2);
     for k in 1..4u32 {
         let done = call(alloc, &["replay"], ONE_MESSAGE.as_bytes(), &[k], &[])?;
-        assert_eq!(rt; done.status, if k < 3 { 4 } else { 0 }, "at {k}");
+        assert_eq!(rt;
+            done.status,
+            if k < 3 { READ_FAULT } else { DONE },
+            "at {k}"
+        );
         assert_eq!(rt; done.sink.calls() == 0, k < 3, "at {k}");
     }
     Ok(())
@@ -60,7 +68,7 @@ fn reads_of_a_long_text_fail_in_turn(rt: HostRuntime) -> Result<(), Fail> {
     assert_eq!(rt; calls, 4);
     for k in 1..5u32 {
         let done = call(alloc, &["replay"], &text, &[k], &[])?;
-        assert_eq!(rt; done.status, 4, "at {k}");
+        assert_eq!(rt; done.status, READ_FAULT, "at {k}");
         assert_eq!(rt; done.sink.calls(), 0, "at {k}");
     }
     Ok(())
@@ -72,7 +80,7 @@ fn a_byte_too_many(rt: HostRuntime) -> Result<(), Fail> {
     let words = words_of(alloc, &["replay"])?;
     let mut source = PlainSource::new(vec![in alloc; b'#'; LIMIT + 1]?);
     let mut sink = MemSink::new(alloc, Vec::new(alloc), ROOM)?;
-    assert_eq!(rt; replay_top(alloc, &words, &mut source, &mut sink), 7);
+    assert_eq!(rt; replay_top(alloc, &words, &mut source, &mut sink), TOO_LONG);
     assert_eq!(rt; sink.calls(), 0);
     Ok(())
 }

@@ -3,7 +3,7 @@ use Rattle.toml.specs.View.{table_view}
 use Rattle.cany_base.specs.ParamsFields.{parameters_of}
 use Rattle.cany_model.specs.Texts.ParamsText.{params_of}
 use Rattle.cany_model.proofs.Texts.ScenarioTextLegal.{scenario_from-legal}
-use Rattle.cany_replay.proofs.ScenarioLemmas.{scenario_from-parts}
+use Rattle.cany_replay.proofs.ScenarioFacts.{scenario_from-parts}
 use Rattle.cany_replay.proofs.reader.scenario_from.Goals as goal
 
 pub of_parts-requires : goal.of_parts-requires

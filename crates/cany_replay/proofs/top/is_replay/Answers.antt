@@ -1,5 +1,5 @@
 use Rattle.std.proofs.Common.{map, string_bytes, codes}
-use Rattle.cany_replay.proofs.TopLemmas.{one_word, is_word}
+use Rattle.cany_replay.proofs.TopFacts.{one_word, is_word}
 use Rattle.cany_replay.proofs.top.is_replay.Goals as goal
 
 pub returns-in-len1 : goal.returns-in-len1

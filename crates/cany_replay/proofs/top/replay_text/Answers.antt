@@ -1,13 +1,13 @@
-use Rattle.cany_replay.proofs.TopLemmas.{reported, accepted, refused_journal, refused_text, answer_of_scenario, answer_of_other}
+use Rattle.cany_replay.proofs.TopFacts.{reported, not_refused, refused_journal, refused_text, answer_of_scenario, answer_of_other}
 use Rattle.cany_replay.proofs.top.replay_text.Goals as goal
 
 pub returns-in-Ok-clause-done : goal.returns-in-Ok-clause-done
 returns-in-Ok-clause-done g c = λ done.
-    reported c.args.text.now c.in-Ok.scenario _ _ c.in-Ok.ensures.ok (c.replay_scenario.ensures.followed done) (c.replay_scenario.ensures.done done)
+    reported c.args.text.now c.in-Ok.scenario _ _ c.in-Ok.ensures.ok (c.replay_scenario.ensures.promises done) (c.replay_scenario.ensures.done done)
 
-pub returns-in-Ok-clause-accepted : goal.returns-in-Ok-clause-accepted
-returns-in-Ok-clause-accepted g c = λ done.
-    accepted c.args.text.now c.in-Ok.scenario c.in-Ok.ensures.ok (c.replay_scenario.ensures.followed done)
+pub returns-in-Ok-clause-not_refused : goal.returns-in-Ok-clause-not_refused
+returns-in-Ok-clause-not_refused g c = λ done.
+    not_refused c.args.text.now c.in-Ok.scenario c.in-Ok.ensures.ok (c.replay_scenario.ensures.followed done)
 
 pub returns-in-Ok-clause-refused : goal.returns-in-Ok-clause-refused
 returns-in-Ok-clause-refused g c = λ refused.

@@ -1,5 +1,5 @@
 use Rattle.std.proofs.Common.{◌∙◌}
-use Rattle.cany_replay.proofs.ScenarioLemmas.{document_of-text, document_of-other}
+use Rattle.cany_replay.proofs.ScenarioFacts.{document_of-text, document_of-other}
 use Rattle.cany_replay.proofs.reader.document.read_document.Goals as goal
 
 pub returns-in_default-clause-later : goal.returns-in_default-clause-later

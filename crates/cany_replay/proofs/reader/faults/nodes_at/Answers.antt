@@ -1,7 +1,7 @@
 use Rattle.std.proofs.Common.{◌≡◌, ap, Some, None, rules}
 use Rattle.toml.specs.Data.{get_member}
 use Rattle.toml.specs.View.{table_view}
-use Rattle.cany_replay.proofs.SetsLemmas.{empty-set_of}
+use Rattle.cany_replay.proofs.SetsFacts.{empty-set_of}
 use Rattle.cany_replay.proofs.reader.faults.nodes_at.Goals as goal
 
 pub returns-in-None : goal.returns-in-None

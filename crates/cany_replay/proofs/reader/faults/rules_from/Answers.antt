@@ -1,7 +1,7 @@
 use Rattle.std.proofs.Common.{◌≡◌, ◌∙◌, sym, Some, arith, rules}
 use Rattle.toml.specs.Data.{as_array}
 use Rattle.toml.specs.View.{view, items_view}
-use Rattle.cany_replay.proofs.FaultsLemmas.{rules_from-many, rules_from-distinct}
+use Rattle.cany_replay.proofs.FaultsFacts.{rules_from-many, rules_from-distinct}
 use Rattle.cany_replay.proofs.reader.faults.rules_from.Goals as goal
 
 pub returns-then-len-gt-MOST_RULES-clause-later : goal.returns-then-len-gt-MOST_RULES-clause-later

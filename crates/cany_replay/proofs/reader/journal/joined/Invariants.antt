@@ -1,7 +1,7 @@
 use Rattle.std.proofs.Common.{◌≡◌}
 use Rattle.toml.specs.View.{items_view}
 use Rattle.cany_replay.specs.JournalParts.{after, joined}
-use Rattle.cany_replay.proofs.JournalLemmas.{joined_from}
+use Rattle.cany_replay.proofs.JournalFacts.{joined_from}
 use Rattle.cany_replay.proofs.reader.journal.joined.Given as goal
 
 -- the steps so far, and those of the texts that are left

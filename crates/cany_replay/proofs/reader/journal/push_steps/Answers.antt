@@ -1,20 +1,20 @@
 use Rattle.std.proofs.Common.{◌≡◌, ◌∙◌, ◌+◌, sym, ap, drop, length, arith}
 use Rattle.cany_model.specs.Texts.JournalText.{steps_of}
 use Rattle.cany_replay.specs.JournalParts.{after}
-use Rattle.cany_replay.proofs.JournalLemmas.{letters_more, letters_done, letters_bad}
+use Rattle.cany_replay.proofs.JournalFacts.{letters_next, letters_done}
 use Rattle.cany_replay.proofs.reader.journal.push_steps.Goals as goal
 
 pub returns-in_default-clause-later : goal.returns-in_default-clause-later
 returns-in_default-clause-later c =
-    letters_bad c.args.letters.now c.loop-letter.letter-index _ c.args.steps.now.items c.loop-letter.steps.items c.loop-letter-test.true
-    (sym c.step_of.ensures ∙ c.in_default.is) c.loop-letter.invariant
+    c.loop-letter.invariant
+    ∙ letters_next c.args.letters.now c.loop-letter.letter-index 0 c.loop-letter.steps.items c.loop-letter-test.true
+    ∙ rw (sym c.step_of.ensures ∙ c.in_default.is)
 
 pub loop-letter-preserved : goal.loop-letter-preserved
 loop-letter-preserved c =
     c.loop-letter.invariant
-    ∙ letters_more c.args.letters.now c.loop-letter.letter-index _ c.loop-letter.steps.items c.in-Some.step c.loop-letter-test.true
-    (sym c.step_of.ensures ∙ c.in-Some.is)
-    ∙ ap (λ steps. after steps (steps_of (drop (c.loop-letter.letter-index + 1) c.args.letters.now))) (sym c.in_ok-push.ensures.items)
+    ∙ letters_next c.args.letters.now c.loop-letter.letter-index 0 c.loop-letter.steps.items c.loop-letter-test.true
+    ∙ rw (sym c.step_of.ensures ∙ c.in-Some.is, c.in_ok-push.ensures.items)
 
 pub returns-clause-ok : goal.returns-clause-ok
 returns-clause-ok c =

@@ -1,6 +1,6 @@
 use Rattle.std.proofs.Common.{◌≡◌, false, true, string_bytes, sym, ◌∙◌, ap}
 use Rattle.cany_replay.specs.Keys.{is_one_of}
-use Rattle.cany_replay.proofs.KeysLemmas.{all_are_among-keys_of, all_are_among-good, all_are_among-bad, all_are_among-none}
+use Rattle.cany_replay.proofs.KeysFacts.{all_are_among-keys_of, all_are_among-good, all_are_among-bad, all_are_among-none}
 use Rattle.cany_replay.proofs.reader.keys.has_only.Goals as goal
 
 pub loop-key-init : goal.loop-key-init

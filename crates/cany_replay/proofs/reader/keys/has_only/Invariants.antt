@@ -1,7 +1,7 @@
 use Rattle.std.proofs.Common.{◌≡◌, map}
 use Rattle.toml.specs.View.{table_view}
 use Rattle.cany_model.specs.Texts.TomlKeys.{has_only}
-use Rattle.cany_replay.proofs.KeysLemmas.{all_are_among}
+use Rattle.cany_replay.proofs.KeysFacts.{all_are_among}
 use Rattle.cany_replay.proofs.reader.keys.has_only.Given as goal
 
 -- the keys that are left decide

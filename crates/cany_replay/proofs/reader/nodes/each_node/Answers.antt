@@ -2,8 +2,8 @@ use Rattle.std.proofs.Common.{◌≡◌, ◌∙◌, ◌-◌, ◌||◌, ◌==◌,
 use Rattle.toml.specs.View.{view}
 use Rattle.cany_base.specs.Nodes.{has}
 use Rattle.cany_model.specs.Texts.TomlKeys.{number_from}
-use Rattle.cany_replay.proofs.EntriesLemmas.{from_index}
-use Rattle.cany_replay.proofs.SetsLemmas.{joined, joined-none, joined-good, joined-all, AllBelow-insert, AllBelow-none}
+use Rattle.cany_replay.proofs.EntriesFacts.{from_index}
+use Rattle.cany_replay.proofs.SetsFacts.{joined, joined-none, joined-good, joined-all, AllBelow-insert, AllBelow-none}
 use Rattle.cany_replay.proofs.reader.nodes.each_node.Goals as goal
 
 pub loop-entry-init : goal.loop-entry-init

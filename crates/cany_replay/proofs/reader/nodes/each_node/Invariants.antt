@@ -3,8 +3,8 @@ use Rattle.toml.specs.View.{items_view}
 use Rattle.cany_base.specs.Nodes.{AllBelow}
 use Rattle.cany_model.specs.Texts.TomlKeys.{number_from}
 use Rattle.cany_replay.specs.Sets.{each_node}
-use Rattle.cany_replay.proofs.EntriesLemmas.{from_index}
-use Rattle.cany_replay.proofs.SetsLemmas.{joined}
+use Rattle.cany_replay.proofs.EntriesFacts.{from_index}
+use Rattle.cany_replay.proofs.SetsFacts.{joined}
 use Rattle.cany_replay.proofs.reader.nodes.each_node.Given as goal
 
 -- the nodes so far, and those that the entries that are left stand for

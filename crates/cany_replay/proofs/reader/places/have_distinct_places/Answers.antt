@@ -3,7 +3,7 @@ use Rattle.std.specs.HashSet as bag
 use Rattle.std.proofs.lemmas.Iterator.{YieldsList-from_map, YieldsList-from_slice}
 use Rattle.std.proofs.lemmas.Iterator.Adapters.{fact_from_collect}
 use Rattle.cany_replay.specs.Places.{key_of}
-use Rattle.cany_replay.proofs.PlacesLemmas.{same_key, keys_of, have_distinct_places-len}
+use Rattle.cany_replay.proofs.PlacesFacts.{same_key, keys_of, have_distinct_places-len}
 use Rattle.cany_replay.proofs.reader.places.have_distinct_places.Goals as goal
 
 pub returns : goal.returns

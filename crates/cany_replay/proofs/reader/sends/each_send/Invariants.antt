@@ -1,7 +1,7 @@
 use Rattle.std.proofs.Common.{◌≡◌}
 use Rattle.cany_model.specs.Texts.SendsText.{send_from}
 use Rattle.cany_replay.specs.JournalParts.{after}
-use Rattle.cany_replay.proofs.EntriesLemmas.{from_index}
+use Rattle.cany_replay.proofs.EntriesFacts.{from_index}
 use Rattle.cany_replay.proofs.reader.sends.each_send.Given as goal
 
 -- the sends so far, and what the entries that are left stand for

@@ -2,7 +2,7 @@ use Rattle.std.proofs.Common.{◌≡◌, Some, arith, rules}
 use Rattle.std.proofs.lemmas.Result.{IfOk-weaker}
 use Rattle.toml.specs.Data.{as_array}
 use Rattle.toml.specs.View.{view, items_view}
-use Rattle.cany_replay.proofs.SendsLemmas.{sends_from-many, sends_from-few}
+use Rattle.cany_replay.proofs.SendsFacts.{sends_from-many, sends_from-few}
 use Rattle.cany_replay.proofs.reader.sends.sends_from.Goals as goal
 
 pub returns-then-len-gt-MOST_SENDS-clause-later : goal.returns-then-len-gt-MOST_SENDS-clause-later

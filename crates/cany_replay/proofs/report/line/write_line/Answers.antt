@@ -1,5 +1,5 @@
 use Rattle.std.proofs.Common.{length, length-append, ◌∷◌, [], sym, ◌∙◌, ap, arith}
-use Rattle.cany_replay.proofs.FieldLemmas.{HasFields-start, HasFields-room, HasFields-room_first, HasFields-first, HasFields-more, HasFields-done, HasFields-room_last}
+use Rattle.cany_replay.proofs.FieldFacts.{HasFields-start, HasFields-room, HasFields-room_first, HasFields-first, HasFields-more, HasFields-done, HasFields-room_last}
 use Rattle.cany_replay.proofs.report.line.write_line.Goals as goal
 use Rattle.cany_replay.proofs.report.line.write_line.Goals.{then-i-gt0, else-i-gt0}
 

@@ -1,4 +1,4 @@
-use Rattle.cany_replay.proofs.FieldLemmas.{HasFields}
+use Rattle.cany_replay.proofs.FieldFacts.{HasFields}
 use Rattle.cany_replay.proofs.report.line.write_line.Given as goal
 
 abbrev pub invariant-loop-i : goal.invariant-loop-i

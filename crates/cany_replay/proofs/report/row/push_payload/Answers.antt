@@ -1,6 +1,6 @@
 use Rattle.std.proofs.Common.{length, ap, arith, length-append}
 use Rattle.cany_model.specs.Texts.ReportLines.{byte_text, payload_text}
-use Rattle.cany_replay.proofs.TextLemmas.{flat_map_next, payload_text_done, short_part}
+use Rattle.cany_replay.proofs.TextFacts.{flat_map_next, payload_text_done, short_part}
 use Rattle.cany_replay.proofs.report.row.push_payload.Goals as goal
 
 pub loop-i-preserved : goal.loop-i-preserved

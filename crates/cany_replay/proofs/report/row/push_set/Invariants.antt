@@ -1,4 +1,4 @@
-use Rattle.cany_replay.proofs.SetTextLemmas.{HasListed}
+use Rattle.cany_replay.proofs.SetTextFacts.{HasListed}
 use Rattle.cany_replay.proofs.report.row.push_set.Given as goal
 
 abbrev pub invariant-loop-number : goal.invariant-loop-number

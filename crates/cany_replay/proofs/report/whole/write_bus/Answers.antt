@@ -1,7 +1,7 @@
 use Rattle.std.proofs.Common.{sym, ◌∙◌}
 use Rattle.std.proofs.lemmas.Result.{err_from_is_err_and}
-use Rattle.cany_replay.proofs.ReportLemmas.{shown_line, shown_text, shown_line-shown, shown_line-hidden}
-use Rattle.cany_replay.proofs.WrittenLemmas.{IsWritten-nothing, IsWritten-next, IsWritten-cut, IsWritten-all}
+use Rattle.cany_replay.proofs.ReportFacts.{shown_line, shown_text, shown_line-shown, shown_line-hidden}
+use Rattle.cany_replay.proofs.WrittenFacts.{IsWritten-nothing, IsWritten-next, IsWritten-cut, IsWritten-all}
 use Rattle.cany_replay.proofs.report.whole.write_bus.Goals as goal
 use Rattle.cany_replay.proofs.report.whole.write_bus.Goals.{then-is_shown+in_ok-write_bus_line, else-is_shown}
 

@@ -1,6 +1,6 @@
 use Rattle.std.proofs.Common.{take, Ok}
 use Rattle.std.specs.List.{flat_map}
-use Rattle.cany_replay.proofs.ReportLemmas.{shown_line}
+use Rattle.cany_replay.proofs.ReportFacts.{shown_line}
 use Rattle.cany_replay.specs.Written.{IsWritten}
 use Rattle.cany_replay.proofs.report.whole.write_bus.Given as goal
 

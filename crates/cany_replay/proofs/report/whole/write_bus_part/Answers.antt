@@ -2,8 +2,8 @@ use Rattle.std.proofs.Common.{refl}
 use Rattle.std.proofs.lemmas.Result.{err_from_is_err_and}
 use Rattle.cany_model.specs.Promises.Hypothesis.{first_break}
 use Rattle.cany_world.specs.World.{state_of}
-use Rattle.cany_replay.proofs.ReportLemmas.{bus-is}
-use Rattle.cany_replay.proofs.WrittenLemmas.{IsWritten-then, IsWritten-short}
+use Rattle.cany_replay.proofs.ReportFacts.{bus-is}
+use Rattle.cany_replay.proofs.WrittenFacts.{IsWritten-then, IsWritten-short}
 use Rattle.cany_replay.proofs.report.whole.write_bus_part.Goals as goal
 
 pub returns-in_err-write_bus : goal.returns-in_err-write_bus

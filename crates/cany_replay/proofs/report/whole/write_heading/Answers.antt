@@ -1,7 +1,7 @@
 use Rattle.std.proofs.Common.{refl, ◌∙◌, ap}
 use Rattle.std.proofs.lemmas.Result.{err_from_is_err_and}
-use Rattle.cany_replay.proofs.ReportLemmas.{heading-is}
-use Rattle.cany_replay.proofs.WrittenLemmas.{IsWritten-then, IsWritten-short}
+use Rattle.cany_replay.proofs.ReportFacts.{heading-is}
+use Rattle.cany_replay.proofs.WrittenFacts.{IsWritten-then, IsWritten-short}
 use Rattle.cany_replay.proofs.report.whole.write_heading.Goals as goal
 
 pub returns-in_err-write_line : goal.returns-in_err-write_line

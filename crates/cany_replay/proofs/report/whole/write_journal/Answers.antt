@@ -1,8 +1,8 @@
 use Rattle.std.proofs.Common.{◌∷◌, [], ◌++◌, ◌+◌, ◌≡◌, length, min, length-append, ◌∙◌, ap, arith}
 use Rattle.std.specs.Slice.Iter.{chunks_rest, chunks_size}
 use Rattle.std.proofs.lemmas.Result.{err_from_is_err_and}
-use Rattle.cany_replay.proofs.ReportLemmas.{journal_text, journal_lines_text, next_piece, no_more_pieces, at_number, below_length, past_length}
-use Rattle.cany_replay.proofs.WrittenLemmas.{IsWritten-nothing, IsWritten-next, IsWritten-cut, IsWritten-all}
+use Rattle.cany_replay.proofs.ReportFacts.{journal_text, journal_lines_text, next_piece, no_more_pieces, at_number, below_length, past_length}
+use Rattle.cany_replay.proofs.WrittenFacts.{IsWritten-nothing, IsWritten-next, IsWritten-cut, IsWritten-all}
 use Rattle.cany_replay.proofs.report.whole.write_journal.Goals as goal
 
 pub loop-steps-init : goal.loop-steps-init

@@ -1,7 +1,7 @@
 use Rattle.std.proofs.Common.{◌≡◌, ◌*◌, length, take, drop, Ok}
 use Rattle.std.specs.List.{flat_map, range_with_len}
 use Rattle.std.specs.Slice.Iter.{chunks_rest, chunks_size}
-use Rattle.cany_replay.proofs.ReportLemmas.{journal_text, line_count}
+use Rattle.cany_replay.proofs.ReportFacts.{journal_text, line_count}
 use Rattle.cany_replay.specs.Written.{IsWritten}
 use Rattle.cany_replay.proofs.report.whole.write_journal.Given as goal
 

@@ -1,8 +1,8 @@
 use Rattle.std.proofs.Common.{◌<◌, get_or, length, length-set, refl, ◌∙◌, ap, arith}
 use Rattle.std.proofs.lemmas.Result.{err_from_is_err_and}
 use Rattle.cany_model.specs.Bus.Run.{run}
-use Rattle.cany_replay.proofs.ReportLemmas.{message_text, message_lines_text, message_at, message_is, length-messages_of, sent_before, counts_next, zeros}
-use Rattle.cany_replay.proofs.WrittenLemmas.{IsWritten-nothing, IsWritten-next, IsWritten-cut, IsWritten-all}
+use Rattle.cany_replay.proofs.ReportFacts.{message_text, message_lines_text, message_at, message_is, length-messages_of, sent_before, counts_next, zeros}
+use Rattle.cany_replay.proofs.WrittenFacts.{IsWritten-nothing, IsWritten-next, IsWritten-cut, IsWritten-all}
 use Rattle.cany_replay.proofs.report.whole.write_messages.Goals as goal
 
 pub loop-i-init : goal.loop-i-init

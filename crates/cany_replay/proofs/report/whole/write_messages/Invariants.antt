@@ -2,7 +2,7 @@ use Rattle.std.proofs.Common.{◌≡◌, ℕ, ◌<◌, get_or, length, take, Ok}
 use Rattle.std.specs.List.{flat_map}
 use Rattle.cany_model.specs.Rules.Messages.{messages_of}
 use Rattle.cany_model.specs.Bus.Run.{run}
-use Rattle.cany_replay.proofs.ReportLemmas.{message_text, sent_before}
+use Rattle.cany_replay.proofs.ReportFacts.{message_text, sent_before}
 use Rattle.cany_replay.specs.Written.{IsWritten}
 use Rattle.cany_replay.proofs.report.whole.write_messages.Given as goal
 

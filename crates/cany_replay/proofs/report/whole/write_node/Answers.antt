@@ -3,8 +3,8 @@ use Rattle.std.proofs.lemmas.Result.{err_from_is_err_and}
 use Rattle.cany_model.specs.Rules.Log.{log}
 use Rattle.cany_model.specs.Bus.Run.{run}
 use Rattle.cany_model.specs.Texts.ReportLines.{entry_line}
-use Rattle.cany_replay.proofs.ReportLemmas.{node_text}
-use Rattle.cany_replay.proofs.WrittenLemmas.{IsWritten-nothing, IsWritten-then, IsWritten-short, IsWritten-next, IsWritten-cut, IsWritten-all}
+use Rattle.cany_replay.proofs.ReportFacts.{node_text}
+use Rattle.cany_replay.proofs.WrittenFacts.{IsWritten-nothing, IsWritten-then, IsWritten-short, IsWritten-next, IsWritten-cut, IsWritten-all}
 use Rattle.cany_replay.proofs.report.whole.write_node.Goals as goal
 
 pub loop-entry-init : goal.loop-entry-init

@@ -1,7 +1,7 @@
 use Rattle.std.proofs.Common.{◌∙◌, ap, arith}
 use Rattle.std.proofs.lemmas.Result.{err_from_is_err_and}
-use Rattle.cany_replay.proofs.ReportLemmas.{node_part, concat-flat_map, at_number, below_length, past_length}
-use Rattle.cany_replay.proofs.WrittenLemmas.{IsWritten-nothing, IsWritten-next, IsWritten-cut, IsWritten-all}
+use Rattle.cany_replay.proofs.ReportFacts.{node_part, concat-flat_map, at_number, below_length, past_length}
+use Rattle.cany_replay.proofs.WrittenFacts.{IsWritten-nothing, IsWritten-next, IsWritten-cut, IsWritten-all}
 use Rattle.cany_replay.proofs.report.whole.write_nodes.Goals as goal
 
 pub unwrap-requires : goal.unwrap-requires

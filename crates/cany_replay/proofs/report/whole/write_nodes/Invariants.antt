@@ -1,6 +1,6 @@
 use Rattle.std.proofs.Common.{take, Ok}
 use Rattle.std.specs.List.{flat_map, range_with_len}
-use Rattle.cany_replay.proofs.ReportLemmas.{node_part}
+use Rattle.cany_replay.proofs.ReportFacts.{node_part}
 use Rattle.cany_replay.specs.Written.{IsWritten}
 use Rattle.cany_replay.proofs.report.whole.write_nodes.Given as goal
 

@@ -1,6 +1,6 @@
 use Rattle.std.proofs.lemmas.Result.{err_from_is_err_and}
-use Rattle.cany_replay.proofs.ReportLemmas.{report-is}
-use Rattle.cany_replay.proofs.WrittenLemmas.{IsWritten-then, IsWritten-short}
+use Rattle.cany_replay.proofs.ReportFacts.{report-is}
+use Rattle.cany_replay.proofs.WrittenFacts.{IsWritten-then, IsWritten-short}
 use Rattle.cany_replay.proofs.report.whole.write_report.Goals as goal
 
 pub returns-in_err-write_heading : goal.returns-in_err-write_heading
@@ -15,4 +15,4 @@ returns-in_err-write_bus_part g c =
 
 pub returns : goal.returns
 returns g c =
-    rw report-is (IsWritten-then _ _ _ _ _ _ _ _ _ c.in_ok-write_heading.ensures (IsWritten-then _ _ _ _ _ _ _ _ _ c.in_ok-write_bus_part.ensures c.write_outcome.ensures))
+    rw report-is (IsWritten-then _ _ _ _ _ _ _ _ _ c.in_ok-write_heading.ensures (IsWritten-then _ _ _ _ _ _ _ _ _ c.in_ok-write_bus_part.ensures c.write_nodes_and_messages.ensures))

@@ -7,7 +7,7 @@ use Rattle.cany_base.specs.declared.rule.Rule.{Rule}
 use Rattle.cany_base.specs.Params.{Parameters}
 use Rattle.cany_model.specs.Texts.TomlKeys.{◌>>=◌, only_if, each_of}
 use Rattle.cany_model.specs.Texts.FaultsText.{rule_from, have_distinct_places, rules_from}
-use Rattle.cany_replay.proofs.EntriesLemmas.{only_few-many, only_few-few}
+use Rattle.cany_replay.proofs.EntriesFacts.{only_few-many, only_few-few}
 
 abbrev if_distinct : List Rule → Option (List Rule)
 if_distinct rules = only_if (have_distinct_places rules) >>= (λ _. Some rules)

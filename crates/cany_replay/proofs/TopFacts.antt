@@ -1,56 +1,28 @@
--- What a replayed scenario keeps, and the words of the command.
+-- What is written for a text, and the words of the command.
 use Rattle.std.proofs.Common.{◌≡◌, ℕ, ◌<◌, ◌≤◌, ◌↔◌, Bool, true, IsTrue, List, [], ◌∷◌, length, map, get_or, Option, Some, None, option_map, option_and_then, unwrap_or, IsSomeAnd, sym, ◌∙◌, ap, subst, arith}
 use Rattle.std.specs.Bool.{Decides}
 use Rattle.std.specs.Str.{bytes_eq}
 use Rattle.std.proofs.lemmas.Slice.Eq.{bytes_eq-Decides}
 use Rattle.std.specs.Option.{option_map_or}
-use Rattle.cany_base.specs.declared.step.Step.{Step}
-use Rattle.cany_base.specs.Scenario.{ScenarioParts, IsLegalScenario}
+use Rattle.cany_base.specs.Scenario.{ScenarioParts}
 use Rattle.cany_io.specs.Sink.{Takes, TakesPrefix}
 use Rattle.cany_model.specs.declared.follow.FollowFault.{FollowFault}
-use Rattle.cany_model.specs.Bus.Follow.{journal_fault, journal_of}
+use Rattle.cany_model.specs.Bus.Follow.{journal_of}
 use Rattle.cany_model.specs.Texts.RefusalLines.{later_form_line, journal_refusal_line}
 use Rattle.cany_model.specs.Texts.Report.{report}
-use Rattle.cany_model.specs.Bus.RoundRobin.{round_robin}
-use Rattle.cany_model.specs.Bus.Run.{IsLegal, IsWhole}
 use Rattle.cany_model.specs.Texts.ScenarioText.{scenario_of}
-use Rattle.cany_model.proofs.Bus.FollowFacts.{no_fault_exactly}
-use Rattle.cany_model.proofs.Promises.Integrity.{integral}
-use Rattle.cany_model.proofs.Bus.RoundRobinEnds.{round_robin_ends}
-use Rattle.cany_model.proofs.Promises.Safety.{safe}
-use Rattle.cany_model.proofs.Texts.ScenarioTextLegal.{scenario_of-legal}
-use Rattle.cany_replay.specs.Top.{IsReplay, own_fault, refusal_for, refusal_of, answer_for, answer_of}
+use Rattle.cany_replay.specs.Top.{IsReplay, KeepsPromises, own_fault, refusal_for, refusal_of, answer_for, answer_of}
 use Rattle.cany_world.specs.World.{WorldParts}
 
--- the journal of a run that ended is legal and whole
-ends : (scenario : ScenarioParts) (o : Option (List Step)) → option_and_then (journal_fault scenario) o ≡ None
-    → IsLegal scenario (unwrap_or o (round_robin scenario)) × IsWhole scenario (unwrap_or o (round_robin scenario))
-ends scenario None h = round_robin_ends scenario
-ends scenario (Some journal) h = (no_fault_exactly scenario journal).0 h
-
-is_replay : (bytes : List ℕ) (scenario : ScenarioParts) (old new : Option (List ℕ)) → scenario_of bytes ≡ Some scenario → own_fault scenario ≡ None
-    → Takes old (report scenario (journal_of scenario)) new → IsReplay scenario old new
-is_replay bytes scenario old new e followed written =
-    let legal : IsLegalScenario scenario = scenario_of-legal bytes scenario e in
-    let few : scenario.params.nodes ≤ 32 = legal.in_range.nodes.1 in
-    let journal = ends scenario scenario.journal followed in
-    record {
-      written = written;
-      legal = journal.0;
-      whole = journal.1;
-      integrity = integral scenario (journal_of scenario) few;
-      safe = λ within. safe scenario few (journal_of scenario) within;
-    }
-
-pub reported : (bytes : List ℕ) (scenario : ScenarioParts) (old new : Option (List ℕ)) → scenario_of bytes ≡ Some scenario → own_fault scenario ≡ None
+pub reported : (bytes : List ℕ) (scenario : ScenarioParts) (old new : Option (List ℕ)) → scenario_of bytes ≡ Some scenario → KeepsPromises scenario
     → Takes old (report scenario (journal_of scenario)) new → IsSomeAnd (scenario_of bytes) (λ s. IsReplay s old new)
-reported bytes scenario old new is followed written =
+reported bytes scenario old new is promises written =
     let P : Option ScenarioParts → Type 0 = λ o. IsSomeAnd o (λ s. IsReplay s old new) in
-    subst P (sym is) (is_replay bytes scenario old new is followed written)
+    subst P (sym is) (record { written = written; promises = promises })
 
-pub accepted : (bytes : List ℕ) (scenario : ScenarioParts) → scenario_of bytes ≡ Some scenario → own_fault scenario ≡ None → refusal_of bytes ≡ None
+pub not_refused : (bytes : List ℕ) (scenario : ScenarioParts) → scenario_of bytes ≡ Some scenario → own_fault scenario ≡ None → refusal_of bytes ≡ None
 unfolding refusal_of
-accepted bytes scenario is followed = ap refusal_for is ∙ ap (option_map journal_refusal_line) followed
+not_refused bytes scenario is followed = ap refusal_for is ∙ ap (option_map journal_refusal_line) followed
 
 -- the line of a journal's fault
 line_for : (o : Option FollowFault) (old new : Option (List ℕ)) → IsSomeAnd o (λ fault. Takes old (journal_refusal_line fault) new)

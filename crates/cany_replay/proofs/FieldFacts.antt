@@ -6,7 +6,7 @@ use Rattle.std.proofs.Math.Seq.{take-length}
 use Rattle.cany_model.specs.Texts.ReportLines.{line_of}
 use Rattle.cany_replay.specs.declared.report.field.Field.{Field}
 use Rattle.cany_replay.specs.Fields.{field_text, most_bytes, room_of}
-use Rattle.cany_replay.proofs.TextLemmas.{join_with_byte-append}
+use Rattle.cany_replay.proofs.TextFacts.{join_with_byte-append}
 
 room_of-append : (xs ys : List Field) → room_of (xs ++ ys) ≡ room_of xs + room_of ys
 room_of-append [] ys = omega arith

@@ -11,7 +11,7 @@ use Rattle.cany_base.specs.Nodes.{Nodes, has, those_where, AllBelow}
 use Rattle.cany_base.proofs.NodesFacts.{those_where-ext, same_as_those_where}
 use Rattle.cany_model.specs.Texts.TomlKeys.{◌>>=◌}
 use Rattle.cany_model.specs.Texts.FaultsText.{set_of}
-use Rattle.cany_replay.proofs.EntriesLemmas.{from_index, from_index-more, in_front}
+use Rattle.cany_replay.proofs.EntriesFacts.{from_index, from_index-more, in_front}
 
 -- the nodes so far and those with the numbers that are left
 abbrev with_numbers : Nodes → List ℕ → Nodes

@@ -7,7 +7,7 @@ use Rattle.cany_base.specs.declared.message.SendAsk.{SendAsk}
 use Rattle.cany_base.specs.Params.{Parameters}
 use Rattle.cany_model.specs.Texts.TomlKeys.{each_of}
 use Rattle.cany_model.specs.Texts.SendsText.{send_from, sends_from}
-use Rattle.cany_replay.proofs.EntriesLemmas.{only_few-many, only_few-few}
+use Rattle.cany_replay.proofs.EntriesFacts.{only_few-many, only_few-few}
 
 -- more than 20,000 entries stand for nothing
 pub sends_from-many : (params : Parameters) (value : Data) (entries : List Value) → as_array value ≡ Some (items_view entries) → 20000 < length entries → sends_from params value ≡ None

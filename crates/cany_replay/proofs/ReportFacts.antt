@@ -23,8 +23,8 @@ use Rattle.cany_model.specs.Texts.ReportLines.{line_of, params_line, hypothesis_
 use Rattle.cany_model.specs.Bus.Run.{run}
 use Rattle.cany_model.specs.Promises.Settled.{is_settled}
 use Rattle.cany_model.specs.Bus.State.{RunState, node_at, reads}
-use Rattle.cany_replay.specs.ReportParts.{heading_text, bus_text, outcome_text}
-use Rattle.cany_replay.proofs.WrittenLemmas.{concat-map}
+use Rattle.cany_replay.specs.ReportParts.{heading_text, bus_text, nodes_and_messages_text}
+use Rattle.cany_replay.proofs.WrittenFacts.{concat-map}
 
 -- what is written of a slot
 abbrev pub shown_line : SlotNote → List ℕ
@@ -120,7 +120,7 @@ pub message_lines_text : (scenario : ScenarioParts) (s : RunState) → concat (m
 unfolding message_lines
 message_lines_text scenario s = concat-map (message_text scenario s) (messages_of scenario.sends)
 
--- the message of the broadcast at a place: those before it count, newest first
+-- the message of the send at a place: those before it count, newest first
 message_after : (earlier sends : List SendAsk) (i : ℕ) (send : SendAsk) (d : Message) → i < length sends → send ≡ get_or sends i send
     → get_or (messages_after earlier sends) i d ≡ message_of (reverse (take i sends) ++ earlier) send
 unfolding messages_after
@@ -143,7 +143,7 @@ message_at sends i send inside is =
     ap (λ r. message_of r send) (sym (append-nil (reverse (take i sends))))
     ∙ sym (message_after [] sends i send (message_of (reverse (take i sends)) send) inside is)
 
--- how many of the broadcasts before a place a node makes
+-- how many of the sends before a place are of a node
 abbrev pub sent_before : List SendAsk → ℕ → ℕ → ℕ
 sent_before sends i node = count_by (is_from node) (reverse (take i sends))
 
@@ -168,7 +168,7 @@ zeros zero i = refl
 zeros (suc n) zero = refl
 zeros (suc n) (suc i) = zeros n i
 
--- the counts of the nodes, after one more broadcast
+-- the counts of the nodes, after one more send
 pub counts_next : (counts : List ℕ) (sends : List SendAsk) (i : ℕ) (send : SendAsk) (origin : ℕ) → length counts ≡ 32 → origin ≡ send.node → origin < 32
     → i < length sends → send ≡ get_or sends i send → ((node : ℕ) → node < 32 → get_or counts node 0 ≡ sent_before sends i node)
     → (node : ℕ) → node < 32 → get_or (set counts origin (get_or counts origin 0 + 1)) node 0 ≡ sent_before sends (i + 1) node
@@ -208,12 +208,12 @@ bus-is scenario s trace found notes found_is =
     let oldest_first : trace ≡ reverse s.trace = sym (reverse-reverse trace) ∙ ap reverse notes in
     rw (oldest_first, found_is) refl
 
-pub outcome-is : (scenario : ScenarioParts) (s : RunState)
-    → outcome_text scenario s ≡ concat (flat_map (node_lines scenario s) (range_with_len 0 scenario.params.nodes)) ++ (concat (message_lines scenario s) ++ line_of (codes "end" ∷ []))
-unfolding outcome_text
-outcome-is scenario s = refl
+pub nodes_and_messages-is : (scenario : ScenarioParts) (s : RunState)
+    → nodes_and_messages_text scenario s ≡ concat (flat_map (node_lines scenario s) (range_with_len 0 scenario.params.nodes)) ++ (concat (message_lines scenario s) ++ line_of (codes "end" ∷ []))
+unfolding nodes_and_messages_text
+nodes_and_messages-is scenario s = refl
 
 pub report-is : (scenario : ScenarioParts) (journal : List Step)
-    → report scenario journal ≡ heading_text scenario journal ++ (bus_text scenario (run scenario journal) ++ outcome_text scenario (run scenario journal))
-unfolding report report_lines heading_text bus_text outcome_text
+    → report scenario journal ≡ heading_text scenario journal ++ (bus_text scenario (run scenario journal) ++ nodes_and_messages_text scenario (run scenario journal))
+unfolding report report_lines heading_text bus_text nodes_and_messages_text
 report-is scenario journal = simp (concat-append, append_assoc, append-nil)

@@ -1,0 +1,42 @@
+use super::*;
+use std::test::Fail;
+
+const HELP: &str = "\
+Runs scenarios of reliable broadcast on one CAN bus.
+
+usage: canely replay < SCENARIO > REPORT
+       canely --help
+       canely --version
+
+replay reads a scenario, runs it by its own journal or, where it has none, by the round robin
+journal, and writes the report of the run.
+
+status 0  done
+       2  the words are none of these
+       3  the scenario or its journal was refused, and one line says so
+       4  reading failed
+       5  writing failed
+       6  out of memory, and nothing was written
+       7  more than 8388608 bytes were read
+";
+
+#[test]
+fn words_that_ask_for_a_text(rt: HostRuntime) -> Result<(), Fail> {
+    let alloc = rt.alloc();
+    for (words, wanted) in [
+        (["--help"].as_slice(), HELP),
+        (["--version"].as_slice(), "canely 1\n"),
+        (["replay"].as_slice(), ""),
+        (["--help", "--version"].as_slice(), ""),
+        ([].as_slice(), ""),
+    ] {
+        let mut given = Vec::new(alloc);
+        for word in words {
+            given.push(String::from_str(alloc, word)?)?;
+        }
+        let text = text_for(alloc, &given)?;
+        let shown = text.as_ref().map_or("", |text| text.as_str());
+        assert_eq!(rt; shown, wanted);
+    }
+    Ok(())
+}
