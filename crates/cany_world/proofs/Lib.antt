@@ -4,7 +4,6 @@ pub mod FollowFacts
 pub mod JournalFacts
 pub mod OpeningFacts
 pub mod PlaceFacts
-pub mod ReplyFacts
 pub mod RoundFacts
 pub mod SettledFacts
 pub mod SlotFacts

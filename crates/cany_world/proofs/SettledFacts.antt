@@ -1,5 +1,5 @@
 -- When a message is settled, by what the controllers and the nodes have.
-use Rattle.std.proofs.Common.{◌≡◌, ℕ, zero, suc, ◌+◌, ◌-◌, ◌<◌, ◌≤◌, ◌&&◌, ◌||◌, Bool, true, false, not, List, [], ◌∷◌, length, map, Contains, refl, ap, sym, subst, ◌∙◌, arith}
+use Rattle.std.proofs.Common.{◌≡◌, ℕ, zero, suc, ◌+◌, ◌-◌, ◌<◌, ◌≤◌, ◌&&◌, ◌||◌, Bool, true, false, not, List, [], ◌∷◌, length, get_or, map, Contains, refl, ap, sym, subst, ◌∙◌, arith}
 use Rattle.std.specs.Prelude.{slice_get, option_map, Option, Some}
 use Rattle.std.specs.List.{list_any, list_all, range_with_len}
 use Rattle.std.proofs.lemmas.List.{length-map}
@@ -18,6 +18,7 @@ use Rattle.cany_node.specs.Node.{NodeParts}
 use Rattle.cany_world.specs.Controllers.{awaits, has_read}
 use Rattle.cany_world.specs.Settled.{IsAbout, is_asked, has_ahead}
 use Rattle.cany_world.proofs.AlikeFacts.{all_read_same, awaited_same}
+use Rattle.cany_world.proofs.PlaceFacts.{found}
 
 -- ---- the four parts
 
@@ -111,26 +112,34 @@ pub record HasMessage (scenario : ScenarioParts) (index : ℕ) (send : SendAsk) 
 contains_at : {X : Type 0} (xs : List X) (i : ℕ) (x : X) → slice_get xs i ≡ Some x → Contains xs x
 contains_at xs i x at = (i, slice_get_within xs i x at, get_or_from_slice_get xs i x x at)
 
-pub has_message : (scenario : ScenarioParts) (keys : List MsgKey) (index : ℕ) (send : SendAsk) (key : MsgKey) → IsLegalScenario scenario → keys ≡ map message_key (messages_of scenario.sends)
-    → slice_get scenario.sends index ≡ Some send → slice_get keys index ≡ Some key → HasMessage scenario index send key
-has_message scenario keys index send key legal are at at_key = record {
+-- what was read at one place of the sends and of the keys belongs to one message
+pub has_message : (scenario : ScenarioParts) (keys : List MsgKey) (index : ℕ) (sends_read : List SendAsk) (keys_read : List MsgKey) (send : SendAsk) (key : MsgKey) → IsLegalScenario scenario
+    → keys ≡ map message_key (messages_of scenario.sends) → index < length scenario.sends → sends_read ≡ scenario.sends → send ≡ get_or sends_read index send
+    → keys_read ≡ keys → key ≡ get_or keys_read index key → HasMessage scenario index send key
+has_message scenario keys index sends_read keys_read send key legal are within same is same_keys is_key = record {
   message = m;
-  at = found.1;
-  stands = contains_at (messages_of scenario.sends) index m found.1;
+  at = message.1;
+  stands = contains_at (messages_of scenario.sends) index m message.1;
   service = refl;
   named = named;
   node = subst (λ k. k < scenario.params.nodes) (ap (λ (k : MsgKey). k.origin) named) sent.1;
 }
   where
-    found : (before : List SendAsk) × (slice_get (messages_of scenario.sends) index ≡ Some (message_of before send))
-    found = message_at [] scenario.sends index send at
+    at : slice_get scenario.sends index ≡ Some send
+    at = found scenario.sends sends_read index index send same refl within is
+
+    at_key : slice_get keys index ≡ Some key
+    at_key = found keys keys_read index index key same_keys refl (omega (arith, within, length-keys scenario.sends keys are)) is_key
+
+    message : (before : List SendAsk) × (slice_get (messages_of scenario.sends) index ≡ Some (message_of before send))
+    message = message_at [] scenario.sends index send at
 
     m : Message
-    m = message_of found.0 send
+    m = message_of message.0 send
 
     named : message_key m ≡ key
     named = same_Some (message_key m) key
-        (sym (ap (λ (k : List MsgKey). slice_get k index) are ∙ slice_get-map message_key (messages_of scenario.sends) index ∙ ap (option_map message_key) found.1) ∙ at_key)
+        (sym (ap (λ (k : List MsgKey). slice_get k index) are ∙ slice_get-map message_key (messages_of scenario.sends) index ∙ ap (option_map message_key) message.1) ∙ at_key)
 
     sent : IsSendOf scenario.params send
     sent = All-contains (IsSendOf scenario.params) scenario.sends send legal.sends (contains_at scenario.sends index send at)

@@ -1,6 +1,7 @@
 -- A turn of a node keeps the controllers and the nodes of a world those of the run.
-use Rattle.std.proofs.Common.{◌≡◌, ◌≢◌, ℕ, ◌-◌, ◌<◌, ◌≤◌, List, [], ◌∷◌, length, Contains, refl, sym, ap, ◌∙◌, subst, arith}
-use Rattle.std.specs.Prelude.{is_none, slice_get, slice_set, Option, Some, None}
+use Rattle.std.proofs.Common.{◌≡◌, ◌≢◌, ℕ, ◌-◌, ◌<◌, ◌≤◌, ◌==◌, false, nat_le, List, [], ◌∷◌, length, Contains, refl, sym, ap, ◌∙◌, subst, arith}
+use Rattle.std.specs.Prelude.{if◌then◌else◌, is_none, slice_get, slice_set, Option, Some, None}
+use Rattle.std.proofs.lemmas.Bool.{lt-leb, eq-eqb, ne_eqb}
 use Rattle.std.proofs.lemmas.List.{get_or_default}
 use Rattle.cany_base.specs.declared.actions.Action.{Action}
 use Rattle.cany_base.specs.declared.notice.Notice.{Notice}
@@ -10,10 +11,11 @@ use Rattle.cany_base.specs.Bounded.{Bounded}
 use Rattle.cany_base.specs.Scenario.{ScenarioParts, IsLegalScenario}
 use Rattle.cany_model.specs.declared.reply.StepReply.{StepReply}
 use Rattle.cany_model.specs.declared.reply.StepReply.TheVariants.{Done}
+use Rattle.cany_model.specs.declared.reply.StepReply.TheVariants as reply
 use Rattle.cany_model.specs.Bus.Frames.{identity_of}
 use Rattle.cany_model.specs.Bus.History.{history}
-use Rattle.cany_model.specs.Bus.Run.{run, after_turn}
-use Rattle.cany_model.specs.Bus.State.{NodeState, RunState, node_at}
+use Rattle.cany_model.specs.Bus.Run.{run, after_turn, turn_reply}
+use Rattle.cany_model.specs.Bus.State.{NodeState, RunState, node_at, reads}
 use Rattle.cany_model.specs.Rules.Effect.{Effect}
 use Rattle.cany_model.specs.Rules.Notices.{IsNextNotice, IsReadable}
 use Rattle.cany_model.specs.Rules.Rooms.{IsAskable, actions_room}
@@ -28,11 +30,36 @@ use Rattle.can_controller.specs.Controller.{ControllerState}
 use Rattle.cany_node.specs.Apply.{AreAskable}
 use Rattle.cany_node.specs.declared.reply.TurnReply.{TurnReply}
 use Rattle.cany_node.specs.declared.reply.TurnReply.TheVariants.{Turned, NothingYet, Stopped}
-use Rattle.cany_node.specs.Node.{NodeParts, IsNodeOf, CanTurn, Reads, IsTurnOf, IsRefused, reply_of, turned}
+use Rattle.cany_node.specs.Node.{NodeParts, IsNodeOf, CanTurn, Reads, IsTurnOf, IsRefused, reply_at, reply_of, turned}
 use Rattle.cany_world.specs.Kept.{IsKeptAs, AreControllersOf, IsKeptNode, AreNodesOf}
 use Rattle.cany_world.specs.Replies.{IfDone, step_reply}
 use Rattle.cany_world.proofs.ControllerFacts.{IsOldest, oldest, kept_turn}
 use Rattle.cany_world.proofs.PlaceFacts.{one_changed, set_same}
+
+-- ---- the reply
+
+-- what a controller with these notices unread answers
+by_unread : (unread : List Notice) (read count now : ℕ) → length unread ≡ count → read ≡ now
+    → step_reply (reply_at read (slice_get unread 0) None) ≡ (if count == 0 then reply.NothingYet now else Done)
+by_unread [] read count now e same = rw (eq-eqb count 0 (sym e)) (ap (λ k. reply.NothingYet k) same)
+by_unread (x ∷ xs) read count now e same =
+    let some : count ≢ 0 = λ none. absurd (omega arith) in
+    rw (ne_eqb count 0 some) refl
+
+pub turn_reply_is : (scenario : ScenarioParts) (s : RunState) (i : ℕ) (c : ControllerState) → i < scenario.params.nodes
+    → IsKeptAs scenario s.trace i (node_at s.nodes i) c → step_reply (reply_of c) ≡ turn_reply scenario i s
+turn_reply_is scenario s i c within kept = go c.stopped refl
+  where
+    there : nat_le scenario.params.nodes i ≡ false
+    there = lt-leb scenario.params.nodes i within
+
+    go : (o : Option ℕ) → c.stopped ≡ o → step_reply (reply_of c) ≡ turn_reply scenario i s
+    go (Some slot) e =
+        let here : (node_at s.nodes i).stopped ≡ Some slot = sym kept.stopped ∙ e in
+        rw (e, there, here) refl
+    go None e =
+        let here : (node_at s.nodes i).stopped ≡ None = sym kept.stopped ∙ e in
+        rw (e, there, here) (by_unread c.unread c.read (node_at s.nodes i).unread (reads s i) (kept.all e) kept.read)
 
 -- ---- the oldest unread notice
 

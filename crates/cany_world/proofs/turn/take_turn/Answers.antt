@@ -7,8 +7,7 @@ use Rattle.cany_model.specs.Bus.History.{history}
 use Rattle.cany_node.specs.Node.{NodeParts}
 use Rattle.cany_world.specs.Replies.{IfDone, step_reply}
 use Rattle.cany_world.specs.Kept.{AreControllersOf, AreNodesOf}
-use Rattle.cany_world.proofs.ReplyFacts.{turn_reply_is}
-use Rattle.cany_world.proofs.TurnFacts.{turned_on}
+use Rattle.cany_world.proofs.TurnFacts.{turn_reply_is, turned_on}
 use Rattle.cany_world.proofs.turn.take_turn.Goals as goal
 
 pub turn-requires : goal.turn-requires
@@ -21,16 +20,16 @@ turn-requires c =
     (ap (slice_get c.args.controllers.now) (sym number) ∙ slice_get-get_or c.args.controllers.now c.from-i.result c.index-controllers-i.result (omega (arith, c.requires.count)))
 
 pub returns-clause-reply : goal.returns-clause-reply
-returns-clause-reply c scenario journal rows books =
+returns-clause-reply c scenario journal row kept =
     let x : ControllerState = get_or c.args.controllers.now c.from-i.result c.index-controllers-i.result in
     let number : c.from-i.result ≡ c.args.node = c.from-i.ensures ∙ c.get.ensures.value in
     let at : slice_get c.args.controllers.now c.args.node ≡ Some x =
     ap (slice_get c.args.controllers.now) (sym number) ∙ slice_get-get_or c.args.controllers.now c.from-i.result c.index-controllers-i.result (omega (arith, c.requires.count)) in
     c.step_reply.ensures ∙ ap step_reply c.turn.ensures.reply
-    ∙ turn_reply_is scenario (run scenario journal) c.args.node x (omega (arith, number, books.whole)) (rows.each c.args.node x at)
+    ∙ turn_reply_is scenario (run scenario journal) c.args.node x (omega (arith, number, kept.whole)) (row.each c.args.node x at)
 
 pub returns-clause-done : goal.returns-clause-done
-returns-clause-done c scenario journal rows books =
+returns-clause-done c scenario journal row kept =
     let v : NodeParts = get_or c.args.nodes.now c.from-i.result c.index-nodes-i.result in
     let x : ControllerState = get_or c.args.controllers.now c.from-i.result c.index-controllers-i.result in
     let number : c.from-i.result ≡ c.args.node = c.from-i.ensures ∙ c.get.ensures.value in
@@ -41,5 +40,5 @@ returns-clause-done c scenario journal rows books =
     subst (λ k. IfDone c.step_reply.result (AreControllersOf scenario (after_turn scenario c.args.node (run scenario journal)) (slice_set c.args.controllers.now k c.turn.new.ctl)
     × AreNodesOf scenario (after_turn scenario c.args.node (run scenario journal)) (slice_set c.args.nodes.now k c.turn.new.self)) (Unit {0})) (sym number)
     (turned_on scenario journal c.args.node c.args.nodes.now c.args.controllers.now v c.turn.new.self x c.turn.new.ctl c.step_reply.result
-    rows books (omega (arith, number)) at_node at (c.step_reply.ensures ∙ ap step_reply c.turn.ensures.reply) c.turn.ensures.node
+    row kept (omega (arith, number)) at_node at (c.step_reply.ensures ∙ ap step_reply c.turn.ensures.reply) c.turn.ensures.node
     (λ notice reads. c.turn.ensures.turn scenario (history c.args.node (run scenario journal)) notice reads))

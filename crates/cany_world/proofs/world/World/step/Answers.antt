@@ -36,7 +36,7 @@ invariant_of-self c =
     let items : c.push_copy.new.self.items ≡ journal ++ c.args.step ∷ [] = ap (λ (b : Bounded Step). b.items) c.push_copy.ensures in
     let row : take c.self.inside.controllers.len (c.make-reply.new.controllers ++ drop (length c.make-reply.new.controllers) c.self.inside.controllers.items) ≡ c.make-reply.new.controllers =
     written c.make-reply.new.controllers _ c.self.inside.controllers.len (c.make-reply.auto.controllers ∙ c.as_mut_slice.ensures.len) in
-    let books : take c.self.inside.nodes.len (c.make-reply.new.nodes ++ drop (length c.make-reply.new.nodes) c.self.inside.nodes.items) ≡ c.make-reply.new.nodes =
+    let nodes : take c.self.inside.nodes.len (c.make-reply.new.nodes ++ drop (length c.make-reply.new.nodes) c.self.inside.nodes.items) ≡ c.make-reply.new.nodes =
     written c.make-reply.new.nodes _ c.self.inside.nodes.len (c.make-reply.auto.nodes ∙ c.as_mut_slice-2.ensures.len) in
     record {
       legal = c.self.invariant.legal;
@@ -44,7 +44,7 @@ invariant_of-self c =
       steps = subst (λ (j : List Step). IsLegal scenario j) (sym items) (legal_push scenario journal c.args.step c.self.invariant.steps (ap is_done (sym answer ∙ c.in-Done.is)));
       room = ap (λ (b : Bounded Step). b.room) c.push_copy.ensures ∙ c.self.invariant.room;
       stands = same_stands scenario (run scenario (journal ++ c.args.step ∷ [])) (run scenario c.push_copy.new.self.items) c.make-reply.new.bus c.make-reply.new.bus
-          c.make-reply.new.controllers _ c.make-reply.new.nodes _ (ap (run scenario) (sym items)) refl row books after;
+          c.make-reply.new.controllers _ c.make-reply.new.nodes _ (ap (run scenario) (sym items)) refl row nodes after;
       actions = c.make-reply.ensures.actions ∙ c.self.invariant.actions;
       keys = c.self.invariant.keys;
     }
@@ -55,7 +55,7 @@ invariant_of-self-in_default c =
     let s : RunState = run scenario c.self.inside.journal.items in
     let row : take c.self.inside.controllers.len (c.make-reply.new.controllers ++ drop (length c.make-reply.new.controllers) c.self.inside.controllers.items) ≡ c.make-reply.new.controllers =
     written c.make-reply.new.controllers _ c.self.inside.controllers.len (c.make-reply.auto.controllers ∙ c.as_mut_slice.ensures.len) in
-    let books : take c.self.inside.nodes.len (c.make-reply.new.nodes ++ drop (length c.make-reply.new.nodes) c.self.inside.nodes.items) ≡ c.make-reply.new.nodes =
+    let nodes : take c.self.inside.nodes.len (c.make-reply.new.nodes ++ drop (length c.make-reply.new.nodes) c.self.inside.nodes.items) ≡ c.make-reply.new.nodes =
     written c.make-reply.new.nodes _ c.self.inside.nodes.len (c.make-reply.auto.nodes ∙ c.as_mut_slice-2.ensures.len) in
     let left : (c.make-reply.new.bus ≡ c.self.inside.bus) × (c.make-reply.new.controllers ≡ c.as_mut_slice.result.now) × (c.make-reply.new.nodes ≡ c.as_mut_slice-2.result.now) =
     rw (refused c.make-reply.result c.in_default.not-Done) at c.make-reply.ensures.refused in
@@ -65,7 +65,7 @@ invariant_of-self-in_default c =
       steps = c.self.invariant.steps;
       room = c.self.invariant.room;
       stands = same_stands scenario s s c.self.inside.bus c.make-reply.new.bus c.self.inside.controllers.items _ c.self.inside.nodes.items _ refl left.0
-          (row ∙ left.1 ∙ c.as_mut_slice.ensures.value) (books ∙ left.2 ∙ c.as_mut_slice-2.ensures.value) c.self.invariant.stands;
+          (row ∙ left.1 ∙ c.as_mut_slice.ensures.value) (nodes ∙ left.2 ∙ c.as_mut_slice-2.ensures.value) c.self.invariant.stands;
       actions = c.make-reply.ensures.actions ∙ c.self.invariant.actions;
       keys = c.self.invariant.keys;
     }
