@@ -1,12 +1,12 @@
 -- How much a node can come to hold in a run: what it may ask for, what it may enter.
-use Rattle.std.specs.Prelude.{◌≡◌, ℕ, ◌+◌, ◌*◌, ◌/◌, length, count_by, Contains, Option, Some, None}
+use Rattle.std.specs.Prelude.{ℕ, ◌+◌, ◌*◌, ◌/◌, length, count_by, Option, Some, None}
 use Rattle.cany_base.specs.declared.frame.Class.{Class}
 use Rattle.cany_base.specs.declared.frame.Class.TheVariants.{Accept, Rha, Els, Fda, Join, Leave, Confirm, Tot, Rel, Ed}
 use Rattle.cany_base.specs.declared.message.Service.{Service}
 use Rattle.cany_base.specs.declared.message.Service.TheVariants as service
 use Rattle.cany_base.specs.Scenario.{ScenarioParts}
 use Rattle.cany_model.specs.Bus.Frames.{Identity}
-use Rattle.cany_model.specs.Rules.Messages.{Message, messages_of, is_service}
+use Rattle.cany_model.specs.Rules.Messages.{IsOfMessage, is_service}
 
 -- the service of the messages that frames of this class belong to
 abbrev pub service_of : Class → Option Service
@@ -20,14 +20,6 @@ service_of Confirm = Some service.Rel
 service_of Tot = Some service.Tot
 service_of Rel = Some service.Rel
 service_of Ed = Some service.Ed
-
--- the identity is that of a frame of a message of this service
-pub record IsOfMessage (scenario : ScenarioParts) (by : Service) (x : Identity) : Type 0 where
-  pub message : Message
-  pub stands : Contains (messages_of scenario.sends) message
-  pub sent_by : message.service ≡ by
-  pub number : message.seq ≡ x.number
-  pub origin : message.origin ≡ x.node
 
 abbrev pub IsAskableBy : ScenarioParts → Identity → Option Service → Type 0
 IsAskableBy scenario x (Some by) = IsOfMessage scenario by x
