@@ -25,10 +25,23 @@ use Rattle.cany_model.proofs.Rules.MessageKeys.{IsOneOf}
 
 -- ---- one effect
 
+-- the classes whose frames are sent by nodes that got them
+abbrev pub is_relayed : Class → Bool
+is_relayed class.Accept = true
+is_relayed class.Rha = false
+is_relayed class.Els = false
+is_relayed class.Fda = true
+is_relayed class.Join = false
+is_relayed class.Leave = false
+is_relayed class.Confirm = false
+is_relayed class.Tot = false
+is_relayed class.Rel = true
+is_relayed class.Ed = true
+
 -- why a node may ask for a frame, by what it has read
 pub data MayAsk (scenario : ScenarioParts) (i : ℕ) (past : List NoticeKind) (f : FrameParts) : Type 0 where
-  -- it has got the frame
-  relays : Among (λ n. n ≡ Got f) past → MayAsk scenario i past f
+  -- it has got the frame, which is one that is relayed
+  relays : is_relayed f.class ≡ true → Among (λ n. n ≡ Got f) past → MayAsk scenario i past f
   -- the frame carries a message of its own, whose slot it has read
   originates : (m : Message) → IsOneOf (messages_of scenario.sends) m → m.origin ≡ i → m.slot < length past → data_frame m ≡ f
       → MayAsk scenario i past f
@@ -82,6 +95,8 @@ pub record IsLawful (p : Protocol) : Type 0 where
   pub idle : (scenario : ScenarioParts) (i : ℕ) → p.effects scenario i [] ≡ []
   -- each effect has its reason
   pub founded : (scenario : ScenarioParts) (i : ℕ) (past : List NoticeKind) → AllByRecursion (IsFounded scenario p i past) (p.effects scenario i past)
+  -- what it has ahead is of a message that it delivers
+  pub ahead_serves : (scenario : ScenarioParts) (m : Message) (i : ℕ) (past : List NoticeKind) → p.ahead scenario m i past ≡ true → p.delivers m.service ≡ true
   -- it delivers no message twice
   pub once : (scenario : ScenarioParts) (i : ℕ) (key : MsgKey) (past : List NoticeKind) → count_by (delivers_key key) (log_by p scenario i past) ≤ 1
 
@@ -91,7 +106,7 @@ pub record IsLawful (p : Protocol) : Type 0 where
 pub asked_cause : (scenario : ScenarioParts) (i : ℕ) (past : List NoticeKind) (x : Identity) (f : FrameParts) → x ≡ identity_of f → MayAsk scenario i past f
     → (x.node ≡ i) ⊎ (0 < copies x past)
 unfolding copies
-asked_cause scenario i past x f same (relays got) =
+asked_cause scenario i past x f same (relays relayed got) =
     inr (count-from_Among (is_got x) past (Among-weaker (λ n. n ≡ Got f) (λ n. is_got x n ≡ true) (λ n is. is_got-from x f n is same) past got))
 asked_cause scenario i past x f same (originates m is origin slot frame) = inl (ap (λ (y : Identity). y.node) same ∙ sym (ap (λ (g : FrameParts). g.node) frame) ∙ origin)
 asked_cause scenario i past x f same (confirms g sent rel own frame) = inl (ap (λ (y : Identity). y.node) same ∙ sym (ap (λ (g : FrameParts). g.node) frame) ∙ own)

@@ -30,7 +30,7 @@ IsAskableBy scenario x None = ⊥
 abbrev pub IsAskable : ScenarioParts → Identity → Type 0
 IsAskable scenario x = IsAskableBy scenario x (service_of x.class)
 
--- how many membership cycles start after slot 0
+-- at most so many membership cycles start after slot 0
 abbrev pub cycles : ScenarioParts → ℕ
 cycles scenario = scenario.params.slots / scenario.params.cycle
 
@@ -38,12 +38,13 @@ cycles scenario = scenario.params.slots / scenario.params.cycle
 abbrev pub sends_by : ScenarioParts → Service → ℕ
 sends_by scenario by = count_by (λ send. is_service by send.service) scenario.sends
 
--- How many frames of a class may wait at a node: one of each message of the service; of each cycle its own vector, and a
--- failure sign of each node; two life signs; and each scripted ask to join and to leave.
+-- How many frames of a class may wait at a node: one of each message of the service; of each cycle from 0 on the node's own
+-- vector, and the failure sign of each node; of life signs two before a turn, which may ask for one more; and one of each
+-- scripted ask to join and to leave.
 abbrev pub class_room : ScenarioParts → Class → ℕ
 class_room scenario Accept = sends_by scenario service.Tot
 class_room scenario Rha = cycles scenario + 1
-class_room scenario Els = 2
+class_room scenario Els = 3
 class_room scenario Fda = scenario.params.nodes * (cycles scenario + 1)
 class_room scenario Join = length scenario.joins
 class_room scenario Leave = length scenario.leaves
