@@ -8,6 +8,7 @@ pub mod MessageKeys
 pub mod ProtocolFacts
 pub mod Protocols
 pub mod RelcanFacts
+pub mod RoomFacts
 pub mod SendFacts
 pub mod Timers
 pub mod TurnFacts

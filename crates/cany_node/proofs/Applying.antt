@@ -10,6 +10,7 @@ use Rattle.cany_model.specs.Rules.Actions.{ident_of, action_of, actions_of}
 use Rattle.cany_model.specs.Rules.Effect.{Effect, Ask, Withdraw, Enter, waiting_after, entered}
 use Rattle.cany_model.specs.Bus.Frames.{Identity}
 use Rattle.cany_model.specs.Bus.Waiting.{with_frame, without}
+use Rattle.cany_model.proofs.Rules.DeliveryFacts.{entered-append}
 use Rattle.can_controller.specs.Controller.{ControllerState}
 use Rattle.cany_node.specs.Apply.{AreDone}
 
@@ -19,13 +20,6 @@ waiting-append [] rest w = refl
 waiting-append (Ask f ∷ first) rest w = waiting-append first rest (with_frame f w)
 waiting-append (Withdraw x ∷ first) rest w = waiting-append first rest (without x w)
 waiting-append (Enter entry ∷ first) rest w = waiting-append first rest w
-
-pub entered-append : (first rest : List Effect) → entered (first ++ rest) ≡ entered first ++ entered rest
-unfolding entered
-entered-append [] rest = refl
-entered-append (Ask f ∷ first) rest = entered-append first rest
-entered-append (Withdraw x ∷ first) rest = entered-append first rest
-entered-append (Enter entry ∷ first) rest = ap (λ entries. entry ∷ entries) (entered-append first rest)
 
 -- ---- one effect
 

@@ -1,11 +1,11 @@
 -- What a node may ask for fits the identifiers, and a turn names nothing else.
 use Rattle.std.specs.Prelude.{slice_index_or}
-use Rattle.std.proofs.Common.{◌≡◌, ℕ, zero, suc, ◌+◌, ◌*◌, ◌<◌, ◌≤◌, ◌^◌, ◌==◌, ◌&&◌, true, not, inl, inr, List, [], ◌∷◌, ◌++◌, length, map, filter, drop, Contains, refl, ap, subst, arith, All}
-use Rattle.std.specs.List.{AllByRecursion, flat_map}
-use Rattle.std.proofs.lemmas.Bool.{and_parts, cond_both}
-use Rattle.std.proofs.lemmas.List.{length-append}
+use Rattle.std.proofs.Common.{◌≡◌, ℕ, suc, ◌+◌, ◌<◌, ◌^◌, ◌==◌, ◌&&◌, true, not, inl, inr, List, [], ◌∷◌, ◌++◌, length, Contains, Option, Some, None, is_some, refl, ap, sym, ◌∙◌, subst, arith, All}
+use Rattle.std.specs.List.{AllByRecursion}
+use Rattle.std.proofs.lemmas.Bool.{cond_both, false≢true, or_cases}
 use Rattle.std.proofs.lemmas.List.Elements.{All-head, All-tail}
 use Rattle.std.proofs.lemmas.List.Sums.{count_by-le-length}
+use Rattle.cany_base.specs.declared.frame.Class.{Class}
 use Rattle.cany_base.specs.declared.frame.Class.TheVariants as class
 use Rattle.cany_base.specs.declared.frame.Format.{Format}
 use Rattle.cany_base.specs.declared.frame.Format.TheVariants.{One}
@@ -14,31 +14,33 @@ use Rattle.cany_base.specs.declared.message.Service.{Service}
 use Rattle.cany_base.specs.declared.message.Service.TheVariants as service
 use Rattle.cany_base.specs.declared.notice.NoticeKind.{NoticeKind}
 use Rattle.cany_base.specs.declared.notice.NoticeKind.TheVariants.{Idle, Got, Sent, Bad}
-use Rattle.cany_base.specs.Frame.{FrameParts}
+use Rattle.cany_base.specs.Frame.{FrameParts, data_class}
+use Rattle.cany_base.specs.Limits.{most_sends}
 use Rattle.cany_base.specs.Params.{Parameters}
 use Rattle.cany_base.specs.Scenario.{ScenarioParts, IsLegalScenario, IsSendOf}
-use Rattle.cany_model.specs.Rules.Delivery.{is_delivery, delivery, delivery_effects}
-use Rattle.cany_model.specs.Rules.Eager.{has_enough, is_first_copy, eager_effects}
-use Rattle.cany_model.specs.Rules.Edcan.{edcan_at, edcan_effects}
-use Rattle.cany_model.specs.Rules.Effect.{Effect, Ask, Withdraw, Enter}
 use Rattle.cany_model.specs.Bus.Frames.{Identity, identity_of, same_class}
+use Rattle.cany_model.specs.Bus.History.{copies, is_got}
+use Rattle.cany_model.specs.Rules.Delivery.{is_delivery, delivery, delivery_effects}
+use Rattle.cany_model.specs.Rules.Eager.{has_enough}
+use Rattle.cany_model.specs.Rules.Edcan.{edcan}
+use Rattle.cany_model.specs.Rules.Effect.{Effect, Ask, Withdraw, Enter}
 use Rattle.cany_model.specs.Rules.Messages.{Message, is_from, messages_after, messages_of, data_frame}
-use Rattle.cany_model.specs.Rules.Notices.{IsDataOf, BelongsTo, IsReadable}
-use Rattle.cany_model.specs.Rules.Relcan.{confirm_effects, confirm_frame, fall_back_effects, falls_back, fell_back, is_first_got, is_timed, late_copy_effects, relcan_at, relcan_effects, timer_effects}
-use Rattle.cany_model.specs.Rules.Rooms.{askable, companions, data_identity}
-use Rattle.cany_model.specs.Rules.Sends.{is_sent_in, send_effects}
-use Rattle.cany_model.specs.Rules.Turn.{turn_effects}
-use Rattle.cany_model.proofs.Among.{Among, Among-append_cases, Among-from_Contains, Contains-from_Among, Each-append}
-use Rattle.cany_model.proofs.Promises.Belonging.{message_askable}
+use Rattle.cany_model.specs.Rules.Notices.{BelongsTo, IsDataOf, IsReadable}
+use Rattle.cany_model.specs.Rules.Protocol.{Protocol}
+use Rattle.cany_model.specs.Rules.Relcan.{confirm_effects, confirm_frame, fall_back_effects, falls_back, fell_back, late_copy_effects, relcan, relcan_at, relcan_effects, timer_effects}
+use Rattle.cany_model.specs.Rules.Rooms.{IsAskable, IsAskableBy, IsOfMessage, service_of}
+use Rattle.cany_model.specs.Rules.Sends.{scripted_sends}
+use Rattle.cany_model.specs.Rules.Turn.{protocols, turn_effects}
+use Rattle.cany_model.proofs.Among.{Among, Among-from_Contains, Among-from_count, Among-weaker, Among-which, Contains-from_Among, Each-append, Each-flat_map, Each-weaker}
+use Rattle.cany_model.proofs.Bus.Carried.{Has, is_got-true}
 use Rattle.cany_model.proofs.Bus.Identities.{same_class-true}
+use Rattle.cany_model.proofs.Rules.EdcanFacts.{edcan_is_lawful}
+use Rattle.cany_model.proofs.Rules.ProtocolFacts.{IsFounded, IsLawful, MayAsk, confirms, is_diffused, originates, relays}
+use Rattle.cany_model.proofs.Rules.RelcanFacts.{relcan_is_lawful}
+use Rattle.cany_model.proofs.Rules.SendFacts.{sends_are_lawful}
 use Rattle.can_frame.specs.Identifier.{FitsFormat}
-use Rattle.cany_node.specs.Apply.{IsAskable, NamesAskable}
+use Rattle.cany_node.specs.Apply.{NamesAskable}
 use Rattle.cany_node.specs.Node.{AreReadable}
-
-pub length-messages : (earlier sends : List SendAsk) → length (messages_after earlier sends) ≡ length sends
-unfolding messages_after
-length-messages earlier [] = refl
-length-messages earlier (send ∷ sends) = ap suc (length-messages (send ∷ earlier) sends)
 
 -- ---- the numbers of a message
 
@@ -57,183 +59,221 @@ in_range p earlier (send ∷ sends) m all (inr h) =
     let rest = in_range p (send ∷ earlier) sends m (All-tail (IsSendOf p) send sends all) h in
     (omega (arith, rest.0), rest.1, rest.2)
 
-pub message_in_range : (scenario : ScenarioParts) (m : Message) → IsLegalScenario scenario → Contains (messages_of scenario.sends) m
-    → InRange 20000 scenario.params.slots 32 m
+message_in_range : (scenario : ScenarioParts) (m : Message) → IsLegalScenario scenario → Contains (messages_of scenario.sends) m
+    → InRange most_sends scenario.params.slots 32 m
 message_in_range scenario m legal stands =
     let all = in_range scenario.params [] scenario.sends m legal.sends (Among-from_Contains (messages_of scenario.sends) m stands) in
     (omega (arith, all.0, legal.few_sends), all.1, omega (arith, all.2, legal.in_range.nodes.1))
 
--- ---- what may be asked for
-
-identities : Message → List Identity
-identities m = data_identity m ∷ companions m.service m
-
-numbered : (m : Message) (x : Identity) → Among (λ y. y ≡ x) (identities m) → (m.seq ≡ x.number) × (m.origin ≡ x.node)
-unfolding identities
-numbered m x (inl e) = (ap (λ (y : Identity). y.number) e, ap (λ (y : Identity). y.node) e)
-numbered m x (inr h) = of_companion m.service h
-  where
-    of_companion : (s : Service) → Among (λ y. y ≡ x) (companions s m) → (m.seq ≡ x.number) × (m.origin ≡ x.node)
-    of_companion service.Ed h = absurd h
-    of_companion service.Rel (inl e) = (ap (λ (y : Identity). y.number) e, ap (λ (y : Identity). y.node) e)
-    of_companion service.Rel (inr h) = absurd h
-    of_companion service.Tot (inl e) = (ap (λ (y : Identity). y.number) e, ap (λ (y : Identity). y.node) e)
-    of_companion service.Tot (inr h) = absurd h
-
-message_named : (x : Identity) (messages : List Message) → Among (λ y. y ≡ x) (flat_map identities messages)
-    → (m : Message) × Among (λ k. k ≡ m) messages × Among (λ y. y ≡ x) (identities m)
-message_named x [] h = absurd h
-message_named x (m ∷ messages) h = elim (Among-append_cases (λ y. y ≡ x) (identities m) (flat_map identities messages) h) [
-  | inl here ↦ (m, inl refl, here)
-  | inr there ↦ let rest = message_named x messages there in (rest.0, inr rest.1, rest.2)
-]
-
-data_is_askable : (scenario : ScenarioParts) (m : Message) → Contains (messages_of scenario.sends) m → IsAskable scenario (data_identity m)
-data_is_askable scenario m stands = message_askable scenario (data_frame m) (record { message = m; stands = stands; is = inl refl })
-
 pub askable_fits : (scenario : ScenarioParts) (x : Identity) → IsLegalScenario scenario → IsAskable scenario x → (x.number < 2 ^ 16) × (x.node < 2 ^ 5)
-unfolding identities
-askable_fits scenario x legal is =
-    let named = message_named x (messages_of scenario.sends) (Among-from_Contains (askable scenario) x is) in
-    let numbers = numbered named.0 x named.2 in
-    let range = message_in_range scenario named.0 legal (Contains-from_Among (messages_of scenario.sends) named.0 named.1) in
-    (omega (arith, range.0, numbers.0), omega (arith, range.2, numbers.1))
+askable_fits scenario x legal is = by_service (service_of x.class) is
+  where
+    by_service : (o : Option Service) → IsAskableBy scenario x o → (x.number < 2 ^ 16) × (x.node < 2 ^ 5)
+    by_service None h = absurd h
+    by_service (Some by) m =
+        let range = message_in_range scenario m.message legal m.stands in
+        (omega (arith, range.0, m.number), omega (arith, range.2, m.origin))
 
 pub fits_format : (format : Format) (f : FrameParts) → (f.number < 2 ^ 16) × (f.node < 2 ^ 5) → FitsFormat format f
 fits_format One f h = h
 
--- at most two identities a message
-pub few_askable : (scenario : ScenarioParts) → length (askable scenario) ≤ 2 * length scenario.sends
-unfolding identities
-few_askable scenario = omega (arith, few (messages_of scenario.sends), length-messages [] scenario.sends)
-  where
-    pair : (m : Message) (s : Service) → length (data_identity m ∷ companions s m) ≤ 2
-    pair m service.Ed = omega arith
-    pair m service.Rel = omega arith
-    pair m service.Tot = omega arith
+-- ---- a frame that was read, and one that is asked for
 
-    few : (messages : List Message) → length (flat_map identities messages) ≤ 2 * length messages
-    few [] = omega arith
-    few (m ∷ messages) = omega (arith, few messages, pair m m.service, length-append (identities m) (flat_map identities messages))
+-- what was read belongs to the scenario
+pub read_belongs : (scenario : ScenarioParts) (past : List NoticeKind) (f : FrameParts) → AreReadable scenario past → Among (Has f) past
+    → (slot : ℕ) × BelongsTo scenario slot f.class f
+read_belongs scenario [] f readable h = absurd h
+read_belongs scenario (kind ∷ past) f readable (inl (inl got)) = (length past, subst (IsReadable scenario (length past)) got readable.0)
+read_belongs scenario (kind ∷ past) f readable (inl (inr sent)) = (length past, subst (IsReadable scenario (length past)) sent readable.0)
+read_belongs scenario (kind ∷ past) f readable (inr h) = read_belongs scenario past f readable.1 h
+
+data_askable : (scenario : ScenarioParts) (by : Service) (f : FrameParts) → IsDataOf scenario by f → IsOfMessage scenario by (identity_of f)
+data_askable scenario by f h = record {
+  message = h.message;
+  stands = h.stands;
+  sent_by = h.sent_by;
+  number = ap (λ (g : FrameParts). g.number) h.frame;
+  origin = ap (λ (g : FrameParts). g.node) h.frame;
+}
+
+-- a frame of a message that belongs to the scenario may be asked for
+belongs_askable : (scenario : ScenarioParts) (slot : ℕ) (f : FrameParts) (c : Class) → is_some (service_of c) ≡ true → BelongsTo scenario slot c f
+    → IsAskableBy scenario (identity_of f) (service_of c)
+belongs_askable scenario slot f class.Accept of h = record { message = h.message; stands = h.stands; sent_by = h.sent_by; number = h.number; origin = h.origin }
+belongs_askable scenario slot f class.Rha of h = absurd (false≢true of)
+belongs_askable scenario slot f class.Els of h = absurd (false≢true of)
+belongs_askable scenario slot f class.Fda of h = absurd (false≢true of)
+belongs_askable scenario slot f class.Join of h = absurd (false≢true of)
+belongs_askable scenario slot f class.Leave of h = absurd (false≢true of)
+belongs_askable scenario slot f class.Confirm of h = record { message = h.message; stands = h.stands; sent_by = h.sent_by; number = h.number; origin = h.origin }
+belongs_askable scenario slot f class.Tot of h = data_askable scenario service.Tot f h
+belongs_askable scenario slot f class.Rel of h = data_askable scenario service.Rel f h
+belongs_askable scenario slot f class.Ed of h = data_askable scenario service.Ed f h
+
+read_askable : (scenario : ScenarioParts) (past : List NoticeKind) (f : FrameParts) → AreReadable scenario past → Among (Has f) past
+    → is_some (service_of f.class) ≡ true → IsAskable scenario (identity_of f)
+read_askable scenario past f readable h of =
+    let read = read_belongs scenario past f readable h in
+    belongs_askable scenario read.0 f f.class of read.1
+
+message_askable : (scenario : ScenarioParts) (m : Message) → Contains (messages_of scenario.sends) m → IsAskable scenario (identity_of (data_frame m))
+message_askable scenario m stands =
+    subst (IsAskableBy scenario (identity_of (data_frame m))) (serves m.service)
+    (record { message = m; stands = stands; sent_by = refl; number = refl; origin = refl })
+  where
+    serves : (by : Service) → Some by ≡ service_of (data_class by)
+    serves service.Ed = refl
+    serves service.Rel = refl
+    serves service.Tot = refl
+
+confirm_askable : (scenario : ScenarioParts) (past : List NoticeKind) (g : FrameParts) → AreReadable scenario past → Among (Has g) past → g.class ≡ class.Rel
+    → IsAskable scenario (identity_of (confirm_frame g))
+confirm_askable scenario past g readable h rel =
+    let read = read_belongs scenario past g readable h in
+    let m = data_askable scenario service.Rel g (subst (λ c. BelongsTo scenario read.0 c g) rel read.1) in
+    record { message = m.message; stands = m.stands; sent_by = m.sent_by; number = m.number; origin = m.origin }
+
+asked_askable : (scenario : ScenarioParts) (i : ℕ) (past : List NoticeKind) (f : FrameParts) → AreReadable scenario past → is_some (service_of f.class) ≡ true
+    → MayAsk scenario i past f → IsAskable scenario (identity_of f)
+asked_askable scenario i past f readable of (relays got) =
+    read_askable scenario past f readable (Among-weaker (λ n. n ≡ Got f) (Has f) (λ n e. inl e) past got) of
+asked_askable scenario i past f readable of (originates m is origin slot frame) =
+    subst (λ g. IsAskable scenario (identity_of g)) frame (message_askable scenario m (Contains-from_Among (messages_of scenario.sends) m is))
+asked_askable scenario i past f readable of (confirms g sent rel own frame) =
+    subst (λ h. IsAskable scenario (identity_of h)) frame
+    (confirm_askable scenario past g readable (Among-weaker (λ n. n ≡ Sent g) (Has g) (λ n e. inr e) past sent) rel)
+
+-- a copy of which was read
+copied_askable : (scenario : ScenarioParts) (past : List NoticeKind) (x : Identity) → AreReadable scenario past → is_some (service_of x.class) ≡ true
+    → 0 < copies x past → IsAskable scenario x
+unfolding copies
+copied_askable scenario past x readable of some =
+    let w = Among-which (λ n. is_got x n ≡ true) past (Among-from_count (is_got x) past some) in
+    let got = is_got-true x w.0 w.2 in
+    subst (IsAskable scenario) (sym got.identity)
+    (read_askable scenario past got.what readable
+    (Among-weaker (λ n. n ≡ w.0) (Has got.what) (λ n e. inl (e ∙ got.was)) past (Among-from_Contains past w.0 w.1))
+    (ap (λ (y : Identity). is_some (service_of y.class)) (sym got.identity) ∙ of))
+
+-- ---- what a protocol names
+
+-- what is withdrawn is a frame that is diffused
+abbrev WithdrawsDiffused : Effect → Type 0
+WithdrawsDiffused (Ask f) = Unit {0}
+WithdrawsDiffused (Withdraw x) = is_diffused x.class ≡ true
+WithdrawsDiffused (Enter entry) = Unit {0}
+
+-- the protocol names frames of messages, and withdraws diffused ones alone
+record NamesMessages (p : Protocol) : Type 0 where
+  lawful : IsLawful p
+  names : (c : Class) → p.names c ≡ true → is_some (service_of c) ≡ true
+  withdraws : (scenario : ScenarioParts) (i : ℕ) (past : List NoticeKind) → AllByRecursion WithdrawsDiffused (p.effects scenario i past)
+
+-- where all that it names is diffused
+diffused_by_names : (p : Protocol) → IsLawful p → ((c : Class) → p.names c ≡ true → is_diffused c ≡ true) → (scenario : ScenarioParts) (i : ℕ) (past : List NoticeKind)
+    → AllByRecursion WithdrawsDiffused (p.effects scenario i past)
+diffused_by_names p lawful diffused scenario i past =
+    Each-weaker (IsFounded scenario p i past) WithdrawsDiffused one (p.effects scenario i past) (lawful.founded scenario i past)
+  where
+    one : (e : Effect) → IsFounded scenario p i past e → WithdrawsDiffused e
+    one (Ask f) k = tt
+    one (Withdraw x) k = diffused x.class k.1
+    one (Enter entry) k = tt
+
+edcan_names : NamesMessages edcan
+edcan_names = record {
+  lawful = edcan_is_lawful;
+  names = λ c ed. rw (same_class-true c class.Ed ed) refl;
+  withdraws = diffused_by_names edcan edcan_is_lawful (λ c ed. rw (same_class-true c class.Ed ed) refl);
+}
+
+sends_names : NamesMessages scripted_sends
+sends_names = record {
+  lawful = sends_are_lawful;
+  names = λ c h. elim (or_cases (same_class c class.Ed) (same_class c class.Rel) h) [
+    | inl ed ↦ rw (same_class-true c class.Ed ed) refl
+    | inr rel ↦ rw (same_class-true c class.Rel rel) refl
+  ];
+  withdraws = diffused_by_names scripted_sends sends_are_lawful (λ c h. elim (or_cases (same_class c class.Ed) (same_class c class.Rel) h) [
+    | inl ed ↦ rw (same_class-true c class.Ed ed) refl
+    | inr rel ↦ rw (same_class-true c class.Rel rel) refl
+  ]);
+}
+
+-- RELCAN withdraws data frames and no confirmation
+delivery_withdraws : (by : Service) (i : ℕ) (f : FrameParts) (notice : NoticeKind) (before : List NoticeKind)
+    → AllByRecursion WithdrawsDiffused (delivery_effects by i f notice before)
+unfolding delivery_effects
+delivery_withdraws by i f notice before =
+    cond_both (is_delivery i f notice before) (Enter (delivery (length before) by f) ∷ []) [] (AllByRecursion WithdrawsDiffused) (λ _. (tt, tt)) (λ _. tt)
+
+late_withdraws : (p : Parameters) (i : ℕ) (f : FrameParts) (before : List NoticeKind) → f.class ≡ class.Rel
+    → AllByRecursion WithdrawsDiffused (late_copy_effects p i f before)
+late_withdraws p i f before rel =
+    cond_both (fell_back p.confirm i (identity_of f) before && has_enough p.omit (identity_of f) (Got f ∷ before)) (Withdraw (identity_of f) ∷ []) []
+    (AllByRecursion WithdrawsDiffused) (λ _. (ap is_diffused rel, tt)) (λ _. tt)
+
+notice_withdraws : (p : Parameters) (i : ℕ) (kind : NoticeKind) (before : List NoticeKind) → AllByRecursion WithdrawsDiffused (relcan_at p i kind before)
+unfolding relcan_at
+notice_withdraws p i Idle before = tt
+notice_withdraws p i Bad before = tt
+notice_withdraws p i (Got f) before =
+    cond_both (same_class f.class class.Rel) _ [] (AllByRecursion WithdrawsDiffused)
+    (λ rel. Each-append WithdrawsDiffused (delivery_effects service.Rel i f (Got f) before) (late_copy_effects p i f before)
+    (delivery_withdraws service.Rel i f (Got f) before) (late_withdraws p i f before (same_class-true f.class class.Rel rel)))
+    (λ _. tt)
+notice_withdraws p i (Sent f) before =
+    cond_both (same_class f.class class.Rel) _ [] (AllByRecursion WithdrawsDiffused)
+    (λ _. Each-append WithdrawsDiffused (delivery_effects service.Rel i f (Sent f) before) (confirm_effects i f)
+    (delivery_withdraws service.Rel i f (Sent f) before)
+    (cond_both (f.node == i) (Ask (confirm_frame f) ∷ []) [] (AllByRecursion WithdrawsDiffused) (λ _. (tt, tt)) (λ _. tt)))
+    (λ _. tt)
+
+timer_withdraws : (p : Parameters) (i : ℕ) (past : List NoticeKind) (kind : NoticeKind) → AllByRecursion WithdrawsDiffused (fall_back_effects p i past kind)
+timer_withdraws p i past Idle = tt
+timer_withdraws p i past Bad = tt
+timer_withdraws p i past (Sent f) = tt
+timer_withdraws p i past (Got f) =
+    cond_both (falls_back p.confirm i (identity_of f) past && not (has_enough p.omit (identity_of f) past)) (Ask f ∷ []) []
+    (AllByRecursion WithdrawsDiffused) (λ _. (tt, tt)) (λ _. tt)
+
+relcan_withdraws : (scenario : ScenarioParts) (i : ℕ) (past : List NoticeKind) → AllByRecursion WithdrawsDiffused (relcan_effects scenario i past)
+unfolding relcan_effects timer_effects
+relcan_withdraws scenario i [] = tt
+relcan_withdraws scenario i (kind ∷ before) =
+    let then : NoticeKind = slice_index_or (kind ∷ before) scenario.params.confirm Idle in
+    Each-append WithdrawsDiffused (relcan_at scenario.params i kind before) (fall_back_effects scenario.params i (kind ∷ before) then)
+    (notice_withdraws scenario.params i kind before) (timer_withdraws scenario.params i (kind ∷ before) then)
+
+relcan_names : NamesMessages relcan
+relcan_names = record {
+  lawful = relcan_is_lawful;
+  names = λ c h. elim (or_cases (same_class c class.Rel) (same_class c class.Confirm) h) [
+    | inl rel ↦ rw (same_class-true c class.Rel rel) refl
+    | inr confirm ↦ rw (same_class-true c class.Confirm confirm) refl
+  ];
+  withdraws = relcan_withdraws;
+}
+
+all_name_messages : AllByRecursion NamesMessages protocols
+all_name_messages = (edcan_names, (relcan_names, (sends_names, tt)))
 
 -- ---- what a turn names
 
-abbrev Each : ScenarioParts → List Effect → Type 0
-Each scenario effects = AllByRecursion (NamesAskable scenario) effects
+module _ (scenario : ScenarioParts) (i : ℕ) (past : List NoticeKind) (readable : AreReadable scenario past) where
+  effect_names : (p : Protocol) → NamesMessages p → (e : Effect) → IsFounded scenario p i past e → WithdrawsDiffused e → NamesAskable scenario e
+  effect_names p of (Ask f) k d = asked_askable scenario i past f readable (of.names f.class k.1) k.0
+  effect_names p of (Withdraw x) k d = copied_askable scenario past x readable (of.names x.class k.1) (omega (arith, k.0 d))
+  effect_names p of (Enter entry) k d = tt
 
-delivery_names : (scenario : ScenarioParts) (by : Service) (i : ℕ) (f : FrameParts) (notice : NoticeKind) (before : List NoticeKind)
-    → Each scenario (delivery_effects by i f notice before)
-unfolding delivery_effects
-delivery_names scenario by i f notice before =
-    cond_both (is_delivery i f notice before) (Enter (delivery (length before) by f) ∷ []) [] (Each scenario) (λ _. (tt, tt)) (λ _. tt)
+  effects_name : (p : Protocol) → NamesMessages p → (effects : List Effect) → AllByRecursion (IsFounded scenario p i past) effects → AllByRecursion WithdrawsDiffused effects
+      → AllByRecursion (NamesAskable scenario) effects
+  effects_name p of [] founded diffused = tt
+  effects_name p of (e ∷ effects) founded diffused = (effect_names p of e founded.0 diffused.0, effects_name p of effects founded.1 diffused.1)
 
-eager_names : (scenario : ScenarioParts) (omit : ℕ) (f : FrameParts) (past : List NoticeKind) → IsAskable scenario (identity_of f)
-    → Each scenario (eager_effects omit f past)
-unfolding eager_effects
-eager_names scenario omit f past is =
-    cond_both (has_enough omit (identity_of f) past) (Withdraw (identity_of f) ∷ []) _ (Each scenario) (λ _. (is, tt))
-    (λ _. cond_both (is_first_copy (identity_of f) past) (Ask f ∷ []) [] (Each scenario) (λ _. (is, tt)) (λ _. tt))
-
-data_named : (scenario : ScenarioParts) (kind : Service) (f : FrameParts) → IsDataOf scenario kind f → IsAskable scenario (identity_of f)
-data_named scenario kind f d = message_askable scenario f (record { message = d.message; stands = d.stands; is = inl d.frame })
-
-confirm_named : (scenario : ScenarioParts) (f : FrameParts) → IsDataOf scenario service.Rel f → IsAskable scenario (identity_of (confirm_frame f))
-confirm_named scenario f d =
-    message_askable scenario (confirm_frame f) (record { message = d.message; stands = d.stands; is = inr (d.sent_by, ap confirm_frame d.frame) })
-
-edcan_names : (scenario : ScenarioParts) (omit i : ℕ) (kind : NoticeKind) (before : List NoticeKind) → IsReadable scenario (length before) kind
-    → Each scenario (edcan_at omit i kind before)
-unfolding edcan_at
-edcan_names scenario omit i Idle before readable = tt
-edcan_names scenario omit i Bad before readable = tt
-edcan_names scenario omit i (Got f) before readable =
-    cond_both (same_class f.class class.Ed) (delivery_effects service.Ed i f (Got f) before ++ eager_effects omit f (Got f ∷ before)) [] (Each scenario)
-    (λ same. Each-append (NamesAskable scenario) (delivery_effects service.Ed i f (Got f) before) (eager_effects omit f (Got f ∷ before))
-    (delivery_names scenario service.Ed i f (Got f) before)
-    (eager_names scenario omit f (Got f ∷ before)
-    (data_named scenario service.Ed f (subst (λ c. BelongsTo scenario (length before) c f) (same_class-true f.class class.Ed same) readable))))
-    (λ _. tt)
-edcan_names scenario omit i (Sent f) before readable =
-    cond_both (same_class f.class class.Ed) (delivery_effects service.Ed i f (Sent f) before) [] (Each scenario)
-    (λ _. delivery_names scenario service.Ed i f (Sent f) before) (λ _. tt)
-
-late_names : (scenario : ScenarioParts) (i : ℕ) (f : FrameParts) (before : List NoticeKind) → IsAskable scenario (identity_of f)
-    → Each scenario (late_copy_effects scenario.params i f before)
-late_names scenario i f before is =
-    cond_both (fell_back scenario.params.confirm i (identity_of f) before && has_enough scenario.params.omit (identity_of f) (Got f ∷ before))
-    (Withdraw (identity_of f) ∷ []) [] (Each scenario) (λ _. (is, tt)) (λ _. tt)
-
-confirm_names : (scenario : ScenarioParts) (i : ℕ) (f : FrameParts) → IsAskable scenario (identity_of (confirm_frame f)) → Each scenario (confirm_effects i f)
-confirm_names scenario i f is = cond_both (f.node == i) (Ask (confirm_frame f) ∷ []) [] (Each scenario) (λ _. (is, tt)) (λ _. tt)
-
--- a RELCAN data frame that a node has read is that of a message
-rel_data : (scenario : ScenarioParts) (slot : ℕ) (f : FrameParts) → same_class f.class class.Rel ≡ true → BelongsTo scenario slot f.class f
-    → IsDataOf scenario service.Rel f
-rel_data scenario slot f same belongs = subst (λ c. BelongsTo scenario slot c f) (same_class-true f.class class.Rel same) belongs
-
-relcan_names : (scenario : ScenarioParts) (i : ℕ) (kind : NoticeKind) (before : List NoticeKind) → IsReadable scenario (length before) kind
-    → Each scenario (relcan_at scenario.params i kind before)
-unfolding relcan_at
-relcan_names scenario i Idle before readable = tt
-relcan_names scenario i Bad before readable = tt
-relcan_names scenario i (Got f) before readable =
-    cond_both (same_class f.class class.Rel) (delivery_effects service.Rel i f (Got f) before ++ late_copy_effects scenario.params i f before) [] (Each scenario)
-    (λ same. Each-append (NamesAskable scenario) (delivery_effects service.Rel i f (Got f) before) (late_copy_effects scenario.params i f before)
-    (delivery_names scenario service.Rel i f (Got f) before)
-    (late_names scenario i f before (data_named scenario service.Rel f (rel_data scenario (length before) f same readable))))
-    (λ _. tt)
-relcan_names scenario i (Sent f) before readable =
-    cond_both (same_class f.class class.Rel) (delivery_effects service.Rel i f (Sent f) before ++ confirm_effects i f) [] (Each scenario)
-    (λ same. Each-append (NamesAskable scenario) (delivery_effects service.Rel i f (Sent f) before) (confirm_effects i f)
-    (delivery_names scenario service.Rel i f (Sent f) before)
-    (confirm_names scenario i f (confirm_named scenario f (rel_data scenario (length before) f same readable))))
-    (λ _. tt)
-
--- what was read so many notices before belongs to the scenario
-read_before : (scenario : ScenarioParts) (past : List NoticeKind) (age : ℕ) (kind : NoticeKind) → AreReadable scenario past
-    → slice_index_or past age Idle ≡ kind → (slot : ℕ) × IsReadable scenario slot kind
-read_before scenario [] age kind h e = (0, subst (IsReadable scenario 0) e tt)
-read_before scenario (first ∷ past) zero kind h e = (length past, subst (IsReadable scenario (length past)) e h.0)
-read_before scenario (first ∷ past) (suc age) kind h e = read_before scenario past age kind h.1 e
-
-fall_back_names : (scenario : ScenarioParts) (i slot : ℕ) (past : List NoticeKind) (kind : NoticeKind) → IsReadable scenario slot kind
-    → Each scenario (fall_back_effects scenario.params i past kind)
-fall_back_names scenario i slot past Idle readable = tt
-fall_back_names scenario i slot past Bad readable = tt
-fall_back_names scenario i slot past (Sent f) readable = tt
-fall_back_names scenario i slot past (Got f) readable =
-    cond_both (falls_back scenario.params.confirm i (identity_of f) past && not (has_enough scenario.params.omit (identity_of f) past)) (Ask f ∷ []) [] (Each scenario)
-    (λ falls.
-    let timed = and_parts (is_timed i (identity_of f)) _ (and_parts (is_timed i (identity_of f) && is_first_got (identity_of f) (drop scenario.params.confirm past)) _
-    (and_parts (falls_back scenario.params.confirm i (identity_of f) past) _ falls).0).0 in
-    let rel : same_class f.class class.Rel ≡ true = (and_parts (same_class f.class class.Rel) (not (f.node == i)) timed.0).0 in
-    (data_named scenario service.Rel f (rel_data scenario slot f rel readable), tt))
-    (λ _. tt)
-
-timer_names : (scenario : ScenarioParts) (i : ℕ) (past : List NoticeKind) → AreReadable scenario past → Each scenario (timer_effects scenario.params i past)
-unfolding timer_effects
-timer_names scenario i past readable =
-    let then = read_before scenario past scenario.params.confirm (slice_index_or past scenario.params.confirm Idle) readable refl in
-    fall_back_names scenario i then.0 past (slice_index_or past scenario.params.confirm Idle) then.1
-
-send_names : (scenario : ScenarioParts) (i slot : ℕ) (messages : List Message) → ((m : Message) → Among (λ k. k ≡ m) messages → Contains (messages_of scenario.sends) m)
-    → Each scenario (map (λ m. Ask (data_frame m)) (filter (is_sent_in i slot) messages))
-send_names scenario i slot [] all = tt
-send_names scenario i slot (m ∷ messages) all =
-    cond_both (is_sent_in i slot m) (m ∷ filter (is_sent_in i slot) messages) (filter (is_sent_in i slot) messages)
-    (λ kept. Each scenario (map (λ m. Ask (data_frame m)) kept))
-    (λ _. (data_is_askable scenario m (all m (inl refl)), send_names scenario i slot messages (λ k h. all k (inr h))))
-    (λ _. send_names scenario i slot messages (λ k h. all k (inr h)))
-
-pub turn_names : (scenario : ScenarioParts) (i : ℕ) (kind : NoticeKind) (before : List NoticeKind) → AreReadable scenario (kind ∷ before)
-    → AllByRecursion (NamesAskable scenario) (turn_effects scenario i (kind ∷ before))
-unfolding turn_effects edcan_effects relcan_effects send_effects
-turn_names scenario i kind before readable =
-    let rel : List Effect = relcan_at scenario.params i kind before ++ timer_effects scenario.params i (kind ∷ before) in
-    Each-append (NamesAskable scenario) (edcan_at scenario.params.omit i kind before ++ rel) _
-    (Each-append (NamesAskable scenario) (edcan_at scenario.params.omit i kind before) rel
-    (edcan_names scenario scenario.params.omit i kind before readable.0)
-    (Each-append (NamesAskable scenario) (relcan_at scenario.params i kind before) (timer_effects scenario.params i (kind ∷ before))
-    (relcan_names scenario i kind before readable.0)
-    (timer_names scenario i (kind ∷ before) readable)))
-    (send_names scenario i (length before) (messages_of scenario.sends) (λ m h. Contains-from_Among (messages_of scenario.sends) m h))
+  pub turn_names : AllByRecursion (NamesAskable scenario) (turn_effects scenario i past)
+  unfolding turn_effects
+  turn_names =
+      Each-flat_map (λ p. p.effects scenario i past) (NamesAskable scenario) protocols
+      (Each-weaker NamesMessages (λ p. AllByRecursion (NamesAskable scenario) (p.effects scenario i past))
+      (λ p of. effects_name p of (p.effects scenario i past) (of.lawful.founded scenario i past) (of.withdraws scenario i past)) protocols all_name_messages)

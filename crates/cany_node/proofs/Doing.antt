@@ -10,13 +10,14 @@ use Rattle.cany_base.specs.Scenario.{ScenarioParts, IsLegalScenario}
 use Rattle.cany_model.specs.Rules.Actions.{action_of, actions_of}
 use Rattle.cany_model.specs.Rules.Effect.{Effect, Ask, Withdraw, Enter, waiting_after, entered}
 use Rattle.cany_model.specs.Bus.Frames.{identity_of}
-use Rattle.cany_model.specs.Rules.Rooms.{waiting_room}
+use Rattle.cany_model.specs.Rules.Rooms.{IsAskable, waiting_room}
 use Rattle.cany_model.proofs.Bus.Waits.{AsksOnly, Each-after}
+use Rattle.cany_model.proofs.Rules.DeliveryFacts.{entered-append}
 use Rattle.can_controller.specs.Controller.{ControllerState}
 use Rattle.can_controller.specs.Waiting.{IsAscending}
 use Rattle.cany_base.specs.declared.frame.Format.{Format}
-use Rattle.cany_node.specs.Apply.{IsAskable, AreAskable, NamesAskable, AreDone, CanApply, CanDo, WithdrawsFitting}
-use Rattle.cany_node.proofs.Applying.{Stands, stands, each-front, each-at, entered-append, done-then}
+use Rattle.cany_node.specs.Apply.{AreAskable, NamesAskable, AreDone, CanApply, CanDo, WithdrawsFitting}
+use Rattle.cany_node.proofs.Applying.{Stands, stands, each-front, each-at, done-then}
 use Rattle.cany_node.proofs.Askable.{askable_fits, fits_format}
 use Rattle.cany_node.proofs.Filled.{waiting_below}
 

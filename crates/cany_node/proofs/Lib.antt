@@ -1,11 +1,10 @@
-pub mod MessageLists
-pub mod AgendaLemmas
+pub mod AgendaFacts
 pub mod Applying
 pub mod Askable
-pub mod Identities
-pub mod Filled
+pub mod AskedFacts
 pub mod Doing
-pub mod SendLemmas
-pub mod AskedLemmas
+pub mod Filled
+pub mod MessageLists
+pub mod SendFacts
 pub mod TurnSteps
 pub mod WholeTurn

@@ -21,7 +21,7 @@ unfolding messages_after passed
 messages-push earlier [] send = refl
 messages-push earlier (first ∷ sends) send = ap (λ ms. message_of earlier first ∷ ms) (messages-push (first ∷ earlier) sends send)
 
--- as many messages of a node as broadcasts
+-- as many messages of a node as sends
 messages-count : (i : ℕ) (earlier sends : List SendAsk)
     → length (filter (is_of_node i) (messages_after earlier sends)) + count_by (is_from i) earlier ≡ count_by (is_from i) (passed earlier sends)
 unfolding messages_after passed
@@ -61,7 +61,7 @@ module _ (i : ℕ) (sends : List SendAsk) (send : SendAsk) (planned : List Plann
 next_taken : (sends : List SendAsk) (k : ℕ) (send : SendAsk) → k < length sends → send ≡ get_or sends k send → take (k + 1) sends ≡ take k sends ++ send ∷ []
 next_taken sends k send within is = take_more sends k send within ∙ ap (λ x. take k sends ++ x ∷ []) (sym is)
 
--- the step to the next broadcast, where it is one of the node and where not
+-- the step to the next send, where it is one of the node and where not
 pub planned-next : (i : ℕ) (sends : List SendAsk) (k : ℕ) (send : SendAsk) (planned new : List Planned) (seq : ℕ) → k < length sends → send ≡ get_or sends k send
     → map (message_from i) planned ≡ filter (is_of_node i) (messages_of (take k sends)) → send.node ≡ i → seq ≡ length planned
     → new ≡ planned ++ record { slot = send.slot; seq = seq; service = send.service; payload = send.payload } ∷ []

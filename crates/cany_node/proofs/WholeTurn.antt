@@ -8,11 +8,7 @@ use Rattle.cany_model.specs.Rules.Effect.{waiting_after}
 use Rattle.cany_model.specs.Rules.Notices.{IsNextNotice}
 use Rattle.cany_model.specs.Rules.Turn.{turn_effects}
 use Rattle.can_controller.specs.Controller.{ControllerState}
-use Rattle.cany_node.specs.Apply.{AreAskable}
 use Rattle.cany_node.specs.Node.{NodeParts, IsNodeOf, Reads, IsTurnOf, turned}
-use Rattle.cany_node.proofs.Askable.{turn_names}
-use Rattle.cany_node.proofs.Doing.{still_askable}
-use Rattle.cany_node.proofs.TurnSteps.{readable}
 
 -- the controller once the notice is read
 abbrev pub notice_read : ℕ → ControllerState → ControllerState
@@ -39,7 +35,4 @@ whole_turn scenario past notice found v v' ctl mid ctl' most reads oldest is few
     record {
       controller = after;
       stands = subst (λ (n : Notice). IsNodeOf scenario (n.kind ∷ past) v') (sym same) (stands scenario past reads.stands next);
-      askable = λ all. subst (AreAskable scenario) (sym (ap (λ (s : ControllerState). s.waiting) after))
-          (still_askable scenario (turn_effects scenario v.node (notice.kind ∷ past)) ctl.waiting
-          (turn_names scenario v.node notice.kind past (readable scenario past notice v reads.stands reads.next, reads.stands.readable)) all);
     }

@@ -1,5 +1,5 @@
 -- What becomes of a controller and a log as actions are done.
-use Rattle.std.specs.Prelude.{◌≡◌, ◌≤◌, ◌<◌, ◌+◌, List, [], length, ◌++◌, Contains}
+use Rattle.std.specs.Prelude.{◌≡◌, ◌≤◌, ◌<◌, ◌+◌, List, length, ◌++◌}
 use Rattle.std.specs.List.{AllByRecursion}
 use Rattle.cany_base.specs.declared.actions.Action.{Action}
 use Rattle.cany_base.specs.declared.actions.Action.TheVariants as action
@@ -10,15 +10,11 @@ use Rattle.cany_base.specs.Frame.{FrameParts}
 use Rattle.cany_base.specs.Scenario.{ScenarioParts, IsLegalScenario}
 use Rattle.cany_model.specs.Rules.Actions.{actions_of}
 use Rattle.cany_model.specs.Rules.Effect.{Effect, Ask, Withdraw, Enter, waiting_after, entered}
-use Rattle.cany_model.specs.Bus.Frames.{Identity, identity_of}
-use Rattle.cany_model.specs.Rules.Rooms.{askable, waiting_room}
+use Rattle.cany_model.specs.Bus.Frames.{bare, identity_of}
+use Rattle.cany_model.specs.Rules.Rooms.{IsAskable, waiting_room}
 use Rattle.can_frame.specs.Identifier.{FitsFormat}
 use Rattle.can_controller.specs.Controller.{ControllerState}
 use Rattle.can_controller.specs.Waiting.{HasRoomFor}
-
--- the identity is one that a node may ask for
-abbrev pub IsAskable : ScenarioParts → Identity → Type 0
-IsAskable scenario x = Contains (askable scenario) x
 
 -- each waiting frame is one that a node may ask for
 abbrev pub AreAskable : ScenarioParts → List FrameParts → Type 0
@@ -56,6 +52,5 @@ CanDo (action.Enter entry) ctl log = length log.items < log.room
 -- what the effect withdraws has an identifier of its own
 abbrev pub WithdrawsFitting : Format → Effect → Type 0
 WithdrawsFitting format (Ask f) = Unit {0}
-WithdrawsFitting format (Withdraw x) =
-    FitsFormat format (record { class = x.class; number = x.number; node = x.node; inc = 0; payload = [] })
+WithdrawsFitting format (Withdraw x) = FitsFormat format (bare x)
 WithdrawsFitting format (Enter entry) = Unit {0}

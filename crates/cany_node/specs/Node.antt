@@ -55,7 +55,7 @@ pub record CanTurn (v : NodeParts) (ctl : ControllerState) (out : Bounded Action
   pub node : ctl.node ≡ v.node
   pub params : ctl.params ≡ scenario.params
   pub room : ctl.room ≡ waiting_room scenario
-  pub askable : AreAskable scenario ctl.waiting
+  pub askable : ctl.stopped ≡ None → AreAskable scenario ctl.waiting
   pub next : (notice : Notice) → slice_get ctl.unread 0 ≡ Some notice → IsNextNotice scenario past notice
   pub read : ctl.read ≡ length past
   pub free : out.items ≡ []
@@ -100,7 +100,6 @@ turned effects ctl = record ctl {
 pub record IsTurnOf (scenario : ScenarioParts) (past : List NoticeKind) (notice : Notice) (v v' : NodeParts) (ctl ctl' : ControllerState) : Type 0 where
   pub controller : ctl' ≡ turned (turn_effects scenario v.node (notice.kind ∷ past)) ctl
   pub stands : IsNodeOf scenario (notice.kind ∷ past) v'
-  pub askable : AreAskable scenario ctl.waiting → AreAskable scenario ctl'.waiting
 
 -- a node that has stopped, or has nothing to read, stays as it is
 abbrev pub IsRefused : TurnReply → NodeParts → NodeParts → ControllerState → ControllerState → Type 0

@@ -7,8 +7,8 @@ mod node;
 mod reply;
 mod rooms;
 mod sending;
-mod sharing;
+mod threads;
 
 pub use node::Node;
 pub use reply::TurnReply;
-pub use rooms::{actions_room, log_room, waiting_room};
+pub use rooms::{actions_room, waiting_room};

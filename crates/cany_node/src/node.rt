@@ -1,12 +1,10 @@
-ghost use Rattle.std.specs.Prelude.{◌≡◌, ◌≢◌, ◌<◌, ◌&&◌, [], ◌∷◌, List, length, nat_lt, false, Contains, IfOk};
+ghost use Rattle.std.specs.Prelude.{◌≡◌, ◌≢◌, ◌<◌, [], ◌∷◌, List, false, Contains, IfOk};
 ghost use Rattle.cany_base.specs.declared.notice.Notice.{Notice};
 ghost use Rattle.cany_base.specs.declared.notice.NoticeKind.{NoticeKind};
 ghost use Rattle.cany_base.specs.Scenario.{ScenarioParts};
 ghost use Rattle.cany_model.specs.Rules.Messages.{Message, messages_of, message_key};
 ghost use Rattle.cany_model.specs.Rules.Notices.{IsNextNotice};
-ghost use Rattle.cany_model.specs.Rules.Relcan.{has_timer_ahead};
-ghost use Rattle.cany_model.specs.Rules.Sends.{is_sent_at_once};
-ghost use Rattle.cany_model.specs.Rules.Turn.{turn_effects};
+ghost use Rattle.cany_model.specs.Rules.Turn.{has_asked, is_ahead_at, turn_effects};
 ghost use Rattle.cany_model.specs.Rules.Effect.{waiting_after};
 ghost use Rattle.cany_node.specs.Node.{IsNodeOf, CanTurn, CanAct, Reads, IsTurnOf, IsRefused, reply_of};
 
@@ -125,22 +123,22 @@ impl Node {
         self.log.as_slice()
     }
 
-    /// Whether the node is the origin of a scripted message of this key and has asked for its data frame.
+    /// Whether the node is the origin of a message of this key and has asked for its data frame.
     pub fn asked(&self, msg: MsgKey) -> bool
         ensures sends { (scenario : ScenarioParts) (past : List NoticeKind) → IsNodeOf scenario past self.now →
             (m : Message) → Contains (messages_of scenario.sends) m → message_key m ≡ msg → m.origin ≡ self.now.node →
-            result ≡ (is_sent_at_once m.service && nat_lt m.slot (length past)) }
+            result ≡ has_asked scenario m self.now.node past }
         ensures no_message { (scenario : ScenarioParts) (past : List NoticeKind) → IsNodeOf scenario past self.now →
             ((m : Message) → Contains (messages_of scenario.sends) m → message_key m ≡ msg → m.origin ≢ self.now.node) → result ≡ false }
     {
         msg.origin.get() == self.node.get() && self.agenda.asked(msg.seq, self.read)
     }
 
-    /// Whether a timer of the scripted message of this key lies ahead at the node.
+    /// Whether something of the message of this key is ahead at the node: a timer of RELCAN.
     pub fn ahead(&self, msg: MsgKey) -> bool
         ensures message { (scenario : ScenarioParts) (past : List NoticeKind) → IsNodeOf scenario past self.now →
             (m : Message) → Contains (messages_of scenario.sends) m → message_key m ≡ msg →
-            result ≡ has_timer_ahead scenario m self.now.node past }
+            result ≡ is_ahead_at scenario m self.now.node past }
         ensures no_message { (scenario : ScenarioParts) (past : List NoticeKind) → IsNodeOf scenario past self.now →
             ((m : Message) → Contains (messages_of scenario.sends) m → message_key m ≢ msg) → result ≡ false }
     {

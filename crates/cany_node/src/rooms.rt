@@ -18,9 +18,13 @@ pub fn waiting_room(scenario: &Scenario) -> usize
 {
     let params = scenario.params();
     let nodes = usize::from(params.nodes);
+    // of each send the data frame, and one that confirms or accepts it
     2 * scenario.sends().len()
+        // a vector of each cycle, and a failure sign of each node in it: one cycle starts in slot 0, and one is to spare
         + (nodes + 1) * (cycles(params) + 2)
+        // of each join and leave its frame
         + (scenario.joins().len() + scenario.leaves().len())
+        // two life signs, and two to spare
         + 4
 }
 
@@ -28,14 +32,16 @@ pub fn waiting_room(scenario: &Scenario) -> usize
 pub fn actions_room(scenario: &Scenario) -> usize
     ensures { result ≡ rooms.actions_room scenario.now }
 {
+    // each frame that may wait is asked for, withdrawn and entered at most, and one is to spare
     4 * waiting_room(scenario)
 }
 
 /// How many entries the log of a node may have in a run of the scenario.
-pub fn log_room(scenario: &Scenario) -> usize
+pub(crate) fn log_room(scenario: &Scenario) -> usize
     ensures { result ≡ rooms.log_room scenario.now }
 {
     let params = scenario.params();
     let cycles = cycles(params);
+    // of each message one delivery, of each cycle one view, and of each node one failure in a cycle
     scenario.sends().len() + cycles + usize::from(params.nodes) * (cycles + 1)
 }

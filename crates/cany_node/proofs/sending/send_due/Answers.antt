@@ -1,5 +1,5 @@
 use Rattle.std.proofs.Common.{◌∙◌, arith, length, refl, ap}
-use Rattle.cany_node.proofs.SendLemmas.{keeps-more, all_asked}
+use Rattle.cany_node.proofs.SendFacts.{keeps-more, all_asked}
 use Rattle.cany_node.proofs.sending.send_due.Goals as goal
 
 pub loop-planned-preserved : goal.loop-planned-preserved

@@ -1,5 +1,5 @@
 use Rattle.std.proofs.Common.{◌≡◌, ◌≤◌, ◌+◌, length}
-use Rattle.cany_node.proofs.SendLemmas.{KeepsSending}
+use Rattle.cany_node.proofs.SendFacts.{KeepsSending}
 use Rattle.cany_node.proofs.sending.send_due.Given as goal
 
 abbrev pub invariant-loop-planned : goal.invariant-loop-planned

@@ -11,7 +11,7 @@ use Rattle.cany_model.specs.Rules.Effect.{Effect, Ask}
 use Rattle.cany_model.specs.Rules.Messages.{Message, messages_of, data_frame}
 use Rattle.cany_model.specs.Rules.Sends.{is_sent_at_once, is_sent_in}
 use Rattle.cany_node.specs.declared.agenda.Planned.{Planned}
-use Rattle.cany_node.proofs.AgendaLemmas.{filter_both}
+use Rattle.cany_node.proofs.AgendaFacts.{filter_both}
 use Rattle.cany_node.specs.Agenda.{AgendaParts, message_from, is_for, is_due, IsRising, IsAgendaOf, asked_by, asks_for, sent_asks}
 
 at_once : List Message → List Effect
