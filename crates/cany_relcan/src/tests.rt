@@ -5,8 +5,8 @@ ghost use Rattle.cany_model.specs.Rules.Notices.{IsNextNotice};
 
 use crate::relcan::Relcan;
 use cany_base::{
-    Action, Actions, Class, Frame, LogEntry, Memory, MsgKey, NodeId, NodeSet, Notice,
-    NoticeKind, Params, Payload, Scenario, SendAsk, Service,
+    Action, Actions, Class, Frame, LogEntry, Memory, MsgKey, NodeId, NodeSet, Notice, NoticeKind,
+    Params, Payload, Scenario, SendAsk, Service,
 };
 use std::alloc::Global;
 use std::test::Fail;
