@@ -28,9 +28,9 @@ flip_eq k n h = elim (cases_eq k n) [
 ]
 
 -- a frame of another class is none of it
-pub is_none : (class : Class) (seq origin : ℕ) (f : FrameParts) → same_class f.class class ≡ false → is_of (frame_identity class seq origin) f ≡ false
+pub is_not_this : (class : Class) (seq origin : ℕ) (f : FrameParts) → same_class f.class class ≡ false → is_of (frame_identity class seq origin) f ≡ false
 unfolding same_identity same_class
-is_none class seq origin f other = rw (flip_eq (class_number class) (class_number f.class) other) refl
+is_not_this class seq origin f other = rw (flip_eq (class_number class) (class_number f.class) other) refl
 
 pub identity_is : (class : Class) (f : FrameParts) → f.class ≡ class → identity_of f ≡ frame_identity class f.number f.node
 identity_is class f is = λ k. record { class = is k; number = f.number; node = f.node }

@@ -58,4 +58,4 @@ named_among scenario by f named =
     ∙ number_among (messages_of scenario.sends) named.message (Among-from_Contains (messages_of scenario.sends) named.message named.stands)
 
 pub room_to_take : (number : ℕ) (table : EagerParts) → CanTake number table → IsCounted table → HasRoomFor number table
-room_to_take number table can counted = room_within table can.numbers number counted can.few can.all can.this
+room_to_take number table can counted = room_within table can.numbers number counted can.room can.all can.this

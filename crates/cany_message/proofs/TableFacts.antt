@@ -15,7 +15,7 @@ use Rattle.cany_model.specs.Rules.Notices.{NamesMessage}
 use Rattle.cany_model.proofs.Bus.Identities.{same_class-true}
 use Rattle.cany_message.specs.Numbers.{origins, message_number, message_numbers, frame_number}
 use Rattle.cany_message.specs.Table.{IsTableOf, CanTake, frame_identity}
-use Rattle.cany_message.proofs.HistoryFacts.{is_this, is_none, copies-yes, copies-no, has_own-more, copies-few, copies-idle, has_own-idle}
+use Rattle.cany_message.proofs.HistoryFacts.{is_this, is_not_this, copies-yes, copies-no, has_own-more, copies-few, copies-idle, has_own-idle}
 use Rattle.cany_message.proofs.NumberFacts.{same_number, named_among, length-message_numbers}
 
 -- a notice of which nothing is noted in a table of the class
@@ -68,7 +68,7 @@ module _ (scenario : ScenarioParts) (class : Class) (notes : ℕ → Bool) where
       → NamesMessage scenario by f → CanTake (frame_number f) table
   can_take by past table f h named = record {
     numbers = message_numbers scenario;
-    few = omega (arith, length-message_numbers scenario, h.room);
+    room = omega (arith, length-message_numbers scenario, h.room);
     all = h.messages;
     this = named_among scenario by f named;
   }
@@ -161,12 +161,12 @@ module _ (scenario : ScenarioParts) (class : Class) (notes : ℕ → Bool) where
         let parts = and_parts (notes o) (is_of (frame_identity class s o) f) both in
         let named = and_parts (s == f.number) (o == f.node) (sym (is_this class s o f (same_class-true f.class class is)) ∙ parts.1) in
         false≢true (sym apart ∙ ap notes (sym (eqb-true o f.node named.1)) ∙ parts.0))
-    | inr none ↦ ap (λ b. notes o && b) (is_none class s o f none) ∙ and_none (notes o)
+    | inr none ↦ ap (λ b. notes o && b) (is_not_this class s o f none) ∙ and_none (notes o)
   ]
 
   pub table_other : (notice : NoticeKind) (past : List NoticeKind) (table : EagerParts) → IsOther class notes notice
       → IsTableOf scenario class notes past table → IsTableOf scenario class notes (notice ∷ past) table
   table_other Idle past table other h = table_same Idle past table (λ s o. refl) (λ s o. and_none (notes o)) h
   table_other Bad past table other h = table_same Bad past table (λ s o. refl) (λ s o. and_none (notes o)) h
-  table_other (Got f) past table other h = table_same (Got f) past table (λ s o. is_none class s o f other) (λ s o. and_none (notes o)) h
+  table_other (Got f) past table other h = table_same (Got f) past table (λ s o. is_not_this class s o f other) (λ s o. and_none (notes o)) h
   table_other (Sent f) past table other h = table_same (Sent f) past table (λ s o. refl) (λ s o. not_noted f s o other) h
