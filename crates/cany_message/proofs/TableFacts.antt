@@ -2,6 +2,7 @@
 use Rattle.std.specs.Prelude.{nat_lt}
 use Rattle.std.proofs.Common.{◌≡◌, ℕ, ◌+◌, ◌<◌, ◌==◌, ◌&&◌, ◌||◌, Bool, true, false, if◌then◌else◌, inl, inr, List, ◌∷◌, length, replicate, refl, ap, sym, ◌∙◌, arith, eq-eqb}
 use Rattle.std.proofs.lemmas.Bool.{and_parts, cases_Bool, eqb-true, cases_eq, ne_eqb, lt-ltb, false≢true, false_from_ne_true}
+use Rattle.std.proofs.lemmas.Bool.Decides.{nat_tests}
 use Rattle.cany_base.specs.declared.frame.Class.{Class}
 use Rattle.cany_base.specs.declared.message.Service.{Service}
 use Rattle.cany_base.specs.declared.notice.NoticeKind.{NoticeKind}
@@ -15,7 +16,7 @@ use Rattle.cany_model.specs.Rules.Notices.{NamesMessage}
 use Rattle.cany_model.proofs.Bus.Identities.{same_class-true}
 use Rattle.cany_message.specs.Numbers.{origins, message_number, message_numbers, frame_number}
 use Rattle.cany_message.specs.Table.{IsTableOf, CanTake, frame_identity}
-use Rattle.cany_message.proofs.HistoryFacts.{is_this, is_none, copies-yes, copies-no, has_own-more, copies-few, copies-idle, has_own-idle}
+use Rattle.cany_message.proofs.HistoryFacts.{is_this, is_not_this, copies-yes, copies-no, has_own-more, copies-few, copies-idle, has_own-idle}
 use Rattle.cany_message.proofs.NumberFacts.{same_number, named_among, length-message_numbers}
 
 -- a notice of which nothing is noted in a table of the class
@@ -26,31 +27,22 @@ IsOther class notes (Got f) = same_class f.class class ≡ false
 IsOther class notes (Sent f) = (same_class f.class class && notes f.node) ≡ false
 
 and_none : (b : Bool) → (b && false) ≡ false
-and_none true = refl
-and_none false = refl
+and_none b = grind (arith, nat_tests)
 
 held_learnt : (this : Bool) (c : ℕ) (there own : Bool) → there ≡ (nat_lt 0 c || own) → (this || there) ≡ (nat_lt 0 (if this then raised c else c) || own)
-held_learnt true c there own h = let some : nat_lt 0 (raised c) ≡ true = lt-ltb 0 (raised c) (omega arith) in rw some refl
-held_learnt false c there own h = h
+held_learnt this c there own h = grind (arith, nat_tests, h)
 
 held_owned : (this c there own : Bool) → there ≡ (c || own) → (this || there) ≡ (c || (this || own))
-held_owned true true there own h = refl
-held_owned true false there own h = refl
-held_owned false c there own h = h
+held_owned this c there own h = grind (arith, nat_tests, h)
 
 raised_small : (c : ℕ) (t : Bool) → c < 1000000 → (if t then raised c else c) ≡ (if t then c + 1 else c)
-raised_small c true few = omega (arith, few)
-raised_small c false few = refl
+raised_small c t few = grind (arith, nat_tests, few)
 
 owned_then : (this noted before : Bool) → (this ≡ true → noted ≡ true) → (this || (noted && before)) ≡ (noted && (this || before))
-owned_then true true before own = refl
-owned_then true false before own = sym (own refl)
-owned_then false noted before own = refl
+owned_then this noted before own = grind (arith, nat_tests, own)
 
 own_none : (noted this before : Bool) → (noted && this) ≡ false → (noted && (this || before)) ≡ (noted && before)
-own_none true true before n = absurd (false≢true (sym n))
-own_none true false before n = refl
-own_none false this before n = refl
+own_none noted this before none = grind (arith, nat_tests, none)
 
 module _ (scenario : ScenarioParts) (class : Class) (notes : ℕ → Bool) where
   pub table_fresh : (n omit room : ℕ) (table : EagerParts) → IsFresh omit room table → omit ≡ scenario.params.omit → room ≡ length scenario.sends
@@ -68,7 +60,7 @@ module _ (scenario : ScenarioParts) (class : Class) (notes : ℕ → Bool) where
       → NamesMessage scenario by f → CanTake (frame_number f) table
   can_take by past table f h named = record {
     numbers = message_numbers scenario;
-    few = omega (arith, length-message_numbers scenario, h.room);
+    room = omega (arith, length-message_numbers scenario, h.room);
     all = h.messages;
     this = named_among scenario by f named;
   }
@@ -161,12 +153,12 @@ module _ (scenario : ScenarioParts) (class : Class) (notes : ℕ → Bool) where
         let parts = and_parts (notes o) (is_of (frame_identity class s o) f) both in
         let named = and_parts (s == f.number) (o == f.node) (sym (is_this class s o f (same_class-true f.class class is)) ∙ parts.1) in
         false≢true (sym apart ∙ ap notes (sym (eqb-true o f.node named.1)) ∙ parts.0))
-    | inr none ↦ ap (λ b. notes o && b) (is_none class s o f none) ∙ and_none (notes o)
+    | inr none ↦ ap (λ b. notes o && b) (is_not_this class s o f none) ∙ and_none (notes o)
   ]
 
   pub table_other : (notice : NoticeKind) (past : List NoticeKind) (table : EagerParts) → IsOther class notes notice
       → IsTableOf scenario class notes past table → IsTableOf scenario class notes (notice ∷ past) table
   table_other Idle past table other h = table_same Idle past table (λ s o. refl) (λ s o. and_none (notes o)) h
   table_other Bad past table other h = table_same Bad past table (λ s o. refl) (λ s o. and_none (notes o)) h
-  table_other (Got f) past table other h = table_same (Got f) past table (λ s o. is_none class s o f other) (λ s o. and_none (notes o)) h
+  table_other (Got f) past table other h = table_same (Got f) past table (λ s o. is_not_this class s o f other) (λ s o. and_none (notes o)) h
   table_other (Sent f) past table other h = table_same (Sent f) past table (λ s o. refl) (λ s o. not_noted f s o other) h

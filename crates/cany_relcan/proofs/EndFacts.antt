@@ -22,7 +22,7 @@ use Rattle.cany_model.specs.Bus.History.{copies}
 use Rattle.cany_model.specs.Rules.Relcan.{fell_back, has_confirm, relcan_at, relcan_effects, timer_effects}
 use Rattle.cany_model.proofs.Bus.Identities.{same_identity-true}
 use Rattle.cany_relcan.specs.declared.timers.Timer.{Timer}
-use Rattle.cany_relcan.specs.Relcan.{RelcanParts, AreMarksOf, AreTablesOf, HasHeard, IsRelcanOf, data_identity, is_key_of}
+use Rattle.cany_relcan.specs.Relcan.{RelcanParts, AreMarksOf, AreTablesOf, HasRead, IsRelcanOf, data_identity, is_key_of}
 use Rattle.cany_relcan.specs.RelcanSteps.{after_timer, ask_actions, asks_at_end, due_frame, fallen_after, is_confirmed, marked, timer_actions, without_due}
 use Rattle.cany_relcan.specs.Timers.{oldest_from, without_from, started_by, started_since}
 use Rattle.cany_relcan.proofs.TablesFacts.{confirmed_is}
@@ -145,13 +145,13 @@ module _ (scenario : ScenarioParts) (i : ℕ) (past : List NoticeKind) (v : Relc
 
 -- ---- the turn
 
--- what ends in the turn of a notice that was heard
+-- what ends in the turn of a notice that was read
 record Ends (scenario : ScenarioParts) (i slot n : ℕ) (notice : NoticeKind) (past : List NoticeKind) (v : RelcanParts) : Type 0 where
   is : scenario.params.confirm ≡ suc n
   due : due_frame slot v ≡ first_frame (started_now i (drop n past))
   rest : (without_due slot v).timers.running ≡ started_since i (suc n) (notice ∷ past)
 
-ends : (scenario : ScenarioParts) (i slot : ℕ) (notice : NoticeKind) (past : List NoticeKind) (v : RelcanParts) → HasHeard scenario i notice past v → slot ≡ length past
+ends : (scenario : ScenarioParts) (i slot : ℕ) (notice : NoticeKind) (past : List NoticeKind) (v : RelcanParts) → HasRead scenario i notice past v → slot ≡ length past
     → Ends scenario i slot (scenario.params.confirm - 1) notice past v
 ends scenario i slot notice past v h at =
     let is : scenario.params.confirm ≡ suc (scenario.params.confirm - 1) = omega (arith, h.limits.legal.in_range.confirm.0) in
@@ -168,7 +168,7 @@ due_rel : (scenario : ScenarioParts) (i slot n : ℕ) (notice : NoticeKind) (pas
     → (f : FrameParts) → due_frame slot v ≡ Some f → f.class ≡ class.Rel
 due_rel scenario i slot n notice past v e f is = due_class i (drop n past) f (sym e.due ∙ is)
 
-marks_are : (scenario : ScenarioParts) (i slot n : ℕ) (notice : NoticeKind) (past : List NoticeKind) (v : RelcanParts) → HasHeard scenario i notice past v
+marks_are : (scenario : ScenarioParts) (i slot n : ℕ) (notice : NoticeKind) (past : List NoticeKind) (v : RelcanParts) → HasRead scenario i notice past v
     → Ends scenario i slot n notice past v → (due : Option FrameParts) → due_frame slot v ≡ due → IfSome due (λ f. f.node < origins)
     → AreMarksOf scenario.params.confirm i (notice ∷ past) (fallen_after due v.confirms v.fallen)
 marks_are scenario i slot n notice past v h e due is small s o =
@@ -179,7 +179,7 @@ marks_are scenario i slot n notice past v h e due is small s o =
     ∙ sym (fell_back-more i n (data_identity s o) notice past)
     ∙ ap (λ k. fell_back k i (data_identity s o) (notice ∷ past)) (sym e.is)
 
-pub ended_stands : (scenario : ScenarioParts) (i slot : ℕ) (notice : NoticeKind) (past : List NoticeKind) (v w : RelcanParts) → HasHeard scenario i notice past v → slot ≡ length past
+pub ended_stands : (scenario : ScenarioParts) (i slot : ℕ) (notice : NoticeKind) (past : List NoticeKind) (v w : RelcanParts) → HasRead scenario i notice past v → slot ≡ length past
     → IfSome (due_frame slot v) (λ f. f.node < origins) → w ≡ after_timer (due_frame slot v) (without_due slot v) → IsRelcanOf scenario i (notice ∷ past) w
 ended_stands scenario i slot notice past v w h at small state =
     let e : Ends scenario i slot (scenario.params.confirm - 1) notice past v = ends scenario i slot notice past v h at in
@@ -197,7 +197,7 @@ ended_stands scenario i slot notice past v w h at small state =
     })
 
 pub turn_actions : (scenario : ScenarioParts) (i slot : ℕ) (notice : NoticeKind) (past : List NoticeKind) (v : RelcanParts) (before middle after : List Action)
-    → HasHeard scenario i notice past v → slot ≡ length past → IfSome (due_frame slot v) (λ f. f.node < origins)
+    → HasRead scenario i notice past v → slot ≡ length past → IfSome (due_frame slot v) (λ f. f.node < origins)
     → middle ≡ before ++ actions_of (relcan_at scenario.params i notice past) → after ≡ middle ++ timer_actions (due_frame slot v) v
     → after ≡ before ++ actions_of (relcan_effects scenario i (notice ∷ past))
 unfolding relcan_effects

@@ -12,7 +12,7 @@ use Rattle.cany_base.specs.Frame.{FrameParts}
 use Rattle.cany_base.specs.Scenario.{ScenarioParts}
 use Rattle.cany_diffuse.specs.Eager.{EagerParts, copies_of, IsFresh, IsLearnt, IsOwned}
 use Rattle.cany_message.specs.Numbers.{origins, message_number, frame_number}
-use Rattle.cany_message.proofs.HistoryFacts.{has_copy-counted, identity_is, is_none}
+use Rattle.cany_message.proofs.HistoryFacts.{has_copy-counted, identity_is, is_not_this}
 use Rattle.cany_message.proofs.NoticeFacts.{got_belongs}
 use Rattle.cany_message.proofs.TableFacts.{IsOther, table_fresh, table_got, table_other, table_sent}
 use Rattle.cany_model.specs.Bus.Frames.{identity_of, is_of, same_class}
@@ -117,4 +117,4 @@ module _ (scenario : ScenarioParts) (i : ℕ) (past : List NoticeKind) (copies c
       not_got Idle other g rel = refl
       not_got Bad other g rel = refl
       not_got (Sent f) other g rel = refl
-      not_got (Got f) other g rel = ap (λ x. is_of x f) (identity_is class.Rel g rel) ∙ is_none class.Rel g.number g.node f other
+      not_got (Got f) other g rel = ap (λ x. is_of x f) (identity_is class.Rel g rel) ∙ is_not_this class.Rel g.number g.node f other

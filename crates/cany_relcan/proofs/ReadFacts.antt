@@ -20,7 +20,7 @@ use Rattle.cany_model.specs.Bus.History.{copies, has_own}
 use Rattle.cany_model.specs.Rules.Notices.{IsNextNotice, NamesMessage}
 use Rattle.cany_model.specs.Rules.Relcan.{has_copy, is_timed}
 use Rattle.cany_relcan.specs.declared.timers.Timer.{Timer}
-use Rattle.cany_relcan.specs.Relcan.{RelcanParts, HasLimitsOf, IsRelcanOf, HasHeard, CanHear, data_identity, is_key_of, of_own, of_none}
+use Rattle.cany_relcan.specs.Relcan.{RelcanParts, HasLimitsOf, IsRelcanOf, HasRead, CanRead, data_identity, is_key_of, of_own, of_none}
 use Rattle.cany_relcan.specs.RelcanSteps.{starts_timer, timers_with, was_delivered}
 use Rattle.cany_relcan.specs.Timers.{TimersParts, started_by, started_since}
 use Rattle.cany_relcan.proofs.TablesFacts.{tables_confirmed, tables_got, tables_other, tables_sent}
@@ -31,9 +31,9 @@ use Rattle.cany_relcan.proofs.TablesFacts.{tables_confirmed, tables_got, tables_
 pub at_own_node : (scenario : ScenarioParts) (i : ℕ) (past : List NoticeKind) (v : RelcanParts) → IsRelcanOf scenario i past v → IsRelcanOf scenario v.node past v
 at_own_node scenario i past v h = subst (λ n. IsRelcanOf scenario n past v) (sym h.limits.node) h
 
-pub can_hear : (scenario : ScenarioParts) (i : ℕ) (past : List NoticeKind) (v : RelcanParts) (notice : Notice) → IsRelcanOf scenario i past v
-    → IsNextNotice scenario past notice → CanHear v notice
-can_hear scenario i past v notice h next = record { scenario = scenario; past = past; stands = at_own_node scenario i past v h; next = next }
+pub can_read : (scenario : ScenarioParts) (i : ℕ) (past : List NoticeKind) (v : RelcanParts) (notice : Notice) → IsRelcanOf scenario i past v
+    → IsNextNotice scenario past notice → CanRead v notice
+can_read scenario i past v notice h next = record { scenario = scenario; past = past; stands = at_own_node scenario i past v h; next = next }
 
 -- ---- room
 
@@ -108,10 +108,10 @@ module _ (scenario : ScenarioParts) (i : ℕ) (past : List NoticeKind) (v w : Re
       ∙ ap (λ b. (b && not (f.node == i)) && not (has_copy (identity_of f) past)) (sym is)
 
   -- a copy of a data frame
-  pub heard_copy : (slot : ℕ) → f.class ≡ class.Rel → same_class f.class class.Rel ≡ true → slot ≡ length past → slot < scenario.params.slots
+  pub read_copy : (slot : ℕ) → f.class ≡ class.Rel → same_class f.class class.Rel ≡ true → slot ≡ length past → slot < scenario.params.slots
       → IsLearnt (frame_number f) v.copies w.copies → w ≡ record v { copies = w.copies; timers = timers_with (starts_timer v f) slot f v.timers }
-      → HasHeard scenario i (Got f) past w
-  heard_copy slot rel is at within learnt state =
+      → HasRead scenario i (Got f) past w
+  read_copy slot rel is at within learnt state =
       let timers : w.timers ≡ timers_with (starts_timer v f) slot f v.timers = ap (λ (x : RelcanParts). x.timers) state in
       let fallen : w.fallen ≡ v.fallen = ap (λ (x : RelcanParts). x.fallen) state in
       let confirms = ap (λ (x : RelcanParts). x.confirms) state in
@@ -134,9 +134,9 @@ module _ (scenario : ScenarioParts) (i : ℕ) (past : List NoticeKind) (v w : Re
       }
 
   -- a confirmation
-  pub heard_confirmation : f.class ≡ class.Confirm → same_class f.class class.Rel ≡ false → length past < scenario.params.slots
-      → IsLearnt (frame_number f) v.confirms w.confirms → w ≡ record v { confirms = w.confirms } → HasHeard scenario i (Got f) past w
-  heard_confirmation is other within learnt state = subst (HasHeard scenario i (Got f) past) (sym state) (record {
+  pub read_confirmation : f.class ≡ class.Confirm → same_class f.class class.Rel ≡ false → length past < scenario.params.slots
+      → IsLearnt (frame_number f) v.confirms w.confirms → w ≡ record v { confirms = w.confirms } → HasRead scenario i (Got f) past w
+  read_confirmation is other within learnt state = subst (HasRead scenario i (Got f) past) (sym state) (record {
     limits = same_limits;
     tables = tables_confirmed scenario i past v.copies v.confirms h.tables f small named w.confirms is (omega (arith, within, h.limits.legal.in_range.slots)) learnt;
     timers = none_started i scenario.params.confirm (Got f) past v.timers.running h.timers (no_timer i (Got f) past other);
@@ -153,8 +153,8 @@ module _ (scenario : ScenarioParts) (i : ℕ) (past : List NoticeKind) (v w : Re
       }
 
   -- the node's own transmission of the data frame of its own message
-  pub heard_sent : f.class ≡ class.Rel → f.node ≡ i → IsOwned (frame_number f) v.copies w.copies → w ≡ record v { copies = w.copies } → HasHeard scenario i (Sent f) past w
-  heard_sent rel own owned state = subst (HasHeard scenario i (Sent f) past) (sym state) (record {
+  pub read_sent : f.class ≡ class.Rel → f.node ≡ i → IsOwned (frame_number f) v.copies w.copies → w ≡ record v { copies = w.copies } → HasRead scenario i (Sent f) past w
+  read_sent rel own owned state = subst (HasRead scenario i (Sent f) past) (sym state) (record {
     limits = same_limits;
     tables = tables_sent scenario i past v.copies v.confirms h.tables f small named w.copies rel own owned;
     timers = none_started i scenario.params.confirm (Sent f) past v.timers.running h.timers refl;
@@ -171,9 +171,9 @@ module _ (scenario : ScenarioParts) (i : ℕ) (past : List NoticeKind) (v w : Re
       }
 
 -- any other notice
-pub heard_other : (scenario : ScenarioParts) (i : ℕ) (notice : NoticeKind) (past : List NoticeKind) (v : RelcanParts)
-    → IsOther class.Rel (of_own i) notice → IsOther class.Confirm of_none notice → IsRelcanOf scenario i past v → HasHeard scenario i notice past v
-heard_other scenario i notice past v no_data no_confirm h = record {
+pub read_other : (scenario : ScenarioParts) (i : ℕ) (notice : NoticeKind) (past : List NoticeKind) (v : RelcanParts)
+    → IsOther class.Rel (of_own i) notice → IsOther class.Confirm of_none notice → IsRelcanOf scenario i past v → HasRead scenario i notice past v
+read_other scenario i notice past v no_data no_confirm h = record {
   limits = h.limits;
   tables = tables_other scenario i past v.copies v.confirms h.tables notice no_data no_confirm;
   timers = none_started i scenario.params.confirm notice past v.timers.running h.timers (no_timer i notice past no_data);
