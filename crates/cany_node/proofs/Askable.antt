@@ -24,11 +24,11 @@ use Rattle.cany_model.specs.Rules.Delivery.{is_delivery, delivery, delivery_effe
 use Rattle.cany_model.specs.Rules.Eager.{has_enough}
 use Rattle.cany_model.specs.Rules.Edcan.{edcan}
 use Rattle.cany_model.specs.Rules.Effect.{Effect, Ask, Withdraw, Enter}
-use Rattle.cany_model.specs.Rules.Messages.{Message, is_from, messages_after, messages_of, data_frame}
+use Rattle.cany_model.specs.Rules.Messages.{IsOfMessage, Message, is_from, messages_after, messages_of, data_frame}
 use Rattle.cany_model.specs.Rules.Notices.{BelongsTo, IsDataOf, IsReadable}
 use Rattle.cany_model.specs.Rules.Protocol.{Protocol}
 use Rattle.cany_model.specs.Rules.Relcan.{confirm_effects, confirm_frame, fall_back_effects, falls_back, fell_back, late_copy_effects, relcan, relcan_at, relcan_effects, timer_effects}
-use Rattle.cany_model.specs.Rules.Rooms.{IsAskable, IsAskableBy, IsOfMessage, service_of}
+use Rattle.cany_model.specs.Rules.Rooms.{IsAskable, IsAskableBy, service_of}
 use Rattle.cany_model.specs.Rules.Sends.{scripted_sends}
 use Rattle.cany_model.specs.Rules.Turn.{protocols, turn_effects}
 use Rattle.cany_model.proofs.Among.{Among, Among-from_Contains, Among-from_count, Among-weaker, Among-which, Contains-from_Among, Each-append, Each-flat_map, Each-weaker}
@@ -135,7 +135,7 @@ confirm_askable scenario past g readable h rel =
 
 asked_askable : (scenario : ScenarioParts) (i : ℕ) (past : List NoticeKind) (f : FrameParts) → AreReadable scenario past → is_some (service_of f.class) ≡ true
     → MayAsk scenario i past f → IsAskable scenario (identity_of f)
-asked_askable scenario i past f readable of (relays got) =
+asked_askable scenario i past f readable of (relays relayed got) =
     read_askable scenario past f readable (Among-weaker (λ n. n ≡ Got f) (Has f) (λ n e. inl e) past got) of
 asked_askable scenario i past f readable of (originates m is origin slot frame) =
     subst (λ g. IsAskable scenario (identity_of g)) frame (message_askable scenario m (Contains-from_Among (messages_of scenario.sends) m is))

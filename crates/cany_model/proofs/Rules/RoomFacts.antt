@@ -14,8 +14,8 @@ use Rattle.cany_base.specs.declared.message.Service.{Service}
 use Rattle.cany_base.specs.declared.message.Service.TheVariants as service
 use Rattle.cany_base.specs.Scenario.{ScenarioParts}
 use Rattle.cany_model.specs.Bus.Frames.{Identity, same_class, same_identity}
-use Rattle.cany_model.specs.Rules.Messages.{Message, is_service, message_of, messages_after, messages_of}
-use Rattle.cany_model.specs.Rules.Rooms.{IsAskable, IsAskableBy, IsOfMessage, class_room, cycles, sends_by, service_of, waiting_room}
+use Rattle.cany_model.specs.Rules.Messages.{IsOfMessage, Message, is_service, message_of, messages_after, messages_of}
+use Rattle.cany_model.specs.Rules.Rooms.{IsAskable, IsAskableBy, class_room, cycles, sends_by, service_of, waiting_room}
 use Rattle.cany_model.proofs.Among.{Among, Among-from_any, Among-from_Contains, Among-gives, Among-map, Among-weaker, Among-with, Each-weaker, any-from_Among, count-cons}
 use Rattle.cany_model.proofs.Bus.Identities.{same_class-true, same_identity-from, same_identity-true, same_identity_self}
 
