@@ -1,6 +1,6 @@
 -- What a node may ask for fits the identifiers, and a turn names nothing else.
 use Rattle.std.specs.Prelude.{slice_index_or}
-use Rattle.std.proofs.Common.{◌≡◌, ℕ, suc, ◌+◌, ◌<◌, ◌^◌, ◌==◌, ◌&&◌, true, not, inl, inr, List, [], ◌∷◌, ◌++◌, length, Contains, Option, Some, None, is_some, refl, ap, sym, ◌∙◌, subst, arith, All}
+use Rattle.std.proofs.Common.{◌≡◌, ℕ, suc, ◌+◌, ◌<◌, ◌^◌, ◌==◌, ◌&&◌, true, not, inl, inr, List, [], ◌∷◌, length, Contains, Option, Some, None, is_some, refl, ap, sym, ◌∙◌, subst, arith, All}
 use Rattle.std.specs.List.{AllByRecursion}
 use Rattle.std.proofs.lemmas.Bool.{cond_both, false≢true, or_cases}
 use Rattle.std.proofs.lemmas.List.Elements.{All-head, All-tail}

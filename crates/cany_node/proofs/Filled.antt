@@ -1,5 +1,5 @@
 -- How many frames wait at most, and how many entries a log has.
-use Rattle.std.proofs.Common.{◌≡◌, ℕ, suc, ◌+◌, ◌<◌, ◌≤◌, ◌==◌, ◌&&◌, inl, inr, Bool, true, false, List, [], ◌∷◌, ◌++◌, length, map, filter, drop, count_by, refl, ap, sym, subst, ◌∙◌, arith, eqb-true, eq-eqb, All}
+use Rattle.std.proofs.Common.{◌≡◌, ℕ, suc, ◌<◌, ◌≤◌, ◌==◌, inl, inr, Bool, true, false, List, [], ◌∷◌, length, map, filter, drop, count_by, refl, ap, sym, subst, ◌∙◌, arith, eqb-true, eq-eqb, All}
 use Rattle.std.specs.List.{AllByRecursion, flat_map}
 use Rattle.std.proofs.lemmas.Bool.{and_from, and_parts, cases_Bool, cond_both, false≢true}
 use Rattle.std.proofs.lemmas.List.Elements.{All-head, All-tail}

@@ -1,5 +1,5 @@
 -- How many frames may wait at a node: of each class at most as many as its room, and so of all fewer than the room.
-use Rattle.std.proofs.Common.{◌≡◌, ℕ, ◌+◌, ◌*◌, ◌<◌, ◌≤◌, ◌&&◌, inl, inr, Bool, true, false, cond, List, [], ◌∷◌, length, count_by, sum_by, Contains, Option, Some, None, refl, ap, sym, ◌∙◌, subst, arith}
+use Rattle.std.proofs.Common.{◌≡◌, ℕ, ◌+◌, ◌<◌, ◌≤◌, ◌&&◌, inl, inr, Bool, true, false, cond, List, [], ◌∷◌, length, count_by, sum_by, Option, Some, None, refl, ap, sym, ◌∙◌, subst, arith}
 use Rattle.std.specs.List.{AllByRecursion}
 use Rattle.std.proofs.Math.Nat.{add-mul, mul-add}
 use Rattle.std.proofs.lemmas.Bool.{and_from, cases_Bool}
@@ -11,7 +11,7 @@ use Rattle.cany_base.specs.declared.message.Service.{Service}
 use Rattle.cany_base.specs.declared.message.Service.TheVariants as service
 use Rattle.cany_base.specs.Frame.{FrameParts, data_class}
 use Rattle.cany_base.specs.Scenario.{ScenarioParts}
-use Rattle.cany_model.specs.Bus.Frames.{Identity, identity_of, is_of, same_class, same_identity}
+use Rattle.cany_model.specs.Bus.Frames.{Identity, identity_of, is_of, same_class}
 use Rattle.cany_model.specs.Rules.Messages.{Message, is_service, message_of, messages_after, messages_of}
 use Rattle.cany_model.specs.Rules.Rooms.{IsAskable, IsAskableBy, IsOfMessage, class_room, cycles, sends_by, service_of, waiting_room}
 use Rattle.cany_model.proofs.Among.{Among, Among-from_Contains, Among-weaker, Each-weaker, count-cons, count-from_Among, count-no, count-yes}
