@@ -46,10 +46,11 @@ pub record IsRead (p : Protocol) (past : List NoticeKind) (slot : ℕ) (by : Ser
   pub now : length past ≡ suc slot
   pub serves : p.delivers by ≡ true
 
+-- an entry that a protocol makes: none makes those of failures and views yet
 abbrev pub IsFoundedEntry : Protocol → List NoticeKind → LogEntry → Type 0
 IsFoundedEntry p past (Deliver slot by msg payload) = IsRead p past slot by msg payload
-IsFoundedEntry p past (Failed slot node cycle) = Unit {0}
-IsFoundedEntry p past (View slot number members) = Unit {0}
+IsFoundedEntry p past (Failed slot node cycle) = ⊥
+IsFoundedEntry p past (View slot number members) = ⊥
 
 -- the frames that are withdrawn only with more than omit copies: those of eager diffusion, and those of a node that falls back
 abbrev pub is_diffused : Class → Bool
@@ -67,7 +68,7 @@ is_diffused class.Ed = true
 -- the effect has its reason in what was read, and names only what the protocol names
 abbrev pub IsFounded : ScenarioParts → Protocol → ℕ → List NoticeKind → Effect → Type 0
 IsFounded scenario p i past (Ask f) = MayAsk scenario i past f × (p.names f.class ≡ true)
-IsFounded scenario p i past (Withdraw x) = (is_diffused x.class ≡ true → scenario.params.omit < copies x past) × (p.names x.class ≡ true)
+IsFounded scenario p i past (Withdraw x) = ((is_diffused x.class ≡ true) × (scenario.params.omit < copies x past)) × (p.names x.class ≡ true)
 IsFounded scenario p i past (Enter entry) = IsFoundedEntry p past entry
 
 -- ---- a protocol
@@ -106,7 +107,7 @@ ask_of scenario p i past x (Enter entry) h k = absurd h
 pub withdrawal_of : (scenario : ScenarioParts) (p : Protocol) (i : ℕ) (past : List NoticeKind) (x : Identity) (e : Effect) → Withdraws x e
     → IsFounded scenario p i past e → is_diffused x.class ≡ true → scenario.params.omit < copies x past
 withdrawal_of scenario p i past x (Ask f) h k d = absurd h
-withdrawal_of scenario p i past x (Withdraw y) h k d = rw h (k.0 (rw (← h) d))
+withdrawal_of scenario p i past x (Withdraw y) h k d = rw h k.0.1
 withdrawal_of scenario p i past x (Enter entry) h k d = absurd h
 
 pub asks_only : (scenario : ScenarioParts) (p : Protocol) (i : ℕ) (past : List NoticeKind) (P : FrameParts → Type 0) (e : Effect)
