@@ -1,7 +1,7 @@
 -- How many frames wait at most, and how many entries a log has.
-use Rattle.std.proofs.Common.{◌≡◌, ℕ, suc, ◌<◌, ◌≤◌, ◌==◌, inl, inr, Bool, true, false, List, [], ◌∷◌, length, map, filter, drop, count_by, refl, ap, sym, subst, ◌∙◌, arith, eqb-true, eq-eqb, All}
-use Rattle.std.specs.List.{AllByRecursion, flat_map}
-use Rattle.std.proofs.lemmas.Bool.{and_from, and_parts, cases_Bool, cond_both, false≢true}
+use Rattle.std.proofs.Common.{◌≡◌, ℕ, suc, ◌<◌, ◌≤◌, ◌==◌, inl, inr, true, List, [], ◌∷◌, length, drop, count_by, refl, ap, sym, subst, ◌∙◌, arith, eqb-true, eq-eqb, All}
+use Rattle.std.specs.List.{AllByRecursion}
+use Rattle.std.proofs.lemmas.Bool.{and_from, and_parts, cases_Bool, false≢true}
 use Rattle.std.proofs.lemmas.List.Elements.{All-head, All-tail}
 use Rattle.std.proofs.lemmas.List.Sums.{count_by-le-length}
 use Rattle.cany_base.specs.declared.log_entry.LogEntry.{LogEntry}
@@ -11,31 +11,21 @@ use Rattle.cany_base.specs.declared.message.SendAsk.{SendAsk}
 use Rattle.cany_base.specs.declared.message.Service.{Service}
 use Rattle.cany_base.specs.declared.message.Service.TheVariants.{Ed, Rel, Tot}
 use Rattle.cany_base.specs.declared.notice.NoticeKind.{NoticeKind}
-use Rattle.cany_base.specs.declared.notice.NoticeKind.TheVariants.{Idle, Got, Sent, Bad}
 use Rattle.cany_base.specs.Frame.{FrameParts, data_class, identifier_of}
 use Rattle.cany_base.specs.Scenario.{ScenarioParts}
-use Rattle.cany_model.specs.Bus.Frames.{Identity, bare, identity_of, is_of, same_class}
+use Rattle.cany_model.specs.Bus.Frames.{Identity, bare, identity_of, is_of}
 use Rattle.cany_model.specs.Promises.Safe.{delivers_key}
-use Rattle.cany_model.specs.Rules.Delivery.{is_delivery, delivery}
-use Rattle.cany_model.specs.Rules.Edcan.{edcan}
-use Rattle.cany_model.specs.Rules.Effect.{Ask, entered}
 use Rattle.cany_model.specs.Rules.Log.{log_from}
-use Rattle.cany_model.specs.Rules.Messages.{Message, messages_after, messages_of, message_key, data_frame}
+use Rattle.cany_model.specs.Rules.Messages.{Message, messages_after, messages_of, message_key}
 use Rattle.cany_model.specs.Rules.Notices.{BelongsTo, IsDataOf}
 use Rattle.cany_model.specs.Rules.Protocol.{Protocol}
-use Rattle.cany_model.specs.Rules.Relcan.{relcan}
 use Rattle.cany_model.specs.Rules.Rooms.{waiting_room, log_room}
-use Rattle.cany_model.specs.Rules.Sends.{is_sent_in, scripted_sends, send_effects}
-use Rattle.cany_model.specs.Rules.Turn.{protocols, turn_effects}
-use Rattle.cany_model.proofs.Among.{Among, Among-drop, Among-from_Contains, Among-from_count, Among-weaker, Each-append, count-no, count-yes}
+use Rattle.cany_model.proofs.Among.{Among, Among-drop, Among-from_Contains, Among-from_count, Among-weaker, Each-weaker, count-no, count-yes}
 use Rattle.cany_model.proofs.Bus.Carried.{Has}
 use Rattle.cany_model.proofs.Bus.Identities.{same_identity-true}
-use Rattle.cany_model.proofs.Rules.DeliveryFacts.{DeliversAtOnce, entered-append, entries_at, entries_with}
-use Rattle.cany_model.proofs.Rules.EdcanFacts.{edcan_delivers, edcan_is_lawful}
 use Rattle.cany_model.proofs.Rules.LogFacts.{log_once, log_split, made_by}
 use Rattle.cany_model.proofs.Rules.MessageKeys.{IsOneOf, same_message}
 use Rattle.cany_model.proofs.Rules.ProtocolFacts.{IsFoundedEntry, IsLawful, log_by}
-use Rattle.cany_model.proofs.Rules.RelcanFacts.{relcan_delivers, relcan_is_lawful}
 use Rattle.cany_model.proofs.Rules.RoomFacts.{few_waiting, pigeonhole}
 use Rattle.can_controller.specs.Waiting.{IsAscending}
 use Rattle.cany_node.specs.Apply.{AreAskable}
@@ -63,67 +53,6 @@ ascending_distinct (f ∷ w) up x = elim (cases_Bool (is_of x f)) [
 
 pub waiting_below : (scenario : ScenarioParts) (w : List FrameParts) → IsAscending w → AreAskable scenario w → length w < waiting_room scenario
 waiting_below scenario w up all = few_waiting scenario w (ascending_distinct w up) all
-
--- ---- the entries of a log are deliveries
-
-abbrev is_deliver : LogEntry → Bool
-is_deliver (Deliver slot by msg payload) = true
-is_deliver (Failed slot node cycle) = false
-is_deliver (View slot number members) = false
-
-abbrev AllDeliver : List LogEntry → Type 0
-AllDeliver entries = AllByRecursion (λ e. is_deliver e ≡ true) entries
-
-abbrev DeliversOnly : Protocol → Type 0
-DeliversOnly p = (scenario : ScenarioParts) (i : ℕ) (past : List NoticeKind) → AllDeliver (entered (p.effects scenario i past))
-
-delivery_only : (by : Service) (i : ℕ) (f : FrameParts) (kind : NoticeKind) (before : List NoticeKind) → AllDeliver (entries_with by i f kind before)
-delivery_only by i f kind before =
-    cond_both (same_class f.class (data_class by)) _ [] AllDeliver
-    (λ _. cond_both (is_delivery i f kind before) (delivery (length before) by f ∷ []) [] AllDeliver (λ _. (refl, tt)) (λ _. tt)) (λ _. tt)
-
-at_once : (p : Protocol) (by : Service) → IsLawful p → DeliversAtOnce p by → DeliversOnly p
-unfolding entered
-at_once p by lawful delivers scenario i [] = rw (lawful.idle scenario i) tt
-at_once p by lawful delivers scenario i (kind ∷ before) = rw (delivers scenario i kind before) (entries kind)
-  where
-    entries : (kind : NoticeKind) → AllDeliver (entries_at by i kind before)
-    entries Idle = tt
-    entries Bad = tt
-    entries (Got f) = delivery_only by i f (Got f) before
-    entries (Sent f) = delivery_only by i f (Sent f) before
-
-sends_only : DeliversOnly scripted_sends
-unfolding send_effects entered
-sends_only scenario i [] = tt
-sends_only scenario i (kind ∷ before) = none (filter (is_sent_in i (length before)) (messages_of scenario.sends))
-  where
-    none : (messages : List Message) → AllDeliver (entered (map (λ m. Ask (data_frame m)) messages))
-    none [] = tt
-    none (m ∷ messages) = none messages
-
-all_deliver_only : AllByRecursion DeliversOnly protocols
-all_deliver_only = (at_once edcan Ed edcan_is_lawful edcan_delivers, (at_once relcan Rel relcan_is_lawful relcan_delivers, (sends_only, tt)))
-
-turn_only : (scenario : ScenarioParts) (i : ℕ) (past : List NoticeKind) (ps : List Protocol) → AllByRecursion DeliversOnly ps
-    → AllDeliver (entered (flat_map (λ p. p.effects scenario i past) ps))
-unfolding entered
-turn_only scenario i past [] all = tt
-turn_only scenario i past (p ∷ ps) all =
-    let rest = flat_map (λ q. q.effects scenario i past) ps in
-    rw (entered-append (p.effects scenario i past) rest)
-    (Each-append (λ e. is_deliver e ≡ true) (entered (p.effects scenario i past)) (entered rest) (all.0 scenario i past) (turn_only scenario i past ps all.1))
-
-log_only : (scenario : ScenarioParts) (i : ℕ) (past : List NoticeKind) → AllDeliver (log_from scenario i past)
-unfolding log_from turn_effects
-log_only scenario i [] = tt
-log_only scenario i (kind ∷ before) =
-    Each-append (λ e. is_deliver e ≡ true) (log_from scenario i before) (entered (turn_effects scenario i (kind ∷ before))) (log_only scenario i before)
-    (turn_only scenario i (kind ∷ before) protocols all_deliver_only)
-
-all_counted : (entries : List LogEntry) → AllDeliver entries → length entries ≤ count_by is_deliver entries
-all_counted [] only = omega arith
-all_counted (e ∷ entries) only = omega (arith, count-yes is_deliver e entries only.0, all_counted entries only.1)
 
 -- ---- a delivery is of a message of the scenario
 
@@ -180,20 +109,21 @@ delivered_once scenario i past readable key =
 
 -- ---- as many as the messages
 
+-- the entry delivers one of the messages
 abbrev Known : ScenarioParts → LogEntry → Type 0
-Known scenario e = is_deliver e ≡ true → Among (λ m. delivers_key (message_key m) e ≡ true) (messages_of scenario.sends)
+Known scenario e = Among (λ m. delivers_key (message_key m) e ≡ true) (messages_of scenario.sends)
 
 known : (scenario : ScenarioParts) (p : Protocol) (past : List NoticeKind) (place : ℕ) (e : LogEntry) → AreReadable scenario past
     → IsFoundedEntry p (drop place past) e → Known scenario e
-known scenario p past place (Deliver slot by msg payload) readable r is =
+known scenario p past place (Deliver slot by msg payload) readable r =
     let e : LogEntry = Deliver slot by msg payload in
     let itself : delivers_key msg e ≡ true =
     and_from (msg.origin == msg.origin) (msg.seq == msg.seq) (eq-eqb msg.origin msg.origin refl) (eq-eqb msg.seq msg.seq refl) in
     let s = served_by scenario p past place msg e readable itself r in
     Among-weaker (λ k. k ≡ s.message) (λ m. delivers_key (message_key m) e ≡ true)
     (λ m same. ap (λ k. delivers_key (message_key k) e) same ∙ ap (λ key. delivers_key key e) s.named ∙ itself) (messages_of scenario.sends) s.stands
-known scenario p past place (Failed slot node cycle) readable r is = absurd (false≢true is)
-known scenario p past place (View slot number members) readable r is = absurd (false≢true is)
+known scenario p past place (Failed slot node cycle) readable r = absurd r
+known scenario p past place (View slot number members) readable r = absurd r
 
 each_known : (scenario : ScenarioParts) (i : ℕ) (past : List NoticeKind) → AreReadable scenario past → AllByRecursion (Known scenario) (log_from scenario i past)
 each_known scenario i past readable = each_from (log_from scenario i past) one
@@ -213,14 +143,19 @@ unfolding messages_after
 length-messages earlier [] = refl
 length-messages earlier (send ∷ sends) = ap suc (length-messages (send ∷ earlier) sends)
 
+all_counted : (entries : List LogEntry) → length entries ≤ count_by (λ e. true) entries
+all_counted [] = omega arith
+all_counted (e ∷ entries) = omega (arith, count-yes (λ d. true) e entries refl, all_counted entries)
+
 -- no log has more entries than there are messages
 pub log_within : (scenario : ScenarioParts) (i : ℕ) (past : List NoticeKind) → AreReadable scenario past → length (log_from scenario i past) ≤ log_room scenario
 log_within scenario i past readable =
     omega (
       arith,
-      all_counted (log_from scenario i past) (log_only scenario i past),
-      pigeonhole (λ m e. delivers_key (message_key m) e) is_deliver (λ m. true) (log_from scenario i past) (messages_of scenario.sends)
-          (each_known scenario i past readable) (λ m. delivered_once scenario i past readable (message_key m)),
+      all_counted (log_from scenario i past),
+      pigeonhole (λ m e. delivers_key (message_key m) e) (λ e. true) (λ m. true) (log_from scenario i past) (messages_of scenario.sends)
+          (Each-weaker (Known scenario) (λ e. true ≡ true → Known scenario e) (λ e k is. k) (log_from scenario i past) (each_known scenario i past readable))
+          (λ m. delivered_once scenario i past readable (message_key m)),
       count_by-le-length (λ m. true) (messages_of scenario.sends),
       length-messages [] scenario.sends,
     )
