@@ -23,7 +23,7 @@ use Rattle.cany_model.proofs.Bus.Carried.{is_got-true}
 use Rattle.cany_model.proofs.Bus.Identities.{same_class-true}
 use Rattle.cany_model.proofs.Bus.Waits.{Asks}
 use Rattle.cany_model.proofs.Rules.DeliveryFacts.{DeliversAtOnce, EntersNone, delivers_once, delivery_enters, delivery_founded, entered-append, entered-none, entries_at}
-use Rattle.cany_model.proofs.Rules.ProtocolFacts.{IsFounded, IsLawful, confirms, is_relayed, relays}
+use Rattle.cany_model.proofs.Rules.ProtocolFacts.{IsFounded, IsLawful, confirms, enough, is_diffused, is_relayed, relays}
 
 serves : relcan.delivers Rel ≡ true
 unfolding is_service same_class
@@ -42,7 +42,7 @@ late_founded scenario i f past rel =
     (Withdraw (identity_of f) ∷ []) [] (AllByRecursion (IsFounded scenario relcan i (Got f ∷ past)))
     (λ late.
     let many = (and_parts (fell_back scenario.params.confirm i (identity_of f) past) (has_enough scenario.params.omit (identity_of f) (Got f ∷ past)) late).1 in
-    (((λ _. omega (arith, leb-true (scenario.params.omit + 1) (copies (identity_of f) (Got f ∷ past)) many)), or_left _ (same_class f.class class.Confirm) rel), tt))
+    ((enough (ap is_diffused (same_class-true f.class class.Rel rel)) (omega (arith, leb-true (scenario.params.omit + 1) (copies (identity_of f) (Got f ∷ past)) many)), or_left _ (same_class f.class class.Confirm) rel), tt))
     (λ _. tt)
 
 late_enters : (p : Parameters) (i : ℕ) (f : FrameParts) (past : List NoticeKind) → AllByRecursion EntersNone (late_copy_effects p i f past)
