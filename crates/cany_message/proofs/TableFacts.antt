@@ -69,12 +69,8 @@ module _ (scenario : ScenarioParts) (class : Class) (notes : ℕ → Bool) where
   messages_put : (by : Service) (f : FrameParts) (old new : EagerParts) → NamesMessage scenario by f → IsPut (frame_number f) old new
       → ((number : ℕ) → is_there old number ≡ true → is_among number (message_numbers scenario) ≡ true)
       → (number : ℕ) → is_there new number ≡ true → is_among number (message_numbers scenario) ≡ true
-  messages_put by f old new named put before number h = elim (cases_eq number (frame_number f)) [
-    | inl same ↦ ap (λ n. is_among n (message_numbers scenario)) same ∙ named_among scenario by f named
-    | inr other ↦
-        let rest : is_there new number ≡ is_there old number = put.there number ∙ (rw (ne_eqb number (frame_number f) other) refl) in
-        before number (sym rest ∙ h)
-  ]
+  messages_put by f old new named put before number h =
+      grind (arith, nat_tests, before number, h, put.there number, ap (λ n. is_among n (message_numbers scenario)), named_among scenario by f named)
 
   -- a frame of the class
   module _ (by : Service) (f : FrameParts) (is : f.class ≡ class) (small : f.node < origins) (named : NamesMessage scenario by f)
@@ -84,10 +80,7 @@ module _ (scenario : ScenarioParts) (class : Class) (notes : ℕ → Bool) where
 
     copies_then : (s o : ℕ) → copies (frame_identity class s o) (Got f ∷ past)
         ≡ (if is_of (frame_identity class s o) f then copies (frame_identity class s o) past + 1 else copies (frame_identity class s o) past)
-    copies_then s o = elim (cases_Bool (is_of (frame_identity class s o) f)) [
-      | inl same ↦ rw same (copies-yes (frame_identity class s o) (Got f) past same)
-      | inr other ↦ rw other (copies-no (frame_identity class s o) (Got f) past other)
-    ]
+    copies_then s o = grind (arith, nat_tests, copies-yes (frame_identity class s o) (Got f) past, copies-no (frame_identity class s o) (Got f) past)
 
     -- a copy of it
     pub table_got : length past < 1000000 → IsLearnt (frame_number f) old new → IsTableOf scenario class notes (Got f ∷ past) new

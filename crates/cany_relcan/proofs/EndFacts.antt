@@ -32,11 +32,7 @@ use Rattle.cany_relcan.proofs.TimerFacts.{EndsWith, ends_with, due_class, end_ef
 
 length-without_from : (slot : ℕ) (timers : List Timer) → length (without_from slot timers) ≤ length timers
 length-without_from slot [] = omega arith
-length-without_from slot (t ∷ timers) = go (t.first == slot)
-  where
-    go : (b : Bool) → length (if b then timers else t ∷ timers) ≤ suc (length timers)
-    go true = omega arith
-    go false = omega arith
+length-without_from slot (t ∷ timers) = grind (arith, nat_tests)
 
 length-after_oldest : (slot : ℕ) (timers : List Timer) (f : FrameParts) → oldest_from slot timers ≡ Some f → length (without_from slot timers) + 1 ≡ length timers
 length-after_oldest slot [] f is = absurd (cc)
@@ -76,26 +72,7 @@ module _ (scenario : ScenarioParts) (i : ℕ) (past : List NoticeKind) (v : Relc
   read_is f small = confirmed_is scenario i past v.copies v.confirms h f.number f.node small
 
   fallen_then : (fallen c : Bool) (this : Bool) → ((this && not c) || fallen) ≡ (if c then fallen else (fallen || (this || false)))
-  fallen_then true true this = go this
-    where
-      go : (b : Bool) → ((b && false) || true) ≡ true
-      go true = refl
-      go false = refl
-  fallen_then false true this = go this
-    where
-      go : (b : Bool) → ((b && false) || false) ≡ false
-      go true = refl
-      go false = refl
-  fallen_then true false this = go this
-    where
-      go : (b : Bool) → ((b && true) || true) ≡ true
-      go true = refl
-      go false = refl
-  fallen_then false false this = go this
-    where
-      go : (b : Bool) → ((b && true) || false) ≡ (b || false)
-      go true = refl
-      go false = refl
+  fallen_then marked c this = grind (arith, nat_tests)
 
   marked_when : (s o : ℕ) (f : FrameParts) (c : Bool)
       → list_any (is_key_of s o) (if c then v.fallen else marked f v.fallen).items
