@@ -1,7 +1,6 @@
 -- A table after one notice more.
-use Rattle.std.specs.Prelude.{nat_lt}
-use Rattle.std.proofs.Common.{◌≡◌, ℕ, ◌+◌, ◌<◌, ◌==◌, ◌&&◌, ◌||◌, Bool, true, false, if◌then◌else◌, inl, inr, List, ◌∷◌, length, replicate, refl, ap, sym, ◌∙◌, arith, eq-eqb}
-use Rattle.std.proofs.lemmas.Bool.{and_parts, cases_Bool, eqb-true, cases_eq, ne_eqb, lt-ltb, false≢true, false_from_ne_true}
+use Rattle.std.proofs.Common.{◌≡◌, ℕ, ◌+◌, ◌<◌, ◌==◌, ◌&&◌, Bool, true, false, if◌then◌else◌, List, ◌∷◌, length, replicate, refl, ap, sym, ◌∙◌, arith}
+use Rattle.std.proofs.lemmas.Bool.{false≢true}
 use Rattle.std.proofs.lemmas.Bool.Decides.{nat_tests}
 use Rattle.cany_base.specs.declared.frame.Class.{Class}
 use Rattle.cany_base.specs.declared.message.Service.{Service}
@@ -9,9 +8,9 @@ use Rattle.cany_base.specs.declared.notice.NoticeKind.{NoticeKind}
 use Rattle.cany_base.specs.declared.notice.NoticeKind.TheVariants.{Idle, Got, Sent, Bad}
 use Rattle.cany_base.specs.Frame.{FrameParts}
 use Rattle.cany_base.specs.Scenario.{ScenarioParts}
-use Rattle.cany_diffuse.specs.Eager.{EagerParts, copies_of, is_owned, is_there, is_among, raised, IsFresh, IsPut, IsLearnt, IsOwned}
+use Rattle.cany_diffuse.specs.Eager.{EagerParts, is_there, is_among, IsFresh, IsPut, IsLearnt, IsOwned}
 use Rattle.cany_model.specs.Bus.Frames.{is_of, same_class}
-use Rattle.cany_model.specs.Bus.History.{copies, has_own, is_got, is_sent}
+use Rattle.cany_model.specs.Bus.History.{copies, is_got, is_sent}
 use Rattle.cany_model.specs.Rules.Notices.{NamesMessage}
 use Rattle.cany_model.proofs.Bus.Identities.{same_class-true}
 use Rattle.cany_message.specs.Numbers.{origins, message_number, message_numbers, frame_number}
