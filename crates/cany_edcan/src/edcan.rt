@@ -107,8 +107,8 @@ impl Edcan {
         ensures few { length out.new.items ≤ length out.old.items + 2 }
         ensures room { out.new.room ≡ out.old.room }
     {
-        let is_first = !self.was_delivered(frame);
-        deliver(Service::Ed, slot, frame, is_first, out);
+        let is_new = !self.was_delivered(frame);
+        deliver(Service::Ed, slot, frame, is_new, out);
         let learnt = self.copies.learn(Data::of(frame));
         relay(&learnt, frame, out);
     }

@@ -1,5 +1,5 @@
 -- The message of the only send of a scenario, and its data frame.
-use Rattle.std.proofs.Common.{◌≡◌, ℕ, [], ◌∷◌, Contains, refl, arith}
+use Rattle.std.proofs.Common.{◌≡◌, [], ◌∷◌, Contains, refl, arith}
 use Rattle.cany_base.specs.declared.message.SendAsk.{SendAsk}
 use Rattle.cany_base.specs.Frame.{data_class}
 use Rattle.cany_base.specs.Scenario.{ScenarioParts}

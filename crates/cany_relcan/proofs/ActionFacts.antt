@@ -1,7 +1,7 @@
 -- The actions that RELCAN takes for a notice, from what it has.
 use Rattle.std.specs.Prelude.{nat_lt, nat_le}
 use Rattle.std.specs.List.{list_any}
-use Rattle.std.proofs.Common.{◌≡◌, ℕ, ◌+◌, ◌<◌, ◌==◌, ◌&&◌, ◌||◌, Bool, true, false, if◌then◌else◌, not, List, [], ◌∷◌, ◌++◌, length, refl, ap, sym, ◌∙◌, eq-eqb}
+use Rattle.std.proofs.Common.{◌≡◌, ℕ, ◌+◌, ◌<◌, ◌==◌, ◌&&◌, ◌||◌, Bool, true, false, if◌then◌else◌, not, List, [], ◌∷◌, ◌++◌, length, refl, ap, ◌∙◌, eq-eqb}
 use Rattle.cany_base.specs.declared.actions.Action.{Action}
 use Rattle.cany_base.specs.declared.actions.Action.TheVariants as action
 use Rattle.cany_base.specs.declared.frame.Class.TheVariants as class
@@ -21,7 +21,7 @@ use Rattle.cany_message.proofs.TableFacts.{IsOther}
 use Rattle.cany_model.specs.Rules.Actions.{actions_of}
 use Rattle.cany_model.specs.Rules.Delivery.{brings, delivery_effects}
 use Rattle.cany_model.specs.Rules.Eager.{has_enough}
-use Rattle.cany_model.specs.Rules.Effect.{Ask, Withdraw}
+use Rattle.cany_model.specs.Rules.Effect.{Withdraw}
 use Rattle.cany_model.specs.Bus.Frames.{identity_of, same_class}
 use Rattle.cany_model.specs.Bus.History.{copies, has_own}
 use Rattle.cany_model.specs.Rules.Relcan.{confirm_effects, confirm_frame, fell_back, late_copy_effects, relcan_at}

@@ -32,11 +32,7 @@ use Rattle.cany_relcan.proofs.TimerFacts.{EndsWith, ends_with, due_class, end_ef
 
 length-without_from : (slot : ℕ) (timers : List Timer) → length (without_from slot timers) ≤ length timers
 length-without_from slot [] = omega arith
-length-without_from slot (t ∷ timers) = go (t.first == slot)
-  where
-    go : (b : Bool) → length (if b then timers else t ∷ timers) ≤ suc (length timers)
-    go true = omega arith
-    go false = omega arith
+length-without_from slot (t ∷ timers) = grind (arith, nat_tests)
 
 length-after_oldest : (slot : ℕ) (timers : List Timer) (f : FrameParts) → oldest_from slot timers ≡ Some f → length (without_from slot timers) + 1 ≡ length timers
 length-after_oldest slot [] f is = absurd (cc)
@@ -75,28 +71,6 @@ module _ (scenario : ScenarioParts) (i : ℕ) (past : List NoticeKind) (v : Relc
   read_is : (f : FrameParts) → f.node < origins → is_confirmed v.confirms f ≡ has_confirm (data_identity f.number f.node) past
   read_is f small = confirmed_is scenario i past v.copies v.confirms h f.number f.node small
 
-  fallen_then : (fallen c : Bool) (this : Bool) → ((this && not c) || fallen) ≡ (if c then fallen else (fallen || (this || false)))
-  fallen_then true true this = go this
-    where
-      go : (b : Bool) → ((b && false) || true) ≡ true
-      go true = refl
-      go false = refl
-  fallen_then false true this = go this
-    where
-      go : (b : Bool) → ((b && false) || false) ≡ false
-      go true = refl
-      go false = refl
-  fallen_then true false this = go this
-    where
-      go : (b : Bool) → ((b && true) || true) ≡ true
-      go true = refl
-      go false = refl
-  fallen_then false false this = go this
-    where
-      go : (b : Bool) → ((b && true) || false) ≡ (b || false)
-      go true = refl
-      go false = refl
-
   marked_when : (s o : ℕ) (f : FrameParts) (c : Bool)
       → list_any (is_key_of s o) (if c then v.fallen else marked f v.fallen).items
       ≡ (if c then list_any (is_key_of s o) v.fallen.items else (list_any (is_key_of s o) v.fallen.items || ((s == f.number && o == f.node) || false)))
@@ -106,23 +80,12 @@ module _ (scenario : ScenarioParts) (i : ℕ) (past : List NoticeKind) (v : Relc
   same_confirm : (s o : ℕ) (f : FrameParts) → f.class ≡ class.Rel → is_of (data_identity s o) f ≡ true → has_confirm (data_identity s o) past ≡ has_confirm (data_identity f.number f.node) past
   same_confirm s o f rel is = ap (λ x. has_confirm x past) (same_identity-true (data_identity s o) (identity_of f) is ∙ identity_is class.Rel f rel)
 
-  falls_same : (s o : ℕ) (f : FrameParts) → f.class ≡ class.Rel → falls_with (Some f) (data_identity s o) (has_confirm (data_identity s o) past)
-      ≡ (is_of (data_identity s o) f && not (has_confirm (data_identity f.number f.node) past))
-  falls_same s o f rel = elim (cases_Bool (is_of (data_identity s o) f)) [
-    | inl this ↦ rw (this, same_confirm s o f rel this) refl
-    | inr other ↦ rw other refl
-  ]
-
   marks_after : (due : Option FrameParts) → IfSome due (λ f. f.node < origins) → ((f : FrameParts) → due ≡ Some f → f.class ≡ class.Rel) → (s o : ℕ)
       → list_any (is_key_of s o) (fallen_after due v.confirms v.fallen).items ≡ (falls_with due (data_identity s o) (has_confirm (data_identity s o) past) || list_any (is_key_of s o) v.fallen.items)
   marks_after None small rels s o = refl
   marks_after (Some f) small rels s o =
       let rel = rels f refl in
-      marked_when s o f (is_confirmed v.confirms f)
-      ∙ sym (fallen_then (list_any (is_key_of s o) v.fallen.items) (is_confirmed v.confirms f) (s == f.number && o == f.node))
-      ∙ ap (λ b. (b && not (is_confirmed v.confirms f)) || list_any (is_key_of s o) v.fallen.items) (sym (is_this class.Rel s o f rel))
-      ∙ ap (λ c. (is_of (data_identity s o) f && not c) || list_any (is_key_of s o) v.fallen.items) (read_is f small)
-      ∙ ap (λ b. b || list_any (is_key_of s o) v.fallen.items) (sym (falls_same s o f rel))
+      grind (arith, nat_tests, marked_when s o f (is_confirmed v.confirms f), is_this class.Rel s o f rel, read_is f small, same_confirm s o f rel)
 
   -- ---- actions
 

@@ -2,7 +2,8 @@
 use Rattle.std.specs.Prelude.{nat_lt}
 use Rattle.std.specs.List.{list_any}
 use Rattle.std.proofs.Common.{◌≡◌, ℕ, ◌+◌, ◌<◌, ◌≤◌, ◌==◌, ◌&&◌, ◌||◌, Bool, true, false, if◌then◌else◌, not, List, [], ◌∷◌, ◌++◌, length, refl, ap, subst, sym, ◌∙◌, arith, length-append}
-use Rattle.std.proofs.lemmas.Bool.{and_parts, false≢true}
+use Rattle.std.proofs.lemmas.Bool.{and_parts, not-true}
+use Rattle.std.proofs.lemmas.Bool.Decides.{nat_tests}
 use Rattle.std.proofs.lemmas.List.{append-nil}
 use Rattle.cany_base.specs.declared.frame.Class.TheVariants as class
 use Rattle.cany_base.specs.declared.message.Service.TheVariants as service
@@ -37,14 +38,10 @@ can_read scenario i past v notice h next = record { scenario = scenario; past = 
 
 -- ---- room
 
-not_true : (b : Bool) → not b ≡ true → b ≡ false
-not_true true h = absurd (false≢true h)
-not_true false h = refl
-
 -- a message that was not delivered has no entry yet
 new_entry : (v : RelcanParts) (f : FrameParts) → is_there v.copies (frame_number f) ≡ is_held v.copies (frame_number f) → starts_timer v f ≡ true
     → is_there v.copies (frame_number f) ≡ false
-new_entry v f there starts = there ∙ not_true (was_delivered v f) (and_parts (not (was_delivered v f)) (not (f.node == v.node)) starts).0
+new_entry v f there starts = there ∙ not-true (was_delivered v f) (and_parts (not (was_delivered v f)) (not (f.node == v.node)) starts).0
 
 spare_falls : (v : RelcanParts) (f : FrameParts) (new : EagerParts) → IsPut (frame_number f) v.copies new → is_there v.copies (frame_number f) ≡ false
     → spare_of new + 1 ≡ spare_of v.copies
@@ -70,14 +67,7 @@ fallen_fit false slot f v w is same some fit = rw (is, same) fit
 -- ---- which copy starts a timer
 
 starts_when : (c at own : Bool) → (not (c || (at && own)) && not at) ≡ ((true && not at) && not c)
-starts_when true true own = refl
-starts_when true false own = refl
-starts_when false true own = and_none (not own)
-  where
-    and_none : (b : Bool) → (b && false) ≡ false
-    and_none true = refl
-    and_none false = refl
-starts_when false false own = refl
+starts_when c at own = grind (arith, nat_tests)
 
 with_is : (b : Bool) (slot at : ℕ) (f : FrameParts) (timers : TimersParts) → slot ≡ at
     → (timers_with b slot f timers).running ≡ timers.running ++ (if b then record { frame = f; first = at } ∷ [] else [])

@@ -1,7 +1,8 @@
 -- The tables of data frames and of confirmations after one notice more.
 use Rattle.std.specs.Prelude.{nat_lt}
-use Rattle.std.proofs.Common.{◌≡◌, ℕ, zero, suc, ◌<◌, ◌==◌, ◌&&◌, ◌||◌, Bool, true, false, inl, inr, List, ◌∷◌, replicate, length, refl, ap, sym, ◌∙◌, eq-eqb}
+use Rattle.std.proofs.Common.{◌≡◌, ℕ, zero, suc, ◌<◌, ◌&&◌, ◌||◌, true, false, inl, inr, List, ◌∷◌, replicate, length, refl, ap, sym, ◌∙◌, arith, eq-eqb}
 use Rattle.std.proofs.lemmas.Bool.{or_cases, false≢true}
+use Rattle.std.proofs.lemmas.Bool.Decides.{nat_tests}
 use Rattle.cany_base.specs.declared.frame.Class.{Class}
 use Rattle.cany_base.specs.declared.frame.Class.TheVariants as class
 use Rattle.cany_base.specs.declared.message.Service.TheVariants as service
@@ -56,11 +57,7 @@ unfolding same_class
 confirmation_other f is = rw is refl
 
 pub none_noted : (f : FrameParts) → (same_class f.class class.Confirm && false) ≡ false
-none_noted f = go (same_class f.class class.Confirm)
-  where
-    go : (b : Bool) → (b && false) ≡ false
-    go true = refl
-    go false = refl
+none_noted f = grind (arith, nat_tests)
 
 -- the message that a frame names, where another frame has the same name
 named_too : (scenario : ScenarioParts) (f g : FrameParts) → g.number ≡ f.number → g.node ≡ f.node → NamesMessage scenario service.Rel f → NamesMessage scenario service.Rel g

@@ -203,7 +203,7 @@ impl Relcan {
         ensures state { self.new ≡ record self.old { confirms = self.new.confirms } }
     {
         let confirmation = confirmation_of(Data::of(frame).msg);
-        // Taken before it is counted, for what it ensures: that there is room.
+        // Called for what it ensures: no key is there twice, so there is room for this one.
         let _copies = self.confirms.copies(&confirmation);
         // Confirmations are not relayed, so what this copy calls for is not done.
         let _ = self.confirms.learn(confirmation);

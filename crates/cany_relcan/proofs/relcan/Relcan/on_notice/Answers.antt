@@ -1,14 +1,13 @@
 -- A notice, before the timer that ends in its turn.
-use Rattle.std.proofs.Common.{◌≡◌, ◌==◌, ◌&&◌, true, false, subst, sym, ◌∙◌, arith}
+use Rattle.std.proofs.Common.{◌≡◌, ◌==◌, true, subst, sym, ◌∙◌, arith}
 use Rattle.std.proofs.lemmas.Bool.{and_parts, eqb-true}
 use Rattle.cany_base.specs.declared.frame.Class.TheVariants as class
 use Rattle.cany_base.specs.declared.message.Service.TheVariants as service
 use Rattle.cany_base.specs.declared.notice.NoticeKind.TheVariants.{Idle, Got, Sent, Bad}
 use Rattle.cany_message.proofs.DeliveryFacts.{no_actions}
 use Rattle.cany_message.proofs.NoticeFacts.{got_names, sent_names}
-use Rattle.cany_message.proofs.TableFacts.{IsOther, can_take}
+use Rattle.cany_message.proofs.TableFacts.{can_take}
 use Rattle.cany_model.specs.Bus.Frames.{same_class}
-use Rattle.cany_model.specs.Rules.Relcan.{relcan_at}
 use Rattle.cany_model.proofs.Bus.Identities.{same_class-true}
 use Rattle.cany_relcan.specs.Relcan.{HasRead, of_own, of_none}
 use Rattle.cany_relcan.proofs.ActionFacts.{got_actions, sent_actions, none_at}
