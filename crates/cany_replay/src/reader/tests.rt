@@ -7,25 +7,24 @@ use cany_base::{
 };
 use std::alloc::Global;
 
-/// What a text of three nodes gives, all of them members.
-#[derive(Clone, Copy)]
-struct Parts<'a> {
-    params: Params,
-    sends: &'a [SendAsk],
-    rules: &'a [Rule],
-    journal: Option<&'a [Step]>,
-}
-
-/// Whether the text gives just these parts.
-fn gives(alloc: Global, text: &str, parts: &Parts) -> bool {
+/// Whether the text gives these parameters, sends and rules, with all three nodes as members and without a journal.
+fn gives(alloc: Global, text: &str, params: &Params, sends: &[SendAsk], rules: &[Rule]) -> bool {
     match read_scenario(alloc, text.as_bytes()) {
         Ok(scenario) => {
-            *scenario.params() == parts.params
+            scenario.params() == params
                 && scenario.members() == NodeSet::all(3)
-                && scenario.sends() == parts.sends
-                && scenario.rules() == parts.rules
-                && scenario.journal() == parts.journal
+                && scenario.sends() == sends
+                && scenario.rules() == rules
+                && scenario.journal().is_none()
         }
+        Err(_) => false,
+    }
+}
+
+/// Whether the text gives this journal.
+fn gives_journal(alloc: Global, text: &str, steps: &[Step]) -> bool {
+    match read_scenario(alloc, text.as_bytes()) {
+        Ok(scenario) => scenario.journal() == Some(steps),
         Err(_) => false,
     }
 }
@@ -76,14 +75,9 @@ fn attempt_rule(nth: u32, verdict: Verdict) -> Rule {
     }
 }
 
-/// The parts of a text of five slots.
-fn of_five_slots<'a>(sends: &'a [SendAsk], rules: &'a [Rule]) -> Parts<'a> {
-    Parts {
-        params: Params::with_defaults(3, 5),
-        sends,
-        rules,
-        journal: None,
-    }
+/// The parameters of a text of five slots that gives no others.
+fn five_slots() -> Params {
+    Params::with_defaults(3, 5)
 }
 
 #[test]
@@ -92,7 +86,7 @@ fn sends_are_read(rt: HostRuntime) {
     let one = [send(Service::Ed, &[1])];
     let text =
         "format = 1\nnodes = 3\nslots = 5\n[[send]]\nslot = 0\nnode = 0\nservice = \"ed\"\ndata = \"01\"\n";
-    assert!(rt; gives(alloc, text, &of_five_slots(&one, &[])));
+    assert!(rt; gives(alloc, text, &five_slots(), &one, &[]));
     // Digits of both cases are bytes.
     let all = [send(
         Service::Ed,
@@ -100,22 +94,22 @@ fn sends_are_read(rt: HostRuntime) {
     )];
     let text =
         "format = 1\nnodes = 3\nslots = 5\n[[send]]\nslot = 0\nnode = 0\nservice = \"ed\"\ndata = \"0123456789ABCDef\"\n";
-    assert!(rt; gives(alloc, text, &of_five_slots(&all, &[])));
+    assert!(rt; gives(alloc, text, &five_slots(), &all, &[]));
     let none = [send(Service::Rel, &[])];
     let text =
         "format = 1\nnodes = 3\nslots = 5\n[[send]]\nslot = 0\nnode = 0\nservice = \"rel\"\n";
-    assert!(rt; gives(alloc, text, &of_five_slots(&none, &[])));
+    assert!(rt; gives(alloc, text, &five_slots(), &none, &[]));
 }
 
 #[test]
 fn rules_for_slots_are_read(rt: HostRuntime) {
     let alloc = rt.alloc();
     let partial = [slot_rule(4, Verdict::Partial(NodeSet::of_bits(0b101)), 0b010)];
-    let mut wanted = of_five_slots(&[], &partial);
-    wanted.params.omit = 2;
+    let mut params = five_slots();
+    params.omit = 2;
     let text =
         "format = 1\nnodes = 3\nslots = 5\nomit = 2\n[[fault]]\nslot = 4\nverdict = \"partial\"\nreject = [2, 0, 2]\nstop = [1]\n";
-    assert!(rt; gives(alloc, text, &wanted));
+    assert!(rt; gives(alloc, text, &params, &[], &partial));
     // A slot that is Lost has no set.
     let two = [
         slot_rule(1, Verdict::Lost, 0),
@@ -123,7 +117,7 @@ fn rules_for_slots_are_read(rt: HostRuntime) {
     ];
     let text =
         "format = 1\nnodes = 3\nslots = 5\n[[fault]]\nslot = 1\nverdict = \"lost\"\nreject = [2]\n[[fault]]\nslot = 0\n";
-    assert!(rt; gives(alloc, text, &of_five_slots(&[], &two)));
+    assert!(rt; gives(alloc, text, &five_slots(), &[], &two));
 }
 
 #[test]
@@ -141,30 +135,30 @@ fn rules_for_frames_are_read(rt: HostRuntime) {
     }];
     let text =
         "format = 1\nnodes = 3\nslots = 5\n[[fault]]\nclass = \"rel\"\nnumber = 65535\nnode = 1\nnth = 100000\nverdict = \"silent\"\nreject = [2]\nstop = [0, 1]\n";
-    assert!(rt; gives(alloc, text, &of_five_slots(&[], &silent)));
+    assert!(rt; gives(alloc, text, &five_slots(), &[], &silent));
     let two = [
         attempt_rule(1, Verdict::Clean),
         attempt_rule(2, Verdict::Lost),
     ];
     let text =
         "format = 1\nnodes = 3\nslots = 5\n[[fault]]\nclass = \"ed\"\nnumber = 0\nnode = 0\nnth = 1\n[[fault]]\nclass = \"ed\"\nnumber = 0\nnode = 0\nnth = 2\nverdict = \"lost\"\n";
-    assert!(rt; gives(alloc, text, &of_five_slots(&[], &two)));
+    assert!(rt; gives(alloc, text, &five_slots(), &[], &two));
 }
 
 #[test]
 fn parameters_and_a_journal_are_read(rt: HostRuntime) {
     let alloc = rt.alloc();
-    let mut wanted = of_five_slots(&[], &[]);
-    wanted.params.lag = 2;
-    wanted.params.errors = 0;
-    wanted.params.bound = 120;
-    wanted.params.cycle = 300;
-    wanted.params.life = 130;
-    wanted.params.silence = 260;
-    wanted.params.confirm = 7;
+    let mut params = five_slots();
+    params.lag = 2;
+    params.errors = 0;
+    params.bound = 120;
+    params.cycle = 300;
+    params.life = 130;
+    params.silence = 260;
+    params.confirm = 7;
     let text =
         "format = 1\nnodes = 3\nslots = 5\nlag = 2\nerrors = 0\nbound = 120\ncycle = 300\nlife = 130\nsilence = 260\nconfirm = 7\n";
-    assert!(rt; gives(alloc, text, &wanted));
+    assert!(rt; gives(alloc, text, &params, &[], &[]));
     let steps = [
         Step::Slot,
         Step::Turn(node(0)),
@@ -173,10 +167,8 @@ fn parameters_and_a_journal_are_read(rt: HostRuntime) {
         Step::Turn(node(31)),
         Step::Slot,
     ];
-    let mut wanted = of_five_slots(&[], &[]);
-    wanted.journal = Some(&steps);
     let text = "format = 1\nnodes = 3\nslots = 5\njournal = [\".0\", \"9av.\"]\n";
-    assert!(rt; gives(alloc, text, &wanted));
+    assert!(rt; gives_journal(alloc, text, &steps));
 }
 
 #[test]
