@@ -21,30 +21,31 @@ each_of-length read (v ∷ vs) found h =
     ap length (sym (same_Some _ _ last)) ∙ ap (λ (n : ℕ). suc n) (each_of-length read vs others f)))
 
 -- so many and no more, or nothing
-only_few : {A B : Type 0} (o : Option (List A)) (next : List A → Option B) → ((found : List A) → o ≡ Some found → 20000 < length found)
-    → (o >>= (λ found. only_if (nat_le (length found) 20000) >>= (λ _. next found))) ≡ None
-only_few None next h = refl
-only_few (Some found) next h =
-    let many : 20000 < length found = h found refl in
-    let test : nat_le (length found) 20000 ≡ false = grind (arith, nat_tests) in
+abbrev pub at_most : {A B : Type 0} → ℕ → (List A → Option B) → List A → Option B
+at_most most next found = only_if (nat_le (length found) most) >>= (λ _. next found)
+
+only_few : {A B : Type 0} (most : ℕ) (o : Option (List A)) (next : List A → Option B) → ((found : List A) → o ≡ Some found → most < length found) → (o >>= at_most most next) ≡ None
+only_few most None next h = refl
+only_few most (Some found) next h =
+    let many : most < length found = h found refl in
+    let test : nat_le (length found) most ≡ false = grind (arith, nat_tests) in
     rw test
 
--- more than 20,000 entries give nothing
-pub only_few-many : {A B : Type 0} (read : Data → Option A) (next : List A → Option B) (entries : List Value) → 20000 < length entries
-    → (each_of read (items_view entries) >>= (λ found. only_if (nat_le (length found) 20000) >>= (λ _. next found))) ≡ None
-only_few-many read next entries many =
-    only_few (each_of read (items_view entries)) next (λ found e. let same = each_of-length read entries found e in omega (arith, same, many))
+-- more entries give nothing
+pub only_few-many : {A B : Type 0} (most : ℕ) (read : Data → Option A) (next : List A → Option B) (entries : List Value) → most < length entries
+    → (each_of read (items_view entries) >>= at_most most next) ≡ None
+only_few-many most read next entries many =
+    only_few most (each_of read (items_view entries)) next (λ found e. let same = each_of-length read entries found e in omega (arith, same, many))
 
-few_test : (n : ℕ) → n ≤ 20000 → nat_le n 20000 ≡ true
-few_test n few = grind (arith, nat_tests)
+few_test : (n most : ℕ) → n ≤ most → nat_le n most ≡ true
+few_test n most few = grind (arith, nat_tests)
 
 -- so many entries and fewer give what each of them stands for to the next
-pub only_few-few : {A B : Type 0} (read : Data → Option A) (next : List A → Option B) (entries : List Value) (found : List A) → length entries ≤ 20000
-    → each_of read (items_view entries) ≡ Some found
-    → (each_of read (items_view entries) >>= (λ found. only_if (nat_le (length found) 20000) >>= (λ _. next found))) ≡ next found
-only_few-few read next entries found few e =
+pub only_few-few : {A B : Type 0} (most : ℕ) (read : Data → Option A) (next : List A → Option B) (entries : List Value) (found : List A) → length entries ≤ most
+    → each_of read (items_view entries) ≡ Some found → (each_of read (items_view entries) >>= at_most most next) ≡ next found
+only_few-few most read next entries found few e =
     let same = each_of-length read entries found e in
-    let test : nat_le (length found) 20000 ≡ true = few_test (length found) (omega (arith, same, few)) in
+    let test : nat_le (length found) most ≡ true = few_test (length found) most (omega (arith, same, few)) in
     rw (e, test) refl
 
 -- what the entries from index i on stand for
