@@ -60,28 +60,3 @@ pub from_index-more : {A : Type 0} (read : Data → Option A) (entries : List Va
 from_index-more read entries i entry here is =
     ap (each_of read) (items_view-drop entries i entry here)
     ∙ ap (λ (v : Value). read (view v) >>= (λ first. in_front first (from_index read entries (i + 1)))) (sym is)
-
-after-in_front : {A : Type 0} (found : List A) (first : A) (rest : Option (List A)) → after found (in_front first rest) ≡ after (found ++ first ∷ []) rest
-after-in_front found first None = refl
-after-in_front found first (Some others) = ap Some (sym (append_assoc found (first ∷ []) others))
-
--- one more entry that stands for something
-pub after-good : {A : Type 0} (read : Data → Option A) (entries : List Value) (i : ℕ) (entry : Value) (found : List A) (first : A) → i < length entries → entry ≡ get_or entries i entry
-    → read (view entry) ≡ Some first → after found (from_index read entries i) ≡ after (found ++ first ∷ []) (from_index read entries (i + 1))
-after-good read entries i entry found first here is good =
-    ap (after found) (from_index-more read entries i entry here is ∙ rw good refl) ∙ after-in_front found first (from_index read entries (i + 1))
-
--- an entry that stands for nothing
-pub after-bad : {A : Type 0} (read : Data → Option A) (entries : List Value) (i : ℕ) (entry : Value) (found : List A) → i < length entries → entry ≡ get_or entries i entry
-    → read (view entry) ≡ None → after found (from_index read entries i) ≡ None
-after-bad read entries i entry found here is bad =
-    let none : from_index read entries i ≡ None = from_index-more read entries i entry here is ∙ rw bad refl in
-    rw none
-
--- before the first entry, and after the last
-pub after-none : {A : Type 0} (rest : Option (List A)) → rest ≡ after [] rest
-after-none None = refl
-after-none (Some others) = refl
-
-pub after-all : {A : Type 0} (read : Data → Option A) (entries : List Value) (found : List A) → after found (from_index read entries (length entries)) ≡ Some found
-after-all read entries found = rw (drop-length entries) (ap Some (append-nil found))

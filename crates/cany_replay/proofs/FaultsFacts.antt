@@ -18,19 +18,8 @@ pub rules_from-many : (params : Parameters) (value : Data) (entries : List Value
 unfolding rules_from
 rules_from-many params value entries is many = rw is (only_few-many most_rules (rule_from params) if_distinct entries many)
 
--- an entry that stands for nothing
-pub rules_from-bad : (params : Parameters) (value : Data) (entries : List Value) → as_array value ≡ Some (items_view entries)
-    → each_of (rule_from params) (items_view entries) ≡ None → rules_from params value ≡ None
-unfolding rules_from
-rules_from-bad params value entries is bad = rw (is, bad) refl
-
--- rules that have distinct places, and rules that have not
+-- rules that have distinct places
 pub rules_from-distinct : (params : Parameters) (value : Data) (entries : List Value) (rules : List Rule) → as_array value ≡ Some (items_view entries) → length entries ≤ most_rules
     → each_of (rule_from params) (items_view entries) ≡ Some rules → have_distinct_places rules ≡ true → rules_from params value ≡ Some rules
 unfolding rules_from
 rules_from-distinct params value entries rules is few e distinct = rw is (only_few-few most_rules (rule_from params) if_distinct entries rules few e ∙ rw distinct refl)
-
-pub rules_from-repeated : (params : Parameters) (value : Data) (entries : List Value) (rules : List Rule) → as_array value ≡ Some (items_view entries) → length entries ≤ most_rules
-    → each_of (rule_from params) (items_view entries) ≡ Some rules → have_distinct_places rules ≡ false → rules_from params value ≡ None
-unfolding rules_from
-rules_from-repeated params value entries rules is few e repeated = rw is (only_few-few most_rules (rule_from params) if_distinct entries rules few e ∙ rw repeated refl)

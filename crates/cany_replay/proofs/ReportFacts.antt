@@ -155,10 +155,6 @@ sent_next sends i send node inside is =
     ∙ ap (count_by (is_from node)) (reverse-append (take i sends) (send ∷ []))
     ∙ sum_by-cons (λ x. if is_from node x then 1 else 0) send (reverse (take i sends))
 
-pub sent_before-le : (sends : List SendAsk) (i node : ℕ) → sent_before sends i node ≤ i
-sent_before-le sends i node =
-    omega (arith, count_by-le-length (is_from node) (reverse (take i sends)), length-reverse (take i sends), length-take i sends)
-
 -- what is written of a node
 abbrev pub node_part : ScenarioParts → List Step → ℕ → List ℕ
 node_part scenario journal i = concat (node_lines scenario (run scenario journal) i)
