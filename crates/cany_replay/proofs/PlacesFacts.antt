@@ -1,5 +1,5 @@
 -- Rules have distinct places exactly where the places are as many as the rules.
-use Rattle.std.proofs.Common.{rules, tests, ◌≡◌, ℕ, ◌==◌, ◌&&◌, ◌||◌, Bool, true, false, not, List, [], ◌∷◌, map, length, nat_eq, refl, ap, sym, ◌∙◌, eqb-true, eq-eqb}
+use Rattle.std.proofs.Common.{rules, tests, ◌≡◌, ◌==◌, ◌&&◌, ◌||◌, Bool, true, false, not, List, [], ◌∷◌, map, length, nat_eq, refl, ap, sym, ◌∙◌, eqb-true, eq-eqb}
 use Rattle.std.specs.HashSet as bag
 use Rattle.std.specs.HashSet.{HashSet, hash_set_len}
 use Rattle.std.specs.Cmp.{IsEquivalence, both_ways}

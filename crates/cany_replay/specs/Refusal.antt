@@ -1,6 +1,5 @@
 -- What a refusal of the reader says of the text.
 use Rattle.cany_base.specs.declared.params.ParamFault.{ParamFault}
-use Rattle.cany_replay.specs.declared.reader.refusal.LaterName.{LaterName}
 use Rattle.cany_replay.specs.declared.reader.refusal.LaterName.TheVariants.{Form, Formula}
 use Rattle.cany_replay.specs.declared.reader.refusal.ReadRefusal.{ReadRefusal}
 use Rattle.cany_replay.specs.declared.reader.refusal.ReadRefusal.TheVariants.{Later, Memory}
