@@ -1,48 +1,32 @@
 -- One step of a world, by its reply.
-use Rattle.std.specs.Prelude.{◌≡◌, ℕ, ◌+◌, ◌*◌, ◌<◌, ◌≤◌, List, [], ◌∷◌, ◌++◌, length, refl}
-use Rattle.std.proofs.Common.{sym, ap, ◌∙◌, subst, arith}
+use Rattle.std.proofs.Common.{◌≡◌, ℕ, ◌+◌, ◌*◌, ◌<◌, ◌≤◌, Bool, true, false, List, [], ◌∷◌, ◌++◌, length, sym, ap, ◌∙◌, subst, arith}
+use Rattle.std.specs.Prelude.{MatchBool}
 use Rattle.std.proofs.lemmas.List.{length-append}
 use Rattle.cany_base.specs.declared.step.Step.{Step}
 use Rattle.cany_base.specs.declared.step.Step.TheVariants.{Slot, Turn}
 use Rattle.cany_base.specs.Scenario.{ScenarioParts}
 use Rattle.cany_model.specs.declared.reply.StepReply.{StepReply}
-use Rattle.cany_model.specs.declared.reply.StepReply.TheVariants.{Done, Lagging, Over, NothingYet, Stopped, NoNode}
+use Rattle.cany_model.specs.declared.reply.StepReply.TheVariants.{Done}
 use Rattle.cany_model.specs.Bus.Run.{run, reply, slot_reply, turn_reply, is_done, proceed, after_turn, IsLegal}
 use Rattle.cany_model.specs.Bus.Slot.{after_slot, script}
-use Rattle.cany_model.specs.Bus.State.{RunState, opening, node_at}
+use Rattle.cany_model.specs.Bus.State.{RunState, opening}
 use Rattle.cany_model.proofs.Bus.Journals.{run_push, step_is, legal_push, legal_short}
 use Rattle.cany_model.proofs.Bus.Runs.{orderly}
 use Rattle.cany_model.proofs.Bus.Steps.{after_turn-trace}
 use Rattle.can_bus.specs.Bus.{BusParts}
-use Rattle.can_bus.specs.Row.{IsRowFor}
 use Rattle.can_controller.specs.Controller.{ControllerState}
 use Rattle.cany_node.specs.Node.{NodeParts}
-use Rattle.cany_world.specs.Kept.{IsKeptAs, AreControllersOf, AreNodesOf, IsBusOf, StandFor}
+use Rattle.cany_world.specs.Kept.{AreControllersOf, AreNodesOf, IsBusOf, StandFor}
 use Rattle.cany_world.specs.Replies.{IfDone}
-use Rattle.cany_world.proofs.SlotKept.{nodes_slot}
-
-pub row_for : (scenario : ScenarioParts) (s : RunState) (controllers : List ControllerState) → AreControllersOf scenario s controllers → IsRowFor scenario.params controllers
-row_for scenario s controllers kept = record {
-  whole = kept.whole;
-  each = λ i c at. let it : IsKeptAs scenario s.trace i (node_at s.nodes i) c = kept.each i c at in record { node = it.number; params = it.params };
-}
+use Rattle.cany_world.proofs.SlotFacts.{nodes_slot}
 
 -- what is done leads to more
 if_done : (r : StepReply) (P Q : Type 0) → (P → Q) → IfDone r P (Unit {0}) → IfDone r Q (Unit {0})
-if_done Done P Q f h = f h
-if_done (Lagging node unread) P Q f h = tt
-if_done (Over slots) P Q f h = tt
-if_done (NothingYet now) P Q f h = tt
-if_done (Stopped slot) P Q f h = tt
-if_done (NoNode node) P Q f h = tt
-
-pub is_refused : (r : StepReply) (P : Type 0) → (r ≡ Done → ⊥) → IfDone r (Unit {0}) P → P
-is_refused Done P no_such h = absurd (no_such refl)
-is_refused (Lagging node unread) P no_such h = h
-is_refused (Over slots) P no_such h = h
-is_refused (NothingYet now) P no_such h = h
-is_refused (Stopped slot) P no_such h = h
-is_refused (NoNode node) P no_such h = h
+if_done r P Q f = go (is_done r)
+  where
+    go : (b : Bool) → MatchBool b P (Unit {0}) → MatchBool b Q (Unit {0})
+    go true h = f h
+    go false h = tt
 
 -- ---- the reply to the step
 
@@ -73,7 +57,7 @@ slot_stands scenario journal step r bus bus' controllers after nodes e stands =
     if_done r (IsBusOf scenario (after_slot (script scenario.rules) s) bus' × AreControllersOf scenario (after_slot (script scenario.rules) s) after)
     (StandFor scenario (proceed scenario s step) bus' after nodes)
     (λ h. subst (λ (t : RunState). StandFor scenario t bus' after nodes) (sym (proceed_slot scenario s step e))
-    (record { slots = h.0; row = h.1; books = nodes_slot scenario (script scenario.rules) s nodes (orderly scenario journal) stands.books }))
+    (record { bus = h.0; controllers = h.1; nodes = nodes_slot scenario (script scenario.rules) s nodes (orderly scenario journal) stands.nodes }))
 
 pub turn_stands : (scenario : ScenarioParts) (journal : List Step) (step : Step) (i : ℕ) (r : StepReply) (bus : BusParts) (controllers after : List ControllerState) (nodes nodes' : List NodeParts)
     → step ≡ Turn i → StandFor scenario (run scenario journal) bus controllers nodes
@@ -85,9 +69,9 @@ turn_stands scenario journal step i r bus controllers after nodes nodes' e stand
     (StandFor scenario (proceed scenario s step) bus after nodes')
     (λ h. subst (λ (t : RunState). StandFor scenario t bus after nodes') (sym (proceed_turn scenario s step i e))
     (record {
-      slots = record { params = stands.slots.params; trace = stands.slots.trace ∙ sym (after_turn-trace scenario i s); follows = stands.slots.follows };
-      row = h.0;
-      books = h.1;
+      bus = record { params = stands.bus.params; trace = stands.bus.trace ∙ sym (after_turn-trace scenario i s); follows = stands.bus.follows };
+      controllers = h.0;
+      nodes = h.1;
     }))
 
 -- ---- the journal with one step more
@@ -116,8 +100,8 @@ step_stands scenario journal step r bus controllers nodes done is h =
 
 pub same_stands : (scenario : ScenarioParts) (s t : RunState) (bus bus' : BusParts) (controllers after : List ControllerState) (nodes nodes' : List NodeParts) → s ≡ t → bus' ≡ bus → after ≡ controllers
     → nodes' ≡ nodes → StandFor scenario s bus controllers nodes → StandFor scenario t bus' after nodes'
-same_stands scenario s t bus bus' controllers after nodes nodes' same_state same_bus same_row same_books h =
-    subst (λ (x : List NodeParts). StandFor scenario t bus' after x) (sym same_books)
-    (subst (λ (x : List ControllerState). StandFor scenario t bus' x nodes) (sym same_row)
+same_stands scenario s t bus bus' controllers after nodes nodes' same_state same_bus same_controllers same_nodes h =
+    subst (λ (x : List NodeParts). StandFor scenario t bus' after x) (sym same_nodes)
+    (subst (λ (x : List ControllerState). StandFor scenario t bus' x nodes) (sym same_controllers)
     (subst (λ (x : BusParts). StandFor scenario t x controllers nodes) (sym same_bus)
     (subst (λ (x : RunState). StandFor scenario x bus controllers nodes) same_state h)))

@@ -1,5 +1,5 @@
 -- When the controllers, the nodes and the bus of a world are those of a state of a run.
-use Rattle.std.specs.Prelude.{◌≡◌, ℕ, ◌-◌, List, [], length, map, reverse, take, slice_get, Some, None}
+use Rattle.std.specs.Prelude.{◌≡◌, ℕ, ◌-◌, ◌≤◌, List, [], length, map, reverse, take, slice_get, Some, None}
 use Rattle.cany_base.specs.declared.actions.Action.{Action}
 use Rattle.cany_base.specs.declared.notice.Notice.{Notice}
 use Rattle.cany_base.specs.declared.rule.Rule.{Rule}
@@ -37,19 +37,21 @@ pub record IsKeptAs (scenario : ScenarioParts) (trace : List SlotNote) (i : ℕ)
   pub unread : c.unread ≡ take (length c.unread) (newest_notices i node.unread trace)
   pub all : c.stopped ≡ None → length c.unread ≡ node.unread
 
--- one controller of each node
-pub record AreControllersOf (scenario : ScenarioParts) (s : RunState) (controllers : List ControllerState) : Type 0 where
-  pub whole : length controllers ≡ scenario.params.nodes
-  pub each : (i : ℕ) (c : ControllerState) → slice_get controllers i ≡ Some c → IsKeptAs scenario s.trace i (node_at s.nodes i) c
-
 -- node i of the world stands for what it has read
 pub record IsKeptNode (scenario : ScenarioParts) (s : RunState) (i : ℕ) (v : NodeParts) : Type 0 where
   pub number : v.node ≡ i
   pub stands : IsNodeOf scenario (history i s) v
 
-pub record AreNodesOf (scenario : ScenarioParts) (s : RunState) (nodes : List NodeParts) : Type 0 where
-  pub whole : length nodes ≡ scenario.params.nodes
-  pub each : (i : ℕ) (v : NodeParts) → slice_get nodes i ≡ Some v → IsKeptNode scenario s i v
+-- one of each of so many nodes, at the place of the node
+pub record AreOfNodes {X : Type 0} (Is : ℕ → X → Type 0) (count : ℕ) (xs : List X) : Type 0 where
+  pub whole : length xs ≡ count
+  pub each : (i : ℕ) (x : X) → slice_get xs i ≡ Some x → Is i x
+
+abbrev pub AreControllersOf : ScenarioParts → RunState → List ControllerState → Type 0
+AreControllersOf scenario s controllers = AreOfNodes (λ i c. IsKeptAs scenario s.trace i (node_at s.nodes i) c) scenario.params.nodes controllers
+
+abbrev pub AreNodesOf : ScenarioParts → RunState → List NodeParts → Type 0
+AreNodesOf scenario s nodes = AreOfNodes (IsKeptNode scenario s) scenario.params.nodes nodes
 
 -- the bus ran the slots of the run
 pub record IsBusOf (scenario : ScenarioParts) (s : RunState) (bus : BusParts) : Type 0 where
@@ -58,12 +60,20 @@ pub record IsBusOf (scenario : ScenarioParts) (s : RunState) (bus : BusParts) : 
   pub follows : Follows scenario.rules bus
 
 -- bus, controllers and nodes are those of a state of a run
-pub record StandFor (scenario : ScenarioParts) (s : RunState) (bus : BusParts) (controllers : List ControllerState) (nodes : List NodeParts) : Type 0 where
-  pub slots : IsBusOf scenario s bus
-  pub row : AreControllersOf scenario s controllers
-  pub books : AreNodesOf scenario s nodes
+pub record StandFor (scenario : ScenarioParts) (s : RunState) (b : BusParts) (row : List ControllerState) (kept : List NodeParts) : Type 0 where
+  pub bus : IsBusOf scenario s b
+  pub controllers : AreControllersOf scenario s row
+  pub nodes : AreNodesOf scenario s kept
 
--- a step can be made: some journal leads to the state that they stand for
+-- a slot can be asked for: some journal leads to the state that bus and controllers stand for
+pub record CanRunSlot (scenario : ScenarioParts) (script : List Rule) (b : BusParts) (row : List ControllerState) : Type 0 where
+  pub rules : script ≡ scenario.rules
+  pub few : scenario.params.nodes ≤ 32
+  pub journal : List Step
+  pub bus : IsBusOf scenario (run scenario journal) b
+  pub controllers : AreControllersOf scenario (run scenario journal) row
+
+-- a step can be asked for: some journal leads to the state that they stand for
 pub record CanStep (scenario : ScenarioParts) (script : List Rule) (bus : BusParts) (controllers : List ControllerState) (nodes : List NodeParts) (actions : Bounded Action) : Type 0 where
   pub legal : IsLegalScenario scenario
   pub rules : script ≡ scenario.rules

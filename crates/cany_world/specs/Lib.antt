@@ -1,6 +1,6 @@
 pub mod Controllers
 pub mod Kept
 pub mod Replies
-pub mod Timed
+pub mod Settled
 pub mod World
 pub mod WorldFields

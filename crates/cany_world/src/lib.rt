@@ -2,15 +2,14 @@
 #![tactic(auto)]
 
 mod following;
-mod keys;
-mod lagging;
 mod opening;
 mod rounds;
 mod settled;
-mod sharing;
 mod slot;
 mod step;
+mod threads;
 mod turn;
+mod unread;
 mod world;
 
 pub use cany_model::{Break, FollowFault, StepReply};

@@ -4,9 +4,8 @@ ghost use Rattle.cany_base.specs.Scenario.{IsLegalScenario};
 ghost use Rattle.cany_model.specs.Bus.State.{opening};
 ghost use Rattle.cany_world.specs.Kept.{AreControllersOf, AreNodesOf};
 
-use crate::lagging::node_id;
 use can_controller::Controller;
-use cany_base::{Memory, Params, Scenario};
+use cany_base::{Memory, NodeId, Params, Scenario};
 use cany_node::{Node, waiting_room};
 use std::alloc::Global;
 
@@ -19,7 +18,7 @@ pub(crate) fn controllers_of(alloc: Global, scenario: &Scenario) -> Result<Vec<C
     let room = waiting_room(scenario);
     let mut controllers = Vec::with_capacity(alloc, count)?;
     for i in 0..count {
-        let controller = Controller::build(alloc, node_id(i), params, room)?;
+        let controller = Controller::build(alloc, NodeId::of_index(i), params, room)?;
         controllers.push(controller)?;
     }
     Ok(controllers)
@@ -32,7 +31,7 @@ pub(crate) fn nodes_of(alloc: Global, scenario: &Scenario) -> Result<Vec<Node>, 
     let count = usize::from(scenario.params().nodes);
     let mut nodes = Vec::with_capacity(alloc, count)?;
     for i in 0..count {
-        let node = Node::build(alloc, node_id(i), scenario)?;
+        let node = Node::build(alloc, NodeId::of_index(i), scenario)?;
         nodes.push(node)?;
     }
     Ok(nodes)

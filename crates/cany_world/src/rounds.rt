@@ -5,7 +5,6 @@ ghost use Rattle.cany_model.specs.Bus.Run.{IsLegal, has_ended, is_done, reply};
 ghost use Rattle.cany_model.specs.Bus.State.{node_at, runs};
 ghost use Rattle.cany_world.specs.World.{WorldParts, state_of};
 
-use crate::lagging::node_id;
 use crate::world::World;
 use cany_base::{NodeId, Step};
 
@@ -26,10 +25,10 @@ fn make_round(world: &mut World)
     requires { IsLegal world.old.scenario (world.old.journal ++ round world.old.scenario (state_of world.old)) }
     ensures { world.new ≡ record world.old { journal = world.old.journal ++ round world.old.scenario (state_of world.old) } }
 {
-    world.step(Step::Slot);
     let count = usize::from(world.scenario().params().nodes);
+    world.step(Step::Slot);
     for i in 0..count {
-        run_turn(world, node_id(i));
+        run_turn(world, NodeId::of_index(i));
     }
 }
 

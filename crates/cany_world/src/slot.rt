@@ -1,14 +1,13 @@
 //! The step that runs a bus slot.
-ghost use Rattle.std.specs.Prelude.{◌≡◌, ◌<◌, ◌≤◌, if◌then◌else◌, nat_le, List, length};
+ghost use Rattle.std.specs.Prelude.{◌≡◌, ◌≤◌, List, length};
 ghost use Rattle.cany_base.specs.declared.step.Step.{Step};
-ghost use Rattle.cany_model.specs.Bus.Run.{first_lagging, lagging_reply, run, slot_reply};
+ghost use Rattle.cany_base.specs.Scenario.{ScenarioParts};
+ghost use Rattle.cany_model.specs.Bus.Run.{run, slot_reply};
 ghost use Rattle.cany_model.specs.Bus.Slot.{after_slot, script as script_of};
-ghost use Rattle.can_bus.specs.Bus.{Follows};
-ghost use Rattle.can_bus.specs.Row.{IsRowFor, nodes_of};
-ghost use Rattle.cany_world.specs.Kept.{AreControllersOf, IsBusOf};
+ghost use Rattle.cany_world.specs.Kept.{AreControllersOf, CanRunSlot, IsBusOf};
 ghost use Rattle.cany_world.specs.Replies.{IfDone};
 
-use crate::lagging::first_lagging;
+use crate::unread::first_lagging;
 use can_bus::Bus;
 use can_controller::Controller;
 use can_fault::Script;
@@ -18,8 +17,8 @@ use cany_model::StepReply;
 /// The reply to the step, by how many slots ran and what the controllers have unread.
 fn slot_reply(params: &Params, ran: u64, controllers: &[Controller]) -> StepReply
     requires { length controllers.now ≤ 32 }
-    ensures { result ≡ (if nat_le params.now.slots ran then StepReply.Over params.now.slots
-        else lagging_reply (first_lagging params.now.lag 0 (nodes_of controllers.now))) }
+    ensures { (scenario : ScenarioParts) (journal : List Step) → let s = run scenario journal in
+        params.now ≡ scenario.params → ran ≡ length s.trace → AreControllersOf scenario s controllers.now → result ≡ slot_reply scenario s }
 {
     if params.slots <= ran {
         return StepReply::Over {
@@ -39,10 +38,7 @@ pub(crate) fn run_slot(
     bus: &mut Bus,
     controllers: &mut [Controller],
 ) -> StepReply
-    requires row { IsRowFor scenario.now.params controllers.old }
-    requires script { script.now ≡ scenario.now.rules }
-    requires params { bus.old.params ≡ scenario.now.params }
-    requires follows { Follows scenario.now.rules bus.old }
+    requires { CanRunSlot scenario.now script.now bus.old controllers.old }
 
     ensures reply { (journal : List Step) → let s = run scenario.now journal in
         IsBusOf scenario.now s bus.old → AreControllersOf scenario.now s controllers.old → result ≡ slot_reply scenario.now s }

@@ -51,7 +51,5 @@ pub(crate) fn take_turn(
     if i >= nodes.len() {
         return StepReply::NoNode { node };
     }
-    let taker = &mut nodes[i];
-    let controller = &mut controllers[i];
-    step_reply(taker.turn(controller, actions))
+    step_reply(nodes[i].turn(&mut controllers[i], actions))
 }

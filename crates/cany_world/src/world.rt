@@ -1,4 +1,4 @@
-ghost use Rattle.std.specs.Prelude.{◌≡◌, ◌<◌, ◌↔◌, [], ◌∷◌, ◌++◌, None, if◌then◌else◌, length, reverse, slice_get, IfOk, IfSome};
+ghost use Rattle.std.specs.Prelude.{◌≡◌, ◌<◌, ◌↔◌, [], ◌∷◌, ◌++◌, None, if◌then◌else◌, length, reverse, slice_get, IfOk, IsSomeAnd};
 ghost use Rattle.cany_model.specs.Bus.Follow as following;
 ghost use Rattle.cany_model.specs.Promises.Hypothesis.{IsWithin, first_break};
 ghost use Rattle.cany_model.specs.Rules.Log as model;
@@ -7,18 +7,19 @@ ghost use Rattle.cany_model.specs.Bus.Run.{IsLegal, after_step, has_ended, is_do
 ghost use Rattle.cany_model.specs.Promises.Safe.{IsIntegral, IsSafe};
 ghost use Rattle.cany_model.specs.Promises.Settled.{is_settled};
 ghost use Rattle.cany_model.specs.Bus.State.{node_at, reads, slots_run};
+ghost use Rattle.cany_world.specs.Kept.{IsKeptAs};
 
-use crate::keys::keys_of;
-use crate::lagging::first_lagging;
 use crate::opening::{controllers_of, journal_room, nodes_of};
-use crate::settled::{all_read, is_settled};
+use crate::settled::is_settled;
 use crate::step::make;
+use crate::unread::{all_read, first_lagging};
 use can_bus::Bus;
 use can_controller::Controller;
 use can_fault::Script;
 use cany_base::{
     Actions, BoundedVec, LogEntry, Memory, MsgKey, NodeId, Scenario, Slot, SlotNote, Step,
 };
+use cany_message::keys_of;
 use cany_model::{Break, StepReply};
 use cany_node::{Node, actions_room};
 use std::alloc::Global;
@@ -129,8 +130,7 @@ impl World {
         requires { node < self.now.scenario.params.nodes }
         ensures { result ≡ reads (state_of self.now) node }
     {
-        let controllers = self.controllers.as_slice();
-        controllers[usize::from(node.get())].read()
+        self.controller(node).read()
     }
 
     /// The slot in which a node stopped. A node that runs has none.
@@ -138,8 +138,7 @@ impl World {
         requires { node < self.now.scenario.params.nodes }
         ensures { result ≡ (node_at (state_of self.now).nodes node).stopped }
     {
-        let controllers = self.controllers.as_slice();
-        controllers[usize::from(node.get())].stopped()
+        self.controller(node).stopped()
     }
 
     /// The steps that were made, each of them done.
@@ -165,23 +164,17 @@ impl World {
         &self.scenario
     }
 
-    /// Whether the message of a broadcast, by its place in the file, is settled: nothing more is to come of it.
+    /// Whether the message of a scripted send, by its place in the file, is settled: nothing more is to come of it.
     pub fn settled(&self, index: usize) -> bool
         requires { index < length self.now.scenario.sends }
-        ensures { IfSome (slice_get (messages_of self.now.scenario.sends) index) (λ m. result ≡ is_settled self.now.scenario (state_of self.now) m) }
+        ensures { IsSomeAnd (slice_get (messages_of self.now.scenario.sends) index) (λ m. result ≡ is_settled self.now.scenario (state_of self.now) m) }
     {
-        let params = self.scenario.params();
+        let format = self.scenario.params().format;
         let sends = self.scenario.sends();
         let keys = self.keys.as_slice();
         let controllers = self.controllers.as_slice();
         let nodes = self.nodes.as_slice();
-        is_settled(
-            params.format,
-            &sends[index],
-            &keys[index],
-            controllers,
-            nodes,
-        )
+        is_settled(format, &sends[index], &keys[index], controllers, nodes)
     }
 
     /// The first slot at which the run leaves the fault hypothesis.
@@ -195,6 +188,15 @@ impl World {
         ensures safe { result ≡ None → IsSafe self.now.scenario (state_of self.now) }
     {
         self.bus.first_break()
+    }
+
+    /// The controller of a node.
+    fn controller(&self, node: NodeId) -> &Controller
+        requires { node < self.now.scenario.params.nodes }
+        ensures { let s = state_of self.now in IsKeptAs self.now.scenario s.trace node (node_at s.nodes node) result.now }
+    {
+        let controllers = self.controllers.as_slice();
+        &controllers[usize::from(node.get())]
     }
 
     /// How many slots ran.

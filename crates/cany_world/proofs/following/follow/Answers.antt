@@ -1,6 +1,6 @@
 use Rattle.std.proofs.Common.{refl, arith}
 use Rattle.cany_model.proofs.Bus.Following.{followed_none}
-use Rattle.cany_world.proofs.JournalSteps.{along_more, along_refused, along_whole, along_part}
+use Rattle.cany_world.proofs.FollowFacts.{along_more, along_refused, along_whole, along_part}
 use Rattle.cany_world.proofs.following.follow.Goals as goal
 
 pub loop-place-init : goal.loop-place-init
@@ -9,12 +9,12 @@ loop-place-init c = record { scenario = refl; steps = followed_none c.args.world
 pub loop-place-preserved : goal.loop-place-preserved
 loop-place-preserved c =
     along_more c.args.world.now c.loop-place.world c.step.new.self c.args.journal.now c.loop-place.place c.index-journal-place.result c.step.result c.loop-place.invariant
-    c.loop-place-test.true c.index-journal-place.is c.step.ensures.reply c.in-Done.is c.step.ensures.new
+    c.loop-place-test.true c.index-journal-place.is c.step.ensures.reply c.step.ensures.new c.in-Done.is
 
 pub returns-in_default : goal.returns-in_default
 returns-in_default c =
     let e = along_refused c.args.world.now c.loop-place.world c.step.new.self c.args.journal.now c.loop-place.place c.index-journal-place.result c.step.result c.loop-place.invariant
-    c.loop-place-test.true c.index-journal-place.is c.step.ensures.reply c.in_default.not-Done c.step.ensures.new in
+    c.loop-place-test.true c.index-journal-place.is c.step.ensures.reply c.step.ensures.new c.in_default.not-Done in
     record { fault = e.is; made = e.made }
 
 pub returns-then-ended-clause-fault : goal.returns-then-ended-clause-fault

@@ -1,4 +1,4 @@
-use Rattle.cany_world.proofs.JournalSteps.{IsAlong}
+use Rattle.cany_world.proofs.FollowFacts.{IsAlong}
 use Rattle.cany_world.proofs.following.follow.Given as goal
 
 abbrev pub invariant-loop-place : goal.invariant-loop-place

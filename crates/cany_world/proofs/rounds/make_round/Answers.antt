@@ -1,16 +1,15 @@
 use Rattle.std.proofs.Common.{◌≡◌, ap, ◌∙◌, arith}
-use Rattle.cany_base.specs.declared.step.Step.TheVariants.{Slot}
 use Rattle.cany_base.specs.Params.{Parameters}
 use Rattle.cany_base.specs.Scenario.{ScenarioParts}
-use Rattle.cany_world.proofs.JournalSteps.{round_slot, round_next, round_whole, step_scenario, turn_made}
+use Rattle.cany_model.specs.Bus.Run.{is_done, reply}
+use Rattle.cany_world.proofs.RoundFacts.{round_slot, round_next, round_whole, turn_made}
 use Rattle.cany_world.proofs.rounds.make_round.Goals as goal
 
 pub run_turn-requires : goal.run_turn-requires
 run_turn-requires c =
     let count : c.from-count.result ≡ c.args.world.now.scenario.params.nodes =
-    c.from-count.ensures ∙ ap (λ (p : Parameters). p.nodes) (c.behind-scenario.view_is ∙ c.params.ensures.params)
-    ∙ ap (λ (s : ScenarioParts). s.params.nodes) (c.scenario.ensures ∙ step_scenario c.args.world.now c.step.new.self Slot c.step.result c.step.ensures.new) in
-    omega (arith, count, c.node_id.ensures, c.loop-i-test.true, ap (λ (s : ScenarioParts). s.params.nodes) c.loop-i.invariant.scenario)
+    c.from-count.ensures ∙ ap (λ (p : Parameters). p.nodes) (c.behind-scenario.view_is ∙ c.params.ensures.params) ∙ ap (λ (s : ScenarioParts). s.params.nodes) c.scenario.ensures in
+    omega (arith, count, c.of_index.ensures, c.loop-i-test.true, ap (λ (s : ScenarioParts). s.params.nodes) c.loop-i.invariant.scenario)
 
 pub loop-i-init : goal.loop-i-init
 loop-i-init c = round_slot c.args.world.now c.step.new.self c.step.result c.requires c.step.ensures.reply c.step.ensures.new
@@ -18,14 +17,12 @@ loop-i-init c = round_slot c.args.world.now c.step.new.self c.step.result c.requ
 pub loop-i-preserved : goal.loop-i-preserved
 loop-i-preserved c =
     let count : c.from-count.result ≡ c.args.world.now.scenario.params.nodes =
-    c.from-count.ensures ∙ ap (λ (p : Parameters). p.nodes) (c.behind-scenario.view_is ∙ c.params.ensures.params)
-    ∙ ap (λ (s : ScenarioParts). s.params.nodes) (c.scenario.ensures ∙ step_scenario c.args.world.now c.step.new.self Slot c.step.result c.step.ensures.new) in
+    c.from-count.ensures ∙ ap (λ (p : Parameters). p.nodes) (c.behind-scenario.view_is ∙ c.params.ensures.params) ∙ ap (λ (s : ScenarioParts). s.params.nodes) c.scenario.ensures in
     round_next c.args.world.now c.loop-i.world c.run_turn.new.world c.loop-i.i c.requires c.loop-i.invariant (omega (arith, count, c.loop-i-test.true))
-    (c.run_turn.ensures ∙ ap (turn_made c.loop-i.world) c.node_id.ensures)
+    (c.run_turn.ensures ∙ ap (turn_made c.loop-i.world) c.of_index.ensures)
 
 pub returns : goal.returns
 returns c =
     let count : c.from-count.result ≡ c.args.world.now.scenario.params.nodes =
-    c.from-count.ensures ∙ ap (λ (p : Parameters). p.nodes) (c.behind-scenario.view_is ∙ c.params.ensures.params)
-    ∙ ap (λ (s : ScenarioParts). s.params.nodes) (c.scenario.ensures ∙ step_scenario c.args.world.now c.step.new.self Slot c.step.result c.step.ensures.new) in
+    c.from-count.ensures ∙ ap (λ (p : Parameters). p.nodes) (c.behind-scenario.view_is ∙ c.params.ensures.params) ∙ ap (λ (s : ScenarioParts). s.params.nodes) c.scenario.ensures in
     round_whole c.args.world.now c.loop-i.world c.loop-i.i c.loop-i.invariant (omega (arith, count, c.loop-i-test.false, c.loop-i.auto.i-end))

@@ -1,4 +1,4 @@
-use Rattle.cany_world.proofs.JournalSteps.{IsInRound}
+use Rattle.cany_world.proofs.RoundFacts.{IsInRound}
 use Rattle.cany_world.proofs.rounds.make_round.Given as goal
 
 abbrev pub invariant-loop-i : goal.invariant-loop-i

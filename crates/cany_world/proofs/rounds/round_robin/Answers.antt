@@ -1,7 +1,7 @@
 use Rattle.std.proofs.Common.{◌≡◌, suc, ◌+◌, ◌-◌, ap, ◌∙◌, arith}
 use Rattle.cany_base.specs.Params.{Parameters}
 use Rattle.cany_base.specs.Scenario.{ScenarioParts}
-use Rattle.cany_world.proofs.JournalSteps.{rounds_begin, round_is_legal, rounds_step, rounds_whole, rounds_end}
+use Rattle.cany_world.proofs.RoundFacts.{rounds_begin, round_is_legal, rounds_step, rounds_whole, rounds_end}
 use Rattle.cany_world.proofs.rounds.round_robin.Goals as goal
 
 pub loop-slot-init : goal.loop-slot-init

@@ -1,31 +1,37 @@
-use Rattle.cany_world.proofs.StepFacts.{row_for, slot_replies, slot_stands, turn_replies, turn_stands}
-use Rattle.cany_world.proofs.TurnKept.{can_turn}
+use Rattle.cany_world.proofs.StepFacts.{slot_replies, slot_stands, turn_replies, turn_stands}
+use Rattle.cany_world.proofs.TurnFacts.{can_turn}
 use Rattle.cany_model.specs.Bus.Run.{run}
 use Rattle.cany_world.proofs.step.make.Goals as goal
 
-pub run_slot-requires-clause-row : goal.run_slot-requires-clause-row
-run_slot-requires-clause-row c = row_for c.args.scenario.now (run c.args.scenario.now c.requires.journal) c.args.controllers.now c.requires.stands.row
+pub run_slot-requires : goal.run_slot-requires
+run_slot-requires c = record {
+  rules = c.requires.rules;
+  few = c.requires.legal.in_range.nodes.1;
+  journal = c.requires.journal;
+  bus = c.requires.stands.bus;
+  controllers = c.requires.stands.controllers;
+}
 
 pub take_turn-requires-clause-turn : goal.take_turn-requires-clause-turn
 take_turn-requires-clause-turn c v x at_node at =
     can_turn c.args.scenario.now c.requires.journal c.in-Turn.node v x c.args.actions.now c.requires.legal
-    (c.requires.stands.books.each c.in-Turn.node v at_node) (c.requires.stands.row.each c.in-Turn.node x at) c.requires.free
+    (c.requires.stands.nodes.each c.in-Turn.node v at_node) (c.requires.stands.controllers.each c.in-Turn.node x at) c.requires.free
 
 pub returns-in-Slot-clause-reply : goal.returns-in-Slot-clause-reply
 returns-in-Slot-clause-reply c journal stands =
-    slot_replies c.args.scenario.now (run c.args.scenario.now journal) c.args.step c.run_slot.result c.in-Slot.is (c.run_slot.ensures.reply journal stands.slots stands.row)
+    slot_replies c.args.scenario.now (run c.args.scenario.now journal) c.args.step c.run_slot.result c.in-Slot.is (c.run_slot.ensures.reply journal stands.bus stands.controllers)
 
 pub returns-in-Slot-clause-done : goal.returns-in-Slot-clause-done
 returns-in-Slot-clause-done c journal stands =
     slot_stands c.args.scenario.now journal c.args.step c.run_slot.result c.args.bus.now c.run_slot.new.bus c.args.controllers.now c.run_slot.new.controllers c.args.nodes.now
-    c.in-Slot.is stands (c.run_slot.ensures.done journal stands.slots stands.row)
+    c.in-Slot.is stands (c.run_slot.ensures.done journal stands.bus stands.controllers)
 
 pub returns-in-Turn-clause-reply : goal.returns-in-Turn-clause-reply
 returns-in-Turn-clause-reply c journal stands =
     turn_replies c.args.scenario.now (run c.args.scenario.now journal) c.args.step c.in-Turn.node c.take_turn.result c.in-Turn.is
-    (c.take_turn.ensures.reply c.args.scenario.now journal stands.row stands.books)
+    (c.take_turn.ensures.reply c.args.scenario.now journal stands.controllers stands.nodes)
 
 pub returns-in-Turn-clause-done : goal.returns-in-Turn-clause-done
 returns-in-Turn-clause-done c journal stands =
     turn_stands c.args.scenario.now journal c.args.step c.in-Turn.node c.take_turn.result c.args.bus.now c.args.controllers.now c.take_turn.new.controllers c.args.nodes.now c.take_turn.new.nodes
-    c.in-Turn.is stands (c.take_turn.ensures.done c.args.scenario.now journal stands.row stands.books)
+    c.in-Turn.is stands (c.take_turn.ensures.done c.args.scenario.now journal stands.controllers stands.nodes)

@@ -8,7 +8,7 @@ use Rattle.cany_node.specs.Node.{NodeParts}
 use Rattle.cany_world.specs.Replies.{IfDone, step_reply}
 use Rattle.cany_world.specs.Kept.{AreControllersOf, AreNodesOf}
 use Rattle.cany_world.proofs.ReplyFacts.{turn_reply_is}
-use Rattle.cany_world.proofs.TurnKept.{turned_on}
+use Rattle.cany_world.proofs.TurnFacts.{turned_on}
 use Rattle.cany_world.proofs.turn.take_turn.Goals as goal
 
 pub turn-requires : goal.turn-requires

@@ -13,4 +13,4 @@ pub returns-clause-safe : goal.returns-clause-safe
 returns-clause-safe c none =
     let w : WorldParts = world_parts c.self.inside in
     subst (λ (v : WorldParts). IsSafe v.scenario (state_of v)) c.self.view_is
-    (world_safe w c.self.invariant.legal (within_run w.scenario (state_of w) c.self.inside.bus c.self.invariant.stands.slots (c.first_break.ensures.within.0 none)))
+    (world_safe w c.self.invariant.legal (within_run w.scenario (state_of w) c.self.inside.bus c.self.invariant.stands.bus (c.first_break.ensures.within.0 none)))

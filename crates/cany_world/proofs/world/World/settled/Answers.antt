@@ -1,5 +1,5 @@
-use Rattle.std.proofs.Common.{◌≡◌, ◌<◌, length, refl, ap, subst, sym, arith, List}
-use Rattle.std.specs.Prelude.{slice_get, IfSome, Option}
+use Rattle.std.proofs.Common.{◌≡◌, ◌<◌, length, refl, ap, subst, sym, arith, List, ◌∙◌}
+use Rattle.std.specs.Prelude.{slice_get, IsSomeAnd, Option}
 use Rattle.can_controller.specs.Controller.{ControllerState}
 use Rattle.cany_base.specs.declared.message.MsgKey.{MsgKey}
 use Rattle.cany_model.specs.Rules.Messages.{Message, messages_of}
@@ -8,7 +8,8 @@ use Rattle.cany_node.specs.Node.{NodeParts}
 use Rattle.cany_world.specs.Kept.{AreControllersOf, AreNodesOf}
 use Rattle.cany_world.specs.World.{WorldParts, state_of}
 use Rattle.cany_world.specs.WorldFields.{world_parts}
-use Rattle.cany_world.proofs.WorldFacts.{HasMessage, has_message, length-keys, found}
+use Rattle.cany_world.proofs.PlaceFacts.{found}
+use Rattle.cany_world.proofs.SettledFacts.{HasMessage, has_message, length-keys}
 use Rattle.cany_world.proofs.world.World.settled.Goals as goal
 
 pub bounds-keys-index : goal.bounds-keys-index
@@ -24,7 +25,7 @@ is_settled-requires-clause-origin c =
     has_message c.self.inside.scenario c.self.inside.keys.items c.args.index c.index-sends-index.result c.index-keys-index.result c.self.invariant.legal c.self.invariant.keys
     (found c.self.inside.scenario.sends c.sends-sends.result.now c.args.index c.args.index c.index-sends-index.result c.sends-sends.ensures refl within c.index-sends-index.is)
     (found c.self.inside.keys.items c.as_slice-keys.result.now c.args.index c.args.index c.index-keys-index.result c.as_slice-keys.ensures.value refl (omega (arith, within, many)) c.index-keys-index.is) in
-    omega (arith, it.node, ap (λ (t : List ControllerState). length t) c.as_slice-controllers.ensures.value, c.self.invariant.stands.row.whole)
+    omega (arith, it.node, ap (λ (t : List ControllerState). length t) c.as_slice-controllers.ensures.value, c.self.invariant.stands.controllers.whole)
 
 pub is_settled-requires-clause-count : goal.is_settled-requires-clause-count
 is_settled-requires-clause-count c =
@@ -32,8 +33,8 @@ is_settled-requires-clause-count c =
       arith,
       ap (λ (t : List ControllerState). length t) c.as_slice-controllers.ensures.value,
       ap (λ (t : List NodeParts). length t) c.as_slice-nodes.ensures.value,
-      c.self.invariant.stands.row.whole,
-      c.self.invariant.stands.books.whole,
+      c.self.invariant.stands.controllers.whole,
+      c.self.invariant.stands.nodes.whole,
     )
 
 pub returns : goal.returns
@@ -45,10 +46,13 @@ returns c =
     has_message c.self.inside.scenario c.self.inside.keys.items c.args.index c.index-sends-index.result c.index-keys-index.result c.self.invariant.legal c.self.invariant.keys
     (found c.self.inside.scenario.sends c.sends-sends.result.now c.args.index c.args.index c.index-sends-index.result c.sends-sends.ensures refl within c.index-sends-index.is)
     (found c.self.inside.keys.items c.as_slice-keys.result.now c.args.index c.args.index c.index-keys-index.result c.as_slice-keys.ensures.value refl (omega (arith, within, many)) c.index-keys-index.is) in
-    let row : AreControllersOf w.scenario (state_of w) c.as_slice-controllers.result.now =
-    subst (AreControllersOf w.scenario (state_of w)) (sym c.as_slice-controllers.ensures.value) c.self.invariant.stands.row in
-    let books : AreNodesOf w.scenario (state_of w) c.as_slice-nodes.result.now =
-    subst (AreNodesOf w.scenario (state_of w)) (sym c.as_slice-nodes.ensures.value) c.self.invariant.stands.books in
-    subst (λ (v : WorldParts). IfSome (slice_get (messages_of v.scenario.sends) c.args.index) (λ m. c.is_settled.result ≡ is_settled v.scenario (state_of v) m)) c.self.view_is
-    (subst (λ (o : Option Message). IfSome o (λ m. c.is_settled.result ≡ is_settled w.scenario (state_of w) m)) (sym it.at)
-    (c.is_settled.ensures w.scenario w.journal it.message row books it.stands it.slot it.service it.named))
+    subst (λ (v : WorldParts). IsSomeAnd (slice_get (messages_of v.scenario.sends) c.args.index) (λ m. c.is_settled.result ≡ is_settled v.scenario (state_of v) m)) c.self.view_is
+    (subst (λ (o : Option Message). IsSomeAnd o (λ m. c.is_settled.result ≡ is_settled w.scenario (state_of w) m)) (sym it.at)
+    (c.is_settled.ensures w.scenario w.journal it.message
+    (record {
+      controllers = subst (AreControllersOf w.scenario (state_of w)) (sym c.as_slice-controllers.ensures.value) c.self.invariant.stands.controllers;
+      nodes = subst (AreNodesOf w.scenario (state_of w)) (sym c.as_slice-nodes.ensures.value) c.self.invariant.stands.nodes;
+      stands = it.stands;
+      key = it.named;
+    })
+    it.service))

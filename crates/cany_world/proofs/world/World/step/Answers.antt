@@ -7,8 +7,9 @@ use Rattle.cany_model.specs.Bus.State.{RunState, opening}
 use Rattle.cany_model.proofs.Bus.Journals.{run_push, legal_push}
 use Rattle.cany_world.specs.Kept.{StandFor}
 use Rattle.cany_world.specs.World.{WorldParts, state_of}
-use Rattle.cany_world.proofs.StepFacts.{is_refused, same_stands, step_room, step_stands}
-use Rattle.cany_world.proofs.WorldFacts.{written}
+use Rattle.cany_world.proofs.JournalFacts.{refused}
+use Rattle.cany_world.proofs.StepFacts.{same_stands, step_room, step_stands}
+use Rattle.cany_world.proofs.PlaceFacts.{written}
 use Rattle.cany_world.proofs.world.World.step.Goals as goal
 
 pub push_copy-requires : goal.push_copy-requires
@@ -57,7 +58,7 @@ invariant_of-self-in_default c =
     let books : take c.self.inside.nodes.len (c.make-reply.new.nodes ++ drop (length c.make-reply.new.nodes) c.self.inside.nodes.items) ≡ c.make-reply.new.nodes =
     written c.make-reply.new.nodes _ c.self.inside.nodes.len (c.make-reply.auto.nodes ∙ c.as_mut_slice-2.ensures.len) in
     let left : (c.make-reply.new.bus ≡ c.self.inside.bus) × (c.make-reply.new.controllers ≡ c.as_mut_slice.result.now) × (c.make-reply.new.nodes ≡ c.as_mut_slice-2.result.now) =
-    is_refused c.make-reply.result _ c.in_default.not-Done c.make-reply.ensures.refused in
+    rw (refused c.make-reply.result c.in_default.not-Done) at c.make-reply.ensures.refused in
     record {
       legal = c.self.invariant.legal;
       script = c.self.invariant.script;

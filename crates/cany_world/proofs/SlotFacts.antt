@@ -1,22 +1,45 @@
 -- A slot keeps the controllers and the nodes of a world those of the run.
-use Rattle.std.specs.Prelude.{◌≡◌, ℕ, ◌<◌, List, ◌∷◌, length, slice_get, option_map, Option, Some, None, refl}
-use Rattle.std.proofs.Common.{sym, ap, ◌∙◌, subst, arith}
+use Rattle.std.proofs.Common.{◌≡◌, ℕ, ◌<◌, List, ◌∷◌, length, refl, sym, ap, ◌∙◌, subst, arith}
+use Rattle.std.specs.Prelude.{is_none, slice_get, option_map, Option, Some, None}
 use Rattle.std.proofs.lemmas.Option.{slice_get_within}
 use Rattle.cany_base.specs.declared.rule.Rule.{Rule}
 use Rattle.cany_base.specs.declared.slot_note.SlotNote.{SlotNote}
 use Rattle.cany_base.specs.declared.step.Step.{Step}
+use Rattle.cany_base.specs.declared.step.Step.TheVariants.{Slot}
 use Rattle.cany_base.specs.Scenario.{ScenarioParts}
-use Rattle.cany_model.specs.Bus.Run.{run}
+use Rattle.cany_model.specs.declared.reply.StepReply.{StepReply}
+use Rattle.cany_model.specs.declared.reply.StepReply.TheVariants.{Done}
+use Rattle.cany_model.specs.Bus.Run.{is_done, reply, run, slot_reply}
 use Rattle.cany_model.specs.Bus.Slot.{FaultScript, script, slot_note_of, after_slot, node_after}
 use Rattle.cany_model.specs.Bus.State.{NodeState, RunState, node_at}
-use Rattle.cany_model.proofs.Bus.Runs.{IsOrderly, orderly}
+use Rattle.cany_model.proofs.Bus.Runs.{IsOrderly, MaySlot, orderly, slot_done}
 use Rattle.cany_model.proofs.Bus.Steps.{after_slot-node, after_slot-trace, after_slot-history}
 use Rattle.can_bus.specs.Bus.{BusParts, Follows}
-use Rattle.can_bus.specs.Row.{AreAfter, StandFor, controller_after}
+use Rattle.can_bus.specs.Row.{AreAfter, IsRowFor, NoneLags, StandFor, controller_after}
 use Rattle.can_controller.specs.Controller.{ControllerState, node_state}
 use Rattle.cany_node.specs.Node.{NodeParts, IsNodeOf}
 use Rattle.cany_world.specs.Kept.{IsKeptAs, AreControllersOf, IsKeptNode, AreNodesOf, IsBusOf}
-use Rattle.cany_world.proofs.KeptFacts.{kept_slot}
+use Rattle.cany_world.proofs.ControllerFacts.{kept_slot}
+
+-- ---- that a slot can run
+
+pub may_slot : (scenario : ScenarioParts) (journal : List Step) (r : StepReply) → r ≡ slot_reply scenario (run scenario journal) → r ≡ Done → MaySlot scenario (run scenario journal)
+unfolding reply
+may_slot scenario journal r is done = slot_done scenario (run scenario journal) (ap is_done (sym is ∙ done))
+
+pub none_lags : (scenario : ScenarioParts) (s : RunState) (controllers : List ControllerState) → MaySlot scenario s → AreControllersOf scenario s controllers
+    → NoneLags scenario.params.lag controllers
+none_lags scenario s controllers may kept i c at running =
+    let it : IsKeptAs scenario s.trace i (node_at s.nodes i) c = kept.each i c at in
+    omega (arith, it.all running, may.lag i (ap is_none (sym it.stopped ∙ running)))
+
+pub row_for : (scenario : ScenarioParts) (s : RunState) (controllers : List ControllerState) → AreControllersOf scenario s controllers → IsRowFor scenario.params controllers
+row_for scenario s controllers kept = record {
+  whole = kept.whole;
+  each = λ i c at. let it : IsKeptAs scenario s.trace i (node_at s.nodes i) c = kept.each i c at in record { node = it.number; params = it.params };
+}
+
+-- ---- the controllers and the nodes after it
 
 -- which controller a slot left so
 pub record IsAfter (note : SlotNote) (controllers : List ControllerState) (i : ℕ) (c' : ControllerState) : Type 0 where

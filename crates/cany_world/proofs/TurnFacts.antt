@@ -1,7 +1,7 @@
 -- A turn of a node keeps the controllers and the nodes of a world those of the run.
-use Rattle.std.specs.Prelude.{◌≡◌, ◌≢◌, ℕ, zero, suc, ◌-◌, ◌<◌, ◌⊎◌, is_none, List, [], ◌∷◌, length, slice_get, slice_set, Option, Some, None, Contains, refl}
-use Rattle.std.proofs.Common.{sym, ap, ◌∙◌, subst, inl, inr, arith}
-use Rattle.std.proofs.lemmas.List.{length-set, get_or_default}
+use Rattle.std.proofs.Common.{◌≡◌, ◌≢◌, ℕ, ◌-◌, ◌<◌, ◌≤◌, List, [], ◌∷◌, length, Contains, refl, sym, ap, ◌∙◌, subst, arith}
+use Rattle.std.specs.Prelude.{is_none, slice_get, slice_set, Option, Some, None}
+use Rattle.std.proofs.lemmas.List.{get_or_default}
 use Rattle.cany_base.specs.declared.actions.Action.{Action}
 use Rattle.cany_base.specs.declared.notice.Notice.{Notice}
 use Rattle.cany_base.specs.declared.slot_note.SlotNote.{SlotNote}
@@ -12,17 +12,18 @@ use Rattle.cany_model.specs.declared.reply.StepReply.{StepReply}
 use Rattle.cany_model.specs.declared.reply.StepReply.TheVariants.{Done}
 use Rattle.cany_model.specs.Bus.Frames.{identity_of}
 use Rattle.cany_model.specs.Bus.History.{history}
-use Rattle.cany_model.specs.Rules.Notices.{IsNextNotice, IsReadable}
-use Rattle.cany_model.specs.Rules.Rooms.{askable, actions_room}
 use Rattle.cany_model.specs.Bus.Run.{run, after_turn}
 use Rattle.cany_model.specs.Bus.State.{NodeState, RunState, node_at}
+use Rattle.cany_model.specs.Rules.Effect.{Effect}
+use Rattle.cany_model.specs.Rules.Notices.{IsNextNotice, IsReadable}
+use Rattle.cany_model.specs.Rules.Rooms.{IsAskable, actions_room}
 use Rattle.cany_model.specs.Rules.Turn.{turn_effects}
 use Rattle.cany_model.proofs.Among.{Each-weaker}
-use Rattle.cany_model.proofs.Promises.Belonging.{IsOfMessage, of_messages, readable, message_askable}
 use Rattle.cany_model.proofs.Bus.Journals.{trace_short}
 use Rattle.cany_model.proofs.Bus.Runs.{IsOrderly, orderly, history-length}
 use Rattle.cany_model.proofs.Bus.States.{no_note, note_at}
 use Rattle.cany_model.proofs.Bus.Steps.{MayTurn, next_notice, node_after_turn, after_turn-node, after_turn-other, after_turn-trace, after_turn-history, after_turn-other_history}
+use Rattle.cany_model.proofs.Promises.Belonging.{Waiting, all_belong, readable}
 use Rattle.can_controller.specs.Controller.{ControllerState}
 use Rattle.cany_node.specs.Apply.{AreAskable}
 use Rattle.cany_node.specs.declared.reply.TurnReply.{TurnReply}
@@ -30,7 +31,8 @@ use Rattle.cany_node.specs.declared.reply.TurnReply.TheVariants.{Turned, Nothing
 use Rattle.cany_node.specs.Node.{NodeParts, IsNodeOf, CanTurn, Reads, IsTurnOf, IsRefused, reply_of, turned}
 use Rattle.cany_world.specs.Kept.{IsKeptAs, AreControllersOf, IsKeptNode, AreNodesOf}
 use Rattle.cany_world.specs.Replies.{IfDone, step_reply}
-use Rattle.cany_world.proofs.KeptFacts.{IsOldest, oldest, kept_turn}
+use Rattle.cany_world.proofs.ControllerFacts.{IsOldest, oldest, kept_turn}
+use Rattle.cany_world.proofs.PlaceFacts.{one_changed, set_same}
 
 -- ---- the oldest unread notice
 
@@ -49,13 +51,13 @@ to_read scenario s i c notice o within kept running first =
     }
 
 -- it is the next notice of what the node has read
-pub next_notice_is : (scenario : ScenarioParts) (journal : List Step) (i : ℕ) (c : ControllerState) (notice : Notice)
+pub next_notice_is : (scenario : ScenarioParts) (journal : List Step) → scenario.params.nodes ≤ 32 → (i : ℕ) (c : ControllerState) (notice : Notice)
     → IsKeptAs scenario (run scenario journal).trace i (node_at (run scenario journal).nodes i) c → slice_get c.unread 0 ≡ Some notice
     → IsNextNotice scenario (history i (run scenario journal)) notice
-next_notice_is scenario journal i c notice kept first = record {
+next_notice_is scenario journal few i c notice kept first = record {
   slot = ap (λ (n : Notice). n.slot) it.is ∙ number ∙ sym (history-length i s);
   within = subst (λ k. k < scenario.params.slots) (sym (ap (λ (n : Notice). n.slot) it.is)) small;
-  readable = subst (λ (n : Notice). IsReadable scenario n.slot n.kind) (sym it.is) (readable scenario s i note (of_messages scenario journal) stands);
+  readable = subst (λ (n : Notice). IsReadable scenario n.slot n.kind) (sym it.is) (readable scenario s i note (all_belong scenario journal few) stands);
 }
   where
     s : RunState
@@ -87,84 +89,60 @@ next_notice_is scenario journal i c notice kept first = record {
 
 -- ---- that a turn can be made
 
-waiting_askable : (scenario : ScenarioParts) (journal : List Step) (i : ℕ) → AreAskable scenario (node_at (run scenario journal).nodes i).waiting
-waiting_askable scenario journal i =
-    Each-weaker (IsOfMessage scenario) (λ f. Contains (askable scenario) (identity_of f)) (λ f h. message_askable scenario f h)
-    (node_at (run scenario journal).nodes i).waiting ((of_messages scenario journal).waiting i)
-
 pub can_turn : (scenario : ScenarioParts) (journal : List Step) (i : ℕ) (v : NodeParts) (c : ControllerState) (out : Bounded Action) → IsLegalScenario scenario
     → IsKeptNode scenario (run scenario journal) i v → IsKeptAs scenario (run scenario journal).trace i (node_at (run scenario journal).nodes i) c
     → out ≡ record { items = []; room = actions_room scenario } → CanTurn v c out
 can_turn scenario journal i v c out legal node kept empty = record {
   scenario = scenario;
-  past = history i (run scenario journal);
+  past = history i s;
   legal = legal;
   stands = node.stands;
   node = kept.number ∙ sym node.number;
   params = kept.params;
   room = kept.room;
-  askable = subst (AreAskable scenario) (sym kept.waiting) (waiting_askable scenario journal i);
-  next = λ notice first. next_notice_is scenario journal i c notice kept first;
-  read = kept.read ∙ sym (history-length i (run scenario journal));
+  askable = λ running. subst (AreAskable scenario) (sym kept.waiting)
+      (Each-weaker (Waiting scenario s.trace i) (λ f. IsAskable scenario (identity_of f)) (λ f h. h.askable) (node_at s.nodes i).waiting
+      ((all_belong scenario journal few).waiting i (ap is_none (sym kept.stopped ∙ running))));
+  next = λ notice first. next_notice_is scenario journal few i c notice kept first;
+  read = kept.read ∙ sym (history-length i s);
   free = ap (λ (b : Bounded Action). b.items) empty;
   actions = ap (λ (b : Bounded Action). b.room) empty;
 }
+  where
+    s : RunState
+    s = run scenario journal
+
+    few : scenario.params.nodes ≤ 32
+    few = legal.in_range.nodes.1
 
 -- ---- what the turn leaves
 
-set_at : {X : Type 0} (xs : List X) (i j : ℕ) (x y : X) → slice_get (slice_set xs i x) j ≡ Some y → ((j ≡ i) × (x ≡ y)) ⊎ ((j ≢ i) × (slice_get xs j ≡ Some y))
-set_at [] i j x y e = absurd (cc)
-set_at (z ∷ xs) zero zero x y e = let same : x ≡ y = cc in inl (refl, same)
-set_at (z ∷ xs) zero (suc j) x y e = inr (λ k. absurd (omega arith), e)
-set_at (z ∷ xs) (suc i) zero x y e = inr (λ k. absurd (omega arith), e)
-set_at (z ∷ xs) (suc i) (suc j) x y e = elim (set_at xs i j x y e) [
-  | inl same ↦ inl (ap suc same.0, same.1)
-  | inr other ↦ inr (λ k. let less : j ≡ i = omega arith in other.0 less, other.1)
-]
-
-pub controllers_turn : (scenario : ScenarioParts) (s : RunState) (i : ℕ) (controllers : List ControllerState) (c : ControllerState) → IsOrderly scenario.params.nodes s
+controllers_turn : (scenario : ScenarioParts) (s : RunState) (i : ℕ) (controllers : List ControllerState) (c : ControllerState) → IsOrderly scenario.params.nodes s
     → MayTurn s i → AreControllersOf scenario s controllers → slice_get controllers i ≡ Some c → c.stopped ≡ None
     → AreControllersOf scenario (after_turn scenario i s) (slice_set controllers i (turned (turn_effects scenario i (next_notice s i ∷ history i s)) c))
-controllers_turn scenario s i controllers c o may kept at running = record {
-  whole = length-set controllers i c' ∙ kept.whole;
-  each = λ j z there. subst (λ (t : List SlotNote). IsKeptAs scenario t j (node_at (after_turn scenario i s).nodes j) z) (sym (after_turn-trace scenario i s))
-      (elim (set_at controllers i j c' z there) [
-        | inl same ↦
-            subst (λ k. IsKeptAs scenario s.trace k (node_at (after_turn scenario i s).nodes k) z) (sym same.0)
-            (subst (λ (n : NodeState). IsKeptAs scenario s.trace i n z) (sym (after_turn-node scenario i s may (o.unread i)))
-            (subst (IsKeptAs scenario s.trace i (node_after_turn scenario i (next_notice s i ∷ history i s) (node_at s.nodes i))) same.1 here))
-        | inr other ↦
-            subst (λ (n : NodeState). IsKeptAs scenario s.trace j n z) (sym (after_turn-other scenario i s j other.0)) (kept.each j z other.1)
-      ]);
-}
+controllers_turn scenario s i controllers c o may kept at running =
+    one_changed (λ j z. IsKeptAs scenario s.trace j (node_at s.nodes j) z) (λ j z. IsKeptAs scenario (after_turn scenario i s).trace j (node_at (after_turn scenario i s).nodes j) z)
+    scenario.params.nodes controllers i (turned effects c) kept
+    (now i (turned effects c) (sym (after_turn-node scenario i s may (o.unread i)))
+    (kept_turn scenario s.trace i (node_at s.nodes i) c effects (kept.each i c at) (o.unread i) may.unread running))
+    (λ j z other there. now j z (sym (after_turn-other scenario i s j other)) there)
   where
-    c' : ControllerState
-    c' = turned (turn_effects scenario i (next_notice s i ∷ history i s)) c
+    effects : List Effect
+    effects = turn_effects scenario i (next_notice s i ∷ history i s)
 
-    here : IsKeptAs scenario s.trace i (node_after_turn scenario i (next_notice s i ∷ history i s) (node_at s.nodes i)) c'
-    here = kept_turn scenario s.trace i (node_at s.nodes i) c (turn_effects scenario i (next_notice s i ∷ history i s)) (kept.each i c at) (o.unread i) may.unread running
+    now : (j : ℕ) (z : ControllerState) → {node : NodeState} → node ≡ node_at (after_turn scenario i s).nodes j → IsKeptAs scenario s.trace j node z
+        → IsKeptAs scenario (after_turn scenario i s).trace j (node_at (after_turn scenario i s).nodes j) z
+    now j z state there =
+        subst (λ (t : List SlotNote). IsKeptAs scenario t j (node_at (after_turn scenario i s).nodes j) z) (sym (after_turn-trace scenario i s))
+        (subst (λ (n : NodeState). IsKeptAs scenario s.trace j n z) state there)
 
-pub nodes_turn : (scenario : ScenarioParts) (s : RunState) (i : ℕ) (nodes : List NodeParts) (v : NodeParts) → IsOrderly scenario.params.nodes s
+nodes_turn : (scenario : ScenarioParts) (s : RunState) (i : ℕ) (nodes : List NodeParts) (v : NodeParts) → IsOrderly scenario.params.nodes s
     → MayTurn s i → AreNodesOf scenario s nodes → v.node ≡ i → IsNodeOf scenario (next_notice s i ∷ history i s) v
     → AreNodesOf scenario (after_turn scenario i s) (slice_set nodes i v)
-nodes_turn scenario s i nodes v o may kept number stands = record {
-  whole = length-set nodes i v ∙ kept.whole;
-  each = λ j z there. elim (set_at nodes i j v z there) [
-    | inl same ↦
-        subst (λ k. IsKeptNode scenario (after_turn scenario i s) k z) (sym same.0)
-        (subst (IsKeptNode scenario (after_turn scenario i s) i) same.1
-        (record {
-          number = number;
-          stands = subst (λ past. IsNodeOf scenario past v) (sym (after_turn-history scenario i s may (o.unread i))) stands;
-        }))
-    | inr other ↦
-        let it : IsKeptNode scenario s j z = kept.each j z other.1 in
-        record {
-          number = it.number;
-          stands = subst (λ past. IsNodeOf scenario past z) (sym (after_turn-other_history scenario i s j other.0)) it.stands;
-        }
-  ];
-}
+nodes_turn scenario s i nodes v o may kept number stands =
+    one_changed (IsKeptNode scenario s) (IsKeptNode scenario (after_turn scenario i s)) scenario.params.nodes nodes i v kept
+    (record { number = number; stands = subst (λ past. IsNodeOf scenario past v) (sym (after_turn-history scenario i s may (o.unread i))) stands })
+    (λ j z other it. record { number = it.number; stands = subst (λ past. IsNodeOf scenario past z) (sym (after_turn-other_history scenario i s j other)) it.stands })
 
 -- the controllers and the nodes after a turn that was done are those of the run after it
 pub turned_on : (scenario : ScenarioParts) (journal : List Step) (i : ℕ) (nodes : List NodeParts) (controllers : List ControllerState) (v v' : NodeParts) (c c' : ControllerState) (r : StepReply)
@@ -173,7 +151,7 @@ pub turned_on : (scenario : ScenarioParts) (journal : List Step) (i : ℕ) (node
     → ((notice : Notice) → Reads scenario (history i (run scenario journal)) notice v c → IsTurnOf scenario (history i (run scenario journal)) notice v v' c c')
     → IfDone r (AreControllersOf scenario (after_turn scenario i (run scenario journal)) (slice_set controllers i c')
     × AreNodesOf scenario (after_turn scenario i (run scenario journal)) (slice_set nodes i v')) (Unit {0})
-turned_on scenario journal i nodes controllers v v' c c' r rows books within at_node at is same law = subst Q (sym is) (go c.stopped refl)
+turned_on scenario journal i nodes controllers v v' c c' r row nodes_are within at_node at is same law = subst Q (sym is) (go c.stopped refl)
   where
     s : RunState
     s = run scenario journal
@@ -182,22 +160,22 @@ turned_on scenario journal i nodes controllers v v' c c' r rows books within at_
     Q x = IfDone x (AreControllersOf scenario (after_turn scenario i s) (slice_set controllers i c') × AreNodesOf scenario (after_turn scenario i s) (slice_set nodes i v')) (Unit {0})
 
     node : IsKeptNode scenario s i v
-    node = books.each i v at_node
+    node = nodes_are.each i v at_node
 
     kept : IsKeptAs scenario s.trace i (node_at s.nodes i) c
-    kept = rows.each i c at
+    kept = row.each i c at
 
     turns : (notice : Notice) → c.stopped ≡ None → slice_get c.unread 0 ≡ Some notice → Q Done
     turns notice running first =
-        let it : IsToRead s i notice = to_read scenario s i c notice (orderly scenario journal) (omega (arith, books.whole)) kept running first in
-        let next : IsNextNotice scenario (history i s) notice = next_notice_is scenario journal i c notice kept first in
+        let it : IsToRead s i notice = to_read scenario s i c notice (orderly scenario journal) (omega (arith, nodes_are.whole)) kept running first in
+        let next : IsNextNotice scenario (history i s) notice = next_notice_is scenario journal node.stands.legal.in_range.nodes.1 i c notice kept first in
         let made : IsTurnOf scenario (history i s) notice v v' c c' = law notice (record { stands = node.stands; next = next; running = running; oldest = first }) in
         let effects : turn_effects scenario v.node (notice.kind ∷ history i s) ≡ turn_effects scenario i (next_notice s i ∷ history i s) =
         ap (λ k. turn_effects scenario k (notice.kind ∷ history i s)) node.number ∙ ap (λ n. turn_effects scenario i (n ∷ history i s)) it.is in
         let left : turned (turn_effects scenario i (next_notice s i ∷ history i s)) c ≡ c' = sym (made.controller ∙ ap (λ e. turned e c) effects) in (
           subst (λ x. AreControllersOf scenario (after_turn scenario i s) (slice_set controllers i x)) left
-              (controllers_turn scenario s i controllers c (orderly scenario journal) it.may rows at running),
-          nodes_turn scenario s i nodes v' (orderly scenario journal) it.may books (same ∙ node.number)
+              (controllers_turn scenario s i controllers c (orderly scenario journal) it.may row at running),
+          nodes_turn scenario s i nodes v' (orderly scenario journal) it.may nodes_are (same ∙ node.number)
               (subst (λ n. IsNodeOf scenario (n ∷ history i s) v') it.is made.stands),
         )
 
@@ -210,11 +188,6 @@ turned_on scenario journal i nodes controllers v v' c c' r rows books within at_
     go : (o : Option ℕ) → c.stopped ≡ o → Q (step_reply (reply_of c))
     go None running = by_notice (slice_get c.unread 0) refl running
     go (Some slot) e = rw e tt
-
-set_same : {X : Type 0} (xs : List X) (i : ℕ) (x : X) → slice_get xs i ≡ Some x → slice_set xs i x ≡ xs
-set_same [] i x e = refl
-set_same (y ∷ xs) zero x e = let same : y ≡ x = cc in ap (λ z. z ∷ xs) (sym same)
-set_same (y ∷ xs) (suc i) x e = ap (λ t. y ∷ t) (set_same xs i x e)
 
 -- a turn that is refused leaves them
 pub not_turned : (nodes : List NodeParts) (controllers : List ControllerState) (i : ℕ) (v v' : NodeParts) (c c' : ControllerState) (answer : TurnReply)

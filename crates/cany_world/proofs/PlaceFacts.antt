@@ -1,0 +1,65 @@
+-- One of each node, at its place: none yet, one more, and another in the place of one.
+use Rattle.std.proofs.Common.{◌≡◌, ◌≢◌, ℕ, zero, suc, ◌+◌, ◌<◌, ◌⊎◌, inl, inr, List, [], ◌∷◌, ◌++◌, length, get_or, take, refl, ap, sym, subst, ◌∙◌, arith}
+use Rattle.std.specs.Prelude.{Some, slice_get, slice_set}
+use Rattle.std.proofs.lemmas.List.{length-append, length-set, set-get_or, take-append-le, take_all}
+use Rattle.std.proofs.lemmas.Option.{get_or_from_slice_get, slice_get_read}
+use Rattle.cany_world.specs.Kept.{AreOfNodes}
+
+-- ---- what stands in a list
+
+-- what a list has after one more is put at its end
+got_more : {X : Type 0} (xs : List X) (y : X) (i : ℕ) (x : X) → slice_get (xs ++ y ∷ []) i ≡ Some x → ((i ≡ length xs) × (y ≡ x)) ⊎ (slice_get xs i ≡ Some x)
+got_more [] y zero x at = let same : y ≡ x = cc in inl (refl, same)
+got_more [] y (suc i) x at = absurd (cc)
+got_more (z ∷ xs) y zero x at = inr at
+got_more (z ∷ xs) y (suc i) x at = elim (got_more xs y i x at) [
+  | inl last ↦ inl (ap suc last.0, last.1)
+  | inr before ↦ inr before
+]
+
+-- what it has after a write
+got_set : {X : Type 0} (xs : List X) (i j : ℕ) (y x : X) → slice_get (slice_set xs i y) j ≡ Some x → ((j ≡ i) × (y ≡ x)) ⊎ ((j ≢ i) × (slice_get xs j ≡ Some x))
+got_set [] i j y x e = absurd (cc)
+got_set (z ∷ xs) zero zero y x e = let same : y ≡ x = cc in inl (refl, same)
+got_set (z ∷ xs) zero (suc j) y x e = inr (λ k. absurd (omega arith), e)
+got_set (z ∷ xs) (suc i) zero y x e = inr (λ k. absurd (omega arith), e)
+got_set (z ∷ xs) (suc i) (suc j) y x e = elim (got_set xs i j y x e) [
+  | inl same ↦ inl (ap suc same.0, same.1)
+  | inr other ↦ inr (λ k. let less : j ≡ i = omega arith in other.0 less, other.1)
+]
+
+pub set_same : {X : Type 0} (xs : List X) (i : ℕ) (x : X) → slice_get xs i ≡ Some x → slice_set xs i x ≡ xs
+set_same xs i x e = ap (slice_set xs i) (sym (get_or_from_slice_get xs i x x e)) ∙ set-get_or xs i x
+
+-- what was read at a place of a slice that is this list
+pub found : {X : Type 0} (xs ys : List X) (i j : ℕ) (x : X) → ys ≡ xs → j ≡ i → i < length xs → x ≡ get_or ys j x → slice_get xs i ≡ Some x
+found xs ys i j x same at within is =
+    slice_get_read xs (length xs) i x refl within (is ∙ ap (λ t. get_or t j x) same ∙ ap (λ k. get_or xs k x) at)
+
+-- what is kept of a vector whose items were written through a slice
+pub written : {X : Type 0} (xs rest : List X) (n : ℕ) → length xs ≡ n → take n (xs ++ rest) ≡ xs
+written xs rest n e = take-append-le n xs rest (omega (arith, e)) ∙ take_all n xs (omega (arith, e))
+
+-- ---- one of each node
+
+pub none_yet : {X : Type 0} (Is : ℕ → X → Type 0) (xs : List X) → xs ≡ [] → AreOfNodes Is 0 xs
+none_yet Is xs e = subst (AreOfNodes Is 0) (sym e) (record { whole = refl; each = λ i x at. absurd (cc) })
+
+pub one_more : {X : Type 0} (Is : ℕ → X → Type 0) (count : ℕ) (xs : List X) (y : X) → AreOfNodes Is count xs → Is count y → AreOfNodes Is (count + 1) (xs ++ y ∷ [])
+one_more Is count xs y so here = record {
+  whole = length-append xs (y ∷ []) ∙ ap (λ k. k + 1) so.whole;
+  each = λ i x at. elim (got_more xs y i x at) [
+    | inl last ↦ subst (Is i) last.1 (subst (λ k. Is k y) (sym (last.0 ∙ so.whole)) here)
+    | inr before ↦ so.each i x before
+  ];
+}
+
+pub one_changed : {X : Type 0} (Was Is : ℕ → X → Type 0) (count : ℕ) (xs : List X) (i : ℕ) (y : X) → AreOfNodes Was count xs → Is i y
+    → ((j : ℕ) (x : X) → j ≢ i → Was j x → Is j x) → AreOfNodes Is count (slice_set xs i y)
+one_changed Was Is count xs i y so here others = record {
+  whole = length-set xs i y ∙ so.whole;
+  each = λ j x at. elim (got_set xs i j y x at) [
+    | inl same ↦ subst (Is j) same.1 (subst (λ k. Is k y) (sym same.0) here)
+    | inr other ↦ others j x other.0 (so.each j x other.1)
+  ];
+}

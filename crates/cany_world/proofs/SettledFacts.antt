@@ -1,0 +1,136 @@
+-- When a message is settled, by what the controllers and the nodes have.
+use Rattle.std.proofs.Common.{◌≡◌, ℕ, zero, suc, ◌+◌, ◌-◌, ◌<◌, ◌≤◌, ◌&&◌, ◌||◌, Bool, true, false, not, List, [], ◌∷◌, length, map, Contains, refl, ap, sym, subst, ◌∙◌, arith}
+use Rattle.std.specs.Prelude.{slice_get, option_map, Option, Some}
+use Rattle.std.specs.List.{list_any, list_all, range_with_len}
+use Rattle.std.proofs.lemmas.List.{length-map}
+use Rattle.std.proofs.lemmas.List.Elements.{All-contains}
+use Rattle.std.proofs.lemmas.Option.{same_Some, slice_get-map, slice_get_within, get_or_from_slice_get}
+use Rattle.cany_base.specs.declared.message.MsgKey.{MsgKey}
+use Rattle.cany_base.specs.declared.message.SendAsk.{SendAsk}
+use Rattle.cany_base.specs.declared.message.Service.{Service}
+use Rattle.cany_base.specs.declared.step.Step.{Step}
+use Rattle.cany_base.specs.Scenario.{ScenarioParts, IsLegalScenario, IsSendOf}
+use Rattle.cany_model.specs.Bus.Run.{all_read, run}
+use Rattle.cany_model.specs.Promises.Settled.{is_ahead, is_awaited, is_settled}
+use Rattle.cany_model.specs.Rules.Messages.{Message, frames_named, frames_of, message_key, message_of, messages_after, messages_of}
+use Rattle.can_controller.specs.Controller.{ControllerState}
+use Rattle.cany_node.specs.Node.{NodeParts}
+use Rattle.cany_world.specs.Controllers.{awaits, has_read}
+use Rattle.cany_world.specs.Settled.{IsAbout, is_asked, has_ahead}
+use Rattle.cany_world.proofs.AlikeFacts.{all_read_same, awaited_same}
+
+-- ---- the four parts
+
+settled_is : (scenario : ScenarioParts) (journal : List Step) (m : Message) (asked awaited read ahead : Bool) → asked ≡ is_asked scenario (run scenario journal) m
+    → awaited ≡ is_awaited (frames_of m) (run scenario journal) → read ≡ all_read (run scenario journal) → ahead ≡ is_ahead scenario (run scenario journal) m
+    → (asked && not awaited && read && not ahead) ≡ is_settled scenario (run scenario journal) m
+unfolding is_settled
+settled_is scenario journal m asked awaited read ahead a b c d =
+    ap (λ x. x && not awaited && read && not ahead) a
+    ∙ ap (λ x. is_asked scenario (run scenario journal) m && not x && read && not ahead) b
+    ∙ ap (λ x. is_asked scenario (run scenario journal) m && not (is_awaited (frames_of m) (run scenario journal)) && x && not ahead) c
+    ∙ ap (λ x. is_asked scenario (run scenario journal) m && not (is_awaited (frames_of m) (run scenario journal)) && all_read (run scenario journal) && not x) d
+
+all_four : (a b c d : Bool) → (a && (b && c) && d) ≡ (a && b && c && d)
+all_four true b c d = refl
+all_four false b c d = refl
+
+pub settled_by : (scenario : ScenarioParts) (journal : List Step) (m : Message) (service : Service) (key : MsgKey) (controllers : List ControllerState) (nodes : List NodeParts) (asked quiet ahead : Bool)
+    → IsAbout scenario journal m key controllers nodes → m.service ≡ service → asked ≡ is_asked scenario (run scenario journal) m
+    → quiet ≡ (not (list_any (awaits (frames_named service key)) controllers) && list_all has_read controllers) → ahead ≡ is_ahead scenario (run scenario journal) m
+    → (asked && quiet && not ahead) ≡ is_settled scenario (run scenario journal) m
+settled_by scenario journal m service key controllers nodes asked quiet ahead about by asks is has =
+    let awaited : Bool = list_any (awaits (frames_named service key)) controllers in
+    ap (λ q. asked && q && not ahead) is
+    ∙ all_four asked (not awaited) (list_all has_read controllers) (not ahead)
+    ∙ settled_is scenario journal m asked awaited (list_all has_read controllers) ahead asks
+    (ap (λ k. list_any (awaits (frames_named service k)) controllers) (sym about.key) ∙ ap (λ x. list_any (awaits (frames_named x (message_key m))) controllers) (sym by)
+    ∙ sym (awaited_same scenario journal controllers about.controllers (frames_of m)))
+    (sym (all_read_same scenario journal controllers about.controllers)) has
+
+-- ---- what is ahead, at one node after another
+
+-- of the nodes before i none has anything of the message ahead: those from i on decide
+abbrev pub IsLeftTo : ℕ → MsgKey → List ControllerState → List NodeParts → Type 0
+IsLeftTo i key controllers nodes =
+    (scenario : ScenarioParts) (journal : List Step) (m : Message) → IsAbout scenario journal m key controllers nodes
+    → list_any (has_ahead scenario (run scenario journal) m) (range_with_len i (length controllers - i)) ≡ is_ahead scenario (run scenario journal) m
+
+pub left_to_all : (key : MsgKey) (controllers : List ControllerState) (nodes : List NodeParts) → IsLeftTo 0 key controllers nodes
+left_to_all key controllers nodes scenario journal m about =
+    let all : length controllers - 0 ≡ scenario.params.nodes = omega (arith, about.controllers.whole) in
+    ap (λ n. list_any (has_ahead scenario (run scenario journal) m) (range_with_len 0 n)) all
+
+module _ (i : ℕ) (key : MsgKey) (controllers : List ControllerState) (nodes : List NodeParts) (left : IsLeftTo i key controllers nodes)
+    (scenario : ScenarioParts) (journal : List Step) (m : Message) (about : IsAbout scenario journal m key controllers nodes) where
+  by_this : i < length controllers
+      → (has_ahead scenario (run scenario journal) m i || list_any (has_ahead scenario (run scenario journal) m) (range_with_len (i + 1) (length controllers - (i + 1))))
+      ≡ is_ahead scenario (run scenario journal) m
+  by_this within =
+      let more : length controllers - i ≡ suc (length controllers - (i + 1)) = omega (arith, within) in
+      sym (ap (λ n. list_any (has_ahead scenario (run scenario journal) m) (range_with_len i n)) more) ∙ left scenario journal m about
+
+  pub one_ahead : i < length controllers → has_ahead scenario (run scenario journal) m i ≡ true → true ≡ is_ahead scenario (run scenario journal) m
+  one_ahead within here = rw here at by_this within
+
+  pub left_to_next : i < length controllers → has_ahead scenario (run scenario journal) m i ≡ false
+      → list_any (has_ahead scenario (run scenario journal) m) (range_with_len (i + 1) (length controllers - (i + 1))) ≡ is_ahead scenario (run scenario journal) m
+  left_to_next within none = rw none at by_this within
+
+  pub none_ahead : length controllers ≤ i → false ≡ is_ahead scenario (run scenario journal) m
+  none_ahead past =
+      let over : length controllers - i ≡ 0 = omega (arith, past) in
+      sym (ap (λ n. list_any (has_ahead scenario (run scenario journal) m) (range_with_len i n)) over) ∙ left scenario journal m about
+
+-- ---- the message of a scripted send
+
+length-messages_after : (earlier sends : List SendAsk) → length (messages_after earlier sends) ≡ length sends
+unfolding messages_after
+length-messages_after earlier [] = refl
+length-messages_after earlier (send ∷ sends) = ap suc (length-messages_after (send ∷ earlier) sends)
+
+pub length-keys : (sends : List SendAsk) (keys : List MsgKey) → keys ≡ map message_key (messages_of sends) → length keys ≡ length sends
+length-keys sends keys e = ap (λ (k : List MsgKey). length k) e ∙ length-map (messages_of sends) message_key ∙ length-messages_after [] sends
+
+message_at : (earlier sends : List SendAsk) (index : ℕ) (send : SendAsk) → slice_get sends index ≡ Some send
+    → (before : List SendAsk) × (slice_get (messages_after earlier sends) index ≡ Some (message_of before send))
+unfolding messages_after
+message_at earlier [] index send at = absurd (cc)
+message_at earlier (first ∷ sends) zero send at = (earlier, ap (option_map (message_of earlier)) at)
+message_at earlier (first ∷ sends) (suc index) send at = message_at (first ∷ earlier) sends index send at
+
+-- the message of a send and its key
+pub record HasMessage (scenario : ScenarioParts) (index : ℕ) (send : SendAsk) (key : MsgKey) : Type 0 where
+  pub message : Message
+  pub at : slice_get (messages_of scenario.sends) index ≡ Some message
+  pub stands : Contains (messages_of scenario.sends) message
+  pub service : message.service ≡ send.service
+  pub named : message_key message ≡ key
+  pub node : key.origin < scenario.params.nodes
+
+contains_at : {X : Type 0} (xs : List X) (i : ℕ) (x : X) → slice_get xs i ≡ Some x → Contains xs x
+contains_at xs i x at = (i, slice_get_within xs i x at, get_or_from_slice_get xs i x x at)
+
+pub has_message : (scenario : ScenarioParts) (keys : List MsgKey) (index : ℕ) (send : SendAsk) (key : MsgKey) → IsLegalScenario scenario → keys ≡ map message_key (messages_of scenario.sends)
+    → slice_get scenario.sends index ≡ Some send → slice_get keys index ≡ Some key → HasMessage scenario index send key
+has_message scenario keys index send key legal are at at_key = record {
+  message = m;
+  at = found.1;
+  stands = contains_at (messages_of scenario.sends) index m found.1;
+  service = refl;
+  named = named;
+  node = subst (λ k. k < scenario.params.nodes) (ap (λ (k : MsgKey). k.origin) named) sent.1;
+}
+  where
+    found : (before : List SendAsk) × (slice_get (messages_of scenario.sends) index ≡ Some (message_of before send))
+    found = message_at [] scenario.sends index send at
+
+    m : Message
+    m = message_of found.0 send
+
+    named : message_key m ≡ key
+    named = same_Some (message_key m) key
+        (sym (ap (λ (k : List MsgKey). slice_get k index) are ∙ slice_get-map message_key (messages_of scenario.sends) index ∙ ap (option_map message_key) found.1) ∙ at_key)
+
+    sent : IsSendOf scenario.params send
+    sent = All-contains (IsSendOf scenario.params) scenario.sends send legal.sends (contains_at scenario.sends index send at)

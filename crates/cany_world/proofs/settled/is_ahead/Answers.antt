@@ -1,0 +1,33 @@
+use Rattle.std.proofs.Common.{◌≡◌, refl, sym, arith, ◌∙◌}
+use Rattle.std.specs.Prelude.{slice_get, Some}
+use Rattle.std.proofs.lemmas.Option.{slice_get_read}
+use Rattle.cany_model.specs.Bus.Run.{run}
+use Rattle.cany_world.specs.Settled.{has_ahead}
+use Rattle.cany_world.proofs.SettledFacts.{left_to_all, left_to_next, none_ahead, one_ahead}
+use Rattle.cany_world.proofs.settled.is_ahead.Goals as goal
+
+pub loop-i-init : goal.loop-i-init
+loop-i-init c = left_to_all c.args.key.now c.args.controllers.now c.args.nodes.now
+
+pub returns-then-has_ahead : goal.returns-then-has_ahead
+returns-then-has_ahead c scenario journal m about =
+    let at : slice_get c.args.controllers.now c.loop-i.i ≡ Some c.index-controllers-i.result =
+    slice_get_read c.args.controllers.now _ c.loop-i.i c.index-controllers-i.result refl c.loop-i-test.true c.index-controllers-i.is in
+    let at_node : slice_get c.args.nodes.now c.loop-i.i ≡ Some c.index-nodes-i.result =
+    slice_get_read c.args.nodes.now _ c.loop-i.i c.index-nodes-i.result c.requires c.loop-i-test.true c.index-nodes-i.is in
+    let is : c.has_ahead.result ≡ has_ahead scenario (run scenario journal) m c.loop-i.i =
+    c.has_ahead.ensures scenario (run scenario journal) c.loop-i.i m (about.controllers.each c.loop-i.i _ at) (about.nodes.each c.loop-i.i _ at_node) about.stands about.key in
+    one_ahead c.loop-i.i c.args.key.now c.args.controllers.now c.args.nodes.now c.loop-i.invariant scenario journal m about c.loop-i-test.true (sym is ∙ c.if-has_ahead.true)
+
+pub loop-i-preserved : goal.loop-i-preserved
+loop-i-preserved c scenario journal m about =
+    let at : slice_get c.args.controllers.now c.loop-i.i ≡ Some c.index-controllers-i.result =
+    slice_get_read c.args.controllers.now _ c.loop-i.i c.index-controllers-i.result refl c.loop-i-test.true c.index-controllers-i.is in
+    let at_node : slice_get c.args.nodes.now c.loop-i.i ≡ Some c.index-nodes-i.result =
+    slice_get_read c.args.nodes.now _ c.loop-i.i c.index-nodes-i.result c.requires c.loop-i-test.true c.index-nodes-i.is in
+    let is : c.has_ahead.result ≡ has_ahead scenario (run scenario journal) m c.loop-i.i =
+    c.has_ahead.ensures scenario (run scenario journal) c.loop-i.i m (about.controllers.each c.loop-i.i _ at) (about.nodes.each c.loop-i.i _ at_node) about.stands about.key in
+    left_to_next c.loop-i.i c.args.key.now c.args.controllers.now c.args.nodes.now c.loop-i.invariant scenario journal m about c.loop-i-test.true (sym is ∙ c.if-has_ahead.false)
+
+pub returns : goal.returns
+returns c scenario journal m about = none_ahead c.loop-i.i c.args.key.now c.args.controllers.now c.args.nodes.now c.loop-i.invariant scenario journal m about (omega arith)
