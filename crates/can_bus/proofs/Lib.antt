@@ -2,7 +2,6 @@ pub mod AfterFacts
 pub mod ContestFacts
 pub mod EachFacts
 pub mod KeptFacts
-pub mod LostRuleFacts
 pub mod NodeFacts
 pub mod NoteFacts
 pub mod OfferFacts

@@ -6,7 +6,7 @@ use Rattle.cany_base.specs.declared.slot_note.SlotNote.{SlotNote}
 use Rattle.cany_base.specs.Frame.{FrameParts}
 use Rattle.cany_base.specs.Nodes.{Nodes, has, those_where}
 use Rattle.cany_base.proofs.NodesFacts.{has-those_where, same_as_those_where}
-use Rattle.cany_model.specs.Bus.Slot.{Ruling, Script, after_share, exceeds, exchange, lets_accept, nobody, note_by, sends, share_of, slot_note_of, stopping, winner, with_stops}
+use Rattle.cany_model.specs.Bus.Slot.{Ruling, FaultScript, after_share, exceeds, exchange, lets_accept, nobody, note_by, sends, share_of, slot_note_of, stopping, winner, with_stops}
 use Rattle.cany_model.specs.Bus.State.{NodeState, node_at, runs}
 use Rattle.can_arbiter.specs.declared.arbitration.Outcome.{Outcome}
 use Rattle.can_arbiter.specs.declared.arbitration.Outcome.TheVariants.{Won}
@@ -74,7 +74,7 @@ stops_are scripted controllers bare seen before after stops all ran runs_on step
 
 -- ---- the whole note
 
-pub noted : (rules : Script) (trace : List SlotNote) (nodes : List NodeState) (slot : ℕ) (ruling : Ruling) (bare : SlotNote) (stops : Nodes) → slot ≡ length trace
+pub noted : (rules : FaultScript) (trace : List SlotNote) (nodes : List NodeState) (slot : ℕ) (ruling : Ruling) (bare : SlotNote) (stops : Nodes) → slot ≡ length trace
     → ruling ≡ rules trace (winner nodes) → bare ≡ exchange slot nodes ruling.verdict (winner nodes) → stops ≡ stopping ruling.stop nodes bare
     → record bare { stops = stops } ≡ slot_note_of rules (record { trace = trace; nodes = nodes })
 unfolding slot_note_of
@@ -94,7 +94,7 @@ slot_noted slot nodes verdict None = refl
 slot_noted slot nodes verdict (Some f) = refl
 
 -- a note has the number of the slots before it
-pub note_numbered : (rules : Script) (trace : List SlotNote) (nodes : List NodeState) (note : SlotNote)
+pub note_numbered : (rules : FaultScript) (trace : List SlotNote) (nodes : List NodeState) (note : SlotNote)
     → note ≡ slot_note_of rules (record { trace = trace; nodes = nodes }) → note.slot ≡ length trace
 unfolding slot_note_of
 note_numbered rules trace nodes note is =
@@ -106,7 +106,7 @@ ruled_by slot nodes ruling None = tt
 ruled_by slot nodes ruling (Some f) = refl
 
 -- the verdict of a note is that of the script
-pub note_ruled : (rules : Script) (trace : List SlotNote) (nodes : List NodeState) (note : SlotNote)
+pub note_ruled : (rules : FaultScript) (trace : List SlotNote) (nodes : List NodeState) (note : SlotNote)
     → note ≡ slot_note_of rules (record { trace = trace; nodes = nodes }) → IfSome note.frame (λ f. note.verdict ≡ (rules trace (Some f)).verdict)
 unfolding slot_note_of
 note_ruled rules trace nodes note is =

@@ -8,7 +8,7 @@ use Rattle.cany_base.specs.Frame.{FrameParts}
 use Rattle.cany_base.specs.Nodes.{Nodes, has, those_where}
 use Rattle.cany_model.specs.declared.share.Share.{Share}
 use Rattle.cany_model.specs.declared.share.Share.TheVariants.{Idle, Took, Rejected, Confirmed, Errored}
-use Rattle.cany_model.specs.Bus.Slot.{Ruling, Script, after_share, exceeds, exchange, lets_accept, least_frame, note_by, offered, sends, share_of, slot_note_of, stopping, winner, with_stops}
+use Rattle.cany_model.specs.Bus.Slot.{Ruling, FaultScript, after_share, exceeds, exchange, lets_accept, least_frame, note_by, offered, sends, share_of, slot_note_of, stopping, winner, with_stops}
 use Rattle.cany_model.specs.Bus.State.{NodeState, node_at, runs}
 use Rattle.can_controller.specs.Controller.{ControllerState, node_state}
 use Rattle.can_bus.specs.Row.{IsSameBut, StandFor, nodes_of}
@@ -60,7 +60,7 @@ note_read slot nodes o ruling =
     ap (with_stops ruling.stop (map all_read nodes)) (exchange_read slot nodes ruling.verdict o)
     ∙ ap (λ (s : Nodes). record (exchange slot nodes ruling.verdict o) { stops = s }) (stopping_read ruling.stop nodes (exchange slot nodes ruling.verdict o))
 
-slot_read : (rules : Script) (trace : List SlotNote) (nodes : List NodeState)
+slot_read : (rules : FaultScript) (trace : List SlotNote) (nodes : List NodeState)
     → slot_note_of rules (record { trace = trace; nodes = map all_read nodes }) ≡ slot_note_of rules (record { trace = trace; nodes = nodes })
 unfolding slot_note_of
 slot_read rules trace nodes =
@@ -80,7 +80,7 @@ all_same (c ∷ controllers) (m ∷ nodes) long same =
     ap (λ x. x ∷ map all_read (nodes_of controllers)) (same_read (node_state c) m (same 0 c refl))
     ∙ ap (λ t. all_read m ∷ t) (all_same controllers nodes (omega arith) (λ i x at. same (suc i) x at))
 
-pub slot_without_unread : (rules : Script) (trace : List SlotNote) (controllers : List ControllerState) (nodes : List NodeState) → StandFor controllers nodes
+pub slot_without_unread : (rules : FaultScript) (trace : List SlotNote) (controllers : List ControllerState) (nodes : List NodeState) → StandFor controllers nodes
     → slot_note_of rules (record { trace = trace; nodes = nodes_of controllers }) ≡ slot_note_of rules (record { trace = trace; nodes = nodes })
 slot_without_unread rules trace controllers nodes stand =
     sym (slot_read rules trace (nodes_of controllers))

@@ -1,6 +1,6 @@
-ghost use Rattle.std.specs.Prelude.{◌≡◌, ◌≢◌, ◌<◌, ◌≤◌, ℕ, length, IfOk, All, AllPairs};
-ghost use Rattle.cany_base.specs.Scenario.{IsLegalScenario, IsRuleOf};
-ghost use Rattle.cany_base.specs.Params.{Parameters, IsInRange, MeetsFormulas};
+ghost use Rattle.std.specs.Prelude.{◌≡◌, ◌<◌, ℕ, length, IfOk, All};
+ghost use Rattle.cany_base.specs.Scenario.{IsRuleOf};
+ghost use Rattle.cany_base.specs.Params.{IsInRange, MeetsFormulas, Parameters, default_parameters};
 ghost use Rattle.can_bus.specs.Bus.{Follows};
 ghost use Rattle.can_bus.specs.Row.{IsRowFor, NoneLags};
 
@@ -9,57 +9,47 @@ use can_controller::Controller;
 use can_fault::{Break, BreakKind, Script};
 use can_frame::fits_format_one;
 use cany_base::{
-    Class, Format, Frame, Memory, NodeId, NodeSet, Params, Payload, Place, Rule, Scenario,
-    SlotNote, Verdict,
+    Class, Frame, Memory, NodeId, NodeSet, Params, Payload, Place, Rule, Scenario, SlotNote,
+    Verdict,
 };
 use std::alloc::Global;
 use std::process::Abort;
 use std::test::Fail;
 
-/// Two nodes, and two errors in a window at most.
-fn two_nodes() -> Params
-    ensures slots { result.slots ≡ 100 }
-    ensures nodes { result.nodes ≡ 2 }
-    ensures ranges { IsInRange result }
-    ensures formulas { MeetsFormulas result }
-{
-    Params {
-        format: Format::One,
-        nodes: 2,
-        lag: 0,
-        omit: 1,
-        errors: 2,
-        bound: 36,
-        cycle: 72,
-        life: 36,
-        silence: 73,
-        confirm: 10,
-        slots: 100,
-    }
-}
-
-/// The slots 1 to 16 are lost.
+/// The slots 0 to 15 are lost.
 fn lost_slots(alloc: Global) -> Result<Vec<Rule>, Memory>
-    ensures all { (p : Parameters) → 16 < p.slots → IfOk result (λ rules. All (IsRuleOf p) rules.items) }
-    ensures few { IfOk result (λ rules. length rules.items ≡ 16) }
-    ensures apart { IfOk result (λ rules. AllPairs (λ a b. a.place ≢ b.place) rules.items) }
+    ensures all { IfOk result (λ rules. All (IsRuleOf (default_parameters 2 100)) rules.items) }
+    ensures count { IfOk result (λ rules. length rules.items ≡ 16) }
 {
     let mut rules = Vec::new(alloc);
-    for before in 0..16 {
+    for slot in 0..16 {
         rules.push(Rule {
-            place: Place::At { slot: before + 1 },
+            place: Place::At { slot },
             verdict: Verdict::Lost,
-            stop: NodeSet::of_bits(0),
+            stop: NodeSet::empty(),
         })?;
     }
     Ok(rules)
 }
 
-fn lossy(alloc: Global) -> Result<Scenario, Memory>
+/// Two nodes, and two errors in a window at most.
+fn two_nodes() -> Params
+    ensures value { result ≡ default_parameters 2 100 }
+    ensures nodes { result.nodes ≡ 2 }
+    ensures slots { result.slots ≡ 100 }
+    ensures ranges { IsInRange result }
+    ensures formulas { MeetsFormulas result }
+{
+    Params::with_defaults(2, 100)
+}
+
+fn lossy(alloc: Global) -> Result<Scenario, Fail>
     ensures nodes { IfOk result (λ s. s.params.nodes ≡ 2) }
     ensures slots { IfOk result (λ s. s.params.slots ≡ 100) }
 {
     let rules = lost_slots(alloc)?;
+    // It answers a fault where two rules have one place.
+    Script::build(alloc, rules.as_slice())?;
     Ok(Scenario::of_parts(
         two_nodes(),
         NodeSet::all(2),
@@ -71,21 +61,15 @@ fn lossy(alloc: Global) -> Result<Scenario, Memory>
     ))
 }
 
-fn node(n: u8) -> Result<NodeId, Fail>
-    ensures { IfOk result (λ node. node ≡ n) }
-{
-    Ok(NodeId::new(n).ok_or("no such node")?)
-}
-
 /// The data of message 0 of node 0.
-fn message() -> Result<Frame, Fail> {
-    Ok(Frame {
+fn message() -> Frame {
+    Frame {
         class: Class::Ed,
         number: 0,
-        node: node(0)?,
+        node: NodeId::of_index(0),
         inc: 0,
         payload: Payload::empty(),
-    })
+    }
 }
 
 /// The first controller asks for the frame, where there is room for one more.
@@ -120,70 +104,72 @@ fn read_all(rt: &impl Abort, controllers: &mut [Controller])
 }
 
 /// Reads all notices and runs the next slot.
-fn next(rt: &impl Abort, bus: &mut Bus, controllers: &mut [Controller], script: &Script) -> SlotNote
+fn next(rt: &impl Abort, bus: &mut Bus, controllers: &mut [Controller], script: &Script)
     requires slots { bus.old.params.slots ≡ 100 }
     requires row { IsRowFor bus.old.params controllers.old }
     requires follows { Follows script.now bus.old }
-    ensures params { bus.new.params ≡ bus.old.params }
-    ensures row { IsRowFor bus.old.params controllers.new }
+    ensures slots { bus.new.params.slots ≡ 100 }
+    ensures row { IsRowFor bus.new.params controllers.new }
     ensures follows { Follows script.now bus.new }
 {
     assert!(rt; bus.trace().len() < 100);
     read_all(rt, controllers);
-    bus.slot(controllers, script)
+    bus.slot(controllers, script);
 }
 
-/// Runs the slots 1 to 16, in which the first node sends the frame.
-fn lose_all(
+/// Runs slots in which the first node has the frame to send.
+fn run(
     rt: &impl Abort,
     bus: &mut Bus,
     controllers: &mut [Controller],
     script: &Script,
     frame: Frame,
+    slots: usize,
 )
+    requires some { 0 < length controllers.old }
     requires slots { bus.old.params.slots ≡ 100 }
     requires row { IsRowFor bus.old.params controllers.old }
     requires follows { Follows script.now bus.old }
 {
+    ask(rt, controllers, frame);
+    for _ in 0..slots {
+        next(rt, bus, controllers, script);
+    }
+}
+
+/// The first node sends the frame in the slots before slot 16, which are all lost, stops in the last of them, and leaves
+/// the bus idle.
+fn check_notes(rt: &impl Abort, notes: &[SlotNote], frame: Frame) {
     let nobody = NodeSet::of_bits(0);
     let first = NodeSet::of_bits(1);
-    for slot in 1..17 {
-        let note = SlotNote {
-            slot,
-            frame: Some(frame),
-            senders: first,
-            takers: nobody,
-            verdict: Verdict::Lost,
-            stops: if slot == 16 { first } else { nobody },
-        };
-        assert_eq!(rt; next(rt, bus, controllers, script), note);
+    for (place, note) in notes.iter().enumerate() {
+        let sent = place < 16;
+        assert_eq!(rt; note.slot, place as u64);
+        assert_eq!(rt; note.frame, sent.then_some(frame));
+        assert_eq!(rt; note.senders, if sent { first } else { nobody });
+        assert_eq!(rt; note.takers, nobody);
+        assert_eq!(rt;
+            note.verdict,
+            if sent { Verdict::Lost } else { Verdict::Clean }
+        );
+        assert_eq!(rt; note.stops, if place == 15 { first } else { nobody });
     }
 }
 
 #[test]
 fn sixteen_lost_slots_stop_a_sender(rt: HostRuntime) -> Result<(), Fail> {
+    let frame = message();
     let scenario = lossy(rt.alloc())?;
-    let script = Script::build(rt.alloc(), scenario.rules())?;
+    let script = Script::of_scenario(rt.alloc(), &scenario)?;
     let mut bus = Bus::build(rt.alloc(), &scenario)?;
-    let sender = Controller::build(rt.alloc(), node(0)?, scenario.params(), 4)?;
-    let receiver = Controller::build(rt.alloc(), node(1)?, scenario.params(), 4)?;
+    let sender = Controller::build(rt.alloc(), NodeId::of_index(0), scenario.params(), 4)?;
+    let receiver = Controller::build(rt.alloc(), NodeId::of_index(1), scenario.params(), 4)?;
     let mut controllers = [sender, receiver];
     let row = controllers.as_mut_slice();
-    let nobody = NodeSet::of_bits(0);
-    let idle = SlotNote {
-        slot: 0,
-        frame: None,
-        senders: nobody,
-        takers: nobody,
-        verdict: Verdict::Clean,
-        stops: nobody,
-    };
-    assert_eq!(rt; next(&rt, &mut bus, row, &script), idle);
-    let frame = message()?;
-    ask(&rt, row, frame);
-    lose_all(&rt, &mut bus, row, &script, frame);
-    let kind = BreakKind::Errors;
-    assert_eq!(rt; bus.first_break(), Some(Break { kind, slot: 3 }));
+    run(&rt, &mut bus, row, &script, frame, 17);
     assert_eq!(rt; bus.trace().len(), 17);
+    check_notes(&rt, bus.trace(), frame);
+    let kind = BreakKind::Errors;
+    assert_eq!(rt; bus.first_break(), Some(Break { kind, slot: 2 }));
     Ok(())
 }

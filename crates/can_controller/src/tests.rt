@@ -11,17 +11,8 @@ fn lag_two() -> Params
     ensures { result.lag ≡ 2 }
 {
     Params {
-        format: Format::One,
-        nodes: 3,
         lag: 2,
-        omit: 1,
-        errors: 2,
-        bound: 114,
-        cycle: 232,
-        life: 116,
-        silence: 233,
-        confirm: 10,
-        slots: 1000,
+        ..Params::with_defaults(3, 1000)
     }
 }
 

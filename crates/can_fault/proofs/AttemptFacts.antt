@@ -4,7 +4,7 @@ use Rattle.std.specs.BTreeMap.{BTreeMap, get, is_at}
 use Rattle.std.specs.Option.{option_map, option_map_or}
 use Rattle.std.specs.Ordering.{is_eq}
 use Rattle.std.specs.Cmp.{both_ways}
-use Rattle.std.proofs.lemmas.List.Sums.{sum_by-cons, count_by-le-length}
+use Rattle.std.proofs.lemmas.List.Sums.{count_by-le-length}
 use Rattle.std.proofs.lemmas.List.Folds.{list_any-append}
 use Rattle.cany_base.specs.declared.rule.Place.TheVariants.{At, FrameNth}
 use Rattle.cany_base.specs.declared.rule.Rule.{Rule}
@@ -12,24 +12,13 @@ use Rattle.cany_base.specs.declared.slot_note.SlotNote.{SlotNote}
 use Rattle.cany_base.specs.Frame.{FrameParts}
 use Rattle.cany_model.specs.Bus.Frames.{Identity, identity_of, same_identity, is_of}
 use Rattle.cany_model.specs.Bus.Slot.{attempts, carried}
+use Rattle.cany_model.proofs.Among.{count-yes, count-no}
 use Rattle.cany_model.proofs.Bus.Identities.{same_identity-true, same_identity_self}
 use Rattle.can_fault.specs.declared.name.FrameName.{FrameName}
 use Rattle.can_fault.specs.Attempts.{AreCountsOf, HasNames, count_of, greatest, raised}
 use Rattle.can_fault.specs.Names.{name_cmp, name_of}
 use Rattle.can_fault.specs.Rules.{names_frame, is_named, next_attempt}
 use Rattle.can_fault.proofs.KeyFacts.{name_test}
-
-pub count-cons : {X : Type 0} (p : X → Bool) (x : X) (xs : List X) → count_by p (x ∷ xs) ≡ (if p x then 1 else 0) + count_by p xs
-count-cons p x xs = sum_by-cons (λ y. if p y then 1 else 0) x xs
-
-pub count-yes : {X : Type 0} (p : X → Bool) (x : X) (xs : List X) → p x ≡ true → count_by p (x ∷ xs) ≡ count_by p xs + 1
-count-yes p x xs e = omega (arith, ap {B = ℕ} (λ b. if b then 1 else 0) e, count-cons p x xs)
-
-pub count-no : {X : Type 0} (p : X → Bool) (x : X) (xs : List X) → p x ≡ false → count_by p (x ∷ xs) ≡ count_by p xs
-count-no p x xs e = omega (arith, ap {B = ℕ} (λ b. if b then 1 else 0) e, count-cons p x xs)
-
-pub count-grows : {X : Type 0} (p : X → Bool) (x : X) (xs : List X) → count_by p xs ≤ count_by p (x ∷ xs)
-count-grows p x xs = omega (arith, count-cons p x xs)
 
 pub same_identity_turned : (x y : Identity) → same_identity x y ≡ same_identity y x
 same_identity_turned x y =
@@ -82,7 +71,7 @@ carries x note f e = ap (λ o. option_map_or (is_of x) o false) e
 
 pub one_more : (x : Identity) (trace : List SlotNote) (note : SlotNote) (f : FrameParts) → note.frame ≡ Some f → same_identity x (identity_of f) ≡ true
     → attempts x (note ∷ trace) ≡ attempts x trace + 1
-one_more x trace note f e same = count-yes (carried (is_of x)) note trace (carries x note f e ∙ same)
+one_more x trace note f e same = omega (arith, count-yes (carried (is_of x)) note trace (carries x note f e ∙ same))
 
 no_more : (x : Identity) (trace : List SlotNote) (note : SlotNote) (f : FrameParts) → note.frame ≡ Some f → same_identity x (identity_of f) ≡ false
     → attempts x (note ∷ trace) ≡ attempts x trace

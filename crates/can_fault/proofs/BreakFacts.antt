@@ -19,7 +19,7 @@ use Rattle.can_fault.specs.declared.counts.Counted.{Counted}
 use Rattle.can_fault.specs.Counted.{same_counted, counted_of}
 use Rattle.can_fault.specs.Counts.{partials_of}
 use Rattle.can_fault.specs.Window.{Window, IsNumbered, is_crowded, error_places}
-use Rattle.can_fault.proofs.AttemptFacts.{count-yes, count-no}
+use Rattle.cany_model.proofs.Among.{count-yes, count-no}
 use Rattle.cany_model.proofs.Promises.BreakFacts.{first_break_exact}
 use Rattle.can_fault.proofs.CountedFacts.{together}
 use Rattle.can_fault.proofs.WindowFacts.{errors_in_window, quiet_window}
@@ -54,7 +54,7 @@ partials_more x note before f e partial =
     let is : is_partial_slot_of x note ≡ count_together x (identity_of f) =
     partial_is x note f e ∙ ap (λ b. count_together x (identity_of f) && b) partial ∙ and_true (count_together x (identity_of f)) in
     elim (cases_Bool (count_together x (identity_of f))) [
-      | inl here ↦ rw here (count-yes (is_partial_slot_of x) note before (is ∙ here))
+      | inl here ↦ rw here (omega (arith, count-yes (is_partial_slot_of x) note before (is ∙ here)))
       | inr apart ↦ rw apart (omega (arith, count-no (is_partial_slot_of x) note before (is ∙ apart)))
     ]
 

@@ -13,6 +13,7 @@ use Rattle.can_fault.specs.declared.counts.Counted.TheVariants.{Vectors, Frame}
 use Rattle.can_fault.specs.declared.name.FrameName.{FrameName}
 use Rattle.can_fault.specs.Counted.{same_counted, counted_of}
 use Rattle.can_fault.specs.Names.{name_of}
+use Rattle.can_fault.proofs.KeyFacts.{same_from_names}
 
 pub same_counted-true : (a b : Counted) → same_counted a b ≡ true → a ≡ b
 same_counted-true a b h = grind (arith, common_steps)
@@ -43,11 +44,6 @@ vectors_apart n name h = cc
 
 frame_name : (n m : FrameName) → Frame n ≡ Frame m → n ≡ m
 frame_name n m h = cc
-
-same_from_names : (x y : Identity) → name_of x ≡ name_of y → same_identity x y ≡ true
-same_from_names x y e =
-    let same : x ≡ y = ap (λ (n : FrameName). record { class = n.class; number = n.number; node = n.node }) e in
-    rw same (same_identity_self y)
 
 -- ---- keys are equal exactly if the identities count together
 

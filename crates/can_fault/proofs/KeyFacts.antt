@@ -12,7 +12,7 @@ use Rattle.can_fault.specs.Names.{name_cmp, attempt_cmp, name_of, attempt_of}
 use Rattle.can_fault.specs.contracts.name.FrameNameOrd.TheImpl.Laws as name_laws
 use Rattle.can_fault.specs.contracts.name.AttemptOrd.TheImpl.Laws as attempt_laws
 use Rattle.cany_model.specs.Bus.Frames.{Identity, same_identity}
-use Rattle.cany_model.proofs.Bus.Identities.{same_identity-true, same_identity_self}
+use Rattle.cany_model.proofs.Bus.Identities.{same_identity-true, same_identity-from}
 
 pub name_total : IsTotalOrder name_cmp
 name_total = name_laws.total-law
@@ -26,17 +26,14 @@ name_exact a b h = grind (arith, common_steps)
 attempt_exact : (a b : Attempt) → attempt_cmp a b ≡ Equal → a ≡ b
 attempt_exact a b h = grind (arith, common_steps)
 
-identity_from : (x y : Identity) → name_of x ≡ name_of y → x ≡ y
-identity_from x y e = ap (λ (n : FrameName). record { class = n.class; number = n.number; node = n.node }) e
-
-same_from : (x y : Identity) → x ≡ y → same_identity x y ≡ true
-same_from x y e = rw e (same_identity_self y)
+pub same_from_names : (x y : Identity) → name_of x ≡ name_of y → same_identity x y ≡ true
+same_from_names x y e = same_identity-from x y (ap (λ (n : FrameName). record { class = n.class; number = n.number; node = n.node }) e)
 
 -- names are compared by the identities that they stand for
 pub name_test : (x y : Identity) → is_eq (name_cmp (name_of x) (name_of y)) ≡ same_identity x y
 name_test x y =
     both_ways (is_eq (name_cmp (name_of x) (name_of y))) (same_identity x y)
-    (λ h. same_from x y (identity_from x y (name_exact (name_of x) (name_of y) ((Equal-is (name_cmp (name_of x) (name_of y))).0 h))))
+    (λ h. same_from_names x y (name_exact (name_of x) (name_of y) ((Equal-is (name_cmp (name_of x) (name_of y))).0 h)))
     (λ h. let e : x ≡ y = same_identity-true x y h in
     (Equal-is (name_cmp (name_of x) (name_of y))).1 (rw e (tied_itself name_total (name_of y))))
 
@@ -50,7 +47,7 @@ attempt_test x y k j =
     (λ h.
     let same : attempt_of x k ≡ attempt_of y j = attempt_exact (attempt_of x k) (attempt_of y j) ((Equal-is (attempt_cmp (attempt_of x k) (attempt_of y j))).0 h) in
     and_from (same_identity x y) (k == j)
-    (same_from x y (identity_from x y (ap (λ (a : Attempt). a.name) same)))
+    (same_from_names x y (ap (λ (a : Attempt). a.name) same))
     (eq-eqb k j (ap (λ (a : Attempt). a.nth) same)))
     (λ h.
     let parts = and_parts (same_identity x y) (k == j) h in

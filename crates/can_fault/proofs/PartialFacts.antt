@@ -17,7 +17,8 @@ use Rattle.cany_model.proofs.Bus.Identities.{same_identity_self}
 use Rattle.can_fault.specs.Rules.{IsRuledBy}
 use Rattle.can_fault.specs.Table.{is_place}
 use Rattle.can_fault.specs.Tally.{is_partial_slot}
-use Rattle.can_fault.proofs.AttemptFacts.{count-yes, count-no, count-grows, one_more}
+use Rattle.cany_model.proofs.Among.{count-yes, count-no, count-grows}
+use Rattle.can_fault.proofs.AttemptFacts.{one_more}
 use Rattle.can_fault.proofs.TableFacts.{is_place-true}
 
 -- whether a rule with the place can act no more

@@ -9,7 +9,7 @@ use Rattle.can_fault.specs.declared.tally.Tally.TheInside.{Inside}
 use Rattle.can_fault.specs.Breaks.{IsKeptOf}
 use Rattle.can_fault.specs.Tally.{IsTallyOf, is_partial_slot}
 use Rattle.can_fault.specs.TallyFields.{parts_of, IsSound}
-use Rattle.can_fault.proofs.AttemptFacts.{count-cons}
+use Rattle.cany_model.proofs.Among.{count-cons}
 
 -- what is kept while nothing is broken
 pub kept_of : (trace : List SlotNote) (old : Inside) → IsSound old → IsTallyOf trace (parts_of old) → old.first ≡ None → IsKeptOf old.params trace old.breaks

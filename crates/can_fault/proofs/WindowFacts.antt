@@ -7,7 +7,7 @@ use Rattle.std.proofs.lemmas.Bool.Decides.{nat_tests}
 use Rattle.cany_base.specs.declared.slot_note.SlotNote.{SlotNote}
 use Rattle.cany_model.specs.Promises.Hypothesis.{is_error_slot, error_slots}
 use Rattle.can_fault.specs.Window.{IsNumbered, error_places}
-use Rattle.can_fault.proofs.AttemptFacts.{count-cons, count-yes, count-no}
+use Rattle.cany_model.proofs.Among.{count-cons, count-yes, count-no}
 
 pub places-error : (note : SlotNote) (before : List SlotNote) → is_error_slot note ≡ true → error_places (note ∷ before) ≡ note.slot ∷ error_places before
 places-error note before e = ap (λ b. map (λ (n : SlotNote). n.slot) (if b then note ∷ filter is_error_slot before else filter is_error_slot before)) e

@@ -108,17 +108,11 @@ fn limits(omit: u32, errors: u32) -> Params
     requires errors { errors ≤ 1000 }
 {
     Params {
-        format: Format::One,
-        nodes: 3,
         lag: 2,
         omit,
         errors,
         bound: 4,
-        cycle: 72,
-        life: 36,
-        silence: 73,
-        confirm: 10,
-        slots: 100,
+        ..Params::with_defaults(3, 100)
     }
 }
 

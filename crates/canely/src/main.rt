@@ -2,10 +2,10 @@
 #![tactic(auto)]
 
 use cany_io::{Failed, StdSink, StdSource, write_whole};
-use cany_replay::replay_top;
 use cany_replay::status::{
     DONE, NO_MEMORY, OTHER_WORDS, READ_FAULT, REFUSED, TOO_LONG, WRITE_FAULT,
 };
+use cany_replay::{MOST_TEXT_BYTES, replay_top};
 use std::alloc::{AllocError, Global};
 use std::process::ExitCode;
 use std::{env, io};
@@ -66,7 +66,7 @@ status {DONE}  done
        {READ_FAULT}  reading failed
        {WRITE_FAULT}  writing failed
        {NO_MEMORY}  out of memory, and nothing was written
-       {TOO_LONG}  more than 8388608 bytes were read
+       {TOO_LONG}  more than {MOST_TEXT_BYTES} bytes were read
 "
     )
 }

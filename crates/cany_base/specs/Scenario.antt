@@ -1,5 +1,5 @@
 -- A scenario, and when its parts are legal.
-use Rattle.std.specs.Prelude.{◌≡◌, ◌<◌, ◌≤◌, ◌≢◌, List, length, Option, All, AllPairs}
+use Rattle.std.specs.Prelude.{◌<◌, ◌≤◌, ◌≢◌, List, length, Option, All, AllPairs}
 use Rattle.cany_base.specs.declared.message.SendAsk.{SendAsk}
 use Rattle.cany_base.specs.declared.message.NodeAsk.{NodeAsk}
 use Rattle.cany_base.specs.declared.rule.Rule.{Rule}

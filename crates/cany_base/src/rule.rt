@@ -17,7 +17,7 @@ pub enum Verdict {
 }
 
 /// Where a fault rule acts: at a slot, or at an attempt to carry a frame.
-#[derive(Clone, Copy, Debug, PartialEq, Eq)]
+#[derive(Clone, Copy, Debug, PartialEq, Eq, Hash)]
 pub enum Place {
     At {
         slot: Slot,

@@ -23,17 +23,12 @@ fn four_nodes(bound: u64) -> Params
     requires { (bound ≡ 121) ⊎ (bound ≡ 122) }
 {
     Params {
-        format: Format::One,
-        nodes: 4,
         lag: 1,
-        omit: 1,
-        errors: 2,
         bound,
         cycle: 246,
         life: 123,
         silence: 247,
-        confirm: 10,
-        slots: 100,
+        ..Params::with_defaults(4, 100)
     }
 }
 

@@ -73,6 +73,7 @@ fn own<K: Diffused>(eager: &mut Eager<K>, k: K)
 fn a_first_copy_is_asked_for_until_there_are_enough(rt: HostRuntime) -> Result<(), Fail> {
     let one = sign_of(1).ok_or("node 0")?;
     let mut eager = Eager::build(rt.alloc(), 2, 4)?;
+    assert_eq!(rt; eager.omit(), 2);
     assert_eq!(rt; learn(&mut eager, one), Some(Learnt::First));
     assert_eq!(rt; learn(&mut eager, one), Some(Learnt::Again { copies: 2 }));
     assert_eq!(rt; learn(&mut eager, one), Some(Learnt::Enough { copies: 3 }));

@@ -28,7 +28,7 @@ use Rattle.cany_model.specs.Rules.Edcan.{edcan_at, edcan_effects}
 use Rattle.cany_model.specs.Rules.Effect.{Ask, Withdraw}
 use Rattle.cany_model.specs.Rules.Notices.{IsNextNotice}
 use Rattle.cany_model.proofs.Bus.Identities.{same_class-true}
-use Rattle.cany_edcan.specs.Edcan.{EdcanParts, IsEdcanOf, CanHear, of_all}
+use Rattle.cany_edcan.specs.Edcan.{EdcanParts, IsEdcanOf, CanRead, of_all}
 use Rattle.cany_edcan.specs.EdcanSteps.{was_delivered, relay_actions}
 
 -- ---- what a caller meets
@@ -37,22 +37,22 @@ use Rattle.cany_edcan.specs.EdcanSteps.{was_delivered, relay_actions}
 pub at_own_node : (scenario : ScenarioParts) (i : ℕ) (past : List NoticeKind) (v : EdcanParts) → IsEdcanOf scenario i past v → IsEdcanOf scenario v.node past v
 at_own_node scenario i past v h = subst (λ n. IsEdcanOf scenario n past v) (sym h.node) h
 
--- a value that stands for a history can hear the next notice
-pub can_hear : (scenario : ScenarioParts) (i : ℕ) (past : List NoticeKind) (v : EdcanParts) (notice : Notice) → IsEdcanOf scenario i past v
-    → IsNextNotice scenario past notice → CanHear v notice
-can_hear scenario i past v notice stands next = record { scenario = scenario; past = past; stands = at_own_node scenario i past v stands; next = next }
+-- a value that stands for a history can read the next notice
+pub can_read : (scenario : ScenarioParts) (i : ℕ) (past : List NoticeKind) (v : EdcanParts) (notice : Notice) → IsEdcanOf scenario i past v
+    → IsNextNotice scenario past notice → CanRead v notice
+can_read scenario i past v notice stands next = record { scenario = scenario; past = past; stands = at_own_node scenario i past v stands; next = next }
 
 -- ---- a data frame
 
-pub takes_got : (v : EdcanParts) (notice : Notice) (f : FrameParts) → CanHear v notice → notice.kind ≡ Got f → same_class f.class class.Ed ≡ true → CanTake (frame_number f) v.copies
-takes_got v notice f hears kind is =
-    can_take hears.scenario class.Ed of_all service.Ed hears.past v.copies f hears.stands.copies
-    (got_names hears.scenario hears.past notice f hears.next service.Ed kind (same_class-true f.class class.Ed is))
+pub takes_got : (v : EdcanParts) (notice : Notice) (f : FrameParts) → CanRead v notice → notice.kind ≡ Got f → same_class f.class class.Ed ≡ true → CanTake (frame_number f) v.copies
+takes_got v notice f reads kind is =
+    can_take reads.scenario class.Ed of_all service.Ed reads.past v.copies f reads.stands.copies
+    (got_names reads.scenario reads.past notice f reads.next service.Ed kind (same_class-true f.class class.Ed is))
 
-pub takes_sent : (v : EdcanParts) (notice : Notice) (f : FrameParts) → CanHear v notice → notice.kind ≡ Sent f → same_class f.class class.Ed ≡ true → CanTake (frame_number f) v.copies
-takes_sent v notice f hears kind is =
-    can_take hears.scenario class.Ed of_all service.Ed hears.past v.copies f hears.stands.copies
-    (sent_names hears.scenario hears.past notice f hears.next service.Ed kind (same_class-true f.class class.Ed is))
+pub takes_sent : (v : EdcanParts) (notice : Notice) (f : FrameParts) → CanRead v notice → notice.kind ≡ Sent f → same_class f.class class.Ed ≡ true → CanTake (frame_number f) v.copies
+takes_sent v notice f reads kind is =
+    can_take reads.scenario class.Ed of_all service.Ed reads.past v.copies f reads.stands.copies
+    (sent_names reads.scenario reads.past notice f reads.next service.Ed kind (same_class-true f.class class.Ed is))
 
 held : (before own more : Bool) → (before || (own && more)) ≡ (before || (own && (before || (true && more))))
 held true own more = refl

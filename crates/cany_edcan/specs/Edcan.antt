@@ -25,7 +25,7 @@ pub record IsEdcanOf (scenario : ScenarioParts) (i : ℕ) (past : List NoticeKin
   pub copies : IsTableOf scenario Ed of_all past v.copies
 
 -- there are notices that the value stands for, and this one can come after them
-pub record CanHear (v : EdcanParts) (notice : Notice) : Type 0 where
+pub record CanRead (v : EdcanParts) (notice : Notice) : Type 0 where
   pub scenario : ScenarioParts
   pub past : List NoticeKind
   pub stands : IsEdcanOf scenario v.node past v

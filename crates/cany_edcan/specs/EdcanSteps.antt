@@ -1,5 +1,5 @@
 -- What EDCAN does with a data frame, from the copies that it has.
-use Rattle.std.specs.Prelude.{ℕ, ◌==◌, ◌&&◌, ◌||◌, Bool, true, nat_lt, List, [], ◌∷◌}
+use Rattle.std.specs.Prelude.{◌==◌, ◌&&◌, ◌||◌, Bool, true, nat_lt, List, [], ◌∷◌}
 use Rattle.cany_base.specs.declared.actions.Action.{Action}
 use Rattle.cany_base.specs.declared.actions.Action.TheVariants.{Ask}
 use Rattle.cany_base.specs.Frame.{FrameParts}

@@ -13,7 +13,7 @@ ghost use Rattle.cany_message.specs.Table.{CanTake};
 ghost use Rattle.cany_model.specs.Rules.Actions.{actions_of};
 ghost use Rattle.cany_model.specs.Rules.Edcan.{edcan_effects};
 ghost use Rattle.cany_model.specs.Rules.Notices.{IsNextNotice};
-ghost use Rattle.cany_edcan.specs.Edcan.{IsEdcanOf, CanHear};
+ghost use Rattle.cany_edcan.specs.Edcan.{IsEdcanOf, CanRead};
 ghost use Rattle.cany_edcan.specs.EdcanSteps.{was_delivered, relay_actions};
 
 use crate::data::{Data, is_data};
@@ -70,7 +70,7 @@ impl Edcan {
     ///
     /// At most two actions are appended.
     pub fn on(&mut self, notice: &Notice, out: &mut Actions)
-        requires hears { CanHear self.old notice.now }
+        requires reads { CanRead self.old notice.now }
         requires room { length out.old.items + 2 ≤ out.old.room }
         ensures actions { (scenario : ScenarioParts) (past : List NoticeKind) → IsEdcanOf scenario self.old.node past self.old → IsNextNotice scenario past notice.now
             → out.new.items ≡ out.old.items ++ actions_of (edcan_effects scenario self.old.node (notice.now.kind ∷ past)) }
@@ -107,8 +107,8 @@ impl Edcan {
         ensures few { length out.new.items ≤ length out.old.items + 2 }
         ensures room { out.new.room ≡ out.old.room }
     {
-        let is_first = !self.was_delivered(frame);
-        deliver(Service::Ed, slot, frame, is_first, out);
+        let is_new = !self.was_delivered(frame);
+        deliver(Service::Ed, slot, frame, is_new, out);
         let learnt = self.copies.learn(Data::of(frame));
         relay(&learnt, frame, out);
     }

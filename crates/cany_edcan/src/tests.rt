@@ -1,40 +1,18 @@
 ghost use Rattle.std.specs.Prelude.{◌≡◌, ◌+◌, ◌<◌, ◌≤◌, [], ◌∷◌, length, IfOk};
 ghost use Rattle.cany_base.specs.declared.frame.Class.TheVariants as class;
 ghost use Rattle.cany_base.specs.declared.message.Service.TheVariants.{Ed};
-ghost use Rattle.cany_base.specs.Params.{IsInRange, MeetsFormulas};
 ghost use Rattle.cany_model.specs.Rules.Notices.{IsDataOf};
 
 use crate::edcan::Edcan;
 use cany_base::{
-    Action, Actions, Class, Format, Frame, LogEntry, Memory, MsgKey, NodeId, NodeSet, Notice,
-    NoticeKind, Params, Payload, Scenario, SendAsk, Service,
+    Action, Actions, Class, Frame, LogEntry, Memory, MsgKey, NodeId, NodeSet, Notice, NoticeKind,
+    Params, Payload, Scenario, SendAsk, Service,
 };
 use std::alloc::Global;
 use std::test::Fail;
 
-fn three_nodes() -> Params
-    ensures nodes { result.nodes ≡ 3 }
-    ensures slots { result.slots ≡ 100 }
-    ensures ranges { IsInRange result }
-    ensures formulas { MeetsFormulas result }
-{
-    Params {
-        format: Format::One,
-        nodes: 3,
-        lag: 0,
-        omit: 1,
-        errors: 2,
-        bound: 36,
-        cycle: 72,
-        life: 36,
-        silence: 73,
-        confirm: 10,
-        slots: 100,
-    }
-}
-
-/// Three nodes, of which one broadcasts the payload by EDCAN in slot 0.
-fn one_broadcast(alloc: Global, node: NodeId, payload: Payload) -> Result<Scenario, Memory>
+/// Three nodes, of which one sends the payload by EDCAN in slot 0.
+fn one_send(alloc: Global, node: NodeId, payload: Payload) -> Result<Scenario, Memory>
     requires { node < 3 }
     ensures nodes { IfOk result (λ s. s.params.nodes ≡ 3) }
     ensures slots { IfOk result (λ s. s.params.slots ≡ 100) }
@@ -48,7 +26,7 @@ fn one_broadcast(alloc: Global, node: NodeId, payload: Payload) -> Result<Scenar
     };
     let sends = Vec::from_slice(alloc, &[send])?;
     Ok(Scenario::of_parts(
-        three_nodes(),
+        Params::with_defaults(3, 100),
         NodeSet::all(3),
         sends,
         Vec::new(alloc),
@@ -96,7 +74,7 @@ fn read_twice(
 fn a_copy_is_delivered_and_relayed(rt: HostRuntime) -> Result<(), Fail> {
     let node = NodeId::new(2).ok_or("a node below 32")?;
     let payload = Payload::of(&[7]).ok_or("at most eight bytes")?;
-    let scenario = one_broadcast(rt.alloc(), node, payload)?;
+    let scenario = one_send(rt.alloc(), node, payload)?;
     let frame = Frame {
         class: Class::Ed,
         number: 0,
@@ -128,7 +106,7 @@ fn a_copy_is_delivered_and_relayed(rt: HostRuntime) -> Result<(), Fail> {
 fn a_message_is_asked_for(rt: HostRuntime) -> Result<(), Fail> {
     let node = NodeId::new(2).ok_or("a node below 32")?;
     let payload = Payload::of(&[7]).ok_or("at most eight bytes")?;
-    let scenario = one_broadcast(rt.alloc(), node, payload)?;
+    let scenario = one_send(rt.alloc(), node, payload)?;
     let mut edcan = Edcan::build(rt.alloc(), node, &scenario)?;
     let mut out = Actions::build(rt.alloc(), 2)?;
     let msg = MsgKey {

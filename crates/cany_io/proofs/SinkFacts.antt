@@ -1,6 +1,6 @@
 -- What two writes take together.
 use Rattle.std.proofs.Common.{◌≡◌, ℕ, ◌+◌, List, ◌++◌, length, take, drop, Option, Some, None, refl, append_assoc, ap, arith, length-append}
-use Rattle.std.proofs.Math.Seq.{take-add, take-length, take-append-add}
+use Rattle.std.proofs.Math.Seq.{take-add, take-append-add}
 use Rattle.std.proofs.lemmas.List.{take-append-le}
 use Rattle.std.specs.Io.KnownBytes.{append_known}
 use Rattle.cany_io.specs.Sink.{Takes, TakesPrefix}

@@ -1,8 +1,8 @@
 -- What one notice more adds to the copies and transmissions that were read.
-use Rattle.std.proofs.Common.{◌≡◌, ℕ, suc, zero, ◌+◌, ◌≤◌, ◌==◌, ◌&&◌, ◌||◌, Bool, true, false, if◌then◌else◌, inl, inr, List, [], ◌∷◌, length, replicate, refl, ap, sym, ◌∙◌, arith}
+use Rattle.std.proofs.Common.{◌≡◌, ℕ, suc, zero, ◌+◌, ◌≤◌, ◌==◌, ◌&&◌, ◌||◌, true, false, List, [], ◌∷◌, length, replicate, refl, ap, sym, ◌∙◌, arith}
 use Rattle.std.specs.Prelude.{nat_lt}
 use Rattle.std.specs.List.{list_any}
-use Rattle.std.proofs.lemmas.Bool.{cases_Bool, cases_eq, ne_eqb, lt-ltb, false≢true, eq-eqb}
+use Rattle.std.proofs.lemmas.Bool.Decides.{nat_tests}
 use Rattle.std.proofs.lemmas.List.Sums.{count_by-le-length}
 use Rattle.cany_base.specs.declared.frame.Class.{Class}
 use Rattle.cany_base.specs.declared.notice.NoticeKind.{NoticeKind}
@@ -21,16 +21,12 @@ pub is_this : (class : Class) (seq origin : ℕ) (f : FrameParts) → f.class �
 unfolding same_identity
 is_this class seq origin f is = rw (is, same_class_self class) refl
 
-flip_eq : (k n : ℕ) → (n == k) ≡ false → (k == n) ≡ false
-flip_eq k n h = elim (cases_eq k n) [
-  | inl same ↦ absurd (false≢true (sym h ∙ eq-eqb n k (sym same)))
-  | inr apart ↦ ne_eqb k n apart
-]
-
 -- a frame of another class is none of it
-pub is_none : (class : Class) (seq origin : ℕ) (f : FrameParts) → same_class f.class class ≡ false → is_of (frame_identity class seq origin) f ≡ false
+pub is_not_this : (class : Class) (seq origin : ℕ) (f : FrameParts) → same_class f.class class ≡ false → is_of (frame_identity class seq origin) f ≡ false
 unfolding same_identity same_class
-is_none class seq origin f other = rw (flip_eq (class_number class) (class_number f.class) other) refl
+is_not_this class seq origin f other =
+    let apart : (class_number class == class_number f.class) ≡ false = grind (arith, nat_tests, other) in
+    rw apart refl
 
 pub identity_is : (class : Class) (f : FrameParts) → f.class ≡ class → identity_of f ≡ frame_identity class f.number f.node
 identity_is class f is = λ k. record { class = is k; number = f.number; node = f.node }
@@ -69,10 +65,7 @@ has_own-idle x (suc n) = has_own-idle x n
 -- ---- whether a copy was read
 
 counted_more : (x : Identity) (notice : NoticeKind) (past : List NoticeKind) → nat_lt 0 (copies x (notice ∷ past)) ≡ (is_got x notice || nat_lt 0 (copies x past))
-counted_more x notice past = elim (cases_Bool (is_got x notice)) [
-  | inl got ↦ rw got (lt-ltb 0 (copies x (notice ∷ past)) (omega (arith, copies-yes x notice past got)))
-  | inr other ↦ rw other (ap (nat_lt 0) (copies-no x notice past other))
-]
+counted_more x notice past = grind (arith, nat_tests, copies-yes x notice past, copies-no x notice past)
 
 pub has_copy-counted : (x : Identity) (past : List NoticeKind) → has_copy x past ≡ nat_lt 0 (copies x past)
 has_copy-counted x [] = rw (copies-none x) refl
@@ -80,22 +73,7 @@ has_copy-counted x (notice ∷ past) = ap (λ b. is_got x notice || b) (has_copy
 
 -- ---- which notices bring the message to node i
 
-algebra : (g own sent more before : Bool) → ((g || (own && sent)) || (before || (own && more))) ≡ ((g || before) || (own && (sent || more)))
-algebra true own sent more before = refl
-algebra false true true more true = refl
-algebra false true true more false = refl
-algebra false true false more true = refl
-algebra false true false more false = refl
-algebra false false sent more before = refl
-
 pub brought : (i : ℕ) (x : Identity) (past : List NoticeKind) → list_any (brings i x) past ≡ (nat_lt 0 (copies x past) || (x.node == i && has_own x past))
 unfolding has_own
-brought i x [] = rw (copies-none x) (none (x.node == i))
-  where
-    none : (b : Bool) → false ≡ (b && false)
-    none true = refl
-    none false = refl
-brought i x (notice ∷ past) =
-    ap (λ b. brings i x notice || b) (brought i x past)
-    ∙ algebra (is_got x notice) (x.node == i) (is_sent x notice) (has_own x past) (nat_lt 0 (copies x past))
-    ∙ ap (λ b. b || (x.node == i && (is_sent x notice || has_own x past))) (sym (counted_more x notice past))
+brought i x [] = rw (copies-none x) (grind (arith, nat_tests))
+brought i x (notice ∷ past) = grind (arith, nat_tests, brought i x past, counted_more x notice past)

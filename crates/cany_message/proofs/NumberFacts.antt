@@ -1,6 +1,6 @@
 -- Numbers tell messages apart, and there is room for those of a scenario.
-use Rattle.std.proofs.Common.{◌≡◌, ◌≢◌, ℕ, suc, ◌<◌, ◌≤◌, ◌==◌, ◌&&◌, inl, inr, true, List, [], ◌∷◌, map, length, refl, ap, sym, ◌∙◌, arith, eq-eqb}
-use Rattle.std.proofs.lemmas.Bool.{cases_eq, ne_eqb}
+use Rattle.std.proofs.Common.{◌≡◌, ℕ, suc, ◌<◌, ◌==◌, ◌&&◌, inl, inr, true, List, [], ◌∷◌, map, length, refl, ap, sym, ◌∙◌, arith}
+use Rattle.std.proofs.lemmas.Bool.Decides.{nat_tests}
 use Rattle.std.proofs.lemmas.List.{length-map}
 use Rattle.cany_base.specs.declared.message.SendAsk.{SendAsk}
 use Rattle.cany_base.specs.declared.message.Service.{Service}
@@ -21,15 +21,7 @@ one_origin : (s o t p : ℕ) → o < origins → p < origins → message_number 
 one_origin s o t p ho hp e = omega arith
 
 pub same_number : (s o t p : ℕ) → o < origins → p < origins → (message_number s o == message_number t p) ≡ (s == t && o == p)
-same_number s o t p ho hp = elim (cases_eq (message_number s o) (message_number t p)) [
-  | inl same ↦ rw (eq-eqb (message_number s o) (message_number t p) same, eq-eqb s t (one_seq s o t p ho hp same), eq-eqb o p (one_origin s o t p ho hp same)) refl
-  | inr other ↦ elim (cases_eq s t) [
-    | inl seq ↦
-        let apart : o ≢ p = λ at. other (omega (arith, seq, at)) in
-        rw (ne_eqb (message_number s o) (message_number t p) other, eq-eqb s t seq, ne_eqb o p apart) refl
-    | inr seq ↦ rw (ne_eqb (message_number s o) (message_number t p) other, ne_eqb s t seq) refl
-  ]
-]
+same_number s o t p ho hp = grind (arith, nat_tests, one_seq s o t p ho hp, one_origin s o t p ho hp)
 
 length-messages_after : (earlier sends : List SendAsk) → length (messages_after earlier sends) ≡ length sends
 unfolding messages_after
@@ -42,13 +34,8 @@ length-message_numbers scenario = length-map (messages_of scenario.sends) (λ m.
 number_among : (messages : List Message) (m : Message) → Among (λ k. k ≡ m) messages
     → is_among (message_number m.seq m.origin) (map (λ k. message_number k.seq k.origin) messages) ≡ true
 number_among [] m h = absurd h
-number_among (k ∷ messages) m (inl e) =
-    let same : message_number m.seq m.origin ≡ message_number k.seq k.origin = ap (λ (n : Message). message_number n.seq n.origin) (sym e) in
-    rw (eq-eqb (message_number m.seq m.origin) (message_number k.seq k.origin) same) refl
-number_among (k ∷ messages) m (inr h) = elim (cases_eq (message_number m.seq m.origin) (message_number k.seq k.origin)) [
-  | inl same ↦ rw (eq-eqb (message_number m.seq m.origin) (message_number k.seq k.origin) same) refl
-  | inr other ↦ rw (ne_eqb (message_number m.seq m.origin) (message_number k.seq k.origin) other) (number_among messages m h)
-]
+number_among (k ∷ messages) m (inl e) = grind (arith, nat_tests, ap (λ (n : Message). n.seq) e, ap (λ (n : Message). n.origin) e)
+number_among (k ∷ messages) m (inr h) = grind (arith, nat_tests, number_among messages m h)
 
 -- the number of a frame that names a message is that of the message
 pub named_among : (scenario : ScenarioParts) (by : Service) (f : FrameParts) → NamesMessage scenario by f → is_among (frame_number f) (message_numbers scenario) ≡ true
@@ -58,4 +45,4 @@ named_among scenario by f named =
     ∙ number_among (messages_of scenario.sends) named.message (Among-from_Contains (messages_of scenario.sends) named.message named.stands)
 
 pub room_to_take : (number : ℕ) (table : EagerParts) → CanTake number table → IsCounted table → HasRoomFor number table
-room_to_take number table can counted = room_within table can.numbers number counted can.few can.all can.this
+room_to_take number table can counted = room_within table can.numbers number counted can.room can.all can.this

@@ -26,6 +26,6 @@ pub record IsTableOf (scenario : ScenarioParts) (class : Class) (notes : ℕ →
 -- the number, and all that are there, are among numbers for which there is room
 pub record CanTake (number : ℕ) (table : EagerParts) : Type 0 where
   pub numbers : List ℕ
-  pub few : length numbers ≤ table.room
+  pub room : length numbers ≤ table.room
   pub all : (other : ℕ) → is_there table other ≡ true → is_among other numbers ≡ true
   pub this : is_among number numbers ≡ true

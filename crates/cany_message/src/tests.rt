@@ -84,18 +84,21 @@ fn a_message_is_delivered_and_its_frame_withdrawn(rt: HostRuntime) -> Result<(),
     Ok(())
 }
 
+fn send_of(node: NodeId) -> SendAsk {
+    SendAsk {
+        slot: 0,
+        node,
+        service: Service::Ed,
+        payload: Payload::empty(),
+    }
+}
+
 #[test]
 fn messages_are_counted_by_origin(rt: HostRuntime) -> Result<(), Fail> {
     let one = NodeId::new(1).ok_or("a node below 32")?;
     let two = NodeId::new(2).ok_or("a node below 32")?;
-    let send = SendAsk {
-        slot: 0,
-        node: two,
-        service: Service::Ed,
-        payload: Payload::empty(),
-    };
-    let other = SendAsk { node: one, ..send };
-    let keys = keys_of(rt.alloc(), &[send, other, send])?;
+    let sends = [send_of(two), send_of(one), send_of(two)];
+    let keys = keys_of(rt.alloc(), &sends)?;
     let expected = [
         MsgKey {
             origin: two,

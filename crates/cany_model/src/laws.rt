@@ -28,7 +28,7 @@ pub fn integrity()
 ///
 /// It holds for every journal, in whatever order the nodes take their turns and however far they lag, and also where
 /// steps of the journal are refused. It uses no timing, and of the scenario only that its nodes have places in a set of
-/// 32 nodes: a node past those never takes a frame, so the law is false with more of them.
+/// 32 nodes: a node past those never accepts a frame, so the law is false with more of them.
 pub fn edcan_agreement()
     ensures { (scenario : ScenarioParts) (journal : List Step) → scenario.params.nodes ≤ 32
         → IsWithin scenario.params (run scenario journal).trace
@@ -40,8 +40,8 @@ pub fn edcan_agreement()
 /// a correct node delivered, was delivered by every correct node.
 ///
 /// It holds for every journal, at every lag and for every length of the timer, by the argument of EDCAN: a node that got the
-/// message read its confirmation, so that its origin had seen success, or fell back to sending it. A message whose timer lies
-/// ahead at a running node is not settled.
+/// message read its confirmation, so that its origin had seen success, or fell back to sending it. A message of which something
+/// lies ahead at a running node is not settled.
 pub fn relcan_agreement()
     ensures { (scenario : ScenarioParts) (journal : List Step) → scenario.params.nodes ≤ 32
         → IsWithin scenario.params (run scenario journal).trace

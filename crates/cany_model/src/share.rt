@@ -5,9 +5,9 @@ use cany_base::Frame;
 pub enum Share {
     /// No frame was carried.
     Idle,
-    /// It received the frame and accepted it.
+    /// It was a receiver and accepted the frame.
     Took(Frame),
-    /// It received a frame and rejected it.
+    /// It was a receiver and rejected the frame.
     Rejected,
     /// It sent the frame and saw success.
     Confirmed(Frame),

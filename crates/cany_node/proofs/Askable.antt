@@ -1,8 +1,7 @@
 -- What a node may ask for fits the identifiers, and a turn names nothing else.
-use Rattle.std.specs.Prelude.{slice_index_or}
-use Rattle.std.proofs.Common.{◌≡◌, ℕ, suc, ◌+◌, ◌<◌, ◌^◌, ◌==◌, ◌&&◌, true, not, inl, inr, List, [], ◌∷◌, ◌++◌, length, Contains, Option, Some, None, is_some, refl, ap, sym, ◌∙◌, subst, arith, All}
+use Rattle.std.proofs.Common.{◌≡◌, ℕ, suc, ◌+◌, ◌<◌, ◌^◌, ◌||◌, true, inl, inr, List, [], ◌∷◌, length, Contains, Option, Some, None, is_some, refl, ap, sym, ◌∙◌, subst, arith, All}
 use Rattle.std.specs.List.{AllByRecursion}
-use Rattle.std.proofs.lemmas.Bool.{cond_both, false≢true, or_cases}
+use Rattle.std.proofs.lemmas.Bool.{false≢true, or_cases}
 use Rattle.std.proofs.lemmas.List.Elements.{All-head, All-tail}
 use Rattle.std.proofs.lemmas.List.Sums.{count_by-le-length}
 use Rattle.cany_base.specs.declared.frame.Class.{Class}
@@ -13,31 +12,25 @@ use Rattle.cany_base.specs.declared.message.SendAsk.{SendAsk}
 use Rattle.cany_base.specs.declared.message.Service.{Service}
 use Rattle.cany_base.specs.declared.message.Service.TheVariants as service
 use Rattle.cany_base.specs.declared.notice.NoticeKind.{NoticeKind}
-use Rattle.cany_base.specs.declared.notice.NoticeKind.TheVariants.{Idle, Got, Sent, Bad}
+use Rattle.cany_base.specs.declared.notice.NoticeKind.TheVariants.{Got, Sent}
 use Rattle.cany_base.specs.Frame.{FrameParts, data_class}
 use Rattle.cany_base.specs.Limits.{most_sends}
 use Rattle.cany_base.specs.Params.{Parameters}
 use Rattle.cany_base.specs.Scenario.{ScenarioParts, IsLegalScenario, IsSendOf}
 use Rattle.cany_model.specs.Bus.Frames.{Identity, identity_of, same_class}
 use Rattle.cany_model.specs.Bus.History.{copies, is_got}
-use Rattle.cany_model.specs.Rules.Delivery.{is_delivery, delivery, delivery_effects}
-use Rattle.cany_model.specs.Rules.Eager.{has_enough}
-use Rattle.cany_model.specs.Rules.Edcan.{edcan}
 use Rattle.cany_model.specs.Rules.Effect.{Effect, Ask, Withdraw, Enter}
-use Rattle.cany_model.specs.Rules.Messages.{Message, is_from, messages_after, messages_of, data_frame}
+use Rattle.cany_model.specs.Rules.Messages.{IsOfMessage, Message, is_from, messages_after, messages_of, data_frame}
 use Rattle.cany_model.specs.Rules.Notices.{BelongsTo, IsDataOf, IsReadable}
 use Rattle.cany_model.specs.Rules.Protocol.{Protocol}
-use Rattle.cany_model.specs.Rules.Relcan.{confirm_effects, confirm_frame, fall_back_effects, falls_back, fell_back, late_copy_effects, relcan, relcan_at, relcan_effects, timer_effects}
-use Rattle.cany_model.specs.Rules.Rooms.{IsAskable, IsAskableBy, IsOfMessage, service_of}
-use Rattle.cany_model.specs.Rules.Sends.{scripted_sends}
+use Rattle.cany_model.specs.Rules.Relcan.{confirm_frame}
+use Rattle.cany_model.specs.Rules.Rooms.{IsAskable, IsAskableBy, service_of}
 use Rattle.cany_model.specs.Rules.Turn.{protocols, turn_effects}
-use Rattle.cany_model.proofs.Among.{Among, Among-from_Contains, Among-from_count, Among-weaker, Among-which, Contains-from_Among, Each-append, Each-flat_map, Each-weaker}
+use Rattle.cany_model.proofs.Among.{Among, Among-from_Contains, Among-from_count, Among-weaker, Among-which, Contains-from_Among, Each-flat_map, Each-weaker}
 use Rattle.cany_model.proofs.Bus.Carried.{Has, is_got-true}
 use Rattle.cany_model.proofs.Bus.Identities.{same_class-true}
-use Rattle.cany_model.proofs.Rules.EdcanFacts.{edcan_is_lawful}
-use Rattle.cany_model.proofs.Rules.ProtocolFacts.{IsFounded, IsLawful, MayAsk, confirms, is_diffused, originates, relays}
-use Rattle.cany_model.proofs.Rules.RelcanFacts.{relcan_is_lawful}
-use Rattle.cany_model.proofs.Rules.SendFacts.{sends_are_lawful}
+use Rattle.cany_model.proofs.Rules.ProtocolFacts.{IsFounded, IsLawful, MayAsk, MayWithdraw, confirms, enough, originates, relays}
+use Rattle.cany_model.proofs.Rules.Protocols.{are_lawful}
 use Rattle.can_frame.specs.Identifier.{FitsFormat}
 use Rattle.cany_node.specs.Apply.{NamesAskable}
 use Rattle.cany_node.specs.Node.{AreReadable}
@@ -135,7 +128,7 @@ confirm_askable scenario past g readable h rel =
 
 asked_askable : (scenario : ScenarioParts) (i : ℕ) (past : List NoticeKind) (f : FrameParts) → AreReadable scenario past → is_some (service_of f.class) ≡ true
     → MayAsk scenario i past f → IsAskable scenario (identity_of f)
-asked_askable scenario i past f readable of (relays got) =
+asked_askable scenario i past f readable of (relays relayed got) =
     read_askable scenario past f readable (Among-weaker (λ n. n ≡ Got f) (Has f) (λ n e. inl e) past got) of
 asked_askable scenario i past f readable of (originates m is origin slot frame) =
     subst (λ g. IsAskable scenario (identity_of g)) frame (message_askable scenario m (Contains-from_Among (messages_of scenario.sends) m is))
@@ -155,125 +148,43 @@ copied_askable scenario past x readable of some =
     (Among-weaker (λ n. n ≡ w.0) (Has got.what) (λ n e. inl (e ∙ got.was)) past (Among-from_Contains past w.0 w.1))
     (ap (λ (y : Identity). is_some (service_of y.class)) (sym got.identity) ∙ of))
 
--- ---- what a protocol names
-
--- what is withdrawn is a frame that is diffused
-abbrev WithdrawsDiffused : Effect → Type 0
-WithdrawsDiffused (Ask f) = Unit {0}
-WithdrawsDiffused (Withdraw x) = is_diffused x.class ≡ true
-WithdrawsDiffused (Enter entry) = Unit {0}
-
--- the protocol names frames of messages, and withdraws diffused ones alone
-record NamesMessages (p : Protocol) : Type 0 where
-  lawful : IsLawful p
-  names : (c : Class) → p.names c ≡ true → is_some (service_of c) ≡ true
-  withdraws : (scenario : ScenarioParts) (i : ℕ) (past : List NoticeKind) → AllByRecursion WithdrawsDiffused (p.effects scenario i past)
-
--- where all that it names is diffused
-diffused_by_names : (p : Protocol) → IsLawful p → ((c : Class) → p.names c ≡ true → is_diffused c ≡ true) → (scenario : ScenarioParts) (i : ℕ) (past : List NoticeKind)
-    → AllByRecursion WithdrawsDiffused (p.effects scenario i past)
-diffused_by_names p lawful diffused scenario i past =
-    Each-weaker (IsFounded scenario p i past) WithdrawsDiffused one (p.effects scenario i past) (lawful.founded scenario i past)
-  where
-    one : (e : Effect) → IsFounded scenario p i past e → WithdrawsDiffused e
-    one (Ask f) k = tt
-    one (Withdraw x) k = diffused x.class k.1
-    one (Enter entry) k = tt
-
-edcan_names : NamesMessages edcan
-edcan_names = record {
-  lawful = edcan_is_lawful;
-  names = λ c ed. rw (same_class-true c class.Ed ed) refl;
-  withdraws = diffused_by_names edcan edcan_is_lawful (λ c ed. rw (same_class-true c class.Ed ed) refl);
-}
-
-sends_names : NamesMessages scripted_sends
-sends_names = record {
-  lawful = sends_are_lawful;
-  names = λ c h. elim (or_cases (same_class c class.Ed) (same_class c class.Rel) h) [
-    | inl ed ↦ rw (same_class-true c class.Ed ed) refl
-    | inr rel ↦ rw (same_class-true c class.Rel rel) refl
-  ];
-  withdraws = diffused_by_names scripted_sends sends_are_lawful (λ c h. elim (or_cases (same_class c class.Ed) (same_class c class.Rel) h) [
-    | inl ed ↦ rw (same_class-true c class.Ed ed) refl
-    | inr rel ↦ rw (same_class-true c class.Rel rel) refl
-  ]);
-}
-
--- RELCAN withdraws data frames and no confirmation
-delivery_withdraws : (by : Service) (i : ℕ) (f : FrameParts) (notice : NoticeKind) (before : List NoticeKind)
-    → AllByRecursion WithdrawsDiffused (delivery_effects by i f notice before)
-unfolding delivery_effects
-delivery_withdraws by i f notice before =
-    cond_both (is_delivery i f notice before) (Enter (delivery (length before) by f) ∷ []) [] (AllByRecursion WithdrawsDiffused) (λ _. (tt, tt)) (λ _. tt)
-
-late_withdraws : (p : Parameters) (i : ℕ) (f : FrameParts) (before : List NoticeKind) → f.class ≡ class.Rel
-    → AllByRecursion WithdrawsDiffused (late_copy_effects p i f before)
-late_withdraws p i f before rel =
-    cond_both (fell_back p.confirm i (identity_of f) before && has_enough p.omit (identity_of f) (Got f ∷ before)) (Withdraw (identity_of f) ∷ []) []
-    (AllByRecursion WithdrawsDiffused) (λ _. (ap is_diffused rel, tt)) (λ _. tt)
-
-notice_withdraws : (p : Parameters) (i : ℕ) (kind : NoticeKind) (before : List NoticeKind) → AllByRecursion WithdrawsDiffused (relcan_at p i kind before)
-unfolding relcan_at
-notice_withdraws p i Idle before = tt
-notice_withdraws p i Bad before = tt
-notice_withdraws p i (Got f) before =
-    cond_both (same_class f.class class.Rel) _ [] (AllByRecursion WithdrawsDiffused)
-    (λ rel. Each-append WithdrawsDiffused (delivery_effects service.Rel i f (Got f) before) (late_copy_effects p i f before)
-    (delivery_withdraws service.Rel i f (Got f) before) (late_withdraws p i f before (same_class-true f.class class.Rel rel)))
-    (λ _. tt)
-notice_withdraws p i (Sent f) before =
-    cond_both (same_class f.class class.Rel) _ [] (AllByRecursion WithdrawsDiffused)
-    (λ _. Each-append WithdrawsDiffused (delivery_effects service.Rel i f (Sent f) before) (confirm_effects i f)
-    (delivery_withdraws service.Rel i f (Sent f) before)
-    (cond_both (f.node == i) (Ask (confirm_frame f) ∷ []) [] (AllByRecursion WithdrawsDiffused) (λ _. (tt, tt)) (λ _. tt)))
-    (λ _. tt)
-
-timer_withdraws : (p : Parameters) (i : ℕ) (past : List NoticeKind) (kind : NoticeKind) → AllByRecursion WithdrawsDiffused (fall_back_effects p i past kind)
-timer_withdraws p i past Idle = tt
-timer_withdraws p i past Bad = tt
-timer_withdraws p i past (Sent f) = tt
-timer_withdraws p i past (Got f) =
-    cond_both (falls_back p.confirm i (identity_of f) past && not (has_enough p.omit (identity_of f) past)) (Ask f ∷ []) []
-    (AllByRecursion WithdrawsDiffused) (λ _. (tt, tt)) (λ _. tt)
-
-relcan_withdraws : (scenario : ScenarioParts) (i : ℕ) (past : List NoticeKind) → AllByRecursion WithdrawsDiffused (relcan_effects scenario i past)
-unfolding relcan_effects timer_effects
-relcan_withdraws scenario i [] = tt
-relcan_withdraws scenario i (kind ∷ before) =
-    let then : NoticeKind = slice_index_or (kind ∷ before) scenario.params.confirm Idle in
-    Each-append WithdrawsDiffused (relcan_at scenario.params i kind before) (fall_back_effects scenario.params i (kind ∷ before) then)
-    (notice_withdraws scenario.params i kind before) (timer_withdraws scenario.params i (kind ∷ before) then)
-
-relcan_names : NamesMessages relcan
-relcan_names = record {
-  lawful = relcan_is_lawful;
-  names = λ c h. elim (or_cases (same_class c class.Rel) (same_class c class.Confirm) h) [
-    | inl rel ↦ rw (same_class-true c class.Rel rel) refl
-    | inr confirm ↦ rw (same_class-true c class.Confirm confirm) refl
-  ];
-  withdraws = relcan_withdraws;
-}
-
-all_name_messages : AllByRecursion NamesMessages protocols
-all_name_messages = (edcan_names, (relcan_names, (sends_names, tt)))
+withdrawn_askable : (scenario : ScenarioParts) (past : List NoticeKind) (x : Identity) → AreReadable scenario past → is_some (service_of x.class) ≡ true
+    → MayWithdraw scenario past x → IsAskable scenario x
+withdrawn_askable scenario past x readable of (enough diffused many) = copied_askable scenario past x readable of (omega (arith, many))
 
 -- ---- what a turn names
 
-module _ (scenario : ScenarioParts) (i : ℕ) (past : List NoticeKind) (readable : AreReadable scenario past) where
-  effect_names : (p : Protocol) → NamesMessages p → (e : Effect) → IsFounded scenario p i past e → WithdrawsDiffused e → NamesAskable scenario e
-  effect_names p of (Ask f) k d = asked_askable scenario i past f readable (of.names f.class k.1) k.0
-  effect_names p of (Withdraw x) k d = copied_askable scenario past x readable (of.names x.class k.1) (omega (arith, k.0 d))
-  effect_names p of (Enter entry) k d = tt
+-- the protocol names frames of messages
+abbrev NamesMessages : Protocol → Type 0
+NamesMessages p = (c : Class) → p.names c ≡ true → is_some (service_of c) ≡ true
 
-  effects_name : (p : Protocol) → NamesMessages p → (effects : List Effect) → AllByRecursion (IsFounded scenario p i past) effects → AllByRecursion WithdrawsDiffused effects
-      → AllByRecursion (NamesAskable scenario) effects
-  effects_name p of [] founded diffused = tt
-  effects_name p of (e ∷ effects) founded diffused = (effect_names p of e founded.0 diffused.0, effects_name p of effects founded.1 diffused.1)
+either_class : (a b c : Class) → is_some (service_of a) ≡ true → is_some (service_of b) ≡ true → (same_class c a || same_class c b) ≡ true
+    → is_some (service_of c) ≡ true
+either_class a b c of_a of_b h = elim (or_cases (same_class c a) (same_class c b) h) [
+  | inl e ↦ rw (same_class-true c a e) of_a
+  | inr e ↦ rw (same_class-true c b e) of_b
+]
+
+all_name_messages : AllByRecursion NamesMessages protocols
+all_name_messages = (
+  λ c ed. rw (same_class-true c class.Ed ed) refl,
+  (λ c h. either_class class.Rel class.Confirm c refl refl h, (λ c h. either_class class.Ed class.Rel c refl refl h, tt)),
+)
+
+module _ (scenario : ScenarioParts) (i : ℕ) (past : List NoticeKind) (readable : AreReadable scenario past) where
+  effect_names : (p : Protocol) → NamesMessages p → (e : Effect) → IsFounded scenario p i past e → NamesAskable scenario e
+  effect_names p of (Ask f) k = asked_askable scenario i past f readable (of f.class k.1) k.0
+  effect_names p of (Withdraw x) k = withdrawn_askable scenario past x readable (of x.class k.1) k.0
+  effect_names p of (Enter entry) k = tt
+
+  each_names : (ps : List Protocol) → AllByRecursion IsLawful ps → AllByRecursion NamesMessages ps
+      → AllByRecursion (λ p. AllByRecursion (NamesAskable scenario) (p.effects scenario i past)) ps
+  each_names [] lawful of = tt
+  each_names (p ∷ ps) lawful of = (
+    Each-weaker (IsFounded scenario p i past) (NamesAskable scenario) (effect_names p of.0) (p.effects scenario i past) (lawful.0.founded scenario i past),
+    each_names ps lawful.1 of.1,
+  )
 
   pub turn_names : AllByRecursion (NamesAskable scenario) (turn_effects scenario i past)
   unfolding turn_effects
-  turn_names =
-      Each-flat_map (λ p. p.effects scenario i past) (NamesAskable scenario) protocols
-      (Each-weaker NamesMessages (λ p. AllByRecursion (NamesAskable scenario) (p.effects scenario i past))
-      (λ p of. effects_name p of (p.effects scenario i past) (of.lawful.founded scenario i past) (of.withdraws scenario i past)) protocols all_name_messages)
+  turn_names = Each-flat_map (λ p. p.effects scenario i past) (NamesAskable scenario) protocols (each_names protocols are_lawful all_name_messages)

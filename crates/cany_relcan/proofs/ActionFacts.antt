@@ -1,7 +1,7 @@
 -- The actions that RELCAN takes for a notice, from what it has.
 use Rattle.std.specs.Prelude.{nat_lt, nat_le}
 use Rattle.std.specs.List.{list_any}
-use Rattle.std.proofs.Common.{◌≡◌, ℕ, ◌+◌, ◌<◌, ◌==◌, ◌&&◌, ◌||◌, Bool, true, false, if◌then◌else◌, not, List, [], ◌∷◌, ◌++◌, length, refl, ap, sym, ◌∙◌, eq-eqb}
+use Rattle.std.proofs.Common.{◌≡◌, ℕ, ◌+◌, ◌<◌, ◌==◌, ◌&&◌, ◌||◌, Bool, true, false, if◌then◌else◌, not, List, [], ◌∷◌, ◌++◌, length, refl, ap, ◌∙◌, eq-eqb}
 use Rattle.cany_base.specs.declared.actions.Action.{Action}
 use Rattle.cany_base.specs.declared.actions.Action.TheVariants as action
 use Rattle.cany_base.specs.declared.frame.Class.TheVariants as class
@@ -21,11 +21,11 @@ use Rattle.cany_message.proofs.TableFacts.{IsOther}
 use Rattle.cany_model.specs.Rules.Actions.{actions_of}
 use Rattle.cany_model.specs.Rules.Delivery.{brings, delivery_effects}
 use Rattle.cany_model.specs.Rules.Eager.{has_enough}
-use Rattle.cany_model.specs.Rules.Effect.{Ask, Withdraw}
+use Rattle.cany_model.specs.Rules.Effect.{Withdraw}
 use Rattle.cany_model.specs.Bus.Frames.{identity_of, same_class}
 use Rattle.cany_model.specs.Bus.History.{copies, has_own}
 use Rattle.cany_model.specs.Rules.Relcan.{confirm_effects, confirm_frame, fell_back, late_copy_effects, relcan_at}
-use Rattle.cany_relcan.specs.Relcan.{RelcanParts, HasHeard, IsRelcanOf, of_own}
+use Rattle.cany_relcan.specs.Relcan.{RelcanParts, HasRead, IsRelcanOf, of_own}
 use Rattle.cany_relcan.specs.RelcanSteps.{is_enough, is_fallen, was_delivered}
 
 enough_is : (omit c : ℕ) (own : Bool) → is_enough (learnt_of omit c own) ≡ nat_le (omit + 1) c
@@ -51,7 +51,7 @@ module _ (scenario : ScenarioParts) (i slot : ℕ) (past : List NoticeKind) (v w
       ∙ ap (λ x. nat_lt 0 (copies x past) || (x.node == i && has_own x past)) (identity_is class.Rel f rel)
       ∙ (rw (h.tables.data_frames.copies f.number f.node small, h.tables.data_frames.owned f.number f.node small) refl)
 
-  pub got_actions : HasHeard scenario i (Got f) past w
+  pub got_actions : HasRead scenario i (Got f) past w
       → (before ++ delivery_actions service.Rel slot (not (was_delivered v f)) f)
       ++ withdraw_actions (is_enough (learnt_of v.copies.omit (copies_of w.copies (frame_number f)) (is_owned v.copies (frame_number f))) && is_fallen v f) f
       ≡ before ++ actions_of (relcan_at scenario.params i (Got f) past)

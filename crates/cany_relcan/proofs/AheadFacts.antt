@@ -2,7 +2,7 @@
 use Rattle.std.specs.Prelude.{nat_lt, Contains}
 use Rattle.std.proofs.Common.{◌≡◌, ◌≢◌, ℕ, zero, suc, ◌<◌, ◌==◌, ◌&&◌, ◌||◌, Bool, true, false, if◌then◌else◌, not, List, [], ◌∷◌, drop, length, refl, ap, sym, ◌∙◌, arith}
 use Rattle.std.specs.List.{list_any}
-use Rattle.std.proofs.lemmas.Bool.{and_parts, false≢true, false_from_ne_true}
+use Rattle.std.proofs.lemmas.Bool.{and_parts, false_from_ne_true}
 use Rattle.std.proofs.lemmas.Bool.Decides.{nat_tests}
 use Rattle.std.proofs.lemmas.List.Folds.{list_any-append}
 use Rattle.cany_base.specs.declared.frame.Class.TheVariants as class
@@ -32,20 +32,9 @@ use Rattle.cany_relcan.proofs.TablesFacts.{confirmed_is}
 abbrev pub data_of : MsgKey → Identity
 data_of msg = data_identity msg.seq msg.origin
 
-and_none : (a b : Bool) → ((a && false) && b) ≡ false
-and_none true b = refl
-and_none false b = refl
-
-and_true : (t b : Bool) → (t && not b) ≡ ((t && true) && not b)
-and_true true b = refl
-and_true false b = refl
-
 one_timer : (starts timed got before this : Bool) → ((starts ≡ true) → this ≡ got) → (got ≡ true → starts ≡ (timed && not before))
     → ((if starts then this || false else false) ≡ ((timed && got) && not before))
-one_timer true timed true before this same when = rw (same refl) (when refl ∙ and_true timed before)
-one_timer true timed false before this same when = rw (same refl) (sym (and_none timed (not before)))
-one_timer false timed true before this same when = when refl ∙ and_true timed before
-one_timer false timed false before this same when = sym (and_none timed (not before))
+one_timer starts timed got before this same when = grind (arith, nat_tests, same, when)
 
 timer_in : (msg : MsgKey) (timer : Timer) (starts : Bool) → list_any (is_timer_of msg) (if starts then timer ∷ [] else []) ≡ (if starts then is_timer_of msg timer || false else false)
 timer_in msg timer true = refl
@@ -53,9 +42,9 @@ timer_in msg timer false = refl
 
 started_one : (i : ℕ) (msg : MsgKey) (notice : NoticeKind) (past : List NoticeKind)
     → list_any (is_timer_of msg) (started_by i notice past) ≡ ((is_timed i (data_of msg) && is_got (data_of msg) notice) && not (has_copy (data_of msg) past))
-started_one i msg Idle past = sym (and_none (is_timed i (data_of msg)) (not (has_copy (data_of msg) past)))
-started_one i msg Bad past = sym (and_none (is_timed i (data_of msg)) (not (has_copy (data_of msg) past)))
-started_one i msg (Sent f) past = sym (and_none (is_timed i (data_of msg)) (not (has_copy (data_of msg) past)))
+started_one i msg Idle past = grind (arith, nat_tests)
+started_one i msg Bad past = grind (arith, nat_tests)
+started_one i msg (Sent f) past = grind (arith, nat_tests)
 started_one i msg (Got f) past =
     timer_in msg (record { frame = f; first = length past }) (is_timed i (identity_of f) && not (has_copy (identity_of f) past))
     ∙ one_timer (is_timed i (identity_of f) && not (has_copy (identity_of f) past)) (is_timed i (data_of msg)) (is_of (data_of msg) f) (has_copy (data_of msg) past)
@@ -69,36 +58,15 @@ started_one i msg (Got f) past =
 dropped_copy : (x : Identity) (n : ℕ) (past : List NoticeKind) → has_copy x (drop n past) ≡ true → has_copy x past ≡ true
 dropped_copy x n past h = any-from_Among (is_got x) past (Among-drop (λ e. is_got x e ≡ true) n past (Among-from_any (is_got x) (drop n past) h))
 
-recent : (t c d g : Bool) → (d ≡ true → c ≡ true) → (((t && c) && not d) || ((t && g) && not c)) ≡ ((t && (g || c)) && not d)
-recent false c d g h = refl
-recent true true true true h = refl
-recent true true true false h = refl
-recent true true false true h = refl
-recent true true false false h = refl
-recent true false true g h = absurd (false≢true (h refl))
-recent true false false true h = refl
-recent true false false false h = refl
-
 -- the timers that the newest n notices started
 running_is : (i n : ℕ) (msg : MsgKey) (past : List NoticeKind)
     → list_any (is_timer_of msg) (started_since i n past) ≡ ((is_timed i (data_of msg) && has_copy (data_of msg) past) && not (has_copy (data_of msg) (drop n past)))
 unfolding started_since
-running_is i zero msg past = none (is_timed i (data_of msg)) (has_copy (data_of msg) past)
-  where
-    none : (t c : Bool) → false ≡ ((t && c) && not c)
-    none true true = refl
-    none true false = refl
-    none false c = refl
-running_is i (suc n) msg [] = none (is_timed i (data_of msg))
-  where
-    none : (t : Bool) → false ≡ ((t && false) && true)
-    none true = refl
-    none false = refl
+running_is i zero msg past = grind (arith, nat_tests)
+running_is i (suc n) msg [] = grind (arith, nat_tests)
 running_is i (suc n) msg (notice ∷ before) =
-    list_any-append (is_timer_of msg) (started_since i n before) (started_by i notice before)
-    ∙ ap (λ b. b || list_any (is_timer_of msg) (started_by i notice before)) (running_is i n msg before)
-    ∙ ap (λ b. ((is_timed i (data_of msg) && has_copy (data_of msg) before) && not (has_copy (data_of msg) (drop n before))) || b) (started_one i msg notice before)
-    ∙ recent (is_timed i (data_of msg)) (has_copy (data_of msg) before) (has_copy (data_of msg) (drop n before)) (is_got (data_of msg) notice) (dropped_copy (data_of msg) n before)
+    grind (arith, nat_tests, list_any-append (is_timer_of msg) (started_since i n before) (started_by i notice before), running_is i n msg before,
+    started_one i msg notice before, dropped_copy (data_of msg) n before)
 
 -- ---- whether a timer of a message lies ahead
 
@@ -108,18 +76,13 @@ none_read copies = grind (arith, nat_tests)
 abbrev is_ahead : ℕ → ℕ → Identity → List NoticeKind → Bool
 is_ahead confirm i x past = is_timed i x && has_copy x past && not (has_copy x (drop confirm past)) && not (has_confirm x past)
 
-not_timed : (t a b c : Bool) → t ≡ false → (((t && a) && b) && c) ≡ false
-not_timed t a b c is = rw is refl
-
 -- the message of a timer that runs is one of RELCAN
 running_named : (scenario : ScenarioParts) (i : ℕ) (past : List NoticeKind) (v : RelcanParts) (msg : MsgKey) → IsRelcanOf scenario i past v
     → list_any (is_timer_of msg) v.timers.running ≡ true → NamesMessage scenario service.Rel (record { class = class.Rel; number = msg.seq; node = msg.origin; inc = 0; payload = [] })
 running_named scenario i past v msg h runs =
-    let started : ((is_timed i (data_of msg) && has_copy (data_of msg) past) && not (has_copy (data_of msg) (drop scenario.params.confirm past))) ≡ true =
-    sym (ap (list_any (is_timer_of msg)) h.timers ∙ running_is i scenario.params.confirm msg past) ∙ runs in
-    let here = and_parts (is_timed i (data_of msg) && has_copy (data_of msg) past) (not (has_copy (data_of msg) (drop scenario.params.confirm past))) started in
-    let copy = and_parts (is_timed i (data_of msg)) (has_copy (data_of msg) past) here.0 in
-    h.tables.named (record { class = class.Rel; number = msg.seq; node = msg.origin; inc = 0; payload = [] }) refl copy.1
+    let copy : has_copy (data_of msg) past ≡ true =
+    grind (arith, nat_tests, runs, ap (list_any (is_timer_of msg)) h.timers, running_is i scenario.params.confirm msg past) in
+    h.tables.named (record { class = class.Rel; number = msg.seq; node = msg.origin; inc = 0; payload = [] }) refl copy
 
 -- no timer runs of what is no message
 pub none_runs : (scenario : ScenarioParts) (i : ℕ) (past : List NoticeKind) (v : RelcanParts) (msg : MsgKey) → IsRelcanOf scenario i past v
@@ -142,11 +105,9 @@ module _ (scenario : ScenarioParts) (i : ℕ) (past : List NoticeKind) (v : Relc
   ahead_none : same_class (data_class m.service) class.Rel ≡ false → (m.service ≡ service.Rel → ⊥)
       → (list_any (is_timer_of msg) v.timers.running && not (nat_lt 0 (copies_of v.confirms (message_number msg.seq msg.origin)))) ≡ has_timer_ahead scenario m i past
   ahead_none other apart =
-      let x : Identity = identity_of (data_frame m) in
       let rests : list_any (is_timer_of msg) v.timers.running ≡ false =
       false_from_ne_true (list_any (is_timer_of msg) v.timers.running) (λ runs. apart (same_service (running_named scenario i past v msg h runs))) in
-      let timed : is_timed i x ≡ false = rw other refl in
-      (rw rests refl) ∙ sym (not_timed (is_timed i x) (has_copy x past) (not (has_copy x (drop scenario.params.confirm past))) (not (has_confirm x past)) timed)
+      grind (arith, nat_tests, rests, other)
 
   ahead_rel : m.service ≡ service.Rel → msg.origin < origins
       → (list_any (is_timer_of msg) v.timers.running && not (nat_lt 0 (copies_of v.confirms (message_number msg.seq msg.origin)))) ≡ has_timer_ahead scenario m i past

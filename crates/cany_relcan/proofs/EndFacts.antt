@@ -1,8 +1,7 @@
 -- The value after the timer that ends in the turn of a notice.
 use Rattle.std.specs.Prelude.{nat_lt, nat_le, IfSome}
-use Rattle.std.proofs.Common.{◌≡◌, ℕ, suc, ◌+◌, ◌-◌, ◌<◌, ◌≤◌, ◌==◌, ◌&&◌, ◌||◌, Bool, true, false, if◌then◌else◌, not, inl, inr, List, [], ◌∷◌, ◌++◌, drop, length, Option, Some, None, refl, ap, sym, ◌∙◌, arith, length-append, append_assoc}
+use Rattle.std.proofs.Common.{◌≡◌, ℕ, suc, ◌+◌, ◌-◌, ◌<◌, ◌≤◌, ◌==◌, ◌&&◌, ◌||◌, Bool, true, false, if◌then◌else◌, not, List, [], ◌∷◌, ◌++◌, drop, length, Option, Some, None, refl, ap, sym, ◌∙◌, arith, length-append, append_assoc}
 use Rattle.std.specs.List.{list_any}
-use Rattle.std.proofs.lemmas.Bool.{cases_Bool}
 use Rattle.std.proofs.lemmas.List.{map-append}
 use Rattle.std.proofs.lemmas.List.Folds.{list_any-append}
 use Rattle.std.proofs.lemmas.Bool.Decides.{nat_tests}
@@ -22,7 +21,7 @@ use Rattle.cany_model.specs.Bus.History.{copies}
 use Rattle.cany_model.specs.Rules.Relcan.{fell_back, has_confirm, relcan_at, relcan_effects, timer_effects}
 use Rattle.cany_model.proofs.Bus.Identities.{same_identity-true}
 use Rattle.cany_relcan.specs.declared.timers.Timer.{Timer}
-use Rattle.cany_relcan.specs.Relcan.{RelcanParts, AreMarksOf, AreTablesOf, HasHeard, IsRelcanOf, data_identity, is_key_of}
+use Rattle.cany_relcan.specs.Relcan.{RelcanParts, AreMarksOf, AreTablesOf, HasRead, IsRelcanOf, data_identity, is_key_of}
 use Rattle.cany_relcan.specs.RelcanSteps.{after_timer, ask_actions, asks_at_end, due_frame, fallen_after, is_confirmed, marked, timer_actions, without_due}
 use Rattle.cany_relcan.specs.Timers.{oldest_from, without_from, started_by, started_since}
 use Rattle.cany_relcan.proofs.TablesFacts.{confirmed_is}
@@ -32,11 +31,7 @@ use Rattle.cany_relcan.proofs.TimerFacts.{EndsWith, ends_with, due_class, end_ef
 
 length-without_from : (slot : ℕ) (timers : List Timer) → length (without_from slot timers) ≤ length timers
 length-without_from slot [] = omega arith
-length-without_from slot (t ∷ timers) = go (t.first == slot)
-  where
-    go : (b : Bool) → length (if b then timers else t ∷ timers) ≤ suc (length timers)
-    go true = omega arith
-    go false = omega arith
+length-without_from slot (t ∷ timers) = grind (arith, nat_tests)
 
 length-after_oldest : (slot : ℕ) (timers : List Timer) (f : FrameParts) → oldest_from slot timers ≡ Some f → length (without_from slot timers) + 1 ≡ length timers
 length-after_oldest slot [] f is = absurd (cc)
@@ -75,28 +70,6 @@ module _ (scenario : ScenarioParts) (i : ℕ) (past : List NoticeKind) (v : Relc
   read_is : (f : FrameParts) → f.node < origins → is_confirmed v.confirms f ≡ has_confirm (data_identity f.number f.node) past
   read_is f small = confirmed_is scenario i past v.copies v.confirms h f.number f.node small
 
-  fallen_then : (fallen c : Bool) (this : Bool) → ((this && not c) || fallen) ≡ (if c then fallen else (fallen || (this || false)))
-  fallen_then true true this = go this
-    where
-      go : (b : Bool) → ((b && false) || true) ≡ true
-      go true = refl
-      go false = refl
-  fallen_then false true this = go this
-    where
-      go : (b : Bool) → ((b && false) || false) ≡ false
-      go true = refl
-      go false = refl
-  fallen_then true false this = go this
-    where
-      go : (b : Bool) → ((b && true) || true) ≡ true
-      go true = refl
-      go false = refl
-  fallen_then false false this = go this
-    where
-      go : (b : Bool) → ((b && true) || false) ≡ (b || false)
-      go true = refl
-      go false = refl
-
   marked_when : (s o : ℕ) (f : FrameParts) (c : Bool)
       → list_any (is_key_of s o) (if c then v.fallen else marked f v.fallen).items
       ≡ (if c then list_any (is_key_of s o) v.fallen.items else (list_any (is_key_of s o) v.fallen.items || ((s == f.number && o == f.node) || false)))
@@ -106,23 +79,12 @@ module _ (scenario : ScenarioParts) (i : ℕ) (past : List NoticeKind) (v : Relc
   same_confirm : (s o : ℕ) (f : FrameParts) → f.class ≡ class.Rel → is_of (data_identity s o) f ≡ true → has_confirm (data_identity s o) past ≡ has_confirm (data_identity f.number f.node) past
   same_confirm s o f rel is = ap (λ x. has_confirm x past) (same_identity-true (data_identity s o) (identity_of f) is ∙ identity_is class.Rel f rel)
 
-  falls_same : (s o : ℕ) (f : FrameParts) → f.class ≡ class.Rel → falls_with (Some f) (data_identity s o) (has_confirm (data_identity s o) past)
-      ≡ (is_of (data_identity s o) f && not (has_confirm (data_identity f.number f.node) past))
-  falls_same s o f rel = elim (cases_Bool (is_of (data_identity s o) f)) [
-    | inl this ↦ rw (this, same_confirm s o f rel this) refl
-    | inr other ↦ rw other refl
-  ]
-
   marks_after : (due : Option FrameParts) → IfSome due (λ f. f.node < origins) → ((f : FrameParts) → due ≡ Some f → f.class ≡ class.Rel) → (s o : ℕ)
       → list_any (is_key_of s o) (fallen_after due v.confirms v.fallen).items ≡ (falls_with due (data_identity s o) (has_confirm (data_identity s o) past) || list_any (is_key_of s o) v.fallen.items)
   marks_after None small rels s o = refl
   marks_after (Some f) small rels s o =
       let rel = rels f refl in
-      marked_when s o f (is_confirmed v.confirms f)
-      ∙ sym (fallen_then (list_any (is_key_of s o) v.fallen.items) (is_confirmed v.confirms f) (s == f.number && o == f.node))
-      ∙ ap (λ b. (b && not (is_confirmed v.confirms f)) || list_any (is_key_of s o) v.fallen.items) (sym (is_this class.Rel s o f rel))
-      ∙ ap (λ c. (is_of (data_identity s o) f && not c) || list_any (is_key_of s o) v.fallen.items) (read_is f small)
-      ∙ ap (λ b. b || list_any (is_key_of s o) v.fallen.items) (sym (falls_same s o f rel))
+      grind (arith, nat_tests, marked_when s o f (is_confirmed v.confirms f), is_this class.Rel s o f rel, read_is f small, same_confirm s o f rel)
 
   -- ---- actions
 
@@ -145,13 +107,13 @@ module _ (scenario : ScenarioParts) (i : ℕ) (past : List NoticeKind) (v : Relc
 
 -- ---- the turn
 
--- what ends in the turn of a notice that was heard
+-- what ends in the turn of a notice that was read
 record Ends (scenario : ScenarioParts) (i slot n : ℕ) (notice : NoticeKind) (past : List NoticeKind) (v : RelcanParts) : Type 0 where
   is : scenario.params.confirm ≡ suc n
   due : due_frame slot v ≡ first_frame (started_now i (drop n past))
   rest : (without_due slot v).timers.running ≡ started_since i (suc n) (notice ∷ past)
 
-ends : (scenario : ScenarioParts) (i slot : ℕ) (notice : NoticeKind) (past : List NoticeKind) (v : RelcanParts) → HasHeard scenario i notice past v → slot ≡ length past
+ends : (scenario : ScenarioParts) (i slot : ℕ) (notice : NoticeKind) (past : List NoticeKind) (v : RelcanParts) → HasRead scenario i notice past v → slot ≡ length past
     → Ends scenario i slot (scenario.params.confirm - 1) notice past v
 ends scenario i slot notice past v h at =
     let is : scenario.params.confirm ≡ suc (scenario.params.confirm - 1) = omega (arith, h.limits.legal.in_range.confirm.0) in
@@ -168,7 +130,7 @@ due_rel : (scenario : ScenarioParts) (i slot n : ℕ) (notice : NoticeKind) (pas
     → (f : FrameParts) → due_frame slot v ≡ Some f → f.class ≡ class.Rel
 due_rel scenario i slot n notice past v e f is = due_class i (drop n past) f (sym e.due ∙ is)
 
-marks_are : (scenario : ScenarioParts) (i slot n : ℕ) (notice : NoticeKind) (past : List NoticeKind) (v : RelcanParts) → HasHeard scenario i notice past v
+marks_are : (scenario : ScenarioParts) (i slot n : ℕ) (notice : NoticeKind) (past : List NoticeKind) (v : RelcanParts) → HasRead scenario i notice past v
     → Ends scenario i slot n notice past v → (due : Option FrameParts) → due_frame slot v ≡ due → IfSome due (λ f. f.node < origins)
     → AreMarksOf scenario.params.confirm i (notice ∷ past) (fallen_after due v.confirms v.fallen)
 marks_are scenario i slot n notice past v h e due is small s o =
@@ -179,7 +141,7 @@ marks_are scenario i slot n notice past v h e due is small s o =
     ∙ sym (fell_back-more i n (data_identity s o) notice past)
     ∙ ap (λ k. fell_back k i (data_identity s o) (notice ∷ past)) (sym e.is)
 
-pub ended_stands : (scenario : ScenarioParts) (i slot : ℕ) (notice : NoticeKind) (past : List NoticeKind) (v w : RelcanParts) → HasHeard scenario i notice past v → slot ≡ length past
+pub ended_stands : (scenario : ScenarioParts) (i slot : ℕ) (notice : NoticeKind) (past : List NoticeKind) (v w : RelcanParts) → HasRead scenario i notice past v → slot ≡ length past
     → IfSome (due_frame slot v) (λ f. f.node < origins) → w ≡ after_timer (due_frame slot v) (without_due slot v) → IsRelcanOf scenario i (notice ∷ past) w
 ended_stands scenario i slot notice past v w h at small state =
     let e : Ends scenario i slot (scenario.params.confirm - 1) notice past v = ends scenario i slot notice past v h at in
@@ -197,7 +159,7 @@ ended_stands scenario i slot notice past v w h at small state =
     })
 
 pub turn_actions : (scenario : ScenarioParts) (i slot : ℕ) (notice : NoticeKind) (past : List NoticeKind) (v : RelcanParts) (before middle after : List Action)
-    → HasHeard scenario i notice past v → slot ≡ length past → IfSome (due_frame slot v) (λ f. f.node < origins)
+    → HasRead scenario i notice past v → slot ≡ length past → IfSome (due_frame slot v) (λ f. f.node < origins)
     → middle ≡ before ++ actions_of (relcan_at scenario.params i notice past) → after ≡ middle ++ timer_actions (due_frame slot v) v
     → after ≡ before ++ actions_of (relcan_effects scenario i (notice ∷ past))
 unfolding relcan_effects

@@ -1,8 +1,8 @@
 pub mod ActionFacts
 pub mod AheadFacts
 pub mod EndFacts
-pub mod HeardFacts
 pub mod ListFacts
 pub mod OneSendFacts
+pub mod ReadFacts
 pub mod TablesFacts
 pub mod TimerFacts

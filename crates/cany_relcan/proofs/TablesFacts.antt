@@ -1,7 +1,8 @@
 -- The tables of data frames and of confirmations after one notice more.
 use Rattle.std.specs.Prelude.{nat_lt}
-use Rattle.std.proofs.Common.{◌≡◌, ℕ, zero, suc, ◌<◌, ◌==◌, ◌&&◌, ◌||◌, Bool, true, false, inl, inr, List, ◌∷◌, replicate, length, refl, ap, sym, ◌∙◌, eq-eqb}
+use Rattle.std.proofs.Common.{◌≡◌, ℕ, zero, suc, ◌<◌, ◌&&◌, ◌||◌, true, false, inl, inr, List, ◌∷◌, replicate, length, refl, ap, sym, ◌∙◌, arith, eq-eqb}
 use Rattle.std.proofs.lemmas.Bool.{or_cases, false≢true}
+use Rattle.std.proofs.lemmas.Bool.Decides.{nat_tests}
 use Rattle.cany_base.specs.declared.frame.Class.{Class}
 use Rattle.cany_base.specs.declared.frame.Class.TheVariants as class
 use Rattle.cany_base.specs.declared.message.Service.TheVariants as service
@@ -12,7 +13,7 @@ use Rattle.cany_base.specs.Frame.{FrameParts}
 use Rattle.cany_base.specs.Scenario.{ScenarioParts}
 use Rattle.cany_diffuse.specs.Eager.{EagerParts, copies_of, IsFresh, IsLearnt, IsOwned}
 use Rattle.cany_message.specs.Numbers.{origins, message_number, frame_number}
-use Rattle.cany_message.proofs.HistoryFacts.{has_copy-counted, identity_is, is_none}
+use Rattle.cany_message.proofs.HistoryFacts.{has_copy-counted, identity_is, is_not_this}
 use Rattle.cany_message.proofs.NoticeFacts.{got_belongs}
 use Rattle.cany_message.proofs.TableFacts.{IsOther, table_fresh, table_got, table_other, table_sent}
 use Rattle.cany_model.specs.Bus.Frames.{identity_of, is_of, same_class}
@@ -56,11 +57,7 @@ unfolding same_class
 confirmation_other f is = rw is refl
 
 pub none_noted : (f : FrameParts) → (same_class f.class class.Confirm && false) ≡ false
-none_noted f = go (same_class f.class class.Confirm)
-  where
-    go : (b : Bool) → (b && false) ≡ false
-    go true = refl
-    go false = refl
+none_noted f = grind (arith, nat_tests)
 
 -- the message that a frame names, where another frame has the same name
 named_too : (scenario : ScenarioParts) (f g : FrameParts) → g.number ≡ f.number → g.node ≡ f.node → NamesMessage scenario service.Rel f → NamesMessage scenario service.Rel g
@@ -117,4 +114,4 @@ module _ (scenario : ScenarioParts) (i : ℕ) (past : List NoticeKind) (copies c
       not_got Idle other g rel = refl
       not_got Bad other g rel = refl
       not_got (Sent f) other g rel = refl
-      not_got (Got f) other g rel = ap (λ x. is_of x f) (identity_is class.Rel g rel) ∙ is_none class.Rel g.number g.node f other
+      not_got (Got f) other g rel = ap (λ x. is_of x f) (identity_is class.Rel g rel) ∙ is_not_this class.Rel g.number g.node f other

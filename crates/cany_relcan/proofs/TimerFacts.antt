@@ -3,6 +3,7 @@ use Rattle.std.specs.Prelude.{slice_index_or, nat_lt}
 use Rattle.std.proofs.Common.{◌≡◌, ℕ, zero, suc, ◌+◌, ◌-◌, ◌<◌, ◌≤◌, ◌==◌, ◌&&◌, ◌||◌, Bool, true, false, if◌then◌else◌, not, inl, inr, List, [], ◌∷◌, ◌++◌, drop, length, replicate, Option, Some, None, refl, ap, sym, ◌∙◌, arith, append_assoc, add-zero, eq-eqb, length-drop}
 use Rattle.std.specs.List.{AllByRecursion}
 use Rattle.std.proofs.lemmas.Bool.{and_parts, cases_Bool, cases_lt, cond_both, ne_eqb, lt-ltb, le-ltb}
+use Rattle.std.proofs.lemmas.Bool.Decides.{nat_tests}
 use Rattle.std.proofs.lemmas.List.{append-nil, get_or-drop}
 use Rattle.cany_base.specs.declared.frame.Class.TheVariants as class
 use Rattle.cany_base.specs.declared.notice.NoticeKind.{NoticeKind}
@@ -93,9 +94,7 @@ started_by_one : (i : ℕ) (notice : NoticeKind) (past : List NoticeKind) → le
 started_by_one i Idle past = omega arith
 started_by_one i Bad past = omega arith
 started_by_one i (Sent f) past = omega arith
-started_by_one i (Got f) past =
-    cond_both (is_timed i (identity_of f) && not (has_copy (identity_of f) past)) (record { frame = f; first = length past } ∷ []) []
-    (λ timers. length timers ≤ 1) (λ _. omega arith) (λ _. omega arith)
+started_by_one i (Got f) past = grind (arith, nat_tests)
 
 now_from : (i slot : ℕ) (newest : List NoticeKind) → length newest ≡ suc slot → IsFrom slot (started_now i newest)
 now_from i slot [] len = record { one = omega arith; first = tt }
@@ -141,8 +140,7 @@ falls_with None x confirmed = false
 falls_with (Some f) x confirmed = is_of x f && not confirmed
 
 and_none : (a b : Bool) → ((a && false) && b) ≡ false
-and_none true b = refl
-and_none false b = refl
+and_none a b = grind (arith, nat_tests)
 
 falls_when : (t m c : Bool) (f : FrameParts) (timer : Timer) → timer.frame ≡ f → (x : Identity) → is_of x f ≡ true
     → ((t && (true && m)) && not c) ≡ falls_with (first_frame (if t && m then timer ∷ [] else [])) x c

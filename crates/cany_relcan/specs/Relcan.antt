@@ -70,14 +70,14 @@ pub record IsRelcanOf (scenario : ScenarioParts) (i : ℕ) (past : List NoticeKi
   pub fallen : AreMarksOf scenario.params.confirm i past v.fallen
 
 -- The same in the turn of a notice, before the timer that runs out in it.
-pub record HasHeard (scenario : ScenarioParts) (i : ℕ) (notice : NoticeKind) (past : List NoticeKind) (v : RelcanParts) : Type 0 where
+pub record HasRead (scenario : ScenarioParts) (i : ℕ) (notice : NoticeKind) (past : List NoticeKind) (v : RelcanParts) : Type 0 where
   pub limits : HasLimitsOf scenario i v
   pub tables : AreTablesOf scenario i (notice ∷ past) v.copies v.confirms
   pub timers : v.timers.running ≡ started_since i scenario.params.confirm past ++ started_by i notice past
   pub fallen : AreMarksOf scenario.params.confirm i past v.fallen
 
 -- there are notices that the value stands for, and this one can come after them
-pub record CanHear (v : RelcanParts) (notice : Notice) : Type 0 where
+pub record CanRead (v : RelcanParts) (notice : Notice) : Type 0 where
   pub scenario : ScenarioParts
   pub past : List NoticeKind
   pub stands : IsRelcanOf scenario v.node past v

@@ -16,7 +16,7 @@ ghost use Rattle.cany_model.specs.Bus.Frames.{same_class};
 ghost use Rattle.cany_model.specs.Rules.Messages.{Message, messages_of, message_key};
 ghost use Rattle.cany_model.specs.Rules.Notices.{IsNextNotice};
 ghost use Rattle.cany_model.specs.Rules.Relcan.{confirm_frame, has_timer_ahead, relcan_at, relcan_effects};
-ghost use Rattle.cany_relcan.specs.Relcan.{IsRelcanOf, HasHeard, CanHear, is_key_of};
+ghost use Rattle.cany_relcan.specs.Relcan.{IsRelcanOf, HasRead, CanRead, is_key_of};
 ghost use Rattle.cany_relcan.specs.RelcanSteps.{after_timer, due_frame, is_enough, is_fallen, starts_timer, timer_actions, timers_with, was_delivered, without_due};
 
 use crate::frames::{Confirmation, Data, confirmation_of, is_confirmation, is_data};
@@ -94,7 +94,7 @@ impl Relcan {
     ///
     /// At most three actions are appended.
     pub fn on(&mut self, notice: &Notice, out: &mut Actions)
-        requires hears { CanHear self.old notice.now }
+        requires reads { CanRead self.old notice.now }
         requires room { length out.old.items + 3 ≤ out.old.room }
         ensures actions { (scenario : ScenarioParts) (past : List NoticeKind) → IsRelcanOf scenario self.old.node past self.old → IsNextNotice scenario past notice.now
             → out.new.items ≡ out.old.items ++ actions_of (relcan_effects scenario self.old.node (notice.now.kind ∷ past)) }
@@ -103,7 +103,7 @@ impl Relcan {
         ensures few { length out.new.items ≤ length out.old.items + 3 }
         ensures room { out.new.room ≡ out.old.room }
     {
-        self.hear(notice, out);
+        self.on_notice(notice, out);
         self.end_timer(notice.slot, out);
     }
 
@@ -123,13 +123,13 @@ impl Relcan {
     }
 
     /// What RELCAN does at a notice, whatever timers are due.
-    fn hear(&mut self, notice: &Notice, out: &mut Actions)
-        requires hears { CanHear self.old notice.now }
+    fn on_notice(&mut self, notice: &Notice, out: &mut Actions)
+        requires reads { CanRead self.old notice.now }
         requires room { length out.old.items + 2 ≤ out.old.room }
         ensures actions { (scenario : ScenarioParts) (past : List NoticeKind) → IsRelcanOf scenario self.old.node past self.old → IsNextNotice scenario past notice.now
             → out.new.items ≡ out.old.items ++ actions_of (relcan_at scenario.params self.old.node notice.now.kind past) }
         ensures stands { (scenario : ScenarioParts) (past : List NoticeKind) → IsRelcanOf scenario self.old.node past self.old → IsNextNotice scenario past notice.now
-            → HasHeard scenario self.old.node notice.now.kind past self.new }
+            → HasRead scenario self.old.node notice.now.kind past self.new }
         ensures node { self.new.node ≡ self.old.node }
         ensures room { out.new.room ≡ out.old.room }
         ensures few { length out.new.items ≤ length out.old.items + 2 }
@@ -203,7 +203,7 @@ impl Relcan {
         ensures state { self.new ≡ record self.old { confirms = self.new.confirms } }
     {
         let confirmation = confirmation_of(Data::of(frame).msg);
-        // Taken before it is counted, for what it ensures: that there is room.
+        // Called for what it ensures: no key is there twice, so there is room for this one.
         let _copies = self.confirms.copies(&confirmation);
         // Confirmations are not relayed, so what this copy calls for is not done.
         let _ = self.confirms.learn(confirmation);

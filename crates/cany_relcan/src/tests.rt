@@ -1,41 +1,18 @@
 ghost use Rattle.std.specs.Prelude.{◌≡◌, ◌+◌, ◌<◌, ◌≤◌, [], ◌∷◌, length, replicate, IfOk};
 ghost use Rattle.cany_base.specs.declared.message.Service.TheVariants.{Rel};
 ghost use Rattle.cany_base.specs.declared.notice.NoticeKind.TheVariants.{Idle};
-ghost use Rattle.cany_base.specs.Params.{IsInRange, MeetsFormulas};
 ghost use Rattle.cany_model.specs.Rules.Notices.{IsNextNotice};
 
 use crate::relcan::Relcan;
 use cany_base::{
-    Action, Actions, Class, Format, Frame, LogEntry, Memory, MsgKey, NodeId, NodeSet, Notice,
-    NoticeKind, Params, Payload, Scenario, SendAsk, Service,
+    Action, Actions, Class, Frame, LogEntry, Memory, MsgKey, NodeId, NodeSet, Notice, NoticeKind,
+    Params, Payload, Scenario, SendAsk, Service,
 };
 use std::alloc::Global;
 use std::test::Fail;
 
-/// Timers of RELCAN run for two slots.
-fn three_nodes() -> Params
-    ensures nodes { result.nodes ≡ 3 }
-    ensures slots { result.slots ≡ 100 }
-    ensures ranges { IsInRange result }
-    ensures formulas { MeetsFormulas result }
-{
-    Params {
-        format: Format::One,
-        nodes: 3,
-        lag: 0,
-        omit: 1,
-        errors: 2,
-        bound: 36,
-        cycle: 72,
-        life: 36,
-        silence: 73,
-        confirm: 2,
-        slots: 100,
-    }
-}
-
-/// Three nodes, of which one broadcasts the payload by RELCAN in slot 0.
-fn one_broadcast(alloc: Global, node: NodeId, payload: Payload) -> Result<Scenario, Memory>
+/// Three nodes, of which one sends the payload by RELCAN in slot 0. Timers run for two slots.
+fn one_send(alloc: Global, node: NodeId, payload: Payload) -> Result<Scenario, Memory>
     requires { node < 3 }
     ensures nodes { IfOk result (λ s. s.params.nodes ≡ 3) }
     ensures slots { IfOk result (λ s. s.params.slots ≡ 100) }
@@ -47,9 +24,13 @@ fn one_broadcast(alloc: Global, node: NodeId, payload: Payload) -> Result<Scenar
         service: Service::Rel,
         payload,
     };
+    let params = Params {
+        confirm: 2,
+        ..Params::with_defaults(3, 100)
+    };
     let sends = Vec::from_slice(alloc, &[send])?;
     Ok(Scenario::of_parts(
-        three_nodes(),
+        params,
         NodeSet::all(3),
         sends,
         Vec::new(alloc),
@@ -89,7 +70,7 @@ fn read_three(
 fn a_message_without_confirmation_is_asked_for(rt: HostRuntime) -> Result<(), Fail> {
     let node = NodeId::new(2).ok_or("a node below 32")?;
     let payload = Payload::of(&[7]).ok_or("at most eight bytes")?;
-    let scenario = one_broadcast(rt.alloc(), node, payload)?;
+    let scenario = one_send(rt.alloc(), node, payload)?;
     let msg = MsgKey {
         origin: node,
         seq: 0,
@@ -138,7 +119,7 @@ fn a_message_without_confirmation_is_asked_for(rt: HostRuntime) -> Result<(), Fa
 fn a_confirmation_in_time_ends_the_wait(rt: HostRuntime) -> Result<(), Fail> {
     let node = NodeId::new(2).ok_or("a node below 32")?;
     let payload = Payload::of(&[7]).ok_or("at most eight bytes")?;
-    let scenario = one_broadcast(rt.alloc(), node, payload)?;
+    let scenario = one_send(rt.alloc(), node, payload)?;
     let msg = MsgKey {
         origin: node,
         seq: 0,
@@ -185,7 +166,7 @@ fn a_confirmation_in_time_ends_the_wait(rt: HostRuntime) -> Result<(), Fail> {
 fn a_message_is_asked_for(rt: HostRuntime) -> Result<(), Fail> {
     let node = NodeId::new(2).ok_or("a node below 32")?;
     let payload = Payload::of(&[7]).ok_or("at most eight bytes")?;
-    let scenario = one_broadcast(rt.alloc(), node, payload)?;
+    let scenario = one_send(rt.alloc(), node, payload)?;
     let mut relcan = Relcan::build(rt.alloc(), node, &scenario)?;
     let mut out = Actions::build(rt.alloc(), 1)?;
     let msg = MsgKey {

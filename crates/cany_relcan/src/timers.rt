@@ -11,7 +11,7 @@ use std::marker::Model;
 pub(crate) struct Timer {
     /// The copy.
     pub(crate) frame: Frame,
-    /// The slot in which it was received.
+    /// The slot in which the node got it.
     pub(crate) first: Slot,
 }
 

@@ -1,7 +1,5 @@
 -- The entries of an array, and what they stand for.
-use Rattle.std.proofs.Common.{◌≡◌, ℕ, suc, ◌+◌, ◌<◌, ◌≤◌, true, false, List, [], ◌∷◌, ◌++◌, length, get_or, drop, Option, Some, None, refl, ap, sym, ◌∙◌, arith, append_assoc}
-use Rattle.std.proofs.Math.Seq.{drop-length}
-use Rattle.std.proofs.lemmas.List.{append-nil}
+use Rattle.std.proofs.Common.{◌≡◌, ℕ, suc, ◌+◌, ◌<◌, ◌≤◌, true, false, List, [], ◌∷◌, length, get_or, drop, Option, Some, None, refl, ap, sym, ◌∙◌, arith}
 use Rattle.std.specs.Prelude.{nat_le}
 use Rattle.std.proofs.lemmas.Bool.Decides.{nat_tests}
 use Rattle.std.proofs.lemmas.Option.{option_and_then_some, same_Some}
@@ -10,7 +8,6 @@ use Rattle.toml.specs.View.{view, items_view}
 use Rattle.toml.specs.declared.value.Value.{Value}
 use Rattle.toml.proofs.Views.{items_view-drop}
 use Rattle.cany_model.specs.Texts.TomlKeys.{◌>>=◌, only_if, each_of}
-use Rattle.cany_replay.specs.JournalParts.{after}
 
 -- there are as many as there are entries
 pub each_of-length : {A : Type 0} (read : Data → Option A) (entries : List Value) (found : List A) → each_of read (items_view entries) ≡ Some found → length found ≡ length entries
@@ -21,30 +18,31 @@ each_of-length read (v ∷ vs) found h =
     ap length (sym (same_Some _ _ last)) ∙ ap (λ (n : ℕ). suc n) (each_of-length read vs others f)))
 
 -- so many and no more, or nothing
-only_few : {A B : Type 0} (o : Option (List A)) (next : List A → Option B) → ((found : List A) → o ≡ Some found → 20000 < length found)
-    → (o >>= (λ found. only_if (nat_le (length found) 20000) >>= (λ _. next found))) ≡ None
-only_few None next h = refl
-only_few (Some found) next h =
-    let many : 20000 < length found = h found refl in
-    let test : nat_le (length found) 20000 ≡ false = grind (arith, nat_tests) in
+abbrev pub at_most : {A B : Type 0} → ℕ → (List A → Option B) → List A → Option B
+at_most most next found = only_if (nat_le (length found) most) >>= (λ _. next found)
+
+only_few : {A B : Type 0} (most : ℕ) (o : Option (List A)) (next : List A → Option B) → ((found : List A) → o ≡ Some found → most < length found) → (o >>= at_most most next) ≡ None
+only_few most None next h = refl
+only_few most (Some found) next h =
+    let many : most < length found = h found refl in
+    let test : nat_le (length found) most ≡ false = grind (arith, nat_tests) in
     rw test
 
--- more than 20,000 entries give nothing
-pub only_few-many : {A B : Type 0} (read : Data → Option A) (next : List A → Option B) (entries : List Value) → 20000 < length entries
-    → (each_of read (items_view entries) >>= (λ found. only_if (nat_le (length found) 20000) >>= (λ _. next found))) ≡ None
-only_few-many read next entries many =
-    only_few (each_of read (items_view entries)) next (λ found e. let same = each_of-length read entries found e in omega (arith, same, many))
+-- more entries give nothing
+pub only_few-many : {A B : Type 0} (most : ℕ) (read : Data → Option A) (next : List A → Option B) (entries : List Value) → most < length entries
+    → (each_of read (items_view entries) >>= at_most most next) ≡ None
+only_few-many most read next entries many =
+    only_few most (each_of read (items_view entries)) next (λ found e. let same = each_of-length read entries found e in omega (arith, same, many))
 
-few_test : (n : ℕ) → n ≤ 20000 → nat_le n 20000 ≡ true
-few_test n few = grind (arith, nat_tests)
+few_test : (n most : ℕ) → n ≤ most → nat_le n most ≡ true
+few_test n most few = grind (arith, nat_tests)
 
 -- so many entries and fewer give what each of them stands for to the next
-pub only_few-few : {A B : Type 0} (read : Data → Option A) (next : List A → Option B) (entries : List Value) (found : List A) → length entries ≤ 20000
-    → each_of read (items_view entries) ≡ Some found
-    → (each_of read (items_view entries) >>= (λ found. only_if (nat_le (length found) 20000) >>= (λ _. next found))) ≡ next found
-only_few-few read next entries found few e =
+pub only_few-few : {A B : Type 0} (most : ℕ) (read : Data → Option A) (next : List A → Option B) (entries : List Value) (found : List A) → length entries ≤ most
+    → each_of read (items_view entries) ≡ Some found → (each_of read (items_view entries) >>= at_most most next) ≡ next found
+only_few-few most read next entries found few e =
     let same = each_of-length read entries found e in
-    let test : nat_le (length found) 20000 ≡ true = few_test (length found) (omega (arith, same, few)) in
+    let test : nat_le (length found) most ≡ true = few_test (length found) most (omega (arith, same, few)) in
     rw (e, test) refl
 
 -- what the entries from index i on stand for
@@ -59,28 +57,3 @@ pub from_index-more : {A : Type 0} (read : Data → Option A) (entries : List Va
 from_index-more read entries i entry here is =
     ap (each_of read) (items_view-drop entries i entry here)
     ∙ ap (λ (v : Value). read (view v) >>= (λ first. in_front first (from_index read entries (i + 1)))) (sym is)
-
-after-in_front : {A : Type 0} (found : List A) (first : A) (rest : Option (List A)) → after found (in_front first rest) ≡ after (found ++ first ∷ []) rest
-after-in_front found first None = refl
-after-in_front found first (Some others) = ap Some (sym (append_assoc found (first ∷ []) others))
-
--- one more entry that stands for something
-pub after-good : {A : Type 0} (read : Data → Option A) (entries : List Value) (i : ℕ) (entry : Value) (found : List A) (first : A) → i < length entries → entry ≡ get_or entries i entry
-    → read (view entry) ≡ Some first → after found (from_index read entries i) ≡ after (found ++ first ∷ []) (from_index read entries (i + 1))
-after-good read entries i entry found first here is good =
-    ap (after found) (from_index-more read entries i entry here is ∙ rw good refl) ∙ after-in_front found first (from_index read entries (i + 1))
-
--- an entry that stands for nothing
-pub after-bad : {A : Type 0} (read : Data → Option A) (entries : List Value) (i : ℕ) (entry : Value) (found : List A) → i < length entries → entry ≡ get_or entries i entry
-    → read (view entry) ≡ None → after found (from_index read entries i) ≡ None
-after-bad read entries i entry found here is bad =
-    let none : from_index read entries i ≡ None = from_index-more read entries i entry here is ∙ rw bad refl in
-    rw none
-
--- before the first entry, and after the last
-pub after-none : {A : Type 0} (rest : Option (List A)) → rest ≡ after [] rest
-after-none None = refl
-after-none (Some others) = refl
-
-pub after-all : {A : Type 0} (read : Data → Option A) (entries : List Value) (found : List A) → after found (from_index read entries (length entries)) ≡ Some found
-after-all read entries found = rw (drop-length entries) (ap Some (append-nil found))

@@ -3,6 +3,7 @@ use Rattle.std.proofs.Common.{◌≡◌, ℕ, zero, suc, ◌+◌, ◌<◌, ◌�
 use Rattle.std.specs.List.{join_with_byte}
 use Rattle.std.proofs.lemmas.List.{take_more, take-append-drop, map-append, length-map}
 use Rattle.std.proofs.Math.Seq.{take-length}
+use Rattle.cany_base.specs.Limits.{most_line_bytes}
 use Rattle.cany_model.specs.Texts.ReportLines.{line_of}
 use Rattle.cany_replay.specs.declared.report.field.Field.{Field}
 use Rattle.cany_replay.specs.Fields.{field_text, most_bytes, room_of}
@@ -93,6 +94,6 @@ HasFields-done fields i row row' h all appended =
     appended
     ∙ ap (λ r. r ++ 10 ∷ []) (h.text ∙ ap (λ n. join_with_byte 32 (texts fields n)) all ∙ ap (λ fs. join_with_byte 32 (map field_text fs)) (take-length fields))
 
-pub HasFields-room_last : (fields : List Field) (i : ℕ) (row : List ℕ) → HasFields fields i row → room_of fields ≤ 1024 → length row + 1 ≤ 1024
+pub HasFields-room_last : (fields : List Field) (i : ℕ) (row : List ℕ) → HasFields fields i row → room_of fields ≤ most_line_bytes → length row + 1 ≤ most_line_bytes
 HasFields-room_last fields zero row h small = omega (arith, ap length (h.bare refl))
 HasFields-room_last fields (suc i) row h small = omega (arith, h.short (omega arith), room_of-take-le fields (suc i))

@@ -1,12 +1,12 @@
 -- The parts of the report, item by item.
-use Rattle.std.proofs.Common.{◌≡◌, ℕ, zero, suc, Option, Some, slice_get, set, inl, inr, get_or-set_same, get_or-set_other, ◌+◌, ◌*◌, ◌/◌, ◌<◌, ◌≤◌, min, Bool, true, false, cond, List, [], ◌∷◌, ◌++◌, map, take, drop, reverse, get_or, length, refl, sym, ◌∙◌, ap, append_assoc, append-nil, length-append, length-drop, length-take, arith}
+use Rattle.std.proofs.Common.{◌≡◌, ℕ, zero, suc, Option, Some, slice_get, set, inl, inr, get_or-set_same, get_or-set_other, ◌+◌, ◌*◌, ◌/◌, ◌<◌, ◌≤◌, min, Bool, true, false, cond, List, [], ◌∷◌, ◌++◌, map, take, drop, reverse, get_or, length, refl, sym, ◌∙◌, ap, append_assoc, append-nil, length-append, length-drop, arith}
 use Rattle.std.specs.Prelude.{filter, if◌then◌else◌, replicate, codes, IfSome}
 use Rattle.std.specs.List.{concat, count_by, flat_map, range_with_len}
 use Rattle.std.proofs.lemmas.Bool.{cases_eq, eq-eqb, ne_eqb}
 use Rattle.std.proofs.lemmas.Option.{slice_get_read}
-use Rattle.std.proofs.lemmas.List.{take_all, take_more, reverse-append, length-reverse, take-append-le, take-append-drop, append_cancel_left, drop-drop, reverse-reverse}
+use Rattle.std.proofs.lemmas.List.{take_all, take_more, reverse-append, take-append-le, take-append-drop, append_cancel_left, drop-drop, reverse-reverse}
 use Rattle.std.proofs.lemmas.List.Folds.{concat-append}
-use Rattle.std.proofs.lemmas.List.Sums.{sum_by-cons, count_by-le-length}
+use Rattle.std.proofs.lemmas.List.Sums.{sum_by-cons}
 use Rattle.std.proofs.lemmas.List.FromFn.{length-range_with_len, get_or-range_with_len}
 use Rattle.cany_base.specs.declared.slot_note.SlotNote.{SlotNote}
 use Rattle.cany_base.specs.declared.step.Step.{Step}
@@ -154,10 +154,6 @@ sent_next sends i send node inside is =
     ap (λ xs. count_by (is_from node) (reverse xs)) next
     ∙ ap (count_by (is_from node)) (reverse-append (take i sends) (send ∷ []))
     ∙ sum_by-cons (λ x. if is_from node x then 1 else 0) send (reverse (take i sends))
-
-pub sent_before-le : (sends : List SendAsk) (i node : ℕ) → sent_before sends i node ≤ i
-sent_before-le sends i node =
-    omega (arith, count_by-le-length (is_from node) (reverse (take i sends)), length-reverse (take i sends), length-take i sends)
 
 -- what is written of a node
 abbrev pub node_part : ScenarioParts → List Step → ℕ → List ℕ

@@ -8,6 +8,7 @@ use Rattle.toml.specs.Data.{Data}
 use Rattle.toml.specs.View.{view}
 use Rattle.toml.specs.declared.value.Value.{Value}
 use Rattle.cany_base.specs.Nodes.{Nodes, has, those_where, AllBelow}
+-- no contract speaks of the words on sets alone, which the definition of a text uses
 use Rattle.cany_base.proofs.NodesFacts.{those_where-ext, same_as_those_where}
 use Rattle.cany_model.specs.Texts.TomlKeys.{◌>>=◌}
 use Rattle.cany_model.specs.Texts.FaultsText.{set_of}

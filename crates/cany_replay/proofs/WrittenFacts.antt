@@ -6,6 +6,7 @@ use Rattle.std.proofs.lemmas.List.{take_more, take_all, take-append-drop}
 use Rattle.std.proofs.lemmas.List.Concat.{flat_map-append}
 use Rattle.std.specs.Io.KnownBytes.{append_known}
 use Rattle.cany_io.specs.declared.failed.Failed.{Failed}
+-- no contract speaks of two writes, one after another
 use Rattle.cany_io.proofs.SinkFacts.{Takes-append, TakesPrefix-append, TakesPrefix-after}
 use Rattle.cany_io.proofs.FaultFacts.{HasRisen-after}
 use Rattle.cany_replay.specs.Written.{IsWritten}

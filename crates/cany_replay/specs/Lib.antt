@@ -1,7 +1,6 @@
 pub mod Fields
 pub mod JournalParts
 pub mod Keys
-pub mod Places
 pub mod Refusal
 pub mod ReportParts
 pub mod RunFaults

@@ -7,6 +7,7 @@ mod run;
 pub mod status;
 mod top;
 
+pub use cany_base::limits::MOST_TEXT_BYTES;
 pub use top::replay_top;
 
 #[cfg(test)]

@@ -56,7 +56,7 @@ fn scenario_from(alloc: Global, top: &Table) -> Result<Scenario, ReadRefusal>
     if !has_only(top, &TOP_KEYS) {
         return Err(ReadRefusal::FORM);
     }
-    let params = read_params(top).ok_or(ReadRefusal::FORM)?;
+    let params = read_params(top)?;
     if params.slots > params.life {
         return Err(ReadRefusal::FORM);
     }

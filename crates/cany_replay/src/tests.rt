@@ -1,6 +1,10 @@
 use crate::replay_top;
 use crate::status::{DONE, OTHER_WORDS, READ_FAULT, REFUSED, TOO_LONG, WRITE_FAULT};
-use cany_io::{MemSink, MemSource, PlainSource};
+use crate::tests::journals::JOURNALS;
+use crate::tests::relcan::RELCAN_RUNS;
+use crate::tests::runs::RUNS;
+use crate::tests::thirty_two_nodes::THIRTY_TWO_NODES;
+use cany_io::{MemSink, MemSource, PlainSource, Source};
 use std::alloc::{AllocError, Global};
 use std::test::Fail;
 
@@ -8,19 +12,14 @@ mod journals;
 mod relcan;
 mod runs;
 mod streams;
+mod thirty_two_nodes;
 mod words;
+
+/// A run: its name, its text, and the status and the answer that a call on it comes to.
+type Case = (&'static str, &'static str, u8, &'static str);
 
 /// More bytes than any report here has.
 const ROOM: usize = 65_536;
-
-/// A send of node 0 in slot 0.
-const SEND: &str = "
-[[send]]
-slot = 0
-node = 0
-service = \"ed\"
-data = \"01\"
-";
 
 const ONE_MESSAGE: &str = "format = 1
 nodes = 3
@@ -51,12 +50,21 @@ end
 
 const REFUSAL: &str = "refused later form\n";
 
-/// What became of a call, and of its streams.
-#[derive(Drop)]
-struct Replayed {
+/// What became of a call.
+#[derive(Clone, Copy)]
+struct Seen {
     status: u8,
-    source: MemSource,
-    sink: MemSink,
+    /// How often the call read and wrote. Reads are counted of a source that counts them.
+    reads: u64,
+    writes: u64,
+    /// Whether the sink took the answer, and nothing else.
+    is_whole: bool,
+}
+
+impl Seen {
+    fn is_answer(self, status: u8) -> bool {
+        self.status == status && self.is_whole
+    }
 }
 
 fn words_of(alloc: Global, texts: &[&str]) -> Result<Vec<String>, AllocError> {
@@ -67,41 +75,66 @@ fn words_of(alloc: Global, texts: &[&str]) -> Result<Vec<String>, AllocError> {
     Ok(words)
 }
 
-/// A call with these words on a text, where some reads and writes fail, counted from 1.
+/// A call with these words on a source, where some writes fail, counted from 1.
+fn call_on<S: Source>(
+    alloc: Global,
+    texts: &[&str],
+    source: &mut S,
+    failing_writes: &[u32],
+    answer: &[u8],
+) -> Result<Seen, Fail> {
+    let words = words_of(alloc, texts)?;
+    let mut sink = MemSink::new(alloc, failing_writes.to_vec(alloc)?, ROOM)?;
+    let status = replay_top(alloc, &words, source, &mut sink);
+    Ok(Seen {
+        status,
+        reads: 0,
+        writes: sink.calls(),
+        is_whole: sink.taken() == answer,
+    })
+}
+
+/// A call with these words on a text, where some reads and writes fail.
 fn call(
     alloc: Global,
     texts: &[&str],
     text: &[u8],
     failing_reads: &[u32],
     failing_writes: &[u32],
-) -> Result<Replayed, Fail> {
-    let words = words_of(alloc, texts)?;
+    answer: &[u8],
+) -> Result<Seen, Fail> {
     let mut source = MemSource::new(text.to_vec(alloc)?, failing_reads.to_vec(alloc)?);
-    let mut sink = MemSink::new(alloc, failing_writes.to_vec(alloc)?, ROOM)?;
-    let status = replay_top(alloc, &words, &mut source, &mut sink);
-    Ok(Replayed {
-        status,
-        source,
-        sink,
+    let seen = call_on(alloc, texts, &mut source, failing_writes, answer)?;
+    Ok(Seen {
+        reads: source.calls(),
+        ..seen
     })
 }
 
 /// A call on a text, where nothing fails.
-fn replay(alloc: Global, text: &str) -> Result<Replayed, Fail> {
-    call(alloc, &["replay"], text.as_bytes(), &[], &[])
+fn replay(alloc: Global, text: &str, answer: &str) -> Result<Seen, Fail> {
+    call(
+        alloc,
+        &["replay"],
+        text.as_bytes(),
+        &[],
+        &[],
+        answer.as_bytes(),
+    )
 }
 
-/// The first lines of a text.
-fn first_lines(alloc: Global, text: &str, count: usize) -> Result<Vec<u8>, AllocError> {
-    let mut lines = Vec::new(alloc);
-    let mut ended = 0usize;
-    for byte in text.as_bytes() {
-        if ended < count {
-            lines.push(*byte)?;
-        }
-        if *byte == b'\n' {
-            ended = ended.saturating_add(1);
+#[test]
+fn texts_and_their_answers(rt: HostRuntime) -> Result<(), Fail> {
+    for cases in [
+        RUNS.as_slice(),
+        RELCAN_RUNS.as_slice(),
+        JOURNALS.as_slice(),
+        &[THIRTY_TWO_NODES],
+    ] {
+        for (name, text, status, answer) in cases {
+            let seen = replay(rt.alloc(), text, answer)?;
+            assert!(rt; seen.is_answer(*status), "at {name}");
         }
     }
-    Ok(lines)
+    Ok(())
 }

@@ -1,5 +1,6 @@
 //! The call behind the command `replay`.
 ghost use Rattle.std.specs.Prelude.{◌≡◌, ◌⊎◌, ◌↔◌, ◌<◌, ◌≤◌, map, length, string_bytes, None, IsTrue, IfSome, IsSomeAnd, MatchOption};
+ghost use Rattle.cany_base.specs.Limits.{most_text_bytes};
 ghost use Rattle.cany_io.specs.Faults.{HasRisen, StandsStill};
 ghost use Rattle.cany_io.specs.Sink.{Takes, TakesPrefix};
 ghost use Rattle.cany_io.specs.Source.{IsAtEnd};
@@ -15,13 +16,11 @@ use crate::report::{write_journal_refusal, write_later_form, write_report};
 use crate::run::{RunFault, run};
 use crate::status::{DONE, NO_MEMORY, OTHER_WORDS, READ_FAULT, REFUSED, TOO_LONG, WRITE_FAULT};
 use cany_base::Scenario;
+use cany_base::limits::MOST_TEXT_BYTES;
 use cany_io::{Failed, ReadFault, Sink, Source, read_all};
 use cany_model::FollowFault;
 use cany_world::World;
 use std::alloc::Global;
-
-/// How many bytes a scenario text has at most.
-const LIMIT: usize = 8_388_608;
 
 fn is_replay(words: &[String]) -> bool
     ensures { IsTrue result ↔ AreReplay (map string_bytes words.now) }
@@ -134,8 +133,8 @@ pub fn replay_top<S: Source, K: Sink>(
     ensures prefix { result ≡ WRITE_FAULT → IfSome (S.left source.old) (λ bytes. TakesPrefix (K.taken sink.old) (answer_of bytes) (K.taken sink.new)) }
 
     // The source has too many bytes, or all of them were read.
-    ensures too_long { result ≡ TOO_LONG → IfSome (S.left source.old) (λ bytes. 8388608 < length bytes) }
-    ensures fits { HasAnswered result → IfSome (S.left source.old) (λ bytes. length bytes ≤ 8388608) }
+    ensures too_long { result ≡ TOO_LONG → IfSome (S.left source.old) (λ bytes. most_text_bytes < length bytes) }
+    ensures fits { HasAnswered result → IfSome (S.left source.old) (λ bytes. length bytes ≤ most_text_bytes) }
     ensures drained { HasAnswered result → IsAtEnd (S.left source.new) }
 
     // Nothing else writes.
@@ -146,16 +145,16 @@ pub fn replay_top<S: Source, K: Sink>(
     ensures complete { AreReplay (map string_bytes words.now)
         → StandsStill (S.faults source.old) (S.faults source.new)
         → StandsStill (K.faults sink.old) (K.faults sink.new)
-        → IfSome (S.left source.old) (λ bytes. length bytes ≤ 8388608
+        → IfSome (S.left source.old) (λ bytes. length bytes ≤ most_text_bytes
         → (result ≡ NO_MEMORY) ⊎ MatchOption (refusal_of bytes) (result ≡ DONE) (λ _. result ≡ REFUSED)) }
     ensures complete_too_long { AreReplay (map string_bytes words.now)
         → StandsStill (S.faults source.old) (S.faults source.new)
-        → IfSome (S.left source.old) (λ bytes. 8388608 < length bytes → (result ≡ NO_MEMORY) ⊎ (result ≡ TOO_LONG)) }
+        → IfSome (S.left source.old) (λ bytes. most_text_bytes < length bytes → (result ≡ NO_MEMORY) ⊎ (result ≡ TOO_LONG)) }
 {
     if !is_replay(words) {
         return OTHER_WORDS;
     }
-    match read_all(alloc, source, LIMIT) {
+    match read_all(alloc, source, MOST_TEXT_BYTES) {
         Ok(text) => replay_text(alloc, &text, sink),
         Err(ReadFault::Failed) => READ_FAULT,
         Err(ReadFault::TooLong) => TOO_LONG,

@@ -10,7 +10,7 @@ use Rattle.cany_base.specs.Scenario.{ScenarioParts}
 use Rattle.cany_model.specs.declared.reply.StepReply.{StepReply}
 use Rattle.cany_model.specs.declared.reply.StepReply.TheVariants.{Done}
 use Rattle.cany_model.specs.Bus.Run.{is_done, reply, run, slot_reply}
-use Rattle.cany_model.specs.Bus.Slot.{Script, script, slot_note_of, after_slot, node_after}
+use Rattle.cany_model.specs.Bus.Slot.{FaultScript, script, slot_note_of, after_slot, node_after}
 use Rattle.cany_model.specs.Bus.State.{NodeState, RunState, node_at}
 use Rattle.cany_model.proofs.Bus.Runs.{IsOrderly, MaySlot, orderly, slot_done}
 use Rattle.cany_model.proofs.Bus.Steps.{after_slot-node, after_slot-trace, after_slot-history}
@@ -59,7 +59,7 @@ after_at note controllers after are i c' e = go (slice_get controllers i) refl
         let some : Some (controller_after i note c) ≡ Some c' = sym (are.each i ∙ ap (option_map (controller_after i note)) h) ∙ e in
         record { before = c; at = h; is = cc }
 
-controller_slot : (scenario : ScenarioParts) (rules : Script) (s : RunState) (controllers : List ControllerState) → IsOrderly scenario.params.nodes s
+controller_slot : (scenario : ScenarioParts) (rules : FaultScript) (s : RunState) (controllers : List ControllerState) → IsOrderly scenario.params.nodes s
     → AreControllersOf scenario s controllers
     → ((i : ℕ) (c : ControllerState) → slice_get controllers i ≡ Some c → c.stopped ≡ None
     → node_state (controller_after i (slot_note_of rules s) c) ≡ node_after i (slot_note_of rules s) (node_state c))
@@ -75,7 +75,7 @@ controller_slot scenario rules s controllers o kept law i c' after =
     (subst (λ (n : NodeState). IsKeptAs scenario (note ∷ s.trace) i n c') (sym state)
     (subst (IsKeptAs scenario (note ∷ s.trace) i (node_after i note (node_at s.nodes i))) after.is there))
 
-controllers_slot : (scenario : ScenarioParts) (rules : Script) (s : RunState) (controllers after : List ControllerState) → IsOrderly scenario.params.nodes s
+controllers_slot : (scenario : ScenarioParts) (rules : FaultScript) (s : RunState) (controllers after : List ControllerState) → IsOrderly scenario.params.nodes s
     → AreControllersOf scenario s controllers → AreAfter (slot_note_of rules s) controllers after → AreControllersOf scenario (after_slot rules s) after
 controllers_slot scenario rules s controllers after o kept are = record {
   whole = are.whole ∙ kept.whole;
@@ -83,7 +83,7 @@ controllers_slot scenario rules s controllers after o kept are = record {
       controller_slot scenario rules s controllers o kept are.node i c' (after_at (slot_note_of rules s) controllers after are i c' at);
 }
 
-pub nodes_slot : (scenario : ScenarioParts) (rules : Script) (s : RunState) (nodes : List NodeParts) → IsOrderly scenario.params.nodes s
+pub nodes_slot : (scenario : ScenarioParts) (rules : FaultScript) (s : RunState) (nodes : List NodeParts) → IsOrderly scenario.params.nodes s
     → AreNodesOf scenario s nodes → AreNodesOf scenario (after_slot rules s) nodes
 nodes_slot scenario rules s nodes o kept = record {
   whole = kept.whole;

@@ -12,7 +12,7 @@ use Rattle.cany_base.specs.Nodes.{has}
 use Rattle.cany_base.specs.Scenario.{ScenarioParts}
 use Rattle.cany_model.specs.Bus.History.{given, history}
 use Rattle.cany_model.specs.Bus.Run.{after_turn, run}
-use Rattle.cany_model.specs.Bus.Slot.{Script, script, slot_note_of, after_slot}
+use Rattle.cany_model.specs.Bus.Slot.{FaultScript, script, slot_note_of, after_slot}
 use Rattle.cany_model.specs.Bus.State.{RunState, opening, node_at, runs}
 use Rattle.cany_model.specs.Rules.Turn.{turn_effects}
 use Rattle.cany_model.proofs.Among.{Among, Each-weaker, Contains-cons_cases, Contains-none}
@@ -48,7 +48,7 @@ pub record IsKeptByFrames (scenario : ScenarioParts) (W : OfWaiting) (C : OfCarr
 
 -- ---- a slot
 
-carried_slot : (scenario : ScenarioParts) (W : OfWaiting) (C : OfCarried) → IsKeptByFrames scenario W C → (rules : Script) (s : RunState) → length s.nodes ≤ 32
+carried_slot : (scenario : ScenarioParts) (W : OfWaiting) (C : OfCarried) → IsKeptByFrames scenario W C → (rules : FaultScript) (s : RunState) → length s.nodes ≤ 32
     → HoldsOfFrames W C s → (note : SlotNote) (f : FrameParts) → Contains (slot_note_of rules s ∷ s.trace) note → note.frame ≡ Some f
     → C (slot_note_of rules s ∷ s.trace) note.slot f
 carried_slot scenario W C keeps rules s few h note f c frame =
@@ -66,7 +66,7 @@ carried_slot scenario W C keeps rules s few h note f c frame =
       | inr before ↦ keeps.carried_later (slot_note_of rules s) s.trace note.slot f (h.carried note f before frame)
     ]
 
-waiting_slot : (scenario : ScenarioParts) (W : OfWaiting) (C : OfCarried) → IsKeptByFrames scenario W C → (rules : Script) (s : RunState) → HoldsOfFrames W C s
+waiting_slot : (scenario : ScenarioParts) (W : OfWaiting) (C : OfCarried) → IsKeptByFrames scenario W C → (rules : FaultScript) (s : RunState) → HoldsOfFrames W C s
     → (i : ℕ) → runs (node_at (after_slot rules s).nodes i) ≡ true
     → AllByRecursion (W (slot_note_of rules s ∷ s.trace) i) (node_at (after_slot rules s).nodes i).waiting
 waiting_slot scenario W C keeps rules s h i running =
@@ -75,7 +75,7 @@ waiting_slot scenario W C keeps rules s h i running =
     (node_at (after_slot rules s).nodes i).waiting
     (rw (after_slot-waiting rules s i ran) (Each-kept (W s.trace i) (given i (slot_note_of rules s)) (node_at s.nodes i).waiting (h.waiting i ran)))
 
-holds_slot : (scenario : ScenarioParts) (W : OfWaiting) (C : OfCarried) → IsKeptByFrames scenario W C → (rules : Script) (s : RunState) → length s.nodes ≤ 32
+holds_slot : (scenario : ScenarioParts) (W : OfWaiting) (C : OfCarried) → IsKeptByFrames scenario W C → (rules : FaultScript) (s : RunState) → length s.nodes ≤ 32
     → HoldsOfFrames W C s → HoldsOfFrames W C (after_slot rules s)
 holds_slot scenario W C keeps rules s few h =
     let at : slot_note_of rules s ∷ s.trace ≡ (after_slot rules s).trace = sym (after_slot-trace rules s) in

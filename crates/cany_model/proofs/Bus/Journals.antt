@@ -8,7 +8,7 @@ use Rattle.cany_base.specs.declared.step.Step.{Step}
 use Rattle.cany_base.specs.declared.step.Step.TheVariants.{Slot, Turn}
 use Rattle.cany_base.specs.Scenario.{ScenarioParts}
 use Rattle.cany_model.specs.Bus.Run.{reply, is_done, proceed, after_step, after_turn, run_from, run, is_legal_from, IsLegal}
-use Rattle.cany_model.specs.Bus.Slot.{Script, script, after_slot}
+use Rattle.cany_model.specs.Bus.Slot.{FaultScript, script, after_slot}
 use Rattle.cany_model.specs.Bus.State.{NodeState, RunState, opening, node_at, runs, reads}
 use Rattle.cany_model.proofs.Bus.Runs.{IsOrderly, MaySlot, along_run, orderly, orderly_opening, orderly_slot, orderly_turn, slot_done, turn_done}
 use Rattle.cany_model.proofs.Bus.Steps.{MayTurn, after_slot-trace, after_slot-length, after_slot-unread, after_turn-length, after_turn-trace, after_turn-node, after_turn-other, running_before_slot, after_turn-runs}
@@ -96,13 +96,13 @@ unfoldable pub reads_below : RunState → ℕ → ℕ
 reads_below s zero = 0
 reads_below s (suc n) = reads s n + reads_below s n
 
-pub reads_slot : (nodes : ℕ) (rules : Script) (s : RunState) → IsOrderly nodes s → (i : ℕ) → i < nodes → reads (after_slot rules s) i ≡ reads s i
+pub reads_slot : (nodes : ℕ) (rules : FaultScript) (s : RunState) → IsOrderly nodes s → (i : ℕ) → i < nodes → reads (after_slot rules s) i ≡ reads s i
 reads_slot nodes rules s o i within =
     let longer : length (after_slot rules s).trace ≡ suc (length s.trace) = ap length (after_slot-trace rules s) in
     let more : (node_at (after_slot rules s).nodes i).unread ≡ (node_at s.nodes i).unread + 1 = after_slot-unread rules s i (omega (arith, o.count)) in
     omega (arith, longer, more)
 
-below_slot : (nodes : ℕ) (rules : Script) (s : RunState) → IsOrderly nodes s → (n : ℕ) → n ≤ nodes → reads_below (after_slot rules s) n ≡ reads_below s n
+below_slot : (nodes : ℕ) (rules : FaultScript) (s : RunState) → IsOrderly nodes s → (n : ℕ) → n ≤ nodes → reads_below (after_slot rules s) n ≡ reads_below s n
 unfolding reads_below
 below_slot nodes rules s o zero h = refl
 below_slot nodes rules s o (suc n) h =

@@ -1,4 +1,4 @@
--- What the note of a slot says: who offered the frame, who sent and took it, and what the slot gave a node.
+-- What the note of a slot says: who offered the frame, who sent and accepted it, and what the slot gave a node.
 use Rattle.std.specs.Prelude.{◌≡◌, ℕ, suc, ◌<◌, Bool, true, false, not, ◌&&◌, nat_lt, if◌then◌else◌, List, [], ◌∷◌, Option, Some, None, length, Contains, ◌⊎◌, refl}
 use Rattle.std.specs.List.{flat_map}
 use Rattle.std.proofs.Common.{sym, ap, ◌∙◌, subst, inl, inr, arith}
@@ -8,7 +8,7 @@ use Rattle.cany_base.specs.declared.slot_note.SlotNote.{SlotNote}
 use Rattle.cany_base.specs.Frame.{FrameParts}
 use Rattle.cany_base.specs.Nodes.{has, those_where}
 use Rattle.cany_base.proofs.NodesFacts.{has-those_where}
-use Rattle.cany_model.specs.Bus.Slot.{Script, better, least_frame, offered, winner, lets_accept, is_success, sends, exchange, share_in, share_of, slot_note_of}
+use Rattle.cany_model.specs.Bus.Slot.{FaultScript, better, least_frame, offered, winner, lets_accept, is_success, sends, exchange, share_in, share_of, slot_note_of}
 use Rattle.cany_model.specs.Bus.State.{NodeState, RunState, node_at, runs}
 use Rattle.cany_model.specs.Bus.Frames.{same_frame, is_before}
 use Rattle.std.proofs.lemmas.List.Folds.{list_any_at}
@@ -88,7 +88,7 @@ winner-offered nodes f h = offered-Contains nodes f (least_frame-Contains (flat_
 
 -- ---- the note of a slot
 
-pub note_of-slot : (rules : Script) (s : RunState) → (slot_note_of rules s).slot ≡ length s.trace
+pub note_of-slot : (rules : FaultScript) (s : RunState) → (slot_note_of rules s).slot ≡ length s.trace
 unfolding slot_note_of
 note_of-slot rules s = exchange_slot (length s.trace) s.nodes (rules s.trace (winner s.nodes)).verdict (winner s.nodes)
   where
@@ -102,12 +102,12 @@ exchange_frame : (slot : ℕ) (nodes : List NodeState) (verdict : Verdict) (fram
 exchange_frame slot nodes verdict None = refl
 exchange_frame slot nodes verdict (Some f) = refl
 
-pub note_of-frame : (rules : Script) (s : RunState) → (slot_note_of rules s).frame ≡ winner s.nodes
+pub note_of-frame : (rules : FaultScript) (s : RunState) → (slot_note_of rules s).frame ≡ winner s.nodes
 unfolding slot_note_of
 note_of-frame rules s = exchange_frame (length s.trace) s.nodes (rules s.trace (winner s.nodes)).verdict (winner s.nodes)
 
 -- the frame of a slot was offered by a running node
-pub note_of-offered : (rules : Script) (s : RunState) (f : FrameParts) → (slot_note_of rules s).frame ≡ Some f → IsOffered s.nodes f
+pub note_of-offered : (rules : FaultScript) (s : RunState) (f : FrameParts) → (slot_note_of rules s).frame ≡ Some f → IsOffered s.nodes f
 note_of-offered rules s f h = winner-offered s.nodes f (sym (note_of-frame rules s) ∙ h)
 
 exchange_senders : (slot : ℕ) (nodes : List NodeState) (verdict : Verdict) (frame : Option FrameParts) (f : FrameParts)
@@ -126,19 +126,19 @@ exchange_takers slot nodes verdict (Some g) f h =
     let e : g ≡ f = cc in
     ap (λ x. those_where (λ i. runs (node_at nodes i) && not (sends x (node_at nodes i)) && lets_accept verdict i)) e
 
-note_of-senders : (rules : Script) (s : RunState) (f : FrameParts) → (slot_note_of rules s).frame ≡ Some f
+note_of-senders : (rules : FaultScript) (s : RunState) (f : FrameParts) → (slot_note_of rules s).frame ≡ Some f
     → (slot_note_of rules s).senders ≡ those_where (λ i. sends f (node_at s.nodes i))
 unfolding slot_note_of
 note_of-senders rules s f h = exchange_senders (length s.trace) s.nodes (rules s.trace (winner s.nodes)).verdict (winner s.nodes) f h
 
-note_of-takers : (rules : Script) (s : RunState) (f : FrameParts) → (slot_note_of rules s).frame ≡ Some f
+note_of-takers : (rules : FaultScript) (s : RunState) (f : FrameParts) → (slot_note_of rules s).frame ≡ Some f
     → (slot_note_of rules s).takers
     ≡ those_where (λ i. runs (node_at s.nodes i) && not (sends f (node_at s.nodes i)) && lets_accept (slot_note_of rules s).verdict i)
 unfolding slot_note_of
 note_of-takers rules s f h = exchange_takers (length s.trace) s.nodes (rules s.trace (winner s.nodes)).verdict (winner s.nodes) f h
 
 -- a sender ran, and waited with the frame
-pub sender_waits : (rules : Script) (s : RunState) (f : FrameParts) (i : ℕ) → (slot_note_of rules s).frame ≡ Some f
+pub sender_waits : (rules : FaultScript) (s : RunState) (f : FrameParts) (i : ℕ) → (slot_note_of rules s).frame ≡ Some f
     → has (slot_note_of rules s).senders i ≡ true → (runs (node_at s.nodes i) ≡ true) × Contains (node_at s.nodes i).waiting f
 sender_waits rules s f i h sent =
     let passes : sends f (node_at s.nodes i) ≡ true =
@@ -147,7 +147,7 @@ sender_waits rules s f i h sent =
     (parts.0, waits_with-Contains f (node_at s.nodes i).waiting parts.1)
 
 -- a running node that waits with the frame sends it
-pub waiting_sends : (rules : Script) (s : RunState) (f : FrameParts) (i : ℕ) → i < 32 → (slot_note_of rules s).frame ≡ Some f
+pub waiting_sends : (rules : FaultScript) (s : RunState) (f : FrameParts) (i : ℕ) → i < 32 → (slot_note_of rules s).frame ≡ Some f
     → runs (node_at s.nodes i) ≡ true → Contains (node_at s.nodes i).waiting f → has (slot_note_of rules s).senders i ≡ true
 waiting_sends rules s f i few h running waits =
     ap (λ x. has x i) (note_of-senders rules s f h)
@@ -156,7 +156,7 @@ waiting_sends rules s f i few h running waits =
     (waits_with-from_Contains f (node_at s.nodes i).waiting waits)
 
 -- a taker ran, and the verdict let it accept the frame
-pub taker_accepts : (rules : Script) (s : RunState) (f : FrameParts) (i : ℕ) → (slot_note_of rules s).frame ≡ Some f
+pub taker_accepts : (rules : FaultScript) (s : RunState) (f : FrameParts) (i : ℕ) → (slot_note_of rules s).frame ≡ Some f
     → has (slot_note_of rules s).takers i ≡ true → (runs (node_at s.nodes i) ≡ true) × (lets_accept (slot_note_of rules s).verdict i ≡ true)
 taker_accepts rules s f i h took =
     let passes : (runs (node_at s.nodes i) && not (sends f (node_at s.nodes i)) && lets_accept (slot_note_of rules s).verdict i) ≡ true =
@@ -166,8 +166,8 @@ taker_accepts rules s f i h took =
     let inner = and_parts (runs (node_at s.nodes i)) (not (sends f (node_at s.nodes i))) outer.0 in
     (inner.0, outer.1)
 
--- a running node that does not send the frame takes it, where the verdict lets it accept
-pub running_takes : (rules : Script) (s : RunState) (f : FrameParts) (i : ℕ) → i < 32 → (slot_note_of rules s).frame ≡ Some f
+-- a running node that does not send the frame accepts it, where the verdict lets it
+pub running_takes : (rules : FaultScript) (s : RunState) (f : FrameParts) (i : ℕ) → i < 32 → (slot_note_of rules s).frame ≡ Some f
     → runs (node_at s.nodes i) ≡ true → has (slot_note_of rules s).senders i ≡ false
     → lets_accept (slot_note_of rules s).verdict i ≡ true → has (slot_note_of rules s).takers i ≡ true
 running_takes rules s f i few h running silent lets =
@@ -181,7 +181,7 @@ running_takes rules s f i few h running silent lets =
 
 -- ---- what a slot gave a node
 
--- the notice of a share, by the answers to: did the node send, was it a success, did it take the frame
+-- the notice of a share, by the answers to: did the node send, was it a success, did it accept the frame
 abbrev notice_by : Bool → Bool → Bool → FrameParts → NoticeKind
 notice_by sent success took f = notice_of (if sent then (if success then Confirmed f else Errored) else if took then Took f else Rejected)
 

@@ -4,7 +4,7 @@ use Rattle.std.proofs.Common.{sym, ap, ◌∙◌, subst, inl, inr, arith, ltb-fa
 use Rattle.std.proofs.lemmas.Bool.{false≢true, cases_lt, cases_eq, eqb-false, ne_eqb, lt-leb, le-ltb}
 use Rattle.std.proofs.lemmas.List.{length-map, get_or-map, get_or-drop, length-replicate, nil_from_length}
 use Rattle.cany_base.specs.declared.slot_note.SlotNote.{SlotNote}
-use Rattle.cany_model.specs.Bus.Slot.{Script, slot_note_of, after_slot, script}
+use Rattle.cany_model.specs.Bus.Slot.{FaultScript, slot_note_of, after_slot, script}
 use Rattle.cany_model.specs.Bus.State.{NodeState, RunState, fresh, opening, node_at, runs, slots_run}
 use Rattle.cany_base.specs.declared.notice.NoticeKind.{NoticeKind}
 use Rattle.cany_model.specs.Bus.History.{given, history}
@@ -45,7 +45,7 @@ orderly_opening nodes = record {
   numbered = λ age h. absurd (omega arith);
 }
 
-slot_unread : (rules : Script) (s : RunState) (i : ℕ) → (node_at s.nodes i).unread ≤ length s.trace
+slot_unread : (rules : FaultScript) (s : RunState) (i : ℕ) → (node_at s.nodes i).unread ≤ length s.trace
     → (node_at (after_slot rules s).nodes i).unread ≤ suc (length s.trace)
 slot_unread rules s i h =
     elim (cases_lt i (length s.nodes)) [
@@ -59,7 +59,7 @@ numbered_more : (note : SlotNote) (trace : List SlotNote) → note.slot ≡ leng
 numbered_more note trace e before zero h = omega arith
 numbered_more note trace e before (suc age) h = let older = before age (omega arith) in omega (arith, older)
 
-pub orderly_slot : (nodes : ℕ) (rules : Script) (s : RunState) → IsOrderly nodes s → IsOrderly nodes (after_slot rules s)
+pub orderly_slot : (nodes : ℕ) (rules : FaultScript) (s : RunState) → IsOrderly nodes s → IsOrderly nodes (after_slot rules s)
 unfolding after_slot
 orderly_slot nodes rules s o = record {
   count = after_slot-length rules s ∙ o.count;

@@ -6,7 +6,7 @@ use Rattle.std.proofs.lemmas.List.{length-set, drop_more}
 use Rattle.cany_base.specs.declared.slot_note.SlotNote.{SlotNote}
 use Rattle.cany_base.specs.Frame.{FrameParts}
 use Rattle.cany_base.specs.Nodes.{has}
-use Rattle.cany_model.specs.Bus.Slot.{node_after, Script, share_of, after_share, slot_note_of, after_slot}
+use Rattle.cany_model.specs.Bus.Slot.{node_after, FaultScript, share_of, after_share, slot_note_of, after_slot}
 use Rattle.cany_model.specs.Bus.State.{NodeState, RunState, node_at, runs}
 use Rattle.cany_model.specs.Bus.Frames.{identity_of}
 use Rattle.cany_base.specs.declared.notice.NoticeKind.{NoticeKind}
@@ -73,23 +73,23 @@ node_after-runs i note node h = by_run (runs node) refl
     by_run true e = (e, unstopped (has note.stops i) (rw e at h))
     by_run false e = absurd (false≢true (sym e ∙ (rw e at h)))
 
-pub after_slot-trace : (rules : Script) (s : RunState) → (after_slot rules s).trace ≡ slot_note_of rules s ∷ s.trace
+pub after_slot-trace : (rules : FaultScript) (s : RunState) → (after_slot rules s).trace ≡ slot_note_of rules s ∷ s.trace
 unfolding after_slot
 after_slot-trace rules s = refl
 
-pub note_stands : (rules : Script) (s : RunState) → Contains (after_slot rules s).trace (slot_note_of rules s)
+pub note_stands : (rules : FaultScript) (s : RunState) → Contains (after_slot rules s).trace (slot_note_of rules s)
 unfolding after_slot
 note_stands rules s = Contains-head (slot_note_of rules s) s.trace
 
-pub note_still_stands : (rules : Script) (s : RunState) (note : SlotNote) → Contains s.trace note → Contains (after_slot rules s).trace note
+pub note_still_stands : (rules : FaultScript) (s : RunState) (note : SlotNote) → Contains s.trace note → Contains (after_slot rules s).trace note
 unfolding after_slot
 note_still_stands rules s note c = Contains-cons (slot_note_of rules s) note s.trace c
 
-pub after_slot-length : (rules : Script) (s : RunState) → length (after_slot rules s).nodes ≡ length s.nodes
+pub after_slot-length : (rules : FaultScript) (s : RunState) → length (after_slot rules s).nodes ≡ length s.nodes
 unfolding after_slot
 after_slot-length rules s = length-nodes_after 0 (slot_note_of rules s) s.nodes
 
-pub after_slot-node : (rules : Script) (s : RunState) (i : ℕ) → i < length s.nodes
+pub after_slot-node : (rules : FaultScript) (s : RunState) (i : ℕ) → i < length s.nodes
     → node_at (after_slot rules s).nodes i ≡ node_after i (slot_note_of rules s) (node_at s.nodes i)
 unfolding after_slot
 after_slot-node rules s i h =
@@ -97,13 +97,13 @@ after_slot-node rules s i h =
     node_at-nodes_after 0 (slot_note_of rules s) s.nodes i h ∙ ap (λ n. node_after n (slot_note_of rules s) (node_at s.nodes i)) e
 
 -- a node that runs after a slot ran before it, and did not stop in it
-pub running_before_slot : (rules : Script) (s : RunState) (i : ℕ) → runs (node_at (after_slot rules s).nodes i) ≡ true
+pub running_before_slot : (rules : FaultScript) (s : RunState) (i : ℕ) → runs (node_at (after_slot rules s).nodes i) ≡ true
     → (runs (node_at s.nodes i) ≡ true) × (has (slot_note_of rules s).stops i ≡ false)
 running_before_slot rules s i h =
     let below : i < length s.nodes = subst (λ n. i < n) (after_slot-length rules s) (runs_within (after_slot rules s).nodes i h) in
     node_after-runs i (slot_note_of rules s) (node_at s.nodes i) (sym (ap (λ node. runs node) (after_slot-node rules s i below)) ∙ h)
 
-pub stopped_after_slot : (rules : Script) (s : RunState) (i : ℕ) → runs (node_at s.nodes i) ≡ false
+pub stopped_after_slot : (rules : FaultScript) (s : RunState) (i : ℕ) → runs (node_at s.nodes i) ≡ false
     → (node_at (after_slot rules s).nodes i).stopped ≡ (node_at s.nodes i).stopped
 stopped_after_slot rules s i h =
     elim (cases_lt i (length s.nodes)) [
@@ -114,19 +114,19 @@ stopped_after_slot rules s i h =
           ap (λ node. node.stopped) (node_at_past (after_slot rules s).nodes i past' ∙ sym (node_at_past s.nodes i past))
     ]
 
-pub after_slot-unread : (rules : Script) (s : RunState) (i : ℕ) → i < length s.nodes
+pub after_slot-unread : (rules : FaultScript) (s : RunState) (i : ℕ) → i < length s.nodes
     → (node_at (after_slot rules s).nodes i).unread ≡ (node_at s.nodes i).unread + 1
 after_slot-unread rules s i h =
     ap (λ node. node.unread) (after_slot-node rules s i h) ∙ node_after-unread i (slot_note_of rules s) (node_at s.nodes i)
 
-pub after_slot-waiting : (rules : Script) (s : RunState) (i : ℕ) → runs (node_at s.nodes i) ≡ true
+pub after_slot-waiting : (rules : FaultScript) (s : RunState) (i : ℕ) → runs (node_at s.nodes i) ≡ true
     → (node_at (after_slot rules s).nodes i).waiting ≡ kept_at (given i (slot_note_of rules s)) (node_at s.nodes i).waiting
 after_slot-waiting rules s i h =
     ap (λ node. node.waiting) (after_slot-node rules s i (runs_within s.nodes i h))
     ∙ node_after-waiting i (slot_note_of rules s) (node_at s.nodes i) h
 
 -- a slot gives nobody anything to have read
-pub after_slot-history : (rules : Script) (s : RunState) (i : ℕ) → i < length s.nodes → history i (after_slot rules s) ≡ history i s
+pub after_slot-history : (rules : FaultScript) (s : RunState) (i : ℕ) → i < length s.nodes → history i (after_slot rules s) ≡ history i s
 unfolding history
 after_slot-history rules s i h =
     ap (λ n. map (given i) (drop n (after_slot rules s).trace)) (after_slot-unread rules s i h ∙ add-one (node_at s.nodes i).unread)

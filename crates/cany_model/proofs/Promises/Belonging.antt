@@ -108,7 +108,7 @@ asked_belongs scenario s i o may h = turn_only (Waiting scenario s.trace i) scen
         belongs_in scenario note.0.slot (length s.trace) f (h.carried note.0 f note.1 note.2)
 
     by_reason : (f : FrameParts) → MayAsk scenario i (next_notice s i ∷ history i s) f → Belongs scenario (length s.trace) f
-    by_reason f (relays got) = read f (Among-weaker (λ n. n ≡ Got f) (Has f) (λ n e. inl e) (next_notice s i ∷ history i s) got)
+    by_reason f (relays relayed got) = read f (Among-weaker (λ n. n ≡ Got f) (Has f) (λ n e. inl e) (next_notice s i ∷ history i s) got)
     by_reason f (originates m is origin slot frame) =
         data_belongs scenario (length s.trace) m (Contains-from_Among (messages_of scenario.sends) m is) m.service refl f frame (sym (ap (λ (g : FrameParts). g.class) frame))
     by_reason f (confirms g sent rel own frame) =

@@ -61,7 +61,7 @@ asked_true scenario s i o may h = turn_only (IsTrue s.trace i) scenario i (next_
     confirmed_frame g f e = λ k. record { class = Rel; number = (e k).number; node = (e k).node }
 
     by_reason : (f : FrameParts) → MayAsk scenario i (next_notice s i ∷ history i s) f → IsTrue s.trace i f
-    by_reason f (relays got) = λ is.
+    by_reason f (relays relayed got) = λ is.
         let note = turn_note scenario s i f may (o.unread i) (Among-weaker (λ n. n ≡ Got f) (Has f) (λ n e. inl e) (next_notice s i ∷ history i s) got) in
         h.carried note.0 f note.1 note.2 is
     by_reason f (originates m is origin slot frame) = λ confirms. absurd (data_confirms_none m.service (ap (λ (x : FrameParts). x.class) frame ∙ confirms))

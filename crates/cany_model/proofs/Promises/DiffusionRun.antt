@@ -13,7 +13,7 @@ use Rattle.cany_base.specs.Scenario.{ScenarioParts}
 use Rattle.cany_model.specs.Bus.Frames.{Identity, identity_of}
 use Rattle.cany_model.specs.Bus.History.{given, history}
 use Rattle.cany_model.specs.Bus.Run.{after_turn, run}
-use Rattle.cany_model.specs.Bus.Slot.{Script, lets_accept, is_success, slot_note_of, after_slot, script}
+use Rattle.cany_model.specs.Bus.Slot.{FaultScript, lets_accept, is_success, slot_note_of, after_slot, script}
 use Rattle.cany_model.specs.Bus.State.{NodeState, RunState, opening, node_at, runs}
 use Rattle.cany_model.specs.Rules.Turn.{turn_effects}
 use Rattle.cany_model.specs.Bus.Waiting.{without}
@@ -38,7 +38,7 @@ clean_success v e = rw e refl
 clean_lets : (v : Verdict) (i : ℕ) → v ≡ Clean → lets_accept v i ≡ true
 clean_lets v i e = rw e refl
 
-slot_heard : (rules : Script) (s : RunState) (i : ℕ) → runs (node_at s.nodes i) ≡ true → Heard i (slot_note_of rules s)
+slot_heard : (rules : FaultScript) (s : RunState) (i : ℕ) → runs (node_at s.nodes i) ≡ true → Heard i (slot_note_of rules s)
 slot_heard rules s i running = record {
   accepts = λ f got.
       let parts = given-Got i (slot_note_of rules s) f got in
@@ -52,7 +52,7 @@ slot_heard rules s i running = record {
 slot_past : (i : ℕ) (note : SlotNote) (trace : List SlotNote) (n k : ℕ) → n ≡ k + 1 → map (given i) (drop n (note ∷ trace)) ≡ map (given i) (drop k trace)
 slot_past i note trace n k e = ap (λ u. map (given i) (drop u (note ∷ trace))) (e ∙ add-one k)
 
-pub slot_lived : (rules : Script) (s : RunState) (i : ℕ) → runs (node_at s.nodes i) ≡ true
+pub slot_lived : (rules : FaultScript) (s : RunState) (i : ℕ) → runs (node_at s.nodes i) ≡ true
     → Lived (slot_note_of rules s) s.trace i (node_at s.nodes i) (node_at (after_slot rules s).nodes i)
 slot_lived rules s i running = record {
   past = slot_past i (slot_note_of rules s) s.trace (node_at (after_slot rules s).nodes i).unread (node_at s.nodes i).unread
@@ -91,7 +91,7 @@ opening_diffuses nodes omit x duty never i running =
       heard = tt;
     })
 
-slot_keeps : (rules : Script) (omit : ℕ) (x : Identity) (duty : Duty) (s : RunState) → EachRunning (Diffuses omit x duty) s
+slot_keeps : (rules : FaultScript) (omit : ℕ) (x : Identity) (duty : Duty) (s : RunState) → EachRunning (Diffuses omit x duty) s
     → EachRunning (Diffuses omit x duty) (after_slot rules s)
 slot_keeps rules omit x duty s all i running =
     let before : runs (node_at s.nodes i) ≡ true = (running_before_slot rules s i running).0 in

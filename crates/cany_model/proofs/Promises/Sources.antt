@@ -140,7 +140,7 @@ may_hold_asked : (scenario : ScenarioParts) (s : RunState) (i : ℕ) → IsOrder
 may_hold_asked scenario s i o may h = turn_only (MayHold scenario s.trace i) scenario i (next_notice s i ∷ history i s) (λ f. by_reason f)
   where
     by_reason : (f : FrameParts) → MayAsk scenario i (next_notice s i ∷ history i s) f → MayHold scenario s.trace i f
-    by_reason f (relays got) = may_hold_got scenario s i f o may h got
+    by_reason f (relays relayed got) = may_hold_got scenario s i f o may h got
     by_reason f (originates m is origin slot frame) = λ carries. record { message = m; stands = Contains-from_Among (messages_of scenario.sends) m is; is = frame; why = inl origin }
     by_reason f (confirms g sent rel own frame) = λ carries. absurd (false≢true (ap (λ (x : FrameParts). carries_data x.class) frame ∙ carries))
 

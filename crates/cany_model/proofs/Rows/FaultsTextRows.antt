@@ -1,4 +1,4 @@
--- Worked rows of the fault rules that a text gives, and of the services of its broadcasts.
+-- Worked rows of the fault rules that a text gives, and of the services of its sends.
 use Rattle.std.specs.Prelude.{◌≡◌, ℕ, pos, List, [], ◌∷◌, map, Option, Some, None, refl, codes}
 use Rattle.toml.specs.Data.{string, integer, array, table, Items, no_items, item, Members, no_members, member}
 use Rattle.cany_base.specs.declared.frame.Class.TheVariants as class

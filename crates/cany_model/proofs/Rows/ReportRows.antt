@@ -126,7 +126,7 @@ entry_lines : lines_of_entries (
 unfolding lines_of_entries nodes entry_line line_of digits service_name payload_text set_text has
 entry_lines = refl
 
--- a stop in an idle slot, and a remote frame that nobody took
+-- a stop in an idle slot, and a remote frame that nobody accepted
 bus_lines_alone : bus_lines (
     record { slot = 9; frame = Some (record { class = Els; number = 4; node = 2; inc = 0; payload = [] }); senders = nodes 4; takers = nodes 0; verdict = Lost; stops = nodes 0 }
     ∷ record { slot = 8; frame = None; senders = nodes 0; takers = nodes 0; verdict = Clean; stops = nodes 0 }

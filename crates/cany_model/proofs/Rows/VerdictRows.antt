@@ -97,7 +97,7 @@ agreement_is_refuted agreed =
     let missing = agreed refl 0 (record { there = lit< tt; running = refl }) (inl refl) 2 (record { there = lit< tt; running = refl }) in
     not-below-zero missing.stands.0 missing.stands.1
 
--- a receiver that stops in the slot took the frame, and reads nothing of it
+-- a receiver that stops in the slot accepted the frame, and reads nothing of it
 taker_stops :
     (let s = scenario (three 4 1 2) one_message (slot_rule 1 Clean 2 ∷ []) in report s (round_robin s)) ≡ record {
       journal = steps (codes ".012.02.02.02");

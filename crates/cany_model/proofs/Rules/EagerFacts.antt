@@ -14,17 +14,17 @@ use Rattle.cany_model.specs.Bus.History.{copies, has_own}
 use Rattle.cany_model.proofs.Among.{Among}
 use Rattle.cany_model.proofs.Bus.Waits.{Asks}
 use Rattle.cany_model.proofs.Rules.DeliveryFacts.{EntersNone}
-use Rattle.cany_model.proofs.Rules.ProtocolFacts.{IsFounded, relays}
+use Rattle.cany_model.proofs.Rules.ProtocolFacts.{IsFounded, diffused_is_relayed, enough, is_diffused, relays}
 
 -- it asks for a frame that was got, and withdraws it with more than omit copies
 pub eager_founded : (scenario : ScenarioParts) (p : Protocol) (i : ℕ) (f : FrameParts) (past : List NoticeKind) → Among (λ n. n ≡ Got f) past
-    → p.names f.class ≡ true → AllByRecursion (IsFounded scenario p i past) (eager_effects scenario.params.omit f past)
+    → p.names f.class ≡ true → is_diffused f.class ≡ true → AllByRecursion (IsFounded scenario p i past) (eager_effects scenario.params.omit f past)
 unfolding eager_effects
-eager_founded scenario p i f past got names =
+eager_founded scenario p i f past got names diffused =
     cond_both (has_enough scenario.params.omit (identity_of f) past) _ _ (AllByRecursion (IsFounded scenario p i past))
-    (λ many. (((λ _. omega (arith, leb-true (scenario.params.omit + 1) (copies (identity_of f) past) many)), names), tt))
+    (λ many. ((enough diffused (omega (arith, leb-true (scenario.params.omit + 1) (copies (identity_of f) past) many)), names), tt))
     (λ _. cond_both (is_first_copy (identity_of f) past) (Ask f ∷ []) [] (AllByRecursion (IsFounded scenario p i past))
-    (λ _. ((relays got, names), tt))
+    (λ _. ((relays (diffused_is_relayed f.class diffused) got, names), tt))
     (λ _. tt))
 
 pub eager_enters : (omit : ℕ) (f : FrameParts) (past : List NoticeKind) → AllByRecursion EntersNone (eager_effects omit f past)

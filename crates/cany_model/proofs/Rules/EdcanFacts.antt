@@ -21,7 +21,7 @@ use Rattle.cany_model.proofs.Bus.Identities.{same_class-true, same_class_self}
 use Rattle.cany_model.proofs.Bus.Waits.{Asks}
 use Rattle.cany_model.proofs.Rules.DeliveryFacts.{DeliversAtOnce, delivers_once, delivery_enters, delivery_founded}
 use Rattle.cany_model.proofs.Rules.EagerFacts.{eager_asks, eager_enters, eager_founded}
-use Rattle.cany_model.proofs.Rules.ProtocolFacts.{IsFounded, IsLawful}
+use Rattle.cany_model.proofs.Rules.ProtocolFacts.{IsFounded, IsLawful, is_diffused}
 
 serves : edcan.delivers Ed ≡ true
 unfolding is_service same_class
@@ -36,7 +36,7 @@ edcan_founded scenario i (Got f) past =
     cond_both (same_class f.class class.Ed) _ [] (AllByRecursion (IsFounded scenario edcan i (Got f ∷ past)))
     (λ ed. Each-append (IsFounded scenario edcan i (Got f ∷ past)) (delivery_effects Ed i f (Got f) past) (eager_effects scenario.params.omit f (Got f ∷ past))
     (delivery_founded scenario edcan Ed i f (Got f) past serves (same_class-true f.class class.Ed ed) (inl refl))
-    (eager_founded scenario edcan i f (Got f ∷ past) (inl refl) ed))
+    (eager_founded scenario edcan i f (Got f ∷ past) (inl refl) ed (ap is_diffused (same_class-true f.class class.Ed ed))))
     (λ _. tt)
 edcan_founded scenario i (Sent f) past =
     cond_both (same_class f.class class.Ed) _ [] (AllByRecursion (IsFounded scenario edcan i (Sent f ∷ past)))
@@ -58,6 +58,7 @@ unfolding edcan_effects
 edcan_is_lawful = record {
   idle = λ scenario i. refl;
   founded = λ scenario i past. each scenario i past;
+  ahead_serves = λ scenario m i past h. absurd (false≢true h);
   once = delivers_once edcan Ed edcan_delivers;
 }
   where

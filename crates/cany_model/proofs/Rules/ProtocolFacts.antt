@@ -1,5 +1,5 @@
 -- What is proved of each protocol. Proofs about runs see a turn through these facts and the list of protocols alone.
-use Rattle.std.proofs.Common.{◌≡◌, ℕ, suc, ◌<◌, ◌≤◌, ◌⊎◌, inl, inr, Bool, true, false, List, [], ◌∷◌, ◌++◌, length, count_by, ap, sym, ◌∙◌}
+use Rattle.std.proofs.Common.{◌≡◌, ℕ, suc, ◌<◌, ◌≤◌, ◌⊎◌, inl, inr, Bool, true, false, List, [], ◌∷◌, ◌++◌, length, count_by, refl, ap, sym, ◌∙◌}
 use Rattle.std.specs.List.{AllByRecursion}
 use Rattle.cany_base.specs.declared.frame.Class.{Class}
 use Rattle.cany_base.specs.declared.frame.Class.TheVariants as class
@@ -25,10 +25,23 @@ use Rattle.cany_model.proofs.Rules.MessageKeys.{IsOneOf}
 
 -- ---- one effect
 
+-- the classes whose frames are sent by nodes that got them
+abbrev pub is_relayed : Class → Bool
+is_relayed class.Accept = true
+is_relayed class.Rha = false
+is_relayed class.Els = false
+is_relayed class.Fda = true
+is_relayed class.Join = false
+is_relayed class.Leave = false
+is_relayed class.Confirm = false
+is_relayed class.Tot = false
+is_relayed class.Rel = true
+is_relayed class.Ed = true
+
 -- why a node may ask for a frame, by what it has read
 pub data MayAsk (scenario : ScenarioParts) (i : ℕ) (past : List NoticeKind) (f : FrameParts) : Type 0 where
-  -- it has got the frame
-  relays : Among (λ n. n ≡ Got f) past → MayAsk scenario i past f
+  -- it has got the frame, which is one that is relayed
+  relays : is_relayed f.class ≡ true → Among (λ n. n ≡ Got f) past → MayAsk scenario i past f
   -- the frame carries a message of its own, whose slot it has read
   originates : (m : Message) → IsOneOf (messages_of scenario.sends) m → m.origin ≡ i → m.slot < length past → data_frame m ≡ f
       → MayAsk scenario i past f
@@ -46,10 +59,11 @@ pub record IsRead (p : Protocol) (past : List NoticeKind) (slot : ℕ) (by : Ser
   pub now : length past ≡ suc slot
   pub serves : p.delivers by ≡ true
 
+-- an entry that a protocol makes: none makes those of failures and views yet
 abbrev pub IsFoundedEntry : Protocol → List NoticeKind → LogEntry → Type 0
 IsFoundedEntry p past (Deliver slot by msg payload) = IsRead p past slot by msg payload
-IsFoundedEntry p past (Failed slot node cycle) = Unit {0}
-IsFoundedEntry p past (View slot number members) = Unit {0}
+IsFoundedEntry p past (Failed slot node cycle) = ⊥
+IsFoundedEntry p past (View slot number members) = ⊥
 
 -- the frames that are withdrawn only with more than omit copies: those of eager diffusion, and those of a node that falls back
 abbrev pub is_diffused : Class → Bool
@@ -64,10 +78,28 @@ is_diffused class.Tot = false
 is_diffused class.Rel = true
 is_diffused class.Ed = true
 
+-- why a node may withdraw a frame
+pub data MayWithdraw (scenario : ScenarioParts) (past : List NoticeKind) (x : Identity) : Type 0 where
+  -- more than omit copies were read of a frame that is diffused
+  enough : is_diffused x.class ≡ true → scenario.params.omit < copies x past → MayWithdraw scenario past x
+
+-- a frame that is diffused is relayed
+pub diffused_is_relayed : (c : Class) → is_diffused c ≡ true → is_relayed c ≡ true
+diffused_is_relayed class.Accept h = refl
+diffused_is_relayed class.Rha h = h
+diffused_is_relayed class.Els h = h
+diffused_is_relayed class.Fda h = h
+diffused_is_relayed class.Join h = h
+diffused_is_relayed class.Leave h = h
+diffused_is_relayed class.Confirm h = h
+diffused_is_relayed class.Tot h = h
+diffused_is_relayed class.Rel h = h
+diffused_is_relayed class.Ed h = h
+
 -- the effect has its reason in what was read, and names only what the protocol names
 abbrev pub IsFounded : ScenarioParts → Protocol → ℕ → List NoticeKind → Effect → Type 0
 IsFounded scenario p i past (Ask f) = MayAsk scenario i past f × (p.names f.class ≡ true)
-IsFounded scenario p i past (Withdraw x) = (is_diffused x.class ≡ true → scenario.params.omit < copies x past) × (p.names x.class ≡ true)
+IsFounded scenario p i past (Withdraw x) = MayWithdraw scenario past x × (p.names x.class ≡ true)
 IsFounded scenario p i past (Enter entry) = IsFoundedEntry p past entry
 
 -- ---- a protocol
@@ -82,6 +114,8 @@ pub record IsLawful (p : Protocol) : Type 0 where
   pub idle : (scenario : ScenarioParts) (i : ℕ) → p.effects scenario i [] ≡ []
   -- each effect has its reason
   pub founded : (scenario : ScenarioParts) (i : ℕ) (past : List NoticeKind) → AllByRecursion (IsFounded scenario p i past) (p.effects scenario i past)
+  -- what it has ahead is of a message that it delivers
+  pub ahead_serves : (scenario : ScenarioParts) (m : Message) (i : ℕ) (past : List NoticeKind) → p.ahead scenario m i past ≡ true → p.delivers m.service ≡ true
   -- it delivers no message twice
   pub once : (scenario : ScenarioParts) (i : ℕ) (key : MsgKey) (past : List NoticeKind) → count_by (delivers_key key) (log_by p scenario i past) ≤ 1
 
@@ -91,7 +125,7 @@ pub record IsLawful (p : Protocol) : Type 0 where
 pub asked_cause : (scenario : ScenarioParts) (i : ℕ) (past : List NoticeKind) (x : Identity) (f : FrameParts) → x ≡ identity_of f → MayAsk scenario i past f
     → (x.node ≡ i) ⊎ (0 < copies x past)
 unfolding copies
-asked_cause scenario i past x f same (relays got) =
+asked_cause scenario i past x f same (relays relayed got) =
     inr (count-from_Among (is_got x) past (Among-weaker (λ n. n ≡ Got f) (λ n. is_got x n ≡ true) (λ n is. is_got-from x f n is same) past got))
 asked_cause scenario i past x f same (originates m is origin slot frame) = inl (ap (λ (y : Identity). y.node) same ∙ sym (ap (λ (g : FrameParts). g.node) frame) ∙ origin)
 asked_cause scenario i past x f same (confirms g sent rel own frame) = inl (ap (λ (y : Identity). y.node) same ∙ sym (ap (λ (g : FrameParts). g.node) frame) ∙ own)
@@ -103,10 +137,13 @@ ask_of scenario p i past x (Ask f) h k = (f, h, k.0)
 ask_of scenario p i past x (Withdraw y) h k = absurd h
 ask_of scenario p i past x (Enter entry) h k = absurd h
 
+enough_of : (scenario : ScenarioParts) (past : List NoticeKind) (x : Identity) → MayWithdraw scenario past x → scenario.params.omit < copies x past
+enough_of scenario past x (enough diffused many) = many
+
 pub withdrawal_of : (scenario : ScenarioParts) (p : Protocol) (i : ℕ) (past : List NoticeKind) (x : Identity) (e : Effect) → Withdraws x e
     → IsFounded scenario p i past e → is_diffused x.class ≡ true → scenario.params.omit < copies x past
 withdrawal_of scenario p i past x (Ask f) h k d = absurd h
-withdrawal_of scenario p i past x (Withdraw y) h k d = rw h (k.0 (rw (← h) d))
+withdrawal_of scenario p i past x (Withdraw y) h k d = rw h (enough_of scenario past y k.0)
 withdrawal_of scenario p i past x (Enter entry) h k d = absurd h
 
 pub asks_only : (scenario : ScenarioParts) (p : Protocol) (i : ℕ) (past : List NoticeKind) (P : FrameParts → Type 0) (e : Effect)

@@ -8,7 +8,7 @@ use Rattle.cany_base.specs.declared.frame.Class.TheVariants as class
 use Rattle.cany_base.specs.declared.message.Service.TheVariants.{Rel}
 use Rattle.cany_base.specs.declared.notice.NoticeKind.{NoticeKind}
 use Rattle.cany_base.specs.declared.notice.NoticeKind.TheVariants.{Idle, Got, Sent, Bad}
-use Rattle.cany_base.specs.Frame.{FrameParts}
+use Rattle.cany_base.specs.Frame.{FrameParts, data_class}
 use Rattle.cany_base.specs.Params.{Parameters}
 use Rattle.cany_base.specs.Scenario.{ScenarioParts}
 use Rattle.cany_model.specs.Bus.Frames.{Identity, identity_of, same_class}
@@ -16,14 +16,14 @@ use Rattle.cany_model.specs.Bus.History.{copies, is_got}
 use Rattle.cany_model.specs.Rules.Delivery.{delivery_effects}
 use Rattle.cany_model.specs.Rules.Eager.{has_enough}
 use Rattle.cany_model.specs.Rules.Effect.{Effect, Ask, Withdraw, Enter, entered}
-use Rattle.cany_model.specs.Rules.Messages.{is_service}
-use Rattle.cany_model.specs.Rules.Relcan.{confirm_frame, confirm_effects, fall_back_effects, falls_back, fell_back, has_confirm, has_copy, is_first_got, is_timed, late_copy_effects, relcan, relcan_at, relcan_effects, timer_effects}
+use Rattle.cany_model.specs.Rules.Messages.{Message, data_frame, is_service}
+use Rattle.cany_model.specs.Rules.Relcan.{confirm_frame, confirm_effects, fall_back_effects, falls_back, fell_back, has_confirm, has_copy, has_timer_ahead, is_first_got, is_timed, late_copy_effects, relcan, relcan_at, relcan_effects, timer_effects}
 use Rattle.cany_model.proofs.Among.{Among, Among-append_right, Among-get_or, Each-append}
 use Rattle.cany_model.proofs.Bus.Carried.{is_got-true}
 use Rattle.cany_model.proofs.Bus.Identities.{same_class-true}
 use Rattle.cany_model.proofs.Bus.Waits.{Asks}
 use Rattle.cany_model.proofs.Rules.DeliveryFacts.{DeliversAtOnce, EntersNone, delivers_once, delivery_enters, delivery_founded, entered-append, entered-none, entries_at}
-use Rattle.cany_model.proofs.Rules.ProtocolFacts.{IsFounded, IsLawful, confirms, relays}
+use Rattle.cany_model.proofs.Rules.ProtocolFacts.{IsFounded, IsLawful, confirms, enough, is_diffused, is_relayed, relays}
 
 serves : relcan.delivers Rel ≡ true
 unfolding is_service same_class
@@ -42,7 +42,7 @@ late_founded scenario i f past rel =
     (Withdraw (identity_of f) ∷ []) [] (AllByRecursion (IsFounded scenario relcan i (Got f ∷ past)))
     (λ late.
     let many = (and_parts (fell_back scenario.params.confirm i (identity_of f) past) (has_enough scenario.params.omit (identity_of f) (Got f ∷ past)) late).1 in
-    (((λ _. omega (arith, leb-true (scenario.params.omit + 1) (copies (identity_of f) (Got f ∷ past)) many)), or_left _ (same_class f.class class.Confirm) rel), tt))
+    ((enough (ap is_diffused (same_class-true f.class class.Rel rel)) (omega (arith, leb-true (scenario.params.omit + 1) (copies (identity_of f) (Got f ∷ past)) many)), or_left _ (same_class f.class class.Confirm) rel), tt))
     (λ _. tt)
 
 late_enters : (p : Parameters) (i : ℕ) (f : FrameParts) (past : List NoticeKind) → AllByRecursion EntersNone (late_copy_effects p i f past)
@@ -110,7 +110,7 @@ fall_back_founded scenario i past (Got f) got =
     (AllByRecursion (IsFounded scenario relcan i past))
     (λ asks.
     let falls = (and_parts (falls_back scenario.params.confirm i (identity_of f) past) (not (has_enough scenario.params.omit (identity_of f) past)) asks).0 in
-    ((relays (got f refl), or_left _ (same_class f.class class.Confirm) (timed_class scenario.params i (identity_of f) past falls)), tt))
+    ((relays (ap is_relayed (same_class-true f.class class.Rel (timed_class scenario.params i (identity_of f) past falls))) (got f refl), or_left _ (same_class f.class class.Confirm) (timed_class scenario.params i (identity_of f) past falls)), tt))
     (λ _. tt)
 
 timer_founded : (scenario : ScenarioParts) (i : ℕ) (past : List NoticeKind) → AllByRecursion (IsFounded scenario relcan i past) (timer_effects scenario.params i past)
@@ -140,11 +140,23 @@ relcan_delivers scenario i e past =
     ∙ append-nil (entered (relcan_at scenario.params i e past))
     ∙ notice_enters scenario.params i e past
 
+-- a timer is of a RELCAN message
+timer_serves : (scenario : ScenarioParts) (m : Message) (i : ℕ) (past : List NoticeKind) → has_timer_ahead scenario m i past ≡ true
+    → is_service m.service Rel ≡ true
+unfolding is_service
+timer_serves scenario m i past h =
+    let x = identity_of (data_frame m) in
+    let started = and_parts (is_timed i x && has_copy x past && not (has_copy x (drop scenario.params.confirm past))) (not (has_confirm x past)) h in
+    let copied = and_parts (is_timed i x && has_copy x past) (not (has_copy x (drop scenario.params.confirm past))) started.0 in
+    let timed = and_parts (is_timed i x) (has_copy x past) copied.0 in
+    (and_parts (same_class (data_class m.service) class.Rel) (not (m.origin == i)) timed.0).0
+
 pub relcan_is_lawful : IsLawful relcan
 unfolding relcan_effects
 relcan_is_lawful = record {
   idle = λ scenario i. refl;
   founded = λ scenario i past. each scenario i past;
+  ahead_serves = λ scenario m i past h. timer_serves scenario m i past h;
   once = delivers_once relcan Rel relcan_delivers;
 }
   where

@@ -1,74 +1,65 @@
--- How many frames may wait at a node: of each class at most as many as there is room for, and so of all fewer than the room.
-use Rattle.std.proofs.Common.{◌≡◌, ℕ, ◌+◌, ◌*◌, ◌<◌, ◌≤◌, inl, inr, Bool, true, false, cond, List, [], ◌∷◌, filter, map, length, count_by, Option, Some, None, refl, ap, sym, ◌∙◌, subst, arith}
-use Rattle.std.specs.List.{AllByRecursion, IsDistinct, list_any}
-use Rattle.std.specs.Cmp.{IsEquivalence}
+-- How many frames may wait at a node: of each class at most as many as its room, and so of all fewer than the room.
+use Rattle.std.proofs.Common.{◌≡◌, ℕ, ◌+◌, ◌<◌, ◌≤◌, ◌&&◌, inl, inr, Bool, true, false, cond, List, [], ◌∷◌, length, count_by, sum_by, Option, Some, None, refl, ap, sym, ◌∙◌, subst, arith}
+use Rattle.std.specs.List.{AllByRecursion}
 use Rattle.std.proofs.Math.Nat.{add-mul, mul-add}
-use Rattle.std.proofs.lemmas.Bool.{cases_Bool, cond_both, false≢true}
-use Rattle.std.proofs.lemmas.List.{length-map}
-use Rattle.std.proofs.lemmas.List.Sums.{length-filter}
-use Rattle.std.proofs.lemmas.Map.Made.{length-le_from_is_member}
+use Rattle.std.proofs.lemmas.Bool.{and_from, cases_Bool}
+use Rattle.std.proofs.lemmas.List.Sums.{sum_by-cons, sum_by-le-sum_by}
 use Rattle.cany_base.specs.declared.frame.Class.{Class}
 use Rattle.cany_base.specs.declared.frame.Class.TheVariants.{Accept, Rha, Els, Fda, Join, Leave, Confirm, Tot, Rel, Ed}
 use Rattle.cany_base.specs.declared.message.SendAsk.{SendAsk}
 use Rattle.cany_base.specs.declared.message.Service.{Service}
 use Rattle.cany_base.specs.declared.message.Service.TheVariants as service
+use Rattle.cany_base.specs.Frame.{FrameParts, data_class}
 use Rattle.cany_base.specs.Scenario.{ScenarioParts}
-use Rattle.cany_model.specs.Bus.Frames.{Identity, same_class, same_identity}
-use Rattle.cany_model.specs.Rules.Messages.{Message, is_service, message_of, messages_after, messages_of}
-use Rattle.cany_model.specs.Rules.Rooms.{IsAskable, IsAskableBy, IsOfMessage, class_room, cycles, sends_by, service_of, waiting_room}
-use Rattle.cany_model.proofs.Among.{Among, Among-from_any, Among-from_Contains, Among-gives, Among-map, Among-weaker, Among-with, Each-weaker, any-from_Among, count-cons}
-use Rattle.cany_model.proofs.Bus.Identities.{same_class-true, same_identity-from, same_identity-true, same_identity_self}
+use Rattle.cany_model.specs.Bus.Frames.{Identity, identity_of, is_of, same_class}
+use Rattle.cany_model.specs.Rules.Messages.{IsOfMessage, Message, is_service, message_of, messages_after, messages_of}
+use Rattle.cany_model.specs.Rules.Rooms.{IsAskable, IsAskableBy, class_room, cycles, sends_by, service_of, waiting_room}
+use Rattle.cany_model.proofs.Among.{Among, Among-from_Contains, Among-weaker, Each-weaker, count-cons, count-from_Among, count-no, count-yes}
+use Rattle.cany_model.proofs.Bus.Identities.{same_class-true, same_class_self, same_identity-from}
 
--- ---- distinct identities
+-- ---- counting
 
-flips : (x y : Identity) → same_identity x y ≡ same_identity y x
-flips x y = elim (cases_Bool (same_identity x y)) [
-  | inl same ↦ same ∙ sym (same_identity-from y x (sym (same_identity-true x y same)))
-  | inr other ↦ elim (cases_Bool (same_identity y x)) [
-    | inl same ↦ absurd (false≢true (sym other ∙ same_identity-from x y (sym (same_identity-true y x same))))
-    | inr back ↦ other ∙ sym back
+-- Where each that is counted is hit by one of the others, and each of the others that counts hits one at most and else none,
+-- there are at most as many of them.
+module _ {X Y : Type 0} (hits : Y → X → Bool) (p : X → Bool) (q : Y → Bool) where
+  hits_more : (x : X) (xs : List X) (ys : List Y)
+      → sum_by (λ y. count_by (hits y) (x ∷ xs)) ys ≡ count_by (λ y. hits y x) ys + sum_by (λ y. count_by (hits y) xs) ys
+  hits_more x xs [] = refl
+  hits_more x xs (y ∷ ys) =
+      omega (
+        arith,
+        sum_by-cons (λ z. count_by (hits z) (x ∷ xs)) y ys,
+        sum_by-cons (λ z. count_by (hits z) xs) y ys,
+        count-cons (λ z. hits z x) y ys,
+        count-cons (hits y) x xs,
+        hits_more x xs ys,
+      )
+
+  covered : (xs : List X) (ys : List Y) → AllByRecursion (λ x. p x ≡ true → Among (λ y. hits y x ≡ true) ys) xs
+      → count_by p xs ≤ sum_by (λ y. count_by (hits y) xs) ys
+  covered [] ys all = omega arith
+  covered (x ∷ xs) ys all = elim (cases_Bool (p x)) [
+    | inl counts ↦
+        omega (arith, count-yes p x xs counts, count-from_Among (λ y. hits y x) ys (all.0 counts), hits_more x xs ys, covered xs ys all.1)
+    | inr other ↦ omega (arith, count-no p x xs other, hits_more x xs ys, covered xs ys all.1)
   ]
-]
 
-equivalence : IsEquivalence same_identity
-equivalence = record {
-  refl = same_identity_self;
-  symm = flips;
-  congr = λ x y z same. ap (λ w. same_identity w z) (same_identity-true x y same);
-}
+  pub pigeonhole : (xs : List X) (ys : List Y) → AllByRecursion (λ x. p x ≡ true → Among (λ y. hits y x ≡ true) ys) xs
+      → ((y : Y) → count_by (hits y) xs ≤ cond (q y) 1 0) → count_by p xs ≤ count_by q ys
+  pigeonhole xs ys all few =
+      omega (arith, covered xs ys all, sum_by-le-sum_by (λ y. count_by (hits y) xs) (λ y. cond (q y) 1 0) ys few)
 
--- distinct identities, each of them among others, are at most as many
-pub pigeonhole : (xs ys : List Identity) → IsDistinct same_identity xs → AllByRecursion (λ x. Among (λ y. y ≡ x) ys) xs → length xs ≤ length ys
-pigeonhole xs ys distinct each = length-le_from_is_member equivalence xs ys distinct (λ q has. any-from_Among (same_identity q) ys (found q has))
-  where
-    found : (q : Identity) → list_any (same_identity q) xs ≡ true → Among (λ y. same_identity q y ≡ true) ys
-    found q has =
-        Among-gives (λ x. (same_identity q x ≡ true) × Among (λ y. y ≡ x) ys) (Among (λ y. same_identity q y ≡ true) ys)
-        (λ x both. Among-weaker (λ y. y ≡ x) (λ y. same_identity q y ≡ true) (λ y is. ap (same_identity q) is ∙ both.0) ys both.1)
-        xs (Among-with (λ x. same_identity q x ≡ true) (λ x. Among (λ y. y ≡ x) ys) xs each (Among-from_any (same_identity q) xs has))
+none_hit : {X : Type 0} (xs : List X) → count_by (λ x. false) xs ≤ 0
+none_hit [] = omega arith
+none_hit (x ∷ xs) = omega (arith, none_hit xs, count-cons (λ y. false) x xs)
 
--- ---- those of a class
+-- ---- sends and messages
 
-abbrev pub is_in : Class → Identity → Bool
-is_in c x = same_class x.class c
+is_service_self : (by : Service) → is_service by by ≡ true
+unfolding is_service
+is_service_self by = same_class_self (data_class by)
 
-each_filter : {X : Type 0} (P : X → Type 0) (p : X → Bool) (xs : List X) → AllByRecursion P xs → AllByRecursion (λ x. (p x ≡ true) × P x) (filter p xs)
-each_filter P p [] all = tt
-each_filter P p (x ∷ xs) all =
-    cond_both (p x) (x ∷ filter p xs) (filter p xs) (AllByRecursion (λ y. (p y ≡ true) × P y))
-    (λ pass. ((pass, all.0), each_filter P p xs all.1)) (λ _. each_filter P p xs all.1)
-
-distinct_filter : (p : Identity → Bool) (xs : List Identity) → IsDistinct same_identity xs → IsDistinct same_identity (filter p xs)
-unfolding IsDistinct
-distinct_filter p [] all = tt
-distinct_filter p (x ∷ xs) all =
-    let Differs : Identity → Type 0 = λ y. same_identity x y ≡ false in
-    cond_both (p x) (x ∷ filter p xs) (filter p xs) (IsDistinct same_identity)
-    (λ _. (Each-weaker (λ y. (p y ≡ true) × Differs y) Differs (λ y h. h.1) (filter p xs) (each_filter Differs p xs all.0), distinct_filter p xs all.1))
-    (λ _. distinct_filter p xs all.1)
-
--- ---- the frames of a class that each name a message of a service
-
+-- there are as many messages of a service as sends by it
 count_messages : (by : Service) (earlier sends : List SendAsk)
     → count_by (λ m. is_service by m.service) (messages_after earlier sends) ≡ count_by (λ send. is_service by send.service) sends
 unfolding messages_after
@@ -81,83 +72,64 @@ count_messages by earlier (send ∷ sends) =
       count_messages by (send ∷ earlier) sends,
     )
 
-is_service_self : (by : Service) → is_service by by ≡ true
-unfolding is_service same_class
-is_service_self service.Ed = refl
-is_service_self service.Rel = refl
-is_service_self service.Tot = refl
-
-kept : {X : Type 0} (p : X → Bool) (x : X) (xs : List X) → p x ≡ true → Among (λ y. y ≡ x) xs → Among (λ y. y ≡ x) (filter p xs)
-kept p x [] pass h = h
-kept p x (y ∷ xs) pass (inl e) =
-    cond_both (p y) (y ∷ filter p xs) (filter p xs) (λ ys. Among (λ z. z ≡ x) ys) (λ _. inl e) (λ no. absurd (false≢true (sym no ∙ ap p e ∙ pass)))
-kept p x (y ∷ xs) pass (inr h) =
-    cond_both (p y) (y ∷ filter p xs) (filter p xs) (λ ys. Among (λ z. z ≡ x) ys) (λ _. inr (kept p x xs pass h)) (λ _. kept p x xs pass h)
-
-module _ (scenario : ScenarioParts) (c : Class) (by : Service) where
-  of_service : List Message
-  of_service = filter (λ m. is_service by m.service) (messages_of scenario.sends)
-
-  name : Message → Identity
-  name m = record { class = c; number = m.seq; node = m.origin }
-
-  named : (x : Identity) → is_in c x ≡ true → IsOfMessage scenario by x → Among (λ y. y ≡ x) (map name of_service)
-  unfolding of_service name
-  named x is m =
-      let class : x.class ≡ c = same_class-true x.class c is in
-      let same : name m.message ≡ x = λ k. record { class = (sym class) k; number = m.number k; node = m.origin k } in
-      Among-map name (λ y. y ≡ x) of_service
-      (Among-weaker (λ n. n ≡ m.message) (λ n. name n ≡ x) (λ n e. ap name e ∙ same) of_service
-      (kept (λ n. is_service by n.service) m.message (messages_of scenario.sends) (ap (is_service by) m.sent_by ∙ is_service_self by)
-      (Among-from_Contains (messages_of scenario.sends) m.message m.stands)))
-
-  few_named : (xs : List Identity) → IsDistinct same_identity xs → AllByRecursion (λ x. (is_in c x ≡ true) × IsOfMessage scenario by x) xs
-      → length xs ≤ sends_by scenario by
-  unfolding of_service
-  few_named xs distinct all =
-      omega (
-        arith,
-        pigeonhole xs (map name of_service) distinct
-            (Each-weaker (λ x. (is_in c x ≡ true) × IsOfMessage scenario by x) (λ x. Among (λ y. y ≡ x) (map name of_service)) (λ x h. named x h.0 h.1) xs all),
-        length-map of_service name,
-        length-filter (λ m. is_service by m.service) (messages_of scenario.sends),
-        count_messages by [] scenario.sends,
-      )
-
 -- ---- class by class
 
--- distinct frames that may be asked for: those of each class are at most as many as its room
-module _ (scenario : ScenarioParts) (xs : List Identity) (distinct : IsDistinct same_identity xs) (all : AllByRecursion (IsAskable scenario) xs) where
-  by_class : (c : Class) → AllByRecursion (λ x. (is_in c x ≡ true) × IsAskableBy scenario x (service_of c)) (filter (is_in c) xs)
-  by_class c =
-      Each-weaker (λ x. (is_in c x ≡ true) × IsAskable scenario x) (λ x. (is_in c x ≡ true) × IsAskableBy scenario x (service_of c))
-      (λ x h. (h.0, subst (λ k. IsAskableBy scenario x (service_of k)) (same_class-true x.class c h.0) h.1))
-      (filter (is_in c) xs) (each_filter (IsAskable scenario) (is_in c) xs all)
+abbrev pub is_in : Class → FrameParts → Bool
+is_in c f = same_class f.class c
+
+-- frames that may be asked for, no two of one identity: those of each class are at most as many as its room
+module _ (scenario : ScenarioParts) (w : List FrameParts) (distinct : (x : Identity) → count_by (is_of x) w ≤ 1)
+    (all : AllByRecursion (λ f. IsAskable scenario (identity_of f)) w) where
+  -- why a frame of the class may be asked for
+  of_class : (c : Class) (o : Option Service) → service_of c ≡ o → (f : FrameParts) → IsAskable scenario (identity_of f) → is_in c f ≡ true
+      → IsAskableBy scenario (identity_of f) o
+  of_class c o is f h in_class =
+      subst (IsAskableBy scenario (identity_of f)) (ap service_of (same_class-true f.class c in_class) ∙ is) h
+
+  -- a message hits the frame of the class that is named as it is
+  abbrev name : Class → Message → Identity
+  name c m = record { class = c; number = m.seq; node = m.origin }
+
+  abbrev names : Class → Service → Message → FrameParts → Bool
+  names c by m f = is_service by m.service && is_of (name c m) f
+
+  named : (c : Class) (by : Service) (f : FrameParts) → is_in c f ≡ true → IsOfMessage scenario by (identity_of f)
+      → Among (λ m. names c by m f ≡ true) (messages_of scenario.sends)
+  named c by f in_class m =
+      let class : f.class ≡ c = same_class-true f.class c in_class in
+      let same : name c m.message ≡ identity_of f = λ k. record { class = (sym class) k; number = m.number k; node = m.origin k } in
+      Among-weaker (λ n. n ≡ m.message) (λ n. names c by n f ≡ true)
+      (λ n e. ap (λ k. names c by k f) e
+      ∙ and_from (is_service by m.message.service) (is_of (name c m.message) f) (ap (is_service by) m.sent_by ∙ is_service_self by)
+      (same_identity-from (name c m.message) (identity_of f) same))
+      (messages_of scenario.sends) (Among-from_Contains (messages_of scenario.sends) m.message m.stands)
+
+  names_one : (c : Class) (by : Service) (m : Message) → count_by (names c by m) w ≤ cond (is_service by m.service) 1 0
+  names_one c by m = elim (is_service by m.service) as (λ b. count_by (λ f. b && is_of (name c m) f) w ≤ cond b 1 0) [
+    | true ↦ distinct (name c m)
+    | false ↦ none_hit w
+  ]
 
   -- of a class whose frames belong to the messages of a service
-  of_messages : (c : Class) (by : Service) → service_of c ≡ Some by → count_by (is_in c) xs ≤ sends_by scenario by
+  of_messages : (c : Class) (by : Service) → service_of c ≡ Some by → count_by (is_in c) w ≤ sends_by scenario by
   of_messages c by is =
       omega (
         arith,
-        few_named scenario c by (filter (is_in c) xs) (distinct_filter (is_in c) xs distinct)
-            (subst (λ o. AllByRecursion (λ x. (is_in c x ≡ true) × IsAskableBy scenario x o) (filter (is_in c) xs)) is (by_class c)),
-        length-filter (is_in c) xs,
+        pigeonhole (names c by) (is_in c) (λ m. is_service by m.service) w (messages_of scenario.sends)
+            (Each-weaker (λ f. IsAskable scenario (identity_of f)) (λ f. is_in c f ≡ true → Among (λ m. names c by m f ≡ true) (messages_of scenario.sends))
+            (λ f h in_class. named c by f in_class (of_class c (Some by) is f h in_class)) w all)
+            (names_one c by),
+        count_messages by [] scenario.sends,
       )
 
   -- of a class that nobody asks for
-  of_none : (c : Class) → service_of c ≡ None → count_by (is_in c) xs ≤ 0
+  of_none : (c : Class) → service_of c ≡ None → count_by (is_in c) w ≤ 0
   of_none c is =
-      omega (
-        arith,
-        none (filter (is_in c) xs) (subst (λ o. AllByRecursion (λ x. (is_in c x ≡ true) × IsAskableBy scenario x o) (filter (is_in c) xs)) is (by_class c)),
-        length-filter (is_in c) xs,
-      )
-    where
-      none : (ys : List Identity) → AllByRecursion (λ x. (is_in c x ≡ true) × ⊥) ys → length ys ≤ 0
-      none [] h = omega arith
-      none (y ∷ ys) h = absurd h.0.1
+      pigeonhole {Y = Message} (λ m f. false) (is_in c) (λ m. false) w []
+      (Each-weaker (λ f. IsAskable scenario (identity_of f)) (λ f. is_in c f ≡ true → ⊥) (λ f h in_class. of_class c None is f h in_class) w all)
+      (λ m. none_hit w)
 
-  pub few_of_class : (c : Class) → count_by (is_in c) xs ≤ class_room scenario c
+  pub few_of_class : (c : Class) → count_by (is_in c) w ≤ class_room scenario c
   few_of_class Accept = of_messages Accept service.Tot refl
   few_of_class Rha = omega (arith, of_none Rha refl)
   few_of_class Els = omega (arith, of_none Els refl)
@@ -191,11 +163,11 @@ one_class Rel = refl
 one_class Ed = refl
 
 -- each frame is of one class
-pub all_classes : (xs : List Identity) → length xs ≡ over_classes (λ c. count_by (is_in c) xs)
+pub all_classes : (w : List FrameParts) → length w ≡ over_classes (λ c. count_by (is_in c) w)
 all_classes [] = refl
-all_classes (x ∷ xs) =
-    let more : (c : Class) → count_by (is_in c) (x ∷ xs) ≡ one_if (same_class x.class c) + count_by (is_in c) xs = λ c. count-cons (is_in c) x xs in
-    omega (arith, more Accept, more Rha, more Els, more Fda, more Join, more Leave, more Confirm, more Tot, more Rel, more Ed, one_class x.class, all_classes xs)
+all_classes (f ∷ w) =
+    let more : (c : Class) → count_by (is_in c) (f ∷ w) ≡ one_if (same_class f.class c) + count_by (is_in c) w = λ c. count-cons (is_in c) f w in
+    omega (arith, more Accept, more Rha, more Els, more Fda, more Join, more Leave, more Confirm, more Tot, more Rel, more Ed, one_class f.class, all_classes w)
 
 one_service : (by : Service) → one_if (is_service service.Tot by) + one_if (is_service service.Rel by) + one_if (is_service service.Ed by) ≡ 1
 unfolding is_service same_class
@@ -222,32 +194,11 @@ each_service (send ∷ sends) =
 pub rooms_together : (scenario : ScenarioParts) → over_classes (class_room scenario) < waiting_room scenario
 rooms_together scenario =
     let nodes : ℕ = scenario.params.nodes in
-    let several : ℕ = cycles scenario in
-    omega (
-      arith,
-      each_service scenario.sends,
-      add-mul nodes 1 (several + 2),
-      mul-add nodes several 2,
-      mul-add nodes several 1,
-    )
+    omega (arith, each_service scenario.sends, add-mul nodes 1 (cycles scenario + 2), mul-add nodes (cycles scenario) 2, mul-add nodes (cycles scenario) 1)
 
--- distinct frames that may be asked for are fewer than there is room for
-pub few_waiting : (scenario : ScenarioParts) (xs : List Identity) → IsDistinct same_identity xs → AllByRecursion (IsAskable scenario) xs
-    → length xs < waiting_room scenario
-few_waiting scenario xs distinct all =
-    let few : (c : Class) → count_by (is_in c) xs ≤ class_room scenario c = few_of_class scenario xs distinct all in
-    omega (
-      arith,
-      all_classes xs,
-      few Accept,
-      few Rha,
-      few Els,
-      few Fda,
-      few Join,
-      few Leave,
-      few Confirm,
-      few Tot,
-      few Rel,
-      few Ed,
-      rooms_together scenario,
-    )
+-- so are the frames
+pub few_waiting : (scenario : ScenarioParts) (w : List FrameParts) → ((x : Identity) → count_by (is_of x) w ≤ 1)
+    → AllByRecursion (λ f. IsAskable scenario (identity_of f)) w → length w < waiting_room scenario
+few_waiting scenario w distinct all =
+    let few : (c : Class) → count_by (is_in c) w ≤ class_room scenario c = few_of_class scenario w distinct all in
+    omega (arith, all_classes w, few Accept, few Rha, few Els, few Fda, few Join, few Leave, few Confirm, few Tot, few Rel, few Ed, rooms_together scenario)

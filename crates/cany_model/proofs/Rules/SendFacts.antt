@@ -64,6 +64,7 @@ unfolding send_effects
 sends_are_lawful = record {
   idle = λ scenario i. refl;
   founded = λ scenario i past. each scenario i past;
+  ahead_serves = λ scenario m i past h. absurd (false≢true h);
   once = λ scenario i key past. rw (sends_log scenario i past) (omega arith);
 }
   where

@@ -35,14 +35,14 @@ offered node = if runs node then node.waiting else []
 unfoldable pub winner : List NodeState → Option FrameParts
 winner nodes = least_frame (flat_map offered nodes)
 
--- what the fault script says of a slot: its outcome, and the nodes that stop at its end
+-- what the fault script says of a slot: the verdict, and the nodes that stop at its end
 pub record Ruling : Type 0 where
   pub verdict : Verdict
   pub stop : Nodes
 
 -- a fault script rules by the slots before, newest first, and the frame that is carried
-abbrev pub Script : Type 0
-Script = List SlotNote → Option FrameParts → Ruling
+abbrev pub FaultScript : Type 0
+FaultScript = List SlotNote → Option FrameParts → Ruling
 
 -- whether the slot carried a frame that passes the test
 abbrev pub carried : (FrameParts → Bool) → SlotNote → Bool
@@ -77,7 +77,7 @@ ruling_of None = record { verdict = Clean; stop = nobody }
 ruling_of (Some rule) = record { verdict = rule.verdict; stop = rule.stop }
 
 -- a rule for the slot is used alone; without one, that for the attempt; without either, the slot is Clean and nobody stops
-unfoldable pub script : List Rule → Script
+unfoldable pub script : List Rule → FaultScript
 script rules trace None = ruling_of (slot_rule rules (length trace))
 script rules trace (Some f) =
     ruling_of (option_or (slot_rule rules (length trace)) (frame_rule rules (identity_of f) (attempts (identity_of f) trace + 1)))
@@ -148,7 +148,7 @@ abbrev pub note_by : ℕ → List NodeState → Option FrameParts → Ruling →
 note_by slot nodes frame ruling = with_stops ruling.stop nodes (exchange slot nodes ruling.verdict frame)
 
 -- what happens in the next slot
-unfoldable pub slot_note_of : Script → RunState → SlotNote
+unfoldable pub slot_note_of : FaultScript → RunState → SlotNote
 slot_note_of rules s = note_by (length s.trace) s.nodes (winner s.nodes) (rules s.trace (winner s.nodes))
 
 -- A node after the slot: one more notice is unread. Of a node that had stopped before only this count rises, so that what it
@@ -163,7 +163,7 @@ unfoldable pub nodes_after : ℕ → SlotNote → List NodeState → List NodeSt
 nodes_after i note [] = []
 nodes_after i note (node ∷ nodes) = node_after i note node ∷ nodes_after (i + 1) note nodes
 
-unfoldable pub after_slot : Script → RunState → RunState
+unfoldable pub after_slot : FaultScript → RunState → RunState
 after_slot rules s =
     let note = slot_note_of rules s in
     record { trace = note ∷ s.trace; nodes = nodes_after 0 note s.nodes }

@@ -1,10 +1,11 @@
 -- The messages of a scenario: one for each scripted send, and the frames of a message.
-use Rattle.std.specs.Prelude.{ℕ, Bool, ◌==◌, List, [], ◌∷◌, count_by}
+use Rattle.std.specs.Prelude.{◌≡◌, ℕ, Bool, ◌==◌, List, [], ◌∷◌, count_by, Contains}
 use Rattle.cany_base.specs.declared.frame.Class.TheVariants.{Accept, Confirm}
 use Rattle.cany_base.specs.declared.message.SendAsk.{SendAsk}
 use Rattle.cany_base.specs.declared.message.Service.{Service}
 use Rattle.cany_base.specs.declared.message.MsgKey.{MsgKey}
 use Rattle.cany_base.specs.Frame.{FrameParts, data_class}
+use Rattle.cany_base.specs.Scenario.{ScenarioParts}
 use Rattle.cany_model.specs.Bus.Frames.{Identity, same_class}
 
 -- a message, and the slot in whose turn its origin is to send it
@@ -67,3 +68,11 @@ data_id m = data_of m.service (message_key m)
 
 abbrev pub frames_of : Message → List Identity
 frames_of m = frames_named m.service (message_key m)
+
+-- the identity is that of a frame of a message of this service
+pub record IsOfMessage (scenario : ScenarioParts) (by : Service) (x : Identity) : Type 0 where
+  pub message : Message
+  pub stands : Contains (messages_of scenario.sends) message
+  pub sent_by : message.service ≡ by
+  pub number : message.seq ≡ x.number
+  pub origin : message.origin ≡ x.node

@@ -9,7 +9,8 @@ use Rattle.cany_base.specs.declared.notice.NoticeKind.{NoticeKind}
 use Rattle.cany_base.specs.declared.notice.NoticeKind.TheVariants.{Idle, Got, Sent, Bad}
 use Rattle.cany_base.specs.Frame.{FrameParts}
 use Rattle.cany_base.specs.Scenario.{ScenarioParts}
-use Rattle.cany_model.specs.Rules.Messages.{Message, messages_of, data_frame}
+use Rattle.cany_model.specs.Bus.Frames.{identity_of}
+use Rattle.cany_model.specs.Rules.Messages.{IsOfMessage, Message, messages_of, data_frame}
 
 -- the frame carries the data of a message of the scenario, by this service
 pub record IsDataOf (scenario : ScenarioParts) (kind : Service) (f : FrameParts) : Type 0 where
@@ -19,12 +20,8 @@ pub record IsDataOf (scenario : ScenarioParts) (kind : Service) (f : FrameParts)
   pub frame : data_frame message ≡ f
 
 -- the frame names a message of the scenario, of this service
-pub record NamesMessage (scenario : ScenarioParts) (kind : Service) (f : FrameParts) : Type 0 where
-  pub message : Message
-  pub stands : Contains (messages_of scenario.sends) message
-  pub sent_by : message.service ≡ kind
-  pub number : message.seq ≡ f.number
-  pub origin : message.origin ≡ f.node
+abbrev pub NamesMessage : ScenarioParts → Service → FrameParts → Type 0
+NamesMessage scenario kind f = IsOfMessage scenario kind (identity_of f)
 
 -- the frame names a node of the bus, and a number that it can have reached after so many intervals of this length
 pub record NamesNode (scenario : ScenarioParts) (interval slot : ℕ) (f : FrameParts) : Type 0 where

@@ -1,4 +1,4 @@
--- A protocol as one value: what a turn, a log, a settled message and the room of a node ask of it.
+-- A protocol as one value: what a turn and a settled message ask of it, and what it names and delivers.
 use Rattle.std.specs.Prelude.{ℕ, Bool, false, List}
 use Rattle.cany_base.specs.declared.frame.Class.{Class}
 use Rattle.cany_base.specs.declared.message.Service.{Service}

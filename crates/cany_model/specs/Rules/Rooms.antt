@@ -1,12 +1,12 @@
 -- How much a node can come to hold in a run: what it may ask for, what it may enter.
-use Rattle.std.specs.Prelude.{◌≡◌, ℕ, ◌+◌, ◌*◌, ◌/◌, length, count_by, Contains, Option, Some, None}
+use Rattle.std.specs.Prelude.{ℕ, ◌+◌, ◌*◌, ◌/◌, length, count_by, Option, Some, None}
 use Rattle.cany_base.specs.declared.frame.Class.{Class}
 use Rattle.cany_base.specs.declared.frame.Class.TheVariants.{Accept, Rha, Els, Fda, Join, Leave, Confirm, Tot, Rel, Ed}
 use Rattle.cany_base.specs.declared.message.Service.{Service}
 use Rattle.cany_base.specs.declared.message.Service.TheVariants as service
 use Rattle.cany_base.specs.Scenario.{ScenarioParts}
 use Rattle.cany_model.specs.Bus.Frames.{Identity}
-use Rattle.cany_model.specs.Rules.Messages.{Message, messages_of, is_service}
+use Rattle.cany_model.specs.Rules.Messages.{IsOfMessage, is_service}
 
 -- the service of the messages that frames of this class belong to
 abbrev pub service_of : Class → Option Service
@@ -21,14 +21,6 @@ service_of Tot = Some service.Tot
 service_of Rel = Some service.Rel
 service_of Ed = Some service.Ed
 
--- the identity is that of a frame of a message of this service
-pub record IsOfMessage (scenario : ScenarioParts) (by : Service) (x : Identity) : Type 0 where
-  pub message : Message
-  pub stands : Contains (messages_of scenario.sends) message
-  pub sent_by : message.service ≡ by
-  pub number : message.seq ≡ x.number
-  pub origin : message.origin ≡ x.node
-
 abbrev pub IsAskableBy : ScenarioParts → Identity → Option Service → Type 0
 IsAskableBy scenario x (Some by) = IsOfMessage scenario by x
 IsAskableBy scenario x None = ⊥
@@ -38,7 +30,7 @@ IsAskableBy scenario x None = ⊥
 abbrev pub IsAskable : ScenarioParts → Identity → Type 0
 IsAskable scenario x = IsAskableBy scenario x (service_of x.class)
 
--- how many membership cycles start after slot 0
+-- at most so many membership cycles start after slot 0
 abbrev pub cycles : ScenarioParts → ℕ
 cycles scenario = scenario.params.slots / scenario.params.cycle
 
@@ -46,12 +38,13 @@ cycles scenario = scenario.params.slots / scenario.params.cycle
 abbrev pub sends_by : ScenarioParts → Service → ℕ
 sends_by scenario by = count_by (λ send. is_service by send.service) scenario.sends
 
--- How many frames of a class may wait at a node: one of each message of the service; of each cycle its own vector, and a
--- failure sign of each node; two life signs; and each scripted ask to join and to leave.
+-- How many frames of a class may wait at a node: one of each message of the service; of each cycle from 0 on the node's own
+-- vector, and the failure sign of each node; of life signs two before a turn, which may ask for one more; and one of each
+-- scripted ask to join and to leave.
 abbrev pub class_room : ScenarioParts → Class → ℕ
 class_room scenario Accept = sends_by scenario service.Tot
 class_room scenario Rha = cycles scenario + 1
-class_room scenario Els = 2
+class_room scenario Els = 3
 class_room scenario Fda = scenario.params.nodes * (cycles scenario + 1)
 class_room scenario Join = length scenario.joins
 class_room scenario Leave = length scenario.leaves

@@ -1,4 +1,4 @@
--- The scripted broadcasts that a scenario text gives.
+-- The scripted sends that a scenario text gives.
 use Rattle.std.specs.Prelude.{ℕ, ◌-◌, nat_le, List, [], ◌∷◌, length, Option, Some, None, codes, if◌then◌else◌}
 use Rattle.std.specs.Result.{result_ok}
 use Rattle.std.specs.Str.{bytes_eq}
@@ -18,7 +18,7 @@ payload_from value = do
   _ ← only_if (nat_le (length digits) 16)
   result_ok (decode_of digits)
 
--- the service of this name; the reader takes no third one yet
+-- the service of this name; the reader knows no third one yet
 abbrev pub service_named : List ℕ → Option Service
 service_named name =
     if bytes_eq name (codes "ed") then Some Ed else
@@ -32,7 +32,7 @@ service_from value = do
 abbrev pub send_keys : List (List ℕ)
 send_keys = codes "slot" ∷ codes "node" ∷ codes "service" ∷ codes "data" ∷ []
 
--- an entry of `send`: a broadcast in a slot of the run, at a node of the bus
+-- an entry of `send`: a send in a slot of the run, at a node of the bus
 unfoldable pub send_from : Parameters → Data → Option SendAsk
 send_from params value = do
   entry ← as_table value

@@ -10,12 +10,10 @@ use crate::reader::nodes::nodes_from;
 use crate::reader::places::have_distinct_places;
 use crate::reader::refusal::ReadRefusal;
 use crate::reader::rule_place::place_from;
+use cany_base::limits::MOST_RULES;
 use cany_base::{NodeSet, Params, Rule, Verdict};
 use std::alloc::Global;
 use toml::{Table, Value};
-
-/// How many entries there can be.
-const MOST_RULES: usize = 20_000;
 
 /// The rules that the top key `fault` lists, in file order: none where the key is absent.
 pub(crate) fn read_rules(

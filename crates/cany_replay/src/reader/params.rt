@@ -1,21 +1,33 @@
 //! The parameters of a scenario text.
-ghost use Rattle.std.specs.Prelude.{◌≡◌, ◌≤◌};
+ghost use Rattle.std.specs.Prelude.{◌≡◌, IfOk, IfErr, Err, Some, None, IsSomeAnd};
 ghost use Rattle.toml.specs.View.{table_view};
-ghost use Rattle.cany_base.specs.Params as formula;
+ghost use Rattle.cany_base.specs.Params.{first_fault};
 ghost use Rattle.cany_model.specs.Texts.ParamsText.{given_params, params_of};
+ghost use Rattle.cany_replay.specs.Refusal.{IfLater, IfFormula};
 
 use crate::reader::keys::{number_or, required_number};
-use cany_base::{Format, Params};
+use crate::reader::refusal::ReadRefusal;
+use cany_base::limits::{
+    GREATEST_ERRORS, GREATEST_GIVEN, GREATEST_LAG, GREATEST_OMIT, GREATEST_SLOTS,
+};
+use cany_base::{Format, NodeId, Params};
 use toml::Table;
 
-/// The parameters that the top keys give, which meet the formulas. `None` where they give none.
+/// The parameters that the top keys give, which meet the formulas.
+///
+/// # Errors
+///
+/// `Later` exactly where they give none: with the first formula that does not hold, where each key is of its kind and range.
 #[tactic(auto, unfolding(cany_model::specs::Texts::ParamsText::params_of))]
-pub(crate) fn read_params(top: &Table) -> Option<Params>
-    ensures { result ≡ params_of (table_view top.now) }
+pub(crate) fn read_params(top: &Table) -> Result<Params, ReadRefusal>
+    ensures ok { IfOk result (λ params. params_of (table_view top.now) ≡ Some params) }
+    ensures later { IfErr result (λ refusal. IfLater refusal (params_of (table_view top.now) ≡ None)) }
+    ensures formula { IfErr result (λ refusal. IfFormula refusal (λ fault.
+        IsSomeAnd (given_params (table_view top.now)) (λ given. first_fault given ≡ Err fault))) }
 {
-    let params = given_params(top)?;
-    params.check().ok()?;
-    Some(params)
+    let params = given_params(top).ok_or(ReadRefusal::FORM)?;
+    params.check()?;
+    Ok(params)
 }
 
 #[tactic(auto, unfolding(cany_model::specs::Texts::ParamsText::given_params))]
@@ -23,15 +35,19 @@ fn given_params(top: &Table) -> Option<Params>
     ensures { result ≡ given_params (table_view top.now) }
 {
     required_number(top, "format", 1, 1)?;
-    let nodes = required_number(top, "nodes", 2, 32)?;
-    let slots = required_number(top, "slots", 1, 100_000)?;
-    let lag = number_or(top, "lag", 0, 8, 0)?;
-    let omit = number_or(top, "omit", 0, 8, 1)?;
-    let errors = number_or(top, "errors", 0, 1000, 2)?;
-    let bound = number_or(top, "bound", 1, 1_000_000, least_bound(nodes, lag, errors))?;
-    let cycle = number_or(top, "cycle", 1, 1_000_000, 2 * bound + 2 * lag)?;
-    let life = number_or(top, "life", 1, 1_000_000, bound + lag)?;
-    let silence = number_or(top, "silence", 1, 1_000_000, life + lag + bound + 1)?;
+    let nodes = required_number(top, "nodes", 2, u64::from(NodeId::COUNT))?;
+    let slots = required_number(top, "slots", 1, GREATEST_SLOTS)?;
+    let lag = number_or(top, "lag", 0, GREATEST_LAG, 0)?;
+    let omit = number_or(top, "omit", 0, GREATEST_OMIT, 1)?;
+    let errors = number_or(top, "errors", 0, GREATEST_ERRORS, 2)?;
+    let least_bound = Params::least_bound(nodes, lag, errors);
+    let bound = number_or(top, "bound", 1, GREATEST_GIVEN, least_bound)?;
+    let least_cycle = Params::least_cycle(lag, bound);
+    let cycle = number_or(top, "cycle", 1, GREATEST_GIVEN, least_cycle)?;
+    let least_life = Params::least_life(lag, bound);
+    let life = number_or(top, "life", 1, GREATEST_GIVEN, least_life)?;
+    let least_silence = Params::least_silence(lag, bound, life);
+    let silence = number_or(top, "silence", 1, GREATEST_GIVEN, least_silence)?;
     let confirm = number_or(top, "confirm", 1, cycle, 10)?;
     Some(Params {
         format: Format::One,
@@ -46,15 +62,4 @@ fn given_params(top: &Table) -> Option<Params>
         confirm,
         slots,
     })
-}
-
-fn least_bound(nodes: u64, lag: u64, errors: u64) -> u64
-    requires nodes { nodes ≤ 32 }
-    requires lag { lag ≤ 8 }
-    requires errors { errors ≤ 1000 }
-    ensures least { result ≡ formula.least_bound nodes lag errors }
-    ensures in_range { (1 ≤ result) × (result ≤ 1000000) }
-{
-    let top_frames = 3 * nodes * nodes + 2 * nodes;
-    1 + top_frames + errors + lag * (top_frames + errors + nodes + 1)
 }

@@ -1,14 +1,18 @@
 ghost use Rattle.std.specs.Prelude.{◌≡◌};
-ghost use Rattle.cany_replay.specs.declared.reader.refusal.ReadRefusal.TheVariants.{Memory};
+ghost use Rattle.cany_replay.specs.declared.reader.refusal.LaterName.TheVariants.{Formula};
+ghost use Rattle.cany_replay.specs.declared.reader.refusal.ReadRefusal.TheVariants.{Later, Memory};
 
+use cany_base::ParamFault;
 use std::alloc::{AllocError, AllocFailed};
 use thiserror::Error;
 
-/// What a text is of, that the reader does not read yet.
+/// What a text is, that gives no scenario of the form that is read so far. The line of the refusal does not name it yet.
 #[derive(Clone, Copy, Debug, PartialEq, Eq)]
 pub(crate) enum LaterName {
     /// Another form of the scenario text: one that a later version may read, or none at all.
     Form,
+    /// Parameters of which a formula does not hold: the first of them.
+    Formula(ParamFault),
 }
 
 /// Why a text gave no scenario.
@@ -41,5 +45,15 @@ impl<T: Drop> From<AllocFailed<T>> for ReadRefusal {
 
     fn from(_: AllocFailed<T>) -> ReadRefusal {
         ReadRefusal::Memory
+    }
+}
+
+impl From<ParamFault> for ReadRefusal {
+    ghost from_gives = { λ fault refusal. refusal ≡ Later (Formula fault) };
+
+    fn from(fault: ParamFault) -> ReadRefusal {
+        ReadRefusal::Later {
+            name: LaterName::Formula(fault),
+        }
     }
 }

@@ -7,15 +7,13 @@ ghost use Rattle.cany_replay.specs.Refusal.{IfLater};
 
 use crate::reader::keys::{has_only, required_number, value_at};
 use crate::reader::refusal::ReadRefusal;
+use cany_base::limits::MOST_SENDS;
 use cany_base::{NodeId, Params, Payload, SendAsk, Service};
 use std::alloc::Global;
 use toml::{Table, Value};
 
 /// The keys that an entry can have.
 const SEND_KEYS: [&str; 4] = ["slot", "node", "service", "data"];
-
-/// How many entries there can be.
-const MOST_SENDS: usize = 20_000;
 
 /// How many digits a payload can have.
 const MOST_DIGITS: usize = 16;

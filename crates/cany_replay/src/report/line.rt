@@ -1,4 +1,5 @@
 ghost use Rattle.std.specs.Prelude.{◌+◌, ◌≤◌, ◌≡◌, ◌++◌, length, map};
+ghost use Rattle.cany_base.specs.Limits.{most_line_bytes};
 ghost use Rattle.cany_model.specs.Texts.ReportLines.{line_of};
 ghost use Rattle.cany_replay.specs.Fields.{field_text, most_bytes, room_of};
 ghost use Rattle.cany_replay.specs.Written.{IsWritten};
@@ -8,7 +9,7 @@ use super::row::{Row, push_bytes, push_number, push_payload, push_set, push_step
 use cany_io::{Failed, Sink, write_whole};
 
 fn push_field(row: &mut Row, field: &Field)
-    requires { length row.old.items + most_bytes field.now ≤ 1024 }
+    requires { length row.old.items + most_bytes field.now ≤ most_line_bytes }
     ensures text { row.new.items ≡ row.old.items ++ field_text field.now }
     ensures short { length (field_text field.now) ≤ most_bytes field.now }
 {
@@ -23,7 +24,7 @@ fn push_field(row: &mut Row, field: &Field)
 
 /// Writes the fields as one line, in one piece. It takes no memory.
 pub fn write_line<K: Sink>(fields: &[Field], sink: &mut K) -> Result<(), Failed>
-    requires room { room_of fields.now ≤ 1024 }
+    requires room { room_of fields.now ≤ most_line_bytes }
     ensures { IsWritten (line_of (map field_text fields.now)) result
         (K.taken sink.old) (K.taken sink.new) (K.faults sink.old) (K.faults sink.new) }
 {

@@ -1,16 +1,18 @@
 ghost use Rattle.std.specs.Prelude.{◌≡◌, ◌+◌, ◌<◌, ◌≤◌, [], ◌∷◌, ◌++◌, length, map, decimal};
+ghost use Rattle.cany_base.specs.Limits.{most_line_bytes};
 ghost use Rattle.cany_model.specs.Texts.ReportLines.{byte_text, payload_text, set_text, step_letter};
 
 use super::names::letter;
 use arrayvec::ArrayVec;
+use cany_base::limits::MOST_LINE_BYTES;
 use cany_base::{NodeId, NodeSet, Payload, Step};
 
 /// The bytes of a line as it is made.
-pub type Row = ArrayVec<u8, 1024>;
+pub type Row = ArrayVec<u8, MOST_LINE_BYTES>;
 
 /// Appends bytes for which there is room.
 pub fn push_bytes(row: &mut Row, bytes: &[u8])
-    requires { length row.old.items + length bytes.now ≤ 1024 }
+    requires { length row.old.items + length bytes.now ≤ most_line_bytes }
     ensures { row.new.items ≡ row.old.items ++ bytes.now }
 {
     row.try_extend_from_slice(bytes).unwrap();
@@ -18,7 +20,7 @@ pub fn push_bytes(row: &mut Row, bytes: &[u8])
 
 /// Appends a number in decimal.
 pub fn push_number(row: &mut Row, number: u64)
-    requires { length row.old.items + 20 ≤ 1024 }
+    requires { length row.old.items + 20 ≤ most_line_bytes }
     ensures text { row.new.items ≡ row.old.items ++ decimal number }
     ensures short { length (decimal number) ≤ 20 }
 {
@@ -27,7 +29,7 @@ pub fn push_number(row: &mut Row, number: u64)
 
 /// Appends the decimal digits of a number, for which there is room.
 fn push_digits(row: &mut Row, number: u64)
-    requires { length row.old.items + length (decimal number) ≤ 1024 }
+    requires { length row.old.items + length (decimal number) ≤ most_line_bytes }
     ensures { row.new.items ≡ row.old.items ++ decimal number }
 {
     let mut buffer = itoa::Buffer::new();
@@ -37,7 +39,7 @@ fn push_digits(row: &mut Row, number: u64)
 /// Appends a byte as two hexadecimal digits.
 #[tactic(auto, unfolding(hex::specs::Hex::encode_with))]
 fn push_byte(row: &mut Row, byte: u8)
-    requires { length row.old.items + 2 ≤ 1024 }
+    requires { length row.old.items + 2 ≤ most_line_bytes }
     ensures { row.new.items ≡ row.old.items ++ byte_text byte }
 {
     let mut digits = [0u8; 2];
@@ -47,7 +49,7 @@ fn push_byte(row: &mut Row, byte: u8)
 
 /// Appends the bytes of a payload in hexadecimal.
 pub fn push_payload(row: &mut Row, payload: &Payload)
-    requires { length row.old.items + 17 ≤ 1024 }
+    requires { length row.old.items + 17 ≤ most_line_bytes }
     ensures text { row.new.items ≡ row.old.items ++ payload_text payload.now }
     ensures short { length (payload_text payload.now) ≤ 17 }
 {
@@ -59,7 +61,7 @@ pub fn push_payload(row: &mut Row, payload: &Payload)
 
 /// Appends the numbers of the nodes of a set.
 pub fn push_set(row: &mut Row, set: NodeSet)
-    requires { length row.old.items + 85 ≤ 1024 }
+    requires { length row.old.items + 85 ≤ most_line_bytes }
     ensures text { row.new.items ≡ row.old.items ++ set_text set }
     ensures short { length (set_text set) ≤ 85 }
 {
@@ -80,7 +82,7 @@ pub fn push_set(row: &mut Row, set: NodeSet)
 
 /// Appends the letters of some steps.
 pub fn push_steps(row: &mut Row, steps: &[Step])
-    requires { length row.old.items + length steps.now ≤ 1024 }
+    requires { length row.old.items + length steps.now ≤ most_line_bytes }
     ensures { row.new.items ≡ row.old.items ++ map step_letter steps.now }
 {
     for step in steps {

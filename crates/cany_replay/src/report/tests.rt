@@ -12,8 +12,8 @@ use super::lines::{
 use super::{write_journal_refusal, write_later_form, write_report};
 use crate::status::{DONE, WRITE_FAULT};
 use cany_base::{
-    Class, Format, Frame, LogEntry, MsgKey, NodeId, NodeSet, Params, Payload, SendAsk, Service,
-    SlotNote, Step, Verdict,
+    Class, Frame, LogEntry, MsgKey, NodeId, NodeSet, Params, Payload, SendAsk, Service, SlotNote,
+    Step, Verdict,
 };
 use cany_io::{Failed, MemSink, Sink};
 use cany_model::{Break, BreakKind, FollowFault, StepReply};
@@ -85,26 +85,10 @@ fn idle(slot: u64, stops: u32) -> SlotNote {
     }
 }
 
-fn params() -> Params {
-    Params {
-        format: Format::One,
-        nodes: 3,
-        lag: 0,
-        omit: 1,
-        errors: 2,
-        bound: 36,
-        cycle: 72,
-        life: 36,
-        silence: 73,
-        confirm: 10,
-        slots: 5,
-    }
-}
-
 // The lines of a run of one message without a fault, in the order of the report.
 fn write_one_message<K: Sink>(sink: &mut K) -> Result<(), Failed> {
     write_line(&[Field::Text("canely report 1")], sink)?;
-    write_params(&params(), sink)?;
+    write_params(&Params::with_defaults(3, 5), sink)?;
     let round = [
         Step::Slot,
         Step::Turn(node(0)),
@@ -181,14 +165,11 @@ params nodes 3 lag 0 omit 1 errors 2 bound 36 cycle 72 life 36 silence 73 confir
     Ok(())
 }
 
-#[test]
-fn lines_of_the_bus(rt: HostRuntime) -> Result<(), Fail> {
-    let alloc = rt.alloc();
-    let mut sink = sink(alloc, Vec::new(alloc))?;
-    write_bus_line(&carried(1, 1, 2, Verdict::Partial(set(4)), 1), &mut sink)?;
-    write_bus_line(&carried(16, 1, 0, Verdict::Lost, 1), &mut sink)?;
-    write_bus_line(&carried(17, 1, 2, Verdict::Silent(set(4)), 0), &mut sink)?;
-    write_bus_line(&idle(99_999, u32::MAX), &mut sink)?;
+fn write_bus_lines<K: Sink>(sink: &mut K) -> Result<(), Failed> {
+    write_bus_line(&carried(1, 1, 2, Verdict::Partial(set(4)), 1), sink)?;
+    write_bus_line(&carried(16, 1, 0, Verdict::Lost, 1), sink)?;
+    write_bus_line(&carried(17, 1, 2, Verdict::Silent(set(4)), 0), sink)?;
+    write_bus_line(&idle(99_999, u32::MAX), sink)?;
     let sign = Frame {
         class: Class::Els,
         number: 65_535,
@@ -200,7 +181,7 @@ fn lines_of_the_bus(rt: HostRuntime) -> Result<(), Fail> {
         frame: Some(sign),
         ..idle(5, 0)
     };
-    write_bus_line(&note, &mut sink)?;
+    write_bus_line(&note, sink)?;
     let vector = Frame {
         class: Class::Rha,
         number: 1,
@@ -212,7 +193,14 @@ fn lines_of_the_bus(rt: HostRuntime) -> Result<(), Fail> {
         frame: Some(vector),
         ..idle(6, 0)
     };
-    write_bus_line(&note, &mut sink)?;
+    write_bus_line(&note, sink)
+}
+
+#[test]
+fn lines_of_the_bus(rt: HostRuntime) -> Result<(), Fail> {
+    let alloc = rt.alloc();
+    let mut sink = sink(alloc, Vec::new(alloc))?;
+    write_bus_lines(&mut sink)?;
     let lines: &[u8] = b"bus 1 ed 0 0 x01 from 0 to 1 partial stop 0
 bus 16 ed 0 0 x01 from 0 to - lost stop 0
 bus 17 ed 0 0 x01 from 0 to 1 silent
@@ -224,28 +212,25 @@ bus 6 rha 2 1 x00000007 from - to - clean
     Ok(())
 }
 
-#[test]
-fn other_lines(rt: HostRuntime) -> Result<(), Fail> {
-    let alloc = rt.alloc();
-    let mut sink = sink(alloc, Vec::new(alloc))?;
+fn write_other_lines<K: Sink>(sink: &mut K) -> Result<(), Failed> {
     let broken = Break {
         kind: BreakKind::Errors,
         slot: 3,
     };
-    write_hypothesis(Some(broken), &mut sink)?;
-    write_node_line(node(0), Some(16), 16, &mut sink)?;
+    write_hypothesis(Some(broken), sink)?;
+    write_node_line(node(0), Some(16), 16, sink)?;
     let sign = LogEntry::Failed {
         slot: 110,
         node: node(2),
         cycle: 1,
     };
-    write_entry(&sign, &mut sink)?;
+    write_entry(&sign, sink)?;
     let view = LogEntry::View {
         slot: 144,
         number: 2,
         members: set(3),
     };
-    write_entry(&view, &mut sink)?;
+    write_entry(&view, sink)?;
     let delivery = LogEntry::Deliver {
         slot: 12,
         service: Service::Tot,
@@ -255,15 +240,22 @@ fn other_lines(rt: HostRuntime) -> Result<(), Fail> {
         },
         payload: bytes(&[0, 255, 10, 156, 1, 2, 3, 4]),
     };
-    write_entry(&delivery, &mut sink)?;
+    write_entry(&delivery, sink)?;
     let send = SendAsk {
         slot: 0,
         node: node(12),
         service: Service::Rel,
         payload: Payload::empty(),
     };
-    write_message(&send, 7, false, &mut sink)?;
-    write_later_form(&mut sink)?;
+    write_message(&send, 7, false, sink)?;
+    write_later_form(sink)
+}
+
+#[test]
+fn other_lines(rt: HostRuntime) -> Result<(), Fail> {
+    let alloc = rt.alloc();
+    let mut sink = sink(alloc, Vec::new(alloc))?;
+    write_other_lines(&mut sink)?;
     let lines: &[u8] = b"hypothesis outside errors 3
 node 0 stopped 16 read 16
 failed 110 2 1
@@ -276,10 +268,7 @@ refused later form
     Ok(())
 }
 
-#[test]
-fn lines_of_refused_journals(rt: HostRuntime) -> Result<(), Fail> {
-    let alloc = rt.alloc();
-    let mut sink = sink(alloc, Vec::new(alloc))?;
+fn write_journal_refusals<K: Sink>(sink: &mut K) -> Result<(), Failed> {
     for reply in [
         StepReply::Lagging {
             node: node(31),
@@ -294,12 +283,20 @@ fn lines_of_refused_journals(rt: HostRuntime) -> Result<(), Fail> {
             place: 3_300_000,
             reply,
         };
-        write_journal_refusal(&fault, &mut sink)?;
+        write_journal_refusal(&fault, sink)?;
     }
     for node in [None, Some(node(2))] {
         let fault = FollowFault::Unfinished { ran: 6, node };
-        write_journal_refusal(&fault, &mut sink)?;
+        write_journal_refusal(&fault, sink)?;
     }
+    Ok(())
+}
+
+#[test]
+fn lines_of_refused_journals(rt: HostRuntime) -> Result<(), Fail> {
+    let alloc = rt.alloc();
+    let mut sink = sink(alloc, Vec::new(alloc))?;
+    write_journal_refusals(&mut sink)?;
     let lines: &[u8] = b"refused journal step 3300000 lagging node 31 unread 9
 refused journal step 3300000 over slots 100000
 refused journal step 3300000 nothing yet now 7

@@ -1,75 +1,88 @@
 //! Streams that fail, and texts that are too long.
 use super::*;
 
+/// The most bytes of a text.
 const LIMIT: usize = 8_388_608;
 
+/// The first lines of a text.
+fn first_lines(text: &[u8], count: usize) -> &[u8] {
+    let mut ended = 0usize;
+    for i in 0..text.len() {
+        if ended == count {
+            return &text[..i];
+        }
+        if text[i] == b'\n' {
+            ended = ended.saturating_add(1);
+        }
+    }
+    text
+}
+
 #[test]
-fn the_third_write_fails(rt: HostRuntime) -> Result<(), Fail> {
-    let done = call(rt.alloc(), &["replay"], ONE_MESSAGE.as_bytes(), &[], &[3])?;
-    assert_eq!(rt; done.status, WRITE_FAULT);
-    let heading: &[u8] = b"canely report 1
-params nodes 3 lag 0 omit 1 errors 2 bound 36 cycle 72 life 36 silence 73 confirm 10 slots 5
-";
-    assert_eq!(rt; done.sink.taken(), heading);
+fn a_source_that_never_fails(rt: HostRuntime) -> Result<(), Fail> {
+    let alloc = rt.alloc();
+    let mut source = PlainSource::new(ONE_MESSAGE.as_bytes().to_vec(alloc)?);
+    let report = ONE_MESSAGE_REPORT.as_bytes();
+    let seen = call_on(alloc, &["replay"], &mut source, &[], report)?;
+    assert!(rt; seen.is_answer(DONE));
     Ok(())
 }
 
 // A line is one write, and the report has 14.
 #[test]
 fn each_write_fails_in_turn(rt: HostRuntime) -> Result<(), Fail> {
-    let alloc = rt.alloc();
+    let text = ONE_MESSAGE.as_bytes();
     for k in 1..16u32 {
-        let done = call(alloc, &["replay"], ONE_MESSAGE.as_bytes(), &[], &[k])?;
-        assert_eq!(rt;
-            done.status,
-            if k < 15 { WRITE_FAULT } else { DONE },
+        let lines = first_lines(ONE_MESSAGE_REPORT.as_bytes(), k as usize - 1);
+        let seen = call(rt.alloc(), &["replay"], text, &[], &[k], lines)?;
+        assert!(rt;
+            seen.is_answer(if k < 15 { WRITE_FAULT } else { DONE }),
             "at {k}"
         );
-        let lines = first_lines(alloc, ONE_MESSAGE_REPORT, k as usize - 1)?;
-        assert_eq!(rt; done.sink.taken(), lines.as_slice(), "at {k}");
     }
     Ok(())
 }
 
 #[test]
 fn the_write_of_a_refusal_fails(rt: HostRuntime) -> Result<(), Fail> {
-    let done = call(rt.alloc(), &["replay"], b"", &[], &[1])?;
-    assert_eq!(rt; done.status, WRITE_FAULT);
-    assert_eq!(rt; done.sink.taken(), b"".as_slice());
+    for text in ["", "format = 1\nnodes = 3\nslots = 2\njournal = [\".3\"]\n"] {
+        let seen = call(rt.alloc(), &["replay"], text.as_bytes(), &[], &[1], b"")?;
+        assert!(rt; seen.is_answer(WRITE_FAULT), "at {text}");
+    }
     Ok(())
 }
 
 // The text is read in one piece, and a second read finds the end.
 #[test]
 fn each_read_fails_in_turn(rt: HostRuntime) -> Result<(), Fail> {
-    let alloc = rt.alloc();
-    let done = replay(alloc, ONE_MESSAGE)?;
-    assert_eq!(rt; done.source.calls(), 2);
+    let text = ONE_MESSAGE.as_bytes();
+    let report = ONE_MESSAGE_REPORT.as_bytes();
+    assert_eq!(rt;
+        replay(rt.alloc(), ONE_MESSAGE, ONE_MESSAGE_REPORT)?.reads,
+        2
+    );
     for k in 1..4u32 {
-        let done = call(alloc, &["replay"], ONE_MESSAGE.as_bytes(), &[k], &[])?;
-        assert_eq!(rt;
-            done.status,
-            if k < 3 { READ_FAULT } else { DONE },
+        let answer: &[u8] = if k < 3 { b"" } else { report };
+        let seen = call(rt.alloc(), &["replay"], text, &[k], &[], answer)?;
+        assert!(rt;
+            seen.is_answer(if k < 3 { READ_FAULT } else { DONE }),
             "at {k}"
         );
-        assert_eq!(rt; done.sink.calls() == 0, k < 3, "at {k}");
+        assert_eq!(rt; seen.writes == 0, k < 3, "at {k}");
     }
     Ok(())
 }
 
 #[test]
 fn reads_of_a_long_text_fail_in_turn(rt: HostRuntime) -> Result<(), Fail> {
-    let alloc = rt.alloc();
-    let mut text = b"#".to_vec(alloc)?;
-    for _ in 0..10_000 {
-        text.push(b'#')?;
-    }
-    let calls = call(alloc, &["replay"], &text, &[], &[])?.source.calls();
-    assert_eq!(rt; calls, 4);
+    let text = vec![in rt.alloc(); b'#'; 10_001]?;
+    let refusal = REFUSAL.as_bytes();
+    let reads = call(rt.alloc(), &["replay"], &text, &[], &[], refusal)?.reads;
+    assert_eq!(rt; reads, 4);
     for k in 1..5u32 {
-        let done = call(alloc, &["replay"], &text, &[k], &[])?;
-        assert_eq!(rt; done.status, READ_FAULT, "at {k}");
-        assert_eq!(rt; done.sink.calls(), 0, "at {k}");
+        let seen = call(rt.alloc(), &["replay"], &text, &[k], &[], b"")?;
+        assert_eq!(rt; seen.status, READ_FAULT, "at {k}");
+        assert_eq!(rt; seen.writes, 0, "at {k}");
     }
     Ok(())
 }
@@ -77,10 +90,9 @@ fn reads_of_a_long_text_fail_in_turn(rt: HostRuntime) -> Result<(), Fail> {
 #[test]
 fn a_byte_too_many(rt: HostRuntime) -> Result<(), Fail> {
     let alloc = rt.alloc();
-    let words = words_of(alloc, &["replay"])?;
     let mut source = PlainSource::new(vec![in alloc; b'#'; LIMIT + 1]?);
-    let mut sink = MemSink::new(alloc, Vec::new(alloc), ROOM)?;
-    assert_eq!(rt; replay_top(alloc, &words, &mut source, &mut sink), TOO_LONG);
-    assert_eq!(rt; sink.calls(), 0);
+    let seen = call_on(alloc, &["replay"], &mut source, &[], b"")?;
+    assert_eq!(rt; seen.status, TOO_LONG);
+    assert_eq!(rt; seen.writes, 0);
     Ok(())
 }

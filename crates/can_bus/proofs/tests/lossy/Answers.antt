@@ -7,12 +7,12 @@ of_parts-requires c = record {
   formulas = c.two_nodes.ensures.formulas;
   members = rw c.two_nodes.ensures.nodes c.all.ensures.below;
   sends = search rules;
-  rules = c.in_ok-rules.ensures.all c.two_nodes.result (omega (arith, c.two_nodes.ensures.slots));
+  rules = rw c.two_nodes.ensures.value c.in_ok-rules.ensures.all;
   joins = search rules;
   leaves = search rules;
   few_sends = search rules;
-  few_rules = omega (arith, c.in_ok-rules.ensures.few);
+  few_rules = omega (arith, c.in_ok-rules.ensures.count);
   few_joins = search rules;
   few_leaves = search rules;
-  places = c.in_ok-rules.ensures.apart;
+  places = rw c.as_slice.ensures.value at c.in_ok-build.ensures.distinct;
 }

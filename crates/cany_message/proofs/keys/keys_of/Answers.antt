@@ -1,6 +1,4 @@
-use Rattle.std.proofs.Common.{◌≡◌, ◌+◌, subst, sym, refl, arith}
-use Rattle.cany_base.specs.declared.message.MsgKey.{MsgKey}
-use Rattle.cany_message.specs.Sequence.{sent_by}
+use Rattle.std.proofs.Common.{◌+◌, subst, sym, refl, arith}
 use Rattle.cany_message.proofs.KeyFacts.{AreFirstKeys, keys_next, keys_all}
 use Rattle.cany_message.proofs.SequenceFacts.{before, counted_few, counted_next}
 use Rattle.cany_message.proofs.keys.keys_of.Goals as goal

@@ -2,6 +2,7 @@ use Rattle.std.proofs.Common.{◌≡◌, ◌∙◌, Some, ap, sym, rules}
 use Rattle.toml.specs.View.{table_view}
 use Rattle.cany_base.specs.ParamsFields.{parameters_of}
 use Rattle.cany_model.specs.Texts.ParamsText.{params_of}
+-- no law says that a text stands for a legal scenario alone
 use Rattle.cany_model.proofs.Texts.ScenarioTextLegal.{scenario_from-legal}
 use Rattle.cany_replay.proofs.ScenarioFacts.{scenario_from-parts}
 use Rattle.cany_replay.proofs.reader.scenario_from.Goals as goal

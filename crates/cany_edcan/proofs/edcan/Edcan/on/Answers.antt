@@ -5,11 +5,11 @@ use Rattle.cany_edcan.proofs.edcan.Edcan.on.Goals as goal
 
 pub on_copy-requires-clause-takes : goal.on_copy-requires-clause-takes
 on_copy-requires-clause-takes c =
-    takes_got c.args.self.now c.args.notice.now c.in-Got.frame c.requires.hears c.in-Got.is (sym c.is_data.ensures ∙ c.if-is_data.true)
+    takes_got c.args.self.now c.args.notice.now c.in-Got.frame c.requires.reads c.in-Got.is (sym c.is_data.ensures ∙ c.if-is_data.true)
 
 pub on_own-requires-clause-takes : goal.on_own-requires-clause-takes
 on_own-requires-clause-takes c =
-    takes_sent c.args.self.now c.args.notice.now c.in-Sent.frame c.requires.hears c.in-Sent.is (sym c.is_data-in-Sent.ensures ∙ c.if-is_data-2.true)
+    takes_sent c.args.self.now c.args.notice.now c.in-Sent.frame c.requires.reads c.in-Sent.is (sym c.is_data-in-Sent.ensures ∙ c.if-is_data-2.true)
 
 pub returns-then-is_data-clause-stands : goal.returns-then-is_data-clause-stands
 returns-then-is_data-clause-stands c = λ scenario past h next.

@@ -4,11 +4,11 @@ use Rattle.cany_relcan.proofs.relcan.Relcan.on.Goals as goal
 
 pub returns-clause-actions : goal.returns-clause-actions
 returns-clause-actions c = λ scenario past h next.
-    turn_actions scenario c.args.self.now.node c.args.notice.now.slot c.args.notice.now.kind past c.hear.new.self
-    c.args.out.now.items c.hear.new.out.items c.end_timer.new.out.items (c.hear.ensures.stands scenario past h next) next.slot c.end_timer.ensures.in_range
-    (c.hear.ensures.actions scenario past h next) c.end_timer.ensures.actions
+    turn_actions scenario c.args.self.now.node c.args.notice.now.slot c.args.notice.now.kind past c.on_notice.new.self
+    c.args.out.now.items c.on_notice.new.out.items c.end_timer.new.out.items (c.on_notice.ensures.stands scenario past h next) next.slot c.end_timer.ensures.in_range
+    (c.on_notice.ensures.actions scenario past h next) c.end_timer.ensures.actions
 
 pub returns-clause-stands : goal.returns-clause-stands
 returns-clause-stands c = λ scenario past h next.
-    ended_stands scenario c.args.self.now.node c.args.notice.now.slot c.args.notice.now.kind past c.hear.new.self c.end_timer.new.self
-    (c.hear.ensures.stands scenario past h next) next.slot c.end_timer.ensures.in_range c.end_timer.ensures.state
+    ended_stands scenario c.args.self.now.node c.args.notice.now.slot c.args.notice.now.kind past c.on_notice.new.self c.end_timer.new.self
+    (c.on_notice.ensures.stands scenario past h next) next.slot c.end_timer.ensures.in_range c.end_timer.ensures.state

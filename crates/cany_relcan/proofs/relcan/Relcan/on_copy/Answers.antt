@@ -4,7 +4,7 @@ use Rattle.cany_message.specs.Numbers.{frame_number}
 use Rattle.cany_message.proofs.NumberFacts.{room_to_take}
 use Rattle.cany_relcan.specs.Relcan.{RelcanParts}
 use Rattle.cany_relcan.specs.RelcanSteps.{starts_timer}
-use Rattle.cany_relcan.proofs.HeardFacts.{spare_for_timer}
+use Rattle.cany_relcan.proofs.ReadFacts.{spare_for_timer}
 use Rattle.cany_relcan.proofs.relcan.Relcan.on_copy.Goals as goal
 
 pub learn-learnt-requires-clause-room : goal.learn-learnt-requires-clause-room

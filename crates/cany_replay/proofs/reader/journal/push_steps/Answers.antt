@@ -1,4 +1,4 @@
-use Rattle.std.proofs.Common.{◌≡◌, ◌∙◌, ◌+◌, sym, ap, drop, length, arith}
+use Rattle.std.proofs.Common.{◌≡◌, ◌∙◌, sym, ap, drop, length, arith}
 use Rattle.cany_model.specs.Texts.JournalText.{steps_of}
 use Rattle.cany_replay.specs.JournalParts.{after}
 use Rattle.cany_replay.proofs.JournalFacts.{letters_next, letters_done}

@@ -1,8 +1,8 @@
-use Rattle.std.proofs.Common.{◌≡◌, ◌++◌, ◌∷◌, [], true, cond, length, sym, ◌∙◌, ap, refl, arith, append-nil, length-append}
+use Rattle.std.proofs.Common.{◌≡◌, ◌++◌, ◌∷◌, [], true, length, sym, ◌∙◌, ap, arith, append-nil, length-append}
 use Rattle.std.specs.Prelude.{decimal}
 use Rattle.cany_base.specs.Nodes.{has}
 use Rattle.cany_model.specs.Texts.ReportLines.{set_text}
-use Rattle.cany_replay.proofs.SetTextFacts.{HasListed-start, HasListed-skip, HasListed-more, HasListed-all, HasListed-room, with_separator, set_text-short}
+use Rattle.cany_replay.proofs.SetTextFacts.{HasListed-start, HasListed-skip, HasListed-more, HasListed-all, HasListed-room, set_text-short}
 use Rattle.cany_replay.proofs.report.row.push_set.Goals as goal
 use Rattle.cany_replay.proofs.report.row.push_set.Goals.{then-has, else-has, then-not-is_empty, else-not-is_empty}
 

@@ -2,7 +2,8 @@
 use Rattle.std.specs.Prelude.{nat_lt}
 use Rattle.std.specs.List.{list_any}
 use Rattle.std.proofs.Common.{◌≡◌, ℕ, ◌+◌, ◌<◌, ◌≤◌, ◌==◌, ◌&&◌, ◌||◌, Bool, true, false, if◌then◌else◌, not, List, [], ◌∷◌, ◌++◌, length, refl, ap, subst, sym, ◌∙◌, arith, length-append}
-use Rattle.std.proofs.lemmas.Bool.{and_parts, false≢true}
+use Rattle.std.proofs.lemmas.Bool.{and_parts, not-true}
+use Rattle.std.proofs.lemmas.Bool.Decides.{nat_tests}
 use Rattle.std.proofs.lemmas.List.{append-nil}
 use Rattle.cany_base.specs.declared.frame.Class.TheVariants as class
 use Rattle.cany_base.specs.declared.message.Service.TheVariants as service
@@ -20,7 +21,7 @@ use Rattle.cany_model.specs.Bus.History.{copies, has_own}
 use Rattle.cany_model.specs.Rules.Notices.{IsNextNotice, NamesMessage}
 use Rattle.cany_model.specs.Rules.Relcan.{has_copy, is_timed}
 use Rattle.cany_relcan.specs.declared.timers.Timer.{Timer}
-use Rattle.cany_relcan.specs.Relcan.{RelcanParts, HasLimitsOf, IsRelcanOf, HasHeard, CanHear, data_identity, is_key_of, of_own, of_none}
+use Rattle.cany_relcan.specs.Relcan.{RelcanParts, HasLimitsOf, IsRelcanOf, HasRead, CanRead, data_identity, is_key_of, of_own, of_none}
 use Rattle.cany_relcan.specs.RelcanSteps.{starts_timer, timers_with, was_delivered}
 use Rattle.cany_relcan.specs.Timers.{TimersParts, started_by, started_since}
 use Rattle.cany_relcan.proofs.TablesFacts.{tables_confirmed, tables_got, tables_other, tables_sent}
@@ -31,20 +32,16 @@ use Rattle.cany_relcan.proofs.TablesFacts.{tables_confirmed, tables_got, tables_
 pub at_own_node : (scenario : ScenarioParts) (i : ℕ) (past : List NoticeKind) (v : RelcanParts) → IsRelcanOf scenario i past v → IsRelcanOf scenario v.node past v
 at_own_node scenario i past v h = subst (λ n. IsRelcanOf scenario n past v) (sym h.limits.node) h
 
-pub can_hear : (scenario : ScenarioParts) (i : ℕ) (past : List NoticeKind) (v : RelcanParts) (notice : Notice) → IsRelcanOf scenario i past v
-    → IsNextNotice scenario past notice → CanHear v notice
-can_hear scenario i past v notice h next = record { scenario = scenario; past = past; stands = at_own_node scenario i past v h; next = next }
+pub can_read : (scenario : ScenarioParts) (i : ℕ) (past : List NoticeKind) (v : RelcanParts) (notice : Notice) → IsRelcanOf scenario i past v
+    → IsNextNotice scenario past notice → CanRead v notice
+can_read scenario i past v notice h next = record { scenario = scenario; past = past; stands = at_own_node scenario i past v h; next = next }
 
 -- ---- room
-
-not_true : (b : Bool) → not b ≡ true → b ≡ false
-not_true true h = absurd (false≢true h)
-not_true false h = refl
 
 -- a message that was not delivered has no entry yet
 new_entry : (v : RelcanParts) (f : FrameParts) → is_there v.copies (frame_number f) ≡ is_held v.copies (frame_number f) → starts_timer v f ≡ true
     → is_there v.copies (frame_number f) ≡ false
-new_entry v f there starts = there ∙ not_true (was_delivered v f) (and_parts (not (was_delivered v f)) (not (f.node == v.node)) starts).0
+new_entry v f there starts = there ∙ not-true (was_delivered v f) (and_parts (not (was_delivered v f)) (not (f.node == v.node)) starts).0
 
 spare_falls : (v : RelcanParts) (f : FrameParts) (new : EagerParts) → IsPut (frame_number f) v.copies new → is_there v.copies (frame_number f) ≡ false
     → spare_of new + 1 ≡ spare_of v.copies
@@ -70,14 +67,7 @@ fallen_fit false slot f v w is same some fit = rw (is, same) fit
 -- ---- which copy starts a timer
 
 starts_when : (c at own : Bool) → (not (c || (at && own)) && not at) ≡ ((true && not at) && not c)
-starts_when true true own = refl
-starts_when true false own = refl
-starts_when false true own = and_none (not own)
-  where
-    and_none : (b : Bool) → (b && false) ≡ false
-    and_none true = refl
-    and_none false = refl
-starts_when false false own = refl
+starts_when c at own = grind (arith, nat_tests)
 
 with_is : (b : Bool) (slot at : ℕ) (f : FrameParts) (timers : TimersParts) → slot ≡ at
     → (timers_with b slot f timers).running ≡ timers.running ++ (if b then record { frame = f; first = at } ∷ [] else [])
@@ -108,10 +98,10 @@ module _ (scenario : ScenarioParts) (i : ℕ) (past : List NoticeKind) (v w : Re
       ∙ ap (λ b. (b && not (f.node == i)) && not (has_copy (identity_of f) past)) (sym is)
 
   -- a copy of a data frame
-  pub heard_copy : (slot : ℕ) → f.class ≡ class.Rel → same_class f.class class.Rel ≡ true → slot ≡ length past → slot < scenario.params.slots
+  pub read_copy : (slot : ℕ) → f.class ≡ class.Rel → same_class f.class class.Rel ≡ true → slot ≡ length past → slot < scenario.params.slots
       → IsLearnt (frame_number f) v.copies w.copies → w ≡ record v { copies = w.copies; timers = timers_with (starts_timer v f) slot f v.timers }
-      → HasHeard scenario i (Got f) past w
-  heard_copy slot rel is at within learnt state =
+      → HasRead scenario i (Got f) past w
+  read_copy slot rel is at within learnt state =
       let timers : w.timers ≡ timers_with (starts_timer v f) slot f v.timers = ap (λ (x : RelcanParts). x.timers) state in
       let fallen : w.fallen ≡ v.fallen = ap (λ (x : RelcanParts). x.fallen) state in
       let confirms = ap (λ (x : RelcanParts). x.confirms) state in
@@ -134,9 +124,9 @@ module _ (scenario : ScenarioParts) (i : ℕ) (past : List NoticeKind) (v w : Re
       }
 
   -- a confirmation
-  pub heard_confirmation : f.class ≡ class.Confirm → same_class f.class class.Rel ≡ false → length past < scenario.params.slots
-      → IsLearnt (frame_number f) v.confirms w.confirms → w ≡ record v { confirms = w.confirms } → HasHeard scenario i (Got f) past w
-  heard_confirmation is other within learnt state = subst (HasHeard scenario i (Got f) past) (sym state) (record {
+  pub read_confirmation : f.class ≡ class.Confirm → same_class f.class class.Rel ≡ false → length past < scenario.params.slots
+      → IsLearnt (frame_number f) v.confirms w.confirms → w ≡ record v { confirms = w.confirms } → HasRead scenario i (Got f) past w
+  read_confirmation is other within learnt state = subst (HasRead scenario i (Got f) past) (sym state) (record {
     limits = same_limits;
     tables = tables_confirmed scenario i past v.copies v.confirms h.tables f small named w.confirms is (omega (arith, within, h.limits.legal.in_range.slots)) learnt;
     timers = none_started i scenario.params.confirm (Got f) past v.timers.running h.timers (no_timer i (Got f) past other);
@@ -153,8 +143,8 @@ module _ (scenario : ScenarioParts) (i : ℕ) (past : List NoticeKind) (v w : Re
       }
 
   -- the node's own transmission of the data frame of its own message
-  pub heard_sent : f.class ≡ class.Rel → f.node ≡ i → IsOwned (frame_number f) v.copies w.copies → w ≡ record v { copies = w.copies } → HasHeard scenario i (Sent f) past w
-  heard_sent rel own owned state = subst (HasHeard scenario i (Sent f) past) (sym state) (record {
+  pub read_sent : f.class ≡ class.Rel → f.node ≡ i → IsOwned (frame_number f) v.copies w.copies → w ≡ record v { copies = w.copies } → HasRead scenario i (Sent f) past w
+  read_sent rel own owned state = subst (HasRead scenario i (Sent f) past) (sym state) (record {
     limits = same_limits;
     tables = tables_sent scenario i past v.copies v.confirms h.tables f small named w.copies rel own owned;
     timers = none_started i scenario.params.confirm (Sent f) past v.timers.running h.timers refl;
@@ -171,9 +161,9 @@ module _ (scenario : ScenarioParts) (i : ℕ) (past : List NoticeKind) (v w : Re
       }
 
 -- any other notice
-pub heard_other : (scenario : ScenarioParts) (i : ℕ) (notice : NoticeKind) (past : List NoticeKind) (v : RelcanParts)
-    → IsOther class.Rel (of_own i) notice → IsOther class.Confirm of_none notice → IsRelcanOf scenario i past v → HasHeard scenario i notice past v
-heard_other scenario i notice past v no_data no_confirm h = record {
+pub read_other : (scenario : ScenarioParts) (i : ℕ) (notice : NoticeKind) (past : List NoticeKind) (v : RelcanParts)
+    → IsOther class.Rel (of_own i) notice → IsOther class.Confirm of_none notice → IsRelcanOf scenario i past v → HasRead scenario i notice past v
+read_other scenario i notice past v no_data no_confirm h = record {
   limits = h.limits;
   tables = tables_other scenario i past v.copies v.confirms h.tables notice no_data no_confirm;
   timers = none_started i scenario.params.confirm notice past v.timers.running h.timers (no_timer i notice past no_data);

@@ -1,70 +1,69 @@
 -- A notice, before the timer that ends in its turn.
-use Rattle.std.proofs.Common.{◌≡◌, ◌==◌, ◌&&◌, true, false, subst, sym, ◌∙◌, arith}
+use Rattle.std.proofs.Common.{◌≡◌, ◌==◌, true, subst, sym, ◌∙◌, arith}
 use Rattle.std.proofs.lemmas.Bool.{and_parts, eqb-true}
 use Rattle.cany_base.specs.declared.frame.Class.TheVariants as class
 use Rattle.cany_base.specs.declared.message.Service.TheVariants as service
 use Rattle.cany_base.specs.declared.notice.NoticeKind.TheVariants.{Idle, Got, Sent, Bad}
 use Rattle.cany_message.proofs.DeliveryFacts.{no_actions}
 use Rattle.cany_message.proofs.NoticeFacts.{got_names, sent_names}
-use Rattle.cany_message.proofs.TableFacts.{IsOther, can_take}
+use Rattle.cany_message.proofs.TableFacts.{can_take}
 use Rattle.cany_model.specs.Bus.Frames.{same_class}
-use Rattle.cany_model.specs.Rules.Relcan.{relcan_at}
 use Rattle.cany_model.proofs.Bus.Identities.{same_class-true}
-use Rattle.cany_relcan.specs.Relcan.{HasHeard, of_own, of_none}
+use Rattle.cany_relcan.specs.Relcan.{HasRead, of_own, of_none}
 use Rattle.cany_relcan.proofs.ActionFacts.{got_actions, sent_actions, none_at}
-use Rattle.cany_relcan.proofs.HeardFacts.{heard_copy, heard_confirmation, heard_sent, heard_other}
+use Rattle.cany_relcan.proofs.ReadFacts.{read_copy, read_confirmation, read_sent, read_other}
 use Rattle.cany_relcan.proofs.TablesFacts.{confirm_names, none_noted}
-use Rattle.cany_relcan.proofs.relcan.Relcan.hear.Goals as goal
+use Rattle.cany_relcan.proofs.relcan.Relcan.on_notice.Goals as goal
 
 pub on_copy-requires-clause-takes : goal.on_copy-requires-clause-takes
 on_copy-requires-clause-takes c =
-    let hears = c.requires.hears in
-    can_take hears.scenario class.Rel (of_own c.args.self.now.node) service.Rel hears.past c.args.self.now.copies c.in-Got.frame hears.stands.tables.data_frames
-    (got_names hears.scenario hears.past c.args.notice.now c.in-Got.frame hears.next service.Rel c.in-Got.is (same_class-true c.in-Got.frame.class class.Rel (sym c.is_data.ensures ∙ c.if-is_data.true)))
+    let reads = c.requires.reads in
+    can_take reads.scenario class.Rel (of_own c.args.self.now.node) service.Rel reads.past c.args.self.now.copies c.in-Got.frame reads.stands.tables.data_frames
+    (got_names reads.scenario reads.past c.args.notice.now c.in-Got.frame reads.next service.Rel c.in-Got.is (same_class-true c.in-Got.frame.class class.Rel (sym c.is_data.ensures ∙ c.if-is_data.true)))
 
 pub on_copy-requires-clause-there : goal.on_copy-requires-clause-there
-on_copy-requires-clause-there c = c.requires.hears.stands.tables.data_frames.there _
+on_copy-requires-clause-there c = c.requires.reads.stands.tables.data_frames.there _
 
 pub on_copy-requires-clause-timers : goal.on_copy-requires-clause-timers
-on_copy-requires-clause-timers c = c.requires.hears.stands.limits.timers_room
+on_copy-requires-clause-timers c = c.requires.reads.stands.limits.timers_room
 
 pub on_confirmation-requires : goal.on_confirmation-requires
 on_confirmation-requires c =
-    let hears = c.requires.hears in
-    can_take hears.scenario class.Confirm of_none service.Rel hears.past c.args.self.now.confirms c.in-Got.frame hears.stands.tables.confirmations
-    (confirm_names hears.scenario hears.past c.args.notice.now c.in-Got.frame hears.next c.in-Got.is (same_class-true c.in-Got.frame.class class.Confirm (sym c.is_confirmation.ensures ∙ c.if-is_confirmation.true)))
+    let reads = c.requires.reads in
+    can_take reads.scenario class.Confirm of_none service.Rel reads.past c.args.self.now.confirms c.in-Got.frame reads.stands.tables.confirmations
+    (confirm_names reads.scenario reads.past c.args.notice.now c.in-Got.frame reads.next c.in-Got.is (same_class-true c.in-Got.frame.class class.Confirm (sym c.is_confirmation.ensures ∙ c.if-is_confirmation.true)))
 
 pub on_own-requires-clause-takes : goal.on_own-requires-clause-takes
 on_own-requires-clause-takes c =
-    let hears = c.requires.hears in
+    let reads = c.requires.reads in
     let own = and_parts (same_class c.in-Sent.frame.class class.Rel) (c.in-Sent.frame.node == c.args.self.now.node) (sym c.is_own.ensures ∙ c.if-is_own.true) in
-    can_take hears.scenario class.Rel (of_own c.args.self.now.node) service.Rel hears.past c.args.self.now.copies c.in-Sent.frame hears.stands.tables.data_frames
-    (sent_names hears.scenario hears.past c.args.notice.now c.in-Sent.frame hears.next service.Rel c.in-Sent.is (same_class-true c.in-Sent.frame.class class.Rel own.0))
+    can_take reads.scenario class.Rel (of_own c.args.self.now.node) service.Rel reads.past c.args.self.now.copies c.in-Sent.frame reads.stands.tables.data_frames
+    (sent_names reads.scenario reads.past c.args.notice.now c.in-Sent.frame reads.next service.Rel c.in-Sent.is (same_class-true c.in-Sent.frame.class class.Rel own.0))
 
 pub returns-then-is_data-clause-stands : goal.returns-then-is_data-clause-stands
 returns-then-is_data-clause-stands c = λ scenario past h next.
     let is : same_class c.in-Got.frame.class class.Rel ≡ true = sym c.is_data.ensures ∙ c.if-is_data.true in
     let rel = same_class-true c.in-Got.frame.class class.Rel is in
     rw c.in-Got.is
-    (heard_copy scenario c.args.self.now.node past c.args.self.now c.on_copy.new.self c.in-Got.frame h c.on_copy.ensures.in_range
+    (read_copy scenario c.args.self.now.node past c.args.self.now c.on_copy.new.self c.in-Got.frame h c.on_copy.ensures.in_range
     (got_names scenario past c.args.notice.now c.in-Got.frame next service.Rel c.in-Got.is rel) c.args.notice.now.slot rel is next.slot next.within
     c.on_copy.ensures.learnt c.on_copy.ensures.state)
 
 pub returns-then-is_data-clause-actions : goal.returns-then-is_data-clause-actions
 returns-then-is_data-clause-actions c = λ scenario past h next.
     let is : same_class c.in-Got.frame.class class.Rel ≡ true = sym c.is_data.ensures ∙ c.if-is_data.true in
-    let heard : HasHeard scenario c.args.self.now.node (Got c.in-Got.frame) past c.on_copy.new.self =
-    subst (λ kind. HasHeard scenario c.args.self.now.node kind past c.on_copy.new.self) c.in-Got.is (returns-then-is_data-clause-stands c scenario past h next) in
+    let read : HasRead scenario c.args.self.now.node (Got c.in-Got.frame) past c.on_copy.new.self =
+    subst (λ kind. HasRead scenario c.args.self.now.node kind past c.on_copy.new.self) c.in-Got.is (returns-then-is_data-clause-stands c scenario past h next) in
     rw c.in-Got.is
     (c.on_copy.ensures.actions
     ∙ got_actions scenario c.args.self.now.node c.args.notice.now.slot past c.args.self.now c.on_copy.new.self c.in-Got.frame c.args.out.now.items
-    h (same_class-true c.in-Got.frame.class class.Rel is) is c.on_copy.ensures.in_range next.slot heard)
+    h (same_class-true c.in-Got.frame.class class.Rel is) is c.on_copy.ensures.in_range next.slot read)
 
 pub returns-then-is_confirmation-clause-stands : goal.returns-then-is_confirmation-clause-stands
 returns-then-is_confirmation-clause-stands c = λ scenario past h next.
     let confirm = same_class-true c.in-Got.frame.class class.Confirm (sym c.is_confirmation.ensures ∙ c.if-is_confirmation.true) in
     rw c.in-Got.is
-    (heard_confirmation scenario c.args.self.now.node past c.args.self.now c.on_confirmation.new.self c.in-Got.frame h c.on_confirmation.ensures.in_range
+    (read_confirmation scenario c.args.self.now.node past c.args.self.now c.on_confirmation.new.self c.in-Got.frame h c.on_confirmation.ensures.in_range
     (confirm_names scenario past c.args.notice.now c.in-Got.frame next c.in-Got.is confirm) confirm (sym c.is_data.ensures ∙ c.if-is_data.false)
     (omega (arith, next.slot, next.within)) c.on_confirmation.ensures.learnt c.on_confirmation.ensures.state)
 
@@ -75,7 +74,7 @@ returns-then-is_confirmation-clause-actions c = λ scenario past h next.
 pub returns-else-is_confirmation-clause-stands : goal.returns-else-is_confirmation-clause-stands
 returns-else-is_confirmation-clause-stands c = λ scenario past h next.
     rw c.in-Got.is
-    (heard_other scenario c.args.self.now.node (Got c.in-Got.frame) past c.args.self.now (sym c.is_data.ensures ∙ c.if-is_data.false)
+    (read_other scenario c.args.self.now.node (Got c.in-Got.frame) past c.args.self.now (sym c.is_data.ensures ∙ c.if-is_data.false)
     (sym c.is_confirmation.ensures ∙ c.if-is_confirmation.false) h)
 
 pub returns-else-is_confirmation-clause-actions : goal.returns-else-is_confirmation-clause-actions
@@ -87,7 +86,7 @@ returns-then-is_own-clause-stands c = λ scenario past h next.
     let own = and_parts (same_class c.in-Sent.frame.class class.Rel) (c.in-Sent.frame.node == c.args.self.now.node) (sym c.is_own.ensures ∙ c.if-is_own.true) in
     let rel = same_class-true c.in-Sent.frame.class class.Rel own.0 in
     rw c.in-Sent.is
-    (heard_sent scenario c.args.self.now.node past c.args.self.now c.on_own.new.self c.in-Sent.frame h c.on_own.ensures.in_range
+    (read_sent scenario c.args.self.now.node past c.args.self.now c.on_own.new.self c.in-Sent.frame h c.on_own.ensures.in_range
     (sent_names scenario past c.args.notice.now c.in-Sent.frame next service.Rel c.in-Sent.is rel) rel (eqb-true c.in-Sent.frame.node c.args.self.now.node own.1)
     c.on_own.ensures.owned c.on_own.ensures.state)
 
@@ -102,20 +101,20 @@ returns-then-is_own-clause-actions c = λ scenario past h next.
 pub returns-else-is_own-clause-stands : goal.returns-else-is_own-clause-stands
 returns-else-is_own-clause-stands c = λ scenario past h next.
     rw c.in-Sent.is
-    (heard_other scenario c.args.self.now.node (Sent c.in-Sent.frame) past c.args.self.now (sym c.is_own.ensures ∙ c.if-is_own.false) (none_noted c.in-Sent.frame) h)
+    (read_other scenario c.args.self.now.node (Sent c.in-Sent.frame) past c.args.self.now (sym c.is_own.ensures ∙ c.if-is_own.false) (none_noted c.in-Sent.frame) h)
 
 pub returns-else-is_own-clause-actions : goal.returns-else-is_own-clause-actions
 returns-else-is_own-clause-actions c = λ scenario past h next.
     rw c.in-Sent.is (no_actions c.args.out.now.items _ (none_at scenario.params c.args.self.now.node (Sent c.in-Sent.frame) past (sym c.is_own.ensures ∙ c.if-is_own.false)))
 
 pub returns-in-Idle-clause-stands : goal.returns-in-Idle-clause-stands
-returns-in-Idle-clause-stands c = λ scenario past h next. rw c.in-Idle.is (heard_other scenario c.args.self.now.node Idle past c.args.self.now tt tt h)
+returns-in-Idle-clause-stands c = λ scenario past h next. rw c.in-Idle.is (read_other scenario c.args.self.now.node Idle past c.args.self.now tt tt h)
 
 pub returns-in-Idle-clause-actions : goal.returns-in-Idle-clause-actions
 returns-in-Idle-clause-actions c = λ scenario past h next. rw c.in-Idle.is (no_actions c.args.out.now.items _ (none_at scenario.params c.args.self.now.node Idle past tt))
 
 pub returns-in-Bad-clause-stands : goal.returns-in-Bad-clause-stands
-returns-in-Bad-clause-stands c = λ scenario past h next. rw c.in-Bad.is (heard_other scenario c.args.self.now.node Bad past c.args.self.now tt tt h)
+returns-in-Bad-clause-stands c = λ scenario past h next. rw c.in-Bad.is (read_other scenario c.args.self.now.node Bad past c.args.self.now tt tt h)
 
 pub returns-in-Bad-clause-actions : goal.returns-in-Bad-clause-actions
 returns-in-Bad-clause-actions c = λ scenario past h next. rw c.in-Bad.is (no_actions c.args.out.now.items _ (none_at scenario.params c.args.self.now.node Bad past tt))
