@@ -2,15 +2,15 @@
 use Rattle.std.proofs.Common.{◌≡◌, ℕ, suc, ◌<◌, ◌==◌, ◌&&◌, inl, inr, true, List, [], ◌∷◌, map, length, refl, ap, sym, ◌∙◌, arith}
 use Rattle.std.proofs.lemmas.Bool.Decides.{nat_tests}
 use Rattle.std.proofs.lemmas.List.{length-map}
-use Rattle.cany_base.specs.declared.message.SendAsk.{SendAsk}
 use Rattle.cany_base.specs.declared.message.Service.{Service}
 use Rattle.cany_base.specs.Frame.{FrameParts}
 use Rattle.cany_base.specs.Scenario.{ScenarioParts}
 use Rattle.cany_diffuse.specs.Eager.{EagerParts, is_among, IsCounted, HasRoomFor}
 use Rattle.cany_diffuse.proofs.RoomFacts.{room_within}
-use Rattle.cany_model.specs.Rules.Messages.{Message, messages_after, messages_of}
+use Rattle.cany_model.specs.Rules.Messages.{Message, messages_of}
 use Rattle.cany_model.specs.Rules.Notices.{NamesMessage}
 use Rattle.cany_model.proofs.Among.{Among, Among-from_Contains}
+use Rattle.cany_model.proofs.Rules.MessageKeys.{length-messages_of}
 use Rattle.cany_message.specs.Numbers.{origins, message_number, message_numbers, frame_number}
 use Rattle.cany_message.specs.Table.{CanTake}
 
@@ -23,13 +23,8 @@ one_origin s o t p ho hp e = omega arith
 pub same_number : (s o t p : ℕ) → o < origins → p < origins → (message_number s o == message_number t p) ≡ (s == t && o == p)
 same_number s o t p ho hp = grind (arith, nat_tests, one_seq s o t p ho hp, one_origin s o t p ho hp)
 
-length-messages_after : (earlier sends : List SendAsk) → length (messages_after earlier sends) ≡ length sends
-unfolding messages_after
-length-messages_after earlier [] = refl
-length-messages_after earlier (x ∷ sends) = ap suc (length-messages_after (x ∷ earlier) sends)
-
 pub length-message_numbers : (scenario : ScenarioParts) → length (message_numbers scenario) ≡ length scenario.sends
-length-message_numbers scenario = length-map (messages_of scenario.sends) (λ m. message_number m.seq m.origin) ∙ length-messages_after [] scenario.sends
+length-message_numbers scenario = length-map (messages_of scenario.sends) (λ m. message_number m.seq m.origin) ∙ length-messages_of scenario.sends
 
 number_among : (messages : List Message) (m : Message) → Among (λ k. k ≡ m) messages
     → is_among (message_number m.seq m.origin) (map (λ k. message_number k.seq k.origin) messages) ≡ true

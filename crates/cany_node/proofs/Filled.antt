@@ -7,7 +7,6 @@ use Rattle.std.proofs.lemmas.List.Sums.{count_by-le-length}
 use Rattle.cany_base.specs.declared.log_entry.LogEntry.{LogEntry}
 use Rattle.cany_base.specs.declared.log_entry.LogEntry.TheVariants.{Deliver, Failed, View}
 use Rattle.cany_base.specs.declared.message.MsgKey.{MsgKey}
-use Rattle.cany_base.specs.declared.message.SendAsk.{SendAsk}
 use Rattle.cany_base.specs.declared.message.Service.{Service}
 use Rattle.cany_base.specs.declared.message.Service.TheVariants.{Ed, Rel, Tot}
 use Rattle.cany_base.specs.declared.notice.NoticeKind.{NoticeKind}
@@ -16,7 +15,7 @@ use Rattle.cany_base.specs.Scenario.{ScenarioParts}
 use Rattle.cany_model.specs.Bus.Frames.{Identity, bare, identity_of, is_of}
 use Rattle.cany_model.specs.Promises.Safe.{delivers_key}
 use Rattle.cany_model.specs.Rules.Log.{log_from}
-use Rattle.cany_model.specs.Rules.Messages.{Message, messages_after, messages_of, message_key}
+use Rattle.cany_model.specs.Rules.Messages.{Message, messages_of, message_key}
 use Rattle.cany_model.specs.Rules.Notices.{BelongsTo, IsDataOf}
 use Rattle.cany_model.specs.Rules.Protocol.{Protocol}
 use Rattle.cany_model.specs.Rules.Rooms.{waiting_room, log_room}
@@ -24,7 +23,7 @@ use Rattle.cany_model.proofs.Among.{Among, Among-drop, Among-from_Contains, Amon
 use Rattle.cany_model.proofs.Bus.Carried.{Has}
 use Rattle.cany_model.proofs.Bus.Identities.{same_identity-true}
 use Rattle.cany_model.proofs.Rules.LogFacts.{log_once, log_split, made_by}
-use Rattle.cany_model.proofs.Rules.MessageKeys.{IsOneOf, same_message}
+use Rattle.cany_model.proofs.Rules.MessageKeys.{IsOneOf, length-messages_of, same_message}
 use Rattle.cany_model.proofs.Rules.ProtocolFacts.{IsFoundedEntry, IsLawful, log_by}
 use Rattle.cany_model.proofs.Rules.RoomFacts.{few_waiting, pigeonhole}
 use Rattle.can_controller.specs.Waiting.{IsAscending}
@@ -138,11 +137,6 @@ each_known scenario i past readable = each_from (log_from scenario i past) one
         let made = made_by (λ y. y ≡ e) scenario split.0 split.1 i past split.2 in
         known scenario split.0 past made.place e readable (subst (IsFoundedEntry split.0 (drop made.place past)) made.is made.founded)
 
-length-messages : (earlier sends : List SendAsk) → length (messages_after earlier sends) ≡ length sends
-unfolding messages_after
-length-messages earlier [] = refl
-length-messages earlier (send ∷ sends) = ap suc (length-messages (send ∷ earlier) sends)
-
 all_counted : (entries : List LogEntry) → length entries ≤ count_by (λ e. true) entries
 all_counted [] = omega arith
 all_counted (e ∷ entries) = omega (arith, count-yes (λ d. true) e entries refl, all_counted entries)
@@ -157,5 +151,5 @@ log_within scenario i past readable =
           (Each-weaker (Known scenario) (λ e. true ≡ true → Known scenario e) (λ e k is. k) (log_from scenario i past) (each_known scenario i past readable))
           (λ m. delivered_once scenario i past readable (message_key m)),
       count_by-le-length (λ m. true) (messages_of scenario.sends),
-      length-messages [] scenario.sends,
+      length-messages_of scenario.sends,
     )

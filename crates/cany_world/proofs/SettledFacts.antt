@@ -1,6 +1,6 @@
 -- When a message is settled, by what the controllers and the nodes have.
 use Rattle.std.proofs.Common.{◌≡◌, ℕ, zero, suc, ◌+◌, ◌-◌, ◌<◌, ◌≤◌, ◌&&◌, ◌||◌, Bool, true, false, not, List, [], ◌∷◌, length, get_or, map, Contains, refl, ap, sym, subst, ◌∙◌, arith}
-use Rattle.std.specs.Prelude.{slice_get, option_map, Option, Some}
+use Rattle.std.specs.Prelude.{slice_get, option_map, IsSomeAnd, Option, None, Some}
 use Rattle.std.specs.List.{list_any, list_all, range_with_len}
 use Rattle.std.proofs.lemmas.List.{length-map}
 use Rattle.std.proofs.lemmas.List.Elements.{All-contains}
@@ -12,7 +12,8 @@ use Rattle.cany_base.specs.declared.step.Step.{Step}
 use Rattle.cany_base.specs.Scenario.{ScenarioParts, IsLegalScenario, IsSendOf}
 use Rattle.cany_model.specs.Bus.Run.{all_read, run}
 use Rattle.cany_model.specs.Promises.Settled.{is_ahead, is_awaited, is_settled}
-use Rattle.cany_model.specs.Rules.Messages.{Message, frames_named, frames_of, message_key, message_of, messages_after, messages_of}
+use Rattle.cany_model.specs.Rules.Messages.{Message, frames_named, frames_of, message_key, message_of, messages_of}
+use Rattle.cany_model.proofs.Rules.MessageKeys.{length-messages_of, message_at}
 use Rattle.can_controller.specs.Controller.{ControllerState}
 use Rattle.cany_node.specs.Node.{NodeParts}
 use Rattle.cany_world.specs.Controllers.{awaits, has_read}
@@ -85,20 +86,8 @@ module _ (i : ℕ) (key : MsgKey) (controllers : List ControllerState) (nodes : 
 
 -- ---- the message of a scripted send
 
-length-messages_after : (earlier sends : List SendAsk) → length (messages_after earlier sends) ≡ length sends
-unfolding messages_after
-length-messages_after earlier [] = refl
-length-messages_after earlier (send ∷ sends) = ap suc (length-messages_after (send ∷ earlier) sends)
-
 pub length-keys : (sends : List SendAsk) (keys : List MsgKey) → keys ≡ map message_key (messages_of sends) → length keys ≡ length sends
-length-keys sends keys e = ap (λ (k : List MsgKey). length k) e ∙ length-map (messages_of sends) message_key ∙ length-messages_after [] sends
-
-message_at : (earlier sends : List SendAsk) (index : ℕ) (send : SendAsk) → slice_get sends index ≡ Some send
-    → (before : List SendAsk) × (slice_get (messages_after earlier sends) index ≡ Some (message_of before send))
-unfolding messages_after
-message_at earlier [] index send at = absurd (cc)
-message_at earlier (first ∷ sends) zero send at = (earlier, ap (option_map (message_of earlier)) at)
-message_at earlier (first ∷ sends) (suc index) send at = message_at (first ∷ earlier) sends index send at
+length-keys sends keys e = ap (λ (k : List MsgKey). length k) e ∙ length-map (messages_of sends) message_key ∙ length-messages_of sends
 
 -- the message of a send and its key
 pub record HasMessage (scenario : ScenarioParts) (index : ℕ) (send : SendAsk) (key : MsgKey) : Type 0 where
@@ -112,24 +101,31 @@ pub record HasMessage (scenario : ScenarioParts) (index : ℕ) (send : SendAsk) 
 contains_at : {X : Type 0} (xs : List X) (i : ℕ) (x : X) → slice_get xs i ≡ Some x → Contains xs x
 contains_at xs i x at = (i, slice_get_within xs i x at, get_or_from_slice_get xs i x x at)
 
--- what was read at one place of the sends and of the keys belongs to one message
-pub has_message : (scenario : ScenarioParts) (keys : List MsgKey) (index : ℕ) (sends_read : List SendAsk) (keys_read : List MsgKey) (send : SendAsk) (key : MsgKey) → IsLegalScenario scenario
-    → keys ≡ map message_key (messages_of scenario.sends) → index < length scenario.sends → sends_read ≡ scenario.sends → send ≡ get_or sends_read index send
-    → keys_read ≡ keys → key ≡ get_or keys_read index key → HasMessage scenario index send key
-has_message scenario keys index sends_read keys_read send key legal are within same is same_keys is_key = record {
+named_by : (o : Option Message) (key : MsgKey) → option_map message_key o ≡ Some key → IsSomeAnd o (λ m. key ≡ message_key m)
+named_by None key at = absurd (cc)
+named_by (Some m) key at = sym (same_Some (message_key m) key at)
+
+-- the key at a place is that of the message there
+pub key_names : (sends : List SendAsk) (keys keys_read : List MsgKey) (index : ℕ) (key : MsgKey) → keys ≡ map message_key (messages_of sends) → index < length sends
+    → keys_read ≡ keys → key ≡ get_or keys_read index key → IsSomeAnd (slice_get (messages_of sends) index) (λ m. key ≡ message_key m)
+key_names sends keys keys_read index key are within same is =
+    let at : slice_get keys index ≡ Some key = found keys keys_read index index key same refl (omega (arith, within, length-keys sends keys are)) is in
+    named_by (slice_get (messages_of sends) index) key (sym (ap (λ (k : List MsgKey). slice_get k index) are ∙ slice_get-map message_key (messages_of sends) index) ∙ at)
+
+pub has_message : (scenario : ScenarioParts) (index : ℕ) (sends_read : List SendAsk) (send : SendAsk) (key : MsgKey) → IsLegalScenario scenario → index < length scenario.sends
+    → sends_read ≡ scenario.sends → send ≡ get_or sends_read index send → IsSomeAnd (slice_get (messages_of scenario.sends) index) (λ m. key ≡ message_key m)
+    → HasMessage scenario index send key
+has_message scenario index sends_read send key legal within same is names = record {
   message = m;
   at = message.1;
   stands = contains_at (messages_of scenario.sends) index m message.1;
   service = refl;
-  named = named;
-  node = subst (λ k. k < scenario.params.nodes) (ap (λ (k : MsgKey). k.origin) named) sent.1;
+  named = sym named;
+  node = subst (λ k. k < scenario.params.nodes) (ap (λ (k : MsgKey). k.origin) (sym named)) sent.1;
 }
   where
     at : slice_get scenario.sends index ≡ Some send
     at = found scenario.sends sends_read index index send same refl within is
-
-    at_key : slice_get keys index ≡ Some key
-    at_key = found keys keys_read index index key same_keys refl (omega (arith, within, length-keys scenario.sends keys are)) is_key
 
     message : (before : List SendAsk) × (slice_get (messages_of scenario.sends) index ≡ Some (message_of before send))
     message = message_at [] scenario.sends index send at
@@ -137,9 +133,8 @@ has_message scenario keys index sends_read keys_read send key legal are within s
     m : Message
     m = message_of message.0 send
 
-    named : message_key m ≡ key
-    named = same_Some (message_key m) key
-        (sym (ap (λ (k : List MsgKey). slice_get k index) are ∙ slice_get-map message_key (messages_of scenario.sends) index ∙ ap (option_map message_key) message.1) ∙ at_key)
+    named : key ≡ message_key m
+    named = rw message.1 at names
 
     sent : IsSendOf scenario.params send
     sent = All-contains (IsSendOf scenario.params) scenario.sends send legal.sends (contains_at scenario.sends index send at)

@@ -2,7 +2,7 @@ ghost use Rattle.std.specs.Prelude.{◌≡◌, ◌<◌, ◌↔◌, [], ◌∷◌
 ghost use Rattle.cany_model.specs.Bus.Follow as following;
 ghost use Rattle.cany_model.specs.Promises.Hypothesis.{IsWithin, first_break};
 ghost use Rattle.cany_model.specs.Rules.Log as model;
-ghost use Rattle.cany_model.specs.Rules.Messages.{messages_of};
+ghost use Rattle.cany_model.specs.Rules.Messages.{message_key, messages_of};
 ghost use Rattle.cany_model.specs.Bus.Run.{IsLegal, after_step, has_ended, is_done, reply};
 ghost use Rattle.cany_model.specs.Promises.Safe.{IsIntegral, IsSafe};
 ghost use Rattle.cany_model.specs.Promises.Settled.{is_settled};
@@ -164,6 +164,15 @@ impl World {
         &self.scenario
     }
 
+    /// The key of the message of a scripted send, by its place in the file.
+    pub fn key(&self, index: usize) -> MsgKey
+        requires { index < length self.now.scenario.sends }
+        ensures { IsSomeAnd (slice_get (messages_of self.now.scenario.sends) index) (λ m. result ≡ message_key m) }
+    {
+        let keys = self.keys.as_slice();
+        keys[index]
+    }
+
     /// Whether the message of a scripted send, by its place in the file, is settled: nothing more is to come of it.
     pub fn settled(&self, index: usize) -> bool
         requires { index < length self.now.scenario.sends }
@@ -171,10 +180,9 @@ impl World {
     {
         let format = self.scenario.params().format;
         let sends = self.scenario.sends();
-        let keys = self.keys.as_slice();
         let controllers = self.controllers.as_slice();
         let nodes = self.nodes.as_slice();
-        is_settled(format, &sends[index], &keys[index], controllers, nodes)
+        is_settled(format, &sends[index], &self.key(index), controllers, nodes)
     }
 
     /// The first slot at which the run leaves the fault hypothesis.

@@ -1,9 +1,26 @@
--- Messages of one scenario that have the same key are the same message.
-use Rattle.std.proofs.Common.{◌≡◌, ◌<◌, ◌≤◌, inl, inr, List, [], ◌∷◌, count_by, ap, sym, ◌∙◌, arith}
+-- The messages of a scenario: one of each send, and those that have the same key are the same.
+use Rattle.std.specs.Prelude.{slice_get, option_map, Some}
+use Rattle.std.proofs.Common.{◌≡◌, ℕ, zero, suc, ◌<◌, ◌≤◌, inl, inr, List, [], ◌∷◌, count_by, length, refl, ap, sym, ◌∙◌, arith}
 use Rattle.std.proofs.lemmas.Bool.{eq-eqb}
 use Rattle.cany_base.specs.declared.message.SendAsk.{SendAsk}
 use Rattle.cany_model.specs.Rules.Messages.{Message, is_from, message_of, messages_after, messages_of}
 use Rattle.cany_model.proofs.Among.{Among, count-yes, count-grows}
+
+length-messages_after : (earlier sends : List SendAsk) → length (messages_after earlier sends) ≡ length sends
+unfolding messages_after
+length-messages_after earlier [] = refl
+length-messages_after earlier (send ∷ sends) = ap suc (length-messages_after (send ∷ earlier) sends)
+
+pub length-messages_of : (sends : List SendAsk) → length (messages_of sends) ≡ length sends
+length-messages_of sends = length-messages_after [] sends
+
+-- the message of the send at a place
+pub message_at : (earlier sends : List SendAsk) (index : ℕ) (send : SendAsk) → slice_get sends index ≡ Some send
+    → (before : List SendAsk) × (slice_get (messages_after earlier sends) index ≡ Some (message_of before send))
+unfolding messages_after
+message_at earlier [] index send at = absurd (cc)
+message_at earlier (first ∷ sends) zero send at = (earlier, ap (option_map (message_of earlier)) at)
+message_at earlier (first ∷ sends) (suc index) send at = message_at (first ∷ earlier) sends index send at
 
 -- the message is one of these
 abbrev pub IsOneOf : List Message → Message → Type 0

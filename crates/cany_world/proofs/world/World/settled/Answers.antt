@@ -1,27 +1,21 @@
 use Rattle.std.proofs.Common.{◌≡◌, ◌<◌, length, ap, subst, sym, arith, List}
 use Rattle.std.specs.Prelude.{slice_get, IsSomeAnd, Option}
 use Rattle.can_controller.specs.Controller.{ControllerState}
-use Rattle.cany_base.specs.declared.message.MsgKey.{MsgKey}
 use Rattle.cany_model.specs.Rules.Messages.{Message, messages_of}
 use Rattle.cany_model.specs.Promises.Settled.{is_settled}
 use Rattle.cany_node.specs.Node.{NodeParts}
 use Rattle.cany_world.specs.Kept.{AreControllersOf, AreNodesOf}
 use Rattle.cany_world.specs.World.{WorldParts, state_of}
 use Rattle.cany_world.specs.WorldFields.{world_parts}
-use Rattle.cany_world.proofs.SettledFacts.{HasMessage, has_message, length-keys}
+use Rattle.cany_world.proofs.SettledFacts.{HasMessage, has_message}
 use Rattle.cany_world.proofs.world.World.settled.Goals as goal
-
-pub bounds-keys-index : goal.bounds-keys-index
-bounds-keys-index c =
-    let within : c.args.index < length c.self.inside.scenario.sends = omega (arith, c.requires, ap (λ (w : WorldParts). length w.scenario.sends) c.self.view_is) in
-    omega (arith, within, ap (λ (k : List MsgKey). length k) c.as_slice-keys.ensures.value, length-keys c.self.inside.scenario.sends c.self.inside.keys.items c.self.invariant.keys)
 
 pub is_settled-requires-clause-origin : goal.is_settled-requires-clause-origin
 is_settled-requires-clause-origin c =
     let within : c.args.index < length c.self.inside.scenario.sends = omega (arith, c.requires, ap (λ (w : WorldParts). length w.scenario.sends) c.self.view_is) in
-    let it : HasMessage c.self.inside.scenario c.args.index c.index-sends-index.result c.index-keys-index.result =
-    has_message c.self.inside.scenario c.self.inside.keys.items c.args.index c.sends-sends.result.now c.as_slice-keys.result.now c.index-sends-index.result c.index-keys-index.result
-    c.self.invariant.legal c.self.invariant.keys within c.sends-sends.ensures c.index-sends-index.is c.as_slice-keys.ensures.value c.index-keys-index.is in
+    let it : HasMessage c.self.inside.scenario c.args.index c.index-sends-index.result c.key.result =
+    has_message c.self.inside.scenario c.args.index c.sends-sends.result.now c.index-sends-index.result c.key.result c.self.invariant.legal within
+    c.sends-sends.ensures c.index-sends-index.is (rw (← c.self.view_is) at c.key.ensures) in
     omega (arith, it.node, ap (λ (t : List ControllerState). length t) c.as_slice-controllers.ensures.value, c.self.invariant.stands.controllers.whole)
 
 pub is_settled-requires-clause-count : goal.is_settled-requires-clause-count
@@ -38,9 +32,9 @@ pub returns : goal.returns
 returns c =
     let w : WorldParts = world_parts c.self.inside in
     let within : c.args.index < length c.self.inside.scenario.sends = omega (arith, c.requires, ap (λ (v : WorldParts). length v.scenario.sends) c.self.view_is) in
-    let it : HasMessage c.self.inside.scenario c.args.index c.index-sends-index.result c.index-keys-index.result =
-    has_message c.self.inside.scenario c.self.inside.keys.items c.args.index c.sends-sends.result.now c.as_slice-keys.result.now c.index-sends-index.result c.index-keys-index.result
-    c.self.invariant.legal c.self.invariant.keys within c.sends-sends.ensures c.index-sends-index.is c.as_slice-keys.ensures.value c.index-keys-index.is in
+    let it : HasMessage c.self.inside.scenario c.args.index c.index-sends-index.result c.key.result =
+    has_message c.self.inside.scenario c.args.index c.sends-sends.result.now c.index-sends-index.result c.key.result c.self.invariant.legal within
+    c.sends-sends.ensures c.index-sends-index.is (rw (← c.self.view_is) at c.key.ensures) in
     subst (λ (v : WorldParts). IsSomeAnd (slice_get (messages_of v.scenario.sends) c.args.index) (λ m. c.is_settled.result ≡ is_settled v.scenario (state_of v) m)) c.self.view_is
     (subst (λ (o : Option Message). IsSomeAnd o (λ m. c.is_settled.result ≡ is_settled w.scenario (state_of w) m)) (sym it.at)
     (c.is_settled.ensures w.scenario w.journal it.message
