@@ -1,6 +1,6 @@
 -- The parts of the report, item by item.
 use Rattle.std.proofs.Common.{◌≡◌, ℕ, zero, suc, Option, Some, slice_get, set, inl, inr, get_or-set_same, get_or-set_other, ◌+◌, ◌*◌, ◌/◌, ◌<◌, ◌≤◌, min, Bool, true, false, cond, List, [], ◌∷◌, ◌++◌, map, take, drop, reverse, get_or, length, refl, sym, ◌∙◌, ap, append_assoc, append-nil, length-append, length-drop, arith}
-use Rattle.std.specs.Prelude.{filter, if◌then◌else◌, replicate, codes, IfSome}
+use Rattle.std.specs.Prelude.{filter, if◌then◌else◌, replicate, codes, IsSomeAnd}
 use Rattle.std.specs.List.{concat, count_by, flat_map, range_with_len}
 use Rattle.std.proofs.lemmas.Bool.{cases_eq, eq-eqb, ne_eqb}
 use Rattle.std.proofs.lemmas.Option.{slice_get_read}
@@ -182,7 +182,7 @@ counts_next counts sends i send origin len origin_is small inside is before node
     ]
 
 pub message_is : (scenario : ScenarioParts) (s : RunState) (sends : List SendAsk) (i : ℕ) (send : SendAsk) (seq : ℕ) (settled : Bool) → i < length sends → send ≡ get_or sends i send
-    → seq ≡ sent_before sends i send.node → IfSome (slice_get (messages_of sends) i) (λ m. settled ≡ is_settled scenario s m)
+    → seq ≡ sent_before sends i send.node → IsSomeAnd (slice_get (messages_of sends) i) (λ m. settled ≡ is_settled scenario s m)
     → message_text scenario s (message_of (reverse (take i sends)) send)
     ≡ message_line (record { slot = send.slot; origin = send.node; seq = seq; service = send.service; payload = send.payload }) settled
 message_is scenario s sends i send seq settled inside is seq_is settled_is =
