@@ -1,20 +1,19 @@
 -- The parts of the report, item by item.
-use Rattle.std.proofs.Common.{◌≡◌, ℕ, zero, suc, Option, Some, slice_get, set, inl, inr, get_or-set_same, get_or-set_other, ◌+◌, ◌*◌, ◌/◌, ◌<◌, ◌≤◌, min, Bool, true, false, cond, List, [], ◌∷◌, ◌++◌, map, take, drop, reverse, get_or, length, refl, sym, ◌∙◌, ap, append_assoc, append-nil, length-append, length-drop, arith}
-use Rattle.std.specs.Prelude.{filter, if◌then◌else◌, replicate, codes, IfSome}
-use Rattle.std.specs.List.{concat, count_by, flat_map, range_with_len}
-use Rattle.std.proofs.lemmas.Bool.{cases_eq, eq-eqb, ne_eqb}
-use Rattle.std.proofs.lemmas.Option.{slice_get_read}
+use Rattle.std.proofs.Common.{◌≡◌, ℕ, Option, Some, slice_get, ◌+◌, ◌*◌, ◌/◌, ◌<◌, ◌≤◌, min, Bool, true, false, cond, List, [], ◌∷◌, ◌++◌, map, take, drop, reverse, get_or, length, refl, sym, ◌∙◌, ap, append_assoc, append-nil, length-append, length-drop, arith}
+use Rattle.std.specs.Prelude.{filter, if◌then◌else◌, codes, IsSomeAnd}
+use Rattle.std.specs.List.{concat, flat_map, range_with_len}
+use Rattle.std.proofs.lemmas.Option.{get_or_from_slice_get, slice_get_read}
 use Rattle.std.proofs.lemmas.List.{take_all, take_more, reverse-append, take-append-le, take-append-drop, append_cancel_left, drop-drop, reverse-reverse}
 use Rattle.std.proofs.lemmas.List.Folds.{concat-append}
-use Rattle.std.proofs.lemmas.List.Sums.{sum_by-cons}
 use Rattle.std.proofs.lemmas.List.FromFn.{length-range_with_len, get_or-range_with_len}
 use Rattle.cany_base.specs.declared.slot_note.SlotNote.{SlotNote}
 use Rattle.cany_base.specs.declared.step.Step.{Step}
 use Rattle.cany_base.specs.declared.log_entry.LogEntry.{LogEntry}
+use Rattle.cany_base.specs.declared.message.MsgKey.{MsgKey}
 use Rattle.cany_base.specs.declared.message.SendAsk.{SendAsk}
 use Rattle.cany_base.specs.Scenario.{ScenarioParts}
 use Rattle.cany_model.specs.Rules.Log.{log}
-use Rattle.cany_model.specs.Rules.Messages.{Message, message_of, messages_after, messages_of, is_from}
+use Rattle.cany_model.specs.Rules.Messages.{Message, message_key, message_of, messages_of}
 use Rattle.cany_base.specs.Params.{Parameters}
 use Rattle.cany_model.specs.declared.breaks.Break.{Break}
 use Rattle.cany_model.specs.Promises.Hypothesis.{first_break}
@@ -23,6 +22,8 @@ use Rattle.cany_model.specs.Texts.ReportLines.{line_of, params_line, hypothesis_
 use Rattle.cany_model.specs.Bus.Run.{run}
 use Rattle.cany_model.specs.Promises.Settled.{is_settled}
 use Rattle.cany_model.specs.Bus.State.{RunState, node_at, reads}
+-- a send has one message: of the model's own words
+use Rattle.cany_model.proofs.Rules.MessageKeys.{message_at}
 use Rattle.cany_replay.specs.ReportParts.{heading_text, bus_text, nodes_and_messages_text}
 use Rattle.cany_replay.proofs.WrittenFacts.{concat-map}
 
@@ -101,9 +102,6 @@ pub concat-flat_map : {X : Type 0} (f : X → List (List ℕ)) (xs : List X) →
 concat-flat_map f [] = refl
 concat-flat_map f (x ∷ xs) = concat-append (f x) (flat_map f xs) ∙ ap (λ r. concat (f x) ++ r) (concat-flat_map f xs)
 
-reversed_onto : (x : SendAsk) (xs earlier : List SendAsk) → reverse (x ∷ xs) ++ earlier ≡ reverse xs ++ (x ∷ earlier)
-reversed_onto x xs earlier = ap (λ r. r ++ earlier) (reverse-append (x ∷ []) xs) ∙ append_assoc (reverse xs) (x ∷ []) earlier
-
 -- a node: its own line, and then the lines of its log
 pub node_text : (scenario : ScenarioParts) (s : RunState) (i : ℕ) (stopped : Option ℕ) (read : ℕ) (entries : List LogEntry)
     → stopped ≡ (node_at s.nodes i).stopped → read ≡ reads s i → entries ≡ log scenario s i
@@ -120,76 +118,27 @@ pub message_lines_text : (scenario : ScenarioParts) (s : RunState) → concat (m
 unfolding message_lines
 message_lines_text scenario s = concat-map (message_text scenario s) (messages_of scenario.sends)
 
--- the message of the send at a place: those before it count, newest first
-message_after : (earlier sends : List SendAsk) (i : ℕ) (send : SendAsk) (d : Message) → i < length sends → send ≡ get_or sends i send
-    → get_or (messages_after earlier sends) i d ≡ message_of (reverse (take i sends) ++ earlier) send
-unfolding messages_after
-message_after earlier [] i send d inside is = absurd (omega arith)
-message_after earlier (x ∷ sends) zero send d inside is = ap (message_of earlier) (sym is)
-message_after earlier (x ∷ sends) (suc i) send d inside is =
-    message_after (x ∷ earlier) sends i send d (omega arith) is ∙ ap (λ r. message_of r send) (sym (reversed_onto x (take i sends) earlier))
+-- the message of a send, and what is written of it
+pub record IsMessageOf (scenario : ScenarioParts) (s : RunState) (i : ℕ) (send : SendAsk) (key : MsgKey) (settled : Bool) : Type 0 where
+  pub message : Message
+  pub at : message ≡ get_or (messages_of scenario.sends) i message
+  pub text : message_text scenario s message
+      ≡ message_line (record { slot = send.slot; origin = send.node; seq = key.seq; service = send.service; payload = send.payload }) settled
 
-length-messages_after : (earlier sends : List SendAsk) → length (messages_after earlier sends) ≡ length sends
-unfolding messages_after
-length-messages_after earlier [] = refl
-length-messages_after earlier (x ∷ sends) = ap suc (length-messages_after (x ∷ earlier) sends)
-
-pub length-messages_of : (sends : List SendAsk) → length (messages_of sends) ≡ length sends
-length-messages_of sends = length-messages_after [] sends
-
-pub message_at : (sends : List SendAsk) (i : ℕ) (send : SendAsk) → i < length sends → send ≡ get_or sends i send
-    → message_of (reverse (take i sends)) send ≡ get_or (messages_of sends) i (message_of (reverse (take i sends)) send)
-message_at sends i send inside is =
-    ap (λ r. message_of r send) (sym (append-nil (reverse (take i sends))))
-    ∙ sym (message_after [] sends i send (message_of (reverse (take i sends)) send) inside is)
-
--- how many of the sends before a place are of a node
-abbrev pub sent_before : List SendAsk → ℕ → ℕ → ℕ
-sent_before sends i node = count_by (is_from node) (reverse (take i sends))
-
-pub sent_next : (sends : List SendAsk) (i : ℕ) (send : SendAsk) (node : ℕ) → i < length sends → send ≡ get_or sends i send
-    → sent_before sends (i + 1) node ≡ (if is_from node send then 1 else 0) + sent_before sends i node
-sent_next sends i send node inside is =
-    let next : take (i + 1) sends ≡ take i sends ++ send ∷ [] = take_more sends i send inside ∙ ap (λ x. take i sends ++ x ∷ []) (sym is) in
-    ap (λ xs. count_by (is_from node) (reverse xs)) next
-    ∙ ap (count_by (is_from node)) (reverse-append (take i sends) (send ∷ []))
-    ∙ sum_by-cons (λ x. if is_from node x then 1 else 0) send (reverse (take i sends))
+pub message_is : (scenario : ScenarioParts) (s : RunState) (i : ℕ) (send : SendAsk) (key : MsgKey) (settled : Bool) → i < length scenario.sends → send ≡ get_or scenario.sends i send
+    → IsSomeAnd (slice_get (messages_of scenario.sends) i) (λ m. key ≡ message_key m) → IsSomeAnd (slice_get (messages_of scenario.sends) i) (λ m. settled ≡ is_settled scenario s m)
+    → IsMessageOf scenario s i send key settled
+message_is scenario s i send key settled inside is key_is settled_is =
+    let found : (before : List SendAsk) × (slice_get (messages_of scenario.sends) i ≡ Some (message_of before send)) =
+    message_at [] scenario.sends i send (slice_get_read scenario.sends (length scenario.sends) i send refl inside is) in
+    let m : Message = message_of found.0 send in
+    let named : key ≡ message_key m = rw found.1 at key_is in
+    let settles : settled ≡ is_settled scenario s m = rw found.1 at settled_is in
+    record { message = m; at = sym (get_or_from_slice_get (messages_of scenario.sends) i m m found.1); text = rw (named, settles) refl }
 
 -- what is written of a node
 abbrev pub node_part : ScenarioParts → List Step → ℕ → List ℕ
 node_part scenario journal i = concat (node_lines scenario (run scenario journal) i)
-
-pub zeros : (n i : ℕ) → get_or {A = ℕ} (replicate n 0) i 0 ≡ 0
-zeros zero i = refl
-zeros (suc n) zero = refl
-zeros (suc n) (suc i) = zeros n i
-
--- the counts of the nodes, after one more send
-pub counts_next : (counts : List ℕ) (sends : List SendAsk) (i : ℕ) (send : SendAsk) (origin : ℕ) → length counts ≡ 32 → origin ≡ send.node → origin < 32
-    → i < length sends → send ≡ get_or sends i send → ((node : ℕ) → node < 32 → get_or counts node 0 ≡ sent_before sends i node)
-    → (node : ℕ) → node < 32 → get_or (set counts origin (get_or counts origin 0 + 1)) node 0 ≡ sent_before sends (i + 1) node
-counts_next counts sends i send origin len origin_is small inside is before node below =
-    elim (cases_eq origin node) [
-      | inl same ↦
-          let from : ◌≡◌ {A = ℕ} (if is_from node send then 1 else 0) 1 = ap (λ b. if b then 1 else 0) (eq-eqb send.node node (sym origin_is ∙ same)) in
-          ap (λ n. get_or (set counts origin (get_or counts origin 0 + 1)) n 0) (sym same)
-          ∙ get_or-set_same counts origin (get_or counts origin 0 + 1) 0 (omega arith)
-          ∙ omega (arith, before origin small, ap (sent_before sends i) same, sent_next sends i send node inside is, from)
-      | inr other ↦
-          let from : ◌≡◌ {A = ℕ} (if is_from node send then 1 else 0) 0 = ap (λ b. if b then 1 else 0) (ne_eqb send.node node (λ e. other (origin_is ∙ e))) in
-          get_or-set_other counts origin node (get_or counts origin 0 + 1) 0 (λ e. other (sym e))
-          ∙ omega (arith, before node below, sent_next sends i send node inside is, from)
-    ]
-
-pub message_is : (scenario : ScenarioParts) (s : RunState) (sends : List SendAsk) (i : ℕ) (send : SendAsk) (seq : ℕ) (settled : Bool) → i < length sends → send ≡ get_or sends i send
-    → seq ≡ sent_before sends i send.node → IfSome (slice_get (messages_of sends) i) (λ m. settled ≡ is_settled scenario s m)
-    → message_text scenario s (message_of (reverse (take i sends)) send)
-    ≡ message_line (record { slot = send.slot; origin = send.node; seq = seq; service = send.service; payload = send.payload }) settled
-message_is scenario s sends i send seq settled inside is seq_is settled_is =
-    let here : slice_get (messages_of sends) i ≡ Some (message_of (reverse (take i sends)) send) =
-    slice_get_read (messages_of sends) (length sends) i (message_of (reverse (take i sends)) send) (sym (length-messages_of sends)) inside (message_at sends i send inside is) in
-    let known : settled ≡ is_settled scenario s (message_of (reverse (take i sends)) send) = rw here at settled_is in
-    rw (seq_is, known) refl
 
 -- the parts of the report
 pub heading-is : (scenario : ScenarioParts) (params : Parameters) (journal steps : List Step) → params ≡ scenario.params → steps ≡ journal

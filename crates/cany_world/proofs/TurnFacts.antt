@@ -24,7 +24,7 @@ use Rattle.cany_model.proofs.Among.{Each-weaker}
 use Rattle.cany_model.proofs.Bus.Journals.{trace_short}
 use Rattle.cany_model.proofs.Bus.Runs.{IsOrderly, orderly, history-length}
 use Rattle.cany_model.proofs.Bus.States.{no_note, note_at}
-use Rattle.cany_model.proofs.Bus.Steps.{MayTurn, next_notice, node_after_turn, after_turn-node, after_turn-other, after_turn-trace, after_turn-history, after_turn-other_history}
+use Rattle.cany_model.proofs.Bus.Steps.{MayTurn, next_notice, after_turn-node, after_turn-other, after_turn-trace, after_turn-history, after_turn-other_history}
 use Rattle.cany_model.proofs.Promises.Belonging.{Waiting, all_belong, readable}
 use Rattle.can_controller.specs.Controller.{ControllerState}
 use Rattle.cany_node.specs.Apply.{AreAskable}

@@ -76,16 +76,14 @@ fn write_nodes<K: Sink>(world: &World, sink: &mut K) -> Result<(), Failed>
     Ok(())
 }
 
-/// Writes the messages, and counts those of each origin to number them.
+/// Writes the messages.
 fn write_messages<K: Sink>(world: &World, sink: &mut K) -> Result<(), Failed>
     ensures { IsWritten (concat (message_lines world.now.scenario (state_of world.now))) result
         (K.taken sink.old) (K.taken sink.new) (K.faults sink.old) (K.faults sink.new) }
 {
-    let mut counts = [0u64; NodeId::COUNT as usize];
     for (i, send) in world.scenario().sends().iter().enumerate() {
-        let origin = usize::from(send.node.get());
-        write_message(send, counts[origin], world.settled(i), sink)?;
-        counts[origin] += 1;
+        let seq = u64::from(world.key(i).seq);
+        write_message(send, seq, world.settled(i), sink)?;
     }
     Ok(())
 }

@@ -1,7 +1,6 @@
 use Rattle.std.proofs.Common.{◌≡◌, ap, ◌∙◌, arith}
 use Rattle.cany_base.specs.Params.{Parameters}
 use Rattle.cany_base.specs.Scenario.{ScenarioParts}
-use Rattle.cany_model.specs.Bus.Run.{is_done, reply}
 use Rattle.cany_world.proofs.RoundFacts.{round_slot, round_next, round_whole, turn_made}
 use Rattle.cany_world.proofs.rounds.make_round.Goals as goal
 

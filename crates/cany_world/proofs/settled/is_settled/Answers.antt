@@ -1,7 +1,4 @@
-use Rattle.std.proofs.Common.{◌≡◌, ◌&&◌, Bool, true, false, refl, ◌∙◌}
-use Rattle.std.specs.Prelude.{not}
-use Rattle.cany_model.specs.Bus.Run.{run}
-use Rattle.cany_model.specs.Promises.Settled.{is_settled}
+use Rattle.std.proofs.Common.{refl, ◌∙◌}
 use Rattle.cany_world.proofs.SettledFacts.{settled_by}
 use Rattle.cany_world.proofs.settled.is_settled.Goals as goal
 
