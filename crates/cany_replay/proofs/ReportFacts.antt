@@ -3,7 +3,7 @@ use Rattle.std.proofs.Common.{◌≡◌, ℕ, Option, Some, slice_get, ◌+◌, 
 use Rattle.std.specs.Prelude.{filter, if◌then◌else◌, codes, IsSomeAnd}
 use Rattle.std.specs.List.{concat, flat_map, range_with_len}
 use Rattle.std.proofs.lemmas.Option.{get_or_from_slice_get, slice_get_read}
-use Rattle.std.proofs.lemmas.List.{take_all, take_more, reverse-append, take-append-le, take-append-drop, append_cancel_left, drop-drop, reverse-reverse}
+use Rattle.std.proofs.lemmas.List.{take_all, take-append-le, take-append-drop, append_cancel_left, drop-drop, reverse-reverse}
 use Rattle.std.proofs.lemmas.List.Folds.{concat-append}
 use Rattle.std.proofs.lemmas.List.FromFn.{length-range_with_len, get_or-range_with_len}
 use Rattle.cany_base.specs.declared.slot_note.SlotNote.{SlotNote}

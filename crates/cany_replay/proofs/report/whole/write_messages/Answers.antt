@@ -1,4 +1,4 @@
-use Rattle.std.proofs.Common.{◌<◌, get_or, length, ◌∙◌, ap, arith}
+use Rattle.std.proofs.Common.{◌<◌, get_or, length, sym, ◌∙◌, ap, arith}
 use Rattle.std.proofs.lemmas.Result.{err_from_is_err_and}
 use Rattle.cany_model.specs.Bus.Run.{run}
 -- a send has one message: of the model's own words
@@ -28,7 +28,7 @@ loop-i-preserved g c =
     let it = message_is c.args.world.now.scenario (run c.args.world.now.scenario c.args.world.now.journal) c.loop-i.i c.send-item.result c.key.result c.settled.result inside is
     c.key.ensures c.settled.ensures in
     IsWritten-next (message_text c.args.world.now.scenario (run c.args.world.now.scenario c.args.world.now.journal)) _ _ _ _ _ _ _ _ _ c.loop-i.invariant
-    (omega (arith, inside, length-messages_of c.args.world.now.scenario.sends)) it.at (rw it.text c.in_ok-write_message.ensures)
+    (omega (arith, inside, length-messages_of c.args.world.now.scenario.sends)) it.at (rw (it.text, sym c.from-seq.ensures) c.in_ok-write_message.ensures)
 
 pub returns-in_err-write_message : goal.returns-in_err-write_message
 returns-in_err-write_message g c =
@@ -39,7 +39,7 @@ returns-in_err-write_message g c =
     let it = message_is c.args.world.now.scenario (run c.args.world.now.scenario c.args.world.now.journal) c.loop-i.i c.send-item.result c.key.result c.settled.result inside is
     c.key.ensures c.settled.ensures in
     rw (p.1, message_lines_text) (IsWritten-cut (message_text c.args.world.now.scenario (run c.args.world.now.scenario c.args.world.now.journal)) _ _ _ _ _ _ _ _ _ _ c.loop-i.invariant
-    (omega (arith, inside, length-messages_of c.args.world.now.scenario.sends)) it.at (rw it.text c.in_err-write_message.ensures))
+    (omega (arith, inside, length-messages_of c.args.world.now.scenario.sends)) it.at (rw (it.text, sym c.from-seq.ensures) c.in_err-write_message.ensures))
 
 pub returns : goal.returns
 returns g c =
