@@ -10,16 +10,16 @@ use Rattle.cany_base.specs.declared.rule.Place.TheVariants.{At, FrameNth}
 use Rattle.cany_base.specs.declared.rule.Rule.{Rule}
 use Rattle.cany_base.specs.declared.slot_note.SlotNote.{SlotNote}
 use Rattle.cany_base.specs.Frame.{FrameParts}
+use Rattle.cany_base.specs.Scenario.{same_place}
+use Rattle.cany_base.proofs.PlaceFacts.{same_place-true}
 use Rattle.cany_model.specs.Bus.Frames.{Identity, identity_of, is_of}
 use Rattle.cany_model.specs.Promises.Hypothesis.{is_partial}
 use Rattle.cany_model.specs.Bus.Slot.{ruling_of, script, carried, attempts, slot_rule, frame_rule}
 use Rattle.cany_model.proofs.Bus.Identities.{same_identity_self}
 use Rattle.can_fault.specs.Rules.{IsRuledBy}
-use Rattle.can_fault.specs.Table.{is_place}
 use Rattle.can_fault.specs.Tally.{is_partial_slot}
 use Rattle.cany_model.proofs.Among.{count-yes, count-no, count-grows}
 use Rattle.can_fault.proofs.AttemptFacts.{one_more}
-use Rattle.can_fault.proofs.TableFacts.{is_place-true}
 
 -- whether a rule with the place can act no more
 abbrev is_past : List SlotNote → Place → Bool
@@ -67,11 +67,11 @@ past_rules rules trace = count_by (λ r. is_past trace r.place) rules
 
 slot_used : (rules : List Rule) (note : SlotNote) (before : List SlotNote) (r : Rule) → slot_rule rules (length before) ≡ Some r → past_rules rules before < past_rules rules (note ∷ before)
 slot_used rules note before r found =
-    found_counts (λ r. is_past before r.place) (λ r. is_past (note ∷ before) r.place) (λ r. is_place (At (length before)) r.place)
+    found_counts (λ r. is_past before r.place) (λ r. is_past (note ∷ before) r.place) (λ r. same_place r.place (At (length before)))
     (λ r. still_past note before r.place)
     (λ r here.
-    let at : At (length before) ≡ r.place = is_place-true (At (length before)) r.place here in
-    (ap (is_past before) (sym at) ∙ le-ltb (length before) (length before) (omega arith), ap (is_past (note ∷ before)) (sym at) ∙ lt-ltb (length before) (suc (length before)) (omega arith)))
+    let at : r.place ≡ At (length before) = same_place-true r.place (At (length before)) here in
+    (ap (is_past before) at ∙ le-ltb (length before) (length before) (omega arith), ap (is_past (note ∷ before)) at ∙ lt-ltb (length before) (suc (length before)) (omega arith)))
     rules r found
 
 attempt_used : (rules : List Rule) (note : SlotNote) (before : List SlotNote) (f : FrameParts) (r : Rule) → note.frame ≡ Some f
@@ -81,11 +81,11 @@ attempt_used rules note before f r frame found =
     let n = attempts x before in
     let place = FrameNth f.class f.number f.node (n + 1) in
     let more : attempts x (note ∷ before) ≡ n + 1 = one_more x before note f frame (same_identity_self x) in
-    found_counts (λ r. is_past before r.place) (λ r. is_past (note ∷ before) r.place) (λ r. is_place place r.place)
+    found_counts (λ r. is_past before r.place) (λ r. is_past (note ∷ before) r.place) (λ r. same_place r.place place)
     (λ r. still_past note before r.place)
     (λ r here.
-    let at : place ≡ r.place = is_place-true place r.place here in
-    (ap (is_past before) (sym at) ∙ lt-leb (n + 1) n (omega arith), ap (is_past (note ∷ before)) (sym at) ∙ le-leb (n + 1) (attempts x (note ∷ before)) (omega arith)))
+    let at : r.place ≡ place = same_place-true r.place place here in
+    (ap (is_past before) at ∙ lt-leb (n + 1) n (omega arith), ap (is_past (note ∷ before)) at ∙ le-leb (n + 1) (attempts x (note ∷ before)) (omega arith)))
     rules r found
 
 one_of : (a b : Option Rule) {G : Type 0} → ((r : Rule) → a ≡ Some r → G) → ((r : Rule) → b ≡ Some r → G) → is_partial (ruling_of (option_or a b)).verdict ≡ true → G

@@ -5,7 +5,8 @@ use Rattle.std.specs.Option.{IsSomeAnd}
 use Rattle.std.proofs.lemmas.List.{get_or-map, get_or-take, length-map, length-take}
 use Rattle.std.proofs.lemmas.Option.{get_or_from_slice_get, slice_get_within}
 use Rattle.cany_base.specs.declared.rule.Rule.{Rule}
-use Rattle.can_fault.specs.Rules.{HaveDistinctPlaces, IsFirstRepeated}
+use Rattle.cany_base.specs.Scenario.{HaveDistinctPlaces}
+use Rattle.can_fault.specs.Rules.{IsFirstRepeated}
 
 repeated_at : (rules : List Rule) (index : ℕ) → HaveDistinctPlaces rules → (o : Option Rule) → slice_get rules index ≡ o
     → IsSomeAnd o (λ rule. Contains (map (λ (r : Rule). r.place) (take index rules)) rule.place) → ⊥

@@ -1,10 +1,10 @@
 -- What a table has at each place, and what that says of the rules.
-use Rattle.std.proofs.Common.{◌≡◌, ◌≢◌, ℕ, zero, suc, ◌+◌, ◌<◌, ◌==◌, ◌&&◌, ◌||◌, inl, inr, true, false, List, [], ◌∷◌, ◌++◌, map, length, get_or, Option, Some, None, refl, ap, sym, ◌∙◌, arith, eqb-true, eq-eqb, if◌then◌else◌}
+use Rattle.std.proofs.Common.{◌≡◌, ◌≢◌, ℕ, zero, suc, ◌+◌, ◌<◌, ◌==◌, ◌&&◌, ◌||◌, inl, inr, true, false, List, [], ◌∷◌, ◌++◌, map, length, get_or, Option, Some, None, refl, ap, sym, ◌∙◌, arith, if◌then◌else◌}
 use Rattle.std.specs.BTreeMap.{BTreeMap, get, is_at}
 use Rattle.std.specs.Ordering.{nat_cmp}
 use Rattle.std.specs.Option.{option_or, option_map, is_some}
 use Rattle.std.specs.Prelude.{Contains, slice_get, take}
-use Rattle.std.proofs.lemmas.Bool.{false≢true, and_parts, and_from, cases_Bool}
+use Rattle.std.proofs.lemmas.Bool.{false≢true, cases_Bool}
 use Rattle.std.proofs.lemmas.List.Folds.{find-append}
 use Rattle.std.proofs.lemmas.List.Quantifiers.{all_pairs_push}
 use Rattle.cany_base.specs.declared.rule.Place.{Place}
@@ -12,54 +12,35 @@ use Rattle.cany_base.specs.declared.rule.Place.TheVariants.{At, FrameNth}
 use Rattle.cany_base.specs.declared.rule.Rule.{Rule}
 use Rattle.cany_base.specs.declared.slot_note.SlotNote.{SlotNote}
 use Rattle.cany_base.specs.Frame.{FrameParts}
-use Rattle.cany_model.specs.Bus.Frames.{Identity, identity_of, same_identity}
-use Rattle.cany_model.specs.Bus.Slot.{ruling_of, script, slot_rule, frame_rule, attempts}
-use Rattle.cany_model.proofs.Bus.Identities.{same_identity-true, same_identity_self}
+use Rattle.cany_base.specs.Scenario.{same_place, HaveDistinctPlaces}
+use Rattle.cany_base.proofs.PlaceFacts.{same_place-true, same_place_self}
+use Rattle.cany_model.specs.Bus.Frames.{Identity, identity_of, same_class, same_identity}
+use Rattle.cany_model.specs.Bus.Slot.{ruling_of, script, rule_at, slot_rule, frame_rule, attempts}
 use Rattle.can_fault.specs.declared.name.Attempt.{Attempt}
 use Rattle.can_fault.specs.declared.table.RuleTable.{RuleTable}
 use Rattle.can_fault.specs.Names.{attempt_cmp, attempt_of}
-use Rattle.can_fault.specs.Rules.{HaveDistinctPlaces, IsFirstRepeated, rule_for, names_frame, is_named, IsCounted}
-use Rattle.can_fault.specs.Table.{is_place, rule_at, entry_at, IsTableOf}
+use Rattle.can_fault.specs.Rules.{IsFirstRepeated, rule_for, names_frame, is_named, IsCounted}
+use Rattle.can_fault.specs.Table.{entry_at, IsTableOf}
 use Rattle.can_fault.proofs.KeyFacts.{attempt_test}
-
--- ---- one place
-
-place_from : (x y : Identity) (k j : ℕ) → x ≡ y → k ≡ j → FrameNth x.class x.number x.node k ≡ FrameNth y.class y.number y.node j
-place_from x y k j e n = rw (e, n) refl
-
-pub is_place-true : (p q : Place) → is_place p q ≡ true → p ≡ q
-is_place-true (At slot) (At s) h = ap (λ n. At n) (sym (eqb-true s slot h))
-is_place-true (At slot) (FrameNth class number node nth) h = absurd (false≢true h)
-is_place-true (FrameNth class number node nth) (At s) h = absurd (false≢true h)
-is_place-true (FrameNth class number node nth) (FrameNth c n d k) h =
-    let x : Identity = record { class = c; number = n; node = d } in
-    let y : Identity = record { class = class; number = number; node = node } in
-    let parts = and_parts (same_identity x y) (k == nth) h in
-    place_from y x nth k (sym (same_identity-true x y parts.0)) (sym (eqb-true k nth parts.1))
-
-pub is_place_self : (p : Place) → is_place p p ≡ true
-is_place_self (At slot) = eq-eqb slot slot refl
-is_place_self (FrameNth class number node nth) =
-    let x : Identity = record { class = class; number = number; node = node } in
-    and_from (same_identity x x) (nth == nth) (same_identity_self x) (eq-eqb nth nth refl)
 
 -- ---- one more rule
 
 pub entered_attempt : (slots : BTreeMap ℕ Rule) (old new : BTreeMap Attempt Rule) (x : Identity) (k : ℕ) (rule : Rule) → rule.place ≡ FrameNth x.class x.number x.node k
     → ((q : Attempt) → get attempt_cmp new q ≡ (if is_at (attempt_cmp (attempt_of x k)) q then Some rule else get attempt_cmp old q))
-    → (place : Place) → entry_at (record { by_slot = slots; by_attempt = new }) place ≡ (if is_place place rule.place then Some rule else entry_at (record { by_slot = slots; by_attempt = old }) place)
+    → (place : Place) → entry_at (record { by_slot = slots; by_attempt = new }) place ≡ (if same_place rule.place place then Some rule else entry_at (record { by_slot = slots; by_attempt = old }) place)
+unfolding same_identity same_class
 entered_attempt slots old new x k rule e updates (At slot) =
-    ap (λ b. if b then Some rule else get nat_cmp slots slot) (sym (ap (is_place (At slot)) e))
+    ap (λ b. if b then Some rule else get nat_cmp slots slot) (sym (ap (λ q. same_place q (At slot)) e))
 entered_attempt slots old new x k rule e updates (FrameNth class number node nth) =
     let y : Identity = record { class = class; number = number; node = node } in
-    updates (attempt_of y nth) ∙ ap (λ b. if b then Some rule else get attempt_cmp old (attempt_of y nth)) (attempt_test x y k nth ∙ sym (ap (is_place (FrameNth class number node nth)) e))
+    updates (attempt_of y nth) ∙ ap (λ b. if b then Some rule else get attempt_cmp old (attempt_of y nth)) (attempt_test x y k nth ∙ sym (ap (λ q. same_place q (FrameNth class number node nth)) e))
 
 rule_at_push : (rules : List Rule) (rule : Rule) (place : Place) → rule_at rules rule.place ≡ None
-    → rule_at (rules ++ rule ∷ []) place ≡ (if is_place place rule.place then Some rule else rule_at rules place)
+    → rule_at (rules ++ rule ∷ []) place ≡ (if same_place rule.place place then Some rule else rule_at rules place)
 rule_at_push rules rule place free =
-    find-append (λ r. is_place place r.place) rules (rule ∷ []) ∙ elim (cases_Bool (is_place place rule.place)) [
+    find-append (λ r. same_place r.place place) rules (rule ∷ []) ∙ elim (cases_Bool (same_place rule.place place)) [
       | inl here ↦
-          let e : rule_at rules place ≡ None = ap (rule_at rules) (is_place-true place rule.place here) ∙ free in
+          let e : rule_at rules place ≡ None = ap (rule_at rules) (sym (same_place-true rule.place place here)) ∙ free in
           rw (here, e) refl
       | inr other ↦ rw other (or_nothing (rule_at rules place))
     ]
@@ -69,20 +50,20 @@ rule_at_push rules rule place free =
     or_nothing (Some r) = refl
 
 pub IsTableOf-push : (rules : List Rule) (old new : RuleTable) (rule : Rule) → IsTableOf rules old → entry_at old rule.place ≡ None
-    → ((place : Place) → entry_at new place ≡ (if is_place place rule.place then Some rule else entry_at old place)) → IsTableOf (rules ++ rule ∷ []) new
+    → ((place : Place) → entry_at new place ≡ (if same_place rule.place place then Some rule else entry_at old place)) → IsTableOf (rules ++ rule ∷ []) new
 IsTableOf-push rules old new rule table free entered place =
-    entered place ∙ ap (λ o. if is_place place rule.place then Some rule else o) (table place) ∙ sym (rule_at_push rules rule place (sym (table rule.place) ∙ free))
+    entered place ∙ ap (λ o. if same_place rule.place place then Some rule else o) (table place) ∙ sym (rule_at_push rules rule place (sym (table rule.place) ∙ free))
 
 some_none : (r : Rule) → Some r ≡ None → ⊥
 some_none r h = cc
 
-none_has : (rules : List Rule) (place : Place) → rule_at rules place ≡ None → (k : ℕ) (d : Rule) → k < length rules → is_place place (get_or rules k d).place ≡ false
+none_has : (rules : List Rule) (place : Place) → rule_at rules place ≡ None → (k : ℕ) (d : Rule) → k < length rules → same_place (get_or rules k d).place place ≡ false
 none_has [] place none k d h = absurd (omega arith)
-none_has (r ∷ rules) place none zero d h = elim (cases_Bool (is_place place r.place)) [
+none_has (r ∷ rules) place none zero d h = elim (cases_Bool (same_place r.place place)) [
   | inl here ↦ absurd (some_none r (rw here at none))
   | inr other ↦ other
 ]
-none_has (r ∷ rules) place none (suc k) d h = elim (cases_Bool (is_place place r.place)) [
+none_has (r ∷ rules) place none (suc k) d h = elim (cases_Bool (same_place r.place place)) [
   | inl here ↦ absurd (some_none r (rw here at none))
   | inr other ↦ none_has rules place (rw other at none) k d (omega arith)
 ]
@@ -90,13 +71,13 @@ none_has (r ∷ rules) place none (suc k) d h = elim (cases_Bool (is_place place
 pub distinct_push : (rules : List Rule) (rule : Rule) → HaveDistinctPlaces rules → rule_at rules rule.place ≡ None → HaveDistinctPlaces (rules ++ rule ∷ [])
 distinct_push rules rule distinct free =
     all_pairs_push (λ (a b : Rule). a.place ≢ b.place) rules rule distinct
-    (λ k d h e. false≢true (sym (none_has rules rule.place free k d h) ∙ ap (is_place rule.place) e ∙ is_place_self rule.place))
+    (λ k d h e. false≢true (sym (none_has rules rule.place free k d h) ∙ ap (λ q. same_place q rule.place) e ∙ same_place_self rule.place))
 
 -- a rule that is found has the place
 pub found_place : (rules : List Rule) (place : Place) (r : Rule) → rule_at rules place ≡ Some r → Contains (map (λ (r : Rule). r.place) rules) place
 found_place [] place r h = absurd (cc)
-found_place (x ∷ rules) place r h = elim (cases_Bool (is_place place x.place)) [
-  | inl here ↦ (0, omega arith, sym (is_place-true place x.place here))
+found_place (x ∷ rules) place r h = elim (cases_Bool (same_place x.place place)) [
+  | inl here ↦ (0, omega arith, same_place-true x.place place here)
   | inr other ↦
       let rest = found_place rules place r (rw other at h) in
       (suc rest.0, omega (arith, rest.1), rest.2)
@@ -133,7 +114,8 @@ none_of (Some r) h = absurd (h r refl)
 
 -- ---- the script
 
-unnamed_place : (x : Identity) (k : ℕ) (place : Place) → names_frame x place ≡ false → is_place (FrameNth x.class x.number x.node k) place ≡ false
+unnamed_place : (x : Identity) (k : ℕ) (place : Place) → names_frame x place ≡ false → same_place place (FrameNth x.class x.number x.node k) ≡ false
+unfolding same_identity same_class
 unnamed_place x k (At slot) h = refl
 unnamed_place x k (FrameNth class number node nth) h = ap (λ b. b && nth == k) h
 

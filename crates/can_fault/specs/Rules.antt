@@ -1,5 +1,5 @@
--- What fault rules say of a slot, and when they have distinct places.
-use Rattle.std.specs.Prelude.{◌≡◌, ◌≢◌, ℕ, ◌+◌, Bool, false, if◌then◌else◌, List, [], ◌∷◌, Option, Some, None, IfSome, Contains, AllPairs, slice_get, map, take}
+-- What fault rules say of a slot, and which of them is the first to repeat a place.
+use Rattle.std.specs.Prelude.{◌≡◌, ℕ, ◌+◌, Bool, false, if◌then◌else◌, List, [], ◌∷◌, Option, Some, None, IfSome, Contains, slice_get, map, take}
 use Rattle.std.specs.List.{list_any}
 use Rattle.std.specs.Option.{option_or, IsSomeAnd}
 use Rattle.cany_base.specs.declared.rule.Place.{Place}
@@ -7,12 +7,9 @@ use Rattle.cany_base.specs.declared.rule.Place.TheVariants.{At, FrameNth}
 use Rattle.cany_base.specs.declared.rule.Rule.{Rule}
 use Rattle.cany_base.specs.declared.slot_note.SlotNote.{SlotNote}
 use Rattle.cany_base.specs.Frame.{FrameParts}
+use Rattle.cany_base.specs.Scenario.{HaveDistinctPlaces}
 use Rattle.cany_model.specs.Bus.Frames.{Identity, identity_of, same_identity}
 use Rattle.cany_model.specs.Bus.Slot.{slot_rule, frame_rule, attempts, script}
-
--- no two rules have one place
-abbrev pub HaveDistinctPlaces : List Rule → Type 0
-HaveDistinctPlaces rules = AllPairs (λ a b. a.place ≢ b.place) rules
 
 -- the rule at the index is the first that has the place of an earlier one
 pub record IsFirstRepeated (rules : List Rule) (index : ℕ) : Type 0 where

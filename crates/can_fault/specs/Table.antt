@@ -1,25 +1,13 @@
 -- The rules by their places.
-use Rattle.std.specs.Prelude.{◌≡◌, ◌==◌, ◌&&◌, Bool, false, List, Option, find}
+use Rattle.std.specs.Prelude.{◌≡◌, List, Option}
 use Rattle.std.specs.BTreeMap.{get}
 use Rattle.std.specs.Ordering.{nat_cmp}
 use Rattle.cany_base.specs.declared.rule.Place.{Place}
 use Rattle.cany_base.specs.declared.rule.Place.TheVariants.{At, FrameNth}
 use Rattle.cany_base.specs.declared.rule.Rule.{Rule}
-use Rattle.cany_model.specs.Bus.Frames.{same_identity}
+use Rattle.cany_model.specs.Bus.Slot.{rule_at}
 use Rattle.can_fault.specs.Names.{attempt_cmp, attempt_of}
 use Rattle.can_fault.specs.declared.table.RuleTable.{RuleTable}
-
--- whether the two are one place
-abbrev pub is_place : Place → Place → Bool
-is_place (At slot) (At s) = s == slot
-is_place (At slot) (FrameNth class number node nth) = false
-is_place (FrameNth class number node nth) (At s) = false
-is_place (FrameNth class number node nth) (FrameNth c n d k) =
-    same_identity (record { class = c; number = n; node = d }) (record { class = class; number = number; node = node }) && k == nth
-
--- the first rule that has the place
-abbrev pub rule_at : List Rule → Place → Option Rule
-rule_at rules place = find (λ rule. is_place place rule.place) rules
 
 -- what the table has at a place
 abbrev pub entry_at : RuleTable → Place → Option Rule

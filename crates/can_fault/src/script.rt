@@ -1,7 +1,8 @@
 ghost use Rattle.std.specs.Prelude.{◌≡◌, ℕ, List, length, Err, IfOk, OnOk, option_map};
 ghost use Rattle.cany_base.specs.declared.slot_note.SlotNote.{SlotNote};
 ghost use Rattle.cany_model.specs.Bus.Slot.{ruling_of, script};
-ghost use Rattle.can_fault.specs.Rules.{HaveDistinctPlaces, IsFirstRepeated, rule_for, IsCounted};
+ghost use Rattle.cany_base.specs.Scenario.{HaveDistinctPlaces};
+ghost use Rattle.can_fault.specs.Rules.{IsFirstRepeated, rule_for, IsCounted};
 
 use crate::table::RuleTable;
 use cany_base::{Frame, Memory, NodeSet, Rule, Scenario, Slot, Verdict};

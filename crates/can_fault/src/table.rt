@@ -15,7 +15,8 @@ pub(crate) struct RuleTable {
 }
 
 impl RuleTable {
-    ghost use Rattle.can_fault.specs.Table.{is_place, entry_at, IsTableOf};
+    ghost use Rattle.cany_base.specs.Scenario.{same_place};
+    ghost use Rattle.can_fault.specs.Table.{entry_at, IsTableOf};
 
     pub(crate) fn new(alloc: Global) -> RuleTable
         ensures { IsTableOf [] result }
@@ -29,7 +30,7 @@ impl RuleTable {
     /// Enters a rule at its place, and gives the one that stood there.
     pub(crate) fn enter(&mut self, rule: &Rule) -> Result<Option<Rule>, Memory>
         ensures earlier { IfOk result (λ earlier. earlier ≡ entry_at self.old rule.now.place) }
-        ensures entered { OnOk result ((place : Place) → entry_at self.new place ≡ (if is_place place rule.now.place then Some rule.now else entry_at self.old place)) }
+        ensures entered { OnOk result ((place : Place) → entry_at self.new place ≡ (if same_place rule.now.place place then Some rule.now else entry_at self.old place)) }
     {
         match rule.place {
             Place::At { slot } => Ok(self.by_slot.insert(slot, *rule)?),

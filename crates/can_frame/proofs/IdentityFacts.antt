@@ -3,8 +3,8 @@ use Rattle.std.proofs.Common.{◌≡◌, ap, arith}
 use Rattle.cany_base.specs.declared.frame.Class.{Class}
 use Rattle.cany_base.specs.declared.frame.Format.{Format}
 use Rattle.cany_base.specs.declared.frame.Format.TheVariants.{One}
-use Rattle.cany_base.specs.Frame.{FrameParts, class_number, identifier_of}
-use Rattle.can_frame.specs.Identifier.{FitsFormat, SameIdentity}
+use Rattle.cany_base.specs.Frame.{FrameParts, class_number, identifier_of, SameIdentity}
+use Rattle.can_frame.specs.Identifier.{FitsFormat}
 
 pub same_class : (x y : Class) → class_number x ≡ class_number y → x ≡ y
 same_class x y e = grind arith

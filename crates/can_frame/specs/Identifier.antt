@@ -8,12 +8,6 @@ use Rattle.cany_base.specs.Frame.{FrameParts, class_number}
 abbrev pub FitsFormat : Format → FrameParts → Type 0
 FitsFormat One f = (f.number < 2 ^ 16) × (f.node < 2 ^ 5)
 
--- class, number and node are the same
-pub record SameIdentity (a b : FrameParts) : Type 0 where
-  pub class : a.class ≡ b.class
-  pub number : a.number ≡ b.number
-  pub node : a.node ≡ b.node
-
 -- by class, then number, then node
 abbrev pub IsOrderedBefore : FrameParts → FrameParts → Type 0
 IsOrderedBefore a b =

@@ -1,10 +1,10 @@
 //! What holds of identifiers and keys, for every frame whose number and node fit their fields.
 
 ghost use Rattle.std.specs.Prelude.{◌≡◌, ◌<◌, ◌↔◌, ℕ, Bool, true, false, List};
-ghost use Rattle.cany_base.specs.Frame.{FrameParts, identifier_of, is_remote, key_of};
+ghost use Rattle.cany_base.specs.Frame.{FrameParts, identifier_of, SameIdentity, is_remote, key_of};
 ghost use Rattle.cany_base.specs.declared.frame.Format.TheVariants.{One};
 ghost use Rattle.can_frame.specs.Decoding.{IsFrameOf};
-ghost use Rattle.can_frame.specs.Identifier.{FitsFormat, SameIdentity, IsOrderedBefore};
+ghost use Rattle.can_frame.specs.Identifier.{FitsFormat, IsOrderedBefore};
 
 use cany_base::{Format, Frame};
 

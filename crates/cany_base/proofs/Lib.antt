@@ -1,2 +1,3 @@
 pub mod NodesFacts
 pub mod PayloadFacts
+pub mod PlaceFacts

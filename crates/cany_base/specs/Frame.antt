@@ -65,6 +65,12 @@ data_class service.Tot = Tot
 abbrev pub identifier_of : FrameParts → ℕ
 identifier_of f = class_number f.class * 2 ^ 25 + f.number * 2 ^ 9 + f.node * 2 ^ 4
 
+-- class, number and node, which name a frame, are the same
+pub record SameIdentity (f g : FrameParts) : Type 0 where
+  pub class : f.class ≡ g.class
+  pub number : f.number ≡ g.number
+  pub node : f.node ≡ g.node
+
 -- the smaller key wins arbitration: of one identifier a data frame beats a remote frame
 abbrev pub key_of : FrameParts → ℕ
 key_of f = 2 * identifier_of f + (if is_remote f.class then 1 else 0)

@@ -1,5 +1,5 @@
 -- A scenario, and when its parts are legal.
-use Rattle.std.specs.Prelude.{◌<◌, ◌≤◌, ◌≢◌, List, length, Option, All, AllPairs}
+use Rattle.std.specs.Prelude.{◌<◌, ◌≤◌, ◌≢◌, ◌==◌, ◌&&◌, Bool, false, List, length, Option, All, AllPairs}
 use Rattle.cany_base.specs.declared.message.SendAsk.{SendAsk}
 use Rattle.cany_base.specs.declared.message.NodeAsk.{NodeAsk}
 use Rattle.cany_base.specs.declared.rule.Rule.{Rule}
@@ -8,6 +8,7 @@ use Rattle.cany_base.specs.declared.rule.Place.TheVariants.{At, FrameNth}
 use Rattle.cany_base.specs.declared.rule.Verdict.{Verdict}
 use Rattle.cany_base.specs.declared.rule.Verdict.TheVariants.{Clean, Lost, Partial, Silent}
 use Rattle.cany_base.specs.declared.step.Step.{Step}
+use Rattle.cany_base.specs.Frame.{class_number}
 use Rattle.cany_base.specs.Limits.{most_sends, most_rules, most_joins, most_leaves, greatest_attempt}
 use Rattle.cany_base.specs.Nodes.{Nodes, AllBelow}
 use Rattle.cany_base.specs.Params.{Parameters, IsInRange, MeetsFormulas}
@@ -40,6 +41,17 @@ IsVerdictOf p Lost = Unit {0}
 IsVerdictOf p (Partial reject) = AllBelow p.nodes reject
 IsVerdictOf p (Silent reject) = AllBelow p.nodes reject
 
+-- whether the two are one place
+abbrev pub same_place : Place → Place → Bool
+same_place (At slot) (At s) = slot == s
+same_place (FrameNth class number node nth) (FrameNth c n d k) = class_number class == class_number c && number == n && node == d && nth == k
+same_place (At slot) (FrameNth class number node nth) = false
+same_place (FrameNth class number node nth) (At slot) = false
+
+-- no two rules have one place
+abbrev pub HaveDistinctPlaces : List Rule → Type 0
+HaveDistinctPlaces rules = AllPairs (λ a b. a.place ≢ b.place) rules
+
 pub record IsRuleOf (p : Parameters) (rule : Rule) : Type 0 where
   pub place : IsPlaceOf p rule.place
   pub verdict : IsVerdictOf p rule.verdict
@@ -57,4 +69,4 @@ pub record IsLegalScenario (s : ScenarioParts) : Type 0 where
   pub few_rules : length s.rules ≤ most_rules
   pub few_joins : length s.joins ≤ most_joins
   pub few_leaves : length s.leaves ≤ most_leaves
-  pub places : AllPairs (λ a b. a.place ≢ b.place) s.rules
+  pub places : HaveDistinctPlaces s.rules

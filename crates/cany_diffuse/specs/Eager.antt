@@ -1,16 +1,9 @@
 -- What a contract sees of the copies that are kept, and what each call does to them.
 use Rattle.std.specs.Prelude.{◌≡◌, ℕ, ◌+◌, ◌-◌, ◌^◌, ◌<◌, ◌≤◌, ◌==◌, ◌⊎◌, ◌&&◌, ◌||◌, Bool, false, not, nat_le, nat_lt, min, if◌then◌else◌, IsTrue, List, [], ◌∷◌, length, map, is_some}
-use Rattle.cany_base.specs.Frame.{FrameParts}
 use Rattle.cany_diffuse.specs.declared.counts.Entry.{Entry}
 use Rattle.cany_diffuse.specs.declared.learnt.Learnt.{Learnt}
 use Rattle.cany_diffuse.specs.declared.learnt.Learnt.TheVariants.{First, Again, Enough}
 use Rattle.cany_diffuse.specs.Counts.{entry_in, noted_in}
-
--- what names a frame
-pub record HaveOneName (f g : FrameParts) : Type 0 where
-  pub class : f.class ≡ g.class
-  pub number : f.number ≡ g.number
-  pub node : f.node ≡ g.node
 
 -- how many omissions there may be, how many keys there may be, and what is noted of each key that is there. Contracts read
 -- it by the words below alone: the order of the entries means nothing.

@@ -1,6 +1,5 @@
 ghost use Rattle.std.specs.Prelude.{◌≡◌, ◌↔◌, ℕ};
-ghost use Rattle.cany_base.specs.Frame.{FrameParts};
-ghost use Rattle.cany_diffuse.specs.Eager.{HaveOneName};
+ghost use Rattle.cany_base.specs.Frame.{FrameParts, SameIdentity};
 
 use cany_base::Frame;
 
@@ -27,5 +26,5 @@ pub trait Diffused: Drop {
         requires { is_value self.now }
         ensures { result ≡ form self.now };
 
-    ghost one_name_one_key: { (a b : Self) → is_value a → is_value b → HaveOneName (form a) (form b) ↔ (key a ≡ key b) };
+    ghost one_name_one_key: { (a b : Self) → is_value a → is_value b → SameIdentity (form a) (form b) ↔ (key a ≡ key b) };
 }

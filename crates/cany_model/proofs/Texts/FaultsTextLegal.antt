@@ -1,11 +1,13 @@
 -- The rules that a text gives are legal.
-use Rattle.std.proofs.Common.{◌≡◌, ◌≢◌, ℕ, ◌-◌, ◌<◌, ◌≤◌, ◌==◌, Bool, true, false, ◌&&◌, ◌||◌, not, nat_le, nat_lt, List, [], ◌∷◌, length, Option, Some, None, refl, ap, sym, ◌∙◌, arith, lit≤, eq-eqb}
-use Rattle.std.specs.Prelude.{All, AllPairs, codes, if◌then◌else◌}
+use Rattle.std.proofs.Common.{◌≡◌, ◌≢◌, ℕ, suc, ◌-◌, ◌<◌, ◌≤◌, ◌==◌, Bool, true, false, ◌||◌, not, nat_le, nat_lt, List, [], ◌∷◌, length, Option, Some, None, refl, ap, sym, ◌∙◌, arith, lit≤}
+use Rattle.std.specs.Prelude.{All, codes, if◌then◌else◌}
+use Rattle.std.specs.Bool.{Decides}
 use Rattle.std.specs.List.{list_any}
 use Rattle.std.specs.Str.{bytes_eq}
-use Rattle.std.proofs.lemmas.Bool.{and_parts, false≢true}
+use Rattle.std.proofs.lemmas.Bool.{and_parts, and_from, not-true, not_from_false, false_from_ne_true, false≢true}
 use Rattle.std.proofs.lemmas.Bool.Decides.{nat_tests}
-use Rattle.std.proofs.lemmas.List.Elements.{All-nil, All-cons, All-head, All-tail}
+use Rattle.std.proofs.lemmas.List.Elements.{All-nil, All-head, All-tail}
+use Rattle.std.proofs.lemmas.List.Folds.{list_any_at, list_any_none}
 use Rattle.std.proofs.lemmas.List.Kept.{AllPairs-cons}
 use Rattle.std.proofs.lemmas.Option.{same_Some}
 use Rattle.toml.specs.Data.{Data, as_str, as_array, as_table, Members, get_member}
@@ -17,10 +19,11 @@ use Rattle.cany_base.specs.declared.rule.Verdict.{Verdict}
 use Rattle.cany_base.specs.declared.rule.Verdict.TheVariants.{Clean, Lost, Partial, Silent}
 use Rattle.cany_base.specs.Nodes.{Nodes, AllBelow}
 use Rattle.cany_base.proofs.NodesFacts.{has-those_where}
+use Rattle.cany_base.proofs.PlaceFacts.{same_place-true, same_place_self}
 use Rattle.cany_base.specs.Params.{Parameters, IsInRange}
-use Rattle.cany_base.specs.Scenario.{IsPlaceOf, IsVerdictOf, IsRuleOf}
+use Rattle.cany_base.specs.Scenario.{IsPlaceOf, IsVerdictOf, IsRuleOf, same_place, HaveDistinctPlaces}
 use Rattle.cany_model.specs.Texts.TomlKeys.{has_only, required, optional, number_from, each_of}
-use Rattle.cany_model.specs.Texts.FaultsText.{set_of, nodes_from, verdict_named, verdict_from, class_from, slot_rule_keys, frame_rule_keys, slot_place_from, frame_place_from, is_frame_rule, place_from, rule_from, same_place, have_distinct_places, rules_from}
+use Rattle.cany_model.specs.Texts.FaultsText.{set_of, nodes_from, verdict_named, verdict_from, class_from, slot_rule_keys, frame_rule_keys, slot_place_from, frame_place_from, is_frame_rule, place_from, rule_from, have_distinct_places, rules_from}
 use Rattle.cany_model.proofs.Texts.TomlSteps.{bind_some, only_if-true, number_from-range, required-range, some_node, below_count, few-from_test, optional-holds, each_of-All}
 
 -- ---- sets of nodes
@@ -122,44 +125,29 @@ rule_from-of p r value rule h =
 
 -- ---- the places
 
-four_true : (a b c d : Bool) → a ≡ true → b ≡ true → c ≡ true → d ≡ true → (a && b && c && d) ≡ true
-four_true a b c d ha hb hc hd = rw (ha, hb, hc, hd) refl
-
-same_place-itself : (place : Place) → same_place place place ≡ true
-same_place-itself (At slot) = eq-eqb slot slot refl
-same_place-itself (FrameNth class number node nth) = four_true _ _ _ _ (eq-eqb _ _ refl) (eq-eqb number number refl) (eq-eqb node node refl) (eq-eqb nth nth refl)
-
-apart : (a b : Place) → same_place a b ≡ false → a ≢ b
-apart a b other e = false≢true (sym other ∙ ap (same_place a) (sym e) ∙ same_place-itself a)
-
-not_true : (b : Bool) → not b ≡ true → b ≡ false
-not_true true h = cc h
-not_true false h = refl
-
-neither : (a b : Bool) → (a || b) ≡ false → (a ≡ false) × (b ≡ false)
-neither true b h = cc h
-neither false b h = (refl, h)
-
-none_passes : (test : Rule → Bool) (rules : List Rule) → list_any test rules ≡ false → All (λ rule. test rule ≡ false) rules
-none_passes test [] h = All-nil _
-none_passes test (rule ∷ rest) h =
-    let parts = neither (test rule) (list_any test rest) h in
-    All-cons (λ r. test r ≡ false) rule rest parts.0 (none_passes test rest parts.1)
-
-pub AllPairs-from_test : (rules : List Rule) → have_distinct_places rules ≡ true → AllPairs (λ a b. a.place ≢ b.place) rules
+-- the test tells whether they are distinct
+pub have_distinct_places-Decides : (rules : List Rule) → Decides (have_distinct_places rules) (HaveDistinctPlaces rules)
 unfolding have_distinct_places
-AllPairs-from_test [] h = λ i j d before within. absurd (omega arith)
-AllPairs-from_test (rule ∷ rest) h =
-    let parts = and_parts (not (list_any (λ later. same_place rule.place later.place) rest)) (have_distinct_places rest) h in
-    let others = none_passes (λ later. same_place rule.place later.place) rest (not_true _ parts.0) in
-    AllPairs-cons (λ a b. a.place ≢ b.place) rule rest (λ k d within. apart rule.place _ (others k d within)) (AllPairs-from_test rest parts.1)
+have_distinct_places-Decides [] = (λ h i j d before within. absurd (omega arith), λ h. refl)
+have_distinct_places-Decides (rule ∷ rest) =
+    let test : Rule → Bool = λ later. same_place rule.place later.place in (
+      λ h.
+          let parts = and_parts (not (list_any test rest)) (have_distinct_places rest) h in
+          AllPairs-cons (λ a b. a.place ≢ b.place) rule rest
+          (λ k d within e. false≢true (sym (not-true _ parts.0) ∙ list_any_at test rest k d within (ap (same_place rule.place) (sym e) ∙ same_place_self rule.place)))
+          ((have_distinct_places-Decides rest).0 parts.1),
+      λ h.
+          and_from (not (list_any test rest)) (have_distinct_places rest)
+          (not_from_false _ (list_any_none test rest (λ k d within. false_from_ne_true _ (λ e. h 0 (suc k) d (omega arith) (omega arith) (same_place-true _ _ e)))))
+          ((have_distinct_places-Decides rest).1 (λ i j d before within. h (suc i) (suc j) d (omega arith) (omega arith))),
+    )
 
 -- ---- all of them
 
 pub record AreRulesOf (p : Parameters) (rules : List Rule) : Type 0 where
   pub all : All (IsRuleOf p) rules
   pub few : length rules ≤ most_rules
-  pub apart : AllPairs (λ a b. a.place ≢ b.place) rules
+  pub apart : HaveDistinctPlaces rules
 
 pub no_rules : (p : Parameters) → AreRulesOf p []
 no_rules p = record { all = All-nil _; few = lit≤ tt; apart = λ i j d before within. absurd (omega arith) }
@@ -175,5 +163,5 @@ rules_from-legal p value rules r h =
     rw (← same) (record {
       all = each_of-All (IsRuleOf p) (rule_from p) (rule_from-of p r) entries.0 each.0 each.1;
       few = few-from_test (length each.0) most_rules few.0;
-      apart = AllPairs-from_test each.0 distinct.0;
+      apart = (have_distinct_places-Decides each.0).0 distinct.0;
     })

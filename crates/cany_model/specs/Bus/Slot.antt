@@ -1,5 +1,5 @@
 -- One bus slot: who wins, what comes of it, and who stops.
-use Rattle.std.specs.Prelude.{ℕ, ◌+◌, ◌-◌, ◌==◌, Bool, true, false, not, ◌&&◌, ◌||◌, nat_lt, if◌then◌else◌, List, [], ◌∷◌, Option, Some, None, length, count_by, find}
+use Rattle.std.specs.Prelude.{ℕ, ◌+◌, ◌-◌, Bool, true, false, not, ◌&&◌, ◌||◌, nat_lt, if◌then◌else◌, List, [], ◌∷◌, Option, Some, None, length, count_by, find}
 use Rattle.std.specs.List.{flat_map}
 use Rattle.std.specs.Option.{option_map_or, option_or}
 use Rattle.cany_base.specs.declared.rule.Rule.{Rule}
@@ -11,7 +11,8 @@ use Rattle.cany_base.specs.declared.slot_note.SlotNote.{SlotNote}
 use Rattle.cany_base.specs.Frame.{FrameParts}
 use Rattle.cany_base.specs.Limits.{greatest_error_counter}
 use Rattle.cany_base.specs.Nodes.{Nodes, has, those_where}
-use Rattle.cany_model.specs.Bus.Frames.{Identity, identity_of, same_identity, is_of, is_before}
+use Rattle.cany_base.specs.Scenario.{same_place}
+use Rattle.cany_model.specs.Bus.Frames.{Identity, identity_of, is_of, is_before}
 use Rattle.cany_model.specs.declared.share.Share.{Share}
 use Rattle.cany_model.specs.declared.share.Share.TheVariants.{Idle, Took, Rejected, Confirmed, Errored}
 use Rattle.cany_model.specs.Bus.State.{NodeState, RunState, node_at, runs}
@@ -55,22 +56,17 @@ attempts x trace = count_by (carried (is_of x)) trace
 abbrev pub nobody : Nodes
 nobody = record { bits = 0 }
 
-abbrev pub names_slot : ℕ → Place → Bool
-names_slot slot (At s) = s == slot
-names_slot slot (FrameNth class number node nth) = false
-
-abbrev pub names_attempt : Identity → ℕ → Place → Bool
-names_attempt x attempt (At s) = false
-names_attempt x attempt (FrameNth class number node nth) =
-    same_identity (record { class = class; number = number; node = node }) x && nth == attempt
+-- the first rule that has the place
+abbrev pub rule_at : List Rule → Place → Option Rule
+rule_at rules place = find (λ rule. same_place rule.place place) rules
 
 -- the rule for this slot
 abbrev pub slot_rule : List Rule → ℕ → Option Rule
-slot_rule rules slot = find (λ rule. names_slot slot rule.place) rules
+slot_rule rules slot = rule_at rules (At slot)
 
 -- the rule for this attempt to carry a frame of this identity
 abbrev pub frame_rule : List Rule → Identity → ℕ → Option Rule
-frame_rule rules x attempt = find (λ rule. names_attempt x attempt rule.place) rules
+frame_rule rules x attempt = rule_at rules (FrameNth x.class x.number x.node attempt)
 
 abbrev pub ruling_of : Option Rule → Ruling
 ruling_of None = record { verdict = Clean; stop = nobody }

@@ -1,5 +1,5 @@
 -- The scripted faults that a scenario text gives.
-use Rattle.std.specs.Prelude.{ℕ, ◌-◌, ◌==◌, ◌&&◌, not, nat_le, Bool, true, false, List, [], ◌∷◌, length, Option, Some, None, is_some, find, codes, if◌then◌else◌}
+use Rattle.std.specs.Prelude.{ℕ, ◌-◌, ◌==◌, ◌&&◌, not, nat_le, Bool, true, List, [], ◌∷◌, length, Option, Some, None, is_some, find, codes, if◌then◌else◌}
 use Rattle.std.specs.List.{list_any}
 use Rattle.std.specs.Str.{bytes_eq}
 use Rattle.toml.specs.Data.{Data, as_str, as_array, as_table, Members, get_member}
@@ -11,9 +11,9 @@ use Rattle.cany_base.specs.declared.rule.Place.TheVariants.{At, FrameNth}
 use Rattle.cany_base.specs.declared.rule.Rule.{Rule}
 use Rattle.cany_base.specs.declared.rule.Verdict.{Verdict}
 use Rattle.cany_base.specs.declared.rule.Verdict.TheVariants.{Clean, Lost, Partial, Silent}
-use Rattle.cany_base.specs.Frame.{class_number}
 use Rattle.cany_base.specs.Nodes.{Nodes, those_where}
 use Rattle.cany_base.specs.Params.{Parameters}
+use Rattle.cany_base.specs.Scenario.{same_place}
 use Rattle.cany_model.specs.Texts.ReportLines.{class_name}
 use Rattle.cany_model.specs.Texts.TomlKeys.{◌>>=◌, only_if, has_only, required, optional, number_from, each_of}
 
@@ -95,12 +95,6 @@ rule_from params value = do
   verdict ← optional (verdict_from reject) Clean (codes "verdict") entry
   stop ← optional (nodes_from params) (set_of []) (codes "stop") entry
   Some (record { place = place; verdict = verdict; stop = stop })
-
-abbrev pub same_place : Place → Place → Bool
-same_place (At slot) (At other) = slot == other
-same_place (FrameNth class number node nth) (FrameNth c n d k) = class_number class == class_number c && number == n && node == d && nth == k
-same_place (At slot) (FrameNth class number node nth) = false
-same_place (FrameNth class number node nth) (At slot) = false
 
 -- no rule has the place of a rule after it
 unfoldable pub have_distinct_places : List Rule → Bool

@@ -5,7 +5,8 @@ use Rattle.std.proofs.lemmas.Bool.{false≢true}
 use Rattle.std.proofs.lemmas.List.{take_more, take_all}
 use Rattle.std.proofs.lemmas.Option.{slice_get_read}
 use Rattle.cany_base.specs.declared.rule.Rule.{Rule}
-use Rattle.can_fault.specs.Rules.{HaveDistinctPlaces, IsFirstRepeated}
+use Rattle.cany_base.specs.Scenario.{HaveDistinctPlaces}
+use Rattle.can_fault.specs.Rules.{IsFirstRepeated}
 use Rattle.can_fault.proofs.TableFacts.{IsTableOf-push, distinct_push, first_repeated}
 use Rattle.can_fault.proofs.script.Script.build.Goals as goal
 

@@ -1,5 +1,5 @@
 use Rattle.std.proofs.Common.{take}
-use Rattle.can_fault.specs.Rules.{HaveDistinctPlaces}
+use Rattle.cany_base.specs.Scenario.{HaveDistinctPlaces}
 use Rattle.can_fault.specs.Table.{IsTableOf}
 use Rattle.can_fault.proofs.script.Script.build.Given as goal
 
