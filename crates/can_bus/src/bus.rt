@@ -16,8 +16,7 @@ use std::marker::Model;
 /// The bus of a run: it runs one slot after another, keeps the note of each, and tells whether the run keeps the fault
 /// hypothesis.
 ///
-/// All memory is taken by `build`. What a slot costs does not grow with the run or with what was carried, and grows with the
-/// rules as the logarithm of their number.
+/// All memory is taken by `build`.
 #[derive(Drop)]
 pub struct Bus {
     params: Params,

@@ -38,7 +38,7 @@ const TOP_KEYS: [&str; 14] = [
 ///
 /// # Errors
 ///
-/// `Later` exactly where they stand for none of the form that is read so far, `Memory` for want of memory.
+/// `Later` only where they stand for none of the form that is read so far, `Memory` for want of memory.
 #[tactic(auto, unfolding(cany_model::specs::Texts::ScenarioText::scenario_of))]
 pub(crate) fn read_scenario(alloc: Global, bytes: &[u8]) -> Result<Scenario, ReadRefusal>
     ensures ok { IfOk result (λ scenario. scenario_of bytes.now ≡ Some scenario) }

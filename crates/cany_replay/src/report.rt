@@ -1,4 +1,4 @@
-//! The report of a run, and the lines of refusals. Each line goes to the sink in one piece.
+//! The report of a run, and the lines of refusals. Each line is put together before the sink is given any of it.
 
 mod field;
 mod line;

@@ -25,7 +25,7 @@ pub(crate) enum RunFault {
 ///
 /// # Errors
 ///
-/// `Journal` exactly where its own journal has a fault, `Memory` for want of memory.
+/// `Journal` only where its own journal has a fault, `Memory` for want of memory.
 pub(crate) fn run(alloc: Global, scenario: &Scenario) -> Result<World, RunFault>
     ensures ended { IfOk result (λ world. world ≡ record { scenario = scenario.now; journal = journal_of scenario.now }) }
     ensures followed { IfOk result (λ _. own_fault scenario.now ≡ None) }

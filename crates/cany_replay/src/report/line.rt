@@ -22,7 +22,7 @@ fn push_field(row: &mut Row, field: &Field)
     }
 }
 
-/// Writes the fields as one line, in one piece. It takes no memory.
+/// Writes the fields as one line, which is put together before the sink is given any of it. It takes no memory.
 pub fn write_line<K: Sink>(fields: &[Field], sink: &mut K) -> Result<(), Failed>
     requires room { room_of fields.now ≤ most_line_bytes }
     ensures { IsWritten (line_of (map field_text fields.now)) result
