@@ -44,7 +44,7 @@ def runs(services):
 
 
 def measure(program, text):
-    """Seconds, peak memory in MB, status and output of one run."""
+    """Seconds, peak memory in MB (ru_maxrss is in kB on Linux), status and output of one run."""
     with tempfile.TemporaryFile() as source, tempfile.TemporaryFile() as sink:
         source.write(text.encode())
         source.seek(0)
