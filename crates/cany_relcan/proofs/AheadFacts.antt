@@ -65,8 +65,14 @@ unfolding started_since
 running_is i zero msg past = grind (arith, nat_tests)
 running_is i (suc n) msg [] = grind (arith, nat_tests)
 running_is i (suc n) msg (notice ∷ before) =
-    grind (arith, nat_tests, list_any-append (is_timer_of msg) (started_since i n before) (started_by i notice before), running_is i n msg before,
-    started_one i msg notice before, dropped_copy (data_of msg) n before)
+    grind (
+      arith,
+      nat_tests,
+      list_any-append (is_timer_of msg) (started_since i n before) (started_by i notice before),
+      running_is i n msg before,
+      started_one i msg notice before,
+      dropped_copy (data_of msg) n before,
+    )
 
 -- ---- whether a timer of a message lies ahead
 
