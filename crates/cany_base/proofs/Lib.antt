@@ -1,3 +1,4 @@
 pub mod NodesFacts
+pub mod ParamsFacts
 pub mod PayloadFacts
 pub mod PlaceFacts

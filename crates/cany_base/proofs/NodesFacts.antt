@@ -1,12 +1,14 @@
 -- Sets of nodes: membership after each operation, and when two sets are equal.
-use Rattle.std.proofs.Common.{◌≡◌, ◌≢◌, ℕ, zero, suc, ◌+◌, ◌-◌, ◌*◌, ◌%◌, ◌/◌, ◌^◌, ◌<◌, ◌≤◌, ◌==◌, ◌&&◌, ◌||◌, inl, inr, List, [], ◌∷◌, map, min, max, Bool, true, false, not, nat_lt, nat_eq, if◌then◌else◌, IsTrue, refl, ap, sym, ◌∙◌, bit_and, bit_or, w32, arith, add-zero}
+use Rattle.std.proofs.Common.{◌≡◌, ◌≢◌, ℕ, zero, suc, ◌+◌, ◌-◌, ◌*◌, ◌%◌, ◌/◌, ◌^◌, ◌<◌, ◌≤◌, ◌==◌, ◌&&◌, ◌||◌, ◌⊎◌, inl, inr, List, [], ◌∷◌, map, min, max, Bool, true, false, not, nat_lt, nat_eq, if◌then◌else◌, IsTrue, refl, ap, sym, ◌∙◌, bit_and, bit_or, w64, arith, add-zero}
 use Rattle.std.proofs.Math.Nat.{two-pow-succ}
 use Rattle.std.specs.Int.{bit_at, bit_not, trailing_zeros}
 use Rattle.std.specs.List.{count_by, sum_by, range_with_len}
 use Rattle.std.proofs.lemmas.List.FromFn.{sum_by-map-range_with_len_more}
 use Rattle.std.proofs.lemmas.Nat.Bits.{bit_at-zero, bit_at_and, bit_at_or, bit_at_not, bit_at-lt, bit_at_above, bit_at_ones, bit_at_ones_above, bit_at_set_same, bit_at_set_other, bit_at_clear_same, bit_at_clear_other, bit_at_cat_low, bit_at_cat_high, shr_and_one, same_from_bits, bit_at-trailing_zeros}
+use Rattle.std.proofs.lemmas.Nat.{pow_pos, mod_below, shr_split}
 use Rattle.std.proofs.lemmas.Bool.{cases_lt, cases_eq, cases_order, false≢true, lt-ltb, le-ltb, ltb-true, eq-eqb, ne_eqb}
 use Rattle.std.proofs.lemmas.Bool.Decides.{nat_tests}
+use Rattle.cany_base.specs.Limits.{most_nodes}
 use Rattle.cany_base.specs.Nodes.{Nodes, has, bits_where, those_where, AllBelow}
 
 min_test : (x y : ℕ) → x < 2 → y < 2 → (min x y == 1) ≡ ((x == 1) && (y == 1))
@@ -45,23 +47,23 @@ pub has_or : (a b i : ℕ) → has (record { bits = bit_or a b }) i ≡ (has (re
 unfolding has
 has_or a b i = rw bit_at_or (max_test (bit_at a i) (bit_at b i) (bit_at-lt a i) (bit_at-lt b i))
 
--- a set of 32 bits has only nodes below 32
-pub has_above : (a i : ℕ) → a < 2 ^ 32 → 32 ≤ i → has (record { bits = a }) i ≡ false
+-- a set of n bits has no node from n on
+has_above : (a n i : ℕ) → a < 2 ^ n → n ≤ i → has (record { bits = a }) i ≡ false
 unfolding has
-has_above a i small far = let e : bit_at a i ≡ 0 = bit_at_above a 32 i small far in rw e refl
+has_above a n i small far = let e : bit_at a i ≡ 0 = bit_at_above a n i small far in rw e refl
 
-has_not : (a i : ℕ) → a < 2 ^ 32 → i < 32 → has (record { bits = bit_not w32 a }) i ≡ not (has (record { bits = a }) i)
+has_not : (a i : ℕ) → a < 2 ^ most_nodes → i < most_nodes → has (record { bits = bit_not w64 a }) i ≡ not (has (record { bits = a }) i)
 unfolding has
 has_not a i small near =
-    let e : bit_at (bit_not w32 a) i ≡ 1 - bit_at a i = bit_at_not w32 a i small near in
+    let e : bit_at (bit_not w64 a) i ≡ 1 - bit_at a i = bit_at_not w64 a i small near in
     rw e (flip_test (bit_at a i) (bit_at-lt a i))
 
-pub has_and_not : (a b i : ℕ) → a < 2 ^ 32 → b < 2 ^ 32 → has (record { bits = bit_and a (bit_not w32 b) }) i ≡ (has (record { bits = a }) i && not (has (record { bits = b }) i))
-has_and_not a b i ha hb = elim (cases_lt i 32) [
-  | inl near ↦ has_and a (bit_not w32 b) i ∙ ap (λ t. has (record { bits = a }) i && t) (has_not b i hb near)
+pub has_and_not : (a b i : ℕ) → a < 2 ^ most_nodes → b < 2 ^ most_nodes → has (record { bits = bit_and a (bit_not w64 b) }) i ≡ (has (record { bits = a }) i && not (has (record { bits = b }) i))
+has_and_not a b i ha hb = elim (cases_lt i most_nodes) [
+  | inl near ↦ has_and a (bit_not w64 b) i ∙ ap (λ t. has (record { bits = a }) i && t) (has_not b i hb near)
   | inr far ↦
-      let e : has (record { bits = a }) i ≡ false = has_above a i ha far in
-      has_and a (bit_not w32 b) i ∙ rw e refl
+      let e : has (record { bits = a }) i ≡ false = has_above a most_nodes i ha far in
+      has_and a (bit_not w64 b) i ∙ rw e refl
 ]
 
 set_here : (x y i k : ℕ) → x ≡ 1 → i ≡ k → (x == 1) ≡ ((y == 1) || (i == k))
@@ -76,30 +78,30 @@ clear_here x y i k none at = grind (arith, nat_tests)
 clear_there : (x y i k : ℕ) → x ≡ y → i ≢ k → (x == 1) ≡ ((y == 1) && not (i == k))
 clear_there x y i k same other = grind (arith, nat_tests)
 
-pub has_set : (a k i : ℕ) → k < 32 → has (record { bits = bit_or a (1 * 2 ^ k % 2 ^ 32) }) i ≡ (has (record { bits = a }) i || i == k)
+pub has_set : (a k i : ℕ) → k < most_nodes → has (record { bits = bit_or a (1 * 2 ^ k % 2 ^ most_nodes) }) i ≡ (has (record { bits = a }) i || i == k)
 unfolding has
 has_set a k i near = elim (cases_eq i k) [
   | inl at ↦
-      let one : bit_at (bit_or a (1 * 2 ^ k % 2 ^ 32)) i ≡ 1 = rw at (bit_at_set_same w32 a k near) in
+      let one : bit_at (bit_or a (1 * 2 ^ k % 2 ^ most_nodes)) i ≡ 1 = rw at (bit_at_set_same w64 a k near) in
       set_here _ (bit_at a i) i k one at
-  | inr other ↦ set_there _ (bit_at a i) i k (bit_at_set_other w32 a k near i other) other
+  | inr other ↦ set_there _ (bit_at a i) i k (bit_at_set_other w64 a k near i other) other
 ]
 
-clear_near : (a k i : ℕ) → k < 32 → i < 32 → has (record { bits = bit_and a (bit_not w32 (1 * 2 ^ k % 2 ^ 32)) }) i ≡ (has (record { bits = a }) i && not (i == k))
+clear_near : (a k i : ℕ) → k < most_nodes → i < most_nodes → has (record { bits = bit_and a (bit_not w64 (1 * 2 ^ k % 2 ^ most_nodes)) }) i ≡ (has (record { bits = a }) i && not (i == k))
 unfolding has
 clear_near a k i near low = elim (cases_eq i k) [
   | inl at ↦
-      let none : bit_at (bit_and a (bit_not w32 (1 * 2 ^ k % 2 ^ 32))) i ≡ 0 = rw at (bit_at_clear_same w32 a k near) in
+      let none : bit_at (bit_and a (bit_not w64 (1 * 2 ^ k % 2 ^ most_nodes))) i ≡ 0 = rw at (bit_at_clear_same w64 a k near) in
       clear_here _ (bit_at a i) i k none at
-  | inr other ↦ clear_there _ (bit_at a i) i k (bit_at_clear_other w32 a k near i low other) other
+  | inr other ↦ clear_there _ (bit_at a i) i k (bit_at_clear_other w64 a k near i low other) other
 ]
 
-pub has_clear : (a k i : ℕ) → a < 2 ^ 32 → k < 32 → has (record { bits = bit_and a (bit_not w32 (1 * 2 ^ k % 2 ^ 32)) }) i ≡ (has (record { bits = a }) i && not (i == k))
-has_clear a k i small near = elim (cases_lt i 32) [
+pub has_clear : (a k i : ℕ) → a < 2 ^ most_nodes → k < most_nodes → has (record { bits = bit_and a (bit_not w64 (1 * 2 ^ k % 2 ^ most_nodes)) }) i ≡ (has (record { bits = a }) i && not (i == k))
+has_clear a k i small near = elim (cases_lt i most_nodes) [
   | inl low ↦ clear_near a k i near low
   | inr far ↦
-      let e : has (record { bits = a }) i ≡ false = has_above a i small far in
-      has_and a (bit_not w32 (1 * 2 ^ k % 2 ^ 32)) i ∙ rw e refl
+      let e : has (record { bits = a }) i ≡ false = has_above a most_nodes i small far in
+      has_and a (bit_not w64 (1 * 2 ^ k % 2 ^ most_nodes)) i ∙ rw e refl
 ]
 
 ones_here : (x i k : ℕ) → x ≡ 1 → i < k → (x == 1) ≡ nat_lt i k
@@ -117,15 +119,15 @@ has_ones k i = elim (cases_lt i k) [
 ]
 
 -- a set that is not empty has the node of its lowest 1, and none before it
-pub has_lowest : (a : ℕ) → 0 < a → a < 2 ^ 32 → IsTrue (has (record { bits = a }) (trailing_zeros w32 a))
+pub has_lowest : (a : ℕ) → 0 < a → a < 2 ^ most_nodes → IsTrue (has (record { bits = a }) (trailing_zeros w64 a))
 unfolding has
-has_lowest a some small = rw (bit_at-trailing_zeros w32 a some small).1 refl
+has_lowest a some small = rw (bit_at-trailing_zeros w64 a some small).1 refl
 
-pub below_lowest : (a i : ℕ) → 0 < a → a < 2 ^ 32 → IsTrue (has (record { bits = a }) i) → trailing_zeros w32 a ≤ i
+pub below_lowest : (a i : ℕ) → 0 < a → a < 2 ^ most_nodes → IsTrue (has (record { bits = a }) i) → trailing_zeros w64 a ≤ i
 unfolding has
-below_lowest a i some small h = elim (cases_lt i (trailing_zeros w32 a)) [
+below_lowest a i some small h = elim (cases_lt i (trailing_zeros w64 a)) [
   | inl before ↦
-      let none : bit_at a i ≡ 0 = (bit_at-trailing_zeros w32 a some small).2 i before in
+      let none : bit_at a i ≡ 0 = (bit_at-trailing_zeros w64 a some small).2 i before in
       absurd (false≢true (rw none at h))
   | inr after ↦ after
 ]
@@ -185,10 +187,10 @@ has-bits_where test (suc n) i = elim (cases_order i n) [
       ap (λ b. b == 1) none ∙ high_test i (suc n) (test i) above
 ]
 
--- the set of those where the test holds has the nodes below 32 at which it holds
-pub has-those_where : (test : ℕ → Bool) (i : ℕ) → has (those_where test) i ≡ (nat_lt i 32 && test i)
+-- the set of those where the test holds has the nodes, of those that there can be, at which it holds
+pub has-those_where : (test : ℕ → Bool) (i : ℕ) → has (those_where test) i ≡ (nat_lt i most_nodes && test i)
 unfolding those_where
-has-those_where test i = has-bits_where test 32 i
+has-those_where test i = has-bits_where test most_nodes i
 
 bits_where-ext : (p q : ℕ → Bool) (n : ℕ) → ((i : ℕ) → i < n → p i ≡ q i) → bits_where p n ≡ bits_where q n
 unfolding bits_where
@@ -197,17 +199,37 @@ bits_where-ext p q (suc n) same =
     let rest : bits_where p n ≡ bits_where q n = bits_where-ext p q n (λ i h. same i (omega arith)) in
     rw (rest, same n (omega arith)) refl
 
--- tests that agree below 32 give one set
-pub those_where-ext : (p q : ℕ → Bool) → ((i : ℕ) → i < 32 → p i ≡ q i) → those_where p ≡ those_where q
+-- tests that agree at the nodes that there can be give one set
+pub those_where-ext : (p q : ℕ → Bool) → ((i : ℕ) → i < most_nodes → p i ≡ q i) → those_where p ≡ those_where q
 unfolding those_where
-those_where-ext p q same = ap (λ b. record { bits = b }) (bits_where-ext p q 32 same)
+those_where-ext p q same = ap (λ b. record { bits = b }) (bits_where-ext p q most_nodes same)
 
--- a set of 32 bits has only nodes below 32
-pub AllBelow-bits : (nodes : Nodes) → nodes.bits < 2 ^ 32 → AllBelow 32 nodes
-AllBelow-bits nodes small i h = elim (cases_lt i 32) [
+-- a set of n bits has only nodes below n
+pub AllBelow-bits : (n : ℕ) (nodes : Nodes) → nodes.bits < 2 ^ n → AllBelow n nodes
+AllBelow-bits n nodes small i h = elim (cases_lt i n) [
   | inl below ↦ below
-  | inr above ↦ absurd (false≢true (sym (has_above nodes.bits i small above) ∙ h))
+  | inr above ↦ absurd (false≢true (sym (has_above nodes.bits n i small above) ∙ h))
 ]
+
+no_bit : (nodes : Nodes) (i : ℕ) → ¬ IsTrue (has nodes i) → bit_at nodes.bits i ≡ 0
+unfolding has
+no_bit nodes i none = elim (cases_eq (bit_at nodes.bits i) 1) [
+  | inl one ↦ absurd (none (rw one refl))
+  | inr other ↦ omega (arith, bit_at-lt nodes.bits i)
+]
+
+-- and a set of nodes below n has n bits
+pub bits-lt : (n : ℕ) (nodes : Nodes) → AllBelow n nodes → nodes.bits < 2 ^ n
+bits-lt n nodes below =
+    let low : nodes.bits % 2 ^ n < 2 ^ n = mod_below nodes.bits (2 ^ n) (pow_pos n) in
+    let same : nodes.bits ≡ nodes.bits % 2 ^ n = same_from_bits nodes.bits (nodes.bits % 2 ^ n) (λ i. at low i (cases_lt i n)) in
+    omega arith
+  where
+    at : nodes.bits % 2 ^ n < 2 ^ n → (i : ℕ) → (i < n) ⊎ (n ≤ i) → bit_at nodes.bits i ≡ bit_at (nodes.bits % 2 ^ n) i
+    at low i (inl near) = ap (λ b. bit_at b i) (sym (shr_split nodes.bits n)) ∙ bit_at_cat_low (nodes.bits / 2 ^ n) n (nodes.bits % 2 ^ n) i near
+    at low i (inr far) =
+        no_bit nodes i (λ h. let near : i < n = below i h in omega arith)
+        ∙ sym (bit_at_above (nodes.bits % 2 ^ n) n i low far)
 
 map_same : (xs : List ℕ) → map (λ x. x) xs ≡ xs
 map_same [] = refl
@@ -219,8 +241,8 @@ count_more test n =
     let g : ℕ → ℕ = λ x. if test x then 1 else 0 in
     sym (ap (sum_by g) (map_same (range_with_len 0 (n + 1)))) ∙ sum_by-map-range_with_len_more g (λ x. x) 0 n n (omega arith) ∙ ap (λ xs. sum_by g xs + g n) (map_same (range_with_len 0 n))
 
--- a set that has just the nodes below 32 at which the test holds
-pub same_as_those_where : (nodes : Nodes) (test : ℕ → Bool) → ((i : ℕ) → has nodes i ≡ (nat_lt i 32 && test i)) → nodes ≡ those_where test
+-- a set that has just the nodes, of those that there can be, at which the test holds
+pub same_as_those_where : (nodes : Nodes) (test : ℕ → Bool) → ((i : ℕ) → has nodes i ≡ (nat_lt i most_nodes && test i)) → nodes ≡ those_where test
 same_as_those_where nodes test same = same_nodes nodes (those_where test) (λ i. same i ∙ sym (has-those_where test i))
 
 -- a set of the numbers below a bound

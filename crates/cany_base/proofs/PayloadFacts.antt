@@ -1,12 +1,16 @@
 -- A payload's bytes, and the row of eight that it keeps.
-use Rattle.std.proofs.Common.{◌≡◌, ℕ, zero, suc, ◌<◌, ◌≤◌, List, [], ◌∷◌, length, take, slice_get, slice_index, nat_eq, Some, refl, ap, sym, ◌∙◌, arith, length-take-le}
-use Rattle.std.specs.Int.{w32, to_be_bytes, from_be_bytes}
-use Rattle.std.proofs.lemmas.Nat.{be_bytes_4}
+use Rattle.std.proofs.Common.{◌≡◌, ℕ, zero, suc, ◌^◌, ◌<◌, ◌≤◌, List, length, take, slice_get, slice_index, nat_eq, Some, refl, ap, sym, ◌∙◌, arith, length-take-le}
+use Rattle.std.specs.Int.{to_be_bytes, from_be_bytes}
+use Rattle.std.proofs.lemmas.Nat.{from_be_bytes-to_be_bytes_4, from_be_bytes-to_be_bytes_8}
 use Rattle.std.proofs.lemmas.List.{get_or-take, ext_get_or}
 use Rattle.std.proofs.lemmas.Option.{slice_get-get_or}
 use Rattle.std.proofs.lemmas.Bool.Decides.{same_from_decides, Decides-like}
 use Rattle.std.specs.Cmp.Lexicographic.{pointwise, bytes_decides}
+use Rattle.cany_base.specs.declared.frame.Format.{Format}
+use Rattle.cany_base.specs.declared.frame.Format.TheVariants.{One, Two}
 use Rattle.cany_base.specs.declared.payload.Payload.TheInside.{Inside}
+use Rattle.cany_base.specs.Layout.{layout}
+use Rattle.cany_base.specs.Payload.{vector_width}
 use Rattle.cany_base.specs.PayloadBytes.{all_bytes, bytes_of, row_of, IsPadded, padded-bytes_of}
 
 pub row_of-index : (bytes : List ℕ) (i : ℕ) → i < 8 → slice_index (row_of bytes) i ≡ slice_index bytes i
@@ -46,18 +50,7 @@ row_of-get bytes i below short = rw (row_of-index bytes i (omega arith)) (slice_
 pub length-bytes_of : (p : Inside) → IsPadded p → length (bytes_of p) ≡ p.len
 length-bytes_of p h = length-take-le p.len (all_bytes p) h.short
 
-pub bytes_of-four : (p : Inside) → p.len ≡ 4 → bytes_of p ≡ p.b0 ∷ p.b1 ∷ p.b2 ∷ p.b3 ∷ []
-bytes_of-four p e = rw e refl
-
-four_bytes : (a b c d : ℕ) → a < 256 → b < 256 → c < 256 → d < 256 → (i : ℕ) → slice_index (a ∷ b ∷ c ∷ d ∷ []) i < 256
-four_bytes a b c d ha hb hc hd zero = ha
-four_bytes a b c d ha hb hc hd (suc zero) = hb
-four_bytes a b c d ha hb hc hd (suc (suc zero)) = hc
-four_bytes a b c d ha hb hc hd (suc (suc (suc zero))) = hd
-four_bytes a b c d ha hb hc hd (suc (suc (suc (suc i)))) = omega arith
-
--- the number of four bytes gives them back
-pub bytes_of-back : (p : Inside) (n : ℕ) → IsPadded p → p.len ≡ 4 → n ≡ from_be_bytes w32 (p.b0 ∷ p.b1 ∷ p.b2 ∷ p.b3 ∷ []) → to_be_bytes w32 n ≡ bytes_of p
-bytes_of-back p n h four e =
-    rw (bytes_of-four p four)
-    (be_bytes_4 (p.b0 ∷ p.b1 ∷ p.b2 ∷ p.b3 ∷ []) n refl (four_bytes p.b0 p.b1 p.b2 p.b3 (h.bytes 0 0 (omega arith)) (h.bytes 1 0 (omega arith)) (h.bytes 2 0 (omega arith)) (h.bytes 3 0 (omega arith))) e)
+-- the bytes of a vector give its number back
+pub bits-back : (format : Format) (n : ℕ) → n < 2 ^ (layout format).nodes → from_be_bytes (vector_width format) (to_be_bytes (vector_width format) n) ≡ n
+bits-back One n small = from_be_bytes-to_be_bytes_4 n small
+bits-back Two n small = from_be_bytes-to_be_bytes_8 n small

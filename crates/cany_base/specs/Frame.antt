@@ -1,9 +1,12 @@
 -- A frame, the class table, and where its fields lie in the identifier.
-use Rattle.std.specs.Prelude.{◌≡◌, ℕ, ◌+◌, ◌*◌, ◌^◌, Bool, true, false, if◌then◌else◌, List, [], length}
+use Rattle.std.specs.Prelude.{◌≡◌, ◌⊎◌, ℕ, ◌+◌, ◌*◌, ◌^◌, Bool, true, false, if◌then◌else◌, List, [], length}
 use Rattle.cany_base.specs.declared.frame.Class.{Class}
 use Rattle.cany_base.specs.declared.frame.Class.TheVariants.{Accept, Rha, Els, Fda, Join, Leave, Confirm, Tot, Rel, Ed}
+use Rattle.cany_base.specs.declared.frame.Format.{Format}
+use Rattle.cany_base.specs.declared.frame.Format.TheVariants.{One, Two}
 use Rattle.cany_base.specs.declared.message.Service.{Service}
 use Rattle.cany_base.specs.declared.message.Service.TheVariants as service
+use Rattle.cany_base.specs.Layout.{layout}
 
 pub record FrameParts : Type 0 where
   pub class : Class
@@ -38,9 +41,9 @@ is_remote Join = true
 is_remote Leave = true
 is_remote Confirm = true
 
--- the bytes that a frame of a class carries: none in a remote frame, four in a vector
+-- the bytes that a frame of a class carries: none in a remote frame, those of a format in a vector
 abbrev pub FitsClass : Class → List ℕ → Type 0
-FitsClass Rha payload = length payload ≡ 4
+FitsClass Rha payload = (length payload ≡ (layout One).vector) ⊎ (length payload ≡ (layout Two).vector)
 FitsClass Tot payload = Unit {0}
 FitsClass Rel payload = Unit {0}
 FitsClass Ed payload = Unit {0}
@@ -61,9 +64,10 @@ data_class service.Ed = Ed
 data_class service.Rel = Rel
 data_class service.Tot = Tot
 
--- class in bits 28 to 25, number in bits 24 to 9, node in bits 8 to 4, and four bits that are 0
-abbrev pub identifier_of : FrameParts → ℕ
-identifier_of f = class_number f.class * 2 ^ 25 + f.number * 2 ^ 9 + f.node * 2 ^ 4
+-- class in bits 28 to 25, number and node in the fields of the format, and four bits that are 0
+abbrev pub identifier_of : Format → FrameParts → ℕ
+identifier_of format f =
+    class_number f.class * 2 ^ 25 + f.number * 2 ^ (layout format).number_shift + f.node * 2 ^ (layout format).node_shift
 
 -- class, number and node, which name a frame, are the same
 pub record SameIdentity (f g : FrameParts) : Type 0 where
@@ -72,5 +76,5 @@ pub record SameIdentity (f g : FrameParts) : Type 0 where
   pub node : f.node ≡ g.node
 
 -- the smaller key wins arbitration: of one identifier a data frame beats a remote frame
-abbrev pub key_of : FrameParts → ℕ
-key_of f = 2 * identifier_of f + (if is_remote f.class then 1 else 0)
+abbrev pub key_of : Format → FrameParts → ℕ
+key_of format f = 2 * identifier_of format f + (if is_remote f.class then 1 else 0)

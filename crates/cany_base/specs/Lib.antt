@@ -1,5 +1,6 @@
 pub mod Bounded
 pub mod Frame
+pub mod Layout
 pub mod Limits
 pub mod Nodes
 pub mod Params

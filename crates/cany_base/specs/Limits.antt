@@ -1,5 +1,11 @@
 -- The limits of scenarios, texts and reports, each with its unit.
 use Rattle.std.specs.Prelude.{ℕ}
+use Rattle.cany_base.specs.declared.frame.Format.{Format}
+use Rattle.cany_base.specs.declared.frame.Format.TheVariants.{One, Two}
+
+-- nodes of the bus, in any format
+abbrev pub most_nodes : ℕ
+most_nodes = 64
 
 -- errors: the greatest counter with which a node still runs
 abbrev pub greatest_error_counter : ℕ
@@ -41,13 +47,22 @@ greatest_given = 1000000
 abbrev pub greatest_default : ℕ
 greatest_default = 4000000
 
--- slots: the longest run in format one
-abbrev pub greatest_slots : ℕ
-greatest_slots = 100000
+-- numbers of frames: every frame of a run has one below it, in any format
+abbrev pub most_numbers : ℕ
+most_numbers = 32768
+
+-- slots: the longest run, in any format
+abbrev pub most_slots : ℕ
+most_slots = 400000
+
+-- slots: the longest run in a format
+abbrev pub greatest_slots : Format → ℕ
+greatest_slots One = 100000
+greatest_slots Two = most_slots
 
 -- attempts: the greatest number of an attempt that a fault rule may name; a run has no more attempts than slots
-abbrev pub greatest_attempt : ℕ
-greatest_attempt = 100000
+abbrev pub greatest_attempt : Format → ℕ
+greatest_attempt format = greatest_slots format
 
 -- bytes of a scenario text
 abbrev pub most_text_bytes : ℕ

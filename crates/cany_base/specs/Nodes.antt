@@ -2,6 +2,7 @@
 use Rattle.std.specs.Prelude.{ℕ, zero, suc, ◌+◌, ◌^◌, ◌<◌, ◌==◌, Bool, List, count_by, IsTrue, if◌then◌else◌}
 use Rattle.std.specs.Int.{bit_at}
 use Rattle.std.specs.List.{range_with_len}
+use Rattle.cany_base.specs.Limits.{most_nodes}
 
 -- node i is in the set where bit i is 1
 pub record Nodes : Type 0 where
@@ -17,11 +18,11 @@ bits_where test (suc n) = bits_where test n + (if test n then 2 ^ n else 0)
 
 -- the set of the nodes, of those that there can be, at which the test holds
 unfoldable pub those_where : (ℕ → Bool) → Nodes
-those_where test = record { bits = bits_where test 32 }
+those_where test = record { bits = bits_where test most_nodes }
 
 -- the numbers of the nodes that there can be, ascending
 abbrev pub node_numbers : List ℕ
-node_numbers = range_with_len 0 32
+node_numbers = range_with_len 0 most_nodes
 
 -- how many nodes the set has
 abbrev pub node_count : Nodes → ℕ

@@ -5,6 +5,7 @@ use Rattle.cany_base.specs.declared.frame.Format.TheVariants.{One}
 use Rattle.cany_base.specs.declared.params.ParamName.{ParamName}
 use Rattle.cany_base.specs.declared.params.ParamName.TheVariants.{Bound, Cycle, Life, Silence, Confirm}
 use Rattle.cany_base.specs.declared.params.ParamFault.{ParamFault}
+use Rattle.cany_base.specs.Layout.{layout}
 use Rattle.cany_base.specs.Limits.{greatest_lag, greatest_omit, greatest_errors, greatest_default, greatest_slots}
 
 pub record Parameters : Type 0 where
@@ -24,7 +25,7 @@ abbrev IsFrom : ℕ → ℕ → ℕ → Type 0
 IsFrom low high value = (low ≤ value) × (value ≤ high)
 
 pub record IsInRange (p : Parameters) : Type 0 where
-  pub nodes : IsFrom 2 32 p.nodes
+  pub nodes : IsFrom 2 (layout p.format).nodes p.nodes
   pub lag : p.lag ≤ greatest_lag
   pub omit : p.omit ≤ greatest_omit
   pub errors : p.errors ≤ greatest_errors
@@ -33,7 +34,7 @@ pub record IsInRange (p : Parameters) : Type 0 where
   pub life : IsFrom 1 greatest_default p.life
   pub silence : IsFrom 1 greatest_default p.silence
   pub confirm : IsFrom 1 greatest_default p.confirm
-  pub slots : IsFrom 1 greatest_slots p.slots
+  pub slots : IsFrom 1 (greatest_slots p.format) p.slots
 
 -- how many Clean frames of the top classes a window of `bound + lag` slots can have
 abbrev pub top_frames : ℕ → ℕ
@@ -73,12 +74,12 @@ first_fault p =
     else Ok tt
 
 -- the parameters of so many nodes and so many slots where a text gives no others: the derived ones have their least values
-abbrev pub default_parameters : (nodes slots : ℕ) → Parameters
-default_parameters nodes slots =
+abbrev pub default_parameters_of : (format : Format) (nodes slots : ℕ) → Parameters
+default_parameters_of format nodes slots =
     let bound = least_bound nodes 0 2 in
     let life = least_life 0 bound in
     record {
-      format = One;
+      format = format;
       nodes = nodes;
       lag = 0;
       omit = 1;
@@ -90,3 +91,6 @@ default_parameters nodes slots =
       confirm = 10;
       slots = slots;
     }
+
+abbrev pub default_parameters : (nodes slots : ℕ) → Parameters
+default_parameters nodes slots = default_parameters_of One nodes slots

@@ -32,7 +32,7 @@ IsAskOf p ask = (ask.slot < p.slots) × (ask.node < p.nodes)
 
 abbrev pub IsPlaceOf : Parameters → Place → Type 0
 IsPlaceOf p (At slot) = slot < p.slots
-IsPlaceOf p (FrameNth class number node nth) = (node < p.nodes) × (1 ≤ nth) × (nth ≤ greatest_attempt)
+IsPlaceOf p (FrameNth class number node nth) = (node < p.nodes) × (1 ≤ nth) × (nth ≤ greatest_attempt p.format)
 
 -- the set of a verdict has nodes of the bus alone
 abbrev pub IsVerdictOf : Parameters → Verdict → Type 0

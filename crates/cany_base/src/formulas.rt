@@ -9,7 +9,7 @@ use crate::params::Params;
 impl Params {
     /// The least `bound`, in slots, for so many nodes with this `lag` and these `errors`.
     pub fn least_bound(nodes: u64, lag: u64, errors: u64) -> u64
-        requires nodes { nodes ≤ 32 }
+        requires nodes { nodes ≤ limit.most_nodes }
         requires lag { lag ≤ limit.greatest_lag }
         requires errors { errors ≤ limit.greatest_errors }
         ensures value { result ≡ formula.least_bound nodes lag errors }

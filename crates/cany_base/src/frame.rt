@@ -1,5 +1,7 @@
 ghost use Rattle.std.specs.Prelude.{◌≡◌, ℕ};
+ghost use Rattle.cany_base.specs.Layout.{format_number, layout};
 
+use crate::limits::MOST_NODES;
 use crate::node::NodeId;
 use crate::payload::Payload;
 use std::marker::Model;
@@ -8,6 +10,39 @@ use std::marker::Model;
 #[derive(Clone, Copy, Debug, PartialEq, Eq)]
 pub enum Format {
     One,
+    Two,
+}
+
+impl Format {
+    /// The most nodes of a bus.
+    pub fn nodes(self) -> u8
+        ensures { result ≡ (layout self).nodes }
+    {
+        match self {
+            Format::One => 32,
+            Format::Two => MOST_NODES,
+        }
+    }
+
+    /// The number by which texts name the format.
+    pub fn number(self) -> u8
+        ensures { result ≡ format_number self }
+    {
+        match self {
+            Format::One => 1,
+            Format::Two => 2,
+        }
+    }
+
+    /// How many bytes a reception history vector has.
+    pub fn vector_len(self) -> u8
+        ensures { result ≡ (layout self).vector }
+    {
+        match self {
+            Format::One => 4,
+            Format::Two => 8,
+        }
+    }
 }
 
 /// The class of a frame: what it is for. In arbitration an earlier class beats a later one.
@@ -36,7 +71,7 @@ pub enum Class {
 }
 
 /// A frame that a controller sends. Its class, number and node name it. A remote frame carries no bytes, and a
-/// reception history vector has four.
+/// reception history vector has four or eight, by the format of its scenario.
 #[derive(Clone, Copy, Debug, PartialEq, Eq)]
 pub struct Frame {
     pub class: Class,

@@ -3,6 +3,11 @@
 ghost use Rattle.std.specs.Prelude.{◌≡◌};
 ghost use Rattle.cany_base.specs.Limits as limit;
 
+use crate::frame::Format;
+
+/// The most nodes of a bus, in any format.
+pub const MOST_NODES: u8 = 64;
+
 /// The greatest error counter with which a node still runs, in errors. Above it a controller of the CAN Specification
 /// (2.0 Part B, 8) is error passive, and a node of this project stops.
 pub const GREATEST_ERROR_COUNTER: u32 = 127;
@@ -35,11 +40,11 @@ pub const GREATEST_GIVEN: u64 = 1_000_000;
 /// values that the text gives, so it may exceed `GREATEST_GIVEN`.
 pub const GREATEST_DEFAULT: u64 = 4_000_000;
 
-/// The length of the longest run in format one, in slots.
-pub const GREATEST_SLOTS: u64 = 100_000;
+/// How many numbers frames of a run can have, in any format: each is below this.
+pub const MOST_NUMBERS: u16 = 32_768;
 
-/// The greatest attempt that a fault rule may name, counted from 1: a run has no more attempts than slots.
-pub const GREATEST_ATTEMPT: u64 = 100_000;
+/// The length of the longest run, in slots, in any format.
+pub const MOST_SLOTS: u64 = 400_000;
 
 /// The most bytes of a scenario text.
 pub const MOST_TEXT_BYTES: usize = 8_388_608;
@@ -47,8 +52,26 @@ pub const MOST_TEXT_BYTES: usize = 8_388_608;
 /// The most bytes of a report line, its newline counted: the length of the buffer in which a line is made.
 pub const MOST_LINE_BYTES: usize = 1_024;
 
+/// The length of the longest run of a format, in slots.
+pub fn greatest_slots(format: Format) -> u64
+    ensures { result ≡ limit.greatest_slots format }
+{
+    match format {
+        Format::One => 100_000,
+        Format::Two => MOST_SLOTS,
+    }
+}
+
+/// The greatest attempt that a fault rule of a format may name, counted from 1: a run has no more attempts than slots.
+pub fn greatest_attempt(format: Format) -> u64
+    ensures { result ≡ limit.greatest_attempt format }
+{
+    greatest_slots(format)
+}
+
 /// The limits of code are those of the definitions.
 pub fn are_those_of_the_definitions()
+    ensures nodes { MOST_NODES ≡ limit.most_nodes }
     ensures error_counter { GREATEST_ERROR_COUNTER ≡ limit.greatest_error_counter }
     ensures sends { MOST_SENDS ≡ limit.most_sends }
     ensures rules { MOST_RULES ≡ limit.most_rules }
@@ -59,8 +82,8 @@ pub fn are_those_of_the_definitions()
     ensures errors { GREATEST_ERRORS ≡ limit.greatest_errors }
     ensures given { GREATEST_GIVEN ≡ limit.greatest_given }
     ensures default { GREATEST_DEFAULT ≡ limit.greatest_default }
-    ensures slots { GREATEST_SLOTS ≡ limit.greatest_slots }
-    ensures attempt { GREATEST_ATTEMPT ≡ limit.greatest_attempt }
+    ensures numbers { MOST_NUMBERS ≡ limit.most_numbers }
+    ensures slots { MOST_SLOTS ≡ limit.most_slots }
     ensures text_bytes { MOST_TEXT_BYTES ≡ limit.most_text_bytes }
     ensures line_bytes { MOST_LINE_BYTES ≡ limit.most_line_bytes }
 {}

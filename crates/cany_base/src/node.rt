@@ -1,8 +1,10 @@
 ghost use Rattle.std.specs.Prelude.{◌≡◌, ◌<◌, ◌↔◌, ℕ, IsSome, IfSome};
+ghost use Rattle.cany_base.specs.Limits.{most_nodes};
 
+use crate::limits::MOST_NODES;
 use std::marker::Model;
 
-/// The number of a node on the bus, 0 to 31.
+/// The number of a node on the bus, 0 to 63.
 #[derive(Clone, Copy, Debug, PartialEq, Eq, PartialOrd, Ord, Hash)]
 pub struct NodeId {
     number: u8,
@@ -13,18 +15,18 @@ impl Model for NodeId {
 
     ghost view = { λ node. node.number };
 
-    ghost invariant = { λ node. node.number < 32 };
+    ghost invariant = { λ node. node.number < most_nodes };
 
     ghost inverse = { λ number. record { number = number } };
 }
 
 impl NodeId {
     /// How many nodes there can be.
-    pub const COUNT: u8 = 32;
+    pub const COUNT: u8 = MOST_NODES;
 
     /// The node of this number, if there can be one.
     pub fn new(n: u8) -> Option<NodeId>
-        ensures found { IsSome result ↔ (n < 32) }
+        ensures found { IsSome result ↔ (n < most_nodes) }
         ensures value { IfSome result (λ node. node ≡ n) }
     {
         if n < NodeId::COUNT {
@@ -36,7 +38,7 @@ impl NodeId {
 
     /// The node at this index of a row of nodes.
     pub fn of_index(i: usize) -> NodeId
-        requires { i < 32 }
+        requires { i < most_nodes }
         ensures { result ≡ i }
     {
         NodeId { number: i as u8 }
@@ -44,7 +46,7 @@ impl NodeId {
 
     pub fn get(self) -> u8
         ensures value { result ≡ self }
-        ensures in_range { result < 32 }
+        ensures in_range { result < most_nodes }
     {
         self.number
     }

@@ -1,4 +1,5 @@
 ghost use Rattle.std.specs.Prelude.{◌≡◌, ◌<◌, ◌≤◌, ◌↔◌, ◌==◌, ◌&&◌, ◌||◌, ℕ, not, nat_lt, false, IsTrue, IsSome, IfSome, IfNone};
+ghost use Rattle.cany_base.specs.Limits.{most_nodes};
 ghost use Rattle.cany_base.specs.Nodes.{has, node_count, AllBelow};
 
 use crate::node::NodeId;
@@ -7,18 +8,19 @@ use std::marker::Model;
 /// A set of nodes.
 #[derive(Clone, Copy, Debug, PartialEq, Eq)]
 pub struct NodeSet {
-    bits: u32,
+    bits: u64,
 }
 
 impl Model for NodeSet {
     ghost use Rattle.std.specs.Prelude.{◌<◌, ◌^◌};
+    ghost use Rattle.cany_base.specs.Limits.{most_nodes};
     ghost use Rattle.cany_base.specs.Nodes.{Nodes};
 
     ghost Value = { Nodes };
 
     ghost view = { λ set. record { bits = set.bits } };
 
-    ghost invariant = { λ set. set.bits < 2 ^ 32 };
+    ghost invariant = { λ set. set.bits < 2 ^ most_nodes };
 
     ghost inverse = { λ nodes. record { bits = nodes.bits } };
 }
@@ -32,30 +34,30 @@ impl NodeSet {
 
     /// The nodes below `nodes`.
     pub fn all(nodes: u8) -> NodeSet
-        requires { nodes ≤ 32 }
+        requires { nodes ≤ most_nodes }
         ensures has { (i : ℕ) → has result i ≡ nat_lt i nodes }
         ensures below { AllBelow nodes result }
     {
-        if nodes < 32 {
+        if nodes < NodeId::COUNT {
             NodeSet {
-                bits: (1u32 << nodes) - 1,
+                bits: (1u64 << nodes) - 1,
             }
         } else {
-            NodeSet { bits: u32::MAX }
+            NodeSet { bits: u64::MAX }
         }
     }
 
     /// The set that has node i where bit i is 1.
-    pub fn of_bits(bits: u32) -> NodeSet
+    pub fn of_bits(bits: u64) -> NodeSet
         ensures { result ≡ record { bits = bits } }
     {
         NodeSet { bits }
     }
 
     /// The number whose bit i is 1 where the set has node i.
-    pub fn bits(self) -> u32
+    pub fn bits(self) -> u64
         ensures bits { result ≡ self.bits }
-        ensures below { AllBelow 32 self }
+        ensures below { AllBelow most_nodes self }
     {
         self.bits
     }
@@ -63,13 +65,13 @@ impl NodeSet {
     pub fn insert(&mut self, n: NodeId)
         ensures { (i : ℕ) → has self.new i ≡ (has self.old i || i == n) }
     {
-        self.bits |= 1u32 << n.get();
+        self.bits |= 1u64 << n.get();
     }
 
     pub fn remove(&mut self, n: NodeId)
         ensures { (i : ℕ) → has self.new i ≡ (has self.old i && not (i == n)) }
     {
-        self.bits &= !(1u32 << n.get());
+        self.bits &= !(1u64 << n.get());
     }
 
     pub fn has(self, n: NodeId) -> bool
@@ -108,10 +110,10 @@ impl NodeSet {
     /// How many nodes the set has.
     pub fn count(self) -> u32
         ensures count { result ≡ node_count self }
-        ensures small { result ≤ 32 }
+        ensures small { result ≤ most_nodes }
     {
         let mut count = 0;
-        for i in 0..32u8 {
+        for i in 0..NodeId::COUNT {
             if (self.bits >> i) & 1 == 1 {
                 count += 1;
             }

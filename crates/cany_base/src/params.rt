@@ -8,7 +8,7 @@ use thiserror::Error;
 #[derive(Clone, Copy, Debug, PartialEq, Eq)]
 pub struct Params {
     pub format: Format,
-    /// How many nodes there are: 2 to 32.
+    /// How many nodes there are: 2 to 32 in format one, 2 to 64 in format two.
     pub nodes: u8,
     /// How many unread notices a node may have when a slot runs: 0 to 8.
     pub lag: u32,
@@ -26,7 +26,7 @@ pub struct Params {
     pub silence: u64,
     /// The confirm timer of RELCAN: 1 to 4,000,000.
     pub confirm: u64,
-    /// The length of the run: 1 to 100,000.
+    /// The length of the run: 1 to 100,000 in format one, 1 to 400,000 in format two.
     pub slots: u64,
 }
 
@@ -65,21 +65,34 @@ pub struct ParamFault {
 
 impl Params {
     ghost use Rattle.cany_base.specs.Limits as limit;
-    ghost use Rattle.cany_base.specs.Params.{IsInRange, MeetsFormulas, default_parameters, first_fault};
+    ghost use Rattle.cany_base.specs.declared.frame.Format.TheVariants.{One};
+    ghost use Rattle.cany_base.specs.Layout.{layout};
+    ghost use Rattle.cany_base.specs.Params.{IsInRange, MeetsFormulas, default_parameters, default_parameters_of, first_fault};
+
+    /// As `with_defaults_of`, in format one.
+    pub fn with_defaults(nodes: u8, slots: u64) -> Params
+        requires nodes { (2 ≤ nodes) × (nodes ≤ (layout One).nodes) }
+        requires slots { (1 ≤ slots) × (slots ≤ limit.greatest_slots One) }
+        ensures value { result ≡ default_parameters nodes slots }
+        ensures ranges { IsInRange result }
+        ensures formulas { MeetsFormulas result }
+    {
+        Params::with_defaults_of(Format::One, nodes, slots)
+    }
 
     /// The parameters of so many nodes and so many slots where a scenario text gives no others: `lag` 0, `omit` 1, `errors`
     /// 2, `confirm` 10, and the least legal `bound`, `cycle`, `life` and `silence`.
-    pub fn with_defaults(nodes: u8, slots: u64) -> Params
-        requires nodes { (2 ≤ nodes) × (nodes ≤ 32) }
-        requires slots { (1 ≤ slots) × (slots ≤ limit.greatest_slots) }
-        ensures value { result ≡ default_parameters nodes slots }
+    pub fn with_defaults_of(format: Format, nodes: u8, slots: u64) -> Params
+        requires nodes { (2 ≤ nodes) × (nodes ≤ (layout format).nodes) }
+        requires slots { (1 ≤ slots) × (slots ≤ limit.greatest_slots format) }
+        ensures value { result ≡ default_parameters_of format nodes slots }
         ensures ranges { IsInRange result }
         ensures formulas { MeetsFormulas result }
     {
         let bound = Params::least_bound(u64::from(nodes), 0, 2);
         let life = Params::least_life(0, bound);
         Params {
-            format: Format::One,
+            format,
             nodes,
             lag: 0,
             omit: 1,

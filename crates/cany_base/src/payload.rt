@@ -1,6 +1,8 @@
-ghost use Rattle.std.specs.Prelude.{◌≡◌, ◌<◌, ◌≤◌, ◌↔◌, ℕ, List, [], ◌∷◌, length, slice_get, slice_index, nat_eq, IsTrue, IsSome, IfSome, Some};
+ghost use Rattle.std.specs.Prelude.{◌≡◌, ◌^◌, ◌<◌, ◌≤◌, ◌↔◌, ℕ, List, [], ◌∷◌, length, slice_get, slice_index, nat_eq, IsTrue, IsSome, IfSome, Some};
 ghost use Rattle.std.specs.Cmp.{partial_equiv_from_equiv};
 ghost use Rattle.std.specs.Cmp.Lexicographic.{pointwise, nat_list_eq_equiv};
+ghost use Rattle.cany_base.specs.Layout.{layout};
+ghost use Rattle.cany_base.specs.Nodes.{AllBelow};
 ghost use Rattle.cany_base.specs.Payload.{vector_bytes, vector_of};
 
 use crate::frame::Format;
@@ -52,6 +54,8 @@ impl Eq for Payload {
 }
 
 impl Payload {
+    ghost use Rattle.std.specs.Int.{to_be_bytes, from_be_bytes};
+    ghost use Rattle.cany_base.specs.Payload.{vector_width};
     ghost use Rattle.cany_base.specs.PayloadBytes.{row_of};
 
     /// No bytes, as in a remote frame.
@@ -108,29 +112,42 @@ impl Payload {
         self.row()[i as usize]
     }
 
-    /// The set as four bytes, most significant first, where bit i stands for node i.
+    /// The set as the bytes of the format, most significant first, where bit i stands for node i.
     pub fn vector(set: NodeSet, format: Format) -> Payload
-        ensures bytes { result ≡ vector_bytes set }
-        ensures back { vector_of result ≡ Some set }
+        requires { AllBelow (layout format).nodes set }
+        ensures bytes { result ≡ vector_bytes format set }
+        ensures back { vector_of format result ≡ Some set }
     {
-        // A vector of another format has another length.
-        let Format::One = format;
-        Payload::of(&set.bits().to_be_bytes()).unwrap()
+        match format {
+            Format::One => Payload::of(&(set.bits() as u32).to_be_bytes()).unwrap(),
+            Format::Two => Payload::of(&set.bits().to_be_bytes()).unwrap(),
+        }
     }
 
-    /// The set that the four bytes stand for.
+    /// The set that the bytes of a vector of the format stand for.
     pub fn as_vector(&self, format: Format) -> Option<NodeSet>
-        ensures value { result ≡ vector_of self.now }
-        ensures found { IsSome result ↔ (length self.now ≡ 4) }
-        ensures back { IfSome result (λ set. vector_bytes set ≡ self.now) }
+        ensures value { result ≡ vector_of format self.now }
+        ensures found { IsSome result ↔ (length self.now ≡ (layout format).vector) }
+        ensures below { IfSome result (AllBelow (layout format).nodes) }
+        ensures back { IfSome result (λ set. vector_bytes format set ≡ self.now) }
     {
-        // As in `vector`.
-        let Format::One = format;
-        if self.len != 4 {
+        if self.len != format.vector_len() {
             return None;
         }
-        let bits = u32::from_be_bytes([self.b0, self.b1, self.b2, self.b3]);
-        Some(NodeSet::of_bits(bits))
+        Some(NodeSet::of_bits(self.vector_bits(format)))
+    }
+
+    /// The number that the bytes of a vector of the format make.
+    fn vector_bits(&self, format: Format) -> u64
+        requires { length self.now ≡ (layout format).vector }
+        ensures value { result ≡ from_be_bytes (vector_width format) self.now }
+        ensures back { to_be_bytes (vector_width format) result ≡ self.now }
+        ensures small { result < 2 ^ (layout format).nodes }
+    {
+        match format {
+            Format::One => u64::from(u32::from_be_bytes([self.b0, self.b1, self.b2, self.b3])),
+            Format::Two => u64::from_be_bytes(self.row()),
+        }
     }
 
     /// The bytes, and zeros up to eight.

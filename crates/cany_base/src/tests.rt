@@ -49,6 +49,17 @@ fn defaults_are_the_least_values(rt: HostRuntime) {
 }
 
 #[test]
+fn the_second_format_has_more_nodes_and_slots(rt: HostRuntime) {
+    let forty = Params::with_defaults_of(Format::Two, 40, 2);
+    assert_eq!(rt; forty.bound, 4_883);
+    assert_eq!(rt; forty.cycle, 9_766);
+    assert_eq!(rt; forty.check(), Ok(()));
+    let greatest = Params::with_defaults_of(Format::Two, 64, 400_000);
+    assert_eq!(rt; greatest.bound, 12_419);
+    assert_eq!(rt; greatest.check(), Ok(()));
+}
+
+#[test]
 fn a_bound_below_its_formula_is_a_fault(rt: HostRuntime) {
     let mut params = three_nodes();
     params.bound = 35;
@@ -76,30 +87,36 @@ fn the_first_fault_is_named(rt: HostRuntime) {
     assert_eq!(rt; params.check(), Err(fault));
 }
 
-fn set_of(bits: u32) -> NodeSet {
+fn set_of(bits: u64) -> NodeSet {
     NodeSet::of_bits(bits)
+}
+
+fn bytes(bytes: &[u8]) -> Result<Payload, &'static str> {
+    Payload::of(bytes).ok_or("eight bytes fit")
 }
 
 #[test]
 fn a_vector_has_its_lowest_nodes_last(rt: HostRuntime) -> Result<(), Fail> {
-    let payload = Payload::vector(set_of(0b111), Format::One);
+    let three = NodeSet::all(3);
+    let of_four = Payload::vector(three, Format::One);
+    let of_eight = Payload::vector(three, Format::Two);
+    assert_eq!(rt; of_four, bytes(&[0, 0, 0, 7])?);
+    assert_eq!(rt; of_eight, bytes(&[0, 0, 0, 0, 0, 0, 0, 7])?);
+    assert_eq!(rt; of_four.as_vector(Format::One), Some(three));
+    assert_eq!(rt; of_eight.as_vector(Format::Two), Some(three));
+    assert_eq!(rt; of_four.as_vector(Format::Two), None);
+    assert_eq!(rt; of_eight.as_vector(Format::One), None);
+    assert_eq!(rt; bytes(&[1, 2])?.as_vector(Format::One), None);
     assert_eq!(rt;
-        payload,
-        Payload::of(&[0, 0, 0, 7]).ok_or("eight bytes fit")?
-    );
-    assert_eq!(rt; payload.as_vector(Format::One), Some(set_of(0b111)));
-    assert_eq!(rt;
-        Payload::of(&[1, 2])
-            .ok_or("eight bytes fit")?
-            .as_vector(Format::One),
-        None
+        bytes(&[0x80, 0, 0, 0, 0, 0, 0, 1])?.as_vector(Format::Two),
+        Some(set_of(1 << 63 | 1))
     );
     Ok(())
 }
 
 #[test]
 fn sets_of_nodes(rt: HostRuntime) -> Result<(), Fail> {
-    let two = NodeId::new(2).ok_or("a node below 32")?;
+    let two = NodeId::new(2).ok_or("a node")?;
     let mut set = NodeSet::all(4);
     assert_eq!(rt; set, set_of(0b1111));
     set.remove(two);
@@ -111,15 +128,19 @@ fn sets_of_nodes(rt: HostRuntime) -> Result<(), Fail> {
     assert_eq!(rt; set.minus(set_of(0b1_0110)), set_of(0b1001));
     assert_eq!(rt; set_of(0b1100).least(), Some(two));
     assert_eq!(rt; NodeSet::empty().least(), None);
-    assert!(rt; NodeSet::all(32).has(NodeId::new(31).ok_or("a node below 32")?));
+    let last = NodeId::new(63).ok_or("a node")?;
+    assert!(rt; NodeSet::all(64).has(last));
+    assert!(rt; !NodeSet::all(63).has(last));
+    assert_eq!(rt; set_of(1 << 63).least(), Some(last));
+    assert_eq!(rt; NodeSet::all(64).count(), 64);
     Ok(())
 }
 
 #[test]
-fn nodes_are_below_32(rt: HostRuntime) {
-    assert!(rt; NodeId::new(31).is_some());
-    assert!(rt; NodeId::new(32).is_none());
-    assert_eq!(rt; NodeId::of_index(31).get(), 31);
+fn nodes_are_below_64(rt: HostRuntime) {
+    assert!(rt; NodeId::new(63).is_some());
+    assert!(rt; NodeId::new(64).is_none());
+    assert_eq!(rt; NodeId::of_index(63).get(), 63);
 }
 
 #[test]

@@ -5,6 +5,7 @@ pub mod EagerFacts
 pub mod EdcanFacts
 pub mod LogFacts
 pub mod MessageKeys
+pub mod NumberFacts
 pub mod ProtocolFacts
 pub mod Protocols
 pub mod RelcanFacts

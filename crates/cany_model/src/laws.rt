@@ -1,5 +1,6 @@
 //! What holds of every run: each law is the contract of a function that does nothing.
 ghost use Rattle.std.specs.Prelude.{◌≡◌, ◌≤◌, ◌+◌, ◌↔◌, ℕ, true, List, ◌∷◌, Some, None, Contains};
+ghost use Rattle.cany_base.specs.Limits.{most_nodes};
 ghost use Rattle.cany_base.specs.declared.message.Service.TheVariants as service;
 ghost use Rattle.cany_base.specs.declared.slot_note.SlotNote.{SlotNote};
 ghost use Rattle.cany_base.specs.declared.step.Step.{Step};
@@ -18,9 +19,10 @@ ghost use Rattle.cany_model.specs.declared.breaks.Break.{Break};
 /// the scenario, with its service and its payload, whose data frame was carried with its origin among the senders in a
 /// slot not after the entry.
 ///
-/// It holds of every journal, legal or not, at any lag and under any fault script. A set of nodes has room for 32.
+/// It holds of every journal, legal or not, at any lag and under any fault script. A set of nodes has room for the greatest number of
+/// nodes that there can be.
 pub fn integrity()
-    ensures { (scenario : ScenarioParts) (journal : List Step) → scenario.params.nodes ≤ 32 → IsIntegral scenario (run scenario journal) }
+    ensures { (scenario : ScenarioParts) (journal : List Step) → scenario.params.nodes ≤ most_nodes → IsIntegral scenario (run scenario journal) }
 {}
 
 /// Agreement of EDCAN: in every run within the fault hypothesis, a settled EDCAN message whose origin is correct, or that
@@ -28,9 +30,9 @@ pub fn integrity()
 ///
 /// It holds for every journal, in whatever order the nodes take their turns and however far they lag, and also where
 /// steps of the journal are refused. It uses no timing, and of the scenario only that its nodes have places in a set of
-/// 32 nodes: a node past those never accepts a frame, so the law is false with more of them.
+/// nodes: a node past the greatest number never accepts a frame, so the law is false with more of them.
 pub fn edcan_agreement()
-    ensures { (scenario : ScenarioParts) (journal : List Step) → scenario.params.nodes ≤ 32
+    ensures { (scenario : ScenarioParts) (journal : List Step) → scenario.params.nodes ≤ most_nodes
         → IsWithin scenario.params (run scenario journal).trace
         → (m : Message) → Contains (messages_of scenario.sends) m → m.service ≡ service.Ed
         → IsAgreedOn scenario (run scenario journal) m }
@@ -43,7 +45,7 @@ pub fn edcan_agreement()
 /// message read its confirmation, so that its origin had seen success, or fell back to sending it. A message of which something
 /// lies ahead at a running node is not settled.
 pub fn relcan_agreement()
-    ensures { (scenario : ScenarioParts) (journal : List Step) → scenario.params.nodes ≤ 32
+    ensures { (scenario : ScenarioParts) (journal : List Step) → scenario.params.nodes ≤ most_nodes
         → IsWithin scenario.params (run scenario journal).trace
         → (m : Message) → Contains (messages_of scenario.sends) m → m.service ≡ service.Rel
         → IsAgreedOn scenario (run scenario journal) m }

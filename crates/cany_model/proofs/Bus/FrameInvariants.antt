@@ -1,5 +1,6 @@
 -- How a property is proved of the frames of every run: of each that waits at a running node, and of each that was carried.
 use Rattle.std.specs.Prelude.{◌≡◌, ℕ, ◌<◌, ◌≤◌, true, List, ◌∷◌, Some, length, Contains}
+use Rattle.cany_base.specs.Limits.{most_nodes}
 use Rattle.std.specs.List.{AllByRecursion}
 use Rattle.std.proofs.Common.{sym, ap, ◌∙◌, subst, inl, inr, arith}
 use Rattle.std.proofs.lemmas.Bool.{cases_eq}
@@ -48,7 +49,7 @@ pub record IsKeptByFrames (scenario : ScenarioParts) (W : OfWaiting) (C : OfCarr
 
 -- ---- a slot
 
-carried_slot : (scenario : ScenarioParts) (W : OfWaiting) (C : OfCarried) → IsKeptByFrames scenario W C → (rules : FaultScript) (s : RunState) → length s.nodes ≤ 32
+carried_slot : (scenario : ScenarioParts) (W : OfWaiting) (C : OfCarried) → IsKeptByFrames scenario W C → (rules : FaultScript) (s : RunState) → length s.nodes ≤ most_nodes
     → HoldsOfFrames W C s → (note : SlotNote) (f : FrameParts) → Contains (slot_note_of rules s ∷ s.trace) note → note.frame ≡ Some f
     → C (slot_note_of rules s ∷ s.trace) note.slot f
 carried_slot scenario W C keeps rules s few h note f c frame =
@@ -75,7 +76,7 @@ waiting_slot scenario W C keeps rules s h i running =
     (node_at (after_slot rules s).nodes i).waiting
     (rw (after_slot-waiting rules s i ran) (Each-kept (W s.trace i) (given i (slot_note_of rules s)) (node_at s.nodes i).waiting (h.waiting i ran)))
 
-holds_slot : (scenario : ScenarioParts) (W : OfWaiting) (C : OfCarried) → IsKeptByFrames scenario W C → (rules : FaultScript) (s : RunState) → length s.nodes ≤ 32
+holds_slot : (scenario : ScenarioParts) (W : OfWaiting) (C : OfCarried) → IsKeptByFrames scenario W C → (rules : FaultScript) (s : RunState) → length s.nodes ≤ most_nodes
     → HoldsOfFrames W C s → HoldsOfFrames W C (after_slot rules s)
 holds_slot scenario W C keeps rules s few h =
     let at : slot_note_of rules s ∷ s.trace ≡ (after_slot rules s).trace = sym (after_slot-trace rules s) in
@@ -132,13 +133,13 @@ holds_opening W C nodes = record {
   carried = λ note f c. absurd (Contains-none note c);
 }
 
--- a set of nodes has room for 32, so a sender with a greater number would not be noted
-pub holds_of_frames : (scenario : ScenarioParts) (W : OfWaiting) (C : OfCarried) → IsKeptByFrames scenario W C → (journal : List Step) → scenario.params.nodes ≤ 32
+-- a set of nodes has room for the greatest number of nodes, so a sender with a greater number would not be noted
+pub holds_of_frames : (scenario : ScenarioParts) (W : OfWaiting) (C : OfCarried) → IsKeptByFrames scenario W C → (journal : List Step) → scenario.params.nodes ≤ most_nodes
     → HoldsOfFrames W C (run scenario journal)
 holds_of_frames scenario W C keeps journal few =
     along_run scenario (HoldsOfFrames W C) (holds_opening W C scenario.params.nodes)
     (record {
-      slot = λ s o may h. holds_slot scenario W C keeps (script scenario.rules) s (subst (λ n. n ≤ 32) (sym o.count) few) h;
+      slot = λ s o may h. holds_slot scenario W C keeps (script scenario.rules) s (subst (λ n. n ≤ most_nodes) (sym o.count) few) h;
       turn = λ s i o may h. holds_turn scenario W C keeps s i o may h;
     })
     journal

@@ -1,5 +1,6 @@
 -- What the note of a slot says: who offered the frame, who sent and accepted it, and what the slot gave a node.
 use Rattle.std.specs.Prelude.{◌≡◌, ℕ, suc, ◌<◌, Bool, true, false, not, ◌&&◌, nat_lt, if◌then◌else◌, List, [], ◌∷◌, Option, Some, None, length, Contains, ◌⊎◌, refl}
+use Rattle.cany_base.specs.Limits.{most_nodes}
 use Rattle.std.specs.List.{flat_map}
 use Rattle.std.proofs.Common.{sym, ap, ◌∙◌, subst, inl, inr, arith}
 use Rattle.std.proofs.lemmas.Bool.{false≢true, and_parts, and_from, lt-ltb, not_from_false, or_cases}
@@ -25,11 +26,11 @@ use Rattle.cany_model.proofs.Bus.Identities.{same_frame-true, same_frame_self}
 -- ---- sets of nodes
 
 -- a node that has a place in a set is in the set where the test holds
-pub has_where : (test : ℕ → Bool) (i : ℕ) → i < 32 → has (those_where test) i ≡ test i
-has_where test i h = has-those_where test i ∙ rw (lt-ltb i 32 h) refl
+pub has_where : (test : ℕ → Bool) (i : ℕ) → i < most_nodes → has (those_where test) i ≡ test i
+has_where test i h = has-those_where test i ∙ rw (lt-ltb i most_nodes h) refl
 
 pub those_where_pass : (test : ℕ → Bool) (i : ℕ) → has (those_where test) i ≡ true → test i ≡ true
-those_where_pass test i h = (and_parts (nat_lt i 32) (test i) (sym (has-those_where test i) ∙ h)).1
+those_where_pass test i h = (and_parts (nat_lt i most_nodes) (test i) (sym (has-those_where test i) ∙ h)).1
 
 -- ---- the frame that is carried
 
@@ -147,7 +148,7 @@ sender_waits rules s f i h sent =
     (parts.0, waits_with-Contains f (node_at s.nodes i).waiting parts.1)
 
 -- a running node that waits with the frame sends it
-pub waiting_sends : (rules : FaultScript) (s : RunState) (f : FrameParts) (i : ℕ) → i < 32 → (slot_note_of rules s).frame ≡ Some f
+pub waiting_sends : (rules : FaultScript) (s : RunState) (f : FrameParts) (i : ℕ) → i < most_nodes → (slot_note_of rules s).frame ≡ Some f
     → runs (node_at s.nodes i) ≡ true → Contains (node_at s.nodes i).waiting f → has (slot_note_of rules s).senders i ≡ true
 waiting_sends rules s f i few h running waits =
     ap (λ x. has x i) (note_of-senders rules s f h)
@@ -167,7 +168,7 @@ taker_accepts rules s f i h took =
     (inner.0, outer.1)
 
 -- a running node that does not send the frame accepts it, where the verdict lets it
-pub running_takes : (rules : FaultScript) (s : RunState) (f : FrameParts) (i : ℕ) → i < 32 → (slot_note_of rules s).frame ≡ Some f
+pub running_takes : (rules : FaultScript) (s : RunState) (f : FrameParts) (i : ℕ) → i < most_nodes → (slot_note_of rules s).frame ≡ Some f
     → runs (node_at s.nodes i) ≡ true → has (slot_note_of rules s).senders i ≡ false
     → lets_accept (slot_note_of rules s).verdict i ≡ true → has (slot_note_of rules s).takers i ≡ true
 running_takes rules s f i few h running silent lets =

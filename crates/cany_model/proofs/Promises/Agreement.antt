@@ -2,6 +2,7 @@
 -- and a frame that was asked for and no longer waits was carried Clean, or was withdrawn for that reason. So where a node was to
 -- send it, a slot carried it Clean, and every node that runs got or sent it there.
 use Rattle.std.proofs.Common.{◌≡◌, ℕ, ◌<◌, ◌≤◌, ◌⊎◌, true, false, refl, subst, arith}
+use Rattle.cany_base.specs.Limits.{most_nodes}
 use Rattle.cany_base.specs.Scenario.{ScenarioParts}
 use Rattle.cany_model.specs.Bus.Frames.{Identity}
 use Rattle.cany_model.specs.Bus.History.{history, has_own, is_got, is_sent}
@@ -17,7 +18,7 @@ use Rattle.cany_model.proofs.Promises.DiffusionRun.{EachRunning}
 
 -- what the argument uses of a state
 pub record IsAtRest (scenario : ScenarioParts) (x : Identity) (duty : Duty) (s : RunState) : Type 0 where
-  pub few : scenario.params.nodes ≤ 32
+  pub few : scenario.params.nodes ≤ most_nodes
   pub within : IsWithin scenario.params s.trace
   pub diffuses : EachRunning (Diffuses scenario.params.omit x duty) s
   pub gone : (i : ℕ) → runs (node_at s.nodes i) ≡ true → waits x (node_at s.nodes i).waiting ≡ false

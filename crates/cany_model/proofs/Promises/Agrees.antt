@@ -1,6 +1,7 @@
 -- Agreement on a message whose data frame is diffused and that is delivered at once: the frame is agreed on, and who got it or
 -- sent it as its origin has delivered it.
 use Rattle.std.proofs.Common.{◌≡◌, ℕ, ◌<◌, ◌≤◌, ◌==◌, ◌&&◌, ◌⊎◌, inl, inr, true, nat_lt, List, length, drop, Contains, refl, ap, sym, ◌∙◌, subst, arith}
+use Rattle.cany_base.specs.Limits.{most_nodes}
 use Rattle.std.proofs.lemmas.Bool.{or_left, or_right, and_from, and_parts, eq-eqb, ltb-true}
 use Rattle.cany_base.specs.declared.log_entry.LogEntry.{LogEntry}
 use Rattle.cany_base.specs.declared.log_entry.LogEntry.TheVariants.{Deliver, Failed, View}
@@ -174,7 +175,7 @@ ground_agrees scenario m owes s rules ground settled i correct because j correct
 -- ---- every run
 
 -- what is diffused is agreed on
-pub run_agrees : (scenario : ScenarioParts) → scenario.params.nodes ≤ 32 → (journal : List Step) → IsWithin scenario.params (run scenario journal).trace
+pub run_agrees : (scenario : ScenarioParts) → scenario.params.nodes ≤ most_nodes → (journal : List Step) → IsWithin scenario.params (run scenario journal).trace
     → (m : Message) → Contains (messages_of scenario.sends) m → is_sent_at_once m.service ≡ true → (owes : Owes)
     → (IsOneOf (messages_of scenario.sends) m → IsDiffused (turn_effects scenario) scenario.params.omit (data_id m) (duty_of m owes))
     → Rules scenario m owes (run scenario journal) → IsAgreedOn scenario (run scenario journal) m

@@ -1,5 +1,6 @@
 -- Each frame that waits at a running node or was carried in a run belongs to the scenario: a node can read it, and may ask for it.
 use Rattle.std.specs.Prelude.{◌≡◌, ℕ, ◌≤◌, true, List, ◌∷◌, Some, length, Contains, refl}
+use Rattle.cany_base.specs.Limits.{most_nodes}
 use Rattle.std.specs.List.{AllByRecursion}
 use Rattle.std.proofs.Common.{sym, ap, ◌∙◌, subst, inl, inr}
 use Rattle.cany_base.specs.declared.frame.Class.{Class}
@@ -125,7 +126,7 @@ belonging_kept scenario = record {
   asked = asked_belongs scenario;
 }
 
-pub all_belong : (scenario : ScenarioParts) (journal : List Step) → scenario.params.nodes ≤ 32 → AllBelong scenario (run scenario journal)
+pub all_belong : (scenario : ScenarioParts) (journal : List Step) → scenario.params.nodes ≤ most_nodes → AllBelong scenario (run scenario journal)
 all_belong scenario journal few = holds_of_frames scenario (Waiting scenario) (WasCarried scenario) (belonging_kept scenario) journal few
 
 -- what a slot of a run gave a node can be read

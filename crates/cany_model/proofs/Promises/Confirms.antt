@@ -1,5 +1,6 @@
 -- Where confirmations come from: of each that waits or was carried, a slot had carried the message's data frame with success.
 use Rattle.std.specs.Prelude.{◌≡◌, ℕ, ◌<◌, ◌≤◌, List, ◌∷◌, length}
+use Rattle.cany_base.specs.Limits.{most_nodes}
 use Rattle.std.specs.List.{AllByRecursion}
 use Rattle.std.proofs.Common.{sym, ap, ◌∙◌, subst, inl, inr, arith}
 use Rattle.cany_base.specs.declared.frame.Class.TheVariants.{Confirm, Rel}
@@ -76,7 +77,7 @@ confirms_kept scenario = record {
   asked = asked_true scenario;
 }
 
-pub confirmed : (scenario : ScenarioParts) (journal : List Step) → scenario.params.nodes ≤ 32 → IsConfirmed (run scenario journal)
+pub confirmed : (scenario : ScenarioParts) (journal : List Step) → scenario.params.nodes ≤ most_nodes → IsConfirmed (run scenario journal)
 confirmed scenario journal few = holds_of_frames scenario IsTrue IsTrue (confirms_kept scenario) journal few
 
 -- a message whose confirmation was carried had its data frame carried with success

@@ -1,6 +1,7 @@
 -- Eager diffusion: a node that is to send a frame waits with it, or the frame was carried with success, or the node read
 -- more than omit copies of it. All of it is said of the trace, a node's number and that node's state.
 use Rattle.std.proofs.Common.{◌≡◌, ℕ, ◌<◌, ◌≤◌, ◌⊎◌, inl, inr, true, false, List, [], ◌∷◌, map, drop, Some, ap, sym, subst, arith}
+use Rattle.cany_base.specs.Limits.{most_nodes}
 use Rattle.std.specs.List.{AllByRecursion}
 use Rattle.std.proofs.lemmas.Bool.{both_ways}
 use Rattle.cany_base.specs.declared.notice.NoticeKind.{NoticeKind}
@@ -31,7 +32,7 @@ pub record Heard (i : ℕ) (note : SlotNote) : Type 0 where
   -- a frame that it got, the verdict let it accept
   pub accepts : Accepts i note
   -- it got or sent a frame that was carried Clean
-  pub clean : i < 32 → (f : FrameParts) → note.frame ≡ Some f → note.verdict ≡ Clean → (given i note ≡ Got f) ⊎ (given i note ≡ Sent f)
+  pub clean : i < most_nodes → (f : FrameParts) → note.frame ≡ Some f → note.verdict ≡ Clean → (given i note ≡ Got f) ⊎ (given i note ≡ Sent f)
 
 -- What a protocol says of a frame that it diffuses, by what a node has read.
 pub record Duty : Type 1 where
@@ -185,7 +186,7 @@ owed_is_carried p x duty trace i node h within gone owes = elim (h.kept owes) [
 ]
 
 -- a node that runs got a frame that was carried Clean, or sent it
-pub got_or_sent : (i : ℕ) (x : Identity) (note : SlotNote) → i < 32 → CarriesClean x note → Heard i note
+pub got_or_sent : (i : ℕ) (x : Identity) (note : SlotNote) → i < most_nodes → CarriesClean x note → Heard i note
     → (is_got x (given i note) ≡ true) ⊎ (SentBy i x note × (is_sent x (given i note) ≡ true))
 got_or_sent i x note few c heard = elim (heard.clean few c.carries.what c.carries.frame c.clean) [
   | inl got ↦ inl (is_got-from x c.carries.what (given i note) got c.carries.identity)
@@ -194,7 +195,7 @@ got_or_sent i x note few c heard = elim (heard.clean few c.carries.what c.carrie
 
 -- so of a frame that was carried Clean, a node that runs and has read every notice has got it, or may start it and has sent it
 pub carried_is_read : (omit : ℕ) (x : Identity) (duty : Duty) (trace : List SlotNote) (i : ℕ) (node : NodeState)
-    → Diffuses omit x duty trace i node → i < 32 → node.unread ≡ 0 → Among (CarriesClean x) trace
+    → Diffuses omit x duty trace i node → i < most_nodes → node.unread ≡ 0 → Among (CarriesClean x) trace
     → Among (λ e. is_got x e ≡ true) (past_of i trace node) ⊎ (duty.starts i (past_of i trace node) × Among (λ e. is_sent x e ≡ true) (past_of i trace node))
 unfolding copies
 carried_is_read omit x duty trace i node h few read clean =

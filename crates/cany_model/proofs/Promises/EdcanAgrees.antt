@@ -1,5 +1,6 @@
 -- Agreement of EDCAN: each node that got the frame of a message is to send it.
 use Rattle.std.proofs.Common.{◌≡◌, ℕ, suc, ◌<◌, ◌≤◌, ◌⊎◌, inl, inr, true, false, List, [], ◌∷◌, length, Contains, ap, sym, subst, arith}
+use Rattle.cany_base.specs.Limits.{most_nodes}
 use Rattle.std.proofs.lemmas.Bool.{cases_lt, cases_Bool}
 use Rattle.cany_base.specs.declared.frame.Class.TheVariants as class
 use Rattle.cany_base.specs.declared.message.Service.TheVariants.{Ed}
@@ -92,7 +93,7 @@ ed_rules scenario m s ed = record {
   got_carried = λ g i correct some. owed_carried scenario (data_id m) (duty_of m (OwesEd m)) s g.rest i correct (inl some);
 }
 
-pub edcan_agrees : (scenario : ScenarioParts) → scenario.params.nodes ≤ 32 → (journal : List Step) → IsWithin scenario.params (run scenario journal).trace
+pub edcan_agrees : (scenario : ScenarioParts) → scenario.params.nodes ≤ most_nodes → (journal : List Step) → IsWithin scenario.params (run scenario journal).trace
     → (m : Message) → Contains (messages_of scenario.sends) m → m.service ≡ Ed → IsAgreedOn scenario (run scenario journal) m
 edcan_agrees scenario few journal within m stands ed =
     run_agrees scenario few journal within m stands (ap is_sent_at_once ed) (OwesEd m) (λ is. ed_is_diffused scenario m is ed)

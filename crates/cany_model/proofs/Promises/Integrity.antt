@@ -1,5 +1,6 @@
 -- Integrity of every run: no message is delivered twice, or without having been sent.
 use Rattle.std.specs.Prelude.{◌≡◌, ℕ, suc, ◌+◌, ◌-◌, ◌<◌, ◌≤◌, ◌==◌, ◌&&◌, true, List, Some, length, drop, count_by, Contains}
+use Rattle.cany_base.specs.Limits.{most_nodes}
 use Rattle.std.proofs.Common.{sym, ap, ◌∙◌, subst, inl, inr, arith, length-drop, eqb-true, refl}
 use Rattle.std.proofs.lemmas.Bool.{and_parts}
 use Rattle.std.proofs.lemmas.List.Elements.{Contains-get_or}
@@ -131,7 +132,7 @@ sound_entry scenario s o h i entry c =
     let made = made_by (λ y. y ≡ entry) scenario split.0 split.1 i (history i s) split.2 in
     sound scenario s i o h split.0 made.place entry (subst (IsFoundedEntry split.0 (drop made.place (history i s))) made.is made.founded)
 
-pub integral : (scenario : ScenarioParts) (journal : List Step) → scenario.params.nodes ≤ 32 → IsIntegral scenario (run scenario journal)
+pub integral : (scenario : ScenarioParts) (journal : List Step) → scenario.params.nodes ≤ most_nodes → IsIntegral scenario (run scenario journal)
 integral scenario journal few = record {
   once = λ i correct key. delivered_once scenario (run scenario journal) (orderly scenario journal) (sourced scenario journal few) i key;
   sent = λ i correct entry c. sound_entry scenario (run scenario journal) (orderly scenario journal) (sourced scenario journal few) i entry c;

@@ -1,6 +1,7 @@
 -- Agreement of RELCAN: a node that got the frame of a message read a confirmation of it, so that a slot had carried the frame
 -- with success, or fell back to sending it.
 use Rattle.std.proofs.Common.{◌≡◌, ℕ, ◌<◌, ◌≤◌, ◌==◌, ◌⊎◌, inl, inr, true, false, not, List, [], ◌∷◌, length, drop, Contains, ap, sym, ◌∙◌, subst, arith}
+use Rattle.cany_base.specs.Limits.{most_nodes}
 use Rattle.std.proofs.lemmas.Bool.{false≢true, and_from, both_ways, cases_Bool, cases_eq, cases_lt, ne_eqb, not_from_false, or_cases}
 use Rattle.cany_base.specs.declared.frame.Class.TheVariants as class
 use Rattle.cany_base.specs.declared.message.Service.TheVariants.{Rel}
@@ -137,7 +138,7 @@ got_carried scenario m s rel c g i correct some = elim (cases_eq m.origin i) [
 
 -- ---- every run
 
-pub relcan_agrees : (scenario : ScenarioParts) → scenario.params.nodes ≤ 32 → (journal : List Step) → IsWithin scenario.params (run scenario journal).trace
+pub relcan_agrees : (scenario : ScenarioParts) → scenario.params.nodes ≤ most_nodes → (journal : List Step) → IsWithin scenario.params (run scenario journal).trace
     → (m : Message) → Contains (messages_of scenario.sends) m → m.service ≡ Rel → IsAgreedOn scenario (run scenario journal) m
 relcan_agrees scenario few journal within m stands rel =
     run_agrees scenario few journal within m stands (ap is_sent_at_once rel) (OwesRel scenario m) (λ is. rel_is_diffused scenario m is rel)

@@ -1,5 +1,6 @@
 -- Where data frames come from: each one that waits or was carried is that of a message, and its origin sent it first.
 use Rattle.std.specs.Prelude.{◌≡◌, ℕ, suc, ◌≤◌, Bool, true, false, List, ◌∷◌, Some, length, Contains, ◌⊎◌, refl}
+use Rattle.cany_base.specs.Limits.{most_nodes}
 use Rattle.std.specs.List.{AllByRecursion}
 use Rattle.std.proofs.Common.{sym, ap, ◌∙◌, inl, inr, arith}
 use Rattle.std.proofs.lemmas.Bool.{false≢true}
@@ -154,5 +155,5 @@ sources_kept scenario = record {
   asked = may_hold_asked scenario;
 }
 
-pub sourced : (scenario : ScenarioParts) (journal : List Step) → scenario.params.nodes ≤ 32 → IsSourced scenario (run scenario journal)
+pub sourced : (scenario : ScenarioParts) (journal : List Step) → scenario.params.nodes ≤ most_nodes → IsSourced scenario (run scenario journal)
 sourced scenario journal few = holds_of_frames scenario (MayHold scenario) (WasData scenario) (sources_kept scenario) journal few

@@ -1,7 +1,7 @@
 -- Worked rows of the fault hypothesis, of parameters and of frames.
 use Rattle.std.specs.Prelude.{ℕ, ◌≡◌, List, [], ◌∷◌, length, Option, Some, None, refl, map, Ok, Err}
 use Rattle.cany_base.specs.declared.frame.Class.TheVariants as class
-use Rattle.cany_base.specs.declared.frame.Format.TheVariants.{One}
+use Rattle.cany_base.specs.declared.frame.Format.TheVariants.{One, Two}
 use Rattle.cany_base.specs.declared.params.ParamName.TheVariants as param
 use Rattle.cany_base.specs.declared.rule.Verdict.{Verdict}
 use Rattle.cany_base.specs.declared.rule.Verdict.TheVariants.{Clean, Lost, Partial, Silent}
@@ -104,10 +104,18 @@ unfoldable accept_5_of_3 : FrameParts
 accept_5_of_3 = record { class = class.Accept; number = 5; node = 3; inc = 0; payload = [] }
 
 identifiers :
-    (identifier_of accept_5_of_3 ∷ key_of accept_5_of_3 ∷ identifier_of (ed 1 0 []) ∷ key_of (ed 1 0 []) ∷ identifier_of (ed 31 65535 []) ∷ [])
+    (identifier_of One accept_5_of_3 ∷ key_of One accept_5_of_3 ∷ identifier_of One (ed 1 0 []) ∷ key_of One (ed 1 0 []) ∷ identifier_of One (ed 31 65535 []) ∷ [])
     ≡ 0xa30 ∷ 0x1461 ∷ 0x12000010 ∷ 0x24000020 ∷ 0x13fffff0 ∷ []
 unfolding row accept_5_of_3
 identifiers = refl
 
-vector_of_three_nodes : vector_bytes (set 7) ≡ 0 ∷ 0 ∷ 0 ∷ 7 ∷ []
+identifiers_of_the_second_format :
+    (identifier_of Two accept_5_of_3 ∷ key_of Two accept_5_of_3 ∷ identifier_of Two (ed 63 32767 []) ∷ []) ≡ 0x1430 ∷ 0x2861 ∷ 0x13fffff0 ∷ []
+unfolding row accept_5_of_3
+identifiers_of_the_second_format = refl
+
+vector_of_three_nodes : vector_bytes One (set 7) ≡ 0 ∷ 0 ∷ 0 ∷ 7 ∷ []
 vector_of_three_nodes = refl
+
+vector_of_the_second_format : vector_bytes Two (set 7) ≡ 0 ∷ 0 ∷ 0 ∷ 0 ∷ 0 ∷ 0 ∷ 0 ∷ 7 ∷ []
+vector_of_the_second_format = refl

@@ -1,5 +1,5 @@
 -- Worked reports, computed from the definitions.
-use Rattle.std.specs.Prelude.{ℕ, ◌≡◌, List, [], ◌∷◌, ◌++◌, Some, None, false, length, replicate, codes, refl}
+use Rattle.std.specs.Prelude.{ℕ, ◌≡◌, List, [], ◌∷◌, ◌++◌, Some, None, false, length, map, replicate, codes, refl}
 use Rattle.std.specs.List.{concat, flat_map}
 use Rattle.std.specs.Fmt.{digits}
 use Rattle.cany_base.specs.declared.frame.Format.TheVariants.{One}
@@ -32,7 +32,7 @@ use Rattle.cany_model.specs.Rules.Sends.{send_effects}
 use Rattle.cany_model.specs.Rules.Turn.{has_asked, turn_effects}
 use Rattle.cany_model.specs.Rules.Log.{log_from}
 use Rattle.cany_model.specs.Texts.Report.{bus_lines, node_lines, message_lines, report_lines, report}
-use Rattle.cany_model.specs.Texts.ReportLines.{line_of, class_name, service_name, verdict_name, break_name, payload_text, set_text, step_letter, params_line, journal_line, journal_lines, has_any, bus_line, is_shown, hypothesis_line, node_line, entry_line, message_line}
+use Rattle.cany_model.specs.Texts.ReportLines.{line_of, class_name, service_name, verdict_name, break_name, payload_text, set_text, step_letter, first_line, params_line, journal_line, journal_lines, has_any, bus_line, is_shown, hypothesis_line, node_line, entry_line, message_line}
 use Rattle.cany_model.specs.Bus.Run.{first_lagging, reply, is_legal_from, after_turn, proceed, after_step, run_from}
 use Rattle.cany_model.specs.Bus.RoundRobin.{round, rounds, round_robin}
 
@@ -65,7 +65,7 @@ one_send slots rules = record {
 }
 
 unfoldable text_of : ScenarioParts → List ℕ
-unfolding digits line_of class_name service_name verdict_name break_name payload_text set_text step_letter params_line journal_line journal_lines has_any bus_line is_shown hypothesis_line node_line entry_line message_line bus_lines node_lines message_lines report_lines report has bits_where those_where same_class same_identity same_frame is_before messages_after node_at put_in_order least_frame winner script share_of after_share slot_note_of node_after nodes_after after_slot history copies has_own waiting_after entered eager_effects delivery_effects edcan_at edcan_effects fell_back relcan_at timer_effects relcan_effects send_effects turn_effects has_asked log_from first_lagging reply is_legal_from after_turn proceed after_step run_from round rounds break_at first_break count_together is_settled
+unfolding digits line_of class_name service_name verdict_name break_name payload_text set_text step_letter first_line params_line journal_line journal_lines has_any bus_line is_shown hypothesis_line node_line entry_line message_line bus_lines node_lines message_lines report_lines report has bits_where those_where same_class same_identity same_frame is_before messages_after node_at put_in_order least_frame winner script share_of after_share slot_note_of node_after nodes_after after_slot history copies has_own waiting_after entered eager_effects delivery_effects edcan_at edcan_effects fell_back relcan_at timer_effects relcan_effects send_effects turn_effects has_asked log_from first_lagging reply is_legal_from after_turn proceed after_step run_from round rounds break_at first_break count_together is_settled
 text_of scenario = report scenario (round_robin scenario)
 
 -- one message, no fault: all deliver it, and the others relay it together
@@ -84,7 +84,7 @@ one_message_no_fault : text_of (one_send 5 []) ≡ concat (
     ∷ codes "deliver 1 ed 0 0 x01\n"
     ∷ codes "message ed 0 0 settled\n"
     ∷ codes "end\n" ∷ [])
-unfolding text_of params one_send digits line_of class_name service_name verdict_name break_name payload_text set_text step_letter params_line journal_line journal_lines has_any bus_line is_shown hypothesis_line node_line entry_line message_line bus_lines node_lines message_lines report_lines report has bits_where those_where same_class same_identity same_frame is_before messages_after node_at put_in_order least_frame winner script share_of after_share slot_note_of node_after nodes_after after_slot history copies has_own waiting_after entered eager_effects delivery_effects edcan_at edcan_effects fell_back relcan_at timer_effects relcan_effects send_effects turn_effects has_asked log_from first_lagging reply is_legal_from after_turn proceed after_step run_from round rounds break_at first_break count_together is_settled
+unfolding text_of params one_send digits line_of class_name service_name verdict_name break_name payload_text set_text step_letter first_line params_line journal_line journal_lines has_any bus_line is_shown hypothesis_line node_line entry_line message_line bus_lines node_lines message_lines report_lines report has bits_where those_where same_class same_identity same_frame is_before messages_after node_at put_in_order least_frame winner script share_of after_share slot_note_of node_after nodes_after after_slot history copies has_own waiting_after entered eager_effects delivery_effects edcan_at edcan_effects fell_back relcan_at timer_effects relcan_effects send_effects turn_effects has_asked log_from first_lagging reply is_legal_from after_turn proceed after_step run_from round rounds break_at first_break count_together is_settled
 one_message_no_fault = refl
 
 -- the sender stops after only node 1 accepted its frame: node 1 relays it
@@ -104,7 +104,7 @@ edcan_sender_stops_after_partial :
     ∷ codes "deliver 2 ed 0 0 x01\n"
     ∷ codes "message ed 0 0 settled\n"
     ∷ codes "end\n" ∷ [])
-unfolding text_of params one_send digits line_of class_name service_name verdict_name break_name payload_text set_text step_letter params_line journal_line journal_lines has_any bus_line is_shown hypothesis_line node_line entry_line message_line bus_lines node_lines message_lines report_lines report has bits_where those_where same_class same_identity same_frame is_before messages_after node_at put_in_order least_frame winner script share_of after_share slot_note_of node_after nodes_after after_slot history copies has_own waiting_after entered eager_effects delivery_effects edcan_at edcan_effects fell_back relcan_at timer_effects relcan_effects send_effects turn_effects has_asked log_from first_lagging reply is_legal_from after_turn proceed after_step run_from round rounds break_at first_break count_together is_settled
+unfolding text_of params one_send digits line_of class_name service_name verdict_name break_name payload_text set_text step_letter first_line params_line journal_line journal_lines has_any bus_line is_shown hypothesis_line node_line entry_line message_line bus_lines node_lines message_lines report_lines report has bits_where those_where same_class same_identity same_frame is_before messages_after node_at put_in_order least_frame winner script share_of after_share slot_note_of node_after nodes_after after_slot history copies has_own waiting_after entered eager_effects delivery_effects edcan_at edcan_effects fell_back relcan_at timer_effects relcan_effects send_effects turn_effects has_asked log_from first_lagging reply is_legal_from after_turn proceed after_step run_from round rounds break_at first_break count_together is_settled
 edcan_sender_stops_after_partial = refl
 
 -- Lines that these runs do not have.
@@ -149,6 +149,11 @@ unfolding journal_lines journal_line line_of step_letter
 journal_of_65_steps = refl
 
 -- the longest set
-set_of_32_nodes : length (set_text (nodes 4294967295)) ≡ 85
+set_of_64_nodes : length (set_text (nodes 18446744073709551615)) ≡ 181
 unfolding set_text nodes has digits
-set_of_32_nodes = refl
+set_of_64_nodes = refl
+
+-- behind `v`, the letter of node 31, come `w`, `z`, `A`, `Z`, `+` and `-`
+letters_past_node_31 : map (λ i. step_letter (Turn i)) (32 ∷ 35 ∷ 36 ∷ 61 ∷ 62 ∷ 63 ∷ []) ≡ 119 ∷ 122 ∷ 65 ∷ 90 ∷ 43 ∷ 45 ∷ []
+unfolding step_letter
+letters_past_node_31 = refl

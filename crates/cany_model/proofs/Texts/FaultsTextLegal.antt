@@ -1,5 +1,8 @@
 -- The rules that a text gives are legal.
-use Rattle.std.proofs.Common.{◌≡◌, ◌≢◌, ℕ, suc, ◌-◌, ◌<◌, ◌≤◌, ◌==◌, Bool, true, false, ◌||◌, not, nat_le, nat_lt, List, [], ◌∷◌, length, Option, Some, None, refl, ap, sym, ◌∙◌, arith, lit≤}
+use Rattle.std.proofs.Common.{◌≡◌, ◌≢◌, ℕ, ◌-◌, ◌<◌, ◌≤◌, ◌==◌, Bool, true, false, ◌||◌, not, nat_le, nat_lt, List, [], ◌∷◌, length, Option, Some, None, refl, ap, sym, ◌∙◌, arith, lit≤, suc}
+use Rattle.cany_base.specs.declared.frame.Format.{Format}
+use Rattle.cany_base.specs.Layout.{layout}
+use Rattle.cany_base.specs.declared.frame.Format.TheVariants.{One, Two}
 use Rattle.std.specs.Prelude.{All, codes, if◌then◌else◌}
 use Rattle.std.specs.Bool.{Decides}
 use Rattle.std.specs.List.{list_any}
@@ -11,7 +14,7 @@ use Rattle.std.proofs.lemmas.List.Folds.{list_any_at, list_any_none}
 use Rattle.std.proofs.lemmas.List.Kept.{AllPairs-cons}
 use Rattle.std.proofs.lemmas.Option.{same_Some}
 use Rattle.toml.specs.Data.{Data, as_str, as_array, as_table, Members, get_member}
-use Rattle.cany_base.specs.Limits.{greatest_attempt, most_rules}
+use Rattle.cany_base.specs.Limits.{greatest_attempt, most_nodes, most_rules}
 use Rattle.cany_base.specs.declared.rule.Place.{Place}
 use Rattle.cany_base.specs.declared.rule.Place.TheVariants.{At, FrameNth}
 use Rattle.cany_base.specs.declared.rule.Rule.{Rule}
@@ -41,7 +44,7 @@ among_below bound (number ∷ rest) node all h =
 set_of-below : (bound : ℕ) (numbers : List ℕ) → All (λ number. number < bound) numbers → AllBelow bound (set_of numbers)
 set_of-below bound numbers all node h =
     let tests = sym (has-those_where (λ n. list_any (λ number. number == n) numbers) node) ∙ h in
-    among_below bound numbers node all (and_parts (nat_lt node 32) _ tests).1
+    among_below bound numbers node all (and_parts (nat_lt node most_nodes) _ tests).1
 
 nodes_from-below : (p : Parameters) → IsInRange p → (value : Data) (nodes : Nodes) → nodes_from p value ≡ Some nodes → AllBelow p.nodes nodes
 unfolding nodes_from
@@ -50,7 +53,7 @@ nodes_from-below p r value nodes h =
     let numbers = bind_some (each_of (number_from 0 (p.nodes - 1)) entries.0) _ nodes entries.2 in
     let made = same_Some (set_of numbers.0) nodes numbers.2 in
     let all = each_of-All (λ number. number < p.nodes) (number_from 0 (p.nodes - 1))
-    (λ entry number e. below_count p.nodes number (some_node p.nodes r.nodes) (number_from-range 0 (p.nodes - 1) entry number e)) entries.0 numbers.0 numbers.1 in
+    (λ entry number e. below_count p.nodes number (some_node p.nodes (layout p.format).nodes r.nodes) (number_from-range 0 (p.nodes - 1) entry number e)) entries.0 numbers.0 numbers.1 in
     rw (← made) (set_of-below p.nodes numbers.0 all)
 
 nodes_at-below : (p : Parameters) → IsInRange p → (key : List ℕ) (entry : Members) (nodes : Nodes) → optional (nodes_from p) (set_of []) key entry ≡ Some nodes → AllBelow p.nodes nodes
@@ -83,6 +86,11 @@ slot_place_from-of p r entry place h =
     let in_run = below_count p.slots slot.0 r.slots.0 (required-range 0 (p.slots - 1) (codes "slot") entry slot.0 slot.1) in
     rw (← made) in_run
 
+-- an attempt that format one can have, every format can
+in_any : (format : Format) (nth : ℕ) → nth ≤ greatest_attempt One → nth ≤ greatest_attempt format
+in_any One nth h = h
+in_any Two nth h = omega (arith, h)
+
 frame_place_from-of : (p : Parameters) → IsInRange p → (entry : Members) (place : Place) → frame_place_from p entry ≡ Some place → IsPlaceOf p place
 unfolding frame_place_from
 frame_place_from-of p r entry place h =
@@ -90,11 +98,11 @@ frame_place_from-of p r entry place h =
     let class = bind_some (required class_from (codes "class") entry) _ place known.1 in
     let number = bind_some (required (number_from 0 65535) (codes "number") entry) _ place class.2 in
     let node = bind_some (required (number_from 0 (p.nodes - 1)) (codes "node") entry) _ place number.2 in
-    let nth = bind_some (required (number_from 1 greatest_attempt) (codes "nth") entry) _ place node.2 in
+    let nth = bind_some (required (number_from 1 (greatest_attempt One)) (codes "nth") entry) _ place node.2 in
     let made = same_Some (FrameNth class.0 number.0 node.0 nth.0) place nth.2 in
-    let on_bus = below_count p.nodes node.0 (some_node p.nodes r.nodes) (required-range 0 (p.nodes - 1) (codes "node") entry node.0 node.1) in
-    let counted = required-range 1 greatest_attempt (codes "nth") entry nth.0 nth.1 in
-    rw (← made) (on_bus, counted.0, counted.1)
+    let on_bus = below_count p.nodes node.0 (some_node p.nodes (layout p.format).nodes r.nodes) (required-range 0 (p.nodes - 1) (codes "node") entry node.0 node.1) in
+    let counted = required-range 1 (greatest_attempt One) (codes "nth") entry nth.0 nth.1 in
+    rw (← made) (on_bus, counted.0, in_any p.format nth.0 counted.1)
 
 place_of_test : (p : Parameters) (of_frame of_slot : Option Place) → ((place : Place) → of_frame ≡ Some place → IsPlaceOf p place)
     → ((place : Place) → of_slot ≡ Some place → IsPlaceOf p place) → (test : Bool) (place : Place) → (if test then of_frame else of_slot) ≡ Some place

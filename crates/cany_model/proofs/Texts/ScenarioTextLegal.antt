@@ -1,5 +1,6 @@
 -- The scenario that a text stands for is legal.
 use Rattle.std.proofs.Common.{◌≡◌, ℕ, ◌-◌, ◌<◌, ◌≤◌, min, max, Bool, true, false, ◌&&◌, nat_le, nat_lt, List, [], length, Option, Some, None, refl, ap, sym, ◌∙◌, arith, lit≤}
+use Rattle.cany_base.specs.Layout.{layout}
 use Rattle.std.specs.Prelude.{All, is_ok, codes, if◌then◌else◌, Result, Err}
 use Rattle.std.specs.Option.{option_map_or}
 use Rattle.std.proofs.lemmas.Bool.Decides.{nat_tests}
@@ -11,7 +12,7 @@ use Rattle.cany_base.specs.declared.frame.Format.TheVariants.{One}
 use Rattle.cany_base.specs.declared.params.ParamFault.{ParamFault}
 use Rattle.cany_base.specs.Nodes.{those_where, AllBelow}
 use Rattle.cany_base.proofs.NodesFacts.{has-those_where}
-use Rattle.cany_base.specs.Limits.{greatest_errors, greatest_given, greatest_lag, greatest_omit, greatest_slots, most_sends}
+use Rattle.cany_base.specs.Limits.{greatest_errors, greatest_given, greatest_lag, greatest_omit, greatest_slots, most_nodes, most_sends}
 use Rattle.cany_base.specs.Params.{Parameters, IsInRange, MeetsFormulas, least_bound, least_cycle, least_life, least_silence, first_fault}
 use Rattle.cany_base.specs.Scenario.{ScenarioParts, IsLegalScenario, IsSendOf}
 use Rattle.cany_model.specs.Texts.TomlKeys.{has_only, required, optional, number_from, each_of}
@@ -34,10 +35,10 @@ optional-near low high default None n h = let e = same_Some default n h in (omeg
 optional-near low high default (Some value) n h =
     let p = number_from-range low high value n h in (omega (arith, p), omega (arith, p))
 
-least_bound-small : (nodes lag errors : ℕ) → nodes ≤ 32 → lag ≤ greatest_lag → errors ≤ greatest_errors → (1 ≤ least_bound nodes lag errors) × (least_bound nodes lag errors ≤ greatest_given)
+least_bound-small : (nodes lag errors : ℕ) → nodes ≤ (layout One).nodes → lag ≤ greatest_lag → errors ≤ greatest_errors → (1 ≤ least_bound nodes lag errors) × (least_bound nodes lag errors ≤ greatest_given)
 least_bound-small nodes lag errors n l e = grind arith
 
-least_bound-near : (nodes lag errors : ℕ) → (2 ≤ nodes) × (nodes ≤ 32) → IsNear 0 greatest_lag 0 lag → IsNear 0 greatest_errors 2 errors
+least_bound-near : (nodes lag errors : ℕ) → (2 ≤ nodes) × (nodes ≤ (layout One).nodes) → IsNear 0 greatest_lag 0 lag → IsNear 0 greatest_errors 2 errors
     → (1 ≤ least_bound nodes lag errors) × (least_bound nodes lag errors ≤ greatest_given)
 least_bound-near nodes lag errors n l e = least_bound-small nodes lag errors (omega arith) (omega arith) (omega arith)
 
@@ -46,7 +47,7 @@ near_bound default bound d near = (omega arith, omega arith)
 
 -- each from the values before it
 in_range : (nodes slots lag omit errors bound cycle life silence confirm : ℕ)
-    → (2 ≤ nodes) × (nodes ≤ 32) → (1 ≤ slots) × (slots ≤ greatest_slots) → IsNear 0 greatest_lag 0 lag → IsNear 0 greatest_omit 1 omit → IsNear 0 greatest_errors 2 errors
+    → (2 ≤ nodes) × (nodes ≤ (layout One).nodes) → (1 ≤ slots) × (slots ≤ greatest_slots One) → IsNear 0 greatest_lag 0 lag → IsNear 0 greatest_omit 1 omit → IsNear 0 greatest_errors 2 errors
     → (1 ≤ bound) × (bound ≤ greatest_given) → IsNear 1 greatest_given (least_cycle lag bound) cycle → IsNear 1 greatest_given (least_life lag bound) life
     → IsNear 1 greatest_given (least_silence lag bound life) silence → IsNear 1 cycle 10 confirm
     → IsInRange (record {
@@ -79,8 +80,8 @@ given_params-range : (top : Members) (p : Parameters) → given_params top ≡ S
 unfolding given_params
 given_params-range top p h =
     let format = bind_some (required (number_from 1 1) (codes "format") top) _ p h in
-    let nodes = bind_some (required (number_from 2 32) (codes "nodes") top) _ p format.2 in
-    let slots = bind_some (required (number_from 1 greatest_slots) (codes "slots") top) _ p nodes.2 in
+    let nodes = bind_some (required (number_from 2 (layout One).nodes) (codes "nodes") top) _ p format.2 in
+    let slots = bind_some (required (number_from 1 (greatest_slots One)) (codes "slots") top) _ p nodes.2 in
     let lag = bind_some (optional (number_from 0 greatest_lag) 0 (codes "lag") top) _ p slots.2 in
     let omit = bind_some (optional (number_from 0 greatest_omit) 1 (codes "omit") top) _ p lag.2 in
     let errors = bind_some (optional (number_from 0 greatest_errors) 2 (codes "errors") top) _ p omit.2 in
@@ -90,8 +91,8 @@ given_params-range top p h =
     let silence = bind_some (optional (number_from 1 greatest_given) (least_silence lag.0 bound.0 life.0) (codes "silence") top) _ p life.2 in
     let confirm = bind_some (optional (number_from 1 cycle.0) 10 (codes "confirm") top) _ p silence.2 in
     let made = same_Some _ p confirm.2 in
-    let n = required-range 2 32 (codes "nodes") top nodes.0 nodes.1 in
-    let s = required-range 1 greatest_slots (codes "slots") top slots.0 slots.1 in
+    let n = required-range 2 (layout One).nodes (codes "nodes") top nodes.0 nodes.1 in
+    let s = required-range 1 (greatest_slots One) (codes "slots") top slots.0 slots.1 in
     let l = optional-near 0 greatest_lag 0 (get_member (codes "lag") top) lag.0 lag.1 in
     let j = optional-near 0 greatest_omit 1 (get_member (codes "omit") top) omit.0 omit.1 in
     let e = optional-near 0 greatest_errors 2 (get_member (codes "errors") top) errors.0 errors.1 in
@@ -147,7 +148,7 @@ send_from-legal p value send r h =
     let payload = bind_some (optional payload_from [] (codes "data") entry.0) _ send service.2 in
     let made = same_Some _ send payload.2 in
     let in_run = below_count p.slots slot.0 r.slots.0 (required-range 0 (p.slots - 1) (codes "slot") entry.0 slot.0 slot.1) in
-    let on_bus = below_count p.nodes node.0 (some_node p.nodes r.nodes) (required-range 0 (p.nodes - 1) (codes "node") entry.0 node.0 node.1) in
+    let on_bus = below_count p.nodes node.0 (some_node p.nodes (layout p.format).nodes r.nodes) (required-range 0 (p.nodes - 1) (codes "node") entry.0 node.0 node.1) in
     rw (← made) (in_run, on_bus)
 
 abbrev AreSendsOf : Parameters → List SendAsk → Type 0
@@ -167,7 +168,7 @@ sends_from-legal p value sends r h =
 
 -- ---- the scenario
 
-below_from_tests : (node nodes : ℕ) → (nat_lt node 32 && nat_lt node nodes) ≡ true → node < nodes
+below_from_tests : (node nodes : ℕ) → (nat_lt node most_nodes && nat_lt node nodes) ≡ true → node < nodes
 below_from_tests node nodes h = grind (arith, nat_tests)
 
 all_nodes-below : (nodes : ℕ) → AllBelow nodes (those_where (λ node. nat_lt node nodes))

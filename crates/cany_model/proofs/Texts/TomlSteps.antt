@@ -31,8 +31,8 @@ required-range low high key top n h =
     let p = bind_some (get_member key top) (number_from low high) n h in
     number_from-range low high p.0 n p.2
 
-pub some_node : (nodes : ℕ) → (2 ≤ nodes) × (nodes ≤ 32) → 1 ≤ nodes
-some_node nodes r = omega arith
+pub some_node : (nodes most : ℕ) → (2 ≤ nodes) × (nodes ≤ most) → 1 ≤ nodes
+some_node nodes most r = omega arith
 
 pub below_count : (count n : ℕ) → 1 ≤ count → (0 ≤ n) × (n ≤ count - 1) → n < count
 below_count count n some h = omega arith

@@ -1,5 +1,6 @@
 -- The scripted faults that a scenario text gives.
 use Rattle.std.specs.Prelude.{ℕ, ◌-◌, ◌==◌, ◌&&◌, not, nat_le, Bool, true, List, [], ◌∷◌, length, Option, Some, None, is_some, find, codes, if◌then◌else◌}
+use Rattle.cany_base.specs.declared.frame.Format.TheVariants.{One}
 use Rattle.std.specs.List.{list_any}
 use Rattle.std.specs.Str.{bytes_eq}
 use Rattle.toml.specs.Data.{Data, as_str, as_array, as_table, Members, get_member}
@@ -75,7 +76,7 @@ frame_place_from params entry = do
   class ← required class_from (codes "class") entry
   number ← required (number_from 0 65535) (codes "number") entry
   node ← required (number_from 0 (params.nodes - 1)) (codes "node") entry
-  nth ← required (number_from 1 greatest_attempt) (codes "nth") entry
+  nth ← required (number_from 1 (greatest_attempt One)) (codes "nth") entry
   Some (FrameNth class number node nth)
 
 -- an entry with the key `class`, whatever it holds, is a rule for a frame

@@ -1,5 +1,6 @@
 -- The parameters that the top keys of a scenario text give.
 use Rattle.std.specs.Prelude.{Option, Some, codes, is_ok}
+use Rattle.cany_base.specs.Layout.{layout}
 use Rattle.toml.specs.Data.{Members}
 use Rattle.cany_base.specs.declared.frame.Format.TheVariants.{One}
 use Rattle.cany_base.specs.Limits.{greatest_errors, greatest_given, greatest_lag, greatest_omit, greatest_slots}
@@ -10,8 +11,8 @@ use Rattle.cany_model.specs.Texts.TomlKeys.{◌>>=◌, only_if, required, option
 unfoldable pub given_params : Members → Option Parameters
 given_params top = do
   format ← required (number_from 1 1) (codes "format") top
-  nodes ← required (number_from 2 32) (codes "nodes") top
-  slots ← required (number_from 1 greatest_slots) (codes "slots") top
+  nodes ← required (number_from 2 (layout One).nodes) (codes "nodes") top
+  slots ← required (number_from 1 (greatest_slots One)) (codes "slots") top
   lag ← optional (number_from 0 greatest_lag) 0 (codes "lag") top
   omit ← optional (number_from 0 greatest_omit) 1 (codes "omit") top
   errors ← optional (number_from 0 greatest_errors) 2 (codes "errors") top

@@ -7,7 +7,7 @@ use Rattle.cany_base.specs.Scenario.{ScenarioParts}
 use Rattle.cany_model.specs.Promises.Hypothesis.{first_break}
 use Rattle.cany_model.specs.Rules.Log.{log}
 use Rattle.cany_model.specs.Rules.Messages.{messages_of}
-use Rattle.cany_model.specs.Texts.ReportLines.{line_of, params_line, journal_lines, bus_line, is_shown, hypothesis_line, node_line, entry_line, message_line}
+use Rattle.cany_model.specs.Texts.ReportLines.{line_of, first_line, params_line, journal_lines, bus_line, is_shown, hypothesis_line, node_line, entry_line, message_line}
 use Rattle.cany_model.specs.Bus.Run.{run}
 use Rattle.cany_model.specs.Promises.Settled.{is_settled}
 use Rattle.cany_model.specs.Bus.State.{RunState, node_at, reads}
@@ -26,7 +26,7 @@ message_lines scenario s = map (λ m. message_line m (is_settled scenario s m)) 
 
 unfoldable pub report_lines : ScenarioParts → List Step → RunState → List (List ℕ)
 report_lines scenario journal s =
-    line_of (codes "canely report 1" ∷ [])
+    first_line scenario.params.format
     ∷ params_line scenario.params
     ∷ journal_lines journal
     ++ bus_lines s.trace

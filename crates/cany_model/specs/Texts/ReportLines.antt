@@ -3,6 +3,7 @@ use Rattle.std.specs.Prelude.{ℕ, ◌+◌, ◌*◌, ◌/◌, ◌%◌, Bool, ◌
 use Rattle.std.specs.List.{flat_map, join_with_byte, range_with_len}
 use Rattle.cany_base.specs.declared.frame.Class.{Class}
 use Rattle.cany_base.specs.declared.frame.Class.TheVariants.{Accept, Rha, Els, Fda, Join, Leave, Confirm, Tot, Rel, Ed}
+use Rattle.cany_base.specs.declared.frame.Format.{Format}
 use Rattle.cany_base.specs.declared.log_entry.LogEntry.{LogEntry}
 use Rattle.cany_base.specs.declared.log_entry.LogEntry.TheVariants.{Deliver, Failed, View}
 use Rattle.cany_base.specs.declared.message.Service.{Service}
@@ -13,6 +14,7 @@ use Rattle.cany_base.specs.declared.slot_note.SlotNote.{SlotNote}
 use Rattle.cany_base.specs.declared.step.Step.{Step}
 use Rattle.cany_base.specs.declared.step.Step.TheVariants.{Slot, Turn}
 use Rattle.cany_base.specs.Frame.{FrameParts, is_remote}
+use Rattle.cany_base.specs.Layout.{format_number}
 use Rattle.cany_base.specs.Nodes.{Nodes, has, node_numbers, node_count}
 use Rattle.cany_base.specs.Params.{Parameters}
 use Rattle.cany_model.specs.declared.breaks.Break.{Break}
@@ -77,12 +79,16 @@ numbers_text (n ∷ numbers) = join_with_byte 44 (map decimal (n ∷ numbers))
 unfoldable pub set_text : Nodes → List ℕ
 set_text nodes = numbers_text (filter (has nodes) node_numbers)
 
--- `.` for a slot, and the digit of the node for its turn
+-- `.` for a slot, and the letter of the node for its turn
 unfoldable pub step_letter : Step → ℕ
 step_letter Slot = 46
-step_letter (Turn i) = slice_index (codes "0123456789abcdefghijklmnopqrstuv") i
+step_letter (Turn i) = slice_index (codes "0123456789abcdefghijklmnopqrstuvwxyzABCDEFGHIJKLMNOPQRSTUVWXYZ+-") i
 
 -- Lines.
+
+-- that the text is a report, and in which format
+unfoldable pub first_line : Format → List ℕ
+first_line format = line_of (codes "canely report" ∷ decimal (format_number format) ∷ [])
 
 unfoldable pub params_line : Parameters → List ℕ
 params_line p = line_of (

@@ -1,4 +1,6 @@
-use Rattle.std.proofs.Common.{arith}
+use Rattle.std.proofs.Common.{◌≡◌, ap, ◌∙◌, arith}
+use Rattle.std.specs.List.{count_by, range_with_len}
+use Rattle.cany_base.specs.Limits.{most_nodes}
 use Rattle.cany_base.specs.Nodes.{has}
 use Rattle.cany_base.proofs.NodesFacts.{count_more, has_from_test, has_not_from_test}
 use Rattle.cany_base.proofs.node_set.NodeSet.count.Goals as goal
@@ -15,3 +17,8 @@ loop-i-preserved c = elim c.if-self-i-eq1.branch [
     small = omega arith;
   }
 ]
+
+pub returns-clause-count : goal.returns-clause-count
+returns-clause-count c =
+    let done : c.loop-i.i ≡ most_nodes = omega arith in
+    rw (← c.self.view_is) (c.loop-i.invariant.counted ∙ ap (λ n. count_by (has (record { bits = c.self.inside.bits })) (range_with_len 0 n)) done)
