@@ -4,10 +4,9 @@ use Rattle.std.specs.Int.{bit_at}
 use Rattle.std.proofs.Math.Nat.{two-pow-succ}
 use Rattle.std.proofs.lemmas.Bool.{cases_lt, cases_order}
 use Rattle.std.proofs.lemmas.Nat.Bits.{bit_at_lowest, bit_at-suc, same_from_bits}
-use Rattle.cany_base.specs.declared.frame.Class.{Class}
 use Rattle.cany_base.specs.declared.frame.Format.{Format}
-use Rattle.cany_base.specs.declared.frame.Format.TheVariants.{One}
-use Rattle.cany_base.specs.Frame.{FrameParts, class_number, identifier_of, is_remote, key_of}
+use Rattle.cany_base.specs.Frame.{FrameParts, identifier_of, is_remote, key_of}
+use Rattle.can_frame.proofs.IdentityFacts.{identifier_fits}
 use Rattle.can_frame.specs.Identifier.{FitsFormat}
 use Rattle.can_arbiter.specs.Levels.{levels_of, Beats}
 
@@ -22,26 +21,26 @@ words_below i j r s hr hs h = omega arith
 words_same : (i j r s : ℕ) → r < 2 → s < 2 → 2 * i + r ≡ 2 * j + s → i / 2 ^ 18 * 2 ^ 21 + 1 * 2 ^ 20 + 1 * 2 ^ 19 + i % 2 ^ 18 * 2 + r ≡ j / 2 ^ 18 * 2 ^ 21 + 1 * 2 ^ 20 + 1 * 2 ^ 19 + j % 2 ^ 18 * 2 + s
 words_same i j r s hr hs h = omega arith
 
-pub levels_below : (a b : FrameParts) → key_of a < key_of b → levels_of a < levels_of b
-levels_below a b h = words_below (identifier_of a) (identifier_of b) _ _ (rtr_below (is_remote a.class)) (rtr_below (is_remote b.class)) h
+pub levels_below : (format : Format) (a b : FrameParts) → key_of format a < key_of format b → levels_of format a < levels_of format b
+levels_below format a b h = words_below (identifier_of format a) (identifier_of format b) _ _ (rtr_below (is_remote a.class)) (rtr_below (is_remote b.class)) h
 
-pub levels_same : (a b : FrameParts) → key_of a ≡ key_of b → levels_of a ≡ levels_of b
-levels_same a b h = words_same (identifier_of a) (identifier_of b) _ _ (rtr_below (is_remote a.class)) (rtr_below (is_remote b.class)) h
+pub levels_same : (format : Format) (a b : FrameParts) → key_of format a ≡ key_of format b → levels_of format a ≡ levels_of format b
+levels_same format a b h = words_same (identifier_of format a) (identifier_of format b) _ _ (rtr_below (is_remote a.class)) (rtr_below (is_remote b.class)) h
 
-pub keys_at_most : (a b : FrameParts) → levels_of a ≤ levels_of b → key_of a ≤ key_of b
-keys_at_most a b h = by_order (cases_lt (key_of b) (key_of a))
+pub keys_at_most : (format : Format) (a b : FrameParts) → levels_of format a ≤ levels_of format b → key_of format a ≤ key_of format b
+keys_at_most format a b h = by_order (cases_lt (key_of format b) (key_of format a))
   where
-    by_order : (key_of b < key_of a) ⊎ (key_of a ≤ key_of b) → key_of a ≤ key_of b
-    by_order (inl greater) = let wrong : levels_of b < levels_of a = levels_below b a greater in omega arith
+    by_order : (key_of format b < key_of format a) ⊎ (key_of format a ≤ key_of format b) → key_of format a ≤ key_of format b
+    by_order (inl greater) = let wrong : levels_of format b < levels_of format a = levels_below format b a greater in omega arith
     by_order (inr most) = most
 
-pub keys_below : (a b : FrameParts) → levels_of a < levels_of b → key_of a < key_of b
-keys_below a b h = by_order (cases_order (key_of a) (key_of b))
+pub keys_below : (format : Format) (a b : FrameParts) → levels_of format a < levels_of format b → key_of format a < key_of format b
+keys_below format a b h = by_order (cases_order (key_of format a) (key_of format b))
   where
-    by_order : (key_of a ≡ key_of b) ⊎ ((key_of a < key_of b) ⊎ (key_of b < key_of a)) → key_of a < key_of b
-    by_order (inl same) = let wrong : levels_of a ≡ levels_of b = levels_same a b same in omega arith
+    by_order : (key_of format a ≡ key_of format b) ⊎ ((key_of format a < key_of format b) ⊎ (key_of format b < key_of format a)) → key_of format a < key_of format b
+    by_order (inl same) = let wrong : levels_of format a ≡ levels_of format b = levels_same format a b same in omega arith
     by_order (inr (inl less)) = less
-    by_order (inr (inr greater)) = let wrong : levels_of b < levels_of a = levels_below b a greater in omega arith
+    by_order (inr (inr greater)) = let wrong : levels_of format b < levels_of format a = levels_below format b a greater in omega arith
 
 -- two numbers differ first at a place
 pub record DifferFirst (x y place : ℕ) : Type 0 where
@@ -100,19 +99,13 @@ below_from_first (suc place) x y d =
 word_fits : (ident r : ℕ) → ident < 2 ^ 29 → r < 2 → ident / 2 ^ 18 * 2 ^ 21 + 1 * 2 ^ 20 + 1 * 2 ^ 19 + ident % 2 ^ 18 * 2 + r < 2 ^ 32
 word_fits ident r h hr = omega arith
 
-identifier_fits : (format : Format) (a : FrameParts) → FitsFormat format a → identifier_of a < 2 ^ 29
-identifier_fits One a fits = let class : class_number a.class < 10 = class_below a.class in omega arith
-  where
-    class_below : (x : Class) → class_number x < 10
-    class_below x = grind arith
+pub levels_fit : (format : Format) (a : FrameParts) → FitsFormat format a → levels_of format a < 2 ^ 32
+levels_fit format a fits = word_fits (identifier_of format a) _ (identifier_fits format a fits) (rtr_below (is_remote a.class))
 
-pub levels_fit : (format : Format) (a : FrameParts) → FitsFormat format a → levels_of a < 2 ^ 32
-levels_fit format a fits = word_fits (identifier_of a) _ (identifier_fits format a fits) (rtr_below (is_remote a.class))
-
-pub walk_by_keys : (format : Format) (a b : FrameParts) → FitsFormat format a → FitsFormat format b → Beats a b ↔ (key_of a < key_of b)
+pub walk_by_keys : (format : Format) (a b : FrameParts) → FitsFormat format a → FitsFormat format b → Beats format a b ↔ (key_of format a < key_of format b)
 walk_by_keys format a b fits_a fits_b = (
-  (λ beats. keys_below a b (below_from_first beats.place (levels_of a) (levels_of b) (record { same = beats.same; zero_bit = beats.dominant; one_bit = beats.recessive }))),
+  (λ beats. keys_below format a b (below_from_first beats.place (levels_of format a) (levels_of format b) (record { same = beats.same; zero_bit = beats.dominant; one_bit = beats.recessive }))),
   (λ less.
-      let first = differ_first 32 (levels_of a) (levels_of b) (levels_fit format a fits_a) (levels_fit format b fits_b) (levels_below a b less) in
+      let first = differ_first 32 (levels_of format a) (levels_of format b) (levels_fit format a fits_a) (levels_fit format b fits_b) (levels_below format a b less) in
       record { place = first.0; same = first.1.same; dominant = first.1.zero_bit; recessive = first.1.one_bit }),
 )

@@ -4,6 +4,7 @@ use Rattle.std.specs.Prelude.{Option}
 use Rattle.std.specs.Int.{bit_at}
 use Rattle.std.proofs.lemmas.Nat.{shr-shr}
 use Rattle.std.proofs.lemmas.Bool.{cases_lt, false≢true, and_parts, and_from, eqb-true, eqb-false, eq-eqb}
+use Rattle.cany_base.specs.Limits.{most_nodes}
 use Rattle.can_arbiter.specs.Walk.{Leads, IsWalked}
 
 -- the bits from a place on, and those from the next
@@ -60,25 +61,25 @@ some_dominant offering sending staying word place walked d dominant keeps kept =
 
 -- those of the nodes that still send that send dominant at a place
 pub record AreDominant (sending dominant : ℕ → Bool) (word : ℕ → ℕ) (place : ℕ) : Type 0 where
-  pub below : (i : ℕ) → IsTrue (dominant i) → i < 32
-  pub test : (i : ℕ) → i < 32 → dominant i ≡ (sending i && (bit_at (word i) place == 0))
+  pub below : (i : ℕ) → IsTrue (dominant i) → i < most_nodes
+  pub test : (i : ℕ) → i < most_nodes → dominant i ≡ (sending i && (bit_at (word i) place == 0))
 
 -- the walk over one bit where some node sends dominant
-pub walk_some : (offering sending dominant : ℕ → Bool) (word : ℕ → ℕ) (place : ℕ) (least : Option ℕ) → ((i : ℕ) → IsTrue (offering i) → i < 32) → IsWalked offering sending word (place + 1) → AreDominant sending dominant word place → is_some least ≡ true → IfSome least (λ d. IsTrue (dominant d)) → IsWalked offering dominant word place
+pub walk_some : (offering sending dominant : ℕ → Bool) (word : ℕ → ℕ) (place : ℕ) (least : Option ℕ) → ((i : ℕ) → IsTrue (offering i) → i < most_nodes) → IsWalked offering sending word (place + 1) → AreDominant sending dominant word place → is_some least ≡ true → IfSome least (λ d. IsTrue (dominant d)) → IsWalked offering dominant word place
 walk_some offering sending dominant word place None small walked are some found = absurd (false≢true some)
 walk_some offering sending dominant word place (Some d) small walked are some found =
     some_dominant offering sending dominant word place walked d found
     (λ i s. let both = and_parts _ _ (sym (are.test i (are.below i s)) ∙ s) in (both.0, eqb-true _ _ both.1))
     (λ i s bit.
-    let near : i < 32 = small i (walked.leads i s).offers in
+    let near : i < most_nodes = small i (walked.leads i s).offers in
     are.test i near ∙ and_from _ _ s (eq-eqb _ _ bit))
 
 -- and where none does
-pub walk_none : (offering sending dominant : ℕ → Bool) (word : ℕ → ℕ) (place : ℕ) (least : Option ℕ) → ((i : ℕ) → IsTrue (offering i) → i < 32) → IsWalked offering sending word (place + 1) → AreDominant sending dominant word place → is_some least ≡ false → IfNone least ((i : ℕ) → dominant i ≡ false) → IsWalked offering sending word place
+pub walk_none : (offering sending dominant : ℕ → Bool) (word : ℕ → ℕ) (place : ℕ) (least : Option ℕ) → ((i : ℕ) → IsTrue (offering i) → i < most_nodes) → IsWalked offering sending word (place + 1) → AreDominant sending dominant word place → is_some least ≡ false → IfNone least ((i : ℕ) → dominant i ≡ false) → IsWalked offering sending word place
 walk_none offering sending dominant word place (Some d) small walked are none found = absurd (false≢true (sym none))
 walk_none offering sending dominant word place None small walked are none found =
     all_recessive offering sending word place walked (λ i s.
-    let near : i < 32 = small i (walked.leads i s).offers in
+    let near : i < most_nodes = small i (walked.leads i s).offers in
     let test : (sending i && (bit_at (word i) place == 0)) ≡ false = sym (are.test i near) ∙ found i in
     let recessive : (bit_at (word i) place == 0) ≡ false = rw s at test in
     let not_zero : bit_at (word i) place ≡ 0 → ⊥ = eqb-false _ _ recessive in

@@ -1,6 +1,7 @@
 -- The levels that a frame sends in arbitration, and which of two frames wins by them.
 use Rattle.std.specs.Prelude.{◌≡◌, ℕ, ◌+◌, ◌*◌, ◌/◌, ◌%◌, ◌^◌, ◌<◌, Bool, if◌then◌else◌}
 use Rattle.std.specs.Int.{bit_at}
+use Rattle.cany_base.specs.declared.frame.Format.{Format}
 use Rattle.cany_base.specs.Frame.{FrameParts, identifier_of, is_remote}
 
 -- bit 31 goes first: 11 base identifier bits, SRR, IDE, 18 further identifier bits, RTR.
@@ -11,13 +12,13 @@ word_of ident remote =
     + ident % 2 ^ 18 * 2 + (if remote then 1 else 0)
 
 -- the levels that a frame sends in arbitration
-abbrev pub levels_of : FrameParts → ℕ
-levels_of f = word_of (identifier_of f) (is_remote f.class)
+abbrev pub levels_of : Format → FrameParts → ℕ
+levels_of format f = word_of (identifier_of format f) (is_remote f.class)
 
 -- at the first bit in which their levels differ, a sends dominant and b recessive
-pub record Beats (a b : FrameParts) : Type 0 where
+pub record Beats (format : Format) (a b : FrameParts) : Type 0 where
   pub place : ℕ
   pub same :
-      (earlier : ℕ) → place < earlier → bit_at (levels_of a) earlier ≡ bit_at (levels_of b) earlier
-  pub dominant : bit_at (levels_of a) place ≡ 0
-  pub recessive : bit_at (levels_of b) place ≡ 1
+      (earlier : ℕ) → place < earlier → bit_at (levels_of format a) earlier ≡ bit_at (levels_of format b) earlier
+  pub dominant : bit_at (levels_of format a) place ≡ 0
+  pub recessive : bit_at (levels_of format b) place ≡ 1

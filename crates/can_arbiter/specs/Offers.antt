@@ -2,6 +2,7 @@
 use Rattle.std.specs.Prelude.{◌≡◌, ℕ, List, Option, Some, None, length, slice_index_or}
 use Rattle.cany_base.specs.declared.frame.Format.{Format}
 use Rattle.cany_base.specs.Frame.{FrameParts}
+use Rattle.cany_base.specs.Limits.{most_nodes}
 use Rattle.can_frame.specs.Identifier.{FitsFormat}
 
 -- the offers in the order of the nodes
@@ -20,5 +21,5 @@ AllFit format frames =
 
 -- a place for each node that there can be
 pub record IsRow (format : Format) (frames : List (Option FrameParts)) : Type 0 where
-  pub whole : length frames ≡ 32
+  pub whole : length frames ≡ most_nodes
   pub fit : AllFit format frames

@@ -11,10 +11,10 @@ pub record IsWinner (offers : OfferRow) (frame : FrameParts) : Type 0 where
   pub node : ℕ
   pub offered : offer_at offers node ≡ Some frame
   pub least_key :
-      (other : ℕ) (rival : FrameParts) → offer_at offers other ≡ Some rival → key_of frame ≤ key_of rival
+      (other : ℕ) (rival : FrameParts) → offer_at offers other ≡ Some rival → key_of offers.format frame ≤ key_of offers.format rival
   pub least_node :
       (other : ℕ) (rival : FrameParts) → offer_at offers other ≡ Some rival →
-      key_of rival ≡ key_of frame → node ≤ other
+      key_of offers.format rival ≡ key_of offers.format frame → node ≤ other
 
 -- the nodes that offer this frame
 abbrev pub AreSenders : OfferRow → FrameParts → Nodes → Type 0

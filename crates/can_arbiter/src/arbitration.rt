@@ -1,4 +1,5 @@
 ghost use Rattle.std.specs.Prelude.{◌≡◌, ◌<◌, ◌↔◌, ℕ, Some, IsTrue};
+ghost use Rattle.cany_base.specs.Limits.{most_nodes};
 ghost use Rattle.cany_base.specs.Nodes.{has, AllBelow};
 ghost use Rattle.can_arbiter.specs.Offers.{offer_at};
 ghost use Rattle.can_arbiter.specs.Outcome.{IsOutcome};
@@ -36,8 +37,8 @@ pub fn arbitrate(offers: &Offers) -> Outcome
 /// Those of `sending` that offer this frame. The others offer one with the same identifier and kind,
 /// and with another payload.
 fn senders_of(offers: &Offers, frame: &Frame, sending: NodeSet) -> NodeSet
-    ensures below { AllBelow 32 result }
-    ensures senders { (i : ℕ) → i < 32 →
+    ensures below { AllBelow most_nodes result }
+    ensures senders { (i : ℕ) → i < most_nodes →
         IsTrue (has result i) ↔ (IsTrue (has sending i) × (offer_at offers.now i ≡ Some frame.now)) }
 {
     nodes_where(

@@ -10,7 +10,7 @@ use cany_base::Format;
 /// With SRR and IDE recessive in every frame, the bits of the wire order frames as their keys do.
 pub fn walk_orders_by_key(format: Format)
     ensures { (a b : FrameParts) → FitsFormat format a → FitsFormat format b →
-        Beats a b ↔ (key_of a < key_of b) }
+        Beats format a b ↔ (key_of format a < key_of format b) }
 {}
 
 /// One frame wins at most.

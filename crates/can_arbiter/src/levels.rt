@@ -12,7 +12,7 @@ const RECESSIVE: u32 = 1;
 /// extended format). A dominant level is 0.
 pub(crate) fn levels(format: Format, frame: &Frame) -> u32
     requires { FitsFormat format frame.now }
-    ensures { result ≡ levels_of frame.now }
+    ensures { result ≡ levels_of format frame.now }
 {
     let ident = identifier(format, frame);
     let base = Field::<21, 11>::put(0, Field::<18, 11>::take(ident));

@@ -1,4 +1,5 @@
 ghost use Rattle.std.specs.Prelude.{ℕ, ◌<◌};
+ghost use Rattle.cany_base.specs.Limits.{most_nodes};
 ghost use Rattle.cany_base.specs.Nodes.{has, AllBelow};
 
 use cany_base::{NodeId, NodeSet};
@@ -6,8 +7,8 @@ use cany_base::{NodeId, NodeSet};
 /// The nodes at which a test holds.
 pub(crate) fn nodes_where<F: Fn(NodeId) -> bool + Drop>(test: F) -> NodeSet
     requires { F.IsAlwaysCallable test }
-    ensures below { AllBelow 32 result }
-    ensures tested { (i : ℕ) → i < 32 → F.post test i (has result i) }
+    ensures below { AllBelow most_nodes result }
+    ensures tested { (i : ℕ) → i < most_nodes → F.post test i (has result i) }
 {
     let mut nodes = NodeSet::empty();
     for i in 0..NodeId::COUNT {

@@ -1,5 +1,6 @@
 ghost use Rattle.std.specs.Prelude.{◌≡◌, ◌==◌, ℕ, Some, None, if◌then◌else◌, slice_index, slice_index_or, is_some};
 ghost use Rattle.cany_base.specs.Frame.{FrameParts};
+ghost use Rattle.cany_base.specs.Limits.{most_nodes};
 ghost use Rattle.cany_base.specs.Nodes.{has, AllBelow};
 ghost use Rattle.can_frame.specs.Identifier.{FitsFormat};
 ghost use Rattle.can_arbiter.specs.Offers.{offer_at, AllFit};
@@ -14,7 +15,7 @@ use std::marker::Model;
 #[derive(Debug, Drop)]
 pub struct Offers {
     format: Format,
-    frames: [Option<Frame>; 32],
+    frames: [Option<Frame>; NodeId::COUNT as usize],
 }
 
 impl Model for Offers {
@@ -35,7 +36,7 @@ impl Offers {
     {
         Offers {
             format,
-            frames: [None; 32],
+            frames: [None; NodeId::COUNT as usize],
         }
     }
 
@@ -57,7 +58,7 @@ impl Offers {
 
     /// The nodes that offer a frame.
     pub(crate) fn offering(&self) -> NodeSet
-        ensures below { AllBelow 32 result }
+        ensures below { AllBelow most_nodes result }
         ensures offering { (i : ℕ) → has result i ≡ is_some (offer_at self.now i) }
     {
         let frames = &self.frames;
@@ -69,19 +70,22 @@ impl Offers {
     }
 
     /// The levels that each node's frame sends, as a word; 0 where a node offers none.
-    pub(crate) fn words(&self) -> [u32; 32]
-        ensures { (i : ℕ) (f : FrameParts) → offer_at self.now i ≡ Some f → slice_index result i ≡ levels_of f }
+    pub(crate) fn words(&self) -> [u32; NodeId::COUNT as usize]
+        ensures { (i : ℕ) (f : FrameParts) → offer_at self.now i ≡ Some f → slice_index result i ≡ levels_of self.now.format f }
     {
         words_of(self.format, &self.frames)
     }
 }
 
-fn words_of(format: Format, frames: &[Option<Frame>; 32]) -> [u32; 32]
+fn words_of(
+    format: Format,
+    frames: &[Option<Frame>; NodeId::COUNT as usize],
+) -> [u32; NodeId::COUNT as usize]
     requires { AllFit format frames.now }
     ensures { (i : ℕ) (f : FrameParts) →
-        slice_index_or frames.now i None ≡ Some f → slice_index result i ≡ levels_of f }
+        slice_index_or frames.now i None ≡ Some f → slice_index result i ≡ levels_of format f }
 {
-    let mut words = [0; 32];
+    let mut words = [0; NodeId::COUNT as usize];
     for (i, offer) in frames.iter().enumerate() {
         if let Some(frame) = offer {
             words[i] = levels(format, frame);

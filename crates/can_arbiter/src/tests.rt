@@ -1,10 +1,13 @@
+ghost use Rattle.std.specs.Prelude.{◌≡◌};
+
 use crate::{Offers, Outcome, arbitrate};
-use can_frame::fits_format_one;
+use can_frame::small_numbers_fit;
+use cany_base::limits::MOST_NUMBERS;
 use cany_base::{Class, Format, Frame, NodeId, NodeSet, Payload};
 use std::test::Fail;
 
 fn node(number: u8) -> Result<NodeId, &'static str> {
-    NodeId::new(number).ok_or("a node below 32")
+    NodeId::new(number).ok_or("a node")
 }
 
 fn ed(number: u16, origin: NodeId, bytes: &[u8]) -> Result<Frame, &'static str> {
@@ -27,14 +30,30 @@ fn accept(number: u16, origin: NodeId) -> Frame {
     }
 }
 
-/// What arbitration gives where the nodes of these numbers offer these frames.
-fn outcome(offered: &[(u8, Frame)]) -> Result<Outcome, &'static str> {
-    let mut offers = Offers::none(Format::One);
+/// The node of this number offers a frame, if it fits the format of the offers.
+fn offer(offers: &mut Offers, format: Format, number: u8, frame: Frame) -> Result<(), &'static str>
+    requires { offers.old.format ≡ format }
+    ensures { offers.new.format ≡ format }
+{
+    small_numbers_fit(format);
+    if frame.number >= MOST_NUMBERS || frame.node.get() >= format.nodes() {
+        return Err("a frame that fits");
+    }
+    offers.put(node(number)?, frame);
+    Ok(())
+}
+
+/// What arbitration gives in a format where the nodes of these numbers offer these frames.
+fn outcome_in(format: Format, offered: &[(u8, Frame)]) -> Result<Outcome, &'static str> {
+    let mut offers = Offers::none(format);
     for (number, frame) in offered {
-        fits_format_one(frame);
-        offers.put(node(*number)?, *frame);
+        offer(&mut offers, format, *number, *frame)?;
     }
     Ok(arbitrate(&offers))
+}
+
+fn outcome(offered: &[(u8, Frame)]) -> Result<Outcome, &'static str> {
+    outcome_in(Format::One, offered)
 }
 
 fn set(numbers: &[u8]) -> Result<NodeSet, &'static str> {
@@ -67,7 +86,7 @@ fn merged_frame(rt: HostRuntime) -> Result<(), Fail> {
 
 #[test]
 fn least_key(rt: HostRuntime) -> Result<(), Fail> {
-    let frame = accept(65535, node(31)?);
+    let frame = accept(32_767, node(31)?);
     let won = outcome(&[(0, ed(0, node(0)?, b"")?), (31, frame)])?;
     assert_eq!(rt;
         won,
@@ -76,7 +95,7 @@ fn least_key(rt: HostRuntime) -> Result<(), Fail> {
             senders: set(&[31])?
         }
     );
-    let earlier = accept(65534, node(31)?);
+    let earlier = accept(32_766, node(31)?);
     let won = outcome(&[(5, frame), (6, earlier)])?;
     assert_eq!(rt;
         won,
@@ -103,11 +122,37 @@ fn unequal_payloads(rt: HostRuntime) -> Result<(), Fail> {
 }
 
 #[test]
+fn nodes_of_the_second_format(rt: HostRuntime) -> Result<(), Fail> {
+    let frame = ed(0, node(39)?, b"\x01")?;
+    let later = ed(0, node(63)?, b"\x01")?;
+    let won = outcome_in(
+        Format::Two,
+        &[(63, later), (40, frame), (33, frame), (0, later)],
+    )?;
+    assert_eq!(rt;
+        won,
+        Outcome::Won {
+            frame,
+            senders: set(&[33, 40])?
+        }
+    );
+    let accepted = accept(32_767, node(63)?);
+    let won = outcome_in(Format::Two, &[(0, frame), (63, accepted)])?;
+    assert_eq!(rt;
+        won,
+        Outcome::Won {
+            frame: accepted,
+            senders: set(&[63])?
+        }
+    );
+    Ok(())
+}
+
+#[test]
 fn offers_of_nodes(rt: HostRuntime) -> Result<(), Fail> {
     let mut offers = Offers::none(Format::One);
     let frame = accept(0, node(0)?);
-    fits_format_one(&frame);
-    offers.put(node(3)?, frame);
+    offer(&mut offers, Format::One, 3, frame)?;
     assert_eq!(rt; offers.get(node(3)?), Some(frame));
     assert_eq!(rt; offers.get(node(4)?), None);
     Ok(())

@@ -2,12 +2,12 @@
 use Rattle.std.proofs.Common.{◌≡◌, ℕ, ◌<◌, ◌&&◌, ◌||◌, Bool, true, false, List, length, refl, ap, sym, subst, ◌∙◌}
 use Rattle.std.specs.Prelude.{Option, Some, None, is_none, if◌then◌else◌, slice_get, option_map}
 use Rattle.std.proofs.lemmas.Bool.{lt-ltb}
-use Rattle.std.proofs.lemmas.Option.{slice_get_within}
+use Rattle.cany_base.specs.Limits.{most_nodes}
 use Rattle.cany_base.specs.declared.slot_note.SlotNote.{SlotNote}
 use Rattle.cany_base.specs.Nodes.{Nodes, has}
 use Rattle.cany_base.proofs.NodesFacts.{has-those_where}
 use Rattle.cany_base.specs.Params.{Parameters}
-use Rattle.cany_model.specs.Bus.Slot.{after_share, exceeds, node_after, share_of, stopping}
+use Rattle.cany_model.specs.Bus.Slot.{after_share, exceeds, share_of, stopping}
 use Rattle.cany_model.specs.Bus.State.{NodeState, node_at, runs}
 use Rattle.can_controller.specs.Controller.{ControllerState, SeenIsNodeAfter, node_state, seen, stopped_at}
 use Rattle.can_bus.specs.Each.{each}
@@ -28,11 +28,11 @@ or_over true over e = refl
 or_over false over e = e
 
 -- a node of which a counter is above the limit stops
-stops_over : (scripted : Nodes) (nodes : List NodeState) (note : SlotNote) (i : ℕ) (node : NodeState) → i < 32 → node_at nodes i ≡ node → runs node ≡ true
+stops_over : (scripted : Nodes) (nodes : List NodeState) (note : SlotNote) (i : ℕ) (node : NodeState) → i < most_nodes → node_at nodes i ≡ node → runs node ≡ true
     → exceeds (after_share (share_of i note) node) ≡ true → has (stopping scripted nodes note) i ≡ true
 stops_over scripted nodes note i node within is running over =
     has-those_where (λ k. runs (node_at nodes k) && (has scripted k || exceeds (after_share (share_of k note) (node_at nodes k)))) i
-    ∙ ap (λ b. b && (runs (node_at nodes i) && (has scripted i || exceeds (after_share (share_of i note) (node_at nodes i))))) (lt-ltb i 32 within)
+    ∙ ap (λ b. b && (runs (node_at nodes i) && (has scripted i || exceeds (after_share (share_of i note) (node_at nodes i))))) (lt-ltb i most_nodes within)
     ∙ ap (λ (n : NodeState). runs n && (has scripted i || exceeds (after_share (share_of i note) n))) is
     ∙ ap (λ b. b && (has scripted i || exceeds (after_share (share_of i note) node))) running
     ∙ or_over (has scripted i) (exceeds (after_share (share_of i note) node)) over
@@ -41,7 +41,7 @@ stops_over scripted nodes note i node within is running over =
 
 -- each controller is changed by its place, and those stop that the script names or that have a counter above the limit
 pub are_after : ((i : ℕ) (note : SlotNote) (c : ControllerState) → SeenIsNodeAfter i note c)
-    → (bare : SlotNote) (scripted stops : Nodes) (old new : List ControllerState) → ((i : ℕ) (c : ControllerState) → slice_get old i ≡ Some c → i < 32)
+    → (bare : SlotNote) (scripted stops : Nodes) (old new : List ControllerState) → ((i : ℕ) (c : ControllerState) → slice_get old i ≡ Some c → i < most_nodes)
     → stops ≡ stopping scripted (nodes_of old) bare → new ≡ each (λ i c. controller_after i (record bare { stops = stops }) c) 0 old
     → AreAfter (record bare { stops = stops }) old new
 are_after law bare scripted stops old new few stop e = record {

@@ -5,6 +5,7 @@ use Rattle.std.specs.Cmp.{both_ways}
 use Rattle.std.proofs.lemmas.Bool.{and_from, and_parts, cases_lt, lt-ltb}
 use Rattle.std.proofs.lemmas.List.Elements.{All-head, All-tail}
 use Rattle.std.proofs.lemmas.Option.{same_Some}
+use Rattle.cany_base.specs.Limits.{most_nodes}
 use Rattle.cany_base.specs.declared.frame.Format.{Format}
 use Rattle.cany_base.specs.Frame.{FrameParts, key_of}
 use Rattle.cany_base.specs.Nodes.{Nodes, has, those_where}
@@ -44,10 +45,10 @@ holds_of P f (x ∷ xs) all there = at (same_frame f x) refl there (λ h. holds_
     at false e h later = later h
 
 -- a frame that waits, and that no frame at the head beats, is the head
-waits_at_head : (f : FrameParts) (xs : List FrameParts) → StandInOrder xs → waits_with f xs ≡ true
-    → ((g : FrameParts) → slice_get xs 0 ≡ Some g → key_of f ≤ key_of g) → slice_get xs 0 ≡ Some f
-waits_at_head f [] order there least = cc
-waits_at_head f (x ∷ xs) order there least = elim (holds_of (λ g. (g ≡ x) ⊎ (key_of x < key_of g)) f (x ∷ xs) order.least_key there) [
+waits_at_head : (format : Format) (f : FrameParts) (xs : List FrameParts) → StandInOrder format xs → waits_with f xs ≡ true
+    → ((g : FrameParts) → slice_get xs 0 ≡ Some g → key_of format f ≤ key_of format g) → slice_get xs 0 ≡ Some f
+waits_at_head format f [] order there least = cc
+waits_at_head format f (x ∷ xs) order there least = elim (holds_of (λ g. (g ≡ x) ⊎ (key_of format x < key_of format g)) f (x ∷ xs) order.least_key there) [
   | inl same ↦ ap Some (sym same)
   | inr above ↦ absurd (omega (arith, above, least x refl))
 ]
@@ -55,21 +56,21 @@ waits_at_head f (x ∷ xs) order there least = elim (holds_of (λ g. (g ≡ x) �
 offered_by : (node : NodeState) (b : Bool) → runs node ≡ b → offered node ≡ cond b node.waiting []
 offered_by node b e = ap (λ r. cond r node.waiting []) e
 
-offers_sends : (f : FrameParts) (node : NodeState) (b : Bool) → runs node ≡ b → StandInOrder (offered node) → least_frame (offered node) ≡ Some f → sends f node ≡ true
-offers_sends f node true e order offers =
+offers_sends : (format : Format) (f : FrameParts) (node : NodeState) (b : Bool) → runs node ≡ b → StandInOrder format (offered node) → least_frame (offered node) ≡ Some f → sends f node ≡ true
+offers_sends format f node true e order offers =
     let head : slice_get node.waiting 0 ≡ Some f = ap (λ (xs : List FrameParts). slice_get xs 0) (sym (offered_by node true e)) ∙ sym order.head ∙ offers in
     and_from (runs node) (waits_with f node.waiting) e (head_waits f node.waiting head)
-offers_sends f node false e order offers =
+offers_sends format f node false e order offers =
     let head : None ≡ Some f = ap (λ (xs : List FrameParts). slice_get xs 0) (sym (offered_by node false e)) ∙ sym order.head ∙ offers in
     cc
 
-sends_offers : (f : FrameParts) (node : NodeState) → StandInOrder (offered node) → ((g : FrameParts) → least_frame (offered node) ≡ Some g → key_of f ≤ key_of g)
+sends_offers : (format : Format) (f : FrameParts) (node : NodeState) → StandInOrder format (offered node) → ((g : FrameParts) → least_frame (offered node) ≡ Some g → key_of format f ≤ key_of format g)
     → sends f node ≡ true → least_frame (offered node) ≡ Some f
-sends_offers f node order least sent =
+sends_offers format f node order least sent =
     let parts = and_parts (runs node) (waits_with f node.waiting) sent in
     let all : offered node ≡ node.waiting = offered_by node true parts.0 in
     let same : slice_get (offered node) 0 ≡ slice_get node.waiting 0 = ap (λ (xs : List FrameParts). slice_get xs 0) all in
-    order.head ∙ same ∙ waits_at_head f node.waiting (subst StandInOrder all order) parts.1 (λ g at. least g (order.head ∙ same ∙ at))
+    order.head ∙ same ∙ waits_at_head format f node.waiting (subst (StandInOrder format) all order) parts.1 (λ g at. least g (order.head ∙ same ∙ at))
 
 absent_sends : (f : FrameParts) → sends f absent ≡ false
 absent_sends f = refl
@@ -78,20 +79,20 @@ and_false : (b : Bool) → false ≡ (b && false)
 and_false true = refl
 and_false false = refl
 
-below_32 : (nodes : List NodeState) (f : FrameParts) (i : ℕ) → ((k : ℕ) → 32 ≤ k → node_at nodes k ≡ absent)
-    → sends f (node_at nodes i) ≡ (nat_lt i 32 && sends f (node_at nodes i))
-below_32 nodes f i past = elim (cases_lt i 32) [
-  | inl below ↦ sym (ap (λ b. b && sends f (node_at nodes i)) (lt-ltb i 32 below))
+below_all : (nodes : List NodeState) (f : FrameParts) (i : ℕ) → ((k : ℕ) → most_nodes ≤ k → node_at nodes k ≡ absent)
+    → sends f (node_at nodes i) ≡ (nat_lt i most_nodes && sends f (node_at nodes i))
+below_all nodes f i past = elim (cases_lt i most_nodes) [
+  | inl below ↦ sym (ap (λ b. b && sends f (node_at nodes i)) (lt-ltb i most_nodes below))
   | inr above ↦
       let none : sends f (node_at nodes i) ≡ false = ap (sends f) (past i above) ∙ absent_sends f in
-      none ∙ and_false (nat_lt i 32) ∙ sym (ap (λ b. nat_lt i 32 && b) none)
+      none ∙ and_false (nat_lt i most_nodes) ∙ sym (ap (λ b. nat_lt i most_nodes && b) none)
 ]
 
 -- one frame wins at most
 one_winner : (offers : OfferRow) (f g : FrameParts) → IsWinner offers f → IsWinner offers g → f ≡ g
 one_winner offers f g first second =
-    let at_most : key_of f ≤ key_of g = first.least_key second.node g second.offered in
-    let at_least : key_of g ≤ key_of f = second.least_key first.node f first.offered in
+    let at_most : key_of offers.format f ≤ key_of offers.format g = first.least_key second.node g second.offered in
+    let at_least : key_of offers.format g ≤ key_of offers.format f = second.least_key first.node f first.offered in
     let one_way : first.node ≤ second.node = first.least_node second.node g second.offered (omega arith) in
     let other_way : second.node ≤ first.node = second.least_node first.node f first.offered (omega arith) in
     let node : first.node ≡ second.node = omega arith in
@@ -99,19 +100,19 @@ one_winner offers f g first second =
 
 -- ---- of what the nodes offer
 
-module _ (format : Format) (lesser_wins : LesserKeyWins format) (nodes : List NodeState) (offers : OfferRow) (are : AreOffersOf format nodes offers) where
-  senders_are : (f : FrameParts) (senders : Nodes) → ((k : ℕ) → 32 ≤ k → node_at nodes k ≡ absent) → IsOutcome offers (Won f senders)
+module _ (nodes : List NodeState) (offers : OfferRow) (lesser_wins : LesserKeyWins offers.format) (are : AreOffersOf nodes offers) where
+  senders_are : (f : FrameParts) (senders : Nodes) → ((k : ℕ) → most_nodes ≤ k → node_at nodes k ≡ absent) → IsOutcome offers (Won f senders)
       → senders ≡ those_where (λ i. sends f (node_at nodes i))
   senders_are f senders past outcome =
       same_as_those_where senders (λ i. sends f (node_at nodes i)) (λ i.
       both_ways (has senders i) (sends f (node_at nodes i))
-      (λ h. offers_sends f (node_at nodes i) (runs (node_at nodes i)) refl (are.in_order i) (sym (are.each i) ∙ (outcome.1 i).0 h))
-      (λ h. (outcome.1 i).1 (are.each i ∙ sends_offers f (node_at nodes i) (are.in_order i) (λ g at. outcome.0.least_key i g (are.each i ∙ at)) h))
-      ∙ below_32 nodes f i past)
+      (λ h. offers_sends offers.format f (node_at nodes i) (runs (node_at nodes i)) refl (are.in_order i) (sym (are.each i) ∙ (outcome.1 i).0 h))
+      (λ h. (outcome.1 i).1 (are.each i ∙ sends_offers offers.format f (node_at nodes i) (are.in_order i) (λ g at. outcome.0.least_key i g (are.each i ∙ at)) h))
+      ∙ below_all nodes f i past)
 
   wins_here : (f : FrameParts) → winner nodes ≡ Some f → IsWinner offers f
   wins_here f e =
-      let first : WinsAmong (offer_of nodes) f = winner_wins format lesser_wins nodes f (λ k r at. are.fit k r (are.each k ∙ at)) e in
+      let first : WinsAmong offers.format (offer_of nodes) f = winner_wins offers.format lesser_wins nodes f (λ k r at. are.fit k r (are.each k ∙ at)) e in
       record {
         node = first.node;
         offered = are.each first.node ∙ first.offers_it;
@@ -129,9 +130,9 @@ module _ (format : Format) (lesser_wins : LesserKeyWins format) (nodes : List No
       absurd (clash (offer_at offers outcome.0.node) f (are.each outcome.0.node ∙ none) outcome.0.offered)
   frame_is (Won f senders) (Some g) outcome e = ap Some (one_winner offers f g outcome.0 (wins_here g e))
 
-  has_senders : (outcome : Outcome) → ((k : ℕ) → 32 ≤ k → node_at nodes k ≡ absent) → IsOutcome offers outcome → HasSenders nodes outcome
+  has_senders : (outcome : Outcome) → ((k : ℕ) → most_nodes ≤ k → node_at nodes k ≡ absent) → IsOutcome offers outcome → HasSenders nodes outcome
   has_senders Idle past outcome = tt
   has_senders (Won f senders) past outcome = senders_are f senders past outcome
 
-  pub contested : (outcome : Outcome) → ((k : ℕ) → 32 ≤ k → node_at nodes k ≡ absent) → IsOutcome offers outcome → IsContestOf nodes outcome
+  pub contested : (outcome : Outcome) → ((k : ℕ) → most_nodes ≤ k → node_at nodes k ≡ absent) → IsOutcome offers outcome → IsContestOf nodes outcome
   contested outcome past it = record { frame = frame_is outcome (winner nodes) it refl; senders = has_senders outcome past it }

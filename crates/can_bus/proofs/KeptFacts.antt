@@ -1,10 +1,11 @@
 -- What the bus keeps from slot to slot.
-use Rattle.std.proofs.Common.{◌≡◌, ℕ, ◌<◌, ◌≤◌, ◌++◌, List, [], ◌∷◌, length, reverse, true, ap, sym, subst, ◌∙◌, arith}
+use Rattle.std.proofs.Common.{◌≡◌, ℕ, ◌<◌, ◌≤◌, ◌++◌, List, [], ◌∷◌, length, reverse, ap, sym, subst, ◌∙◌, arith}
 use Rattle.std.specs.Prelude.{count_by}
 use Rattle.std.proofs.lemmas.List.{length-reverse, reverse-append}
 use Rattle.cany_base.specs.declared.rule.Rule.{Rule}
 use Rattle.cany_base.specs.declared.slot_note.SlotNote.{SlotNote}
-use Rattle.cany_base.specs.Limits.{greatest_slots}
+use Rattle.cany_base.specs.Limits.{most_slots}
+use Rattle.cany_base.proofs.ParamsFacts.{few_slots}
 use Rattle.cany_model.specs.Bus.Slot.{script, slot_note_of}
 use Rattle.cany_model.specs.Bus.State.{NodeState}
 use Rattle.can_fault.specs.Attempts.{AreCountsOf}
@@ -17,10 +18,10 @@ use Rattle.can_bus.proofs.NoteFacts.{note_ruled}
 
 -- the note of a slot is that of the trace so far
 pub slot_note : (rules : List Rule) (b : Inside) (slot : ℕ) (nodes : List NodeState) (note : SlotNote) → IsSound b → Follows rules (parts_of b) → slot ≡ length b.trace.items
-    → ((trace : List SlotNote) → AreCountsOf rules trace b.attempts → slot ≡ length trace → slot ≤ greatest_slots → note ≡ slot_note_of (script rules) (record { trace = trace; nodes = nodes }))
+    → ((trace : List SlotNote) → AreCountsOf rules trace b.attempts → slot ≡ length trace → slot ≤ most_slots → note ≡ slot_note_of (script rules) (record { trace = trace; nodes = nodes }))
     → note ≡ slot_note_of (script rules) (record { trace = (parts_of b).trace; nodes = nodes })
 slot_note rules b slot nodes note sound was at noted =
-    noted (parts_of b).trace was.counts (at ∙ sym (length-reverse b.trace.items)) (omega (arith, sound.in_room, sound.in_range.slots.1))
+    noted (parts_of b).trace was.counts (at ∙ sym (length-reverse b.trace.items)) (omega (arith, sound.in_room, few_slots b.params sound.in_range))
 
 pub ruled_on : (rules : List Rule) (b : Inside) (nodes : List NodeState) (note : SlotNote) → Follows rules (parts_of b)
     → note ≡ slot_note_of (script rules) (record { trace = (parts_of b).trace; nodes = nodes }) → IsRuledBy rules (note ∷ (parts_of b).trace)

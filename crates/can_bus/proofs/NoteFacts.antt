@@ -1,6 +1,7 @@
 -- The note of a slot.
 use Rattle.std.proofs.Common.{◌≡◌, ℕ, ◌&&◌, ◌||◌, not, Bool, true, false, nat_lt, List, length, refl, ap, sym, subst, ◌∙◌}
 use Rattle.std.specs.Prelude.{Option, Some, None, IfSome}
+use Rattle.cany_base.specs.Limits.{most_nodes}
 use Rattle.cany_base.specs.declared.rule.Verdict.{Verdict}
 use Rattle.cany_base.specs.declared.slot_note.SlotNote.{SlotNote}
 use Rattle.cany_base.specs.Frame.{FrameParts}
@@ -29,8 +30,8 @@ takers_are nodes f verdict running senders takers run sent step =
     same_as_those_where takers (λ i. runs (node_at nodes i) && not (sends f (node_at nodes i)) && lets_accept verdict i) (λ i.
     step i
     ∙ ap (λ b. b && not (has senders i) && lets_accept verdict i) (ap (λ s. has s i) run ∙ has-those_where (λ k. runs (node_at nodes k)) i)
-    ∙ ap (λ b. (nat_lt i 32 && runs (node_at nodes i)) && not b && lets_accept verdict i) (ap (λ s. has s i) sent ∙ has-those_where (λ k. sends f (node_at nodes k)) i)
-    ∙ taking (nat_lt i 32) (runs (node_at nodes i)) (sends f (node_at nodes i)) (lets_accept verdict i))
+    ∙ ap (λ b. (nat_lt i most_nodes && runs (node_at nodes i)) && not b && lets_accept verdict i) (ap (λ s. has s i) sent ∙ has-those_where (λ k. sends f (node_at nodes k)) i)
+    ∙ taking (nat_lt i most_nodes) (runs (node_at nodes i)) (sends f (node_at nodes i)) (lets_accept verdict i))
 
 pub exchanged : (slot : ℕ) (nodes : List NodeState) (outcome : Outcome) (f : FrameParts) (senders running takers none : Nodes) (verdict : Verdict) → outcome ≡ Won f senders
     → IsContestOf nodes outcome → running ≡ running_nodes nodes → ((i : ℕ) → has takers i ≡ (has running i && not (has senders i) && lets_accept verdict i)) → none ≡ nobody
@@ -63,14 +64,14 @@ pub stops_are : (scripted : Nodes) (controllers : List ControllerState) (bare : 
 stops_are scripted controllers bare seen before after stops all ran runs_on step =
     same_as_those_where stops (stops_at scripted (nodes_of controllers) bare) (λ i.
     let over : Bool = exceeds (after_share (share_of i bare) (node_at (nodes_of controllers) i)) in
-    let still : has after i ≡ (nat_lt i 32 && (runs (node_at (nodes_of controllers) i) && not over)) =
+    let still : has after i ≡ (nat_lt i most_nodes && (runs (node_at (nodes_of controllers) i) && not over)) =
     ap (λ s. has s i) runs_on ∙ has-those_where (λ k. runs (node_at (nodes_of seen) k)) i
-    ∙ ap (λ (cs : List ControllerState). nat_lt i 32 && runs (node_at (nodes_of cs) i)) all
-    ∙ ap (λ b. nat_lt i 32 && b) (runs_seen bare controllers i) in
+    ∙ ap (λ (cs : List ControllerState). nat_lt i most_nodes && runs (node_at (nodes_of cs) i)) all
+    ∙ ap (λ b. nat_lt i most_nodes && b) (runs_seen bare controllers i) in
     step i
     ∙ ap (λ b. b && not (has after i && not (has scripted i))) (ap (λ s. has s i) ran ∙ has-those_where (λ k. runs (node_at (nodes_of controllers) k)) i)
-    ∙ ap (λ b. (nat_lt i 32 && runs (node_at (nodes_of controllers) i)) && not (b && not (has scripted i))) still
-    ∙ stopping_by (nat_lt i 32) (runs (node_at (nodes_of controllers) i)) (has scripted i) over)
+    ∙ ap (λ b. (nat_lt i most_nodes && runs (node_at (nodes_of controllers) i)) && not (b && not (has scripted i))) still
+    ∙ stopping_by (nat_lt i most_nodes) (runs (node_at (nodes_of controllers) i)) (has scripted i) over)
 
 -- ---- the whole note
 

@@ -1,6 +1,6 @@
 -- What the controllers offer.
 use Rattle.std.proofs.Common.{◌≡◌, ◌≢◌, ℕ, ◌+◌, ◌<◌, ◌≤◌, ◌==◌, true, false, cond, List, [], refl, ap, sym, subst, ◌∙◌, arith, inl, inr}
-use Rattle.std.specs.Prelude.{Option, Some, None, IfSome, is_none, is_some, if◌then◌else◌, slice_get}
+use Rattle.std.specs.Prelude.{Option, Some, None, IfSome, is_none, is_some, if◌then◌else◌}
 use Rattle.std.proofs.lemmas.Bool.{cases_lt, cases_eq, eq-eqb, ne_eqb}
 use Rattle.cany_base.specs.declared.frame.Format.{Format}
 use Rattle.cany_base.specs.Frame.{FrameParts}
@@ -10,9 +10,9 @@ use Rattle.can_frame.specs.Identifier.{FitsFormat}
 use Rattle.can_arbiter.specs.Offers.{OfferRow, offer_at}
 use Rattle.can_bus.specs.Contest.{AreOffersOf, StandInOrder}
 
-no_frame_in_order : StandInOrder []
+no_frame_in_order : (format : Format) → StandInOrder format []
 unfolding least_frame
-no_frame_in_order = record { head = refl; least_key = tt }
+no_frame_in_order format = record { head = refl; least_key = tt }
 
 least_of_none : None ≡ least_frame []
 unfolding least_frame
@@ -35,11 +35,11 @@ offered_running node e = ap (λ b. cond b node.waiting []) (runs_still node.stop
 pub stopped_offers : (node : NodeState) → is_some node.stopped ≡ true → None ≡ least_frame (offered node)
 stopped_offers node e = least_of_none ∙ ap least_frame (sym (offered_stopped node e))
 
-pub stopped_in_order : (node : NodeState) → is_some node.stopped ≡ true → StandInOrder (offered node)
-stopped_in_order node e = subst StandInOrder (sym (offered_stopped node e)) no_frame_in_order
+pub stopped_in_order : (format : Format) (node : NodeState) → is_some node.stopped ≡ true → StandInOrder format (offered node)
+stopped_in_order format node e = subst (StandInOrder format) (sym (offered_stopped node e)) (no_frame_in_order format)
 
-pub running_in_order : (node : NodeState) → is_some node.stopped ≡ false → StandInOrder node.waiting → StandInOrder (offered node)
-running_in_order node e order = subst StandInOrder (sym (offered_running node e)) order
+pub running_in_order : (format : Format) (node : NodeState) → is_some node.stopped ≡ false → StandInOrder format node.waiting → StandInOrder format (offered node)
+running_in_order format node e order = subst (StandInOrder format) (sym (offered_running node e)) order
 
 -- ---- going over the nodes
 
@@ -49,7 +49,7 @@ pub record OffersSoFar (format : Format) (nodes : List NodeState) (i : ℕ) (off
   pub before : (k : ℕ) → k < i → offer_at offers k ≡ least_frame (offered (node_at nodes k))
   pub after : (k : ℕ) → i ≤ k → offer_at offers k ≡ None
   pub fit : (k : ℕ) (f : FrameParts) → offer_at offers k ≡ Some f → FitsFormat format f
-  pub in_order : (k : ℕ) → k < i → StandInOrder (offered (node_at nodes k))
+  pub in_order : (k : ℕ) → k < i → StandInOrder format (offered (node_at nodes k))
 
 pub none_so_far : (format : Format) (nodes : List NodeState) (offers : OfferRow) → offers.format ≡ format → ((k : ℕ) → offer_at offers k ≡ None)
     → OffersSoFar format nodes 0 offers
@@ -73,10 +73,11 @@ fits_some format o f fit e = subst (λ (p : Option FrameParts). IfSome p (FitsFo
 pub one_more_offers : (format : Format) (nodes : List NodeState) (i : ℕ) (node : NodeState) (old new : OfferRow) → OffersSoFar format nodes i old
     → node ≡ node_at nodes i → new.format ≡ old.format
     → ((k : ℕ) → offer_at new k ≡ (if k == i then least_frame (offered node) else offer_at old k))
-    → IfSome (least_frame (offered node)) (FitsFormat old.format) → StandInOrder (offered node) → OffersSoFar format nodes (i + 1) new
+    → IfSome (least_frame (offered node)) (FitsFormat old.format) → StandInOrder old.format (offered node) → OffersSoFar format nodes (i + 1) new
 one_more_offers format nodes i node old new so here same put fit in_order =
     let own : least_frame (offered node) ≡ least_frame (offered (node_at nodes i)) = ap (λ n. least_frame (offered n)) here in
     let fit_own : IfSome (least_frame (offered node)) (FitsFormat format) = subst (λ (f : Format). IfSome (least_frame (offered node)) (FitsFormat f)) so.same_format fit in
+    let in_order_own : StandInOrder format (offered node) = subst (λ (f : Format). StandInOrder f (offered node)) so.same_format in_order in
     record {
       same_format = same ∙ so.same_format;
       before = λ k h. elim (cases_eq k i) [
@@ -89,7 +90,7 @@ one_more_offers format nodes i node old new so here same put fit in_order =
         | inr apart ↦ so.fit k f (sym (if_elsewhere k i (least_frame (offered node)) (offer_at old k) apart) ∙ sym (put k) ∙ e)
       ];
       in_order = λ k h. elim (cases_eq k i) [
-        | inl at ↦ subst (λ (n : NodeState). StandInOrder (offered n)) (here ∙ ap (node_at nodes) (sym at)) in_order
+        | inl at ↦ subst (λ (n : NodeState). StandInOrder format (offered n)) (here ∙ ap (node_at nodes) (sym at)) in_order_own
         | inr apart ↦ so.in_order k (omega (arith, apart))
       ];
     }
@@ -97,20 +98,20 @@ one_more_offers format nodes i node old new so here same put fit in_order =
 absent_offers : None ≡ least_frame (offered absent)
 absent_offers = least_of_none
 
-absent_in_order : StandInOrder (offered absent)
-absent_in_order = no_frame_in_order
+absent_in_order : (format : Format) → StandInOrder format (offered absent)
+absent_in_order format = no_frame_in_order format
 
 -- all nodes are gone over
 pub all_offers : (format : Format) (nodes : List NodeState) (n : ℕ) (offers : OfferRow) → OffersSoFar format nodes n offers
-    → ((k : ℕ) → n ≤ k → node_at nodes k ≡ absent) → AreOffersOf format nodes offers
+    → ((k : ℕ) → n ≤ k → node_at nodes k ≡ absent) → AreOffersOf nodes offers
 all_offers format nodes n offers so past = record {
   each = λ i. elim (cases_lt i n) [
     | inl below ↦ so.before i below
     | inr above ↦ so.after i above ∙ absent_offers ∙ ap (λ x. least_frame (offered x)) (sym (past i above))
   ];
-  fit = so.fit;
-  in_order = λ i. elim (cases_lt i n) [
+  fit = λ i f e. subst (λ (own : Format). FitsFormat own f) (sym so.same_format) (so.fit i f e);
+  in_order = λ i. subst (λ (own : Format). StandInOrder own (offered (node_at nodes i))) (sym so.same_format) (elim (cases_lt i n) [
     | inl below ↦ so.in_order i below
-    | inr above ↦ subst (λ (x : NodeState). StandInOrder (offered x)) (sym (past i above)) absent_in_order
-  ];
+    | inr above ↦ subst (λ (x : NodeState). StandInOrder format (offered x)) (sym (past i above)) (absent_in_order format)
+  ]);
 }

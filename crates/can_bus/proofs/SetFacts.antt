@@ -1,6 +1,7 @@
 -- A set that is filled by going over the nodes.
 use Rattle.std.proofs.Common.{◌≡◌, ◌≢◌, ℕ, ◌≤◌, ◌+◌, ◌==◌, ◌&&◌, ◌||◌, Bool, true, false, nat_lt, refl, ap, sym, ◌∙◌, arith, inl, inr}
 use Rattle.std.proofs.lemmas.Bool.{cases_lt, cases_eq, lt-ltb, le-ltb, eq-eqb, ne_eqb}
+use Rattle.cany_base.specs.Limits.{most_nodes}
 use Rattle.cany_base.specs.Nodes.{Nodes, has, those_where}
 use Rattle.cany_base.proofs.NodesFacts.{has_none, same_as_those_where}
 
@@ -41,12 +42,12 @@ both_false true false = refl
 both_false false true = refl
 both_false false false = refl
 
--- a test that fails from n on, of 32 nodes at most
-pub widened : (n k : ℕ) (test : ℕ → Bool) → n ≤ 32 → ((k : ℕ) → n ≤ k → test k ≡ false) → (nat_lt k n && test k) ≡ (nat_lt k 32 && test k)
+-- a test that fails from n on, of most_nodes nodes at most
+pub widened : (n k : ℕ) (test : ℕ → Bool) → n ≤ most_nodes → ((k : ℕ) → n ≤ k → test k ≡ false) → (nat_lt k n && test k) ≡ (nat_lt k most_nodes && test k)
 widened n k test short past = elim (cases_lt k n) [
-  | inl below ↦ ap (λ b. b && test k) (lt-ltb k n below ∙ sym (lt-ltb k 32 (omega arith)))
-  | inr above ↦ rw (past k above) (both_false (nat_lt k n) (nat_lt k 32))
+  | inl below ↦ ap (λ b. b && test k) (lt-ltb k n below ∙ sym (lt-ltb k most_nodes (omega arith)))
+  | inr above ↦ rw (past k above) (both_false (nat_lt k n) (nat_lt k most_nodes))
 ]
 
-pub so_far_all : (set : Nodes) (n : ℕ) (test : ℕ → Bool) → SetSoFar set n test → n ≤ 32 → ((k : ℕ) → n ≤ k → test k ≡ false) → set ≡ those_where test
+pub so_far_all : (set : Nodes) (n : ℕ) (test : ℕ → Bool) → SetSoFar set n test → n ≤ most_nodes → ((k : ℕ) → n ≤ k → test k ≡ false) → set ≡ those_where test
 so_far_all set n test so short past = same_as_those_where set test (λ k. so k ∙ widened n k test short past)

@@ -82,17 +82,17 @@ abbrev pub offer_of : List NodeState → ℕ → Option FrameParts
 offer_of nodes k = least_frame (offered (node_at nodes k))
 
 -- a node offers the frame; none offers one of a smaller key, and no node before it offers one of the same key
-pub record WinsAmong (offers : ℕ → Option FrameParts) (f : FrameParts) : Type 0 where
+pub record WinsAmong (format : Format) (offers : ℕ → Option FrameParts) (f : FrameParts) : Type 0 where
   pub node : ℕ
   pub offers_it : offers node ≡ Some f
-  pub least_key : (k : ℕ) (g : FrameParts) → offers k ≡ Some g → key_of f ≤ key_of g
-  pub least_node : (k : ℕ) (g : FrameParts) → offers k ≡ Some g → key_of g ≡ key_of f → node ≤ k
+  pub least_key : (k : ℕ) (g : FrameParts) → offers k ≡ Some g → key_of format f ≤ key_of format g
+  pub least_node : (k : ℕ) (g : FrameParts) → offers k ≡ Some g → key_of format g ≡ key_of format f → node ≤ k
 
 clash : (o : Option FrameParts) (f : FrameParts) → o ≡ None → o ≡ Some f → ⊥
 clash o f a b = cc
 
-one_key : (f g : FrameParts) → f ≡ g → key_of f ≡ key_of g
-one_key f g e = ap key_of e
+one_key : (format : Format) (f g : FrameParts) → f ≡ g → key_of format f ≡ key_of format g
+one_key format f g e = ap (key_of format) e
 
 less_true : (a b : ℕ) → nat_lt a b ≡ true → a < b
 less_true a b e = grind (arith, nat_tests)
@@ -101,35 +101,35 @@ less_false : (a b : ℕ) → nat_lt a b ≡ false → b ≤ a
 less_false a b e = grind (arith, nat_tests)
 
 -- the winner is offered later
-from_rest : (offers : ℕ → Option FrameParts) (f : FrameParts) → WinsAmong (λ k. offers (suc k)) f
-    → ((g : FrameParts) → offers 0 ≡ Some g → key_of f < key_of g) → WinsAmong offers f
-from_rest offers f rest first = record {
+from_rest : (format : Format) (offers : ℕ → Option FrameParts) (f : FrameParts) → WinsAmong format (λ k. offers (suc k)) f
+    → ((g : FrameParts) → offers 0 ≡ Some g → key_of format f < key_of format g) → WinsAmong format offers f
+from_rest format offers f rest first = record {
   node = suc rest.node;
   offers_it = rest.offers_it;
   least_key = λ k g. at_least k g;
   least_node = λ k g. no_earlier k g;
 }
   where
-    at_least : (k : ℕ) (g : FrameParts) → offers k ≡ Some g → key_of f ≤ key_of g
+    at_least : (k : ℕ) (g : FrameParts) → offers k ≡ Some g → key_of format f ≤ key_of format g
     at_least zero g e = omega (arith, first g e)
     at_least (suc k) g e = rest.least_key k g e
 
-    no_earlier : (k : ℕ) (g : FrameParts) → offers k ≡ Some g → key_of g ≡ key_of f → suc rest.node ≤ k
+    no_earlier : (k : ℕ) (g : FrameParts) → offers k ≡ Some g → key_of format g ≡ key_of format f → suc rest.node ≤ k
     no_earlier zero g e same = absurd (omega (arith, first g e))
     no_earlier (suc k) g e same = omega (arith, rest.least_node k g e same)
 
 -- the winner is offered first
-from_first : (offers : ℕ → Option FrameParts) (f : FrameParts) → offers 0 ≡ Some f
-    → ((k : ℕ) (g : FrameParts) → offers (suc k) ≡ Some g → key_of f ≤ key_of g) → WinsAmong offers f
-from_first offers f first rest = record {
+from_first : (format : Format) (offers : ℕ → Option FrameParts) (f : FrameParts) → offers 0 ≡ Some f
+    → ((k : ℕ) (g : FrameParts) → offers (suc k) ≡ Some g → key_of format f ≤ key_of format g) → WinsAmong format offers f
+from_first format offers f first rest = record {
   node = 0;
   offers_it = first;
   least_key = λ k g. at_least k g;
   least_node = λ k g e same. omega arith;
 }
   where
-    at_least : (k : ℕ) (g : FrameParts) → offers k ≡ Some g → key_of f ≤ key_of g
-    at_least zero g e = omega (arith, one_key f g (same_Some f g (sym first ∙ e)))
+    at_least : (k : ℕ) (g : FrameParts) → offers k ≡ Some g → key_of format f ≤ key_of format g
+    at_least zero g e = omega (arith, one_key format f g (same_Some f g (sym first ∙ e)))
     at_least (suc k) g e = rest k g e
 
 pick_none : (a b : Option FrameParts) → pick a b ≡ None → (a ≡ None) × (b ≡ None)
@@ -144,33 +144,33 @@ no_winner (n ∷ ns) e zero = (pick_none (least_frame (offered n)) (winner ns) (
 no_winner (n ∷ ns) e (suc k) = no_winner ns (pick_none (least_frame (offered n)) (winner ns) (sym (winner_cons n ns) ∙ e)).1 k
 
 module _ (format : Format) (lesser_wins : LesserKeyWins format) where
-  by_order : (offers : ℕ → Option FrameParts) (g h f : FrameParts) (lost : Bool) → offers 0 ≡ Some g → WinsAmong (λ k. offers (suc k)) h
-      → ((k : ℕ) (r : FrameParts) → offers k ≡ Some r → FitsFormat format r) → is_before h g ≡ lost → better g (Some h) ≡ f → WinsAmong offers f
+  by_order : (offers : ℕ → Option FrameParts) (g h f : FrameParts) (lost : Bool) → offers 0 ≡ Some g → WinsAmong format (λ k. offers (suc k)) h
+      → ((k : ℕ) (r : FrameParts) → offers k ≡ Some r → FitsFormat format r) → is_before h g ≡ lost → better g (Some h) ≡ f → WinsAmong format offers f
   by_order offers g h f true first rest fit order e =
-      let key : nat_lt (key_of h) (key_of g) ≡ true = sym (lesser_wins h g (fit (suc rest.node) h rest.offers_it) (fit 0 g first)) ∙ order in
-      let less : key_of h < key_of g = less_true (key_of h) (key_of g) key in
-      let P : FrameParts → Type 0 = WinsAmong offers in
+      let key : nat_lt (key_of format h) (key_of format g) ≡ true = sym (lesser_wins h g (fit (suc rest.node) h rest.offers_it) (fit 0 g first)) ∙ order in
+      let less : key_of format h < key_of format g = less_true (key_of format h) (key_of format g) key in
+      let P : FrameParts → Type 0 = WinsAmong format offers in
       subst P (sym (later_wins g h order) ∙ e)
-      (from_rest offers h rest (λ r at. omega (arith, one_key g r (same_Some g r (sym first ∙ at)))))
+      (from_rest format offers h rest (λ r at. omega (arith, one_key format g r (same_Some g r (sym first ∙ at)))))
   by_order offers g h f false first rest fit order e =
-      let key : nat_lt (key_of h) (key_of g) ≡ false = sym (lesser_wins h g (fit (suc rest.node) h rest.offers_it) (fit 0 g first)) ∙ order in
-      let no_less : key_of g ≤ key_of h = less_false (key_of h) (key_of g) key in
-      let P : FrameParts → Type 0 = WinsAmong offers in
+      let key : nat_lt (key_of format h) (key_of format g) ≡ false = sym (lesser_wins h g (fit (suc rest.node) h rest.offers_it) (fit 0 g first)) ∙ order in
+      let no_less : key_of format g ≤ key_of format h = less_false (key_of format h) (key_of format g) key in
+      let P : FrameParts → Type 0 = WinsAmong format offers in
       subst P (sym (earlier_wins g h order) ∙ e)
-      (from_first offers g first (λ k r at. omega (arith, rest.least_key k r at)))
+      (from_first format offers g first (λ k r at. omega (arith, rest.least_key k r at)))
 
   joined : (offers : ℕ → Option FrameParts) (a b : Option FrameParts) (f : FrameParts) → offers 0 ≡ a → pick a b ≡ Some f
       → ((k : ℕ) (r : FrameParts) → offers k ≡ Some r → FitsFormat format r)
-      → (b ≡ None → (k : ℕ) → offers (suc k) ≡ None) → ((h : FrameParts) → b ≡ Some h → WinsAmong (λ k. offers (suc k)) h) → WinsAmong offers f
+      → (b ≡ None → (k : ℕ) → offers (suc k) ≡ None) → ((h : FrameParts) → b ≡ Some h → WinsAmong format (λ k. offers (suc k)) h) → WinsAmong format offers f
   joined offers None b f first e fit none rest =
-      from_rest offers f (rest f e) (λ g at. absurd (clash (offers 0) g first at))
+      from_rest format offers f (rest f e) (λ g at. absurd (clash (offers 0) g first at))
   joined offers (Some g) None f first e fit none rest =
-      from_first offers f (first ∙ e) (λ k r at. absurd (clash (offers (suc k)) r (none refl k) at))
+      from_first format offers f (first ∙ e) (λ k r at. absurd (clash (offers (suc k)) r (none refl k) at))
   joined offers (Some g) (Some h) f first e fit none rest =
       by_order offers g h f (is_before h g) first (rest h refl) fit refl (same_Some (better g (Some h)) f e)
 
   pub winner_wins : (nodes : List NodeState) (f : FrameParts) → ((k : ℕ) (r : FrameParts) → offer_of nodes k ≡ Some r → FitsFormat format r)
-      → winner nodes ≡ Some f → WinsAmong (offer_of nodes) f
+      → winner nodes ≡ Some f → WinsAmong format (offer_of nodes) f
   unfolding node_at
   winner_wins [] f fit e = absurd (clash (winner []) f winner_none e)
   winner_wins (n ∷ ns) f fit e =

@@ -13,15 +13,15 @@ use Rattle.can_arbiter.specs.Offers.{OfferRow, offer_at}
 use Rattle.can_controller.specs.Controller.{ControllerState, seen, stopped_at}
 
 -- of the frames that a controller waits with the first wins, and each other has a greater key
-pub record StandInOrder (frames : List FrameParts) : Type 0 where
+pub record StandInOrder (format : Format) (frames : List FrameParts) : Type 0 where
   pub head : least_frame frames ≡ slice_get frames 0
-  pub least_key : IfSome (slice_get frames 0) (λ f. All (λ g. (g ≡ f) ⊎ (key_of f < key_of g)) frames)
+  pub least_key : IfSome (slice_get frames 0) (λ f. All (λ g. (g ≡ f) ⊎ (key_of format f < key_of format g)) frames)
 
 -- each node offers, of the frames that it waits with, the one that wins
-pub record AreOffersOf (format : Format) (nodes : List NodeState) (offers : OfferRow) : Type 0 where
+pub record AreOffersOf (nodes : List NodeState) (offers : OfferRow) : Type 0 where
   pub each : (i : ℕ) → offer_at offers i ≡ least_frame (offered (node_at nodes i))
-  pub fit : (i : ℕ) (f : FrameParts) → offer_at offers i ≡ Some f → FitsFormat format f
-  pub in_order : (i : ℕ) → StandInOrder (offered (node_at nodes i))
+  pub fit : (i : ℕ) (f : FrameParts) → offer_at offers i ≡ Some f → FitsFormat offers.format f
+  pub in_order : (i : ℕ) → StandInOrder offers.format (offered (node_at nodes i))
 
 -- the frame that is carried
 abbrev pub frame_of : Outcome → Option FrameParts

@@ -1,5 +1,6 @@
 //! What comes of the frame of a slot.
 ghost use Rattle.std.specs.Prelude.{◌≡◌, ◌<◌, ◌&&◌, not, ℕ, List};
+ghost use Rattle.cany_base.specs.Limits.{most_nodes};
 ghost use Rattle.cany_base.specs.Nodes.{has};
 ghost use Rattle.cany_model.specs.Bus.Slot.{exchange, lets_accept, is_success, share_of, winner};
 ghost use Rattle.cany_model.specs.Bus.State.{NodeState};
@@ -65,7 +66,7 @@ fn is_success(verdict: &Verdict) -> bool
 /// What running node i did in the slot.
 #[tactic(auto, unfolding(cany_model::specs::Bus::Slot::share_of))]
 pub(crate) fn share_of(i: usize, note: &SlotNote) -> Share
-    requires { i < 32 }
+    requires { i < most_nodes }
     ensures { result ≡ share_of i note.now }
 {
     let Some(frame) = note.frame else {

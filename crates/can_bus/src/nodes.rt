@@ -1,5 +1,6 @@
 //! Sets of nodes.
 ghost use Rattle.std.specs.Prelude.{◌≡◌, ◌<◌, ◌≤◌, ◌&&◌, ◌||◌, ◌==◌, not, ℕ, length, is_none};
+ghost use Rattle.cany_base.specs.Limits.{most_nodes};
 ghost use Rattle.cany_base.specs.Nodes.{has};
 ghost use Rattle.can_bus.specs.Contest.{running_nodes};
 ghost use Rattle.can_bus.specs.Row.{nodes_of};
@@ -15,7 +16,7 @@ pub(crate) fn nobody() -> NodeSet
 
 /// Puts node i into the set if its controller runs.
 fn insert_running(set: &mut NodeSet, i: usize, controller: &Controller)
-    requires { i < 32 }
+    requires { i < most_nodes }
     ensures { (k : ℕ) → has set.new k ≡ (has set.old k || (is_none controller.now.stopped && k == i)) }
 {
     if controller.stopped().is_none() {
@@ -25,7 +26,7 @@ fn insert_running(set: &mut NodeSet, i: usize, controller: &Controller)
 
 /// The nodes that run.
 pub(crate) fn running(controllers: &[Controller]) -> NodeSet
-    requires { length controllers.now ≤ 32 }
+    requires { length controllers.now ≤ most_nodes }
     ensures { result ≡ running_nodes (nodes_of controllers.now) }
 {
     let mut set = nobody();

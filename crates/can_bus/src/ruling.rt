@@ -1,7 +1,7 @@
 //! What the fault script says of a slot.
 ghost use Rattle.std.specs.Prelude.{◌≡◌, ◌∷◌, ◌≤◌, List, length};
 ghost use Rattle.cany_base.specs.declared.slot_note.SlotNote.{SlotNote};
-ghost use Rattle.cany_base.specs.Limits.{greatest_slots};
+ghost use Rattle.cany_base.specs.Limits.{most_slots};
 ghost use Rattle.cany_model.specs.Bus.Slot.{script as script_of};
 ghost use Rattle.can_fault.specs.Attempts.{AreCountsOf};
 ghost use Rattle.can_bus.specs.Contest.{frame_of};
@@ -18,7 +18,7 @@ pub(crate) fn ruling(
     attempts: &mut Attempts,
     script: &Script,
 ) -> (Verdict, NodeSet)
-    ensures ruling { (trace : List SlotNote) → AreCountsOf script.now trace attempts.old → slot ≡ length trace → slot ≤ greatest_slots
+    ensures ruling { (trace : List SlotNote) → AreCountsOf script.now trace attempts.old → slot ≡ length trace → slot ≤ most_slots
         → record { verdict = result.0; stop = result.1 } ≡ script_of script.now trace (frame_of outcome.now) }
     ensures counts { (trace : List SlotNote) (note : SlotNote) → AreCountsOf script.now trace attempts.old
         → note.frame ≡ frame_of outcome.now → AreCountsOf script.now (note ∷ trace) attempts.new }

@@ -1,5 +1,6 @@
 //! What the controllers learn of a slot.
 ghost use Rattle.std.specs.Prelude.{◌≡◌, ◌<◌, ◌≤◌, None, length};
+ghost use Rattle.cany_base.specs.Limits.{most_nodes};
 ghost use Rattle.can_bus.specs.Contest.{seen_by, stopped_by};
 ghost use Rattle.can_bus.specs.Each.{each};
 ghost use Rattle.can_bus.specs.Row.{HaveRoom};
@@ -10,7 +11,7 @@ use cany_base::{NodeId, NodeSet, Slot, SlotNote};
 
 /// The controller of node i sees its share, if it runs.
 fn see_share(controller: &mut Controller, i: usize, note: &SlotNote)
-    requires node { i < 32 }
+    requires node { i < most_nodes }
     requires room { controller.old.stopped ≡ None → length controller.old.unread ≤ controller.old.params.lag }
     ensures { controller.new ≡ seen_by note.now i controller.old }
 {
@@ -21,7 +22,7 @@ fn see_share(controller: &mut Controller, i: usize, note: &SlotNote)
 
 /// Each running controller sees its share.
 pub(crate) fn see_all(controllers: &mut [Controller], note: &SlotNote)
-    requires few { length controllers.old ≤ 32 }
+    requires few { length controllers.old ≤ most_nodes }
     requires room { HaveRoom controllers.old }
     ensures { controllers.new ≡ each (seen_by note.now) 0 controllers.old }
 {
@@ -33,7 +34,7 @@ pub(crate) fn see_all(controllers: &mut [Controller], note: &SlotNote)
 
 /// The controller of node i stops, if the set has it.
 fn stop_one(controller: &mut Controller, i: usize, slot: Slot, stops: NodeSet)
-    requires { i < 32 }
+    requires { i < most_nodes }
     ensures { controller.new ≡ stopped_by slot stops i controller.old }
 {
     if stops.has(NodeId::of_index(i)) {
@@ -43,7 +44,7 @@ fn stop_one(controller: &mut Controller, i: usize, slot: Slot, stops: NodeSet)
 
 /// The controllers of these nodes stop.
 pub(crate) fn stop_all(controllers: &mut [Controller], slot: Slot, stops: NodeSet)
-    requires { length controllers.old ≤ 32 }
+    requires { length controllers.old ≤ most_nodes }
     ensures { controllers.new ≡ each (stopped_by slot stops) 0 controllers.old }
 {
     for i in 0..controllers.len() {

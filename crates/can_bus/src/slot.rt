@@ -1,7 +1,7 @@
 //! One slot of the bus.
 ghost use Rattle.std.specs.Prelude.{◌≡◌, ◌∷◌, ◌≤◌, ℕ, List, Some, length, slice_get};
 ghost use Rattle.cany_base.specs.declared.slot_note.SlotNote.{SlotNote};
-ghost use Rattle.cany_base.specs.Limits.{greatest_slots};
+ghost use Rattle.cany_base.specs.Limits.{most_slots, most_nodes};
 ghost use Rattle.cany_model.specs.Bus.Slot.{script as script_of, slot_note_of};
 ghost use Rattle.can_controller.specs.Controller.{ControllerState};
 ghost use Rattle.can_fault.specs.Attempts.{AreCountsOf};
@@ -25,10 +25,10 @@ pub(crate) fn run_slot(
     attempts: &mut Attempts,
     script: &Script,
 ) -> SlotNote
-    requires few { length controllers.old ≤ 32 }
+    requires few { length controllers.old ≤ most_nodes }
     requires format { (i : ℕ) (c : ControllerState) → slice_get controllers.old i ≡ Some c → c.params.format ≡ params.now.format }
     requires room { HaveRoom controllers.old }
-    ensures note { (trace : List SlotNote) → AreCountsOf script.now trace attempts.old → slot ≡ length trace → slot ≤ greatest_slots
+    ensures note { (trace : List SlotNote) → AreCountsOf script.now trace attempts.old → slot ≡ length trace → slot ≤ most_slots
         → result ≡ slot_note_of (script_of script.now) (record { trace = trace; nodes = nodes_of controllers.old }) }
     ensures counts { (trace : List SlotNote) → AreCountsOf script.now trace attempts.old → AreCountsOf script.now (result ∷ trace) attempts.new }
     ensures controllers { AreAfter result controllers.old controllers.new }

@@ -1,16 +1,19 @@
 ghost use Rattle.std.specs.Prelude.{◌≡◌, ◌<◌, ℕ, length, IfOk, All};
 ghost use Rattle.cany_base.specs.Scenario.{IsRuleOf};
-ghost use Rattle.cany_base.specs.Params.{IsInRange, MeetsFormulas, Parameters, default_parameters};
+ghost use Rattle.cany_base.specs.declared.frame.Format.TheVariants.{Two};
+ghost use Rattle.cany_base.specs.Limits.{most_nodes};
+ghost use Rattle.cany_base.specs.Params.{IsInRange, MeetsFormulas, Parameters, default_parameters, default_parameters_of};
 ghost use Rattle.can_bus.specs.Bus.{Follows};
 ghost use Rattle.can_bus.specs.Row.{IsRowFor, NoneLags};
 
 use crate::Bus;
 use can_controller::Controller;
 use can_fault::{Break, BreakKind, Script};
-use can_frame::fits_format_one;
+use can_frame::small_numbers_fit;
+use cany_base::limits::MOST_NUMBERS;
 use cany_base::{
-    Class, Frame, Memory, NodeId, NodeSet, Params, Payload, Place, Rule, Scenario, SlotNote,
-    Verdict,
+    Class, Format, Frame, Memory, NodeId, NodeSet, NoticeKind, Params, Payload, Place, Rule,
+    Scenario, SlotNote, Verdict,
 };
 use std::alloc::Global;
 use std::process::Abort;
@@ -61,24 +64,55 @@ fn lossy(alloc: Global) -> Result<Scenario, Fail>
     ))
 }
 
-/// The data of message 0 of node 0.
-fn message() -> Frame {
+/// 41 nodes of format two, without faults.
+fn wide(alloc: Global) -> Scenario
+    ensures { result.params ≡ default_parameters_of Two 41 100 }
+{
+    Scenario::of_parts(
+        Params::with_defaults_of(Format::Two, 41, 100),
+        NodeSet::all(41),
+        Vec::new(alloc),
+        Vec::new(alloc),
+        Vec::new(alloc),
+        Vec::new(alloc),
+        None,
+    )
+}
+
+/// A controller of each node.
+fn row_of(alloc: Global, params: &Params) -> Result<Vec<Controller>, Memory>
+    ensures { IfOk result (λ row. IsRowFor params.now row.items) }
+{
+    let mut row = Vec::new(alloc);
+    for i in 0..usize::from(params.nodes) {
+        let controller = Controller::build(alloc, NodeId::of_index(i), params, 4)?;
+        row.push(controller)?;
+    }
+    Ok(row)
+}
+
+/// The data of a message.
+fn message(number: u16, origin: usize) -> Frame
+    requires { origin < most_nodes }
+{
     Frame {
         class: Class::Ed,
-        number: 0,
-        node: NodeId::of_index(0),
+        number,
+        node: NodeId::of_index(origin),
         inc: 0,
         payload: Payload::empty(),
     }
 }
 
-/// The first controller asks for the frame, where there is room for one more.
-fn ask(rt: &impl Abort, controllers: &mut [Controller], frame: Frame)
-    requires { 0 < length controllers.old }
-    ensures { (p : Parameters) → IsRowFor p controllers.old → IsRowFor p controllers.new }
+/// The controller of node i asks for the frame, where there is room for one more.
+fn ask(rt: &impl Abort, params: &Params, controllers: &mut [Controller], i: usize, frame: Frame)
+    requires { IsRowFor params.now controllers.old }
+    ensures { IsRowFor params.now controllers.new }
 {
-    let controller = &mut controllers[0];
-    fits_format_one(&frame);
+    assert!(rt; frame.number < MOST_NUMBERS && frame.node.get() < params.format.nodes());
+    small_numbers_fit(params.format);
+    assert!(rt; i < controllers.len());
+    let controller = &mut controllers[i];
     assert!(rt; controller.spare() > 0);
     controller.ask(frame);
 }
@@ -120,18 +154,19 @@ fn next(rt: &impl Abort, bus: &mut Bus, controllers: &mut [Controller], script: 
 /// Runs slots in which the first node has the frame to send.
 fn run(
     rt: &impl Abort,
+    params: &Params,
     bus: &mut Bus,
     controllers: &mut [Controller],
     script: &Script,
     frame: Frame,
     slots: usize,
 )
-    requires some { 0 < length controllers.old }
+    requires params { params.now ≡ bus.old.params }
     requires slots { bus.old.params.slots ≡ 100 }
     requires row { IsRowFor bus.old.params controllers.old }
     requires follows { Follows script.now bus.old }
 {
-    ask(rt, controllers, frame);
+    ask(rt, params, controllers, 0, frame);
     for _ in 0..slots {
         next(rt, bus, controllers, script);
     }
@@ -158,18 +193,52 @@ fn check_notes(rt: &impl Abort, notes: &[SlotNote], frame: Frame) {
 
 #[test]
 fn sixteen_lost_slots_stop_a_sender(rt: HostRuntime) -> Result<(), Fail> {
-    let frame = message();
+    let frame = message(0, 0);
     let scenario = lossy(rt.alloc())?;
     let script = Script::of_scenario(rt.alloc(), &scenario)?;
     let mut bus = Bus::build(rt.alloc(), &scenario)?;
-    let sender = Controller::build(rt.alloc(), NodeId::of_index(0), scenario.params(), 4)?;
-    let receiver = Controller::build(rt.alloc(), NodeId::of_index(1), scenario.params(), 4)?;
-    let mut controllers = [sender, receiver];
+    let mut controllers = row_of(rt.alloc(), scenario.params())?;
     let row = controllers.as_mut_slice();
-    run(&rt, &mut bus, row, &script, frame, 17);
+    run(&rt, scenario.params(), &mut bus, row, &script, frame, 17);
     assert_eq!(rt; bus.trace().len(), 17);
     check_notes(&rt, bus.trace(), frame);
     let kind = BreakKind::Errors;
     assert_eq!(rt; bus.first_break(), Some(Break { kind, slot: 2 }));
+    Ok(())
+}
+
+/// What the node got of the slot that ran last.
+fn got(controllers: &mut [Controller], i: usize) -> Result<Option<NoticeKind>, Fail> {
+    let controller = controllers.get_mut(i).ok_or("no such node")?;
+    Ok(controller.next_notice().map(|notice| notice.kind))
+}
+
+/// In the fields of format one the frame of node 33 would win.
+#[test]
+fn node_40_wins_over_node_33_in_format_two(rt: HostRuntime) -> Result<(), Fail> {
+    let scenario = wide(rt.alloc());
+    let script = Script::of_scenario(rt.alloc(), &scenario)?;
+    let mut bus = Bus::build(rt.alloc(), &scenario)?;
+    let mut controllers = row_of(rt.alloc(), scenario.params())?;
+    let row = controllers.as_mut_slice();
+    let lesser = message(4, 40);
+    let greater = message(5, 1);
+    ask(&rt, scenario.params(), row, 33, greater);
+    ask(&rt, scenario.params(), row, 40, lesser);
+    next(&rt, &mut bus, row, &script);
+    assert_eq!(rt;
+        bus.trace().first(),
+        Some(&SlotNote {
+            slot: 0,
+            frame: Some(lesser),
+            senders: NodeSet::of_bits(1 << 40),
+            takers: NodeSet::of_bits((1 << 40) - 1),
+            verdict: Verdict::Clean,
+            stops: NodeSet::empty(),
+        })
+    );
+    assert_eq!(rt; got(row, 0)?, Some(NoticeKind::Got(lesser)));
+    assert_eq!(rt; got(row, 33)?, Some(NoticeKind::Got(lesser)));
+    assert_eq!(rt; got(row, 40)?, Some(NoticeKind::Sent(lesser)));
     Ok(())
 }

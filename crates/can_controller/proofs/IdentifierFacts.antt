@@ -1,60 +1,62 @@
--- Identity and order of frames that fit the format, by their identifiers.
-use Rattle.std.proofs.Common.{◌≡◌, ℕ, ◌+◌, ◌*◌, ◌<◌, ◌≤◌, ◌==◌, ◌&&◌, Bool, true, false, nat_lt, if◌then◌else◌, ap, ◌∙◌, arith}
+-- What the identifiers and keys of frames that fit the format say of the tests of identity and order.
+use Rattle.std.proofs.Common.{◌≡◌, ℕ, ◌<◌, ◌==◌, ◌↔◌, inl, inr, Bool, true, false, nat_lt, if◌then◌else◌, refl, ap, eqb-true, arith}
+use Rattle.std.specs.Cmp.{both_ways}
+use Rattle.std.proofs.lemmas.Bool.{eq-eqb, lt-ltb, ltb-true}
 use Rattle.std.proofs.lemmas.Bool.Decides.{nat_tests}
-use Rattle.cany_base.specs.declared.frame.Class.{Class}
 use Rattle.cany_base.specs.declared.frame.Format.{Format}
-use Rattle.cany_base.specs.declared.frame.Format.TheVariants.{One}
-use Rattle.cany_base.specs.Frame.{FrameParts, class_number, identifier_of, is_remote, key_of}
-use Rattle.cany_model.specs.Bus.Frames.{identity_of, same_class, same_identity, is_before}
-use Rattle.can_frame.specs.Identifier.{FitsFormat}
+use Rattle.cany_base.specs.Frame.{FrameParts, class_number, identifier_of, key_of, SameIdentity}
+use Rattle.cany_model.specs.Bus.Frames.{Identity, identity_of, same_class, same_identity, is_before}
+use Rattle.cany_model.proofs.Bus.Identities.{same_class-true, same_identity-true, same_identity-from}
+use Rattle.can_frame.specs.Identifier.{FitsFormat, IsOrderedBefore}
+use Rattle.can_frame.proofs.IdentityFacts.{identifiers_order, identifiers_tell, keys_order}
 use Rattle.can_controller.specs.Waiting.{LesserKeyWins}
 
--- two numbers of three digits, the lower two of which have 16 and 5 bits
-abbrev three_digits : ℕ → ℕ → ℕ → ℕ
-three_digits a b c = a * 33554432 + b * 512 + c * 16
+parts_same : (a b : FrameParts) → identity_of a ≡ identity_of b → SameIdentity a b
+parts_same a b e = record {
+  class = ap (λ (x : Identity). x.class) e;
+  number = ap (λ (x : Identity). x.number) e;
+  node = ap (λ (x : Identity). x.node) e;
+}
 
-same_digits : (a b c d e f : ℕ) → b < 65536 → c < 32 → e < 65536 → f < 32
-    → (a == d && b == e && c == f) ≡ (three_digits a b c == three_digits d e f)
-same_digits a b c d e f h1 h2 h3 h4 = grind (arith, nat_tests)
-
-digits_before : (a b c d e f : ℕ) → b < 65536 → c < 32 → e < 65536 → f < 32
-    → (if a == d then (if b == e then nat_lt c f else nat_lt b e) else nat_lt a d) ≡ nat_lt (three_digits a b c) (three_digits d e f)
-digits_before a b c d e f h1 h2 h3 h4 = grind (arith, nat_tests)
+identity_same : (a b : FrameParts) → SameIdentity a b → identity_of a ≡ identity_of b
+identity_same a b same = λ i. record { class = same.class i; number = same.number i; node = same.node i }
 
 pub same_identity_is : (format : Format) (a b : FrameParts) → FitsFormat format a → FitsFormat format b
-    → same_identity (identity_of a) (identity_of b) ≡ (identifier_of a == identifier_of b)
-unfolding same_identity same_class
-same_identity_is One a b fits_a fits_b =
-    same_digits (class_number a.class) a.number a.node (class_number b.class) b.number b.node fits_a.0 fits_a.1 fits_b.0 fits_b.1
+    → same_identity (identity_of a) (identity_of b) ≡ (identifier_of format a == identifier_of format b)
+same_identity_is format a b fits_a fits_b =
+    let tell = identifiers_tell format a b fits_a fits_b in
+    both_ways (same_identity (identity_of a) (identity_of b)) (identifier_of format a == identifier_of format b)
+    (λ h. eq-eqb (identifier_of format a) (identifier_of format b) (tell.1 (parts_same a b (same_identity-true (identity_of a) (identity_of b) h))))
+    (λ h. same_identity-from (identity_of a) (identity_of b) (identity_same a b (tell.0 (eqb-true (identifier_of format a) (identifier_of format b) h))))
+
+-- the order by parts is what the test of order compares
+ordered : (a b : FrameParts) (class number : Bool) → same_class a.class b.class ≡ class → (a.number == b.number) ≡ number
+    → (if class then (if number then nat_lt a.node b.node else nat_lt a.number b.number) else nat_lt (class_number a.class) (class_number b.class)) ≡ true
+    → IsOrderedBefore a b
+ordered a b true true class number h = inr (inr (same_class-true a.class b.class class, eqb-true a.number b.number number, ltb-true a.node b.node h))
+ordered a b true false class number h = inr (inl (same_class-true a.class b.class class, ltb-true a.number b.number h))
+ordered a b false number class same h = inl (ltb-true (class_number a.class) (class_number b.class) h)
+
+passes : (a b : FrameParts) → IsOrderedBefore a b → is_before a b ≡ true
+unfolding is_before same_class
+passes a b (inl class) = grind (arith, nat_tests, class)
+passes a b (inr (inl (class, number))) = grind (arith, nat_tests, ap class_number class, number)
+passes a b (inr (inr (class, number, node))) = grind (arith, nat_tests, ap class_number class, number, node)
+
+is_ordered : (a b : FrameParts) → is_before a b ≡ true → IsOrderedBefore a b
+unfolding is_before
+is_ordered a b h = ordered a b (same_class a.class b.class) (a.number == b.number) refl refl h
+
+-- a number of frames that is in their order tells which frame is before
+before_by : (number : FrameParts → ℕ) (a b : FrameParts) → (number a < number b) ↔ IsOrderedBefore a b → is_before a b ≡ nat_lt (number a) (number b)
+before_by number a b order =
+    both_ways (is_before a b) (nat_lt (number a) (number b))
+    (λ h. lt-ltb (number a) (number b) (order.1 (is_ordered a b h)))
+    (λ h. passes a b (order.0 (ltb-true (number a) (number b) h)))
 
 pub is_before_is : (format : Format) (a b : FrameParts) → FitsFormat format a → FitsFormat format b
-    → is_before a b ≡ nat_lt (identifier_of a) (identifier_of b)
-unfolding is_before same_class
-is_before_is One a b fits_a fits_b =
-    digits_before (class_number a.class) a.number a.node (class_number b.class) b.number b.node fits_a.0 fits_a.1 fits_b.0 fits_b.1
-
-kind_bit : (b : Bool) → (if b then 1 else 0) ≤ 1
-kind_bit true = omega arith
-kind_bit false = omega arith
-
--- a smaller identifier makes a smaller key
-pub key_below : (a b : FrameParts) → identifier_of a < identifier_of b → key_of a < key_of b
-key_below a b less = omega (arith, less, kind_bit (is_remote a.class))
-
-same_class_of : (x y : Class) → class_number x ≡ class_number y → x ≡ y
-same_class_of x y e = grind arith
-
--- frames of one identifier have one key
-same_key : (format : Format) (a b : FrameParts) → FitsFormat format a → FitsFormat format b → identifier_of a ≡ identifier_of b → key_of a ≡ key_of b
-same_key One a b fits_a fits_b e =
-    let same : class_number a.class ≡ class_number b.class = omega arith in
-    let kind : is_remote a.class ≡ is_remote b.class = ap is_remote (same_class_of a.class b.class same) in
-    omega (arith, ap {B = ℕ} (λ b. if b then 1 else 0) kind)
-
-less_alike : (i j k l : ℕ) → (i < j → k < l) → (j < i → l < k) → (i ≡ j → k ≡ l) → nat_lt i j ≡ nat_lt k l
-less_alike i j k l less more same = grind (arith, nat_tests)
+    → is_before a b ≡ nat_lt (identifier_of format a) (identifier_of format b)
+is_before_is format a b fits_a fits_b = before_by (identifier_of format) a b (identifiers_order format a b fits_a fits_b)
 
 pub key_order : (format : Format) → LesserKeyWins format
-key_order format a b fits_a fits_b =
-    is_before_is format a b fits_a fits_b
-    ∙ less_alike (identifier_of a) (identifier_of b) (key_of a) (key_of b) (key_below a b) (key_below b a) (same_key format a b fits_a fits_b)
+key_order format a b fits_a fits_b = before_by (key_of format) a b (keys_order format a b fits_a fits_b)

@@ -14,21 +14,21 @@ use Rattle.can_controller.proofs.AscendingFacts.{ascending-filter, ascending-ins
 use Rattle.can_controller.proofs.PlaceFacts.{gap_waits, waits_is, but_named, place_removed}
 
 pub kept-set : (format : Format) (frames : List FrameParts) (room capacity place : ℕ) (f : FrameParts) → IsKept format frames room capacity
-    → FitsFormat format f → IsPlaceOf (identifier_of f) place frames → IsKept format (set frames place f) room capacity
+    → FitsFormat format f → IsPlaceOf format (identifier_of format f) place frames → IsKept format (set frames place f) room capacity
 kept-set format frames room capacity place f kept fits at = record {
   fit = All-set (FitsFormat format) frames place f fits kept.fit;
-  ascending = ascending-set f frames place kept.ascending at.within (at.named f);
+  ascending = ascending-set format f frames place kept.ascending at.within (at.named f);
   in_room = omega (arith, kept.in_room, length-set frames place f);
   reserved = kept.reserved;
 }
 
 pub kept-insert : (format : Format) (frames : List FrameParts) (room capacity larger place : ℕ) (f : FrameParts) → IsKept format frames room capacity
-    → capacity ≤ larger → FitsFormat format f → length frames < room → IsGapFor (identifier_of f) place frames → IsKept format (insert frames place f) room larger
+    → capacity ≤ larger → FitsFormat format f → length frames < room → IsGapFor format (identifier_of format f) place frames → IsKept format (insert frames place f) room larger
 kept-insert format frames room capacity larger place f kept grown fits spare gap = record {
   fit =
       All-append (FitsFormat format) (take place frames) (f ∷ drop place frames) (All-take (FitsFormat format) place frames kept.fit)
       (All-cons (FitsFormat format) f (drop place frames) fits (All-drop (FitsFormat format) place frames kept.fit));
-  ascending = ascending-insert f frames place kept.ascending gap.within gap.before gap.after;
+  ascending = ascending-insert format f frames place kept.ascending gap.within gap.before gap.after;
   in_room = omega (arith, length-insert frames place f gap.within);
   reserved = omega (arith, kept.reserved);
 }
@@ -37,7 +37,7 @@ kept-filter : (format : Format) (frames : List FrameParts) (room capacity : ℕ)
     → length (filter p frames) ≤ length frames → IsKept format (filter p frames) room capacity
 kept-filter format frames room capacity p kept fewer = record {
   fit = All-filter p (FitsFormat format) frames kept.fit;
-  ascending = ascending-filter p frames kept.ascending;
+  ascending = ascending-filter format p frames kept.ascending;
   in_room = omega (arith, kept.in_room);
   reserved = kept.reserved;
 }
@@ -47,9 +47,9 @@ pub kept-without : (format : Format) (frames : List FrameParts) (room capacity :
 kept-without format frames room capacity x kept fewer = kept-filter format frames room capacity (λ f. not (is_of x f)) kept fewer
 
 pub kept-remove : (format : Format) (frames : List FrameParts) (room capacity ident place : ℕ) → IsKept format frames room capacity
-    → IsPlaceOf ident place frames → IsKept format (remove frames place) room capacity
+    → IsPlaceOf format ident place frames → IsKept format (remove frames place) room capacity
 kept-remove format frames room capacity ident place kept at =
-    let e : but_named ident frames ≡ remove frames place = place_removed ident frames place kept.ascending at in
+    let e : but_named format ident frames ≡ remove frames place = place_removed format ident frames place kept.ascending at in
     let fewer : length (remove frames place) ≤ length frames = omega (arith, length-remove frames place at.within) in
     rw (← e)
     (kept-filter format frames room capacity _ kept (omega (arith, fewer, ap length e)))
@@ -59,12 +59,12 @@ clash b passed failed = cc
 
 -- where no frame of its identity waits there is room for one more
 pub gap_spare : (format : Format) (frames : List FrameParts) (room place : ℕ) (f : FrameParts) → All (FitsFormat format) frames → FitsFormat format f
-    → HasRoomFor f frames room → IsGapFor (identifier_of f) place frames → length frames < room
+    → HasRoomFor f frames room → IsGapFor format (identifier_of format f) place frames → length frames < room
 gap_spare format frames room place f all fits has_room gap =
     elim has_room [
       | inl spare ↦ spare
       | inr there ↦
-          let none : waits (identity_of f) frames ≡ false = sym (waits_is format (identifier_of f) f frames fits refl all) ∙ gap_waits (identifier_of f) place frames gap in
+          let none : waits (identity_of f) frames ≡ false = sym (waits_is format (identifier_of format f) f frames fits refl all) ∙ gap_waits format (identifier_of format f) place frames gap in
           absurd (clash (waits (identity_of f) frames) there none)
     ]
 

@@ -14,14 +14,14 @@ pub record WaitingFrames : Type 0 where
   pub room : ℕ
 
 -- each frame has a smaller identifier than those after it
-abbrev pub IsAscending : List FrameParts → Type 0
-IsAscending [] = Unit {0}
-IsAscending (f ∷ fs) = All (λ g. identifier_of f < identifier_of g) fs × IsAscending fs
+abbrev pub IsAscending : Format → List FrameParts → Type 0
+IsAscending format [] = Unit {0}
+IsAscending format (f ∷ fs) = All (λ g. identifier_of format f < identifier_of format g) fs × IsAscending format fs
 
 -- what is true of the frames and of the memory that holds them
 pub record IsKept (format : Format) (frames : List FrameParts) (room capacity : ℕ) : Type 0 where
   pub fit : All (FitsFormat format) frames
-  pub ascending : IsAscending frames
+  pub ascending : IsAscending format frames
   pub in_room : length frames ≤ room
   pub reserved : room ≤ capacity
 
@@ -30,16 +30,16 @@ abbrev pub HasRoomFor : FrameParts → List FrameParts → ℕ → Type 0
 HasRoomFor f frames room = (length frames < room) ⊎ IsTrue (waits (identity_of f) frames)
 
 -- a frame of this identifier stands at the place
-pub record IsPlaceOf (ident place : ℕ) (frames : List FrameParts) : Type 0 where
+pub record IsPlaceOf (format : Format) (ident place : ℕ) (frames : List FrameParts) : Type 0 where
   pub within : place < length frames
-  pub named : HoldsAt (λ f. identifier_of f ≡ ident) frames place
+  pub named : HoldsAt (λ f. identifier_of format f ≡ ident) frames place
 
 -- no frame has this identifier, and one that has would stand at the place
-pub record IsGapFor (ident place : ℕ) (frames : List FrameParts) : Type 0 where
+pub record IsGapFor (format : Format) (ident place : ℕ) (frames : List FrameParts) : Type 0 where
   pub within : place ≤ length frames
-  pub before : All (λ f. identifier_of f < ident) (take place frames)
-  pub after : All (λ f. ident < identifier_of f) (drop place frames)
+  pub before : All (λ f. identifier_of format f < ident) (take place frames)
+  pub after : All (λ f. ident < identifier_of format f) (drop place frames)
 
 -- of frames that fit, one wins over another exactly where its key is less
 abbrev pub LesserKeyWins : Format → Type 0
-LesserKeyWins format = (a b : FrameParts) → FitsFormat format a → FitsFormat format b → is_before a b ≡ nat_lt (key_of a) (key_of b)
+LesserKeyWins format = (a b : FrameParts) → FitsFormat format a → FitsFormat format b → is_before a b ≡ nat_lt (key_of format a) (key_of format b)

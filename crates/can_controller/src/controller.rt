@@ -82,11 +82,11 @@ impl Controller {
 
     /// Takes the frame of this identifier from the waiting frames, if one waits.
     pub fn withdraw(&mut self, ident: u32)
-        ensures by_identifier { let others = filter (λ f. not (identifier_of f == ident)) self.old.waiting in
+        ensures by_identifier { let others = filter (λ f. not (identifier_of self.old.params.format f == ident)) self.old.waiting in
             self.new ≡ record self.old { waiting = others } }
 
         // The same, where the identifier is that of a frame f.
-        ensures by_identity { (f : FrameParts) → FitsFormat self.old.params.format f → identifier_of f ≡ ident →
+        ensures by_identity { (f : FrameParts) → FitsFormat self.old.params.format f → identifier_of self.old.params.format f ≡ ident →
             self.new.waiting ≡ without (identity_of f) self.old.waiting }
     {
         self.waiting.withdraw(ident);
@@ -94,10 +94,10 @@ impl Controller {
 
     /// Whether a frame of this identifier waits.
     pub fn waits(&self, ident: u32) -> bool
-        ensures by_identifier { result ≡ list_any (λ f. identifier_of f == ident) self.now.waiting }
+        ensures by_identifier { result ≡ list_any (λ f. identifier_of self.now.params.format f == ident) self.now.waiting }
 
         // The same, where the identifier is that of a frame f.
-        ensures by_identity { (f : FrameParts) → FitsFormat self.now.params.format f → identifier_of f ≡ ident →
+        ensures by_identity { (f : FrameParts) → FitsFormat self.now.params.format f → identifier_of self.now.params.format f ≡ ident →
             result ≡ waits (identity_of f) self.now.waiting }
     {
         self.waiting.waits(ident)
@@ -118,7 +118,8 @@ impl Controller {
         ensures fits { IfSome result (λ f. FitsFormat self.now.params.format f) }
 
         // Each other waiting frame has a greater key.
-        ensures least_key { IfSome result (λ f. All (λ g. (g ≡ f) ⊎ (key_of f < key_of g)) self.now.waiting) }
+        ensures least_key { let key = key_of self.now.params.format in
+            IfSome result (λ f. All (λ g. (g ≡ f) ⊎ (key f < key g)) self.now.waiting) }
     {
         self.waiting.first()
     }

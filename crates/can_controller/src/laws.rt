@@ -14,7 +14,7 @@ use cany_base::Format;
 /// Frames that fit have one identifier exactly where they have one identity.
 pub fn identifier_is_identity(format: Format)
     ensures { (a b : FrameParts) → FitsFormat format a → FitsFormat format b →
-        same_identity (identity_of a) (identity_of b) ≡ (identifier_of a == identifier_of b) }
+        same_identity (identity_of a) (identity_of b) ≡ (identifier_of format a == identifier_of format b) }
 {}
 
 /// Of frames that fit, one wins over another exactly where its key is less.
@@ -30,7 +30,7 @@ pub fn seen_is_node_after()
 
 /// The waiting frames ascend by identifier, so that no two of them have one identity.
 pub fn frames_ascend(controller: &Controller)
-    ensures { IsAscending controller.now.waiting }
+    ensures { IsAscending controller.now.params.format controller.now.waiting }
 {
     controller.waiting.ascend();
 }

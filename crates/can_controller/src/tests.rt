@@ -1,14 +1,17 @@
 ghost use Rattle.std.specs.Prelude.{◌≡◌, ◌⊎◌};
+ghost use Rattle.can_frame.specs.Identifier.{FitsFormat};
 
 use crate::{Controller, Share};
-use can_frame::{fits_format_one, identifier};
+use can_frame::{identifier, small_numbers_fit};
+use cany_base::limits::MOST_NUMBERS;
 use cany_base::{Class, Format, Frame, NodeId, Notice, NoticeKind, Params, Payload, Slot};
 use std::process::Abort;
 use std::test::Fail;
 
 /// Three notices may be unread.
 fn lag_two() -> Params
-    ensures { result.lag ≡ 2 }
+    ensures lag { result.lag ≡ 2 }
+    ensures format { result.format ≡ Format.One }
 {
     Params {
         lag: 2,
@@ -20,17 +23,24 @@ fn node(n: u8) -> Result<NodeId, Fail> {
     Ok(NodeId::new(n).ok_or("no such node")?)
 }
 
-/// A data frame of message 5 of node 1.
-fn message(class: Class, bytes: &[u8]) -> Result<Frame, Fail>
+/// A data frame of a message.
+fn data_frame(class: Class, number: u16, origin: u8, bytes: &[u8]) -> Result<Frame, Fail>
     requires { (class ≡ Class.Tot) ⊎ (class ≡ Class.Ed) }
 {
     Ok(Frame {
         class,
-        number: 5,
-        node: node(1)?,
+        number,
+        node: node(origin)?,
         inc: 0,
         payload: Payload::of(bytes).ok_or("more than 8 bytes")?,
     })
+}
+
+/// A data frame of message 5 of node 1.
+fn message(class: Class, bytes: &[u8]) -> Result<Frame, Fail>
+    requires { (class ≡ Class.Tot) ⊎ (class ≡ Class.Ed) }
+{
+    data_frame(class, 5, 1, bytes)
 }
 
 /// The ACCEPT of message 3 of node 2.
@@ -44,16 +54,25 @@ fn accept() -> Result<Frame, Fail> {
     })
 }
 
-fn ident(frame: &Frame) -> u32 {
-    fits_format_one(frame);
-    identifier(Format::One, frame)
+/// The frame fits the format, since its numbers are small.
+fn fits(rt: &impl Abort, format: Format, frame: &Frame)
+    ensures { FitsFormat format frame.now }
+{
+    assert!(rt; frame.number < MOST_NUMBERS && frame.node.get() < format.nodes());
+    small_numbers_fit(format);
+}
+
+fn ident(rt: &impl Abort, format: Format, frame: &Frame) -> u32 {
+    fits(rt, format, frame);
+    identifier(format, frame)
 }
 
 /// Asks for a frame, where there is room for one more.
-fn ask(rt: &impl Abort, controller: &mut Controller, frame: Frame)
+fn ask(rt: &impl Abort, controller: &mut Controller, format: Format, frame: Frame)
+    requires { controller.old.params.format ≡ format }
     ensures { controller.new.params ≡ controller.old.params }
 {
-    fits_format_one(&frame);
+    fits(rt, format, &frame);
     assert!(rt; controller.spare() > 0);
     controller.ask(frame);
 }
@@ -72,20 +91,45 @@ fn frames_wait_in_the_order_of_their_keys(rt: HostRuntime) -> Result<(), Fail> {
     assert_eq!(rt; controller.best(), None);
     let data = message(Class::Ed, b"\x01")?;
     let ordered = message(Class::Tot, b"\x02")?;
-    ask(&rt, &mut controller, data);
-    ask(&rt, &mut controller, accept()?);
-    ask(&rt, &mut controller, ordered);
+    ask(&rt, &mut controller, Format::One, data);
+    ask(&rt, &mut controller, Format::One, accept()?);
+    ask(&rt, &mut controller, Format::One, ordered);
     assert_eq!(rt; controller.spare(), 1);
     assert_eq!(rt; controller.best(), Some(accept()?));
-    assert!(rt; controller.waits(ident(&data)));
-    controller.withdraw(ident(&accept()?));
-    controller.withdraw(ident(&accept()?));
-    assert!(rt; !controller.waits(ident(&accept()?)));
+    assert!(rt; controller.waits(ident(&rt, Format::One, &data)));
+    controller.withdraw(ident(&rt, Format::One, &accept()?));
+    controller.withdraw(ident(&rt, Format::One, &accept()?));
+    assert!(rt; !controller.waits(ident(&rt, Format::One, &accept()?)));
     assert_eq!(rt; controller.best(), Some(ordered));
     let again = message(Class::Tot, b"\x03")?;
-    ask(&rt, &mut controller, again);
+    ask(&rt, &mut controller, Format::One, again);
     assert_eq!(rt; controller.spare(), 2);
     assert_eq!(rt; controller.best(), Some(again));
+    Ok(())
+}
+
+/// In the fields of format one the first two of the frames would have one identifier, and the third would win over them.
+#[test]
+fn node_40_waits_in_format_two(rt: HostRuntime) -> Result<(), Fail> {
+    let format = Format::Two;
+    let params = Params::with_defaults_of(format, 64, 400_000);
+    let mut controller = Controller::build(rt.alloc(), node(40)?, &params, 3)?;
+    let own = data_frame(Class::Ed, 4, 40, b"\x01")?;
+    let other = data_frame(Class::Ed, 5, 8, b"\x01")?;
+    let third = data_frame(Class::Ed, 5, 1, b"\x01")?;
+    ask(&rt, &mut controller, format, other);
+    ask(&rt, &mut controller, format, third);
+    ask(&rt, &mut controller, format, own);
+    assert_eq!(rt; controller.spare(), 0);
+    assert_eq!(rt; controller.best(), Some(own));
+    assert!(rt; controller.waits(0x1200_1280));
+    controller.withdraw(0x1200_1280);
+    assert!(rt; !controller.waits(ident(&rt, format, &own)));
+    assert!(rt; controller.waits(0x1200_1480));
+    assert_eq!(rt; controller.best(), Some(third));
+    see(&rt, &mut controller, 0, Share::Confirmed(third));
+    assert_eq!(rt; controller.best(), Some(other));
+    assert_eq!(rt; controller.spare(), 2);
     Ok(())
 }
 
@@ -93,7 +137,7 @@ fn frames_wait_in_the_order_of_their_keys(rt: HostRuntime) -> Result<(), Fail> {
 fn notices_are_read_in_their_order(rt: HostRuntime) -> Result<(), Fail> {
     let mut controller = Controller::build(rt.alloc(), node(0)?, &lag_two(), 4)?;
     let data = message(Class::Ed, b"")?;
-    ask(&rt, &mut controller, data);
+    ask(&rt, &mut controller, Format::One, data);
     assert!(rt; controller.unread() < 3 && controller.stopped().is_none());
     controller.see(0, Share::Errored);
     assert!(rt; controller.unread() < 3 && controller.stopped().is_none());
@@ -101,7 +145,7 @@ fn notices_are_read_in_their_order(rt: HostRuntime) -> Result<(), Fail> {
     assert!(rt; controller.unread() < 3 && controller.stopped().is_none());
     controller.see(2, Share::Took(accept()?));
     assert_eq!(rt; controller.unread(), 3);
-    assert!(rt; !controller.waits(ident(&data)));
+    assert!(rt; !controller.waits(ident(&rt, Format::One, &data)));
     let kinds = [
         NoticeKind::Bad,
         NoticeKind::Sent(data),

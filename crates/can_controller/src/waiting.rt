@@ -40,9 +40,9 @@ impl Model for Waiting {
 /// It is written by hand since std's search may ask for the key of any frame, and only one that fits has an identifier.
 fn find(format: Format, frames: &[Frame], ident: u32) -> Result<usize, usize>
     requires fit { All (FitsFormat format) frames.now }
-    requires ascending { IsAscending frames.now }
-    ensures found { IfOk result (λ place. IsPlaceOf ident place frames.now) }
-    ensures absent { IfErr result (λ place. IsGapFor ident place frames.now) }
+    requires ascending { IsAscending format frames.now }
+    ensures found { IfOk result (λ place. IsPlaceOf format ident place frames.now) }
+    ensures absent { IfErr result (λ place. IsGapFor format ident place frames.now) }
 {
     let mut low = 0;
     let mut high = frames.len();
@@ -92,9 +92,9 @@ impl Waiting {
 
     /// Removes the frame of this identifier, if there is one.
     pub(crate) fn withdraw(&mut self, ident: u32)
-        ensures by_identifier { let others = filter (λ f. not (identifier_of f == ident)) self.old.frames in
+        ensures by_identifier { let others = filter (λ f. not (identifier_of self.old.format f == ident)) self.old.frames in
             self.new ≡ record self.old { frames = others } }
-        ensures by_identity { (f : FrameParts) → FitsFormat self.old.format f → identifier_of f ≡ ident →
+        ensures by_identity { (f : FrameParts) → FitsFormat self.old.format f → identifier_of self.old.format f ≡ ident →
             self.new.frames ≡ without (identity_of f) self.old.frames }
     {
         if let Ok(place) = find(self.format, self.frames.as_slice(), ident) {
@@ -126,8 +126,8 @@ impl Waiting {
 
     /// Whether a frame of this identifier waits.
     pub(crate) fn waits(&self, ident: u32) -> bool
-        ensures by_identifier { result ≡ list_any (λ f. identifier_of f == ident) self.now.frames }
-        ensures by_identity { (f : FrameParts) → FitsFormat self.now.format f → identifier_of f ≡ ident →
+        ensures by_identifier { result ≡ list_any (λ f. identifier_of self.now.format f == ident) self.now.frames }
+        ensures by_identity { (f : FrameParts) → FitsFormat self.now.format f → identifier_of self.now.format f ≡ ident →
             result ≡ waits (identity_of f) self.now.frames }
     {
         find(self.format, self.frames.as_slice(), ident).is_ok()
@@ -142,7 +142,7 @@ impl Waiting {
 
     /// The frames ascend, as they are kept.
     pub(crate) fn ascend(&self)
-        ensures { IsAscending self.now.frames }
+        ensures { IsAscending self.now.format self.now.frames }
     {
         // A read of a field gives the proof what holds of all fields.
         let _frames = &self.frames;
@@ -152,7 +152,8 @@ impl Waiting {
     pub(crate) fn first(&self) -> Option<Frame>
         ensures head { result ≡ slice_get self.now.frames 0 }
         ensures least { result ≡ least_frame self.now.frames }
-        ensures least_key { IfSome result (λ f. All (λ g. (g ≡ f) ⊎ (key_of f < key_of g)) self.now.frames) }
+        ensures least_key { let key = key_of self.now.format in
+            IfSome result (λ f. All (λ g. (g ≡ f) ⊎ (key f < key g)) self.now.frames) }
         ensures fits { IfSome result (λ f. FitsFormat self.now.format f) }
     {
         self.frames.first().copied()

@@ -1,2 +1,3 @@
+pub mod DecodingFacts
 pub mod FieldFacts
 pub mod IdentityFacts

@@ -1,17 +1,25 @@
 -- The frame that an identifier, a kind and a payload stand for, and why they stand for none.
-use Rattle.std.specs.Prelude.{◌≡◌, ◌≢◌, ℕ, ◌<◌, ◌≤◌, ◌/◌, ◌%◌, ◌^◌, Bool, List}
+use Rattle.std.specs.Prelude.{◌≡◌, ◌≢◌, ℕ, ◌<◌, ◌≤◌, ◌/◌, ◌%◌, ◌^◌, Bool, List, length}
 use Rattle.cany_base.specs.declared.frame.Class.{Class}
+use Rattle.cany_base.specs.declared.frame.Class.TheVariants.{Rha}
 use Rattle.cany_base.specs.declared.frame.Format.{Format}
-use Rattle.cany_base.specs.Frame.{FrameParts, class_number, identifier_of, is_remote, FitsClass, IsFormed}
+use Rattle.cany_base.specs.Frame.{FrameParts, class_number, identifier_of, is_remote, FitsClass}
+use Rattle.cany_base.specs.Layout.{layout}
 use Rattle.can_frame.specs.declared.decoding.FrameFault.{FrameFault}
 use Rattle.can_frame.specs.declared.decoding.FrameFault.TheVariants as fault
 use Rattle.can_frame.specs.Identifier.{FitsFormat}
 
+-- the bytes that a frame of a class carries in a format: a vector has those of the format
+abbrev pub Carries : Format → Class → List ℕ → Type 0
+Carries format Rha payload = length payload ≡ (layout format).vector
+Carries format class payload = FitsClass class payload
+
 -- f is the frame of the format that has this identifier, this kind and this payload
 pub record IsFrameOf (format : Format) (ident : ℕ) (remote : Bool) (payload : List ℕ) (f : FrameParts) : Type 0 where
-  pub formed : IsFormed f.class f.inc f.payload
+  pub inc : f.inc ≡ 0
+  pub carries : Carries format f.class f.payload
   pub fits : FitsFormat format f
-  pub identifier : identifier_of f ≡ ident
+  pub identifier : identifier_of format f ≡ ident
   pub kind : is_remote f.class ≡ remote
   pub bytes : f.payload ≡ payload
 
@@ -20,11 +28,11 @@ abbrev pub IsClassOf : Class → ℕ → Type 0
 IsClassOf class ident = class_number class ≡ ident / 2 ^ 25
 
 -- the first of the four tests that these do not pass
-abbrev pub IsFirstFault : FrameFault → ℕ → Bool → List ℕ → Type 0
-IsFirstFault fault.Class ident remote payload = 9 < ident / 2 ^ 25
-IsFirstFault fault.Pad ident remote payload = (ident / 2 ^ 25 ≤ 9) × (ident % 2 ^ 4 ≢ 0)
-IsFirstFault fault.Kind ident remote payload =
+abbrev pub IsFirstFault : Format → FrameFault → ℕ → Bool → List ℕ → Type 0
+IsFirstFault format fault.Class ident remote payload = 9 < ident / 2 ^ 25
+IsFirstFault format fault.Pad ident remote payload = (ident / 2 ^ 25 ≤ 9) × (ident % 2 ^ 4 ≢ 0)
+IsFirstFault format fault.Kind ident remote payload =
     (class : Class) × IsClassOf class ident × (ident % 2 ^ 4 ≡ 0) × (is_remote class ≢ remote)
-IsFirstFault fault.Length ident remote payload =
+IsFirstFault format fault.Length ident remote payload =
     (class : Class) × IsClassOf class ident × (ident % 2 ^ 4 ≡ 0) × (is_remote class ≡ remote)
-    × (¬ FitsClass class payload)
+    × (¬ Carries format class payload)

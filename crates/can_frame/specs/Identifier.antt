@@ -1,12 +1,21 @@
 -- What fits an identifier, and how identifiers and keys order frames.
-use Rattle.std.specs.Prelude.{◌≡◌, ◌<◌, ◌^◌, ◌⊎◌}
+use Rattle.std.specs.Prelude.{ℕ, ◌≡◌, ◌<◌, ◌^◌, ◌⊎◌}
 use Rattle.cany_base.specs.declared.frame.Format.{Format}
-use Rattle.cany_base.specs.declared.frame.Format.TheVariants.{One}
 use Rattle.cany_base.specs.Frame.{FrameParts, class_number}
+use Rattle.cany_base.specs.Layout.{layout}
+use Rattle.cany_base.specs.Limits.{most_numbers}
 
 -- number and node fit the fields of the format
 abbrev pub FitsFormat : Format → FrameParts → Type 0
-FitsFormat One f = (f.number < 2 ^ 16) × (f.node < 2 ^ 5)
+FitsFormat format f = (f.number < 2 ^ (layout format).number_width) × (f.node < 2 ^ (layout format).node_width)
+
+-- such a number as the frames of a run have, and a node that there can be in the format
+abbrev pub AreSmall : Format → (number node : ℕ) → Type 0
+AreSmall format number node = (number < most_numbers) × (node < (layout format).nodes)
+
+-- number and node of the frame are such
+abbrev pub HasSmallNumbers : Format → FrameParts → Type 0
+HasSmallNumbers format f = AreSmall format f.number f.node
 
 -- by class, then number, then node
 abbrev pub IsOrderedBefore : FrameParts → FrameParts → Type 0

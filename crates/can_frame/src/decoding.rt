@@ -1,11 +1,12 @@
-ghost use Rattle.std.specs.Prelude.{◌≡◌, ◌↔◌, ◌/◌, ◌%◌, ◌^◌};
+ghost use Rattle.std.specs.Prelude.{◌≡◌, ◌↔◌};
 ghost use Rattle.cany_base.specs.Frame.{FrameParts};
 ghost use Rattle.can_frame.specs.Decoding.{IsFrameOf, IsFirstFault};
 ghost use Rattle.can_frame.specs.declared.decoding.FrameFault.{FrameFault};
 
 use crate::class::{class_of_number, fits_class, is_remote};
-use crate::encoding::{NodeField, NumberField, PadField};
-use cany_base::{Format, Frame, NodeId, Payload};
+use crate::encoding::PadField;
+use crate::layout::take_fields;
+use cany_base::{Format, Frame, Payload};
 use thiserror::Error;
 
 /// Why an identifier, a kind and a payload are no frame.
@@ -29,7 +30,7 @@ pub fn frame_of(
     payload: Payload,
 ) -> Result<Frame, FrameFault>
     ensures frame { (f : FrameParts) → (result ≡ Ok f) ↔ IsFrameOf format ident remote payload f }
-    ensures fault { (e : FrameFault) → (result ≡ Err e) ↔ IsFirstFault e ident remote payload }
+    ensures fault { (e : FrameFault) → (result ≡ Err e) ↔ IsFirstFault format e ident remote payload }
 {
     // Bits above the 29 of an identifier make the class too great.
     let Some(class) = class_of_number(ident >> 25) else {
@@ -41,10 +42,10 @@ pub fn frame_of(
     if remote != is_remote(class) {
         return Err(FrameFault::Kind);
     }
-    if !fits_class(class, &payload) {
+    if !fits_class(format, class, &payload) {
         return Err(FrameFault::Length);
     }
-    let (number, node) = fields_of(format, ident);
+    let (number, node) = take_fields(format, ident);
     Ok(Frame {
         class,
         number,
@@ -52,18 +53,4 @@ pub fn frame_of(
         inc: 0,
         payload,
     })
-}
-
-/// The number and the node that stand in an identifier.
-fn fields_of(format: Format, ident: u32) -> (u16, NodeId)
-    ensures number { result.0 ≡ ident / 2 ^ 9 % 2 ^ 16 }
-    ensures node { result.1 ≡ ident / 2 ^ 4 % 2 ^ 5 }
-{
-    match format {
-        Format::One => {
-            let number = NumberField::take(ident) as u16;
-            let node = NodeId::new(NodeField::take(ident) as u8).unwrap();
-            (number, node)
-        }
-    }
 }

@@ -1,19 +1,14 @@
-ghost use Rattle.std.specs.Prelude.{◌≡◌};
+ghost use Rattle.std.specs.Prelude.{◌≡◌, ◌<◌, ◌^◌};
 ghost use Rattle.cany_base.specs.Frame.{identifier_of, key_of};
 ghost use Rattle.can_frame.specs.Identifier.{FitsFormat};
 
 use crate::class::{is_remote, number_of_class};
 use crate::field::Field;
+use crate::layout::put_fields;
 use cany_base::{Format, Frame};
 
 /// The class, in the four most significant of the 29 bits.
 pub(crate) type ClassField = Field<25, 4>;
-
-/// The number: a sequence number, a cycle or a count, by class.
-pub(crate) type NumberField = Field<9, 16>;
-
-/// The node that the frame names.
-pub(crate) type NodeField = Field<4, 5>;
 
 /// The bits below the node, which are 0 in every frame.
 pub(crate) type PadField = Field<0, 4>;
@@ -21,21 +16,17 @@ pub(crate) type PadField = Field<0, 4>;
 /// The 29-bit identifier of a frame.
 pub fn identifier(format: Format, frame: &Frame) -> u32
     requires { FitsFormat format frame.now }
-    ensures { result ≡ identifier_of frame.now }
+    ensures value { result ≡ identifier_of format frame.now }
+    ensures in_range { result < 2 ^ 29 }
 {
-    match format {
-        Format::One => {
-            let node = NodeField::put(0, u32::from(frame.node.get()));
-            let numbered = NumberField::put(node, u32::from(frame.number));
-            ClassField::put(numbered, number_of_class(frame.class))
-        }
-    }
+    let word = put_fields(format, frame.number, frame.node);
+    ClassField::put(word, number_of_class(frame.class))
 }
 
 /// The number by which frames arbitrate: the frame of the smaller key wins.
 pub fn key(format: Format, frame: &Frame) -> u64
     requires { FitsFormat format frame.now }
-    ensures { result ≡ key_of frame.now }
+    ensures { result ≡ key_of format frame.now }
 {
     2 * u64::from(identifier(format, frame)) + u64::from(is_remote(frame.class))
 }

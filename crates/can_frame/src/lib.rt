@@ -7,6 +7,7 @@ mod decoding;
 mod encoding;
 mod field;
 mod laws;
+mod layout;
 #[cfg(test)]
 mod tests;
 mod threads;
@@ -16,6 +17,6 @@ pub use decoding::{FrameFault, frame_of};
 pub use encoding::{identifier, key};
 pub use field::Field;
 pub use laws::{
-    data_beats_remote, decoding_is_unique, fits_format_one, identifier_tells_frame,
-    keys_order_frames,
+    data_beats_remote, decoding_is_unique, identifier_tells_frame, identifiers_order_frames,
+    keys_order_frames, small_numbers_fit,
 };

@@ -1,48 +1,63 @@
-use crate::{Field, FrameFault, fits_format_one, frame_of, identifier, key};
+use crate::{Field, FrameFault, frame_of, identifier, key, small_numbers_fit};
 use cany_base::{Class, Format, Frame, NodeId, Payload};
 use std::test::Fail;
 
-/// A row is a class, the identifier of its frame number 5 of node 3, its kind, and the bytes of a payload.
+/// A row is a class, its kind, the bytes of a payload, and the identifiers of its frame number 5 of node 3 in both formats.
 macro_rules! rows {
-    ($($class:ident $ident:literal $kind:ident $bytes:literal,)*) => {
-        [$((Class::$class, $ident, rows!($kind), $bytes)),*]
+    ($($class:ident $kind:ident $bytes:literal $one:literal $two:literal,)*) => {
+        [$((Class::$class, rows!($kind), $bytes, $one, $two)),*]
     };
     (remote) => { true };
     (data) => { false };
 }
 
+/// The frame comes back from its identifier, kind and payload.
+fn comes_back(
+    format: Format,
+    class: Class,
+    remote: bool,
+    bytes: &[u8],
+    ident: u32,
+) -> Result<bool, Fail> {
+    let payload = Payload::of(bytes).ok_or("more than 8 bytes")?;
+    let frame = frame_of(format, ident, remote, payload)?;
+    let encoded = identifier(format, &frame);
+    let order = key(format, &frame);
+    if encoded != ident || order != 2 * u64::from(ident) + u64::from(remote) {
+        return Ok(false);
+    }
+    if frame_of(format, ident, !remote, payload) != Err(FrameFault::Kind) {
+        return Ok(false);
+    }
+    Ok(
+        frame.class == class
+            && frame.number == 5
+            && frame.node.get() == 3
+            && frame.payload == payload,
+    )
+}
+
 #[test]
 fn every_class(rt: HostRuntime) -> Result<(), Fail> {
-    let rows: [(Class, u32, bool, &[u8]); 10] = rows!(
-        Accept 0x0000_0a30 remote b"",
-        Rha 0x0200_0a30 data b"\x00\x00\x00\x07",
-        Els 0x0400_0a30 remote b"",
-        Fda 0x0600_0a30 remote b"",
-        Join 0x0800_0a30 remote b"",
-        Leave 0x0a00_0a30 remote b"",
-        Confirm 0x0c00_0a30 remote b"",
-        Tot 0x0e00_0a30 data b"12345678",
-        Rel 0x1000_0a30 data b"",
-        Ed 0x1200_0a30 data b"\x01",
+    let rows: [(Class, bool, &[u8], u32, u32); 9] = rows!(
+        Accept remote b"" 0x0000_0a30 0x0000_1430,
+        Els remote b"" 0x0400_0a30 0x0400_1430,
+        Fda remote b"" 0x0600_0a30 0x0600_1430,
+        Join remote b"" 0x0800_0a30 0x0800_1430,
+        Leave remote b"" 0x0a00_0a30 0x0a00_1430,
+        Confirm remote b"" 0x0c00_0a30 0x0c00_1430,
+        Tot data b"12345678" 0x0e00_0a30 0x0e00_1430,
+        Rel data b"" 0x1000_0a30 0x1000_1430,
+        Ed data b"\x01" 0x1200_0a30 0x1200_1430,
     );
-    for (class, ident, remote, bytes) in rows {
-        let payload = Payload::of(bytes).ok_or("more than 8 bytes")?;
-        let frame = frame_of(Format::One, ident, remote, payload)?;
-        assert_eq!(rt; frame.class, class);
-        assert_eq!(rt; frame.number, 5);
-        assert_eq!(rt; frame.node.get(), 3);
-        assert_eq!(rt; frame.payload, payload);
-        fits_format_one(&frame);
-        assert_eq!(rt; identifier(Format::One, &frame), ident);
-        assert_eq!(rt;
-            key(Format::One, &frame),
-            2 * u64::from(ident) + u64::from(remote)
-        );
-        assert_eq!(rt;
-            frame_of(Format::One, ident, !remote, payload),
-            Err(FrameFault::Kind)
-        );
+    for (class, remote, bytes, one, two) in rows {
+        assert!(rt; comes_back(Format::One, class, remote, bytes, one)?);
+        assert!(rt; comes_back(Format::Two, class, remote, bytes, two)?);
     }
+    let four = b"\x00\x00\x00\x07";
+    let eight = b"\x80\x00\x00\x00\x00\x00\x00\x07";
+    assert!(rt; comes_back(Format::One, Class::Rha, false, four, 0x0200_0a30)?);
+    assert!(rt; comes_back(Format::Two, Class::Rha, false, eight, 0x0200_1430)?);
     Ok(())
 }
 
@@ -56,7 +71,6 @@ fn identifiers(rt: HostRuntime) -> Result<(), Fail> {
         inc: 0,
         payload: empty,
     };
-    fits_format_one(&accept);
     assert_eq!(rt; identifier(Format::One, &accept), 0x0000_0a30);
     assert_eq!(rt; key(Format::One, &accept), 0x1461);
     let first = Frame {
@@ -66,7 +80,6 @@ fn identifiers(rt: HostRuntime) -> Result<(), Fail> {
         inc: 0,
         payload: empty,
     };
-    fits_format_one(&first);
     assert_eq!(rt; identifier(Format::One, &first), 0x1200_0010);
     assert_eq!(rt; key(Format::One, &first), 0x2400_0020);
     let last = Frame {
@@ -74,8 +87,29 @@ fn identifiers(rt: HostRuntime) -> Result<(), Fail> {
         node: NodeId::new(31).ok_or("no node 31")?,
         ..first
     };
-    fits_format_one(&last);
     assert_eq!(rt; identifier(Format::One, &last), 0x13ff_fff0);
+    Ok(())
+}
+
+#[test]
+fn identifiers_of_the_second_format(rt: HostRuntime) -> Result<(), Fail> {
+    small_numbers_fit(Format::Two);
+    let accept = Frame {
+        class: Class::Accept,
+        number: 5,
+        node: NodeId::new(3).ok_or("no node 3")?,
+        inc: 0,
+        payload: Payload::empty(),
+    };
+    assert_eq!(rt; identifier(Format::Two, &accept), 0x0000_1430);
+    assert_eq!(rt; key(Format::Two, &accept), 0x2861);
+    let last = Frame {
+        class: Class::Ed,
+        number: 32767,
+        node: NodeId::new(63).ok_or("no node 63")?,
+        ..accept
+    };
+    assert_eq!(rt; identifier(Format::Two, &last), 0x13ff_fff0);
     Ok(())
 }
 
@@ -83,6 +117,8 @@ fn identifiers(rt: HostRuntime) -> Result<(), Fail> {
 fn refusals(rt: HostRuntime) -> Result<(), Fail> {
     let empty = Payload::empty();
     let three = Payload::of(b"abc").ok_or("three bytes fit")?;
+    let four = Payload::of(b"abcd").ok_or("four bytes fit")?;
+    let eight = Payload::of(b"abcdefgh").ok_or("eight bytes fit")?;
     let refused = |ident, remote, payload| frame_of(Format::One, ident, remote, payload).err();
     assert_eq!(rt; refused(0x1400_0000, false, empty), Some(FrameFault::Class));
     assert_eq!(rt; refused(0xa31, true, empty), Some(FrameFault::Pad));
@@ -90,6 +126,14 @@ fn refusals(rt: HostRuntime) -> Result<(), Fail> {
     assert_eq!(rt;
         refused(0x0200_0200, false, three),
         Some(FrameFault::Length)
+    );
+    assert_eq!(rt;
+        refused(0x0200_0200, false, eight),
+        Some(FrameFault::Length)
+    );
+    assert_eq!(rt;
+        frame_of(Format::Two, 0x0200_0200, false, four),
+        Err(FrameFault::Length)
     );
     Ok(())
 }

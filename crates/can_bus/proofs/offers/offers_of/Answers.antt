@@ -24,7 +24,7 @@ loop-i-preserved c =
     (sym (state_at c.args.controllers.now c.loop-i.i x (got c.args.controllers.now c.loop-i.i x (omega arith) c.index-controllers-i.is)))
     c.put_offer.ensures.format c.put_offer.ensures.offers c.put_offer.ensures.fits c.put_offer.ensures.in_order
 
-pub returns : goal.returns
-returns c =
+pub returns-clause-offers : goal.returns-clause-offers
+returns-clause-offers c =
     all_offers c.args.format (nodes_of c.args.controllers.now) c.loop-i.i c.loop-i.offers c.loop-i.invariant
     (λ k past. state_past c.args.controllers.now k (omega arith))

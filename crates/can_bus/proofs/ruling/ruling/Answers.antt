@@ -1,5 +1,5 @@
 use Rattle.std.proofs.Common.{◌≡◌, ◌≤◌, ◌+◌, ℕ, min, sym, ap, subst, ◌∙◌, arith}
-use Rattle.cany_base.specs.Limits.{greatest_slots}
+use Rattle.cany_base.specs.Limits.{most_slots}
 use Rattle.cany_model.specs.Bus.Slot.{script}
 use Rattle.can_arbiter.specs.declared.arbitration.Outcome.{Outcome}
 use Rattle.can_fault.specs.Rules.{next_attempt}
@@ -8,7 +8,7 @@ use Rattle.can_bus.specs.Contest.{frame_of}
 use Rattle.can_bus.proofs.ruling.ruling.Goals as goal
 
 -- a count that no run reaches
-counted_low : (count slots : ℕ) → count ≤ slots + 1 → slots ≤ greatest_slots → min count greatest ≡ count
+counted_low : (count slots : ℕ) → count ≤ slots + 1 → slots ≤ most_slots → min count greatest ≡ count
 counted_low count slots low short = omega arith
 
 pub returns-in-Won-clause-ruling : goal.returns-in-Won-clause-ruling

@@ -6,8 +6,8 @@ abbrev pub invariant-loop-low : goal.invariant-loop-low
 invariant-loop-low l = record {
   ordered : l.low ≤ l.high;
   within : l.high ≤ length l.frames;
-  below : AllBelow l.ident (take l.low l.frames);
-  above : AllAbove l.ident (drop l.high l.frames);
+  below : AllBelow l.format l.ident (take l.low l.frames);
+  above : AllAbove l.format l.ident (drop l.high l.frames);
 }
 
 abbrev pub decreases-loop-low : goal.decreases-loop-low

@@ -9,13 +9,13 @@ use Rattle.can_controller.proofs.waiting.Waiting.ask.Goals as goal
 
 pub invariant_of-self : goal.invariant_of-self
 invariant_of-self c =
-    let at : IsPlaceOf (identifier_of c.args.frame) c.in-Ok.place c.self.inside.frames.items = rw (c.as_slice.ensures.value, c.identifier-ident.ensures) at c.in-Ok.ensures.found in
+    let at : IsPlaceOf c.self.inside.format (identifier_of c.self.inside.format c.args.frame) c.in-Ok.place c.self.inside.frames.items = rw (c.as_slice.ensures.value, c.identifier-ident.ensures.value) at c.in-Ok.ensures.found in
     let fits : FitsFormat c.self.inside.format c.args.frame = rw (← c.self.view_is) at c.requires.fits in
     kept-set c.self.inside.format c.self.inside.frames.items c.self.inside.room _ c.in-Ok.place c.args.frame c.self.invariant fits at
 
 pub returns-in-Ok : goal.returns-in-Ok
 returns-in-Ok c =
-    let at : IsPlaceOf (identifier_of c.args.frame) c.in-Ok.place c.self.inside.frames.items = rw (c.as_slice.ensures.value, c.identifier-ident.ensures) at c.in-Ok.ensures.found in
+    let at : IsPlaceOf c.self.inside.format (identifier_of c.self.inside.format c.args.frame) c.in-Ok.place c.self.inside.frames.items = rw (c.as_slice.ensures.value, c.identifier-ident.ensures.value) at c.in-Ok.ensures.found in
     let fits : FitsFormat c.self.inside.format c.args.frame = rw (← c.self.view_is) at c.requires.fits in
     rw (← c.self.view_is)
     (ap (λ (fs : List FrameParts). record { format = c.self.inside.format; frames = fs; room = c.self.inside.room })
@@ -24,7 +24,7 @@ returns-in-Ok c =
 pub invariant_of-self-in-Err : goal.invariant_of-self-in-Err
 invariant_of-self-in-Err c =
     let frames : List FrameParts = c.self.inside.frames.items in
-    let gap : IsGapFor (identifier_of c.args.frame) c.in-Err.place frames = rw (c.as_slice.ensures.value, c.identifier-ident.ensures) at c.in-Err.ensures.absent in
+    let gap : IsGapFor c.self.inside.format (identifier_of c.self.inside.format c.args.frame) c.in-Err.place frames = rw (c.as_slice.ensures.value, c.identifier-ident.ensures.value) at c.in-Err.ensures.absent in
     let fits : FitsFormat c.self.inside.format c.args.frame = rw (← c.self.view_is) at c.requires.fits in
     let has_room : HasRoomFor c.args.frame frames c.self.inside.room = rw (← c.self.view_is) at c.requires.room in
     let spare : length frames < c.self.inside.room = gap_spare c.self.inside.format frames c.self.inside.room c.in-Err.place c.args.frame c.self.invariant.fit fits has_room gap in
@@ -35,7 +35,7 @@ invariant_of-self-in-Err c =
 pub returns-in-Err : goal.returns-in-Err
 returns-in-Err c =
     let frames : List FrameParts = c.self.inside.frames.items in
-    let gap : IsGapFor (identifier_of c.args.frame) c.in-Err.place frames = rw (c.as_slice.ensures.value, c.identifier-ident.ensures) at c.in-Err.ensures.absent in
+    let gap : IsGapFor c.self.inside.format (identifier_of c.self.inside.format c.args.frame) c.in-Err.place frames = rw (c.as_slice.ensures.value, c.identifier-ident.ensures.value) at c.in-Err.ensures.absent in
     let fits : FitsFormat c.self.inside.format c.args.frame = rw (← c.self.view_is) at c.requires.fits in
     let has_room : HasRoomFor c.args.frame frames c.self.inside.room = rw (← c.self.view_is) at c.requires.room in
     let spare : length frames < c.self.inside.room = gap_spare c.self.inside.format frames c.self.inside.room c.in-Err.place c.args.frame c.self.invariant.fit fits has_room gap in

@@ -13,4 +13,4 @@ returns-clause-least c =
 pub returns-clause-least_key : goal.returns-clause-least_key
 returns-clause-least_key c =
     rw (← c.self.view_is, c.copied.ensures, c.first.ensures.value, c.deref.ensures.value)
-    (head_has_least_key c.self.inside.frames.items c.self.invariant.ascending)
+    (head_has_least_key c.self.inside.format c.self.inside.frames.items c.self.invariant.ascending)

@@ -8,7 +8,7 @@ pub returns-clause-by_identifier : goal.returns-clause-by_identifier
 returns-clause-by_identifier c =
     rw (← c.self.view_is)
     (c.is_ok.ensures.value
-    ∙ found_waits c.args.ident c.self.inside.frames.items c.find.result (rw c.as_slice.ensures.value at c.find.ensures.found) (rw c.as_slice.ensures.value at c.find.ensures.absent))
+    ∙ found_waits c.self.inside.format c.args.ident c.self.inside.frames.items c.find.result (rw c.as_slice.ensures.value at c.find.ensures.found) (rw c.as_slice.ensures.value at c.find.ensures.absent))
 
 pub returns-clause-by_identity : goal.returns-clause-by_identity
 returns-clause-by_identity c = λ f fits same.

@@ -9,15 +9,15 @@ use Rattle.can_controller.proofs.waiting.Waiting.withdraw.Goals as goal
 
 pub invariant_of-self : goal.invariant_of-self
 invariant_of-self c =
-    let at : IsPlaceOf c.args.ident c.in-Ok.place c.self.inside.frames.items = rw c.as_slice.ensures.value at c.in-Ok.ensures.found in
+    let at : IsPlaceOf c.self.inside.format c.args.ident c.in-Ok.place c.self.inside.frames.items = rw c.as_slice.ensures.value at c.in-Ok.ensures.found in
     rw (c.remove.ensures.items, c.remove.ensures.capacity) (kept-remove c.self.inside.format c.self.inside.frames.items c.self.inside.room _ c.args.ident c.in-Ok.place c.self.invariant at)
 
 pub returns-in-Ok-clause-by_identifier : goal.returns-in-Ok-clause-by_identifier
 returns-in-Ok-clause-by_identifier c =
-    let at : IsPlaceOf c.args.ident c.in-Ok.place c.self.inside.frames.items = rw c.as_slice.ensures.value at c.in-Ok.ensures.found in
+    let at : IsPlaceOf c.self.inside.format c.args.ident c.in-Ok.place c.self.inside.frames.items = rw c.as_slice.ensures.value at c.in-Ok.ensures.found in
     rw (← c.self.view_is)
     (ap (λ (fs : List FrameParts). record { format = c.self.inside.format; frames = fs; room = c.self.inside.room })
-    (c.remove.ensures.items ∙ sym (place_removed c.args.ident c.self.inside.frames.items c.in-Ok.place c.self.invariant.ascending at)))
+    (c.remove.ensures.items ∙ sym (place_removed c.self.inside.format c.args.ident c.self.inside.frames.items c.in-Ok.place c.self.invariant.ascending at)))
 
 pub returns-in-Ok-clause-by_identity : goal.returns-in-Ok-clause-by_identity
 returns-in-Ok-clause-by_identity c = λ f fits same.
@@ -26,10 +26,10 @@ returns-in-Ok-clause-by_identity c = λ f fits same.
 
 pub returns-in_default-clause-by_identifier : goal.returns-in_default-clause-by_identifier
 returns-in_default-clause-by_identifier c =
-    let gap : IsGapFor c.args.ident c.in_default.field-0 c.self.inside.frames.items = rw c.as_slice.ensures.value at c.in_default.ensures.absent in
+    let gap : IsGapFor c.self.inside.format c.args.ident c.in_default.field-0 c.self.inside.frames.items = rw c.as_slice.ensures.value at c.in_default.ensures.absent in
     rw (← c.self.view_is)
     (ap (λ (fs : List FrameParts). record { format = c.self.inside.format; frames = fs; room = c.self.inside.room })
-    (sym (gap_kept c.args.ident c.in_default.field-0 c.self.inside.frames.items gap)))
+    (sym (gap_kept c.self.inside.format c.args.ident c.in_default.field-0 c.self.inside.frames.items gap)))
 
 pub returns-in_default-clause-by_identity : goal.returns-in_default-clause-by_identity
 returns-in_default-clause-by_identity c = λ f fits same.

@@ -1,0 +1,23 @@
+use Rattle.std.proofs.Common.{◌≡◌, Ok, refl, ap, subst, arith, rules}
+use Rattle.cany_base.specs.Frame.{FrameParts}
+use Rattle.can_frame.specs.Decoding.{IsFrameOf}
+use Rattle.can_frame.proofs.DecodingFacts.{made, one_frame}
+use Rattle.can_frame.proofs.decoding.frame_of.Goals as goal
+
+pub returns-clause-frame : goal.returns-clause-frame
+returns-clause-frame c =
+    let frame : FrameParts = record {
+      class = c.in-Some.class;
+      number = c.take_fields-number.result.0;
+      node = c.take_fields-number.result.1;
+      inc = 0;
+      payload = c.args.payload;
+    } in
+    let is_frame : IsFrameOf c.args.format c.args.ident c.args.remote c.args.payload frame =
+    made c.args.format c.args.ident c.args.remote frame refl
+    (search rules) (omega arith) (search rules) (search rules)
+    (c.take_fields-number.ensures.number, c.take_fields-number.ensures.node) in
+    λ f. (
+      (λ e. let same : frame ≡ f = cc in subst (IsFrameOf c.args.format c.args.ident c.args.remote c.args.payload) same is_frame),
+      (λ h. ap Ok (one_frame c.args.format c.args.ident c.args.remote c.args.payload frame f is_frame h)),
+    )
