@@ -4,20 +4,24 @@ use Rattle.std.specs.List.{list_any}
 use Rattle.std.proofs.Common.{◌≡◌, ℕ, ◌+◌, ◌<◌, ◌==◌, ◌&&◌, ◌||◌, Bool, true, false, if◌then◌else◌, not, List, [], ◌∷◌, ◌++◌, refl, ap, sym, ◌∙◌, subst, arith}
 use Rattle.cany_base.specs.declared.actions.Action.{Action}
 use Rattle.cany_base.specs.declared.frame.Class.TheVariants as class
+use Rattle.cany_base.specs.declared.frame.Format.{Format}
 use Rattle.cany_base.specs.declared.message.Service.TheVariants as service
 use Rattle.cany_base.specs.declared.notice.Notice.{Notice}
 use Rattle.cany_base.specs.declared.notice.NoticeKind.{NoticeKind}
 use Rattle.cany_base.specs.declared.notice.NoticeKind.TheVariants.{Idle, Got, Sent, Bad}
 use Rattle.cany_base.specs.Frame.{FrameParts}
 use Rattle.cany_base.specs.Scenario.{ScenarioParts}
+use Rattle.cany_base.proofs.ParamsFacts.{few_slots}
 use Rattle.cany_diffuse.specs.declared.learnt.Learnt.TheVariants.{First, Again, Enough}
 use Rattle.cany_diffuse.specs.Eager.{copies_of, is_owned, learnt_of, IsLearnt, IsOwned}
 use Rattle.cany_message.specs.Actions.{delivery_actions}
-use Rattle.cany_message.specs.Numbers.{frame_number, origins}
+use Rattle.cany_base.specs.Limits.{most_nodes}
+use Rattle.can_frame.specs.Identifier.{HasSmallNumbers}
+use Rattle.cany_message.specs.Numbers.{frame_number}
 use Rattle.cany_message.specs.Table.{CanTake, frame_identity}
 use Rattle.cany_message.proofs.DeliveryFacts.{both_actions, delivery_got, delivery_sent, no_actions}
 use Rattle.cany_message.proofs.HistoryFacts.{brought, has_own-more, identity_is}
-use Rattle.cany_message.proofs.NoticeFacts.{got_names, sent_names}
+use Rattle.cany_message.proofs.NoticeFacts.{got_names, got_small, sent_names}
 use Rattle.cany_message.proofs.TableFacts.{IsOther, can_take, table_got, table_other, table_sent}
 use Rattle.cany_model.specs.Bus.Frames.{identity_of, same_class}
 use Rattle.cany_model.specs.Bus.History.{copies, has_own}
@@ -54,22 +58,26 @@ takes_sent v notice f reads kind is =
     can_take reads.scenario class.Ed of_all service.Ed reads.past v.copies f reads.stands.copies
     (sent_names reads.scenario reads.past notice f reads.next service.Ed kind (same_class-true f.class class.Ed is))
 
+-- a copy that is read has small numbers
+pub small_copy : (v : EdcanParts) (notice : Notice) (f : FrameParts) → CanRead v notice → notice.kind ≡ Got f → HasSmallNumbers v.format f
+small_copy v notice f reads kind = rw reads.stands.format (got_small reads.scenario reads.past notice f reads.next reads.stands.legal kind)
+
 held : (before own more : Bool) → (before || (own && more)) ≡ (before || (own && (before || (true && more))))
 held true own more = refl
 held false own more = refl
 
-relays : (omit c : ℕ) (own : Bool) (f : FrameParts)
-    → actions_of (if nat_le (omit + 1) c then Withdraw (identity_of f) ∷ [] else if c == 1 && not own then Ask f ∷ [] else []) ≡ relay_actions (learnt_of omit c own) f
-relays omit c own f = go (nat_le (omit + 1) c) (c == 1 && not own)
+relays : (format : Format) (omit c : ℕ) (own : Bool) (f : FrameParts)
+    → actions_of format (if nat_le (omit + 1) c then Withdraw (identity_of f) ∷ [] else if c == 1 && not own then Ask f ∷ [] else []) ≡ relay_actions format (learnt_of omit c own) f
+relays format omit c own f = go (nat_le (omit + 1) c) (c == 1 && not own)
   where
-    go : (t u : Bool) → actions_of (if t then Withdraw (identity_of f) ∷ [] else if u then Ask f ∷ [] else [])
-        ≡ relay_actions (if t then Enough c else if u then First else Again c) f
+    go : (t u : Bool) → actions_of format (if t then Withdraw (identity_of f) ∷ [] else if u then Ask f ∷ [] else [])
+        ≡ relay_actions format (if t then Enough c else if u then First else Again c) f
     go true u = refl
     go false true = refl
     go false false = refl
 
 module _ (scenario : ScenarioParts) (past : List NoticeKind) (v w : EdcanParts) (notice : Notice) (f : FrameParts) (h : IsEdcanOf scenario v.node past v)
-    (next : IsNextNotice scenario past notice) (is : same_class f.class class.Ed ≡ true) (small : f.node < origins) where
+    (next : IsNextNotice scenario past notice) (is : same_class f.class class.Ed ≡ true) (small : f.node < most_nodes) where
   ed : f.class ≡ class.Ed
   ed = same_class-true f.class class.Ed is
 
@@ -81,46 +89,48 @@ module _ (scenario : ScenarioParts) (past : List NoticeKind) (v w : EdcanParts) 
       ∙ (rw (h.copies.copies f.number f.node small, h.copies.owned f.number f.node small)
       (held (nat_lt 0 (copies (frame_identity class.Ed f.number f.node) past)) (f.node == v.node) (has_own (frame_identity class.Ed f.number f.node) past)))
 
-  pub got_stands : notice.kind ≡ Got f → IsLearnt (frame_number f) v.copies w.copies → w.node ≡ v.node → IsEdcanOf scenario v.node (notice.kind ∷ past) w
-  got_stands kind learnt node = rw kind (record {
+  pub got_stands : notice.kind ≡ Got f → IsLearnt (frame_number f) v.copies w.copies → w ≡ record v { copies = w.copies } → IsEdcanOf scenario v.node (notice.kind ∷ past) w
+  got_stands kind learnt state = rw kind (record {
     legal = h.legal;
-    node = node;
+    node = ap (λ (x : EdcanParts). x.node) state;
+    format = ap (λ (x : EdcanParts). x.format) state ∙ h.format;
     copies = table_got scenario class.Ed of_all service.Ed f ed small (got_names scenario past notice f next service.Ed kind ed) past v.copies w.copies h.copies
-        (omega (arith, next.slot, next.within, h.legal.in_range.slots)) learnt;
+        (omega (arith, next.slot, next.within, few_slots scenario.params h.legal.in_range)) learnt;
   })
 
-  pub sent_stands : notice.kind ≡ Sent f → IsOwned (frame_number f) v.copies w.copies → w.node ≡ v.node → IsEdcanOf scenario v.node (notice.kind ∷ past) w
-  sent_stands kind owned node = rw kind (record {
+  pub sent_stands : notice.kind ≡ Sent f → IsOwned (frame_number f) v.copies w.copies → w ≡ record v { copies = w.copies } → IsEdcanOf scenario v.node (notice.kind ∷ past) w
+  sent_stands kind owned state = rw kind (record {
     legal = h.legal;
-    node = node;
+    node = ap (λ (x : EdcanParts). x.node) state;
+    format = ap (λ (x : EdcanParts). x.format) state ∙ h.format;
     copies = table_sent scenario class.Ed of_all service.Ed f ed small (sent_names scenario past notice f next service.Ed kind ed) past v.copies w.copies h.copies refl owned;
   })
 
-  relay_is : IsEdcanOf scenario v.node (Got f ∷ past) w → actions_of (eager_effects scenario.params.omit f (Got f ∷ past))
-      ≡ relay_actions (learnt_of v.copies.omit (copies_of w.copies (frame_number f)) (is_owned v.copies (frame_number f))) f
+  relay_is : IsEdcanOf scenario v.node (Got f ∷ past) w → actions_of scenario.params.format (eager_effects scenario.params.omit f (Got f ∷ past))
+      ≡ relay_actions scenario.params.format (learnt_of v.copies.omit (copies_of w.copies (frame_number f)) (is_owned v.copies (frame_number f))) f
   unfolding eager_effects
   relay_is after =
-      relays scenario.params.omit (copies (identity_of f) (Got f ∷ past)) (has_own (identity_of f) (Got f ∷ past)) f
-      ∙ ap (λ x. relay_actions (learnt_of scenario.params.omit (copies x (Got f ∷ past)) (has_own x (Got f ∷ past))) f) (identity_is class.Ed f ed)
+      relays scenario.params.format scenario.params.omit (copies (identity_of f) (Got f ∷ past)) (has_own (identity_of f) (Got f ∷ past)) f
+      ∙ ap (λ x. relay_actions scenario.params.format (learnt_of scenario.params.omit (copies x (Got f ∷ past)) (has_own x (Got f ∷ past))) f) (identity_is class.Ed f ed)
       ∙ (rw (has_own-more (frame_identity class.Ed f.number f.node) (Got f) past, after.copies.copies f.number f.node small, h.copies.owned f.number f.node small, h.copies.omit) refl)
 
   pub got_acts : (before after : List Action) → notice.kind ≡ Got f → IsEdcanOf scenario v.node (notice.kind ∷ past) w
-      → after ≡ (before ++ delivery_actions service.Ed notice.slot (not (was_delivered v f)) f) ++ relay_actions (learnt_of v.copies.omit (copies_of w.copies (frame_number f)) (is_owned v.copies (frame_number f))) f
-      → after ≡ before ++ actions_of (edcan_effects scenario v.node (notice.kind ∷ past))
+      → after ≡ (before ++ delivery_actions service.Ed notice.slot (not (was_delivered v f)) f) ++ relay_actions v.format (learnt_of v.copies.omit (copies_of w.copies (frame_number f)) (is_owned v.copies (frame_number f))) f
+      → after ≡ before ++ actions_of scenario.params.format (edcan_effects scenario v.node (notice.kind ∷ past))
   unfolding edcan_effects edcan_at
   got_acts before after kind stands acts =
       let stood : IsEdcanOf scenario v.node (Got f ∷ past) w = rw kind at stands in
       rw (kind, is)
-      ((rw next.slot at acts)
-      ∙ both_actions before (delivery_effects service.Ed v.node f (Got f) past) (eager_effects scenario.params.omit f (Got f ∷ past)) _ _
-      (delivery_got service.Ed v.node past f (was_delivered v f) delivered_is) (relay_is stood))
+      ((rw (next.slot, h.format) at acts)
+      ∙ both_actions scenario.params.format before (delivery_effects service.Ed v.node f (Got f) past) (eager_effects scenario.params.omit f (Got f ∷ past)) _ _
+      (delivery_got scenario.params.format service.Ed v.node past f (was_delivered v f) delivered_is) (relay_is stood))
 
   pub sent_acts : (before after : List Action) → notice.kind ≡ Sent f → after ≡ before ++ delivery_actions service.Ed notice.slot (f.node == v.node && not (was_delivered v f)) f
-      → after ≡ before ++ actions_of (edcan_effects scenario v.node (notice.kind ∷ past))
+      → after ≡ before ++ actions_of scenario.params.format (edcan_effects scenario v.node (notice.kind ∷ past))
   unfolding edcan_effects edcan_at
   sent_acts before after kind acts =
       rw (kind, is)
-      ((rw next.slot at acts) ∙ ap (λ actions. before ++ actions) (sym (delivery_sent service.Ed v.node past f (was_delivered v f) delivered_is)))
+      ((rw next.slot at acts) ∙ ap (λ actions. before ++ actions) (sym (delivery_sent scenario.params.format service.Ed v.node past f (was_delivered v f) delivered_is)))
 
 -- ---- notices that are nothing to EDCAN
 
@@ -136,12 +146,12 @@ none_at omit i (Sent f) past other = both (same_class f.class class.Ed) other
     both false h = refl
 
 module _ (scenario : ScenarioParts) (i : ℕ) (past : List NoticeKind) (notice kind : NoticeKind) (is : notice ≡ kind) (other : IsOther class.Ed of_all kind) where
-  pub other_acts : (before : List Action) → before ≡ before ++ actions_of (edcan_effects scenario i (notice ∷ past))
+  pub other_acts : (before : List Action) → before ≡ before ++ actions_of scenario.params.format (edcan_effects scenario i (notice ∷ past))
   unfolding edcan_effects
-  other_acts before = rw is (no_actions before (edcan_at scenario.params.omit i kind past) (none_at scenario.params.omit i kind past other))
+  other_acts before = rw is (no_actions scenario.params.format before (edcan_at scenario.params.omit i kind past) (none_at scenario.params.omit i kind past other))
 
   pub other_stands : (v : EdcanParts) → IsEdcanOf scenario i past v → IsEdcanOf scenario i (notice ∷ past) v
-  other_stands v h = rw is (record { legal = h.legal; node = h.node; copies = table_other scenario class.Ed of_all kind past v.copies other h.copies })
+  other_stands v h = rw is (record { legal = h.legal; node = h.node; format = h.format; copies = table_other scenario class.Ed of_all kind past v.copies other h.copies })
 
 -- a transmission of another class
 pub sent_other : (f : FrameParts) → same_class f.class class.Ed ≡ false → IsOther class.Ed of_all (Sent f)

@@ -1,6 +1,7 @@
 -- What an EDCAN value stands for.
 use Rattle.std.specs.Prelude.{◌≡◌, ℕ, Bool, true, List}
 use Rattle.cany_base.specs.declared.frame.Class.TheVariants.{Ed}
+use Rattle.cany_base.specs.declared.frame.Format.{Format}
 use Rattle.cany_base.specs.declared.notice.Notice.{Notice}
 use Rattle.cany_base.specs.declared.notice.NoticeKind.{NoticeKind}
 use Rattle.cany_base.specs.Scenario.{ScenarioParts, IsLegalScenario}
@@ -8,9 +9,10 @@ use Rattle.cany_diffuse.specs.Eager.{EagerParts}
 use Rattle.cany_message.specs.Table.{IsTableOf}
 use Rattle.cany_model.specs.Rules.Notices.{IsNextNotice}
 
--- the node, and the copies of data frames
+-- the node, the format of identifiers, and the copies of data frames
 pub record EdcanParts : Type 0 where
   pub node : ℕ
+  pub format : Format
   pub copies : EagerParts
 
 -- the node's own transmissions are noted of all messages, for it relays those of others
@@ -18,10 +20,12 @@ abbrev pub of_all : ℕ → Bool
 of_all origin = true
 
 -- The value is that of node i after these notices, newest first: it has of each data frame the copies and the node's own
--- transmission that stand in them, and room for each message of the scenario.
+-- transmission that stand in them, and room for each message of the scenario. Its identifiers are those of the scenario's
+-- format.
 pub record IsEdcanOf (scenario : ScenarioParts) (i : ℕ) (past : List NoticeKind) (v : EdcanParts) : Type 0 where
   pub legal : IsLegalScenario scenario
   pub node : v.node ≡ i
+  pub format : v.format ≡ scenario.params.format
   pub copies : IsTableOf scenario Ed of_all past v.copies
 
 -- there are notices that the value stands for, and this one can come after them

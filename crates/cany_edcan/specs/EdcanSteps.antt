@@ -2,6 +2,7 @@
 use Rattle.std.specs.Prelude.{◌==◌, ◌&&◌, ◌||◌, Bool, true, nat_lt, List, [], ◌∷◌}
 use Rattle.cany_base.specs.declared.actions.Action.{Action}
 use Rattle.cany_base.specs.declared.actions.Action.TheVariants.{Ask}
+use Rattle.cany_base.specs.declared.frame.Format.{Format}
 use Rattle.cany_base.specs.Frame.{FrameParts}
 use Rattle.cany_diffuse.specs.declared.learnt.Learnt.{Learnt}
 use Rattle.cany_diffuse.specs.declared.learnt.Learnt.TheVariants.{First, Again, Enough}
@@ -15,7 +16,7 @@ abbrev pub was_delivered : EdcanParts → FrameParts → Bool
 was_delivered v f = nat_lt 0 (copies_of v.copies (frame_number f)) || (f.node == v.node && is_held v.copies (frame_number f))
 
 -- what the node does with the frame for what its copy calls for
-abbrev pub relay_actions : Learnt → FrameParts → List Action
-relay_actions First f = Ask f ∷ []
-relay_actions (Again copies) f = []
-relay_actions (Enough copies) f = withdraw_actions true f
+abbrev pub relay_actions : Format → Learnt → FrameParts → List Action
+relay_actions format First f = Ask f ∷ []
+relay_actions format (Again copies) f = []
+relay_actions format (Enough copies) f = withdraw_actions format true f

@@ -8,7 +8,9 @@ ghost use Rattle.cany_base.specs.Frame.{FrameParts};
 ghost use Rattle.cany_base.specs.Scenario.{ScenarioParts};
 ghost use Rattle.cany_diffuse.specs.Eager.{copies_of, is_owned, learnt_of, IsCounted, IsLearnt, IsOwned};
 ghost use Rattle.cany_message.specs.Actions.{delivery_actions};
-ghost use Rattle.cany_message.specs.Numbers.{frame_number, origins};
+ghost use Rattle.cany_base.specs.Limits.{most_nodes};
+ghost use Rattle.can_frame.specs.Identifier.{HasSmallNumbers};
+ghost use Rattle.cany_message.specs.Numbers.{frame_number};
 ghost use Rattle.cany_message.specs.Table.{CanTake};
 ghost use Rattle.cany_model.specs.Rules.Actions.{actions_of};
 ghost use Rattle.cany_model.specs.Rules.Edcan.{edcan_effects};
@@ -18,8 +20,8 @@ ghost use Rattle.cany_edcan.specs.EdcanSteps.{was_delivered, relay_actions};
 
 use crate::data::{Data, is_data};
 use cany_base::{
-    Action, Actions, Frame, Memory, MsgKey, NodeId, Notice, NoticeKind, Payload, Scenario, Service,
-    Slot,
+    Action, Actions, Format, Frame, Memory, MsgKey, NodeId, Notice, NoticeKind, Payload, Scenario,
+    Service, Slot,
 };
 use cany_diffuse::{Diffused, Eager, Learnt};
 use cany_message::{deliver, withdraw};
@@ -33,6 +35,8 @@ use std::marker::Model;
 #[derive(Drop)]
 pub struct Edcan {
     node: NodeId,
+    /// The scenario's, in which a withdrawal names its frame.
+    format: Format,
     copies: Eager<Data>,
 }
 
@@ -41,7 +45,7 @@ impl Model for Edcan {
 
     ghost Value = { EdcanParts };
 
-    ghost view = { λ e. record { node = e.node; copies = e.copies } };
+    ghost view = { λ e. record { node = e.node; format = e.format; copies = e.copies } };
 }
 
 impl Edcan {
@@ -50,9 +54,13 @@ impl Edcan {
         requires { node < scenario.now.params.nodes }
         ensures { IfOk result (λ edcan. (n : ℕ) → IsEdcanOf scenario.now node (replicate n Idle) edcan) }
     {
-        let omit = scenario.params().omit;
-        let copies = Eager::build(alloc, omit, scenario.sends().len())?;
-        Ok(Edcan { node, copies })
+        let params = *scenario.params();
+        let copies = Eager::build(alloc, params.omit, scenario.sends().len())?;
+        Ok(Edcan {
+            node,
+            format: params.format,
+            copies,
+        })
     }
 
     /// The node, which is the origin, sends the message: it asks for its data frame.
@@ -73,7 +81,7 @@ impl Edcan {
         requires reads { CanRead self.old notice.now }
         requires room { length out.old.items + 2 ≤ out.old.room }
         ensures actions { (scenario : ScenarioParts) (past : List NoticeKind) → IsEdcanOf scenario self.old.node past self.old → IsNextNotice scenario past notice.now
-            → out.new.items ≡ out.old.items ++ actions_of (edcan_effects scenario self.old.node (notice.now.kind ∷ past)) }
+            → out.new.items ≡ out.old.items ++ actions_of scenario.params.format (edcan_effects scenario self.old.node (notice.now.kind ∷ past)) }
         ensures stands { (scenario : ScenarioParts) (past : List NoticeKind) → IsEdcanOf scenario self.old.node past self.old → IsNextNotice scenario past notice.now
             → IsEdcanOf scenario self.old.node (notice.now.kind ∷ past) self.new }
         ensures few { length out.new.items ≤ length out.old.items + 2 }
@@ -97,20 +105,21 @@ impl Edcan {
 
     /// A copy of a data frame: the message is delivered if none was before, and the frame is relayed.
     fn on_copy(&mut self, slot: Slot, frame: &Frame, out: &mut Actions)
+        requires small { HasSmallNumbers self.old.format frame.now }
         requires takes { CanTake (frame_number frame.now) self.old.copies }
         requires room { length out.old.items + 2 ≤ out.old.room }
         ensures learnt { IsLearnt (frame_number frame.now) self.old.copies self.new.copies }
-        ensures node { self.new.node ≡ self.old.node }
-        ensures in_range { frame.now.node < origins }
+        ensures state { self.new ≡ record self.old { copies = self.new.copies } }
+        ensures in_range { frame.now.node < most_nodes }
         ensures actions { let learnt = learnt_of self.old.copies.omit (copies_of self.new.copies (frame_number frame.now)) (is_owned self.old.copies (frame_number frame.now)) in
-            out.new.items ≡ (out.old.items ++ delivery_actions service.Ed slot (not (was_delivered self.old frame.now)) frame.now) ++ relay_actions learnt frame.now }
+            out.new.items ≡ (out.old.items ++ delivery_actions service.Ed slot (not (was_delivered self.old frame.now)) frame.now) ++ relay_actions self.old.format learnt frame.now }
         ensures few { length out.new.items ≤ length out.old.items + 2 }
         ensures room { out.new.room ≡ out.old.room }
     {
         let is_new = !self.was_delivered(frame);
         deliver(Service::Ed, slot, frame, is_new, out);
         let learnt = self.copies.learn(Data::of(frame));
-        relay(&learnt, frame, out);
+        relay(self.format, &learnt, frame, out);
     }
 
     /// The node's own transmission of a data frame: the message is delivered if the node is its origin and none was before.
@@ -118,8 +127,8 @@ impl Edcan {
         requires takes { CanTake (frame_number frame.now) self.old.copies }
         requires room { length out.old.items + 2 ≤ out.old.room }
         ensures owned { IsOwned (frame_number frame.now) self.old.copies self.new.copies }
-        ensures node { self.new.node ≡ self.old.node }
-        ensures in_range { frame.now.node < origins }
+        ensures state { self.new ≡ record self.old { copies = self.new.copies } }
+        ensures in_range { frame.now.node < most_nodes }
         ensures actions { let delivers = frame.now.node == self.old.node && not (was_delivered self.old frame.now) in
             out.new.items ≡ out.old.items ++ delivery_actions service.Ed slot delivers frame.now }
         ensures few { length out.new.items ≤ length out.old.items + 1 }
@@ -134,7 +143,7 @@ impl Edcan {
     /// Whether the message of a data frame was delivered: the node got a copy, or it is the origin and has sent the frame.
     fn was_delivered(&self, frame: &Frame) -> bool
         ensures delivered { result ≡ was_delivered self.now frame.now }
-        ensures in_range { frame.now.node < origins }
+        ensures in_range { frame.now.node < most_nodes }
         ensures counted { IsCounted self.now.copies }
     {
         let data = Data::of(frame);
@@ -145,15 +154,16 @@ impl Edcan {
 }
 
 /// Asks for a data frame, withdraws it or does nothing, as its copy calls for.
-fn relay(learnt: &Learnt, frame: &Frame, out: &mut Actions)
-    requires { length out.old.items < out.old.room }
-    ensures actions { out.new.items ≡ out.old.items ++ relay_actions learnt.now frame.now }
+fn relay(format: Format, learnt: &Learnt, frame: &Frame, out: &mut Actions)
+    requires small { HasSmallNumbers format frame.now }
+    requires room { length out.old.items < out.old.room }
+    ensures actions { out.new.items ≡ out.old.items ++ relay_actions format learnt.now frame.now }
     ensures few { length out.new.items ≤ length out.old.items + 1 }
     ensures room { out.new.room ≡ out.old.room }
 {
     match learnt {
         Learnt::First => out.push(Action::Ask(*frame)),
         Learnt::Again { .. } => {}
-        Learnt::Enough { .. } => withdraw(frame, true, out),
+        Learnt::Enough { .. } => withdraw(format, frame, true, out),
     }
 }

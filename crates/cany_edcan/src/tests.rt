@@ -1,39 +1,49 @@
-ghost use Rattle.std.specs.Prelude.{◌≡◌, ◌+◌, ◌<◌, ◌≤◌, [], ◌∷◌, length, IfOk};
+ghost use Rattle.std.specs.Prelude.{◌≡◌, ◌+◌, ◌<◌, ◌≤◌, All, length, IfOk};
 ghost use Rattle.cany_base.specs.declared.frame.Class.TheVariants as class;
 ghost use Rattle.cany_base.specs.declared.message.Service.TheVariants.{Ed};
+ghost use Rattle.cany_base.specs.Params.{IsInRange, MeetsFormulas};
+ghost use Rattle.cany_base.specs.Scenario.{IsSendOf};
 ghost use Rattle.cany_model.specs.Rules.Notices.{IsDataOf};
 
 use crate::edcan::Edcan;
 use cany_base::{
-    Action, Actions, Class, Frame, LogEntry, Memory, MsgKey, NodeId, NodeSet, Notice, NoticeKind,
-    Params, Payload, Scenario, SendAsk, Service,
+    Action, Actions, Class, Format, Frame, LogEntry, Memory, MsgKey, NodeId, NodeSet, Notice,
+    NoticeKind, Params, Payload, Scenario, SendAsk, Service,
 };
 use std::alloc::Global;
 use std::test::Fail;
 
-/// Three nodes, of which one sends the payload by EDCAN in slot 0.
-fn one_send(alloc: Global, node: NodeId, payload: Payload) -> Result<Scenario, Memory>
-    requires { node < 3 }
-    ensures nodes { IfOk result (λ s. s.params.nodes ≡ 3) }
-    ensures slots { IfOk result (λ s. s.params.slots ≡ 100) }
-    ensures sends { IfOk result (λ s. s.sends ≡ record { slot = 0; node = node; service = Ed; payload = payload } ∷ []) }
+/// A scenario without faults, in which all nodes are members.
+fn scenario_of(alloc: Global, params: Params, sends: &[SendAsk]) -> Result<Scenario, Memory>
+    requires ranges { IsInRange params }
+    requires formulas { MeetsFormulas params }
+    requires sends { All (IsSendOf params) sends.now }
+    requires few { length sends.now ≤ 2 }
+    ensures params { IfOk result (λ s. s.params ≡ params) }
+    ensures sends { IfOk result (λ s. s.sends ≡ sends.now) }
 {
-    let send = SendAsk {
-        slot: 0,
-        node,
-        service: Service::Ed,
-        payload,
-    };
-    let sends = Vec::from_slice(alloc, &[send])?;
+    let sends = Vec::from_slice(alloc, sends)?;
     Ok(Scenario::of_parts(
-        Params::with_defaults(3, 100),
-        NodeSet::all(3),
+        params,
+        NodeSet::all(params.nodes),
         sends,
         Vec::new(alloc),
         Vec::new(alloc),
         Vec::new(alloc),
         None,
     ))
+}
+
+/// A send of the payload by EDCAN in slot 0.
+fn send_of(node: NodeId, payload: Payload) -> SendAsk
+    ensures { result ≡ record { slot = 0; node = node; service = Ed; payload = payload } }
+{
+    SendAsk {
+        slot: 0,
+        node,
+        service: Service::Ed,
+        payload,
+    }
 }
 
 /// Node 1 reads the frame in the slots 3 and 4.
@@ -44,8 +54,8 @@ fn read_twice(
     first: &mut Actions,
     second: &mut Actions,
 ) -> Result<(), Memory>
-    requires nodes { scenario.now.params.nodes ≡ 3 }
-    requires slots { scenario.now.params.slots ≡ 100 }
+    requires nodes { 1 < scenario.now.params.nodes }
+    requires slots { 4 < scenario.now.params.slots }
     requires carries { IsDataOf scenario.now Ed frame.now }
     requires class { frame.now.class ≡ class.Ed }
     requires first { length first.old.items + 2 ≤ first.old.room }
@@ -72,9 +82,10 @@ fn read_twice(
 
 #[test]
 fn a_copy_is_delivered_and_relayed(rt: HostRuntime) -> Result<(), Fail> {
-    let node = NodeId::new(2).ok_or("a node below 32")?;
+    let node = NodeId::new(2).ok_or("a node")?;
     let payload = Payload::of(&[7]).ok_or("at most eight bytes")?;
-    let scenario = one_send(rt.alloc(), node, payload)?;
+    let params = Params::with_defaults(3, 100);
+    let scenario = scenario_of(rt.alloc(), params, &[send_of(node, payload)])?;
     let frame = Frame {
         class: Class::Ed,
         number: 0,
@@ -103,10 +114,37 @@ fn a_copy_is_delivered_and_relayed(rt: HostRuntime) -> Result<(), Fail> {
 }
 
 #[test]
-fn a_message_is_asked_for(rt: HostRuntime) -> Result<(), Fail> {
-    let node = NodeId::new(2).ok_or("a node below 32")?;
+fn a_withdrawal_names_the_identifier_of_the_second_format(rt: HostRuntime) -> Result<(), Fail> {
+    let node = NodeId::new(40).ok_or("a node")?;
     let payload = Payload::of(&[7]).ok_or("at most eight bytes")?;
-    let scenario = one_send(rt.alloc(), node, payload)?;
+    let params = Params::with_defaults_of(Format::Two, 41, 100);
+    let sends = [send_of(node, payload), send_of(node, payload)];
+    let scenario = scenario_of(rt.alloc(), params, &sends)?;
+    let frame = Frame {
+        class: Class::Ed,
+        number: 1,
+        node,
+        inc: 0,
+        payload,
+    };
+    let mut first = Actions::build(rt.alloc(), 2)?;
+    let mut second = Actions::build(rt.alloc(), 2)?;
+    read_twice(rt.alloc(), &scenario, &frame, &mut first, &mut second)?;
+    assert_eq!(rt; first.len(), 2);
+    // Class 9 at bit 25, number 1 at bit 10, node 40 at bit 4.
+    assert_eq!(rt;
+        second.as_slice(),
+        [Action::Withdraw { ident: 301_991_552 }].as_slice()
+    );
+    Ok(())
+}
+
+#[test]
+fn a_message_is_asked_for(rt: HostRuntime) -> Result<(), Fail> {
+    let node = NodeId::new(2).ok_or("a node")?;
+    let payload = Payload::of(&[7]).ok_or("at most eight bytes")?;
+    let params = Params::with_defaults(3, 100);
+    let scenario = scenario_of(rt.alloc(), params, &[send_of(node, payload)])?;
     let mut edcan = Edcan::build(rt.alloc(), node, &scenario)?;
     let mut out = Actions::build(rt.alloc(), 2)?;
     let msg = MsgKey {

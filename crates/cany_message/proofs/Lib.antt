@@ -1,8 +1,8 @@
 pub mod DeliveryFacts
+pub mod FewSendsFacts
 pub mod HistoryFacts
 pub mod KeyFacts
 pub mod NoticeFacts
 pub mod NumberFacts
-pub mod OneSendFacts
 pub mod SequenceFacts
 pub mod TableFacts

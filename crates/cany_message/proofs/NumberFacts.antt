@@ -10,17 +10,18 @@ use Rattle.cany_diffuse.proofs.RoomFacts.{room_within}
 use Rattle.cany_model.specs.Rules.Messages.{Message, messages_of}
 use Rattle.cany_model.specs.Rules.Notices.{NamesMessage}
 use Rattle.cany_model.proofs.Among.{Among, Among-from_Contains}
+use Rattle.cany_base.specs.Limits.{most_nodes}
+use Rattle.cany_message.specs.Numbers.{message_number, message_numbers, frame_number}
 use Rattle.cany_model.proofs.Rules.MessageKeys.{length-messages_of}
-use Rattle.cany_message.specs.Numbers.{origins, message_number, message_numbers, frame_number}
 use Rattle.cany_message.specs.Table.{CanTake}
 
-one_seq : (s o t p : ℕ) → o < origins → p < origins → message_number s o ≡ message_number t p → s ≡ t
+one_seq : (s o t p : ℕ) → o < most_nodes → p < most_nodes → message_number s o ≡ message_number t p → s ≡ t
 one_seq s o t p ho hp e = omega arith
 
-one_origin : (s o t p : ℕ) → o < origins → p < origins → message_number s o ≡ message_number t p → o ≡ p
+one_origin : (s o t p : ℕ) → o < most_nodes → p < most_nodes → message_number s o ≡ message_number t p → o ≡ p
 one_origin s o t p ho hp e = omega arith
 
-pub same_number : (s o t p : ℕ) → o < origins → p < origins → (message_number s o == message_number t p) ≡ (s == t && o == p)
+pub same_number : (s o t p : ℕ) → o < most_nodes → p < most_nodes → (message_number s o == message_number t p) ≡ (s == t && o == p)
 same_number s o t p ho hp = grind (arith, nat_tests, one_seq s o t p ho hp, one_origin s o t p ho hp)
 
 pub length-message_numbers : (scenario : ScenarioParts) → length (message_numbers scenario) ≡ length scenario.sends

@@ -5,7 +5,7 @@ use Rattle.std.proofs.lemmas.List.{length-reverse, length-take-le, reverse-appen
 use Rattle.std.proofs.lemmas.List.Sums.{count_by-le-length}
 use Rattle.cany_base.specs.declared.message.SendAsk.{SendAsk}
 use Rattle.cany_model.specs.Rules.Messages.{is_from, message_of, messages_after}
-use Rattle.cany_message.specs.Numbers.{origins}
+use Rattle.cany_base.specs.Limits.{most_nodes}
 use Rattle.cany_message.specs.Sequence.{sent_by, HaveCounted}
 
 -- the sends before a place, newest first
@@ -30,6 +30,6 @@ module _ (sends : List SendAsk) (i : ℕ) (send : SendAsk) (within : i < length 
   counted_next numbers counted node small = counted node small ∙ ap (count_by (is_from node)) (sym before_next)
 
 -- a node sends no more than all do
-pub counted_few : (sends : List SendAsk) (i : ℕ) (numbers : List ℕ) (node : ℕ) → HaveCounted (before sends i) numbers → node < origins → i ≤ length sends → sent_by numbers node ≤ i
+pub counted_few : (sends : List SendAsk) (i : ℕ) (numbers : List ℕ) (node : ℕ) → HaveCounted (before sends i) numbers → node < most_nodes → i ≤ length sends → sent_by numbers node ≤ i
 counted_few sends i numbers node counted small within =
     omega (arith, counted node small, count_by-le-length (is_from node) (before sends i), length-reverse (take i sends), length-take-le i sends within)

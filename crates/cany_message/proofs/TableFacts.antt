@@ -13,7 +13,8 @@ use Rattle.cany_model.specs.Bus.Frames.{is_of, same_class}
 use Rattle.cany_model.specs.Bus.History.{copies, is_got, is_sent}
 use Rattle.cany_model.specs.Rules.Notices.{NamesMessage}
 use Rattle.cany_model.proofs.Bus.Identities.{same_class-true}
-use Rattle.cany_message.specs.Numbers.{origins, message_number, message_numbers, frame_number}
+use Rattle.cany_base.specs.Limits.{most_nodes, most_slots}
+use Rattle.cany_message.specs.Numbers.{message_number, message_numbers, frame_number}
 use Rattle.cany_message.specs.Table.{IsTableOf, CanTake, frame_identity}
 use Rattle.cany_message.proofs.HistoryFacts.{is_this, is_not_this, copies-yes, copies-no, has_own-more, copies-few, copies-idle, has_own-idle}
 use Rattle.cany_message.proofs.NumberFacts.{same_number, named_among, length-message_numbers}
@@ -54,9 +55,9 @@ module _ (scenario : ScenarioParts) (class : Class) (notes : ℕ → Bool) where
       grind (arith, nat_tests, before number, h, put.there number, ap (λ n. is_among n (message_numbers scenario)), named_among scenario by f named)
 
   -- a frame of the class
-  module _ (by : Service) (f : FrameParts) (is : f.class ≡ class) (small : f.node < origins) (named : NamesMessage scenario by f)
+  module _ (by : Service) (f : FrameParts) (is : f.class ≡ class) (small : f.node < most_nodes) (named : NamesMessage scenario by f)
       (past : List NoticeKind) (old new : EagerParts) (h : IsTableOf scenario class notes past old) where
-    this : (s o : ℕ) → o < origins → (message_number s o == frame_number f) ≡ is_of (frame_identity class s o) f
+    this : (s o : ℕ) → o < most_nodes → (message_number s o == frame_number f) ≡ is_of (frame_identity class s o) f
     this s o near = same_number s o f.number f.node near small ∙ sym (is_this class s o f is)
 
     copies_then : (s o : ℕ) → copies (frame_identity class s o) (Got f ∷ past)
@@ -64,7 +65,7 @@ module _ (scenario : ScenarioParts) (class : Class) (notes : ℕ → Bool) where
     copies_then s o = grind (arith, nat_tests, copies-yes (frame_identity class s o) (Got f) past, copies-no (frame_identity class s o) (Got f) past)
 
     -- a copy of it
-    pub table_got : length past < 1000000 → IsLearnt (frame_number f) old new → IsTableOf scenario class notes (Got f ∷ past) new
+    pub table_got : length past < most_slots → IsLearnt (frame_number f) old new → IsTableOf scenario class notes (Got f ∷ past) new
     table_got short learnt = record {
       omit = learnt.put.omit ∙ h.omit;
       room = learnt.put.room ∙ h.room;

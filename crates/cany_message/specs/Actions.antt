@@ -2,6 +2,7 @@
 use Rattle.std.specs.Prelude.{ℕ, Bool, if◌then◌else◌, List, [], ◌∷◌}
 use Rattle.cany_base.specs.declared.actions.Action.{Action}
 use Rattle.cany_base.specs.declared.actions.Action.TheVariants.{Withdraw, Enter}
+use Rattle.cany_base.specs.declared.frame.Format.{Format}
 use Rattle.cany_base.specs.declared.message.Service.{Service}
 use Rattle.cany_base.specs.Frame.{FrameParts, identifier_of}
 use Rattle.cany_model.specs.Rules.Delivery.{delivery}
@@ -9,5 +10,5 @@ use Rattle.cany_model.specs.Rules.Delivery.{delivery}
 abbrev pub delivery_actions : Service → ℕ → Bool → FrameParts → List Action
 delivery_actions service slot delivers f = if delivers then Enter (delivery slot service f) ∷ [] else []
 
-abbrev pub withdraw_actions : Bool → FrameParts → List Action
-withdraw_actions withdraws f = if withdraws then Withdraw (identifier_of f) ∷ [] else []
+abbrev pub withdraw_actions : Format → Bool → FrameParts → List Action
+withdraw_actions format withdraws f = if withdraws then Withdraw (identifier_of format f) ∷ [] else []

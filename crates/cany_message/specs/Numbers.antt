@@ -1,16 +1,13 @@
 -- The numbers that stand for messages.
 use Rattle.std.specs.Prelude.{ℕ, ◌+◌, ◌*◌, List, map}
 use Rattle.cany_base.specs.Frame.{FrameParts}
+use Rattle.cany_base.specs.Limits.{most_nodes}
 use Rattle.cany_base.specs.Scenario.{ScenarioParts}
 use Rattle.cany_model.specs.Rules.Messages.{messages_of}
 
--- how many origins there can be
-abbrev pub origins : ℕ
-origins = 32
-
 -- the number that stands for the message of an origin
 abbrev pub message_number : (seq origin : ℕ) → ℕ
-message_number seq origin = seq * origins + origin
+message_number seq origin = seq * most_nodes + origin
 
 -- that of the message that a frame names
 abbrev pub frame_number : FrameParts → ℕ

@@ -6,7 +6,8 @@ use Rattle.cany_base.specs.Scenario.{ScenarioParts}
 use Rattle.cany_diffuse.specs.Eager.{EagerParts, copies_of, is_owned, is_there, is_held, is_among}
 use Rattle.cany_model.specs.Bus.Frames.{Identity}
 use Rattle.cany_model.specs.Bus.History.{copies, has_own}
-use Rattle.cany_message.specs.Numbers.{origins, message_number, message_numbers}
+use Rattle.cany_base.specs.Limits.{most_nodes}
+use Rattle.cany_message.specs.Numbers.{message_number, message_numbers}
 
 -- the frame of a class that names the message of an origin
 abbrev pub frame_identity : Class → (seq origin : ℕ) → Identity
@@ -18,8 +19,8 @@ frame_identity class seq origin = record { class = class; number = seq; node = o
 pub record IsTableOf (scenario : ScenarioParts) (class : Class) (notes : ℕ → Bool) (past : List NoticeKind) (table : EagerParts) : Type 0 where
   pub omit : table.omit ≡ scenario.params.omit
   pub room : table.room ≡ length scenario.sends
-  pub copies : (seq origin : ℕ) → origin < origins → copies_of table (message_number seq origin) ≡ copies (frame_identity class seq origin) past
-  pub owned : (seq origin : ℕ) → origin < origins → is_owned table (message_number seq origin) ≡ (notes origin && has_own (frame_identity class seq origin) past)
+  pub copies : (seq origin : ℕ) → origin < most_nodes → copies_of table (message_number seq origin) ≡ copies (frame_identity class seq origin) past
+  pub owned : (seq origin : ℕ) → origin < most_nodes → is_owned table (message_number seq origin) ≡ (notes origin && has_own (frame_identity class seq origin) past)
   pub there : (number : ℕ) → is_there table number ≡ is_held table number
   pub messages : (number : ℕ) → is_there table number ≡ true → is_among number (message_numbers scenario) ≡ true
 

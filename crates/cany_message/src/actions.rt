@@ -1,7 +1,8 @@
 ghost use Rattle.std.specs.Prelude.{◌≡◌, ◌+◌, ◌<◌, ◌≤◌, ◌++◌, length};
+ghost use Rattle.can_frame.specs.Identifier.{HasSmallNumbers};
 ghost use Rattle.cany_message.specs.Actions.{delivery_actions, withdraw_actions};
 
-use can_frame::{fits_format_one, identifier};
+use can_frame::{identifier, small_numbers_fit};
 use cany_base::{Action, Actions, Format, Frame, LogEntry, MsgKey, Service, Slot};
 
 /// Delivers the message of a data frame, or does nothing.
@@ -24,16 +25,17 @@ pub fn deliver(service: Service, slot: Slot, frame: &Frame, delivers: bool, out:
     }
 }
 
-/// Withdraws a frame, or does nothing.
-pub fn withdraw(frame: &Frame, withdraws: bool, out: &mut Actions)
-    requires { length out.old.items < out.old.room }
-    ensures actions { out.new.items ≡ out.old.items ++ withdraw_actions withdraws frame.now }
+/// Withdraws a frame, or does nothing. The format is that of the scenario.
+pub fn withdraw(format: Format, frame: &Frame, withdraws: bool, out: &mut Actions)
+    requires small { HasSmallNumbers format frame.now }
+    requires room { length out.old.items < out.old.room }
+    ensures actions { out.new.items ≡ out.old.items ++ withdraw_actions format withdraws frame.now }
     ensures room { out.new.room ≡ out.old.room }
     ensures few { length out.new.items ≤ length out.old.items + 1 }
 {
     if withdraws {
-        fits_format_one(frame);
-        let ident = identifier(Format::One, frame);
+        small_numbers_fit(format);
+        let ident = identifier(format, frame);
         out.push(Action::Withdraw { ident });
     }
 }

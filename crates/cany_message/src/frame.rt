@@ -1,6 +1,6 @@
 ghost use Rattle.std.specs.Prelude.{◌≡◌, ◌<◌};
 ghost use Rattle.cany_base.specs.declared.frame.Class.{Class};
-ghost use Rattle.cany_message.specs.Numbers.{origins};
+ghost use Rattle.cany_base.specs.Limits.{most_nodes};
 ghost use Rattle.cany_model.specs.Bus.Frames.{same_class};
 
 use crate::number::message_number;
@@ -42,7 +42,7 @@ impl<C: FrameClass> MessageFrame<C> {
         ensures seq { result.msg.seq ≡ frame.now.number }
         ensures origin { result.msg.origin ≡ frame.now.node }
         ensures payload { result.payload ≡ frame.now.payload }
-        ensures in_range { frame.now.node < origins }
+        ensures in_range { frame.now.node < most_nodes }
     {
         // Read for what it ensures: that the node is in range.
         let _number = frame.node.get();
@@ -63,7 +63,7 @@ impl<C: FrameClass> Diffused for MessageFrame<C> {
 
     ghost form = { λ d. record { class = C.class; number = d.msg.seq; node = d.msg.origin; inc = 0; payload = d.payload } };
 
-    ghost is_value = { λ d. (d.msg.origin < origins) × FitsClass C.class d.payload };
+    ghost is_value = { λ d. (d.msg.origin < most_nodes) × FitsClass C.class d.payload };
 
     fn key(&self) -> u64 {
         message_number(&self.msg)

@@ -1,6 +1,6 @@
 ghost use Rattle.std.specs.Prelude.{◌≡◌, ℕ, ◌<◌, List, [], ◌∷◌};
 ghost use Rattle.cany_base.specs.declared.message.SendAsk.{SendAsk};
-ghost use Rattle.cany_message.specs.Numbers.{origins};
+ghost use Rattle.cany_base.specs.Limits.{most_nodes};
 ghost use Rattle.cany_message.specs.Sequence.{sent_by, HaveCounted};
 ghost use Rattle.cany_model.specs.Rules.Messages.{message_of};
 
@@ -33,7 +33,7 @@ impl SequenceNumbers {
 
     /// Counts a send of a node, which follows those counted before. Gives the sequence number of its message.
     pub fn next(&mut self, origin: NodeId) -> u16
-        requires { (node : ℕ) → node < origins → sent_by self.old node < 65535 }
+        requires { (node : ℕ) → node < most_nodes → sent_by self.old node < 65535 }
         ensures message { (earlier : List SendAsk) (send : SendAsk) → HaveCounted earlier self.old → send.node ≡ origin → result ≡ (message_of earlier send).seq }
         ensures counts { (earlier : List SendAsk) (send : SendAsk) → HaveCounted earlier self.old → send.node ≡ origin → HaveCounted (send ∷ earlier) self.new }
     {

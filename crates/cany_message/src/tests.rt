@@ -7,7 +7,7 @@ use crate::keys::keys_of;
 use crate::number::message_number;
 use crate::sequence::SequenceNumbers;
 use cany_base::{
-    Action, Actions, Class, Frame, LogEntry, MsgKey, NodeId, Payload, SendAsk, Service,
+    Action, Actions, Class, Format, Frame, LogEntry, MsgKey, NodeId, Payload, SendAsk, Service,
 };
 use cany_diffuse::Diffused;
 use std::test::Fail;
@@ -40,7 +40,7 @@ fn form_of<K: Diffused>(value: &K) -> Frame
 
 #[test]
 fn a_frame_says_which_message_it_carries(rt: HostRuntime) -> Result<(), Fail> {
-    let origin = NodeId::new(5).ok_or("a node below 32")?;
+    let origin = NodeId::new(5).ok_or("a node")?;
     let frame = Frame {
         class: Class::Tot,
         number: 3,
@@ -49,8 +49,8 @@ fn a_frame_says_which_message_it_carries(rt: HostRuntime) -> Result<(), Fail> {
         payload: Payload::of(&[7]).ok_or("at most eight bytes")?,
     };
     let said = MessageFrame::<TotClass>::of(&frame);
-    assert_eq!(rt; message_number(&said.msg), 101);
-    assert_eq!(rt; key_of(&said), 101);
+    assert_eq!(rt; message_number(&said.msg), 197);
+    assert_eq!(rt; key_of(&said), 197);
     assert_eq!(rt; form_of(&said), frame);
     assert_eq!(rt; is_of_class(&frame, Class::Tot), true);
     assert_eq!(rt; is_of_class(&frame, Class::Rel), false);
@@ -59,7 +59,7 @@ fn a_frame_says_which_message_it_carries(rt: HostRuntime) -> Result<(), Fail> {
 
 #[test]
 fn a_message_is_delivered_and_its_frame_withdrawn(rt: HostRuntime) -> Result<(), Fail> {
-    let origin = NodeId::new(2).ok_or("a node below 32")?;
+    let origin = NodeId::new(2).ok_or("a node")?;
     let payload = Payload::of(&[7]).ok_or("at most eight bytes")?;
     let frame = Frame {
         class: Class::Ed,
@@ -70,7 +70,7 @@ fn a_message_is_delivered_and_its_frame_withdrawn(rt: HostRuntime) -> Result<(),
     };
     let mut out = Actions::build(rt.alloc(), 4)?;
     deliver(Service::Ed, 3, &frame, true, &mut out);
-    withdraw(&frame, true, &mut out);
+    withdraw(Format::One, &frame, true, &mut out);
     let delivery = Action::Enter(LogEntry::Deliver {
         slot: 3,
         service: Service::Ed,
@@ -81,6 +81,41 @@ fn a_message_is_delivered_and_its_frame_withdrawn(rt: HostRuntime) -> Result<(),
         out.as_slice(),
         [delivery, Action::Withdraw { ident: 301_989_920 }].as_slice()
     );
+    Ok(())
+}
+
+#[test]
+fn a_withdrawal_names_the_identifier_of_its_format(rt: HostRuntime) -> Result<(), Fail> {
+    let origin = NodeId::new(40).ok_or("a node")?;
+    let frame = Frame {
+        class: Class::Rel,
+        number: 3,
+        node: origin,
+        inc: 0,
+        payload: Payload::empty(),
+    };
+    let mut out = Actions::build(rt.alloc(), 1)?;
+    withdraw(Format::Two, &frame, true, &mut out);
+    // Class 8 at bit 25, number 3 at bit 10, node 40 at bit 4.
+    assert_eq!(rt;
+        out.as_slice(),
+        [Action::Withdraw { ident: 268_439_168 }].as_slice()
+    );
+    Ok(())
+}
+
+#[test]
+fn messages_of_nodes_33_and_1_have_different_numbers(rt: HostRuntime) -> Result<(), Fail> {
+    let low = MsgKey {
+        origin: NodeId::new(1).ok_or("a node")?,
+        seq: 1,
+    };
+    let high = MsgKey {
+        origin: NodeId::new(33).ok_or("a node")?,
+        seq: 0,
+    };
+    assert_eq!(rt; message_number(&low), 65);
+    assert_eq!(rt; message_number(&high), 33);
     Ok(())
 }
 
@@ -95,8 +130,8 @@ fn send_of(node: NodeId) -> SendAsk {
 
 #[test]
 fn messages_are_counted_by_origin(rt: HostRuntime) -> Result<(), Fail> {
-    let one = NodeId::new(1).ok_or("a node below 32")?;
-    let two = NodeId::new(2).ok_or("a node below 32")?;
+    let one = NodeId::new(1).ok_or("a node")?;
+    let two = NodeId::new(2).ok_or("a node")?;
     let sends = [send_of(two), send_of(one), send_of(two)];
     let keys = keys_of(rt.alloc(), &sends)?;
     let expected = [
@@ -119,7 +154,7 @@ fn messages_are_counted_by_origin(rt: HostRuntime) -> Result<(), Fail> {
 
 #[test]
 fn the_first_number_is_zero(rt: HostRuntime) -> Result<(), Fail> {
-    let node = NodeId::new(31).ok_or("a node below 32")?;
+    let node = NodeId::new(63).ok_or("a node")?;
     let mut numbers = SequenceNumbers::new();
     assert_eq!(rt; numbers.next(node), 0);
     Ok(())

@@ -3,6 +3,7 @@ use Rattle.std.proofs.Common.{◌≡◌, ℕ, zero, suc, ◌+◌, ◌<◌, List,
 use Rattle.std.specs.List.{AllByRecursion}
 use Rattle.cany_base.specs.declared.actions.Action.{Action}
 use Rattle.cany_base.specs.declared.actions.Action.TheVariants as action
+use Rattle.cany_base.specs.declared.frame.Format.{Format}
 use Rattle.cany_base.specs.declared.log_entry.LogEntry.{LogEntry}
 use Rattle.cany_base.specs.Bounded.{Bounded}
 use Rattle.cany_base.specs.Frame.{FrameParts}
@@ -26,45 +27,45 @@ waiting-append (Enter entry ∷ first) rest w = waiting-append first rest w
 with_waiting : ControllerState → List FrameParts → ControllerState
 with_waiting ctl w = record ctl { waiting = w }
 
-pub done-ask : (f : FrameParts) (effect : Effect) (ctl ctl' : ControllerState) (log log' : Bounded LogEntry) → action_of effect ≡ action.Ask f
+pub done-ask : (format : Format) (f : FrameParts) (effect : Effect) (ctl ctl' : ControllerState) (log log' : Bounded LogEntry) → action_of format effect ≡ action.Ask f
     → ctl' ≡ record ctl { waiting = with_frame f ctl.waiting } → log' ≡ log → AreDone (effect ∷ []) ctl ctl' log log'
 unfolding waiting_after entered
-done-ask f (Ask g) ctl ctl' log log' e is same =
+done-ask format f (Ask g) ctl ctl' log log' e is same =
     let frame : g ≡ f = cc in
     record {
       controller = is ∙ ap (λ (h : FrameParts). record ctl { waiting = with_frame h ctl.waiting }) (sym frame);
       entries = ap (λ (b : Bounded LogEntry). b.items) same ∙ sym (append-nil log.items);
       room = ap (λ (b : Bounded LogEntry). b.room) same;
     }
-done-ask f (Withdraw x) ctl ctl' log log' e is same = absurd (cc)
-done-ask f (Enter entry) ctl ctl' log log' e is same = absurd (cc)
+done-ask format f (Withdraw x) ctl ctl' log log' e is same = absurd (cc)
+done-ask format f (Enter entry) ctl ctl' log log' e is same = absurd (cc)
 
-pub done-withdraw : (ident : ℕ) (effect : Effect) (ctl ctl' : ControllerState) (log log' : Bounded LogEntry) → action_of effect ≡ action.Withdraw ident
-    → ((x : Identity) → effect ≡ Withdraw x → ident_of x ≡ ident → ctl' ≡ record ctl { waiting = without x ctl.waiting }) → log' ≡ log
+pub done-withdraw : (format : Format) (ident : ℕ) (effect : Effect) (ctl ctl' : ControllerState) (log log' : Bounded LogEntry) → action_of format effect ≡ action.Withdraw ident
+    → ((x : Identity) → effect ≡ Withdraw x → ident_of format x ≡ ident → ctl' ≡ record ctl { waiting = without x ctl.waiting }) → log' ≡ log
     → AreDone (effect ∷ []) ctl ctl' log log'
 unfolding waiting_after entered
-done-withdraw ident (Withdraw x) ctl ctl' log log' e is same =
-    let number : ident_of x ≡ ident = cc in
+done-withdraw format ident (Withdraw x) ctl ctl' log log' e is same =
+    let number : ident_of format x ≡ ident = cc in
     record {
       controller = is x refl number;
       entries = ap (λ (b : Bounded LogEntry). b.items) same ∙ sym (append-nil log.items);
       room = ap (λ (b : Bounded LogEntry). b.room) same;
     }
-done-withdraw ident (Ask g) ctl ctl' log log' e is same = absurd (cc)
-done-withdraw ident (Enter entry) ctl ctl' log log' e is same = absurd (cc)
+done-withdraw format ident (Ask g) ctl ctl' log log' e is same = absurd (cc)
+done-withdraw format ident (Enter entry) ctl ctl' log log' e is same = absurd (cc)
 
-pub done-enter : (entry : LogEntry) (effect : Effect) (ctl ctl' : ControllerState) (log log' : Bounded LogEntry) → action_of effect ≡ action.Enter entry
+pub done-enter : (format : Format) (entry : LogEntry) (effect : Effect) (ctl ctl' : ControllerState) (log log' : Bounded LogEntry) → action_of format effect ≡ action.Enter entry
     → ctl' ≡ ctl → log' ≡ record { items = log.items ++ entry ∷ []; room = log.room } → AreDone (effect ∷ []) ctl ctl' log log'
 unfolding waiting_after entered
-done-enter entry (Enter made) ctl ctl' log log' e is same =
+done-enter format entry (Enter made) ctl ctl' log log' e is same =
     let one : made ≡ entry = cc in
     record {
       controller = is;
       entries = ap (λ (b : Bounded LogEntry). b.items) same ∙ ap (λ m. log.items ++ m ∷ []) (sym one);
       room = ap (λ (b : Bounded LogEntry). b.room) same;
     }
-done-enter entry (Ask g) ctl ctl' log log' e is same = absurd (cc)
-done-enter entry (Withdraw x) ctl ctl' log log' e is same = absurd (cc)
+done-enter format entry (Ask g) ctl ctl' log log' e is same = absurd (cc)
+done-enter format entry (Withdraw x) ctl ctl' log log' e is same = absurd (cc)
 
 -- ---- one after another
 
@@ -85,17 +86,17 @@ done-then first rest a b c x y z one two = record {
 }
 
 -- the effect at a place, and those before and after it
-pub record Stands (effects : List Effect) (i : ℕ) (a : Action) : Type 0 where
+pub record Stands (format : Format) (effects : List Effect) (i : ℕ) (a : Action) : Type 0 where
   pub effect : Effect
-  pub action : action_of effect ≡ a
+  pub action : action_of format effect ≡ a
   pub taken : take (i + 1) effects ≡ take i effects ++ effect ∷ []
   pub whole : effects ≡ take i effects ++ effect ∷ drop (i + 1) effects
 
-pub stands : (effects : List Effect) (i : ℕ) (a : Action) → i < length effects → a ≡ get_or (actions_of effects) i a → Stands effects i a
-stands [] i a within is = absurd (omega arith)
-stands (effect ∷ effects) zero a within is = record { effect = effect; action = sym is; taken = refl; whole = refl }
-stands (first ∷ effects) (suc i) a within is =
-    let rest = stands effects i a (omega arith) is in
+pub stands : (format : Format) (effects : List Effect) (i : ℕ) (a : Action) → i < length effects → a ≡ get_or (actions_of format effects) i a → Stands format effects i a
+stands format [] i a within is = absurd (omega arith)
+stands format (effect ∷ effects) zero a within is = record { effect = effect; action = sym is; taken = refl; whole = refl }
+stands format (first ∷ effects) (suc i) a within is =
+    let rest = stands format effects i a (omega arith) is in
     let next : suc i + 1 ≡ suc (i + 1) = omega arith in
     record {
       effect = rest.effect;

@@ -1,26 +1,19 @@
 -- What a node may ask for fits the identifiers, and a turn names nothing else.
-use Rattle.std.proofs.Common.{◌≡◌, ℕ, suc, ◌+◌, ◌<◌, ◌^◌, ◌||◌, true, inl, inr, List, [], ◌∷◌, length, Contains, Option, Some, None, is_some, refl, ap, sym, ◌∙◌, subst, arith, All}
+use Rattle.std.proofs.Common.{◌≡◌, ℕ, ◌<◌, ◌||◌, true, inl, inr, List, [], ◌∷◌, length, Contains, Option, Some, None, is_some, refl, ap, sym, ◌∙◌, subst, arith}
 use Rattle.std.specs.List.{AllByRecursion}
 use Rattle.std.proofs.lemmas.Bool.{false≢true, or_cases}
-use Rattle.std.proofs.lemmas.List.Elements.{All-head, All-tail}
-use Rattle.std.proofs.lemmas.List.Sums.{count_by-le-length}
 use Rattle.cany_base.specs.declared.frame.Class.{Class}
 use Rattle.cany_base.specs.declared.frame.Class.TheVariants as class
-use Rattle.cany_base.specs.declared.frame.Format.{Format}
-use Rattle.cany_base.specs.declared.frame.Format.TheVariants.{One}
-use Rattle.cany_base.specs.declared.message.SendAsk.{SendAsk}
 use Rattle.cany_base.specs.declared.message.Service.{Service}
 use Rattle.cany_base.specs.declared.message.Service.TheVariants as service
 use Rattle.cany_base.specs.declared.notice.NoticeKind.{NoticeKind}
 use Rattle.cany_base.specs.declared.notice.NoticeKind.TheVariants.{Got, Sent}
 use Rattle.cany_base.specs.Frame.{FrameParts, data_class}
-use Rattle.cany_base.specs.Limits.{most_sends}
-use Rattle.cany_base.specs.Params.{Parameters}
-use Rattle.cany_base.specs.Scenario.{ScenarioParts, IsLegalScenario, IsSendOf}
-use Rattle.cany_model.specs.Bus.Frames.{Identity, identity_of, same_class}
+use Rattle.cany_base.specs.Scenario.{ScenarioParts, IsLegalScenario}
+use Rattle.cany_model.specs.Bus.Frames.{Identity, bare, identity_of, same_class}
 use Rattle.cany_model.specs.Bus.History.{copies, is_got}
 use Rattle.cany_model.specs.Rules.Effect.{Effect, Ask, Withdraw, Enter}
-use Rattle.cany_model.specs.Rules.Messages.{IsOfMessage, Message, is_from, messages_after, messages_of, data_frame}
+use Rattle.cany_model.specs.Rules.Messages.{IsOfMessage, Message, messages_of, data_frame}
 use Rattle.cany_model.specs.Rules.Notices.{BelongsTo, IsDataOf, IsReadable}
 use Rattle.cany_model.specs.Rules.Protocol.{Protocol}
 use Rattle.cany_model.specs.Rules.Relcan.{confirm_frame}
@@ -31,44 +24,22 @@ use Rattle.cany_model.proofs.Bus.Carried.{Has, is_got-true}
 use Rattle.cany_model.proofs.Bus.Identities.{same_class-true}
 use Rattle.cany_model.proofs.Rules.ProtocolFacts.{IsFounded, IsLawful, MayAsk, MayWithdraw, confirms, enough, originates, relays}
 use Rattle.cany_model.proofs.Rules.Protocols.{are_lawful}
+use Rattle.cany_model.proofs.Rules.NumberFacts.{message_is_small}
 use Rattle.can_frame.specs.Identifier.{FitsFormat}
+use Rattle.can_frame.proofs.IdentityFacts.{small_fits}
 use Rattle.cany_node.specs.Apply.{NamesAskable}
 use Rattle.cany_node.specs.Node.{AreReadable}
 
--- ---- the numbers of a message
+-- ---- numbers
 
-abbrev InRange : ℕ → ℕ → ℕ → Message → Type 0
-InRange few slots nodes m = (m.seq < few) × (m.slot < slots) × (m.origin < nodes)
-
-in_range : (p : Parameters) (earlier sends : List SendAsk) (m : Message) → All (IsSendOf p) sends → Among (λ k. k ≡ m) (messages_after earlier sends)
-    → InRange (length earlier + length sends) p.slots p.nodes m
-unfolding messages_after
-in_range p earlier [] m all h = absurd h
-in_range p earlier (send ∷ sends) m all (inl e) =
-    let here : IsSendOf p send = All-head (IsSendOf p) send sends all in
-    let few : length earlier + length (send ∷ sends) ≡ length earlier + suc (length sends) = refl in
-    subst (InRange (length earlier + length (send ∷ sends)) p.slots p.nodes) e (omega (arith, count_by-le-length (is_from send.node) earlier), here.0, here.1)
-in_range p earlier (send ∷ sends) m all (inr h) =
-    let rest = in_range p (send ∷ earlier) sends m (All-tail (IsSendOf p) send sends all) h in
-    (omega (arith, rest.0), rest.1, rest.2)
-
-message_in_range : (scenario : ScenarioParts) (m : Message) → IsLegalScenario scenario → Contains (messages_of scenario.sends) m
-    → InRange most_sends scenario.params.slots 32 m
-message_in_range scenario m legal stands =
-    let all = in_range scenario.params [] scenario.sends m legal.sends (Among-from_Contains (messages_of scenario.sends) m stands) in
-    (omega (arith, all.0, legal.few_sends), all.1, omega (arith, all.2, legal.in_range.nodes.1))
-
-pub askable_fits : (scenario : ScenarioParts) (x : Identity) → IsLegalScenario scenario → IsAskable scenario x → (x.number < 2 ^ 16) × (x.node < 2 ^ 5)
+pub askable_fits : (scenario : ScenarioParts) (x : Identity) → IsLegalScenario scenario → IsAskable scenario x → FitsFormat scenario.params.format (bare x)
 askable_fits scenario x legal is = by_service (service_of x.class) is
   where
-    by_service : (o : Option Service) → IsAskableBy scenario x o → (x.number < 2 ^ 16) × (x.node < 2 ^ 5)
+    by_service : (o : Option Service) → IsAskableBy scenario x o → FitsFormat scenario.params.format (bare x)
     by_service None h = absurd h
     by_service (Some by) m =
-        let range = message_in_range scenario m.message legal m.stands in
-        (omega (arith, range.0, m.number), omega (arith, range.2, m.origin))
-
-pub fits_format : (format : Format) (f : FrameParts) → (f.number < 2 ^ 16) × (f.node < 2 ^ 5) → FitsFormat format f
-fits_format One f h = h
+        let small = message_is_small scenario by x legal m in
+        small_fits scenario.params.format (bare x) (small.number, omega (arith, small.node, legal.in_range.nodes.1))
 
 -- ---- a frame that was read, and one that is asked for
 

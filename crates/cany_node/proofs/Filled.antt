@@ -1,9 +1,10 @@
 -- How many frames wait at most, and how many entries a log has.
-use Rattle.std.proofs.Common.{◌≡◌, ℕ, suc, ◌<◌, ◌≤◌, ◌==◌, inl, inr, true, List, [], ◌∷◌, length, drop, count_by, refl, ap, sym, subst, ◌∙◌, arith, eqb-true, eq-eqb, All}
+use Rattle.std.proofs.Common.{◌≡◌, ℕ, ◌<◌, ◌≤◌, ◌==◌, inl, inr, true, List, [], ◌∷◌, length, drop, count_by, refl, ap, sym, subst, ◌∙◌, arith, eqb-true, eq-eqb, All}
 use Rattle.std.specs.List.{AllByRecursion}
 use Rattle.std.proofs.lemmas.Bool.{and_from, and_parts, cases_Bool, false≢true}
 use Rattle.std.proofs.lemmas.List.Elements.{All-head, All-tail}
 use Rattle.std.proofs.lemmas.List.Sums.{count_by-le-length}
+use Rattle.cany_base.specs.declared.frame.Format.{Format}
 use Rattle.cany_base.specs.declared.log_entry.LogEntry.{LogEntry}
 use Rattle.cany_base.specs.declared.log_entry.LogEntry.TheVariants.{Deliver, Failed, View}
 use Rattle.cany_base.specs.declared.message.MsgKey.{MsgKey}
@@ -33,25 +34,25 @@ use Rattle.cany_node.proofs.Askable.{read_belongs}
 
 -- ---- the waiting frames
 
-is_of-ident : (x : Identity) (f : FrameParts) → is_of x f ≡ true → identifier_of (bare x) ≡ identifier_of f
-is_of-ident x f is = ap (λ y. identifier_of (bare y)) (same_identity-true x (identity_of f) is)
+is_of-ident : (format : Format) (x : Identity) (f : FrameParts) → is_of x f ≡ true → identifier_of format (bare x) ≡ identifier_of format f
+is_of-ident format x f is = ap (λ y. identifier_of format (bare y)) (same_identity-true x (identity_of f) is)
 
-none_above : (x : Identity) (n : ℕ) (w : List FrameParts) → identifier_of (bare x) ≡ n → All (λ g. n < identifier_of g) w → count_by (is_of x) w ≡ 0
-none_above x n [] is up = refl
-none_above x n (g ∷ w) is up = elim (cases_Bool (is_of x g)) [
-  | inl same ↦ absurd (omega (arith, is, is_of-ident x g same, All-head (λ h. n < identifier_of h) g w up))
-  | inr other ↦ count-no (is_of x) g w other ∙ none_above x n w is (All-tail (λ h. n < identifier_of h) g w up)
+none_above : (format : Format) (x : Identity) (n : ℕ) (w : List FrameParts) → identifier_of format (bare x) ≡ n → All (λ g. n < identifier_of format g) w → count_by (is_of x) w ≡ 0
+none_above format x n [] is up = refl
+none_above format x n (g ∷ w) is up = elim (cases_Bool (is_of x g)) [
+  | inl same ↦ absurd (omega (arith, is, is_of-ident format x g same, All-head (λ h. n < identifier_of format h) g w up))
+  | inr other ↦ count-no (is_of x) g w other ∙ none_above format x n w is (All-tail (λ h. n < identifier_of format h) g w up)
 ]
 
-ascending_distinct : (w : List FrameParts) → IsAscending w → (x : Identity) → count_by (is_of x) w ≤ 1
-ascending_distinct [] up x = omega arith
-ascending_distinct (f ∷ w) up x = elim (cases_Bool (is_of x f)) [
-  | inl same ↦ omega (arith, count-yes (is_of x) f w same, none_above x (identifier_of f) w (is_of-ident x f same) up.0)
-  | inr other ↦ omega (arith, count-no (is_of x) f w other, ascending_distinct w up.1 x)
+ascending_distinct : (format : Format) (w : List FrameParts) → IsAscending format w → (x : Identity) → count_by (is_of x) w ≤ 1
+ascending_distinct format [] up x = omega arith
+ascending_distinct format (f ∷ w) up x = elim (cases_Bool (is_of x f)) [
+  | inl same ↦ omega (arith, count-yes (is_of x) f w same, none_above format x (identifier_of format f) w (is_of-ident format x f same) up.0)
+  | inr other ↦ omega (arith, count-no (is_of x) f w other, ascending_distinct format w up.1 x)
 ]
 
-pub waiting_below : (scenario : ScenarioParts) (w : List FrameParts) → IsAscending w → AreAskable scenario w → length w < waiting_room scenario
-waiting_below scenario w up all = few_waiting scenario w (ascending_distinct w up) all
+pub waiting_below : (scenario : ScenarioParts) (format : Format) (w : List FrameParts) → IsAscending format w → AreAskable scenario w → length w < waiting_room scenario
+waiting_below scenario format w up all = few_waiting scenario w (ascending_distinct format w up) all
 
 -- ---- a delivery is of a message of the scenario
 

@@ -5,6 +5,7 @@ use Rattle.std.proofs.lemmas.Bool.Decides.{nat_tests}
 use Rattle.std.proofs.lemmas.List.{map-append}
 use Rattle.std.proofs.lemmas.List.Elements.{filter_agree}
 use Rattle.cany_base.specs.declared.actions.Action.{Action}
+use Rattle.cany_base.specs.declared.frame.Format.{Format}
 use Rattle.cany_base.specs.Scenario.{ScenarioParts}
 use Rattle.cany_model.specs.Rules.Actions.{action_of, actions_of}
 use Rattle.cany_model.specs.Rules.Effect.{Effect, Ask}
@@ -66,25 +67,26 @@ none_asked i s n planned less up = once i s planned ∙ ap (λ ps. at_once (map 
 
 -- what the loop keeps: what was asked for and what is still to be, together, and the sends of later slots
 pub record KeepsSending (i slot : ℕ) (old new : AgendaParts) (before after : List Action) : Type 0 where
-  pub asks : after ++ actions_of (asks_for i slot new.left) ≡ before ++ actions_of (asks_for i slot old.left)
+  pub asks : (format : Format) → after ++ actions_of format (asks_for i slot new.left) ≡ before ++ actions_of format (asks_for i slot old.left)
   pub later : (s : ℕ) → slot < s → filter (is_for s) new.left ≡ filter (is_for s) old.left
   pub rising : IsRising slot old.left → IsRising slot new.left
   pub planned : new.planned ≡ old.planned
   pub few : length new.left ≤ length old.left
 
 pub keeps-start : (i slot : ℕ) (a : AgendaParts) (out : List Action) → KeepsSending i slot a a out out
-keeps-start i slot a out = record { asks = refl; later = λ s h. refl; rising = λ h. h; planned = refl; few = omega arith }
+keeps-start i slot a out = record { asks = λ format. refl; later = λ s h. refl; rising = λ h. h; planned = refl; few = omega arith }
 
 pub keeps-more : (i slot : ℕ) (old mid new : AgendaParts) (before between after : List Action) (p : Planned) → KeepsSending i slot old mid before between
-    → mid.left ≡ p ∷ new.left → p.slot ≡ slot → new.planned ≡ mid.planned → after ≡ between ++ actions_of (asked_by i p) → KeepsSending i slot old new before after
+    → mid.left ≡ p ∷ new.left → p.slot ≡ slot → new.planned ≡ mid.planned → ((format : Format) → after ≡ between ++ actions_of format (asked_by i p)) → KeepsSending i slot old new before after
 unfolding asks_for IsRising
 keeps-more i slot old mid new before between after p keeps split at same made =
     let here : asks_for i slot mid.left ≡ asked_by i p ++ asks_for i slot new.left =
     ap (asks_for i slot) split ∙ ap (λ b. cond b (asked_by i p ++ asks_for i slot new.left) (asks_for i slot new.left)) (eq-eqb p.slot slot at) in
     record {
-      asks =
-          ap (λ x. x ++ actions_of (asks_for i slot new.left)) made ∙ append_assoc between (actions_of (asked_by i p)) (actions_of (asks_for i slot new.left))
-          ∙ ap (λ x. between ++ x) (sym (map-append action_of (asked_by i p) (asks_for i slot new.left)) ∙ ap actions_of (sym here)) ∙ keeps.asks;
+      asks = λ format.
+          ap (λ x. x ++ actions_of format (asks_for i slot new.left)) (made format)
+          ∙ append_assoc between (actions_of format (asked_by i p)) (actions_of format (asks_for i slot new.left))
+          ∙ ap (λ x. between ++ x) (sym (map-append (action_of format) (asked_by i p) (asks_for i slot new.left)) ∙ ap (actions_of format) (sym here)) ∙ keeps.asks format;
       later = λ s less. sym (ap (filter (is_for s)) split ∙ rw (other p.slot s (omega (arith, at, less))) refl) ∙ keeps.later s less;
       rising = λ up. let tail = subst (IsRising slot) split (keeps.rising up) in subst (λ n. IsRising n new.left) at tail.1;
       planned = same ∙ keeps.planned;
@@ -97,8 +99,8 @@ keeps-more i slot old mid new before between after p keeps split at same made =
 -- once no more is for the slot
 pub all_asked : (scenario : ScenarioParts) (i slot : ℕ) (old new : AgendaParts) (before after : List Action) → KeepsSending i slot old new before after
     → (IsRising slot new.left → IsRising (slot + 1) new.left) → IsAgendaOf scenario i slot old
-    → after ≡ before ++ actions_of (sent_asks i slot (messages_of scenario.sends))
+    → after ≡ before ++ actions_of scenario.params.format (sent_asks i slot (messages_of scenario.sends))
 all_asked scenario i slot old new before after keeps later is =
     let none : asks_for i slot new.left ≡ [] = none_asked i slot (slot + 1) new.left (omega arith) (later (keeps.rising is.rising)) in
-    sym (append-nil after) ∙ ap (λ es. after ++ actions_of es) (sym none) ∙ keeps.asks
-    ∙ ap (λ es. before ++ actions_of es) (asks-from_slot i slot old.left (messages_of scenario.sends) (is.left slot (omega arith)))
+    sym (append-nil after) ∙ ap (λ es. after ++ actions_of scenario.params.format es) (sym none) ∙ keeps.asks scenario.params.format
+    ∙ ap (λ es. before ++ actions_of scenario.params.format es) (asks-from_slot i slot old.left (messages_of scenario.sends) (is.left slot (omega arith)))

@@ -47,32 +47,32 @@ module _ (scenario : ScenarioParts) (past : List NoticeKind) (notice : Notice) (
 
   -- what these protocols do is still to be listed
   record Leads (ps : List Protocol) (listed : List Action) : Type 0 where
-    all : listed ++ actions_of (flat_map (λ p. p.effects scenario v.node (notice.kind ∷ past)) ps) ≡ actions_of effects
+    all : listed ++ actions_of scenario.params.format (flat_map (λ p. p.effects scenario v.node (notice.kind ∷ past)) ps) ≡ actions_of scenario.params.format effects
 
   leads_more : {ps : List Protocol} {before after : List Action} (p : Protocol) (i : ℕ) → Leads (p ∷ ps) before → i ≡ v.node
-      → after ≡ before ++ actions_of (p.effects scenario i (notice.kind ∷ past)) → Leads ps after
+      → after ≡ before ++ actions_of scenario.params.format (p.effects scenario i (notice.kind ∷ past)) → Leads ps after
   leads_more {ps} {before} {after} p i leads own more =
       let now : List Effect = p.effects scenario v.node (notice.kind ∷ past) in
       let rest : List Effect = flat_map (λ q. q.effects scenario v.node (notice.kind ∷ past)) ps in
       record {
         all =
-            ap (λ x. x ++ actions_of rest) (more ∙ ap (λ j. before ++ actions_of (p.effects scenario j (notice.kind ∷ past))) own)
-            ∙ append_assoc before (actions_of now) (actions_of rest) ∙ ap (λ x. before ++ x) (sym (map-append action_of now rest)) ∙ leads.all;
+            ap (λ x. x ++ actions_of scenario.params.format rest) (more ∙ ap (λ j. before ++ actions_of scenario.params.format (p.effects scenario j (notice.kind ∷ past))) own)
+            ∙ append_assoc before (actions_of scenario.params.format now) (actions_of scenario.params.format rest) ∙ ap (λ x. before ++ x) (sym (map-append (action_of scenario.params.format) now rest)) ∙ leads.all;
       }
 
   leads_first : (start : List Action) → start ≡ [] → Leads protocols start
   unfolding turn_effects
-  leads_first start none = record { all = ap (λ x. x ++ actions_of (turn_effects scenario v.node (notice.kind ∷ past))) none }
+  leads_first start none = record { all = ap (λ x. x ++ actions_of scenario.params.format (turn_effects scenario v.node (notice.kind ∷ past))) none }
 
-  sends_are : actions_of (sent_asks v.node notice.slot (messages_of scenario.sends)) ≡ actions_of (send_effects scenario v.node (notice.kind ∷ past))
+  sends_are : actions_of scenario.params.format (sent_asks v.node notice.slot (messages_of scenario.sends)) ≡ actions_of scenario.params.format (send_effects scenario v.node (notice.kind ∷ past))
   unfolding send_effects
-  sends_are = ap (λ n. actions_of (sent_asks v.node n (messages_of scenario.sends))) next.slot
+  sends_are = ap (λ n. actions_of scenario.params.format (sent_asks v.node n (messages_of scenario.sends))) next.slot
 
   -- what is listed when all of them have spoken
   pub listed : (start heard told sent : List Action) → start ≡ []
-      → heard ≡ start ++ actions_of (edcan_effects scenario v.edcan.node (notice.kind ∷ past))
-      → told ≡ heard ++ actions_of (relcan_effects scenario v.relcan.node (notice.kind ∷ past))
-      → sent ≡ told ++ actions_of (sent_asks v.node notice.slot (messages_of scenario.sends)) → sent ≡ actions_of effects
+      → heard ≡ start ++ actions_of scenario.params.format (edcan_effects scenario v.edcan.node (notice.kind ∷ past))
+      → told ≡ heard ++ actions_of scenario.params.format (relcan_effects scenario v.relcan.node (notice.kind ∷ past))
+      → sent ≡ told ++ actions_of scenario.params.format (sent_asks v.node notice.slot (messages_of scenario.sends)) → sent ≡ actions_of scenario.params.format effects
   listed start heard told sent none ed rel sends =
       let one : Leads (relcan ∷ scripted_sends ∷ []) heard = leads_more edcan v.edcan.node (leads_first start none) stands.edcan.node ed in
       let two : Leads (scripted_sends ∷ []) told = leads_more relcan v.relcan.node one stands.relcan.limits.node rel in
@@ -105,12 +105,13 @@ module _ (scenario : ScenarioParts) (past : List NoticeKind) (notice : Notice) (
   pub names : AllByRecursion (NamesAskable scenario) effects
   names = turn_names scenario v.node (notice.kind ∷ past) (readable, stands.readable)
 
-  pub can_apply : (actions : List Action) (ctl : ControllerState) → actions ≡ actions_of effects → ctl.room ≡ waiting_room scenario
+  pub can_apply : (actions : List Action) (ctl : ControllerState) → actions ≡ actions_of scenario.params.format effects → ctl.params.format ≡ scenario.params.format → ctl.room ≡ waiting_room scenario
       → AreAskable scenario ctl.waiting → CanApply actions ctl (record { items = v.log; room = v.room })
-  can_apply actions ctl are room askable = record {
+  can_apply actions ctl are format room askable = record {
     scenario = scenario;
     effects = effects;
     legal = stands.legal;
+    format = format;
     are = are;
     names = names;
     waiting = askable;
@@ -120,9 +121,9 @@ module _ (scenario : ScenarioParts) (past : List NoticeKind) (notice : Notice) (
 
   -- what is listed is done
   pub done : (actions : List Action) (ctl ctl' : ControllerState) (log log' : Bounded LogEntry)
-      → ((s : ScenarioParts) (es : List Effect) → IsLegalScenario s → actions ≡ actions_of es → AllByRecursion (NamesAskable s) es → AreDone es ctl ctl' log log')
-      → actions ≡ actions_of effects → AreDone effects ctl ctl' log log'
-  done actions ctl ctl' log log' all are = all scenario effects stands.legal are names
+      → ((s : ScenarioParts) (es : List Effect) → IsLegalScenario s → ctl.params.format ≡ s.params.format → actions ≡ actions_of s.params.format es → AllByRecursion (NamesAskable s) es → AreDone es ctl ctl' log log')
+      → ctl.params.format ≡ scenario.params.format → actions ≡ actions_of scenario.params.format effects → AreDone effects ctl ctl' log log'
+  done actions ctl ctl' log log' all format are = all scenario effects stands.legal format are names
 
   -- the node after the turn
   pub stands_after : (v' : NodeParts) → v'.node ≡ v.node → v'.log ≡ v.log ++ entered effects → v'.room ≡ v.room → v'.read ≡ notice.slot + 1

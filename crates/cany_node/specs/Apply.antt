@@ -37,7 +37,8 @@ pub record CanApply (actions : List Action) (ctl : ControllerState) (log : Bound
   pub scenario : ScenarioParts
   pub effects : List Effect
   pub legal : IsLegalScenario scenario
-  pub are : actions ≡ actions_of effects
+  pub format : ctl.params.format ≡ scenario.params.format
+  pub are : actions ≡ actions_of scenario.params.format effects
   pub names : AllByRecursion (NamesAskable scenario) effects
   pub waiting : AreAskable scenario ctl.waiting
   pub room : ctl.room ≡ waiting_room scenario

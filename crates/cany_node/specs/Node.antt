@@ -67,6 +67,7 @@ pub record CanAct (v : NodeParts) (notice : Notice) (ctl : ControllerState) (out
   pub past : List NoticeKind
   pub stands : IsNodeOf scenario past v
   pub next : IsNextNotice scenario past notice
+  pub format : ctl.params.format ≡ scenario.params.format
   pub room : ctl.room ≡ waiting_room scenario
   pub askable : AreAskable scenario ctl.waiting
   pub free : out.items ≡ []

@@ -12,7 +12,7 @@ use cany_base::{Action, Actions, BoundedVec, LogEntry};
 /// Does one action on the controller or the log.
 fn apply(action: &Action, ctl: &mut Controller, log: &mut BoundedVec<LogEntry>)
     requires { CanDo action.now ctl.old log.old }
-    ensures { (effect : Effect) → action_of effect ≡ action.now → WithdrawsFitting ctl.old.params.format effect →
+    ensures { (effect : Effect) → action_of ctl.old.params.format effect ≡ action.now → WithdrawsFitting ctl.old.params.format effect →
         AreDone (effect ∷ []) ctl.old ctl.new log.old log.new }
 {
     match action {
@@ -25,8 +25,8 @@ fn apply(action: &Action, ctl: &mut Controller, log: &mut BoundedVec<LogEntry>)
 /// Does the actions in their order.
 pub(crate) fn apply_all(out: &Actions, ctl: &mut Controller, log: &mut BoundedVec<LogEntry>)
     requires { CanApply out.now.items ctl.old log.old }
-    ensures { (scenario : ScenarioParts) (effects : List Effect) → IsLegalScenario scenario → out.now.items ≡ actions_of effects →
-        AllByRecursion (NamesAskable scenario) effects → AreDone effects ctl.old ctl.new log.old log.new }
+    ensures { (scenario : ScenarioParts) (effects : List Effect) → IsLegalScenario scenario → ctl.old.params.format ≡ scenario.params.format →
+        out.now.items ≡ actions_of scenario.params.format effects → AllByRecursion (NamesAskable scenario) effects → AreDone effects ctl.old ctl.new log.old log.new }
 {
     let actions = out.as_slice();
     for action in actions {

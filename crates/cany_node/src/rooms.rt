@@ -1,4 +1,5 @@
 ghost use Rattle.std.specs.Prelude.{◌≡◌, ◌/◌, ◌^◌, ◌<◌, ◌≤◌};
+ghost use Rattle.cany_base.specs.Limits.{most_slots};
 ghost use Rattle.cany_model.specs.Rules.Rooms as rooms;
 
 use cany_base::{Params, Scenario};
@@ -6,7 +7,7 @@ use cany_base::{Params, Scenario};
 /// How many membership cycles start after slot 0.
 fn cycles(params: &Params) -> usize
     ensures cycles { result ≡ params.now.slots / params.now.cycle }
-    ensures few { result ≤ 100000 }
+    ensures few { result ≤ most_slots }
 {
     (params.slots / params.cycle) as usize
 }

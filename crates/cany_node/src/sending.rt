@@ -1,4 +1,5 @@
 ghost use Rattle.std.specs.Prelude.{◌≡◌, ◌<◌, ◌≤◌, ◌+◌, ◌++◌, length};
+ghost use Rattle.cany_base.specs.declared.frame.Format.{Format};
 ghost use Rattle.cany_base.specs.Scenario.{ScenarioParts};
 ghost use Rattle.cany_model.specs.Rules.Actions.{actions_of};
 ghost use Rattle.cany_model.specs.Rules.Messages.{messages_of};
@@ -12,7 +13,7 @@ use cany_relcan::Relcan;
 /// Hands a scripted send to its protocol.
 fn send(node: NodeId, planned: &Planned, edcan: &mut Edcan, relcan: &mut Relcan, out: &mut Actions)
     requires { length out.old.items < out.old.room }
-    ensures asks { out.new.items ≡ out.old.items ++ actions_of (asked_by node planned.now) }
+    ensures asks { (format : Format) → out.new.items ≡ out.old.items ++ actions_of format (asked_by node planned.now) }
     ensures len { length out.new.items ≤ length out.old.items + 1 }
     ensures room { out.new.room ≡ out.old.room }
     ensures edcan { edcan.new ≡ edcan.old }
@@ -40,7 +41,7 @@ pub(crate) fn send_due(
 )
     requires { length out.old.items + length agenda.old.left ≤ out.old.room }
     ensures asks { (scenario : ScenarioParts) → IsAgendaOf scenario node slot agenda.old →
-        out.new.items ≡ out.old.items ++ actions_of (sent_asks node slot (messages_of scenario.sends)) }
+        out.new.items ≡ out.old.items ++ actions_of scenario.params.format (sent_asks node slot (messages_of scenario.sends)) }
     ensures agenda { (scenario : ScenarioParts) → IsAgendaOf scenario node slot agenda.old → IsAgendaOf scenario node (slot + 1) agenda.new }
     ensures room { out.new.room ≡ out.old.room }
     ensures edcan { edcan.new ≡ edcan.old }

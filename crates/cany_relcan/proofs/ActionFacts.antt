@@ -5,6 +5,7 @@ use Rattle.std.proofs.Common.{◌≡◌, ℕ, ◌+◌, ◌<◌, ◌==◌, ◌&&�
 use Rattle.cany_base.specs.declared.actions.Action.{Action}
 use Rattle.cany_base.specs.declared.actions.Action.TheVariants as action
 use Rattle.cany_base.specs.declared.frame.Class.TheVariants as class
+use Rattle.cany_base.specs.declared.frame.Format.{Format}
 use Rattle.cany_base.specs.declared.message.Service.TheVariants as service
 use Rattle.cany_base.specs.declared.notice.NoticeKind.{NoticeKind}
 use Rattle.cany_base.specs.declared.notice.NoticeKind.TheVariants.{Idle, Got, Sent, Bad}
@@ -14,7 +15,8 @@ use Rattle.cany_base.specs.Scenario.{ScenarioParts}
 use Rattle.cany_diffuse.specs.declared.learnt.Learnt.TheVariants.{First, Again, Enough}
 use Rattle.cany_diffuse.specs.Eager.{copies_of, is_owned, learnt_of}
 use Rattle.cany_message.specs.Actions.{delivery_actions, withdraw_actions}
-use Rattle.cany_message.specs.Numbers.{origins, frame_number}
+use Rattle.cany_base.specs.Limits.{most_nodes}
+use Rattle.cany_message.specs.Numbers.{frame_number}
 use Rattle.cany_message.proofs.DeliveryFacts.{both_actions, delivery_got, delivery_sent}
 use Rattle.cany_message.proofs.HistoryFacts.{brought, identity_is}
 use Rattle.cany_message.proofs.TableFacts.{IsOther}
@@ -36,14 +38,15 @@ enough_is omit c own = go (nat_le (omit + 1) c) (c == 1 && not own)
     go false true = refl
     go false false = refl
 
-late_if : (fell many : Bool) (f : FrameParts) → actions_of (if fell && many then Withdraw (identity_of f) ∷ [] else []) ≡ withdraw_actions (many && fell) f
-late_if true true f = refl
-late_if true false f = refl
-late_if false true f = refl
-late_if false false f = refl
+late_if : (format : Format) (fell many : Bool) (f : FrameParts)
+    → actions_of format (if fell && many then Withdraw (identity_of f) ∷ [] else []) ≡ withdraw_actions format (many && fell) f
+late_if format true true f = refl
+late_if format true false f = refl
+late_if format false true f = refl
+late_if format false false f = refl
 
 module _ (scenario : ScenarioParts) (i slot : ℕ) (past : List NoticeKind) (v w : RelcanParts) (f : FrameParts) (before : List Action)
-    (h : IsRelcanOf scenario i past v) (rel : f.class ≡ class.Rel) (is : same_class f.class class.Rel ≡ true) (small : f.node < origins) (at : slot ≡ length past) where
+    (h : IsRelcanOf scenario i past v) (rel : f.class ≡ class.Rel) (is : same_class f.class class.Rel ≡ true) (small : f.node < most_nodes) (at : slot ≡ length past) where
   -- the value knows which messages were delivered
   delivered_is : list_any (brings i (identity_of f)) past ≡ was_delivered v f
   delivered_is =
@@ -53,27 +56,27 @@ module _ (scenario : ScenarioParts) (i slot : ℕ) (past : List NoticeKind) (v w
 
   pub got_actions : HasRead scenario i (Got f) past w
       → (before ++ delivery_actions service.Rel slot (not (was_delivered v f)) f)
-      ++ withdraw_actions (is_enough (learnt_of v.copies.omit (copies_of w.copies (frame_number f)) (is_owned v.copies (frame_number f))) && is_fallen v f) f
-      ≡ before ++ actions_of (relcan_at scenario.params i (Got f) past)
+      ++ withdraw_actions v.format (is_enough (learnt_of v.copies.omit (copies_of w.copies (frame_number f)) (is_owned v.copies (frame_number f))) && is_fallen v f) f
+      ≡ before ++ actions_of scenario.params.format (relcan_at scenario.params i (Got f) past)
   unfolding relcan_at
   got_actions after =
-      let late : actions_of (late_copy_effects scenario.params i f past)
-      ≡ withdraw_actions (is_enough (learnt_of v.copies.omit (copies_of w.copies (frame_number f)) (is_owned v.copies (frame_number f))) && is_fallen v f) f =
-      late_if (fell_back scenario.params.confirm i (identity_of f) past) (has_enough scenario.params.omit (identity_of f) (Got f ∷ past)) f
-      ∙ ap (λ x. withdraw_actions (has_enough scenario.params.omit x (Got f ∷ past) && fell_back scenario.params.confirm i x past) f) (identity_is class.Rel f rel)
+      let late : actions_of scenario.params.format (late_copy_effects scenario.params i f past)
+      ≡ withdraw_actions scenario.params.format (is_enough (learnt_of v.copies.omit (copies_of w.copies (frame_number f)) (is_owned v.copies (frame_number f))) && is_fallen v f) f =
+      late_if scenario.params.format (fell_back scenario.params.confirm i (identity_of f) past) (has_enough scenario.params.omit (identity_of f) (Got f ∷ past)) f
+      ∙ ap (λ x. withdraw_actions scenario.params.format (has_enough scenario.params.omit x (Got f ∷ past) && fell_back scenario.params.confirm i x past) f) (identity_is class.Rel f rel)
       ∙ (rw (enough_is v.copies.omit (copies_of w.copies (frame_number f)) (is_owned v.copies (frame_number f)), after.tables.data_frames.copies f.number f.node small, h.tables.data_frames.omit, h.fallen f.number f.node) refl) in
-      rw (is, at)
-      (both_actions before (delivery_effects service.Rel i f (Got f) past) (late_copy_effects scenario.params i f past) _ _
-      (delivery_got service.Rel i past f (was_delivered v f) delivered_is) late)
+      rw (is, at, h.limits.format)
+      (both_actions scenario.params.format before (delivery_effects service.Rel i f (Got f) past) (late_copy_effects scenario.params i f past) _ _
+      (delivery_got scenario.params.format service.Rel i past f (was_delivered v f) delivered_is) late)
 
   pub sent_actions : f.node ≡ i
-      → (before ++ delivery_actions service.Rel slot (not (was_delivered v f)) f) ++ action.Ask (confirm_frame f) ∷ [] ≡ before ++ actions_of (relcan_at scenario.params i (Sent f) past)
+      → (before ++ delivery_actions service.Rel slot (not (was_delivered v f)) f) ++ action.Ask (confirm_frame f) ∷ [] ≡ before ++ actions_of scenario.params.format (relcan_at scenario.params i (Sent f) past)
   unfolding relcan_at
   sent_actions own =
-      let delivers : actions_of (delivery_effects service.Rel i f (Sent f) past) ≡ delivery_actions service.Rel (length past) (not (was_delivered v f)) f =
-      delivery_sent service.Rel i past f (was_delivered v f) delivered_is ∙ ap (λ b. delivery_actions service.Rel (length past) (b && not (was_delivered v f)) f) (eq-eqb f.node i own) in
-      let confirms : actions_of (confirm_effects i f) ≡ action.Ask (confirm_frame f) ∷ [] = rw (eq-eqb f.node i own) refl in
-      rw (is, at) (both_actions before (delivery_effects service.Rel i f (Sent f) past) (confirm_effects i f) _ _ delivers confirms)
+      let delivers : actions_of scenario.params.format (delivery_effects service.Rel i f (Sent f) past) ≡ delivery_actions service.Rel (length past) (not (was_delivered v f)) f =
+      delivery_sent scenario.params.format service.Rel i past f (was_delivered v f) delivered_is ∙ ap (λ b. delivery_actions service.Rel (length past) (b && not (was_delivered v f)) f) (eq-eqb f.node i own) in
+      let confirms : actions_of scenario.params.format (confirm_effects i f) ≡ action.Ask (confirm_frame f) ∷ [] = rw (eq-eqb f.node i own) refl in
+      rw (is, at) (both_actions scenario.params.format before (delivery_effects service.Rel i f (Sent f) past) (confirm_effects i f) _ _ delivers confirms)
 
 -- ---- notices that call for nothing
 

@@ -14,7 +14,8 @@ use Rattle.cany_base.specs.declared.notice.NoticeKind.TheVariants.{Idle, Got, Se
 use Rattle.cany_base.specs.Frame.{data_class}
 use Rattle.cany_base.specs.Scenario.{ScenarioParts}
 use Rattle.cany_diffuse.specs.Eager.{copies_of}
-use Rattle.cany_message.specs.Numbers.{message_number, origins}
+use Rattle.cany_base.specs.Limits.{most_nodes}
+use Rattle.cany_message.specs.Numbers.{message_number}
 use Rattle.cany_message.proofs.HistoryFacts.{is_this}
 use Rattle.cany_model.specs.Bus.Frames.{Identity, identity_of, is_of, same_class}
 use Rattle.cany_model.specs.Bus.History.{is_got}
@@ -115,7 +116,7 @@ module _ (scenario : ScenarioParts) (i : ℕ) (past : List NoticeKind) (v : Relc
       false_from_ne_true (list_any (is_timer_of msg) v.timers.running) (λ runs. apart (same_service (running_named scenario i past v msg h runs))) in
       grind (arith, nat_tests, rests, other)
 
-  ahead_rel : m.service ≡ service.Rel → msg.origin < origins
+  ahead_rel : m.service ≡ service.Rel → msg.origin < most_nodes
       → (list_any (is_timer_of msg) v.timers.running && not (nat_lt 0 (copies_of v.confirms (message_number msg.seq msg.origin)))) ≡ has_timer_ahead scenario m i past
   ahead_rel is small =
       let x_is : identity_of (data_frame m) ≡ data_of msg = λ k. record { class = data_class (is k); number = (key k).seq; node = (key k).origin } in
@@ -123,13 +124,13 @@ module _ (scenario : ScenarioParts) (i : ℕ) (past : List NoticeKind) (v : Relc
       ∙ ap (λ b. ((is_timed i (data_of msg) && has_copy (data_of msg) past) && not (has_copy (data_of msg) (drop scenario.params.confirm past))) && not b) (confirmed_is scenario i past v.copies v.confirms h.tables msg.seq msg.origin small)
       ∙ ap (λ x. is_ahead scenario.params.confirm i x past) (sym x_is)
 
-  ahead_by : (by : Service) → m.service ≡ by → msg.origin < origins
+  ahead_by : (by : Service) → m.service ≡ by → msg.origin < most_nodes
       → (list_any (is_timer_of msg) v.timers.running && not (nat_lt 0 (copies_of v.confirms (message_number msg.seq msg.origin)))) ≡ has_timer_ahead scenario m i past
   unfolding same_class
   ahead_by service.Ed is small = ahead_none (ap (λ s. same_class (data_class s) class.Rel) is) (λ rel. let no' : service.Ed ≡ service.Rel = sym is ∙ rel in cc)
   ahead_by service.Tot is small = ahead_none (ap (λ s. same_class (data_class s) class.Rel) is) (λ rel. let no' : service.Tot ≡ service.Rel = sym is ∙ rel in cc)
   ahead_by service.Rel is small = ahead_rel is small
 
-  pub ahead_is : msg.origin < origins
+  pub ahead_is : msg.origin < most_nodes
       → (list_any (is_timer_of msg) v.timers.running && not (nat_lt 0 (copies_of v.confirms (message_number msg.seq msg.origin)))) ≡ has_timer_ahead scenario m i past
   ahead_is small = ahead_by m.service refl small

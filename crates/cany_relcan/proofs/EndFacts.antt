@@ -7,11 +7,12 @@ use Rattle.std.proofs.lemmas.List.Folds.{list_any-append}
 use Rattle.std.proofs.lemmas.Bool.Decides.{nat_tests}
 use Rattle.cany_base.specs.declared.actions.Action.{Action}
 use Rattle.cany_base.specs.declared.frame.Class.TheVariants as class
+use Rattle.cany_base.specs.declared.frame.Format.{Format}
 use Rattle.cany_base.specs.declared.notice.NoticeKind.{NoticeKind}
 use Rattle.cany_base.specs.Frame.{FrameParts}
 use Rattle.cany_base.specs.Params.{Parameters}
 use Rattle.cany_base.specs.Scenario.{ScenarioParts}
-use Rattle.cany_message.specs.Numbers.{origins}
+use Rattle.cany_base.specs.Limits.{most_nodes}
 use Rattle.cany_message.proofs.HistoryFacts.{identity_is, is_this}
 use Rattle.cany_model.specs.Rules.Actions.{action_of, actions_of}
 use Rattle.cany_model.specs.Rules.Eager.{has_enough}
@@ -67,7 +68,7 @@ fallen_fits slot v (Some f) is fit =
 -- ---- the messages for which the node fell back
 
 module _ (scenario : ScenarioParts) (i : ℕ) (past : List NoticeKind) (v : RelcanParts) (h : AreTablesOf scenario i past v.copies v.confirms) where
-  read_is : (f : FrameParts) → f.node < origins → is_confirmed v.confirms f ≡ has_confirm (data_identity f.number f.node) past
+  read_is : (f : FrameParts) → f.node < most_nodes → is_confirmed v.confirms f ≡ has_confirm (data_identity f.number f.node) past
   read_is f small = confirmed_is scenario i past v.copies v.confirms h f.number f.node small
 
   marked_when : (s o : ℕ) (f : FrameParts) (c : Bool)
@@ -79,7 +80,7 @@ module _ (scenario : ScenarioParts) (i : ℕ) (past : List NoticeKind) (v : Relc
   same_confirm : (s o : ℕ) (f : FrameParts) → f.class ≡ class.Rel → is_of (data_identity s o) f ≡ true → has_confirm (data_identity s o) past ≡ has_confirm (data_identity f.number f.node) past
   same_confirm s o f rel is = ap (λ x. has_confirm x past) (same_identity-true (data_identity s o) (identity_of f) is ∙ identity_is class.Rel f rel)
 
-  marks_after : (due : Option FrameParts) → IfSome due (λ f. f.node < origins) → ((f : FrameParts) → due ≡ Some f → f.class ≡ class.Rel) → (s o : ℕ)
+  marks_after : (due : Option FrameParts) → IfSome due (λ f. f.node < most_nodes) → ((f : FrameParts) → due ≡ Some f → f.class ≡ class.Rel) → (s o : ℕ)
       → list_any (is_key_of s o) (fallen_after due v.confirms v.fallen).items ≡ (falls_with due (data_identity s o) (has_confirm (data_identity s o) past) || list_any (is_key_of s o) v.fallen.items)
   marks_after None small rels s o = refl
   marks_after (Some f) small rels s o =
@@ -91,17 +92,17 @@ module _ (scenario : ScenarioParts) (i : ℕ) (past : List NoticeKind) (v : Relc
   few_is : (omit c : ℕ) → not (nat_lt omit c) ≡ not (nat_le (omit + 1) c)
   few_is omit c = grind (arith, nat_tests)
 
-  ask_if : (b : Bool) (f : FrameParts) → ask_actions b f ≡ actions_of (if b then Ask f ∷ [] else [])
-  ask_if true f = refl
-  ask_if false f = refl
+  ask_if : (format : Format) (b : Bool) (f : FrameParts) → ask_actions b f ≡ actions_of format (if b then Ask f ∷ [] else [])
+  ask_if format true f = refl
+  ask_if format false f = refl
 
-  end_actions : (p : Parameters) (due : Option FrameParts) → v.copies.omit ≡ p.omit → IfSome due (λ f. f.node < origins) → ((f : FrameParts) → due ≡ Some f → f.class ≡ class.Rel)
-      → timer_actions due v ≡ actions_of (end_effects p past due)
+  end_actions : (p : Parameters) (due : Option FrameParts) → v.copies.omit ≡ p.omit → IfSome due (λ f. f.node < most_nodes) → ((f : FrameParts) → due ≡ Some f → f.class ≡ class.Rel)
+      → timer_actions due v ≡ actions_of p.format (end_effects p past due)
   end_actions p None omit small rels = refl
   end_actions p (Some f) omit small rels =
       let rel = rels f refl in
-      ask_if (asks_at_end v f) f
-      ∙ ap (λ b. actions_of (if b then Ask f ∷ [] else []))
+      ask_if p.format (asks_at_end v f) f
+      ∙ ap (λ b. actions_of p.format (if b then Ask f ∷ [] else []))
       (rw (read_is f small, h.data_frames.copies f.number f.node small, omit, few_is p.omit (copies (data_identity f.number f.node) past)) refl
       ∙ ap (λ x. not (has_confirm x past) && not (has_enough p.omit x past)) (sym (identity_is class.Rel f rel)))
 
@@ -131,7 +132,7 @@ due_rel : (scenario : ScenarioParts) (i slot n : ℕ) (notice : NoticeKind) (pas
 due_rel scenario i slot n notice past v e f is = due_class i (drop n past) f (sym e.due ∙ is)
 
 marks_are : (scenario : ScenarioParts) (i slot n : ℕ) (notice : NoticeKind) (past : List NoticeKind) (v : RelcanParts) → HasRead scenario i notice past v
-    → Ends scenario i slot n notice past v → (due : Option FrameParts) → due_frame slot v ≡ due → IfSome due (λ f. f.node < origins)
+    → Ends scenario i slot n notice past v → (due : Option FrameParts) → due_frame slot v ≡ due → IfSome due (λ f. f.node < most_nodes)
     → AreMarksOf scenario.params.confirm i (notice ∷ past) (fallen_after due v.confirms v.fallen)
 marks_are scenario i slot n notice past v h e due is small s o =
     marks_after scenario i (notice ∷ past) v h.tables due small (λ f at. due_rel scenario i slot n notice past v e f (is ∙ at)) s o
@@ -142,13 +143,14 @@ marks_are scenario i slot n notice past v h e due is small s o =
     ∙ ap (λ k. fell_back k i (data_identity s o) (notice ∷ past)) (sym e.is)
 
 pub ended_stands : (scenario : ScenarioParts) (i slot : ℕ) (notice : NoticeKind) (past : List NoticeKind) (v w : RelcanParts) → HasRead scenario i notice past v → slot ≡ length past
-    → IfSome (due_frame slot v) (λ f. f.node < origins) → w ≡ after_timer (due_frame slot v) (without_due slot v) → IsRelcanOf scenario i (notice ∷ past) w
+    → IfSome (due_frame slot v) (λ f. f.node < most_nodes) → w ≡ after_timer (due_frame slot v) (without_due slot v) → IsRelcanOf scenario i (notice ∷ past) w
 ended_stands scenario i slot notice past v w h at small state =
     let e : Ends scenario i slot (scenario.params.confirm - 1) notice past v = ends scenario i slot notice past v h at in
     rw state (record {
       limits = record {
         legal = h.limits.legal;
         node = h.limits.node;
+        format = h.limits.format;
         confirm = h.limits.confirm;
         timers_room = h.limits.timers_room;
         fallen_room = fallen_fits slot v (due_frame slot v) refl h.limits.fallen_room;
@@ -159,20 +161,20 @@ ended_stands scenario i slot notice past v w h at small state =
     })
 
 pub turn_actions : (scenario : ScenarioParts) (i slot : ℕ) (notice : NoticeKind) (past : List NoticeKind) (v : RelcanParts) (before middle after : List Action)
-    → HasRead scenario i notice past v → slot ≡ length past → IfSome (due_frame slot v) (λ f. f.node < origins)
-    → middle ≡ before ++ actions_of (relcan_at scenario.params i notice past) → after ≡ middle ++ timer_actions (due_frame slot v) v
-    → after ≡ before ++ actions_of (relcan_effects scenario i (notice ∷ past))
+    → HasRead scenario i notice past v → slot ≡ length past → IfSome (due_frame slot v) (λ f. f.node < most_nodes)
+    → middle ≡ before ++ actions_of scenario.params.format (relcan_at scenario.params i notice past) → after ≡ middle ++ timer_actions (due_frame slot v) v
+    → after ≡ before ++ actions_of scenario.params.format (relcan_effects scenario i (notice ∷ past))
 unfolding relcan_effects
 turn_actions scenario i slot notice past v before middle after h at small first second =
     let n : ℕ = scenario.params.confirm - 1 in
     let e : Ends scenario i slot n notice past v = ends scenario i slot notice past v h at in
-    let timer : timer_actions (due_frame slot v) v ≡ actions_of (timer_effects scenario.params i (notice ∷ past)) =
+    let timer : timer_actions (due_frame slot v) v ≡ actions_of scenario.params.format (timer_effects scenario.params i (notice ∷ past)) =
     end_actions scenario i (notice ∷ past) v h.tables scenario.params (due_frame slot v) h.tables.data_frames.omit small (due_rel scenario i slot n notice past v e)
-    ∙ ap (λ d. actions_of (end_effects scenario.params (notice ∷ past) d)) e.due
-    ∙ ap actions_of (sym (timer_effects-is scenario.params i n notice past e.is)) in
+    ∙ ap (λ d. actions_of scenario.params.format (end_effects scenario.params (notice ∷ past) d)) e.due
+    ∙ ap (actions_of scenario.params.format) (sym (timer_effects-is scenario.params i n notice past e.is)) in
     second
     ∙ ap (λ actions. actions ++ timer_actions (due_frame slot v) v) first
-    ∙ append_assoc before (actions_of (relcan_at scenario.params i notice past)) (timer_actions (due_frame slot v) v)
+    ∙ append_assoc before (actions_of scenario.params.format (relcan_at scenario.params i notice past)) (timer_actions (due_frame slot v) v)
     ∙ ap (λ actions. before ++ actions)
-    (ap (λ actions. actions_of (relcan_at scenario.params i notice past) ++ actions) timer
-    ∙ sym (map-append action_of (relcan_at scenario.params i notice past) (timer_effects scenario.params i (notice ∷ past))))
+    (ap (λ actions. actions_of scenario.params.format (relcan_at scenario.params i notice past) ++ actions) timer
+    ∙ sym (map-append (action_of scenario.params.format) (relcan_at scenario.params i notice past) (timer_effects scenario.params i (notice ∷ past))))

@@ -2,7 +2,6 @@ pub mod ActionFacts
 pub mod AheadFacts
 pub mod EndFacts
 pub mod ListFacts
-pub mod OneSendFacts
 pub mod ReadFacts
 pub mod TablesFacts
 pub mod TimerFacts

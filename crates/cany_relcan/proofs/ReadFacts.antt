@@ -12,8 +12,10 @@ use Rattle.cany_base.specs.declared.notice.NoticeKind.{NoticeKind}
 use Rattle.cany_base.specs.declared.notice.NoticeKind.TheVariants.{Idle, Got, Sent, Bad}
 use Rattle.cany_base.specs.Frame.{FrameParts}
 use Rattle.cany_base.specs.Scenario.{ScenarioParts}
+use Rattle.cany_base.proofs.ParamsFacts.{few_slots}
 use Rattle.cany_diffuse.specs.Eager.{EagerParts, is_held, is_there, spare_of, IsPut, IsLearnt, IsOwned}
-use Rattle.cany_message.specs.Numbers.{origins, frame_number}
+use Rattle.cany_base.specs.Limits.{most_nodes}
+use Rattle.cany_message.specs.Numbers.{frame_number}
 use Rattle.cany_message.proofs.HistoryFacts.{has_copy-counted, identity_is}
 use Rattle.cany_message.proofs.TableFacts.{IsOther}
 use Rattle.cany_model.specs.Bus.Frames.{identity_of, same_class}
@@ -88,7 +90,7 @@ no_timer i (Got f) past other = rw other refl
 -- ---- a frame of RELCAN
 
 module _ (scenario : ScenarioParts) (i : ℕ) (past : List NoticeKind) (v w : RelcanParts) (f : FrameParts) (h : IsRelcanOf scenario i past v)
-    (small : f.node < origins) (named : NamesMessage scenario service.Rel f) where
+    (small : f.node < most_nodes) (named : NamesMessage scenario service.Rel f) where
   starts_is : f.class ≡ class.Rel → same_class f.class class.Rel ≡ true → starts_timer v f ≡ (is_timed i (identity_of f) && not (has_copy (identity_of f) past))
   starts_is rel is =
       (rw (h.tables.data_frames.copies f.number f.node small, h.tables.data_frames.owned f.number f.node small, h.limits.node)
@@ -110,11 +112,12 @@ module _ (scenario : ScenarioParts) (i : ℕ) (past : List NoticeKind) (v w : Re
         limits = record {
           legal = h.limits.legal;
           node = ap (λ (x : RelcanParts). x.node) state ∙ h.limits.node;
+          format = ap (λ (x : RelcanParts). x.format) state ∙ h.limits.format;
           confirm = ap (λ (x : RelcanParts). x.confirm) state ∙ h.limits.confirm;
           timers_room = timers_fit (starts_timer v f) slot f v w timers learnt.put (new_entry v f there) h.limits.timers_room;
           fallen_room = fallen_fit (starts_timer v f) slot f v w timers fallen (spare_for_timer v f w.copies there h.limits.timers_room learnt.put) h.limits.fallen_room;
         };
-        tables = rw confirms (tables_got scenario i past v.copies v.confirms h.tables f small named w.copies rel (omega (arith, at, within, h.limits.legal.in_range.slots)) learnt);
+        tables = rw confirms (tables_got scenario i past v.copies v.confirms h.tables f small named w.copies rel (omega (arith, at, within, few_slots scenario.params h.limits.legal.in_range)) learnt);
         timers =
             ap (λ (t : TimersParts). t.running) timers
             ∙ with_is (starts_timer v f) slot (length past) f v.timers at
@@ -128,7 +131,7 @@ module _ (scenario : ScenarioParts) (i : ℕ) (past : List NoticeKind) (v w : Re
       → IsLearnt (frame_number f) v.confirms w.confirms → w ≡ record v { confirms = w.confirms } → HasRead scenario i (Got f) past w
   read_confirmation is other within learnt state = subst (HasRead scenario i (Got f) past) (sym state) (record {
     limits = same_limits;
-    tables = tables_confirmed scenario i past v.copies v.confirms h.tables f small named w.confirms is (omega (arith, within, h.limits.legal.in_range.slots)) learnt;
+    tables = tables_confirmed scenario i past v.copies v.confirms h.tables f small named w.confirms is (omega (arith, within, few_slots scenario.params h.limits.legal.in_range)) learnt;
     timers = none_started i scenario.params.confirm (Got f) past v.timers.running h.timers (no_timer i (Got f) past other);
     fallen = h.fallen;
   })
@@ -137,6 +140,7 @@ module _ (scenario : ScenarioParts) (i : ℕ) (past : List NoticeKind) (v w : Re
       same_limits = record {
         legal = h.limits.legal;
         node = h.limits.node;
+        format = h.limits.format;
         confirm = h.limits.confirm;
         timers_room = h.limits.timers_room;
         fallen_room = h.limits.fallen_room;
@@ -155,6 +159,7 @@ module _ (scenario : ScenarioParts) (i : ℕ) (past : List NoticeKind) (v w : Re
       same_limits = record {
         legal = h.limits.legal;
         node = h.limits.node;
+        format = h.limits.format;
         confirm = h.limits.confirm;
         timers_room = omega (arith, owned.put.spare, h.limits.timers_room);
         fallen_room = h.limits.fallen_room;

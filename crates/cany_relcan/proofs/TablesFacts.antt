@@ -12,7 +12,8 @@ use Rattle.cany_base.specs.declared.notice.NoticeKind.TheVariants.{Idle, Got, Se
 use Rattle.cany_base.specs.Frame.{FrameParts}
 use Rattle.cany_base.specs.Scenario.{ScenarioParts}
 use Rattle.cany_diffuse.specs.Eager.{EagerParts, copies_of, IsFresh, IsLearnt, IsOwned}
-use Rattle.cany_message.specs.Numbers.{origins, message_number, frame_number}
+use Rattle.cany_base.specs.Limits.{most_nodes, most_slots}
+use Rattle.cany_message.specs.Numbers.{message_number, frame_number}
 use Rattle.cany_message.proofs.HistoryFacts.{has_copy-counted, identity_is, is_not_this}
 use Rattle.cany_message.proofs.NoticeFacts.{got_belongs}
 use Rattle.cany_message.proofs.TableFacts.{IsOther, table_fresh, table_got, table_other, table_sent}
@@ -32,7 +33,7 @@ pub confirm_names : (scenario : ScenarioParts) (past : List NoticeKind) (notice 
 confirm_names scenario past notice f next kind is = confirmation_names scenario notice.slot f.class f is (got_belongs scenario past notice f next kind)
 
 -- whether a confirmation was read
-pub confirmed_is : (scenario : ScenarioParts) (i : ℕ) (past : List NoticeKind) (copies confirms : EagerParts) → AreTablesOf scenario i past copies confirms → (s o : ℕ) → o < origins
+pub confirmed_is : (scenario : ScenarioParts) (i : ℕ) (past : List NoticeKind) (copies confirms : EagerParts) → AreTablesOf scenario i past copies confirms → (s o : ℕ) → o < most_nodes
     → nat_lt 0 (copies_of confirms (message_number s o)) ≡ has_confirm (data_identity s o) past
 confirmed_is scenario i past copies confirms h s o near = ap (nat_lt 0) (h.confirmations.copies s o near) ∙ sym (has_copy-counted (confirm_of (data_identity s o)) past)
 
@@ -80,15 +81,15 @@ module _ (scenario : ScenarioParts) (i : ℕ) (past : List NoticeKind) (copies c
   ]
 
   -- a frame of a message of RELCAN
-  module _ (f : FrameParts) (small : f.node < origins) (named : NamesMessage scenario service.Rel f) (new : EagerParts) where
-    pub tables_got : f.class ≡ class.Rel → length past < 1000000 → IsLearnt (frame_number f) copies new → AreTablesOf scenario i (Got f ∷ past) new confirms
+  module _ (f : FrameParts) (small : f.node < most_nodes) (named : NamesMessage scenario service.Rel f) (new : EagerParts) where
+    pub tables_got : f.class ≡ class.Rel → length past < most_slots → IsLearnt (frame_number f) copies new → AreTablesOf scenario i (Got f ∷ past) new confirms
     tables_got is short learnt = record {
       data_frames = table_got scenario class.Rel (of_own i) service.Rel f is small named past copies new h.data_frames short learnt;
       confirmations = table_other scenario class.Confirm of_none (Got f) past confirms (data_other f is) h.confirmations;
       named = named_then f named;
     }
 
-    pub tables_confirmed : f.class ≡ class.Confirm → length past < 1000000 → IsLearnt (frame_number f) confirms new → AreTablesOf scenario i (Got f ∷ past) copies new
+    pub tables_confirmed : f.class ≡ class.Confirm → length past < most_slots → IsLearnt (frame_number f) confirms new → AreTablesOf scenario i (Got f ∷ past) copies new
     tables_confirmed is short learnt = record {
       data_frames = table_other scenario class.Rel (of_own i) (Got f) past copies (confirmation_other f is) h.data_frames;
       confirmations = table_got scenario class.Confirm of_none service.Rel f is small named past confirms new h.confirmations short learnt;

@@ -2,6 +2,7 @@
 use Rattle.std.specs.Prelude.{◌≡◌, ℕ, ◌+◌, ◌≤◌, ◌==◌, ◌&&◌, Bool, true, false, List, ◌∷◌, ◌++◌, length}
 use Rattle.std.specs.List.{list_any}
 use Rattle.cany_base.specs.declared.frame.Class.TheVariants as class
+use Rattle.cany_base.specs.declared.frame.Format.{Format}
 use Rattle.cany_base.specs.declared.message.MsgKey.{MsgKey}
 use Rattle.cany_base.specs.declared.message.Service.TheVariants.{Rel}
 use Rattle.cany_base.specs.declared.notice.Notice.{Notice}
@@ -16,10 +17,11 @@ use Rattle.cany_model.specs.Rules.Notices.{IsNextNotice, NamesMessage}
 use Rattle.cany_model.specs.Rules.Relcan.{fell_back, has_copy}
 use Rattle.cany_relcan.specs.Timers.{TimersParts, started_by, started_since}
 
--- the node, how long a timer runs, the copies of data frames and of confirmations, the timers that run, and the messages for
--- which the node fell back
+-- the node, the format of identifiers, how long a timer runs, the copies of data frames and of confirmations, the timers that
+-- run, and the messages for which the node fell back
 pub record RelcanParts : Type 0 where
   pub node : ℕ
+  pub format : Format
   pub confirm : ℕ
   pub copies : EagerParts
   pub confirms : EagerParts
@@ -41,10 +43,12 @@ of_own i origin = origin == i
 abbrev pub of_none : ℕ → Bool
 of_none origin = false
 
--- The value is that of a node of the scenario, with room for each of its messages.
+-- The value is that of a node of the scenario, with room for each of its messages. Its identifiers are those of the scenario's
+-- format.
 pub record HasLimitsOf (scenario : ScenarioParts) (i : ℕ) (v : RelcanParts) : Type 0 where
   pub legal : IsLegalScenario scenario
   pub node : v.node ≡ i
+  pub format : v.format ≡ scenario.params.format
   pub confirm : v.confirm ≡ scenario.params.confirm
   pub timers_room : spare_of v.copies ≤ v.timers.spare
   pub fallen_room : length v.fallen.items + length v.timers.running + v.timers.spare ≤ v.fallen.room

@@ -9,7 +9,9 @@ ghost use Rattle.cany_base.specs.Frame.{FrameParts};
 ghost use Rattle.cany_base.specs.Scenario.{ScenarioParts};
 ghost use Rattle.cany_diffuse.specs.Eager.{copies_of, is_held, is_owned, is_there, learnt_of, spare_of, IsCounted, IsLearnt, IsOwned};
 ghost use Rattle.cany_message.specs.Actions.{delivery_actions, withdraw_actions};
-ghost use Rattle.cany_message.specs.Numbers.{frame_number, origins};
+ghost use Rattle.cany_base.specs.Limits.{most_nodes};
+ghost use Rattle.can_frame.specs.Identifier.{HasSmallNumbers};
+ghost use Rattle.cany_message.specs.Numbers.{frame_number};
 ghost use Rattle.cany_message.specs.Table.{CanTake};
 ghost use Rattle.cany_model.specs.Rules.Actions.{actions_of};
 ghost use Rattle.cany_model.specs.Bus.Frames.{same_class};
@@ -22,8 +24,8 @@ ghost use Rattle.cany_relcan.specs.RelcanSteps.{after_timer, due_frame, is_enoug
 use crate::frames::{Confirmation, Data, confirmation_of, is_confirmation, is_data};
 use crate::timers::{Timer, Timers};
 use cany_base::{
-    Action, Actions, BoundedVec, Frame, Memory, MsgKey, NodeId, Notice, NoticeKind, Payload,
-    Scenario, Service, Slot,
+    Action, Actions, BoundedVec, Format, Frame, Memory, MsgKey, NodeId, Notice, NoticeKind,
+    Payload, Scenario, Service, Slot,
 };
 use cany_diffuse::{Diffused, Eager, Learnt};
 use cany_message::{deliver, withdraw};
@@ -40,6 +42,8 @@ use std::marker::Model;
 #[derive(Drop)]
 pub struct Relcan {
     node: NodeId,
+    /// The scenario's, in which a withdrawal names its frame.
+    format: Format,
     confirm: u64,
     copies: Eager<Data>,
     confirms: Eager<Confirmation>,
@@ -53,7 +57,7 @@ impl Model for Relcan {
 
     ghost Value = { RelcanParts };
 
-    ghost view = { λ r. record { node = r.node; confirm = r.confirm; copies = r.copies; confirms = r.confirms; timers = r.timers; fallen = r.fallen } };
+    ghost view = { λ r. record { node = r.node; format = r.format; confirm = r.confirm; copies = r.copies; confirms = r.confirms; timers = r.timers; fallen = r.fallen } };
 }
 
 impl Relcan {
@@ -70,6 +74,7 @@ impl Relcan {
         let fallen = BoundedVec::build(alloc, room)?;
         Ok(Relcan {
             node,
+            format: params.format,
             confirm: params.confirm,
             copies,
             confirms,
@@ -97,7 +102,7 @@ impl Relcan {
         requires reads { CanRead self.old notice.now }
         requires room { length out.old.items + 3 ≤ out.old.room }
         ensures actions { (scenario : ScenarioParts) (past : List NoticeKind) → IsRelcanOf scenario self.old.node past self.old → IsNextNotice scenario past notice.now
-            → out.new.items ≡ out.old.items ++ actions_of (relcan_effects scenario self.old.node (notice.now.kind ∷ past)) }
+            → out.new.items ≡ out.old.items ++ actions_of scenario.params.format (relcan_effects scenario self.old.node (notice.now.kind ∷ past)) }
         ensures stands { (scenario : ScenarioParts) (past : List NoticeKind) → IsRelcanOf scenario self.old.node past self.old → IsNextNotice scenario past notice.now
             → IsRelcanOf scenario self.old.node (notice.now.kind ∷ past) self.new }
         ensures few { length out.new.items ≤ length out.old.items + 3 }
@@ -127,7 +132,7 @@ impl Relcan {
         requires reads { CanRead self.old notice.now }
         requires room { length out.old.items + 2 ≤ out.old.room }
         ensures actions { (scenario : ScenarioParts) (past : List NoticeKind) → IsRelcanOf scenario self.old.node past self.old → IsNextNotice scenario past notice.now
-            → out.new.items ≡ out.old.items ++ actions_of (relcan_at scenario.params self.old.node notice.now.kind past) }
+            → out.new.items ≡ out.old.items ++ actions_of scenario.params.format (relcan_at scenario.params self.old.node notice.now.kind past) }
         ensures stands { (scenario : ScenarioParts) (past : List NoticeKind) → IsRelcanOf scenario self.old.node past self.old → IsNextNotice scenario past notice.now
             → HasRead scenario self.old.node notice.now.kind past self.new }
         ensures node { self.new.node ≡ self.old.node }
@@ -155,16 +160,17 @@ impl Relcan {
     /// A copy of a data frame: the message is delivered if it was not before, and at a node other than its origin the first copy
     /// starts the timer. With enough copies the frame is withdrawn if the node fell back.
     fn on_copy(&mut self, slot: Slot, frame: &Frame, out: &mut Actions)
+        requires small { HasSmallNumbers self.old.format frame.now }
         requires takes { CanTake (frame_number frame.now) self.old.copies }
         requires there { is_there self.old.copies (frame_number frame.now) ≡ is_held self.old.copies (frame_number frame.now) }
         requires timers { spare_of self.old.copies ≤ self.old.timers.spare }
         requires room { length out.old.items + 2 ≤ out.old.room }
         ensures learnt { IsLearnt (frame_number frame.now) self.old.copies self.new.copies }
-        ensures in_range { frame.now.node < origins }
+        ensures in_range { frame.now.node < most_nodes }
         ensures state { self.new ≡ record self.old { copies = self.new.copies; timers = timers_with (starts_timer self.old frame.now) slot frame.now self.old.timers } }
         ensures actions { let learnt = learnt_of self.old.copies.omit (copies_of self.new.copies (frame_number frame.now)) (is_owned self.old.copies (frame_number frame.now)) in
             out.new.items ≡ (out.old.items ++ delivery_actions service.Rel slot (not (was_delivered self.old frame.now)) frame.now)
-            ++ withdraw_actions (is_enough learnt && is_fallen self.old frame.now) frame.now }
+            ++ withdraw_actions self.old.format (is_enough learnt && is_fallen self.old frame.now) frame.now }
         ensures room { out.new.room ≡ out.old.room }
         ensures few { length out.new.items ≤ length out.old.items + 2 }
     {
@@ -172,7 +178,7 @@ impl Relcan {
         deliver(Service::Rel, slot, frame, is_first, out);
         let learnt = self.copies.learn(Data::of(frame));
         self.start_timer(slot, frame, is_first);
-        withdraw(frame, self.is_late(&learnt, frame), out);
+        withdraw(self.format, frame, self.is_late(&learnt, frame), out);
     }
 
     /// The first copy of a message of another node starts its timer.
@@ -199,7 +205,7 @@ impl Relcan {
     fn on_confirmation(&mut self, frame: &Frame)
         requires { CanTake (frame_number frame.now) self.old.confirms }
         ensures learnt { IsLearnt (frame_number frame.now) self.old.confirms self.new.confirms }
-        ensures in_range { frame.now.node < origins }
+        ensures in_range { frame.now.node < most_nodes }
         ensures state { self.new ≡ record self.old { confirms = self.new.confirms } }
     {
         let confirmation = confirmation_of(Data::of(frame).msg);
@@ -215,7 +221,7 @@ impl Relcan {
         requires takes { CanTake (frame_number frame.now) self.old.copies }
         requires room { length out.old.items + 2 ≤ out.old.room }
         ensures owned { IsOwned (frame_number frame.now) self.old.copies self.new.copies }
-        ensures in_range { frame.now.node < origins }
+        ensures in_range { frame.now.node < most_nodes }
         ensures state { self.new ≡ record self.old { copies = self.new.copies } }
         ensures actions { out.new.items ≡ (out.old.items ++ delivery_actions service.Rel slot (not (was_delivered self.old frame.now)) frame.now)
             ++ action.Ask (confirm_frame frame.now) ∷ [] }
@@ -236,7 +242,7 @@ impl Relcan {
         requires room { length out.old.items < out.old.room }
         ensures state { self.new ≡ after_timer (due_frame slot self.old) (without_due slot self.old) }
         ensures actions { out.new.items ≡ out.old.items ++ timer_actions (due_frame slot self.old) self.old }
-        ensures in_range { IfSome (due_frame slot self.old) (λ f. f.node < origins) }
+        ensures in_range { IfSome (due_frame slot self.old) (λ f. f.node < most_nodes) }
         ensures few { length out.new.items ≤ length out.old.items + 1 }
         ensures room { out.new.room ≡ out.old.room }
     {
@@ -255,7 +261,7 @@ impl Relcan {
         requires room { length out.old.items < out.old.room }
         ensures state { self.new ≡ after_timer (Some frame.now) self.old }
         ensures actions { out.new.items ≡ out.old.items ++ timer_actions (Some frame.now) self.old }
-        ensures in_range { frame.now.node < origins }
+        ensures in_range { frame.now.node < most_nodes }
         ensures few { length out.new.items ≤ length out.old.items + 1 }
         ensures room { out.new.room ≡ out.old.room }
     {
@@ -279,7 +285,7 @@ impl Relcan {
     /// Whether the message of a data frame was delivered.
     fn was_delivered(&self, frame: &Frame) -> bool
         ensures delivered { result ≡ was_delivered self.now frame.now }
-        ensures in_range { frame.now.node < origins }
+        ensures in_range { frame.now.node < most_nodes }
         ensures counted { IsCounted self.now.copies }
     {
         self.copies.holds(&Data::of(frame))

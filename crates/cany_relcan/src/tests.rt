@@ -1,43 +1,75 @@
-ghost use Rattle.std.specs.Prelude.{◌≡◌, ◌+◌, ◌<◌, ◌≤◌, [], ◌∷◌, length, replicate, IfOk};
+ghost use Rattle.std.specs.Prelude.{◌≡◌, ◌+◌, ◌<◌, ◌≤◌, ◌∷◌, All, length, replicate, IfOk};
 ghost use Rattle.cany_base.specs.declared.message.Service.TheVariants.{Rel};
 ghost use Rattle.cany_base.specs.declared.notice.NoticeKind.TheVariants.{Idle};
+ghost use Rattle.cany_base.specs.Params.{IsInRange, MeetsFormulas};
+ghost use Rattle.cany_base.specs.Scenario.{IsSendOf};
 ghost use Rattle.cany_model.specs.Rules.Notices.{IsNextNotice};
 
 use crate::relcan::Relcan;
 use cany_base::{
-    Action, Actions, Class, Frame, LogEntry, Memory, MsgKey, NodeId, NodeSet, Notice, NoticeKind,
-    Params, Payload, Scenario, SendAsk, Service,
+    Action, Actions, Class, Format, Frame, LogEntry, Memory, MsgKey, NodeId, NodeSet, Notice,
+    NoticeKind, Params, Payload, Scenario, SendAsk, Service,
 };
 use std::alloc::Global;
 use std::test::Fail;
 
-/// Three nodes, of which one sends the payload by RELCAN in slot 0. Timers run for two slots.
-fn one_send(alloc: Global, node: NodeId, payload: Payload) -> Result<Scenario, Memory>
-    requires { node < 3 }
-    ensures nodes { IfOk result (λ s. s.params.nodes ≡ 3) }
-    ensures slots { IfOk result (λ s. s.params.slots ≡ 100) }
-    ensures sends { IfOk result (λ s. s.sends ≡ record { slot = 0; node = node; service = Rel; payload = payload } ∷ []) }
+/// Three nodes, whose timers run for two slots.
+fn three_nodes() -> Params
+    ensures ranges { IsInRange result }
+    ensures formulas { MeetsFormulas result }
+    ensures nodes { result.nodes ≡ 3 }
+    ensures slots { result.slots ≡ 100 }
 {
-    let send = SendAsk {
-        slot: 0,
-        node,
-        service: Service::Rel,
-        payload,
-    };
-    let params = Params {
+    Params {
         confirm: 2,
         ..Params::with_defaults(3, 100)
-    };
-    let sends = Vec::from_slice(alloc, &[send])?;
+    }
+}
+
+/// 41 nodes in the second format, whose timers run for one slot.
+fn forty_one_nodes() -> Params
+    ensures ranges { IsInRange result }
+    ensures formulas { MeetsFormulas result }
+    ensures nodes { result.nodes ≡ 41 }
+    ensures slots { result.slots ≡ 100 }
+{
+    Params {
+        confirm: 1,
+        ..Params::with_defaults_of(Format::Two, 41, 100)
+    }
+}
+
+/// A scenario without faults, in which all nodes are members.
+fn scenario_of(alloc: Global, params: Params, sends: &[SendAsk]) -> Result<Scenario, Memory>
+    requires ranges { IsInRange params }
+    requires formulas { MeetsFormulas params }
+    requires sends { All (IsSendOf params) sends.now }
+    requires few { length sends.now ≤ 2 }
+    ensures params { IfOk result (λ s. s.params ≡ params) }
+    ensures sends { IfOk result (λ s. s.sends ≡ sends.now) }
+{
+    let sends = Vec::from_slice(alloc, sends)?;
     Ok(Scenario::of_parts(
         params,
-        NodeSet::all(3),
+        NodeSet::all(params.nodes),
         sends,
         Vec::new(alloc),
         Vec::new(alloc),
         Vec::new(alloc),
         None,
     ))
+}
+
+/// A send of the payload by RELCAN in slot 0.
+fn send_of(node: NodeId, payload: Payload) -> SendAsk
+    ensures { result ≡ record { slot = 0; node = node; service = Rel; payload = payload } }
+{
+    SendAsk {
+        slot: 0,
+        node,
+        service: Service::Rel,
+        payload,
+    }
 }
 
 /// Node 1 reads three notices from slot 3 on. Tells after each whether a timer of the message lies ahead.
@@ -50,7 +82,7 @@ fn read_three(
     msg: &MsgKey,
     out: &mut Actions,
 ) -> Result<[bool; 3], Memory>
-    requires nodes { scenario.now.params.nodes ≡ 3 }
+    requires nodes { 1 < scenario.now.params.nodes }
     requires first { IsNextNotice scenario.now (replicate 3 Idle) first.now }
     requires second { IsNextNotice scenario.now (first.now.kind ∷ replicate 3 Idle) second.now }
     requires third { IsNextNotice scenario.now (second.now.kind ∷ first.now.kind ∷ replicate 3 Idle) third.now }
@@ -68,9 +100,9 @@ fn read_three(
 
 #[test]
 fn a_message_without_confirmation_is_asked_for(rt: HostRuntime) -> Result<(), Fail> {
-    let node = NodeId::new(2).ok_or("a node below 32")?;
+    let node = NodeId::new(2).ok_or("a node")?;
     let payload = Payload::of(&[7]).ok_or("at most eight bytes")?;
-    let scenario = one_send(rt.alloc(), node, payload)?;
+    let scenario = scenario_of(rt.alloc(), three_nodes(), &[send_of(node, payload)])?;
     let msg = MsgKey {
         origin: node,
         seq: 0,
@@ -117,9 +149,9 @@ fn a_message_without_confirmation_is_asked_for(rt: HostRuntime) -> Result<(), Fa
 
 #[test]
 fn a_confirmation_in_time_ends_the_wait(rt: HostRuntime) -> Result<(), Fail> {
-    let node = NodeId::new(2).ok_or("a node below 32")?;
+    let node = NodeId::new(2).ok_or("a node")?;
     let payload = Payload::of(&[7]).ok_or("at most eight bytes")?;
-    let scenario = one_send(rt.alloc(), node, payload)?;
+    let scenario = scenario_of(rt.alloc(), three_nodes(), &[send_of(node, payload)])?;
     let msg = MsgKey {
         origin: node,
         seq: 0,
@@ -163,10 +195,65 @@ fn a_confirmation_in_time_ends_the_wait(rt: HostRuntime) -> Result<(), Fail> {
 }
 
 #[test]
-fn a_message_is_asked_for(rt: HostRuntime) -> Result<(), Fail> {
-    let node = NodeId::new(2).ok_or("a node below 32")?;
+fn a_withdrawal_names_the_identifier_of_the_second_format(rt: HostRuntime) -> Result<(), Fail> {
+    let node = NodeId::new(40).ok_or("a node")?;
     let payload = Payload::of(&[7]).ok_or("at most eight bytes")?;
-    let scenario = one_send(rt.alloc(), node, payload)?;
+    let sends = [send_of(node, payload), send_of(node, payload)];
+    let scenario = scenario_of(rt.alloc(), forty_one_nodes(), &sends)?;
+    let msg = MsgKey {
+        origin: node,
+        seq: 1,
+    };
+    let frame = Frame {
+        class: Class::Rel,
+        number: 1,
+        node,
+        inc: 0,
+        payload,
+    };
+    let mut out = Actions::build(rt.alloc(), 9)?;
+    let ahead = read_three(
+        rt.alloc(),
+        &scenario,
+        &Notice {
+            slot: 3,
+            kind: NoticeKind::Got(frame),
+        },
+        &Notice {
+            slot: 4,
+            kind: NoticeKind::Idle,
+        },
+        &Notice {
+            slot: 5,
+            kind: NoticeKind::Got(frame),
+        },
+        &msg,
+        &mut out,
+    )?;
+    let delivery = Action::Enter(LogEntry::Deliver {
+        slot: 3,
+        service: Service::Rel,
+        msg: MsgKey {
+            origin: node,
+            seq: 1,
+        },
+        payload,
+    });
+    // Class 8 at bit 25, number 1 at bit 10, node 40 at bit 4.
+    let withdrawal = Action::Withdraw { ident: 268_437_120 };
+    assert_eq!(rt;
+        out.as_slice(),
+        [delivery, Action::Ask(frame), withdrawal].as_slice()
+    );
+    assert_eq!(rt; ahead, [true, false, false]);
+    Ok(())
+}
+
+#[test]
+fn a_message_is_asked_for(rt: HostRuntime) -> Result<(), Fail> {
+    let node = NodeId::new(2).ok_or("a node")?;
+    let payload = Payload::of(&[7]).ok_or("at most eight bytes")?;
+    let scenario = scenario_of(rt.alloc(), three_nodes(), &[send_of(node, payload)])?;
     let mut relcan = Relcan::build(rt.alloc(), node, &scenario)?;
     let mut out = Actions::build(rt.alloc(), 1)?;
     let msg = MsgKey {

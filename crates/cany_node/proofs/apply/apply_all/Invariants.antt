@@ -8,5 +8,5 @@ use Rattle.cany_node.proofs.apply.apply_all.Given as goal
 
 abbrev pub invariant-loop-action : goal.invariant-loop-action
 invariant-loop-action l =
-    (scenario : ScenarioParts) (effects : List Effect) → IsLegalScenario scenario → l.out.items ≡ actions_of effects
+    (scenario : ScenarioParts) (effects : List Effect) → IsLegalScenario scenario → l.fn.ctl.params.format ≡ scenario.params.format → l.out.items ≡ actions_of scenario.params.format effects
     → AllByRecursion (NamesAskable scenario) effects → AreDone (take l.action-index effects) l.fn.ctl l.ctl l.fn.log l.log

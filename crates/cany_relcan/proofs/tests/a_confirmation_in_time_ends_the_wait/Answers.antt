@@ -1,18 +1,25 @@
-use Rattle.std.proofs.Common.{replicate, ◌∷◌, refl, arith}
-use Rattle.cany_base.specs.declared.frame.Class.TheVariants as class
+use Rattle.std.proofs.Common.{[], ◌∷◌, replicate, refl, ap, ◌∙◌, arith}
 use Rattle.cany_base.specs.declared.message.SendAsk.{SendAsk}
 use Rattle.cany_base.specs.declared.message.Service.TheVariants.{Rel}
-use Rattle.cany_base.specs.declared.notice.NoticeKind.TheVariants.{Idle, Got}
-use Rattle.cany_relcan.proofs.OneSendFacts.{data_next, confirmation_next}
+use Rattle.cany_base.specs.declared.notice.NoticeKind.TheVariants.{Idle}
+use Rattle.cany_base.specs.Params.{Parameters}
+use Rattle.cany_message.proofs.FewSendsFacts.{got_next, only_data, only_message}
+use Rattle.cany_model.specs.Rules.Messages.{message_of}
 use Rattle.cany_relcan.proofs.tests.a_confirmation_in_time_ends_the_wait.Goals as goal
 
 pub read_three-requires-clause-first : goal.read_three-requires-clause-first
 read_three-requires-clause-first g c =
     let send : SendAsk = record { slot = 0; node = c.in_ok-node.node; service = Rel; payload = c.in_ok-payload.payload } in
-    data_next c.in_ok-scenario.scenario send (replicate 3 Idle) 3 c.in_ok-scenario.ensures.sends refl refl (omega (arith, c.in_ok-scenario.ensures.slots))
+    let only = c.in_ok-scenario.ensures.sends ∙ (λ k. c.send_of.ensures k ∷ []) in
+    got_next c.in_ok-scenario.scenario (replicate 3 Idle) 3 Rel _ (only_data c.in_ok-scenario.scenario send only) refl refl
+    (omega (arith, ap (λ (p : Parameters). p.slots) c.in_ok-scenario.ensures.params, c.three_nodes.ensures.slots))
 
 pub read_three-requires-clause-second : goal.read_three-requires-clause-second
 read_three-requires-clause-second g c =
     let send : SendAsk = record { slot = 0; node = c.in_ok-node.node; service = Rel; payload = c.in_ok-payload.payload } in
-    confirmation_next c.in_ok-scenario.scenario send (Got (record { class = class.Rel; number = 0; node = send.node; inc = 0; payload = send.payload }) ∷ replicate 3 Idle) 4 _
-    c.in_ok-scenario.ensures.sends refl refl (omega (arith, c.in_ok-scenario.ensures.slots))
+    let only = c.in_ok-scenario.ensures.sends ∙ (λ k. c.send_of.ensures k ∷ []) in
+    record {
+      slot = refl;
+      within = omega (arith, ap (λ (p : Parameters). p.slots) c.in_ok-scenario.ensures.params, c.three_nodes.ensures.slots);
+      readable = record { message = message_of [] send; stands = only_message c.in_ok-scenario.scenario send only; sent_by = refl; number = refl; origin = refl };
+    }

@@ -1,11 +1,14 @@
 use Rattle.std.proofs.Common.{sym, ◌∙◌}
 use Rattle.cany_base.specs.declared.notice.NoticeKind.TheVariants.{Idle, Got, Sent, Bad}
-use Rattle.cany_edcan.proofs.EdcanFacts.{takes_got, takes_sent, got_stands, sent_stands, got_acts, sent_acts, sent_other, other_stands, other_acts}
+use Rattle.cany_edcan.proofs.EdcanFacts.{small_copy, takes_got, takes_sent, got_stands, sent_stands, got_acts, sent_acts, sent_other, other_stands, other_acts}
 use Rattle.cany_edcan.proofs.edcan.Edcan.on.Goals as goal
 
 pub on_copy-requires-clause-takes : goal.on_copy-requires-clause-takes
 on_copy-requires-clause-takes c =
     takes_got c.args.self.now c.args.notice.now c.in-Got.frame c.requires.reads c.in-Got.is (sym c.is_data.ensures ∙ c.if-is_data.true)
+
+pub on_copy-requires-clause-small : goal.on_copy-requires-clause-small
+on_copy-requires-clause-small c = small_copy c.args.self.now c.args.notice.now c.in-Got.frame c.requires.reads c.in-Got.is
 
 pub on_own-requires-clause-takes : goal.on_own-requires-clause-takes
 on_own-requires-clause-takes c =
@@ -14,7 +17,7 @@ on_own-requires-clause-takes c =
 pub returns-then-is_data-clause-stands : goal.returns-then-is_data-clause-stands
 returns-then-is_data-clause-stands c = λ scenario past h next.
     got_stands scenario past c.args.self.now c.on_copy.new.self c.args.notice.now c.in-Got.frame h next (sym c.is_data.ensures ∙ c.if-is_data.true)
-    c.on_copy.ensures.in_range c.in-Got.is c.on_copy.ensures.learnt c.on_copy.ensures.node
+    c.on_copy.ensures.in_range c.in-Got.is c.on_copy.ensures.learnt c.on_copy.ensures.state
 
 pub returns-then-is_data-clause-actions : goal.returns-then-is_data-clause-actions
 returns-then-is_data-clause-actions c = λ scenario past h next.
@@ -33,7 +36,7 @@ returns-else-is_data-clause-actions c = λ scenario past h next.
 pub returns-then-is_data-2-clause-stands : goal.returns-then-is_data-2-clause-stands
 returns-then-is_data-2-clause-stands c = λ scenario past h next.
     sent_stands scenario past c.args.self.now c.on_own.new.self c.args.notice.now c.in-Sent.frame h next (sym c.is_data-in-Sent.ensures ∙ c.if-is_data-2.true)
-    c.on_own.ensures.in_range c.in-Sent.is c.on_own.ensures.owned c.on_own.ensures.node
+    c.on_own.ensures.in_range c.in-Sent.is c.on_own.ensures.owned c.on_own.ensures.state
 
 pub returns-then-is_data-2-clause-actions : goal.returns-then-is_data-2-clause-actions
 returns-then-is_data-2-clause-actions c = λ scenario past h next.

@@ -29,13 +29,14 @@ apply_all-requires c =
     (listed scenario past c.args.notice.now _ kept next _ _ _ _ c.requires.free
     (c.on.ensures.actions scenario past (edcan_stands _ _ _ _ kept next) next) (c.on-2.ensures.actions scenario past (relcan_stands _ _ _ _ kept next) next)
     (c.send_due.ensures.asks scenario (agenda_stands _ _ _ _ kept next)))
-    c.requires.room c.requires.askable
+    c.requires.format c.requires.room c.requires.askable
 
 pub returns-clause-controller : goal.returns-clause-controller
 returns-clause-controller c scenario past stands next =
     let kept = subst (IsNodeOf scenario past) (sym c.self.view_is) stands in
+    let format = c.requires.format ∙ sym c.requires.stands.edcan.format ∙ stands.edcan.format in
     let all =
-    done scenario past c.args.notice.now _ kept next c.send_due.new.out.items c.args.ctl.now c.apply_all.new.ctl c.self.inside.log c.apply_all.new.log c.apply_all.ensures
+    done scenario past c.args.notice.now _ kept next c.send_due.new.out.items c.args.ctl.now c.apply_all.new.ctl c.self.inside.log c.apply_all.new.log c.apply_all.ensures format
     (listed scenario past c.args.notice.now _ kept next _ _ _ _ c.requires.free
     (c.on.ensures.actions scenario past (edcan_stands _ _ _ _ kept next) next) (c.on-2.ensures.actions scenario past (relcan_stands _ _ _ _ kept next) next)
     (c.send_due.ensures.asks scenario (agenda_stands _ _ _ _ kept next))) in
@@ -45,11 +46,12 @@ returns-clause-controller c scenario past stands next =
 pub returns-clause-stands : goal.returns-clause-stands
 returns-clause-stands c scenario past stands next =
     let kept = subst (IsNodeOf scenario past) (sym c.self.view_is) stands in
+    let format = c.requires.format ∙ sym c.requires.stands.edcan.format ∙ stands.edcan.format in
     let mine = edcan_stands _ _ c.args.notice.now _ kept next in
     let his = relcan_stands _ _ c.args.notice.now _ kept next in
     let plan = agenda_stands _ _ c.args.notice.now _ kept next in
     let all =
-    done scenario past c.args.notice.now _ kept next c.send_due.new.out.items c.args.ctl.now c.apply_all.new.ctl c.self.inside.log c.apply_all.new.log c.apply_all.ensures
+    done scenario past c.args.notice.now _ kept next c.send_due.new.out.items c.args.ctl.now c.apply_all.new.ctl c.self.inside.log c.apply_all.new.log c.apply_all.ensures format
     (listed scenario past c.args.notice.now _ kept next _ _ _ _ c.requires.free (c.on.ensures.actions scenario past mine next) (c.on-2.ensures.actions scenario past his next)
     (c.send_due.ensures.asks scenario plan)) in
     stands_after scenario past c.args.notice.now _ kept next _ refl all.entries all.room refl

@@ -4,7 +4,8 @@ use Rattle.std.proofs.Common.{◌≡◌, ◌<◌, ◌&&◌, true, false, not, ap
 use Rattle.std.proofs.lemmas.Bool.{false≢true}
 use Rattle.cany_base.specs.declared.message.MsgKey.{MsgKey}
 use Rattle.cany_diffuse.specs.Eager.{copies_of}
-use Rattle.cany_message.specs.Numbers.{message_number, origins}
+use Rattle.cany_base.specs.Limits.{most_nodes}
+use Rattle.cany_message.specs.Numbers.{message_number}
 use Rattle.cany_relcan.specs.Relcan.{RelcanParts}
 use Rattle.cany_relcan.specs.Timers.{is_timer_of}
 use Rattle.cany_relcan.proofs.AheadFacts.{ahead_is, none_read, none_runs}
@@ -12,7 +13,7 @@ use Rattle.cany_relcan.proofs.relcan.Relcan.ahead.Goals as goal
 
 pub returns-clause-message : goal.returns-clause-message
 returns-clause-message c = λ scenario past m h stands key.
-    let small : c.args.msg.origin < origins = rw c.get-origin.ensures.value at c.get-origin.ensures.in_range in
+    let small : c.args.msg.origin < most_nodes = rw c.get-origin.ensures.value at c.get-origin.ensures.in_range in
     let runs : list_any (is_timer_of c.args.msg) c.args.self.now.timers.running ≡ true =
     ap (λ (v : RelcanParts). list_any (is_timer_of c.args.msg) v.timers.running) (sym c.self.view_is) ∙ sym c.is_running.ensures ∙ c.if-not-is_running.false in
     let read : copies_of c.args.self.now.confirms (message_number c.args.msg.seq c.args.msg.origin) ≡ c.copies.result =
@@ -25,7 +26,7 @@ returns-clause-message c = λ scenario past m h stands key.
 
 pub returns-then-not-is_running-clause-message : goal.returns-then-not-is_running-clause-message
 returns-then-not-is_running-clause-message c = λ scenario past m h stands key.
-    let small : c.args.msg.origin < origins = rw c.get-origin.ensures.value at c.get-origin.ensures.in_range in
+    let small : c.args.msg.origin < most_nodes = rw c.get-origin.ensures.value at c.get-origin.ensures.in_range in
     let rests : list_any (is_timer_of c.args.msg) c.args.self.now.timers.running ≡ false =
     ap (λ (v : RelcanParts). list_any (is_timer_of c.args.msg) v.timers.running) (sym c.self.view_is) ∙ sym c.is_running.ensures ∙ c.if-not-is_running.true in
     ap (λ b. b && not (nat_lt 0 (copies_of c.args.self.now.confirms (message_number c.args.msg.seq c.args.msg.origin)))) (sym rests)

@@ -15,6 +15,7 @@ returns c = λ n.
       limits = record {
         legal = c.params-params.ensures.legal;
         node = refl;
+        format = ap (λ (p : Parameters). p.format) params;
         confirm = ap (λ (p : Parameters). p.confirm) params;
         timers_room = rw c.in_ok-timers.ensures (omega (arith, c.in_ok-copies.ensures.spare));
         fallen_room = rw (c.in_ok-timers.ensures, c.in_ok-fallen.ensures) (omega arith);

@@ -5,7 +5,7 @@ use Rattle.cany_base.specs.declared.frame.Class.TheVariants as class
 use Rattle.cany_base.specs.declared.message.Service.TheVariants as service
 use Rattle.cany_base.specs.declared.notice.NoticeKind.TheVariants.{Idle, Got, Sent, Bad}
 use Rattle.cany_message.proofs.DeliveryFacts.{no_actions}
-use Rattle.cany_message.proofs.NoticeFacts.{got_names, sent_names}
+use Rattle.cany_message.proofs.NoticeFacts.{got_names, got_small, sent_names}
 use Rattle.cany_message.proofs.TableFacts.{can_take}
 use Rattle.cany_model.specs.Bus.Frames.{same_class}
 use Rattle.cany_model.proofs.Bus.Identities.{same_class-true}
@@ -20,6 +20,11 @@ on_copy-requires-clause-takes c =
     let reads = c.requires.reads in
     can_take reads.scenario class.Rel (of_own c.args.self.now.node) service.Rel reads.past c.args.self.now.copies c.in-Got.frame reads.stands.tables.data_frames
     (got_names reads.scenario reads.past c.args.notice.now c.in-Got.frame reads.next service.Rel c.in-Got.is (same_class-true c.in-Got.frame.class class.Rel (sym c.is_data.ensures ∙ c.if-is_data.true)))
+
+pub on_copy-requires-clause-small : goal.on_copy-requires-clause-small
+on_copy-requires-clause-small c =
+    let reads = c.requires.reads in
+    rw reads.stands.limits.format (got_small reads.scenario reads.past c.args.notice.now c.in-Got.frame reads.next reads.stands.limits.legal c.in-Got.is)
 
 pub on_copy-requires-clause-there : goal.on_copy-requires-clause-there
 on_copy-requires-clause-there c = c.requires.reads.stands.tables.data_frames.there _
@@ -69,7 +74,7 @@ returns-then-is_confirmation-clause-stands c = λ scenario past h next.
 
 pub returns-then-is_confirmation-clause-actions : goal.returns-then-is_confirmation-clause-actions
 returns-then-is_confirmation-clause-actions c = λ scenario past h next.
-    rw c.in-Got.is (no_actions c.args.out.now.items _ (none_at scenario.params c.args.self.now.node (Got c.in-Got.frame) past (sym c.is_data.ensures ∙ c.if-is_data.false)))
+    rw c.in-Got.is (no_actions scenario.params.format c.args.out.now.items _ (none_at scenario.params c.args.self.now.node (Got c.in-Got.frame) past (sym c.is_data.ensures ∙ c.if-is_data.false)))
 
 pub returns-else-is_confirmation-clause-stands : goal.returns-else-is_confirmation-clause-stands
 returns-else-is_confirmation-clause-stands c = λ scenario past h next.
@@ -79,7 +84,7 @@ returns-else-is_confirmation-clause-stands c = λ scenario past h next.
 
 pub returns-else-is_confirmation-clause-actions : goal.returns-else-is_confirmation-clause-actions
 returns-else-is_confirmation-clause-actions c = λ scenario past h next.
-    rw c.in-Got.is (no_actions c.args.out.now.items _ (none_at scenario.params c.args.self.now.node (Got c.in-Got.frame) past (sym c.is_data.ensures ∙ c.if-is_data.false)))
+    rw c.in-Got.is (no_actions scenario.params.format c.args.out.now.items _ (none_at scenario.params c.args.self.now.node (Got c.in-Got.frame) past (sym c.is_data.ensures ∙ c.if-is_data.false)))
 
 pub returns-then-is_own-clause-stands : goal.returns-then-is_own-clause-stands
 returns-then-is_own-clause-stands c = λ scenario past h next.
@@ -105,16 +110,16 @@ returns-else-is_own-clause-stands c = λ scenario past h next.
 
 pub returns-else-is_own-clause-actions : goal.returns-else-is_own-clause-actions
 returns-else-is_own-clause-actions c = λ scenario past h next.
-    rw c.in-Sent.is (no_actions c.args.out.now.items _ (none_at scenario.params c.args.self.now.node (Sent c.in-Sent.frame) past (sym c.is_own.ensures ∙ c.if-is_own.false)))
+    rw c.in-Sent.is (no_actions scenario.params.format c.args.out.now.items _ (none_at scenario.params c.args.self.now.node (Sent c.in-Sent.frame) past (sym c.is_own.ensures ∙ c.if-is_own.false)))
 
 pub returns-in-Idle-clause-stands : goal.returns-in-Idle-clause-stands
 returns-in-Idle-clause-stands c = λ scenario past h next. rw c.in-Idle.is (read_other scenario c.args.self.now.node Idle past c.args.self.now tt tt h)
 
 pub returns-in-Idle-clause-actions : goal.returns-in-Idle-clause-actions
-returns-in-Idle-clause-actions c = λ scenario past h next. rw c.in-Idle.is (no_actions c.args.out.now.items _ (none_at scenario.params c.args.self.now.node Idle past tt))
+returns-in-Idle-clause-actions c = λ scenario past h next. rw c.in-Idle.is (no_actions scenario.params.format c.args.out.now.items _ (none_at scenario.params c.args.self.now.node Idle past tt))
 
 pub returns-in-Bad-clause-stands : goal.returns-in-Bad-clause-stands
 returns-in-Bad-clause-stands c = λ scenario past h next. rw c.in-Bad.is (read_other scenario c.args.self.now.node Bad past c.args.self.now tt tt h)
 
 pub returns-in-Bad-clause-actions : goal.returns-in-Bad-clause-actions
-returns-in-Bad-clause-actions c = λ scenario past h next. rw c.in-Bad.is (no_actions c.args.out.now.items _ (none_at scenario.params c.args.self.now.node Bad past tt))
+returns-in-Bad-clause-actions c = λ scenario past h next. rw c.in-Bad.is (no_actions scenario.params.format c.args.out.now.items _ (none_at scenario.params c.args.self.now.node Bad past tt))
