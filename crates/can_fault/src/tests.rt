@@ -30,7 +30,7 @@ fn vector_frame(cycle: u16, node: NodeId) -> Frame {
     }
 }
 
-fn rule(place: Place, verdict: Verdict, stop: u32) -> Rule {
+fn rule(place: Place, verdict: Verdict, stop: u64) -> Rule {
     Rule {
         place,
         verdict,
@@ -53,7 +53,7 @@ fn attempt(number: u16, node: NodeId, nth: u32) -> Place {
 
 #[test]
 fn a_repeated_place_is_named(rt: HostRuntime) -> Result<(), Fail> {
-    let one = NodeId::new(1).ok_or("a node below 32")?;
+    let one = NodeId::new(1).ok_or("a node")?;
     let rules = [
         rule(at(3), Verdict::Lost, 0),
         rule(attempt(0, one, 1), Verdict::Lost, 0),
@@ -68,7 +68,7 @@ fn a_repeated_place_is_named(rt: HostRuntime) -> Result<(), Fail> {
 
 #[test]
 fn a_rule_for_the_slot_is_used_alone(rt: HostRuntime) -> Result<(), Fail> {
-    let one = NodeId::new(1).ok_or("a node below 32")?;
+    let one = NodeId::new(1).ok_or("a node")?;
     let frame = data_frame(0, one);
     let rules = [
         rule(attempt(0, one, 2), Verdict::Partial(NodeSet::of_bits(1)), 2),
@@ -90,8 +90,8 @@ fn a_rule_for_the_slot_is_used_alone(rt: HostRuntime) -> Result<(), Fail> {
 
 #[test]
 fn attempts_are_numbered(rt: HostRuntime) -> Result<(), Fail> {
-    let one = NodeId::new(1).ok_or("a node below 32")?;
-    let two = NodeId::new(2).ok_or("a node below 32")?;
+    let one = NodeId::new(1).ok_or("a node")?;
+    let two = NodeId::new(2).ok_or("a node")?;
     let rules = [rule(attempt(0, one, 2), Verdict::Lost, 0)];
     let script = Script::build(rt.alloc(), rules.as_slice())?;
     let mut attempts = Attempts::build(rt.alloc(), &script)?;
@@ -138,7 +138,7 @@ fn break_of(
 
 #[test]
 fn lost_slots_break_at_the_third(rt: HostRuntime) -> Result<(), Fail> {
-    let one = NodeId::new(1).ok_or("a node below 32")?;
+    let one = NodeId::new(1).ok_or("a node")?;
     let mut slots = [(Some(data_frame(0, one)), Verdict::Lost); 17];
     slots[0] = (None, Verdict::Clean);
     let found = break_of(rt.alloc(), &limits(0, 2), slots.as_slice())?;
@@ -152,7 +152,7 @@ fn break_of_two_lost(alloc: Global, first: usize, second: usize) -> Result<Optio
     requires first { first < 8 }
     requires second { second < 8 }
 {
-    let one = NodeId::new(1).ok_or("a node below 32")?;
+    let one = NodeId::new(1).ok_or("a node")?;
     let mut slots = [(None, Verdict::Lost); 8];
     slots[first] = (Some(data_frame(0, one)), Verdict::Lost);
     slots[second] = (Some(data_frame(0, one)), Verdict::Lost);
@@ -183,7 +183,7 @@ fn silent() -> Verdict {
 }
 
 fn broken_at_once(alloc: Global, verdict: Verdict) -> Result<Option<Break>, Fail> {
-    let one = NodeId::new(1).ok_or("a node below 32")?;
+    let one = NodeId::new(1).ok_or("a node")?;
     let slots = [
         (Some(data_frame(0, one)), verdict),
         (Some(data_frame(0, one)), silent()),
@@ -207,8 +207,8 @@ fn in_one_slot_omit_comes_before_errors(rt: HostRuntime) -> Result<(), Fail> {
 
 #[test]
 fn vectors_of_one_cycle_count_together(rt: HostRuntime) -> Result<(), Fail> {
-    let one = NodeId::new(1).ok_or("a node below 32")?;
-    let two = NodeId::new(2).ok_or("a node below 32")?;
+    let one = NodeId::new(1).ok_or("a node")?;
+    let two = NodeId::new(2).ok_or("a node")?;
     let slots = [
         (Some(vector_frame(4, one)), partial()),
         (Some(vector_frame(5, one)), partial()),
@@ -223,7 +223,7 @@ fn vectors_of_one_cycle_count_together(rt: HostRuntime) -> Result<(), Fail> {
 
 #[test]
 fn a_quiet_run_breaks_nothing(rt: HostRuntime) -> Result<(), Fail> {
-    let one = NodeId::new(1).ok_or("a node below 32")?;
+    let one = NodeId::new(1).ok_or("a node")?;
     let slots = [
         (None, Verdict::Clean),
         (Some(data_frame(0, one)), Verdict::Clean),

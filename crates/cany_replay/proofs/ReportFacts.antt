@@ -18,7 +18,7 @@ use Rattle.cany_base.specs.Params.{Parameters}
 use Rattle.cany_model.specs.declared.breaks.Break.{Break}
 use Rattle.cany_model.specs.Promises.Hypothesis.{first_break}
 use Rattle.cany_model.specs.Texts.Report.{bus_lines, node_lines, message_lines, report_lines, report}
-use Rattle.cany_model.specs.Texts.ReportLines.{line_of, params_line, hypothesis_line, bus_line, is_shown, journal_line, journal_lines, node_line, entry_line, message_line}
+use Rattle.cany_model.specs.Texts.ReportLines.{line_of, first_line, params_line, hypothesis_line, bus_line, is_shown, journal_line, journal_lines, node_line, entry_line, message_line}
 use Rattle.cany_model.specs.Bus.Run.{run}
 use Rattle.cany_model.specs.Promises.Settled.{is_settled}
 use Rattle.cany_model.specs.Bus.State.{RunState, node_at, reads}
@@ -142,7 +142,7 @@ node_part scenario journal i = concat (node_lines scenario (run scenario journal
 
 -- the parts of the report
 pub heading-is : (scenario : ScenarioParts) (params : Parameters) (journal steps : List Step) → params ≡ scenario.params → steps ≡ journal
-    → heading_text scenario journal ≡ line_of (codes "canely report 1" ∷ []) ++ (params_line params ++ concat (journal_lines steps))
+    → heading_text scenario journal ≡ first_line params.format ++ (params_line params ++ concat (journal_lines steps))
 unfolding heading_text
 heading-is scenario params journal steps params_are steps_are = rw (params_are, steps_are) refl
 

@@ -6,6 +6,7 @@ use Rattle.std.proofs.lemmas.Bool.Decides.{nat_tests}
 use Rattle.std.proofs.lemmas.Str.{is_utf8-from_IsUtf8, IsUtf8-from_is_utf8}
 use Rattle.toml.specs.Data.{Members}
 use Rattle.toml.specs.Parse.{parse_document}
+use Rattle.cany_base.specs.Limits.{most_nodes}
 use Rattle.cany_base.specs.Nodes.{Nodes, has, those_where}
 -- no contract speaks of the words on sets alone, which the definition of a text uses
 use Rattle.cany_base.proofs.NodesFacts.{same_nodes, has-those_where}
@@ -34,11 +35,11 @@ document_of-other bytes other = elim (cases_Bool (is_utf8 bytes)) [
   | inr no_text ↦ rw no_text refl
 ]
 
-both_below : (i nodes : ℕ) → nodes ≤ 32 → nat_lt i nodes ≡ (nat_lt i 32 && nat_lt i nodes)
+both_below : (i nodes : ℕ) → nodes ≤ most_nodes → nat_lt i nodes ≡ (nat_lt i most_nodes && nat_lt i nodes)
 both_below i nodes few = grind (arith, nat_tests)
 
 -- the set that has the nodes below a number
-pub those_where-below : (set : Nodes) (nodes : ℕ) → nodes ≤ 32 → ((i : ℕ) → has set i ≡ nat_lt i nodes) → set ≡ those_where (λ i. nat_lt i nodes)
+pub those_where-below : (set : Nodes) (nodes : ℕ) → nodes ≤ most_nodes → ((i : ℕ) → has set i ≡ nat_lt i nodes) → set ≡ those_where (λ i. nat_lt i nodes)
 those_where-below set nodes few all =
     same_nodes set (those_where (λ i. nat_lt i nodes)) (λ i. all i ∙ both_below i nodes few ∙ sym (has-those_where (λ i. nat_lt i nodes) i))
 
@@ -48,7 +49,7 @@ in_time-test slots life h = grind (arith, nat_tests)
 -- the parts that were read, where q are the parameters as their fields show them
 pub scenario_from-parts : (top : Members) (q params : Parameters) (members : Nodes) (sends : List SendAsk) (rules : List Rule) (joins leaves : List NodeAsk)
     (journal : Option (List Step))
-    → has_only top_keys top ≡ true → params_of top ≡ Some params → q ≡ params → q.slots ≤ q.life → q.nodes ≤ 32
+    → has_only top_keys top ≡ true → params_of top ≡ Some params → q ≡ params → q.slots ≤ q.life → q.nodes ≤ most_nodes
     → ((i : ℕ) → has members i ≡ nat_lt i q.nodes) → optional (sends_from params) [] (codes "send") top ≡ Some sends
     → optional (rules_from params) [] (codes "fault") top ≡ Some rules → joins ≡ [] → leaves ≡ []
     → journal_at top ≡ Some journal

@@ -4,6 +4,7 @@ use Rattle.std.specs.Prelude.{filter, decimal}
 use Rattle.std.specs.List.{flat_map, range_with_len}
 use Rattle.std.proofs.lemmas.Bool.{cases_lt}
 use Rattle.std.proofs.lemmas.Fmt.{length-decimal-le}
+use Rattle.cany_base.specs.Limits.{most_nodes}
 use Rattle.cany_base.specs.Nodes.{Nodes, has}
 use Rattle.cany_model.specs.Texts.ReportLines.{set_text, numbers_text}
 
@@ -25,14 +26,14 @@ numbers_text-cons n (m ∷ ns) = ap (λ r. decimal n ++ (44 ∷ r)) (numbers_tex
 
 -- ---- how long a set's text is
 
-digits : (k : ℕ) → k < 32 → length (decimal k) + (10 - k) ≤ 2 + (10 - (k + 1))
+digits : (k : ℕ) → k < most_nodes → length (decimal k) + (10 - k) ≤ 2 + (10 - (k + 1))
 digits k small = elim (cases_lt k 10) [
   | inl one ↦ omega (arith, length-decimal-le 1 k (omega arith) one (omega arith))
   | inr two ↦ omega (arith, length-decimal-le 2 k (omega arith) (omega arith) (omega arith))
 ]
 
--- with its comma a number below 10 takes two bytes, and one below 32 three
-with_commas-short : (nodes : Nodes) (k n : ℕ) → k + n ≡ 32 → length (flat_map with_comma (nodes_from nodes k n)) ≤ 3 * n - (10 - k)
+-- with its comma a number below 10 takes two bytes, and a greater one three
+with_commas-short : (nodes : Nodes) (k n : ℕ) → k + n ≡ most_nodes → length (flat_map with_comma (nodes_from nodes k n)) ≤ 3 * n - (10 - k)
 with_commas-short nodes k zero e = omega arith
 with_commas-short nodes k (suc n) e =
     let rest = with_commas-short nodes (k + 1) n (omega arith) in
@@ -41,18 +42,18 @@ with_commas-short nodes k (suc n) e =
       | false ↦ omega (arith, rest)
     ]
 
-pub set_text-short : (nodes : Nodes) → length (set_text nodes) ≤ 85
+pub set_text-short : (nodes : Nodes) → length (set_text nodes) ≤ 181
 unfolding set_text
-set_text-short nodes = of_numbers (nodes_from nodes 0 32) (with_commas-short nodes 0 32 (omega arith))
+set_text-short nodes = of_numbers (nodes_from nodes 0 most_nodes) (with_commas-short nodes 0 most_nodes (omega arith))
   where
-    of_numbers : (ns : List ℕ) → length (flat_map with_comma ns) ≤ 86 → length (numbers_text ns) ≤ 85
+    of_numbers : (ns : List ℕ) → length (flat_map with_comma ns) ≤ 182 → length (numbers_text ns) ≤ 181
     of_numbers [] h = omega arith
     of_numbers (n ∷ ns) h = rw (numbers_text-cons n ns) (omega (arith, h))
 
 -- ---- a row that had some bytes, and then the numbers below k of the set were appended
 
 pub record HasListed (nodes : Nodes) (k : ℕ) (is_empty : Bool) (before row : List ℕ) : Type 0 where
-  pub left : before ++ set_text nodes ≡ row ++ rest_text is_empty (nodes_from nodes k (32 - k))
+  pub left : before ++ set_text nodes ≡ row ++ rest_text is_empty (nodes_from nodes k (most_nodes - k))
 
 pub HasListed-start : (nodes : Nodes) (before : List ℕ) → HasListed nodes 0 true before before
 unfolding set_text
@@ -60,15 +61,15 @@ HasListed-start nodes before = record { left = refl }
 
 -- the nodes after node k
 abbrev after : Nodes → ℕ → List ℕ
-after nodes k = nodes_from nodes (k + 1) (32 - (k + 1))
+after nodes k = nodes_from nodes (k + 1) (most_nodes - (k + 1))
 
-next_node : (nodes : Nodes) (k : ℕ) (b : Bool) → k < 32 → has nodes k ≡ b → nodes_from nodes k (32 - k) ≡ cond b (k ∷ after nodes k) (after nodes k)
+next_node : (nodes : Nodes) (k : ℕ) (b : Bool) → k < most_nodes → has nodes k ≡ b → nodes_from nodes k (most_nodes - k) ≡ cond b (k ∷ after nodes k) (after nodes k)
 next_node nodes k b small is =
-    let more : 32 - k ≡ suc (32 - (k + 1)) = omega arith in
+    let more : most_nodes - k ≡ suc (most_nodes - (k + 1)) = omega arith in
     ap (nodes_from nodes k) more ∙ ap (λ b. cond b (k ∷ after nodes k) (after nodes k)) is
 
 -- the node of number k is not in the set: nothing is appended
-pub HasListed-skip : (nodes : Nodes) (k : ℕ) (e : Bool) (before row : List ℕ) → HasListed nodes k e before row → k < 32 → has nodes k ≡ false
+pub HasListed-skip : (nodes : Nodes) (k : ℕ) (e : Bool) (before row : List ℕ) → HasListed nodes k e before row → k < most_nodes → has nodes k ≡ false
     → HasListed nodes (k + 1) e before row
 HasListed-skip nodes k e before row h small missing =
     record { left = h.left ∙ ap (λ ns. row ++ rest_text e ns) (next_node nodes k false small missing) }
@@ -81,14 +82,14 @@ next_text : (e : Bool) (k : ℕ) (ns : List ℕ) (row : List ℕ) → row ++ res
 next_text true k ns row = ap (λ r. row ++ r) (numbers_text-cons k ns) ∙ ap (λ r. r ++ (decimal k ++ flat_map with_comma ns)) (sym (append-nil row))
 next_text false k ns row = sym (append_assoc row (44 ∷ []) (decimal k ++ flat_map with_comma ns))
 
-next_left : (nodes : Nodes) (k : ℕ) (e : Bool) (before row : List ℕ) → HasListed nodes k e before row → k < 32 → has nodes k ≡ true
+next_left : (nodes : Nodes) (k : ℕ) (e : Bool) (before row : List ℕ) → HasListed nodes k e before row → k < most_nodes → has nodes k ≡ true
     → before ++ set_text nodes ≡ with_separator e row ++ (decimal k ++ flat_map with_comma (after nodes k))
 next_left nodes k e before row h small there =
     h.left ∙ ap (λ ns. row ++ rest_text e ns) (next_node nodes k true small there) ∙ next_text e k (after nodes k) row
 
 -- it is in the set: there is room for its number, which is appended
-pub HasListed-room : (nodes : Nodes) (k : ℕ) (e : Bool) (before row : List ℕ) → HasListed nodes k e before row → k < 32 → has nodes k ≡ true
-    → length (with_separator e row) + length (decimal k) ≤ length before + 85
+pub HasListed-room : (nodes : Nodes) (k : ℕ) (e : Bool) (before row : List ℕ) → HasListed nodes k e before row → k < most_nodes → has nodes k ≡ true
+    → length (with_separator e row) + length (decimal k) ≤ length before + 181
 HasListed-room nodes k e before row h small there =
     omega (
       arith,
@@ -99,13 +100,13 @@ HasListed-room nodes k e before row h small there =
       length-append (decimal k) (flat_map with_comma (after nodes k)),
     )
 
-pub HasListed-more : (nodes : Nodes) (k : ℕ) (e : Bool) (before row : List ℕ) → HasListed nodes k e before row → k < 32 → has nodes k ≡ true
+pub HasListed-more : (nodes : Nodes) (k : ℕ) (e : Bool) (before row : List ℕ) → HasListed nodes k e before row → k < most_nodes → has nodes k ≡ true
     → HasListed nodes (k + 1) false before (with_separator e row ++ decimal k)
 HasListed-more nodes k e before row h small there =
     record { left = next_left nodes k e before row h small there ∙ sym (append_assoc (with_separator e row) (decimal k) (flat_map with_comma (after nodes k))) }
 
 -- all numbers were looked at: what is left is `-` where there were none, and else nothing
-pub HasListed-all : (nodes : Nodes) (k : ℕ) (e : Bool) (before row : List ℕ) → HasListed nodes k e before row → k ≡ 32
+pub HasListed-all : (nodes : Nodes) (k : ℕ) (e : Bool) (before row : List ℕ) → HasListed nodes k e before row → k ≡ most_nodes
     → row ++ cond e (45 ∷ []) [] ≡ before ++ set_text nodes
-HasListed-all nodes k true before row h last = let h' : HasListed nodes 32 true before row = rw last at h in sym h'.left
-HasListed-all nodes k false before row h last = let h' : HasListed nodes 32 false before row = rw last at h in sym h'.left
+HasListed-all nodes k true before row h last = let h' : HasListed nodes most_nodes true before row = rw last at h in sym h'.left
+HasListed-all nodes k false before row h last = let h' : HasListed nodes most_nodes false before row = rw last at h in sym h'.left

@@ -7,6 +7,7 @@ use Rattle.std.proofs.lemmas.Bool.Decides.{nat_tests}
 use Rattle.toml.specs.Data.{Data}
 use Rattle.toml.specs.View.{view}
 use Rattle.toml.specs.declared.value.Value.{Value}
+use Rattle.cany_base.specs.Limits.{most_nodes}
 use Rattle.cany_base.specs.Nodes.{Nodes, has, those_where, AllBelow}
 -- no contract speaks of the words on sets alone, which the definition of a text uses
 use Rattle.cany_base.proofs.NodesFacts.{those_where-ext, same_as_those_where}
@@ -52,7 +53,7 @@ joined-bad read entries i entry nodes here is bad =
     let none : from_index read entries i ≡ None = from_index-more read entries i entry here is ∙ rw bad refl in
     rw none
 
-one_below : (i number : ℕ) (old : Bool) → number < 32 → (old ≡ true → i < 32) → (old || i == number) ≡ true → i < 32
+one_below : (i number : ℕ) (old : Bool) → number < most_nodes → (old ≡ true → i < most_nodes) → (old || i == number) ≡ true → i < most_nodes
 one_below i number true small below h = below refl
 one_below i number false small below h = grind (arith, nat_tests)
 
@@ -60,21 +61,21 @@ and_none : (a : Bool) → (a || false) ≡ a
 and_none true = refl
 and_none false = refl
 
-below_test : (i : ℕ) (t : Bool) → (t ≡ true → i < 32) → t ≡ (nat_lt i 32 && t)
-below_test i true below = sym (ap (λ b. b && true) (lt-ltb i 32 (below refl)))
-below_test i false below = elim (nat_lt i 32) as (λ b. false ≡ (b && false)) [ true ↦ refl | false ↦ refl ]
+below_test : (i : ℕ) (t : Bool) → (t ≡ true → i < most_nodes) → t ≡ (nat_lt i most_nodes && t)
+below_test i true below = sym (ap (λ b. b && true) (lt-ltb i most_nodes (below refl)))
+below_test i false below = elim (nat_lt i most_nodes) as (λ b. false ≡ (b && false)) [ true ↦ refl | false ↦ refl ]
 
 -- after the last entry
-pub joined-all : (read : Data → Option ℕ) (entries : List Value) (nodes : Nodes) → AllBelow 32 nodes → joined nodes (from_index read entries (length entries)) ≡ Some nodes
+pub joined-all : (read : Data → Option ℕ) (entries : List Value) (nodes : Nodes) → AllBelow most_nodes nodes → joined nodes (from_index read entries (length entries)) ≡ Some nodes
 joined-all read entries nodes below =
     let same : nodes ≡ those_where (has nodes) = same_as_those_where nodes (has nodes) (λ i. below_test i (has nodes i) (below i)) in
     rw (drop-length entries) (ap Some (those_where-ext _ (has nodes) (λ i small. and_none (has nodes i)) ∙ sym same))
 
 -- an inserted node is one that there can be
-pub AllBelow-insert : (old new : Nodes) (number : ℕ) → number < 32 → ((i : ℕ) → has new i ≡ (has old i || i == number)) → AllBelow 32 old → AllBelow 32 new
+pub AllBelow-insert : (old new : Nodes) (number : ℕ) → number < most_nodes → ((i : ℕ) → has new i ≡ (has old i || i == number)) → AllBelow most_nodes old → AllBelow most_nodes new
 AllBelow-insert old new number small more below i h = one_below i number (has old i) small (below i) (sym (more i) ∙ h)
 
-pub AllBelow-none : (nodes : Nodes) → ((i : ℕ) → has nodes i ≡ false) → AllBelow 32 nodes
+pub AllBelow-none : (nodes : Nodes) → ((i : ℕ) → has nodes i ≡ false) → AllBelow most_nodes nodes
 AllBelow-none nodes none i h = absurd (false≢true (sym (none i) ∙ h))
 
 -- the empty set is the set of no numbers

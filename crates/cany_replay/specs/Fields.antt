@@ -16,7 +16,7 @@ abbrev pub most_bytes : Field → ℕ
 most_bytes (Text text) = length text.now
 most_bytes (Number n) = 20
 most_bytes (Bytes payload) = 17
-most_bytes (Set nodes) = 85
+most_bytes (Set nodes) = 181
 most_bytes (Steps steps) = length steps.now
 
 -- the room that fields take in a line, each with the space or the line feed after it

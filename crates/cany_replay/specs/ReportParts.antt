@@ -5,12 +5,12 @@ use Rattle.cany_base.specs.declared.step.Step.{Step}
 use Rattle.cany_base.specs.Scenario.{ScenarioParts}
 use Rattle.cany_model.specs.Promises.Hypothesis.{first_break}
 use Rattle.cany_model.specs.Texts.Report.{bus_lines, node_lines, message_lines}
-use Rattle.cany_model.specs.Texts.ReportLines.{line_of, params_line, journal_lines, hypothesis_line}
+use Rattle.cany_model.specs.Texts.ReportLines.{line_of, first_line, params_line, journal_lines, hypothesis_line}
 use Rattle.cany_model.specs.Bus.State.{RunState}
 
 -- what was run
 unfoldable pub heading_text : ScenarioParts → List Step → List ℕ
-heading_text scenario journal = line_of (codes "canely report 1" ∷ []) ++ (params_line scenario.params ++ concat (journal_lines journal))
+heading_text scenario journal = first_line scenario.params.format ++ (params_line scenario.params ++ concat (journal_lines journal))
 
 -- what happened on the bus
 unfoldable pub bus_text : ScenarioParts → RunState → List ℕ

@@ -8,6 +8,7 @@ use cany_io::{MemSink, MemSource, PlainSource, Source};
 use std::alloc::{AllocError, Global};
 use std::test::Fail;
 
+mod forty_nodes;
 mod journals;
 mod relcan;
 mod runs;

@@ -1,22 +1,23 @@
 -- When a message is settled, by what the controllers and the nodes have.
-use Rattle.std.proofs.Common.{◌≡◌, ℕ, suc, ◌+◌, ◌-◌, ◌<◌, ◌≤◌, ◌&&◌, ◌||◌, Bool, true, false, not, List, [], length, get_or, map, Contains, refl, ap, sym, subst, ◌∙◌, arith}
+use Rattle.std.proofs.Common.{◌≡◌, ℕ, suc, ◌+◌, ◌-◌, ◌<◌, ◌≤◌, ◌&&◌, ◌||◌, Bool, true, false, not, List, [], length, get_or, map, Contains, refl, ap, sym, ◌∙◌, arith}
 use Rattle.std.specs.Prelude.{slice_get, option_map, IsSomeAnd, Option, None, Some}
 use Rattle.std.specs.List.{list_any, list_all, range_with_len}
 use Rattle.std.proofs.lemmas.List.{length-map}
-use Rattle.std.proofs.lemmas.List.Elements.{All-contains}
 use Rattle.std.proofs.lemmas.Option.{same_Some, slice_get-map, slice_get_within, get_or_from_slice_get}
 use Rattle.cany_base.specs.declared.message.MsgKey.{MsgKey}
 use Rattle.cany_base.specs.declared.message.SendAsk.{SendAsk}
 use Rattle.cany_base.specs.declared.message.Service.{Service}
 use Rattle.cany_base.specs.declared.step.Step.{Step}
-use Rattle.cany_base.specs.Scenario.{ScenarioParts, IsLegalScenario, IsSendOf}
+use Rattle.cany_base.specs.Limits.{most_sends}
+use Rattle.cany_base.specs.Scenario.{ScenarioParts, IsLegalScenario}
 use Rattle.cany_model.specs.Bus.Run.{all_read, run}
 use Rattle.cany_model.specs.Promises.Settled.{is_ahead, is_awaited, is_settled}
 use Rattle.cany_model.specs.Rules.Messages.{Message, frames_named, frames_of, message_key, message_of, messages_of}
 use Rattle.cany_model.proofs.Rules.MessageKeys.{length-messages_of, message_at}
+use Rattle.cany_model.proofs.Rules.NumberFacts.{IsBelow, message_below}
 use Rattle.can_controller.specs.Controller.{ControllerState}
 use Rattle.cany_node.specs.Node.{NodeParts}
-use Rattle.cany_world.specs.Controllers.{awaits, has_read}
+use Rattle.cany_world.specs.Controllers.{IsSmallKey, awaits, has_read}
 use Rattle.cany_world.specs.Settled.{IsAbout, is_asked, has_ahead}
 use Rattle.cany_world.proofs.AlikeFacts.{all_read_same, awaited_same}
 use Rattle.cany_world.proofs.PlaceFacts.{found}
@@ -97,6 +98,7 @@ pub record HasMessage (scenario : ScenarioParts) (index : ℕ) (send : SendAsk) 
   pub service : message.service ≡ send.service
   pub named : message_key message ≡ key
   pub node : key.origin < scenario.params.nodes
+  pub small : IsSmallKey scenario.params.format key
 
 contains_at : {X : Type 0} (xs : List X) (i : ℕ) (x : X) → slice_get xs i ≡ Some x → Contains xs x
 contains_at xs i x at = (i, slice_get_within xs i x at, get_or_from_slice_get xs i x x at)
@@ -121,7 +123,8 @@ has_message scenario index sends_read send key legal within same is names = reco
   stands = contains_at (messages_of scenario.sends) index m message.1;
   service = refl;
   named = sym named;
-  node = subst (λ k. k < scenario.params.nodes) (ap (λ (k : MsgKey). k.origin) (sym named)) sent.1;
+  node = omega (arith, below.origin, ap (λ (k : MsgKey). k.origin) named);
+  small = (omega (arith, below.seq, ap (λ (k : MsgKey). k.seq) named), omega (arith, below.origin, ap (λ (k : MsgKey). k.origin) named, legal.in_range.nodes.1));
 }
   where
     at : slice_get scenario.sends index ≡ Some send
@@ -136,5 +139,5 @@ has_message scenario index sends_read send key legal within same is names = reco
     named : key ≡ message_key m
     named = rw message.1 at names
 
-    sent : IsSendOf scenario.params send
-    sent = All-contains (IsSendOf scenario.params) scenario.sends send legal.sends (contains_at scenario.sends index send at)
+    below : IsBelow most_sends scenario.params.slots scenario.params.nodes m
+    below = message_below scenario m legal (contains_at (messages_of scenario.sends) index m message.1)

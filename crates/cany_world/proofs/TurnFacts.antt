@@ -8,6 +8,8 @@ use Rattle.cany_base.specs.declared.notice.Notice.{Notice}
 use Rattle.cany_base.specs.declared.slot_note.SlotNote.{SlotNote}
 use Rattle.cany_base.specs.declared.step.Step.{Step}
 use Rattle.cany_base.specs.Bounded.{Bounded}
+use Rattle.cany_base.specs.Limits.{most_nodes}
+use Rattle.cany_base.proofs.ParamsFacts.{few_nodes}
 use Rattle.cany_base.specs.Scenario.{ScenarioParts, IsLegalScenario}
 use Rattle.cany_model.specs.declared.reply.StepReply.{StepReply}
 use Rattle.cany_model.specs.declared.reply.StepReply.TheVariants.{Done}
@@ -78,7 +80,7 @@ to_read scenario s i c notice o within kept running first =
     }
 
 -- it is the next notice of what the node has read
-pub next_notice_is : (scenario : ScenarioParts) (journal : List Step) → scenario.params.nodes ≤ 32 → (i : ℕ) (c : ControllerState) (notice : Notice)
+pub next_notice_is : (scenario : ScenarioParts) (journal : List Step) → scenario.params.nodes ≤ most_nodes → (i : ℕ) (c : ControllerState) (notice : Notice)
     → IsKeptAs scenario (run scenario journal).trace i (node_at (run scenario journal).nodes i) c → slice_get c.unread 0 ≡ Some notice
     → IsNextNotice scenario (history i (run scenario journal)) notice
 next_notice_is scenario journal few i c notice kept first = record {
@@ -139,8 +141,8 @@ can_turn scenario journal i v c out legal node kept empty = record {
     s : RunState
     s = run scenario journal
 
-    few : scenario.params.nodes ≤ 32
-    few = legal.in_range.nodes.1
+    few : scenario.params.nodes ≤ most_nodes
+    few = few_nodes scenario.params legal.in_range
 
 -- ---- what the turn leaves
 
@@ -195,7 +197,7 @@ turned_on scenario journal i nodes controllers v v' c c' r row nodes_are within 
     turns : (notice : Notice) → c.stopped ≡ None → slice_get c.unread 0 ≡ Some notice → Q Done
     turns notice running first =
         let it : IsToRead s i notice = to_read scenario s i c notice (orderly scenario journal) (omega (arith, nodes_are.whole)) kept running first in
-        let next : IsNextNotice scenario (history i s) notice = next_notice_is scenario journal node.stands.legal.in_range.nodes.1 i c notice kept first in
+        let next : IsNextNotice scenario (history i s) notice = next_notice_is scenario journal (few_nodes scenario.params node.stands.legal.in_range) i c notice kept first in
         let made : IsTurnOf scenario (history i s) notice v v' c c' = law notice (record { stands = node.stands; next = next; running = running; oldest = first }) in
         let effects : turn_effects scenario v.node (notice.kind ∷ history i s) ≡ turn_effects scenario i (next_notice s i ∷ history i s) =
         ap (λ k. turn_effects scenario k (notice.kind ∷ history i s)) node.number ∙ ap (λ n. turn_effects scenario i (n ∷ history i s)) it.is in

@@ -4,6 +4,7 @@ use Rattle.std.specs.List.{list_all}
 use Rattle.cany_base.specs.declared.log_entry.LogEntry.{LogEntry}
 use Rattle.cany_base.specs.declared.slot_note.SlotNote.{SlotNote}
 use Rattle.cany_base.specs.declared.step.Step.{Step}
+use Rattle.cany_base.proofs.ParamsFacts.{few_nodes}
 use Rattle.cany_base.specs.Scenario.{ScenarioParts, IsLegalScenario}
 use Rattle.cany_model.specs.Bus.History.{history}
 use Rattle.cany_model.specs.Bus.Run.{run, has_ended}
@@ -25,10 +26,10 @@ use Rattle.cany_world.proofs.AlikeFacts.{all_read_same}
 -- ---- safety
 
 pub world_integral : (w : WorldParts) → IsLegalScenario w.scenario → IsIntegral w.scenario (state_of w)
-world_integral w legal = integral w.scenario w.journal (legal.in_range.nodes.1)
+world_integral w legal = integral w.scenario w.journal (few_nodes w.scenario.params legal.in_range)
 
 pub world_safe : (w : WorldParts) → IsLegalScenario w.scenario → IsWithin w.scenario.params (state_of w).trace → IsSafe w.scenario (state_of w)
-world_safe w legal within = safe w.scenario legal.in_range.nodes.1 w.journal within
+world_safe w legal within = safe w.scenario (few_nodes w.scenario.params legal.in_range) w.journal within
 
 -- the trace of the bus is that of the run
 pub within_run : (scenario : ScenarioParts) (s : RunState) (bus : BusParts) → IsBusOf scenario s bus → IsWithin bus.params bus.trace → IsWithin scenario.params s.trace

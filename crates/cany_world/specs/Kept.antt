@@ -6,6 +6,7 @@ use Rattle.cany_base.specs.declared.rule.Rule.{Rule}
 use Rattle.cany_base.specs.declared.slot_note.SlotNote.{SlotNote}
 use Rattle.cany_base.specs.declared.step.Step.{Step}
 use Rattle.cany_base.specs.Bounded.{Bounded}
+use Rattle.cany_base.specs.Limits.{most_nodes}
 use Rattle.cany_base.specs.Scenario.{ScenarioParts, IsLegalScenario}
 use Rattle.cany_model.specs.Bus.History.{given, history}
 use Rattle.cany_model.specs.Rules.Rooms.{waiting_room, actions_room}
@@ -68,7 +69,7 @@ pub record StandFor (scenario : ScenarioParts) (s : RunState) (b : BusParts) (ro
 -- a slot can be asked for: some journal leads to the state that bus and controllers stand for
 pub record CanRunSlot (scenario : ScenarioParts) (script : List Rule) (b : BusParts) (row : List ControllerState) : Type 0 where
   pub rules : script ≡ scenario.rules
-  pub few : scenario.params.nodes ≤ 32
+  pub few : scenario.params.nodes ≤ most_nodes
   pub journal : List Step
   pub bus : IsBusOf scenario (run scenario journal) b
   pub controllers : AreControllersOf scenario (run scenario journal) row

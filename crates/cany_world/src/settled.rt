@@ -9,13 +9,13 @@ ghost use Rattle.cany_model.specs.Bus.State.{RunState, node_at};
 ghost use Rattle.cany_model.specs.Bus.Waiting.{waits};
 ghost use Rattle.cany_model.specs.Promises.Settled.{is_ahead, is_settled};
 ghost use Rattle.cany_model.specs.Rules.Messages.{Message, frames_named, message_key, messages_of};
-ghost use Rattle.cany_world.specs.Controllers.{awaits, has_read};
+ghost use Rattle.cany_world.specs.Controllers.{HaveFormat, IsSmallKey, awaits, has_read};
 ghost use Rattle.cany_world.specs.Kept.{IsKeptAs, IsKeptNode};
 ghost use Rattle.cany_world.specs.Settled.{IsAbout, is_asked, has_ahead};
 
 use crate::unread::all_read;
 use can_controller::Controller;
-use can_frame::{fits_format_one, identifier};
+use can_frame::{identifier, small_numbers_fit};
 use cany_base::{Class, Format, Frame, MsgKey, Payload, SendAsk, Service};
 use cany_node::Node;
 
@@ -33,7 +33,9 @@ fn data_class(service: Service) -> Class
 
 /// Whether a frame of this class and of the message's number and node waits.
 fn waits(format: Format, class: Class, key: &MsgKey, controller: &Controller) -> bool
-    requires { FitsClass class [] }
+    requires class { FitsClass class [] }
+    requires key { IsSmallKey format key.now }
+    requires format { controller.now.params.format ≡ format }
     ensures { result ≡ waits (record { class = class; number = key.now.seq; node = key.now.origin }) controller.now.waiting }
 {
     let frame = Frame {
@@ -43,12 +45,14 @@ fn waits(format: Format, class: Class, key: &MsgKey, controller: &Controller) ->
         inc: 0,
         payload: Payload::empty(),
     };
-    fits_format_one(&frame);
+    small_numbers_fit(format);
     controller.waits(identifier(format, &frame))
 }
 
 /// Whether the controller runs and waits with the data of the message, or with a frame that confirms or accepts it.
 fn awaits(format: Format, service: Service, key: &MsgKey, controller: &Controller) -> bool
+    requires key { IsSmallKey format key.now }
+    requires format { controller.now.params.format ≡ format }
     ensures { result ≡ awaits (frames_named service key.now) controller.now }
 {
     controller.stopped().is_none()
@@ -59,6 +63,8 @@ fn awaits(format: Format, service: Service, key: &MsgKey, controller: &Controlle
 
 /// Whether a running node waits with a frame of the message.
 fn is_awaited(format: Format, service: Service, key: &MsgKey, controllers: &[Controller]) -> bool
+    requires key { IsSmallKey format key.now }
+    requires format { HaveFormat format controllers.now }
     ensures { result ≡ list_any (awaits (frames_named service key.now)) controllers.now }
 {
     for i in 0..controllers.len() {
@@ -71,6 +77,8 @@ fn is_awaited(format: Format, service: Service, key: &MsgKey, controllers: &[Con
 
 /// Whether no running node waits with a frame of the message or has an unread notice.
 fn is_quiet(format: Format, service: Service, key: &MsgKey, controllers: &[Controller]) -> bool
+    requires key { IsSmallKey format key.now }
+    requires format { HaveFormat format controllers.now }
     ensures { result ≡ (not (list_any (awaits (frames_named service key.now)) controllers.now) && list_all has_read controllers.now) }
 {
     !is_awaited(format, service, key, controllers) && all_read(controllers)
@@ -130,6 +138,8 @@ pub(crate) fn is_settled(
 ) -> bool
     requires count { length controllers.now ≡ length nodes.now }
     requires origin { key.now.origin < length controllers.now }
+    requires key { IsSmallKey format key.now }
+    requires format { HaveFormat format controllers.now }
     ensures { (scenario : ScenarioParts) (journal : List Step) (m : Message) → IsAbout scenario journal m key.now controllers.now nodes.now
         → m.service ≡ send.now.service → result ≡ is_settled scenario (run scenario journal) m }
 {

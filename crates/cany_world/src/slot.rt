@@ -1,6 +1,7 @@
 //! The step that runs a bus slot.
 ghost use Rattle.std.specs.Prelude.{◌≡◌, ◌≤◌, List, length};
 ghost use Rattle.cany_base.specs.declared.step.Step.{Step};
+ghost use Rattle.cany_base.specs.Limits.{most_nodes};
 ghost use Rattle.cany_base.specs.Scenario.{ScenarioParts};
 ghost use Rattle.cany_model.specs.Bus.Run.{run, slot_reply};
 ghost use Rattle.cany_model.specs.Bus.Slot.{after_slot, script as script_of};
@@ -16,7 +17,7 @@ use cany_model::StepReply;
 
 /// The reply to the step, by how many slots ran and what the controllers have unread.
 fn slot_reply(params: &Params, ran: u64, controllers: &[Controller]) -> StepReply
-    requires { length controllers.now ≤ 32 }
+    requires { length controllers.now ≤ most_nodes }
     ensures { (scenario : ScenarioParts) (journal : List Step) → let s = run scenario journal in
         params.now ≡ scenario.params → ran ≡ length s.trace → AreControllersOf scenario s controllers.now → result ≡ slot_reply scenario s }
 {

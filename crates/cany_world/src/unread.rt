@@ -2,6 +2,7 @@
 ghost use Rattle.std.specs.Prelude.{◌≡◌, ◌≤◌, List, length};
 ghost use Rattle.std.specs.List.{list_all};
 ghost use Rattle.cany_base.specs.declared.step.Step.{Step};
+ghost use Rattle.cany_base.specs.Limits.{most_nodes};
 ghost use Rattle.cany_base.specs.Scenario.{ScenarioParts};
 ghost use Rattle.cany_model.specs.Bus.Run.{first_lagging, run};
 ghost use Rattle.cany_world.specs.Controllers.{has_read, lags};
@@ -19,7 +20,7 @@ fn lags(lag: u32, controller: &Controller) -> bool
 
 /// The least running node with more unread notices than this, and their number.
 pub(crate) fn first_lagging(lag: u32, controllers: &[Controller]) -> Option<(NodeId, u32)>
-    requires { length controllers.now ≤ 32 }
+    requires { length controllers.now ≤ most_nodes }
     ensures { (scenario : ScenarioParts) (journal : List Step) → let s = run scenario journal in
         AreControllersOf scenario s controllers.now → result ≡ first_lagging lag 0 s.nodes }
 {

@@ -8,9 +8,9 @@ ghost use Rattle.cany_replay.specs.Refusal.{IfLater, IfFormula};
 use crate::reader::keys::{number_or, required_number};
 use crate::reader::refusal::ReadRefusal;
 use cany_base::limits::{
-    GREATEST_ERRORS, GREATEST_GIVEN, GREATEST_LAG, GREATEST_OMIT, GREATEST_SLOTS,
+    GREATEST_ERRORS, GREATEST_GIVEN, GREATEST_LAG, GREATEST_OMIT, greatest_slots,
 };
-use cany_base::{Format, NodeId, Params};
+use cany_base::{Format, Params};
 use toml::Table;
 
 /// The parameters that the top keys give, which meet the formulas.
@@ -35,8 +35,9 @@ fn given_params(top: &Table) -> Option<Params>
     ensures { result ≡ given_params (table_view top.now) }
 {
     required_number(top, "format", 1, 1)?;
-    let nodes = required_number(top, "nodes", 2, u64::from(NodeId::COUNT))?;
-    let slots = required_number(top, "slots", 1, GREATEST_SLOTS)?;
+    let format = Format::One;
+    let nodes = required_number(top, "nodes", 2, u64::from(format.nodes()))?;
+    let slots = required_number(top, "slots", 1, greatest_slots(format))?;
     let lag = number_or(top, "lag", 0, GREATEST_LAG, 0)?;
     let omit = number_or(top, "omit", 0, GREATEST_OMIT, 1)?;
     let errors = number_or(top, "errors", 0, GREATEST_ERRORS, 2)?;
@@ -50,7 +51,7 @@ fn given_params(top: &Table) -> Option<Params>
     let silence = number_or(top, "silence", 1, GREATEST_GIVEN, least_silence)?;
     let confirm = number_or(top, "confirm", 1, cycle, 10)?;
     Some(Params {
-        format: Format::One,
+        format,
         nodes: nodes as u8,
         lag: lag as u32,
         omit: omit as u32,

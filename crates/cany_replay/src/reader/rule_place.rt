@@ -5,8 +5,8 @@ ghost use Rattle.cany_model.specs.Texts.FaultsText.{class_named, class_from, slo
 
 use crate::reader::keys::{has_only, required_number, value_at};
 use crate::report::class_name;
-use cany_base::limits::GREATEST_ATTEMPT;
-use cany_base::{Class, NodeId, Params, Place};
+use cany_base::limits::greatest_attempt;
+use cany_base::{Class, Format, NodeId, Params, Place};
 use toml::{Table, Value};
 
 /// The keys that a rule for a slot can have.
@@ -65,7 +65,7 @@ fn frame_place_from(params: &Params, entry: &Table) -> Option<Place>
     let class = class_from(value_at(entry, "class")?)?;
     let number = required_number(entry, "number", 0, u64::from(u16::MAX))?;
     let node = required_number(entry, "node", 0, u64::from(params.nodes) - 1)?;
-    let nth = required_number(entry, "nth", 1, GREATEST_ATTEMPT)?;
+    let nth = required_number(entry, "nth", 1, greatest_attempt(Format::One))?;
     let node = NodeId::new(node as u8)?;
     Some(Place::FrameNth {
         class,

@@ -1,4 +1,5 @@
 ghost use Rattle.std.specs.Prelude.{◌≡◌, ◌<◌, ◌≤◌, length};
+ghost use Rattle.cany_base.specs.Limits.{most_nodes};
 
 use crate::reader::{LaterName, ReadRefusal, read_scenario};
 use cany_base::{
@@ -38,7 +39,7 @@ fn is_refused(alloc: Global, text: &str, wanted: LaterName) -> bool {
 }
 
 fn node(number: u8) -> NodeId
-    requires { number < 32 }
+    requires { number < most_nodes }
 {
     NodeId::new(number).unwrap()
 }
@@ -54,7 +55,7 @@ fn send(service: Service, bytes: &[u8]) -> SendAsk
     }
 }
 
-fn slot_rule(slot: u64, verdict: Verdict, stop: u32) -> Rule {
+fn slot_rule(slot: u64, verdict: Verdict, stop: u64) -> Rule {
     Rule {
         place: Place::At { slot },
         verdict,

@@ -7,9 +7,24 @@ ghost use Rattle.cany_replay.specs.Written.{IsWritten};
 use super::field::Field;
 use super::line::write_line;
 use super::names::{break_name, class_name, has_any, service_name, verdict_name};
-use cany_base::{Class, Frame, LogEntry, NodeId, Params, SendAsk, Slot, SlotNote, Step};
+use cany_base::{Class, Format, Frame, LogEntry, NodeId, Params, SendAsk, Slot, SlotNote, Step};
 use cany_io::{Failed, Sink};
 use cany_model::Break;
+
+/// Writes the line that begins a report.
+#[tactic(auto, unfolding(cany_model::specs::Texts::ReportLines::first_line))]
+pub fn write_first_line<K: Sink>(format: Format, sink: &mut K) -> Result<(), Failed>
+    ensures { IsWritten (report.first_line format) result
+        (K.taken sink.old) (K.taken sink.new) (K.faults sink.old) (K.faults sink.new) }
+{
+    write_line(
+        &[
+            Field::Text("canely report"),
+            Field::Number(u64::from(format.number())),
+        ],
+        sink,
+    )
+}
 
 /// Writes the line of the parameters.
 #[tactic(auto, unfolding(cany_model::specs::Texts::ReportLines::params_line))]

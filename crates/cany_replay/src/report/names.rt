@@ -1,11 +1,12 @@
 ghost use Rattle.std.specs.Prelude.{◌≡◌, ◌≤◌, ◌<◌, length};
 ghost use Rattle.cany_model.specs.Texts.ReportLines as report;
 
-use cany_base::{Class, NodeSet, Service, Step, Verdict};
+use cany_base::{Class, NodeId, NodeSet, Service, Step, Verdict};
 use cany_model::BreakKind;
 
-/// The letters of the turns of nodes 0 to 31 in a journal.
-const TURNS: &[u8; 32] = b"0123456789abcdefghijklmnopqrstuv";
+/// The letters of the turns of the nodes in a journal, from node 0 on.
+const TURNS: &[u8; NodeId::COUNT as usize] =
+    b"0123456789abcdefghijklmnopqrstuvwxyzABCDEFGHIJKLMNOPQRSTUVWXYZ+-";
 
 #[tactic(auto, unfolding(cany_model::specs::Texts::ReportLines::class_name))]
 pub fn class_name(class: Class) -> &'static str

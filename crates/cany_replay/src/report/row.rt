@@ -61,9 +61,9 @@ pub fn push_payload(row: &mut Row, payload: &Payload)
 
 /// Appends the numbers of the nodes of a set.
 pub fn push_set(row: &mut Row, set: NodeSet)
-    requires { length row.old.items + 85 ≤ most_line_bytes }
+    requires { length row.old.items + 181 ≤ most_line_bytes }
     ensures text { row.new.items ≡ row.old.items ++ set_text set }
-    ensures short { length (set_text set) ≤ 85 }
+    ensures short { length (set_text set) ≤ 181 }
 {
     let mut is_empty = true;
     for number in 0..NodeId::COUNT {

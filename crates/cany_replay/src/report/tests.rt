@@ -1,4 +1,5 @@
 ghost use Rattle.std.specs.Prelude.{◌≡◌, ◌⊎◌, ◌<◌, ◌≤◌, length};
+ghost use Rattle.cany_base.specs.Limits.{most_nodes};
 ghost use Rattle.cany_io.specs.Faults.{HasRisen, StandsStill};
 ghost use Rattle.cany_io.specs.Sink.{Takes, TakesPrefix};
 ghost use Rattle.cany_model.specs.Texts.Report.{report};
@@ -38,13 +39,13 @@ fn report_status<K: Sink>(world: &World, sink: &mut K) -> u8
 }
 
 fn node(number: u8) -> NodeId
-    requires { number < 32 }
+    requires { number < most_nodes }
     ensures { result ≡ number }
 {
     NodeId::new(number).unwrap()
 }
 
-fn set(bits: u32) -> NodeSet {
+fn set(bits: u64) -> NodeSet {
     NodeSet::of_bits(bits)
 }
 
@@ -56,7 +57,7 @@ fn bytes(bytes: &[u8]) -> Payload
 }
 
 // The note of a slot that carried the first EDCAN message of node 0.
-fn carried(slot: u64, senders: u32, takers: u32, verdict: Verdict, stops: u32) -> SlotNote {
+fn carried(slot: u64, senders: u64, takers: u64, verdict: Verdict, stops: u64) -> SlotNote {
     let frame = Frame {
         class: Class::Ed,
         number: 0,
@@ -74,7 +75,7 @@ fn carried(slot: u64, senders: u32, takers: u32, verdict: Verdict, stops: u32) -
     }
 }
 
-fn idle(slot: u64, stops: u32) -> SlotNote {
+fn idle(slot: u64, stops: u64) -> SlotNote {
     SlotNote {
         slot,
         frame: None,
@@ -169,7 +170,7 @@ fn write_bus_lines<K: Sink>(sink: &mut K) -> Result<(), Failed> {
     write_bus_line(&carried(1, 1, 2, Verdict::Partial(set(4)), 1), sink)?;
     write_bus_line(&carried(16, 1, 0, Verdict::Lost, 1), sink)?;
     write_bus_line(&carried(17, 1, 2, Verdict::Silent(set(4)), 0), sink)?;
-    write_bus_line(&idle(99_999, u32::MAX), sink)?;
+    write_bus_line(&idle(99_999, 0xffff_ffff), sink)?;
     let sign = Frame {
         class: Class::Els,
         number: 65_535,

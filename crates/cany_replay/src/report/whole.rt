@@ -10,8 +10,8 @@ ghost use Rattle.cany_replay.specs.Written.{IsWritten};
 use super::field::Field;
 use super::line::write_line;
 use super::lines::{
-    write_bus_line, write_entry, write_hypothesis, write_message, write_node_line, write_params,
-    write_steps,
+    write_bus_line, write_entry, write_first_line, write_hypothesis, write_message,
+    write_node_line, write_params, write_steps,
 };
 use super::names::has_any;
 use cany_base::{NodeId, SlotNote, Step};
@@ -93,8 +93,9 @@ fn write_heading<K: Sink>(world: &World, sink: &mut K) -> Result<(), Failed>
     ensures { IsWritten (heading_text world.now.scenario world.now.journal) result
         (K.taken sink.old) (K.taken sink.new) (K.faults sink.old) (K.faults sink.new) }
 {
-    write_line(&[Field::Text("canely report 1")], sink)?;
-    write_params(world.scenario().params(), sink)?;
+    let params = world.scenario().params();
+    write_first_line(params.format, sink)?;
+    write_params(params, sink)?;
     write_journal(world.journal(), sink)
 }
 

@@ -1,12 +1,13 @@
 use Rattle.cany_world.proofs.StepFacts.{slot_replies, slot_stands, turn_replies, turn_stands}
 use Rattle.cany_world.proofs.TurnFacts.{can_turn}
+use Rattle.cany_base.proofs.ParamsFacts.{few_nodes}
 use Rattle.cany_model.specs.Bus.Run.{run}
 use Rattle.cany_world.proofs.step.make.Goals as goal
 
 pub run_slot-requires : goal.run_slot-requires
 run_slot-requires c = record {
   rules = c.requires.rules;
-  few = c.requires.legal.in_range.nodes.1;
+  few = few_nodes c.args.scenario.now.params c.requires.legal.in_range;
   journal = c.requires.journal;
   bus = c.requires.stands.bus;
   controllers = c.requires.stands.controllers;

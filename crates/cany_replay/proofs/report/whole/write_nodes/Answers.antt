@@ -1,11 +1,13 @@
 use Rattle.std.proofs.Common.{◌∙◌, ap, arith}
 use Rattle.std.proofs.lemmas.Result.{err_from_is_err_and}
+-- no law says how many nodes parameters have in any format
+use Rattle.cany_base.proofs.ParamsFacts.{few_nodes}
 use Rattle.cany_replay.proofs.ReportFacts.{node_part, concat-flat_map, at_number, below_length, past_length}
 use Rattle.cany_replay.proofs.WrittenFacts.{IsWritten-nothing, IsWritten-next, IsWritten-cut, IsWritten-all}
 use Rattle.cany_replay.proofs.report.whole.write_nodes.Goals as goal
 
 pub unwrap-requires : goal.unwrap-requires
-unwrap-requires g c = c.new.ensures.found.1 (omega (arith, c.behind-scenario.invariant.nodes.1))
+unwrap-requires g c = c.new.ensures.found.1 (omega (arith, few_nodes _ c.behind-scenario.invariant))
 
 pub loop-number-init : goal.loop-number-init
 loop-number-init g c = IsWritten-nothing _ _

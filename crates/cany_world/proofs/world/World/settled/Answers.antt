@@ -1,9 +1,11 @@
-use Rattle.std.proofs.Common.{◌≡◌, ◌<◌, length, ap, subst, sym, arith, List}
-use Rattle.std.specs.Prelude.{slice_get, IsSomeAnd, Option}
+use Rattle.std.proofs.Common.{◌≡◌, ◌<◌, length, ap, subst, sym, ◌∙◌, arith, List}
+use Rattle.std.specs.Prelude.{slice_get, IsSomeAnd, Option, Some}
 use Rattle.can_controller.specs.Controller.{ControllerState}
+use Rattle.cany_base.specs.Params.{Parameters}
 use Rattle.cany_model.specs.Rules.Messages.{Message, messages_of}
 use Rattle.cany_model.specs.Promises.Settled.{is_settled}
 use Rattle.cany_node.specs.Node.{NodeParts}
+use Rattle.cany_world.specs.Controllers.{IsSmallKey}
 use Rattle.cany_world.specs.Kept.{AreControllersOf, AreNodesOf}
 use Rattle.cany_world.specs.World.{WorldParts, state_of}
 use Rattle.cany_world.specs.WorldFields.{world_parts}
@@ -17,6 +19,19 @@ is_settled-requires-clause-origin c =
     has_message c.self.inside.scenario c.args.index c.sends-sends.result.now c.index-sends-index.result c.key.result c.self.invariant.legal within
     c.sends-sends.ensures c.index-sends-index.is (rw (← c.self.view_is) at c.key.ensures) in
     omega (arith, it.node, ap (λ (t : List ControllerState). length t) c.as_slice-controllers.ensures.value, c.self.invariant.stands.controllers.whole)
+
+pub is_settled-requires-clause-key : goal.is_settled-requires-clause-key
+is_settled-requires-clause-key c =
+    let within : c.args.index < length c.self.inside.scenario.sends = omega (arith, c.requires, ap (λ (w : WorldParts). length w.scenario.sends) c.self.view_is) in
+    let it : HasMessage c.self.inside.scenario c.args.index c.index-sends-index.result c.key.result =
+    has_message c.self.inside.scenario c.args.index c.sends-sends.result.now c.index-sends-index.result c.key.result c.self.invariant.legal within
+    c.sends-sends.ensures c.index-sends-index.is (rw (← c.self.view_is) at c.key.ensures) in
+    subst (λ (p : Parameters). IsSmallKey p.format c.key.result) (sym (c.behind-self.view_is ∙ c.params.ensures.params)) it.small
+
+pub is_settled-requires-clause-format : goal.is_settled-requires-clause-format
+is_settled-requires-clause-format c i x at =
+    let kept = c.self.invariant.stands.controllers.each i x (subst (λ (t : List ControllerState). slice_get t i ≡ Some x) c.as_slice-controllers.ensures.value at) in
+    ap (λ (p : Parameters). p.format) (kept.params ∙ sym (c.behind-self.view_is ∙ c.params.ensures.params))
 
 pub is_settled-requires-clause-count : goal.is_settled-requires-clause-count
 is_settled-requires-clause-count c =
