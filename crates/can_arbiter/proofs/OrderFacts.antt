@@ -6,8 +6,6 @@ use Rattle.std.proofs.lemmas.Bool.{cases_lt, cases_order}
 use Rattle.std.proofs.lemmas.Nat.Bits.{bit_at_lowest, bit_at-suc, same_from_bits}
 use Rattle.cany_base.specs.declared.frame.Format.{Format}
 use Rattle.cany_base.specs.Frame.{FrameParts, identifier_of, is_remote, key_of}
-use Rattle.can_frame.proofs.IdentityFacts.{identifier_fits}
-use Rattle.can_frame.specs.Identifier.{FitsFormat}
 use Rattle.can_arbiter.specs.Levels.{levels_of, Beats}
 
 rtr_below : (remote : Bool) → (if remote then 1 else 0) < 2
@@ -96,16 +94,17 @@ below_from_first (suc place) x y d =
     }) in
     omega arith
 
-word_fits : (ident r : ℕ) → ident < 2 ^ 29 → r < 2 → ident / 2 ^ 18 * 2 ^ 21 + 1 * 2 ^ 20 + 1 * 2 ^ 19 + ident % 2 ^ 18 * 2 + r < 2 ^ 32
-word_fits ident r h hr = omega arith
+-- a number has no more bits than its value
+few_bits : (n : ℕ) → n < 2 ^ n
+few_bits zero = omega arith
+few_bits (suc n) = omega (arith, few_bits n, two-pow-succ n)
 
-pub levels_fit : (format : Format) (a : FrameParts) → FitsFormat format a → levels_of format a < 2 ^ 32
-levels_fit format a fits = word_fits (identifier_of format a) _ (identifier_fits format a fits) (rtr_below (is_remote a.class))
-
-pub walk_by_keys : (format : Format) (a b : FrameParts) → FitsFormat format a → FitsFormat format b → Beats format a b ↔ (key_of format a < key_of format b)
-walk_by_keys format a b fits_a fits_b = (
+pub walk_by_keys : (format : Format) (a b : FrameParts) → Beats format a b ↔ (key_of format a < key_of format b)
+walk_by_keys format a b = (
   (λ beats. keys_below format a b (below_from_first beats.place (levels_of format a) (levels_of format b) (record { same = beats.same; zero_bit = beats.dominant; one_bit = beats.recessive }))),
   (λ less.
-      let first = differ_first 32 (levels_of format a) (levels_of format b) (levels_fit format a fits_a) (levels_fit format b fits_b) (levels_below format a b less) in
+      let lower : levels_of format a < levels_of format b = levels_below format a b less in
+      let most : levels_of format b < 2 ^ levels_of format b = few_bits (levels_of format b) in
+      let first = differ_first (levels_of format b) (levels_of format a) (levels_of format b) (omega (arith, lower, most)) most lower in
       record { place = first.0; same = first.1.same; dominant = first.1.zero_bit; recessive = first.1.one_bit }),
 )

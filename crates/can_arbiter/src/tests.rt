@@ -1,4 +1,4 @@
-ghost use Rattle.std.specs.Prelude.{◌≡◌};
+ghost use Rattle.std.specs.Prelude.{◌≡◌, ◌<◌};
 
 use crate::{Offers, Outcome, arbitrate};
 use can_frame::small_numbers_fit;
@@ -26,6 +26,18 @@ fn accept(number: u16, origin: NodeId) -> Frame {
         number,
         node: origin,
         inc: 0,
+        payload: Payload::empty(),
+    }
+}
+
+fn join(cycle: u16, origin: NodeId, inc: u8) -> Frame
+    requires { inc < 16 }
+{
+    Frame {
+        class: Class::Join,
+        number: cycle,
+        node: origin,
+        inc,
         payload: Payload::empty(),
     }
 }
@@ -102,6 +114,30 @@ fn least_key(rt: HostRuntime) -> Result<(), Fail> {
         Outcome::Won {
             frame: earlier,
             senders: set(&[6])?
+        }
+    );
+    Ok(())
+}
+
+#[test]
+fn least_incarnation(rt: HostRuntime) -> Result<(), Fail> {
+    let original = join(2, node(1)?, 0);
+    let restarted = join(2, node(1)?, 1);
+    let last = join(2, node(1)?, 15);
+    let won = outcome(&[(0, restarted), (4, original), (7, restarted)])?;
+    assert_eq!(rt;
+        won,
+        Outcome::Won {
+            frame: original,
+            senders: set(&[4])?
+        }
+    );
+    let won = outcome(&[(0, last), (3, restarted), (7, restarted)])?;
+    assert_eq!(rt;
+        won,
+        Outcome::Won {
+            frame: restarted,
+            senders: set(&[3, 7])?
         }
     );
     Ok(())

@@ -2,7 +2,7 @@
 use Rattle.std.proofs.Common.{◌≡◌, ℕ, ◌%◌, ◌^◌, Bool, List, refl, sym, ◌∙◌, arith}
 use Rattle.cany_base.specs.declared.frame.Format.{Format}
 use Rattle.cany_base.specs.declared.frame.Format.TheVariants.{One, Two}
-use Rattle.cany_base.specs.Frame.{FrameParts, identifier_of, is_remote}
+use Rattle.cany_base.specs.Frame.{FrameParts, FitsIncarnation, identifier_of, is_remote}
 use Rattle.cany_base.specs.Layout.{layout}
 use Rattle.can_frame.specs.Decoding.{Carries, IsFrameOf, IsClassOf}
 use Rattle.can_frame.specs.Field.{field_of}
@@ -12,12 +12,12 @@ use Rattle.can_frame.proofs.IdentityFacts.{identifiers_tell}
 pub one_frame : (format : Format) (ident : ℕ) (remote : Bool) (payload : List ℕ) (f g : FrameParts)
     → IsFrameOf format ident remote payload f → IsFrameOf format ident remote payload g → f ≡ g
 one_frame format ident remote payload f g hf hg =
-    let same = (identifiers_tell format f g hf.fits hg.fits).0 (hf.identifier ∙ sym hg.identifier) in
+    let agree = (identifiers_tell format f g (hf.fits, hf.inc) (hg.fits, hg.inc)).0 (hf.identifier ∙ sym hg.identifier) in
     λ i. record {
-      class = same.class i;
-      number = same.number i;
-      node = same.node i;
-      inc = (hf.inc ∙ sym hg.inc) i;
+      class = agree.0.class i;
+      number = agree.0.number i;
+      node = agree.0.node i;
+      inc = agree.1 i;
       payload = (hf.bytes ∙ sym hg.bytes) i;
     }
 
@@ -31,18 +31,18 @@ fields_fit : (format : Format) (f : FrameParts) (ident : ℕ) → AreFieldsOf fo
 fields_fit One f ident fields = (omega arith, omega arith)
 fields_fit Two f ident fields = (omega arith, omega arith)
 
-identifier_back : (format : Format) (f : FrameParts) (ident : ℕ) → IsClassOf f.class ident → ident % 2 ^ 4 ≡ 0 → AreFieldsOf format ident f.number f.node → identifier_of format f ≡ ident
-identifier_back One f ident class pad fields = omega arith
-identifier_back Two f ident class pad fields = omega arith
+identifier_back : (format : Format) (f : FrameParts) (ident : ℕ) → IsClassOf f.class ident → f.inc ≡ ident % 2 ^ 4 → AreFieldsOf format ident f.number f.node → identifier_of format f ≡ ident
+identifier_back One f ident class inc fields = omega arith
+identifier_back Two f ident class inc fields = omega arith
 
-pub made : (format : Format) (ident : ℕ) (remote : Bool) (f : FrameParts) → f.inc ≡ 0 → IsClassOf f.class ident → ident % 2 ^ 4 ≡ 0
+pub made : (format : Format) (ident : ℕ) (remote : Bool) (f : FrameParts) → IsClassOf f.class ident → f.inc ≡ ident % 2 ^ 4 → FitsIncarnation f.class f.inc
     → is_remote f.class ≡ remote → Carries format f.class f.payload → AreFieldsOf format ident f.number f.node
     → IsFrameOf format ident remote f.payload f
-made format ident remote f inc class pad kind carries fields = record {
-  inc = inc;
+made format ident remote f class inc told kind carries fields = record {
+  inc = told;
   carries = carries;
   fits = fields_fit format f ident fields;
-  identifier = identifier_back format f ident class pad fields;
+  identifier = identifier_back format f ident class inc fields;
   kind = kind;
   bytes = refl;
 }

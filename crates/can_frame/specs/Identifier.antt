@@ -1,7 +1,7 @@
 -- What fits an identifier, and how identifiers and keys order frames.
 use Rattle.std.specs.Prelude.{ℕ, ◌≡◌, ◌<◌, ◌^◌, ◌⊎◌}
 use Rattle.cany_base.specs.declared.frame.Format.{Format}
-use Rattle.cany_base.specs.Frame.{FrameParts, class_number}
+use Rattle.cany_base.specs.Frame.{FrameParts, class_number, FitsIncarnation, SameIdentity}
 use Rattle.cany_base.specs.Layout.{layout}
 use Rattle.cany_base.specs.Limits.{most_numbers}
 
@@ -17,9 +17,18 @@ AreSmall format number node = (number < most_numbers) × (node < (layout format)
 abbrev pub HasSmallNumbers : Format → FrameParts → Type 0
 HasSmallNumbers format f = AreSmall format f.number f.node
 
--- by class, then number, then node
+-- number and node fit, and the class can tell the incarnation
+abbrev pub FitsIdentifier : Format → FrameParts → Type 0
+FitsIdentifier format f = FitsFormat format f × FitsIncarnation f.class f.inc
+
+-- class, number, node and incarnation, which an identifier tells, are the same
+abbrev pub AgreeInIdentifier : FrameParts → FrameParts → Type 0
+AgreeInIdentifier a b = SameIdentity a b × (a.inc ≡ b.inc)
+
+-- by class, then number, then node, then incarnation
 abbrev pub IsOrderedBefore : FrameParts → FrameParts → Type 0
 IsOrderedBefore a b =
     (class_number a.class < class_number b.class)
     ⊎ ((a.class ≡ b.class) × (a.number < b.number))
     ⊎ ((a.class ≡ b.class) × (a.number ≡ b.number) × (a.node < b.node))
+    ⊎ (SameIdentity a b × (a.inc < b.inc))

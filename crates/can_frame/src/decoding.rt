@@ -3,8 +3,8 @@ ghost use Rattle.cany_base.specs.Frame.{FrameParts};
 ghost use Rattle.can_frame.specs.Decoding.{IsFrameOf, IsFirstFault};
 ghost use Rattle.can_frame.specs.declared.decoding.FrameFault.{FrameFault};
 
-use crate::class::{class_of_number, fits_class, is_remote};
-use crate::encoding::PadField;
+use crate::class::{class_of_number, fits_class, has_incarnation, is_remote};
+use crate::encoding::IncarnationField;
 use crate::layout::take_fields;
 use cany_base::{Format, Frame, Payload};
 use thiserror::Error;
@@ -14,7 +14,7 @@ use thiserror::Error;
 pub enum FrameFault {
     #[error("the identifier names no class")]
     Class,
-    #[error("the identifier's lowest four bits are not zero")]
+    #[error("the class tells no incarnation, and the identifier's lowest four bits are not zero")]
     Pad,
     #[error("the kind is not that of the class")]
     Kind,
@@ -36,7 +36,8 @@ pub fn frame_of(
     let Some(class) = class_of_number(ident >> 25) else {
         return Err(FrameFault::Class);
     };
-    if PadField::take(ident) != 0 {
+    let inc = IncarnationField::take(ident) as u8;
+    if inc != 0 && !has_incarnation(class) {
         return Err(FrameFault::Pad);
     }
     if remote != is_remote(class) {
@@ -50,7 +51,7 @@ pub fn frame_of(
         class,
         number,
         node,
-        inc: 0,
+        inc,
         payload,
     })
 }

@@ -10,8 +10,8 @@ use cany_base::{Format, Frame};
 /// The class, in the four most significant of the 29 bits.
 pub(crate) type ClassField = Field<25, 4>;
 
-/// The bits below the node, which are 0 in every frame.
-pub(crate) type PadField = Field<0, 4>;
+/// The sender's incarnation, in the bits below the node. They are 0 in a frame whose class tells none.
+pub(crate) type IncarnationField = Field<0, 4>;
 
 /// The 29-bit identifier of a frame.
 pub fn identifier(format: Format, frame: &Frame) -> u32
@@ -19,8 +19,9 @@ pub fn identifier(format: Format, frame: &Frame) -> u32
     ensures value { result ≡ identifier_of format frame.now }
     ensures in_range { result < 2 ^ 29 }
 {
-    let word = put_fields(format, frame.number, frame.node);
-    ClassField::put(word, number_of_class(frame.class))
+    let fields = put_fields(format, frame.number, frame.node);
+    let word = ClassField::put(fields, number_of_class(frame.class));
+    IncarnationField::put(word, u32::from(frame.inc))
 }
 
 /// The number by which frames arbitrate: the frame of the smaller key wins.

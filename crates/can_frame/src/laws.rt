@@ -1,9 +1,9 @@
-//! What holds of identifiers and keys in every format, for every frame whose number and node fit their fields.
+//! What holds of identifiers and keys in every format, for every frame whose number, node and incarnation fit their fields.
 
 ghost use Rattle.std.specs.Prelude.{◌≡◌, ◌<◌, ◌↔◌, ℕ, Bool, true, false, List};
-ghost use Rattle.cany_base.specs.Frame.{FrameParts, identifier_of, is_remote, key_of, SameIdentity};
+ghost use Rattle.cany_base.specs.Frame.{FrameParts, identifier_of, is_remote, key_of};
 ghost use Rattle.can_frame.specs.Decoding.{IsFrameOf};
-ghost use Rattle.can_frame.specs.Identifier.{FitsFormat, HasSmallNumbers, IsOrderedBefore};
+ghost use Rattle.can_frame.specs.Identifier.{AgreeInIdentifier, FitsFormat, FitsIdentifier, HasSmallNumbers, IsOrderedBefore};
 
 use cany_base::Format;
 
@@ -12,24 +12,24 @@ pub fn small_numbers_fit(format: Format)
     ensures { (f : FrameParts) → HasSmallNumbers format f → FitsFormat format f }
 {}
 
-/// Two frames have one identifier exactly where they have one class, number and node.
+/// Two frames have one identifier exactly where they have one class, number, node and incarnation.
 pub fn identifier_tells_frame(format: Format)
-    ensures { (a b : FrameParts) → FitsFormat format a → FitsFormat format b →
-        (identifier_of format a ≡ identifier_of format b) ↔ SameIdentity a b }
+    ensures { (a b : FrameParts) → FitsIdentifier format a → FitsIdentifier format b →
+        (identifier_of format a ≡ identifier_of format b) ↔ AgreeInIdentifier a b }
 {}
 
-/// Identifiers order frames by class, then number, then node.
+/// Identifiers order frames by class, then number, then node, then incarnation.
 pub fn identifiers_order_frames(format: Format)
-    ensures { (a b : FrameParts) → FitsFormat format a → FitsFormat format b →
+    ensures { (a b : FrameParts) → FitsIdentifier format a → FitsIdentifier format b →
         (identifier_of format a < identifier_of format b) ↔ IsOrderedBefore a b }
 {}
 
-/// Keys order frames by class, then number, then node.
+/// Keys order frames by class, then number, then node, then incarnation.
 pub fn keys_order_frames(format: Format)
-    ensures less { (a b : FrameParts) → FitsFormat format a → FitsFormat format b →
+    ensures less { (a b : FrameParts) → FitsIdentifier format a → FitsIdentifier format b →
         (key_of format a < key_of format b) ↔ IsOrderedBefore a b }
-    ensures same { (a b : FrameParts) → FitsFormat format a → FitsFormat format b →
-        (key_of format a ≡ key_of format b) ↔ SameIdentity a b }
+    ensures same { (a b : FrameParts) → FitsIdentifier format a → FitsIdentifier format b →
+        (key_of format a ≡ key_of format b) ↔ AgreeInIdentifier a b }
 {}
 
 /// Of one identifier a data frame beats a remote frame.

@@ -1,4 +1,4 @@
-//! The identifiers of frames: how class, number and node lie in the 29 bits, which frame an
+//! The identifiers of frames: how class, number, node and incarnation lie in the 29 bits, which frame an
 //! identifier stands for, and the key by which frames arbitrate.
 #![tactic(auto)]
 
@@ -12,7 +12,7 @@ mod layout;
 mod tests;
 mod threads;
 
-pub use class::is_remote;
+pub use class::{has_incarnation, is_remote};
 pub use decoding::{FrameFault, frame_of};
 pub use encoding::{identifier, key};
 pub use field::Field;

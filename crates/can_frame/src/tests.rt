@@ -33,6 +33,7 @@ fn comes_back(
         frame.class == class
             && frame.number == 5
             && frame.node.get() == 3
+            && frame.inc == 0
             && frame.payload == payload,
     )
 }
@@ -110,6 +111,58 @@ fn identifiers_of_the_second_format(rt: HostRuntime) -> Result<(), Fail> {
         ..accept
     };
     assert_eq!(rt; identifier(Format::Two, &last), 0x13ff_fff0);
+    Ok(())
+}
+
+#[test]
+fn an_incarnation_stands_in_the_lowest_bits(rt: HostRuntime) -> Result<(), Fail> {
+    let empty = Payload::empty();
+    let join = Frame {
+        class: Class::Join,
+        number: 2,
+        node: NodeId::new(1).ok_or("no node 1")?,
+        inc: 1,
+        payload: empty,
+    };
+    small_numbers_fit(Format::One);
+    small_numbers_fit(Format::Two);
+    assert_eq!(rt; identifier(Format::One, &join), 0x0800_0411);
+    assert_eq!(rt; identifier(Format::Two, &join), 0x0800_0811);
+    assert_eq!(rt; key(Format::One, &join), 0x1000_0823);
+    assert_eq!(rt; key(Format::Two, &join), 0x1000_1023);
+    let back = |format, ident| frame_of(format, ident, true, empty);
+    assert_eq!(rt; back(Format::One, 0x0800_0411), Ok(join));
+    assert_eq!(rt; back(Format::Two, 0x0800_0811), Ok(join));
+    Ok(())
+}
+
+/// What the lowest four bits of an identifier are taken for, where all four are 1.
+fn all_low_bits(ident: u32, remote: bool, bytes: &[u8]) -> Result<Option<u8>, Fail> {
+    let payload = Payload::of(bytes).ok_or("more than 8 bytes")?;
+    match frame_of(Format::One, ident, remote, payload) {
+        Ok(frame) => Ok(Some(frame.inc)),
+        Err(FrameFault::Pad) => Ok(None),
+        Err(fault) => Err(fault.into()),
+    }
+}
+
+#[test]
+fn four_classes_tell_an_incarnation(rt: HostRuntime) -> Result<(), Fail> {
+    let rows: [(u32, bool, &[u8], Option<u8>); 10] = [
+        (0x0000_0a3f, true, b"", None),
+        (0x0200_0a3f, false, b"\x00\x00\x00\x07", Some(15)),
+        (0x0400_0a3f, true, b"", Some(15)),
+        (0x0600_0a3f, true, b"", None),
+        (0x0800_0a3f, true, b"", Some(15)),
+        (0x0a00_0a3f, true, b"", Some(15)),
+        (0x0c00_0a3f, true, b"", None),
+        (0x0e00_0a3f, false, b"1", None),
+        (0x1000_0a3f, false, b"", None),
+        (0x1200_0a3f, false, b"", None),
+    ];
+    for (ident, remote, bytes, inc) in rows {
+        assert_eq!(rt; all_low_bits(ident, remote, bytes)?, inc);
+    }
     Ok(())
 }
 

@@ -1,5 +1,5 @@
 -- A frame, the class table, and where its fields lie in the identifier.
-use Rattle.std.specs.Prelude.{◌≡◌, ◌⊎◌, ℕ, ◌+◌, ◌*◌, ◌^◌, Bool, true, false, if◌then◌else◌, List, [], length}
+use Rattle.std.specs.Prelude.{◌≡◌, ◌<◌, ◌⊎◌, ℕ, ◌+◌, ◌*◌, ◌^◌, Bool, true, false, if◌then◌else◌, List, [], length}
 use Rattle.cany_base.specs.declared.frame.Class.{Class}
 use Rattle.cany_base.specs.declared.frame.Class.TheVariants.{Accept, Rha, Els, Fda, Join, Leave, Confirm, Tot, Rel, Ed}
 use Rattle.cany_base.specs.declared.frame.Format.{Format}
@@ -54,9 +54,26 @@ FitsClass Join payload = payload ≡ []
 FitsClass Leave payload = payload ≡ []
 FitsClass Confirm payload = payload ≡ []
 
+-- whether a frame of the class tells the incarnation of its sender
+abbrev pub has_incarnation : Class → Bool
+has_incarnation Rha = true
+has_incarnation Els = true
+has_incarnation Join = true
+has_incarnation Leave = true
+has_incarnation Accept = false
+has_incarnation Fda = false
+has_incarnation Confirm = false
+has_incarnation Tot = false
+has_incarnation Rel = false
+has_incarnation Ed = false
+
+-- the incarnations that a frame of the class can tell: one that tells none has a 0 there
+abbrev pub FitsIncarnation : Class → ℕ → Type 0
+FitsIncarnation class inc = inc < (if has_incarnation class then 2 ^ 4 else 1)
+
 -- what is true of every frame
 abbrev pub IsFormed : Class → ℕ → List ℕ → Type 0
-IsFormed class inc payload = (inc ≡ 0) × FitsClass class payload
+IsFormed class inc payload = FitsIncarnation class inc × FitsClass class payload
 
 -- the class of a message's data frame
 abbrev pub data_class : Service → Class
@@ -64,10 +81,10 @@ data_class service.Ed = Ed
 data_class service.Rel = Rel
 data_class service.Tot = Tot
 
--- class in bits 28 to 25, number and node in the fields of the format, and four bits that are 0
+-- class in bits 28 to 25, number and node in the fields of the format, the incarnation in bits 3 to 0
 abbrev pub identifier_of : Format → FrameParts → ℕ
 identifier_of format f =
-    class_number f.class * 2 ^ 25 + f.number * 2 ^ (layout format).number_shift + f.node * 2 ^ (layout format).node_shift
+    class_number f.class * 2 ^ 25 + f.number * 2 ^ (layout format).number_shift + f.node * 2 ^ (layout format).node_shift + f.inc
 
 -- class, number and node, which name a frame, are the same
 pub record SameIdentity (f g : FrameParts) : Type 0 where

@@ -27,6 +27,14 @@ most_joins = 1000
 abbrev pub most_leaves : ℕ
 most_leaves = 1000
 
+-- restart entries of a scenario
+abbrev pub most_restarts : ℕ
+most_restarts = 64
+
+-- restart entries of one node
+abbrev pub most_restarts_of_node : ℕ
+most_restarts_of_node = 15
+
 -- notices: the greatest `lag`
 abbrev pub greatest_lag : ℕ
 greatest_lag = 8

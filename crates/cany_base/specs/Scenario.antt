@@ -1,5 +1,5 @@
 -- A scenario, and when its parts are legal.
-use Rattle.std.specs.Prelude.{◌<◌, ◌≤◌, ◌≢◌, ◌==◌, ◌&&◌, Bool, false, List, length, Option, All, AllPairs}
+use Rattle.std.specs.Prelude.{◌<◌, ◌≤◌, ◌≢◌, ◌==◌, ◌&&◌, ℕ, Bool, false, List, length, count_by, Option, All, AllPairs}
 use Rattle.cany_base.specs.declared.message.SendAsk.{SendAsk}
 use Rattle.cany_base.specs.declared.message.NodeAsk.{NodeAsk}
 use Rattle.cany_base.specs.declared.rule.Rule.{Rule}
@@ -9,7 +9,7 @@ use Rattle.cany_base.specs.declared.rule.Verdict.{Verdict}
 use Rattle.cany_base.specs.declared.rule.Verdict.TheVariants.{Clean, Lost, Partial, Silent}
 use Rattle.cany_base.specs.declared.step.Step.{Step}
 use Rattle.cany_base.specs.Frame.{class_number}
-use Rattle.cany_base.specs.Limits.{most_sends, most_rules, most_joins, most_leaves, greatest_attempt}
+use Rattle.cany_base.specs.Limits.{most_sends, most_rules, most_joins, most_leaves, most_restarts, most_restarts_of_node, greatest_attempt}
 use Rattle.cany_base.specs.Nodes.{Nodes, AllBelow}
 use Rattle.cany_base.specs.Params.{Parameters, IsInRange, MeetsFormulas}
 
@@ -20,15 +20,22 @@ pub record ScenarioParts : Type 0 where
   pub rules : List Rule
   pub joins : List NodeAsk
   pub leaves : List NodeAsk
+  -- the nodes that start again, each at the end of its slot if it is stopped then
+  pub restarts : List NodeAsk
+  -- The first slot whose scripted asks are made: 0 in a scenario as it is read, later in one as a restarted node follows it.
+  pub from : ℕ
   pub journal : Option (List Step)
 
 -- a scripted send happens in a slot of the run, at a node of the bus
 abbrev pub IsSendOf : Parameters → SendAsk → Type 0
 IsSendOf p send = (send.slot < p.slots) × (send.node < p.nodes)
 
--- so does a scripted join or leave
+-- so does a scripted join or leave, and a restart
 abbrev pub IsAskOf : Parameters → NodeAsk → Type 0
 IsAskOf p ask = (ask.slot < p.slots) × (ask.node < p.nodes)
+
+abbrev pub is_ask_of_node : ℕ → NodeAsk → Bool
+is_ask_of_node node ask = ask.node == node
 
 abbrev pub IsPlaceOf : Parameters → Place → Type 0
 IsPlaceOf p (At slot) = slot < p.slots
@@ -65,8 +72,11 @@ pub record IsLegalScenario (s : ScenarioParts) : Type 0 where
   pub rules : All (IsRuleOf s.params) s.rules
   pub joins : All (IsAskOf s.params) s.joins
   pub leaves : All (IsAskOf s.params) s.leaves
+  pub restarts : All (IsAskOf s.params) s.restarts
   pub few_sends : length s.sends ≤ most_sends
   pub few_rules : length s.rules ≤ most_rules
   pub few_joins : length s.joins ≤ most_joins
   pub few_leaves : length s.leaves ≤ most_leaves
+  pub few_restarts : length s.restarts ≤ most_restarts
+  pub few_of_node : (node : ℕ) → count_by (is_ask_of_node node) s.restarts ≤ most_restarts_of_node
   pub places : HaveDistinctPlaces s.rules

@@ -11,5 +11,7 @@ parts_of s = record {
   rules = s.rules.items;
   joins = s.joins.items;
   leaves = s.leaves.items;
+  restarts = s.restarts.items;
+  from = 0;
   journal = option_map (λ steps. steps.items) s.journal;
 }

@@ -10,7 +10,7 @@ use std::marker::Model;
 /// One thing that a protocol rule does in a turn.
 #[derive(Clone, Copy, Debug, PartialEq, Eq)]
 pub enum Action {
-    /// Put the frame among the node's waiting frames, in place of one of the same identifier.
+    /// Put the frame among the node's waiting frames, in place of one of the same identity.
     Ask(Frame),
     /// Remove the waiting frame of this identifier, if there is one.
     Withdraw { ident: u32 },

@@ -77,7 +77,8 @@ pub struct Frame {
     pub class: Class,
     pub number: u16,
     pub node: NodeId,
-    /// The sender's incarnation: 0 in every frame.
+    /// The sender's incarnation, counted from 0 at the opening, below 16: in a vector, a life sign, a join and a leave. 0 in the
+    /// frames of every other class.
     pub inc: u8,
     pub payload: Payload,
 }

@@ -24,6 +24,13 @@ pub const MOST_JOINS: usize = 1_000;
 /// The most scripted leaves of a scenario, by the form of its text.
 pub const MOST_LEAVES: usize = 1_000;
 
+/// The most restart entries of a scenario.
+pub const MOST_RESTARTS: usize = 64;
+
+/// The most restart entries of one node: with the incarnation that it opens with, a node has 16 at most, as many as four
+/// bits of the identifier can number.
+pub const MOST_RESTARTS_OF_NODE: usize = 15;
+
 /// The greatest `lag`, in unread notices.
 pub const GREATEST_LAG: u64 = 8;
 
@@ -77,6 +84,8 @@ pub fn are_those_of_the_definitions()
     ensures rules { MOST_RULES ≡ limit.most_rules }
     ensures joins { MOST_JOINS ≡ limit.most_joins }
     ensures leaves { MOST_LEAVES ≡ limit.most_leaves }
+    ensures restarts { MOST_RESTARTS ≡ limit.most_restarts }
+    ensures restarts_of_node { MOST_RESTARTS_OF_NODE ≡ limit.most_restarts_of_node }
     ensures lag { GREATEST_LAG ≡ limit.greatest_lag }
     ensures omit { GREATEST_OMIT ≡ limit.greatest_omit }
     ensures errors { GREATEST_ERRORS ≡ limit.greatest_errors }

@@ -26,7 +26,8 @@ pub struct SendAsk {
     pub payload: Payload,
 }
 
-/// A scripted join or leave: in its turn of `slot` the node asks for it.
+/// A scripted join or leave, for which the node asks in its turn of `slot`; or a restart entry, by which the node starts again at
+/// the end of `slot`, if it is stopped.
 #[derive(Clone, Copy, Debug, PartialEq, Eq)]
 pub struct NodeAsk {
     pub slot: Slot,

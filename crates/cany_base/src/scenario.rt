@@ -10,7 +10,8 @@ use crate::step::Step;
 use std::alloc::Global;
 use std::marker::Model;
 
-/// What a run is made from: the parameters, view 0, the scripted asks, the fault rules, and the journal if one is given.
+/// What a run is made from: the parameters, view 0, the scripted asks, the fault rules, the restarts, and the journal if one
+/// is given.
 #[derive(Debug, Drop)]
 pub struct Scenario {
     params: Params,
@@ -19,6 +20,7 @@ pub struct Scenario {
     rules: Vec<Rule>,
     joins: Vec<NodeAsk>,
     leaves: Vec<NodeAsk>,
+    restarts: Vec<NodeAsk>,
     journal: Option<Vec<Step>>,
 }
 
@@ -45,6 +47,7 @@ impl Scenario {
         rules: Vec<Rule>,
         joins: Vec<NodeAsk>,
         leaves: Vec<NodeAsk>,
+        restarts: Vec<NodeAsk>,
         journal: Option<Vec<Step>>,
     ) -> Scenario
         requires { IsLegalScenario (record {
@@ -54,6 +57,8 @@ impl Scenario {
           rules = rules.items;
           joins = joins.items;
           leaves = leaves.items;
+          restarts = restarts.items;
+          from = 0;
           journal = option_map (λ steps. steps.items) journal;
         }) }
         ensures { result ≡ record {
@@ -63,6 +68,8 @@ impl Scenario {
           rules = rules.items;
           joins = joins.items;
           leaves = leaves.items;
+          restarts = restarts.items;
+          from = 0;
           journal = option_map (λ steps. steps.items) journal;
         } }
     {
@@ -73,6 +80,7 @@ impl Scenario {
             rules,
             joins,
             leaves,
+            restarts,
             journal,
         }
     }
@@ -80,6 +88,8 @@ impl Scenario {
     pub fn params(&self) -> &Params
         ensures params { result.now ≡ self.now.params }
         ensures legal { IsLegalScenario self.now }
+        // Each scripted ask is made: it is an incarnation of a restarted node that makes none before its first slot.
+        ensures whole { self.now.from ≡ 0 }
     {
         &self.params
     }
@@ -119,6 +129,14 @@ impl Scenario {
         self.leaves.as_slice()
     }
 
+    /// The nodes that start again, in file order: at the end of its slot the node of an entry starts again, if it is stopped
+    /// then.
+    pub fn restarts(&self) -> &[NodeAsk]
+        ensures { result.now ≡ self.now.restarts }
+    {
+        self.restarts.as_slice()
+    }
+
     /// The steps that the run is to make, where the scenario fixes them.
     pub fn journal(&self) -> Option<&[Step]>
         ensures { option_map (λ steps. steps.now) result ≡ self.now.journal }
@@ -144,6 +162,7 @@ impl Scenario {
             rules: Vec::from_slice(alloc, self.rules.as_slice())?,
             joins: Vec::from_slice(alloc, self.joins.as_slice())?,
             leaves: Vec::from_slice(alloc, self.leaves.as_slice())?,
+            restarts: Vec::from_slice(alloc, self.restarts.as_slice())?,
             journal,
         })
     }

@@ -2,8 +2,10 @@ ghost use Rattle.std.specs.Prelude.{◌≡◌, ◌⊎◌};
 ghost use Rattle.cany_base.specs.Params.{default_parameters};
 
 use crate::actions::{Action, Actions};
-use crate::frame::Format;
+use crate::frame::{Class, Format, Frame};
+use crate::limits::{MOST_RESTARTS, MOST_RESTARTS_OF_NODE};
 use crate::memory::Memory;
+use crate::message::NodeAsk;
 use crate::node::NodeId;
 use crate::node_set::NodeSet;
 use crate::params::{ParamFault, ParamName, Params};
@@ -152,7 +154,36 @@ fn memory_is_there(rt: HostRuntime) -> Result<(), Fail> {
     Ok(())
 }
 
+#[test]
+fn a_join_tells_an_incarnation(rt: HostRuntime) {
+    let original = Frame {
+        class: Class::Join,
+        number: 2,
+        node: NodeId::of_index(1),
+        inc: 0,
+        payload: Payload::empty(),
+    };
+    let last = Frame {
+        inc: 15,
+        ..original
+    };
+    assert_eq!(rt; last.inc, 15);
+    assert!(rt; last != original);
+}
+
+#[test]
+fn a_node_has_sixteen_incarnations(rt: HostRuntime) {
+    assert_eq!(rt; MOST_RESTARTS, 64);
+    assert_eq!(rt; MOST_RESTARTS_OF_NODE, 15);
+}
+
+/// A scenario without a send, where one node starts again as often as a node may.
 fn quiet_scenario(alloc: Global) -> Result<Scenario, Memory> {
+    let again = NodeAsk {
+        slot: 7,
+        node: NodeId::of_index(1),
+    };
+    let restarts = Vec::from_slice(alloc, &[again; MOST_RESTARTS_OF_NODE])?;
     let journal = Vec::from_slice(alloc, &[Step::Slot])?;
     Ok(Scenario::of_parts(
         three_nodes(),
@@ -161,6 +192,7 @@ fn quiet_scenario(alloc: Global) -> Result<Scenario, Memory> {
         Vec::new(alloc),
         Vec::new(alloc),
         Vec::new(alloc),
+        restarts,
         Some(journal),
     ))
 }
@@ -171,5 +203,7 @@ fn a_scenario_is_copied(rt: HostRuntime) -> Result<(), Fail> {
     let copy = scenario.copy(rt.alloc())?;
     assert_eq!(rt; copy.journal(), Some([Step::Slot].as_slice()));
     assert_eq!(rt; copy.members(), NodeSet::all(3));
+    assert_eq!(rt; copy.restarts().len(), 15);
+    assert_eq!(rt; copy.restarts(), scenario.restarts());
     Ok(())
 }

@@ -1,5 +1,5 @@
-use Rattle.std.proofs.Common.{◌≡◌, Ok, refl, ap, subst, arith, rules}
-use Rattle.cany_base.specs.Frame.{FrameParts}
+use Rattle.std.proofs.Common.{◌≡◌, Ok, ap, subst, arith, rules}
+use Rattle.cany_base.specs.Frame.{FitsIncarnation, FrameParts}
 use Rattle.can_frame.specs.Decoding.{IsFrameOf}
 use Rattle.can_frame.proofs.DecodingFacts.{made, one_frame}
 use Rattle.can_frame.proofs.decoding.frame_of.Goals as goal
@@ -10,12 +10,13 @@ returns-clause-frame c =
       class = c.in-Some.class;
       number = c.take_fields-number.result.0;
       node = c.take_fields-number.result.1;
-      inc = 0;
+      inc = c.take-inc.result;
       payload = c.args.payload;
     } in
+    let told : FitsIncarnation c.in-Some.class c.take-inc.result = grind arith in
     let is_frame : IsFrameOf c.args.format c.args.ident c.args.remote c.args.payload frame =
-    made c.args.format c.args.ident c.args.remote frame refl
-    (search rules) (omega arith) (search rules) (search rules)
+    made c.args.format c.args.ident c.args.remote frame
+    (search rules) (omega (arith, c.take-inc.ensures)) told (search rules) (search rules)
     (c.take_fields-number.ensures.number, c.take_fields-number.ensures.node) in
     λ f. (
       (λ e. let same : frame ≡ f = cc in subst (IsFrameOf c.args.format c.args.ident c.args.remote c.args.payload) same is_frame),
