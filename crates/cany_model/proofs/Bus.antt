@@ -9,7 +9,9 @@ pub mod Journals
 pub mod Notes
 pub mod RoundRobinEnds
 pub mod Rounds
+pub mod Restarts
 pub mod Runs
+pub mod Seen
 pub mod SlotStates
 pub mod States
 pub mod Steps

@@ -6,7 +6,10 @@ pub mod BreakFacts
 pub mod Confirms
 pub mod Diffusion
 pub mod DiffusionRun
+pub mod EachNode
+pub mod Fair
 pub mod EdcanAgrees
+pub mod Firsts
 pub mod Integrity
 pub mod OneFrame
 pub mod RelcanAgrees

@@ -8,6 +8,7 @@ pub mod RelcanRows
 pub mod RelcanTurnRows
 pub mod ReplyRows
 pub mod ReportRows
+pub mod RestartRows
 pub mod RowWords
 pub mod Rows
 pub mod ScriptRows

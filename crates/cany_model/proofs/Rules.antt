@@ -1,10 +1,13 @@
 -- What the rules of a node ask for, withdraw and enter.
 pub mod AskedFacts
+pub mod Begun
 pub mod DeliveryFacts
 pub mod EagerFacts
 pub mod EdcanFacts
+pub mod IncarnationFacts
 pub mod LogFacts
 pub mod MessageKeys
+pub mod MutedFacts
 pub mod NumberFacts
 pub mod ProtocolFacts
 pub mod Protocols

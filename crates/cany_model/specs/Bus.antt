@@ -2,6 +2,8 @@
 pub mod Follow
 pub mod Frames
 pub mod History
+pub mod Incarnations
+pub mod Restart
 pub mod RoundRobin
 pub mod Run
 pub mod Slot

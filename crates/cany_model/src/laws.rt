@@ -15,7 +15,7 @@ ghost use Rattle.cany_model.specs.Bus.State.{node_at, runs};
 ghost use Rattle.cany_model.specs.Promises.Safe.{IsIntegral, IsAgreedOn};
 ghost use Rattle.cany_model.specs.declared.breaks.Break.{Break};
 
-/// Integrity: the log of a node that has not stopped has no message twice, and each message that it delivers is one of
+/// Integrity: the log of the present incarnation of a running node has no message twice, and each message that it delivers is one of
 /// the scenario, with its service and its payload, whose data frame was carried with its origin among the senders in a
 /// slot not after the entry.
 ///
@@ -25,8 +25,9 @@ pub fn integrity()
     ensures { (scenario : ScenarioParts) (journal : List Step) → scenario.params.nodes ≤ most_nodes → IsIntegral scenario (run scenario journal) }
 {}
 
-/// Agreement of EDCAN: in every run within the fault hypothesis, a settled EDCAN message whose origin is correct, or that
-/// a correct node delivered, was delivered by every correct node.
+/// Agreement of EDCAN, in every run within the fault hypothesis, of settled EDCAN messages and among the correct nodes that
+/// take part since the data frame of the message was first carried: if one of them is its origin or delivered it, each of
+/// them delivered it. Where the frame was never carried, no correct node delivered the message.
 ///
 /// It holds for every journal, in whatever order the nodes take their turns and however far they lag, and also where
 /// steps of the journal are refused. It uses no timing, and of the scenario only that its nodes have places in a set of
@@ -38,8 +39,9 @@ pub fn edcan_agreement()
         → IsAgreedOn scenario (run scenario journal) m }
 {}
 
-/// Agreement of RELCAN: in every run within the fault hypothesis, a settled RELCAN message whose origin is correct, or that
-/// a correct node delivered, was delivered by every correct node.
+/// Agreement of RELCAN, in every run within the fault hypothesis, of settled RELCAN messages and among the correct nodes that
+/// take part since the data frame of the message was first carried: if one of them is its origin or delivered it, each of
+/// them delivered it. Where the frame was never carried, no correct node delivered the message.
 ///
 /// It holds for every journal, at every lag and for every length of the timer, by the argument of EDCAN: a node that got the
 /// message read its confirmation, so that its origin had seen success, or fell back to sending it. A message of which something

@@ -6,9 +6,11 @@ mod follow;
 pub mod laws;
 mod reply;
 mod share;
+mod span;
 mod threads;
 
 pub use breaks::{Break, BreakKind};
 pub use follow::FollowFault;
 pub use reply::StepReply;
 pub use share::Share;
+pub use span::Span;

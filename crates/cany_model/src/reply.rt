@@ -8,7 +8,7 @@ pub enum StepReply {
     Lagging { node: NodeId, unread: u32 },
     /// All slots ran.
     Over { slots: u64 },
-    /// The node has read every notice, so many.
+    /// The node has read every notice: the next slot that it has to read.
     NothingYet { now: Slot },
     /// The node stopped in this slot.
     Stopped { slot: Slot },

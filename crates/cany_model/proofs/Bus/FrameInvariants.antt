@@ -1,25 +1,29 @@
 -- How a property is proved of the frames of every run: of each that waits at a running node, and of each that was carried.
-use Rattle.std.specs.Prelude.{◌≡◌, ℕ, ◌<◌, ◌≤◌, true, List, ◌∷◌, Some, length, Contains}
+use Rattle.std.specs.Prelude.{◌≡◌, ℕ, ◌<◌, ◌≤◌, true, List, ◌∷◌, Some, None, length, Contains}
 use Rattle.cany_base.specs.Limits.{most_nodes}
 use Rattle.std.specs.List.{AllByRecursion}
 use Rattle.std.proofs.Common.{sym, ap, ◌∙◌, subst, inl, inr, arith}
 use Rattle.std.proofs.lemmas.Bool.{cases_eq}
 use Rattle.std.proofs.lemmas.List.{get_or_default}
 use Rattle.std.proofs.lemmas.List.Elements.{All-contains, All-from_recursion}
+use Rattle.cany_base.specs.declared.notice.NoticeKind.{NoticeKind}
 use Rattle.cany_base.specs.declared.slot_note.SlotNote.{SlotNote}
 use Rattle.cany_base.specs.declared.step.Step.{Step}
 use Rattle.cany_base.specs.Frame.{FrameParts}
 use Rattle.cany_base.specs.Nodes.{has}
 use Rattle.cany_base.specs.Scenario.{ScenarioParts}
-use Rattle.cany_model.specs.Bus.History.{given, history}
+use Rattle.cany_model.specs.Bus.History.{given, history, seen}
+use Rattle.cany_model.specs.Bus.Restart.{after_restarts}
 use Rattle.cany_model.specs.Bus.Run.{after_turn, run}
 use Rattle.cany_model.specs.Bus.Slot.{FaultScript, script, slot_note_of, after_slot}
-use Rattle.cany_model.specs.Bus.State.{RunState, opening, node_at, runs}
-use Rattle.cany_model.specs.Rules.Turn.{turn_effects}
-use Rattle.cany_model.proofs.Among.{Among, Each-weaker, Contains-cons_cases, Contains-none}
-use Rattle.cany_model.proofs.Bus.Carried.{Has, read_note}
+use Rattle.cany_model.specs.Bus.State.{Incarnation, RunState, opening, node_at, runs}
+use Rattle.cany_model.specs.Rules.Turn.{scenario_at, turn_effects}
+use Rattle.cany_model.proofs.Among.{Among, Among-from_Contains, Among-weaker, Among-which, Each-weaker, Contains-cons_cases, Contains-none}
+use Rattle.cany_model.proofs.Bus.Carried.{Has, read_among, read_note}
 use Rattle.cany_model.proofs.Bus.Notes.{note_of-slot, note_of-offered, waiting_sends}
+use Rattle.cany_model.proofs.Bus.Restarts.{after_restarts-trace, restarts_or_stays}
 use Rattle.cany_model.proofs.Bus.Runs.{IsOrderly, along_run, opening_within}
+use Rattle.cany_model.proofs.Bus.Seen.{Among-seen, history-is}
 use Rattle.cany_model.proofs.Bus.States.{no_note, note_at, node_at-opening, runs_within}
 use Rattle.cany_model.proofs.Bus.Steps.{MayTurn, next_notice, after_slot-trace, after_slot-waiting, running_before_slot, after_turn-trace, after_turn-node, after_turn-other, after_turn-runs, after_turn-history}
 use Rattle.cany_model.proofs.Bus.Waits.{AsksOnly, Each-kept, Each-after}
@@ -45,7 +49,7 @@ pub record IsKeptByFrames (scenario : ScenarioParts) (W : OfWaiting) (C : OfCarr
       → has note.senders i ≡ true → W trace i f → C (note ∷ trace) note.slot f
   -- and a frame that a turn asks for may wait
   pub asked : (s : RunState) (i : ℕ) → IsOrderly scenario.params.nodes s → MayTurn s i → HoldsOfFrames W C s
-      → AllByRecursion (AsksOnly (W s.trace i)) (turn_effects scenario i (next_notice s i ∷ history i s))
+      → AllByRecursion (AsksOnly (W s.trace i)) (turn_effects (scenario_at scenario s i) i (next_notice s i ∷ history i s))
 
 -- ---- a slot
 
@@ -87,6 +91,23 @@ holds_slot scenario W C keeps rules s few h =
           (carried_slot scenario W C keeps rules s few h);
     }
 
+-- ---- restarts
+
+holds_restarts : (scenario : ScenarioParts) (W : OfWaiting) (C : OfCarried) (s : RunState) → HoldsOfFrames W C s → HoldsOfFrames W C (after_restarts scenario s)
+holds_restarts scenario W C s h =
+    let at : s.trace ≡ (after_restarts scenario s).trace = sym (after_restarts-trace scenario s) in
+    record {
+      waiting = λ i running. subst (λ trace. AllByRecursion (W trace i) (node_at (after_restarts scenario s).nodes i).waiting) at (waiting i running);
+      carried = subst (λ trace. (note : SlotNote) (f : FrameParts) → Contains trace note → note.frame ≡ Some f → C trace note.slot f) at h.carried;
+    }
+  where
+    waiting : (i : ℕ) → runs (node_at (after_restarts scenario s).nodes i) ≡ true
+        → AllByRecursion (W s.trace i) (node_at (after_restarts scenario s).nodes i).waiting
+    waiting i running = elim (restarts_or_stays scenario s i) [
+      | inl new ↦ rw new.is tt
+      | inr same ↦ rw same (h.waiting i (sym (ap (λ node. runs node) same) ∙ running))
+    ]
+
 -- ---- a turn
 
 pub slot_of_note : (nodes : ℕ) (s : RunState) → IsOrderly nodes s → (note : SlotNote) → Contains s.trace note → note.slot ≤ length s.trace
@@ -95,20 +116,44 @@ slot_of_note nodes s o note c =
     let number = o.numbered c.0 c.1 in
     omega (arith, at, number)
 
--- a frame that a node has read, or reads in its turn, was carried
+-- a slot that an incarnation sees to carry a frame carried it
+pub seen_note : (trace : List SlotNote) (inc : Incarnation) (f : FrameParts) → (note : SlotNote) × Contains (seen inc trace) note × (note.frame ≡ Some f)
+    → (note : SlotNote) × Contains trace note × (note.frame ≡ Some f)
+seen_note trace inc f w =
+    let P : SlotNote → Type 0 = λ note. note.frame ≡ Some f in
+    Among-which P trace
+    (Among-seen P (λ note none some. idle note none some) inc trace
+    (Among-weaker (λ note. note ≡ w.0) P (λ note e. ap (λ (n : SlotNote). n.frame) e ∙ w.2) (seen inc trace) (Among-from_Contains (seen inc trace) w.0 w.1)))
+  where
+    idle : (note : SlotNote) → note.frame ≡ None → note.frame ≡ Some f → ⊥
+    idle note a b = cc
+
+-- what follows of the slots whose notices a node has read, and of no idle one
+pub history_among : (s : RunState) (i : ℕ) (P : NoticeKind → Type 0) (Q : SlotNote → Type 0) → ((note : SlotNote) → note.frame ≡ None → Q note → ⊥)
+    → ((note : SlotNote) → P (given i note) → Q note) → Among P (history i s) → Among Q s.trace
+history_among s i P Q never follows h =
+    let node = node_at s.nodes i in
+    Among-seen Q never node.present s.trace
+    (read_among i node.unread P Q follows (seen node.present s.trace) (subst (Among P) (history-is i s) h))
+
+-- a frame that a node has read was carried
+pub history_note : (s : RunState) (i : ℕ) (f : FrameParts) → Among (Has f) (history i s) → (note : SlotNote) × Contains s.trace note × (note.frame ≡ Some f)
+history_note s i f h =
+    let node = node_at s.nodes i in
+    seen_note s.trace node.present f (read_note i node.unread (seen node.present s.trace) f (subst (Among (Has f)) (history-is i s) h))
+
+-- so was one that it has read or reads in its turn
 pub turn_note : (scenario : ScenarioParts) (s : RunState) (i : ℕ) (f : FrameParts) → MayTurn s i → (node_at s.nodes i).unread ≤ length s.trace
     → Among (Has f) (next_notice s i ∷ history i s) → (note : SlotNote) × Contains s.trace note × (note.frame ≡ Some f)
-unfolding history
 turn_note scenario s i f may short h =
-    let t : RunState = after_turn scenario i s in
     subst (λ trace. (note : SlotNote) × Contains trace note × (note.frame ≡ Some f)) (after_turn-trace scenario i s)
-    (read_note i (node_at t.nodes i).unread t.trace f (subst (Among (Has f)) (sym (after_turn-history scenario i s may short)) h))
+    (history_note (after_turn scenario i s) i f (subst (Among (Has f)) (sym (after_turn-history scenario i s may short)) h))
 
 waiting_turn : (scenario : ScenarioParts) (W : OfWaiting) (C : OfCarried) → IsKeptByFrames scenario W C → (s : RunState) (i : ℕ) → IsOrderly scenario.params.nodes s
     → MayTurn s i → HoldsOfFrames W C s → AllByRecursion (W s.trace i) (node_at (after_turn scenario i s).nodes i).waiting
 waiting_turn scenario W C keeps s i o may h =
     rw (after_turn-node scenario i s may (o.unread i))
-    (Each-after (W s.trace i) (turn_effects scenario i (next_notice s i ∷ history i s)) (node_at s.nodes i).waiting
+    (Each-after (W s.trace i) (turn_effects (scenario_at scenario s i) i (next_notice s i ∷ history i s)) (node_at s.nodes i).waiting
     (keeps.asked s i o may h) (h.waiting i may.running))
 
 holds_turn : (scenario : ScenarioParts) (W : OfWaiting) (C : OfCarried) → IsKeptByFrames scenario W C → (s : RunState) (i : ℕ) → IsOrderly scenario.params.nodes s
@@ -140,6 +185,7 @@ holds_of_frames scenario W C keeps journal few =
     along_run scenario (HoldsOfFrames W C) (holds_opening W C scenario.params.nodes)
     (record {
       slot = λ s o may h. holds_slot scenario W C keeps (script scenario.rules) s (subst (λ n. n ≤ most_nodes) (sym o.count) few) h;
+      restarts = λ s o some h. holds_restarts scenario W C s h;
       turn = λ s i o may h. holds_turn scenario W C keeps s i o may h;
     })
     journal

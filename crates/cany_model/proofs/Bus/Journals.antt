@@ -1,17 +1,18 @@
 -- Journals in parts, legal journals, and how long a legal journal can be.
-use Rattle.std.specs.Prelude.{◌≡◌, ℕ, zero, suc, ◌+◌, ◌-◌, ◌*◌, ◌<◌, ◌≤◌, ◌≢◌, Bool, true, false, ◌&&◌, List, [], ◌∷◌, ◌++◌, length, refl}
-use Rattle.std.proofs.Common.{sym, ap, ◌∙◌, subst, inl, inr, arith, append_assoc}
+use Rattle.std.specs.Prelude.{◌≡◌, ℕ, zero, suc, ◌+◌, ◌-◌, ◌*◌, ◌<◌, ◌≤◌, ◌≢◌, true, false, List, [], ◌∷◌, ◌++◌, length, refl}
+use Rattle.std.proofs.Common.{sym, ap, ◌∙◌, subst, inl, inr, arith}
 use Rattle.std.proofs.Math.Nat.{mul-le-mul_left}
 use Rattle.std.proofs.lemmas.Bool.{cases_eq, and_parts, and_from}
-use Rattle.std.proofs.lemmas.List.{append-nil}
 use Rattle.cany_base.specs.declared.step.Step.{Step}
 use Rattle.cany_base.specs.declared.step.Step.TheVariants.{Slot, Turn}
 use Rattle.cany_base.specs.Scenario.{ScenarioParts}
+use Rattle.cany_model.specs.Bus.Restart.{after_restarts}
 use Rattle.cany_model.specs.Bus.Run.{reply, is_done, proceed, after_step, after_turn, run_from, run, is_legal_from, IsLegal}
-use Rattle.cany_model.specs.Bus.Slot.{FaultScript, script, after_slot}
+use Rattle.cany_model.specs.Bus.Slot.{FaultScript, script, after_slot, slot_note_of}
 use Rattle.cany_model.specs.Bus.State.{NodeState, RunState, opening, node_at, runs, reads}
-use Rattle.cany_model.proofs.Bus.Runs.{IsOrderly, MaySlot, along_run, orderly, orderly_opening, orderly_slot, orderly_turn, slot_done, turn_done}
-use Rattle.cany_model.proofs.Bus.Steps.{MayTurn, after_slot-trace, after_slot-length, after_slot-unread, after_turn-length, after_turn-trace, after_turn-node, after_turn-other, running_before_slot, after_turn-runs}
+use Rattle.cany_model.proofs.Bus.Restarts.{after_restarts-trace, restarts_or_stays}
+use Rattle.cany_model.proofs.Bus.Runs.{IsOrderly, along_run, orderly_opening, orderly_restarts, orderly_slot, orderly_turn, turn_done}
+use Rattle.cany_model.proofs.Bus.Steps.{MayTurn, after_slot-trace, after_slot-unread, after_turn-trace, after_turn-node, after_turn-other, running_before_slot, after_turn-runs}
 use Rattle.cany_model.proofs.Bus.States.{runs_within}
 
 -- ---- a journal in two parts
@@ -39,6 +40,18 @@ step_is scenario s step done = rw done refl
 pub step_refused : (scenario : ScenarioParts) (s : RunState) (step : Step) → is_done (reply scenario s step) ≡ false → after_step scenario s step ≡ s
 unfolding after_step
 step_refused scenario s step refused = rw refused refl
+
+-- the step of a slot: the slot, and the restarts at its end
+
+pub slot_step-trace : (scenario : ScenarioParts) (s : RunState) → (proceed scenario s Slot).trace ≡ slot_note_of (script scenario.rules) s ∷ s.trace
+unfolding proceed
+slot_step-trace scenario s = after_restarts-trace scenario (after_slot (script scenario.rules) s) ∙ after_slot-trace (script scenario.rules) s
+
+pub orderly_slot_step : (scenario : ScenarioParts) (s : RunState) → IsOrderly scenario.params.nodes s → IsOrderly scenario.params.nodes (proceed scenario s Slot)
+unfolding proceed
+orderly_slot_step scenario s o =
+    orderly_restarts scenario.params.nodes scenario (after_slot (script scenario.rules) s)
+    (orderly_slot scenario.params.nodes (script scenario.rules) s o)
 
 -- ---- legal journals
 
@@ -87,6 +100,7 @@ trace_short scenario journal =
     along_run scenario (λ s. length s.trace ≤ scenario.params.slots) (omega arith)
     (record {
       slot = λ s o may h. subst (λ trace. length trace ≤ scenario.params.slots) (sym (after_slot-trace (script scenario.rules) s)) (omega (arith, may.room));
+      restarts = λ s o some h. subst (λ trace. length trace ≤ scenario.params.slots) (sym (after_restarts-trace scenario s)) h;
       turn = λ s i o may h. subst (λ trace. length trace ≤ scenario.params.slots) (sym (after_turn-trace scenario i s)) h;
     })
     journal
@@ -107,6 +121,32 @@ unfolding reads_below
 below_slot nodes rules s o zero h = refl
 below_slot nodes rules s o (suc n) h =
     omega (arith, reads_slot nodes rules s o n (omega arith), below_slot nodes rules s o n (omega arith))
+
+-- a node that starts again has only later slots to read, and every other node has read as many as before
+pub reads_restarts : (scenario : ScenarioParts) (s : RunState) (i : ℕ) → reads s i ≤ reads (after_restarts scenario s) i
+reads_restarts scenario s i =
+    let same : length (after_restarts scenario s).trace ≡ length s.trace = ap length (after_restarts-trace scenario s) in
+    elim (restarts_or_stays scenario s i) [
+      | inl new ↦
+          let none : (node_at (after_restarts scenario s).nodes i).unread ≡ 0 = ap (λ (node : NodeState). node.unread) new.is in
+          omega (arith, same, none)
+      | inr still ↦ omega (arith, same, ap (λ (node : NodeState). node.unread) still)
+    ]
+
+below_restarts : (scenario : ScenarioParts) (s : RunState) (n : ℕ) → reads_below s n ≤ reads_below (after_restarts scenario s) n
+unfolding reads_below
+below_restarts scenario s zero = omega arith
+below_restarts scenario s (suc n) = omega (arith, reads_restarts scenario s n, below_restarts scenario s n)
+
+below_slot_step : (scenario : ScenarioParts) (s : RunState) → IsOrderly scenario.params.nodes s
+    → reads_below s scenario.params.nodes ≤ reads_below (proceed scenario s Slot) scenario.params.nodes
+unfolding proceed
+below_slot_step scenario s o =
+    omega (
+      arith,
+      below_slot scenario.params.nodes (script scenario.rules) s o scenario.params.nodes (omega arith),
+      below_restarts scenario (after_slot (script scenario.rules) s) scenario.params.nodes,
+    )
 
 pub reads_turn : (scenario : ScenarioParts) (i : ℕ) (s : RunState) → IsOrderly scenario.params.nodes s → MayTurn s i → reads (after_turn scenario i s) i ≡ reads s i + 1
 reads_turn scenario i s o may =
@@ -139,18 +179,17 @@ below_turn scenario i s o may (suc n) h = elim (cases_eq n i) [
   | inr other ↦ omega (arith, reads_other scenario i s n other, below_turn scenario i s o may n (omega arith))
 ]
 
--- how many steps lead to a state
+-- At most how many steps lead to a state: each step counts for at least one, since a slot makes the trace longer and takes back
+-- nothing that was read, and a turn reads one notice. A restart counts what the earlier incarnation left unread as read.
 abbrev steps_to : ℕ → RunState → ℕ
 steps_to nodes s = length s.trace + reads_below s nodes
 
 counted_step : (scenario : ScenarioParts) (s : RunState) (step : Step) → IsOrderly scenario.params.nodes s → is_done (reply scenario s step) ≡ true
-    → IsOrderly scenario.params.nodes (proceed scenario s step) × (steps_to scenario.params.nodes (proceed scenario s step) ≡ steps_to scenario.params.nodes s + 1)
+    → IsOrderly scenario.params.nodes (proceed scenario s step) × (steps_to scenario.params.nodes s + 1 ≤ steps_to scenario.params.nodes (proceed scenario s step))
 unfolding proceed
 counted_step scenario s Slot o done =
-    let longer : length (after_slot (script scenario.rules) s).trace ≡ suc (length s.trace) = ap length (after_slot-trace (script scenario.rules) s) in (
-      orderly_slot scenario.params.nodes (script scenario.rules) s o,
-      omega (arith, longer, below_slot scenario.params.nodes (script scenario.rules) s o scenario.params.nodes (omega arith)),
-    )
+    let longer : length (proceed scenario s Slot).trace ≡ suc (length s.trace) = ap length (slot_step-trace scenario s) in
+    (orderly_slot_step scenario s o, omega (arith, longer, below_slot_step scenario s o))
 counted_step scenario s (Turn i) o done =
     let may : MayTurn s i = turn_done scenario s i o.count done in
     let same : length (after_turn scenario i s).trace ≡ length s.trace = ap length (after_turn-trace scenario i s) in (
@@ -159,16 +198,17 @@ counted_step scenario s (Turn i) o done =
     )
 
 counted_from : (scenario : ScenarioParts) (s : RunState) (journal : List Step) → IsOrderly scenario.params.nodes s → is_legal_from scenario s journal ≡ true
-    → steps_to scenario.params.nodes (run_from scenario s journal) ≡ steps_to scenario.params.nodes s + length journal
+    → steps_to scenario.params.nodes s + length journal ≤ steps_to scenario.params.nodes (run_from scenario s journal)
 unfolding run_from is_legal_from
 counted_from scenario s [] o legal = omega arith
 counted_from scenario s (step ∷ journal) o legal =
     let parts = and_parts (is_done (reply scenario s step)) (is_legal_from scenario (after_step scenario s step) journal) legal in
     let next = counted_step scenario s step o parts.0 in
-    let to : after_step scenario s step ≡ proceed scenario s step = step_is scenario s step parts.0 in
-    let o' : IsOrderly scenario.params.nodes (after_step scenario s step) = subst (λ (t : RunState). IsOrderly scenario.params.nodes t) (sym to) next.0 in
-    let one : steps_to scenario.params.nodes (after_step scenario s step) ≡ steps_to scenario.params.nodes s + 1 = ap (λ (t : RunState). steps_to scenario.params.nodes t) to ∙ next.1 in
-    counted_from scenario (after_step scenario s step) journal o' parts.1 ∙ omega (arith, one)
+    let to : proceed scenario s step ≡ after_step scenario s step = sym (step_is scenario s step parts.0) in
+    let o' : IsOrderly scenario.params.nodes (after_step scenario s step) = subst (λ (t : RunState). IsOrderly scenario.params.nodes t) to next.0 in
+    let one : steps_to scenario.params.nodes s + 1 ≤ steps_to scenario.params.nodes (after_step scenario s step) =
+    subst (λ (t : RunState). steps_to scenario.params.nodes s + 1 ≤ steps_to scenario.params.nodes t) to next.1 in
+    omega (arith, one, counted_from scenario (after_step scenario s step) journal o' parts.1)
 
 below_few : (s : RunState) (n : ℕ) → reads_below s n ≤ n * length s.trace
 unfolding reads_below
@@ -185,7 +225,7 @@ pub legal_short : (scenario : ScenarioParts) (journal : List Step) → IsLegal s
     → length journal ≤ scenario.params.slots * (scenario.params.nodes + 1)
 legal_short scenario journal legal =
     let s : RunState = run scenario journal in
-    let count : steps_to scenario.params.nodes s ≡ steps_to scenario.params.nodes (opening scenario.params.nodes) + length journal =
+    let count : steps_to scenario.params.nodes (opening scenario.params.nodes) + length journal ≤ steps_to scenario.params.nodes s =
     counted_from scenario (opening scenario.params.nodes) journal (orderly_opening scenario.params.nodes) legal in
     let few : reads_below s scenario.params.nodes ≤ scenario.params.nodes * length s.trace = below_few s scenario.params.nodes in
     let short : length s.trace ≤ scenario.params.slots = trace_short scenario journal in
@@ -202,6 +242,12 @@ unread_within scenario journal =
       slot = λ s o may h i running.
           let ran = running_before_slot (script scenario.rules) s i running in
           omega (arith, after_slot-unread (script scenario.rules) s i (runs_within s.nodes i ran.0), may.lag i ran.0);
+      restarts = λ s o some h i running. elim (restarts_or_stays scenario s i) [
+        | inl new ↦ omega (arith, ap (λ (node : NodeState). node.unread) new.is)
+        | inr same ↦
+            let ran : runs (node_at s.nodes i) ≡ true = ap (λ (node : NodeState). runs node) (sym same) ∙ running in
+            omega (arith, ap (λ (node : NodeState). node.unread) same, h i ran)
+      ];
       turn = λ s i o may h j running.
           let ran : runs (node_at s.nodes j) ≡ true = sym (after_turn-runs scenario i s j may (o.unread i)) ∙ running in
           elim (cases_eq j i) [

@@ -1,22 +1,25 @@
 -- The round robin journal of every scenario is legal and whole: before each slot every running node has read every notice,
--- the slot gives each one more, and in its turn the node reads it.
-use Rattle.std.specs.Prelude.{◌≡◌, ℕ, zero, suc, ◌+◌, ◌<◌, ◌≤◌, ◌==◌, ◌||◌, Bool, true, false, not, nat_le, List, [], ◌∷◌, ◌++◌, length, map, filter, slice_index_or, refl}
+-- the slot gives each one more, and in its turn the node reads it. A node that starts again at the end of the slot has none.
+use Rattle.std.specs.Prelude.{◌≡◌, ℕ, zero, suc, ◌+◌, ◌<◌, ◌≤◌, ◌==◌, ◌&&◌, ◌||◌, Bool, true, false, not, nat_le, nat_lt, List, [], ◌∷◌, ◌++◌, length, map, filter, slice_index_or, refl}
 use Rattle.std.specs.List.{range_with_len}
-use Rattle.std.proofs.Common.{sym, ap, ◌∙◌, subst, inl, inr, arith}
-use Rattle.std.proofs.lemmas.Bool.{both_ways, and_parts, and_from, or_left, or_right, cases_Bool, cases_eq, cond_both, eq-eqb, le-leb, not_from_false}
+use Rattle.std.proofs.Common.{sym, ap, ◌∙◌, subst, inl, inr, arith, ltb-false}
+use Rattle.std.proofs.lemmas.Bool.{and_parts, and_from, or_left, or_right, cases_Bool, cases_eq, cond_both, eq-eqb, le-leb, not_from_false}
 use Rattle.std.proofs.lemmas.List.{get_or_default}
 use Rattle.std.proofs.lemmas.List.Sums.{list_all-from_AllPass}
 use Rattle.cany_base.specs.declared.slot_note.SlotNote.{SlotNote}
 use Rattle.cany_base.specs.declared.step.Step.{Step}
 use Rattle.cany_base.specs.declared.step.Step.TheVariants.{Slot, Turn}
 use Rattle.cany_base.specs.Scenario.{ScenarioParts}
-use Rattle.cany_model.specs.Bus.RoundRobin.{running_nodes, round, rounds, round_robin}
+use Rattle.cany_model.specs.Bus.RoundRobin.{is_to_read, reading_nodes, round, rounds, round_robin}
 use Rattle.cany_model.specs.Bus.Run.{reply, is_done, proceed, after_step, after_turn, run_from, is_legal_from, all_read, IsLegal, IsWhole}
 use Rattle.cany_model.specs.Bus.Slot.{script, after_slot}
 use Rattle.cany_model.specs.Bus.State.{NodeState, RunState, absent, opening, node_at, runs, slots_run}
-use Rattle.cany_model.proofs.Bus.Runs.{opening_within, slot_is_done, turn_is_done, IsOrderly, MaySlot, orderly_opening, orderly_slot, orderly_turn}
+use Rattle.cany_model.proofs.Bus.Journals.{orderly_slot_step, slot_step-trace}
+use Rattle.cany_model.proofs.Bus.Restarts.{restarts_or_stays}
+use Rattle.cany_model.proofs.Bus.Rounds.{may_read}
+use Rattle.cany_model.proofs.Bus.Runs.{opening_within, slot_is_done, turn_is_done, IsOrderly, MaySlot, orderly_opening, orderly_turn}
 use Rattle.cany_model.proofs.Bus.States.{runs_within, node_at-opening}
-use Rattle.cany_model.proofs.Bus.Steps.{MayTurn, running_before_slot, after_slot-trace, after_slot-unread, after_turn-length, after_turn-trace, after_turn-node, after_turn-other, after_turn-runs}
+use Rattle.cany_model.proofs.Bus.Steps.{MayTurn, running_before_slot, after_slot-unread, after_turn-length, after_turn-trace, after_turn-node, after_turn-other, after_turn-runs}
 
 -- ---- journals that lead to states
 
@@ -57,26 +60,30 @@ leads_then scenario P Q s (step ∷ first) rest p q =
 abbrev HaveRead : RunState → Type 0
 HaveRead s = (i : ℕ) → runs (node_at s.nodes i) ≡ true → (node_at s.nodes i).unread ≡ 0
 
--- the nodes below k have read every notice, and the others all but one
+-- the nodes below k have read every notice, and the others all but at most one
 record ReadBelow (k : ℕ) (s : RunState) : Type 0 where
   below : (i : ℕ) → i < k → runs (node_at s.nodes i) ≡ true → (node_at s.nodes i).unread ≡ 0
-  from : (i : ℕ) → k ≤ i → runs (node_at s.nodes i) ≡ true → (node_at s.nodes i).unread ≡ 1
+  from : (i : ℕ) → k ≤ i → runs (node_at s.nodes i) ≡ true → (node_at s.nodes i).unread ≤ 1
 
 read_all : (s : RunState) → ReadBelow (length s.nodes) s → HaveRead s
 read_all s h i running = h.below i (runs_within s.nodes i running) running
 
--- node k does not run, so it has nothing to read
-read_past : (k : ℕ) (s : RunState) → runs (node_at s.nodes k) ≡ false → ReadBelow k s → ReadBelow (k + 1) s
-read_past k s stopped h = record {
+none_to_read : (node : NodeState) → is_to_read node ≡ false → runs node ≡ true → node.unread ≡ 0
+none_to_read node skips running =
+    let none : node.unread ≤ 0 = ltb-false 0 node.unread (sym (ap (λ b. b && nat_lt 0 node.unread) running) ∙ skips) in
+    omega arith
+
+-- node k has nothing to read
+read_past : (k : ℕ) (s : RunState) → is_to_read (node_at s.nodes k) ≡ false → ReadBelow k s → ReadBelow (k + 1) s
+read_past k s skips h = record {
   below = λ i less running. elim (cases_eq i k) [
-    | inl same ↦ absurd (both_ways (runs (node_at s.nodes k)) stopped (subst (λ n. runs (node_at s.nodes n) ≡ true) same running))
+    | inl same ↦
+        subst (λ n. (node_at s.nodes n).unread ≡ 0) (sym same)
+        (none_to_read (node_at s.nodes k) skips (subst (λ n. runs (node_at s.nodes n) ≡ true) same running))
     | inr other ↦ h.below i (omega arith) running
   ];
   from = λ i more. h.from i (omega arith);
 }
-
-may_read : (k : ℕ) (s : RunState) → runs (node_at s.nodes k) ≡ true → ReadBelow k s → MayTurn s k
-may_read k s running h = record { there = runs_within s.nodes k running; running = running; unread = omega (arith, h.from k (omega arith) running) }
 
 read_next : (scenario : ScenarioParts) (k : ℕ) (s : RunState) → IsOrderly scenario.params.nodes s → MayTurn s k → ReadBelow k s
     → ReadBelow (k + 1) (after_turn scenario k s)
@@ -86,7 +93,8 @@ read_next scenario k s o may h = record {
         (omega (arith, ap (λ (node : NodeState). node.unread) (after_turn-node scenario k s may (o.unread k)), h.from k (omega arith) may.running))
     | inr other ↦ other_unread i 0 other (h.below i (omega arith) (ran i running))
   ];
-  from = λ i more running. other_unread i 1 (λ same. absurd (omega arith)) (h.from i (omega arith) (ran i running));
+  from = λ i more running.
+      omega (arith, other_unread i (node_at s.nodes i).unread (λ same. absurd (omega arith)) refl, h.from i (omega arith) (ran i running));
 }
   where
     ran : (i : ℕ) → runs (node_at (after_turn scenario k s).nodes i) ≡ true → runs (node_at s.nodes i) ≡ true
@@ -99,9 +107,9 @@ read_next scenario k s o may h = record {
 abbrev IsCaughtUp : List SlotNote → RunState → Type 0
 IsCaughtUp trace s = HaveRead s × (s.trace ≡ trace)
 
--- the turns of the running nodes from k on
+-- the turns of the nodes from k on that have something to read
 turns_lead : (scenario : ScenarioParts) (trace : List SlotNote) (test : ℕ → Bool) (n k : ℕ) (s : RunState) → IsOrderly scenario.params.nodes s → k + n ≡ length s.nodes
-    → ((i : ℕ) → test i ≡ runs (node_at s.nodes i)) → s.trace ≡ trace → ReadBelow k s
+    → ((i : ℕ) → k ≤ i → test i ≡ is_to_read (node_at s.nodes i)) → s.trace ≡ trace → ReadBelow k s
     → Leads scenario (IsCaughtUp trace) s (map (λ i. Turn i) (filter test (range_with_len k n)))
 unfolding proceed
 turns_lead scenario trace test zero k s o count same at h =
@@ -110,15 +118,16 @@ turns_lead scenario trace test zero k s o count same at h =
 turns_lead scenario trace test (suc n) k s o count same at h =
     cond_both (test k) (k ∷ filter test (range_with_len (k + 1) n)) (filter test (range_with_len (k + 1) n))
     (λ ks. Leads scenario (IsCaughtUp trace) s (map (λ i. Turn i) ks))
-    (λ running.
-    let may : MayTurn s k = may_read k s (sym (same k) ∙ running) h in
+    (λ reads.
+    let may : MayTurn s k = may_read s k (sym (same k (omega arith)) ∙ reads) in
     leads_on scenario (IsCaughtUp trace) s (after_turn scenario k s) (Turn k) _ (turn_is_done scenario s k o.count may) refl
     (turns_lead scenario trace test n (k + 1) (after_turn scenario k s) (orderly_turn scenario.params.nodes scenario k s may o)
     (omega (arith, after_turn-length scenario k s))
-    (λ i. same i ∙ sym (after_turn-runs scenario k s i may (o.unread k)))
+    (λ i more. same i (omega arith) ∙ ap (λ (node : NodeState). is_to_read node) (sym (after_turn-other scenario k s i (λ e. absurd (omega arith)))))
     (after_turn-trace scenario k s ∙ at)
     (read_next scenario k s o may h)))
-    (λ stopped. turns_lead scenario trace test n (k + 1) s o (omega arith) same at (read_past k s (sym (same k) ∙ stopped) h))
+    (λ skips. turns_lead scenario trace test n (k + 1) s o (omega arith) (λ i more. same i (omega arith)) at
+    (read_past k s (sym (same k (omega arith)) ∙ skips) h))
 
 -- ---- a round
 
@@ -126,12 +135,16 @@ turns_lead scenario trace test (suc n) k s o count same at h =
 abbrev IsBetween : ℕ → RunState → Type 0
 IsBetween slots s = HaveRead s × (length s.trace ≡ slots)
 
-one_unread : (scenario : ScenarioParts) (s : RunState) → HaveRead s → ReadBelow 0 (after_slot (script scenario.rules) s)
+one_unread : (scenario : ScenarioParts) (s : RunState) → HaveRead s → ReadBelow 0 (proceed scenario s Slot)
+unfolding proceed
 one_unread scenario s h = record {
   below = λ i less. absurd (omega arith);
-  from = λ i more running.
-      let ran = running_before_slot (script scenario.rules) s i running in
-      omega (arith, after_slot-unread (script scenario.rules) s i (runs_within s.nodes i ran.0), h i ran.0);
+  from = λ i more running. elim (restarts_or_stays scenario (after_slot (script scenario.rules) s) i) [
+    | inl new ↦ omega (arith, ap (λ (node : NodeState). node.unread) new.is)
+    | inr same ↦
+        let ran = running_before_slot (script scenario.rules) s i (ap (λ (node : NodeState). runs node) (sym same) ∙ running) in
+        omega (arith, ap (λ (node : NodeState). node.unread) same, after_slot-unread (script scenario.rules) s i (runs_within s.nodes i ran.0), h i ran.0)
+  ];
 }
 
 leads_weaker : (scenario : ScenarioParts) (P Q : RunState → Type 0) → ((t : RunState) → P t → Q t) → (s : RunState) (journal : List Step)
@@ -139,23 +152,22 @@ leads_weaker : (scenario : ScenarioParts) (P Q : RunState → Type 0) → ((t : 
 leads_weaker scenario P Q f s journal l = record { legal = l.legal; orderly = l.orderly; holds = f (run_from scenario s journal) l.holds }
 
 round-is : (scenario : ScenarioParts) (s : RunState) → is_done (reply scenario s Slot) ≡ true
-    → Slot ∷ map (λ i. Turn i) (running_nodes (after_slot (script scenario.rules) s).nodes) ≡ round scenario s
-unfolding round after_step proceed
+    → Slot ∷ map (λ i. Turn i) (reading_nodes (proceed scenario s Slot).nodes) ≡ round scenario s
+unfolding round after_step
 round-is scenario s done = rw done refl
 
 round_leads : (scenario : ScenarioParts) (slots : ℕ) (s : RunState) → IsOrderly scenario.params.nodes s → IsBetween slots s → slots < scenario.params.slots
     → Leads scenario (IsBetween (suc slots)) s (round scenario s)
-unfolding proceed
 round_leads scenario slots s o between room =
     let may : MaySlot scenario s = record { room = omega (arith, between.1); lag = λ i running. omega (arith, between.0 i running) } in
     let done : is_done (reply scenario s Slot) ≡ true = slot_is_done scenario s may in
-    let t : RunState = after_slot (script scenario.rules) s in
-    let long : length t.trace ≡ suc slots = ap (λ trace. length trace) (after_slot-trace (script scenario.rules) s) ∙ ap (λ n. suc n) between.1 in
+    let t : RunState = proceed scenario s Slot in
+    let long : length t.trace ≡ suc slots = ap (λ trace. length trace) (slot_step-trace scenario s) ∙ ap (λ n. suc n) between.1 in
     leads_weaker scenario (IsCaughtUp t.trace) (IsBetween (suc slots)) (λ u caught. (caught.0, ap (λ trace. length trace) caught.1 ∙ long)) s (round scenario s)
     (subst (Leads scenario (IsCaughtUp t.trace) s) (round-is scenario s done)
     (leads_on scenario (IsCaughtUp t.trace) s t Slot _ done refl
-    (turns_lead scenario t.trace (λ i. runs (node_at t.nodes i)) (length t.nodes) 0 t (orderly_slot scenario.params.nodes (script scenario.rules) s o)
-    (omega arith) (λ i. refl) refl (one_unread scenario s between.0))))
+    (turns_lead scenario t.trace (λ i. is_to_read (node_at t.nodes i)) (length t.nodes) 0 t (orderly_slot_step scenario s o)
+    (omega arith) (λ i more. refl) refl (one_unread scenario s between.0))))
 
 rounds_lead : (scenario : ScenarioParts) (rest slots : ℕ) (s : RunState) → IsOrderly scenario.params.nodes s → IsBetween slots s
     → slots + rest ≡ scenario.params.slots → Leads scenario (IsBetween scenario.params.slots) s (rounds scenario rest s)

@@ -1,45 +1,28 @@
 -- The round robin journal, step by step: the steps of one slot as far as they were made, and one round after another.
-use Rattle.std.specs.Prelude.{◌≡◌, ℕ, zero, suc, ◌+◌, ◌-◌, ◌<◌, ◌≤◌, Bool, true, false, cond, is_none, List, [], ◌∷◌, ◌++◌, length, map, filter, slice_set, refl}
+use Rattle.std.specs.Prelude.{◌≡◌, ℕ, zero, suc, ◌+◌, ◌≤◌, ◌≢◌, Bool, true, false, cond, nat_lt, List, [], ◌∷◌, ◌++◌, length, map, filter, refl}
+use Rattle.std.specs.Cmp.{both_ways}
 use Rattle.std.specs.List.{range_with_len}
-use Rattle.std.proofs.Common.{sym, ap, ◌∙◌, subst, inl, inr, arith, append_assoc, add-one}
-use Rattle.std.proofs.lemmas.Bool.{cases_lt}
+use Rattle.std.proofs.Common.{sym, ap, ◌∙◌, subst, arith, append_assoc, add-one}
+use Rattle.std.proofs.lemmas.Bool.{and_from, and_parts, lt-ltb, ltb-true}
 use Rattle.std.proofs.lemmas.List.{map-append, append-nil}
 use Rattle.std.proofs.lemmas.List.Elements.{filter-append}
 use Rattle.cany_base.specs.declared.step.Step.{Step}
 use Rattle.cany_base.specs.declared.step.Step.TheVariants.{Slot, Turn}
 use Rattle.cany_base.specs.Scenario.{ScenarioParts}
-use Rattle.cany_model.specs.Rules.Effect.{waiting_after}
-use Rattle.cany_model.specs.Bus.History.{history}
-use Rattle.cany_model.specs.Bus.RoundRobin.{round, rounds, round_robin, running_nodes}
-use Rattle.cany_model.specs.Bus.Run.{run, run_from, after_step, reply, proceed, is_done, after_turn, having_read, is_legal_from, IsLegal}
+use Rattle.cany_model.specs.Bus.RoundRobin.{is_to_read, reading_nodes, round, rounds}
+use Rattle.cany_model.specs.Bus.Run.{run, run_from, after_step, reply, proceed, is_done, after_turn, is_legal_from, IsLegal}
 use Rattle.cany_model.specs.Bus.State.{NodeState, RunState, node_at, opening, runs}
-use Rattle.cany_model.specs.Rules.Turn.{turn_effects}
 use Rattle.cany_model.proofs.Bus.Journals.{run_none, run_push, run_then, legal_first, legal_next}
-use Rattle.cany_model.proofs.Bus.Runs.{orderly}
+use Rattle.cany_model.proofs.Bus.Runs.{orderly, turn_done, turn_is_done}
+use Rattle.cany_model.proofs.Bus.States.{runs_within}
+use Rattle.cany_model.proofs.Bus.Steps.{MayTurn, after_turn-other}
 
--- ---- a turn stops no node and starts none
-
-set_stops : (nodes : List NodeState) (i j : ℕ) (x : NodeState) → x.stopped ≡ (node_at nodes i).stopped → (node_at (slice_set nodes i x) j).stopped ≡ (node_at nodes j).stopped
-unfolding node_at
-set_stops [] i j x e = refl
-set_stops (n ∷ nodes) zero zero x e = e
-set_stops (n ∷ nodes) zero (suc j) x e = refl
-set_stops (n ∷ nodes) (suc i) zero x e = refl
-set_stops (n ∷ nodes) (suc i) (suc j) x e = set_stops nodes i j x e
-
-turn_stops : (scenario : ScenarioParts) (i : ℕ) (s : RunState) (j : ℕ) → (node_at (after_turn scenario i s).nodes j).stopped ≡ (node_at s.nodes j).stopped
-unfolding after_turn
-turn_stops scenario i s j =
-    let y : NodeState = record (node_at s.nodes i) { unread = (node_at s.nodes i).unread - 1 } in
-    let xs : List NodeState = slice_set s.nodes i y in
-    set_stops xs i j (record (node_at xs i) { waiting = waiting_after (turn_effects scenario i (history i (having_read i s))) (node_at xs i).waiting }) refl
-    ∙ set_stops s.nodes i j y refl
-
-turn_keeps : (scenario : ScenarioParts) (s : RunState) (i j : ℕ) → runs (node_at (after_step scenario s (Turn i)).nodes j) ≡ runs (node_at s.nodes j)
+-- a turn leaves every other node as it is
+turn_keeps : (scenario : ScenarioParts) (s : RunState) (i j : ℕ) → j ≢ i → node_at (after_step scenario s (Turn i)).nodes j ≡ node_at s.nodes j
 unfolding after_step proceed
-turn_keeps scenario s i j =
-    elim (is_done (reply scenario s (Turn i))) as (λ b. runs (node_at (cond b (after_turn scenario i s) s).nodes j) ≡ runs (node_at s.nodes j)) [
-      | true ↦ ap is_none (turn_stops scenario i s j)
+turn_keeps scenario s i j other =
+    elim (is_done (reply scenario s (Turn i))) as (λ b. node_at (cond b (after_turn scenario i s) s).nodes j ≡ node_at s.nodes j) [
+      | true ↦ after_turn-other scenario i s j other
       | false ↦ refl
     ]
 
@@ -68,108 +51,83 @@ turns_more test n =
     ∙ map-append (λ i. Turn i) (filter test (range_with_len 0 n)) (filter test (n ∷ []))
     ∙ ap (λ t. turns test n ++ t) (one_turn (test n) n)
 
--- more turns begin with fewer
-turns_begin : (test : ℕ → Bool) (k n : ℕ) → (rest : List Step) × (turns test (k + n) ≡ turns test k ++ rest)
-turns_begin test k zero =
-    let e : k + 0 ≡ k = omega arith in
-    ([], ap (turns test) e ∙ sym (append-nil (turns test k)))
-turns_begin test k (suc n) =
-    let before = turns_begin test k n in
-    let e : k + suc n ≡ k + n + 1 = omega arith in (
-      before.0 ++ cond (test (k + n)) (Turn (k + n) ∷ []) [],
-      ap (turns test) e ∙ turns_more test (k + n) ∙ ap (λ t. t ++ cond (test (k + n)) (Turn (k + n) ∷ []) []) before.1
-          ∙ append_assoc (turns test k) before.0 (cond (test (k + n)) (Turn (k + n) ∷ []) []),
-    )
-
 -- ---- a round so far
 
--- the slot, and the turns of the nodes below i that run after it
+-- whether node k has something to read in the state to which the journal leads
+abbrev pub to_read : ScenarioParts → List Step → ℕ → Bool
+to_read scenario journal k = is_to_read (node_at (run scenario journal).nodes k)
+
+-- the slot, and the turns of the nodes below i that have something to read after it; the others are as the slot left them
 pub record RoundSoFar (scenario : ScenarioParts) (before now : List Step) (i : ℕ) : Type 0 where
-  pub steps : now ≡ before ++ Slot ∷ turns (λ k. runs (node_at (run scenario (before ++ Slot ∷ [])).nodes k)) i
-  pub same : (k : ℕ) → runs (node_at (run scenario now).nodes k) ≡ runs (node_at (run scenario (before ++ Slot ∷ [])).nodes k)
+  pub steps : now ≡ before ++ Slot ∷ turns (to_read scenario (before ++ Slot ∷ [])) i
+  pub same : (k : ℕ) → i ≤ k → node_at (run scenario now).nodes k ≡ node_at (run scenario (before ++ Slot ∷ [])).nodes k
 
 pub round_begins : (scenario : ScenarioParts) (before now : List Step) → now ≡ before ++ Slot ∷ [] → RoundSoFar scenario before now 0
-round_begins scenario before now e = record { steps = e; same = λ k. ap (λ j. runs (node_at (run scenario j).nodes k)) e }
+round_begins scenario before now e = record { steps = e; same = λ k from. ap (λ j. node_at (run scenario j).nodes k) e }
 
-longer : (before : List Step) (x : Step) (xs ys : List Step) → (before ++ x ∷ xs) ++ ys ≡ before ++ x ∷ (xs ++ ys)
-longer before x xs ys = append_assoc before (x ∷ xs) ys
+-- the next node has something to read exactly where it has after the slot
+same_test : (scenario : ScenarioParts) (before now : List Step) (i : ℕ) → RoundSoFar scenario before now i
+    → to_read scenario now i ≡ to_read scenario (before ++ Slot ∷ []) i
+same_test scenario before now i so = ap (λ (node : NodeState). is_to_read node) (so.same i (omega arith))
 
 pub round_turn : (scenario : ScenarioParts) (before now next : List Step) (i : ℕ) → RoundSoFar scenario before now i
-    → runs (node_at (run scenario now).nodes i) ≡ true → next ≡ now ++ Turn i ∷ [] → RoundSoFar scenario before next (i + 1)
-round_turn scenario before now next i so running e =
-    let s : RunState = run scenario (before ++ Slot ∷ []) in
-    let test : ℕ → Bool = λ k. runs (node_at s.nodes k) in
+    → to_read scenario now i ≡ true → next ≡ now ++ Turn i ∷ [] → RoundSoFar scenario before next (i + 1)
+round_turn scenario before now next i so reads e =
+    let test : ℕ → Bool = to_read scenario (before ++ Slot ∷ []) in
     let more : turns test i ++ Turn i ∷ [] ≡ turns test (i + 1) =
-    ap (λ b. turns test i ++ cond b (Turn i ∷ []) []) (sym (sym (so.same i) ∙ running)) ∙ sym (turns_more test i) in
+    ap (λ b. turns test i ++ cond b (Turn i ∷ []) []) (sym (sym (same_test scenario before now i so) ∙ reads)) ∙ sym (turns_more test i) in
     record {
-      steps = e ∙ ap (λ t. t ++ Turn i ∷ []) so.steps ∙ longer before Slot (turns test i) (Turn i ∷ []) ∙ ap (λ t. before ++ Slot ∷ t) more;
-      same = λ k.
-          ap (λ j. runs (node_at (run scenario j).nodes k)) e
-          ∙ ap (λ (t : RunState). runs (node_at t.nodes k)) (run_push scenario (opening scenario.params.nodes) now (Turn i))
-          ∙ turn_keeps scenario (run scenario now) i k ∙ so.same k;
+      steps = e ∙ ap (λ t. t ++ Turn i ∷ []) so.steps ∙ append_assoc before (Slot ∷ turns test i) (Turn i ∷ []) ∙ ap (λ t. before ++ Slot ∷ t) more;
+      same = λ k from.
+          ap (λ j. node_at (run scenario j).nodes k) e
+          ∙ ap (λ (t : RunState). node_at t.nodes k) (run_push scenario (opening scenario.params.nodes) now (Turn i))
+          ∙ turn_keeps scenario (run scenario now) i k (λ same. absurd (omega arith)) ∙ so.same k (omega arith);
     }
 
 pub round_skips : (scenario : ScenarioParts) (before now : List Step) (i : ℕ) → RoundSoFar scenario before now i
-    → runs (node_at (run scenario now).nodes i) ≡ false → RoundSoFar scenario before now (i + 1)
-round_skips scenario before now i so stopped =
-    let s : RunState = run scenario (before ++ Slot ∷ []) in
-    let test : ℕ → Bool = λ k. runs (node_at s.nodes k) in
+    → to_read scenario now i ≡ false → RoundSoFar scenario before now (i + 1)
+round_skips scenario before now i so skips =
+    let test : ℕ → Bool = to_read scenario (before ++ Slot ∷ []) in
     let more : turns test i ≡ turns test (i + 1) =
-    sym (append-nil (turns test i)) ∙ ap (λ b. turns test i ++ cond b (Turn i ∷ []) []) (sym (sym (so.same i) ∙ stopped)) ∙ sym (turns_more test i) in
-    record { steps = so.steps ∙ ap (λ t. before ++ Slot ∷ t) more; same = so.same }
-
--- the steps of a slot, by the nodes that run after it
-round_is : (scenario : ScenarioParts) (before : List Step)
-    → before ++ round scenario (run scenario before)
-    ≡ before ++ Slot ∷ turns (λ k. runs (node_at (run scenario (before ++ Slot ∷ [])).nodes k)) scenario.params.nodes
-unfolding round
-round_is scenario before =
-    let s : RunState = run scenario (before ++ Slot ∷ []) in
-    let stepped : s ≡ after_step scenario (run scenario before) Slot = run_push scenario (opening scenario.params.nodes) before Slot in
-    sym (ap (λ m. before ++ Slot ∷ turns (λ k. runs (node_at s.nodes k)) m) (sym (orderly scenario (before ++ Slot ∷ [])).count)
-    ∙ ap (λ (t : RunState). before ++ Slot ∷ map (λ i. Turn i) (running_nodes t.nodes)) stepped)
+    sym (append-nil (turns test i)) ∙ ap (λ b. turns test i ++ cond b (Turn i ∷ []) []) (sym (sym (same_test scenario before now i so) ∙ skips)) ∙ sym (turns_more test i) in
+    record { steps = so.steps ∙ ap (λ t. before ++ Slot ∷ t) more; same = λ k from. so.same k (omega arith) }
 
 -- all turns of the slot
 pub round_ends : (scenario : ScenarioParts) (before now : List Step) (n : ℕ) → RoundSoFar scenario before now n
     → n ≡ scenario.params.nodes → now ≡ before ++ round scenario (run scenario before)
+unfolding round
 round_ends scenario before now n so long =
+    let s : RunState = run scenario (before ++ Slot ∷ []) in
     so.steps
-    ∙ ap (λ m. before ++ Slot ∷ turns (λ k. runs (node_at (run scenario (before ++ Slot ∷ [])).nodes k)) m) long
-    ∙ sym (round_is scenario before)
+    ∙ ap (λ m. before ++ Slot ∷ turns (to_read scenario (before ++ Slot ∷ [])) m) (long ∙ sym (orderly scenario (before ++ Slot ∷ [])).count)
+    ∙ ap (λ (t : RunState). before ++ Slot ∷ map (λ i. Turn i) (reading_nodes t.nodes)) (run_push scenario (opening scenario.params.nodes) before Slot)
 
--- ---- the steps of a legal round are done
+-- ---- which steps of a round are done
 
 pub round_slot_done : (scenario : ScenarioParts) (before : List Step) → IsLegal scenario (before ++ round scenario (run scenario before))
     → is_done (reply scenario (run scenario before) Slot) ≡ true
 unfolding round
 round_slot_done scenario before legal = legal_next scenario (opening scenario.params.nodes) before Slot _ legal
 
-pub round_turn_done : (scenario : ScenarioParts) (before now : List Step) (i : ℕ) → IsLegal scenario (before ++ round scenario (run scenario before))
-    → RoundSoFar scenario before now i → i < scenario.params.nodes → runs (node_at (run scenario now).nodes i) ≡ true
-    → is_done (reply scenario (run scenario now) (Turn i)) ≡ true
-round_turn_done scenario before now i legal so within running =
-    legal_next scenario (opening scenario.params.nodes) now (Turn i) rest.0 (subst (λ j. is_legal_from scenario (opening scenario.params.nodes) j ≡ true) whole legal)
-  where
-    test : ℕ → Bool
-    test k = runs (node_at (run scenario (before ++ Slot ∷ [])).nodes k)
+-- a node with something to read may make its turn
+pub may_read : (s : RunState) (i : ℕ) → is_to_read (node_at s.nodes i) ≡ true → MayTurn s i
+may_read s i reads =
+    let node : NodeState = node_at s.nodes i in
+    let parts = and_parts (runs node) (nat_lt 0 node.unread) reads in
+    record { there = runs_within s.nodes i parts.0; running = parts.0; unread = ltb-true 0 node.unread parts.1 }
 
-    rest : (rest : List Step) × (turns test (i + 1 + (scenario.params.nodes - (i + 1))) ≡ turns test (i + 1) ++ rest)
-    rest = turns_begin test (i + 1) (scenario.params.nodes - (i + 1))
-
-    all : i + 1 + (scenario.params.nodes - (i + 1)) ≡ scenario.params.nodes
-    all = omega arith
-
-    next : RoundSoFar scenario before (now ++ Turn i ∷ []) (i + 1)
-    next = round_turn scenario before now (now ++ Turn i ∷ []) i so running refl
-
-    whole : before ++ round scenario (run scenario before) ≡ now ++ Turn i ∷ rest.0
-    whole =
-        round_is scenario before
-        ∙ ap (λ n. before ++ Slot ∷ turns test n) (sym all)
-        ∙ ap (λ t. before ++ Slot ∷ t) rest.1
-        ∙ sym (longer before Slot (turns test (i + 1)) rest.0)
-        ∙ ap (λ j. j ++ rest.0) (sym next.steps)
-        ∙ append_assoc now (Turn i ∷ []) rest.0
+-- and no other node may
+pub turn_exactly : (scenario : ScenarioParts) (journal : List Step) (i : ℕ)
+    → is_done (reply scenario (run scenario journal) (Turn i)) ≡ to_read scenario journal i
+turn_exactly scenario journal i =
+    let s : RunState = run scenario journal in
+    let node : NodeState = node_at s.nodes i in
+    let count : length s.nodes ≡ scenario.params.nodes = (orderly scenario journal).count in
+    both_ways (is_done (reply scenario s (Turn i))) (to_read scenario journal i)
+    (λ done.
+    let may : MayTurn s i = turn_done scenario s i count done in
+    and_from (runs node) (nat_lt 0 node.unread) may.running (lt-ltb 0 node.unread may.unread))
+    (λ reads. turn_is_done scenario s i count (may_read s i reads))
 
 -- ---- one round after another
 

@@ -7,14 +7,17 @@ use Rattle.cany_base.specs.declared.slot_note.SlotNote.{SlotNote}
 use Rattle.cany_model.specs.Bus.Slot.{FaultScript, slot_note_of, after_slot, script}
 use Rattle.cany_model.specs.Bus.State.{NodeState, RunState, fresh, opening, node_at, runs, slots_run}
 use Rattle.cany_base.specs.declared.notice.NoticeKind.{NoticeKind}
-use Rattle.cany_model.specs.Bus.History.{given, history}
+use Rattle.cany_model.specs.Bus.History.{given, history, seen}
+use Rattle.cany_model.specs.Bus.Restart.{after_restarts}
 use Rattle.cany_base.specs.Scenario.{ScenarioParts}
 use Rattle.cany_model.specs.Bus.Run.{after_turn, first_lagging, reply, is_done, proceed, after_step, run_from, run}
 use Rattle.cany_base.specs.declared.step.Step.{Step}
 use Rattle.cany_base.specs.declared.step.Step.TheVariants as step
 use Rattle.cany_model.proofs.Bus.Notes.{note_of-slot}
+use Rattle.cany_model.proofs.Bus.Restarts.{after_restarts-length, after_restarts-trace, restarts_or_stays}
+use Rattle.cany_model.proofs.Bus.Seen.{history-is, length-seen}
 use Rattle.cany_model.proofs.Bus.States.{no_note, node_at-opening, node_at_past, note_at, runs_within}
-use Rattle.cany_model.proofs.Bus.Steps.{MayTurn, after_slot-length, after_slot-unread, after_turn-length, after_turn-node, after_turn-other, after_turn-trace}
+use Rattle.cany_model.proofs.Bus.Steps.{MayTurn, after_slot-length, after_slot-trace, after_slot-unread, after_turn-length, after_turn-node, after_turn-other, after_turn-trace}
 
 -- ---- every state of a run
 
@@ -65,6 +68,21 @@ orderly_slot nodes rules s o = record {
   count = after_slot-length rules s ∙ o.count;
   unread = λ i. slot_unread rules s i (o.unread i);
   numbered = numbered_more (slot_note_of rules s) s.trace (note_of-slot rules s) o.numbered;
+}
+
+restarts_unread : (scenario : ScenarioParts) (s : RunState) (i : ℕ) → (node_at s.nodes i).unread ≤ length s.trace
+    → (node_at (after_restarts scenario s).nodes i).unread ≤ length s.trace
+restarts_unread scenario s i h = elim (restarts_or_stays scenario s i) [
+  | inl new ↦ rw new.is (omega arith)
+  | inr same ↦ rw same h
+]
+
+pub orderly_restarts : (nodes : ℕ) (scenario : ScenarioParts) (s : RunState) → IsOrderly nodes s → IsOrderly nodes (after_restarts scenario s)
+orderly_restarts nodes scenario s o = record {
+  count = after_restarts-length scenario s ∙ o.count;
+  unread = λ i. subst (λ trace. (node_at (after_restarts scenario s).nodes i).unread ≤ length trace) (sym (after_restarts-trace scenario s))
+      (restarts_unread scenario s i (o.unread i));
+  numbered = λ age. subst (λ trace. age < length trace → (note_at trace age).slot ≡ length trace - 1 - age) (sym (after_restarts-trace scenario s)) (o.numbered age);
 }
 
 turn_unread : (scenario : ScenarioParts) (i : ℕ) (s : RunState) (j : ℕ) → MayTurn s i → ((k : ℕ) → (node_at s.nodes k).unread ≤ length s.trace)
@@ -173,9 +191,10 @@ turn_is_done scenario s i count may =
     no_stop None h = refl
     no_stop (Some slot) h = absurd (false≢true h)
 
--- what a done step keeps
+-- What a done step keeps: a slot, then the restarts at its end, or a turn.
 pub record IsKept (scenario : ScenarioParts) (P : RunState → Type 0) : Type 0 where
   pub slot : (s : RunState) → IsOrderly scenario.params.nodes s → MaySlot scenario s → P s → P (after_slot (script scenario.rules) s)
+  pub restarts : (s : RunState) → IsOrderly scenario.params.nodes s → 0 < length s.trace → P s → P (after_restarts scenario s)
   pub turn : (s : RunState) (i : ℕ) → IsOrderly scenario.params.nodes s → MayTurn s i → P s → P (after_turn scenario i s)
 
 kept_step : (scenario : ScenarioParts) (P : RunState → Type 0) → IsKept scenario P → (s : RunState) (step : Step)
@@ -183,7 +202,12 @@ kept_step : (scenario : ScenarioParts) (P : RunState → Type 0) → IsKept scen
     → IsOrderly scenario.params.nodes (proceed scenario s step) × P (proceed scenario s step)
 unfolding proceed
 kept_step scenario P keeps s step.Slot o p done =
-    (orderly_slot scenario.params.nodes (script scenario.rules) s o, keeps.slot s o (slot_done scenario s done) p)
+    let rules : FaultScript = script scenario.rules in
+    let o' = orderly_slot scenario.params.nodes rules s o in
+    let some : 0 < length (after_slot rules s).trace = subst (λ trace. 0 < length trace) (sym (after_slot-trace rules s)) (omega arith) in (
+      orderly_restarts scenario.params.nodes scenario (after_slot rules s) o',
+      keeps.restarts (after_slot rules s) o' some (keeps.slot s o (slot_done scenario s done) p),
+    )
 kept_step scenario P keeps s (step.Turn i) o p done =
     let may = turn_done scenario s i o.count done in
     (orderly_turn scenario.params.nodes scenario i s may o, keeps.turn s i o may p)
@@ -216,24 +240,27 @@ along_run scenario P first keeps journal =
 
 pub orderly : (scenario : ScenarioParts) (journal : List Step) → IsOrderly scenario.params.nodes (run scenario journal)
 orderly scenario journal =
-    (kept_from scenario (λ s. Unit {0}) (record { slot = λ s o may p. tt; turn = λ s i o may p. tt })
+    (kept_from scenario (λ s. Unit {0}) (record { slot = λ s o may p. tt; restarts = λ s o some p. tt; turn = λ s i o may p. tt })
     (opening scenario.params.nodes) journal (orderly_opening scenario.params.nodes) tt).0
 
 -- ---- the entries of a history
 
 pub history-length : (i : ℕ) (s : RunState) → length (history i s) ≡ length s.trace - (node_at s.nodes i).unread
-unfolding history
-history-length i s = length-map (drop (node_at s.nodes i).unread s.trace) (given i) ∙ length-drop (node_at s.nodes i).unread s.trace
+history-length i s =
+    let node = node_at s.nodes i in
+    ap length (history-is i s) ∙ length-map (drop node.unread (seen node.present s.trace)) (given i)
+    ∙ length-drop node.unread (seen node.present s.trace) ∙ ap (λ n. n - node.unread) (length-seen node.present s.trace)
 
--- an entry is what the slot at that age gave
+-- an entry is what the slot at that age gave the incarnation
 pub history-at : (i : ℕ) (s : RunState) (k : ℕ) (d : NoticeKind) → k < length (history i s)
-    → slice_index_or (history i s) k d ≡ given i (note_at s.trace ((node_at s.nodes i).unread + k))
-unfolding history
+    → slice_index_or (history i s) k d ≡ given i (note_at (seen (node_at s.nodes i).present s.trace) ((node_at s.nodes i).unread + k))
 history-at i s k d h =
-    get_or-map (given i) (drop (node_at s.nodes i).unread s.trace) k no_note d
-    (subst (λ n. k < n) (length-map (drop (node_at s.nodes i).unread s.trace) (given i)) h)
-    ∙ ap (λ note. given i note) (get_or-drop (node_at s.nodes i).unread s.trace k no_note)
+    let node = node_at s.nodes i in
+    let trace = seen node.present s.trace in
+    ap (λ past. slice_index_or past k d) (history-is i s)
+    ∙ get_or-map (given i) (drop node.unread trace) k no_note d
+    (subst (λ n. k < n) (ap length (history-is i s) ∙ length-map (drop node.unread trace) (given i)) h)
+    ∙ ap (λ note. given i note) (get_or-drop node.unread trace k no_note)
 
 pub history-opening : (nodes i : ℕ) → history i (opening nodes) ≡ []
-unfolding history
 history-opening nodes i = nil_from_length (history i (opening nodes)) (history-length i (opening nodes) ∙ omega arith)

@@ -1,16 +1,16 @@
 -- The states in which the slots of a run are run: each is the run of the journal up to there, and each slot that ran has one.
-use Rattle.std.specs.Prelude.{◌≡◌, ℕ, zero, suc, ◌+◌, ◌-◌, ◌<◌, ◌≤◌, ◌==◌, ◌&&◌, Bool, true, false, if◌then◌else◌, List, [], ◌∷◌, ◌++◌, Option, Some, None, length, refl}
+use Rattle.std.specs.Prelude.{◌≡◌, ℕ, suc, ◌<◌, ◌≤◌, ◌==◌, true, false, List, [], ◌∷◌, ◌++◌, Some, length, refl}
 use Rattle.std.proofs.Common.{sym, ap, ◌∙◌, subst, inl, inr, arith, append_assoc, eqb-true}
-use Rattle.std.proofs.lemmas.Bool.{and_from, and_parts, cases_Bool, cases_eq, cases_lt, eq-eqb, false≢true}
+use Rattle.std.proofs.lemmas.Bool.{and_from, and_parts, cases_Bool, cases_eq, eq-eqb, false≢true}
 use Rattle.cany_base.specs.declared.slot_note.SlotNote.{SlotNote}
 use Rattle.cany_base.specs.declared.step.Step.{Step}
 use Rattle.cany_base.specs.declared.step.Step.TheVariants as step
 use Rattle.cany_base.specs.Scenario.{ScenarioParts}
 use Rattle.cany_model.specs.Bus.Run.{after_step, is_done, proceed, reply, run, run_from, runs_slot, slot_state, slot_state_from}
-use Rattle.cany_model.specs.Bus.Slot.{after_slot, script, slot_note_of}
+use Rattle.cany_model.specs.Bus.Slot.{script, slot_note_of}
 use Rattle.cany_model.specs.Bus.State.{RunState, opening, slots_run}
-use Rattle.cany_model.proofs.Bus.Journals.{run_none, run_then, step_is, step_refused}
-use Rattle.cany_model.proofs.Bus.Steps.{after_slot-trace, after_turn-trace}
+use Rattle.cany_model.proofs.Bus.Journals.{run_then, slot_step-trace, step_is, step_refused}
+use Rattle.cany_model.proofs.Bus.Steps.{after_turn-trace}
 
 -- ---- from a state on
 
@@ -68,7 +68,7 @@ not_yet scenario t first next h other = elim (cases_Bool (is_done (reply scenari
     moved step.Slot other done = elim (cases_eq (slots_run first) t) [
       | inl now ↦ absurd (false≢true (sym other ∙ and_from (is_done (reply scenario first step.Slot)) (slots_run first == t) done (eq-eqb (slots_run first) t now)))
       | inr early ↦
-          let longer : slots_run (after_slot (script scenario.rules) first) ≡ suc (slots_run first) = ap length (after_slot-trace (script scenario.rules) first) in
+          let longer : slots_run (proceed scenario first step.Slot) ≡ suc (slots_run first) = ap length (slot_step-trace scenario first) in
           omega arith
     ]
     moved (step.Turn i) other done = subst (λ (trace : List SlotNote). length trace ≤ t) (sym (after_turn-trace scenario i first)) h
@@ -113,20 +113,20 @@ trace_grows scenario s (next ∷ journal) =
         → (newer : List SlotNote) × ((run_from scenario (after_step scenario s next) journal).trace ≡ newer ++ s.trace)
     by_step step.Slot h = (
       h.0 ++ (slot_note_of (script scenario.rules) s ∷ []),
-      h.1 ∙ ap (λ trace. h.0 ++ trace) (after_slot-trace (script scenario.rules) s) ∙ sym (append_assoc h.0 (slot_note_of (script scenario.rules) s ∷ []) s.trace),
+      h.1 ∙ ap (λ trace. h.0 ++ trace) (slot_step-trace scenario s) ∙ sym (append_assoc h.0 (slot_note_of (script scenario.rules) s ∷ []) s.trace),
     )
     by_step (step.Turn i) h = (h.0, h.1 ∙ ap (λ trace. h.0 ++ trace) (after_turn-trace scenario i s))
 
 -- the note of a slot in the trace of the run is that of the state in which it is run
 pub slot_state-trace : (scenario : ScenarioParts) (t : ℕ) (journal : List Step) (s : RunState) → slot_state scenario t journal ≡ Some s
     → (newer : List SlotNote) × ((run scenario journal).trace ≡ newer ++ (slot_note_of (script scenario.rules) s ∷ s.trace))
-unfolding proceed run_from
+unfolding run_from
 slot_state-trace scenario t journal s e =
     let w = slot_state_is scenario t journal s e in
-    let next : RunState = after_slot (script scenario.rules) s in
+    let next : RunState = proceed scenario s step.Slot in
     let grows = trace_grows scenario next w.after in
     let split : run scenario journal ≡ run_from scenario (run_from scenario (opening scenario.params.nodes) w.before) (step.Slot ∷ w.after) =
     ap (run scenario) w.whole ∙ run_then scenario (opening scenario.params.nodes) w.before (step.Slot ∷ w.after) in
     let here : run scenario journal ≡ run_from scenario next w.after =
     split ∙ ap (λ (r : RunState). run_from scenario r (step.Slot ∷ w.after)) w.state ∙ ap (λ (r : RunState). run_from scenario r w.after) (step_is scenario s step.Slot w.done) in
-    (grows.0, ap (λ (r : RunState). r.trace) here ∙ grows.1 ∙ ap (λ trace. grows.0 ++ trace) (after_slot-trace (script scenario.rules) s))
+    (grows.0, ap (λ (r : RunState). r.trace) here ∙ grows.1 ∙ ap (λ trace. grows.0 ++ trace) (slot_step-trace scenario s))

@@ -7,21 +7,23 @@ use Rattle.cany_base.specs.declared.slot_note.SlotNote.{SlotNote}
 use Rattle.cany_base.specs.Frame.{FrameParts}
 use Rattle.cany_base.specs.Nodes.{has}
 use Rattle.cany_model.specs.Bus.Slot.{node_after, FaultScript, share_of, after_share, slot_note_of, after_slot}
-use Rattle.cany_model.specs.Bus.State.{NodeState, RunState, node_at, runs}
+use Rattle.cany_model.specs.Bus.State.{Incarnation, NodeState, RunState, node_at, runs}
 use Rattle.cany_model.specs.Bus.Frames.{identity_of}
 use Rattle.cany_base.specs.declared.notice.NoticeKind.{NoticeKind}
 use Rattle.cany_base.specs.declared.notice.NoticeKind.TheVariants.{Got, Sent, Bad}
 use Rattle.cany_base.specs.declared.notice.NoticeKind.TheVariants as notice
-use Rattle.cany_model.specs.Bus.History.{notice_of, given, history}
+use Rattle.cany_model.specs.Bus.History.{notice_of, given, history, seen, trace_for}
 use Rattle.cany_model.specs.Bus.Waiting.{without}
 use Rattle.cany_model.specs.declared.share.Share.{Share}
 use Rattle.cany_model.specs.declared.share.Share.TheVariants.{Took, Rejected, Confirmed, Errored}
 use Rattle.cany_model.specs.declared.share.Share.TheVariants as share
 use Rattle.cany_base.specs.Scenario.{ScenarioParts}
 use Rattle.cany_model.specs.Rules.Effect.{waiting_after}
-use Rattle.cany_model.specs.Rules.Turn.{turn_effects}
+use Rattle.cany_model.specs.Rules.Turn.{effects_for, scenario_for, turn_effects}
 use Rattle.cany_model.specs.Bus.Run.{after_turn}
 use Rattle.cany_model.proofs.Among.{Contains-cons, Contains-head}
+use Rattle.cany_model.proofs.Bus.Seen.{history-is, length-seen}
+use Rattle.cany_model.proofs.Rules.IncarnationFacts.{effects_for-is}
 use Rattle.cany_model.proofs.Bus.States.{length-nodes_after, no_note, node_at-nodes_after, node_at-set_other, node_at-set_same, node_at_past, note_at, runs_within}
 
 -- ---- a slot
@@ -50,6 +52,20 @@ node_after-unread i note node = either (runs node)
         else record node { unread = node.unread + 1 }).unread ≡ node.unread + 1
     either true = refl
     either false = refl
+
+node_after-present : (i : ℕ) (note : SlotNote) (node : NodeState) → (node_after i note node).present ≡ node.present
+unfolding node_after after_share
+node_after-present i note node = either (runs node) (share_of i note)
+  where
+    either : (b : Bool) (share : Share)
+        → (if b then record (after_share share node) { unread = node.unread + 1; stopped = if has note.stops i then Some note.slot else None }
+        else record node { unread = node.unread + 1 }).present ≡ node.present
+    either true share.Idle = refl
+    either true (Took f) = refl
+    either true Rejected = refl
+    either true (Confirmed f) = refl
+    either true Errored = refl
+    either false share = refl
 
 node_after-waiting : (i : ℕ) (note : SlotNote) (node : NodeState) → runs node ≡ true
     → (node_after i note node).waiting ≡ kept_at (given i note) node.waiting
@@ -125,12 +141,22 @@ after_slot-waiting rules s i h =
     ap (λ node. node.waiting) (after_slot-node rules s i (runs_within s.nodes i h))
     ∙ node_after-waiting i (slot_note_of rules s) (node_at s.nodes i) h
 
+-- a slot ends no incarnation
+pub after_slot-present : (rules : FaultScript) (s : RunState) (i : ℕ) → i < length s.nodes
+    → (node_at (after_slot rules s).nodes i).present ≡ (node_at s.nodes i).present
+after_slot-present rules s i h =
+    ap (λ node. node.present) (after_slot-node rules s i h) ∙ node_after-present i (slot_note_of rules s) (node_at s.nodes i)
+
 -- a slot gives nobody anything to have read
 pub after_slot-history : (rules : FaultScript) (s : RunState) (i : ℕ) → i < length s.nodes → history i (after_slot rules s) ≡ history i s
-unfolding history
 after_slot-history rules s i h =
-    ap (λ n. map (given i) (drop n (after_slot rules s).trace)) (after_slot-unread rules s i h ∙ add-one (node_at s.nodes i).unread)
-    ∙ ap (λ trace. map (given i) (drop (suc (node_at s.nodes i).unread) trace)) (after_slot-trace rules s)
+    let node = node_at s.nodes i in
+    let after : NodeState = node_at (after_slot rules s).nodes i in
+    history-is i (after_slot rules s)
+    ∙ ap (λ n. map (given i) (drop n (seen after.present (after_slot rules s).trace))) (after_slot-unread rules s i h ∙ add-one node.unread)
+    ∙ ap (λ (inc : Incarnation). map (given i) (drop (suc node.unread) (seen inc (after_slot rules s).trace))) (after_slot-present rules s i h)
+    ∙ ap (λ trace. map (given i) (drop (suc node.unread) (seen node.present trace))) (after_slot-trace rules s)
+    ∙ sym (history-is i s)
 
 -- ---- a turn
 
@@ -140,17 +166,17 @@ pub record MayTurn (s : RunState) (i : ℕ) : Type 0 where
   pub running : runs (node_at s.nodes i) ≡ true
   pub unread : 0 < (node_at s.nodes i).unread
 
--- the age of the oldest note that node i has not read, and what its slot gave it
+-- the age of the oldest note that node i has not read, and what its slot gave the present incarnation
 abbrev pub next_age : RunState → ℕ → ℕ
 next_age s i = (node_at s.nodes i).unread - 1
 
 abbrev pub next_notice : RunState → ℕ → NoticeKind
-next_notice s i = given i (note_at s.trace (next_age s i))
+next_notice s i = given i (note_at (seen (node_at s.nodes i).present s.trace) (next_age s i))
 
 -- the node's state after a turn in which it read this notice
 abbrev pub node_after_turn : ScenarioParts → ℕ → List NoticeKind → NodeState → NodeState
 node_after_turn scenario i past node =
-    record node { unread = node.unread - 1; waiting = waiting_after (turn_effects scenario i past) node.waiting }
+    record node { unread = node.unread - 1; waiting = waiting_after (turn_effects (scenario_for scenario node.present) i past) node.waiting }
 
 pub after_turn-trace : (scenario : ScenarioParts) (i : ℕ) (s : RunState) → (after_turn scenario i s).trace ≡ s.trace
 unfolding after_turn
@@ -167,8 +193,8 @@ after_turn-other scenario i s j h = node_at-set_other _ i j _ h ∙ node_at-set_
 pub after_turn-other_history : (scenario : ScenarioParts) (i : ℕ) (s : RunState) (j : ℕ) → j ≢ i → history j (after_turn scenario i s) ≡ history j s
 unfolding history
 after_turn-other_history scenario i s j h =
-    ap (λ node. map (given j) (drop node.unread (after_turn scenario i s).trace)) (after_turn-other scenario i s j h)
-    ∙ ap (λ trace. map (given j) (drop (node_at s.nodes j).unread trace)) (after_turn-trace scenario i s)
+    ap (λ node. map (given j) (drop node.unread (trace_for node.present.number node.present (after_turn scenario i s).trace))) (after_turn-other scenario i s j h)
+    ∙ ap (λ trace. map (given j) (drop (node_at s.nodes j).unread (trace_for (node_at s.nodes j).present.number (node_at s.nodes j).present trace))) (after_turn-trace scenario i s)
 
 read_more : (i n : ℕ) (trace : List SlotNote) → 0 < n → n ≤ length trace
     → map (given i) (drop (n - 1) trace) ≡ given i (note_at trace (n - 1)) ∷ map (given i) (drop n trace)
@@ -176,6 +202,9 @@ read_more i n trace some short =
     let e : n - 1 + 1 ≡ n = omega arith in
     ap (λ rest. map (given i) rest) (drop_more trace (n - 1) no_note (omega arith))
     ∙ ap (λ k. given i (note_at trace (n - 1)) ∷ map (given i) (drop k trace)) e
+
+short_seen : (inc : Incarnation) (trace : List SlotNote) {n : ℕ} → n ≤ length trace → n ≤ length (seen inc trace)
+short_seen inc trace h = omega (arith, h, length-seen inc trace)
 
 -- the state in which the turn's rules look: one notice more is read, and the same frames wait
 abbrev reading : ℕ → RunState → RunState
@@ -187,10 +216,12 @@ reading-node i s h = node_at-set_same s.nodes i _ h
 
 reading-history : (i : ℕ) (s : RunState) → MayTurn s i → (node_at s.nodes i).unread ≤ length s.trace
     → history i (reading i s) ≡ next_notice s i ∷ history i s
-unfolding history
 reading-history i s may short =
-    ap (λ node. map (given i) (drop node.unread s.trace)) (reading-node i s may.there)
-    ∙ read_more i (node_at s.nodes i).unread s.trace may.unread short
+    let node = node_at s.nodes i in
+    history-is i (reading i s)
+    ∙ ap (λ n. map (given i) (drop n.unread (seen n.present s.trace))) (reading-node i s may.there)
+    ∙ read_more i node.unread (seen node.present s.trace) may.unread (short_seen node.present s.trace short)
+    ∙ ap (λ past. next_notice s i ∷ past) (sym (history-is i s))
 
 pub after_turn-node : (scenario : ScenarioParts) (i : ℕ) (s : RunState) → MayTurn s i → (node_at s.nodes i).unread ≤ length s.trace
     → node_at (after_turn scenario i s).nodes i ≡ node_after_turn scenario i (next_notice s i ∷ history i s) (node_at s.nodes i)
@@ -198,10 +229,23 @@ unfolding after_turn
 after_turn-node scenario i s may short =
     node_at-set_same (reading i s).nodes i _ (subst (λ n. i < n) (sym (length-set s.nodes i _)) may.there)
     ∙ ap (λ node. rest_of_turn (history i (reading i s)) node) (reading-node i s may.there)
-    ∙ ap (λ past. node_after_turn scenario i past (node_at s.nodes i)) (reading-history i s may short)
+    ∙ ap (λ past. rest_of_turn past (record (node_at s.nodes i) { unread = (node_at s.nodes i).unread - 1 })) (reading-history i s may short)
+    ∙ ap (λ effects. record (node_at s.nodes i) { unread = (node_at s.nodes i).unread - 1; waiting = waiting_after effects (node_at s.nodes i).waiting })
+    (effects_for-is scenario (node_at s.nodes i).present i (next_notice s i ∷ history i s))
   where
     rest_of_turn : List NoticeKind → NodeState → NodeState
-    rest_of_turn past node = record node { waiting = waiting_after (turn_effects scenario i past) node.waiting }
+    rest_of_turn past node = record node { waiting = waiting_after (effects_for node.present.number scenario node.present i past) node.waiting }
+
+-- a turn ends no incarnation
+pub after_turn-present : (scenario : ScenarioParts) (i : ℕ) (s : RunState) (j : ℕ) → MayTurn s i → (node_at s.nodes i).unread ≤ length s.trace
+    → (node_at (after_turn scenario i s).nodes j).present ≡ (node_at s.nodes j).present
+after_turn-present scenario i s j may short =
+    elim (cases_eq j i) [
+      | inl same ↦
+          subst (λ k. (node_at (after_turn scenario i s).nodes k).present ≡ (node_at s.nodes k).present) (sym same)
+          (ap (λ (node : NodeState). node.present) (after_turn-node scenario i s may short))
+      | inr other ↦ ap (λ node. node.present) (after_turn-other scenario i s j other)
+    ]
 
 -- a turn stops nobody
 pub after_turn-runs : (scenario : ScenarioParts) (i : ℕ) (s : RunState) (j : ℕ) → MayTurn s i → (node_at s.nodes i).unread ≤ length s.trace
@@ -216,8 +260,10 @@ after_turn-runs scenario i s j may short =
 
 pub after_turn-history : (scenario : ScenarioParts) (i : ℕ) (s : RunState) → MayTurn s i → (node_at s.nodes i).unread ≤ length s.trace
     → history i (after_turn scenario i s) ≡ next_notice s i ∷ history i s
-unfolding history
 after_turn-history scenario i s may short =
-    ap (λ node. map (given i) (drop node.unread (after_turn scenario i s).trace)) (after_turn-node scenario i s may short)
-    ∙ ap (λ trace. map (given i) (drop ((node_at s.nodes i).unread - 1) trace)) (after_turn-trace scenario i s)
-    ∙ read_more i (node_at s.nodes i).unread s.trace may.unread short
+    let node = node_at s.nodes i in
+    history-is i (after_turn scenario i s)
+    ∙ ap (λ n. map (given i) (drop n.unread (seen n.present (after_turn scenario i s).trace))) (after_turn-node scenario i s may short)
+    ∙ ap (λ trace. map (given i) (drop (node.unread - 1) (seen node.present trace))) (after_turn-trace scenario i s)
+    ∙ read_more i node.unread (seen node.present s.trace) may.unread (short_seen node.present s.trace short)
+    ∙ ap (λ past. next_notice s i ∷ past) (sym (history-is i s))

@@ -1,28 +1,26 @@
 -- Where confirmations come from: of each that waits or was carried, a slot had carried the message's data frame with success.
-use Rattle.std.specs.Prelude.{◌≡◌, ℕ, ◌<◌, ◌≤◌, List, ◌∷◌, length}
+use Rattle.std.specs.Prelude.{◌≡◌, ℕ, ◌≤◌, List, ◌∷◌, None, length}
 use Rattle.cany_base.specs.Limits.{most_nodes}
 use Rattle.std.specs.List.{AllByRecursion}
-use Rattle.std.proofs.Common.{sym, ap, ◌∙◌, subst, inl, inr, arith}
+use Rattle.std.proofs.Common.{sym, ap, ◌∙◌, subst, inl, inr}
 use Rattle.cany_base.specs.declared.frame.Class.TheVariants.{Confirm, Rel}
-use Rattle.cany_base.specs.declared.message.Service.{Service}
-use Rattle.cany_base.specs.declared.message.Service.TheVariants as service
 use Rattle.cany_base.specs.declared.notice.NoticeKind.TheVariants.{Got, Sent}
 use Rattle.cany_base.specs.declared.slot_note.SlotNote.{SlotNote}
 use Rattle.cany_base.specs.declared.step.Step.{Step}
-use Rattle.cany_base.specs.Frame.{FrameParts, data_class}
+use Rattle.cany_base.specs.Frame.{FrameParts}
 use Rattle.cany_base.specs.Scenario.{ScenarioParts}
 use Rattle.cany_model.specs.Bus.Frames.{Identity, identity_of}
 use Rattle.cany_model.specs.Bus.History.{given, history}
 use Rattle.cany_model.specs.Rules.Relcan.{confirm_frame, confirm_of}
 use Rattle.cany_model.specs.Bus.Run.{after_turn, run}
 use Rattle.cany_model.specs.Bus.State.{RunState, node_at}
-use Rattle.cany_model.specs.Rules.Turn.{turn_effects}
+use Rattle.cany_model.specs.Rules.Turn.{scenario_at, turn_effects}
 use Rattle.cany_model.proofs.Among.{Among, Among-weaker, Among-which}
-use Rattle.cany_model.proofs.Bus.Carried.{Carries, Has, Succeeds, Succeeds-from_sent, is_sent-from, read_among}
-use Rattle.cany_model.proofs.Bus.FrameInvariants.{HoldsOfFrames, IsKeptByFrames, holds_of_frames, turn_note}
+use Rattle.cany_model.proofs.Bus.Carried.{Carries, Has, Succeeds, Succeeds-from_sent, is_sent-from}
+use Rattle.cany_model.proofs.Bus.FrameInvariants.{history_among, HoldsOfFrames, IsKeptByFrames, holds_of_frames, turn_note}
 use Rattle.cany_model.proofs.Bus.Runs.{IsOrderly}
 use Rattle.cany_model.proofs.Bus.Steps.{MayTurn, next_notice, after_turn-history, after_turn-trace}
-use Rattle.cany_model.proofs.Rules.ProtocolFacts.{MayAsk, confirms, originates, relays}
+use Rattle.cany_model.proofs.Rules.ProtocolFacts.{MayAsk, confirms, data_confirms_none, originates, relays}
 use Rattle.cany_model.proofs.Rules.TurnFacts.{turn_only}
 use Rattle.cany_model.proofs.Bus.Waits.{AsksOnly}
 
@@ -37,35 +35,32 @@ IsTrue trace k f = f.class ≡ Confirm → Among (Succeeds (confirmed_by f)) tra
 abbrev pub IsConfirmed : RunState → Type 0
 IsConfirmed s = HoldsOfFrames IsTrue IsTrue s
 
-data_confirms_none : (by : Service) → data_class by ≡ Confirm → ⊥
-data_confirms_none service.Ed e = cc
-data_confirms_none service.Rel e = cc
-data_confirms_none service.Tot e = cc
-
 -- a frame that a node has sent, or reads in its turn that it sent, succeeded
 own_succeeds : (scenario : ScenarioParts) (s : RunState) (i : ℕ) (f : FrameParts) → MayTurn s i → (node_at s.nodes i).unread ≤ length s.trace → f.class ≡ Rel
     → Among (λ n. n ≡ Sent f) (next_notice s i ∷ history i s) → Among (Succeeds (confirmed_by f)) s.trace
-unfolding history
 own_succeeds scenario s i f may short rel h =
     let t : RunState = after_turn scenario i s in
     let same : confirmed_by f ≡ identity_of f = λ k. record { class = (sym rel) k; number = f.number; node = f.node } in
     let read : Among (λ n. n ≡ Sent f) (history i t) = subst (Among (λ n. n ≡ Sent f)) (sym (after_turn-history scenario i s may short)) h in
     subst (Among (Succeeds (confirmed_by f))) (after_turn-trace scenario i s)
-    (read_among i (node_at t.nodes i).unread (λ n. n ≡ Sent f) (Succeeds (confirmed_by f))
-    (λ note is. Succeeds-from_sent i (confirmed_by f) note (is_sent-from (confirmed_by f) f (given i note) is same)) t.trace read)
+    (history_among t i (λ n. n ≡ Sent f) (Succeeds (confirmed_by f)) idle
+    (λ note is. Succeeds-from_sent i (confirmed_by f) note (is_sent-from (confirmed_by f) f (given i note) is same)) read)
+  where
+    idle : (note : SlotNote) → note.frame ≡ None → Succeeds (confirmed_by f) note → ⊥
+    idle note none w = let some = w.carries.frame in cc
 
 asked_true : (scenario : ScenarioParts) (s : RunState) (i : ℕ) → IsOrderly scenario.params.nodes s → MayTurn s i → IsConfirmed s
-    → AllByRecursion (AsksOnly (IsTrue s.trace i)) (turn_effects scenario i (next_notice s i ∷ history i s))
-asked_true scenario s i o may h = turn_only (IsTrue s.trace i) scenario i (next_notice s i ∷ history i s) (λ f. by_reason f)
+    → AllByRecursion (AsksOnly (IsTrue s.trace i)) (turn_effects (scenario_at scenario s i) i (next_notice s i ∷ history i s))
+asked_true scenario s i o may h = turn_only (IsTrue s.trace i) (scenario_at scenario s i) i (next_notice s i ∷ history i s) (λ f. by_reason f)
   where
     confirmed_frame : (g f : FrameParts) → confirm_frame g ≡ f → confirmed_by g ≡ confirmed_by f
     confirmed_frame g f e = λ k. record { class = Rel; number = (e k).number; node = (e k).node }
 
-    by_reason : (f : FrameParts) → MayAsk scenario i (next_notice s i ∷ history i s) f → IsTrue s.trace i f
+    by_reason : (f : FrameParts) → MayAsk (scenario_at scenario s i) i (next_notice s i ∷ history i s) f → IsTrue s.trace i f
     by_reason f (relays relayed got) = λ is.
         let note = turn_note scenario s i f may (o.unread i) (Among-weaker (λ n. n ≡ Got f) (Has f) (λ n e. inl e) (next_notice s i ∷ history i s) got) in
         h.carried note.0 f note.1 note.2 is
-    by_reason f (originates m is origin slot frame) = λ confirms. absurd (data_confirms_none m.service (ap (λ (x : FrameParts). x.class) frame ∙ confirms))
+    by_reason f (originates m is origin slot late frame) = λ confirms. absurd (data_confirms_none m.service (ap (λ (x : FrameParts). x.class) frame ∙ confirms))
     by_reason f (confirms g sent rel own frame) = λ is.
         subst (λ x. Among (Succeeds x) s.trace) (confirmed_frame g f frame) (own_succeeds scenario s i g may (o.unread i) rel sent)
 

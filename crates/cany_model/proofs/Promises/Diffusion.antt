@@ -1,6 +1,6 @@
 -- Eager diffusion: a node that is to send a frame waits with it, or the frame was carried with success, or the node read
 -- more than omit copies of it. All of it is said of the trace, a node's number and that node's state.
-use Rattle.std.proofs.Common.{◌≡◌, ℕ, ◌<◌, ◌≤◌, ◌⊎◌, inl, inr, true, false, List, [], ◌∷◌, map, drop, Some, ap, sym, subst, arith}
+use Rattle.std.proofs.Common.{◌≡◌, ℕ, ◌<◌, ◌≤◌, ◌⊎◌, inl, inr, true, false, List, ◌∷◌, map, drop, Some, ap, sym, subst, arith}
 use Rattle.cany_base.specs.Limits.{most_nodes}
 use Rattle.std.specs.List.{AllByRecursion}
 use Rattle.std.proofs.lemmas.Bool.{both_ways}
@@ -40,23 +40,27 @@ pub record Duty : Type 1 where
   pub owes : ℕ → List NoticeKind → Type 0
   -- the node may send the frame without a copy, as its origin may, or one that found out by itself
   pub starts : ℕ → List NoticeKind → Type 0
+  -- what a node has read that has only begun, at the opening or by a restart
+  pub begins : List NoticeKind → Type 0
 
 -- the rules of a protocol do their duty for the frame x
 pub record IsDiffused (turn : ℕ → List NoticeKind → List Effect) (omit : ℕ) (x : Identity) (duty : Duty) : Type 0 where
-  pub at_first : (i : ℕ) → duty.owes i [] → ⊥
-  pub starts_stays : (i : ℕ) (e : NoticeKind) (past : List NoticeKind) → duty.starts i past → duty.starts i (e ∷ past)
+  pub at_first : (i : ℕ) (past : List NoticeKind) → duty.begins past → duty.owes i past → ⊥
+  pub stays : (i : ℕ) (e : NoticeKind) (past : List NoticeKind) → duty.owes i past → duty.owes i (e ∷ past)
+  -- a node that owes the frame may start, or has read a copy
+  pub known : (i : ℕ) (past : List NoticeKind) → duty.owes i past → duty.starts i past ⊎ (0 < copies x past)
   -- a node that comes to owe the frame asks for it, unless the copies are enough or it has sent the frame
   pub asked : (i : ℕ) (e : NoticeKind) (past : List NoticeKind) → duty.owes i (e ∷ past)
       → duty.owes i past ⊎ (Among (Asks x) (turn i (e ∷ past)) ⊎ ((omit < copies x (e ∷ past)) ⊎ (has_own x (e ∷ past) ≡ true)))
   -- it is withdrawn only with more than omit copies
   pub withdrawn : (i : ℕ) (past : List NoticeKind) → Among (Withdraws x) (turn i past) → omit < copies x past
-  -- it is asked for by a node that may start, or because a copy was read
-  pub cause : (i : ℕ) (past : List NoticeKind) → Among (Asks x) (turn i past) → duty.starts i past ⊎ (0 < copies x past)
+  -- it is asked for only by a node that owes it
+  pub cause : (i : ℕ) (past : List NoticeKind) → Among (Asks x) (turn i past) → duty.owes i past
 
 -- what then holds of a running node
 pub record Diffuses (omit : ℕ) (x : Identity) (duty : Duty) (trace : List SlotNote) (i : ℕ) (node : NodeState) : Type 0 where
   pub kept : duty.owes i (past_of i trace node) → (waits x node.waiting ≡ true) ⊎ (Among (Succeeds x) trace ⊎ (omit < copies x (past_of i trace node)))
-  pub caused : (waits x node.waiting ≡ true) ⊎ Among (SentBy i x) trace → duty.starts i (past_of i trace node) ⊎ (0 < copies x (past_of i trace node))
+  pub caused : (waits x node.waiting ≡ true) ⊎ Among (SentBy i x) trace → duty.owes i (past_of i trace node)
   pub heard : AllByRecursion (Heard i) trace
 
 -- ---- a turn of the node
@@ -102,10 +106,10 @@ turn_kept turn omit x duty rule trace i node after t h owes =
 
 turn_caused : (turn : ℕ → List NoticeKind → List Effect) (omit : ℕ) (x : Identity) (duty : Duty) → IsDiffused turn omit x duty
     → (trace : List SlotNote) (i : ℕ) (node after : NodeState) → Turned turn trace i node after → Diffuses omit x duty trace i node
-    → (waits x after.waiting ≡ true) ⊎ Among (SentBy i x) trace → duty.starts i (past_of i trace after) ⊎ (0 < copies x (past_of i trace after))
+    → (waits x after.waiting ≡ true) ⊎ Among (SentBy i x) trace → duty.owes i (past_of i trace after)
 turn_caused turn omit x duty rule trace i node after t h k =
-    let later : duty.starts i (past_of i trace node) ⊎ (0 < copies x (past_of i trace node)) → duty.starts i (past_of i trace after) ⊎ (0 < copies x (past_of i trace after)) =
-    λ c. elim c [ inl starts ↦ inl (subst (duty.starts i) (sym t.past) (rule.starts_stays i t.notice (past_of i trace node) starts)) | inr some ↦ inr (rw t.past (omega (arith, some, copies_grow x t.notice (past_of i trace node)))) ] in
+    let later : duty.owes i (past_of i trace node) → duty.owes i (past_of i trace after) =
+    λ owes. subst (duty.owes i) (sym t.past) (rule.stays i t.notice (past_of i trace node) owes) in
     elim k [
       | inl waiting ↦ elim (waits-from_after x (turn i (past_of i trace after)) node.waiting (rw t.waiting at waiting)) [
         | inl before ↦ later (h.caused (inl before))
@@ -194,18 +198,18 @@ got_or_sent i x note few c heard = elim (heard.clean few c.carries.what c.carrie
 ]
 
 -- so of a frame that was carried Clean, a node that runs and has read every notice has got it, or may start it and has sent it
-pub carried_is_read : (omit : ℕ) (x : Identity) (duty : Duty) (trace : List SlotNote) (i : ℕ) (node : NodeState)
+pub carried_is_read : (turn : ℕ → List NoticeKind → List Effect) (omit : ℕ) (x : Identity) (duty : Duty) → IsDiffused turn omit x duty → (trace : List SlotNote) (i : ℕ) (node : NodeState)
     → Diffuses omit x duty trace i node → i < most_nodes → node.unread ≡ 0 → Among (CarriesClean x) trace
     → Among (λ e. is_got x e ≡ true) (past_of i trace node) ⊎ (duty.starts i (past_of i trace node) × Among (λ e. is_sent x e ≡ true) (past_of i trace node))
 unfolding copies
-carried_is_read omit x duty trace i node h few read clean =
+carried_is_read turn omit x duty rule trace i node h few read clean =
     let past : past_of i trace node ≡ map (given i) trace = ap (λ n. map (given i) (drop n trace)) read in
     let each : Among (λ note. (is_got x (given i note) ≡ true) ⊎ (SentBy i x note × (is_sent x (given i note) ≡ true))) trace =
     Among-weaker (λ note. CarriesClean x note × Heard i note) (λ note. (is_got x (given i note) ≡ true) ⊎ (SentBy i x note × (is_sent x (given i note) ≡ true)))
     (λ note k. got_or_sent i x note few k.0 k.1) trace (Among-with (CarriesClean x) (Heard i) trace h.heard clean) in
     elim (Among-either (λ note. is_got x (given i note) ≡ true) (λ note. SentBy i x note × (is_sent x (given i note) ≡ true)) trace each) [
       | inl got ↦ inl (rw past (Among-map (given i) (λ e. is_got x e ≡ true) trace got))
-      | inr sent ↦ elim (h.caused (inr (Among-weaker (λ note. SentBy i x note × (is_sent x (given i note) ≡ true)) (SentBy i x) (λ note k. k.0) trace sent))) [
+      | inr sent ↦ elim (rule.known i (past_of i trace node) (h.caused (inr (Among-weaker (λ note. SentBy i x note × (is_sent x (given i note) ≡ true)) (SentBy i x) (λ note k. k.0) trace sent)))) [
         | inl origin ↦ inr (
           origin,
           rw past (Among-map (given i) (λ e. is_sent x e ≡ true) trace

@@ -1,5 +1,5 @@
 -- Agreement of EDCAN: each node that got the frame of a message is to send it.
-use Rattle.std.proofs.Common.{◌≡◌, ℕ, suc, ◌<◌, ◌≤◌, ◌⊎◌, inl, inr, true, false, List, [], ◌∷◌, length, Contains, ap, sym, subst, arith}
+use Rattle.std.proofs.Common.{◌≡◌, ℕ, suc, ◌<◌, ◌≤◌, ◌⊎◌, inl, inr, true, false, List, ◌∷◌, length, Contains, ap, sym, subst, arith}
 use Rattle.cany_base.specs.Limits.{most_nodes}
 use Rattle.std.proofs.lemmas.Bool.{cases_lt, cases_Bool}
 use Rattle.cany_base.specs.declared.frame.Class.TheVariants as class
@@ -17,26 +17,27 @@ use Rattle.cany_model.specs.Rules.Edcan.{edcan}
 use Rattle.cany_model.specs.Promises.Safe.{IsAgreedOn}
 use Rattle.cany_model.specs.Bus.State.{RunState}
 use Rattle.cany_model.specs.Rules.Sends.{is_sent_at_once}
-use Rattle.cany_model.specs.Rules.Turn.{turn_effects}
+use Rattle.cany_model.specs.Rules.Turn.{scenario_for, turn_effects}
 use Rattle.cany_model.proofs.Promises.Agreement.{owed_carried}
-use Rattle.cany_model.proofs.Promises.Agrees.{Rules, duty_of, run_agrees}
-use Rattle.cany_model.proofs.Among.{Among, count-yes, count-no}
+use Rattle.cany_model.proofs.Promises.Agrees.{Owes, Rules, duty_of, run_agrees}
+use Rattle.cany_model.proofs.Among.{Among, count-grows, count-yes, count-no}
 use Rattle.cany_model.proofs.Promises.Diffusion.{IsDiffused}
 use Rattle.cany_model.proofs.Rules.MessageKeys.{IsOneOf}
-use Rattle.cany_model.proofs.Rules.TurnFacts.{turn_withdraws, turn_cause, turn_relays, turn_sends}
+use Rattle.cany_model.proofs.Rules.TurnFacts.{turn_withdraws, turn_cause_data, turn_relays, turn_sends}
 use Rattle.cany_model.proofs.Bus.Waits.{Asks}
 use Rattle.cany_model.proofs.Rules.DeliveryFacts.{DeliversAtOnce}
 use Rattle.cany_model.proofs.Rules.EdcanFacts.{edcan_delivers}
-use Rattle.cany_model.proofs.Rules.ProtocolFacts.{is_diffused}
+use Rattle.cany_model.proofs.Rules.Begun.{begun_copies, begun_short}
+use Rattle.cany_model.proofs.Rules.ProtocolFacts.{MayStart, is_diffused}
 use Rattle.cany_model.proofs.Rules.Protocols.{edcan_is_one}
 
 -- a node is to send the frame of an EDCAN message once it got a copy, or as origin once it has read its slot
-abbrev pub OwesEd : Message → ℕ → List NoticeKind → Type 0
-OwesEd m i past = (0 < copies (data_id m) past) ⊎ ((m.origin ≡ i) × (m.slot < length past))
+abbrev pub OwesEd : Message → Owes
+OwesEd m scenario i past = (0 < copies (data_id m) past) ⊎ MayStart scenario m i past
 
-copies_none : (x : Identity) → 0 < copies x [] → ⊥
+copies_grow : (x : Identity) (e : NoticeKind) (past : List NoticeKind) → copies x past ≤ copies x (e ∷ past)
 unfolding copies
-copies_none x h = omega arith
+copies_grow x e past = count-grows (is_got x) e past
 
 copies_got : (x : Identity) (e : NoticeKind) (past : List NoticeKind) → is_got x e ≡ true → copies x (e ∷ past) ≡ suc (copies x past)
 unfolding copies
@@ -64,24 +65,31 @@ asked_got scenario m ed i e past some = elim (cases_Bool (is_got (data_id m) e))
 ]
 
 asked_slot : (scenario : ScenarioParts) (m : Message) → IsOneOf (messages_of scenario.sends) m → m.service ≡ Ed → (i : ℕ) (e : NoticeKind) (past : List NoticeKind)
-    → m.origin ≡ i → m.slot < length (e ∷ past) → (m.slot < length past) ⊎ Asked scenario m i e past
-asked_slot scenario m is ed i e past origin at = elim (cases_lt m.slot (length past)) [
+    → MayStart scenario m i (e ∷ past) → (m.slot < length past) ⊎ Asked scenario m i e past
+asked_slot scenario m is ed i e past may = elim (cases_lt m.slot (length past)) [
   | inl before ↦ inl before
-  | inr now ↦ inr (inl (turn_sends scenario i m e past is (ap is_sent_at_once ed) origin (omega (arith, at, now))))
+  | inr now ↦ let at = may.1 in inr (inl (turn_sends scenario i m e past is (ap is_sent_at_once ed) may.0 may.2 (omega (arith, at, now))))
 ]
 
 -- EDCAN diffuses the frames of its messages
 pub ed_is_diffused : (scenario : ScenarioParts) (m : Message) → IsOneOf (messages_of scenario.sends) m → m.service ≡ Ed
-    → IsDiffused (turn_effects scenario) scenario.params.omit (data_id m) (duty_of m (OwesEd m))
+    → IsDiffused (turn_effects scenario) scenario.params.omit (data_id m) (duty_of m (OwesEd m) scenario)
 ed_is_diffused scenario m is ed = record {
-  at_first = λ i owes. elim owes [ inl some ↦ copies_none (data_id m) some | inr origin ↦ absurd (omega (arith, origin.1)) ];
-  starts_stays = λ i e past origin. origin;
+  at_first = λ i past begun owes. elim owes [
+    | inl some ↦ let none = begun_copies scenario (data_id m) past begun in omega (arith, some, none)
+    | inr origin ↦ begun_short scenario past begun m.slot origin.1 origin.2
+  ];
+  stays = λ i e past owes. elim owes [
+    | inl some ↦ let more = copies_grow (data_id m) e past in inl (omega (arith, some, more))
+    | inr origin ↦ let at = origin.1 in inr (origin.0, omega (arith, at), origin.2)
+  ];
+  known = λ i past owes. elim owes [ inl some ↦ inr some | inr origin ↦ inl origin ];
   asked = λ i e past owes. elim owes [
     | inl some ↦ elim (asked_got scenario m ed i e past some) [ inl before ↦ inl (inl before) | inr asked ↦ inr asked ]
-    | inr origin ↦ elim (asked_slot scenario m is ed i e past origin.0 origin.1) [ inl before ↦ inl (inr (origin.0, before)) | inr asked ↦ inr asked ]
+    | inr origin ↦ elim (asked_slot scenario m is ed i e past origin) [ inl before ↦ inl (inr (origin.0, before, origin.2)) | inr asked ↦ inr asked ]
   ];
   withdrawn = λ i past h. turn_withdraws scenario i (data_id m) past (ap (λ by. is_diffused (data_class by)) ed) h;
-  cause = λ i past h. turn_cause scenario i (data_id m) past h;
+  cause = λ i past h. elim (turn_cause_data scenario i m past is h) [ inl starts ↦ inr starts | inr some ↦ inl some ];
 }
 
 ed_rules : (scenario : ScenarioParts) (m : Message) (s : RunState) → m.service ≡ Ed → Rules scenario m (OwesEd m) s
@@ -89,12 +97,12 @@ ed_rules scenario m s ed = record {
   protocol = edcan;
   is_one = edcan_is_one;
   delivers = subst (DeliversAtOnce edcan) (sym ed) edcan_delivers;
-  origin_owes = λ i past origin long. inr (origin, long);
-  got_carried = λ g i correct some. owed_carried scenario (data_id m) (duty_of m (OwesEd m)) s g.rest i correct (inl some);
+  origin_owes = λ sc i past may. inr may;
+  got_carried = λ g i correct other some. owed_carried scenario (data_id m) (duty_of m (OwesEd m)) s g.rest i correct (inl some);
 }
 
 pub edcan_agrees : (scenario : ScenarioParts) → scenario.params.nodes ≤ most_nodes → (journal : List Step) → IsWithin scenario.params (run scenario journal).trace
     → (m : Message) → Contains (messages_of scenario.sends) m → m.service ≡ Ed → IsAgreedOn scenario (run scenario journal) m
 edcan_agrees scenario few journal within m stands ed =
-    run_agrees scenario few journal within m stands (ap is_sent_at_once ed) (OwesEd m) (λ is. ed_is_diffused scenario m is ed)
+    run_agrees scenario few journal within m stands (ap is_sent_at_once ed) (OwesEd m) (λ is inc. ed_is_diffused (scenario_for scenario inc) m is ed)
     (ed_rules scenario m (run scenario journal) ed)

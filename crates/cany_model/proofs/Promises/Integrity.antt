@@ -1,35 +1,37 @@
 -- Integrity of every run: no message is delivered twice, or without having been sent.
-use Rattle.std.specs.Prelude.{◌≡◌, ℕ, suc, ◌+◌, ◌-◌, ◌<◌, ◌≤◌, ◌==◌, ◌&&◌, true, List, Some, length, drop, count_by, Contains}
+use Rattle.std.specs.Prelude.{◌≡◌, ℕ, suc, ◌+◌, ◌-◌, ◌<◌, ◌≤◌, ◌==◌, true, List, Some, None, length, drop, count_by, Contains}
 use Rattle.cany_base.specs.Limits.{most_nodes}
-use Rattle.std.proofs.Common.{sym, ap, ◌∙◌, subst, inl, inr, arith, length-drop, eqb-true, refl}
+use Rattle.std.proofs.Common.{sym, ap, ◌∙◌, subst, arith, length-drop, eqb-true}
 use Rattle.std.proofs.lemmas.Bool.{and_parts}
+use Rattle.std.proofs.lemmas.List.{get_or-map}
 use Rattle.std.proofs.lemmas.List.Elements.{Contains-get_or}
 use Rattle.cany_base.specs.declared.log_entry.LogEntry.{LogEntry}
 use Rattle.cany_base.specs.declared.log_entry.LogEntry.TheVariants.{Deliver, Failed, View}
 use Rattle.cany_base.specs.declared.message.MsgKey.{MsgKey}
 use Rattle.cany_base.specs.declared.message.Service.{Service}
-use Rattle.cany_base.specs.declared.notice.NoticeKind.{NoticeKind}
 use Rattle.cany_base.specs.declared.notice.NoticeKind.TheVariants.{Idle}
 use Rattle.cany_base.specs.declared.slot_note.SlotNote.{SlotNote}
 use Rattle.cany_base.specs.declared.step.Step.{Step}
 use Rattle.cany_base.specs.Frame.{FrameParts, data_class}
 use Rattle.cany_base.specs.Scenario.{ScenarioParts}
 use Rattle.cany_model.specs.Bus.Frames.{identity_of}
-use Rattle.cany_model.specs.Bus.History.{given, history}
+use Rattle.cany_model.specs.Bus.History.{as_seen, given, history}
 use Rattle.cany_model.specs.Bus.Run.{run}
-use Rattle.cany_model.specs.Bus.State.{RunState, node_at}
+use Rattle.cany_model.specs.Bus.State.{Incarnation, RunState, node_at}
 use Rattle.cany_model.specs.Promises.Safe.{IsSound, IsIntegral, delivers_key}
 use Rattle.cany_model.specs.Rules.Log.{log}
 use Rattle.cany_model.specs.Rules.Messages.{data_of}
 use Rattle.cany_model.specs.Rules.Protocol.{Protocol}
+use Rattle.cany_model.specs.Rules.Turn.{scenario_at}
 use Rattle.cany_model.proofs.Among.{Among, Among-from_Contains, Among-from_count, Among-get_or, Among-place}
 use Rattle.cany_model.proofs.Bus.Carried.{Carries, Has, frame_of_notice}
 use Rattle.cany_model.proofs.Bus.Runs.{IsOrderly, orderly, history-length, history-at}
+use Rattle.cany_model.proofs.Bus.Seen.{seen_one}
 use Rattle.cany_model.proofs.Bus.States.{no_note, note_at}
 use Rattle.cany_model.proofs.Promises.OneFrame.{data_carries, data_class-one, one_service}
-use Rattle.cany_model.proofs.Promises.Sources.{carries_data, IsSent, IsSourced, sent_later, sourced}
-use Rattle.cany_model.proofs.Rules.LogFacts.{IsMade, log_once, log_split, made_by}
-use Rattle.cany_model.proofs.Rules.ProtocolFacts.{IsFoundedEntry, IsLawful, IsRead, log_by}
+use Rattle.cany_model.proofs.Promises.Sources.{carries_data, IsSent, IsSourced, sourced}
+use Rattle.cany_model.proofs.Rules.LogFacts.{log_once, log_split, made_by}
+use Rattle.cany_model.proofs.Rules.ProtocolFacts.{IsFoundedEntry, IsLawful, log_by}
 
 -- ---- what was read by some slot, was carried by then
 
@@ -39,9 +41,17 @@ record WasCarried (s : RunState) (f : FrameParts) (slot : ℕ) : Type 0 where
   frame : (note_at s.trace age).frame ≡ Some f
   by_then : (note_at s.trace age).slot ≤ slot
 
+-- a slot that an incarnation sees to carry a frame carried it
+seen_frame : (inc : Incarnation) (note : SlotNote) (f : FrameParts) → (as_seen inc note).frame ≡ Some f → note.frame ≡ Some f
+seen_frame inc note f h = (seen_one (λ n. n.frame ≡ Some f) idle inc note h).1
+  where
+    idle : (n : SlotNote) → n.frame ≡ None → n.frame ≡ Some f → ⊥
+    idle n none some = cc
+
 read_carried : (nodes : ℕ) (s : RunState) (i : ℕ) → IsOrderly nodes s → (f : FrameParts) (place slot : ℕ) → length (drop place (history i s)) ≡ suc slot
     → Among (Has f) (drop place (history i s)) → WasCarried s f slot
 read_carried nodes s i o f place slot len h =
+    let inc : Incarnation = (node_at s.nodes i).present in
     let w = Among-place (Has f) Idle place (history i s) h in
     let read : length (history i s) ≡ length s.trace - (node_at s.nodes i).unread = history-length i s in
     let later : place ≤ w.0 = w.1 in
@@ -50,10 +60,12 @@ read_carried nodes s i o f place slot len h =
     let below : age < length s.trace = omega arith in
     let number : (note_at s.trace age).slot ≡ length s.trace - 1 - age = o.numbered age below in
     let rest : length (drop place (history i s)) ≡ length (history i s) - place = length-drop place (history i s) in
+    let saw : Has f (given i (as_seen inc (note_at s.trace age))) =
+    subst (Has f) (history-at i s w.0 Idle within ∙ ap (given i) (get_or-map (as_seen inc) s.trace age no_note no_note below)) w.3 in
     record {
       age = age;
       below = below;
-      frame = frame_of_notice i (note_at s.trace age) f (subst (Has f) (history-at i s w.0 Idle within) w.3);
+      frame = seen_frame inc (note_at s.trace age) f (frame_of_notice i (as_seen inc (note_at s.trace age)) f saw);
       by_then = omega arith;
     }
 
@@ -104,10 +116,10 @@ served_by nodes s i o p key place (Failed slot node cycle) is r = absurd (cc)
 served_by nodes s i o p key place (View slot number members) is r = absurd (cc)
 
 served : (scenario : ScenarioParts) (s : RunState) (i : ℕ) → IsOrderly scenario.params.nodes s → (key : MsgKey) (p : Protocol) → IsLawful p
-    → 0 < count_by (delivers_key key) (log_by p scenario i (history i s)) → Served s p key
+    → 0 < count_by (delivers_key key) (log_by p (scenario_at scenario s i) i (history i s)) → Served s p key
 served scenario s i o key p lawful some =
-    let made = made_by (λ entry. delivers_key key entry ≡ true) scenario p lawful i (history i s)
-    (Among-from_count (delivers_key key) (log_by p scenario i (history i s)) some) in
+    let made = made_by (λ entry. delivers_key key entry ≡ true) (scenario_at scenario s i) p lawful i (history i s)
+    (Among-from_count (delivers_key key) (log_by p (scenario_at scenario s i) i (history i s)) some) in
     served_by scenario.params.nodes s i o p key made.place made.entry made.is made.founded
 
 -- messages of one key have one service
@@ -120,7 +132,7 @@ one_serves scenario s h key p q first next =
 delivered_once : (scenario : ScenarioParts) (s : RunState) → IsOrderly scenario.params.nodes s → IsSourced scenario s → (i : ℕ) (key : MsgKey)
     → count_by (delivers_key key) (log scenario s i) ≤ 1
 delivered_once scenario s o h i key =
-    log_once scenario i key (history i s) (λ p lawful some. (
+    log_once (scenario_at scenario s i) i key (history i s) (λ p lawful some. (
       (served scenario s i o key p lawful some).by,
       λ q other more. one_serves scenario s h key p q (served scenario s i o key p lawful some) (served scenario s i o key q other more),
     ))
@@ -128,8 +140,8 @@ delivered_once scenario s o h i key =
 sound_entry : (scenario : ScenarioParts) (s : RunState) → IsOrderly scenario.params.nodes s → IsSourced scenario s → (i : ℕ) (entry : LogEntry)
     → Contains (log scenario s i) entry → IsSound scenario s entry
 sound_entry scenario s o h i entry c =
-    let split = log_split (λ y. y ≡ entry) scenario i (history i s) (Among-from_Contains (log scenario s i) entry c) in
-    let made = made_by (λ y. y ≡ entry) scenario split.0 split.1 i (history i s) split.2 in
+    let split = log_split (λ y. y ≡ entry) (scenario_at scenario s i) i (history i s) (Among-from_Contains (log scenario s i) entry c) in
+    let made = made_by (λ y. y ≡ entry) (scenario_at scenario s i) split.0 split.1 i (history i s) split.2 in
     sound scenario s i o h split.0 made.place entry (subst (IsFoundedEntry split.0 (drop made.place (history i s))) made.is made.founded)
 
 pub integral : (scenario : ScenarioParts) (journal : List Step) → scenario.params.nodes ≤ most_nodes → IsIntegral scenario (run scenario journal)

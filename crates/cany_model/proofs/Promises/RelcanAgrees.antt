@@ -1,8 +1,8 @@
 -- Agreement of RELCAN: a node that got the frame of a message read a confirmation of it, so that a slot had carried the frame
 -- with success, or fell back to sending it.
-use Rattle.std.proofs.Common.{◌≡◌, ℕ, ◌<◌, ◌≤◌, ◌==◌, ◌⊎◌, inl, inr, true, false, not, List, [], ◌∷◌, length, drop, Contains, ap, sym, ◌∙◌, subst, arith}
+use Rattle.std.proofs.Common.{◌≡◌, ℕ, ◌<◌, ◌≤◌, ◌==◌, ◌⊎◌, inl, inr, true, false, not, List, ◌∷◌, length, drop, Contains, ap, sym, ◌∙◌, subst, arith}
 use Rattle.cany_base.specs.Limits.{most_nodes}
-use Rattle.std.proofs.lemmas.Bool.{false≢true, and_from, both_ways, cases_Bool, cases_eq, cases_lt, ne_eqb, not_from_false, or_cases}
+use Rattle.std.proofs.lemmas.Bool.{and_from, both_ways, cases_Bool, cases_lt, ne_eqb, not_from_false, or_cases}
 use Rattle.cany_base.specs.declared.frame.Class.TheVariants as class
 use Rattle.cany_base.specs.declared.message.Service.TheVariants.{Rel}
 use Rattle.cany_base.specs.declared.notice.NoticeKind.{NoticeKind}
@@ -17,13 +17,14 @@ use Rattle.cany_model.specs.Rules.Relcan.{confirm_of, falls_back, fell_back, has
 use Rattle.cany_model.specs.Bus.Run.{run}
 use Rattle.cany_model.specs.Promises.Safe.{IsAgreedOn}
 use Rattle.cany_model.specs.Promises.Settled.{IsCorrect}
-use Rattle.cany_model.specs.Bus.State.{RunState, node_at}
+use Rattle.cany_model.specs.Bus.State.{RunState}
 use Rattle.cany_model.specs.Rules.Sends.{is_sent_at_once}
-use Rattle.cany_model.specs.Rules.Turn.{turn_effects}
-use Rattle.cany_model.proofs.Promises.Agreement.{owed_carried}
-use Rattle.cany_model.proofs.Promises.Agrees.{Ground, duty_of, origin_owed, run_agrees}
+use Rattle.cany_model.specs.Rules.Turn.{scenario_at, scenario_for, turn_effects}
+use Rattle.cany_model.proofs.Promises.Agreement.{idle_carries, owed_carried}
+use Rattle.cany_model.proofs.Promises.Agrees.{Ground, Owes, duty_of, run_agrees}
 use Rattle.cany_model.proofs.Among.{Among, Among-from_any, Among-from_count, any-from_Among}
-use Rattle.cany_model.proofs.Bus.Carried.{Carries, CarriesClean, Carries-from_got, read_among}
+use Rattle.cany_model.proofs.Bus.Carried.{Carries, CarriesClean, Carries-from_got}
+use Rattle.cany_model.proofs.Bus.FrameInvariants.{history_among}
 use Rattle.cany_model.proofs.Promises.Confirms.{IsConfirmed, confirm_carried, confirmed}
 use Rattle.cany_model.proofs.Bus.Counting.{clean_from_success}
 use Rattle.cany_model.proofs.Promises.Diffusion.{IsDiffused}
@@ -31,24 +32,21 @@ use Rattle.cany_model.proofs.Bus.Identities.{same_class_self}
 use Rattle.cany_model.proofs.Rules.MessageKeys.{IsOneOf}
 use Rattle.cany_model.proofs.Promises.SettledFacts.{settled_none_ahead}
 use Rattle.cany_model.proofs.Rules.Timers.{overdue_falls_back}
-use Rattle.cany_model.proofs.Rules.TurnFacts.{turn_withdraws, turn_cause, turn_falls_back, turn_sends}
+use Rattle.cany_model.proofs.Rules.TurnFacts.{rel_cause, turn_withdraws, turn_falls_back, turn_sends}
 use Rattle.cany_model.proofs.Bus.Waits.{Asks}
 use Rattle.cany_model.proofs.Rules.DeliveryFacts.{DeliversAtOnce}
-use Rattle.cany_model.proofs.Rules.ProtocolFacts.{is_diffused}
+use Rattle.cany_model.proofs.Rules.Begun.{begun_fell_back, begun_short}
+use Rattle.cany_model.proofs.Rules.ProtocolFacts.{MayStart, is_diffused}
 use Rattle.cany_model.proofs.Rules.Protocols.{relcan_is_one}
-use Rattle.cany_model.proofs.Rules.RelcanFacts.{relcan_delivers}
+use Rattle.cany_model.proofs.Rules.RelcanFacts.{fell_copies, fell_stays, relcan_delivers}
 
 -- a node is to send the frame of a RELCAN message once it fell back, or as origin once it has read its slot
-abbrev pub OwesRel : ScenarioParts → Message → ℕ → List NoticeKind → Type 0
-OwesRel scenario m i past = (fell_back scenario.params.confirm i (data_id m) past ≡ true) ⊎ ((m.origin ≡ i) × (m.slot < length past))
+abbrev pub OwesRel : Message → Owes
+OwesRel m scenario i past = (fell_back scenario.params.confirm i (data_id m) past ≡ true) ⊎ MayStart scenario m i past
 
 abbrev Asked : ScenarioParts → Message → ℕ → NoticeKind → List NoticeKind → Type 0
 Asked scenario m i e past =
     Among (Asks (data_id m)) (turn_effects scenario i (e ∷ past)) ⊎ ((scenario.params.omit < copies (data_id m) (e ∷ past)) ⊎ (has_own (data_id m) (e ∷ past) ≡ true))
-
-never_fell_back : (timer i : ℕ) (x : Identity) → fell_back timer i x [] ≡ true → ⊥
-unfolding fell_back
-never_fell_back timer i x h = false≢true h
 
 asked_late : (scenario : ScenarioParts) (m : Message) (i : ℕ) (e : NoticeKind) (past : List NoticeKind)
     → fell_back scenario.params.confirm i (data_id m) (e ∷ past) ≡ true
@@ -61,37 +59,40 @@ asked_late scenario m i e past h =
     ]
 
 asked_slot : (scenario : ScenarioParts) (m : Message) → IsOneOf (messages_of scenario.sends) m → m.service ≡ Rel → (i : ℕ) (e : NoticeKind) (past : List NoticeKind)
-    → m.origin ≡ i → m.slot < length (e ∷ past) → (m.slot < length past) ⊎ Asked scenario m i e past
-asked_slot scenario m is rel i e past origin at = elim (cases_lt m.slot (length past)) [
+    → MayStart scenario m i (e ∷ past) → (m.slot < length past) ⊎ Asked scenario m i e past
+asked_slot scenario m is rel i e past may = elim (cases_lt m.slot (length past)) [
   | inl before ↦ inl before
-  | inr now ↦ inr (inl (turn_sends scenario i m e past is (ap is_sent_at_once rel) origin (omega (arith, at, now))))
+  | inr now ↦ let at = may.1 in inr (inl (turn_sends scenario i m e past is (ap is_sent_at_once rel) may.0 may.2 (omega (arith, at, now))))
 ]
 
 -- RELCAN diffuses the frames of its messages
 rel_is_diffused : (scenario : ScenarioParts) (m : Message) → IsOneOf (messages_of scenario.sends) m → m.service ≡ Rel
-    → IsDiffused (turn_effects scenario) scenario.params.omit (data_id m) (duty_of m (OwesRel scenario m))
+    → IsDiffused (turn_effects scenario) scenario.params.omit (data_id m) (duty_of m (OwesRel m) scenario)
 rel_is_diffused scenario m is rel = record {
-  at_first = λ i owes. elim owes [ inl fell ↦ never_fell_back scenario.params.confirm i (data_id m) fell | inr origin ↦ absurd (omega (arith, origin.1)) ];
-  starts_stays = λ i e past origin. origin;
+  at_first = λ i past begun owes. elim owes [
+    | inl fell ↦ both_ways (fell_back scenario.params.confirm i (data_id m) past) (begun_fell_back scenario scenario.params.confirm i (data_id m) past begun) fell
+    | inr origin ↦ begun_short scenario past begun m.slot origin.1 origin.2
+  ];
+  stays = λ i e past owes. elim owes [
+    | inl fell ↦ inl (fell_stays scenario.params.confirm i (data_id m) e past fell)
+    | inr origin ↦ let at = origin.1 in inr (origin.0, omega (arith, at), origin.2)
+  ];
+  known = λ i past owes. elim owes [ inl fell ↦ inr (fell_copies scenario.params.confirm i (data_id m) past fell) | inr origin ↦ inl origin ];
   asked = λ i e past owes. elim owes [
     | inl fell ↦ elim (asked_late scenario m i e past fell) [ inl before ↦ inl (inl before) | inr asked ↦ inr asked ]
-    | inr origin ↦ elim (asked_slot scenario m is rel i e past origin.0 origin.1) [ inl before ↦ inl (inr (origin.0, before)) | inr asked ↦ inr asked ]
+    | inr origin ↦ elim (asked_slot scenario m is rel i e past origin) [ inl before ↦ inl (inr (origin.0, before, origin.2)) | inr asked ↦ inr asked ]
   ];
   withdrawn = λ i past h. turn_withdraws scenario i (data_id m) past (ap (λ by. is_diffused (data_class by)) rel) h;
-  cause = λ i past h. turn_cause scenario i (data_id m) past h;
+  cause = λ i past h. elim (rel_cause scenario i m past is rel h) [ inl starts ↦ inr starts | inr fell ↦ inl fell ];
 }
 
 -- ---- one state
 
-rel_origin_owes : (scenario : ScenarioParts) (m : Message) (i : ℕ) (past : List NoticeKind) → m.origin ≡ i → m.slot < length past → OwesRel scenario m i past
-rel_origin_owes scenario m i past origin long = inr (origin, long)
-
 -- a confirmation that a node read, a slot carried
 confirm_read : (m : Message) (s : RunState) (i : ℕ) → has_confirm (data_id m) (history i s) ≡ true → Among (Carries (confirm_of (data_id m))) s.trace
-unfolding history
 confirm_read m s i h =
-    read_among i (node_at s.nodes i).unread (λ e. is_got (confirm_of (data_id m)) e ≡ true) (Carries (confirm_of (data_id m)))
-    (Carries-from_got i (confirm_of (data_id m))) s.trace (Among-from_any (is_got (confirm_of (data_id m))) (history i s) h)
+    history_among s i (λ e. is_got (confirm_of (data_id m)) e ≡ true) (Carries (confirm_of (data_id m))) (idle_carries (confirm_of (data_id m)))
+    (Carries-from_got i (confirm_of (data_id m))) (Among-from_any (is_got (confirm_of (data_id m))) (history i s) h)
 
 -- so the data frame was carried Clean
 confirmed_carried : (scenario : ScenarioParts) (m : Message) (s : RunState) → m.service ≡ Rel → IsConfirmed s → IsWithin scenario.params s.trace
@@ -125,27 +126,25 @@ unfolding copies
 copied x past some = any-from_Among (is_got x) past (Among-from_count (is_got x) past some)
 
 -- a frame that a correct node got was carried Clean
-got_carried : (scenario : ScenarioParts) (m : Message) (s : RunState) → m.service ≡ Rel → IsConfirmed s → Ground scenario m (OwesRel scenario m) s
-    → (i : ℕ) → IsCorrect scenario s i → 0 < copies (data_id m) (history i s) → Among (CarriesClean (data_id m)) s.trace
-got_carried scenario m s rel c g i correct some = elim (cases_eq m.origin i) [
-  | inl origin ↦ origin_owed scenario m (OwesRel scenario m) s g (rel_origin_owes scenario m) i correct (sym origin)
-  | inr other ↦
-      elim (timer_done scenario m i (history i s) (timed m i rel other) (copied (data_id m) (history i s) some) (settled_none_ahead scenario s m g.settled i correct relcan relcan_is_one)) [
-        | inl confirm ↦ confirmed_carried scenario m s rel c g.rest.within i confirm
-        | inr fell ↦ owed_carried scenario (data_id m) (duty_of m (OwesRel scenario m)) s g.rest i correct (inl fell)
-      ]
-]
+got_carried : (scenario : ScenarioParts) (m : Message) (s : RunState) → m.service ≡ Rel → IsConfirmed s → Ground scenario m (OwesRel m) s
+    → (i : ℕ) → IsCorrect scenario s i → (m.origin ≡ i → ⊥) → 0 < copies (data_id m) (history i s) → Among (CarriesClean (data_id m)) s.trace
+got_carried scenario m s rel c g i correct other some =
+    elim (timer_done (scenario_at scenario s i) m i (history i s) (timed m i rel other) (copied (data_id m) (history i s) some)
+    (settled_none_ahead scenario s m g.settled i correct relcan relcan_is_one)) [
+      | inl confirm ↦ confirmed_carried scenario m s rel c g.rest.within i confirm
+      | inr fell ↦ owed_carried scenario (data_id m) (duty_of m (OwesRel m)) s g.rest i correct (inl fell)
+    ]
 
 -- ---- every run
 
 pub relcan_agrees : (scenario : ScenarioParts) → scenario.params.nodes ≤ most_nodes → (journal : List Step) → IsWithin scenario.params (run scenario journal).trace
     → (m : Message) → Contains (messages_of scenario.sends) m → m.service ≡ Rel → IsAgreedOn scenario (run scenario journal) m
 relcan_agrees scenario few journal within m stands rel =
-    run_agrees scenario few journal within m stands (ap is_sent_at_once rel) (OwesRel scenario m) (λ is. rel_is_diffused scenario m is rel)
+    run_agrees scenario few journal within m stands (ap is_sent_at_once rel) (OwesRel m) (λ is inc. rel_is_diffused (scenario_for scenario inc) m is rel)
     (record {
       protocol = relcan;
       is_one = relcan_is_one;
       delivers = subst (DeliversAtOnce relcan) (sym rel) relcan_delivers;
-      origin_owes = rel_origin_owes scenario m;
+      origin_owes = λ sc i past may. inr may;
       got_carried = got_carried scenario m (run scenario journal) rel (confirmed scenario journal few);
     })

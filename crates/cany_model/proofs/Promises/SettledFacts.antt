@@ -1,7 +1,7 @@
 -- What it says of a node that a message is settled.
-use Rattle.std.proofs.Common.{◌≡◌, ℕ, ◌<◌, ◌==◌, ◌&&◌, ◌||◌, inl, inr, Bool, true, false, not, get_or, ap, sym, ◌∙◌, subst, arith}
+use Rattle.std.proofs.Common.{◌≡◌, ℕ, ◌<◌, ◌==◌, ◌&&◌, ◌||◌, ◌⊎◌, inl, inr, Bool, true, false, not, get_or, ap, sym, ◌∙◌, subst, arith}
 use Rattle.std.specs.List.{list_any, list_all, range_with_len}
-use Rattle.std.proofs.lemmas.Bool.{both_ways, and_parts, and_from, or_cases, or_left, not-true, eqb-true, false_from_ne_true}
+use Rattle.std.proofs.lemmas.Bool.{both_ways, and_parts, and_from, or_cases, or_left, not-true, eqb-true, ltb-true, false_from_ne_true}
 use Rattle.std.proofs.lemmas.List.Folds.{list_any_at}
 use Rattle.std.proofs.lemmas.List.FromFn.{get_or-range_with_len, length-range_with_len}
 use Rattle.std.proofs.lemmas.List.Sums.{AllPass-from_list_all}
@@ -10,9 +10,9 @@ use Rattle.cany_model.specs.Bus.Frames.{identity_of}
 use Rattle.cany_model.specs.Bus.History.{history}
 use Rattle.cany_model.specs.Rules.Messages.{Message, data_frame, frames_of}
 use Rattle.cany_model.specs.Rules.Protocol.{Protocol}
-use Rattle.cany_model.specs.Rules.Turn.{is_ahead_at, protocols}
+use Rattle.cany_model.specs.Rules.Turn.{is_ahead_at, protocols, scenario_at}
 use Rattle.cany_model.specs.Bus.Run.{all_read}
-use Rattle.cany_model.specs.Promises.Settled.{IsCorrect, is_settled, is_awaited, is_ahead, origin_has_asked}
+use Rattle.cany_model.specs.Promises.Settled.{IsCorrect, came_too_late, is_settled, is_awaited, is_ahead, origin_has_asked}
 use Rattle.cany_model.specs.Bus.State.{NodeState, RunState, absent, node_at, runs}
 use Rattle.cany_model.specs.Bus.Waiting.{waits}
 use Rattle.cany_model.proofs.Among.{Among-weaker, any-from_Among}
@@ -21,7 +21,7 @@ use Rattle.cany_model.proofs.Rules.Protocols.{IsProtocol}
 
 -- the parts of what is said of a settled message
 record Parts (scenario : ScenarioParts) (s : RunState) (m : Message) : Type 0 where
-  asked : (origin_has_asked scenario s m || not (runs (node_at s.nodes m.origin))) ≡ true
+  asked : (origin_has_asked scenario s m || not (runs (node_at s.nodes m.origin)) || came_too_late s m) ≡ true
   quiet : is_awaited (frames_of m) s ≡ false
   read : all_read s ≡ true
   none_ahead : is_ahead scenario s m ≡ false
@@ -29,7 +29,7 @@ record Parts (scenario : ScenarioParts) (s : RunState) (m : Message) : Type 0 wh
 parts : (scenario : ScenarioParts) (s : RunState) (m : Message) → is_settled scenario s m ≡ true → Parts scenario s m
 unfolding is_settled
 parts scenario s m h =
-    let asked : Bool = origin_has_asked scenario s m || not (runs (node_at s.nodes m.origin)) in
+    let asked : Bool = origin_has_asked scenario s m || not (runs (node_at s.nodes m.origin)) || came_too_late s m in
     let whole = and_parts (asked && not (is_awaited (frames_of m) s) && all_read s) (not (is_ahead scenario s m)) h in
     let outer = and_parts (asked && not (is_awaited (frames_of m) s)) (all_read s) whole.0 in
     let inner = and_parts asked (not (is_awaited (frames_of m) s)) outer.0 in
@@ -40,12 +40,26 @@ parts scenario s m h =
       none_ahead = not-true (is_ahead scenario s m) whole.1;
     }
 
--- an origin that runs has asked for it
+-- an origin that runs has asked for it, or came too late
 pub settled_asked : (scenario : ScenarioParts) (s : RunState) (m : Message) → is_settled scenario s m ≡ true → runs (node_at s.nodes m.origin) ≡ true
-    → origin_has_asked scenario s m ≡ true
-settled_asked scenario s m h running = elim (or_cases (origin_has_asked scenario s m) (not (runs (node_at s.nodes m.origin))) (parts scenario s m h).asked) [
-  | inl asked ↦ asked
-  | inr stopped ↦ absurd (both_ways (runs (node_at s.nodes m.origin)) (not-true (runs (node_at s.nodes m.origin)) stopped) running)
+    → (origin_has_asked scenario s m ≡ true) ⊎ (came_too_late s m ≡ true)
+settled_asked scenario s m h running =
+    let asked : Bool = origin_has_asked scenario s m in
+    let stopped : Bool = not (runs (node_at s.nodes m.origin)) in
+    elim (or_cases (asked || stopped) (came_too_late s m) (parts scenario s m h).asked) [
+      | inr late ↦ inr late
+      | inl early ↦ elim (or_cases asked stopped early) [
+        | inl done ↦ inl done
+        | inr gone ↦ absurd (both_ways (runs (node_at s.nodes m.origin)) (not-true (runs (node_at s.nodes m.origin)) gone) running)
+      ]
+    ]
+
+-- it came too late where it takes part only since a slot after the scripted one
+pub settled_asked_or_late : (scenario : ScenarioParts) (s : RunState) (m : Message) → is_settled scenario s m ≡ true
+    → runs (node_at s.nodes m.origin) ≡ true → (origin_has_asked scenario s m ≡ true) ⊎ (m.slot < (node_at s.nodes m.origin).present.from)
+settled_asked_or_late scenario s m h running = elim (settled_asked scenario s m h running) [
+  | inl asked ↦ inl asked
+  | inr late ↦ inr (ltb-true m.slot (node_at s.nodes m.origin).present.from late)
 ]
 
 -- a running node does not wait with its data frame
@@ -76,16 +90,16 @@ settled_read scenario s m h i running =
 
 -- at a correct node no protocol has anything of it ahead
 pub settled_none_ahead : (scenario : ScenarioParts) (s : RunState) (m : Message) → is_settled scenario s m ≡ true → (i : ℕ) → IsCorrect scenario s i
-    → (p : Protocol) → IsProtocol p → p.ahead scenario m i (history i s) ≡ false
+    → (p : Protocol) → IsProtocol p → p.ahead (scenario_at scenario s i) m i (history i s) ≡ false
 settled_none_ahead scenario s m h i correct p is =
-    let ahead : ℕ → Bool = λ k. is_ahead_at scenario m k (history k s) in
+    let ahead : ℕ → Bool = λ k. is_ahead_at (scenario_at scenario s k) m k (history k s) in
     let test : ℕ → Bool = λ k. runs (node_at s.nodes k) && ahead k in
     let none : list_any test (range_with_len 0 scenario.params.nodes) ≡ false = (parts scenario s m h).none_ahead in
     let at : get_or (range_with_len 0 scenario.params.nodes) i 0 ≡ i = get_or-range_with_len 0 scenario.params.nodes i 0 correct.there ∙ omega arith in
-    false_from_ne_true (p.ahead scenario m i (history i s)) (λ yes'.
+    false_from_ne_true (p.ahead (scenario_at scenario s i) m i (history i s)) (λ yes'.
     let here : ahead i ≡ true =
-    any-from_Among (λ q. q.ahead scenario m i (history i s)) protocols
-    (Among-weaker (λ q. q ≡ p) (λ q. q.ahead scenario m i (history i s) ≡ true) (λ q e. ap (λ (r : Protocol). r.ahead scenario m i (history i s)) e ∙ yes') protocols is) in
+    any-from_Among (λ q. q.ahead (scenario_at scenario s i) m i (history i s)) protocols
+    (Among-weaker (λ q. q ≡ p) (λ q. q.ahead (scenario_at scenario s i) m i (history i s) ≡ true) (λ q e. ap (λ (r : Protocol). r.ahead (scenario_at scenario s i) m i (history i s)) e ∙ yes') protocols is) in
     both_ways (list_any test (range_with_len 0 scenario.params.nodes)) none
     (list_any_at test (range_with_len 0 scenario.params.nodes) i 0
     (subst (λ n. i < n) (sym (length-range_with_len 0 scenario.params.nodes)) correct.there)

@@ -1,5 +1,5 @@
 -- Where data frames come from: each one that waits or was carried is that of a message, and its origin sent it first.
-use Rattle.std.specs.Prelude.{◌≡◌, ℕ, suc, ◌≤◌, Bool, true, false, List, ◌∷◌, Some, length, Contains, ◌⊎◌, refl}
+use Rattle.std.specs.Prelude.{◌≡◌, ℕ, suc, ◌≤◌, Bool, true, false, List, ◌∷◌, Some, length, Contains, ◌⊎◌}
 use Rattle.cany_base.specs.Limits.{most_nodes}
 use Rattle.std.specs.List.{AllByRecursion}
 use Rattle.std.proofs.Common.{sym, ap, ◌∙◌, inl, inr, arith}
@@ -17,7 +17,7 @@ use Rattle.cany_model.specs.Promises.Safe.{WasSent}
 use Rattle.cany_model.specs.Rules.Messages.{Message, messages_of, data_frame}
 use Rattle.cany_model.specs.Bus.Run.{run}
 use Rattle.cany_model.specs.Bus.State.{RunState}
-use Rattle.cany_model.specs.Rules.Turn.{turn_effects}
+use Rattle.cany_model.specs.Rules.Turn.{scenario_at, turn_effects}
 use Rattle.cany_model.proofs.Among.{Among, Among-weaker, Contains-cons, Contains-head, Contains-from_Among}
 use Rattle.cany_model.proofs.Bus.Carried.{Has}
 use Rattle.cany_model.proofs.Bus.FrameInvariants.{HoldsOfFrames, IsKeptByFrames, holds_of_frames, slot_of_note, turn_note}
@@ -137,12 +137,14 @@ may_hold_got scenario s i f o may h got carries =
     note = turn_note scenario s i f may (o.unread i) (Among-weaker (λ n. n ≡ Got f) (Has f) (λ n e. inl e) (next_notice s i ∷ history i s) got)
 
 may_hold_asked : (scenario : ScenarioParts) (s : RunState) (i : ℕ) → IsOrderly scenario.params.nodes s → MayTurn s i → IsSourced scenario s
-    → AllByRecursion (AsksOnly (MayHold scenario s.trace i)) (turn_effects scenario i (next_notice s i ∷ history i s))
-may_hold_asked scenario s i o may h = turn_only (MayHold scenario s.trace i) scenario i (next_notice s i ∷ history i s) (λ f. by_reason f)
+    → AllByRecursion (AsksOnly (MayHold scenario s.trace i)) (turn_effects (scenario_at scenario s i) i (next_notice s i ∷ history i s))
+may_hold_asked scenario s i o may h =
+    turn_only (MayHold scenario s.trace i) (scenario_at scenario s i) i (next_notice s i ∷ history i s) (λ f. by_reason f)
   where
-    by_reason : (f : FrameParts) → MayAsk scenario i (next_notice s i ∷ history i s) f → MayHold scenario s.trace i f
+    by_reason : (f : FrameParts) → MayAsk (scenario_at scenario s i) i (next_notice s i ∷ history i s) f → MayHold scenario s.trace i f
     by_reason f (relays relayed got) = may_hold_got scenario s i f o may h got
-    by_reason f (originates m is origin slot frame) = λ carries. record { message = m; stands = Contains-from_Among (messages_of scenario.sends) m is; is = frame; why = inl origin }
+    by_reason f (originates m is origin slot late frame) = λ carries.
+        record { message = m; stands = Contains-from_Among (messages_of scenario.sends) m is; is = frame; why = inl origin }
     by_reason f (confirms g sent rel own frame) = λ carries. absurd (false≢true (ap (λ (x : FrameParts). carries_data x.class) frame ∙ carries))
 
 -- ---- every run

@@ -26,11 +26,12 @@ use Rattle.cany_model.specs.Rules.Eager.{eager_effects}
 use Rattle.cany_model.specs.Rules.Edcan.{edcan_at, edcan_effects}
 use Rattle.cany_model.specs.Rules.Effect.{waiting_after, entered}
 use Rattle.cany_model.specs.Bus.Frames.{same_class, same_identity, same_frame, is_before}
-use Rattle.cany_model.specs.Bus.History.{history, copies, has_own}
+use Rattle.cany_model.specs.Bus.History.{is_hidden, as_seen, history, copies, has_own}
 use Rattle.cany_model.specs.Promises.Hypothesis.{break_at, first_break, count_together}
 use Rattle.cany_model.specs.Rules.Log.{log, log_from}
 use Rattle.cany_model.specs.Rules.Messages.{messages_after, messages_of}
 use Rattle.cany_model.specs.Rules.Relcan.{fell_back, relcan_at, timer_effects, relcan_effects}
+use Rattle.cany_model.specs.Bus.Restart.{names_restart, after_entries, nodes_after_entries, after_restarts}
 use Rattle.cany_model.specs.Bus.RoundRobin.{round, rounds}
 use Rattle.cany_model.specs.Bus.Run.{first_lagging, reply, is_done, is_legal_from, has_ended, after_turn, proceed, after_step, run_from, run}
 use Rattle.cany_model.specs.Promises.Settled.{is_settled}
@@ -56,7 +57,7 @@ unfoldable pub frame_rule : Class → ℕ → ℕ → ℕ → Verdict → ℕ �
 frame_rule class number node nth verdict stop = record { place = FrameNth class number node nth; verdict = verdict; stop = set stop }
 
 unfoldable pub scenario : Parameters → List SendAsk → List Rule → ScenarioParts
-scenario p sends rules = record { params = p; members = set 0; sends = sends; rules = rules; joins = []; leaves = []; journal = None }
+scenario p sends rules = record { params = p; members = set 0; sends = sends; rules = rules; joins = []; leaves = []; restarts = []; from = 0; journal = None }
 
 -- a journal in its alphabet: a dot is a slot, and a digit or a letter is the turn of a node
 abbrev pub step_of : ℕ → Step
@@ -118,7 +119,7 @@ node_report sc s i = record { stopped = (node_at s.nodes i).stopped; read = read
 
 -- that of a scenario by a journal; what computes it is opened here, once for all rows
 unfoldable pub report : ScenarioParts → List Step → RunReport
-unfolding shown has bits_where those_where same_class same_identity same_frame is_before messages_after node_at put_in_order least_frame winner script share_of after_share slot_note_of node_after nodes_after after_slot history copies has_own waiting_after entered eager_effects delivery_effects edcan_at edcan_effects fell_back relcan_at timer_effects relcan_effects send_effects turn_effects has_asked log_from first_lagging reply is_legal_from after_turn proceed after_step run_from round rounds break_at first_break count_together is_settled
+unfolding shown has bits_where those_where same_class same_identity same_frame is_before messages_after node_at put_in_order least_frame winner script share_of after_share slot_note_of node_after nodes_after after_slot names_restart after_entries nodes_after_entries after_restarts is_hidden as_seen history copies has_own waiting_after entered eager_effects delivery_effects edcan_at edcan_effects fell_back relcan_at timer_effects relcan_effects send_effects turn_effects has_asked log_from first_lagging reply is_legal_from after_turn proceed after_step run_from round rounds break_at first_break count_together is_settled
 report sc journal =
     let s = run sc journal in
     record {

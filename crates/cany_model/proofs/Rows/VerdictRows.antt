@@ -1,7 +1,7 @@
 -- Worked rows of the verdict table and of the error counters.
 use Rattle.std.specs.Prelude.{ℕ, zero, suc, ◌≡◌, ◌+◌, ◌<◌, true, List, [], ◌∷◌, Option, Some, None, refl, map, codes}
 use Rattle.std.specs.List.{range_with_len}
-use Rattle.std.proofs.Common.{arith, inl, lit<}
+use Rattle.std.proofs.Common.{arith, inl, lit<, lit≤}
 use Rattle.cany_base.specs.declared.frame.Class.TheVariants as class
 use Rattle.cany_base.specs.declared.frame.Format.TheVariants.{One}
 use Rattle.cany_base.specs.declared.message.Service.TheVariants as service
@@ -12,9 +12,9 @@ use Rattle.cany_model.specs.declared.breaks.BreakKind.TheVariants as kind
 use Rattle.cany_model.specs.Rules.Messages.{Message}
 use Rattle.cany_model.specs.Bus.RoundRobin.{round_robin}
 use Rattle.cany_model.specs.Bus.Run.{run}
-use Rattle.cany_model.specs.Promises.Safe.{IsAgreedOn}
+use Rattle.cany_model.specs.Promises.Safe.{IsAgreedOn, first_carried}
 use Rattle.cany_model.specs.Bus.Slot.{script, after_slot}
-use Rattle.cany_model.specs.Bus.State.{NodeState}
+use Rattle.cany_model.specs.Bus.State.{NodeState, original}
 use Rattle.cany_model.proofs.Rows.RowWords.{carries, delivered, ed, first_frame, frame_rule, idle, insides, one_message, report, row, scenario, send, set, slot_rule, steps, three}
 
 not-below-zero : (k : ℕ) → k < 0 → ⊥
@@ -92,9 +92,10 @@ agreement_is_refuted :
     (let sc = scenario (three 3 1 2) one_message (slot_rule 1 (Silent (set 4)) 2 ∷ []) in
     let m : Message = record { slot = 0; origin = 0; seq = 0; service = service.Ed; payload = 1 ∷ [] } in
     IsAgreedOn sc (run sc (steps (codes ".012.02.02"))) m → ⊥)
-unfolding row
+unfolding row first_carried
 agreement_is_refuted agreed =
-    let missing = agreed refl 0 (record { there = lit< tt; running = refl }) (inl refl) 2 (record { there = lit< tt; running = refl }) in
+    let missing = agreed refl 0 (record { correct = record { there = lit< tt; running = refl }; took_part = lit≤ tt }) (inl refl)
+    2 (record { correct = record { there = lit< tt; running = refl }; took_part = lit≤ tt }) in
     not-below-zero missing.stands.0 missing.stands.1
 
 -- a receiver that stops in the slot accepted the frame, and reads nothing of it
@@ -130,10 +131,10 @@ idle_slot_stops = refl
 -- A slot at the limits of the counters: node 0 sends, and nodes 1 and 2 reject. Only above 127 a node stops, and node 3, which
 -- accepts, gets below again.
 unfoldable counting : ℕ → ℕ → List FrameParts → NodeState
-counting transmit receive waiting = record { unread = 0; waiting = waiting; transmit = transmit; receive = receive; stopped = None }
+counting transmit receive waiting = record { present = original; ended = []; unread = 0; waiting = waiting; transmit = transmit; receive = receive; stopped = None }
 
 unfoldable counted : ℕ → ℕ → List FrameParts → Option ℕ → NodeState
-counted transmit receive waiting stopped = record { unread = 1; waiting = waiting; transmit = transmit; receive = receive; stopped = stopped }
+counted transmit receive waiting stopped = record { present = original; ended = []; unread = 1; waiting = waiting; transmit = transmit; receive = receive; stopped = stopped }
 
 stops_above_127 :
     (after_slot (script (slot_rule 0 (Partial (set 6)) 0 ∷ []))

@@ -1,7 +1,7 @@
 -- Delivery at the first notice that brings a data frame: what it enters, and that no key is entered twice.
-use Rattle.std.specs.Prelude.{◌≡◌, ℕ, suc, ◌+◌, ◌≤◌, ◌==◌, ◌&&◌, ◌||◌, Bool, true, false, not, cond, if◌then◌else◌, List, [], ◌∷◌, ◌++◌, length, count_by, refl}
+use Rattle.std.specs.Prelude.{◌≡◌, ℕ, ◌+◌, ◌≤◌, ◌==◌, ◌&&◌, ◌||◌, Bool, true, false, not, cond, if◌then◌else◌, List, [], ◌∷◌, ◌++◌, length, count_by, refl}
 use Rattle.std.specs.List.{AllByRecursion, list_any}
-use Rattle.std.proofs.Common.{sym, ap, ◌∙◌, subst, inl, inr, arith, append-nil, eqb-true}
+use Rattle.std.proofs.Common.{sym, ap, ◌∙◌, inl, inr, arith, eqb-true}
 use Rattle.std.proofs.lemmas.Bool.{and_parts, and_from, cases_Bool, cond_both, not-true, not_from_false}
 use Rattle.std.proofs.lemmas.List.Sums.{sum_by-append}
 use Rattle.cany_base.specs.declared.log_entry.LogEntry.{LogEntry}
@@ -18,7 +18,7 @@ use Rattle.cany_model.specs.Rules.Effect.{Effect, Ask, Withdraw, Enter, entered}
 use Rattle.cany_model.specs.Rules.Messages.{data_of}
 use Rattle.cany_model.specs.Rules.Protocol.{Protocol}
 use Rattle.cany_model.proofs.Among.{Among, Among-append_left, Among-append_right, Among-from_any}
-use Rattle.cany_model.proofs.Bus.Carried.{Has, Brought, brings-true}
+use Rattle.cany_model.proofs.Bus.Carried.{Has, brings-true}
 use Rattle.cany_model.proofs.Bus.Identities.{same_class-true, same_class_self}
 use Rattle.cany_model.proofs.Rules.ProtocolFacts.{IsFounded, log_by}
 

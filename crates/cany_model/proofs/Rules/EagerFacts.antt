@@ -7,7 +7,7 @@ use Rattle.cany_base.specs.declared.notice.NoticeKind.TheVariants.{Got}
 use Rattle.cany_base.specs.Frame.{FrameParts}
 use Rattle.cany_base.specs.Scenario.{ScenarioParts}
 use Rattle.cany_model.specs.Rules.Eager.{has_enough, is_first_copy, eager_effects}
-use Rattle.cany_model.specs.Rules.Effect.{Effect, Ask, Withdraw}
+use Rattle.cany_model.specs.Rules.Effect.{Effect, Ask}
 use Rattle.cany_model.specs.Rules.Protocol.{Protocol}
 use Rattle.cany_model.specs.Bus.Frames.{Identity, identity_of}
 use Rattle.cany_model.specs.Bus.History.{copies, has_own}

@@ -1,24 +1,24 @@
 -- What the rules of EDCAN do in a turn.
-use Rattle.std.proofs.Common.{◌≡◌, ℕ, ◌+◌, ◌<◌, ◌⊎◌, inl, inr, Bool, true, if◌then◌else◌, List, [], ◌∷◌, ◌++◌, refl, ap, sym, ◌∙◌, append-nil}
+use Rattle.std.proofs.Common.{◌≡◌, ℕ, ◌<◌, ◌⊎◌, inl, inr, true, if◌then◌else◌, List, [], ◌∷◌, refl, ap, sym, ◌∙◌, append-nil}
 use Rattle.std.specs.List.{AllByRecursion}
 use Rattle.std.proofs.lemmas.Bool.{false≢true, cond_both}
 use Rattle.cany_base.specs.declared.frame.Class.TheVariants as class
 use Rattle.cany_base.specs.declared.message.Service.TheVariants.{Ed}
 use Rattle.cany_base.specs.declared.notice.NoticeKind.{NoticeKind}
 use Rattle.cany_base.specs.declared.notice.NoticeKind.TheVariants.{Idle, Got, Sent, Bad}
-use Rattle.cany_base.specs.Frame.{FrameParts}
 use Rattle.cany_base.specs.Scenario.{ScenarioParts}
 use Rattle.cany_model.specs.Bus.Frames.{Identity, identity_of, same_class}
 use Rattle.cany_model.specs.Bus.History.{copies, has_own, is_got}
 use Rattle.cany_model.specs.Rules.Delivery.{delivery_effects}
 use Rattle.cany_model.specs.Rules.Eager.{eager_effects}
 use Rattle.cany_model.specs.Rules.Edcan.{edcan, edcan_at, edcan_effects}
-use Rattle.cany_model.specs.Rules.Effect.{Effect, entered}
+use Rattle.cany_model.specs.Rules.Effect.{Effect, Ask, Withdraw, Enter, entered}
 use Rattle.cany_model.specs.Rules.Messages.{is_service}
-use Rattle.cany_model.proofs.Among.{Among, Among-append_right, Each-append}
+use Rattle.cany_model.proofs.Among.{Among, Among-append_right, Among-gives, Among-with, Each-append}
 use Rattle.cany_model.proofs.Bus.Carried.{is_got-true}
 use Rattle.cany_model.proofs.Bus.Identities.{same_class-true, same_class_self}
 use Rattle.cany_model.proofs.Bus.Waits.{Asks}
+use Rattle.cany_model.proofs.Rules.Begun.{AreIdle}
 use Rattle.cany_model.proofs.Rules.DeliveryFacts.{DeliversAtOnce, delivers_once, delivery_enters, delivery_founded}
 use Rattle.cany_model.proofs.Rules.EagerFacts.{eager_asks, eager_enters, eager_founded}
 use Rattle.cany_model.proofs.Rules.ProtocolFacts.{IsFounded, IsLawful, is_diffused}
@@ -54,9 +54,9 @@ edcan_delivers scenario i (Sent f) before =
     ∙ delivery_enters Ed i f (Sent f) before [] tt
 
 pub edcan_is_lawful : IsLawful edcan
-unfolding edcan_effects
+unfolding edcan_effects edcan_at
 edcan_is_lawful = record {
-  idle = λ scenario i. refl;
+  muted = λ scenario i past begun. mute scenario i past begun.idle;
   founded = λ scenario i past. each scenario i past;
   ahead_serves = λ scenario m i past h. absurd (false≢true h);
   once = delivers_once edcan Ed edcan_delivers;
@@ -65,6 +65,24 @@ edcan_is_lawful = record {
     each : (scenario : ScenarioParts) (i : ℕ) (past : List NoticeKind) → AllByRecursion (IsFounded scenario edcan i past) (edcan_effects scenario i past)
     each scenario i [] = tt
     each scenario i (e ∷ past) = edcan_founded scenario i e past
+
+    mute : (scenario : ScenarioParts) (i : ℕ) (past : List NoticeKind) → AreIdle past → edcan_effects scenario i past ≡ []
+    mute scenario i [] idle = refl
+    mute scenario i (e ∷ past) idle = rw idle.0 refl
+
+ask_class : (scenario : ScenarioParts) (i : ℕ) (past : List NoticeKind) (x : Identity) (e : Effect) → Asks x e → IsFounded scenario edcan i past e
+    → x.class ≡ class.Ed
+ask_class scenario i past x (Ask f) h k = ap (λ (y : Identity). y.class) h ∙ same_class-true f.class class.Ed k.1
+ask_class scenario i past x (Withdraw y) h k = absurd h
+ask_class scenario i past x (Enter entry) h k = absurd h
+
+-- it asks for frames of its own class alone
+pub edcan_asks : (scenario : ScenarioParts) (i : ℕ) (x : Identity) (past : List NoticeKind) → Among (Asks x) (edcan_effects scenario i past)
+    → x.class ≡ class.Ed
+edcan_asks scenario i x past h =
+    Among-gives (λ e. Asks x e × IsFounded scenario edcan i past e) (x.class ≡ class.Ed) (λ e both. ask_class scenario i past x e both.0 both.1)
+    (edcan_effects scenario i past)
+    (Among-with (Asks x) (IsFounded scenario edcan i past) (edcan_effects scenario i past) (edcan_is_lawful.founded scenario i past) h)
 
 -- a data frame is asked for at the first copy, unless the copies are enough already or the node has sent it
 pub edcan_relays : (scenario : ScenarioParts) (i : ℕ) (x : Identity) (e : NoticeKind) (past : List NoticeKind) → x.class ≡ class.Ed → is_got x e ≡ true

@@ -1,5 +1,5 @@
 -- What is proved of each protocol. Proofs about runs see a turn through these facts and the list of protocols alone.
-use Rattle.std.proofs.Common.{◌≡◌, ℕ, suc, ◌<◌, ◌≤◌, ◌⊎◌, inl, inr, Bool, true, false, List, [], ◌∷◌, ◌++◌, length, count_by, refl, ap, sym, ◌∙◌}
+use Rattle.std.proofs.Common.{◌≡◌, ℕ, suc, ◌<◌, ◌≤◌, ◌⊎◌, inl, inr, Bool, true, false, List, [], ◌∷◌, ◌++◌, length, count_by, refl, ap, sym, ◌∙◌, arith}
 use Rattle.std.specs.List.{AllByRecursion}
 use Rattle.cany_base.specs.declared.frame.Class.{Class}
 use Rattle.cany_base.specs.declared.frame.Class.TheVariants as class
@@ -7,6 +7,7 @@ use Rattle.cany_base.specs.declared.log_entry.LogEntry.{LogEntry}
 use Rattle.cany_base.specs.declared.log_entry.LogEntry.TheVariants.{Deliver, Failed, View}
 use Rattle.cany_base.specs.declared.message.MsgKey.{MsgKey}
 use Rattle.cany_base.specs.declared.message.Service.{Service}
+use Rattle.cany_base.specs.declared.message.Service.TheVariants.{Ed, Rel, Tot}
 use Rattle.cany_base.specs.declared.notice.NoticeKind.{NoticeKind}
 use Rattle.cany_base.specs.declared.notice.NoticeKind.TheVariants.{Got, Sent}
 use Rattle.cany_base.specs.Frame.{FrameParts, data_class}
@@ -15,13 +16,14 @@ use Rattle.cany_model.specs.Bus.Frames.{Identity, identity_of}
 use Rattle.cany_model.specs.Bus.History.{copies, is_got}
 use Rattle.cany_model.specs.Promises.Safe.{delivers_key}
 use Rattle.cany_model.specs.Rules.Effect.{Effect, Ask, Withdraw, Enter, entered}
-use Rattle.cany_model.specs.Rules.Messages.{Message, messages_of, data_frame}
+use Rattle.cany_model.specs.Rules.Messages.{Message, messages_of, data_frame, data_id}
 use Rattle.cany_model.specs.Rules.Protocol.{Protocol}
 use Rattle.cany_model.specs.Rules.Relcan.{confirm_frame}
 use Rattle.cany_model.proofs.Among.{Among, Among-weaker, count-from_Among}
 use Rattle.cany_model.proofs.Bus.Carried.{Has, is_got-from}
 use Rattle.cany_model.proofs.Bus.Waits.{Asks, Withdraws, AsksOnly}
-use Rattle.cany_model.proofs.Rules.MessageKeys.{IsOneOf}
+use Rattle.cany_model.proofs.Rules.Begun.{IsBegun}
+use Rattle.cany_model.proofs.Rules.MessageKeys.{IsOneOf, same_message}
 
 -- ---- one effect
 
@@ -42,9 +44,9 @@ is_relayed class.Ed = true
 pub data MayAsk (scenario : ScenarioParts) (i : ℕ) (past : List NoticeKind) (f : FrameParts) : Type 0 where
   -- it has got the frame, which is one that is relayed
   relays : is_relayed f.class ≡ true → Among (λ n. n ≡ Got f) past → MayAsk scenario i past f
-  -- the frame carries a message of its own, whose slot it has read
-  originates : (m : Message) → IsOneOf (messages_of scenario.sends) m → m.origin ≡ i → m.slot < length past → data_frame m ≡ f
-      → MayAsk scenario i past f
+  -- the frame carries a message of its own, whose slot it has read and is one whose scripted asks are made
+  originates : (m : Message) → IsOneOf (messages_of scenario.sends) m → m.origin ≡ i → m.slot < length past → scenario.from ≤ m.slot
+      → data_frame m ≡ f → MayAsk scenario i past f
   -- the frame confirms a message of its own that it has sent
   confirms : (g : FrameParts) → Among (λ n. n ≡ Sent g) past → g.class ≡ class.Rel → g.node ≡ i → confirm_frame g ≡ f
       → MayAsk scenario i past f
@@ -110,8 +112,8 @@ log_by p scenario i [] = []
 log_by p scenario i (notice ∷ before) = log_by p scenario i before ++ entered (p.effects scenario i (notice ∷ before))
 
 pub record IsLawful (p : Protocol) : Type 0 where
-  -- it does nothing without a notice
-  pub idle : (scenario : ScenarioParts) (i : ℕ) → p.effects scenario i [] ≡ []
+  -- it does nothing without a notice, nor in a turn before the first slot whose scripted asks are made if all that was read is idle
+  pub muted : (scenario : ScenarioParts) (i : ℕ) (past : List NoticeKind) → IsBegun scenario past → p.effects scenario i past ≡ []
   -- each effect has its reason
   pub founded : (scenario : ScenarioParts) (i : ℕ) (past : List NoticeKind) → AllByRecursion (IsFounded scenario p i past) (p.effects scenario i past)
   -- what it has ahead is of a message that it delivers
@@ -121,14 +123,38 @@ pub record IsLawful (p : Protocol) : Type 0 where
 
 -- ---- what follows of an effect
 
+got_copies : (past : List NoticeKind) (x : Identity) (f : FrameParts) → x ≡ identity_of f → Among (λ n. n ≡ Got f) past → 0 < copies x past
+unfolding copies
+got_copies past x f same got =
+    count-from_Among (is_got x) past (Among-weaker (λ n. n ≡ Got f) (λ n. is_got x n ≡ true) (λ n is. is_got-from x f n is same) past got)
+
 -- a frame is asked for because a copy was read, or by the node that it names
 pub asked_cause : (scenario : ScenarioParts) (i : ℕ) (past : List NoticeKind) (x : Identity) (f : FrameParts) → x ≡ identity_of f → MayAsk scenario i past f
     → (x.node ≡ i) ⊎ (0 < copies x past)
-unfolding copies
-asked_cause scenario i past x f same (relays relayed got) =
-    inr (count-from_Among (is_got x) past (Among-weaker (λ n. n ≡ Got f) (λ n. is_got x n ≡ true) (λ n is. is_got-from x f n is same) past got))
-asked_cause scenario i past x f same (originates m is origin slot frame) = inl (ap (λ (y : Identity). y.node) same ∙ sym (ap (λ (g : FrameParts). g.node) frame) ∙ origin)
+asked_cause scenario i past x f same (relays relayed got) = inr (got_copies past x f same got)
+asked_cause scenario i past x f same (originates m is origin slot late frame) = inl (ap (λ (y : Identity). y.node) same ∙ sym (ap (λ (g : FrameParts). g.node) frame) ∙ origin)
 asked_cause scenario i past x f same (confirms g sent rel own frame) = inl (ap (λ (y : Identity). y.node) same ∙ sym (ap (λ (g : FrameParts). g.node) frame) ∙ own)
+
+-- the origin may send its message: it has read the slot, which is one whose scripted asks are made
+abbrev pub MayStart : ScenarioParts → Message → ℕ → List NoticeKind → Type 0
+MayStart scenario m i past = (m.origin ≡ i) × (m.slot < length past) × (scenario.from ≤ m.slot)
+
+pub data_confirms_none : (by : Service) → data_class by ≡ class.Confirm → ⊥
+data_confirms_none Ed e = cc
+data_confirms_none Rel e = cc
+data_confirms_none Tot e = cc
+
+-- the data frame of a message is asked for because a copy was read, or by its origin
+pub asked_start : (scenario : ScenarioParts) (i : ℕ) (past : List NoticeKind) (m : Message) → IsOneOf (messages_of scenario.sends) m → (f : FrameParts)
+    → data_id m ≡ identity_of f → MayAsk scenario i past f → MayStart scenario m i past ⊎ (0 < copies (data_id m) past)
+asked_start scenario i past m is f same (relays relayed got) = inr (got_copies past (data_id m) f same got)
+asked_start scenario i past m is f same (originates k stands origin slot late frame) =
+    let carried : data_id m ≡ data_id k = same ∙ sym (ap identity_of frame) in
+    let one : m ≡ k = same_message scenario.sends m k is stands (ap (λ (x : Identity). x.node) carried) (ap (λ (x : Identity). x.number) carried) in
+    let at : m.slot ≡ k.slot = ap (λ (n : Message). n.slot) one in
+    inl (ap (λ (n : Message). n.origin) one ∙ origin, omega (arith, at, slot), omega (arith, at, late))
+asked_start scenario i past m is f same (confirms g sent rel own frame) =
+    absurd (data_confirms_none m.service (ap (λ (x : Identity). x.class) same ∙ sym (ap (λ (h : FrameParts). h.class) frame)))
 
 -- an effect that asks, withdraws or enters among effects that have their reason
 pub ask_of : (scenario : ScenarioParts) (p : Protocol) (i : ℕ) (past : List NoticeKind) (x : Identity) (e : Effect) → Asks x e → IsFounded scenario p i past e

@@ -1,5 +1,5 @@
 -- The protocols of a turn, each with what is proved of it: one line for each in each list.
-use Rattle.std.proofs.Common.{◌≡◌, ℕ, ◌≤◌, inl, inr, Bool, true, false, List, [], ◌∷◌, count_by, refl, arith}
+use Rattle.std.proofs.Common.{◌≡◌, ◌≤◌, inl, inr, count_by, refl, arith}
 use Rattle.std.specs.List.{AllByRecursion}
 use Rattle.cany_base.specs.declared.message.Service.{Service}
 use Rattle.cany_base.specs.declared.message.Service.TheVariants.{Ed, Rel, Tot}

@@ -1,21 +1,20 @@
 -- What the scripted sends of a turn ask for.
-use Rattle.std.proofs.Common.{◌≡◌, ℕ, suc, ◌+◌, ◌<◌, ◌≤◌, ◌==◌, ◌&&◌, ◌||◌, inl, inr, Bool, true, false, nat_lt, List, [], ◌∷◌, ◌++◌, map, filter, length, refl, ap, sym, ◌∙◌, arith}
-use Rattle.std.specs.List.{AllByRecursion, list_any}
-use Rattle.std.proofs.lemmas.Bool.{false≢true, and_parts, and_from, cases_Bool, cases_lt, cond_both, eq-eqb, eqb-true, false_from_ne_true, lt-ltb, le-ltb, or_cases, or_left, or_right}
-use Rattle.cany_base.specs.declared.message.MsgKey.{MsgKey}
+use Rattle.std.proofs.Common.{◌≡◌, ℕ, ◌≤◌, ◌==◌, ◌&&◌, inl, inr, true, nat_lt, List, [], ◌∷◌, map, filter, length, refl, ap, sym, ◌∙◌, subst, arith}
+use Rattle.std.specs.List.{AllByRecursion}
+use Rattle.std.proofs.lemmas.Bool.{false≢true, and_parts, and_from, cond_both, eq-eqb, eqb-true, lt-ltb, le-ltb, ltb-false}
 use Rattle.cany_base.specs.declared.message.Service.{Service}
 use Rattle.cany_base.specs.declared.message.Service.TheVariants.{Ed, Rel, Tot}
 use Rattle.cany_base.specs.declared.notice.NoticeKind.{NoticeKind}
-use Rattle.cany_base.specs.Frame.{FrameParts, data_class}
+use Rattle.cany_base.specs.Frame.{data_class}
 use Rattle.cany_base.specs.Scenario.{ScenarioParts}
-use Rattle.cany_model.specs.Bus.Frames.{identity_of, same_class}
-use Rattle.cany_model.specs.Rules.Effect.{Effect, Ask, entered}
-use Rattle.cany_model.specs.Rules.Messages.{Message, messages_of, data_frame}
-use Rattle.cany_model.specs.Rules.Sends.{is_sent_in, is_sent_at_once, scripted_sends, send_effects}
+use Rattle.cany_model.specs.Bus.Frames.{Identity, identity_of, same_class}
+use Rattle.cany_model.specs.Rules.Effect.{Ask, entered}
+use Rattle.cany_model.specs.Rules.Messages.{Message, messages_of, data_frame, data_id}
+use Rattle.cany_model.specs.Rules.Sends.{is_sent_in, is_sent_at_once, scripted_sends, send_effects, sendable}
 use Rattle.cany_model.proofs.Among.{Among}
 use Rattle.cany_model.proofs.Bus.Waits.{Asks}
-use Rattle.cany_model.proofs.Rules.MessageKeys.{IsOneOf}
-use Rattle.cany_model.proofs.Rules.ProtocolFacts.{IsFounded, IsLawful, log_by, originates}
+use Rattle.cany_model.proofs.Rules.MessageKeys.{IsOneOf, same_message}
+use Rattle.cany_model.proofs.Rules.ProtocolFacts.{IsFounded, IsLawful, MayStart, log_by, originates}
 
 -- ---- each effect is founded
 
@@ -36,8 +35,18 @@ sends_named Ed h = refl
 sends_named Rel h = refl
 sends_named Tot h = absurd (false≢true h)
 
+-- the messages that may be sent in a slot are those of the scenario, from the first slot on whose scripted asks are made
+pub sendable_one : (scenario : ScenarioParts) (slot : ℕ) (m : Message) → IsOneOf (sendable scenario slot) m
+    → IsOneOf (messages_of scenario.sends) m × (scenario.from ≤ slot)
+sendable_one scenario slot m h =
+    cond_both (nat_lt slot scenario.from) [] (messages_of scenario.sends) (λ ms. IsOneOf ms m → IsOneOf (messages_of scenario.sends) m × (scenario.from ≤ slot))
+    (λ _ none. absurd none) (λ late is. (is, ltb-false slot scenario.from late)) h
+
+sendable_late : (scenario : ScenarioParts) (slot : ℕ) → scenario.from ≤ slot → sendable scenario slot ≡ messages_of scenario.sends
+sendable_late scenario slot late = rw (le-ltb slot scenario.from late) refl
+
 sends_founded : (scenario : ScenarioParts) (i : ℕ) (e : NoticeKind) (past : List NoticeKind) (messages : List Message)
-    → ((m : Message) → IsOneOf messages m → IsOneOf (messages_of scenario.sends) m)
+    → ((m : Message) → IsOneOf messages m → IsOneOf (messages_of scenario.sends) m × (scenario.from ≤ length past))
     → AllByRecursion (IsFounded scenario scripted_sends i (e ∷ past)) (map (λ m. Ask (data_frame m)) (filter (is_sent_in i (length past)) messages))
 sends_founded scenario i e past [] are = tt
 sends_founded scenario i e past (m ∷ messages) are =
@@ -46,7 +55,8 @@ sends_founded scenario i e past (m ∷ messages) are =
     (λ kept. AllByRecursion (IsFounded scenario scripted_sends i (e ∷ past)) (map (λ m. Ask (data_frame m)) kept))
     (λ sent.
     let h = is_sent_in-true i (length past) m sent in
-    ((originates m (are m (inl refl)) h.origin (omega (arith, h.at)) refl, sends_named m.service h.at_once), rest))
+    let one = are m (inl refl) in
+    ((originates m one.0 h.origin (omega (arith, h.at)) (omega (arith, h.at, one.1)) refl, sends_named m.service h.at_once), rest))
     (λ _. rest)
 
 asks_enter_none : (messages : List Message) → entered (map (λ m. Ask (data_frame m)) messages) ≡ []
@@ -57,12 +67,12 @@ asks_enter_none (m ∷ messages) = asks_enter_none messages
 sends_log : (scenario : ScenarioParts) (i : ℕ) (past : List NoticeKind) → log_by scripted_sends scenario i past ≡ []
 unfolding send_effects
 sends_log scenario i [] = refl
-sends_log scenario i (e ∷ past) = rw (sends_log scenario i past, asks_enter_none (filter (is_sent_in i (length past)) (messages_of scenario.sends))) refl
+sends_log scenario i (e ∷ past) = rw (sends_log scenario i past, asks_enter_none (filter (is_sent_in i (length past)) (sendable scenario (length past)))) refl
 
 pub sends_are_lawful : IsLawful scripted_sends
 unfolding send_effects
 sends_are_lawful = record {
-  idle = λ scenario i. refl;
+  muted = λ scenario i past begun. mute scenario i past begun.early;
   founded = λ scenario i past. each scenario i past;
   ahead_serves = λ scenario m i past h. absurd (false≢true h);
   once = λ scenario i key past. rw (sends_log scenario i past) (omega arith);
@@ -70,7 +80,11 @@ sends_are_lawful = record {
   where
     each : (scenario : ScenarioParts) (i : ℕ) (past : List NoticeKind) → AllByRecursion (IsFounded scenario scripted_sends i past) (send_effects scenario i past)
     each scenario i [] = tt
-    each scenario i (e ∷ past) = sends_founded scenario i e past (messages_of scenario.sends) (λ m h. h)
+    each scenario i (e ∷ past) = sends_founded scenario i e past (sendable scenario (length past)) (sendable_one scenario (length past))
+
+    mute : (scenario : ScenarioParts) (i : ℕ) (past : List NoticeKind) → length past ≤ scenario.from → send_effects scenario i past ≡ []
+    mute scenario i [] early = refl
+    mute scenario i (e ∷ past) early = rw (lt-ltb (length past) scenario.from (omega (arith, early))) refl
 
 -- ---- the origin asks in its slot
 
@@ -88,11 +102,43 @@ sent_asked i slot m (k ∷ messages) (inr h) sent =
     (λ _. inr (sent_asked i slot m messages h sent))
     (λ _. sent_asked i slot m messages h sent)
 
--- the origin of an EDCAN or RELCAN message asks for its frame in the turn of its slot
+-- the origin of an EDCAN or RELCAN message asks for its frame in the turn of its slot, if this is one whose scripted asks are made
 pub sends_ask : (scenario : ScenarioParts) (i : ℕ) (m : Message) (e : NoticeKind) (past : List NoticeKind) → IsOneOf (messages_of scenario.sends) m
-    → is_sent_at_once m.service ≡ true → m.origin ≡ i → m.slot ≡ length past → Among (Asks (identity_of (data_frame m))) (send_effects scenario i (e ∷ past))
+    → is_sent_at_once m.service ≡ true → m.origin ≡ i → scenario.from ≤ m.slot → m.slot ≡ length past
+    → Among (Asks (identity_of (data_frame m))) (send_effects scenario i (e ∷ past))
 unfolding send_effects
-sends_ask scenario i m e past is at_once origin at =
-    sent_asked i (length past) m (messages_of scenario.sends) is
+sends_ask scenario i m e past is at_once origin late at =
+    sent_asked i (length past) m (sendable scenario (length past))
+    (subst (λ ms. IsOneOf ms m) (sym (sendable_late scenario (length past) (omega (arith, late, at)))) is)
     (and_from (is_sent_at_once m.service && m.origin == i) (m.slot == length past)
     (and_from (is_sent_at_once m.service) (m.origin == i) at_once (eq-eqb m.origin i origin)) (eq-eqb m.slot (length past) at))
+
+-- ---- only the origin asks
+
+-- a send that asks for the data frame of a message is that of the message
+pub sent_of : (scenario : ScenarioParts) (i slot : ℕ) (m : Message) → IsOneOf (messages_of scenario.sends) m → (messages : List Message)
+    → ((k : Message) → IsOneOf messages k → IsOneOf (messages_of scenario.sends) k × (scenario.from ≤ slot))
+    → Among (Asks (data_id m)) (map (λ k. Ask (data_frame k)) (filter (is_sent_in i slot) messages)) → (is_sent_in i slot m ≡ true) × (scenario.from ≤ slot)
+sent_of scenario i slot m is [] are h = absurd h
+sent_of scenario i slot m is (k ∷ messages) are h =
+    cond_both (is_sent_in i slot k) (k ∷ filter (is_sent_in i slot) messages) (filter (is_sent_in i slot) messages)
+    (λ kept. Among (Asks (data_id m)) (map (λ k. Ask (data_frame k)) kept) → (is_sent_in i slot m ≡ true) × (scenario.from ≤ slot))
+    (λ sent a. elim a [
+      | inl e ↦
+          let one = are k (inl refl) in
+          let same : k ≡ m = same_message scenario.sends k m one.0 is (sym (ap (λ (x : Identity). x.node) e)) (sym (ap (λ (x : Identity). x.number) e)) in
+          (ap (is_sent_in i slot) (sym same) ∙ sent, one.1)
+      | inr later ↦ sent_of scenario i slot m is messages (λ n h. are n (inr h)) later
+    ])
+    (λ _ a. sent_of scenario i slot m is messages (λ n h. are n (inr h)) a)
+    h
+
+-- the scripted sends ask for the data frame of a message at its origin alone, which has read the slot
+pub sends_cause : (scenario : ScenarioParts) (i : ℕ) (m : Message) (past : List NoticeKind) → IsOneOf (messages_of scenario.sends) m
+    → Among (Asks (data_id m)) (send_effects scenario i past) → MayStart scenario m i past
+unfolding send_effects
+sends_cause scenario i m [] is h = absurd h
+sends_cause scenario i m (e ∷ past) is h =
+    let sent = sent_of scenario i (length past) m is (sendable scenario (length past)) (sendable_one scenario (length past)) h in
+    let parts = is_sent_in-true i (length past) m sent.0 in
+    (parts.origin, omega (arith, parts.at), omega (arith, parts.at, sent.1))

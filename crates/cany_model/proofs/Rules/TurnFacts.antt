@@ -1,27 +1,28 @@
 -- What a turn does: what one of the protocols does. Proofs about runs see a turn through these facts alone.
-use Rattle.std.proofs.Common.{◌≡◌, ℕ, ◌<◌, ◌⊎◌, inl, inr, true, List, [], ◌∷◌, length, refl, ap, sym, ◌∙◌}
+use Rattle.std.proofs.Common.{◌≡◌, ℕ, ◌<◌, ◌≤◌, ◌⊎◌, inl, inr, true, List, ◌∷◌, length, ap}
 use Rattle.std.specs.List.{AllByRecursion}
 use Rattle.cany_base.specs.declared.frame.Class.TheVariants as class
+use Rattle.cany_base.specs.declared.message.Service.TheVariants.{Rel}
 use Rattle.cany_base.specs.declared.notice.NoticeKind.{NoticeKind}
-use Rattle.cany_base.specs.Frame.{FrameParts}
+use Rattle.cany_base.specs.Frame.{FrameParts, data_class}
 use Rattle.cany_base.specs.Scenario.{ScenarioParts}
 use Rattle.cany_model.specs.Bus.Frames.{Identity, identity_of}
 use Rattle.cany_model.specs.Bus.History.{copies, has_own, is_got}
 use Rattle.cany_model.specs.Rules.Edcan.{edcan}
 use Rattle.cany_model.specs.Rules.Effect.{Effect}
-use Rattle.cany_model.specs.Rules.Messages.{Message, messages_of, data_frame}
+use Rattle.cany_model.specs.Rules.Messages.{Message, messages_of, data_frame, data_id}
 use Rattle.cany_model.specs.Rules.Protocol.{Protocol}
-use Rattle.cany_model.specs.Rules.Relcan.{falls_back, relcan}
+use Rattle.cany_model.specs.Rules.Relcan.{falls_back, fell_back, relcan}
 use Rattle.cany_model.specs.Rules.Sends.{is_sent_at_once, scripted_sends}
 use Rattle.cany_model.specs.Rules.Turn.{protocols, turn_effects}
 use Rattle.cany_model.proofs.Among.{Among, Among-flat_map, Among-from_flat_map, Among-weaker, Among-which, Among-with, Each-flat_map, Each-weaker}
 use Rattle.cany_model.proofs.Bus.Waits.{Asks, Withdraws, AsksOnly}
-use Rattle.cany_model.proofs.Rules.EdcanFacts.{edcan_relays}
+use Rattle.cany_model.proofs.Rules.EdcanFacts.{edcan_asks, edcan_relays}
 use Rattle.cany_model.proofs.Rules.MessageKeys.{IsOneOf}
-use Rattle.cany_model.proofs.Rules.ProtocolFacts.{IsFounded, IsLawful, MayAsk, ask_of, asked_cause, asks_only, is_diffused, withdrawal_of}
+use Rattle.cany_model.proofs.Rules.ProtocolFacts.{IsFounded, IsLawful, MayAsk, MayStart, ask_of, asked_cause, asked_start, asks_only, is_diffused, withdrawal_of}
 use Rattle.cany_model.proofs.Rules.Protocols.{IsProtocol, are_lawful, edcan_is_one, relcan_is_one, sends_are_one}
-use Rattle.cany_model.proofs.Rules.RelcanFacts.{relcan_falls_back}
-use Rattle.cany_model.proofs.Rules.SendFacts.{sends_ask}
+use Rattle.cany_model.proofs.Rules.RelcanFacts.{relcan_asks, relcan_falls_back}
+use Rattle.cany_model.proofs.Rules.SendFacts.{sends_ask, sends_cause}
 
 -- ---- the list
 
@@ -73,6 +74,28 @@ turn_cause scenario i x past h =
     let asked = ask_of scenario w.protocol i past x w.effect w.is w.founded in
     asked_cause scenario i past x asked.0 asked.1 asked.2
 
+-- the data frame of a message because a copy was read, or by its origin, which has read the slot
+pub turn_cause_data : (scenario : ScenarioParts) (i : ℕ) (m : Message) (past : List NoticeKind) → IsOneOf (messages_of scenario.sends) m
+    → Among (Asks (data_id m)) (turn_effects scenario i past) → MayStart scenario m i past ⊎ (0 < copies (data_id m) past)
+turn_cause_data scenario i m past is h =
+    let w = turn_effect (Asks (data_id m)) scenario i past h in
+    let asked = ask_of scenario w.protocol i past (data_id m) w.effect w.is w.founded in
+    asked_start scenario i past m is asked.0 asked.1 asked.2
+
+-- the data frame of a RELCAN message by its origin, which has read the slot, or by a node that falls back
+pub rel_cause : (scenario : ScenarioParts) (i : ℕ) (m : Message) (past : List NoticeKind) → IsOneOf (messages_of scenario.sends) m → m.service ≡ Rel
+    → Among (Asks (data_id m)) (turn_effects scenario i past)
+    → MayStart scenario m i past ⊎ (fell_back scenario.params.confirm i (data_id m) past ≡ true)
+unfolding turn_effects
+rel_cause scenario i m past is rel h =
+    let of : data_class m.service ≡ class.Rel = ap data_class rel in
+    elim (Among-from_flat_map (λ p. p.effects scenario i past) (Asks (data_id m)) protocols h) [
+      | inl ed ↦ let other : data_class m.service ≡ class.Ed = edcan_asks scenario i (data_id m) past ed in absurd (cc)
+      | inr (inl late) ↦ inr (relcan_asks scenario i (data_id m) past of late)
+      | inr (inr (inl sent)) ↦ inl (sends_cause scenario i m past is sent)
+      | inr (inr (inr none)) ↦ absurd none
+    ]
+
 -- each frame that is asked for has what follows from the reason
 pub turn_only : (P : FrameParts → Type 0) (scenario : ScenarioParts) (i : ℕ) (past : List NoticeKind)
     → ((f : FrameParts) → MayAsk scenario i past f → P f) → AllByRecursion (AsksOnly P) (turn_effects scenario i past)
@@ -101,9 +124,9 @@ turn_falls_back scenario i x e past falls = elim (relcan_falls_back scenario i x
   | inr many ↦ inr many
 ]
 
--- the origin of an EDCAN or RELCAN message asks for its frame in the turn of its slot
+-- the origin of an EDCAN or RELCAN message asks for its frame in the turn of its slot, if this is one whose scripted asks are made
 pub turn_sends : (scenario : ScenarioParts) (i : ℕ) (m : Message) (e : NoticeKind) (past : List NoticeKind) → IsOneOf (messages_of scenario.sends) m
-    → is_sent_at_once m.service ≡ true → m.origin ≡ i → m.slot ≡ length past
+    → is_sent_at_once m.service ≡ true → m.origin ≡ i → scenario.from ≤ m.slot → m.slot ≡ length past
     → Among (Asks (identity_of (data_frame m))) (turn_effects scenario i (e ∷ past))
-turn_sends scenario i m e past is at_once origin at =
-    turn_has (Asks (identity_of (data_frame m))) scenario i (e ∷ past) scripted_sends sends_are_one (sends_ask scenario i m e past is at_once origin at)
+turn_sends scenario i m e past is at_once origin late at =
+    turn_has (Asks (identity_of (data_frame m))) scenario i (e ∷ past) scripted_sends sends_are_one (sends_ask scenario i m e past is at_once origin late at)

@@ -195,10 +195,13 @@ scenario_from-legal top s h =
       rules = legal_rules.all;
       joins = All-nil _;
       leaves = All-nil _;
+      restarts = All-nil _;
       few_sends = legal_sends.1;
       few_rules = legal_rules.few;
       few_joins = lit≤ tt;
       few_leaves = lit≤ tt;
+      few_restarts = lit≤ tt;
+      few_of_node = λ node. lit≤ tt;
       places = legal_rules.apart;
     })
 

@@ -1,5 +1,5 @@
 -- Identities of frames, and the order in which frames win arbitration.
-use Rattle.std.specs.Prelude.{ℕ, Bool, ◌==◌, ◌&&◌, nat_lt, if◌then◌else◌, []}
+use Rattle.std.specs.Prelude.{ℕ, Bool, not, ◌==◌, ◌&&◌, nat_lt, if◌then◌else◌, []}
 use Rattle.std.specs.Str.{bytes_eq}
 use Rattle.cany_base.specs.declared.frame.Class.{Class}
 use Rattle.cany_base.specs.Frame.{FrameParts, class_number}
@@ -30,8 +30,10 @@ is_of x f = same_identity x (identity_of f)
 unfoldable pub same_frame : FrameParts → FrameParts → Bool
 same_frame a b = same_identity (identity_of a) (identity_of b) && a.inc == b.inc && bytes_eq a.payload b.payload
 
--- by class, then number, then node: the smaller wins arbitration
+-- by class, then number, then node, then incarnation: the smaller wins arbitration
 unfoldable pub is_before : FrameParts → FrameParts → Bool
 is_before a b =
-    if same_class a.class b.class then (if a.number == b.number then nat_lt a.node b.node else nat_lt a.number b.number)
-    else nat_lt (class_number a.class) (class_number b.class)
+    if not (same_class a.class b.class) then nat_lt (class_number a.class) (class_number b.class)
+    else if not (a.number == b.number) then nat_lt a.number b.number
+    else if not (a.node == b.node) then nat_lt a.node b.node
+    else nat_lt a.inc b.inc

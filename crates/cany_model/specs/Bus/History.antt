@@ -1,5 +1,6 @@
--- What a node has read: for each slot, newest first, what the slot gave it.
-use Rattle.std.specs.Prelude.{ℕ, Bool, false, List, map, drop, count_by}
+-- What a node has read: for each slot below the next one that it has to read, newest first, what it gave the present
+-- incarnation.
+use Rattle.std.specs.Prelude.{ℕ, zero, suc, ◌-◌, ◌==◌, ◌&&◌, Bool, false, not, nat_lt, if◌then◌else◌, List, length, map, drop, count_by, None}
 use Rattle.std.specs.List.{list_any}
 use Rattle.cany_base.specs.declared.notice.NoticeKind.{NoticeKind}
 use Rattle.cany_base.specs.declared.notice.NoticeKind.TheVariants.{Idle, Got, Sent, Bad}
@@ -8,7 +9,7 @@ use Rattle.cany_model.specs.declared.share.Share.{Share}
 use Rattle.cany_model.specs.declared.share.Share.TheVariants as share
 use Rattle.cany_model.specs.Bus.Frames.{Identity, is_of}
 use Rattle.cany_model.specs.Bus.Slot.{share_of}
-use Rattle.cany_model.specs.Bus.State.{RunState, node_at}
+use Rattle.cany_model.specs.Bus.State.{Incarnation, Ended, RunState, node_at}
 
 -- the notice that a share in a slot leads to
 abbrev pub notice_of : Share → NoticeKind
@@ -22,9 +23,34 @@ notice_of share.Errored = Bad
 abbrev pub given : ℕ → SlotNote → NoticeKind
 given i note = notice_of (share_of i note)
 
--- what the slots that node i has read gave it
+-- whether a slot comes before the first one in which an incarnation takes part, so that its notice counts as idle: the one of the
+-- opening takes part in all
+unfoldable pub is_hidden : Incarnation → SlotNote → Bool
+is_hidden inc note = not (inc.number == 0) && nat_lt note.slot inc.from
+
+-- the slot as the incarnation sees it: idle, where it is hidden
+unfoldable pub as_seen : Incarnation → SlotNote → SlotNote
+as_seen inc note = if is_hidden inc note then record note { frame = None } else note
+
+-- the trace as it sees it
+abbrev pub seen : Incarnation → List SlotNote → List SlotNote
+seen inc trace = map (as_seen inc) trace
+
+-- the same, where the number of the incarnation is given apart, so that a node that never restarted gets the very trace, and rows
+-- compute
+abbrev pub trace_for : ℕ → Incarnation → List SlotNote → List SlotNote
+trace_for zero inc trace = trace
+trace_for (suc number) inc trace = seen inc trace
+
+-- for each slot below the next one that node i has to read, what it gave its present incarnation
 unfoldable pub history : ℕ → RunState → List NoticeKind
-history i s = map (given i) (drop (node_at s.nodes i).unread s.trace)
+history i s =
+    let node = node_at s.nodes i in
+    map (given i) (drop node.unread (trace_for node.present.number node.present s.trace))
+
+-- the history that an incarnation of node i had when the next one began
+unfoldable pub ended_history : ℕ → List SlotNote → Ended → List NoticeKind
+ended_history i trace ended = map (given i) (drop (length trace - ended.next) (seen ended.incarnation trace))
 
 abbrev pub is_got : Identity → NoticeKind → Bool
 is_got x Idle = false

@@ -8,9 +8,10 @@ use Rattle.cany_model.specs.declared.reply.StepReply.{StepReply}
 use Rattle.cany_model.specs.declared.reply.StepReply.TheVariants.{Done, Lagging, Over, NothingYet, Stopped, NoNode}
 use Rattle.cany_model.specs.Rules.Effect.{waiting_after}
 use Rattle.cany_model.specs.Bus.History.{history}
+use Rattle.cany_model.specs.Bus.Restart.{after_restarts}
 use Rattle.cany_model.specs.Bus.Slot.{after_slot, script}
 use Rattle.cany_model.specs.Bus.State.{NodeState, RunState, opening, node_at, runs, slots_run, reads}
-use Rattle.cany_model.specs.Rules.Turn.{turn_effects}
+use Rattle.cany_model.specs.Rules.Turn.{effects_for}
 
 -- the least running node with more than lag unread notices, and their number
 unfoldable pub first_lagging : ℕ → ℕ → List NodeState → Option (ℕ × ℕ)
@@ -52,10 +53,11 @@ unfoldable pub after_turn : ScenarioParts → ℕ → RunState → RunState
 after_turn scenario i s =
     let read = having_read i s in
     let node = node_at read.nodes i in
-    with_waiting i read (record node { waiting = waiting_after (turn_effects scenario i (history i read)) node.waiting })
+    let effects = effects_for node.present.number scenario node.present i (history i read) in
+    with_waiting i read (record node { waiting = waiting_after effects node.waiting })
 
 unfoldable pub proceed : ScenarioParts → RunState → Step → RunState
-proceed scenario s step.Slot = after_slot (script scenario.rules) s
+proceed scenario s step.Slot = after_restarts scenario (after_slot (script scenario.rules) s)
 proceed scenario s (step.Turn i) = after_turn scenario i s
 
 abbrev pub is_done : StepReply → Bool

@@ -3,9 +3,24 @@ use Rattle.std.specs.Prelude.{ℕ, ◌-◌, Bool, List, [], Option, Some, None, 
 use Rattle.cany_base.specs.declared.slot_note.SlotNote.{SlotNote}
 use Rattle.cany_base.specs.Frame.{FrameParts}
 
--- one node: how many of the slots that ran it has not read, the frames that its controller waits with, in the order in which they win,
--- its error counters, and the slot of its stop
+-- An incarnation of a node: its number, counted from 0 at the opening; the first slot that gives it a notice; and the first in
+-- which it takes part. The notice of an earlier slot counts as idle, and no scripted ask of one is made.
+pub record Incarnation : Type 0 where
+  pub number : ℕ
+  pub since : ℕ
+  pub from : ℕ
+
+-- an incarnation as it is when it ends: the next slot that it would have read, and the slot of its stop
+pub record Ended : Type 0 where
+  pub incarnation : Incarnation
+  pub next : ℕ
+  pub stopped : Option ℕ
+
+-- one node: its present incarnation and those that have ended, the newest first; how many of the slots that ran it has not read, the
+-- frames that its controller waits with, in the order in which they win, its error counters, and the slot of its stop
 pub record NodeState : Type 0 where
+  pub present : Incarnation
+  pub ended : List Ended
   pub unread : ℕ
   pub waiting : List FrameParts
   pub transmit : ℕ
@@ -17,12 +32,15 @@ pub record RunState : Type 0 where
   pub trace : List SlotNote
   pub nodes : List NodeState
 
+abbrev pub original : Incarnation
+original = record { number = 0; since = 0; from = 0 }
+
 abbrev pub fresh : NodeState
-fresh = record { unread = 0; waiting = []; transmit = 0; receive = 0; stopped = None }
+fresh = record { present = original; ended = []; unread = 0; waiting = []; transmit = 0; receive = 0; stopped = None }
 
 -- what stands where there is no node
 abbrev pub absent : NodeState
-absent = record { unread = 0; waiting = []; transmit = 0; receive = 0; stopped = Some 0 }
+absent = record { present = original; ended = []; unread = 0; waiting = []; transmit = 0; receive = 0; stopped = Some 0 }
 
 abbrev pub opening : ℕ → RunState
 opening nodes = record { trace = []; nodes = replicate nodes fresh }
@@ -37,6 +55,6 @@ runs node = is_none node.stopped
 abbrev pub slots_run : RunState → ℕ
 slots_run s = length s.trace
 
--- how many notices the node has read
+-- the next slot that the node has to read
 abbrev pub reads : RunState → ℕ → ℕ
 reads s i = length s.trace - (node_at s.nodes i).unread

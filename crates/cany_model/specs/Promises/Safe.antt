@@ -1,5 +1,6 @@
 -- What is promised of a run.
-use Rattle.std.specs.Prelude.{◌≡◌, ℕ, ◌==◌, ◌&&◌, ◌≤◌, Bool, true, false, List, Some, Contains, count_by, ◌⊎◌}
+use Rattle.std.specs.Prelude.{◌≡◌, ℕ, ◌==◌, ◌&&◌, ◌≤◌, Bool, true, false, if◌then◌else◌, List, [], ◌∷◌, Option, Some, None, Contains, count_by, ◌⊎◌}
+use Rattle.std.specs.Option.{option_or}
 use Rattle.cany_base.specs.declared.log_entry.LogEntry.{LogEntry}
 use Rattle.cany_base.specs.declared.log_entry.LogEntry.TheVariants.{Deliver, Failed, View}
 use Rattle.cany_base.specs.declared.message.MsgKey.{MsgKey}
@@ -8,8 +9,10 @@ use Rattle.cany_base.specs.declared.slot_note.SlotNote.{SlotNote}
 use Rattle.cany_base.specs.Nodes.{has}
 use Rattle.cany_base.specs.Scenario.{ScenarioParts}
 use Rattle.cany_model.specs.Rules.Log.{log}
-use Rattle.cany_model.specs.Rules.Messages.{Message, messages_of, message_key, data_frame}
-use Rattle.cany_model.specs.Promises.Settled.{IsCorrect, is_settled}
+use Rattle.cany_model.specs.Rules.Messages.{Message, messages_of, message_key, data_frame, data_id}
+use Rattle.cany_model.specs.Promises.Settled.{IsCorrect, IsCorrectFrom, is_settled}
+use Rattle.cany_model.specs.Bus.Frames.{Identity, is_of}
+use Rattle.cany_model.specs.Bus.Slot.{carried}
 use Rattle.cany_model.specs.Bus.State.{RunState}
 
 abbrev pub delivers_key : MsgKey → LogEntry → Bool
@@ -49,12 +52,29 @@ pub record HasDelivered (scenario : ScenarioParts) (s : RunState) (i : ℕ) (m :
   pub stands : Contains (log scenario s i) entry
   pub delivers : is_delivery_of m entry
 
--- A settled message whose origin is correct, or that a correct node delivered, stands in the log of every correct node.
-abbrev pub IsAgreedOn : ScenarioParts → RunState → Message → Type 0
-IsAgreedOn scenario s m =
+-- the slot, if it carried a frame of this identity
+abbrev pub slot_of : Identity → SlotNote → Option ℕ
+slot_of x note = if carried (is_of x) note then Some note.slot else None
+
+-- the first slot that carried a frame of this identity: of slots newest first
+unfoldable pub first_carried : Identity → List SlotNote → Option ℕ
+first_carried x [] = None
+first_carried x (note ∷ before) = option_or (first_carried x before) (slot_of x note)
+
+-- Of a settled message: if a node that takes part since the first slot that carried its data frame is its origin or has
+-- delivered it, it stands in the log of every such node. One whose data frame was never carried stands in the log of no correct
+-- node, and is not settled where its origin takes part since the scripted slot.
+abbrev pub IsAgreedFrom : ScenarioParts → RunState → Message → Option ℕ → Type 0
+IsAgreedFrom scenario s m (Some first) =
     is_settled scenario s m ≡ true
-    → (i : ℕ) → IsCorrect scenario s i → (i ≡ m.origin) ⊎ HasDelivered scenario s i m
-    → (j : ℕ) → IsCorrect scenario s j → HasDelivered scenario s j m
+    → (i : ℕ) → IsCorrectFrom scenario s first i → (i ≡ m.origin) ⊎ HasDelivered scenario s i m
+    → (j : ℕ) → IsCorrectFrom scenario s first j → HasDelivered scenario s j m
+IsAgreedFrom scenario s m None =
+    ((i : ℕ) → IsCorrect scenario s i → HasDelivered scenario s i m → ⊥)
+    × (is_settled scenario s m ≡ true → IsCorrectFrom scenario s m.slot m.origin → ⊥)
+
+abbrev pub IsAgreedOn : ScenarioParts → RunState → Message → Type 0
+IsAgreedOn scenario s m = IsAgreedFrom scenario s m (first_carried (data_id m) s.trace)
 
 -- What a run within the fault hypothesis keeps. The messages of TOTCAN, the views and the failure signs join it with
 -- their parts.

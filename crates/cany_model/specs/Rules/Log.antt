@@ -6,12 +6,13 @@ use Rattle.cany_base.specs.Scenario.{ScenarioParts}
 use Rattle.cany_model.specs.Rules.Effect.{entered}
 use Rattle.cany_model.specs.Bus.History.{history}
 use Rattle.cany_model.specs.Bus.State.{RunState}
-use Rattle.cany_model.specs.Rules.Turn.{turn_effects}
+use Rattle.cany_model.specs.Rules.Turn.{scenario_at, turn_effects}
 
 -- the log that what was read leads to
 unfoldable pub log_from : ScenarioParts → ℕ → List NoticeKind → List LogEntry
 log_from scenario i [] = []
 log_from scenario i (notice ∷ before) = log_from scenario i before ++ entered (turn_effects scenario i (notice ∷ before))
 
+-- that of the present incarnation
 abbrev pub log : ScenarioParts → RunState → ℕ → List LogEntry
-log scenario s i = log_from scenario i (history i s)
+log scenario s i = log_from (scenario_at scenario s i) i (history i s)

@@ -1,9 +1,11 @@
 -- What a node does in a turn: what each protocol does, in their order.
-use Rattle.std.specs.Prelude.{ℕ, ◌||◌, Bool, false, if◌then◌else◌, List, [], ◌∷◌}
+use Rattle.std.specs.Prelude.{ℕ, zero, suc, ◌==◌, ◌||◌, Bool, false, if◌then◌else◌, List, [], ◌∷◌}
 use Rattle.std.specs.List.{flat_map, list_any}
 use Rattle.cany_base.specs.declared.notice.NoticeKind.{NoticeKind}
 use Rattle.cany_base.specs.Scenario.{ScenarioParts}
 use Rattle.cany_model.specs.Bus.Frames.{Identity, is_of}
+use Rattle.cany_model.specs.Bus.Slot.{nobody}
+use Rattle.cany_model.specs.Bus.State.{Incarnation, RunState, node_at}
 use Rattle.cany_model.specs.Rules.Edcan.{edcan}
 use Rattle.cany_model.specs.Rules.Effect.{Effect, Ask, Withdraw, Enter, TurnRule}
 use Rattle.cany_model.specs.Rules.Messages.{Message, data_id}
@@ -18,6 +20,24 @@ protocols = edcan ∷ relcan ∷ scripted_sends ∷ []
 -- one after another
 unfoldable pub turn_effects : TurnRule
 turn_effects scenario i past = flat_map (λ protocol. protocol.effects scenario i past) protocols
+
+-- The scenario as an incarnation follows it. One of a restarted node makes no scripted ask of a slot before its first one, and
+-- is at first no member.
+abbrev pub scenario_for : ScenarioParts → Incarnation → ScenarioParts
+scenario_for scenario inc = record scenario {
+  members = if inc.number == 0 then scenario.members else nobody;
+  from = if inc.number == 0 then scenario.from else inc.from;
+}
+
+-- the scenario as the present incarnation of node i follows it
+abbrev pub scenario_at : ScenarioParts → RunState → ℕ → ScenarioParts
+scenario_at scenario s i = scenario_for scenario (node_at s.nodes i).present
+
+-- what an incarnation does in a turn, where its number is given apart, so that a node that never restarted gets the very scenario,
+-- and rows compute
+abbrev pub effects_for : ℕ → ScenarioParts → Incarnation → ℕ → List NoticeKind → List Effect
+effects_for zero scenario inc i past = turn_effects scenario i past
+effects_for (suc number) scenario inc i past = turn_effects (scenario_for scenario inc) i past
 
 -- whether one of them has something of the message ahead at node i
 abbrev pub is_ahead_at : ScenarioParts → Message → ℕ → List NoticeKind → Bool

@@ -26,7 +26,7 @@ top_keys =
 abbrev pub ends_in_time : Parameters → Bool
 ends_in_time params = nat_le params.slots params.life
 
--- every node is a member, and there are no joins and leaves
+-- every node is a member, and there are no joins, leaves and restarts
 unfoldable pub scenario_from : Members → Option ScenarioParts
 scenario_from top = do
   _ ← only_if (has_only top_keys top)
@@ -42,6 +42,8 @@ scenario_from top = do
     rules = rules;
     joins = [];
     leaves = [];
+    restarts = [];
+    from = 0;
     journal = journal;
   })
 

@@ -1,0 +1,198 @@
+-- The trace as an incarnation sees it: idle before its first slot.
+use Rattle.std.proofs.Common.{◌≡◌, ℕ, zero, suc, ◌+◌, ◌-◌, ◌<◌, ◌≤◌, ◌==◌, ◌&&◌, inl, inr, Bool, true, false, not, nat_lt, if◌then◌else◌, List, [], ◌∷◌, map, drop, take, count_by, length, None, refl, ap, sym, ◌∙◌, subst, arith}
+use Rattle.std.specs.List.{AllByRecursion}
+use Rattle.std.proofs.lemmas.Bool.{and_from, both_ways, cases_Bool, eq-eqb, false_from_ne_true, le-ltb, lt-ltb, ne_eqb, not_from_false}
+use Rattle.std.proofs.lemmas.List.{length-map}
+use Rattle.std.proofs.lemmas.List.Elements.{All-from_recursion, recursion_from_All}
+use Rattle.cany_base.specs.declared.notice.NoticeKind.{NoticeKind}
+use Rattle.cany_base.specs.declared.notice.NoticeKind.TheVariants.{Idle}
+use Rattle.cany_base.specs.declared.slot_note.SlotNote.{SlotNote}
+use Rattle.cany_base.specs.Frame.{FrameParts}
+use Rattle.cany_base.specs.Params.{Parameters}
+use Rattle.cany_model.specs.Bus.Frames.{Identity, identity_of}
+use Rattle.cany_model.specs.Bus.History.{as_seen, ended_history, given, history, is_hidden, seen, trace_for}
+use Rattle.cany_model.specs.Bus.Slot.{carried}
+use Rattle.cany_model.specs.Bus.State.{Incarnation, RunState, node_at, reads}
+use Rattle.cany_model.specs.Promises.Hypothesis.{IsWithin, any_frame, count_together, error_slots, is_error, is_error_slot, is_partial, is_partial_slot_of, is_silent, is_silent_slot, partial_slots}
+use Rattle.cany_model.proofs.Among.{Among, Among-from_map, Among-map, Among-weaker, count-grows, count-no, count-yes}
+use Rattle.cany_model.proofs.Bus.Notes.{given_idle}
+
+-- ---- one slot
+
+pub seen_plain : (inc : Incarnation) (note : SlotNote) → is_hidden inc note ≡ false → as_seen inc note ≡ note
+unfolding as_seen
+seen_plain inc note h = rw h refl
+
+pub seen_hidden : (inc : Incarnation) (note : SlotNote) → is_hidden inc note ≡ true → (as_seen inc note).frame ≡ None
+unfolding as_seen
+seen_hidden inc note h = rw h refl
+
+pub seen_idle : (i : ℕ) (inc : Incarnation) (note : SlotNote) → is_hidden inc note ≡ true → given i (as_seen inc note) ≡ Idle
+seen_idle i inc note h = given_idle i (as_seen inc note) (seen_hidden inc note h)
+
+pub seen_verdict : (inc : Incarnation) (note : SlotNote) → (as_seen inc note).verdict ≡ note.verdict
+unfolding as_seen
+seen_verdict inc note = either (is_hidden inc note)
+  where
+    either : (b : Bool) → (if b then record note { frame = None } else note).verdict ≡ note.verdict
+    either true = refl
+    either false = refl
+
+-- the slots before the first one of a restarted node are hidden, the later ones are not
+pub early_hidden : (inc : Incarnation) (note : SlotNote) → 0 < inc.number → note.slot < inc.from → is_hidden inc note ≡ true
+unfolding is_hidden
+early_hidden inc note later early =
+    and_from (not (inc.number == 0)) (nat_lt note.slot inc.from)
+    (not_from_false (inc.number == 0) (ne_eqb inc.number 0 (λ e. omega (arith, e, later)))) (lt-ltb note.slot inc.from early)
+
+pub hidden_not : (inc : Incarnation) (note : SlotNote) → inc.from ≤ note.slot → is_hidden inc note ≡ false
+unfolding is_hidden
+hidden_not inc note late = rw (le-ltb note.slot inc.from late) (never (not (inc.number == 0)))
+  where
+    never : (b : Bool) → (b && false) ≡ false
+    never true = refl
+    never false = refl
+
+-- what holds of a slot as it is seen, and of no idle one, holds of the slot
+pub seen_one : (P : SlotNote → Type 0) → ((note : SlotNote) → note.frame ≡ None → P note → ⊥) → (inc : Incarnation) (note : SlotNote)
+    → P (as_seen inc note) → (is_hidden inc note ≡ false) × P note
+seen_one P never inc note h = elim (cases_Bool (is_hidden inc note)) [
+  | inl hidden ↦ absurd (never (as_seen inc note) (seen_hidden inc note hidden) h)
+  | inr plain ↦ (plain, subst P (seen_plain inc note plain) h)
+]
+
+-- ---- a trace
+
+pub Among-seen : (P : SlotNote → Type 0) → ((note : SlotNote) → note.frame ≡ None → P note → ⊥) → (inc : Incarnation) (trace : List SlotNote)
+    → Among P (seen inc trace) → Among P trace
+Among-seen P never inc trace h =
+    Among-weaker (λ note. P (as_seen inc note)) P (λ note p. (seen_one P never inc note p).1) trace (Among-from_map (as_seen inc) P trace h)
+
+-- and the other way, where the slot is not hidden
+pub Among-to_seen : (P : SlotNote → Type 0) (inc : Incarnation) (trace : List SlotNote)
+    → Among (λ note. P note × (is_hidden inc note ≡ false)) trace → Among P (seen inc trace)
+Among-to_seen P inc trace h =
+    Among-map (as_seen inc) P trace
+    (Among-weaker (λ note. P note × (is_hidden inc note ≡ false)) (λ note. P (as_seen inc note))
+    (λ note p. subst P (sym (seen_plain inc note p.1)) p.0) trace h)
+
+pub length-seen : (inc : Incarnation) (trace : List SlotNote) → length (seen inc trace) ≡ length trace
+length-seen inc trace = length-map trace (as_seen inc)
+
+pub drop_seen : (n : ℕ) (inc : Incarnation) (trace : List SlotNote) → drop n (seen inc trace) ≡ seen inc (drop n trace)
+drop_seen zero inc trace = refl
+drop_seen (suc n) inc [] = refl
+drop_seen (suc n) inc (note ∷ trace) = drop_seen n inc trace
+
+pub take_seen : (n : ℕ) (inc : Incarnation) (trace : List SlotNote) → take n (seen inc trace) ≡ seen inc (take n trace)
+take_seen zero inc trace = refl
+take_seen (suc n) inc [] = refl
+take_seen (suc n) inc (note ∷ trace) = ap (λ t. as_seen inc note ∷ t) (take_seen n inc trace)
+
+-- the incarnation of the opening sees all
+pub seen_original : (inc : Incarnation) (trace : List SlotNote) → inc.number ≡ 0 → seen inc trace ≡ trace
+unfolding is_hidden
+seen_original inc [] first = refl
+seen_original inc (note ∷ trace) first =
+    let plain : is_hidden inc note ≡ false = rw (eq-eqb inc.number 0 first) refl in
+    rw (seen_plain inc note plain) (ap (λ t. note ∷ t) (seen_original inc trace first))
+
+pub trace_for-is : (inc : Incarnation) (trace : List SlotNote) → trace_for inc.number inc trace ≡ seen inc trace
+trace_for-is inc trace = by_number inc.number refl
+  where
+    by_number : (number : ℕ) → inc.number ≡ number → trace_for number inc trace ≡ seen inc trace
+    by_number zero first = sym (seen_original inc trace first)
+    by_number (suc number) later = refl
+
+-- ---- what an incarnation has read
+
+-- of what a restarted node has read, newest first: nothing of the slots before its first
+abbrev pub IsSeenPast : Incarnation → List NoticeKind → Type 0
+IsSeenPast inc [] = Unit {0}
+IsSeenPast inc (e ∷ past) = (0 < inc.number → length past < inc.from → e ≡ Idle) × IsSeenPast inc past
+
+-- a trace whose notes say which slot they are of
+abbrev pub Numbered : List SlotNote → Type 0
+Numbered [] = Unit {0}
+Numbered (note ∷ trace) = (note.slot ≡ length trace) × Numbered trace
+
+pub numbered_drop : (n : ℕ) (trace : List SlotNote) → Numbered trace → Numbered (drop n trace)
+numbered_drop zero trace h = h
+numbered_drop (suc n) [] h = tt
+numbered_drop (suc n) (note ∷ trace) h = numbered_drop n trace h.1
+
+pub seen_past : (i : ℕ) (inc : Incarnation) (trace : List SlotNote) → Numbered trace → IsSeenPast inc (map (given i) (seen inc trace))
+seen_past i inc [] h = tt
+seen_past i inc (note ∷ trace) h = (
+  λ later early.
+      seen_idle i inc note
+      (early_hidden inc note later (omega (arith, early, h.0, length-map (seen inc trace) (given i), length-seen inc trace))),
+  seen_past i inc trace h.1,
+)
+
+pub seen_past_of : (i n : ℕ) (inc : Incarnation) (trace : List SlotNote) → Numbered trace
+    → IsSeenPast inc (map (given i) (drop n (seen inc trace)))
+seen_past_of i n inc trace h =
+    subst (λ t. IsSeenPast inc (map (given i) t)) (sym (drop_seen n inc trace)) (seen_past i inc (drop n trace) (numbered_drop n trace h))
+
+pub history-is : (i : ℕ) (s : RunState)
+    → history i s ≡ map (given i) (drop (node_at s.nodes i).unread (seen (node_at s.nodes i).present s.trace))
+unfolding history
+history-is i s = ap (λ t. map (given i) (drop (node_at s.nodes i).unread t)) (trace_for-is (node_at s.nodes i).present s.trace)
+
+-- the present incarnation has read what it would have read if it ended now
+pub ended_history-present : (i : ℕ) (s : RunState) → (node_at s.nodes i).unread ≤ length s.trace
+    → ended_history i s.trace (record { incarnation = (node_at s.nodes i).present; next = reads s i; stopped = (node_at s.nodes i).stopped }) ≡ history i s
+unfolding ended_history
+ended_history-present i s within =
+    let left : length s.trace - reads s i ≡ (node_at s.nodes i).unread = omega (arith, within) in
+    ap (λ n. map (given i) (drop n (seen (node_at s.nodes i).present s.trace))) left ∙ sym (history-is i s)
+
+-- ---- the fault hypothesis
+
+test_seen : (p : SlotNote → Bool) → ((note : SlotNote) → note.frame ≡ None → p note ≡ false) → (inc : Incarnation) (note : SlotNote)
+    → p (as_seen inc note) ≡ true → p note ≡ true
+test_seen p none inc note h = (seen_one (λ n. p n ≡ true) (λ n f k. both_ways (p n) (none n f) k) inc note h).1
+
+pub count_seen : (p : SlotNote → Bool) → ((note : SlotNote) → note.frame ≡ None → p note ≡ false) → (inc : Incarnation) (trace : List SlotNote)
+    → count_by p (seen inc trace) ≤ count_by p trace
+count_seen p none inc [] = omega arith
+count_seen p none inc (note ∷ trace) =
+    let rest = count_seen p none inc trace in
+    elim (cases_Bool (p (as_seen inc note))) [
+      | inl here ↦
+          omega (arith, rest, count-yes p (as_seen inc note) (seen inc trace) here, count-yes p note trace (test_seen p none inc note here))
+      | inr other ↦ omega (arith, rest, count-no p (as_seen inc note) (seen inc trace) other, count-grows p note trace)
+    ]
+
+uncarried : (test : FrameParts → Bool) (b : Bool) (note : SlotNote) → note.frame ≡ None → (carried test note && b) ≡ false
+uncarried test b note none = rw none refl
+
+silent_one : (inc : Incarnation) (note : SlotNote) → is_silent_slot note ≡ false → is_silent_slot (as_seen inc note) ≡ false
+silent_one inc note quiet =
+    false_from_ne_true (is_silent_slot (as_seen inc note))
+    (λ loud. both_ways (is_silent_slot note) quiet
+    (test_seen is_silent_slot (λ n none. uncarried any_frame (is_silent n.verdict) n none) inc note loud))
+
+silent_seen : (inc : Incarnation) (trace : List SlotNote) → AllByRecursion (λ note. is_silent_slot note ≡ false) trace
+    → AllByRecursion (λ note. is_silent_slot note ≡ false) (seen inc trace)
+silent_seen inc [] quiet = tt
+silent_seen inc (note ∷ trace) quiet = (silent_one inc note quiet.0, silent_seen inc trace quiet.1)
+
+pub partial_seen : (x : Identity) (inc : Incarnation) (trace : List SlotNote) → partial_slots x (seen inc trace) ≤ partial_slots x trace
+partial_seen x inc trace =
+    count_seen (is_partial_slot_of x) (λ note none. uncarried (λ f. count_together x (identity_of f)) (is_partial note.verdict) note none) inc trace
+
+-- what an incarnation sees of a run is within the hypothesis where the run is
+pub within_seen : (p : Parameters) (inc : Incarnation) (trace : List SlotNote) → IsWithin p trace → IsWithin p (seen inc trace)
+within_seen p inc trace h = record {
+  silent = All-from_recursion (λ note. is_silent_slot note ≡ false) (seen inc trace)
+      (silent_seen inc trace (recursion_from_All (λ note. is_silent_slot note ≡ false) trace h.silent));
+  omit = λ x. omega (arith, h.omit x, partial_seen x inc trace);
+  errors = λ age.
+      let window : List SlotNote = take (p.bound + p.lag) (drop age trace) in
+      let same : take (p.bound + p.lag) (drop age (seen inc trace)) ≡ seen inc window =
+      ap (take (p.bound + p.lag)) (drop_seen age inc trace) ∙ take_seen (p.bound + p.lag) inc (drop age trace) in
+      let fewer = count_seen is_error_slot (λ note none. uncarried any_frame (is_error note.verdict) note none) inc window in
+      omega (arith, ap error_slots same, h.errors age, fewer);
+}

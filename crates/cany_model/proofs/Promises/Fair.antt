@@ -1,0 +1,158 @@
+-- A restarted node waits with nothing before its first slot: so what a running node sends, its incarnation sees.
+use Rattle.std.proofs.Common.{◌≡◌, ℕ, suc, ◌-◌, ◌<◌, ◌==◌, ◌&&◌, inl, inr, true, false, not, nat_lt, List, [], ◌∷◌, Some, length, Contains, refl, ap, sym, ◌∙◌, subst, arith}
+use Rattle.std.proofs.lemmas.Bool.{and_parts, cases_eq, false_from_ne_true, ltb-true, not-true, eqb-false, ne_eqb}
+use Rattle.cany_base.specs.declared.notice.NoticeKind.{NoticeKind}
+use Rattle.cany_base.specs.declared.notice.NoticeKind.TheVariants.{Idle, Got, Sent, Bad}
+use Rattle.cany_base.specs.declared.slot_note.SlotNote.{SlotNote}
+use Rattle.cany_base.specs.declared.step.Step.{Step}
+use Rattle.cany_base.specs.Frame.{FrameParts}
+use Rattle.cany_base.specs.Nodes.{has}
+use Rattle.cany_base.specs.Scenario.{ScenarioParts}
+use Rattle.cany_model.specs.Bus.History.{given, history, is_hidden}
+use Rattle.cany_model.specs.Bus.Restart.{after_restarts}
+use Rattle.cany_model.specs.Bus.Run.{after_turn, run}
+use Rattle.cany_model.specs.Bus.Slot.{FaultScript, after_slot, script, slot_note_of}
+use Rattle.cany_model.specs.Bus.State.{Incarnation, NodeState, RunState, node_at, opening, runs}
+use Rattle.cany_model.specs.Rules.Effect.{waiting_after}
+use Rattle.cany_model.specs.Rules.Turn.{scenario_for, turn_effects}
+use Rattle.cany_model.proofs.Among.{Contains-none}
+use Rattle.cany_model.proofs.Bus.Notes.{note_of-slot, sender_waits}
+use Rattle.cany_model.proofs.Bus.Restarts.{after_restarts-trace, restarts_or_stays}
+use Rattle.cany_model.proofs.Bus.Runs.{IsOrderly, along_run, history-length, opening_within}
+use Rattle.cany_model.proofs.Bus.Seen.{IsSeenPast, Numbered, history-is, seen_past_of}
+use Rattle.cany_model.proofs.Bus.States.{node_at-opening, note_at, runs_within}
+use Rattle.cany_model.proofs.Bus.Steps.{MayTurn, after_slot-present, after_slot-trace, after_slot-waiting, after_turn-history, after_turn-node, after_turn-other, after_turn-present, after_turn-runs, after_turn-trace, kept_at, next_notice, running_before_slot}
+use Rattle.cany_model.proofs.Rules.MutedFacts.{does_nothing}
+
+pub record IsFair (trace : List SlotNote) (node : NodeState) : Type 0 where
+  pub quiet : 0 < node.present.number → length trace < node.present.from → node.waiting ≡ []
+
+abbrev pub AllFair : RunState → Type 0
+AllFair s = (i : ℕ) → runs (node_at s.nodes i) ≡ true → IsFair s.trace (node_at s.nodes i)
+
+fair_opening : (nodes : ℕ) → AllFair (opening nodes)
+fair_opening nodes i running = rw (node_at-opening nodes i (opening_within nodes i running)) (record { quiet = λ later. absurd (omega arith) })
+
+-- ---- a slot
+
+kept_none : (e : NoticeKind) → kept_at e [] ≡ []
+kept_none Idle = refl
+kept_none (Got f) = refl
+kept_none (Sent f) = refl
+kept_none Bad = refl
+
+fair_slot : (rules : FaultScript) (s : RunState) → AllFair s → AllFair (after_slot rules s)
+fair_slot rules s all i running =
+    let ran = (running_before_slot rules s i running).0 in
+    let h = all i ran in
+    let same : (node_at (after_slot rules s).nodes i).present ≡ (node_at s.nodes i).present = after_slot-present rules s i (runs_within s.nodes i ran) in
+    record {
+      quiet = λ later early.
+          after_slot-waiting rules s i ran
+          ∙ ap (kept_at (given i (slot_note_of rules s))) (h.quiet (omega (arith, later, ap (λ (inc : Incarnation). inc.number) same))
+          (omega (arith, early, ap (λ (inc : Incarnation). inc.from) same, ap length (after_slot-trace rules s))))
+          ∙ kept_none (given i (slot_note_of rules s));
+    }
+
+fair_restarts : (scenario : ScenarioParts) (s : RunState) → AllFair s → AllFair (after_restarts scenario s)
+fair_restarts scenario s all i running =
+    subst (λ trace. IsFair trace (node_at (after_restarts scenario s).nodes i)) (sym (after_restarts-trace scenario s))
+    (elim (restarts_or_stays scenario s i) [
+      | inl new ↦ rw new.is (record { quiet = λ later early. refl })
+      | inr same ↦ rw same (all i (sym (ap (λ node. runs node) same) ∙ running))
+    ])
+
+-- ---- a turn
+
+numbered_notes : (trace : List SlotNote) → ((age : ℕ) → age < length trace → (note_at trace age).slot ≡ length trace - 1 - age) → Numbered trace
+numbered_notes [] h = tt
+numbered_notes (note ∷ trace) h = (
+  let first = h 0 (omega arith) in omega (arith, first),
+  numbered_notes trace (λ age below. let next = h (suc age) (omega (arith, below)) in omega (arith, next)),
+)
+
+-- the notes of a run say which slot they are of
+pub run_numbered : (nodes : ℕ) (s : RunState) → IsOrderly nodes s → Numbered s.trace
+run_numbered nodes s o = numbered_notes s.trace o.numbered
+
+-- what a node has read, its incarnation has seen
+pub history-seen : (nodes : ℕ) (s : RunState) → IsOrderly nodes s → (i : ℕ) → IsSeenPast (node_at s.nodes i).present (history i s)
+history-seen nodes s o i =
+    let node = node_at s.nodes i in
+    subst (IsSeenPast node.present) (sym (history-is i s)) (seen_past_of i node.unread node.present s.trace (run_numbered nodes s o))
+
+after_turn-seen : (scenario : ScenarioParts) (nodes i : ℕ) (s : RunState) → MayTurn s i → IsOrderly nodes s
+    → IsSeenPast (node_at s.nodes i).present (next_notice s i ∷ history i s)
+after_turn-seen scenario nodes i s may o =
+    let t : RunState = after_turn scenario i s in
+    let node : NodeState = node_at t.nodes i in
+    let numbered : Numbered t.trace = subst Numbered (sym (after_turn-trace scenario i s)) (run_numbered nodes s o) in
+    subst (λ past. IsSeenPast (node_at s.nodes i).present past) (after_turn-history scenario i s may (o.unread i))
+    (subst (λ (inc : Incarnation). IsSeenPast inc (history i t)) (after_turn-present scenario i s i may (o.unread i))
+    (subst (IsSeenPast node.present) (sym (history-is i t)) (seen_past_of i node.unread node.present t.trace numbered)))
+
+-- a restarted node follows the scenario from its first slot on
+pub from_later : (scenario : ScenarioParts) (inc : Incarnation) → 0 < inc.number → (scenario_for scenario inc).from ≡ inc.from
+from_later scenario inc later = rw (ne_eqb inc.number 0 (λ e. omega (arith, e, later))) refl
+
+fair_turn : (scenario : ScenarioParts) (nodes : ℕ) (i : ℕ) (s : RunState) → MayTurn s i → IsOrderly nodes s → AllFair s
+    → IsFair s.trace (node_at (after_turn scenario i s).nodes i)
+unfolding waiting_after
+fair_turn scenario nodes i s may o all =
+    let node = node_at s.nodes i in
+    let h = all i may.running in
+    rw (after_turn-node scenario i s may (o.unread i)) (record {
+      quiet = λ later early.
+          ap (λ effects. waiting_after effects node.waiting)
+          (nothing later (omega (arith, early, history-length i s)))
+          ∙ h.quiet later early;
+    })
+  where
+    nothing : 0 < (node_at s.nodes i).present.number → length (history i s) < (node_at s.nodes i).present.from
+        → turn_effects (scenario_for scenario (node_at s.nodes i).present) i (next_notice s i ∷ history i s) ≡ []
+    nothing later early =
+        let inc = (node_at s.nodes i).present in
+        does_nothing inc (scenario_for scenario inc) (from_later scenario inc later) i (next_notice s i) (history i s) later (after_turn-seen scenario nodes i s may o) early
+
+fair_turns : (nodes : ℕ) (scenario : ScenarioParts) (i : ℕ) (s : RunState) → MayTurn s i → IsOrderly nodes s → AllFair s → AllFair (after_turn scenario i s)
+fair_turns nodes scenario i s may o all j running =
+    subst (λ trace. IsFair trace (node_at (after_turn scenario i s).nodes j)) (sym (after_turn-trace scenario i s)) (elim (cases_eq j i) [
+      | inl same ↦ subst (λ k. IsFair s.trace (node_at (after_turn scenario i s).nodes k)) (sym same) (fair_turn scenario nodes i s may o all)
+      | inr other ↦ rw (after_turn-other scenario i s j other) (all j (sym (after_turn-runs scenario i s j may (o.unread i)) ∙ running))
+    ])
+
+-- ---- every run
+
+-- what a done step keeps, where each running node is fair
+pub record IsKeptFairly (scenario : ScenarioParts) (P : RunState → Type 0) : Type 0 where
+  pub slot : (s : RunState) → IsOrderly scenario.params.nodes s → AllFair s → P s → P (after_slot (script scenario.rules) s)
+  pub restarts : (s : RunState) → IsOrderly scenario.params.nodes s → 0 < length s.trace → P s → P (after_restarts scenario s)
+  pub turn : (s : RunState) (i : ℕ) → IsOrderly scenario.params.nodes s → MayTurn s i → P s → P (after_turn scenario i s)
+
+pub along_fair_run : (scenario : ScenarioParts) (P : RunState → Type 0) → P (opening scenario.params.nodes) → IsKeptFairly scenario P
+    → (journal : List Step) → P (run scenario journal)
+along_fair_run scenario P first keeps journal =
+    (along_run scenario (λ s. AllFair s × P s) (fair_opening scenario.params.nodes, first)
+    (record {
+      slot = λ s o may h. (fair_slot (script scenario.rules) s h.0, keeps.slot s o h.0 h.1);
+      restarts = λ s o some h. (fair_restarts scenario s h.0, keeps.restarts s o some h.1);
+      turn = λ s i o may h. (fair_turns scenario.params.nodes scenario i s may o h.0, keeps.turn s i o may h.1);
+    })
+    journal).1
+
+-- what a running node sends, its incarnation sees
+pub sent_plain : (rules : FaultScript) (s : RunState) (i : ℕ) → IsFair s.trace (node_at s.nodes i) → (f : FrameParts)
+    → (slot_note_of rules s).frame ≡ Some f → has (slot_note_of rules s).senders i ≡ true
+    → is_hidden (node_at s.nodes i).present (slot_note_of rules s) ≡ false
+unfolding is_hidden
+sent_plain rules s i fair f frame sent =
+    let inc = (node_at s.nodes i).present in
+    let note = slot_note_of rules s in
+    let there = (sender_waits rules s f i frame sent).1 in
+    false_from_ne_true (not (inc.number == 0) && nat_lt note.slot inc.from) (λ h.
+    let parts = and_parts (not (inc.number == 0)) (nat_lt note.slot inc.from) h in
+    let later : 0 < inc.number = some inc.number (not-true (inc.number == 0) parts.0) in
+    Contains-none f (subst (λ w. Contains w f) (fair.quiet later (omega (arith, ltb-true note.slot inc.from parts.1, note_of-slot rules s))) there))
+  where
+    some : (n : ℕ) → (n == 0) ≡ false → 0 < n
+    some n h = let other = eqb-false n 0 h in omega (arith, other)
