@@ -6,7 +6,7 @@ use Rattle.cany_base.specs.declared.frame.Format.{Format}
 use Rattle.cany_base.specs.Frame.{FrameParts}
 use Rattle.cany_model.specs.Bus.Slot.{least_frame, offered}
 use Rattle.cany_model.specs.Bus.State.{NodeState, node_at, absent}
-use Rattle.can_frame.specs.Identifier.{FitsFormat}
+use Rattle.can_frame.specs.Identifier.{FitsIdentifier}
 use Rattle.can_arbiter.specs.Offers.{OfferRow, offer_at}
 use Rattle.can_bus.specs.Contest.{AreOffersOf, StandInOrder}
 
@@ -48,7 +48,7 @@ pub record OffersSoFar (format : Format) (nodes : List NodeState) (i : ℕ) (off
   pub same_format : offers.format ≡ format
   pub before : (k : ℕ) → k < i → offer_at offers k ≡ least_frame (offered (node_at nodes k))
   pub after : (k : ℕ) → i ≤ k → offer_at offers k ≡ None
-  pub fit : (k : ℕ) (f : FrameParts) → offer_at offers k ≡ Some f → FitsFormat format f
+  pub fit : (k : ℕ) (f : FrameParts) → offer_at offers k ≡ Some f → FitsIdentifier format f
   pub in_order : (k : ℕ) → k < i → StandInOrder format (offered (node_at nodes k))
 
 pub none_so_far : (format : Format) (nodes : List NodeState) (offers : OfferRow) → offers.format ≡ format → ((k : ℕ) → offer_at offers k ≡ None)
@@ -67,16 +67,16 @@ if_here k i x y e = ap (λ b. cond b x y) (eq-eqb k i e)
 if_elsewhere : (k i : ℕ) (x y : Option FrameParts) → k ≢ i → (if k == i then x else y) ≡ y
 if_elsewhere k i x y e = ap (λ b. cond b x y) (ne_eqb k i e)
 
-fits_some : (format : Format) (o : Option FrameParts) (f : FrameParts) → IfSome o (FitsFormat format) → o ≡ Some f → FitsFormat format f
-fits_some format o f fit e = subst (λ (p : Option FrameParts). IfSome p (FitsFormat format)) e fit
+fits_some : (format : Format) (o : Option FrameParts) (f : FrameParts) → IfSome o (FitsIdentifier format) → o ≡ Some f → FitsIdentifier format f
+fits_some format o f fit e = subst (λ (p : Option FrameParts). IfSome p (FitsIdentifier format)) e fit
 
 pub one_more_offers : (format : Format) (nodes : List NodeState) (i : ℕ) (node : NodeState) (old new : OfferRow) → OffersSoFar format nodes i old
     → node ≡ node_at nodes i → new.format ≡ old.format
     → ((k : ℕ) → offer_at new k ≡ (if k == i then least_frame (offered node) else offer_at old k))
-    → IfSome (least_frame (offered node)) (FitsFormat old.format) → StandInOrder old.format (offered node) → OffersSoFar format nodes (i + 1) new
+    → IfSome (least_frame (offered node)) (FitsIdentifier old.format) → StandInOrder old.format (offered node) → OffersSoFar format nodes (i + 1) new
 one_more_offers format nodes i node old new so here same put fit in_order =
     let own : least_frame (offered node) ≡ least_frame (offered (node_at nodes i)) = ap (λ n. least_frame (offered n)) here in
-    let fit_own : IfSome (least_frame (offered node)) (FitsFormat format) = subst (λ (f : Format). IfSome (least_frame (offered node)) (FitsFormat f)) so.same_format fit in
+    let fit_own : IfSome (least_frame (offered node)) (FitsIdentifier format) = subst (λ (f : Format). IfSome (least_frame (offered node)) (FitsIdentifier f)) so.same_format fit in
     let in_order_own : StandInOrder format (offered node) = subst (λ (f : Format). StandInOrder f (offered node)) so.same_format in_order in
     record {
       same_format = same ∙ so.same_format;
@@ -109,7 +109,7 @@ all_offers format nodes n offers so past = record {
     | inl below ↦ so.before i below
     | inr above ↦ so.after i above ∙ absent_offers ∙ ap (λ x. least_frame (offered x)) (sym (past i above))
   ];
-  fit = λ i f e. subst (λ (own : Format). FitsFormat own f) (sym so.same_format) (so.fit i f e);
+  fit = λ i f e. subst (λ (own : Format). FitsIdentifier own f) (sym so.same_format) (so.fit i f e);
   in_order = λ i. subst (λ (own : Format). StandInOrder own (offered (node_at nodes i))) (sym so.same_format) (elim (cases_lt i n) [
     | inl below ↦ so.in_order i below
     | inr above ↦ subst (λ (x : NodeState). StandInOrder format (offered x)) (sym (past i above)) (absent_in_order format)

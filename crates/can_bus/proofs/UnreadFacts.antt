@@ -1,4 +1,4 @@
--- What happens in a slot does not depend on how many notices the nodes have not read.
+-- What happens in a slot depends neither on how many notices the nodes have not read nor on their incarnations.
 use Rattle.std.proofs.Common.{◌≡◌, ℕ, zero, suc, ◌&&◌, ◌||◌, not, List, [], ◌∷◌, ◌++◌, length, map, refl, ap, sym, ◌∙◌, arith}
 use Rattle.std.specs.Prelude.{Option, Some, None, slice_get}
 use Rattle.std.specs.List.{flat_map}
@@ -9,13 +9,13 @@ use Rattle.cany_base.specs.Nodes.{Nodes, has, those_where}
 use Rattle.cany_model.specs.declared.share.Share.{Share}
 use Rattle.cany_model.specs.declared.share.Share.TheVariants.{Idle, Took, Rejected, Confirmed, Errored}
 use Rattle.cany_model.specs.Bus.Slot.{Ruling, FaultScript, after_share, exceeds, exchange, lets_accept, least_frame, note_by, offered, sends, share_of, slot_note_of, stopping, winner, with_stops}
-use Rattle.cany_model.specs.Bus.State.{NodeState, node_at, runs}
+use Rattle.cany_model.specs.Bus.State.{NodeState, node_at, original, runs}
 use Rattle.can_controller.specs.Controller.{ControllerState, node_state}
 use Rattle.can_bus.specs.Row.{IsSameBut, StandFor, nodes_of}
 
--- the node with every notice read
+-- the node in its first incarnation, with every notice read
 abbrev pub all_read : NodeState → NodeState
-all_read node = record node { unread = 0 }
+all_read node = record node { present = original; ended = []; unread = 0 }
 
 read_at : (nodes : List NodeState) (i : ℕ) → node_at (map all_read nodes) i ≡ all_read (node_at nodes i)
 unfolding node_at
@@ -68,7 +68,7 @@ slot_read rules trace nodes =
     ∙ note_read (length trace) nodes (winner nodes) (rules trace (winner nodes))
 
 same_read : (a b : NodeState) → IsSameBut a b → all_read a ≡ all_read b
-same_read a b same = λ j. record { unread = 0; waiting = same.waiting j; transmit = same.transmit j; receive = same.receive j; stopped = same.stopped j }
+same_read a b same = λ j. record { present = original; ended = []; unread = 0; waiting = same.waiting j; transmit = same.transmit j; receive = same.receive j; stopped = same.stopped j }
 
 all_same : (controllers : List ControllerState) (nodes : List NodeState) → length nodes ≡ length controllers
     → ((i : ℕ) (c : ControllerState) → slice_get controllers i ≡ Some c → IsSameBut (node_state c) (node_at nodes i)) → map all_read (nodes_of controllers) ≡ map all_read nodes

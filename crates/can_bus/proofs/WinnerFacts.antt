@@ -1,5 +1,5 @@
 -- The winner of a slot is what the first node offers of those that offer a frame of the least key.
-use Rattle.std.proofs.Common.{◌≡◌, ℕ, zero, suc, ◌<◌, ◌≤◌, Bool, true, false, nat_lt, ◌==◌, List, [], ◌∷◌, ◌++◌, refl, ap, sym, subst, ◌∙◌, arith}
+use Rattle.std.proofs.Common.{◌≡◌, ℕ, zero, suc, ◌<◌, ◌≤◌, Bool, true, false, not, nat_lt, ◌==◌, List, [], ◌∷◌, ◌++◌, refl, ap, sym, subst, ◌∙◌, arith}
 use Rattle.std.specs.Prelude.{Option, Some, None, if◌then◌else◌}
 use Rattle.std.specs.List.{flat_map}
 use Rattle.std.proofs.lemmas.Bool.Decides.{nat_tests}
@@ -9,29 +9,42 @@ use Rattle.cany_base.specs.Frame.{FrameParts, class_number, key_of}
 use Rattle.cany_model.specs.Bus.Frames.{is_before, same_class}
 use Rattle.cany_model.specs.Bus.Slot.{better, least_frame, offered, winner}
 use Rattle.cany_model.specs.Bus.State.{NodeState, node_at}
-use Rattle.can_frame.specs.Identifier.{FitsFormat}
+use Rattle.can_frame.specs.Identifier.{FitsIdentifier}
 use Rattle.can_controller.specs.Waiting.{LesserKeyWins}
 
 -- ---- the order of frames
 
-abbrev before : (a b c d e f : ℕ) → Bool
-before a b c d e f = if a == d then (if b == e then nat_lt c f else nat_lt b e) else nat_lt a d
+-- two numbers are compared, and where they are equal the rest decides
+abbrev compared : ℕ → ℕ → Bool → Bool
+compared a b rest = if not (a == b) then nat_lt a b else rest
 
-before_before : (a b c d e f g h i : ℕ) → before a b c d e f ≡ true → before d e f g h i ≡ true → before a b c g h i ≡ true
-before_before a b c d e f g h i first second = grind (arith, nat_tests)
+before_before : (a b c : ℕ) (r s t : Bool) → (r ≡ true → s ≡ true → t ≡ true) → compared a b r ≡ true → compared b c s ≡ true → compared a c t ≡ true
+before_before a b c true true t rest first second = let least : t ≡ true = rest refl refl in grind (arith, nat_tests)
+before_before a b c true false t rest first second = grind (arith, nat_tests)
+before_before a b c false s t rest first second = grind (arith, nat_tests)
 
-not_before : (a b c d e f g h i : ℕ) → before a b c d e f ≡ false → before d e f g h i ≡ false → before a b c g h i ≡ false
-not_before a b c d e f g h i first second = grind (arith, nat_tests)
+not_before : (a b c : ℕ) (r s t : Bool) → (r ≡ false → s ≡ false → t ≡ false) → compared a b r ≡ false → compared b c s ≡ false → compared a c t ≡ false
+not_before a b c false false t rest first second = let least : t ≡ false = rest refl refl in grind (arith, nat_tests)
+not_before a b c false true t rest first second = grind (arith, nat_tests)
+not_before a b c true s t rest first second = grind (arith, nat_tests)
+
+less_less : (a b c : ℕ) → nat_lt a b ≡ true → nat_lt b c ≡ true → nat_lt a c ≡ true
+less_less a b c first second = grind (arith, nat_tests)
+
+not_less : (a b c : ℕ) → nat_lt a b ≡ false → nat_lt b c ≡ false → nat_lt a c ≡ false
+not_less a b c first second = grind (arith, nat_tests)
 
 is_before_before : (f g h : FrameParts) → is_before f g ≡ true → is_before g h ≡ true → is_before f h ≡ true
 unfolding is_before same_class
-is_before_before f g h first second =
-    before_before (class_number f.class) f.number f.node (class_number g.class) g.number g.node (class_number h.class) h.number h.node first second
+is_before_before f g h =
+    before_before (class_number f.class) (class_number g.class) (class_number h.class) _ _ _
+    (before_before f.number g.number h.number _ _ _ (before_before f.node g.node h.node _ _ _ (less_less f.inc g.inc h.inc)))
 
 is_not_before : (f g h : FrameParts) → is_before f g ≡ false → is_before g h ≡ false → is_before f h ≡ false
 unfolding is_before same_class
-is_not_before f g h first second =
-    not_before (class_number f.class) f.number f.node (class_number g.class) g.number g.node (class_number h.class) h.number h.node first second
+is_not_before f g h =
+    not_before (class_number f.class) (class_number g.class) (class_number h.class) _ _ _
+    (not_before f.number g.number h.number _ _ _ (not_before f.node g.node h.node _ _ _ (not_less f.inc g.inc h.inc)))
 
 later_wins : (f g : FrameParts) → is_before g f ≡ true → better f (Some g) ≡ g
 later_wins f g e = ap (λ b. if b then g else f) e
@@ -145,7 +158,7 @@ no_winner (n ∷ ns) e (suc k) = no_winner ns (pick_none (least_frame (offered n
 
 module _ (format : Format) (lesser_wins : LesserKeyWins format) where
   by_order : (offers : ℕ → Option FrameParts) (g h f : FrameParts) (lost : Bool) → offers 0 ≡ Some g → WinsAmong format (λ k. offers (suc k)) h
-      → ((k : ℕ) (r : FrameParts) → offers k ≡ Some r → FitsFormat format r) → is_before h g ≡ lost → better g (Some h) ≡ f → WinsAmong format offers f
+      → ((k : ℕ) (r : FrameParts) → offers k ≡ Some r → FitsIdentifier format r) → is_before h g ≡ lost → better g (Some h) ≡ f → WinsAmong format offers f
   by_order offers g h f true first rest fit order e =
       let key : nat_lt (key_of format h) (key_of format g) ≡ true = sym (lesser_wins h g (fit (suc rest.node) h rest.offers_it) (fit 0 g first)) ∙ order in
       let less : key_of format h < key_of format g = less_true (key_of format h) (key_of format g) key in
@@ -160,7 +173,7 @@ module _ (format : Format) (lesser_wins : LesserKeyWins format) where
       (from_first format offers g first (λ k r at. omega (arith, rest.least_key k r at)))
 
   joined : (offers : ℕ → Option FrameParts) (a b : Option FrameParts) (f : FrameParts) → offers 0 ≡ a → pick a b ≡ Some f
-      → ((k : ℕ) (r : FrameParts) → offers k ≡ Some r → FitsFormat format r)
+      → ((k : ℕ) (r : FrameParts) → offers k ≡ Some r → FitsIdentifier format r)
       → (b ≡ None → (k : ℕ) → offers (suc k) ≡ None) → ((h : FrameParts) → b ≡ Some h → WinsAmong format (λ k. offers (suc k)) h) → WinsAmong format offers f
   joined offers None b f first e fit none rest =
       from_rest format offers f (rest f e) (λ g at. absurd (clash (offers 0) g first at))
@@ -169,7 +182,7 @@ module _ (format : Format) (lesser_wins : LesserKeyWins format) where
   joined offers (Some g) (Some h) f first e fit none rest =
       by_order offers g h f (is_before h g) first (rest h refl) fit refl (same_Some (better g (Some h)) f e)
 
-  pub winner_wins : (nodes : List NodeState) (f : FrameParts) → ((k : ℕ) (r : FrameParts) → offer_of nodes k ≡ Some r → FitsFormat format r)
+  pub winner_wins : (nodes : List NodeState) (f : FrameParts) → ((k : ℕ) (r : FrameParts) → offer_of nodes k ≡ Some r → FitsIdentifier format r)
       → winner nodes ≡ Some f → WinsAmong format (offer_of nodes) f
   unfolding node_at
   winner_wins [] f fit e = absurd (clash (winner []) f winner_none e)

@@ -6,7 +6,7 @@ use Rattle.cany_base.specs.Frame.{FrameParts, key_of}
 use Rattle.cany_base.specs.Nodes.{Nodes, has, those_where}
 use Rattle.cany_model.specs.Bus.Slot.{least_frame, offered, sends, share_of, winner}
 use Rattle.cany_model.specs.Bus.State.{NodeState, node_at, runs}
-use Rattle.can_frame.specs.Identifier.{FitsFormat}
+use Rattle.can_frame.specs.Identifier.{FitsIdentifier}
 use Rattle.can_arbiter.specs.declared.arbitration.Outcome.{Outcome}
 use Rattle.can_arbiter.specs.declared.arbitration.Outcome.TheVariants.{Idle, Won}
 use Rattle.can_arbiter.specs.Offers.{OfferRow, offer_at}
@@ -20,7 +20,7 @@ pub record StandInOrder (format : Format) (frames : List FrameParts) : Type 0 wh
 -- each node offers, of the frames that it waits with, the one that wins
 pub record AreOffersOf (nodes : List NodeState) (offers : OfferRow) : Type 0 where
   pub each : (i : ℕ) → offer_at offers i ≡ least_frame (offered (node_at nodes i))
-  pub fit : (i : ℕ) (f : FrameParts) → offer_at offers i ≡ Some f → FitsFormat offers.format f
+  pub fit : (i : ℕ) (f : FrameParts) → offer_at offers i ≡ Some f → FitsIdentifier offers.format f
   pub in_order : (i : ℕ) → StandInOrder offers.format (offered (node_at nodes i))
 
 -- the frame that is carried

@@ -44,14 +44,15 @@ pub record AreAfter (note : SlotNote) (old new : List ControllerState) : Type 0 
   pub each : (i : ℕ) → slice_get new i ≡ option_map (controller_after i note) (slice_get old i)
   pub node : (i : ℕ) (c : ControllerState) → slice_get old i ≡ Some c → c.stopped ≡ None → node_state (controller_after i note c) ≡ node_after i note (node_state c)
 
--- the nodes are the same but for their unread notices
+-- the nodes are the same but for their unread notices and their incarnations
 pub record IsSameBut (a b : NodeState) : Type 0 where
   pub waiting : a.waiting ≡ b.waiting
   pub transmit : a.transmit ≡ b.transmit
   pub receive : a.receive ≡ b.receive
   pub stopped : a.stopped ≡ b.stopped
 
--- the controllers are these nodes but for the unread notices, of which a stopped node of a run has more and more
+-- the controllers are these nodes but for the unread notices, of which a stopped node of a run has more and more, and for the
+-- incarnations, of which a controller knows nothing
 pub record StandFor (controllers : List ControllerState) (nodes : List NodeState) : Type 0 where
   pub whole : length nodes ≡ length controllers
   pub each : (i : ℕ) (c : ControllerState) → slice_get controllers i ≡ Some c → IsSameBut (node_state c) (node_at nodes i)

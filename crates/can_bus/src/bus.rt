@@ -66,7 +66,7 @@ impl Bus {
         requires left { length self.old.trace < self.old.params.slots }
         requires follows { Follows script.now self.old }
 
-        // The note is that of the nodes, whatever they have not read.
+        // The note is that of the nodes, whatever they have not read and of whichever incarnation they are.
         ensures note { (nodes : List NodeState) → StandFor controllers.old nodes
             → result ≡ slot_note_of (script_of script.now) (record { trace = self.old.trace; nodes = nodes }) }
 

@@ -3,7 +3,7 @@ ghost use Rattle.std.specs.Prelude.{◌≡◌, ◌<◌, ◌≤◌, ◌==◌, if�
 ghost use Rattle.cany_base.specs.Limits.{most_nodes};
 ghost use Rattle.cany_base.specs.Frame.{FrameParts};
 ghost use Rattle.cany_model.specs.Bus.Slot.{least_frame, offered};
-ghost use Rattle.can_frame.specs.Identifier.{FitsFormat};
+ghost use Rattle.can_frame.specs.Identifier.{FitsIdentifier};
 ghost use Rattle.can_arbiter.specs.Offers.{offer_at};
 ghost use Rattle.can_controller.specs.Controller.{ControllerState, node_state};
 ghost use Rattle.can_bus.specs.Contest.{AreOffersOf, StandInOrder};
@@ -16,7 +16,7 @@ use cany_base::{Format, Frame, NodeId};
 /// What a controller offers: if it runs, its waiting frame that wins over its others.
 fn offer_of(controller: &Controller) -> Option<Frame>
     ensures offer { result ≡ least_frame (offered (node_state controller.now)) }
-    ensures fits { IfSome result (FitsFormat controller.now.params.format) }
+    ensures fits { IfSome result (FitsIdentifier controller.now.params.format) }
     ensures in_order { StandInOrder controller.now.params.format (offered (node_state controller.now)) }
 {
     if controller.stopped().is_some() {
@@ -33,7 +33,7 @@ fn put_offer(offers: &mut Offers, i: usize, controller: &Controller)
     ensures format { offers.new.format ≡ offers.old.format }
     ensures offers { (k : ℕ) → offer_at offers.new k
         ≡ (if k == i then least_frame (offered (node_state controller.now)) else offer_at offers.old k) }
-    ensures fits { IfSome (least_frame (offered (node_state controller.now))) (FitsFormat offers.old.format) }
+    ensures fits { IfSome (least_frame (offered (node_state controller.now))) (FitsIdentifier offers.old.format) }
     ensures in_order { StandInOrder offers.old.format (offered (node_state controller.now)) }
 {
     if let Some(frame) = offer_of(controller) {

@@ -3,6 +3,7 @@ ghost use Rattle.cany_base.specs.Scenario.{IsRuleOf};
 ghost use Rattle.cany_base.specs.declared.frame.Format.TheVariants.{Two};
 ghost use Rattle.cany_base.specs.Limits.{most_nodes};
 ghost use Rattle.cany_base.specs.Params.{IsInRange, MeetsFormulas, Parameters, default_parameters, default_parameters_of};
+ghost use Rattle.can_frame.specs.Identifier.{FitsFormat};
 ghost use Rattle.can_bus.specs.Bus.{Follows};
 ghost use Rattle.can_bus.specs.Row.{IsRowFor, NoneLags};
 
@@ -60,6 +61,7 @@ fn lossy(alloc: Global) -> Result<Scenario, Fail>
         rules,
         Vec::new(alloc),
         Vec::new(alloc),
+        Vec::new(alloc),
         None,
     ))
 }
@@ -71,6 +73,7 @@ fn wide(alloc: Global) -> Scenario
     Scenario::of_parts(
         Params::with_defaults_of(Format::Two, 41, 100),
         NodeSet::all(41),
+        Vec::new(alloc),
         Vec::new(alloc),
         Vec::new(alloc),
         Vec::new(alloc),
@@ -104,13 +107,20 @@ fn message(number: u16, origin: usize) -> Frame
     }
 }
 
+/// The frame fits the format, since its numbers are small.
+fn fits(rt: &impl Abort, format: Format, frame: &Frame)
+    ensures { FitsFormat format frame.now }
+{
+    assert!(rt; frame.number < MOST_NUMBERS && frame.node.get() < format.nodes());
+    small_numbers_fit(format);
+}
+
 /// The controller of node i asks for the frame, where there is room for one more.
 fn ask(rt: &impl Abort, params: &Params, controllers: &mut [Controller], i: usize, frame: Frame)
     requires { IsRowFor params.now controllers.old }
     ensures { IsRowFor params.now controllers.new }
 {
-    assert!(rt; frame.number < MOST_NUMBERS && frame.node.get() < params.format.nodes());
-    small_numbers_fit(params.format);
+    fits(rt, params.format, &frame);
     assert!(rt; i < controllers.len());
     let controller = &mut controllers[i];
     assert!(rt; controller.spare() > 0);

@@ -9,6 +9,7 @@ use Rattle.cany_base.specs.declared.slot_note.SlotNote.{SlotNote}
 use Rattle.cany_base.specs.Limits.{greatest_error_counter}
 use Rattle.cany_base.specs.Nodes.{has}
 use Rattle.cany_model.specs.declared.share.Share.{Share}
+use Rattle.cany_model.specs.declared.share.Share.TheVariants as share
 use Rattle.cany_model.specs.Bus.History.{notice_of}
 use Rattle.cany_model.specs.Bus.Slot.{after_share, exceeds, node_after, share_of}
 use Rattle.cany_model.specs.Bus.State.{NodeState}
@@ -59,15 +60,37 @@ not_true false h = refl
 one_more : {X : Type 0} (xs : List X) (x : X) → length (xs ++ x ∷ []) ≡ length xs + 1
 one_more xs x = omega (arith, length-append xs (x ∷ []))
 
+-- a share ends no incarnation
+share_present : (share : Share) (node : NodeState) → (after_share share node).present ≡ node.present
+unfolding after_share
+share_present share.Idle node = refl
+share_present (share.Took f) node = refl
+share_present share.Rejected node = refl
+share_present (share.Confirmed f) node = refl
+share_present share.Errored node = refl
+
+share_ended : (share : Share) (node : NodeState) → (after_share share node).ended ≡ node.ended
+unfolding after_share
+share_ended share.Idle node = refl
+share_ended (share.Took f) node = refl
+share_ended share.Rejected node = refl
+share_ended (share.Confirmed f) node = refl
+share_ended share.Errored node = refl
+
 -- a share, and then a stop or none
 with_stop : (slot : ℕ) (share : Share) (c : ControllerState) (b : Bool) → (exceeds (after_share share (node_state c)) ≡ true → b ≡ true)
     → node_state (if b then stopped_at slot (seen slot share c) else seen slot share c)
     ≡ record (after_share share (node_state c)) { unread = length c.unread + 1; stopped = if b then Some slot else None }
 with_stop slot share c true stops =
-    rw (one_more c.unread (record { slot = slot; kind = notice_of share }), stop_kept (exceeds (after_share share (node_state c))) slot) refl
+    rw (
+      one_more c.unread (record { slot = slot; kind = notice_of share }),
+      stop_kept (exceeds (after_share share (node_state c))) slot,
+      share_present share (node_state c),
+      share_ended share (node_state c),
+    ) refl
 with_stop slot share c false stops =
     let low : exceeds (after_share share (node_state c)) ≡ false = not_true (exceeds (after_share share (node_state c))) stops in
-    rw (one_more c.unread (record { slot = slot; kind = notice_of share }), low) refl
+    rw (one_more c.unread (record { slot = slot; kind = notice_of share }), low, share_present share (node_state c), share_ended share (node_state c)) refl
 
 -- a share, and the stop where the note has it, make the node after the slot
 pub seen_is_after : (i : ℕ) (note : SlotNote) (c : ControllerState) → SeenIsNodeAfter i note c

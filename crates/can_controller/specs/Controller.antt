@@ -1,5 +1,5 @@
 -- What a contract sees of a controller, and what its share in a slot does to it.
-use Rattle.std.specs.Prelude.{◌≡◌, ℕ, true, if◌then◌else◌, List, [], ◌∷◌, ◌++◌, length, Option, Some, None, unwrap_or}
+use Rattle.std.specs.Prelude.{◌≡◌, ◌+◌, ◌<◌, ◌≤◌, ℕ, true, if◌then◌else◌, List, [], ◌∷◌, ◌++◌, length, Option, Some, None, unwrap_or}
 use Rattle.cany_base.specs.declared.notice.Notice.{Notice}
 use Rattle.cany_base.specs.declared.slot_note.SlotNote.{SlotNote}
 use Rattle.cany_base.specs.Frame.{FrameParts}
@@ -8,10 +8,10 @@ use Rattle.cany_base.specs.Params.{Parameters}
 use Rattle.cany_model.specs.declared.share.Share.{Share}
 use Rattle.cany_model.specs.Bus.History.{notice_of}
 use Rattle.cany_model.specs.Bus.Slot.{after_share, exceeds, node_after, share_of}
-use Rattle.cany_model.specs.Bus.State.{NodeState}
+use Rattle.cany_model.specs.Bus.State.{NodeState, fresh}
 
 -- what it was built with: its node, the parameters and how many frames may wait; the waiting frames in the order in which
--- they win; the error counters; the notices not read yet, oldest first, and how many were read; the slot of its stop
+-- they win; the error counters; the notices not read yet, oldest first, and the next slot to read; the slot of its stop
 pub record ControllerState : Type 0 where
   pub node : ℕ
   pub params : Parameters
@@ -23,9 +23,10 @@ pub record ControllerState : Type 0 where
   pub read : ℕ
   pub stopped : Option ℕ
 
--- the controller's node, as a run has it while it runs: of a stopped node a run goes on counting the slots as unread
+-- the controller's node, as a run has it while it runs: of a stopped node a run goes on counting the slots as unread. Which
+-- incarnation it is of, a controller does not know.
 abbrev pub node_state : ControllerState → NodeState
-node_state c = record {
+node_state c = record fresh {
   unread = length c.unread;
   waiting = c.waiting;
   transmit = c.transmit;
@@ -63,6 +64,18 @@ seen slot share c =
 -- the controller after its stop in a slot: one that has stopped stays as it is
 abbrev pub stopped_at : ℕ → ControllerState → ControllerState
 stopped_at slot c = record c { stopped = Some (unwrap_or c.stopped slot) }
+
+-- the controller after the restart of its node at the end of a slot: it runs, nothing waits, nothing is unread, its counters are
+-- zero, and the next slot is the next to read
+abbrev pub restarted_at : ℕ → ControllerState → ControllerState
+restarted_at slot c = record (fresh_controller c.node c.params c.room) { read = slot + 1 }
+
+-- the controller stopped in a slot, not after this one
+pub record HasStoppedBy (slot : ℕ) (c : ControllerState) : Type 0 where
+  pub within : slot < c.params.slots
+  pub stop : ℕ
+  pub stopped : c.stopped ≡ Some stop
+  pub by_then : stop ≤ slot
 
 -- a running controller that sees its share, and then stops where the note stops its node, is the node after the slot, where
 -- the note stops a node whose counters exceed the limit

@@ -1,11 +1,11 @@
-ghost use Rattle.std.specs.Prelude.{◌≡◌, ◌≤◌, ◌<◌, ◌+◌, ◌==◌, ◌↔◌, ◌⊎◌, not, min, [], length, drop, filter, slice_get, All, IfOk, OnSome, IfSome, IfNone, IsNone};
+ghost use Rattle.std.specs.Prelude.{◌≡◌, ◌≤◌, ◌<◌, ◌+◌, ◌==◌, ◌↔◌, ◌⊎◌, false, not, min, [], length, drop, filter, slice_get, All, IfOk, OnSome, IfSome, IfNone, IsNone};
 ghost use Rattle.std.specs.List.{list_any};
-ghost use Rattle.cany_base.specs.Frame.{FrameParts, identifier_of, key_of};
+ghost use Rattle.cany_base.specs.Frame.{FrameParts, has_incarnation, identifier_of, key_of};
 ghost use Rattle.cany_model.specs.Bus.Frames.{identity_of};
 ghost use Rattle.cany_model.specs.Bus.Slot.{least_frame};
 ghost use Rattle.cany_model.specs.Bus.Waiting.{waits, with_frame, without};
-ghost use Rattle.can_frame.specs.Identifier.{FitsFormat};
-ghost use Rattle.can_controller.specs.Controller.{fresh_controller, seen, stopped_at};
+ghost use Rattle.can_frame.specs.Identifier.{FitsFormat, FitsIdentifier};
+ghost use Rattle.can_controller.specs.Controller.{HasStoppedBy, fresh_controller, restarted_at, seen, stopped_at};
 ghost use Rattle.can_controller.specs.Waiting.{HasRoomFor};
 
 use crate::counters::Counters;
@@ -85,8 +85,9 @@ impl Controller {
         ensures by_identifier { let others = filter (λ f. not (identifier_of self.old.params.format f == ident)) self.old.waiting in
             self.new ≡ record self.old { waiting = others } }
 
-        // The same, where the identifier is that of a frame f.
-        ensures by_identity { (f : FrameParts) → FitsFormat self.old.params.format f → identifier_of self.old.params.format f ≡ ident →
+        // The same, where the identifier is that of a frame f whose class tells no incarnation.
+        ensures by_identity { (f : FrameParts) → FitsIdentifier self.old.params.format f → has_incarnation f.class ≡ false →
+            identifier_of self.old.params.format f ≡ ident →
             self.new.waiting ≡ without (identity_of f) self.old.waiting }
     {
         self.waiting.withdraw(ident);
@@ -96,8 +97,9 @@ impl Controller {
     pub fn waits(&self, ident: u32) -> bool
         ensures by_identifier { result ≡ list_any (λ f. identifier_of self.now.params.format f == ident) self.now.waiting }
 
-        // The same, where the identifier is that of a frame f.
-        ensures by_identity { (f : FrameParts) → FitsFormat self.now.params.format f → identifier_of self.now.params.format f ≡ ident →
+        // The same, where the identifier is that of a frame f whose class tells no incarnation.
+        ensures by_identity { (f : FrameParts) → FitsIdentifier self.now.params.format f → has_incarnation f.class ≡ false →
+            identifier_of self.now.params.format f ≡ ident →
             result ≡ waits (identity_of f) self.now.waiting }
     {
         self.waiting.waits(ident)
@@ -115,7 +117,7 @@ impl Controller {
         ensures none { IsNone result ↔ (self.now.waiting ≡ []) }
         ensures head { result ≡ slice_get self.now.waiting 0 }
         ensures least { result ≡ least_frame self.now.waiting }
-        ensures fits { IfSome result (λ f. FitsFormat self.now.params.format f) }
+        ensures fits { IfSome result (FitsIdentifier self.now.params.format) }
 
         // Each other waiting frame has a greater key.
         ensures least_key { let key = key_of self.now.params.format in
@@ -150,14 +152,27 @@ impl Controller {
         }
     }
 
-    /// The slot at which the controller stopped.
+    /// The controller starts again at the end of the slot, after its stop in this slot or an earlier one. It then runs, nothing
+    /// waits, nothing is unread, its counters are zero, and the next slot is the next to read. It takes no memory.
+    pub fn restart(&mut self, slot: Slot)
+        requires { HasStoppedBy slot self.old }
+        ensures { self.new ≡ restarted_at slot self.old }
+    {
+        self.waiting.clear();
+        self.counters.clear();
+        self.notices.clear();
+        self.read = slot + 1;
+        self.stopped = None;
+    }
+
+    /// The slot at which the controller stopped, if it has not started again since.
     pub fn stopped(&self) -> Option<Slot>
         ensures { result ≡ self.now.stopped }
     {
         self.stopped
     }
 
-    /// The oldest unread notice, which is then read. The count read stays at the greatest `u64` once it is there.
+    /// The oldest unread notice, which is then read. What `read` gives stays at the greatest `u64` once it is there.
     pub fn next_notice(&mut self) -> Option<Notice>
         ensures all_read { IsNone result ↔ (self.old.unread ≡ []) }
         ensures oldest { result ≡ slice_get self.old.unread 0 }
@@ -178,7 +193,8 @@ impl Controller {
         self.notices.len() as u32
     }
 
-    /// How many notices were read.
+    /// The next slot to read. Of a controller that has never started again this is how many notices were read; a restart passes
+    /// over the slots that are unread when it comes.
     pub fn read(&self) -> u64
         ensures { result ≡ self.now.read }
     {

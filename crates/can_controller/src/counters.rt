@@ -14,6 +14,14 @@ pub(crate) struct Counters {
 }
 
 impl Counters {
+    /// Both are zero, as at the start.
+    pub(crate) fn clear(&mut self)
+        ensures { self.new ≡ record { transmit = 0; receive = 0 } }
+    {
+        self.transmit = 0;
+        self.receive = 0;
+    }
+
     /// The counters of a running node after its share in a slot (CAN Specification 2.0 Part B, 8).
     #[tactic(auto, unfolding(cany_model::specs::Bus::Slot::after_share))]
     pub(crate) fn after(self, share: &Share) -> Counters

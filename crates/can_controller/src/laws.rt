@@ -1,20 +1,21 @@
 //! What ties the calls of a controller to the definitions of a run, each law as the contract of a function that does
 //! nothing.
-ghost use Rattle.std.specs.Prelude.{◌≡◌, ◌==◌, ℕ};
+ghost use Rattle.std.specs.Prelude.{◌≡◌, ◌==◌, ◌/◌, ◌^◌, ℕ};
 ghost use Rattle.cany_base.specs.declared.slot_note.SlotNote.{SlotNote};
 ghost use Rattle.cany_base.specs.Frame.{FrameParts, identifier_of};
 ghost use Rattle.cany_model.specs.Bus.Frames.{identity_of, same_identity};
-ghost use Rattle.can_frame.specs.Identifier.{FitsFormat};
+ghost use Rattle.can_frame.specs.Identifier.{FitsIdentifier};
 ghost use Rattle.can_controller.specs.Controller.{ControllerState, SeenIsNodeAfter};
 ghost use Rattle.can_controller.specs.Waiting.{IsAscending, LesserKeyWins};
 
 use crate::controller::Controller;
 use cany_base::Format;
 
-/// Frames that fit have one identifier exactly where they have one identity.
+/// Frames that fit have one identity exactly where their identifiers are equal but for the low four bits, which tell the
+/// incarnation.
 pub fn identifier_is_identity(format: Format)
-    ensures { (a b : FrameParts) → FitsFormat format a → FitsFormat format b →
-        same_identity (identity_of a) (identity_of b) ≡ (identifier_of format a == identifier_of format b) }
+    ensures { (a b : FrameParts) → FitsIdentifier format a → FitsIdentifier format b →
+        same_identity (identity_of a) (identity_of b) ≡ (identifier_of format a / 2 ^ 4 == identifier_of format b / 2 ^ 4) }
 {}
 
 /// Of frames that fit, one wins over another exactly where its key is less.
@@ -28,7 +29,7 @@ pub fn seen_is_node_after()
     ensures { (i : ℕ) (note : SlotNote) (c : ControllerState) → SeenIsNodeAfter i note c }
 {}
 
-/// The waiting frames ascend by identifier, so that no two of them have one identity.
+/// The waiting frames ascend by identity, so that no two of them have one.
 pub fn frames_ascend(controller: &Controller)
     ensures { IsAscending controller.now.params.format controller.now.waiting }
 {

@@ -1,16 +1,18 @@
-ghost use Rattle.std.specs.Prelude.{◌≡◌, ◌⊎◌};
+ghost use Rattle.std.specs.Prelude.{◌≡◌, ◌<◌, ◌⊎◌};
 ghost use Rattle.can_frame.specs.Identifier.{FitsFormat};
 
 use crate::{Controller, Share};
 use can_frame::{identifier, small_numbers_fit};
 use cany_base::limits::MOST_NUMBERS;
 use cany_base::{Class, Format, Frame, NodeId, Notice, NoticeKind, Params, Payload, Slot};
+use std::alloc::Global;
 use std::process::Abort;
 use std::test::Fail;
 
 /// Three notices may be unread.
 fn lag_two() -> Params
     ensures lag { result.lag ≡ 2 }
+    ensures slots { result.slots ≡ 1000 }
     ensures format { result.format ≡ Format.One }
 {
     Params {
@@ -54,6 +56,19 @@ fn accept() -> Result<Frame, Fail> {
     })
 }
 
+/// The third life sign of an incarnation of node 1.
+fn life_sign(inc: u8) -> Result<Frame, Fail>
+    requires { inc < 16 }
+{
+    Ok(Frame {
+        class: Class::Els,
+        number: 2,
+        node: node(1)?,
+        inc,
+        payload: Payload::empty(),
+    })
+}
+
 /// The frame fits the format, since its numbers are small.
 fn fits(rt: &impl Abort, format: Format, frame: &Frame)
     ensures { FitsFormat format frame.now }
@@ -78,7 +93,9 @@ fn ask(rt: &impl Abort, controller: &mut Controller, format: Format, frame: Fram
 }
 
 /// One slot of a running controller of which all notices were read, and the notice of this slot.
-fn see(rt: &impl Abort, controller: &mut Controller, slot: Slot, share: Share) -> Option<Notice> {
+fn see(rt: &impl Abort, controller: &mut Controller, slot: Slot, share: Share) -> Option<Notice>
+    ensures { controller.new.params ≡ controller.old.params }
+{
     assert!(rt; controller.stopped().is_none());
     assert!(rt; controller.unread() == 0);
     controller.see(slot, share);
@@ -130,6 +147,26 @@ fn node_40_waits_in_format_two(rt: HostRuntime) -> Result<(), Fail> {
     see(&rt, &mut controller, 0, Share::Confirmed(third));
     assert_eq!(rt; controller.best(), Some(other));
     assert_eq!(rt; controller.spare(), 2);
+    Ok(())
+}
+
+/// A frame of another incarnation takes the place of one of its identity, and is named by another identifier.
+#[test]
+fn one_life_sign_of_two_incarnations_waits(rt: HostRuntime) -> Result<(), Fail> {
+    let mut controller = Controller::build(rt.alloc(), node(0)?, &lag_two(), 4)?;
+    let earlier = life_sign(4)?;
+    let later = life_sign(5)?;
+    ask(&rt, &mut controller, Format::One, earlier);
+    assert!(rt; controller.waits(ident(&rt, Format::One, &earlier)));
+    assert!(rt; !controller.waits(ident(&rt, Format::One, &later)));
+    controller.withdraw(ident(&rt, Format::One, &later));
+    assert_eq!(rt; controller.best(), Some(earlier));
+    ask(&rt, &mut controller, Format::One, later);
+    assert_eq!(rt; controller.spare(), 3);
+    assert_eq!(rt; controller.best(), Some(later));
+    assert!(rt; !controller.waits(ident(&rt, Format::One, &earlier)));
+    controller.withdraw(ident(&rt, Format::One, &later));
+    assert_eq!(rt; controller.best(), None);
     Ok(())
 }
 
@@ -207,5 +244,48 @@ fn the_script_stops_a_controller(rt: HostRuntime) -> Result<(), Fail> {
     );
     controller.stop(0);
     assert_eq!(rt; controller.stopped(), Some(0));
+    Ok(())
+}
+
+/// A controller that saw two errors, of which one is unread, with a frame that waits, and that then started again at the end of
+/// slot 5.
+fn restarted(rt: &impl Abort, alloc: Global) -> Result<Controller, Fail> {
+    let mut controller = Controller::build(alloc, node(0)?, &lag_two(), 4)?;
+    ask(rt, &mut controller, Format::One, accept()?);
+    see(rt, &mut controller, 0, Share::Errored);
+    assert!(rt; controller.unread() == 0 && controller.stopped().is_none());
+    controller.see(1, Share::Errored);
+    controller.stop(1);
+    assert!(rt; controller.stopped() == Some(1));
+    controller.restart(5);
+    Ok(controller)
+}
+
+#[test]
+fn a_restarted_controller_is_empty_and_runs(rt: HostRuntime) -> Result<(), Fail> {
+    let mut controller = restarted(&rt, rt.alloc())?;
+    assert_eq!(rt; controller.stopped(), None);
+    assert_eq!(rt; controller.best(), None);
+    assert_eq!(rt; controller.spare(), 4);
+    assert_eq!(rt; controller.unread(), 0);
+    assert_eq!(rt; controller.next_notice(), None);
+    // The errors of before would stop it at the fourteenth.
+    for slot in 6..21 {
+        see(&rt, &mut controller, slot, Share::Errored);
+    }
+    assert_eq!(rt; controller.stopped(), None);
+    Ok(())
+}
+
+#[test]
+fn a_slot_after_the_restart_is_the_next_notice(rt: HostRuntime) -> Result<(), Fail> {
+    let mut controller = restarted(&rt, rt.alloc())?;
+    assert_eq!(rt; controller.read(), 6);
+    let kind = NoticeKind::Got(accept()?);
+    assert_eq!(rt;
+        see(&rt, &mut controller, 6, Share::Took(accept()?)),
+        Some(Notice { slot: 6, kind })
+    );
+    assert_eq!(rt; controller.read(), 7);
     Ok(())
 }

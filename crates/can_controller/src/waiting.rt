@@ -1,12 +1,12 @@
-ghost use Rattle.std.specs.Prelude.{◌≡◌, ◌<◌, ◌+◌, ◌==◌, ◌⊎◌, not, [], length, filter, slice_get, All, IfOk, IfErr, IfSome};
+ghost use Rattle.std.specs.Prelude.{◌≡◌, ◌≢◌, ◌<◌, ◌+◌, ◌==◌, ◌⊎◌, false, not, [], length, filter, slice_get, All, IfOk, IfErr, IfSome, IfNone};
 ghost use Rattle.std.specs.List.{list_any};
-ghost use Rattle.cany_base.specs.Frame.{FrameParts, identifier_of, key_of};
+ghost use Rattle.cany_base.specs.Frame.{FrameParts, has_incarnation, identifier_of, key_of};
 ghost use Rattle.cany_model.specs.Bus.Frames.{identity_of};
 ghost use Rattle.cany_model.specs.Bus.Slot.{least_frame, after_share};
 ghost use Rattle.cany_model.specs.Bus.State.{NodeState};
 ghost use Rattle.cany_model.specs.Bus.Waiting.{waits, with_frame, without};
-ghost use Rattle.can_frame.specs.Identifier.{FitsFormat};
-ghost use Rattle.can_controller.specs.Waiting.{IsAscending, IsPlaceOf, IsGapFor, HasRoomFor};
+ghost use Rattle.can_frame.specs.Identifier.{FitsFormat, FitsIdentifier};
+ghost use Rattle.can_controller.specs.Waiting.{IsAscending, IsPlaceOf, IsGapFor, HasRoomFor, identity_number};
 
 use crate::identity::same_identity;
 use can_frame::identifier;
@@ -15,8 +15,8 @@ use cany_model::Share;
 use std::alloc::Global;
 use std::marker::Model;
 
-/// The frames that a controller waits to send, at most one of an identity. They stand ascending by identifier, which is the
-/// order in which they win, in memory that is all taken at the start.
+/// The frames that a controller waits to send, at most one of an identity. They stand ascending by identity, which is the order in
+/// which they win, in memory that is all taken at the start.
 #[derive(Debug, Drop)]
 pub(crate) struct Waiting {
     format: Format,
@@ -35,30 +35,59 @@ impl Model for Waiting {
     ghost invariant = { λ w. IsKept w.format w.frames.items w.room (vec_capacity w.frames) };
 }
 
-/// The place of the frame of this identifier, or else the place at which it would stand.
+/// The identifier of a frame but for the incarnation: it tells the frame's identity.
+fn identity_number(format: Format, frame: &Frame) -> u32
+    requires { FitsFormat format frame.now }
+    ensures number { result ≡ identity_number format frame.now }
+    ensures fits { FitsIdentifier format frame.now }
+{
+    identifier(format, frame) - u32::from(frame.inc)
+}
+
+/// The place of the frame of this identity, or else the place at which it would stand.
 ///
 /// It is written by hand since std's search may ask for the key of any frame, and only one that fits has an identifier.
-fn find(format: Format, frames: &[Frame], ident: u32) -> Result<usize, usize>
-    requires fit { All (FitsFormat format) frames.now }
+fn find(format: Format, frames: &[Frame], number: u32) -> Result<usize, usize>
+    requires fit { All (FitsIdentifier format) frames.now }
     requires ascending { IsAscending format frames.now }
-    ensures found { IfOk result (λ place. IsPlaceOf format ident place frames.now) }
-    ensures absent { IfErr result (λ place. IsGapFor format ident place frames.now) }
+    ensures found { IfOk result (λ place. IsPlaceOf (identity_number format) number place frames.now) }
+    ensures absent { IfErr result (λ place. IsGapFor (identity_number format) number place frames.now) }
 {
     let mut low = 0;
     let mut high = frames.len();
     while low < high {
         let middle = low + (high - low) / 2;
-        let there = identifier(format, &frames[middle]);
-        if there == ident {
+        let there = identity_number(format, &frames[middle]);
+        if there == number {
             return Ok(middle);
         }
-        if there < ident {
+        if there < number {
             low = middle + 1;
         } else {
             high = middle;
         }
     }
     Err(low)
+}
+
+/// The place of the frame of this identifier, if there is one.
+fn place_of(format: Format, frames: &[Frame], ident: u32) -> Option<usize>
+    requires fit { All (FitsIdentifier format) frames.now }
+    requires ascending { IsAscending format frames.now }
+    ensures found { IfSome result (λ place. IsPlaceOf (identifier_of format) ident place frames.now) }
+    ensures absent { IfNone result (All (λ f. identifier_of format f ≢ ident) frames.now) }
+{
+    // The incarnation is in the low four bits.
+    match find(format, frames, ident - ident % 16) {
+        Ok(place) => {
+            if identifier(format, &frames[place]) == ident {
+                Some(place)
+            } else {
+                None
+            }
+        }
+        Err(_) => None,
+    }
 }
 
 impl Waiting {
@@ -80,8 +109,8 @@ impl Waiting {
         requires room { HasRoomFor frame self.old.frames self.old.room }
         ensures { self.new ≡ record self.old { frames = with_frame frame self.old.frames } }
     {
-        let ident = identifier(self.format, &frame);
-        match find(self.format, self.frames.as_slice(), ident) {
+        let number = identity_number(self.format, &frame);
+        match find(self.format, self.frames.as_slice(), number) {
             Ok(place) => self.frames[place] = frame,
             Err(place) => {
                 // The room was made at the start.
@@ -94,12 +123,20 @@ impl Waiting {
     pub(crate) fn withdraw(&mut self, ident: u32)
         ensures by_identifier { let others = filter (λ f. not (identifier_of self.old.format f == ident)) self.old.frames in
             self.new ≡ record self.old { frames = others } }
-        ensures by_identity { (f : FrameParts) → FitsFormat self.old.format f → identifier_of self.old.format f ≡ ident →
+        ensures by_identity { (f : FrameParts) → FitsIdentifier self.old.format f → has_incarnation f.class ≡ false →
+            identifier_of self.old.format f ≡ ident →
             self.new.frames ≡ without (identity_of f) self.old.frames }
     {
-        if let Ok(place) = find(self.format, self.frames.as_slice(), ident) {
+        if let Some(place) = place_of(self.format, self.frames.as_slice(), ident) {
             self.frames.remove(place);
         }
+    }
+
+    /// Removes all frames, and keeps the memory.
+    pub(crate) fn clear(&mut self)
+        ensures { self.new ≡ record self.old { frames = [] } }
+    {
+        self.frames.clear();
     }
 
     /// Removes the frame that the controller sent with success, if the share says so.
@@ -127,10 +164,11 @@ impl Waiting {
     /// Whether a frame of this identifier waits.
     pub(crate) fn waits(&self, ident: u32) -> bool
         ensures by_identifier { result ≡ list_any (λ f. identifier_of self.now.format f == ident) self.now.frames }
-        ensures by_identity { (f : FrameParts) → FitsFormat self.now.format f → identifier_of self.now.format f ≡ ident →
+        ensures by_identity { (f : FrameParts) → FitsIdentifier self.now.format f → has_incarnation f.class ≡ false →
+            identifier_of self.now.format f ≡ ident →
             result ≡ waits (identity_of f) self.now.frames }
     {
-        find(self.format, self.frames.as_slice(), ident).is_ok()
+        place_of(self.format, self.frames.as_slice(), ident).is_some()
     }
 
     /// How many frames more may wait.
@@ -154,7 +192,7 @@ impl Waiting {
         ensures least { result ≡ least_frame self.now.frames }
         ensures least_key { let key = key_of self.now.format in
             IfSome result (λ f. All (λ g. (g ≡ f) ⊎ (key f < key g)) self.now.frames) }
-        ensures fits { IfSome result (λ f. FitsFormat self.now.format f) }
+        ensures fits { IfSome result (FitsIdentifier self.now.format) }
     {
         self.frames.first().copied()
     }

@@ -1,4 +1,5 @@
 use Rattle.std.proofs.Common.{◌-◌, ◌≤◌, length, take, drop}
+use Rattle.can_controller.specs.Waiting.{identity_number}
 use Rattle.can_controller.proofs.AscendingFacts.{AllBelow, AllAbove}
 use Rattle.can_controller.proofs.waiting.find.Given as goal
 
@@ -6,8 +7,8 @@ abbrev pub invariant-loop-low : goal.invariant-loop-low
 invariant-loop-low l = record {
   ordered : l.low ≤ l.high;
   within : l.high ≤ length l.frames;
-  below : AllBelow l.format l.ident (take l.low l.frames);
-  above : AllAbove l.format l.ident (drop l.high l.frames);
+  below : AllBelow (identity_number l.format) l.number (take l.low l.frames);
+  above : AllAbove (identity_number l.format) l.number (drop l.high l.frames);
 }
 
 abbrev pub decreases-loop-low : goal.decreases-loop-low

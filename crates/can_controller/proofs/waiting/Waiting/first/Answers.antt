@@ -1,7 +1,7 @@
 use Rattle.std.proofs.Common.{◌∙◌, ap, List}
 use Rattle.std.specs.Prelude.{slice_get}
 use Rattle.cany_base.specs.Frame.{FrameParts}
-use Rattle.can_controller.proofs.PlaceFacts.{first_is_least, head_has_least_key}
+use Rattle.can_controller.proofs.OrderFacts.{ascending_identifiers, first_is_least, head_has_least_key}
 use Rattle.can_controller.proofs.waiting.Waiting.first.Goals as goal
 
 pub returns-clause-least : goal.returns-clause-least
@@ -13,4 +13,5 @@ returns-clause-least c =
 pub returns-clause-least_key : goal.returns-clause-least_key
 returns-clause-least_key c =
     rw (← c.self.view_is, c.copied.ensures, c.first.ensures.value, c.deref.ensures.value)
-    (head_has_least_key c.self.inside.format c.self.inside.frames.items c.self.invariant.ascending)
+    (head_has_least_key c.self.inside.format c.self.inside.frames.items
+    (ascending_identifiers c.self.inside.format c.self.inside.frames.items c.self.invariant.fit c.self.invariant.ascending))
