@@ -20,17 +20,20 @@ use Rattle.can_frame.specs.Identifier.{HasSmallNumbers}
 use Rattle.cany_message.specs.Numbers.{frame_number}
 use Rattle.cany_message.specs.Table.{CanTake, frame_identity}
 use Rattle.cany_message.proofs.DeliveryFacts.{both_actions, delivery_got, delivery_sent, no_actions}
+use Rattle.cany_message.proofs.FollowedFacts.{legal_for, table_for}
 use Rattle.cany_message.proofs.HistoryFacts.{brought, has_own-more, identity_is}
 use Rattle.cany_message.proofs.NoticeFacts.{got_names, got_small, sent_names}
 use Rattle.cany_message.proofs.TableFacts.{IsOther, can_take, table_got, table_other, table_sent}
 use Rattle.cany_model.specs.Bus.Frames.{identity_of, same_class}
 use Rattle.cany_model.specs.Bus.History.{copies, has_own}
+use Rattle.cany_model.specs.Bus.State.{Incarnation}
 use Rattle.cany_model.specs.Rules.Actions.{actions_of}
 use Rattle.cany_model.specs.Rules.Delivery.{brings, delivery_effects}
 use Rattle.cany_model.specs.Rules.Eager.{eager_effects}
 use Rattle.cany_model.specs.Rules.Edcan.{edcan_at, edcan_effects}
 use Rattle.cany_model.specs.Rules.Effect.{Ask, Withdraw}
 use Rattle.cany_model.specs.Rules.Notices.{IsNextNotice}
+use Rattle.cany_model.specs.Rules.Turn.{scenario_for}
 use Rattle.cany_model.proofs.Bus.Identities.{same_class-true}
 use Rattle.cany_edcan.specs.Edcan.{EdcanParts, IsEdcanOf, CanRead, of_all}
 use Rattle.cany_edcan.specs.EdcanSteps.{was_delivered, relay_actions}
@@ -45,6 +48,16 @@ at_own_node scenario i past v h = subst (λ n. IsEdcanOf scenario n past v) (sym
 pub can_read : (scenario : ScenarioParts) (i : ℕ) (past : List NoticeKind) (v : EdcanParts) (notice : Notice) → IsEdcanOf scenario i past v
     → IsNextNotice scenario past notice → CanRead v notice
 can_read scenario i past v notice stands next = record { scenario = scenario; past = past; stands = at_own_node scenario i past v stands; next = next }
+
+-- a value stands for the same as an incarnation follows the scenario
+pub edcan_for : (scenario : ScenarioParts) (inc : Incarnation) (i : ℕ) (past : List NoticeKind) (v : EdcanParts) → IsEdcanOf scenario i past v
+    → IsEdcanOf (scenario_for scenario inc) i past v
+edcan_for scenario inc i past v h = record {
+  legal = legal_for scenario inc h.legal;
+  node = h.node;
+  format = h.format;
+  copies = table_for scenario inc class.Ed of_all past v.copies h.copies;
+}
 
 -- ---- a data frame
 

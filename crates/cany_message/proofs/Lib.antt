@@ -1,5 +1,6 @@
 pub mod DeliveryFacts
 pub mod FewSendsFacts
+pub mod FollowedFacts
 pub mod HistoryFacts
 pub mod KeyFacts
 pub mod NoticeFacts

@@ -4,11 +4,14 @@ use Rattle.cany_base.specs.declared.actions.Action.{Action}
 use Rattle.cany_base.specs.declared.actions.Action.TheVariants.{Withdraw, Enter}
 use Rattle.cany_base.specs.declared.frame.Format.{Format}
 use Rattle.cany_base.specs.declared.message.Service.{Service}
-use Rattle.cany_base.specs.Frame.{FrameParts, identifier_of}
+use Rattle.cany_base.specs.Frame.{FrameParts}
+use Rattle.cany_model.specs.Bus.Frames.{identity_of}
+use Rattle.cany_model.specs.Rules.Actions.{ident_of}
 use Rattle.cany_model.specs.Rules.Delivery.{delivery}
 
 abbrev pub delivery_actions : Service → ℕ → Bool → FrameParts → List Action
 delivery_actions service slot delivers f = if delivers then Enter (delivery slot service f) ∷ [] else []
 
+-- a protocol names no incarnation: its node does
 abbrev pub withdraw_actions : Format → Bool → FrameParts → List Action
-withdraw_actions format withdraws f = if withdraws then Withdraw (identifier_of format f) ∷ [] else []
+withdraw_actions format withdraws f = if withdraws then Withdraw (ident_of format (identity_of f)) ∷ [] else []

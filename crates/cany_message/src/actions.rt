@@ -25,7 +25,7 @@ pub fn deliver(service: Service, slot: Slot, frame: &Frame, delivers: bool, out:
     }
 }
 
-/// Withdraws a frame, or does nothing. The format is that of the scenario.
+/// Withdraws the frame of this frame's identity, or does nothing. The format is that of the scenario. No incarnation is named.
 pub fn withdraw(format: Format, frame: &Frame, withdraws: bool, out: &mut Actions)
     requires small { HasSmallNumbers format frame.now }
     requires room { length out.old.items < out.old.room }
@@ -35,7 +35,8 @@ pub fn withdraw(format: Format, frame: &Frame, withdraws: bool, out: &mut Action
 {
     if withdraws {
         small_numbers_fit(format);
-        let ident = identifier(format, frame);
+        let named = Frame { inc: 0, ..*frame };
+        let ident = identifier(format, &named);
         out.push(Action::Withdraw { ident });
     }
 }

@@ -1,5 +1,5 @@
 -- What a node may ask for fits the identifiers, and a turn names nothing else.
-use Rattle.std.proofs.Common.{◌≡◌, ℕ, ◌<◌, ◌||◌, true, inl, inr, List, [], ◌∷◌, length, Contains, Option, Some, None, is_some, refl, ap, sym, ◌∙◌, subst, arith}
+use Rattle.std.proofs.Common.{false, ◌≡◌, ℕ, ◌<◌, ◌||◌, true, inl, inr, List, [], ◌∷◌, length, Contains, Option, Some, None, is_some, refl, ap, sym, ◌∙◌, subst, arith}
 use Rattle.std.specs.List.{AllByRecursion}
 use Rattle.std.proofs.lemmas.Bool.{false≢true, or_cases}
 use Rattle.cany_base.specs.declared.frame.Class.{Class}
@@ -8,7 +8,7 @@ use Rattle.cany_base.specs.declared.message.Service.{Service}
 use Rattle.cany_base.specs.declared.message.Service.TheVariants as service
 use Rattle.cany_base.specs.declared.notice.NoticeKind.{NoticeKind}
 use Rattle.cany_base.specs.declared.notice.NoticeKind.TheVariants.{Got, Sent}
-use Rattle.cany_base.specs.Frame.{FrameParts, data_class}
+use Rattle.cany_base.specs.Frame.{FrameParts, data_class, has_incarnation}
 use Rattle.cany_base.specs.Scenario.{ScenarioParts, IsLegalScenario}
 use Rattle.cany_model.specs.Bus.Frames.{Identity, bare, identity_of, same_class}
 use Rattle.cany_model.specs.Bus.History.{copies, is_got}
@@ -40,6 +40,22 @@ askable_fits scenario x legal is = by_service (service_of x.class) is
     by_service (Some by) m =
         let small = message_is_small scenario by x legal m in
         small_fits scenario.params.format (bare x) (small.number, omega (arith, small.node, legal.in_range.nodes.1))
+
+-- nothing that is asked for tells an incarnation
+pub askable_plain : (scenario : ScenarioParts) (x : Identity) → IsAskable scenario x → has_incarnation x.class ≡ false
+askable_plain scenario x is = by_class x.class is
+  where
+    by_class : (c : Class) → IsAskableBy scenario x (service_of c) → has_incarnation c ≡ false
+    by_class class.Accept h = refl
+    by_class class.Rha h = absurd h
+    by_class class.Els h = absurd h
+    by_class class.Fda h = refl
+    by_class class.Join h = absurd h
+    by_class class.Leave h = absurd h
+    by_class class.Confirm h = refl
+    by_class class.Tot h = refl
+    by_class class.Rel h = refl
+    by_class class.Ed h = refl
 
 -- ---- a frame that was read, and one that is asked for
 
@@ -101,7 +117,7 @@ asked_askable : (scenario : ScenarioParts) (i : ℕ) (past : List NoticeKind) (f
     → MayAsk scenario i past f → IsAskable scenario (identity_of f)
 asked_askable scenario i past f readable of (relays relayed got) =
     read_askable scenario past f readable (Among-weaker (λ n. n ≡ Got f) (Has f) (λ n e. inl e) past got) of
-asked_askable scenario i past f readable of (originates m is origin slot frame) =
+asked_askable scenario i past f readable of (originates m is origin slot late frame) =
     subst (λ g. IsAskable scenario (identity_of g)) frame (message_askable scenario m (Contains-from_Among (messages_of scenario.sends) m is))
 asked_askable scenario i past f readable of (confirms g sent rel own frame) =
     subst (λ h. IsAskable scenario (identity_of h)) frame

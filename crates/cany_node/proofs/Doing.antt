@@ -19,13 +19,13 @@ use Rattle.can_controller.specs.Waiting.{IsAscending}
 use Rattle.cany_base.specs.declared.frame.Format.{Format}
 use Rattle.cany_node.specs.Apply.{AreAskable, NamesAskable, AreDone, CanApply, CanDo, WithdrawsFitting}
 use Rattle.cany_node.proofs.Applying.{Stands, stands, each-front, each-at, done-then}
-use Rattle.cany_node.proofs.Askable.{askable_fits}
+use Rattle.cany_node.proofs.Askable.{askable_fits, askable_plain}
 use Rattle.cany_node.proofs.Filled.{waiting_below}
 
 pub withdraws_fitting : (scenario : ScenarioParts) (effect : Effect) → IsLegalScenario scenario → NamesAskable scenario effect
     → WithdrawsFitting scenario.params.format effect
 withdraws_fitting scenario (Ask f) legal is = tt
-withdraws_fitting scenario (Withdraw x) legal is = askable_fits scenario x legal is
+withdraws_fitting scenario (Withdraw x) legal is = let plain = askable_plain scenario x is in ((askable_fits scenario x legal is, rw plain (omega arith)), plain)
 withdraws_fitting scenario (Enter entry) legal is = tt
 
 pub asks_askable : (scenario : ScenarioParts) (effects : List Effect) → AllByRecursion (NamesAskable scenario) effects

@@ -27,27 +27,27 @@ use Rattle.cany_model.proofs.Rules.LogFacts.{log_once, log_split, made_by}
 use Rattle.cany_model.proofs.Rules.MessageKeys.{IsOneOf, length-messages_of, same_message}
 use Rattle.cany_model.proofs.Rules.ProtocolFacts.{IsFoundedEntry, IsLawful, log_by}
 use Rattle.cany_model.proofs.Rules.RoomFacts.{few_waiting, pigeonhole}
-use Rattle.can_controller.specs.Waiting.{IsAscending}
+use Rattle.can_controller.specs.Waiting.{IsAscending, identity_number}
 use Rattle.cany_node.specs.Apply.{AreAskable}
 use Rattle.cany_node.specs.Node.{AreReadable}
 use Rattle.cany_node.proofs.Askable.{read_belongs}
 
 -- ---- the waiting frames
 
-is_of-ident : (format : Format) (x : Identity) (f : FrameParts) → is_of x f ≡ true → identifier_of format (bare x) ≡ identifier_of format f
+is_of-ident : (format : Format) (x : Identity) (f : FrameParts) → is_of x f ≡ true → identifier_of format (bare x) ≡ identity_number format f
 is_of-ident format x f is = ap (λ y. identifier_of format (bare y)) (same_identity-true x (identity_of f) is)
 
-none_above : (format : Format) (x : Identity) (n : ℕ) (w : List FrameParts) → identifier_of format (bare x) ≡ n → All (λ g. n < identifier_of format g) w → count_by (is_of x) w ≡ 0
+none_above : (format : Format) (x : Identity) (n : ℕ) (w : List FrameParts) → identifier_of format (bare x) ≡ n → All (λ g. n < identity_number format g) w → count_by (is_of x) w ≡ 0
 none_above format x n [] is up = refl
 none_above format x n (g ∷ w) is up = elim (cases_Bool (is_of x g)) [
-  | inl same ↦ absurd (omega (arith, is, is_of-ident format x g same, All-head (λ h. n < identifier_of format h) g w up))
-  | inr other ↦ count-no (is_of x) g w other ∙ none_above format x n w is (All-tail (λ h. n < identifier_of format h) g w up)
+  | inl same ↦ absurd (omega (arith, is, is_of-ident format x g same, All-head (λ h. n < identity_number format h) g w up))
+  | inr other ↦ count-no (is_of x) g w other ∙ none_above format x n w is (All-tail (λ h. n < identity_number format h) g w up)
 ]
 
 ascending_distinct : (format : Format) (w : List FrameParts) → IsAscending format w → (x : Identity) → count_by (is_of x) w ≤ 1
 ascending_distinct format [] up x = omega arith
 ascending_distinct format (f ∷ w) up x = elim (cases_Bool (is_of x f)) [
-  | inl same ↦ omega (arith, count-yes (is_of x) f w same, none_above format x (identifier_of format f) w (is_of-ident format x f same) up.0)
+  | inl same ↦ omega (arith, count-yes (is_of x) f w same, none_above format x (identity_number format f) w (is_of-ident format x f same) up.0)
   | inr other ↦ omega (arith, count-no (is_of x) f w other, ascending_distinct format w up.1 x)
 ]
 

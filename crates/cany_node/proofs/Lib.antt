@@ -2,9 +2,12 @@ pub mod AgendaFacts
 pub mod Applying
 pub mod Askable
 pub mod AskedFacts
+pub mod Beginning
 pub mod Doing
 pub mod Filled
+pub mod Hearing
 pub mod MessageLists
+pub mod PassFacts
 pub mod SendFacts
 pub mod TurnSteps
 pub mod WholeTurn

@@ -9,8 +9,8 @@ use Rattle.cany_base.specs.declared.frame.Format.{Format}
 use Rattle.cany_base.specs.Scenario.{ScenarioParts}
 use Rattle.cany_model.specs.Rules.Actions.{action_of, actions_of}
 use Rattle.cany_model.specs.Rules.Effect.{Effect, Ask}
-use Rattle.cany_model.specs.Rules.Messages.{Message, messages_of, data_frame}
-use Rattle.cany_model.specs.Rules.Sends.{is_sent_at_once, is_sent_in}
+use Rattle.cany_model.specs.Rules.Messages.{Message, data_frame}
+use Rattle.cany_model.specs.Rules.Sends.{is_sent_at_once, is_sent_in, sendable}
 use Rattle.cany_node.specs.declared.agenda.Planned.{Planned}
 use Rattle.cany_node.proofs.AgendaFacts.{filter_both}
 use Rattle.cany_node.specs.Agenda.{AgendaParts, message_from, is_for, is_due, IsRising, IsAgendaOf, asked_by, asks_for, sent_asks}
@@ -53,7 +53,7 @@ asks-from_slot i slot planned messages same =
     ∙ filter_agree (λ m. is_due i slot m && is_sent_at_once m.service) (is_sent_in i slot) (λ m. turned (m.origin == i) (m.slot == slot) (is_sent_at_once m.service)) messages)
 
 -- where all are for later slots, none is for this one
-none_for : (s n : ℕ) (planned : List Planned) → s < n → IsRising n planned → filter (is_for s) planned ≡ []
+pub none_for : (s n : ℕ) (planned : List Planned) → s < n → IsRising n planned → filter (is_for s) planned ≡ []
 unfolding IsRising
 none_for s n [] less up = refl
 none_for s n (p ∷ planned) less up = rw (other_slot p.slot s (omega (arith, up.0))) (none_for s p.slot planned (omega (arith, up.0)) up.1)
@@ -99,8 +99,8 @@ keeps-more i slot old mid new before between after p keeps split at same made =
 -- once no more is for the slot
 pub all_asked : (scenario : ScenarioParts) (i slot : ℕ) (old new : AgendaParts) (before after : List Action) → KeepsSending i slot old new before after
     → (IsRising slot new.left → IsRising (slot + 1) new.left) → IsAgendaOf scenario i slot old
-    → after ≡ before ++ actions_of scenario.params.format (sent_asks i slot (messages_of scenario.sends))
+    → after ≡ before ++ actions_of scenario.params.format (sent_asks i slot (sendable scenario slot))
 all_asked scenario i slot old new before after keeps later is =
     let none : asks_for i slot new.left ≡ [] = none_asked i slot (slot + 1) new.left (omega arith) (later (keeps.rising is.rising)) in
     sym (append-nil after) ∙ ap (λ es. after ++ actions_of scenario.params.format es) (sym none) ∙ keeps.asks scenario.params.format
-    ∙ ap (λ es. before ++ actions_of scenario.params.format es) (asks-from_slot i slot old.left (messages_of scenario.sends) (is.left slot (omega arith)))
+    ∙ ap (λ es. before ++ actions_of scenario.params.format es) (asks-from_slot i slot old.left (sendable scenario slot) (is.left slot (omega arith)))

@@ -12,12 +12,11 @@ use Rattle.cany_model.specs.Rules.Actions.{action_of, actions_of}
 use Rattle.cany_model.specs.Rules.Edcan.{edcan, edcan_effects}
 use Rattle.cany_model.specs.Rules.Effect.{Effect, entered}
 use Rattle.cany_model.specs.Rules.Log.{log_from}
-use Rattle.cany_model.specs.Rules.Messages.{messages_of}
 use Rattle.cany_model.specs.Rules.Notices.{IsNextNotice, IsReadable}
 use Rattle.cany_model.specs.Rules.Protocol.{Protocol}
 use Rattle.cany_model.specs.Rules.Relcan.{relcan, relcan_effects}
 use Rattle.cany_model.specs.Rules.Rooms.{waiting_room, actions_room}
-use Rattle.cany_model.specs.Rules.Sends.{scripted_sends, send_effects}
+use Rattle.cany_model.specs.Rules.Sends.{scripted_sends, send_effects, sendable}
 use Rattle.cany_model.specs.Rules.Turn.{protocols, turn_effects}
 use Rattle.can_controller.specs.Controller.{ControllerState}
 use Rattle.cany_edcan.specs.Edcan.{IsEdcanOf}
@@ -64,15 +63,15 @@ module _ (scenario : ScenarioParts) (past : List NoticeKind) (notice : Notice) (
   unfolding turn_effects
   leads_first start none = record { all = ap (λ x. x ++ actions_of scenario.params.format (turn_effects scenario v.node (notice.kind ∷ past))) none }
 
-  sends_are : actions_of scenario.params.format (sent_asks v.node notice.slot (messages_of scenario.sends)) ≡ actions_of scenario.params.format (send_effects scenario v.node (notice.kind ∷ past))
+  sends_are : actions_of scenario.params.format (sent_asks v.node notice.slot (sendable scenario notice.slot)) ≡ actions_of scenario.params.format (send_effects scenario v.node (notice.kind ∷ past))
   unfolding send_effects
-  sends_are = ap (λ n. actions_of scenario.params.format (sent_asks v.node n (messages_of scenario.sends))) next.slot
+  sends_are = ap (λ n. actions_of scenario.params.format (sent_asks v.node n (sendable scenario n))) next.slot
 
   -- what is listed when all of them have spoken
   pub listed : (start heard told sent : List Action) → start ≡ []
       → heard ≡ start ++ actions_of scenario.params.format (edcan_effects scenario v.edcan.node (notice.kind ∷ past))
       → told ≡ heard ++ actions_of scenario.params.format (relcan_effects scenario v.relcan.node (notice.kind ∷ past))
-      → sent ≡ told ++ actions_of scenario.params.format (sent_asks v.node notice.slot (messages_of scenario.sends)) → sent ≡ actions_of scenario.params.format effects
+      → sent ≡ told ++ actions_of scenario.params.format (sent_asks v.node notice.slot (sendable scenario notice.slot)) → sent ≡ actions_of scenario.params.format effects
   listed start heard told sent none ed rel sends =
       let one : Leads (relcan ∷ scripted_sends ∷ []) heard = leads_more edcan v.edcan.node (leads_first start none) stands.edcan.node ed in
       let two : Leads (scripted_sends ∷ []) told = leads_more relcan v.relcan.node one stands.relcan.limits.node rel in
@@ -126,11 +125,12 @@ module _ (scenario : ScenarioParts) (past : List NoticeKind) (notice : Notice) (
   done actions ctl ctl' log log' all format are = all scenario effects stands.legal format are names
 
   -- the node after the turn
-  pub stands_after : (v' : NodeParts) → v'.node ≡ v.node → v'.log ≡ v.log ++ entered effects → v'.room ≡ v.room → v'.read ≡ notice.slot + 1
+  pub stands_after : (v' : NodeParts) → v'.node ≡ v.node → v'.from ≡ v.from → v'.log ≡ v.log ++ entered effects → v'.room ≡ v.room → v'.read ≡ notice.slot + 1
       → IsEdcanOf scenario v.edcan.node (notice.kind ∷ past) v'.edcan → IsRelcanOf scenario v.relcan.node (notice.kind ∷ past) v'.relcan → IsAgendaOf scenario v.node (notice.slot + 1) v'.agenda
       → IsNodeOf scenario (notice.kind ∷ past) v'
-  stands_after v' node log room read edcan relcan agenda = record {
+  stands_after v' node from log room read edcan relcan agenda = record {
     legal = stands.legal;
+    from = from ∙ stands.from;
     log = logged v'.log log ∙ ap (λ i. log_from scenario i (notice.kind ∷ past)) (sym node);
     room = room ∙ stands.room;
     read = omega (arith, read, next.slot);

@@ -8,7 +8,7 @@ use Rattle.cany_model.specs.Rules.Effect.{waiting_after}
 use Rattle.cany_model.specs.Rules.Notices.{IsNextNotice}
 use Rattle.cany_model.specs.Rules.Turn.{turn_effects}
 use Rattle.can_controller.specs.Controller.{ControllerState}
-use Rattle.cany_node.specs.Node.{NodeParts, IsNodeOf, Reads, IsTurnOf, turned}
+use Rattle.cany_node.specs.Node.{NodeParts, IsNodeOf, Reads, IsTurnOf, heard_by, turned}
 
 -- the controller once the notice is read
 abbrev pub notice_read : ℕ → ControllerState → ControllerState
@@ -18,21 +18,24 @@ notice_read most ctl = record ctl { unread = drop 1 ctl.unread; read = min (ctl.
 abbrev pub acted : ScenarioParts → List NoticeKind → ℕ → Notice → ControllerState → ControllerState
 acted scenario past i notice ctl = record ctl { waiting = waiting_after (turn_effects scenario i (notice.kind ∷ past)) ctl.waiting }
 
-pub whole_turn : (scenario : ScenarioParts) (past : List NoticeKind) (notice found : Notice) (v v' : NodeParts) (ctl mid ctl' : ControllerState) (most : ℕ)
-    → Reads scenario past notice v ctl → Some found ≡ slice_get ctl.unread 0 → mid ≡ notice_read most ctl → ctl.read < most
-    → ((s : ScenarioParts) (p : List NoticeKind) → IsNodeOf s p v → IsNextNotice s p found → ctl' ≡ acted s p v.node found mid)
-    → ((s : ScenarioParts) (p : List NoticeKind) → IsNodeOf s p v → IsNextNotice s p found → IsNodeOf s (found.kind ∷ p) v')
+-- `given` is what the controller gives, and `told` is what the node hears of it
+pub whole_turn : (scenario : ScenarioParts) (past : List NoticeKind) (notice given told : Notice) (v v' : NodeParts) (ctl mid ctl' : ControllerState) (most : ℕ)
+    → Reads scenario past notice v ctl → Some given ≡ slice_get ctl.unread 0 → told ≡ heard_by v given → mid ≡ notice_read most ctl → ctl.read < most
+    → ((s : ScenarioParts) (p : List NoticeKind) → IsNodeOf s p v → IsNextNotice s p told → ctl' ≡ acted s p v.node told mid)
+    → ((s : ScenarioParts) (p : List NoticeKind) → IsNodeOf s p v → IsNextNotice s p told → IsNodeOf s (told.kind ∷ p) v')
     → IsTurnOf scenario past notice v v' ctl ctl'
-whole_turn scenario past notice found v v' ctl mid ctl' most reads oldest is few controls stands =
-    let one : Some found ≡ Some notice = oldest ∙ reads.oldest in
-    let same : notice ≡ found = cc in
-    let next : IsNextNotice scenario past found = subst (IsNextNotice scenario past) same reads.next in
+whole_turn scenario past notice given told v v' ctl mid ctl' most reads oldest hears is few controls stands =
+    let one : Some given ≡ Some notice = oldest ∙ reads.oldest in
+    let same : notice ≡ given = cc in
+    let heard : heard_by v notice ≡ told = ap (heard_by v) same ∙ sym hears in
+    let next : IsNextNotice scenario past told = subst (IsNextNotice scenario past) heard reads.next in
     let read : min (ctl.read + 1) most ≡ ctl.read + 1 = omega arith in
-    let after : ctl' ≡ turned (turn_effects scenario v.node (notice.kind ∷ past)) ctl =
-    controls scenario past reads.stands next ∙ ap (acted scenario past v.node found) is
-    ∙ ap (λ (n : Notice). acted scenario past v.node n (notice_read most ctl)) (sym same)
-    ∙ ap (λ n. record ctl { unread = drop 1 ctl.unread; read = n; waiting = waiting_after (turn_effects scenario v.node (notice.kind ∷ past)) ctl.waiting }) read in
+    let kind : NoticeKind = (heard_by v notice).kind in
+    let after : ctl' ≡ turned (turn_effects scenario v.node (kind ∷ past)) ctl =
+    controls scenario past reads.stands next ∙ ap (acted scenario past v.node told) is
+    ∙ ap (λ (n : Notice). acted scenario past v.node n (notice_read most ctl)) (sym heard)
+    ∙ ap (λ n. record ctl { unread = drop 1 ctl.unread; read = n; waiting = waiting_after (turn_effects scenario v.node (kind ∷ past)) ctl.waiting }) read in
     record {
       controller = after;
-      stands = subst (λ (n : Notice). IsNodeOf scenario (n.kind ∷ past) v') (sym same) (stands scenario past reads.stands next);
+      stands = subst (λ (n : Notice). IsNodeOf scenario (n.kind ∷ past) v') (sym heard) (stands scenario past reads.stands next);
     }

@@ -1,18 +1,18 @@
 -- What becomes of a controller and a log as actions are done.
-use Rattle.std.specs.Prelude.{◌≡◌, ◌≤◌, ◌<◌, ◌+◌, List, length, ◌++◌}
+use Rattle.std.specs.Prelude.{◌≡◌, ◌≤◌, ◌<◌, ◌+◌, false, List, length, ◌++◌}
 use Rattle.std.specs.List.{AllByRecursion}
 use Rattle.cany_base.specs.declared.actions.Action.{Action}
 use Rattle.cany_base.specs.declared.actions.Action.TheVariants as action
 use Rattle.cany_base.specs.declared.frame.Format.{Format}
 use Rattle.cany_base.specs.declared.log_entry.LogEntry.{LogEntry}
 use Rattle.cany_base.specs.Bounded.{Bounded}
-use Rattle.cany_base.specs.Frame.{FrameParts}
+use Rattle.cany_base.specs.Frame.{FrameParts, has_incarnation}
 use Rattle.cany_base.specs.Scenario.{ScenarioParts, IsLegalScenario}
 use Rattle.cany_model.specs.Rules.Actions.{actions_of}
 use Rattle.cany_model.specs.Rules.Effect.{Effect, Ask, Withdraw, Enter, waiting_after, entered}
 use Rattle.cany_model.specs.Bus.Frames.{bare, identity_of}
 use Rattle.cany_model.specs.Rules.Rooms.{IsAskable, waiting_room}
-use Rattle.can_frame.specs.Identifier.{FitsFormat}
+use Rattle.can_frame.specs.Identifier.{FitsFormat, FitsIdentifier}
 use Rattle.can_controller.specs.Controller.{ControllerState}
 use Rattle.can_controller.specs.Waiting.{HasRoomFor}
 
@@ -50,8 +50,8 @@ CanDo (action.Ask f) ctl log = FitsFormat ctl.params.format f × HasRoomFor f ct
 CanDo (action.Withdraw ident) ctl log = Unit {0}
 CanDo (action.Enter entry) ctl log = length log.items < log.room
 
--- what the effect withdraws has an identifier of its own
+-- what the effect withdraws has an identifier of its own, which names no incarnation
 abbrev pub WithdrawsFitting : Format → Effect → Type 0
 WithdrawsFitting format (Ask f) = Unit {0}
-WithdrawsFitting format (Withdraw x) = FitsFormat format (bare x)
+WithdrawsFitting format (Withdraw x) = FitsIdentifier format (bare x) × (has_incarnation x.class ≡ false)
 WithdrawsFitting format (Enter entry) = Unit {0}

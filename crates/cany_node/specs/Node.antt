@@ -1,9 +1,10 @@
 -- What a contract sees of a node, and what a turn does.
-use Rattle.std.specs.Prelude.{◌≡◌, ◌+◌, ℕ, List, [], ◌∷◌, length, drop, slice_get, Option, Some, None}
+use Rattle.std.specs.Prelude.{◌≡◌, ◌+◌, ◌<◌, ◌==◌, ◌&&◌, ℕ, not, nat_lt, if◌then◌else◌, List, [], ◌∷◌, length, drop, replicate, slice_get, Option, Some, None}
 use Rattle.cany_base.specs.declared.actions.Action.{Action}
 use Rattle.cany_base.specs.declared.log_entry.LogEntry.{LogEntry}
 use Rattle.cany_base.specs.declared.notice.Notice.{Notice}
 use Rattle.cany_base.specs.declared.notice.NoticeKind.{NoticeKind}
+use Rattle.cany_base.specs.declared.notice.NoticeKind.TheVariants.{Idle}
 use Rattle.cany_base.specs.Bounded.{Bounded}
 use Rattle.cany_base.specs.Scenario.{ScenarioParts, IsLegalScenario}
 use Rattle.cany_model.specs.Rules.Effect.{Effect, waiting_after}
@@ -16,13 +17,17 @@ use Rattle.cany_edcan.specs.Edcan.{EdcanParts, IsEdcanOf}
 use Rattle.cany_relcan.specs.Relcan.{RelcanParts, IsRelcanOf}
 use Rattle.cany_node.specs.declared.reply.TurnReply.{TurnReply}
 use Rattle.cany_node.specs.declared.reply.TurnReply.TheVariants.{Turned, NothingYet, Stopped}
-use Rattle.cany_node.specs.Agenda.{AgendaParts, IsAgendaOf}
+use Rattle.cany_node.specs.Agenda.{AgendaParts, IsAgendaOf, IsPlanOf}
 use Rattle.cany_node.specs.Apply.{AreAskable}
 
--- its number, its log and how much the log can hold, how many notices it has read, and the parts that its protocols and its
+-- its number, the number of its incarnation, how many slots a restart keeps one from taking part, and the first slot in which
+-- this one does; its log and how much the log can hold, how many notices it has read, and the parts that its protocols and its
 -- scripted sends keep
 pub record NodeParts : Type 0 where
   pub node : ℕ
+  pub inc : ℕ
+  pub delay : ℕ
+  pub from : ℕ
   pub log : List LogEntry
   pub room : ℕ
   pub read : ℕ
@@ -30,14 +35,24 @@ pub record NodeParts : Type 0 where
   pub relcan : RelcanParts
   pub agenda : AgendaParts
 
--- each notice that was read belongs to the scenario
+-- What an incarnation hears of a slot: nothing, before the first in which it takes part. The one of the opening takes part in
+-- all.
+abbrev pub heard : ℕ → ℕ → ℕ → NoticeKind → NoticeKind
+heard inc from slot kind = if not (inc == 0) && nat_lt slot from then Idle else kind
+
+-- the notice as the node hears it
+abbrev pub heard_by : NodeParts → Notice → Notice
+heard_by v notice = record { slot = notice.slot; kind = heard v.inc v.from notice.slot notice.kind }
+
+-- each notice that was heard belongs to the scenario
 abbrev pub AreReadable : ScenarioParts → List NoticeKind → Type 0
 AreReadable scenario [] = Unit {0}
 AreReadable scenario (kind ∷ past) = IsReadable scenario (length past) kind × AreReadable scenario past
 
--- the node stands for what it has read, newest first
+-- the node stands for what it has heard, newest first, in the scenario as its incarnation follows it
 pub record IsNodeOf (scenario : ScenarioParts) (past : List NoticeKind) (v : NodeParts) : Type 0 where
   pub legal : IsLegalScenario scenario
+  pub from : v.from ≡ scenario.from
   pub log : v.log ≡ log_from scenario v.node past
   pub room : v.room ≡ log_room scenario
   pub read : v.read ≡ length past
@@ -45,6 +60,24 @@ pub record IsNodeOf (scenario : ScenarioParts) (past : List NoticeKind) (v : Nod
   pub edcan : IsEdcanOf scenario v.node past v.edcan
   pub relcan : IsRelcanOf scenario v.node past v.relcan
   pub agenda : IsAgendaOf scenario v.node (length past) v.agenda
+
+-- The node was built for a run of the scenario and has made no turn. It stands for nothing yet: its protocols are as they are
+-- after any number of idle slots.
+pub record IsWaiting (scenario : ScenarioParts) (v : NodeParts) : Type 0 where
+  pub legal : IsLegalScenario scenario
+  pub delay : v.delay ≡ scenario.params.bound + scenario.params.lag
+  pub log : v.log ≡ []
+  pub room : v.room ≡ log_room scenario
+  pub edcan : (n : ℕ) → IsEdcanOf scenario v.node (replicate n Idle) v.edcan
+  pub relcan : (n : ℕ) → IsRelcanOf scenario v.node (replicate n Idle) v.relcan
+  pub agenda : IsPlanOf scenario v.node v.agenda
+
+-- the node can begin as an incarnation after a restart at the end of this slot
+pub record CanBegin (v : NodeParts) (restart : ℕ) : Type 0 where
+  pub scenario : ScenarioParts
+  pub waits : IsWaiting scenario v
+  pub later : 0 < v.inc
+  pub within : restart < scenario.params.slots
 
 -- a turn can be made: the controller is that of the node in a run of the scenario, and continues what the node has read
 pub record CanTurn (v : NodeParts) (ctl : ControllerState) (out : Bounded Action) : Type 0 where
@@ -56,12 +89,12 @@ pub record CanTurn (v : NodeParts) (ctl : ControllerState) (out : Bounded Action
   pub params : ctl.params ≡ scenario.params
   pub room : ctl.room ≡ waiting_room scenario
   pub askable : ctl.stopped ≡ None → AreAskable scenario ctl.waiting
-  pub next : (notice : Notice) → slice_get ctl.unread 0 ≡ Some notice → IsNextNotice scenario past notice
+  pub next : (notice : Notice) → slice_get ctl.unread 0 ≡ Some notice → IsNextNotice scenario past (heard_by v notice)
   pub read : ctl.read ≡ length past
   pub free : out.items ≡ []
   pub actions : out.room ≡ actions_room scenario
 
--- the same while the notice is read: what it leads to can be done
+-- the same while the notice is read, as it is heard: what it leads to can be done
 pub record CanAct (v : NodeParts) (notice : Notice) (ctl : ControllerState) (out : Bounded Action) : Type 0 where
   pub scenario : ScenarioParts
   pub past : List NoticeKind
@@ -82,10 +115,10 @@ reply_at read None None = NothingYet read
 abbrev pub reply_of : ControllerState → TurnReply
 reply_of ctl = reply_at ctl.read (slice_get ctl.unread 0) ctl.stopped
 
--- the node reads this notice next, after what it stands for
+-- the node reads this notice next, after what it stands for, and can hear it
 pub record Reads (scenario : ScenarioParts) (past : List NoticeKind) (notice : Notice) (v : NodeParts) (ctl : ControllerState) : Type 0 where
   pub stands : IsNodeOf scenario past v
-  pub next : IsNextNotice scenario past notice
+  pub next : IsNextNotice scenario past (heard_by v notice)
   pub running : ctl.stopped ≡ None
   pub oldest : slice_get ctl.unread 0 ≡ Some notice
 
@@ -97,10 +130,10 @@ turned effects ctl = record ctl {
   waiting = waiting_after effects ctl.waiting;
 }
 
--- the node has read the notice: it stands for one more, and its controller waits with what the rules say
+-- the node has read the notice: it stands for what it heard, and its controller waits with what the rules say
 pub record IsTurnOf (scenario : ScenarioParts) (past : List NoticeKind) (notice : Notice) (v v' : NodeParts) (ctl ctl' : ControllerState) : Type 0 where
-  pub controller : ctl' ≡ turned (turn_effects scenario v.node (notice.kind ∷ past)) ctl
-  pub stands : IsNodeOf scenario (notice.kind ∷ past) v'
+  pub controller : ctl' ≡ turned (turn_effects scenario v.node ((heard_by v notice).kind ∷ past)) ctl
+  pub stands : IsNodeOf scenario ((heard_by v notice).kind ∷ past) v'
 
 -- a node that has stopped, or has nothing to read, stays as it is
 abbrev pub IsRefused : TurnReply → NodeParts → NodeParts → ControllerState → ControllerState → Type 0

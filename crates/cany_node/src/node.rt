@@ -1,12 +1,15 @@
-ghost use Rattle.std.specs.Prelude.{◌≡◌, ◌≢◌, ◌<◌, [], ◌∷◌, List, false, Contains, IfOk};
+ghost use Rattle.std.specs.Prelude.{◌≡◌, ◌≢◌, ◌+◌, ◌<◌, ◌≤◌, [], ◌∷◌, replicate, List, false, Contains, IfOk};
 ghost use Rattle.cany_base.specs.declared.notice.Notice.{Notice};
 ghost use Rattle.cany_base.specs.declared.notice.NoticeKind.{NoticeKind};
+ghost use Rattle.cany_base.specs.declared.notice.NoticeKind.TheVariants.{Idle};
+ghost use Rattle.cany_base.specs.Limits.{most_restarts_of_node};
 ghost use Rattle.cany_base.specs.Scenario.{ScenarioParts};
+ghost use Rattle.cany_model.specs.Bus.State.{Incarnation};
 ghost use Rattle.cany_model.specs.Rules.Messages.{Message, messages_of, message_key};
 ghost use Rattle.cany_model.specs.Rules.Notices.{IsNextNotice};
-ghost use Rattle.cany_model.specs.Rules.Turn.{has_asked, is_ahead_at, turn_effects};
+ghost use Rattle.cany_model.specs.Rules.Turn.{has_asked, is_ahead_at, scenario_for, turn_effects};
 ghost use Rattle.cany_model.specs.Rules.Effect.{waiting_after};
-ghost use Rattle.cany_node.specs.Node.{IsNodeOf, CanTurn, CanAct, Reads, IsTurnOf, IsRefused, reply_of};
+ghost use Rattle.cany_node.specs.Node.{IsNodeOf, IsWaiting, CanBegin, CanTurn, CanAct, Reads, IsTurnOf, IsRefused, heard_by, reply_of};
 
 use crate::agenda::Agenda;
 use crate::apply::apply_all;
@@ -14,18 +17,27 @@ use crate::reply::TurnReply;
 use crate::rooms::log_room;
 use crate::sending::send_due;
 use can_controller::Controller;
-use cany_base::{Actions, BoundedVec, LogEntry, Memory, MsgKey, NodeId, Notice, Scenario, Slot};
+use cany_base::{
+    Actions, BoundedVec, LogEntry, Memory, MsgKey, NodeId, Notice, NoticeKind, Scenario, Slot,
+};
 use cany_edcan::Edcan;
 use cany_relcan::Relcan;
 use std::alloc::Global;
 use std::marker::Model;
 
-/// A node: the protocols that it runs, the scripted sends that it is to make, and its log.
+/// A node, or one incarnation of it: the protocols that it runs, the scripted sends that it is to make, and its log.
 ///
-/// All memory is taken by `build`.
+/// All memory is taken by `build`. An incarnation of a restarted node is built at the opening of the run too, and waits.
 #[derive(Drop)]
 pub struct Node {
     node: NodeId,
+    /// The number of the incarnation, 0 at the opening.
+    inc: u8,
+    /// How many slots a restart keeps an incarnation from taking part.
+    delay: Slot,
+    /// The first slot in which the incarnation takes part: of an earlier one it hears nothing, and makes none of its scripted
+    /// sends.
+    from: Slot,
     read: Slot,
     edcan: Edcan,
     relcan: Relcan,
@@ -40,6 +52,9 @@ impl Model for Node {
 
     ghost view = { λ n. record {
       node = n.node;
+      inc = n.inc;
+      delay = n.delay;
+      from = n.from;
       log = n.log.items;
       room = n.log.room;
       read = n.read;
@@ -50,18 +65,25 @@ impl Model for Node {
 }
 
 impl Node {
-    /// A node of the scenario that has read nothing.
-    pub fn build(alloc: Global, node: NodeId, scenario: &Scenario) -> Result<Node, Memory>
-        requires { node < scenario.now.params.nodes }
+    /// An incarnation of a node of the scenario that has read nothing. That of the opening may read, a later one waits.
+    pub fn build(alloc: Global, node: NodeId, inc: u8, scenario: &Scenario) -> Result<Node, Memory>
+        requires node { node < scenario.now.params.nodes }
+        requires inc { inc ≤ most_restarts_of_node }
         ensures node { IfOk result (λ built. built.node ≡ node) }
-        ensures stands { IfOk result (IsNodeOf scenario.now []) }
+        ensures inc { IfOk result (λ built. built.inc ≡ inc) }
+        ensures stands { IfOk result (λ built. inc ≡ 0 → scenario.now.from ≡ 0 → IsNodeOf scenario.now [] built) }
+        ensures waits { IfOk result (IsWaiting scenario.now) }
     {
+        let params = *scenario.params();
         let edcan = Edcan::build(alloc, node, scenario)?;
         let relcan = Relcan::build(alloc, node, scenario)?;
         let agenda = Agenda::build(alloc, node, scenario)?;
         let log = BoundedVec::build(alloc, log_room(scenario))?;
         Ok(Node {
             node,
+            inc,
+            delay: params.bound + Slot::from(params.lag),
+            from: 0,
             read: 0,
             edcan,
             relcan,
@@ -70,8 +92,23 @@ impl Node {
         })
     }
 
-    /// Reads the oldest unread notice of the controller and does what the rules say: EDCAN, then RELCAN, and then the scripted
-    /// sends of the slot. `out` is where the actions of the turn are kept while they are done.
+    /// The incarnation begins, after a restart at the end of this slot: it has heard nothing in the slots so far, and takes part
+    /// only `delay` slots later.
+    pub fn begin(&mut self, restart: Slot)
+        requires { CanBegin self.old restart }
+        ensures stands { (scenario : ScenarioParts) (inc : Incarnation) → inc.number ≡ self.old.inc →
+            inc.from ≡ restart + 1 + (scenario.params.bound + scenario.params.lag) → IsWaiting scenario self.old →
+            IsNodeOf (scenario_for scenario inc) (replicate (restart + 1) Idle) self.new }
+        ensures node { self.new.node ≡ self.old.node }
+        ensures inc { self.new.inc ≡ self.old.inc }
+    {
+        self.read = restart + 1;
+        self.from = self.read + self.delay;
+        self.agenda.pass_before(self.from);
+    }
+
+    /// Reads the oldest unread notice of the controller and does what the rules say of what it hears: EDCAN, then RELCAN, and
+    /// then the scripted sends of the slot. `out` is where the actions of the turn are kept while they are done.
     pub fn turn(&mut self, ctl: &mut Controller, out: &mut Actions) -> TurnReply
         requires { CanTurn self.old ctl.old out.old }
         ensures reply { result ≡ reply_of ctl.old }
@@ -79,19 +116,37 @@ impl Node {
         ensures turn { (scenario : ScenarioParts) (past : List NoticeKind) (notice : Notice) → Reads scenario past notice self.old ctl.old →
             IsTurnOf scenario past notice self.old self.new ctl.old ctl.new }
         ensures node { self.new.node ≡ self.old.node }
+        ensures inc { self.new.inc ≡ self.old.inc }
         ensures out { out.new ≡ out.old }
     {
         if let Some(slot) = ctl.stopped() {
             return TurnReply::Stopped { slot };
         }
-        let Some(notice) = ctl.next_notice() else {
+        let Some(given) = ctl.next_notice() else {
             return TurnReply::NothingYet { now: ctl.read() };
         };
+        let notice = self.heard(&given);
         self.act(&notice, ctl, out);
-        TurnReply::Turned { slot: notice.slot }
+        TurnReply::Turned { slot: given.slot }
     }
 
-    /// Does what the rules say of a notice.
+    /// The notice as the incarnation hears it.
+    fn heard(&self, notice: &Notice) -> Notice
+        ensures { result ≡ heard_by self.now notice.now }
+    {
+        let is_hidden = self.inc != 0 && notice.slot < self.from;
+        let kind = if is_hidden {
+            NoticeKind::Idle
+        } else {
+            notice.kind
+        };
+        Notice {
+            slot: notice.slot,
+            kind,
+        }
+    }
+
+    /// Does what the rules say of a notice, as it is heard.
     fn act(&mut self, notice: &Notice, ctl: &mut Controller, out: &mut Actions)
         requires { CanAct self.old notice.now ctl.old out.old }
         ensures controller { (scenario : ScenarioParts) (past : List NoticeKind) → IsNodeOf scenario past self.old → IsNextNotice scenario past notice.now →
@@ -99,6 +154,7 @@ impl Node {
         ensures stands { (scenario : ScenarioParts) (past : List NoticeKind) → IsNodeOf scenario past self.old → IsNextNotice scenario past notice.now →
             IsNodeOf scenario (notice.now.kind ∷ past) self.new }
         ensures node { self.new.node ≡ self.old.node }
+        ensures inc { self.new.inc ≡ self.old.inc }
         ensures out { out.new ≡ out.old }
     {
         self.edcan.on(notice, out);
@@ -116,6 +172,13 @@ impl Node {
         self.read = notice.slot + 1;
     }
 
+    /// The first slot in which the incarnation takes part. That of the opening takes part in all.
+    pub fn from(&self) -> Slot
+        ensures { result ≡ self.now.from }
+    {
+        self.from
+    }
+
     /// The log, oldest entry first.
     pub fn log(&self) -> &[LogEntry]
         ensures { result.now ≡ self.now.log }
@@ -131,7 +194,7 @@ impl Node {
         ensures no_message { (scenario : ScenarioParts) (past : List NoticeKind) → IsNodeOf scenario past self.now →
             ((m : Message) → Contains (messages_of scenario.sends) m → message_key m ≡ msg → m.origin ≢ self.now.node) → result ≡ false }
     {
-        msg.origin.get() == self.node.get() && self.agenda.asked(msg.seq, self.read)
+        msg.origin.get() == self.node.get() && self.agenda.asked(msg.seq, self.from, self.read)
     }
 
     /// Whether something of the message of this key is ahead at the node: a timer of RELCAN.

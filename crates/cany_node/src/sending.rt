@@ -2,7 +2,7 @@ ghost use Rattle.std.specs.Prelude.{◌≡◌, ◌<◌, ◌≤◌, ◌+◌, ◌+
 ghost use Rattle.cany_base.specs.declared.frame.Format.{Format};
 ghost use Rattle.cany_base.specs.Scenario.{ScenarioParts};
 ghost use Rattle.cany_model.specs.Rules.Actions.{actions_of};
-ghost use Rattle.cany_model.specs.Rules.Messages.{messages_of};
+ghost use Rattle.cany_model.specs.Rules.Sends.{sendable};
 ghost use Rattle.cany_node.specs.Agenda.{IsAgendaOf, asked_by, sent_asks};
 
 use crate::agenda::{Agenda, Planned};
@@ -41,7 +41,7 @@ pub(crate) fn send_due(
 )
     requires { length out.old.items + length agenda.old.left ≤ out.old.room }
     ensures asks { (scenario : ScenarioParts) → IsAgendaOf scenario node slot agenda.old →
-        out.new.items ≡ out.old.items ++ actions_of scenario.params.format (sent_asks node slot (messages_of scenario.sends)) }
+        out.new.items ≡ out.old.items ++ actions_of scenario.params.format (sent_asks node slot (sendable scenario slot)) }
     ensures agenda { (scenario : ScenarioParts) → IsAgendaOf scenario node slot agenda.old → IsAgendaOf scenario node (slot + 1) agenda.new }
     ensures room { out.new.room ≡ out.old.room }
     ensures edcan { edcan.new ≡ edcan.old }

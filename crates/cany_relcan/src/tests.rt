@@ -56,6 +56,7 @@ fn scenario_of(alloc: Global, params: Params, sends: &[SendAsk]) -> Result<Scena
         Vec::new(alloc),
         Vec::new(alloc),
         Vec::new(alloc),
+        Vec::new(alloc),
         None,
     ))
 }

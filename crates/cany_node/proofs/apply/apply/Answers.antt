@@ -9,12 +9,13 @@ returns-in-Ask c effect e fits = done-ask c.args.ctl.now.params.format c.in-Ask.
 
 pub returns-in-Withdraw : goal.returns-in-Withdraw
 returns-in-Withdraw c effect e fits =
-    done-withdraw c.args.ctl.now.params.format c.in-Withdraw.ident effect c.args.ctl.now c.withdraw.new.self _ _ (e ∙ c.in-Withdraw.is)
+    let format = c.args.ctl.now.params.format in
+    done-withdraw format c.in-Withdraw.ident effect c.args.ctl.now c.withdraw.new.self _ _ (e ∙ c.in-Withdraw.is)
     (λ x is number. c.withdraw.ensures.by_identifier
     ∙ ap (λ w. record c.args.ctl.now { waiting = w })
     (sym (ap (λ (s : ControllerState). s.waiting) c.withdraw.ensures.by_identifier)
     ∙ c.withdraw.ensures.by_identity (record { class = x.class; number = x.number; node = x.node; inc = 0; payload = [] })
-    (subst (WithdrawsFitting c.args.ctl.now.params.format) is fits) number))
+    (subst (WithdrawsFitting format) is fits).0 (subst (WithdrawsFitting format) is fits).1 number))
     refl
 
 pub returns-in-Enter : goal.returns-in-Enter

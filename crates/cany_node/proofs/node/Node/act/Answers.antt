@@ -54,7 +54,7 @@ returns-clause-stands c scenario past stands next =
     done scenario past c.args.notice.now _ kept next c.send_due.new.out.items c.args.ctl.now c.apply_all.new.ctl c.self.inside.log c.apply_all.new.log c.apply_all.ensures format
     (listed scenario past c.args.notice.now _ kept next _ _ _ _ c.requires.free (c.on.ensures.actions scenario past mine next) (c.on-2.ensures.actions scenario past his next)
     (c.send_due.ensures.asks scenario plan)) in
-    stands_after scenario past c.args.notice.now _ kept next _ refl all.entries all.room refl
+    stands_after scenario past c.args.notice.now _ kept next _ refl refl all.entries all.room refl
     (subst (IsEdcanOf scenario c.self.inside.edcan.node (c.args.notice.now.kind ∷ past)) (sym c.send_due.ensures.edcan) (c.on.ensures.stands scenario past mine next))
     (subst (IsRelcanOf scenario c.self.inside.relcan.node (c.args.notice.now.kind ∷ past)) (sym c.send_due.ensures.relcan) (c.on-2.ensures.stands scenario past his next))
     (c.send_due.ensures.agenda scenario plan)

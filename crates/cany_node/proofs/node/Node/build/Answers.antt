@@ -1,18 +1,20 @@
-use Rattle.std.proofs.Common.{ap, ◌∙◌, refl}
+use Rattle.std.proofs.Common.{◌+◌, ap, ◌∙◌, refl}
 use Rattle.cany_base.specs.Bounded.{Bounded}
 use Rattle.cany_base.specs.declared.log_entry.LogEntry.{LogEntry}
-use Rattle.cany_model.specs.Rules.Log.{log_from}
+use Rattle.cany_base.specs.Params.{Parameters}
+use Rattle.cany_node.proofs.Beginning.{opens}
 use Rattle.cany_node.proofs.node.Node.build.Goals as goal
 
-pub returns-clause-stands : goal.returns-clause-stands
-unfolding log_from
-returns-clause-stands c = record {
+pub returns-clause-waits : goal.returns-clause-waits
+returns-clause-waits c = record {
   legal = (c.in_ok-edcan.ensures 0).legal;
+  delay = ap (λ n. c.params.inside.bound + n) c.from.ensures ∙ ap (λ (p : Parameters). p.bound + p.lag) (c.params.view_is ∙ c.params-params.ensures.params);
   log = ap (λ (b : Bounded LogEntry). b.items) c.in_ok-log.ensures;
   room = ap (λ (b : Bounded LogEntry). b.room) c.in_ok-log.ensures ∙ c.log_room.ensures;
-  read = refl;
-  readable = tt;
-  edcan = c.in_ok-edcan.ensures 0;
-  relcan = c.in_ok-relcan.ensures 0;
+  edcan = λ n. c.in_ok-edcan.ensures n;
+  relcan = λ n. c.in_ok-relcan.ensures n;
   agenda = c.in_ok-agenda.ensures;
 }
+
+pub returns-clause-stands : goal.returns-clause-stands
+returns-clause-stands c first whole = opens _ _ (returns-clause-waits c) whole refl refl
