@@ -1,4 +1,4 @@
--- What a controller that is kept as a node of a run has unread, and how a slot and a turn keep it.
+-- What a controller that is kept as a node of a run has unread, and how a slot, a restart and a turn keep it.
 use Rattle.std.specs.Prelude.{◌≡◌, ℕ, zero, suc, ◌+◌, ◌-◌, ◌<◌, ◌≤◌, Bool, true, false, is_none, if◌then◌else◌, List, [], ◌∷◌, ◌++◌, length, map, reverse, take, drop, slice_get, Option, Some, None, refl}
 use Rattle.std.proofs.Common.{sym, ap, ◌∙◌, subst, arith, add-one}
 use Rattle.std.proofs.Math.Seq.{take-suc, take-length}
@@ -7,13 +7,17 @@ use Rattle.std.proofs.lemmas.List.{length-reverse, length-map, length-take-le, m
 use Rattle.cany_base.specs.declared.notice.Notice.{Notice}
 use Rattle.cany_base.specs.declared.slot_note.SlotNote.{SlotNote}
 use Rattle.cany_base.specs.Nodes.{has}
+use Rattle.cany_base.specs.Params.{Parameters}
 use Rattle.cany_base.specs.Scenario.{ScenarioParts}
 use Rattle.cany_model.specs.Rules.Effect.{Effect, waiting_after}
-use Rattle.cany_model.specs.Bus.Slot.{node_after, share_of}
-use Rattle.cany_model.specs.Bus.State.{NodeState, runs}
+use Rattle.cany_model.specs.declared.share.Share.{Share}
+use Rattle.cany_model.specs.declared.share.Share.TheVariants.{Idle, Took, Rejected, Confirmed, Errored}
+use Rattle.cany_model.specs.Bus.Restart.{restarted}
+use Rattle.cany_model.specs.Bus.Slot.{after_share, node_after, share_of}
+use Rattle.cany_model.specs.Bus.State.{NodeState, original, runs}
 use Rattle.cany_model.proofs.Bus.States.{no_note, note_at}
 use Rattle.can_bus.specs.Row.{controller_after}
-use Rattle.can_controller.specs.Controller.{ControllerState, node_state, seen, stopped_at}
+use Rattle.can_controller.specs.Controller.{ControllerState, HasStoppedBy, node_state, restarted_at, seen, stopped_at}
 use Rattle.cany_node.specs.Node.{turned}
 use Rattle.cany_world.specs.Kept.{notice_in, newest_notices, IsKeptAs}
 
@@ -54,10 +58,16 @@ all_unread scenario trace i node c kept short running =
     let many : length (newest_notices i node.unread trace) ≤ length c.unread = omega (arith, kept.all running, length-newest_notices i node.unread trace short) in
     kept.unread ∙ take_all (length c.unread) (newest_notices i node.unread trace) many
 
+-- the node without its incarnations, of which a controller knows nothing
+abbrev alone : NodeState → NodeState
+alone node = record node { present = original; ended = [] }
+
 -- a running controller is the node of the run
-pub running_state : (scenario : ScenarioParts) (trace : List SlotNote) (i : ℕ) (node : NodeState) (c : ControllerState) → IsKeptAs scenario trace i node c
-    → c.stopped ≡ None → node_state c ≡ node
+running_state : (scenario : ScenarioParts) (trace : List SlotNote) (i : ℕ) (node : NodeState) (c : ControllerState) → IsKeptAs scenario trace i node c
+    → c.stopped ≡ None → node_state c ≡ alone node
 running_state scenario trace i node c kept running = λ k. record {
+  present = original;
+  ended = [];
   unread = (kept.all running) k;
   waiting = kept.waiting k;
   transmit = kept.transmit k;
@@ -121,6 +131,22 @@ unfolding node_after
 node_after-unread i note node true e = rw e refl
 node_after-unread i note node false e = rw e refl
 
+node_after-alone : (i : ℕ) (note : SlotNote) (node : NodeState) → node_after i note (alone node) ≡ alone (node_after i note node)
+unfolding node_after after_share
+node_after-alone i note node = either (runs node) (share_of i note)
+  where
+    either : (b : Bool) (share : Share)
+        → (if b then record (after_share share (alone node)) { unread = node.unread + 1; stopped = if has note.stops i then Some note.slot else None }
+        else record (alone node) { unread = node.unread + 1 })
+        ≡ alone (if b then record (after_share share node) { unread = node.unread + 1; stopped = if has note.stops i then Some note.slot else None }
+        else record node { unread = node.unread + 1 })
+    either true Idle = refl
+    either true (Took f) = refl
+    either true Rejected = refl
+    either true (Confirmed f) = refl
+    either true Errored = refl
+    either false share = refl
+
 stopped_node : (i : ℕ) (note : SlotNote) (node : NodeState) (slot : ℕ) → node.stopped ≡ Some slot → node_after i note node ≡ record node { unread = node.unread + 1 }
 unfolding node_after
 stopped_node i note node slot e = rw e refl
@@ -131,7 +157,8 @@ kept_running : (scenario : ScenarioParts) (trace : List SlotNote) (i : ℕ) (nod
 kept_running scenario trace i node c note kept short running law =
     let c' : ControllerState = controller_after i note c in
     let sees : IsSeenBy i note c c' = subst (IsSeenBy i note c) (sym (running_after i note c running)) (seen_by i note c (has note.stops i)) in
-    let state : node_state c' ≡ node_after i note node = law ∙ ap (node_after i note) (running_state scenario trace i node c kept running) in
+    let state : node_state c' ≡ alone (node_after i note node) =
+    law ∙ ap (node_after i note) (running_state scenario trace i node c kept running) ∙ node_after-alone i note node in
     let more : (node_after i note node).unread ≡ node.unread + 1 = node_after-unread i note node (runs node) refl in
     let whole : c'.unread ≡ newest_notices i (node_after i note node).unread (note ∷ trace) =
     sees.unread ∙ ap (λ l. l ++ notice_in i note ∷ []) (all_unread scenario trace i node c kept short running)
@@ -193,6 +220,34 @@ kept_slot scenario trace i node c note kept short law = go c.stopped refl
     go : (o : Option ℕ) → c.stopped ≡ o → IsKeptAs scenario (note ∷ trace) i (node_after i note node) (controller_after i note c)
     go None e = kept_running scenario trace i node c note kept short e (law e)
     go (Some slot) e = kept_stopped scenario trace i node c note slot kept short e
+
+-- ---- a restart
+
+-- the controller of a node that starts again is that of the node after its restart
+pub kept_restart : (scenario : ScenarioParts) (trace : List SlotNote) (i slot : ℕ) (node : NodeState) (c : ControllerState) → IsKeptAs scenario trace i node c
+    → length trace ≡ slot + 1 → IsKeptAs scenario trace i (restarted scenario.params slot node) (restarted_at slot c)
+kept_restart scenario trace i slot node c kept e = record {
+  number = kept.number;
+  params = kept.params;
+  room = kept.room;
+  waiting = refl;
+  transmit = refl;
+  receive = refl;
+  stopped = refl;
+  read = omega (arith, e);
+  unread = refl;
+  all = λ _. refl;
+}
+
+-- it can start again where the stop was in a slot that ran
+pub may_restart : (scenario : ScenarioParts) (trace : List SlotNote) (i slot stop : ℕ) (node : NodeState) (c : ControllerState) → IsKeptAs scenario trace i node c
+    → length trace ≡ slot + 1 → length trace ≤ scenario.params.slots → node.stopped ≡ Some stop → stop < length trace → HasStoppedBy slot c
+may_restart scenario trace i slot stop node c kept e short stopped before = record {
+  within = omega (arith, e, short, ap (λ (p : Parameters). p.slots) kept.params);
+  stop = stop;
+  stopped = kept.stopped ∙ stopped;
+  by_then = omega (arith, e, before);
+}
 
 -- ---- a turn
 

@@ -3,7 +3,7 @@ use Rattle.std.proofs.Common.{◌≡◌, ◌≢◌, ℕ, zero, suc, ◌+◌, ◌
 use Rattle.std.specs.Prelude.{Some, slice_get, slice_set}
 use Rattle.std.proofs.lemmas.List.{length-append, length-set, set-get_or, take-append-le, take_all}
 use Rattle.std.proofs.lemmas.Option.{get_or_from_slice_get, slice_get_read}
-use Rattle.cany_world.specs.Kept.{AreOfNodes}
+use Rattle.cany_world.specs.Places.{AreOfNodes}
 
 -- ---- what stands in a list
 
@@ -27,6 +27,25 @@ got_set (z ∷ xs) (suc i) (suc j) y x e = elim (got_set xs i j y x e) [
   | inl same ↦ inl (ap suc same.0, same.1)
   | inr other ↦ inr (λ k. let less : j ≡ i = omega arith in other.0 less, other.1)
 ]
+
+-- what stands within a list
+pub there : {X : Type 0} (xs : List X) (i : ℕ) → i < length xs → (x : X) × (slice_get xs i ≡ Some x)
+there [] i h = absurd (omega arith)
+there (x ∷ xs) zero h = (x, refl)
+there (x ∷ xs) (suc i) h = there xs i (omega arith)
+
+-- what stands at the place of a write, and at another
+pub got_same : {X : Type 0} (xs : List X) (i : ℕ) (y x : X) → slice_get xs i ≡ Some x → slice_get (slice_set xs i y) i ≡ Some y
+got_same [] i y x e = absurd (cc)
+got_same (z ∷ xs) zero y x e = refl
+got_same (z ∷ xs) (suc i) y x e = got_same xs i y x e
+
+pub got_other : {X : Type 0} (xs : List X) (i j : ℕ) (y : X) → j ≢ i → slice_get (slice_set xs i y) j ≡ slice_get xs j
+got_other [] i j y other = refl
+got_other (z ∷ xs) zero zero y other = absurd (other refl)
+got_other (z ∷ xs) zero (suc j) y other = refl
+got_other (z ∷ xs) (suc i) zero y other = refl
+got_other (z ∷ xs) (suc i) (suc j) y other = got_other xs i j y (λ same. other (ap suc same))
 
 pub set_same : {X : Type 0} (xs : List X) (i : ℕ) (x : X) → slice_get xs i ≡ Some x → slice_set xs i x ≡ xs
 set_same xs i x e = ap (slice_set xs i) (sym (get_or_from_slice_get xs i x x e)) ∙ set-get_or xs i x

@@ -1,15 +1,16 @@
 -- The rounds of the round robin journal, as a world makes them.
-use Rattle.std.proofs.Common.{◌≡◌, ℕ, suc, ◌+◌, ◌<◌, ◌&&◌, Bool, true, false, List, [], ◌∷◌, ◌++◌, refl, sym, ap, ◌∙◌, subst}
-use Rattle.std.specs.Prelude.{if◌then◌else◌}
+use Rattle.std.proofs.Common.{◌≡◌, ℕ, suc, ◌+◌, ◌&&◌, Bool, true, false, List, [], ◌∷◌, ◌++◌, refl, sym, ap, ◌∙◌, subst}
+use Rattle.std.specs.Prelude.{if◌then◌else◌, nat_lt}
+use Rattle.std.proofs.Math.Bool.{and_self_left}
 use Rattle.cany_base.specs.declared.step.Step.{Step}
 use Rattle.cany_base.specs.declared.step.Step.TheVariants.{Slot, Turn}
 use Rattle.cany_base.specs.Scenario.{ScenarioParts}
 use Rattle.cany_model.specs.declared.reply.StepReply.{StepReply}
 use Rattle.cany_model.specs.Bus.RoundRobin.{round, rounds, round_robin}
 use Rattle.cany_model.specs.Bus.Run.{IsLegal, has_ended, is_done, reply, run}
-use Rattle.cany_model.specs.Bus.State.{RunState, opening, node_at, runs}
+use Rattle.cany_model.specs.Bus.State.{NodeState, opening, node_at, runs}
 use Rattle.cany_model.proofs.Bus.RoundRobinEnds.{round_robin_ends}
-use Rattle.cany_model.proofs.Bus.Rounds.{RoundSoFar, round_begins, round_turn, round_skips, round_ends, round_slot_done, round_turn_done, rounds_next, rounds_none, rounds_opening, next_round_legal}
+use Rattle.cany_model.proofs.Bus.Rounds.{RoundSoFar, round_begins, round_turn, round_skips, round_ends, round_slot_done, to_read, turn_exactly, rounds_next, rounds_none, rounds_opening, next_round_legal}
 use Rattle.cany_world.specs.World.{WorldParts, state_of}
 use Rattle.cany_world.proofs.JournalFacts.{made}
 
@@ -32,38 +33,35 @@ abbrev pub turn_made : WorldParts → ℕ → WorldParts
 turn_made now i =
     if runs (node_at (state_of now).nodes i) && is_done (reply now.scenario (state_of now) (Turn i)) then record now { journal = now.journal ++ Turn i ∷ [] } else now
 
-pub round_next : (before now new : WorldParts) (i : ℕ) → IsLegal before.scenario (before.journal ++ round before.scenario (state_of before)) → IsInRound before now i
-    → i < before.scenario.params.nodes → new ≡ turn_made now i → IsInRound before new (i + 1)
-round_next before now new i legal so within e = go (runs (node_at (state_of now).nodes i)) refl
+pub round_next : (before now new : WorldParts) (i : ℕ) → IsInRound before now i → new ≡ turn_made now i → IsInRound before new (i + 1)
+round_next before now new i so e = go (to_read before.scenario now.journal i) refl
   where
-    here : run before.scenario now.journal ≡ state_of now
-    here = ap (λ (s : ScenarioParts). run s now.journal) (sym so.scenario)
+    node : NodeState
+    node = node_at (state_of now).nodes i
 
     done : Bool
     done = is_done (reply now.scenario (state_of now) (Turn i))
 
-    next : (new.scenario ≡ now.scenario) × (new.journal ≡ (if runs (node_at (state_of now).nodes i) && done then now.journal ++ Turn i ∷ [] else now.journal))
-    next = made now new (now.journal ++ Turn i ∷ []) (runs (node_at (state_of now).nodes i) && done) e
+    next : (new.scenario ≡ now.scenario) × (new.journal ≡ (if runs node && done then now.journal ++ Turn i ∷ [] else now.journal))
+    next = made now new (now.journal ++ Turn i ∷ []) (runs node && done) e
 
-    running : (b : Bool) → runs (node_at (state_of now).nodes i) ≡ b → runs (node_at (run before.scenario now.journal).nodes i) ≡ b
-    running b r = ap (λ (s : RunState). runs (node_at s.nodes i)) here ∙ r
+    -- the turn is made exactly where the node has something to read
+    test : (runs node && done) ≡ to_read before.scenario now.journal i
+    test =
+        ap (λ b. runs node && b) (turn_exactly now.scenario now.journal i) ∙ and_self_left (runs node) (nat_lt 0 node.unread)
+        ∙ ap (λ (s : ScenarioParts). to_read s now.journal i) so.scenario
 
-    go : (b : Bool) → runs (node_at (state_of now).nodes i) ≡ b → IsInRound before new (i + 1)
-    go true r =
-        let turned : done ≡ true =
-        ap (λ (s : ScenarioParts). is_done (reply s (run s now.journal) (Turn i))) so.scenario
-        ∙ round_turn_done before.scenario before.journal now.journal i legal so.steps within (running true r) in
+    go : (b : Bool) → to_read before.scenario now.journal i ≡ b → IsInRound before new (i + 1)
+    go true reads = record {
+      scenario = next.0 ∙ so.scenario;
+      steps = round_turn before.scenario before.journal now.journal new.journal i so.steps reads (rw (test ∙ reads) at next.1);
+    }
+    go false skips =
+        let still : now.journal ≡ new.journal = sym (rw (test ∙ skips) at next.1) in
         record {
           scenario = next.0 ∙ so.scenario;
-          steps = round_turn before.scenario before.journal now.journal new.journal i so.steps (running true r) (rw (r, turned) at next.1);
-        }
-    go false r =
-        let still : new.journal ≡ now.journal = rw r at next.1 in
-        record {
-          scenario = next.0 ∙ so.scenario;
-          steps = round_skips before.scenario before.journal new.journal i
-              (subst (λ (j : List Step). RoundSoFar before.scenario before.journal j i) (sym still) so.steps)
-              (ap (λ (j : List Step). runs (node_at (run before.scenario j).nodes i)) still ∙ running false r);
+          steps = subst (λ (j : List Step). RoundSoFar before.scenario before.journal j (i + 1)) still
+              (round_skips before.scenario before.journal now.journal i so.steps skips);
         }
 
 pub round_whole : (before now : WorldParts) (i : ℕ) → IsInRound before now i → i ≡ before.scenario.params.nodes

@@ -1,7 +1,8 @@
 -- When a message is settled, by what the controllers and the nodes have.
-use Rattle.std.proofs.Common.{◌≡◌, ℕ, suc, ◌+◌, ◌-◌, ◌<◌, ◌≤◌, ◌&&◌, ◌||◌, Bool, true, false, not, List, [], length, get_or, map, Contains, refl, ap, sym, ◌∙◌, arith}
-use Rattle.std.specs.Prelude.{slice_get, option_map, IsSomeAnd, Option, None, Some}
+use Rattle.std.proofs.Common.{◌≡◌, ℕ, suc, ◌+◌, ◌-◌, ◌<◌, ◌≤◌, ◌&&◌, ◌||◌, Bool, true, false, not, List, [], length, get_or, map, Contains, refl, ap, sym, subst, ◌∙◌, arith}
+use Rattle.std.specs.Prelude.{slice_get, option_map, is_none, is_some, IsSomeAnd, Option, None, Some}
 use Rattle.std.specs.List.{list_any, list_all, range_with_len}
+use Rattle.std.proofs.lemmas.Bool.{true≢false}
 use Rattle.std.proofs.lemmas.List.{length-map}
 use Rattle.std.proofs.lemmas.Option.{same_Some, slice_get-map, slice_get_within, get_or_from_slice_get}
 use Rattle.cany_base.specs.declared.message.MsgKey.{MsgKey}
@@ -10,14 +11,21 @@ use Rattle.cany_base.specs.declared.message.Service.{Service}
 use Rattle.cany_base.specs.declared.step.Step.{Step}
 use Rattle.cany_base.specs.Limits.{most_sends}
 use Rattle.cany_base.specs.Scenario.{ScenarioParts, IsLegalScenario}
+use Rattle.cany_base.specs.declared.notice.NoticeKind.{NoticeKind}
+use Rattle.cany_model.specs.Bus.History.{history}
 use Rattle.cany_model.specs.Bus.Run.{all_read, run}
-use Rattle.cany_model.specs.Promises.Settled.{is_ahead, is_awaited, is_settled}
+use Rattle.cany_model.specs.Bus.State.{RunState, node_at, runs}
+use Rattle.cany_model.specs.Rules.Turn.{has_asked, is_ahead_at, scenario_at}
+use Rattle.cany_model.proofs.Bus.Seen.{history-is}
+use Rattle.cany_model.specs.Promises.Settled.{came_too_late, is_ahead, is_awaited, is_settled, origin_has_asked}
 use Rattle.cany_model.specs.Rules.Messages.{Message, frames_named, frames_of, message_key, message_of, messages_of}
 use Rattle.cany_model.proofs.Rules.MessageKeys.{length-messages_of, message_at}
 use Rattle.cany_model.proofs.Rules.NumberFacts.{IsBelow, message_below}
 use Rattle.can_controller.specs.Controller.{ControllerState}
-use Rattle.cany_node.specs.Node.{NodeParts}
+use Rattle.cany_node.specs.Node.{NodeParts, IsNodeOf}
+use Rattle.cany_world.specs.Incarnations.{IncarnationsParts}
 use Rattle.cany_world.specs.Controllers.{IsSmallKey, awaits, has_read}
+use Rattle.cany_world.specs.Kept.{IsKeptAs, IsKeptAt, IsPresentAt, past_of}
 use Rattle.cany_world.specs.Settled.{IsAbout, is_asked, has_ahead}
 use Rattle.cany_world.proofs.AlikeFacts.{all_read_same, awaited_same}
 use Rattle.cany_world.proofs.PlaceFacts.{found}
@@ -38,7 +46,7 @@ all_four : (a b c d : Bool) → (a && (b && c) && d) ≡ (a && b && c && d)
 all_four true b c d = refl
 all_four false b c d = refl
 
-pub settled_by : (scenario : ScenarioParts) (journal : List Step) (m : Message) (service : Service) (key : MsgKey) (controllers : List ControllerState) (nodes : List NodeParts) (asked quiet ahead : Bool)
+pub settled_by : (scenario : ScenarioParts) (journal : List Step) (m : Message) (service : Service) (key : MsgKey) (controllers : List ControllerState) (nodes : List IncarnationsParts) (asked quiet ahead : Bool)
     → IsAbout scenario journal m key controllers nodes → m.service ≡ service → asked ≡ is_asked scenario (run scenario journal) m
     → quiet ≡ (not (list_any (awaits (frames_named service key)) controllers) && list_all has_read controllers) → ahead ≡ is_ahead scenario (run scenario journal) m
     → (asked && quiet && not ahead) ≡ is_settled scenario (run scenario journal) m
@@ -51,20 +59,76 @@ settled_by scenario journal m service key controllers nodes asked quiet ahead ab
     ∙ sym (awaited_same scenario journal controllers about.controllers (frames_of m)))
     (sym (all_read_same scenario journal controllers about.controllers)) has
 
+-- ---- at one node
+
+-- the present incarnation and what it has read
+module _ (scenario : ScenarioParts) (s : RunState) (i : ℕ) (m : Message) (key : MsgKey) (v : IncarnationsParts) (it : NodeParts)
+    (kept : IsKeptAt scenario s.trace i (node_at s.nodes i) v) (at : slice_get v.nodes v.present ≡ Some it) (named : message_key m ≡ key)
+    (stands : Contains (messages_of scenario.sends) m) where
+  p : IsPresentAt scenario s.trace i (node_at s.nodes i) v
+  p = kept.present
+
+  same : kept.present.it ≡ it
+  same = let some : Some kept.present.it ≡ Some it = sym kept.present.at ∙ at in cc
+
+  number : it.node ≡ i
+  number = ap (λ (x : NodeParts). x.node) (sym same) ∙ kept.present.number
+
+  node_of : IsNodeOf (scenario_at scenario s i) (past_of i s.trace (node_at s.nodes i)) it
+  node_of = subst (IsNodeOf (scenario_at scenario s i) (past_of i s.trace (node_at s.nodes i))) same kept.present.stands
+
+  -- whether it has something of the message ahead
+  pub ahead_is : (c : ControllerState) (ahead : Bool) → IsKeptAs scenario s.trace i (node_at s.nodes i) c → is_none c.stopped ≡ true
+      → ((follows : ScenarioParts) (past : List NoticeKind) → IsNodeOf follows past it → (x : Message) → Contains (messages_of follows.sends) x → message_key x ≡ key
+      → ahead ≡ is_ahead_at follows x it.node past)
+      → ahead ≡ has_ahead scenario s m i
+  ahead_is c ahead ctl running law =
+      let follows : ScenarioParts = scenario_at scenario s i in
+      let runs_here : runs (node_at s.nodes i) ≡ true = sym (ap is_none ctl.stopped) ∙ running in
+      law follows (past_of i s.trace (node_at s.nodes i)) node_of m stands named
+      ∙ ap (λ k. is_ahead_at follows m k (past_of i s.trace (node_at s.nodes i))) number
+      ∙ ap (λ past. is_ahead_at follows m i past) (sym (history-is i s))
+      ∙ sym (ap (λ b. b && is_ahead_at follows m i (history i s)) runs_here)
+
+  -- whether it has asked for the message as its origin
+  pub asked_is : (asked : Bool) → m.origin ≡ i
+      → ((follows : ScenarioParts) (past : List NoticeKind) → IsNodeOf follows past it → (x : Message) → Contains (messages_of follows.sends) x → message_key x ≡ key
+      → x.origin ≡ it.node → asked ≡ has_asked follows x it.node past)
+      → asked ≡ has_asked (scenario_at scenario s i) m i (history i s)
+  asked_is asked origin law =
+      let follows : ScenarioParts = scenario_at scenario s i in
+      law follows (past_of i s.trace (node_at s.nodes i)) node_of m stands named (origin ∙ sym number)
+      ∙ ap (λ k. has_asked follows m k (past_of i s.trace (node_at s.nodes i))) number
+      ∙ ap (λ past. has_asked follows m i past) (sym (history-is i s))
+
+pub is_running : (o : Option ℕ) (b : Bool) → is_some o ≡ not b → b ≡ true → is_none o ≡ true
+is_running None b e h = refl
+is_running (Some slot) b e h = absurd (true≢false (rw h at e))
+
+-- the three ways in which the origin is done with its message
+pub any_of_three : (scenario : ScenarioParts) (s : RunState) (m : Message) (c : ControllerState) (asked late : Bool) → IsKeptAs scenario s.trace m.origin (node_at s.nodes m.origin) c
+    → asked ≡ origin_has_asked scenario s m → late ≡ came_too_late s m → (asked || is_some c.stopped || late) ≡ is_asked scenario s m
+any_of_three scenario s m c asked late ctl a b =
+    rw (a, b, ctl.stopped) (ap (λ x. origin_has_asked scenario s m || x || came_too_late s m) (stopped (node_at s.nodes m.origin).stopped))
+  where
+    stopped : (o : Option ℕ) → is_some o ≡ not (is_none o)
+    stopped None = refl
+    stopped (Some slot) = refl
+
 -- ---- what is ahead, at one node after another
 
 -- of the nodes before i none has anything of the message ahead: those from i on decide
-abbrev pub IsLeftTo : ℕ → MsgKey → List ControllerState → List NodeParts → Type 0
+abbrev pub IsLeftTo : ℕ → MsgKey → List ControllerState → List IncarnationsParts → Type 0
 IsLeftTo i key controllers nodes =
     (scenario : ScenarioParts) (journal : List Step) (m : Message) → IsAbout scenario journal m key controllers nodes
     → list_any (has_ahead scenario (run scenario journal) m) (range_with_len i (length controllers - i)) ≡ is_ahead scenario (run scenario journal) m
 
-pub left_to_all : (key : MsgKey) (controllers : List ControllerState) (nodes : List NodeParts) → IsLeftTo 0 key controllers nodes
+pub left_to_all : (key : MsgKey) (controllers : List ControllerState) (nodes : List IncarnationsParts) → IsLeftTo 0 key controllers nodes
 left_to_all key controllers nodes scenario journal m about =
     let all : length controllers - 0 ≡ scenario.params.nodes = omega (arith, about.controllers.whole) in
     ap (λ n. list_any (has_ahead scenario (run scenario journal) m) (range_with_len 0 n)) all
 
-module _ (i : ℕ) (key : MsgKey) (controllers : List ControllerState) (nodes : List NodeParts) (left : IsLeftTo i key controllers nodes)
+module _ (i : ℕ) (key : MsgKey) (controllers : List ControllerState) (nodes : List IncarnationsParts) (left : IsLeftTo i key controllers nodes)
     (scenario : ScenarioParts) (journal : List Step) (m : Message) (about : IsAbout scenario journal m key controllers nodes) where
   by_this : i < length controllers
       → (has_ahead scenario (run scenario journal) m i || list_any (has_ahead scenario (run scenario journal) m) (range_with_len (i + 1) (length controllers - (i + 1))))
@@ -96,6 +160,7 @@ pub record HasMessage (scenario : ScenarioParts) (index : ℕ) (send : SendAsk) 
   pub at : slice_get (messages_of scenario.sends) index ≡ Some message
   pub stands : Contains (messages_of scenario.sends) message
   pub service : message.service ≡ send.service
+  pub slot : message.slot ≡ send.slot
   pub named : message_key message ≡ key
   pub node : key.origin < scenario.params.nodes
   pub small : IsSmallKey scenario.params.format key
@@ -122,6 +187,7 @@ has_message scenario index sends_read send key legal within same is names = reco
   at = message.1;
   stands = contains_at (messages_of scenario.sends) index m message.1;
   service = refl;
+  slot = refl;
   named = sym named;
   node = omega (arith, below.origin, ap (λ (k : MsgKey). k.origin) named);
   small = (omega (arith, below.seq, ap (λ (k : MsgKey). k.seq) named), omega (arith, below.origin, ap (λ (k : MsgKey). k.origin) named, legal.in_range.nodes.1));

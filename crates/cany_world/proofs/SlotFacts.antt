@@ -1,24 +1,35 @@
 -- A slot keeps the controllers and the nodes of a world those of the run.
-use Rattle.std.proofs.Common.{◌≡◌, ℕ, ◌<◌, List, ◌∷◌, length, refl, sym, ap, ◌∙◌, subst, arith}
+use Rattle.std.proofs.Common.{◌≡◌, ℕ, ◌<◌, ◌≤◌, List, ◌∷◌, length, refl, sym, ap, ◌∙◌, subst, arith}
+use Rattle.std.specs.List.{AllByRecursion}
 use Rattle.std.specs.Prelude.{is_none, slice_get, option_map, Option, Some, None}
 use Rattle.std.proofs.lemmas.Option.{slice_get_within}
+use Rattle.cany_base.specs.declared.message.NodeAsk.{NodeAsk}
 use Rattle.cany_base.specs.declared.rule.Rule.{Rule}
 use Rattle.cany_base.specs.declared.slot_note.SlotNote.{SlotNote}
 use Rattle.cany_base.specs.declared.step.Step.{Step}
-use Rattle.cany_base.specs.Scenario.{ScenarioParts}
+use Rattle.cany_base.specs.Scenario.{ScenarioParts, IsLegalScenario}
 use Rattle.cany_model.specs.declared.reply.StepReply.{StepReply}
 use Rattle.cany_model.specs.declared.reply.StepReply.TheVariants.{Done}
+use Rattle.cany_model.specs.Bus.History.{ended_history}
+use Rattle.cany_model.specs.Bus.Restart.{after_restarts}
 use Rattle.cany_model.specs.Bus.Run.{is_done, reply, run, slot_reply}
 use Rattle.cany_model.specs.Bus.Slot.{FaultScript, script, slot_note_of, after_slot, node_after}
-use Rattle.cany_model.specs.Bus.State.{NodeState, RunState, node_at}
+use Rattle.cany_model.specs.Bus.State.{NodeState, RunState, node_at, slots_run}
+use Rattle.cany_model.proofs.Bus.Restarts.{after_restarts-trace}
 use Rattle.cany_model.proofs.Bus.Runs.{IsOrderly, MaySlot, orderly, slot_done}
+use Rattle.cany_model.proofs.Bus.Seen.{history-is}
 use Rattle.cany_model.proofs.Bus.Steps.{after_slot-node, after_slot-trace, after_slot-history}
 use Rattle.can_bus.specs.Bus.{BusParts, Follows}
 use Rattle.can_bus.specs.Row.{AreAfter, IsRowFor, NoneLags, StandFor, controller_after}
 use Rattle.can_controller.specs.Controller.{ControllerState, node_state}
-use Rattle.cany_node.specs.Node.{NodeParts, IsNodeOf}
-use Rattle.cany_world.specs.Kept.{IsKeptAs, AreControllersOf, IsKeptNode, AreNodesOf, IsBusOf}
+use Rattle.cany_world.specs.Incarnations.{IncarnationsParts}
+use Rattle.cany_world.specs.Kept.{IsKeptAs, AreControllersOf, AreNodesOf, IsBusOf, past_of}
+use Rattle.cany_world.specs.Kept.{StandFor as WorldStands}
+use Rattle.cany_world.specs.Restarting.{CanRestartAll}
 use Rattle.cany_world.proofs.ControllerFacts.{kept_slot}
+use Rattle.cany_world.proofs.Endings.{ended_later}
+use Rattle.cany_world.proofs.InOrder.{AllInOrder, in_order, slot_same, weaker}
+use Rattle.cany_world.proofs.NodeFacts.{kept_still}
 
 -- ---- that a slot can run
 
@@ -82,17 +93,26 @@ controllers_slot scenario rules s controllers after o kept are = record {
       controller_slot scenario rules s controllers o kept are.node i c' (after_at (slot_note_of rules s) controllers after are i c' at);
 }
 
-pub nodes_slot : (scenario : ScenarioParts) (rules : FaultScript) (s : RunState) (nodes : List NodeParts) → IsOrderly scenario.params.nodes s
+-- a slot gives nobody anything to have read
+slot_past : (rules : FaultScript) (s : RunState) (i : ℕ) → i < length s.nodes
+    → past_of i (after_slot rules s).trace (node_at (after_slot rules s).nodes i) ≡ past_of i s.trace (node_at s.nodes i)
+slot_past rules s i within = sym (history-is i (after_slot rules s)) ∙ after_slot-history rules s i within ∙ history-is i s
+
+slot_ends : (rules : FaultScript) (s : RunState) (i : ℕ) → AllInOrder s
+    → AllByRecursion (λ e. ended_history i (after_slot rules s).trace e ≡ ended_history i s.trace e) (node_at s.nodes i).ended
+slot_ends rules s i order =
+    weaker (λ e. e.next ≤ length s.trace) (λ e. ended_history i (after_slot rules s).trace e ≡ ended_history i s.trace e)
+    (λ e within. ap (λ (t : List SlotNote). ended_history i t e) (after_slot-trace rules s) ∙ ended_later i (slot_note_of rules s) s.trace e within)
+    (node_at s.nodes i).ended (order i).past
+
+pub nodes_slot : (scenario : ScenarioParts) (rules : FaultScript) (s : RunState) (nodes : List IncarnationsParts) → IsOrderly scenario.params.nodes s → AllInOrder s
     → AreNodesOf scenario s nodes → AreNodesOf scenario (after_slot rules s) nodes
-nodes_slot scenario rules s nodes o kept = record {
+nodes_slot scenario rules s nodes o order kept = record {
   whole = kept.whole;
   each = λ i v at.
       let within : i < length nodes = slice_get_within nodes i v at in
-      let it : IsKeptNode scenario s i v = kept.each i v at in
-      record {
-        number = it.number;
-        stands = subst (λ past. IsNodeOf scenario past v) (sym (after_slot-history rules s i (omega (arith, o.count, kept.whole)))) it.stands;
-      };
+      kept_still scenario s.trace (after_slot rules s).trace i (node_at s.nodes i) (node_at (after_slot rules s).nodes i) v (slot_same rules s i)
+      (slot_past rules s i (omega (arith, within, o.count, kept.whole))) (slot_ends rules s i order) (kept.each i v at);
 }
 
 -- ---- the slot of the bus
@@ -129,3 +149,55 @@ bus_done scenario journal rules bus bus' controllers after note same of kept is 
     is' = is s.nodes (stand_for scenario s controllers (orderly scenario journal) kept)
         ∙ ap (λ (r : List Rule). slot_note_of (script r) (record { trace = bus.trace; nodes = s.nodes })) same
         ∙ ap (λ (t : List SlotNote). slot_note_of (script scenario.rules) (record { trace = t; nodes = s.nodes })) of.trace
+
+-- ---- the slot, and the restarts at its end
+
+-- the step is done, with these parts of it
+pub record IsSlotOf (scenario : ScenarioParts) (rules : List Rule) (bus bus' : BusParts) (controllers after : List ControllerState) (note : SlotNote) : Type 0 where
+  pub same : rules ≡ scenario.rules
+  pub note_is : (nodes : List NodeState) → StandFor controllers nodes → note ≡ slot_note_of (script rules) (record { trace = bus.trace; nodes = nodes })
+  pub trace : bus'.trace ≡ note ∷ bus.trace
+  pub params : bus'.params ≡ bus.params
+  pub follows : Follows rules bus'
+  pub row : AreAfter note controllers after
+
+module _ (scenario : ScenarioParts) (journal : List Step) (rules : List Rule) (bus bus' : BusParts) (controllers after : List ControllerState) (nodes : List IncarnationsParts) (note : SlotNote)
+    (made : IsSlotOf scenario rules bus bus' controllers after note) (stands : WorldStands scenario (run scenario journal) bus controllers nodes) where
+  abbrev ended : RunState
+  ended = after_slot (script scenario.rules) (run scenario journal)
+
+  slot_done_is : IsBusOf scenario ended bus' × AreControllersOf scenario ended after
+  slot_done_is = bus_done scenario journal rules bus bus' controllers after note made.same stands.bus stands.controllers made.note_is made.trace made.params made.follows made.row
+
+  nodes_done : AreNodesOf scenario ended nodes
+  nodes_done = nodes_slot scenario (script scenario.rules) (run scenario journal) nodes (orderly scenario journal) (in_order scenario journal) stands.nodes
+
+  -- the restarts can be made
+  pub can_restart : (restarts : List NodeAsk) (slot : ℕ) → IsLegalScenario scenario → restarts ≡ scenario.restarts → slot ≡ length (run scenario journal).trace
+      → MaySlot scenario (run scenario journal) → CanRestartAll restarts slot after nodes
+  can_restart restarts slot legal same now may = record {
+    scenario = scenario;
+    legal = legal;
+    same = same;
+    journal = journal;
+    now = now;
+    within = omega (arith, now, may.room);
+    controllers = slot_done_is.1;
+    nodes = nodes_done;
+  }
+
+  -- and after them bus, controllers and nodes are those of the run
+  pub slot_stands_after : (restarts : List NodeAsk) (slot : ℕ) (row : List ControllerState) (nodes' : List IncarnationsParts) → restarts ≡ scenario.restarts
+      → slot ≡ length (run scenario journal).trace → MaySlot scenario (run scenario journal)
+      → ((follows : ScenarioParts) (steps : List Step) → restarts ≡ follows.restarts → slot ≡ slots_run (run follows steps) → slot < follows.params.slots
+      → AreControllersOf follows (after_slot (script follows.rules) (run follows steps)) after → AreNodesOf follows (after_slot (script follows.rules) (run follows steps)) nodes
+      → AreControllersOf follows (after_restarts follows (after_slot (script follows.rules) (run follows steps))) row
+      × AreNodesOf follows (after_restarts follows (after_slot (script follows.rules) (run follows steps))) nodes')
+      → WorldStands scenario (after_restarts scenario ended) bus' row nodes'
+  slot_stands_after restarts slot row nodes' same now may law =
+      let both = law scenario journal same now (omega (arith, now, may.room)) slot_done_is.1 nodes_done in
+      record {
+        bus = record { params = slot_done_is.0.params; trace = slot_done_is.0.trace ∙ sym (after_restarts-trace scenario ended); follows = slot_done_is.0.follows };
+        controllers = both.0;
+        nodes = both.1;
+      }

@@ -7,18 +7,17 @@ use Rattle.cany_base.specs.declared.step.Step.TheVariants.{Slot, Turn}
 use Rattle.cany_base.specs.Scenario.{ScenarioParts}
 use Rattle.cany_model.specs.declared.reply.StepReply.{StepReply}
 use Rattle.cany_model.specs.declared.reply.StepReply.TheVariants.{Done}
+use Rattle.cany_model.specs.Bus.Restart.{after_restarts}
 use Rattle.cany_model.specs.Bus.Run.{run, reply, slot_reply, turn_reply, is_done, proceed, after_turn, IsLegal}
 use Rattle.cany_model.specs.Bus.Slot.{after_slot, script}
 use Rattle.cany_model.specs.Bus.State.{RunState, opening}
 use Rattle.cany_model.proofs.Bus.Journals.{run_push, step_is, legal_push, legal_short}
-use Rattle.cany_model.proofs.Bus.Runs.{orderly}
 use Rattle.cany_model.proofs.Bus.Steps.{after_turn-trace}
 use Rattle.can_bus.specs.Bus.{BusParts}
 use Rattle.can_controller.specs.Controller.{ControllerState}
-use Rattle.cany_node.specs.Node.{NodeParts}
-use Rattle.cany_world.specs.Kept.{AreControllersOf, AreNodesOf, IsBusOf, StandFor}
+use Rattle.cany_world.specs.Incarnations.{IncarnationsParts}
+use Rattle.cany_world.specs.Kept.{AreControllersOf, AreNodesOf, StandFor}
 use Rattle.cany_world.specs.Replies.{IfDone}
-use Rattle.cany_world.proofs.SlotFacts.{nodes_slot}
 
 -- what is done leads to more
 if_done : (r : StepReply) (P Q : Type 0) → (P → Q) → IfDone r P (Unit {0}) → IfDone r Q (Unit {0})
@@ -40,7 +39,8 @@ turn_replies scenario s step i r e is = is ∙ sym (ap (reply scenario s) e)
 
 -- ---- the state after it
 
-proceed_slot : (scenario : ScenarioParts) (s : RunState) (step : Step) → step ≡ Slot → proceed scenario s step ≡ after_slot (script scenario.rules) s
+proceed_slot : (scenario : ScenarioParts) (s : RunState) (step : Step) → step ≡ Slot
+    → proceed scenario s step ≡ after_restarts scenario (after_slot (script scenario.rules) s)
 unfolding proceed
 proceed_slot scenario s step e = ap (proceed scenario s) e
 
@@ -48,18 +48,13 @@ proceed_turn : (scenario : ScenarioParts) (s : RunState) (step : Step) (i : ℕ)
 unfolding proceed
 proceed_turn scenario s step i e = ap (proceed scenario s) e
 
-pub slot_stands : (scenario : ScenarioParts) (journal : List Step) (step : Step) (r : StepReply) (bus bus' : BusParts) (controllers after : List ControllerState) (nodes : List NodeParts)
-    → step ≡ Slot → StandFor scenario (run scenario journal) bus controllers nodes
-    → IfDone r (IsBusOf scenario (after_slot (script scenario.rules) (run scenario journal)) bus' × AreControllersOf scenario (after_slot (script scenario.rules) (run scenario journal)) after) (Unit {0})
-    → IfDone r (StandFor scenario (proceed scenario (run scenario journal) step) bus' after nodes) (Unit {0})
-slot_stands scenario journal step r bus bus' controllers after nodes e stands =
-    let s : RunState = run scenario journal in
-    if_done r (IsBusOf scenario (after_slot (script scenario.rules) s) bus' × AreControllersOf scenario (after_slot (script scenario.rules) s) after)
-    (StandFor scenario (proceed scenario s step) bus' after nodes)
-    (λ h. subst (λ (t : RunState). StandFor scenario t bus' after nodes) (sym (proceed_slot scenario s step e))
-    (record { bus = h.0; controllers = h.1; nodes = nodes_slot scenario (script scenario.rules) s nodes (orderly scenario journal) stands.nodes }))
+pub slot_stands : (scenario : ScenarioParts) (s : RunState) (step : Step) (r : StepReply) (bus : BusParts) (controllers : List ControllerState) (nodes : List IncarnationsParts)
+    → step ≡ Slot → IfDone r (StandFor scenario (after_restarts scenario (after_slot (script scenario.rules) s)) bus controllers nodes) (Unit {0})
+    → IfDone r (StandFor scenario (proceed scenario s step) bus controllers nodes) (Unit {0})
+slot_stands scenario s step r bus controllers nodes e h =
+    subst (λ (t : RunState). IfDone r (StandFor scenario t bus controllers nodes) (Unit {0})) (sym (proceed_slot scenario s step e)) h
 
-pub turn_stands : (scenario : ScenarioParts) (journal : List Step) (step : Step) (i : ℕ) (r : StepReply) (bus : BusParts) (controllers after : List ControllerState) (nodes nodes' : List NodeParts)
+pub turn_stands : (scenario : ScenarioParts) (journal : List Step) (step : Step) (i : ℕ) (r : StepReply) (bus : BusParts) (controllers after : List ControllerState) (nodes nodes' : List IncarnationsParts)
     → step ≡ Turn i → StandFor scenario (run scenario journal) bus controllers nodes
     → IfDone r (AreControllersOf scenario (after_turn scenario i (run scenario journal)) after × AreNodesOf scenario (after_turn scenario i (run scenario journal)) nodes') (Unit {0})
     → IfDone r (StandFor scenario (proceed scenario (run scenario journal) step) bus after nodes') (Unit {0})
@@ -90,7 +85,7 @@ pub step_runs : (scenario : ScenarioParts) (journal : List Step) (step : Step) (
 step_runs scenario journal step r done is =
     run_push scenario (opening scenario.params.nodes) journal step ∙ step_is scenario (run scenario journal) step (ap is_done (sym is ∙ done))
 
-pub step_stands : (scenario : ScenarioParts) (journal : List Step) (step : Step) (r : StepReply) (bus : BusParts) (controllers : List ControllerState) (nodes : List NodeParts) → r ≡ Done
+pub step_stands : (scenario : ScenarioParts) (journal : List Step) (step : Step) (r : StepReply) (bus : BusParts) (controllers : List ControllerState) (nodes : List IncarnationsParts) → r ≡ Done
     → r ≡ reply scenario (run scenario journal) step → IfDone r (StandFor scenario (proceed scenario (run scenario journal) step) bus controllers nodes) (Unit {0})
     → StandFor scenario (run scenario (journal ++ step ∷ [])) bus controllers nodes
 step_stands scenario journal step r bus controllers nodes done is h =
@@ -98,10 +93,10 @@ step_stands scenario journal step r bus controllers nodes done is h =
     subst (λ (t : RunState). StandFor scenario t bus controllers nodes) (sym (step_runs scenario journal step r done is))
     (subst (λ (x : StepReply). IfDone x P (Unit {0})) done h)
 
-pub same_stands : (scenario : ScenarioParts) (s t : RunState) (bus bus' : BusParts) (controllers after : List ControllerState) (nodes nodes' : List NodeParts) → s ≡ t → bus' ≡ bus → after ≡ controllers
+pub same_stands : (scenario : ScenarioParts) (s t : RunState) (bus bus' : BusParts) (controllers after : List ControllerState) (nodes nodes' : List IncarnationsParts) → s ≡ t → bus' ≡ bus → after ≡ controllers
     → nodes' ≡ nodes → StandFor scenario s bus controllers nodes → StandFor scenario t bus' after nodes'
 same_stands scenario s t bus bus' controllers after nodes nodes' same_state same_bus same_controllers same_nodes h =
-    subst (λ (x : List NodeParts). StandFor scenario t bus' after x) (sym same_nodes)
+    subst (λ (x : List IncarnationsParts). StandFor scenario t bus' after x) (sym same_nodes)
     (subst (λ (x : List ControllerState). StandFor scenario t bus' x nodes) (sym same_controllers)
     (subst (λ (x : BusParts). StandFor scenario t x controllers nodes) (sym same_bus)
     (subst (λ (x : RunState). StandFor scenario x bus controllers nodes) same_state h)))

@@ -2,7 +2,7 @@
 use Rattle.std.proofs.Common.{◌≡◌, ◌≢◌, ℕ, ◌-◌, ◌<◌, ◌≤◌, ◌==◌, false, nat_le, List, [], ◌∷◌, length, Contains, refl, sym, ap, ◌∙◌, subst, arith}
 use Rattle.std.specs.Prelude.{if◌then◌else◌, is_none, slice_get, slice_set, Option, Some, None}
 use Rattle.std.proofs.lemmas.Bool.{lt-leb, eq-eqb, ne_eqb}
-use Rattle.std.proofs.lemmas.List.{get_or_default}
+use Rattle.std.proofs.lemmas.List.{get_or-map, get_or_default}
 use Rattle.cany_base.specs.declared.actions.Action.{Action}
 use Rattle.cany_base.specs.declared.notice.Notice.{Notice}
 use Rattle.cany_base.specs.declared.slot_note.SlotNote.{SlotNote}
@@ -15,27 +15,33 @@ use Rattle.cany_model.specs.declared.reply.StepReply.{StepReply}
 use Rattle.cany_model.specs.declared.reply.StepReply.TheVariants.{Done}
 use Rattle.cany_model.specs.declared.reply.StepReply.TheVariants as reply
 use Rattle.cany_model.specs.Bus.Frames.{identity_of}
-use Rattle.cany_model.specs.Bus.History.{history}
+use Rattle.cany_base.specs.declared.notice.NoticeKind.{NoticeKind}
+use Rattle.cany_model.specs.Bus.History.{as_seen, given, history, seen}
 use Rattle.cany_model.specs.Bus.Run.{run, after_turn, turn_reply}
-use Rattle.cany_model.specs.Bus.State.{NodeState, RunState, node_at, reads}
+use Rattle.cany_model.specs.Bus.State.{Incarnation, NodeState, RunState, node_at, reads}
 use Rattle.cany_model.specs.Rules.Effect.{Effect}
 use Rattle.cany_model.specs.Rules.Notices.{IsNextNotice, IsReadable}
 use Rattle.cany_model.specs.Rules.Rooms.{IsAskable, actions_room}
-use Rattle.cany_model.specs.Rules.Turn.{turn_effects}
+use Rattle.cany_model.specs.Rules.Turn.{scenario_at, turn_effects}
 use Rattle.cany_model.proofs.Among.{Each-weaker}
 use Rattle.cany_model.proofs.Bus.Journals.{trace_short}
 use Rattle.cany_model.proofs.Bus.Runs.{IsOrderly, orderly, history-length}
+use Rattle.cany_model.proofs.Bus.Seen.{history-is}
 use Rattle.cany_model.proofs.Bus.States.{no_note, note_at}
-use Rattle.cany_model.proofs.Bus.Steps.{MayTurn, next_notice, after_turn-node, after_turn-other, after_turn-trace, after_turn-history, after_turn-other_history}
-use Rattle.cany_model.proofs.Promises.Belonging.{Waiting, all_belong, readable}
+use Rattle.cany_model.proofs.Bus.Steps.{MayTurn, next_age, next_notice, after_turn-node, after_turn-other, after_turn-trace, after_turn-history}
+use Rattle.cany_model.proofs.Promises.Belonging.{Waiting, all_belong, askable_for, readable_for, seen_readable}
 use Rattle.can_controller.specs.Controller.{ControllerState}
 use Rattle.cany_node.specs.Apply.{AreAskable}
 use Rattle.cany_node.specs.declared.reply.TurnReply.{TurnReply}
 use Rattle.cany_node.specs.declared.reply.TurnReply.TheVariants.{Turned, NothingYet, Stopped}
-use Rattle.cany_node.specs.Node.{NodeParts, IsNodeOf, CanTurn, Reads, IsTurnOf, IsRefused, reply_at, reply_of, turned}
-use Rattle.cany_world.specs.Kept.{IsKeptAs, AreControllersOf, IsKeptNode, AreNodesOf}
+use Rattle.cany_node.specs.Node.{NodeParts, IsNodeOf, Reads, heard, heard_by, reply_at, reply_of, turned}
+use Rattle.cany_node.proofs.Hearing.{heard-followed}
+use Rattle.cany_world.specs.Incarnations.{IncarnationsParts, CanTurnNow, HasTurned, IsLeft}
+use Rattle.cany_world.specs.Kept.{IsKeptAs, IsKeptAt, IsPresentAt, AreControllersOf, AreNodesOf, past_of}
 use Rattle.cany_world.specs.Replies.{IfDone, step_reply}
 use Rattle.cany_world.proofs.ControllerFacts.{IsOldest, oldest, kept_turn}
+use Rattle.cany_world.proofs.InOrder.{AllInOrder, in_order, turn_same}
+use Rattle.cany_world.proofs.NodeFacts.{kept_turned}
 use Rattle.cany_world.proofs.PlaceFacts.{one_changed, set_same}
 
 -- ---- the reply
@@ -65,28 +71,51 @@ turn_reply_is scenario s i c within kept = go c.stopped refl
 
 -- ---- the oldest unread notice
 
--- node i runs and has this notice to read
-pub record IsToRead (s : RunState) (i : ℕ) (notice : Notice) : Type 0 where
-  pub may : MayTurn s i
-  pub is : notice.kind ≡ next_notice s i
+-- the note at an age, as an incarnation sees it
+seen_note : (inc : Incarnation) (trace : List SlotNote) (age : ℕ) → age < length trace → note_at (seen inc trace) age ≡ as_seen inc (note_at trace age)
+seen_note inc trace age within = get_or-map (as_seen inc) trace age no_note no_note within
 
-pub to_read : (scenario : ScenarioParts) (s : RunState) (i : ℕ) (c : ControllerState) (notice : Notice) → IsOrderly scenario.params.nodes s → i < scenario.params.nodes
-    → IsKeptAs scenario s.trace i (node_at s.nodes i) c → c.stopped ≡ None → slice_get c.unread 0 ≡ Some notice → IsToRead s i notice
-to_read scenario s i c notice o within kept running first =
+-- what an incarnation of node i hears of its oldest unread notice is what its slot, as it sees it, gave the node
+pub heard_next : (scenario : ScenarioParts) (s : RunState) (i : ℕ) (v : IncarnationsParts) (notice : Notice) → IsOrderly scenario.params.nodes s
+    → (kept : IsKeptAt scenario s.trace i (node_at s.nodes i) v) → IsOldest s.trace i (node_at s.nodes i) notice
+    → (heard_by kept.present.it notice).kind ≡ given i (as_seen (node_at s.nodes i).present (note_at s.trace (next_age s i)))
+heard_next scenario s i v notice o kept oldest =
+    let p : IsPresentAt scenario s.trace i (node_at s.nodes i) v = kept.present in
+    let note : SlotNote = note_at s.trace (next_age s i) in
+    ap (λ (n : Notice). heard p.it.inc p.it.from n.slot n.kind) oldest.is
+    ∙ sym (heard-followed scenario i (node_at s.nodes i).present note p.it.inc p.it.from p.inc p.stands.from)
+
+-- node i runs and has a notice to read, of which it hears this
+pub record IsToRead (s : RunState) (i : ℕ) (it : NodeParts) (notice : Notice) : Type 0 where
+  pub may : MayTurn s i
+  pub is : (heard_by it notice).kind ≡ next_notice s i
+
+pub to_read : (scenario : ScenarioParts) (s : RunState) (i : ℕ) (v : IncarnationsParts) (c : ControllerState) (notice : Notice) → IsOrderly scenario.params.nodes s → i < scenario.params.nodes
+    → (kept : IsKeptAt scenario s.trace i (node_at s.nodes i) v) → IsKeptAs scenario s.trace i (node_at s.nodes i) c → c.stopped ≡ None → slice_get c.unread 0 ≡ Some notice
+    → IsToRead s i kept.present.it notice
+to_read scenario s i v c notice o within node kept running first =
     let it : IsOldest s.trace i (node_at s.nodes i) notice = oldest scenario s.trace i (node_at s.nodes i) c notice kept (o.unread i) first in
+    let age : next_age s i < length s.trace = omega (arith, it.some, o.unread i) in
     record {
       may = record { there = omega (arith, o.count); running = ap is_none (sym kept.stopped ∙ running); unread = it.some };
-      is = ap (λ (n : Notice). n.kind) it.is;
+      is = heard_next scenario s i v notice o node it ∙ ap (given i) (sym (seen_note (node_at s.nodes i).present s.trace (next_age s i) age));
     }
 
+past_length : (s : RunState) (i : ℕ) → length (past_of i s.trace (node_at s.nodes i)) ≡ length s.trace - (node_at s.nodes i).unread
+past_length s i = ap (λ (l : List NoticeKind). length l) (sym (history-is i s)) ∙ history-length i s
+
 -- it is the next notice of what the node has read
-pub next_notice_is : (scenario : ScenarioParts) (journal : List Step) → scenario.params.nodes ≤ most_nodes → (i : ℕ) (c : ControllerState) (notice : Notice)
+pub next_notice_is : (scenario : ScenarioParts) (journal : List Step) → scenario.params.nodes ≤ most_nodes → (i : ℕ) (v : IncarnationsParts) (c : ControllerState) (notice : Notice)
+    → (kept : IsKeptAt scenario (run scenario journal).trace i (node_at (run scenario journal).nodes i) v)
     → IsKeptAs scenario (run scenario journal).trace i (node_at (run scenario journal).nodes i) c → slice_get c.unread 0 ≡ Some notice
-    → IsNextNotice scenario (history i (run scenario journal)) notice
-next_notice_is scenario journal few i c notice kept first = record {
-  slot = ap (λ (n : Notice). n.slot) it.is ∙ number ∙ sym (history-length i s);
+    → IsNextNotice (scenario_at scenario (run scenario journal) i) (past_of i (run scenario journal).trace (node_at (run scenario journal).nodes i)) (heard_by kept.present.it notice)
+next_notice_is scenario journal few i v c notice node kept first = record {
+  slot = ap (λ (n : Notice). n.slot) it.is ∙ number ∙ sym (past_length s i);
   within = subst (λ k. k < scenario.params.slots) (sym (ap (λ (n : Notice). n.slot) it.is)) small;
-  readable = subst (λ (n : Notice). IsReadable scenario n.slot n.kind) (sym it.is) (readable scenario s i note (all_belong scenario journal few) stands);
+  readable = subst (IsReadable (scenario_at scenario s i) notice.slot) (sym (heard_next scenario s i v notice o node it))
+      (readable_for scenario inc notice.slot (given i (as_seen inc note))
+      (subst (λ k. IsReadable scenario k (given i (as_seen inc note))) (sym (ap (λ (n : Notice). n.slot) it.is))
+      (seen_readable scenario s i inc note (all_belong scenario journal few) stands)));
 }
   where
     s : RunState
@@ -97,6 +126,9 @@ next_notice_is scenario journal few i c notice kept first = record {
 
     it : IsOldest s.trace i (node_at s.nodes i) notice
     it = oldest scenario s.trace i (node_at s.nodes i) c notice kept (o.unread i) first
+
+    inc : Incarnation
+    inc = (node_at s.nodes i).present
 
     age : ℕ
     age = (node_at s.nodes i).unread - 1
@@ -118,28 +150,36 @@ next_notice_is scenario journal few i c notice kept first = record {
 
 -- ---- that a turn can be made
 
-pub can_turn : (scenario : ScenarioParts) (journal : List Step) (i : ℕ) (v : NodeParts) (c : ControllerState) (out : Bounded Action) → IsLegalScenario scenario
-    → IsKeptNode scenario (run scenario journal) i v → IsKeptAs scenario (run scenario journal).trace i (node_at (run scenario journal).nodes i) c
-    → out ≡ record { items = []; room = actions_room scenario } → CanTurn v c out
+pub can_turn : (scenario : ScenarioParts) (journal : List Step) (i : ℕ) (v : IncarnationsParts) (c : ControllerState) (out : Bounded Action) → IsLegalScenario scenario
+    → IsKeptAt scenario (run scenario journal).trace i (node_at (run scenario journal).nodes i) v → IsKeptAs scenario (run scenario journal).trace i (node_at (run scenario journal).nodes i) c
+    → out ≡ record { items = []; room = actions_room scenario } → CanTurnNow v c out
 can_turn scenario journal i v c out legal node kept empty = record {
-  scenario = scenario;
-  past = history i s;
-  legal = legal;
-  stands = node.stands;
-  node = kept.number ∙ sym node.number;
-  params = kept.params;
-  room = kept.room;
-  askable = λ running. subst (AreAskable scenario) (sym kept.waiting)
-      (Each-weaker (Waiting scenario s.trace i) (λ f. IsAskable scenario (identity_of f)) (λ f h. h.askable) (node_at s.nodes i).waiting
-      ((all_belong scenario journal few).waiting i (ap is_none (sym kept.stopped ∙ running))));
-  next = λ notice first. next_notice_is scenario journal few i c notice kept first;
-  read = kept.read ∙ sym (history-length i s);
-  free = ap (λ (b : Bounded Action). b.items) empty;
-  actions = ap (λ (b : Bounded Action). b.room) empty;
+  it = p.it;
+  at = p.at;
+  can = record {
+    scenario = scenario_at scenario s i;
+    past = past_of i s.trace (node_at s.nodes i);
+    legal = p.stands.legal;
+    stands = p.stands;
+    node = kept.number ∙ sym p.number;
+    params = kept.params;
+    room = kept.room;
+    askable = λ running. subst (AreAskable (scenario_at scenario s i)) (sym kept.waiting)
+        (Each-weaker (Waiting scenario s.trace i) (λ f. IsAskable (scenario_at scenario s i) (identity_of f))
+        (λ f h. askable_for scenario (node_at s.nodes i).present (identity_of f) h.askable) (node_at s.nodes i).waiting
+        ((all_belong scenario journal few).waiting i (ap is_none (sym kept.stopped ∙ running))));
+    next = λ notice first. next_notice_is scenario journal few i v c notice node kept first;
+    read = kept.read ∙ sym (past_length s i);
+    free = ap (λ (b : Bounded Action). b.items) empty;
+    actions = ap (λ (b : Bounded Action). b.room) empty;
+  };
 }
   where
     s : RunState
     s = run scenario journal
+
+    p : IsPresentAt scenario (run scenario journal).trace i (node_at (run scenario journal).nodes i) v
+    p = node.present
 
     few : scenario.params.nodes ≤ most_nodes
     few = few_nodes scenario.params legal.in_range
@@ -148,7 +188,7 @@ can_turn scenario journal i v c out legal node kept empty = record {
 
 controllers_turn : (scenario : ScenarioParts) (s : RunState) (i : ℕ) (controllers : List ControllerState) (c : ControllerState) → IsOrderly scenario.params.nodes s
     → MayTurn s i → AreControllersOf scenario s controllers → slice_get controllers i ≡ Some c → c.stopped ≡ None
-    → AreControllersOf scenario (after_turn scenario i s) (slice_set controllers i (turned (turn_effects scenario i (next_notice s i ∷ history i s)) c))
+    → AreControllersOf scenario (after_turn scenario i s) (slice_set controllers i (turned (turn_effects (scenario_at scenario s i) i (next_notice s i ∷ history i s)) c))
 controllers_turn scenario s i controllers c o may kept at running =
     one_changed (λ j z. IsKeptAs scenario s.trace j (node_at s.nodes j) z) (λ j z. IsKeptAs scenario (after_turn scenario i s).trace j (node_at (after_turn scenario i s).nodes j) z)
     scenario.params.nodes controllers i (turned effects c) kept
@@ -157,7 +197,7 @@ controllers_turn scenario s i controllers c o may kept at running =
     (λ j z other there. now j z (sym (after_turn-other scenario i s j other)) there)
   where
     effects : List Effect
-    effects = turn_effects scenario i (next_notice s i ∷ history i s)
+    effects = turn_effects (scenario_at scenario s i) i (next_notice s i ∷ history i s)
 
     now : (j : ℕ) (z : ControllerState) → {node : NodeState} → node ≡ node_at (after_turn scenario i s).nodes j → IsKeptAs scenario s.trace j node z
         → IsKeptAs scenario (after_turn scenario i s).trace j (node_at (after_turn scenario i s).nodes j) z
@@ -165,22 +205,38 @@ controllers_turn scenario s i controllers c o may kept at running =
         subst (λ (t : List SlotNote). IsKeptAs scenario t j (node_at (after_turn scenario i s).nodes j) z) (sym (after_turn-trace scenario i s))
         (subst (λ (n : NodeState). IsKeptAs scenario s.trace j n z) state there)
 
-nodes_turn : (scenario : ScenarioParts) (s : RunState) (i : ℕ) (nodes : List NodeParts) (v : NodeParts) → IsOrderly scenario.params.nodes s
-    → MayTurn s i → AreNodesOf scenario s nodes → v.node ≡ i → IsNodeOf scenario (next_notice s i ∷ history i s) v
-    → AreNodesOf scenario (after_turn scenario i s) (slice_set nodes i v)
-nodes_turn scenario s i nodes v o may kept number stands =
-    one_changed (IsKeptNode scenario s) (IsKeptNode scenario (after_turn scenario i s)) scenario.params.nodes nodes i v kept
-    (record { number = number; stands = subst (λ past. IsNodeOf scenario past v) (sym (after_turn-history scenario i s may (o.unread i))) stands })
-    (λ j z other it. record { number = it.number; stands = subst (λ past. IsNodeOf scenario past z) (sym (after_turn-other_history scenario i s j other)) it.stands })
+turn_past : (scenario : ScenarioParts) (s : RunState) (i : ℕ) → MayTurn s i → (node_at s.nodes i).unread ≤ length s.trace
+    → past_of i s.trace (node_at (after_turn scenario i s).nodes i) ≡ next_notice s i ∷ past_of i s.trace (node_at s.nodes i)
+turn_past scenario s i may short =
+    ap (λ (t : List SlotNote). past_of i t (node_at (after_turn scenario i s).nodes i)) (sym (after_turn-trace scenario i s))
+    ∙ sym (history-is i (after_turn scenario i s)) ∙ after_turn-history scenario i s may short ∙ ap (λ past. next_notice s i ∷ past) (history-is i s)
+
+nodes_turn : (scenario : ScenarioParts) (s : RunState) (i : ℕ) (nodes : List IncarnationsParts) (v : IncarnationsParts) (after : NodeParts) → IsOrderly scenario.params.nodes s → AllInOrder s
+    → MayTurn s i → AreNodesOf scenario s nodes → (at : slice_get nodes i ≡ Some v) → (kept : IsKeptAt scenario s.trace i (node_at s.nodes i) v)
+    → after.node ≡ kept.present.it.node → after.inc ≡ kept.present.it.inc
+    → IsNodeOf (scenario_at scenario s i) (next_notice s i ∷ past_of i s.trace (node_at s.nodes i)) after
+    → AreNodesOf scenario (after_turn scenario i s) (slice_set nodes i (record v { nodes = slice_set v.nodes v.present after }))
+nodes_turn scenario s i nodes v after o order may are at kept number inc stands =
+    one_changed (λ j z. IsKeptAt scenario s.trace j (node_at s.nodes j) z) (λ j z. IsKeptAt scenario (after_turn scenario i s).trace j (node_at (after_turn scenario i s).nodes j) z)
+    scenario.params.nodes nodes i (record v { nodes = slice_set v.nodes v.present after }) are
+    (now i (record v { nodes = slice_set v.nodes v.present after })
+    (kept_turned scenario s.trace i (node_at s.nodes i) (node_at (after_turn scenario i s).nodes i) v kept.present.it after (order i) (turn_same scenario i s i may (o.unread i)) kept
+    kept.present.at number inc (subst (λ past. IsNodeOf (scenario_at scenario s i) past after) (sym (turn_past scenario s i may (o.unread i))) stands)))
+    (λ j z other there. now j z (subst (λ (n : NodeState). IsKeptAt scenario s.trace j n z) (sym (after_turn-other scenario i s j other)) there))
+  where
+    now : (j : ℕ) (z : IncarnationsParts) → IsKeptAt scenario s.trace j (node_at (after_turn scenario i s).nodes j) z
+        → IsKeptAt scenario (after_turn scenario i s).trace j (node_at (after_turn scenario i s).nodes j) z
+    now j z there = subst (λ (t : List SlotNote). IsKeptAt scenario t j (node_at (after_turn scenario i s).nodes j) z) (sym (after_turn-trace scenario i s)) there
 
 -- the controllers and the nodes after a turn that was done are those of the run after it
-pub turned_on : (scenario : ScenarioParts) (journal : List Step) (i : ℕ) (nodes : List NodeParts) (controllers : List ControllerState) (v v' : NodeParts) (c c' : ControllerState) (r : StepReply)
+pub turned_on : (scenario : ScenarioParts) (journal : List Step) (i : ℕ) (nodes : List IncarnationsParts) (controllers : List ControllerState) (v v' : IncarnationsParts) (c c' : ControllerState) (r : StepReply)
     → AreControllersOf scenario (run scenario journal) controllers → AreNodesOf scenario (run scenario journal) nodes → i < length nodes
-    → slice_get nodes i ≡ Some v → slice_get controllers i ≡ Some c → r ≡ step_reply (reply_of c) → v'.node ≡ v.node
-    → ((notice : Notice) → Reads scenario (history i (run scenario journal)) notice v c → IsTurnOf scenario (history i (run scenario journal)) notice v v' c c')
+    → slice_get nodes i ≡ Some v → slice_get controllers i ≡ Some c → r ≡ step_reply (reply_of c)
+    → ((it : NodeParts) → slice_get v.nodes v.present ≡ Some it → (follows : ScenarioParts) (past : List NoticeKind) (notice : Notice) → Reads follows past notice it c
+    → HasTurned follows past notice it v v' c c')
     → IfDone r (AreControllersOf scenario (after_turn scenario i (run scenario journal)) (slice_set controllers i c')
     × AreNodesOf scenario (after_turn scenario i (run scenario journal)) (slice_set nodes i v')) (Unit {0})
-turned_on scenario journal i nodes controllers v v' c c' r row nodes_are within at_node at is same law = subst Q (sym is) (go c.stopped refl)
+turned_on scenario journal i nodes controllers v v' c c' r row nodes_are within at_node at is law = subst Q (sym is) (go c.stopped refl)
   where
     s : RunState
     s = run scenario journal
@@ -188,24 +244,33 @@ turned_on scenario journal i nodes controllers v v' c c' r row nodes_are within 
     Q : StepReply → Type 0
     Q x = IfDone x (AreControllersOf scenario (after_turn scenario i s) (slice_set controllers i c') × AreNodesOf scenario (after_turn scenario i s) (slice_set nodes i v')) (Unit {0})
 
-    node : IsKeptNode scenario s i v
+    node : IsKeptAt scenario s.trace i (node_at s.nodes i) v
     node = nodes_are.each i v at_node
 
     kept : IsKeptAs scenario s.trace i (node_at s.nodes i) c
     kept = row.each i c at
 
+    follows : ScenarioParts
+    follows = scenario_at scenario s i
+
+    past : List NoticeKind
+    past = past_of i s.trace (node_at s.nodes i)
+
     turns : (notice : Notice) → c.stopped ≡ None → slice_get c.unread 0 ≡ Some notice → Q Done
     turns notice running first =
-        let it : IsToRead s i notice = to_read scenario s i c notice (orderly scenario journal) (omega (arith, nodes_are.whole)) kept running first in
-        let next : IsNextNotice scenario (history i s) notice = next_notice_is scenario journal (few_nodes scenario.params node.stands.legal.in_range) i c notice kept first in
-        let made : IsTurnOf scenario (history i s) notice v v' c c' = law notice (record { stands = node.stands; next = next; running = running; oldest = first }) in
-        let effects : turn_effects scenario v.node (notice.kind ∷ history i s) ≡ turn_effects scenario i (next_notice s i ∷ history i s) =
-        ap (λ k. turn_effects scenario k (notice.kind ∷ history i s)) node.number ∙ ap (λ n. turn_effects scenario i (n ∷ history i s)) it.is in
-        let left : turned (turn_effects scenario i (next_notice s i ∷ history i s)) c ≡ c' = sym (made.controller ∙ ap (λ e. turned e c) effects) in (
+        let p : IsPresentAt scenario s.trace i (node_at s.nodes i) v = node.present in
+        let it : IsToRead s i p.it notice = to_read scenario s i v c notice (orderly scenario journal) (omega (arith, nodes_are.whole)) node kept running first in
+        let next : IsNextNotice follows past (heard_by p.it notice) = next_notice_is scenario journal (few_nodes scenario.params p.stands.legal.in_range) i v c notice node kept first in
+        let made : HasTurned follows past notice p.it v v' c c' = law p.it p.at follows past notice (record { stands = p.stands; next = next; running = running; oldest = first }) in
+        let effects : turn_effects follows p.it.node ((heard_by p.it notice).kind ∷ past) ≡ turn_effects follows i (next_notice s i ∷ history i s) =
+        ap (λ k. turn_effects follows k ((heard_by p.it notice).kind ∷ past)) p.number ∙ ap (λ n. turn_effects follows i (n ∷ past)) it.is
+        ∙ ap (λ t. turn_effects follows i (next_notice s i ∷ t)) (sym (history-is i s)) in
+        let left : turned (turn_effects follows i (next_notice s i ∷ history i s)) c ≡ c' = sym (made.turn.controller ∙ ap (λ e. turned e c) effects) in (
           subst (λ x. AreControllersOf scenario (after_turn scenario i s) (slice_set controllers i x)) left
               (controllers_turn scenario s i controllers c (orderly scenario journal) it.may row at running),
-          nodes_turn scenario s i nodes v' (orderly scenario journal) it.may nodes_are (same ∙ node.number)
-              (subst (λ n. IsNodeOf scenario (n ∷ history i s) v') it.is made.stands),
+          subst (λ (x : IncarnationsParts). AreNodesOf scenario (after_turn scenario i s) (slice_set nodes i x)) (sym made.is)
+              (nodes_turn scenario s i nodes v made.after (orderly scenario journal) (in_order scenario journal) it.may nodes_are at_node node made.number made.inc
+              (subst (λ n. IsNodeOf follows (n ∷ past) made.after) it.is made.turn.stands)),
         )
 
     by_notice : (o : Option Notice) → slice_get c.unread 0 ≡ o → c.stopped ≡ None → Q (step_reply (reply_of c))
@@ -219,8 +284,8 @@ turned_on scenario journal i nodes controllers v v' c c' r row nodes_are within 
     go (Some slot) e = rw e tt
 
 -- a turn that is refused leaves them
-pub not_turned : (nodes : List NodeParts) (controllers : List ControllerState) (i : ℕ) (v v' : NodeParts) (c c' : ControllerState) (answer : TurnReply)
-    → slice_get nodes i ≡ Some v → slice_get controllers i ≡ Some c → IsRefused answer v v' c c'
+pub not_turned : (nodes : List IncarnationsParts) (controllers : List ControllerState) (i : ℕ) (v v' : IncarnationsParts) (c c' : ControllerState) (answer : TurnReply)
+    → slice_get nodes i ≡ Some v → slice_get controllers i ≡ Some c → IsLeft answer v v' c c'
     → IfDone (step_reply answer) (Unit {0}) ((slice_set controllers i c' ≡ controllers) × (slice_set nodes i v' ≡ nodes))
 not_turned nodes controllers i v v' c c' (Turned slot) at_node at refused = tt
 not_turned nodes controllers i v v' c c' (NothingYet now) at_node at refused =

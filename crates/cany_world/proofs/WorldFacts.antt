@@ -1,25 +1,22 @@
 -- What is asked of a world, by what it keeps.
-use Rattle.std.proofs.Common.{◌≡◌, ℕ, ◌&&◌, Bool, nat_le, List, [], length, sym, ap, ◌∙◌, subst}
+use Rattle.std.proofs.Common.{◌≡◌, ◌&&◌, Bool, nat_le, List, [], length, sym, ap, ◌∙◌, subst}
 use Rattle.std.specs.List.{list_all}
-use Rattle.cany_base.specs.declared.log_entry.LogEntry.{LogEntry}
 use Rattle.cany_base.specs.declared.slot_note.SlotNote.{SlotNote}
 use Rattle.cany_base.specs.declared.step.Step.{Step}
 use Rattle.cany_base.proofs.ParamsFacts.{few_nodes}
 use Rattle.cany_base.specs.Scenario.{ScenarioParts, IsLegalScenario}
-use Rattle.cany_model.specs.Bus.History.{history}
 use Rattle.cany_model.specs.Bus.Run.{run, has_ended}
 use Rattle.cany_model.specs.Bus.State.{RunState, opening, slots_run}
 use Rattle.cany_model.specs.Promises.Hypothesis.{IsWithin}
 use Rattle.cany_model.specs.Promises.Safe.{IsIntegral, IsSafe}
-use Rattle.cany_model.specs.Rules.Log.{log, log_from}
 use Rattle.cany_model.proofs.Bus.Journals.{run_none}
 use Rattle.cany_model.proofs.Promises.Integrity.{integral}
 use Rattle.cany_model.proofs.Promises.Safety.{safe}
 use Rattle.can_bus.specs.Bus.{BusParts, Follows}
 use Rattle.can_controller.specs.Controller.{ControllerState}
-use Rattle.cany_node.specs.Node.{NodeParts}
+use Rattle.cany_world.specs.Incarnations.{IncarnationsParts}
 use Rattle.cany_world.specs.Controllers.{has_read}
-use Rattle.cany_world.specs.Kept.{IsBusOf, IsKeptNode, AreControllersOf, AreNodesOf, StandFor}
+use Rattle.cany_world.specs.Kept.{IsBusOf, AreControllersOf, AreNodesOf, StandFor}
 use Rattle.cany_world.specs.World.{WorldParts, state_of}
 use Rattle.cany_world.proofs.AlikeFacts.{all_read_same}
 
@@ -38,7 +35,7 @@ within_run scenario s bus of within =
 
 -- ---- the end
 
-pub ended_is : (scenario : ScenarioParts) (journal : List Step) (bus : BusParts) (controllers : List ControllerState) (nodes : List NodeParts) (over : Bool)
+pub ended_is : (scenario : ScenarioParts) (journal : List Step) (bus : BusParts) (controllers : List ControllerState) (nodes : List IncarnationsParts) (over : Bool)
     → StandFor scenario (run scenario journal) bus controllers nodes → nat_le scenario.params.slots (length bus.trace) ≡ over
     → (over && list_all has_read controllers) ≡ has_ended scenario (run scenario journal)
 ended_is scenario journal bus controllers nodes over stands e =
@@ -46,14 +43,9 @@ ended_is scenario journal bus controllers nodes over stands e =
     ap (λ b. b && list_all has_read controllers) (sym e ∙ ap (λ (t : List SlotNote). nat_le scenario.params.slots (length t)) stands.bus.trace)
     ∙ ap (λ b. nat_le scenario.params.slots (slots_run s) && b) (sym (all_read_same scenario journal controllers stands.controllers))
 
--- ---- the log
-
-pub log_is : (scenario : ScenarioParts) (s : RunState) (i : ℕ) (v : NodeParts) (entries : List LogEntry) → IsKeptNode scenario s i v → entries ≡ v.log → entries ≡ log scenario s i
-log_is scenario s i v entries node e = e ∙ node.stands.log ∙ ap (λ k. log_from scenario k (history i s)) node.number
-
 -- ---- a world before its first step, and after a step
 
-pub opening_stands : (scenario : ScenarioParts) (bus : BusParts) (controllers : List ControllerState) (nodes : List NodeParts) → bus.params ≡ scenario.params → bus.trace ≡ []
+pub opening_stands : (scenario : ScenarioParts) (bus : BusParts) (controllers : List ControllerState) (nodes : List IncarnationsParts) → bus.params ≡ scenario.params → bus.trace ≡ []
     → Follows scenario.rules bus → AreControllersOf scenario (opening scenario.params.nodes) controllers → AreNodesOf scenario (opening scenario.params.nodes) nodes
     → StandFor scenario (run scenario []) bus controllers nodes
 opening_stands scenario bus controllers nodes params trace follows row kept =

@@ -1,20 +1,27 @@
 -- When the controllers, the nodes and the bus of a world are those of a state of a run.
-use Rattle.std.specs.Prelude.{◌≡◌, ℕ, ◌-◌, ◌≤◌, List, [], length, map, reverse, take, slice_get, Some, None}
+use Rattle.std.specs.Prelude.{◌≡◌, ℕ, ◌+◌, ◌-◌, ◌<◌, List, [], length, map, reverse, take, drop, count_by, slice_get, Some, None}
+use Rattle.std.specs.List.{AllByRecursion}
 use Rattle.cany_base.specs.declared.actions.Action.{Action}
 use Rattle.cany_base.specs.declared.notice.Notice.{Notice}
+use Rattle.cany_base.specs.declared.notice.NoticeKind.{NoticeKind}
 use Rattle.cany_base.specs.declared.rule.Rule.{Rule}
 use Rattle.cany_base.specs.declared.slot_note.SlotNote.{SlotNote}
 use Rattle.cany_base.specs.declared.step.Step.{Step}
 use Rattle.cany_base.specs.Bounded.{Bounded}
-use Rattle.cany_base.specs.Limits.{most_nodes}
-use Rattle.cany_base.specs.Scenario.{ScenarioParts, IsLegalScenario}
-use Rattle.cany_model.specs.Bus.History.{given, history}
+use Rattle.cany_base.specs.Scenario.{ScenarioParts, IsLegalScenario, is_ask_of_node}
+use Rattle.cany_model.specs.declared.span.Span.{Span}
+use Rattle.cany_model.specs.Bus.History.{ended_history, given, seen}
+use Rattle.cany_model.specs.Bus.Incarnations.{span_from}
+use Rattle.cany_model.specs.Rules.Log.{log_from}
 use Rattle.cany_model.specs.Rules.Rooms.{waiting_room, actions_room}
 use Rattle.cany_model.specs.Bus.Run.{run}
-use Rattle.cany_model.specs.Bus.State.{NodeState, RunState, node_at}
+use Rattle.cany_model.specs.Bus.State.{Ended, NodeState, RunState, node_at}
+use Rattle.cany_model.specs.Rules.Turn.{scenario_for}
 use Rattle.can_bus.specs.Bus.{BusParts, Follows}
 use Rattle.can_controller.specs.Controller.{ControllerState}
-use Rattle.cany_node.specs.Node.{NodeParts, IsNodeOf}
+use Rattle.cany_node.specs.Node.{NodeParts, IsNodeOf, IsWaiting}
+use Rattle.cany_world.specs.Incarnations.{IncarnationsParts}
+use Rattle.cany_world.specs.Places.{AreOfNodes}
 
 -- the notice of a slot for node i
 abbrev pub notice_in : ℕ → SlotNote → Notice
@@ -38,21 +45,54 @@ pub record IsKeptAs (scenario : ScenarioParts) (trace : List SlotNote) (i : ℕ)
   pub unread : c.unread ≡ take (length c.unread) (newest_notices i node.unread trace)
   pub all : c.stopped ≡ None → length c.unread ≡ node.unread
 
--- node i of the world stands for what it has read
-pub record IsKeptNode (scenario : ScenarioParts) (s : RunState) (i : ℕ) (v : NodeParts) : Type 0 where
-  pub number : v.node ≡ i
-  pub stands : IsNodeOf scenario (history i s) v
+-- what the present incarnation of node i has read: the history of a run, from its trace and its state of the node
+abbrev pub past_of : ℕ → List SlotNote → NodeState → List NoticeKind
+past_of i trace node = map (given i) (drop node.unread (seen node.present trace))
 
--- one of each of so many nodes, at the place of the node
-pub record AreOfNodes {X : Type 0} (Is : ℕ → X → Type 0) (count : ℕ) (xs : List X) : Type 0 where
-  pub whole : length xs ≡ count
-  pub each : (i : ℕ) (x : X) → slice_get xs i ≡ Some x → Is i x
+-- the present incarnation stands for what it has read
+pub record IsPresentAt (scenario : ScenarioParts) (trace : List SlotNote) (i : ℕ) (node : NodeState) (v : IncarnationsParts) : Type 0 where
+  pub it : NodeParts
+  pub at : slice_get v.nodes v.present ≡ Some it
+  pub number : it.node ≡ i
+  pub inc : it.inc ≡ node.present.number
+  pub stands : IsNodeOf (scenario_for scenario node.present) (past_of i trace node) it
+  pub span : Span
+  pub span_at : slice_get v.spans v.present ≡ Some span
+  pub since : span.since ≡ node.present.since
+
+-- one that has ended keeps its log and its span
+pub record IsEndedAt (scenario : ScenarioParts) (trace : List SlotNote) (i : ℕ) (v : IncarnationsParts) (e : Ended) : Type 0 where
+  pub it : NodeParts
+  pub at : slice_get v.nodes e.incarnation.number ≡ Some it
+  pub log : it.log ≡ log_from (scenario_for scenario e.incarnation) i (ended_history i trace e)
+  pub span : slice_get v.spans e.incarnation.number ≡ Some (span_from e)
+
+-- one that has not begun, of this number, waits for a restart
+pub record IsWaitingAt (scenario : ScenarioParts) (i : ℕ) (v : IncarnationsParts) (number : ℕ) : Type 0 where
+  pub it : NodeParts
+  pub at : slice_get v.nodes number ≡ Some it
+  pub node : it.node ≡ i
+  pub inc : it.inc ≡ number
+  pub waits : IsWaiting scenario it
+  pub span : Span
+  pub span_at : slice_get v.spans number ≡ Some span
+  pub unset : span.since ≡ 0
+
+-- The incarnations of node i, where the run has this trace and this state of the node: one for the opening, and one for each
+-- restart entry of the node.
+pub record IsKeptAt (scenario : ScenarioParts) (trace : List SlotNote) (i : ℕ) (node : NodeState) (v : IncarnationsParts) : Type 0 where
+  pub whole : length v.nodes ≡ count_by (is_ask_of_node i) scenario.restarts + 1
+  pub spans : length v.spans ≡ length v.nodes
+  pub number : v.present ≡ node.present.number
+  pub present : IsPresentAt scenario trace i node v
+  pub ended : AllByRecursion (IsEndedAt scenario trace i v) node.ended
+  pub waiting : (number : ℕ) → v.present < number → number < length v.nodes → IsWaitingAt scenario i v number
 
 abbrev pub AreControllersOf : ScenarioParts → RunState → List ControllerState → Type 0
 AreControllersOf scenario s controllers = AreOfNodes (λ i c. IsKeptAs scenario s.trace i (node_at s.nodes i) c) scenario.params.nodes controllers
 
-abbrev pub AreNodesOf : ScenarioParts → RunState → List NodeParts → Type 0
-AreNodesOf scenario s nodes = AreOfNodes (IsKeptNode scenario s) scenario.params.nodes nodes
+abbrev pub AreNodesOf : ScenarioParts → RunState → List IncarnationsParts → Type 0
+AreNodesOf scenario s nodes = AreOfNodes (λ i v. IsKeptAt scenario s.trace i (node_at s.nodes i) v) scenario.params.nodes nodes
 
 -- the bus ran the slots of the run
 pub record IsBusOf (scenario : ScenarioParts) (s : RunState) (bus : BusParts) : Type 0 where
@@ -61,21 +101,20 @@ pub record IsBusOf (scenario : ScenarioParts) (s : RunState) (bus : BusParts) : 
   pub follows : Follows scenario.rules bus
 
 -- bus, controllers and nodes are those of a state of a run
-pub record StandFor (scenario : ScenarioParts) (s : RunState) (b : BusParts) (row : List ControllerState) (kept : List NodeParts) : Type 0 where
+pub record StandFor (scenario : ScenarioParts) (s : RunState) (b : BusParts) (row : List ControllerState) (kept : List IncarnationsParts) : Type 0 where
   pub bus : IsBusOf scenario s b
   pub controllers : AreControllersOf scenario s row
   pub nodes : AreNodesOf scenario s kept
 
--- a slot can be asked for: some journal leads to the state that bus and controllers stand for
-pub record CanRunSlot (scenario : ScenarioParts) (script : List Rule) (b : BusParts) (row : List ControllerState) : Type 0 where
+-- a slot can be asked for: some journal leads to the state that they stand for
+pub record CanRunSlot (scenario : ScenarioParts) (script : List Rule) (b : BusParts) (row : List ControllerState) (kept : List IncarnationsParts) : Type 0 where
+  pub legal : IsLegalScenario scenario
   pub rules : script ≡ scenario.rules
-  pub few : scenario.params.nodes ≤ most_nodes
   pub journal : List Step
-  pub bus : IsBusOf scenario (run scenario journal) b
-  pub controllers : AreControllersOf scenario (run scenario journal) row
+  pub stands : StandFor scenario (run scenario journal) b row kept
 
 -- a step can be asked for: some journal leads to the state that they stand for
-pub record CanStep (scenario : ScenarioParts) (script : List Rule) (bus : BusParts) (controllers : List ControllerState) (nodes : List NodeParts) (actions : Bounded Action) : Type 0 where
+pub record CanStep (scenario : ScenarioParts) (script : List Rule) (bus : BusParts) (controllers : List ControllerState) (nodes : List IncarnationsParts) (actions : Bounded Action) : Type 0 where
   pub legal : IsLegalScenario scenario
   pub rules : script ≡ scenario.rules
   pub journal : List Step

@@ -1,6 +1,10 @@
 pub mod Controllers
+pub mod Incarnations
+pub mod IncarnationsFields
 pub mod Kept
+pub mod Places
 pub mod Replies
+pub mod Restarting
 pub mod Settled
 pub mod World
 pub mod WorldFields

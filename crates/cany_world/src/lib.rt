@@ -1,8 +1,11 @@
 //! The world: a run of a scenario, made step by step in whatever order its lag allows.
 #![tactic(auto)]
 
+mod began;
 mod following;
+mod incarnations;
 mod opening;
+mod restarting;
 mod rounds;
 mod settled;
 mod slot;
@@ -12,7 +15,7 @@ mod turn;
 mod unread;
 mod world;
 
-pub use cany_model::{Break, FollowFault, StepReply};
+pub use cany_model::{Break, FollowFault, Span, StepReply};
 pub use following::follow;
 pub use rounds::round_robin;
 pub use world::World;

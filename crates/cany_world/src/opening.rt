@@ -4,9 +4,10 @@ ghost use Rattle.cany_base.specs.Scenario.{IsLegalScenario};
 ghost use Rattle.cany_model.specs.Bus.State.{opening};
 ghost use Rattle.cany_world.specs.Kept.{AreControllersOf, AreNodesOf};
 
+use crate::incarnations::Incarnations;
 use can_controller::Controller;
 use cany_base::{Memory, NodeId, Params, Scenario};
-use cany_node::{Node, waiting_room};
+use cany_node::waiting_room;
 use std::alloc::Global;
 
 /// The controllers of the nodes, which have seen nothing.
@@ -24,14 +25,14 @@ pub(crate) fn controllers_of(alloc: Global, scenario: &Scenario) -> Result<Vec<C
     Ok(controllers)
 }
 
-/// The nodes, which have read nothing.
-pub(crate) fn nodes_of(alloc: Global, scenario: &Scenario) -> Result<Vec<Node>, Memory>
+/// The nodes, which have read nothing, with their incarnations to come.
+pub(crate) fn nodes_of(alloc: Global, scenario: &Scenario) -> Result<Vec<Incarnations>, Memory>
     ensures { IfOk result (λ built. AreNodesOf scenario.now (opening scenario.now.params.nodes) built.items) }
 {
     let count = usize::from(scenario.params().nodes);
     let mut nodes = Vec::with_capacity(alloc, count)?;
     for i in 0..count {
-        let node = Node::build(alloc, NodeId::of_index(i), scenario)?;
+        let node = Incarnations::build(alloc, NodeId::of_index(i), scenario)?;
         nodes.push(node)?;
     }
     Ok(nodes)

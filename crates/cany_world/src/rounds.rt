@@ -20,7 +20,8 @@ fn run_turn(world: &mut World, node: NodeId)
     }
 }
 
-/// Makes the steps of one slot: the slot, and then the turns of the nodes that still run, in ascending order.
+/// Makes the steps of one slot: the slot, and then the turns of the running nodes that have something to read, in ascending
+/// order.
 fn make_round(world: &mut World)
     requires { IsLegal world.old.scenario (world.old.journal ++ round world.old.scenario (state_of world.old)) }
     ensures { world.new ≡ record world.old { journal = world.old.journal ++ round world.old.scenario (state_of world.old) } }
@@ -32,8 +33,8 @@ fn make_round(world: &mut World)
     }
 }
 
-/// Runs the whole of the scenario: in each slot the slot, and then the turns of the nodes that still run, in ascending
-/// order.
+/// Runs the whole of the scenario: in each slot the slot, and then the turns of the running nodes that have something to
+/// read, in ascending order.
 pub fn round_robin(world: &mut World)
     requires { world.old.journal ≡ [] }
     ensures run { world.new ≡ record { scenario = world.old.scenario; journal = round_robin world.old.scenario } }

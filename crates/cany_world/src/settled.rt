@@ -1,8 +1,8 @@
 //! Whether nothing more is to come of a message.
-ghost use Rattle.std.specs.Prelude.{◌≡◌, ℕ, ◌<◌, ◌&&◌, [], List, length, not, Contains};
+ghost use Rattle.std.specs.Prelude.{◌≡◌, ℕ, ◌<◌, ◌&&◌, [], false, List, length, not, Contains};
 ghost use Rattle.std.specs.List.{list_all, list_any};
 ghost use Rattle.cany_base.specs.declared.step.Step.{Step};
-ghost use Rattle.cany_base.specs.Frame.{data_class, FitsClass};
+ghost use Rattle.cany_base.specs.Frame.{data_class, FitsClass, has_incarnation};
 ghost use Rattle.cany_base.specs.Scenario.{ScenarioParts};
 ghost use Rattle.cany_model.specs.Bus.Run.{run};
 ghost use Rattle.cany_model.specs.Bus.State.{RunState, node_at};
@@ -10,19 +10,20 @@ ghost use Rattle.cany_model.specs.Bus.Waiting.{waits};
 ghost use Rattle.cany_model.specs.Promises.Settled.{is_ahead, is_settled};
 ghost use Rattle.cany_model.specs.Rules.Messages.{Message, frames_named, message_key, messages_of};
 ghost use Rattle.cany_world.specs.Controllers.{HaveFormat, IsSmallKey, awaits, has_read};
-ghost use Rattle.cany_world.specs.Kept.{IsKeptAs, IsKeptNode};
+ghost use Rattle.cany_world.specs.Kept.{IsKeptAs, IsKeptAt};
 ghost use Rattle.cany_world.specs.Settled.{IsAbout, is_asked, has_ahead};
 
+use crate::incarnations::Incarnations;
 use crate::unread::all_read;
 use can_controller::Controller;
 use can_frame::{identifier, small_numbers_fit};
-use cany_base::{Class, Format, Frame, MsgKey, Payload, SendAsk, Service};
-use cany_node::Node;
+use cany_base::{Class, Format, Frame, MsgKey, Payload, SendAsk, Service, Slot};
 
 /// The class of a message's data frame.
 fn data_class(service: Service) -> Class
     ensures class { result ≡ data_class service }
     ensures fits { FitsClass result [] }
+    ensures plain { has_incarnation result ≡ false }
 {
     match service {
         Service::Ed => Class::Ed,
@@ -34,6 +35,7 @@ fn data_class(service: Service) -> Class
 /// Whether a frame of this class and of the message's number and node waits.
 fn waits(format: Format, class: Class, key: &MsgKey, controller: &Controller) -> bool
     requires class { FitsClass class [] }
+    requires plain { has_incarnation class ≡ false }
     requires key { IsSmallKey format key.now }
     requires format { controller.now.params.format ≡ format }
     ensures { result ≡ waits (record { class = class; number = key.now.seq; node = key.now.origin }) controller.now.waiting }
@@ -84,37 +86,40 @@ fn is_quiet(format: Format, service: Service, key: &MsgKey, controllers: &[Contr
     !is_awaited(format, service, key, controllers) && all_read(controllers)
 }
 
-/// Whether the node is the origin of the message and has asked for it, or has stopped.
-fn has_asked(key: &MsgKey, controller: &Controller, node: &Node) -> bool
-    ensures { (scenario : ScenarioParts) (s : RunState) (m : Message) → IsKeptAs scenario s.trace m.origin (node_at s.nodes m.origin) controller.now
-        → IsKeptNode scenario s m.origin node.now → Contains (messages_of scenario.sends) m → message_key m ≡ key.now
-        → result ≡ is_asked scenario s m }
+/// Whether the node is the origin of the message and has asked for it, has stopped, or came too late for it.
+fn has_asked(key: &MsgKey, slot: Slot, controller: &Controller, node: &Incarnations) -> bool
+    ensures { (scenario : ScenarioParts) (journal : List Step) (m : Message) → let s = run scenario journal in
+        IsKeptAs scenario s.trace m.origin (node_at s.nodes m.origin) controller.now → IsKeptAt scenario s.trace m.origin (node_at s.nodes m.origin) node.now
+        → Contains (messages_of scenario.sends) m → message_key m ≡ key.now → m.slot ≡ slot → result ≡ is_asked scenario s m }
 {
-    node.asked(*key) || controller.stopped().is_some()
+    if node.node().asked(*key) {
+        return true;
+    }
+    controller.stopped().is_some() || node.came_after(slot)
 }
 
-/// Whether the origin of the message has asked for it, or has stopped.
-fn is_asked(key: &MsgKey, controllers: &[Controller], nodes: &[Node]) -> bool
+/// Whether the origin of the message has asked for it, has stopped, or came too late for it.
+fn is_asked(key: &MsgKey, slot: Slot, controllers: &[Controller], nodes: &[Incarnations]) -> bool
     requires count { length controllers.now ≡ length nodes.now }
     requires origin { key.now.origin < length controllers.now }
     ensures { (scenario : ScenarioParts) (journal : List Step) (m : Message) → IsAbout scenario journal m key.now controllers.now nodes.now
-        → result ≡ is_asked scenario (run scenario journal) m }
+        → m.slot ≡ slot → result ≡ is_asked scenario (run scenario journal) m }
 {
     let origin = usize::from(key.origin.get());
-    has_asked(key, &controllers[origin], &nodes[origin])
+    has_asked(key, slot, &controllers[origin], &nodes[origin])
 }
 
 /// Whether the node runs and has something of the message ahead.
-fn has_ahead(key: &MsgKey, controller: &Controller, node: &Node) -> bool
+fn has_ahead(key: &MsgKey, controller: &Controller, node: &Incarnations) -> bool
     ensures { (scenario : ScenarioParts) (s : RunState) (i : ℕ) (m : Message) → IsKeptAs scenario s.trace i (node_at s.nodes i) controller.now
-        → IsKeptNode scenario s i node.now → Contains (messages_of scenario.sends) m → message_key m ≡ key.now
+        → IsKeptAt scenario s.trace i (node_at s.nodes i) node.now → Contains (messages_of scenario.sends) m → message_key m ≡ key.now
         → result ≡ has_ahead scenario s m i }
 {
-    controller.stopped().is_none() && node.ahead(*key)
+    controller.stopped().is_none() && node.node().ahead(*key)
 }
 
 /// Whether a running node has something of the message ahead.
-fn is_ahead(key: &MsgKey, controllers: &[Controller], nodes: &[Node]) -> bool
+fn is_ahead(key: &MsgKey, controllers: &[Controller], nodes: &[Incarnations]) -> bool
     requires { length controllers.now ≡ length nodes.now }
     ensures { (scenario : ScenarioParts) (journal : List Step) (m : Message) → IsAbout scenario journal m key.now controllers.now nodes.now
         → result ≡ is_ahead scenario (run scenario journal) m }
@@ -127,23 +132,23 @@ fn is_ahead(key: &MsgKey, controllers: &[Controller], nodes: &[Node]) -> bool
     false
 }
 
-/// Whether nothing more is to come of the message of a scripted send: its origin has asked for it or has stopped, no running
-/// node waits with a frame of it, every running node has read every notice, and none has anything of it ahead.
+/// Whether nothing more is to come of the message of a scripted send: its origin has asked for it, has stopped or came too late
+/// for it, no running node waits with a frame of it, every running node has read every notice, and none has anything of it ahead.
 pub(crate) fn is_settled(
     format: Format,
     send: &SendAsk,
     key: &MsgKey,
     controllers: &[Controller],
-    nodes: &[Node],
+    nodes: &[Incarnations],
 ) -> bool
     requires count { length controllers.now ≡ length nodes.now }
     requires origin { key.now.origin < length controllers.now }
     requires key { IsSmallKey format key.now }
     requires format { HaveFormat format controllers.now }
     ensures { (scenario : ScenarioParts) (journal : List Step) (m : Message) → IsAbout scenario journal m key.now controllers.now nodes.now
-        → m.service ≡ send.now.service → result ≡ is_settled scenario (run scenario journal) m }
+        → m.service ≡ send.now.service → m.slot ≡ send.now.slot → result ≡ is_settled scenario (run scenario journal) m }
 {
-    if !is_asked(key, controllers, nodes) {
+    if !is_asked(key, send.slot, controllers, nodes) {
         return false;
     }
     is_quiet(format, send.service, key, controllers) && !is_ahead(key, controllers, nodes)

@@ -3,11 +3,14 @@ ghost use Rattle.std.specs.Prelude.{◌≡◌, ◌≤◌, List, length};
 ghost use Rattle.cany_base.specs.declared.step.Step.{Step};
 ghost use Rattle.cany_base.specs.Limits.{most_nodes};
 ghost use Rattle.cany_base.specs.Scenario.{ScenarioParts};
+ghost use Rattle.cany_model.specs.Bus.Restart.{after_restarts};
 ghost use Rattle.cany_model.specs.Bus.Run.{run, slot_reply};
 ghost use Rattle.cany_model.specs.Bus.Slot.{after_slot, script as script_of};
-ghost use Rattle.cany_world.specs.Kept.{AreControllersOf, CanRunSlot, IsBusOf};
+ghost use Rattle.cany_world.specs.Kept.{AreControllersOf, CanRunSlot, StandFor};
 ghost use Rattle.cany_world.specs.Replies.{IfDone};
 
+use crate::incarnations::Incarnations;
+use crate::restarting::restart_all;
 use crate::unread::first_lagging;
 use can_bus::Bus;
 use can_controller::Controller;
@@ -32,29 +35,31 @@ fn slot_reply(params: &Params, ran: u64, controllers: &[Controller]) -> StepRepl
     }
 }
 
-/// Runs the next slot, if it can run.
+/// Runs the next slot, if it can run, and then the restarts at its end.
 pub(crate) fn run_slot(
     scenario: &Scenario,
     script: &Script,
     bus: &mut Bus,
     controllers: &mut [Controller],
+    nodes: &mut [Incarnations],
 ) -> StepReply
-    requires { CanRunSlot scenario.now script.now bus.old controllers.old }
+    requires { CanRunSlot scenario.now script.now bus.old controllers.old nodes.old }
 
     ensures reply { (journal : List Step) → let s = run scenario.now journal in
-        IsBusOf scenario.now s bus.old → AreControllersOf scenario.now s controllers.old → result ≡ slot_reply scenario.now s }
+        StandFor scenario.now s bus.old controllers.old nodes.old → result ≡ slot_reply scenario.now s }
 
-    // The bus and the controllers are those of the run after its slot.
+    // They stand for the state after the slot and its restarts.
     ensures done { (journal : List Step) → let s = run scenario.now journal in
-        IsBusOf scenario.now s bus.old → AreControllersOf scenario.now s controllers.old
-        → IfDone result (IsBusOf scenario.now (after_slot (script_of scenario.now.rules) s) bus.new
-        × AreControllersOf scenario.now (after_slot (script_of scenario.now.rules) s) controllers.new) (Unit {0}) }
+        StandFor scenario.now s bus.old controllers.old nodes.old
+        → IfDone result (StandFor scenario.now (after_restarts scenario.now (after_slot (script_of scenario.now.rules) s)) bus.new controllers.new nodes.new) (Unit {0}) }
 
-    ensures refused { IfDone result (Unit {0}) ((bus.new ≡ bus.old) × (controllers.new ≡ controllers.old)) }
+    ensures refused { IfDone result (Unit {0}) ((bus.new ≡ bus.old) × (controllers.new ≡ controllers.old) × (nodes.new ≡ nodes.old)) }
 {
-    match slot_reply(scenario.params(), bus.trace().len() as u64, controllers) {
+    let slot = bus.trace().len() as u64;
+    match slot_reply(scenario.params(), slot, controllers) {
         StepReply::Done => {
             bus.slot(controllers, script);
+            restart_all(scenario.restarts(), slot, controllers, nodes);
             StepReply::Done
         }
         refusal => refusal,

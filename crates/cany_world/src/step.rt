@@ -5,6 +5,7 @@ ghost use Rattle.cany_model.specs.Bus.Run.{proceed, reply, run};
 ghost use Rattle.cany_world.specs.Kept.{CanStep, StandFor};
 ghost use Rattle.cany_world.specs.Replies.{IfDone};
 
+use crate::incarnations::Incarnations;
 use crate::slot::run_slot;
 use crate::turn::take_turn;
 use can_bus::Bus;
@@ -12,7 +13,6 @@ use can_controller::Controller;
 use can_fault::Script;
 use cany_base::{Actions, Scenario, Step};
 use cany_model::StepReply;
-use cany_node::Node;
 
 /// Makes the step, if it can be made.
 pub(crate) fn make(
@@ -20,7 +20,7 @@ pub(crate) fn make(
     script: &Script,
     bus: &mut Bus,
     controllers: &mut [Controller],
-    nodes: &mut [Node],
+    nodes: &mut [Incarnations],
     actions: &mut Actions,
     step: Step,
 ) -> StepReply
@@ -38,7 +38,7 @@ pub(crate) fn make(
     ensures actions { actions.new ≡ actions.old }
 {
     match step {
-        Step::Slot => run_slot(scenario, script, bus, controllers),
+        Step::Slot => run_slot(scenario, script, bus, controllers, nodes),
         Step::Turn(node) => take_turn(node, nodes, controllers, actions),
     }
 }

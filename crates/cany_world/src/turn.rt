@@ -4,14 +4,15 @@ ghost use Rattle.cany_base.specs.declared.step.Step.{Step};
 ghost use Rattle.cany_base.specs.Scenario.{ScenarioParts};
 ghost use Rattle.cany_model.specs.Bus.Run.{after_turn, run, turn_reply};
 ghost use Rattle.can_controller.specs.Controller.{ControllerState};
-ghost use Rattle.cany_node.specs.Node.{CanTurn, NodeParts};
+ghost use Rattle.cany_world.specs.Incarnations.{CanTurnNow, IncarnationsParts};
 ghost use Rattle.cany_world.specs.Kept.{AreControllersOf, AreNodesOf};
 ghost use Rattle.cany_world.specs.Replies.{IfDone, step_reply};
 
+use crate::incarnations::Incarnations;
 use can_controller::Controller;
 use cany_base::{Actions, NodeId};
 use cany_model::StepReply;
-use cany_node::{Node, TurnReply};
+use cany_node::TurnReply;
 
 /// The answer of a node to its turn, as the reply to the step.
 fn step_reply(reply: TurnReply) -> StepReply
@@ -27,13 +28,13 @@ fn step_reply(reply: TurnReply) -> StepReply
 /// The node takes its turn, if there is one of this number and it can.
 pub(crate) fn take_turn(
     node: NodeId,
-    nodes: &mut [Node],
+    nodes: &mut [Incarnations],
     controllers: &mut [Controller],
     actions: &mut Actions,
 ) -> StepReply
     requires count { length controllers.old ≡ length nodes.old }
-    requires turn { (v : NodeParts) (c : ControllerState) → slice_get nodes.old node ≡ Some v → slice_get controllers.old node ≡ Some c
-        → CanTurn v c actions.old }
+    requires turn { (v : IncarnationsParts) (c : ControllerState) → slice_get nodes.old node ≡ Some v → slice_get controllers.old node ≡ Some c
+        → CanTurnNow v c actions.old }
 
     ensures reply { (scenario : ScenarioParts) (journal : List Step) → let s = run scenario journal in
         AreControllersOf scenario s controllers.old → AreNodesOf scenario s nodes.old → result ≡ turn_reply scenario node s }

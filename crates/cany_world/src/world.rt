@@ -1,5 +1,7 @@
-ghost use Rattle.std.specs.Prelude.{◌≡◌, ◌<◌, ◌↔◌, [], ◌∷◌, ◌++◌, None, if◌then◌else◌, length, reverse, slice_get, IfOk, IsSomeAnd};
+ghost use Rattle.std.specs.Prelude.{◌≡◌, ◌<◌, ◌≤◌, ◌↔◌, [], ◌∷◌, ◌++◌, None, Some, if◌then◌else◌, length, reverse, slice_get, IfOk, IsSomeAnd};
 ghost use Rattle.cany_model.specs.Bus.Follow as following;
+ghost use Rattle.cany_model.specs.Bus.Incarnations.{log_of, span_of};
+ghost use Rattle.cany_model.specs.Bus.Restart.{restarted_in};
 ghost use Rattle.cany_model.specs.Promises.Hypothesis.{IsWithin, first_break};
 ghost use Rattle.cany_model.specs.Rules.Log as model;
 ghost use Rattle.cany_model.specs.Rules.Messages.{message_key, messages_of};
@@ -7,8 +9,10 @@ ghost use Rattle.cany_model.specs.Bus.Run.{IsLegal, after_step, has_ended, is_do
 ghost use Rattle.cany_model.specs.Promises.Safe.{IsIntegral, IsSafe};
 ghost use Rattle.cany_model.specs.Promises.Settled.{is_settled};
 ghost use Rattle.cany_model.specs.Bus.State.{node_at, reads, slots_run};
-ghost use Rattle.cany_world.specs.Kept.{IsKeptAs};
+ghost use Rattle.cany_world.specs.Kept.{IsKeptAs, IsKeptAt};
 
+use crate::began::began_nodes;
+use crate::incarnations::Incarnations;
 use crate::opening::{controllers_of, journal_room, nodes_of};
 use crate::settled::is_settled;
 use crate::step::make;
@@ -17,11 +21,11 @@ use can_bus::Bus;
 use can_controller::Controller;
 use can_fault::Script;
 use cany_base::{
-    Actions, BoundedVec, LogEntry, Memory, MsgKey, NodeId, Scenario, Slot, SlotNote, Step,
+    Actions, BoundedVec, LogEntry, Memory, MsgKey, NodeId, NodeSet, Scenario, Slot, SlotNote, Step,
 };
 use cany_message::keys_of;
-use cany_model::{Break, StepReply};
-use cany_node::{Node, actions_room};
+use cany_model::{Break, Span, StepReply};
+use cany_node::actions_room;
 use std::alloc::Global;
 use std::marker::Model;
 
@@ -35,7 +39,7 @@ pub struct World {
     script: Script,
     bus: Bus,
     controllers: Vec<Controller>,
-    nodes: Vec<Node>,
+    nodes: Vec<Incarnations>,
     actions: Actions,
     journal: BoundedVec<Step>,
     keys: Vec<MsgKey>,
@@ -116,16 +120,48 @@ impl World {
             && all_read(self.controllers.as_slice())
     }
 
-    /// The log of a node, oldest entry first.
+    /// The log of the present incarnation of a node, oldest entry first.
     pub fn log(&self, node: NodeId) -> &[LogEntry]
         requires { node < self.now.scenario.params.nodes }
         ensures { result.now ≡ model.log self.now.scenario (state_of self.now) node }
     {
-        let nodes = self.nodes.as_slice();
-        nodes[usize::from(node.get())].log()
+        self.incarnations(node).node().log()
     }
 
-    /// How many notices a node has read.
+    /// The log of an incarnation of a node, oldest entry first. One that has ended keeps its log.
+    pub fn log_of(&self, node: NodeId, inc: u8) -> &[LogEntry]
+        requires node { node < self.now.scenario.params.nodes }
+        requires inc { inc ≤ (node_at (state_of self.now).nodes node).present.number }
+        ensures { result.now ≡ log_of self.now.scenario (state_of self.now) node inc }
+    {
+        self.incarnations(node).log_of(inc)
+    }
+
+    /// What became of an incarnation of a node.
+    pub fn span(&self, node: NodeId, inc: u8) -> Span
+        requires node { node < self.now.scenario.params.nodes }
+        requires inc { inc ≤ (node_at (state_of self.now).nodes node).present.number }
+        ensures { Some result ≡ span_of (state_of self.now) node inc }
+    {
+        self.incarnations(node).span_of(inc, self.controller(node))
+    }
+
+    /// The number of the present incarnation of a node: 0 at the opening, and one more with each restart.
+    pub fn incarnation(&self, node: NodeId) -> u8
+        requires { node < self.now.scenario.params.nodes }
+        ensures { result ≡ (node_at (state_of self.now).nodes node).present.number }
+    {
+        self.incarnations(node).incarnation()
+    }
+
+    /// The nodes that started again at the end of the slot.
+    pub fn restarted(&self, slot: Slot) -> NodeSet
+        ensures { result ≡ restarted_in (state_of self.now) slot }
+    {
+        began_nodes(slot, self.nodes.as_slice())
+    }
+
+    /// The next slot that a node has to read: how many notices it has read, of one that has never started again.
     pub fn read(&self, node: NodeId) -> u64
         requires { node < self.now.scenario.params.nodes }
         ensures { result ≡ reads (state_of self.now) node }
@@ -133,7 +169,7 @@ impl World {
         self.controller(node).read()
     }
 
-    /// The slot in which a node stopped. A node that runs has none.
+    /// The slot in which the present incarnation of a node stopped. A node that runs has none.
     pub fn stopped(&self, node: NodeId) -> Option<Slot>
         requires { node < self.now.scenario.params.nodes }
         ensures { result ≡ (node_at (state_of self.now).nodes node).stopped }
@@ -205,6 +241,15 @@ impl World {
     {
         let controllers = self.controllers.as_slice();
         &controllers[usize::from(node.get())]
+    }
+
+    /// The incarnations of a node.
+    fn incarnations(&self, node: NodeId) -> &Incarnations
+        requires { node < self.now.scenario.params.nodes }
+        ensures { let s = state_of self.now in IsKeptAt self.now.scenario s.trace node (node_at s.nodes node) result.now }
+    {
+        let nodes = self.nodes.as_slice();
+        &nodes[usize::from(node.get())]
     }
 
     /// How many slots ran.

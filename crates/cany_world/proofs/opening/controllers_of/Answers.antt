@@ -2,7 +2,8 @@ use Rattle.std.proofs.Common.{◌≡◌, ◌+◌, ℕ, [], ap, subst, sym, ◌�
 use Rattle.cany_base.specs.Params.{Parameters}
 use Rattle.cany_model.specs.Bus.State.{node_at, opening}
 use Rattle.can_controller.specs.Controller.{ControllerState}
-use Rattle.cany_world.specs.Kept.{AreOfNodes, IsKeptAs}
+use Rattle.cany_world.specs.Kept.{IsKeptAs}
+use Rattle.cany_world.specs.Places.{AreOfNodes}
 use Rattle.cany_world.proofs.OpeningFacts.{first_controller}
 use Rattle.cany_world.proofs.PlaceFacts.{none_yet, one_more}
 use Rattle.cany_world.proofs.opening.controllers_of.Goals as goal

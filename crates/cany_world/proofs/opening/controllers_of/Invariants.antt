@@ -1,5 +1,6 @@
 use Rattle.cany_model.specs.Bus.State.{node_at, opening}
-use Rattle.cany_world.specs.Kept.{AreOfNodes, IsKeptAs}
+use Rattle.cany_world.specs.Kept.{IsKeptAs}
+use Rattle.cany_world.specs.Places.{AreOfNodes}
 use Rattle.cany_world.proofs.opening.controllers_of.Given as goal
 
 abbrev pub invariant-loop-i : goal.invariant-loop-i

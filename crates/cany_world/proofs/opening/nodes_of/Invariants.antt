@@ -1,6 +1,9 @@
-use Rattle.cany_model.specs.Bus.State.{opening}
-use Rattle.cany_world.specs.Kept.{AreOfNodes, IsKeptNode}
+use Rattle.cany_model.specs.Bus.State.{node_at, opening}
+use Rattle.cany_world.specs.Kept.{IsKeptAt}
+use Rattle.cany_world.specs.Places.{AreOfNodes}
 use Rattle.cany_world.proofs.opening.nodes_of.Given as goal
 
 abbrev pub invariant-loop-i : goal.invariant-loop-i
-invariant-loop-i l = AreOfNodes (IsKeptNode l.fn.scenario (opening l.fn.scenario.params.nodes)) l.i l.nodes.items
+invariant-loop-i l =
+    let first = opening l.fn.scenario.params.nodes in
+    AreOfNodes (λ i v. IsKeptAt l.fn.scenario first.trace i (node_at first.nodes i) v) l.i l.nodes.items

@@ -15,10 +15,7 @@ loop-i-init c = round_slot c.args.world.now c.step.new.self c.step.result c.requ
 
 pub loop-i-preserved : goal.loop-i-preserved
 loop-i-preserved c =
-    let count : c.from-count.result ≡ c.args.world.now.scenario.params.nodes =
-    c.from-count.ensures ∙ ap (λ (p : Parameters). p.nodes) (c.behind-scenario.view_is ∙ c.params.ensures.params) ∙ ap (λ (s : ScenarioParts). s.params.nodes) c.scenario.ensures in
-    round_next c.args.world.now c.loop-i.world c.run_turn.new.world c.loop-i.i c.requires c.loop-i.invariant (omega (arith, count, c.loop-i-test.true))
-    (c.run_turn.ensures ∙ ap (turn_made c.loop-i.world) c.of_index.ensures)
+    round_next c.args.world.now c.loop-i.world c.run_turn.new.world c.loop-i.i c.loop-i.invariant (c.run_turn.ensures ∙ ap (turn_made c.loop-i.world) c.of_index.ensures)
 
 pub returns : goal.returns
 returns c =

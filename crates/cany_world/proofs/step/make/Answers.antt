@@ -1,17 +1,10 @@
 use Rattle.cany_world.proofs.StepFacts.{slot_replies, slot_stands, turn_replies, turn_stands}
 use Rattle.cany_world.proofs.TurnFacts.{can_turn}
-use Rattle.cany_base.proofs.ParamsFacts.{few_nodes}
 use Rattle.cany_model.specs.Bus.Run.{run}
 use Rattle.cany_world.proofs.step.make.Goals as goal
 
 pub run_slot-requires : goal.run_slot-requires
-run_slot-requires c = record {
-  rules = c.requires.rules;
-  few = few_nodes c.args.scenario.now.params c.requires.legal.in_range;
-  journal = c.requires.journal;
-  bus = c.requires.stands.bus;
-  controllers = c.requires.stands.controllers;
-}
+run_slot-requires c = record { legal = c.requires.legal; rules = c.requires.rules; journal = c.requires.journal; stands = c.requires.stands }
 
 pub take_turn-requires-clause-turn : goal.take_turn-requires-clause-turn
 take_turn-requires-clause-turn c v x at_node at =
@@ -20,12 +13,12 @@ take_turn-requires-clause-turn c v x at_node at =
 
 pub returns-in-Slot-clause-reply : goal.returns-in-Slot-clause-reply
 returns-in-Slot-clause-reply c journal stands =
-    slot_replies c.args.scenario.now (run c.args.scenario.now journal) c.args.step c.run_slot.result c.in-Slot.is (c.run_slot.ensures.reply journal stands.bus stands.controllers)
+    slot_replies c.args.scenario.now (run c.args.scenario.now journal) c.args.step c.run_slot.result c.in-Slot.is (c.run_slot.ensures.reply journal stands)
 
 pub returns-in-Slot-clause-done : goal.returns-in-Slot-clause-done
 returns-in-Slot-clause-done c journal stands =
-    slot_stands c.args.scenario.now journal c.args.step c.run_slot.result c.args.bus.now c.run_slot.new.bus c.args.controllers.now c.run_slot.new.controllers c.args.nodes.now
-    c.in-Slot.is stands (c.run_slot.ensures.done journal stands.bus stands.controllers)
+    slot_stands c.args.scenario.now (run c.args.scenario.now journal) c.args.step c.run_slot.result c.run_slot.new.bus c.run_slot.new.controllers c.run_slot.new.nodes
+    c.in-Slot.is (c.run_slot.ensures.done journal stands)
 
 pub returns-in-Turn-clause-reply : goal.returns-in-Turn-clause-reply
 returns-in-Turn-clause-reply c journal stands =

@@ -3,8 +3,7 @@ use Rattle.std.specs.Prelude.{slice_get, slice_set, Some}
 use Rattle.std.proofs.lemmas.Option.{slice_get-get_or}
 use Rattle.can_controller.specs.Controller.{ControllerState}
 use Rattle.cany_model.specs.Bus.Run.{run, after_turn}
-use Rattle.cany_model.specs.Bus.History.{history}
-use Rattle.cany_node.specs.Node.{NodeParts}
+use Rattle.cany_world.specs.Incarnations.{IncarnationsParts}
 use Rattle.cany_world.specs.Replies.{IfDone, step_reply}
 use Rattle.cany_world.specs.Kept.{AreControllersOf, AreNodesOf}
 use Rattle.cany_world.proofs.TurnFacts.{turn_reply_is, turned_on}
@@ -12,7 +11,7 @@ use Rattle.cany_world.proofs.turn.take_turn.Goals as goal
 
 pub turn-requires : goal.turn-requires
 turn-requires c =
-    let v : NodeParts = get_or c.args.nodes.now c.from-i.result c.index-nodes-i.result in
+    let v : IncarnationsParts = get_or c.args.nodes.now c.from-i.result c.index-nodes-i.result in
     let x : ControllerState = get_or c.args.controllers.now c.from-i.result c.index-controllers-i.result in
     let number : c.from-i.result ≡ c.args.node = c.from-i.ensures ∙ c.get.ensures.value in
     c.requires.turn v x
@@ -30,7 +29,7 @@ returns-clause-reply c scenario journal row kept =
 
 pub returns-clause-done : goal.returns-clause-done
 returns-clause-done c scenario journal row kept =
-    let v : NodeParts = get_or c.args.nodes.now c.from-i.result c.index-nodes-i.result in
+    let v : IncarnationsParts = get_or c.args.nodes.now c.from-i.result c.index-nodes-i.result in
     let x : ControllerState = get_or c.args.controllers.now c.from-i.result c.index-controllers-i.result in
     let number : c.from-i.result ≡ c.args.node = c.from-i.ensures ∙ c.get.ensures.value in
     let at : slice_get c.args.controllers.now c.args.node ≡ Some x =
@@ -40,5 +39,4 @@ returns-clause-done c scenario journal row kept =
     subst (λ k. IfDone c.step_reply.result (AreControllersOf scenario (after_turn scenario c.args.node (run scenario journal)) (slice_set c.args.controllers.now k c.turn.new.ctl)
     × AreNodesOf scenario (after_turn scenario c.args.node (run scenario journal)) (slice_set c.args.nodes.now k c.turn.new.self)) (Unit {0})) (sym number)
     (turned_on scenario journal c.args.node c.args.nodes.now c.args.controllers.now v c.turn.new.self x c.turn.new.ctl c.step_reply.result
-    row kept (omega (arith, number)) at_node at (c.step_reply.ensures ∙ ap step_reply c.turn.ensures.reply) c.turn.ensures.node
-    (λ notice reads. c.turn.ensures.turn scenario (history c.args.node (run scenario journal)) notice reads))
+    row kept (omega (arith, number)) at_node at (c.step_reply.ensures ∙ ap step_reply c.turn.ensures.reply) c.turn.ensures.turn)

@@ -1,19 +1,7 @@
-use Rattle.std.proofs.Common.{◌≡◌, ◌<◌, length, ap, subst, ◌∙◌, arith}
-use Rattle.std.specs.Prelude.{slice_get, Some}
-use Rattle.cany_model.specs.Rules.Log.{log}
-use Rattle.cany_world.specs.World.{WorldParts, state_of}
-use Rattle.cany_world.specs.WorldFields.{world_parts}
-use Rattle.cany_world.proofs.PlaceFacts.{found}
-use Rattle.cany_world.proofs.WorldFacts.{log_is}
+use Rattle.cany_world.specs.World.{state_of}
+use Rattle.cany_world.proofs.Told.{log_is}
 use Rattle.cany_world.proofs.world.World.log.Goals as goal
 
 pub returns : goal.returns
 returns c =
-    let at : c.from.result ≡ c.args.node = c.from.ensures ∙ c.get.ensures.value in
-    let within : c.args.node < length c.self.inside.nodes.items =
-    omega (arith, c.requires, c.self.invariant.stands.nodes.whole, ap (λ (w : WorldParts). w.scenario.params.nodes) c.self.view_is) in
-    let is : slice_get c.self.inside.nodes.items c.args.node ≡ Some c.index-nodes-from.result =
-    found c.self.inside.nodes.items c.as_slice-nodes.result.now c.args.node c.from.result c.index-nodes-from.result c.as_slice-nodes.ensures.value at within c.index-nodes-from.is in
-    subst (λ (w : WorldParts). c.log.result.now ≡ log w.scenario (state_of w) c.args.node) c.self.view_is
-    (log_is c.self.inside.scenario (state_of (world_parts c.self.inside)) c.args.node c.index-nodes-from.result c.log.result.now
-    (c.self.invariant.stands.nodes.each c.args.node c.index-nodes-from.result is) c.log.ensures)
+    log_is c.args.self.now.scenario (state_of c.args.self.now) c.args.node c.incarnations.result.now c.node.result.now c.log.result.now c.incarnations.ensures c.node.ensures c.log.ensures

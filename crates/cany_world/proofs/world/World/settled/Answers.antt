@@ -4,7 +4,7 @@ use Rattle.can_controller.specs.Controller.{ControllerState}
 use Rattle.cany_base.specs.Params.{Parameters}
 use Rattle.cany_model.specs.Rules.Messages.{Message, messages_of}
 use Rattle.cany_model.specs.Promises.Settled.{is_settled}
-use Rattle.cany_node.specs.Node.{NodeParts}
+use Rattle.cany_world.specs.Incarnations.{IncarnationsParts}
 use Rattle.cany_world.specs.Controllers.{IsSmallKey}
 use Rattle.cany_world.specs.Kept.{AreControllersOf, AreNodesOf}
 use Rattle.cany_world.specs.World.{WorldParts, state_of}
@@ -38,7 +38,7 @@ is_settled-requires-clause-count c =
     omega (
       arith,
       ap (λ (t : List ControllerState). length t) c.as_slice-controllers.ensures.value,
-      ap (λ (t : List NodeParts). length t) c.as_slice-nodes.ensures.value,
+      ap (λ (t : List IncarnationsParts). length t) c.as_slice-nodes.ensures.value,
       c.self.invariant.stands.controllers.whole,
       c.self.invariant.stands.nodes.whole,
     )
@@ -59,4 +59,4 @@ returns c =
       stands = it.stands;
       key = it.named;
     })
-    it.service))
+    it.service it.slot))
