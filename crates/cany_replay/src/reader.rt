@@ -1,5 +1,5 @@
 //! Reads a scenario text. What the bytes stand for is `scenario_of` of `cany_model`; the files below meet its parts.
-ghost use Rattle.std.specs.Prelude.{◌≡◌, IfOk, IfErr, Some, None};
+ghost use Rattle.std.specs.Prelude.{◌≡◌, [], IfOk, IfErr, Some, None};
 ghost use Rattle.toml.specs.View.{table_view};
 ghost use Rattle.cany_model.specs.Texts.ScenarioText.{scenario_from, scenario_of};
 ghost use Rattle.cany_replay.specs.Refusal.{IfLater};
@@ -34,7 +34,7 @@ const TOP_KEYS: [&str; 14] = [
     "confirm", "send", "fault", "journal",
 ];
 
-/// The scenario that the bytes stand for.
+/// The scenario that the bytes stand for. A text has no restart entries yet.
 ///
 /// # Errors
 ///
@@ -42,6 +42,7 @@ const TOP_KEYS: [&str; 14] = [
 #[tactic(auto, unfolding(cany_model::specs::Texts::ScenarioText::scenario_of))]
 pub(crate) fn read_scenario(alloc: Global, bytes: &[u8]) -> Result<Scenario, ReadRefusal>
     ensures ok { IfOk result (λ scenario. scenario_of bytes.now ≡ Some scenario) }
+    ensures restarts { IfOk result (λ scenario. scenario.restarts ≡ []) }
     ensures later { IfErr result (λ refusal. IfLater refusal (scenario_of bytes.now ≡ None)) }
 {
     let top = read_document(alloc, bytes)?;
@@ -51,6 +52,7 @@ pub(crate) fn read_scenario(alloc: Global, bytes: &[u8]) -> Result<Scenario, Rea
 #[tactic(auto, unfolding(cany_model::specs::Texts::ScenarioText::scenario_from))]
 fn scenario_from(alloc: Global, top: &Table) -> Result<Scenario, ReadRefusal>
     ensures ok { IfOk result (λ scenario. scenario_from (table_view top.now) ≡ Some scenario) }
+    ensures restarts { IfOk result (λ scenario. scenario.restarts ≡ []) }
     ensures later { IfErr result (λ refusal. IfLater refusal (scenario_from (table_view top.now) ≡ None)) }
 {
     if !has_only(top, &TOP_KEYS) {
@@ -69,6 +71,7 @@ fn scenario_from(alloc: Global, top: &Table) -> Result<Scenario, ReadRefusal>
         members,
         sends,
         rules,
+        Vec::new(alloc),
         Vec::new(alloc),
         Vec::new(alloc),
         journal,

@@ -11,6 +11,7 @@ use std::test::Fail;
 mod forty_nodes;
 mod journals;
 mod relcan;
+mod restarts;
 mod runs;
 mod streams;
 mod thirty_two_nodes;

@@ -1,5 +1,5 @@
 //! The call behind the command `replay`.
-ghost use Rattle.std.specs.Prelude.{◌≡◌, ◌⊎◌, ◌↔◌, ◌<◌, ◌≤◌, map, length, string_bytes, None, IsTrue, IfSome, IsSomeAnd, MatchOption};
+ghost use Rattle.std.specs.Prelude.{◌≡◌, ◌⊎◌, ◌↔◌, ◌<◌, ◌≤◌, [], map, length, string_bytes, None, IsTrue, IfSome, IsSomeAnd, MatchOption};
 ghost use Rattle.cany_base.specs.Limits.{most_text_bytes};
 ghost use Rattle.cany_io.specs.Faults.{HasRisen, StandsStill};
 ghost use Rattle.cany_io.specs.Sink.{Takes, TakesPrefix};
@@ -33,6 +33,7 @@ fn is_replay(words: &[String]) -> bool
 
 /// Writes the report of a run.
 fn report_run<K: Sink>(world: &World, sink: &mut K) -> u8
+    requires { world.now.scenario.restarts ≡ [] }
     ensures done { result ≡ DONE → Takes (K.taken sink.old) (report world.now.scenario world.now.journal) (K.taken sink.new) }
     ensures write_fault { result ≡ WRITE_FAULT → HasRisen (K.faults sink.old) (K.faults sink.new) }
     ensures prefix { TakesPrefix (K.taken sink.old) (report world.now.scenario world.now.journal) (K.taken sink.new) }
@@ -72,6 +73,7 @@ fn refuse_journal<K: Sink>(fault: &FollowFault, sink: &mut K) -> u8
 
 /// Runs a scenario and writes the report, or refuses its journal. Nothing is written before the run has ended.
 fn replay_scenario<K: Sink>(alloc: Global, scenario: &Scenario, sink: &mut K) -> u8
+    requires { scenario.now.restarts ≡ [] }
     ensures done { result ≡ DONE → Takes (K.taken sink.old) (report scenario.now (journal_of scenario.now)) (K.taken sink.new) }
     ensures followed { result ≡ DONE → own_fault scenario.now ≡ None }
     ensures promises { result ≡ DONE → KeepsPromises scenario.now }

@@ -1,4 +1,4 @@
-ghost use Rattle.std.specs.Prelude.{◌≡◌, ◌⊎◌, ◌<◌, ◌≤◌, length};
+ghost use Rattle.std.specs.Prelude.{◌≡◌, ◌⊎◌, ◌<◌, ◌≤◌, [], length};
 ghost use Rattle.cany_base.specs.Limits.{most_nodes};
 ghost use Rattle.cany_io.specs.Faults.{HasRisen, StandsStill};
 ghost use Rattle.cany_io.specs.Sink.{Takes, TakesPrefix};
@@ -26,6 +26,7 @@ use std::test::Fail;
 // Answers with a status, as a program does. That a caller can say so much of the sink, with no proof
 // of its own, is what the contract is for.
 fn report_status<K: Sink>(world: &World, sink: &mut K) -> u8
+    requires { world.now.scenario.restarts ≡ [] }
     ensures whole { result ≡ DONE → Takes (K.taken sink.old) (report world.now.scenario world.now.journal) (K.taken sink.new) }
     ensures prefix { TakesPrefix (K.taken sink.old) (report world.now.scenario world.now.journal) (K.taken sink.new) }
     ensures fault { result ≡ WRITE_FAULT → HasRisen (K.faults sink.old) (K.faults sink.new) }

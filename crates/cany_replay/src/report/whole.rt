@@ -1,4 +1,4 @@
-ghost use Rattle.std.specs.Prelude.{◌≡◌, ◌<◌, map, filter};
+ghost use Rattle.std.specs.Prelude.{◌≡◌, ◌<◌, [], map, filter};
 ghost use Rattle.std.specs.List.{concat, flat_map, range_with_len};
 ghost use Rattle.cany_base.specs.Scenario.{ScenarioParts};
 ghost use Rattle.cany_model.specs.Texts.Report.{report, bus_lines, node_lines, message_lines};
@@ -118,8 +118,9 @@ fn write_nodes_and_messages<K: Sink>(world: &World, sink: &mut K) -> Result<(), 
     write_line(&[Field::Text("end")], sink)
 }
 
-/// Writes the report of the world's run. It takes no memory.
+/// Writes the report of the world's run. It takes no memory. A report has no lines for restarts yet, so the scenario has none.
 pub fn write_report<K: Sink>(world: &World, sink: &mut K) -> Result<(), Failed>
+    requires { world.now.scenario.restarts ≡ [] }
     ensures { IsWritten (report world.now.scenario world.now.journal) result
         (K.taken sink.old) (K.taken sink.new) (K.faults sink.old) (K.faults sink.new) }
 {

@@ -1,5 +1,7 @@
 //! 40 nodes, in format two: the one frame of the run is that of node 39, and all others wait with the relay.
 
+ghost use Rattle.std.specs.Prelude.{◌≡◌, [], IfOk};
+
 use crate::report::write_report;
 use crate::tests::ROOM;
 use cany_base::{Format, Memory, NodeId, NodeSet, Params, Payload, Scenario, SendAsk, Service};
@@ -99,7 +101,9 @@ end
 ";
 
 /// One send without data, of the last node.
-fn scenario(alloc: Global) -> Result<Scenario, Memory> {
+fn scenario(alloc: Global) -> Result<Scenario, Memory>
+    ensures { IfOk result (λ scenario. scenario.restarts ≡ []) }
+{
     let mut sends = Vec::new(alloc);
     sends.push(SendAsk {
         slot: 0,
@@ -111,6 +115,7 @@ fn scenario(alloc: Global) -> Result<Scenario, Memory> {
         Params::with_defaults_of(Format::Two, 40, 2),
         NodeSet::all(40),
         sends,
+        Vec::new(alloc),
         Vec::new(alloc),
         Vec::new(alloc),
         Vec::new(alloc),
