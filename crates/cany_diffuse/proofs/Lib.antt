@@ -1,3 +1,3 @@
 pub mod EagerFacts
-pub mod EntryFacts
+pub mod MadeFacts
 pub mod RoomFacts

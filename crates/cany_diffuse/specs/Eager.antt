@@ -1,6 +1,6 @@
 -- What a contract sees of the copies that are kept, and what each call does to them.
 use Rattle.std.specs.Prelude.{◌≡◌, ℕ, ◌+◌, ◌-◌, ◌^◌, ◌<◌, ◌≤◌, ◌==◌, ◌⊎◌, ◌&&◌, ◌||◌, Bool, false, not, nat_le, nat_lt, min, if◌then◌else◌, IsTrue, List, [], ◌∷◌, length, map, is_some}
-use Rattle.cany_diffuse.specs.declared.counts.Entry.{Entry}
+use Rattle.cany_diffuse.specs.declared.counts.Noted.{Noted}
 use Rattle.cany_diffuse.specs.declared.learnt.Learnt.{Learnt}
 use Rattle.cany_diffuse.specs.declared.learnt.Learnt.TheVariants.{First, Again, Enough}
 use Rattle.cany_diffuse.specs.Counts.{entry_in, noted_in}
@@ -10,7 +10,7 @@ use Rattle.cany_diffuse.specs.Counts.{entry_in, noted_in}
 pub record EagerParts : Type 0 where
   pub omit : ℕ
   pub room : ℕ
-  pub entries : List Entry
+  pub entries : List (ℕ × Noted)
 
 -- the copies of a key read since it was last forgotten
 unfoldable pub copies_of : EagerParts → ℕ → ℕ
@@ -26,7 +26,7 @@ is_there parts key = is_some (entry_in parts.entries key)
 
 -- the keys that are there
 unfoldable pub keys_of : EagerParts → List ℕ
-keys_of parts = map (λ e. e.key) parts.entries
+keys_of parts = map (λ e. e.0) parts.entries
 
 -- how many keys more there may be
 abbrev pub spare_of : EagerParts → ℕ

@@ -1,31 +1,29 @@
-ghost use Rattle.std.specs.Prelude.{◌≡◌, ◌+◌, ◌<◌, ◌≤◌, ◌⊎◌, ◌||◌, nat_lt, [], length, None, is_some, IsTrue, IfSome, IfNone, IfOk};
-ghost use Rattle.cany_diffuse.specs.Counts.{entry_in, blank, noted_in, HasKeysOnce, IsPlaceOf, IsEntered};
+ghost use Rattle.std.specs.Prelude.{◌≡◌, ◌+◌, ◌≤◌, ◌||◌, nat_eq, nat_lt, true, [], length, IfOk};
+ghost use Rattle.std.specs.List.{IsDistinct};
+ghost use Rattle.std.specs.Map.{keys_of};
+ghost use Rattle.cany_diffuse.specs.Counts.{noted_in, MayEnter, IsEntered, IsCleared};
+ghost use Rattle.cany_diffuse.specs.Eager.{raised};
 
-use cany_base::{BoundedVec, Memory};
+use cany_base::Memory;
+use indexmap::IndexMap;
 use std::alloc::Global;
 use std::marker::Model;
 
 /// What is noted of a key.
 #[derive(Clone, Copy, Debug, PartialEq, Eq)]
-pub(crate) struct Entry {
-    pub(crate) key: u64,
+pub(crate) struct Noted {
     /// The copies read since the key was last forgotten. The count stands still at the end of its type.
     pub(crate) copies: u32,
     /// The node's own transmission was read since then.
     pub(crate) owned: bool,
 }
 
-impl Entry {
+impl Noted {
     /// Nothing is noted of the key.
-    pub(crate) fn blank(key: u64) -> Entry
-        ensures { result ≡ blank key }
-    {
-        Entry {
-            key,
-            copies: 0,
-            owned: false,
-        }
-    }
+    const NOTHING: Noted = Noted {
+        copies: 0,
+        owned: false,
+    };
 
     /// Whether anything is noted of the key.
     pub(crate) fn is_held(&self) -> bool
@@ -35,86 +33,83 @@ impl Entry {
     }
 }
 
-/// The entries of keys, each key once. The memory is all taken when it is built.
+/// What is noted of keys, each key once.
+///
+/// A key is found by its hash, and the memory is all taken when the counts are built. A removal might give no room
+/// back, so a key that came stays.
 #[derive(Debug, Drop)]
 pub(crate) struct Counts {
-    entries: BoundedVec<Entry>,
+    entries: IndexMap<u64, Noted>,
+    room: usize,
 }
 
 impl Model for Counts {
+    ghost use Rattle.std.specs.Prelude.{ℕ};
     ghost use Rattle.cany_base.specs.Bounded.{Bounded};
-    ghost use Rattle.cany_diffuse.specs.declared.counts.Entry.{Entry};
-    ghost use Rattle.cany_diffuse.specs.Counts.{HasKeysOnce};
+    ghost use Rattle.cany_diffuse.specs.declared.counts.Noted.{Noted};
+    ghost use Rattle.cany_diffuse.specs.Counts.{HasRoomMade};
 
-    ghost Value = { Bounded Entry };
+    ghost Value = { Bounded (ℕ × Noted) };
 
-    ghost view = { λ c. c.entries };
+    ghost view = { λ c. record { items = c.entries.entries; room = c.room } };
 
-    ghost invariant = { λ c. HasKeysOnce c.entries.items };
+    ghost invariant = { λ c. HasRoomMade c.room c.entries };
 }
 
 impl Counts {
-    /// No entries, with room for so many.
+    /// Nothing, with room for so many keys.
     pub(crate) fn build(alloc: Global, room: usize) -> Result<Counts, Memory>
         ensures { IfOk result (λ counts. counts ≡ record { items = []; room = room }) }
     {
-        let entries = BoundedVec::build(alloc, room)?;
-        Ok(Counts { entries })
-    }
-
-    /// Whether a key has an entry.
-    pub(crate) fn has(&self, key: u64) -> bool
-        ensures { result ≡ is_some (entry_in self.now.items key) }
-    {
-        place_of(self.entries.as_slice(), key).is_some()
+        let entries = IndexMap::with_capacity(alloc, room)?;
+        Ok(Counts { entries, room })
     }
 
     /// What is noted of a key.
-    pub(crate) fn noted(&self, key: u64) -> Entry
-        ensures entry { result ≡ noted_in self.now.items key }
-        ensures key { result.key ≡ key }
-        ensures once { HasKeysOnce self.now.items }
+    pub(crate) fn noted(&self, key: u64) -> Noted
+        ensures noted { result ≡ noted_in self.now.items key }
+        ensures once { IsDistinct nat_eq (keys_of self.now.items) }
         ensures fits { length self.now.items ≤ self.now.room }
     {
-        let entries = self.entries.as_slice();
-        match place_of(entries, key) {
-            Some(place) => entries[place],
-            None => Entry::blank(key),
-        }
+        self.entries.get(&key).copied().unwrap_or(Noted::NOTHING)
     }
 
-    /// Puts an entry in, in place of the one of its key if there is one.
-    pub(crate) fn put(&mut self, entry: Entry)
-        requires { (length self.old.items < self.old.room) ⊎ IsTrue (is_some (entry_in self.old.items entry.key)) }
-        ensures { IsEntered entry self.old self.new }
+    /// Counts one copy more of a key, and gives what is noted of it then.
+    pub(crate) fn count(&mut self, key: u64) -> Noted
+        requires { MayEnter key self.old }
+        ensures copies { result.copies ≡ raised (noted_in self.old.items key).copies }
+        ensures owned { result.owned ≡ (noted_in self.old.items key).owned }
+        ensures entered { IsEntered key result self.old self.new }
     {
-        match place_of(self.entries.as_slice(), entry.key) {
-            Some(place) => self.entries.set(place, entry),
-            None => self.entries.push(entry),
+        let noted = self.entries.entry(key).unwrap().or_insert(Noted::NOTHING);
+        noted.copies = noted.copies.saturating_add(1);
+        *noted
+    }
+
+    /// Notes the node's own transmission of a key.
+    pub(crate) fn own(&mut self, key: u64)
+        requires { MayEnter key self.old }
+        ensures { IsEntered key (record (noted_in self.old.items key) { owned = true }) self.old self.new }
+    {
+        let entry = self.entries.entry(key).unwrap();
+        entry.or_insert(Noted::NOTHING).owned = true;
+    }
+
+    /// Forgets what is noted of a key, if it is there.
+    pub(crate) fn forget(&mut self, key: u64)
+        ensures { IsCleared key self.old self.new }
+    {
+        if let Some(noted) = self.entries.get_mut(&key) {
+            *noted = Noted::NOTHING;
         }
     }
 
-    /// How many entries may still be put in.
+    /// How many keys more there may be.
     pub(crate) fn spare(&self) -> usize
         ensures spare { result + length self.now.items ≡ self.now.room }
-        ensures once { HasKeysOnce self.now.items }
+        ensures once { IsDistinct nat_eq (keys_of self.now.items) }
         ensures fits { length self.now.items ≤ self.now.room }
     {
-        self.entries.spare()
+        self.room - self.entries.len()
     }
-}
-
-/// The place of the entry of a key. The newest entries are looked at first, since copies of a frame come close together.
-fn place_of(entries: &[Entry], key: u64) -> Option<usize>
-    ensures found { IfSome result (λ place. IsPlaceOf key place entries.now) }
-    ensures absent { IfNone result (entry_in entries.now key ≡ None) }
-{
-    let mut place = entries.len();
-    while place > 0 {
-        place -= 1;
-        if entries[place].key == key {
-            return Some(place);
-        }
-    }
-    None
 }

@@ -1,7 +1,7 @@
 ghost use Rattle.std.specs.Prelude.{◌≡◌, IfOk};
 ghost use Rattle.cany_diffuse.specs.Eager.{copies_of, is_owned, is_held, spare_of, learnt_of, HasRoomFor, IsCounted, IsFresh, IsLearnt, IsOwned, IsForgotten};
 
-use crate::counts::{Counts, Entry};
+use crate::counts::Counts;
 use crate::diffused::Diffused;
 use crate::learnt::Learnt;
 use cany_base::Memory;
@@ -47,10 +47,8 @@ impl<K: Diffused> Eager<K> {
         ensures answer { result ≡ learnt_of self.old.omit (copies_of self.new (K.key k)) (is_owned self.old (K.key k)) }
         ensures learnt { IsLearnt (K.key k) self.old self.new }
     {
-        let old = self.counts.noted(k.key());
-        let copies = old.copies.saturating_add(1);
-        self.counts.put(Entry { copies, ..old });
-        call_of(self.omit, copies, old.owned)
+        let noted = self.counts.count(k.key());
+        call_of(self.omit, noted.copies, noted.owned)
     }
 
     /// Notes that the node's own transmission was read. It is no copy. Once owned, a value is there from then on.
@@ -59,8 +57,7 @@ impl<K: Diffused> Eager<K> {
         requires room { HasRoomFor (K.key k) self.old }
         ensures { IsOwned (K.key k) self.old self.new }
     {
-        let old = self.counts.noted(k.key());
-        self.counts.put(Entry { owned: true, ..old });
+        self.counts.own(k.key());
     }
 
     /// How many copies were read since the value was last forgotten.
@@ -86,10 +83,7 @@ impl<K: Diffused> Eager<K> {
         requires value { K.is_value k.now }
         ensures { IsForgotten (K.key k.now) self.old self.new }
     {
-        let key = k.key();
-        if self.counts.has(key) {
-            self.counts.put(Entry::blank(key));
-        }
+        self.counts.forget(k.key());
     }
 
     /// How many omissions of a frame there may be.

@@ -8,7 +8,7 @@ use Rattle.cany_diffuse.proofs.eager.Eager.holds.Goals as goal
 pub returns-clause-held : goal.returns-clause-held
 unfolding copies_of is_owned
 returns-clause-held g c =
-    let noted = c.noted.ensures.entry ∙ ap (noted_in c.self.inside.counts.items) c.key.ensures in
+    let noted = c.noted.ensures.noted ∙ ap (noted_in c.self.inside.counts.items) c.key.ensures in
     rw (← c.self.view_is) (c.is_held.ensures ∙ ap (λ e. nat_lt 0 e.copies || e.owned) noted)
 
 pub returns-clause-counted : goal.returns-clause-counted

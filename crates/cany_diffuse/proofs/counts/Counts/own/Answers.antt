@@ -1,0 +1,7 @@
+use Rattle.std.proofs.Common.{arith}
+use Rattle.std.proofs.lemmas.Grind.{common_steps}
+use Rattle.cany_diffuse.proofs.MadeFacts.{made-written}
+use Rattle.cany_diffuse.proofs.counts.Counts.own.Goals as goal
+
+pub invariant_of-self : goal.invariant_of-self
+invariant_of-self c = grind (arith, common_steps, made-written)
