@@ -1,4 +1,5 @@
 pub mod DeliveryFacts
+pub mod EarlierFacts
 pub mod FewSendsFacts
 pub mod FollowedFacts
 pub mod HistoryFacts

@@ -1,4 +1,5 @@
 -- Worked rows: single runs and lines, computed from the definitions.
+pub mod BacklogRows
 pub mod EagerRows
 pub mod FaultsTextRows
 pub mod FollowRows
@@ -13,4 +14,6 @@ pub mod RowWords
 pub mod Rows
 pub mod ScriptRows
 pub mod SimulatedRows
+pub mod TotcanRows
+pub mod TotcanTurnRows
 pub mod VerdictRows

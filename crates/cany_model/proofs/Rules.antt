@@ -1,7 +1,9 @@
 -- What the rules of a node ask for, withdraw and enter.
 pub mod AskedFacts
+pub mod BacklogFacts
 pub mod Begun
 pub mod DeliveryFacts
+pub mod DoneFacts
 pub mod EagerFacts
 pub mod EdcanFacts
 pub mod IncarnationFacts
@@ -9,10 +11,12 @@ pub mod LogFacts
 pub mod MessageKeys
 pub mod MutedFacts
 pub mod NumberFacts
+pub mod PlaceFacts
 pub mod ProtocolFacts
 pub mod Protocols
 pub mod RelcanFacts
 pub mod RoomFacts
 pub mod SendFacts
 pub mod Timers
+pub mod TotcanFacts
 pub mod TurnFacts

@@ -1,5 +1,6 @@
 -- The rules of a node: what it does in a turn, one file a protocol.
 pub mod Actions
+pub mod Backlog
 pub mod Delivery
 pub mod Eager
 pub mod Edcan
@@ -11,4 +12,5 @@ pub mod Protocol
 pub mod Relcan
 pub mod Rooms
 pub mod Sends
+pub mod Totcan
 pub mod Turn

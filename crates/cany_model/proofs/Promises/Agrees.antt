@@ -79,7 +79,7 @@ pub origin_owed : (scenario : ScenarioParts) (m : Message) (owes : Owes) (s : Ru
 origin_owed scenario m owes s rules g correct =
     let i : ℕ = m.origin in
     let sc : ScenarioParts = scenario_at scenario s i in
-    let parts = asked_parts sc m (history i s) (sym (asked_at_once sc m i (history i s) g.is refl) ∙ asked) in
+    let parts = asked_parts sc m (history i s) (sym (asked_at_once sc m i (history i s) g.is g.at_once refl) ∙ asked) in
     owed_carried scenario (data_id m) (duty_of m owes) s g.rest i correct.correct (rules.origin_owes sc i (history i s) (refl, parts.0, parts.1))
   where
     asked : origin_has_asked scenario s m ≡ true

@@ -22,6 +22,7 @@ use Rattle.cany_model.specs.Rules.Messages.{IsOfMessage, Message, messages_of, d
 use Rattle.cany_model.specs.Rules.Notices.{BelongsTo, IsDataOf, IsReadable, NamesNode}
 use Rattle.cany_model.specs.Rules.Relcan.{confirm_frame}
 use Rattle.cany_model.specs.Rules.Rooms.{IsAskable, IsAskableBy, service_of}
+use Rattle.cany_model.specs.Rules.Totcan.{accept_frame}
 use Rattle.cany_model.specs.Rules.Turn.{scenario_at, scenario_for, turn_effects}
 use Rattle.cany_model.proofs.Among.{Among, Among-weaker, Contains-from_Among}
 use Rattle.cany_model.proofs.Bus.Carried.{Has}
@@ -31,7 +32,7 @@ use Rattle.cany_model.proofs.Bus.Runs.{IsOrderly}
 use Rattle.cany_model.proofs.Bus.Seen.{seen_idle, seen_plain}
 use Rattle.cany_model.proofs.Bus.Steps.{MayTurn, next_notice}
 use Rattle.cany_model.proofs.Bus.Waits.{AsksOnly}
-use Rattle.cany_model.proofs.Rules.ProtocolFacts.{MayAsk, confirms, originates, relays}
+use Rattle.cany_model.proofs.Rules.ProtocolFacts.{MayAsk, accepts, confirms, originates, relays}
 use Rattle.cany_model.proofs.Rules.TurnFacts.{turn_only}
 
 -- the frame can be read in this slot, and may be asked for
@@ -86,18 +87,34 @@ data_belongs scenario slot m stands by service f frame class = record {
     askable Rel e = record { message = m; stands = stands; sent_by = e; number = ap (λ (g : FrameParts). g.number) frame; origin = ap (λ (g : FrameParts). g.node) frame }
     askable Tot e = record { message = m; stands = stands; sent_by = e; number = ap (λ (g : FrameParts). g.number) frame; origin = ap (λ (g : FrameParts). g.node) frame }
 
+-- the frame of the same message, where another one of it belongs to the scenario
+of_message : (scenario : ScenarioParts) (by : Service) (g f : FrameParts) → g.number ≡ f.number → g.node ≡ f.node → IsOfMessage scenario by (identity_of g)
+    → IsOfMessage scenario by (identity_of f)
+of_message scenario by g f number node h =
+    record { message = h.message; stands = h.stands; sent_by = h.sent_by; number = h.number ∙ number; origin = h.origin ∙ node }
+
 -- the confirmation of a data frame that belongs to the scenario
 confirm_belongs : (scenario : ScenarioParts) (slot : ℕ) (g f : FrameParts) → g.class ≡ class.Rel → confirm_frame g ≡ f → Belongs scenario slot g → Belongs scenario slot f
 confirm_belongs scenario slot g f rel frame h =
-    let of : IsAskableBy scenario (identity_of g) (service_of class.Rel) = subst (λ c. IsAskableBy scenario (identity_of g) (service_of c)) rel h.askable in
     let class : class.Confirm ≡ f.class = ap (λ (x : FrameParts). x.class) frame in
-    let number : g.number ≡ f.number = ap (λ (x : FrameParts). x.number) frame in
-    let origin : g.node ≡ f.node = ap (λ (x : FrameParts). x.node) frame in
+    let of : IsOfMessage scenario Rel (identity_of f) =
+    of_message scenario Rel g f (ap (λ (x : FrameParts). x.number) frame) (ap (λ (x : FrameParts). x.node) frame)
+    (subst (λ c. IsAskableBy scenario (identity_of g) (service_of c)) rel h.askable) in
     record {
-      readable = subst (λ c. BelongsTo scenario slot c f) class
-          (record { message = of.message; stands = of.stands; sent_by = of.sent_by; number = of.number ∙ number; origin = of.origin ∙ origin });
-      askable = subst (λ c. IsAskableBy scenario (identity_of f) (service_of c)) class
-          (record { message = of.message; stands = of.stands; sent_by = of.sent_by; number = of.number ∙ number; origin = of.origin ∙ origin });
+      readable = subst (λ c. BelongsTo scenario slot c f) class of;
+      askable = subst (λ c. IsAskableBy scenario (identity_of f) (service_of c)) class of;
+    }
+
+-- the frame that accepts its message
+accept_belongs : (scenario : ScenarioParts) (slot : ℕ) (g f : FrameParts) → g.class ≡ class.Tot → accept_frame g ≡ f → Belongs scenario slot g → Belongs scenario slot f
+accept_belongs scenario slot g f tot frame h =
+    let class : class.Accept ≡ f.class = ap (λ (x : FrameParts). x.class) frame in
+    let of : IsOfMessage scenario Tot (identity_of f) =
+    of_message scenario Tot g f (ap (λ (x : FrameParts). x.number) frame) (ap (λ (x : FrameParts). x.node) frame)
+    (subst (λ c. IsAskableBy scenario (identity_of g) (service_of c)) tot h.askable) in
+    record {
+      readable = subst (λ c. BelongsTo scenario slot c f) class of;
+      askable = subst (λ c. IsAskableBy scenario (identity_of f) (service_of c)) class of;
     }
 
 asked_belongs : (scenario : ScenarioParts) (s : RunState) (i : ℕ) → IsOrderly scenario.params.nodes s → MayTurn s i → AllBelong scenario s
@@ -116,6 +133,9 @@ asked_belongs scenario s i o may h =
         data_belongs scenario (length s.trace) m (Contains-from_Among (messages_of scenario.sends) m is) m.service refl f frame (sym (ap (λ (g : FrameParts). g.class) frame))
     by_reason f (confirms g sent rel own frame) =
         confirm_belongs scenario (length s.trace) g f rel frame
+        (read g (Among-weaker (λ n. n ≡ Sent g) (Has g) (λ n e. inr e) (next_notice s i ∷ history i s) sent))
+    by_reason f (accepts g sent tot own frame) =
+        accept_belongs scenario (length s.trace) g f tot frame
         (read g (Among-weaker (λ n. n ≡ Sent g) (Has g) (λ n e. inr e) (next_notice s i ∷ history i s) sent))
 
 -- ---- every run

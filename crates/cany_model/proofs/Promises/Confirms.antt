@@ -20,7 +20,7 @@ use Rattle.cany_model.proofs.Bus.Carried.{Carries, Has, Succeeds, Succeeds-from_
 use Rattle.cany_model.proofs.Bus.FrameInvariants.{history_among, HoldsOfFrames, IsKeptByFrames, holds_of_frames, turn_note}
 use Rattle.cany_model.proofs.Bus.Runs.{IsOrderly}
 use Rattle.cany_model.proofs.Bus.Steps.{MayTurn, next_notice, after_turn-history, after_turn-trace}
-use Rattle.cany_model.proofs.Rules.ProtocolFacts.{MayAsk, confirms, data_confirms_none, originates, relays}
+use Rattle.cany_model.proofs.Rules.ProtocolFacts.{MayAsk, accepts, confirms, data_confirms_none, originates, relays}
 use Rattle.cany_model.proofs.Rules.TurnFacts.{turn_only}
 use Rattle.cany_model.proofs.Bus.Waits.{AsksOnly}
 
@@ -63,6 +63,7 @@ asked_true scenario s i o may h = turn_only (IsTrue s.trace i) (scenario_at scen
     by_reason f (originates m is origin slot late frame) = λ confirms. absurd (data_confirms_none m.service (ap (λ (x : FrameParts). x.class) frame ∙ confirms))
     by_reason f (confirms g sent rel own frame) = λ is.
         subst (λ x. Among (Succeeds x) s.trace) (confirmed_frame g f frame) (own_succeeds scenario s i g may (o.unread i) rel sent)
+    by_reason f (accepts g sent tot own frame) = λ is. let class = ap (λ (x : FrameParts). x.class) frame in absurd (cc)
 
 confirms_kept : (scenario : ScenarioParts) → IsKeptByFrames scenario IsTrue IsTrue
 confirms_kept scenario = record {

@@ -28,9 +28,10 @@ use Rattle.cany_model.proofs.Bus.Carried.{Carries, Has, frame_of_notice}
 use Rattle.cany_model.proofs.Bus.Runs.{IsOrderly, orderly, history-length, history-at}
 use Rattle.cany_model.proofs.Bus.Seen.{seen_one}
 use Rattle.cany_model.proofs.Bus.States.{no_note, note_at}
-use Rattle.cany_model.proofs.Promises.OneFrame.{data_carries, data_class-one, one_service}
+use Rattle.cany_model.proofs.Promises.OneFrame.{data_carries, one_service}
 use Rattle.cany_model.proofs.Promises.Sources.{carries_data, IsSent, IsSourced, sourced}
 use Rattle.cany_model.proofs.Rules.LogFacts.{log_once, log_split, made_by}
+use Rattle.cany_model.proofs.Rules.MessageKeys.{data_class-one}
 use Rattle.cany_model.proofs.Rules.ProtocolFacts.{IsFoundedEntry, IsLawful, log_by}
 
 -- ---- what was read by some slot, was carried by then

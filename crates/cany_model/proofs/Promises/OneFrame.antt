@@ -11,7 +11,7 @@ use Rattle.cany_model.specs.Rules.Messages.{Message, messages_of, data_frame, da
 use Rattle.cany_model.specs.Bus.State.{RunState}
 use Rattle.cany_model.proofs.Among.{Among, Among-which, Among-from_Contains}
 use Rattle.cany_model.proofs.Bus.Carried.{Carries}
-use Rattle.cany_model.proofs.Rules.MessageKeys.{IsOneOf, same_message}
+use Rattle.cany_model.proofs.Rules.MessageKeys.{IsOneOf, data_class-one, same_message}
 use Rattle.cany_model.proofs.Promises.Sources.{carries_data, IsSent, IsSourced}
 
 pub data_carries : (by : Service) → carries_data (data_class by) ≡ true
@@ -32,18 +32,6 @@ only_frame scenario s m h is note f c frame e =
     let sent : IsSent scenario s.trace f note.slot = h.carried note f c frame carries in
     sym sent.is
     ∙ same_data_frame scenario sent.message m (Among-from_Contains (messages_of scenario.sends) sent.message sent.stands) is (e ∙ sym (ap identity_of sent.is))
-
--- the class of its data frame tells a service
-pub data_class-one : (a b : Service) → data_class a ≡ data_class b → a ≡ b
-data_class-one Ed Ed e = refl
-data_class-one Ed Rel e = absurd (cc)
-data_class-one Ed Tot e = absurd (cc)
-data_class-one Rel Ed e = absurd (cc)
-data_class-one Rel Rel e = refl
-data_class-one Rel Tot e = absurd (cc)
-data_class-one Tot Ed e = absurd (cc)
-data_class-one Tot Rel e = absurd (cc)
-data_class-one Tot Tot e = refl
 
 -- the message whose data frame a slot carried
 record IsOf (scenario : ScenarioParts) (by : Service) (key : MsgKey) : Type 0 where

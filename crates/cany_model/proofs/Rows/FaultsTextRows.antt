@@ -110,6 +110,6 @@ two_rules_for_an_attempt :
 unfolding rules
 two_rules_for_an_attempt = refl
 
--- two services can be asked for
-services : map service_named (codes "ed" ∷ codes "rel" ∷ codes "tot" ∷ codes "Rel" ∷ []) ≡ Some service.Ed ∷ Some service.Rel ∷ None ∷ None ∷ []
+-- three services can be asked for
+services : map service_named (codes "ed" ∷ codes "rel" ∷ codes "tot" ∷ codes "Rel" ∷ []) ≡ Some service.Ed ∷ Some service.Rel ∷ Some service.Tot ∷ None ∷ []
 services = refl

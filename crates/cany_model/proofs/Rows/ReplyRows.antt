@@ -1,6 +1,5 @@
 -- Worked rows of the replies to a step, and of when a message is settled.
 use Rattle.std.specs.Prelude.{ℕ, ◌≡◌, true, false, List, [], ◌∷◌, Some, None, refl, map, codes}
-use Rattle.cany_base.specs.declared.message.Service.TheVariants.{Tot}
 use Rattle.cany_base.specs.declared.rule.Rule.{Rule}
 use Rattle.cany_base.specs.declared.rule.Verdict.TheVariants.{Clean}
 use Rattle.cany_base.specs.Scenario.{ScenarioParts}
@@ -75,14 +74,6 @@ not_asked_for :
     ≡ (false ∷ []) ∷ (true ∷ []) ∷ []
 unfolding row
 not_asked_for = refl
-
--- nobody asks for a TOTCAN message yet: it is open though its slot was read, and settled once its origin stops
-not_asked_for_by_any :
-    map (λ rules. (report (scenario (three 5 1 2) (record { slot = 0; node = 0; service = Tot; payload = [] } ∷ []) rules) (steps (codes ".012.12"))).settled)
-    ([] ∷ (slot_rule 1 Clean 1 ∷ []) ∷ [])
-    ≡ (false ∷ []) ∷ (true ∷ []) ∷ []
-unfolding row
-not_asked_for_by_any = refl
 
 -- a one_message of the last slot is asked for and never carried
 open_at_the_end :

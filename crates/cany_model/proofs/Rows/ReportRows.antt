@@ -18,7 +18,7 @@ use Rattle.cany_base.specs.Scenario.{ScenarioParts}
 use Rattle.cany_model.specs.Promises.Hypothesis.{break_at, first_break, count_together}
 use Rattle.cany_model.specs.Promises.Settled.{is_settled}
 use Rattle.cany_model.specs.Bus.Frames.{same_class, same_identity, same_frame, is_before}
-use Rattle.cany_model.specs.Rules.Messages.{messages_after}
+use Rattle.cany_model.specs.Rules.Messages.{messages_after, is_service}
 use Rattle.cany_model.specs.Bus.State.{node_at}
 use Rattle.cany_model.specs.Bus.Waiting.{put_in_order}
 use Rattle.cany_model.specs.Bus.Slot.{least_frame, winner, script, share_of, after_share, slot_note_of, node_after, nodes_after, after_slot}
@@ -29,6 +29,8 @@ use Rattle.cany_model.specs.Rules.Delivery.{delivery_effects}
 use Rattle.cany_model.specs.Rules.Edcan.{edcan_at, edcan_effects}
 use Rattle.cany_model.specs.Rules.Relcan.{fell_back, relcan_at, relcan_effects, timer_effects}
 use Rattle.cany_model.specs.Rules.Sends.{send_effects}
+use Rattle.cany_model.specs.Rules.Totcan.{tot_in, is_recent, after_place, is_heard, is_accepted, accept_effects, closing_effects, is_clear, done_from, delivered, delivered_now, totcan_effects}
+use Rattle.cany_model.specs.Rules.Backlog.{backlog, asked, backlog_effects}
 use Rattle.cany_model.specs.Rules.Turn.{has_asked, turn_effects}
 use Rattle.cany_model.specs.Rules.Log.{log_from}
 use Rattle.cany_model.specs.Texts.Report.{bus_lines, node_lines, message_lines, report_lines, report}
@@ -68,7 +70,7 @@ one_send slots rules = record {
 }
 
 unfoldable text_of : ScenarioParts → List ℕ
-unfolding digits line_of class_name service_name verdict_name break_name payload_text set_text step_letter first_line params_line journal_line journal_lines has_any bus_line is_shown hypothesis_line node_line entry_line message_line bus_lines node_lines message_lines report_lines report has bits_where those_where same_class same_identity same_frame is_before messages_after node_at put_in_order least_frame winner script share_of after_share slot_note_of node_after nodes_after after_slot names_restart after_entries nodes_after_entries after_restarts is_hidden as_seen history copies has_own waiting_after entered eager_effects delivery_effects edcan_at edcan_effects fell_back relcan_at timer_effects relcan_effects send_effects turn_effects has_asked log_from first_lagging reply is_legal_from after_turn proceed after_step run_from round rounds break_at first_break count_together is_settled
+unfolding digits line_of class_name service_name verdict_name break_name payload_text set_text step_letter first_line params_line journal_line journal_lines has_any bus_line is_shown hypothesis_line node_line entry_line message_line bus_lines node_lines message_lines report_lines report has bits_where those_where same_class same_identity same_frame is_before messages_after node_at put_in_order least_frame winner script share_of after_share slot_note_of node_after nodes_after after_slot names_restart after_entries nodes_after_entries after_restarts is_hidden as_seen history copies has_own waiting_after entered eager_effects delivery_effects edcan_at edcan_effects fell_back relcan_at timer_effects relcan_effects send_effects tot_in is_recent after_place is_heard is_accepted accept_effects closing_effects is_clear done_from delivered delivered_now totcan_effects backlog asked backlog_effects is_service turn_effects has_asked log_from first_lagging reply is_legal_from after_turn proceed after_step run_from round rounds break_at first_break count_together is_settled
 text_of scenario = report scenario (round_robin scenario)
 
 -- one message, no fault: all deliver it, and the others relay it together
@@ -87,7 +89,7 @@ one_message_no_fault : text_of (one_send 5 []) ≡ concat (
     ∷ codes "deliver 1 ed 0 0 x01\n"
     ∷ codes "message ed 0 0 settled\n"
     ∷ codes "end\n" ∷ [])
-unfolding text_of params one_send digits line_of class_name service_name verdict_name break_name payload_text set_text step_letter first_line params_line journal_line journal_lines has_any bus_line is_shown hypothesis_line node_line entry_line message_line bus_lines node_lines message_lines report_lines report has bits_where those_where same_class same_identity same_frame is_before messages_after node_at put_in_order least_frame winner script share_of after_share slot_note_of node_after nodes_after after_slot names_restart after_entries nodes_after_entries after_restarts is_hidden as_seen history copies has_own waiting_after entered eager_effects delivery_effects edcan_at edcan_effects fell_back relcan_at timer_effects relcan_effects send_effects turn_effects has_asked log_from first_lagging reply is_legal_from after_turn proceed after_step run_from round rounds break_at first_break count_together is_settled
+unfolding text_of params one_send
 one_message_no_fault = refl
 
 -- the sender stops after only node 1 accepted its frame: node 1 relays it
@@ -107,7 +109,7 @@ edcan_sender_stops_after_partial :
     ∷ codes "deliver 2 ed 0 0 x01\n"
     ∷ codes "message ed 0 0 settled\n"
     ∷ codes "end\n" ∷ [])
-unfolding text_of params one_send digits line_of class_name service_name verdict_name break_name payload_text set_text step_letter first_line params_line journal_line journal_lines has_any bus_line is_shown hypothesis_line node_line entry_line message_line bus_lines node_lines message_lines report_lines report has bits_where those_where same_class same_identity same_frame is_before messages_after node_at put_in_order least_frame winner script share_of after_share slot_note_of node_after nodes_after after_slot names_restart after_entries nodes_after_entries after_restarts is_hidden as_seen history copies has_own waiting_after entered eager_effects delivery_effects edcan_at edcan_effects fell_back relcan_at timer_effects relcan_effects send_effects turn_effects has_asked log_from first_lagging reply is_legal_from after_turn proceed after_step run_from round rounds break_at first_break count_together is_settled
+unfolding text_of params one_send
 edcan_sender_stops_after_partial = refl
 
 -- Lines that these runs do not have.

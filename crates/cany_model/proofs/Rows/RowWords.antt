@@ -21,6 +21,7 @@ use Rattle.cany_base.specs.Params.{Parameters}
 use Rattle.cany_base.specs.Scenario.{ScenarioParts}
 use Rattle.cany_model.specs.declared.breaks.Break.{Break}
 use Rattle.cany_model.specs.declared.reply.StepReply.{StepReply}
+use Rattle.cany_model.specs.Rules.Backlog.{backlog, asked, backlog_effects}
 use Rattle.cany_model.specs.Rules.Delivery.{delivery_effects}
 use Rattle.cany_model.specs.Rules.Eager.{eager_effects}
 use Rattle.cany_model.specs.Rules.Edcan.{edcan_at, edcan_effects}
@@ -29,7 +30,7 @@ use Rattle.cany_model.specs.Bus.Frames.{same_class, same_identity, same_frame, i
 use Rattle.cany_model.specs.Bus.History.{is_hidden, as_seen, history, copies, has_own}
 use Rattle.cany_model.specs.Promises.Hypothesis.{break_at, first_break, count_together}
 use Rattle.cany_model.specs.Rules.Log.{log, log_from}
-use Rattle.cany_model.specs.Rules.Messages.{messages_after, messages_of}
+use Rattle.cany_model.specs.Rules.Messages.{messages_after, messages_of, is_service}
 use Rattle.cany_model.specs.Rules.Relcan.{fell_back, relcan_at, timer_effects, relcan_effects}
 use Rattle.cany_model.specs.Bus.Restart.{names_restart, after_entries, nodes_after_entries, after_restarts}
 use Rattle.cany_model.specs.Bus.RoundRobin.{round, rounds}
@@ -38,6 +39,7 @@ use Rattle.cany_model.specs.Promises.Settled.{is_settled}
 use Rattle.cany_model.specs.Bus.Slot.{least_frame, winner, script, share_of, after_share, slot_note_of, node_after, nodes_after, after_slot}
 use Rattle.cany_model.specs.Bus.State.{RunState, node_at, opening, reads}
 use Rattle.cany_model.specs.Rules.Sends.{send_effects}
+use Rattle.cany_model.specs.Rules.Totcan.{tot_in, is_recent, after_place, is_heard, is_accepted, accept_effects, closing_effects, is_clear, done_from, delivered as delivered_tot, delivered_now, totcan_effects}
 use Rattle.cany_model.specs.Rules.Turn.{has_asked, turn_effects}
 use Rattle.cany_model.specs.Bus.Waiting.{put_in_order}
 
@@ -49,6 +51,9 @@ send slot node payload = record { slot = slot; node = node; service = service.Ed
 
 unfoldable pub send_rel : ℕ → ℕ → List ℕ → SendAsk
 send_rel slot node payload = record { slot = slot; node = node; service = service.Rel; payload = payload }
+
+unfoldable pub send_tot : ℕ → ℕ → List ℕ → SendAsk
+send_tot slot node payload = record { slot = slot; node = node; service = service.Tot; payload = payload }
 
 unfoldable pub slot_rule : ℕ → Verdict → ℕ → Rule
 slot_rule slot verdict stop = record { place = At slot; verdict = verdict; stop = set stop }
@@ -77,6 +82,13 @@ rel origin seq payload = record { class = class.Rel; number = seq; node = origin
 unfoldable pub confirm : ℕ → ℕ → FrameParts
 confirm origin seq = record { class = class.Confirm; number = seq; node = origin; inc = 0; payload = [] }
 
+-- the data frame of a TOTCAN message, and the frame that accepts it
+unfoldable pub tot : ℕ → ℕ → List ℕ → FrameParts
+tot origin seq payload = record { class = class.Tot; number = seq; node = origin; inc = 0; payload = payload }
+
+unfoldable pub accept : ℕ → ℕ → FrameParts
+accept origin seq = record { class = class.Accept; number = seq; node = origin; inc = 0; payload = [] }
+
 -- a slot that carried a frame: the frame, its senders and takers, the verdict and the stops
 unfoldable pub carries : ℕ → FrameParts → ℕ → ℕ → Verdict → ℕ → SlotNote
 carries slot f senders takers verdict stops = record { slot = slot; frame = Some f; senders = set senders; takers = set takers; verdict = verdict; stops = set stops }
@@ -89,6 +101,9 @@ delivers slot origin seq payload = Deliver slot service.Ed (record { origin = or
 
 unfoldable pub delivers_rel : ℕ → ℕ → ℕ → List ℕ → LogEntry
 delivers_rel slot origin seq payload = Deliver slot service.Rel (record { origin = origin; seq = seq }) payload
+
+unfoldable pub delivers_tot : ℕ → ℕ → ℕ → List ℕ → LogEntry
+delivers_tot slot origin seq payload = Deliver slot service.Tot (record { origin = origin; seq = seq }) payload
 
 -- ---- what a run shows
 
@@ -119,7 +134,7 @@ node_report sc s i = record { stopped = (node_at s.nodes i).stopped; read = read
 
 -- that of a scenario by a journal; what computes it is opened here, once for all rows
 unfoldable pub report : ScenarioParts → List Step → RunReport
-unfolding shown has bits_where those_where same_class same_identity same_frame is_before messages_after node_at put_in_order least_frame winner script share_of after_share slot_note_of node_after nodes_after after_slot names_restart after_entries nodes_after_entries after_restarts is_hidden as_seen history copies has_own waiting_after entered eager_effects delivery_effects edcan_at edcan_effects fell_back relcan_at timer_effects relcan_effects send_effects turn_effects has_asked log_from first_lagging reply is_legal_from after_turn proceed after_step run_from round rounds break_at first_break count_together is_settled
+unfolding shown has bits_where those_where same_class same_identity same_frame is_before messages_after node_at put_in_order least_frame winner script share_of after_share slot_note_of node_after nodes_after after_slot names_restart after_entries nodes_after_entries after_restarts is_hidden as_seen history copies has_own waiting_after entered eager_effects delivery_effects edcan_at edcan_effects fell_back relcan_at timer_effects relcan_effects send_effects tot_in is_recent after_place is_heard is_accepted accept_effects closing_effects is_clear done_from delivered_tot delivered_now totcan_effects backlog asked backlog_effects is_service turn_effects has_asked log_from first_lagging reply is_legal_from after_turn proceed after_step run_from round rounds break_at first_break count_together is_settled
 report sc journal =
     let s = run sc journal in
     record {
@@ -200,10 +215,20 @@ first_rel = rel 0 0 (1 ∷ [])
 abbrev pub first_confirm : FrameParts
 first_confirm = confirm 0 0
 
+-- a TOTCAN message instead, and its frames
+abbrev pub one_tot : List SendAsk
+one_tot = send_tot 0 0 (1 ∷ []) ∷ []
+
+abbrev pub first_tot : FrameParts
+first_tot = tot 0 0 (1 ∷ [])
+
+abbrev pub first_accept : FrameParts
+first_accept = accept 0 0
+
 unfoldable pub delivered : ℕ → List LogEntry
 delivered slot = delivers slot 0 0 (1 ∷ []) ∷ []
 
 -- opens all that a row is written with
 unfoldable pub row : Unit {0}
-unfolding report insides follow scenario send send_rel slot_rule frame_rule steps ed rel confirm carries idle delivers delivers_rel three delivered
+unfolding report insides follow scenario send send_rel send_tot slot_rule frame_rule steps ed rel confirm tot accept carries idle delivers delivers_rel delivers_tot three delivered
 row = tt

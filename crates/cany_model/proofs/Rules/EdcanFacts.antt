@@ -12,9 +12,9 @@ use Rattle.cany_model.specs.Bus.History.{copies, has_own, is_got}
 use Rattle.cany_model.specs.Rules.Delivery.{delivery_effects}
 use Rattle.cany_model.specs.Rules.Eager.{eager_effects}
 use Rattle.cany_model.specs.Rules.Edcan.{edcan, edcan_at, edcan_effects}
-use Rattle.cany_model.specs.Rules.Effect.{Effect, Ask, Withdraw, Enter, entered}
+use Rattle.cany_model.specs.Rules.Effect.{Effect, entered}
 use Rattle.cany_model.specs.Rules.Messages.{is_service}
-use Rattle.cany_model.proofs.Among.{Among, Among-append_right, Among-gives, Among-with, Each-append}
+use Rattle.cany_model.proofs.Among.{Among, Among-append_right, Each-append}
 use Rattle.cany_model.proofs.Bus.Carried.{is_got-true}
 use Rattle.cany_model.proofs.Bus.Identities.{same_class-true, same_class_self}
 use Rattle.cany_model.proofs.Bus.Waits.{Asks}
@@ -69,20 +69,6 @@ edcan_is_lawful = record {
     mute : (scenario : ScenarioParts) (i : ℕ) (past : List NoticeKind) → AreIdle past → edcan_effects scenario i past ≡ []
     mute scenario i [] idle = refl
     mute scenario i (e ∷ past) idle = rw idle.0 refl
-
-ask_class : (scenario : ScenarioParts) (i : ℕ) (past : List NoticeKind) (x : Identity) (e : Effect) → Asks x e → IsFounded scenario edcan i past e
-    → x.class ≡ class.Ed
-ask_class scenario i past x (Ask f) h k = ap (λ (y : Identity). y.class) h ∙ same_class-true f.class class.Ed k.1
-ask_class scenario i past x (Withdraw y) h k = absurd h
-ask_class scenario i past x (Enter entry) h k = absurd h
-
--- it asks for frames of its own class alone
-pub edcan_asks : (scenario : ScenarioParts) (i : ℕ) (x : Identity) (past : List NoticeKind) → Among (Asks x) (edcan_effects scenario i past)
-    → x.class ≡ class.Ed
-edcan_asks scenario i x past h =
-    Among-gives (λ e. Asks x e × IsFounded scenario edcan i past e) (x.class ≡ class.Ed) (λ e both. ask_class scenario i past x e both.0 both.1)
-    (edcan_effects scenario i past)
-    (Among-with (Asks x) (IsFounded scenario edcan i past) (edcan_effects scenario i past) (edcan_is_lawful.founded scenario i past) h)
 
 -- a data frame is asked for at the first copy, unless the copies are enough already or the node has sent it
 pub edcan_relays : (scenario : ScenarioParts) (i : ℕ) (x : Identity) (e : NoticeKind) (past : List NoticeKind) → x.class ≡ class.Ed → is_got x e ≡ true

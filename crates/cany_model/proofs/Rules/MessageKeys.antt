@@ -1,10 +1,15 @@
--- The messages of a scenario: one of each send, and those that have the same key are the same.
+-- The messages of a scenario: one of each send, and those that have the same key are the same; and their services.
 use Rattle.std.specs.Prelude.{slice_get, option_map, Some}
-use Rattle.std.proofs.Common.{◌≡◌, ℕ, zero, suc, ◌<◌, ◌≤◌, inl, inr, List, [], ◌∷◌, count_by, length, refl, ap, sym, ◌∙◌, arith}
+use Rattle.std.proofs.Common.{◌≡◌, ℕ, zero, suc, ◌<◌, ◌≤◌, inl, inr, true, List, [], ◌∷◌, count_by, length, refl, ap, sym, ◌∙◌, arith}
 use Rattle.std.proofs.lemmas.Bool.{eq-eqb}
 use Rattle.cany_base.specs.declared.message.SendAsk.{SendAsk}
-use Rattle.cany_model.specs.Rules.Messages.{Message, is_from, message_of, messages_after, messages_of}
+use Rattle.cany_base.specs.declared.message.Service.{Service}
+use Rattle.cany_base.specs.declared.message.Service.TheVariants.{Ed, Rel, Tot}
+use Rattle.cany_base.specs.Frame.{data_class}
+use Rattle.cany_model.specs.Bus.Frames.{same_class}
+use Rattle.cany_model.specs.Rules.Messages.{Message, is_from, is_service, message_of, messages_after, messages_of}
 use Rattle.cany_model.proofs.Among.{Among, count-yes, count-grows}
+use Rattle.cany_model.proofs.Bus.Identities.{same_class-true, same_class_self}
 
 length-messages_after : (earlier sends : List SendAsk) → length (messages_after earlier sends) ≡ length sends
 unfolding messages_after
@@ -62,3 +67,25 @@ unique earlier (send ∷ sends) k m (inr a) (inr b) origin seq = unique (send �
 pub same_message : (sends : List SendAsk) (k m : Message) → IsOneOf (messages_of sends) k → IsOneOf (messages_of sends) m
     → k.origin ≡ m.origin → k.seq ≡ m.seq → k ≡ m
 same_message sends k m a b origin seq = unique [] sends k m a b origin seq
+
+-- ---- services
+
+-- the class of its data frame tells a service
+pub data_class-one : (a b : Service) → data_class a ≡ data_class b → a ≡ b
+data_class-one Ed Ed e = refl
+data_class-one Ed Rel e = absurd (cc)
+data_class-one Ed Tot e = absurd (cc)
+data_class-one Rel Ed e = absurd (cc)
+data_class-one Rel Rel e = refl
+data_class-one Rel Tot e = absurd (cc)
+data_class-one Tot Ed e = absurd (cc)
+data_class-one Tot Rel e = absurd (cc)
+data_class-one Tot Tot e = refl
+
+pub is_service-true : (a b : Service) → is_service a b ≡ true → a ≡ b
+unfolding is_service
+is_service-true a b h = data_class-one a b (same_class-true (data_class a) (data_class b) h)
+
+pub is_service-from : (a b : Service) → a ≡ b → is_service a b ≡ true
+unfolding is_service
+is_service-from a b e = ap (λ s. same_class (data_class s) (data_class b)) e ∙ same_class_self (data_class b)

@@ -1,6 +1,7 @@
 -- What is proved of each protocol. Proofs about runs see a turn through these facts and the list of protocols alone.
 use Rattle.std.proofs.Common.{◌≡◌, ℕ, suc, ◌<◌, ◌≤◌, ◌⊎◌, inl, inr, Bool, true, false, List, [], ◌∷◌, ◌++◌, length, count_by, refl, ap, sym, ◌∙◌, arith}
 use Rattle.std.specs.List.{AllByRecursion}
+use Rattle.std.proofs.lemmas.Bool.{false≢true}
 use Rattle.cany_base.specs.declared.frame.Class.{Class}
 use Rattle.cany_base.specs.declared.frame.Class.TheVariants as class
 use Rattle.cany_base.specs.declared.log_entry.LogEntry.{LogEntry}
@@ -16,10 +17,11 @@ use Rattle.cany_model.specs.Bus.Frames.{Identity, identity_of}
 use Rattle.cany_model.specs.Bus.History.{copies, is_got}
 use Rattle.cany_model.specs.Promises.Safe.{delivers_key}
 use Rattle.cany_model.specs.Rules.Effect.{Effect, Ask, Withdraw, Enter, entered}
-use Rattle.cany_model.specs.Rules.Messages.{Message, messages_of, data_frame, data_id}
+use Rattle.cany_model.specs.Rules.Messages.{Message, messages_of, accept_of_key, data_frame, data_id}
 use Rattle.cany_model.specs.Rules.Protocol.{Protocol}
 use Rattle.cany_model.specs.Rules.Relcan.{confirm_frame}
-use Rattle.cany_model.proofs.Among.{Among, Among-weaker, count-from_Among}
+use Rattle.cany_model.specs.Rules.Totcan.{accept_frame, after_place, is_open, message_in}
+use Rattle.cany_model.proofs.Among.{Among, Among-gives, Among-weaker, Among-with, count-from_Among}
 use Rattle.cany_model.proofs.Bus.Carried.{Has, is_got-from}
 use Rattle.cany_model.proofs.Bus.Waits.{Asks, Withdraws, AsksOnly}
 use Rattle.cany_model.proofs.Rules.Begun.{IsBegun}
@@ -50,6 +52,9 @@ pub data MayAsk (scenario : ScenarioParts) (i : ℕ) (past : List NoticeKind) (f
   -- the frame confirms a message of its own that it has sent
   confirms : (g : FrameParts) → Among (λ n. n ≡ Sent g) past → g.class ≡ class.Rel → g.node ≡ i → confirm_frame g ≡ f
       → MayAsk scenario i past f
+  -- the frame accepts a message of its own that it has sent
+  accepts : (g : FrameParts) → Among (λ n. n ≡ Sent g) past → g.class ≡ class.Tot → g.node ≡ i → accept_frame g ≡ f
+      → MayAsk scenario i past f
 
 -- what is delivered in the turn of the newest notice is what a data frame of the service carried, which the node has read by then
 pub record IsRead (p : Protocol) (past : List NoticeKind) (slot : ℕ) (by : Service) (msg : MsgKey) (payload : List ℕ) : Type 0 where
@@ -67,7 +72,9 @@ IsFoundedEntry p past (Deliver slot by msg payload) = IsRead p past slot by msg 
 IsFoundedEntry p past (Failed slot node cycle) = ⊥
 IsFoundedEntry p past (View slot number members) = ⊥
 
--- the frames that are withdrawn only with more than omit copies: those of eager diffusion, and those of a node that falls back
+-- The frames that are withdrawn only with more than omit copies: those of eager diffusion by all copies, and those of a node that
+-- falls back. A frame that accepts a message is not among them: the copies since the place of the message count, and it is
+-- withdrawn when the message closes.
 abbrev pub is_diffused : Class → Bool
 is_diffused class.Accept = false
 is_diffused class.Rha = false
@@ -84,6 +91,12 @@ is_diffused class.Ed = true
 pub data MayWithdraw (scenario : ScenarioParts) (past : List NoticeKind) (x : Identity) : Type 0 where
   -- more than omit copies were read of a frame that is diffused
   enough : is_diffused x.class ≡ true → scenario.params.omit < copies x past → MayWithdraw scenario past x
+  -- it accepts a message, and more than omit copies were read after the place of the message
+  enough_accept : (f : FrameParts) → Among (λ n. n ≡ Got f) past → f.class ≡ class.Accept → identity_of f ≡ x
+      → scenario.params.omit < copies x (after_place (message_in f) past) → MayWithdraw scenario past x
+  -- it accepts a message that is closed, whose data frame was read
+  closes : (f : FrameParts) → Among (Has f) past → f.class ≡ class.Tot → accept_of_key (message_in f) ≡ x
+      → is_open scenario.params.bound (message_in f) past ≡ false → MayWithdraw scenario past x
 
 -- a frame that is diffused is relayed
 pub diffused_is_relayed : (c : Class) → is_diffused c ≡ true → is_relayed c ≡ true
@@ -134,6 +147,7 @@ pub asked_cause : (scenario : ScenarioParts) (i : ℕ) (past : List NoticeKind) 
 asked_cause scenario i past x f same (relays relayed got) = inr (got_copies past x f same got)
 asked_cause scenario i past x f same (originates m is origin slot late frame) = inl (ap (λ (y : Identity). y.node) same ∙ sym (ap (λ (g : FrameParts). g.node) frame) ∙ origin)
 asked_cause scenario i past x f same (confirms g sent rel own frame) = inl (ap (λ (y : Identity). y.node) same ∙ sym (ap (λ (g : FrameParts). g.node) frame) ∙ own)
+asked_cause scenario i past x f same (accepts g sent tot own frame) = inl (ap (λ (y : Identity). y.node) same ∙ sym (ap (λ (g : FrameParts). g.node) frame) ∙ own)
 
 -- the origin may send its message: it has read the slot, which is one whose scripted asks are made
 abbrev pub MayStart : ScenarioParts → Message → ℕ → List NoticeKind → Type 0
@@ -143,6 +157,11 @@ pub data_confirms_none : (by : Service) → data_class by ≡ class.Confirm → 
 data_confirms_none Ed e = cc
 data_confirms_none Rel e = cc
 data_confirms_none Tot e = cc
+
+pub data_accepts_none : (by : Service) → data_class by ≡ class.Accept → ⊥
+data_accepts_none Ed e = cc
+data_accepts_none Rel e = cc
+data_accepts_none Tot e = cc
 
 -- the data frame of a message is asked for because a copy was read, or by its origin
 pub asked_start : (scenario : ScenarioParts) (i : ℕ) (past : List NoticeKind) (m : Message) → IsOneOf (messages_of scenario.sends) m → (f : FrameParts)
@@ -155,6 +174,8 @@ asked_start scenario i past m is f same (originates k stands origin slot late fr
     inl (ap (λ (n : Message). n.origin) one ∙ origin, omega (arith, at, slot), omega (arith, at, late))
 asked_start scenario i past m is f same (confirms g sent rel own frame) =
     absurd (data_confirms_none m.service (ap (λ (x : Identity). x.class) same ∙ sym (ap (λ (h : FrameParts). h.class) frame)))
+asked_start scenario i past m is f same (accepts g sent tot own frame) =
+    absurd (data_accepts_none m.service (ap (λ (x : Identity). x.class) same ∙ sym (ap (λ (h : FrameParts). h.class) frame)))
 
 -- an effect that asks, withdraws or enters among effects that have their reason
 pub ask_of : (scenario : ScenarioParts) (p : Protocol) (i : ℕ) (past : List NoticeKind) (x : Identity) (e : Effect) → Asks x e → IsFounded scenario p i past e
@@ -163,13 +184,34 @@ ask_of scenario p i past x (Ask f) h k = (f, h, k.0)
 ask_of scenario p i past x (Withdraw y) h k = absurd h
 ask_of scenario p i past x (Enter entry) h k = absurd h
 
-enough_of : (scenario : ScenarioParts) (past : List NoticeKind) (x : Identity) → MayWithdraw scenario past x → scenario.params.omit < copies x past
-enough_of scenario past x (enough diffused many) = many
+accepts_undiffused : (x y : Identity) → y.class ≡ class.Accept → y ≡ x → is_diffused x.class ≡ true → ⊥
+accepts_undiffused x y accept same diffused =
+    false≢true (sym (ap is_diffused (sym (ap (λ (z : Identity). z.class) same) ∙ accept)) ∙ diffused)
+
+enough_of : (scenario : ScenarioParts) (past : List NoticeKind) (x : Identity) → MayWithdraw scenario past x → is_diffused x.class ≡ true
+    → scenario.params.omit < copies x past
+enough_of scenario past x (enough diffused many) d = many
+enough_of scenario past x (enough_accept f got accept same many) d = absurd (accepts_undiffused x (identity_of f) accept same d)
+enough_of scenario past x (closes f read tot same closed) d = absurd (accepts_undiffused x (accept_of_key (message_in f)) refl same d)
+
+-- a frame that a lawful protocol asks for is of a class that it names
+named_of : (scenario : ScenarioParts) (p : Protocol) (i : ℕ) (past : List NoticeKind) (x : Identity) (e : Effect) → Asks x e → IsFounded scenario p i past e
+    → p.names x.class ≡ true
+named_of scenario p i past x (Ask f) h k = ap (λ (y : Identity). p.names y.class) h ∙ k.1
+named_of scenario p i past x (Withdraw y) h k = absurd h
+named_of scenario p i past x (Enter entry) h k = absurd h
+
+pub asks_named : (p : Protocol) → IsLawful p → (scenario : ScenarioParts) (i : ℕ) (x : Identity) (past : List NoticeKind)
+    → Among (Asks x) (p.effects scenario i past) → p.names x.class ≡ true
+asks_named p lawful scenario i x past h =
+    Among-gives (λ e. Asks x e × IsFounded scenario p i past e) (p.names x.class ≡ true) (λ e both. named_of scenario p i past x e both.0 both.1)
+    (p.effects scenario i past)
+    (Among-with (Asks x) (IsFounded scenario p i past) (p.effects scenario i past) (lawful.founded scenario i past) h)
 
 pub withdrawal_of : (scenario : ScenarioParts) (p : Protocol) (i : ℕ) (past : List NoticeKind) (x : Identity) (e : Effect) → Withdraws x e
     → IsFounded scenario p i past e → is_diffused x.class ≡ true → scenario.params.omit < copies x past
 withdrawal_of scenario p i past x (Ask f) h k d = absurd h
-withdrawal_of scenario p i past x (Withdraw y) h k d = rw h (enough_of scenario past y k.0)
+withdrawal_of scenario p i past x (Withdraw y) h k d = rw h (enough_of scenario past y k.0 (rw h at d))
 withdrawal_of scenario p i past x (Enter entry) h k d = absurd h
 
 pub asks_only : (scenario : ScenarioParts) (p : Protocol) (i : ℕ) (past : List NoticeKind) (P : FrameParts → Type 0) (e : Effect)

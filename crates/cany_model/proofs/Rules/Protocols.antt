@@ -4,20 +4,24 @@ use Rattle.std.specs.List.{AllByRecursion}
 use Rattle.cany_base.specs.declared.message.Service.{Service}
 use Rattle.cany_base.specs.declared.message.Service.TheVariants.{Ed, Rel, Tot}
 use Rattle.cany_model.specs.Bus.Frames.{same_class}
+use Rattle.cany_model.specs.Rules.Backlog.{tot_backlog}
 use Rattle.cany_model.specs.Rules.Edcan.{edcan}
 use Rattle.cany_model.specs.Rules.Messages.{is_service}
 use Rattle.cany_model.specs.Rules.Protocol.{Protocol}
 use Rattle.cany_model.specs.Rules.Relcan.{relcan}
 use Rattle.cany_model.specs.Rules.Sends.{scripted_sends}
+use Rattle.cany_model.specs.Rules.Totcan.{totcan}
 use Rattle.cany_model.specs.Rules.Turn.{protocols}
 use Rattle.cany_model.proofs.Among.{Among}
+use Rattle.cany_model.proofs.Rules.BacklogFacts.{backlog_is_lawful}
 use Rattle.cany_model.proofs.Rules.EdcanFacts.{edcan_is_lawful}
 use Rattle.cany_model.proofs.Rules.ProtocolFacts.{IsLawful}
 use Rattle.cany_model.proofs.Rules.RelcanFacts.{relcan_is_lawful}
 use Rattle.cany_model.proofs.Rules.SendFacts.{sends_are_lawful}
+use Rattle.cany_model.proofs.Rules.TotcanFacts.{totcan_is_lawful}
 
 pub are_lawful : AllByRecursion IsLawful protocols
-are_lawful = (edcan_is_lawful, (relcan_is_lawful, (sends_are_lawful, tt)))
+are_lawful = (edcan_is_lawful, (relcan_is_lawful, (totcan_is_lawful, (sends_are_lawful, (backlog_is_lawful, tt)))))
 
 -- ---- where each stands
 
@@ -30,8 +34,14 @@ edcan_is_one = inl refl
 pub relcan_is_one : IsProtocol relcan
 relcan_is_one = inr (inl refl)
 
+pub totcan_is_one : IsProtocol totcan
+totcan_is_one = inr (inr (inl refl))
+
 pub sends_are_one : IsProtocol scripted_sends
-sends_are_one = inr (inr (inl refl))
+sends_are_one = inr (inr (inr (inl refl)))
+
+pub backlog_is_one : IsProtocol tot_backlog
+backlog_is_one = inr (inr (inr (inr (inl refl))))
 
 -- ---- no two deliver the messages of one service
 
@@ -43,11 +53,11 @@ rel_once : count_by (λ p. p.delivers Rel) protocols ≡ 1
 unfolding is_service same_class
 rel_once = refl
 
-tot_never : count_by (λ p. p.delivers Tot) protocols ≡ 0
+tot_once : count_by (λ p. p.delivers Tot) protocols ≡ 1
 unfolding is_service same_class
-tot_never = refl
+tot_once = refl
 
 pub one_delivers : (by : Service) → count_by (λ p. p.delivers by) protocols ≤ 1
 one_delivers Ed = omega (arith, ed_once)
 one_delivers Rel = omega (arith, rel_once)
-one_delivers Tot = omega (arith, tot_never)
+one_delivers Tot = omega (arith, tot_once)

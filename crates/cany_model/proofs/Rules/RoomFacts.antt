@@ -9,13 +9,14 @@ use Rattle.cany_base.specs.declared.frame.Class.TheVariants.{Accept, Rha, Els, F
 use Rattle.cany_base.specs.declared.message.SendAsk.{SendAsk}
 use Rattle.cany_base.specs.declared.message.Service.{Service}
 use Rattle.cany_base.specs.declared.message.Service.TheVariants as service
-use Rattle.cany_base.specs.Frame.{FrameParts, data_class}
+use Rattle.cany_base.specs.Frame.{FrameParts}
 use Rattle.cany_base.specs.Scenario.{ScenarioParts}
 use Rattle.cany_model.specs.Bus.Frames.{Identity, identity_of, is_of, same_class}
 use Rattle.cany_model.specs.Rules.Messages.{IsOfMessage, Message, is_service, message_of, messages_after, messages_of}
 use Rattle.cany_model.specs.Rules.Rooms.{IsAskable, IsAskableBy, class_room, cycles, sends_by, service_of, waiting_room}
 use Rattle.cany_model.proofs.Among.{Among, Among-from_Contains, Among-weaker, Each-weaker, count-cons, count-from_Among, count-no, count-yes}
-use Rattle.cany_model.proofs.Bus.Identities.{same_class-true, same_class_self, same_identity-from}
+use Rattle.cany_model.proofs.Bus.Identities.{same_class-true, same_identity-from}
+use Rattle.cany_model.proofs.Rules.MessageKeys.{is_service-from}
 
 -- ---- counting
 
@@ -54,10 +55,6 @@ none_hit [] = omega arith
 none_hit (x ∷ xs) = omega (arith, none_hit xs, count-cons (λ y. false) x xs)
 
 -- ---- sends and messages
-
-is_service_self : (by : Service) → is_service by by ≡ true
-unfolding is_service
-is_service_self by = same_class_self (data_class by)
 
 -- there are as many messages of a service as sends by it
 count_messages : (by : Service) (earlier sends : List SendAsk)
@@ -100,7 +97,7 @@ module _ (scenario : ScenarioParts) (w : List FrameParts) (distinct : (x : Ident
       let same : name c m.message ≡ identity_of f = λ k. record { class = (sym class) k; number = m.number k; node = m.origin k } in
       Among-weaker (λ n. n ≡ m.message) (λ n. names c by n f ≡ true)
       (λ n e. ap (λ k. names c by k f) e
-      ∙ and_from (is_service by m.message.service) (is_of (name c m.message) f) (ap (is_service by) m.sent_by ∙ is_service_self by)
+      ∙ and_from (is_service by m.message.service) (is_of (name c m.message) f) (is_service-from by m.message.service (sym m.sent_by))
       (same_identity-from (name c m.message) (identity_of f) same))
       (messages_of scenario.sends) (Among-from_Contains (messages_of scenario.sends) m.message m.stands)
 

@@ -1,28 +1,33 @@
 -- What a turn does: what one of the protocols does. Proofs about runs see a turn through these facts alone.
-use Rattle.std.proofs.Common.{◌≡◌, ℕ, ◌<◌, ◌≤◌, ◌⊎◌, inl, inr, true, List, ◌∷◌, length, ap}
+use Rattle.std.proofs.Common.{◌≡◌, ℕ, ◌<◌, ◌≤◌, ◌⊎◌, inl, inr, true, false, List, ◌∷◌, length, ap, sym, ◌∙◌}
 use Rattle.std.specs.List.{AllByRecursion}
+use Rattle.std.proofs.lemmas.Bool.{false≢true}
 use Rattle.cany_base.specs.declared.frame.Class.TheVariants as class
 use Rattle.cany_base.specs.declared.message.Service.TheVariants.{Rel}
 use Rattle.cany_base.specs.declared.notice.NoticeKind.{NoticeKind}
 use Rattle.cany_base.specs.Frame.{FrameParts, data_class}
 use Rattle.cany_base.specs.Scenario.{ScenarioParts}
-use Rattle.cany_model.specs.Bus.Frames.{Identity, identity_of}
+use Rattle.cany_model.specs.Bus.Frames.{Identity, identity_of, same_class}
 use Rattle.cany_model.specs.Bus.History.{copies, has_own, is_got}
+use Rattle.cany_model.specs.Rules.Backlog.{tot_backlog}
 use Rattle.cany_model.specs.Rules.Edcan.{edcan}
 use Rattle.cany_model.specs.Rules.Effect.{Effect}
 use Rattle.cany_model.specs.Rules.Messages.{Message, messages_of, data_frame, data_id}
 use Rattle.cany_model.specs.Rules.Protocol.{Protocol}
 use Rattle.cany_model.specs.Rules.Relcan.{falls_back, fell_back, relcan}
 use Rattle.cany_model.specs.Rules.Sends.{is_sent_at_once, scripted_sends}
+use Rattle.cany_model.specs.Rules.Totcan.{totcan}
 use Rattle.cany_model.specs.Rules.Turn.{protocols, turn_effects}
 use Rattle.cany_model.proofs.Among.{Among, Among-flat_map, Among-from_flat_map, Among-weaker, Among-which, Among-with, Each-flat_map, Each-weaker}
 use Rattle.cany_model.proofs.Bus.Waits.{Asks, Withdraws, AsksOnly}
-use Rattle.cany_model.proofs.Rules.EdcanFacts.{edcan_asks, edcan_relays}
+use Rattle.cany_model.proofs.Rules.BacklogFacts.{backlog_is_lawful}
+use Rattle.cany_model.proofs.Rules.EdcanFacts.{edcan_is_lawful, edcan_relays}
 use Rattle.cany_model.proofs.Rules.MessageKeys.{IsOneOf}
-use Rattle.cany_model.proofs.Rules.ProtocolFacts.{IsFounded, IsLawful, MayAsk, MayStart, ask_of, asked_cause, asked_start, asks_only, is_diffused, withdrawal_of}
+use Rattle.cany_model.proofs.Rules.ProtocolFacts.{IsFounded, IsLawful, MayAsk, MayStart, ask_of, asked_cause, asked_start, asks_named, asks_only, is_diffused, withdrawal_of}
 use Rattle.cany_model.proofs.Rules.Protocols.{IsProtocol, are_lawful, edcan_is_one, relcan_is_one, sends_are_one}
 use Rattle.cany_model.proofs.Rules.RelcanFacts.{relcan_asks, relcan_falls_back}
 use Rattle.cany_model.proofs.Rules.SendFacts.{sends_ask, sends_cause}
+use Rattle.cany_model.proofs.Rules.TotcanFacts.{totcan_is_lawful}
 
 -- ---- the list
 
@@ -82,18 +87,25 @@ turn_cause_data scenario i m past is h =
     let asked = ask_of scenario w.protocol i past (data_id m) w.effect w.is w.founded in
     asked_start scenario i past m is asked.0 asked.1 asked.2
 
+-- a protocol asks for no frame of a class that it does not name
+not_asked : (scenario : ScenarioParts) (p : Protocol) → IsLawful p → (i : ℕ) (past : List NoticeKind) (x : Identity) → p.names x.class ≡ false
+    → Among (Asks x) (p.effects scenario i past) → ⊥
+not_asked scenario p lawful i past x other h = false≢true (sym other ∙ asks_named p lawful scenario i x past h)
+
 -- the data frame of a RELCAN message by its origin, which has read the slot, or by a node that falls back
 pub rel_cause : (scenario : ScenarioParts) (i : ℕ) (m : Message) (past : List NoticeKind) → IsOneOf (messages_of scenario.sends) m → m.service ≡ Rel
     → Among (Asks (data_id m)) (turn_effects scenario i past)
     → MayStart scenario m i past ⊎ (fell_back scenario.params.confirm i (data_id m) past ≡ true)
-unfolding turn_effects
+unfolding turn_effects same_class
 rel_cause scenario i m past is rel h =
     let of : data_class m.service ≡ class.Rel = ap data_class rel in
     elim (Among-from_flat_map (λ p. p.effects scenario i past) (Asks (data_id m)) protocols h) [
-      | inl ed ↦ let other : data_class m.service ≡ class.Ed = edcan_asks scenario i (data_id m) past ed in absurd (cc)
+      | inl ed ↦ absurd (not_asked scenario edcan edcan_is_lawful i past (data_id m) (ap edcan.names of) ed)
       | inr (inl late) ↦ inr (relcan_asks scenario i (data_id m) past of late)
-      | inr (inr (inl sent)) ↦ inl (sends_cause scenario i m past is sent)
-      | inr (inr (inr none)) ↦ absurd none
+      | inr (inr (inl tot)) ↦ absurd (not_asked scenario totcan totcan_is_lawful i past (data_id m) (ap totcan.names of) tot)
+      | inr (inr (inr (inl sent))) ↦ inl (sends_cause scenario i m past is sent)
+      | inr (inr (inr (inr (inl next)))) ↦ absurd (not_asked scenario tot_backlog backlog_is_lawful i past (data_id m) (ap tot_backlog.names of) next)
+      | inr (inr (inr (inr (inr none)))) ↦ absurd none
     ]
 
 -- each frame that is asked for has what follows from the reason

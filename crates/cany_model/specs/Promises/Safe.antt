@@ -76,8 +76,8 @@ IsAgreedFrom scenario s m None =
 abbrev pub IsAgreedOn : ScenarioParts → RunState → Message → Type 0
 IsAgreedOn scenario s m = IsAgreedFrom scenario s m (first_carried (data_id m) s.trace)
 
--- What a run within the fault hypothesis keeps. The messages of TOTCAN, the views and the failure signs join it with
--- their parts.
+-- What a run within the fault hypothesis keeps. Integrity covers the messages of TOTCAN too; their order and agreement, the views
+-- and the failure signs join it with their parts.
 pub record IsSafe (scenario : ScenarioParts) (s : RunState) : Type 0 where
   pub integrity : IsIntegral scenario s
   pub agreement : (m : Message) → Contains (messages_of scenario.sends) m → (m.service ≡ Ed) ⊎ (m.service ≡ Rel) → IsAgreedOn scenario s m

@@ -33,7 +33,7 @@ origin_has_asked scenario s m = has_asked (scenario_at scenario s m.origin) m m.
 abbrev pub came_too_late : RunState → Message → Bool
 came_too_late s m = nat_lt m.slot (node_at s.nodes m.origin).present.from
 
--- whether a running node has something of the message ahead: a timer that is not read yet
+-- whether a running node has something of the message ahead: a timer or a closing whose slot it has not read yet
 abbrev pub is_ahead : ScenarioParts → RunState → Message → Bool
 is_ahead scenario s m =
     list_any (λ i. runs (node_at s.nodes i) && is_ahead_at (scenario_at scenario s i) m i (history i s)) (range_with_len 0 scenario.params.nodes)

@@ -1,4 +1,4 @@
--- Delivery of EDCAN and RELCAN messages: at the first copy, or at the origin's own transmission.
+-- The entry of a delivery, and when EDCAN and RELCAN deliver: at the first copy, or at the origin's own transmission.
 use Rattle.std.specs.Prelude.{ℕ, ◌==◌, ◌&&◌, ◌||◌, Bool, not, if◌then◌else◌, List, [], ◌∷◌, length}
 use Rattle.std.specs.List.{list_any}
 use Rattle.cany_base.specs.declared.log_entry.LogEntry.{LogEntry}

@@ -6,16 +6,18 @@ use Rattle.cany_base.specs.Scenario.{ScenarioParts}
 use Rattle.cany_model.specs.Bus.Frames.{Identity, is_of}
 use Rattle.cany_model.specs.Bus.Slot.{nobody}
 use Rattle.cany_model.specs.Bus.State.{Incarnation, RunState, node_at}
+use Rattle.cany_model.specs.Rules.Backlog.{tot_backlog}
 use Rattle.cany_model.specs.Rules.Edcan.{edcan}
 use Rattle.cany_model.specs.Rules.Effect.{Effect, Ask, Withdraw, Enter, TurnRule}
 use Rattle.cany_model.specs.Rules.Messages.{Message, data_id}
 use Rattle.cany_model.specs.Rules.Protocol.{Protocol}
 use Rattle.cany_model.specs.Rules.Relcan.{relcan}
 use Rattle.cany_model.specs.Rules.Sends.{scripted_sends}
+use Rattle.cany_model.specs.Rules.Totcan.{totcan}
 
 -- the protocols, in the order in which a turn goes through them
 abbrev pub protocols : List Protocol
-protocols = edcan ∷ relcan ∷ scripted_sends ∷ []
+protocols = edcan ∷ relcan ∷ totcan ∷ scripted_sends ∷ tot_backlog ∷ []
 
 -- one after another
 unfoldable pub turn_effects : TurnRule

@@ -5,7 +5,7 @@ use Rattle.std.specs.Str.{bytes_eq}
 use Rattle.hex.specs.Hex.{decode_of}
 use Rattle.toml.specs.Data.{Data, as_str, as_array, as_table}
 use Rattle.cany_base.specs.declared.message.Service.{Service}
-use Rattle.cany_base.specs.declared.message.Service.TheVariants.{Ed, Rel}
+use Rattle.cany_base.specs.declared.message.Service.TheVariants.{Ed, Rel, Tot}
 use Rattle.cany_base.specs.declared.message.SendAsk.{SendAsk}
 use Rattle.cany_base.specs.Limits.{most_sends}
 use Rattle.cany_base.specs.Params.{Parameters}
@@ -18,11 +18,12 @@ payload_from value = do
   _ ← only_if (nat_le (length digits) 16)
   result_ok (decode_of digits)
 
--- the service of this name; the reader knows no third one yet
+-- the service of this name
 abbrev pub service_named : List ℕ → Option Service
 service_named name =
     if bytes_eq name (codes "ed") then Some Ed else
-    if bytes_eq name (codes "rel") then Some Rel else None
+    if bytes_eq name (codes "rel") then Some Rel else
+    if bytes_eq name (codes "tot") then Some Tot else None
 
 unfoldable pub service_from : Data → Option Service
 service_from value = do
