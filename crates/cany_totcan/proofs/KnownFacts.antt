@@ -1,0 +1,212 @@
+-- What is known of the open messages of a value, and that it stays so.
+use Rattle.std.proofs.Common.{◌≡◌, ℕ, ◌+◌, ◌-◌, ◌<◌, ◌≤◌, ◌==◌, Bool, true, false, if◌then◌else◌, List, [], ◌∷◌, count_by, length, drop, Option, Some, None, refl, ap, sym, subst, ◌∙◌, arith}
+use Rattle.std.specs.Prelude.{nat_lt}
+use Rattle.std.proofs.lemmas.Bool.Decides.{nat_tests}
+use Rattle.std.specs.List.{AllByRecursion}
+use Rattle.can_frame.specs.Identifier.{HasSmallNumbers}
+use Rattle.cany_base.specs.declared.actions.Action.{Action}
+use Rattle.cany_base.specs.declared.frame.Format.{Format}
+use Rattle.cany_base.specs.declared.frame.Format.TheVariants.{One, Two}
+use Rattle.cany_base.specs.declared.message.Service.TheVariants as service
+use Rattle.cany_base.specs.declared.notice.NoticeKind.{NoticeKind}
+use Rattle.cany_base.specs.Frame.{FrameParts}
+use Rattle.cany_base.specs.Layout.{layout}
+use Rattle.cany_base.specs.Limits.{most_nodes}
+use Rattle.cany_base.specs.Scenario.{ScenarioParts, IsLegalScenario}
+use Rattle.cany_model.specs.Bus.Frames.{identity_of}
+use Rattle.cany_model.specs.Rules.Messages.{Message, is_from}
+use Rattle.cany_model.specs.Rules.Notices.{NamesMessage}
+use Rattle.cany_model.specs.Rules.Totcan.{message_in}
+use Rattle.cany_model.proofs.Among.{Each-drop, Each-weaker}
+use Rattle.cany_model.proofs.Rules.NumberFacts.{message_is_small}
+use Rattle.cany_totcan.specs.declared.queue.Placed.{Placed}
+use Rattle.cany_totcan.specs.Deliveries.{CanDeliver, DeliveriesParts, HasRoomOf}
+use Rattle.cany_totcan.specs.Queue.{AreOnce, OpenParts, oldest_from, without_oldest, without_oldest_from}
+use Rattle.cany_totcan.specs.Totcan.{HasHeard, TotcanParts}
+use Rattle.cany_totcan.specs.TotcanSteps.{AreAdded, AreKnown, HaveGone, IsKnown, due, first_of, closing_accepted, closing_frame, is_accepted_by, without_closing}
+use Rattle.cany_totcan.proofs.DueFacts.{due-first, each-due, each-left, each_frame_at}
+use Rattle.cany_totcan.proofs.OwnFacts.{seq_below}
+use Rattle.cany_totcan.proofs.PlaceFacts.{placed_once}
+use Rattle.cany_totcan.proofs.QueueFacts.{few_named}
+
+-- a message of the scenario
+module _ (scenario : ScenarioParts) (f : FrameParts) (legal : IsLegalScenario scenario) (named : NamesMessage scenario service.Tot f) where
+  pub small_named : HasSmallNumbers scenario.params.format f
+  small_named =
+      let small = message_is_small scenario service.Tot (identity_of f) legal named in
+      let nodes : scenario.params.nodes ≤ (layout scenario.params.format).nodes = legal.in_range.nodes.1 in
+      (small.number, omega (arith, small.node, nodes))
+
+  few_nodes : (format : Format) → (layout format).nodes ≤ most_nodes
+  few_nodes One = omega arith
+  few_nodes Two = omega arith
+
+  pub near_named : f.node < most_nodes
+  near_named =
+      let small = message_is_small scenario service.Tot (identity_of f) legal named in
+      let nodes : scenario.params.nodes ≤ (layout scenario.params.format).nodes = legal.in_range.nodes.1 in
+      omega (arith, small.node, nodes, few_nodes scenario.params.format)
+
+  pub own_named : (i : ℕ) → f.node ≡ i → f.number < count_by (is_from i) scenario.sends
+  own_named i own =
+      let below = seq_below scenario named.message named.stands in
+      let origin : named.message.origin ≡ i = named.origin ∙ own in
+      omega (arith, below, ap (λ n. count_by (is_from n) scenario.sends) origin, named.number)
+
+  pub can_deliver : (v : DeliveriesParts) → HasRoomOf scenario v → CanDeliver (message_in f) v
+  can_deliver v room = record {
+    scenario = scenario;
+    legal = legal;
+    message = record { message = named.message; stands = named.stands; sent_by = named.sent_by; number = named.number; origin = named.origin };
+    room = room;
+  }
+
+-- ---- after a notice
+
+module _ (scenario : ScenarioParts) (i : ℕ) (notice : NoticeKind) (before : List NoticeKind) (messages : List Message) (count : ℕ) (v : TotcanParts)
+    (h : HasHeard scenario i notice before messages count v) where
+  heard_once : AreOnce v.queue.items
+  heard_once = subst AreOnce (sym h.queue.places) (placed_once (scenario.params.bound + 1) (notice ∷ before))
+
+  pub known_heard : AreKnown v
+  known_heard = record {
+    scenario = scenario;
+    legal = h.limits.legal;
+    format = h.limits.format;
+    room = h.limits.deliveries;
+    known = Each-weaker _ _ (λ x named. record {
+      message = named;
+      own = λ own. omega (arith, own_named scenario x.frame h.limits.legal named i (own ∙ h.limits.node), h.backlog.own);
+      small = small_named scenario x.frame h.limits.legal named;
+    }) v.queue.items h.queue.messages;
+    once = heard_once;
+  }
+
+  pub heard_few : length v.queue.items ≤ v.queue.room
+  heard_few = omega (arith, few_named scenario service.Tot v.queue.items h.queue.messages heard_once, h.limits.room)
+
+-- ---- a closing
+
+-- what is true of the oldest
+pub oldest_each : (P : FrameParts → Type 0) (slot : ℕ) (items : List Placed) (f : FrameParts) → AllByRecursion (λ x. P x.frame) items
+    → oldest_from slot items ≡ Some f → P f
+oldest_each P slot [] f each is = absurd (cc)
+oldest_each P slot (x ∷ items) f each is = go (x.place == slot) is
+  where
+    go : (b : Bool) → (if b then Some x.frame else None) ≡ Some f → P f
+    go true at = let same : x.frame ≡ f = cc in subst P same each.0
+    go false at = absurd (cc)
+
+-- what is true of the frames of all is true of that of the message that closes
+pub closing_is_each : (P : FrameParts → Type 0) (slot : ℕ) (v : TotcanParts) (f : FrameParts) → AllByRecursion (λ x. P x.frame) v.queue.items
+    → closing_frame slot v ≡ Some f → P f
+closing_is_each P slot v f each is = go (nat_lt slot v.bound) is
+  where
+    go : (b : Bool) → (if b then None else oldest_from (slot - v.bound) v.queue.items) ≡ Some f → P f
+    go true at = absurd (cc)
+    go false at = oldest_each P (slot - v.bound) v.queue.items f each at
+
+pub accepted_each : (P : FrameParts → Type 0) (slot : ℕ) (v : TotcanParts) → AllByRecursion (λ x. P x.frame) v.queue.items
+    → AllByRecursion P (closing_accepted v (closing_frame slot v))
+accepted_each P slot v each = go (closing_frame slot v) refl
+  where
+    one : (b : Bool) (f : FrameParts) → P f → AllByRecursion P (if b then f ∷ [] else [])
+    one true f is = (is, tt)
+    one false f is = tt
+
+    go : (closing : Option FrameParts) → closing_frame slot v ≡ closing → AllByRecursion P (closing_accepted v closing)
+    go None is = tt
+    go (Some f) is = one (is_accepted_by v f) f (closing_is_each P slot v f each is)
+
+-- what is true of all is true of the rest
+rest_with : (P : List Placed → Type 0) (slot : ℕ) (v : OpenParts) (items : List Placed) → P v.items → P items
+    → ((x : Placed) (rest : List Placed) → P (x ∷ rest) → P rest)
+    → P (without_oldest_from slot v items).items
+rest_with P slot v [] here all tail = here
+rest_with P slot v (x ∷ items) here all tail = go (x.place == slot)
+  where
+    go : (b : Bool) → P (if b then record v { items = items; done = v.done - 1 } else v).items
+    go true = tail x items all
+    go false = here
+
+pub closing_with : (P : List Placed → Type 0) (slot : ℕ) (v : TotcanParts) → P v.queue.items → ((x : Placed) (rest : List Placed) → P (x ∷ rest) → P rest)
+    → P (without_closing slot v).queue.items
+closing_with P slot v here tail = go (nat_lt slot v.bound)
+  where
+    go : (b : Bool) → P (if b then v.queue else without_oldest (slot - v.bound) v.queue).items
+    go true = here
+    go false = rest_with P (slot - v.bound) v.queue v.queue.items here here tail
+
+pub closing_few : (slot : ℕ) (v : TotcanParts) → length (without_closing slot v).queue.items ≤ length v.queue.items
+closing_few slot v = closing_with (λ items. length items ≤ length v.queue.items) slot v (omega arith) (λ x rest few. omega (arith, few))
+
+pub known_closed : (slot : ℕ) (v w : TotcanParts) → AreKnown v → w ≡ record (without_closing slot v) { deliveries = w.deliveries }
+    → AreAdded (closing_accepted v (closing_frame slot v)) v.deliveries w.deliveries → AreKnown w
+known_closed slot v w h state added = subst AreKnown (sym state) (record {
+  scenario = h.scenario;
+  legal = h.legal;
+  format = h.format;
+  room = added.room h.scenario (accepted_each (NamesMessage h.scenario service.Tot) slot v (Each-weaker _ _ (λ x known. known.message) v.queue.items h.known)) h.room;
+  known = closing_with (λ items. AllByRecursion (λ x. IsKnown h.scenario v.node (length v.backlog.own) x.frame) items) slot v h.known (λ x rest all. all.1);
+  once = closing_with AreOnce slot v h.once (λ x rest all. all.1);
+})
+
+-- ---- the walk
+
+-- the values that the walk leads to are known too
+pub known_gone : (slot : ℕ) (v w : TotcanParts) (a b : List Action) → AreKnown v → HaveGone slot v w a b → AreKnown w
+known_gone slot v w a b h gone =
+    let named : AllByRecursion (NamesMessage h.scenario service.Tot) (due v) =
+    each-due (NamesMessage h.scenario service.Tot) v (drop v.queue.done v.queue.items)
+    (Each-drop (λ x. NamesMessage h.scenario service.Tot x.frame) v.queue.done v.queue.items (Each-weaker _ _ (λ x known. known.message) v.queue.items h.known)) in
+    subst AreKnown (sym gone.state) (record {
+      scenario = h.scenario;
+      legal = h.legal;
+      format = h.format;
+      room = gone.added.room h.scenario
+          (each-left (NamesMessage h.scenario service.Tot) gone.gone (due w) (subst (AllByRecursion (NamesMessage h.scenario service.Tot)) gone.rest named)) h.room;
+      known = h.known;
+      once = h.once;
+    })
+
+pub near_known : (v : TotcanParts) → AreKnown v → AllByRecursion (λ x. x.frame.node < most_nodes) v.queue.items
+near_known v h = Each-weaker _ _ (λ x known. near_named h.scenario x.frame h.legal known.message) v.queue.items h.known
+
+pub own_known : (v : TotcanParts) → AreKnown v → AllByRecursion (λ x. x.frame.node ≡ v.node → x.frame.number < length v.backlog.own) v.queue.items
+own_known v h = Each-weaker _ _ (λ x known. known.own) v.queue.items h.known
+
+-- the first that is to be done can be delivered
+pub first_can_deliver : (v : TotcanParts) (f : FrameParts) → AreKnown v → first_of (due v) ≡ Some f → CanDeliver (message_in f) v.deliveries
+first_can_deliver v f h is =
+    let first = due-first v v.queue.done v.queue.items f is in
+    can_deliver h.scenario f h.legal
+    (each_frame_at (NamesMessage h.scenario service.Tot) v.queue.items v.queue.done f (Each-weaker _ _ (λ x known. known.message) v.queue.items h.known) first.at)
+    v.deliveries h.room
+
+-- so can the one that closes
+pub closing_can_deliver : (slot : ℕ) (v : TotcanParts) (f : FrameParts) → AreKnown v → closing_frame slot v ≡ Some f → CanDeliver (message_in f) v.deliveries
+closing_can_deliver slot v f h is =
+    can_deliver h.scenario f h.legal (closing_is_each (NamesMessage h.scenario service.Tot) slot v f (Each-weaker _ _ (λ x known. known.message) v.queue.items h.known) is)
+    v.deliveries h.room
+
+-- what closes in the turn of a slot, by whether there may be anything
+pub closing_early : (slot : ℕ) (v : TotcanParts) → slot < v.bound → (closing_frame slot v ≡ None) × (without_closing slot v ≡ v)
+closing_early slot v early =
+    let is : nat_lt slot v.bound ≡ true = grind (arith, nat_tests, early) in
+    (rw is refl, rw is refl)
+
+pub closing_late : (slot : ℕ) (v : TotcanParts) → v.bound ≤ slot → (closing_frame slot v ≡ oldest_from (slot - v.bound) v.queue.items)
+    × (without_closing slot v ≡ record v { queue = without_oldest (slot - v.bound) v.queue })
+closing_late slot v late =
+    let is : nat_lt slot v.bound ≡ false = grind (arith, nat_tests, late) in
+    (rw is refl, rw is refl)
+
+-- the message that closes is known
+pub closing_known : (slot : ℕ) (v : TotcanParts) (f : FrameParts) (h : AreKnown v) → closing_frame slot v ≡ Some f
+    → IsKnown h.scenario v.node (length v.backlog.own) f
+closing_known slot v f h is = closing_is_each (IsKnown h.scenario v.node (length v.backlog.own)) slot v f h.known is
+
+pub closed_few : (scenario : ScenarioParts) (i : ℕ) (notice : NoticeKind) (before : List NoticeKind) (messages : List Message) (count : ℕ) (slot : ℕ) (v w : TotcanParts)
+    → HasHeard scenario i notice before messages count v → w ≡ record (without_closing slot v) { deliveries = w.deliveries } → length w.queue.items ≤ v.queue.room
+closed_few scenario i notice before messages count slot v w h state =
+    omega (arith, ap (λ (x : TotcanParts). length x.queue.items) state, closing_few slot v, heard_few scenario i notice before messages count v h)

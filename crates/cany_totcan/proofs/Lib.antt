@@ -1,0 +1,16 @@
+pub mod AcceptanceFacts
+pub mod AcceptedFacts
+pub mod ClosedFacts
+pub mod DeliveriesFacts
+pub mod DoneFacts
+pub mod DueFacts
+pub mod FollowedFacts
+pub mod HeardFacts
+pub mod KnownFacts
+pub mod NextFacts
+pub mod OpenFacts
+pub mod OwnFacts
+pub mod PlaceFacts
+pub mod QueueFacts
+pub mod TurnFacts
+pub mod TwoSendsFacts

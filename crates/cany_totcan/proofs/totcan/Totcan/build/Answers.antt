@@ -1,0 +1,39 @@
+use Rattle.std.proofs.Common.{ap, ◌∙◌, refl, replicate, subst, sym, arith, length, take, []}
+use Rattle.std.specs.Prelude.{slice_get}
+use Rattle.cany_base.specs.declared.notice.NoticeKind.TheVariants.{Idle}
+use Rattle.cany_base.specs.Params.{Parameters}
+use Rattle.cany_model.specs.Rules.Totcan.{delivered}
+use Rattle.cany_totcan.specs.Backlog.{BacklogParts}
+use Rattle.cany_totcan.specs.Queue.{OpenParts}
+use Rattle.cany_totcan.specs.Totcan.{AreDone, AreOpen, IsBacklogOf, IsFirstPending, is_carried, key_of}
+use Rattle.cany_totcan.proofs.AcceptanceFacts.{acceptances_fresh}
+use Rattle.cany_totcan.proofs.OpenFacts.{none_delivered, none_placed, none_recent, room_fresh}
+use Rattle.cany_totcan.proofs.OwnFacts.{backlog_fresh}
+use Rattle.cany_totcan.proofs.totcan.Totcan.build.Goals as goal
+
+pub returns : goal.returns
+returns c = λ n.
+    let scenario = c.args.scenario.now in
+    let p = scenario.params in
+    let params = c.params.view_is ∙ c.params-params.ensures.params in
+    let room = ap length c.sends-room.ensures in
+    record {
+      limits = record {
+        legal = c.params-params.ensures.legal;
+        node = refl;
+        format = ap (λ (q : Parameters). q.format) params;
+        bound = ap (λ (q : Parameters). q.bound) params;
+        spacing = omega (arith, ap (λ (q : Parameters). q.bound) params, ap (λ (q : Parameters). q.lag) params, c.from.ensures);
+        room = ap (λ (q : OpenParts). q.room) c.in_ok-queue.ensures ∙ room;
+        deliveries = room_fresh scenario _ c.in_ok-deliveries.deliveries c.in_ok-deliveries.ensures room;
+      };
+      queue =
+          subst (λ (q : OpenParts). AreOpen scenario p.bound (replicate n Idle) q.items) (sym c.in_ok-queue.ensures)
+          (record { places = sym (none_placed p.bound n); messages = tt });
+      acceptances = acceptances_fresh scenario p.bound n c.params.inside.omit _ _ c.in_ok-acceptances.ensures (ap (λ (q : Parameters). q.omit) params) room (none_recent p.bound n);
+      are_delivered = λ s o near. c.in_ok-deliveries.ensures.none s o ∙ sym (ap (is_carried (key_of s o)) (none_delivered p c.args.node n));
+      done =
+          subst (λ (q : OpenParts). AreDone p c.args.node (replicate n Idle) (delivered p c.args.node (replicate n Idle)) (take q.done q.items)) (sym c.in_ok-queue.ensures) tt;
+      pending = subst (λ (q : OpenParts). IsFirstPending p c.args.node (replicate n Idle) (slice_get q.items q.done)) (sym c.in_ok-queue.ensures) tt;
+      backlog = subst (λ (b : BacklogParts). IsBacklogOf scenario c.args.node (replicate n Idle) [] 0 b) (sym c.in_ok-backlog.ensures) (backlog_fresh scenario c.args.node n);
+    }

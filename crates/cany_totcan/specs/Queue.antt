@@ -1,0 +1,74 @@
+-- The open messages of a node, in the order of their places.
+use Rattle.std.specs.Prelude.{◌≡◌, ℕ, ◌+◌, ◌-◌, ◌≤◌, ◌<◌, ◌==◌, ◌&&◌, Bool, true, false, not, if◌then◌else◌, List, [], ◌∷◌, ◌++◌, filter, length, take, Option, Some, None}
+use Rattle.std.specs.List.{HoldsAt, list_any}
+use Rattle.cany_base.specs.declared.message.MsgKey.{MsgKey}
+use Rattle.cany_base.specs.declared.notice.NoticeKind.{NoticeKind}
+use Rattle.cany_base.specs.Frame.{FrameParts}
+use Rattle.cany_model.specs.Rules.Totcan.{is_place, message_in, tot_in}
+use Rattle.cany_totcan.specs.declared.queue.Placed.{Placed}
+
+-- those that are open, the oldest place first; how many of them, from the first on, are done; and how many there may be
+pub record OpenParts : Type 0 where
+  pub items : List Placed
+  pub done : ℕ
+  pub room : ℕ
+
+abbrev pub is_at : MsgKey → Placed → Bool
+is_at key x = key.seq == x.frame.number && key.origin == x.frame.node
+
+abbrev pub without_key : MsgKey → List Placed → List Placed
+without_key key items = filter (λ x. not (is_at key x)) items
+
+-- no two are of one message
+abbrev pub AreOnce : List Placed → Type 0
+AreOnce [] = Unit {0}
+AreOnce (x ∷ items) = (list_any (is_at (message_in x.frame)) items ≡ false) × AreOnce items
+
+-- what is true of the messages and of the memory that holds them
+pub record IsKept (items : List Placed) (done room capacity : ℕ) : Type 0 where
+  pub once : AreOnce items
+  pub there : done ≤ length items
+  pub in_room : length items ≤ room
+  pub reserved : room ≤ capacity
+
+-- the message stands at this index
+pub record IsIndexOf (key : MsgKey) (index : ℕ) (items : List Placed) : Type 0 where
+  pub within : index < length items
+  pub is : HoldsAt (λ x. is_at key x ≡ true) items index
+
+-- without the message, which may have been one of those that are done
+abbrev pub is_removed : MsgKey → OpenParts → OpenParts
+is_removed key v = record v { items = without_key key v.items; done = length (without_key key (take v.done v.items)) }
+
+-- with the message of this frame at the end
+abbrev pub moved : FrameParts → ℕ → OpenParts → OpenParts
+moved f slot v = record (is_removed (message_in f) v) { items = without_key (message_in f) v.items ++ record { frame = f; place = slot } ∷ [] }
+
+-- the frame of the oldest, if its place is this slot, and the messages without it
+abbrev pub oldest_from : ℕ → List Placed → Option FrameParts
+oldest_from slot [] = None
+oldest_from slot (x ∷ items) = if x.place == slot then Some x.frame else None
+
+abbrev pub without_oldest_from : ℕ → OpenParts → List Placed → OpenParts
+without_oldest_from slot v [] = v
+without_oldest_from slot v (x ∷ items) = if x.place == slot then record v { items = items; done = v.done - 1 } else v
+
+abbrev pub without_oldest : ℕ → OpenParts → OpenParts
+without_oldest slot v = without_oldest_from slot v v.items
+
+-- ---- what was read
+
+-- the message of this data frame, which came in a notice that so many newer ones follow, at its place
+abbrev pub placed_at : List NoticeKind → ℕ → Option FrameParts → List Placed
+placed_at past age None = []
+placed_at past age (Some f) =
+    if is_place age past (message_in f) then record { frame = f; place = length past - (age + 1) } ∷ [] else []
+
+-- the messages whose places are among these notices, the first of which has this age: the oldest place first
+unfoldable pub placed_from : List NoticeKind → ℕ → List NoticeKind → List Placed
+placed_from past age [] = []
+placed_from past age (notice ∷ older) = placed_from past (age + 1) older ++ placed_at past age (tot_in notice)
+
+-- those whose places are among so many newest notices
+abbrev pub placed_in : ℕ → List NoticeKind → List Placed
+placed_in newest past = placed_from past 0 (take newest past)

@@ -1,0 +1,133 @@
+ghost use Rattle.std.specs.Prelude.{◌≡◌, ◌<◌, ◌+◌, [], length, option_map, slice_get, false, IfOk, IfSome, IfNone};
+ghost use Rattle.std.specs.List.{list_any};
+ghost use Rattle.cany_model.specs.Rules.Totcan.{message_in};
+ghost use Rattle.cany_totcan.specs.Queue.{IsIndexOf, is_at, is_removed, moved, oldest_from, without_key, without_oldest};
+
+use cany_base::{Frame, Memory, MsgKey, Slot};
+use std::alloc::Global;
+use std::marker::Model;
+
+/// A message whose data frame was read, at its place.
+#[derive(Clone, Copy)]
+pub(crate) struct Placed {
+    /// The data frame.
+    pub(crate) frame: Frame,
+    /// The slot in which the node got or sent it last.
+    pub(crate) place: Slot,
+}
+
+impl Placed {
+    fn is_at(&self, msg: &MsgKey) -> bool
+        ensures { result ≡ is_at msg.now self.now }
+    {
+        msg.seq == self.frame.number && msg.origin.get() == self.frame.node.get()
+    }
+}
+
+/// The open messages of a node in the order of their places, the oldest first, each once. Of these the first `done` are done.
+///
+/// All stay open for the same time, so they close in that order, and a turn looks at the first, and at the first that is not done.
+#[derive(Drop)]
+pub(crate) struct OpenMessages {
+    placed: Vec<Placed>,
+    done: usize,
+    room: usize,
+}
+
+impl Model for OpenMessages {
+    ghost use Rattle.std.specs.Prelude.{vec_capacity};
+    ghost use Rattle.cany_totcan.specs.Queue.{OpenParts, IsKept};
+
+    ghost Value = { OpenParts };
+
+    ghost view = { λ q. record { items = q.placed.items; done = q.done; room = q.room } };
+
+    ghost invariant = { λ q. IsKept q.placed.items q.done q.room (vec_capacity q.placed) };
+}
+
+impl OpenMessages {
+    /// None are open, and so many may be.
+    pub(crate) fn build(alloc: Global, room: usize) -> Result<OpenMessages, Memory>
+        ensures { IfOk result (λ queue. queue ≡ record { items = []; done = 0; room = room }) }
+    {
+        let placed = Vec::with_capacity(alloc, room)?;
+        Ok(OpenMessages {
+            placed,
+            done: 0,
+            room,
+        })
+    }
+
+    /// The data frame of a message was read in a slot: the message is the last from now on, and not done.
+    pub(crate) fn place(&mut self, frame: &Frame, slot: Slot)
+        requires { length (without_key (message_in frame.now) self.old.items) < self.old.room }
+        ensures { self.new ≡ moved frame.now slot self.old }
+    {
+        let msg = MsgKey {
+            origin: frame.node,
+            seq: frame.number,
+        };
+        self.remove(&msg);
+        self.placed.push_reserved(Placed {
+            frame: *frame,
+            place: slot,
+        });
+    }
+
+    /// Removes a message, if it is there.
+    fn remove(&mut self, msg: &MsgKey)
+        ensures { self.new ≡ is_removed msg.now self.old }
+    {
+        if let Some(index) = index_of(self.placed.as_slice(), msg) {
+            self.placed.remove(index);
+            if index < self.done {
+                self.done -= 1;
+            }
+        }
+    }
+
+    /// Removes the oldest message if its place is this slot, and gives its data frame.
+    pub(crate) fn take_oldest(&mut self, place: Slot) -> Option<Frame>
+        ensures oldest { result ≡ oldest_from place self.old.items }
+        ensures rest { self.new ≡ without_oldest place self.old }
+    {
+        let oldest = *self.placed.first()?;
+        if oldest.place != place {
+            return None;
+        }
+        self.placed.remove(0);
+        self.done = self.done.saturating_sub(1);
+        Some(oldest.frame)
+    }
+
+    /// The data frame of the first message that is not done, if there is one.
+    pub(crate) fn first_open(&self) -> Option<Frame>
+        ensures { result ≡ option_map (λ x. x.frame) (slice_get self.now.items self.now.done) }
+    {
+        let placed = self.placed.get(self.done)?;
+        Some(placed.frame)
+    }
+
+    /// The first message that was not done is done.
+    pub(crate) fn advance(&mut self)
+        requires { self.old.done < length self.old.items }
+        ensures { self.new ≡ record self.old { done = self.old.done + 1 } }
+    {
+        self.done += 1;
+    }
+
+    /// Whether a message is open.
+    pub(crate) fn has(&self, msg: &MsgKey) -> bool
+        ensures { result ≡ list_any (is_at msg.now) self.now.items }
+    {
+        index_of(self.placed.as_slice(), msg).is_some()
+    }
+}
+
+/// The index of a message among these.
+fn index_of(placed: &[Placed], msg: &MsgKey) -> Option<usize>
+    ensures found { IfSome result (λ index. IsIndexOf msg.now index placed.now) }
+    ensures absent { IfNone result (list_any (is_at msg.now) placed.now ≡ false) }
+{
+    placed.iter().position(|x| x.is_at(msg))
+}
