@@ -13,7 +13,8 @@ use Rattle.cany_base.specs.Scenario.{ScenarioParts, IsLegalScenario}
 use Rattle.cany_model.specs.Bus.Frames.{Identity, bare, identity_of, same_class}
 use Rattle.cany_model.specs.Bus.History.{copies, is_got}
 use Rattle.cany_model.specs.Rules.Effect.{Effect, Ask, Withdraw, Enter}
-use Rattle.cany_model.specs.Rules.Messages.{IsOfMessage, Message, messages_of, data_frame}
+use Rattle.cany_model.specs.Rules.Messages.{IsOfMessage, Message, messages_of, data_frame, accept_of_key}
+use Rattle.cany_model.specs.Rules.Totcan.{message_in}
 use Rattle.cany_model.specs.Rules.Notices.{BelongsTo, IsDataOf, IsReadable}
 use Rattle.cany_model.specs.Rules.Protocol.{Protocol}
 use Rattle.cany_model.specs.Rules.Relcan.{confirm_frame}
@@ -22,7 +23,7 @@ use Rattle.cany_model.specs.Rules.Turn.{protocols, turn_effects}
 use Rattle.cany_model.proofs.Among.{Among, Among-from_Contains, Among-from_count, Among-weaker, Among-which, Contains-from_Among, Each-flat_map, Each-weaker}
 use Rattle.cany_model.proofs.Bus.Carried.{Has, is_got-true}
 use Rattle.cany_model.proofs.Bus.Identities.{same_class-true}
-use Rattle.cany_model.proofs.Rules.ProtocolFacts.{IsFounded, IsLawful, MayAsk, MayWithdraw, confirms, enough, originates, relays}
+use Rattle.cany_model.proofs.Rules.ProtocolFacts.{accepts, closes, confirms, enough, enough_accept, IsFounded, IsLawful, MayAsk, MayWithdraw, originates, relays}
 use Rattle.cany_model.proofs.Rules.Protocols.{are_lawful}
 use Rattle.cany_model.proofs.Rules.NumberFacts.{message_is_small}
 use Rattle.can_frame.specs.Identifier.{FitsFormat}
@@ -113,6 +114,13 @@ confirm_askable scenario past g readable h rel =
     let m = data_askable scenario service.Rel g (subst (λ c. BelongsTo scenario read.0 c g) rel read.1) in
     record { message = m.message; stands = m.stands; sent_by = m.sent_by; number = m.number; origin = m.origin }
 
+accept_askable : (scenario : ScenarioParts) (past : List NoticeKind) (g : FrameParts) → AreReadable scenario past → Among (Has g) past → g.class ≡ class.Tot
+    → IsAskable scenario (accept_of_key (message_in g))
+accept_askable scenario past g readable h tot =
+    let read = read_belongs scenario past g readable h in
+    let m = data_askable scenario service.Tot g (subst (λ c. BelongsTo scenario read.0 c g) tot read.1) in
+    record { message = m.message; stands = m.stands; sent_by = m.sent_by; number = m.number; origin = m.origin }
+
 asked_askable : (scenario : ScenarioParts) (i : ℕ) (past : List NoticeKind) (f : FrameParts) → AreReadable scenario past → is_some (service_of f.class) ≡ true
     → MayAsk scenario i past f → IsAskable scenario (identity_of f)
 asked_askable scenario i past f readable of (relays relayed got) =
@@ -122,6 +130,9 @@ asked_askable scenario i past f readable of (originates m is origin slot late fr
 asked_askable scenario i past f readable of (confirms g sent rel own frame) =
     subst (λ h. IsAskable scenario (identity_of h)) frame
     (confirm_askable scenario past g readable (Among-weaker (λ n. n ≡ Sent g) (Has g) (λ n e. inr e) past sent) rel)
+asked_askable scenario i past f readable of (accepts g sent tot own frame) =
+    subst (λ h. IsAskable scenario (identity_of h)) frame
+    (accept_askable scenario past g readable (Among-weaker (λ n. n ≡ Sent g) (Has g) (λ n e. inr e) past sent) tot)
 
 -- a copy of which was read
 copied_askable : (scenario : ScenarioParts) (past : List NoticeKind) (x : Identity) → AreReadable scenario past → is_some (service_of x.class) ≡ true
@@ -138,6 +149,11 @@ copied_askable scenario past x readable of some =
 withdrawn_askable : (scenario : ScenarioParts) (past : List NoticeKind) (x : Identity) → AreReadable scenario past → is_some (service_of x.class) ≡ true
     → MayWithdraw scenario past x → IsAskable scenario x
 withdrawn_askable scenario past x readable of (enough diffused many) = copied_askable scenario past x readable of (omega (arith, many))
+withdrawn_askable scenario past x readable of (enough_accept f got accept same many) =
+    subst (IsAskable scenario) same
+    (read_askable scenario past f readable (Among-weaker (λ n. n ≡ Got f) (Has f) (λ n e. inl e) past got) (ap (λ c. is_some (service_of c)) accept))
+withdrawn_askable scenario past x readable of (closes f read tot same closed) =
+    subst (IsAskable scenario) same (accept_askable scenario past f readable read tot)
 
 -- ---- what a turn names
 
@@ -155,7 +171,13 @@ either_class a b c of_a of_b h = elim (or_cases (same_class c a) (same_class c b
 all_name_messages : AllByRecursion NamesMessages protocols
 all_name_messages = (
   λ c ed. rw (same_class-true c class.Ed ed) refl,
-  (λ c h. either_class class.Rel class.Confirm c refl refl h, (λ c h. either_class class.Ed class.Rel c refl refl h, tt)),
+  (
+    λ c h. either_class class.Rel class.Confirm c refl refl h,
+    (
+      λ c accept. rw (same_class-true c class.Accept accept) refl,
+      (λ c h. either_class class.Ed class.Rel c refl refl h, (λ c tot. rw (same_class-true c class.Tot tot) refl, tt)),
+    ),
+  ),
 )
 
 module _ (scenario : ScenarioParts) (i : ℕ) (past : List NoticeKind) (readable : AreReadable scenario past) where

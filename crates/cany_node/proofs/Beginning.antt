@@ -1,11 +1,12 @@
 -- A node before its first turn.
 use Rattle.std.proofs.Common.{◌≡◌, ℕ, zero, suc, ◌+◌, ◌<◌, ◌≤◌, inl, inr, List, [], ◌∷◌, filter, length, map, nat_lt, replicate, refl, ap, sym, subst, ◌∙◌, arith}
-use Rattle.std.proofs.lemmas.Bool.{cases_Bool, le-ltb, ltb-false, ltb-true}
+use Rattle.std.proofs.lemmas.Bool.{cases_Bool, le-ltb, lt-ltb, ltb-false, ltb-true}
 use Rattle.std.proofs.lemmas.List.{length-replicate}
 use Rattle.cany_base.specs.declared.notice.NoticeKind.{NoticeKind}
 use Rattle.cany_base.specs.declared.notice.NoticeKind.TheVariants.{Idle}
 use Rattle.cany_base.specs.Scenario.{ScenarioParts}
 use Rattle.cany_model.specs.Bus.State.{Incarnation}
+use Rattle.cany_model.specs.Rules.Backlog.{asked, backlog}
 use Rattle.cany_model.specs.Rules.Effect.{entered}
 use Rattle.cany_model.specs.Rules.Log.{log_from}
 use Rattle.cany_model.specs.Rules.Messages.{messages_of}
@@ -17,6 +18,8 @@ use Rattle.cany_model.proofs.Rules.MutedFacts.{turn_muted}
 use Rattle.cany_edcan.specs.Edcan.{IsEdcanOf}
 use Rattle.cany_edcan.proofs.EdcanFacts.{edcan_for}
 use Rattle.cany_relcan.proofs.FollowedFacts.{relcan_for}
+use Rattle.cany_totcan.specs.Totcan.{IsTotcanOf}
+use Rattle.cany_totcan.proofs.FollowedFacts.{totcan_for}
 use Rattle.cany_node.specs.Agenda.{AgendaParts, ArePassed, IsAgendaOf, IsPlanOf, IsRising, is_due, message_from}
 use Rattle.cany_node.specs.Node.{AreReadable, IsNodeOf, IsWaiting, NodeParts}
 use Rattle.cany_node.proofs.AgendaFacts.{rising-earlier}
@@ -36,7 +39,7 @@ whole_agenda scenario i a first plan = record {
 
 -- the node of the opening waits for nothing
 pub opens : (scenario : ScenarioParts) (v : NodeParts) → IsWaiting scenario v → scenario.from ≡ 0 → v.from ≡ 0 → v.read ≡ 0 → IsNodeOf scenario [] v
-unfolding log_from
+unfolding log_from backlog asked
 opens scenario v waits first from read = record {
   legal = waits.legal;
   from = from ∙ sym first;
@@ -46,7 +49,9 @@ opens scenario v waits first from read = record {
   readable = tt;
   edcan = waits.edcan 0;
   relcan = waits.relcan 0;
+  totcan = waits.totcan 0;
   agenda = whole_agenda scenario v.node v.agenda first waits.agenda;
+  room_to_give = waits.room_to_give;
 }
 
 -- ---- idle slots
@@ -74,6 +79,22 @@ log_muted scenario i (e ∷ past) begun =
       turn_muted scenario i (e ∷ past) begun,
     ) refl
 
+-- nothing has joined its backlog, and it has asked for nothing
+backlog_muted : (scenario : ScenarioParts) (i : ℕ) (past : List NoticeKind) → IsBegun scenario past → backlog scenario i past ≡ []
+unfolding backlog
+backlog_muted scenario i [] begun = refl
+backlog_muted scenario i (e ∷ past) begun =
+    rw (
+      backlog_muted scenario i past (record { idle = begun.idle.1; early = omega (arith, begun.early) }),
+      lt-ltb (length past) scenario.from (omega (arith, begun.early)),
+    ) refl
+
+asked_muted : (scenario : ScenarioParts) (i : ℕ) (past : List NoticeKind) → IsBegun scenario past → asked scenario i past ≡ 0
+unfolding asked
+asked_muted scenario i [] begun = refl
+asked_muted scenario i (e ∷ past) begun =
+    rw (backlog_muted scenario i (e ∷ past) begun, asked_muted scenario i past (record { idle = begun.idle.1; early = omega (arith, begun.early) })) refl
+
 -- ---- an incarnation of a restarted node
 
 -- none of its sends is made before its first slot, and those of that slot and later ones are still to come
@@ -97,7 +118,7 @@ passed_agenda scenario i slot old new plan passed early = record {
     rising = passed.rising plan.rising
 
 plan_for : (scenario : ScenarioParts) (inc : Incarnation) (i : ℕ) (a : AgendaParts) → IsPlanOf scenario i a → IsPlanOf (scenario_for scenario inc) i a
-plan_for scenario inc i a plan = record { planned = plan.planned; left = plan.left; rising = plan.rising; few = plan.few }
+plan_for scenario inc i a plan = record { planned = plan.planned; left = plan.left; rising = plan.rising; few = plan.few; own = plan.own }
 
 -- it has heard nothing in the slots so far
 pub begins : (scenario : ScenarioParts) (inc : Incarnation) (restart from : ℕ) (v : NodeParts) (agenda : AgendaParts) → IsWaiting scenario v → 0 < inc.number
@@ -112,8 +133,12 @@ begins scenario inc restart from v agenda waits later starts is passed = record 
   readable = idle_readable followed (restart + 1);
   edcan = edcan;
   relcan = relcan_for scenario inc v.node past v.relcan (waits.relcan (restart + 1));
+  totcan = subst (λ ms. IsTotcanOf followed v.node past ms (asked followed v.node past) v.totcan) (sym (backlog_muted followed v.node past begun))
+      (subst (λ n. IsTotcanOf followed v.node past [] n v.totcan) (sym (asked_muted followed v.node past begun))
+      (totcan_for scenario inc v.node past [] 0 v.totcan (waits.totcan (restart + 1))));
   agenda = passed_agenda followed v.node (length past) v.agenda agenda (plan_for scenario inc v.node v.agenda waits.agenda)
       (subst (λ n. ArePassed n v.agenda agenda) at passed) begun.early;
+  room_to_give = omega (arith, waits.room_to_give, passed.few);
 }
   where
     followed : ScenarioParts

@@ -2,9 +2,11 @@ pub mod AgendaFacts
 pub mod Applying
 pub mod Askable
 pub mod AskedFacts
+pub mod BacklogFacts
 pub mod Beginning
 pub mod Doing
 pub mod Filled
+pub mod GiveFacts
 pub mod Hearing
 pub mod MessageLists
 pub mod PassFacts

@@ -85,6 +85,21 @@ planned-past i sends k send planned new within is before other e =
 pub planned-more : (new planned : List Planned) (p : Planned) (k : ℕ) → new ≡ planned ++ p ∷ [] → length planned ≤ k → length new ≤ k + 1
 planned-more new planned p k e few = omega (arith, ap length e, length-append planned (p ∷ []))
 
+-- so many messages of a node are planned as it sends
+own_count : (i : ℕ) (earlier sends : List SendAsk) → length (filter (is_of_node i) (messages_after earlier sends)) ≡ count_by (is_from i) sends
+unfolding messages_after
+own_count i earlier [] = refl
+own_count i earlier (send ∷ sends) =
+    let rest = own_count i (send ∷ earlier) sends in
+    cond_both (send.node == i) (message_of earlier send ∷ filter (is_of_node i) (messages_after (send ∷ earlier) sends)) (filter (is_of_node i) (messages_after (send ∷ earlier) sends))
+    (λ ms. length ms ≡ count_by (is_from i) (send ∷ sends))
+    (λ same. omega (arith, rest, count-yes (is_from i) send sends same))
+    (λ other. omega (arith, rest, count-no (is_from i) send sends other))
+
+pub planned_count : (i : ℕ) (sends : List SendAsk) (planned : List Planned) → map (message_from i) planned ≡ filter (is_of_node i) (messages_of sends)
+    → length planned ≡ count_by (is_from i) sends
+planned_count i sends planned is = sym (length-map planned (message_from i)) ∙ ap length is ∙ own_count i [] sends
+
 -- ---- the message of a number
 
 -- the messages of a node are numbered in their order
@@ -112,7 +127,7 @@ kept p x (y ∷ xs) pass (inl e) =
 kept p x (y ∷ xs) pass (inr h) =
     cond_both (p y) (y ∷ filter p xs) (filter p xs) (λ ys. Among (λ z. z ≡ x) ys) (λ _. inr (kept p x xs pass h)) (λ _. kept p x xs pass h)
 
-was_there : {X : Type 0} (p : X → Bool) (x : X) (xs : List X) → Among (λ y. y ≡ x) (filter p xs) → Among (λ y. y ≡ x) xs × (p x ≡ true)
+pub was_there : {X : Type 0} (p : X → Bool) (x : X) (xs : List X) → Among (λ y. y ≡ x) (filter p xs) → Among (λ y. y ≡ x) xs × (p x ≡ true)
 was_there p x [] h = absurd h
 was_there p x (y ∷ xs) h =
     cond_both (p y) (y ∷ filter p xs) (filter p xs) (λ ys. Among (λ z. z ≡ x) ys → Among (λ z. z ≡ x) (y ∷ xs) × (p x ≡ true))

@@ -34,7 +34,7 @@ once i slot (p ∷ planned) =
       | false ↦ once i slot planned
     ]
 
-turned : (a b o : Bool) → ((a && b) && o) ≡ ((o && a) && b)
+pub turned : (a b o : Bool) → ((a && b) && o) ≡ ((o && a) && b)
 turned true true true = refl
 turned true true false = refl
 turned true false true = refl

@@ -1,5 +1,5 @@
 -- The steps of a turn: each protocol lists its part, one after another, and then all is done.
-use Rattle.std.proofs.Common.{◌≡◌, ℕ, ◌+◌, ◌≤◌, List, [], ◌∷◌, ◌++◌, length, refl, ap, sym, subst, ◌∙◌, arith, append_assoc, append-nil}
+use Rattle.std.proofs.Common.{◌≡◌, ℕ, ◌+◌, ◌≤◌, List, [], ◌∷◌, ◌++◌, count_by, filter, length, refl, ap, sym, subst, ◌∙◌, arith, append_assoc, append-nil}
 use Rattle.std.specs.List.{AllByRecursion, flat_map}
 use Rattle.std.proofs.lemmas.List.{length-append, map-append}
 use Rattle.cany_base.specs.declared.actions.Action.{Action}
@@ -9,18 +9,22 @@ use Rattle.cany_base.specs.declared.notice.NoticeKind.{NoticeKind}
 use Rattle.cany_base.specs.Bounded.{Bounded}
 use Rattle.cany_base.specs.Scenario.{ScenarioParts, IsLegalScenario}
 use Rattle.cany_model.specs.Rules.Actions.{action_of, actions_of}
+use Rattle.cany_model.specs.Rules.Backlog.{ask_for, asked, asked_after, backlog, backlog_effects, joins_in, next_after, tot_backlog}
 use Rattle.cany_model.specs.Rules.Edcan.{edcan, edcan_effects}
 use Rattle.cany_model.specs.Rules.Effect.{Effect, entered}
 use Rattle.cany_model.specs.Rules.Log.{log_from}
+use Rattle.cany_model.specs.Rules.Messages.{Message, is_from}
 use Rattle.cany_model.specs.Rules.Notices.{IsNextNotice, IsReadable}
 use Rattle.cany_model.specs.Rules.Protocol.{Protocol}
 use Rattle.cany_model.specs.Rules.Relcan.{relcan, relcan_effects}
 use Rattle.cany_model.specs.Rules.Rooms.{waiting_room, actions_room}
 use Rattle.cany_model.specs.Rules.Sends.{scripted_sends, send_effects, sendable}
+use Rattle.cany_model.specs.Rules.Totcan.{totcan, totcan_effects}
 use Rattle.cany_model.specs.Rules.Turn.{protocols, turn_effects}
 use Rattle.can_controller.specs.Controller.{ControllerState}
 use Rattle.cany_edcan.specs.Edcan.{IsEdcanOf}
 use Rattle.cany_relcan.specs.Relcan.{IsRelcanOf}
+use Rattle.cany_totcan.specs.Totcan.{IsTotcanOf, TotcanParts}
 use Rattle.cany_node.specs.Agenda.{IsAgendaOf, sent_asks}
 use Rattle.cany_node.specs.Apply.{AreAskable, AreDone, CanApply, NamesAskable}
 use Rattle.cany_node.specs.Node.{NodeParts, IsNodeOf}
@@ -40,6 +44,10 @@ module _ (scenario : ScenarioParts) (past : List NoticeKind) (notice : Notice) (
 
   pub relcan_stands : IsRelcanOf scenario v.relcan.node past v.relcan
   relcan_stands = subst (λ i. IsRelcanOf scenario i past v.relcan) (sym stands.relcan.limits.node) stands.relcan
+
+  pub totcan_stands : IsTotcanOf scenario v.totcan.node past (backlog scenario v.node past) (asked scenario v.node past) v.totcan
+  totcan_stands =
+      subst (λ i. IsTotcanOf scenario i past (backlog scenario v.node past) (asked scenario v.node past) v.totcan) (sym stands.totcan.limits.node) stands.totcan
 
   pub agenda_stands : IsAgendaOf scenario v.node notice.slot v.agenda
   agenda_stands = subst (λ n. IsAgendaOf scenario v.node n v.agenda) (sym next.slot) stands.agenda
@@ -67,24 +75,64 @@ module _ (scenario : ScenarioParts) (past : List NoticeKind) (notice : Notice) (
   unfolding send_effects
   sends_are = ap (λ n. actions_of scenario.params.format (sent_asks v.node n (sendable scenario n))) next.slot
 
+  -- TOTCAN after the notice
+  pub held_stands : (t : TotcanParts) → IsTotcanOf scenario v.totcan.node (notice.kind ∷ past) (backlog scenario v.node past) (asked scenario v.node past) t
+      → IsTotcanOf scenario v.node (notice.kind ∷ past) (backlog scenario v.node past) (asked scenario v.node past) t
+  held_stands t h = subst (λ i. IsTotcanOf scenario i (notice.kind ∷ past) (backlog scenario v.node past) (asked scenario v.node past) t) stands.totcan.limits.node h
+
+  pub one_more_read : notice.slot + 1 ≡ length (notice.kind ∷ past)
+  one_more_read = omega (arith, next.slot)
+
+  -- what has joined the backlog by now
+  pub joined_stands : (t : TotcanParts) → t.node ≡ v.node
+      → IsTotcanOf scenario v.node (notice.kind ∷ past) (backlog scenario v.node past ++ filter (joins_in v.node notice.slot) (sendable scenario notice.slot)) (asked scenario v.node past) t
+      → IsTotcanOf scenario t.node (notice.kind ∷ past) (backlog scenario v.node (notice.kind ∷ past)) (asked scenario v.node past) t
+  unfolding backlog
+  joined_stands t own stands =
+      subst (λ i. IsTotcanOf scenario i (notice.kind ∷ past) (backlog scenario v.node (notice.kind ∷ past)) (asked scenario v.node past) t) (sym own)
+      (subst (λ n. IsTotcanOf scenario v.node (notice.kind ∷ past) (backlog scenario v.node past ++ filter (joins_in v.node n) (sendable scenario n)) (asked scenario v.node past) t) next.slot stands)
+
+  next_is : actions_of scenario.params.format (ask_for (next_after scenario.params (notice.kind ∷ past) (backlog scenario v.node (notice.kind ∷ past)) (asked scenario v.node past)))
+      ≡ actions_of scenario.params.format (backlog_effects scenario v.node (notice.kind ∷ past))
+  unfolding backlog_effects
+  next_is = refl
+
+  -- TOTCAN has room as it had for the messages that it is given
+  pub same_room : (i j : ℕ) (before after : List NoticeKind) (messages : List Message) (m n : ℕ) (t u : TotcanParts) → i ≡ j → IsTotcanOf scenario i before messages m t
+      → IsTotcanOf scenario j after messages n u → (length u.backlog.given ≡ length t.backlog.given) × (u.backlog.room ≡ t.backlog.room)
+  same_room i j before after messages m n t u same h k = (
+    ap length k.backlog.given ∙ sym (ap length h.backlog.given),
+    k.backlog.room ∙ ap (λ x. count_by (is_from x) scenario.sends) (sym same) ∙ sym h.backlog.room,
+  )
+
   -- what is listed when all of them have spoken
-  pub listed : (start heard told sent : List Action) → start ≡ []
+  pub listed : (start heard told held sent asks : List Action) → start ≡ []
       → heard ≡ start ++ actions_of scenario.params.format (edcan_effects scenario v.edcan.node (notice.kind ∷ past))
       → told ≡ heard ++ actions_of scenario.params.format (relcan_effects scenario v.relcan.node (notice.kind ∷ past))
-      → sent ≡ told ++ actions_of scenario.params.format (sent_asks v.node notice.slot (sendable scenario notice.slot)) → sent ≡ actions_of scenario.params.format effects
-  listed start heard told sent none ed rel sends =
-      let one : Leads (relcan ∷ scripted_sends ∷ []) heard = leads_more edcan v.edcan.node (leads_first start none) stands.edcan.node ed in
-      let two : Leads (scripted_sends ∷ []) told = leads_more relcan v.relcan.node one stands.relcan.limits.node rel in
-      let three : Leads [] sent = leads_more scripted_sends v.node two refl (sends ∙ ap (λ x. told ++ x) sends_are) in
-      sym (append-nil sent) ∙ three.all
+      → held ≡ told ++ actions_of scenario.params.format (totcan_effects scenario v.totcan.node (notice.kind ∷ past))
+      → sent ≡ held ++ actions_of scenario.params.format (sent_asks v.node notice.slot (sendable scenario notice.slot))
+      → asks ≡ sent ++ actions_of scenario.params.format (ask_for (next_after scenario.params (notice.kind ∷ past) (backlog scenario v.node (notice.kind ∷ past)) (asked scenario v.node past)))
+      → asks ≡ actions_of scenario.params.format effects
+  listed start heard told held sent asks none ed rel tot sends more =
+      let one : Leads (relcan ∷ totcan ∷ scripted_sends ∷ tot_backlog ∷ []) heard = leads_more edcan v.edcan.node (leads_first start none) stands.edcan.node ed in
+      let two : Leads (totcan ∷ scripted_sends ∷ tot_backlog ∷ []) told = leads_more relcan v.relcan.node one stands.relcan.limits.node rel in
+      let three : Leads (scripted_sends ∷ tot_backlog ∷ []) held = leads_more totcan v.totcan.node two stands.totcan.limits.node tot in
+      let four : Leads (tot_backlog ∷ []) sent = leads_more scripted_sends v.node three refl (sends ∙ ap (λ x. held ++ x) sends_are) in
+      let five : Leads [] asks = leads_more tot_backlog v.node four refl (more ∙ ap (λ x. sent ++ x) next_is) in
+      sym (append-nil asks) ∙ five.all
 
-  -- there is room for what RELCAN does, and then for the scripted sends
+  -- there is room for what RELCAN does, then for what TOTCAN does, then for the scripted sends, and then for the next of the backlog
   pub room_for_relcan : (start heard : List Action) (room : ℕ) → start ≡ [] → length heard ≤ length start + 2 → room ≡ actions_room scenario → length heard + 3 ≤ room
   room_for_relcan start heard room none few is = omega (arith, few, ap length none, is)
 
-  pub room_to_send : (start heard told : List Action) (room : ℕ) → start ≡ [] → length heard ≤ length start + 2 → length told ≤ length heard + 3
-      → room ≡ actions_room scenario → length told + length v.agenda.left ≤ room
-  room_to_send start heard told room none few more is = omega (arith, few, more, ap length none, is, stands.agenda.few)
+  pub room_for_totcan : (start heard told : List Action) (room : ℕ) → start ≡ [] → length heard ≤ length start + 2 → length told ≤ length heard + 3
+      → room ≡ actions_room scenario → length told + v.totcan.queue.room + 3 ≤ room
+  room_for_totcan start heard told room none few more is = omega (arith, few, more, ap length none, is, stands.totcan.limits.room)
+
+  pub room_to_send : (start heard told held : List Action) (room : ℕ) → start ≡ [] → length heard ≤ length start + 2 → length told ≤ length heard + 3
+      → length held ≤ length told + v.totcan.queue.room + 3 → room ≡ actions_room scenario → length held + length v.agenda.left + 1 ≤ room
+  room_to_send start heard told held room none few more many is =
+      omega (arith, few, more, many, ap length none, is, stands.totcan.limits.room, stands.agenda.few)
 
   -- the log after the turn, and that there is room for it
   pub logged : (log : List LogEntry) → log ≡ v.log ++ entered effects → log ≡ log_from scenario v.node (notice.kind ∷ past)
@@ -127,8 +175,12 @@ module _ (scenario : ScenarioParts) (past : List NoticeKind) (notice : Notice) (
   -- the node after the turn
   pub stands_after : (v' : NodeParts) → v'.node ≡ v.node → v'.from ≡ v.from → v'.log ≡ v.log ++ entered effects → v'.room ≡ v.room → v'.read ≡ notice.slot + 1
       → IsEdcanOf scenario v.edcan.node (notice.kind ∷ past) v'.edcan → IsRelcanOf scenario v.relcan.node (notice.kind ∷ past) v'.relcan → IsAgendaOf scenario v.node (notice.slot + 1) v'.agenda
-      → IsNodeOf scenario (notice.kind ∷ past) v'
-  stands_after v' node from log room read edcan relcan agenda = record {
+      → v'.totcan.node ≡ v.node
+      → IsTotcanOf scenario v'.totcan.node (notice.kind ∷ past) (backlog scenario v.node (notice.kind ∷ past))
+      (asked_after scenario.params (notice.kind ∷ past) (backlog scenario v.node (notice.kind ∷ past)) (asked scenario v.node past)) v'.totcan
+      → length v'.totcan.backlog.given + length v'.agenda.left ≤ v'.totcan.backlog.room → IsNodeOf scenario (notice.kind ∷ past) v'
+  unfolding asked
+  stands_after v' node from log room read edcan relcan agenda own totcan room_to_give = record {
     legal = stands.legal;
     from = from ∙ stands.from;
     log = logged v'.log log ∙ ap (λ i. log_from scenario i (notice.kind ∷ past)) (sym node);
@@ -137,6 +189,9 @@ module _ (scenario : ScenarioParts) (past : List NoticeKind) (notice : Notice) (
     readable = (readable, stands.readable);
     edcan = subst (λ i. IsEdcanOf scenario i (notice.kind ∷ past) v'.edcan) (stands.edcan.node ∙ sym node) edcan;
     relcan = subst (λ i. IsRelcanOf scenario i (notice.kind ∷ past) v'.relcan) (stands.relcan.limits.node ∙ sym node) relcan;
+    totcan = subst (λ i. IsTotcanOf scenario i (notice.kind ∷ past) (backlog scenario i (notice.kind ∷ past)) (asked scenario i (notice.kind ∷ past)) v'.totcan) (sym node)
+        (subst (λ i. IsTotcanOf scenario i (notice.kind ∷ past) (backlog scenario v.node (notice.kind ∷ past)) (asked scenario v.node (notice.kind ∷ past)) v'.totcan) own totcan);
     agenda = subst (λ i. IsAgendaOf scenario i (length (notice.kind ∷ past)) v'.agenda) (sym node)
         (subst (λ n. IsAgendaOf scenario v.node n v'.agenda) (omega (arith, next.slot)) agenda);
+    room_to_give = room_to_give;
   }

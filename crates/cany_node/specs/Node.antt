@@ -1,5 +1,5 @@
 -- What a contract sees of a node, and what a turn does.
-use Rattle.std.specs.Prelude.{◌≡◌, ◌+◌, ◌<◌, ◌==◌, ◌&&◌, ℕ, not, nat_lt, if◌then◌else◌, List, [], ◌∷◌, length, drop, replicate, slice_get, Option, Some, None}
+use Rattle.std.specs.Prelude.{◌≡◌, ◌+◌, ◌<◌, ◌≤◌, ◌==◌, ◌&&◌, ℕ, not, nat_lt, if◌then◌else◌, List, [], ◌∷◌, length, drop, replicate, slice_get, Option, Some, None}
 use Rattle.cany_base.specs.declared.actions.Action.{Action}
 use Rattle.cany_base.specs.declared.log_entry.LogEntry.{LogEntry}
 use Rattle.cany_base.specs.declared.notice.Notice.{Notice}
@@ -7,6 +7,7 @@ use Rattle.cany_base.specs.declared.notice.NoticeKind.{NoticeKind}
 use Rattle.cany_base.specs.declared.notice.NoticeKind.TheVariants.{Idle}
 use Rattle.cany_base.specs.Bounded.{Bounded}
 use Rattle.cany_base.specs.Scenario.{ScenarioParts, IsLegalScenario}
+use Rattle.cany_model.specs.Rules.Backlog.{asked, backlog}
 use Rattle.cany_model.specs.Rules.Effect.{Effect, waiting_after}
 use Rattle.cany_model.specs.Rules.Log.{log_from}
 use Rattle.cany_model.specs.Rules.Notices.{IsNextNotice, IsReadable}
@@ -15,6 +16,7 @@ use Rattle.cany_model.specs.Rules.Rooms.{waiting_room, actions_room, log_room}
 use Rattle.can_controller.specs.Controller.{ControllerState}
 use Rattle.cany_edcan.specs.Edcan.{EdcanParts, IsEdcanOf}
 use Rattle.cany_relcan.specs.Relcan.{RelcanParts, IsRelcanOf}
+use Rattle.cany_totcan.specs.Totcan.{TotcanParts, IsTotcanOf}
 use Rattle.cany_node.specs.declared.reply.TurnReply.{TurnReply}
 use Rattle.cany_node.specs.declared.reply.TurnReply.TheVariants.{Turned, NothingYet, Stopped}
 use Rattle.cany_node.specs.Agenda.{AgendaParts, IsAgendaOf, IsPlanOf}
@@ -33,6 +35,7 @@ pub record NodeParts : Type 0 where
   pub read : ℕ
   pub edcan : EdcanParts
   pub relcan : RelcanParts
+  pub totcan : TotcanParts
   pub agenda : AgendaParts
 
 -- What an incarnation hears of a slot: nothing, before the first in which it takes part. The one of the opening takes part in
@@ -59,7 +62,9 @@ pub record IsNodeOf (scenario : ScenarioParts) (past : List NoticeKind) (v : Nod
   pub readable : AreReadable scenario past
   pub edcan : IsEdcanOf scenario v.node past v.edcan
   pub relcan : IsRelcanOf scenario v.node past v.relcan
+  pub totcan : IsTotcanOf scenario v.node past (backlog scenario v.node past) (asked scenario v.node past) v.totcan
   pub agenda : IsAgendaOf scenario v.node (length past) v.agenda
+  pub room_to_give : length v.totcan.backlog.given + length v.agenda.left ≤ v.totcan.backlog.room
 
 -- The node was built for a run of the scenario and has made no turn. It stands for nothing yet: its protocols are as they are
 -- after any number of idle slots.
@@ -70,7 +75,9 @@ pub record IsWaiting (scenario : ScenarioParts) (v : NodeParts) : Type 0 where
   pub room : v.room ≡ log_room scenario
   pub edcan : (n : ℕ) → IsEdcanOf scenario v.node (replicate n Idle) v.edcan
   pub relcan : (n : ℕ) → IsRelcanOf scenario v.node (replicate n Idle) v.relcan
+  pub totcan : (n : ℕ) → IsTotcanOf scenario v.node (replicate n Idle) [] 0 v.totcan
   pub agenda : IsPlanOf scenario v.node v.agenda
+  pub room_to_give : length v.totcan.backlog.given + length v.agenda.left ≤ v.totcan.backlog.room
 
 -- the node can begin as an incarnation after a restart at the end of this slot
 pub record CanBegin (v : NodeParts) (restart : ℕ) : Type 0 where

@@ -22,6 +22,7 @@ use cany_base::{
 };
 use cany_edcan::Edcan;
 use cany_relcan::Relcan;
+use cany_totcan::Totcan;
 use std::alloc::Global;
 use std::marker::Model;
 
@@ -41,6 +42,7 @@ pub struct Node {
     read: Slot,
     edcan: Edcan,
     relcan: Relcan,
+    totcan: Totcan,
     agenda: Agenda,
     log: BoundedVec<LogEntry>,
 }
@@ -60,6 +62,7 @@ impl Model for Node {
       read = n.read;
       edcan = n.edcan;
       relcan = n.relcan;
+      totcan = n.totcan;
       agenda = n.agenda;
     } };
 }
@@ -71,12 +74,13 @@ impl Node {
         requires inc { inc ≤ most_restarts_of_node }
         ensures node { IfOk result (λ built. built.node ≡ node) }
         ensures inc { IfOk result (λ built. built.inc ≡ inc) }
-        ensures stands { IfOk result (λ built. inc ≡ 0 → scenario.now.from ≡ 0 → IsNodeOf scenario.now [] built) }
+        ensures stands { IfOk result (λ built. inc ≡ 0 → IsNodeOf scenario.now [] built) }
         ensures waits { IfOk result (IsWaiting scenario.now) }
     {
         let params = *scenario.params();
         let edcan = Edcan::build(alloc, node, scenario)?;
         let relcan = Relcan::build(alloc, node, scenario)?;
+        let totcan = Totcan::build(alloc, node, scenario)?;
         let agenda = Agenda::build(alloc, node, scenario)?;
         let log = BoundedVec::build(alloc, log_room(scenario))?;
         Ok(Node {
@@ -87,6 +91,7 @@ impl Node {
             read: 0,
             edcan,
             relcan,
+            totcan,
             agenda,
             log,
         })
@@ -107,8 +112,8 @@ impl Node {
         self.agenda.pass_before(self.from);
     }
 
-    /// Reads the oldest unread notice of the controller and does what the rules say of what it hears: EDCAN, then RELCAN, and
-    /// then the scripted sends of the slot. `out` is where the actions of the turn are kept while they are done.
+    /// Reads the oldest unread notice of the controller and does what the rules say of what it hears: EDCAN, RELCAN, TOTCAN,
+    /// then the scripted sends of the slot, and then the next message of the backlog. `out` is where the actions of the turn are kept while they are done.
     pub fn turn(&mut self, ctl: &mut Controller, out: &mut Actions) -> TurnReply
         requires { CanTurn self.old ctl.old out.old }
         ensures reply { result ≡ reply_of ctl.old }
@@ -159,14 +164,17 @@ impl Node {
     {
         self.edcan.on(notice, out);
         self.relcan.on(notice, out);
+        self.totcan.on(notice, out);
         send_due(
             self.node,
             notice.slot,
             &mut self.agenda,
             &mut self.edcan,
             &mut self.relcan,
+            &mut self.totcan,
             out,
         );
+        self.totcan.next(notice.slot, out);
         apply_all(out, ctl, &mut self.log);
         out.clear();
         self.read = notice.slot + 1;
@@ -194,10 +202,11 @@ impl Node {
         ensures no_message { (scenario : ScenarioParts) (past : List NoticeKind) → IsNodeOf scenario past self.now →
             ((m : Message) → Contains (messages_of scenario.sends) m → message_key m ≡ msg → m.origin ≢ self.now.node) → result ≡ false }
     {
-        msg.origin.get() == self.node.get() && self.agenda.asked(msg.seq, self.from, self.read)
+        msg.origin.get() == self.node.get()
+            && (self.agenda.asked(msg.seq, self.from, self.read) || self.totcan.asked(msg))
     }
 
-    /// Whether something of the message of this key is ahead at the node: a timer of RELCAN.
+    /// Whether something of the message of this key is ahead at the node: a timer of RELCAN, or a closing of TOTCAN.
     pub fn ahead(&self, msg: MsgKey) -> bool
         ensures message { (scenario : ScenarioParts) (past : List NoticeKind) → IsNodeOf scenario past self.now →
             (m : Message) → Contains (messages_of scenario.sends) m → message_key m ≡ msg →
@@ -205,6 +214,10 @@ impl Node {
         ensures no_message { (scenario : ScenarioParts) (past : List NoticeKind) → IsNodeOf scenario past self.now →
             ((m : Message) → Contains (messages_of scenario.sends) m → message_key m ≢ msg) → result ≡ false }
     {
-        self.relcan.ahead(msg)
+        let key = MsgKey {
+            origin: msg.origin,
+            seq: msg.seq,
+        };
+        self.totcan.ahead(key) || self.relcan.ahead(msg)
     }
 }

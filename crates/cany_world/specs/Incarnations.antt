@@ -58,7 +58,7 @@ IsLeft (Stopped slot) v v' ctl ctl' = (v' ≡ v) × (ctl' ≡ ctl)
 pub record IsBuiltAs (scenario : ScenarioParts) (i number : ℕ) (it : NodeParts) : Type 0 where
   pub node : it.node ≡ i
   pub inc : it.inc ≡ number
-  pub stands : number ≡ 0 → scenario.from ≡ 0 → IsNodeOf scenario [] it
+  pub stands : number ≡ 0 → IsNodeOf scenario [] it
   pub waits : IsWaiting scenario it
 
 -- one of each number below the count
@@ -67,7 +67,6 @@ AreBuilt scenario i count nodes = AreOfNodes (IsBuiltAs scenario i) count nodes
 
 -- the incarnations of node i at the opening
 pub record IsFirstOf (scenario : ScenarioParts) (i : ℕ) (v : IncarnationsParts) : Type 0 where
-  pub opens : scenario.from ≡ 0
   pub nodes : AreBuilt scenario i (count_by (is_ask_of_node i) scenario.restarts + 1) v.nodes
   pub spans : v.spans ≡ replicate (count_by (is_ask_of_node i) scenario.restarts + 1) (record { since = 0; stopped = None; read = 0 })
   pub present : v.present ≡ 0

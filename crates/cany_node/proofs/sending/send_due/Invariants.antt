@@ -1,11 +1,13 @@
 use Rattle.std.proofs.Common.{◌≡◌, ◌≤◌, ◌+◌, length}
+use Rattle.cany_node.proofs.GiveFacts.{KeepsGiving}
 use Rattle.cany_node.proofs.SendFacts.{KeepsSending}
 use Rattle.cany_node.proofs.sending.send_due.Given as goal
 
 abbrev pub invariant-loop-planned : goal.invariant-loop-planned
 invariant-loop-planned l = record {
   keeps : KeepsSending l.node l.slot l.fn.agenda l.agenda l.fn.out.items l.out.items;
-  spare : length l.out.items + length l.agenda.left ≤ l.out.room;
+  giving : KeepsGiving l.node l.slot l.fn.agenda l.agenda l.fn.totcan l.totcan;
+  spare : length l.out.items + length l.agenda.left ≤ length l.fn.out.items + length l.fn.agenda.left;
   room : l.out.room ≡ l.fn.out.room;
   edcan : l.edcan ≡ l.fn.edcan;
   relcan : l.relcan ≡ l.fn.relcan;

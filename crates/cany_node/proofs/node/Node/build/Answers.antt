@@ -1,8 +1,9 @@
-use Rattle.std.proofs.Common.{◌+◌, ap, ◌∙◌, refl}
+use Rattle.std.proofs.Common.{◌+◌, length, ap, ◌∙◌, refl, arith}
 use Rattle.cany_base.specs.Bounded.{Bounded}
 use Rattle.cany_base.specs.declared.log_entry.LogEntry.{LogEntry}
 use Rattle.cany_base.specs.Params.{Parameters}
 use Rattle.cany_node.proofs.Beginning.{opens}
+use Rattle.cany_node.proofs.MessageLists.{planned_count}
 use Rattle.cany_node.proofs.node.Node.build.Goals as goal
 
 pub returns-clause-waits : goal.returns-clause-waits
@@ -13,8 +14,13 @@ returns-clause-waits c = record {
   room = ap (λ (b : Bounded LogEntry). b.room) c.in_ok-log.ensures ∙ c.log_room.ensures;
   edcan = λ n. c.in_ok-edcan.ensures n;
   relcan = λ n. c.in_ok-relcan.ensures n;
+  totcan = λ n. c.in_ok-totcan.ensures n;
   agenda = c.in_ok-agenda.ensures;
+  room_to_give =
+      let tot = (c.in_ok-totcan.ensures 0).backlog in
+      let plan = c.in_ok-agenda.ensures in
+      omega (arith, ap length tot.given, tot.room, plan.own, planned_count c.args.node c.args.scenario.now.sends c.in_ok-agenda.agenda.planned plan.planned);
 }
 
 pub returns-clause-stands : goal.returns-clause-stands
-returns-clause-stands c first whole = opens _ _ (returns-clause-waits c) whole refl refl
+returns-clause-stands c first = opens _ _ (returns-clause-waits c) c.params-params.ensures.whole refl refl

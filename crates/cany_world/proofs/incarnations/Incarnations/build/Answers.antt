@@ -30,7 +30,6 @@ returns c =
     let count : c.restarts_of-count.result ≡ count_by (is_ask_of_node c.args.node) c.args.scenario.now.restarts =
     c.restarts_of-count.ensures ∙ ap (λ (l : List NodeAsk). count_by (is_ask_of_node c.args.node) l) c.restarts.ensures in
     record {
-      opens = c.params-legal.ensures.whole;
       nodes = subst (λ n. AreBuilt c.args.scenario.now c.args.node (n + 1) c.in_ok-nodes.nodes.items) count c.in_ok-nodes.ensures;
       spans = c.in_ok-spans.ensures.items_if_clones_equal (λ y same. same) ∙ ap (λ n. replicate (n + 1) c.span_since.result) count
           ∙ ap (λ (x : Span). replicate (count_by (is_ask_of_node c.args.node) c.args.scenario.now.restarts + 1) x) c.span_since.ensures;
