@@ -1,10 +1,13 @@
 #!/usr/bin/env python3
-"""Times `canely replay` on generated scenarios and prints slots per second and peak memory.
+"""Times `canely replay` on generated scenarios and prints the time per slot and per message, and peak memory.
 
 Usage: benches/world.py [PROGRAM]
 
 PROGRAM is the built program, by default crates/canely/out/canely, which `rt run` in crates/canely leaves there. Each
 scenario is run once; the figure is the time of the whole call, with reading the text and writing the report.
+
+Of each service a tenth and a half of the largest run are run too, with as many slots to a message. Where a message costs
+the same early and late in a run, the time per message is that of the whole.
 """
 
 import os
@@ -15,6 +18,8 @@ import time
 
 HERE = os.path.dirname(os.path.abspath(__file__))
 PROGRAM = os.path.join(HERE, "..", "crates", "canely", "out", "canely")
+
+PARTS = {1: "a tenth of ", 5: "half of ", 10: ""}
 
 
 def scenario(nodes, slots, sends, services, extra):
@@ -33,14 +38,37 @@ def scenario(nodes, slots, sends, services, extra):
     return "\n".join(lines) + "\n"
 
 
-def runs(services):
-    name = "+".join(services)
-    yield f"storm-sized {name}", 20000, scenario(
-        8, 20000, 200, services, ["omit = 2", "errors = 2", "bound = 211", "life = 20000"]
-    )
-    yield f"largest {name}", 100000, scenario(
-        32, 100000, 20000, services, ["life = 100000"]
-    )
+def storm_sized(services):
+    name = "storm-sized " + "+".join(services)
+    extra = ["omit = 2", "errors = 2", "bound = 211", "life = 20000"]
+    return name, 20000, 200, scenario(8, 20000, 200, services, extra)
+
+
+def largest(services, tenths):
+    """So many tenths of the largest run."""
+    name = PARTS[tenths] + "largest " + "+".join(services)
+    slots, sends = 10000 * tenths, 2000 * tenths
+    return name, slots, sends, scenario(32, slots, sends, services, [f"life = {slots}"])
+
+
+def dense(tenths):
+    """So many tenths of a run that carries as many TOTCAN messages as the slots have room for. An origin waits `bound` slots
+    from one to the next, and `bound` grows with the square of the nodes, so that two nodes send most."""
+    name = PARTS[tenths] + "dense tot"
+    slots, sends = 10000 * tenths, 1000 * tenths
+    return name, slots, sends, scenario(2, slots, sends, ["tot"], [f"life = {slots}"])
+
+
+def runs():
+    """The name, slots, messages and text of each run."""
+    for service in ["ed", "rel", "tot"]:
+        yield storm_sized([service])
+        for tenths in PARTS:
+            yield largest([service], tenths)
+    for tenths in PARTS:
+        yield dense(tenths)
+    yield storm_sized(["ed", "rel"])
+    yield largest(["ed", "rel"], 10)
 
 
 def measure(program, text):
@@ -60,22 +88,20 @@ def measure(program, text):
 def main():
     program = sys.argv[1] if len(sys.argv) > 1 else PROGRAM
     print(f"{os.cpu_count()} cores, {time.strftime('%Y-%m-%d')}")
-    print("| run | seconds | slots per second | peak MB | report MB | settled |")
-    print("|---|---|---|---|---|---|")
-    mixes = [["ed"], ["rel"], ["ed", "rel"]]
-    for services in mixes:
-        for name, slots, text in runs(services):
-            seconds, peak, status, report = measure(program, text)
-            if status == 3:
-                print(f"| {name} | refused: {report.decode().strip()} | | | | |")
-                continue
-            if status != 0:
-                sys.exit(f"{name}: status {status}")
-            settled = report.count(b" settled\n")
-            print(
-                f"| {name} | {seconds:.2f} | {slots / seconds:,.0f} | {peak:.0f} "
-                f"| {len(report) / 1e6:.1f} | {settled} |"
-            )
+    print("| run | messages | seconds | slots per second | ms per message | peak MB | report MB | settled |")
+    print("|---|---|---|---|---|---|---|---|")
+    for name, slots, sends, text in runs():
+        seconds, peak, status, report = measure(program, text)
+        if status == 3:
+            print(f"| {name} | refused: {report.decode().strip()} | | | | | | |")
+            continue
+        if status != 0:
+            sys.exit(f"{name}: status {status}")
+        settled = report.count(b" settled\n")
+        print(
+            f"| {name} | {sends} | {seconds:.2f} | {slots / seconds:,.0f} | {1000 * seconds / sends:.3f} | {peak:.0f} "
+            f"| {len(report) / 1e6:.1f} | {settled} |"
+        )
 
 
 if __name__ == "__main__":

@@ -4,10 +4,12 @@ use crate::tests::journals::JOURNALS;
 use crate::tests::relcan::RELCAN_RUNS;
 use crate::tests::runs::RUNS;
 use crate::tests::thirty_two_nodes::THIRTY_TWO_NODES;
+use crate::tests::totcan::TOTCAN_RUNS;
 use cany_io::{MemSink, MemSource, PlainSource, Source};
 use std::alloc::{AllocError, Global};
 use std::test::Fail;
 
+mod backlog;
 mod forty_nodes;
 mod journals;
 mod relcan;
@@ -15,6 +17,7 @@ mod restarts;
 mod runs;
 mod streams;
 mod thirty_two_nodes;
+mod totcan;
 mod words;
 
 /// A run: its name, its text, and the status and the answer that a call on it comes to.
@@ -130,6 +133,7 @@ fn texts_and_their_answers(rt: HostRuntime) -> Result<(), Fail> {
     for cases in [
         RUNS.as_slice(),
         RELCAN_RUNS.as_slice(),
+        TOTCAN_RUNS.as_slice(),
         JOURNALS.as_slice(),
         &[THIRTY_TWO_NODES],
     ] {

@@ -87,6 +87,7 @@ fn service_from(value: &Value) -> Option<Service>
     match value.as_str()? {
         "ed" => Some(Service::Ed),
         "rel" => Some(Service::Rel),
+        "tot" => Some(Service::Tot),
         _ => None,
     }
 }

@@ -178,7 +178,8 @@ fn other_texts_are_refused(rt: HostRuntime) {
         "",
         // Nine bytes of a message.
         "format = 1\nnodes = 3\nslots = 5\n[[send]]\nslot = 0\nnode = 0\nservice = \"ed\"\ndata = \"0123456789ABCDEF00\"\n",
-        "format = 1\nnodes = 3\nslots = 5\n[[send]]\nslot = 0\nnode = 0\nservice = \"tot\"\n",
+        // A service of another name.
+        "format = 1\nnodes = 3\nslots = 5\n[[send]]\nslot = 0\nnode = 0\nservice = \"totcan\"\n",
         // Two rules for a slot, and for an attempt.
         "format = 1\nnodes = 3\nslots = 5\n[[fault]]\nslot = 1\n[[fault]]\nslot = 2\n[[fault]]\nslot = 1\nstop = [0]\n",
         "format = 1\nnodes = 3\nslots = 5\n[[fault]]\nclass = \"ed\"\nnumber = 0\nnode = 0\nnth = 2\n[[fault]]\nclass = \"ed\"\nnumber = 0\nnode = 0\nnth = 2\nverdict = \"lost\"\n",

@@ -141,7 +141,7 @@ end
     ),
     // A slot that is Silent: the sender sees success though node 2 rejects the frame.
     (
-        "silent_omission_is_outside",
+        "edcan_silent_omission_is_outside",
         "format = 1
 nodes = 3
 slots = 6
