@@ -24,6 +24,8 @@ pub record ScenarioParts : Type 0 where
   pub restarts : List NodeAsk
   -- The first slot whose scripted asks are made: 0 in a scenario as it is read, later in one as a restarted node follows it.
   pub from : ℕ
+  -- the number of the incarnation that follows it, which some of its frames tell: 0 in a scenario as it is read
+  pub inc : ℕ
   pub journal : Option (List Step)
 
 -- a scripted send happens in a slot of the run, at a node of the bus

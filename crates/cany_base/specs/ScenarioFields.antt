@@ -13,5 +13,6 @@ parts_of s = record {
   leaves = s.leaves.items;
   restarts = s.restarts.items;
   from = 0;
+  inc = 0;
   journal = option_map (λ steps. steps.items) s.journal;
 }

@@ -59,6 +59,7 @@ impl Scenario {
           leaves = leaves.items;
           restarts = restarts.items;
           from = 0;
+          inc = 0;
           journal = option_map (λ steps. steps.items) journal;
         }) }
         ensures { result ≡ record {
@@ -70,6 +71,7 @@ impl Scenario {
           leaves = leaves.items;
           restarts = restarts.items;
           from = 0;
+          inc = 0;
           journal = option_map (λ steps. steps.items) journal;
         } }
     {
@@ -90,6 +92,8 @@ impl Scenario {
         ensures legal { IsLegalScenario self.now }
         // Each scripted ask is made: it is an incarnation of a restarted node that makes none before its first slot.
         ensures whole { self.now.from ≡ 0 }
+        // So is a number above 0.
+        ensures opening { self.now.inc ≡ 0 }
     {
         &self.params
     }
