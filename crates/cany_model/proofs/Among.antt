@@ -1,7 +1,7 @@
 -- That some element of a list has a property, by cases on the list.
-use Rattle.std.proofs.Common.{◌≡◌, ℕ, zero, suc, ◌+◌, ◌<◌, ◌≤◌, ◌⊎◌, inl, inr, Bool, true, false, cond, List, [], ◌∷◌, ◌++◌, map, drop, length, get_or, Contains, count_by, refl, subst, arith, suc-le-suc, le_of_suc-le-suc}
+use Rattle.std.proofs.Common.{◌≡◌, ℕ, zero, suc, ◌+◌, ◌<◌, ◌≤◌, ◌⊎◌, inl, inr, Bool, true, false, cond, List, [], ◌∷◌, ◌++◌, map, filter, drop, length, get_or, Contains, count_by, refl, subst, arith, suc-le-suc, le_of_suc-le-suc}
 use Rattle.std.specs.List.{AllByRecursion, flat_map, list_any}
-use Rattle.std.proofs.lemmas.Bool.{or_cases, or_left, or_right, false≢true, cond-true, cond-false, cases_Bool}
+use Rattle.std.proofs.lemmas.Bool.{or_cases, or_left, or_right, false≢true, cond-true, cond-false, cond_both, cases_Bool}
 use Rattle.std.proofs.lemmas.List.Sums.{sum_by-cons}
 
 abbrev pub Among : {X : Type 0} → (X → Type 0) → List X → Type 0
@@ -89,9 +89,19 @@ Among-flat_map f P [] h = h
 Among-flat_map f P (x ∷ xs) (inl a) = Among-append_left P (f x) (flat_map f xs) a
 Among-flat_map f P (x ∷ xs) (inr b) = Among-append_right P (f x) (flat_map f xs) (Among-flat_map f P xs b)
 
-pub Each-flat_map : {X Y : Type 0} (f : X → List Y) (P : Y → Type 0) (xs : List X) → AllByRecursion (λ x. AllByRecursion P (f x)) xs → AllByRecursion P (flat_map f xs)
+pub Each-flat_map : {X Y : Type 0} (f : X → List Y) (P : Y → Type 0) (xs : List X)
+    → AllByRecursion (λ x. AllByRecursion P (f x)) xs → AllByRecursion P (flat_map f xs)
 Each-flat_map f P [] h = tt
 Each-flat_map f P (x ∷ xs) h = Each-append P (f x) (flat_map f xs) h.0 (Each-flat_map f P xs h.1)
+
+pub Each-map : {X Y : Type 0} (f : X → Y) (P : Y → Type 0) (xs : List X) → AllByRecursion (λ x. P (f x)) xs → AllByRecursion P (map f xs)
+Each-map f P [] h = tt
+Each-map f P (x ∷ xs) h = (h.0, Each-map f P xs h.1)
+
+pub Each-filter : {X : Type 0} (P : X → Type 0) (p : X → Bool) (xs : List X) → AllByRecursion P xs → AllByRecursion P (filter p xs)
+Each-filter P p [] h = tt
+Each-filter P p (x ∷ xs) h =
+    cond_both (p x) (x ∷ filter p xs) (filter p xs) (AllByRecursion P) (λ _. (h.0, Each-filter P p xs h.1)) (λ _. Each-filter P p xs h.1)
 
 -- between the test and the property
 pub Among-from_any : {X : Type 0} (p : X → Bool) (xs : List X) → list_any p xs ≡ true → Among (λ x. p x ≡ true) xs
@@ -132,6 +142,10 @@ pub count-drop : {X : Type 0} (p : X → Bool) (n : ℕ) (xs : List X) → count
 count-drop p zero xs = omega arith
 count-drop p (suc n) [] = omega arith
 count-drop p (suc n) (x ∷ xs) = omega (arith, count-drop p n xs, count-grows p x xs)
+
+-- what one element adds to a count
+abbrev pub one_if : Bool → ℕ
+one_if b = cond b 1 0
 
 -- an element at a place that has the property
 pub Among-get_or : {X : Type 0} (P : X → Type 0) (xs : List X) (k : ℕ) (d : X) → k < length xs → P (get_or xs k d) → Among P xs

@@ -9,10 +9,17 @@ pub mod DiffusionRun
 pub mod EachNode
 pub mod Fair
 pub mod EdcanAgrees
+pub mod FewLifeSigns
+pub mod FewLifeSignsOrder
+pub mod FewLifeSignsRun
+pub mod FewLifeSignsWaiting
 pub mod Firsts
 pub mod Integrity
 pub mod OneFrame
 pub mod RelcanAgrees
 pub mod Safety
 pub mod SettledFacts
+pub mod SignAgrees
+pub mod SignCounts
 pub mod Sources
+pub mod SpacedSigns

@@ -5,6 +5,7 @@ pub mod FaultsTextRows
 pub mod FollowRows
 pub mod HypothesisRows
 pub mod JournalTextRows
+pub mod LifeRows
 pub mod RelcanRows
 pub mod RelcanTurnRows
 pub mod ReplyRows

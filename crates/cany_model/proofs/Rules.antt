@@ -7,6 +7,8 @@ pub mod DoneFacts
 pub mod EagerFacts
 pub mod EdcanFacts
 pub mod IncarnationFacts
+pub mod LifeCounts
+pub mod LifeFacts
 pub mod LogFacts
 pub mod MessageKeys
 pub mod MutedFacts
@@ -17,6 +19,10 @@ pub mod Protocols
 pub mod RelcanFacts
 pub mod RoomFacts
 pub mod SendFacts
+pub mod SignFacts
+pub mod SignLog
+pub mod SignRooms
+pub mod StationFacts
 pub mod Timers
 pub mod TotcanFacts
 pub mod TurnFacts

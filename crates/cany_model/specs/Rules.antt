@@ -5,6 +5,7 @@ pub mod Delivery
 pub mod Eager
 pub mod Edcan
 pub mod Effect
+pub mod Life
 pub mod Log
 pub mod Messages
 pub mod Notices
@@ -12,5 +13,6 @@ pub mod Protocol
 pub mod Relcan
 pub mod Rooms
 pub mod Sends
+pub mod Station
 pub mod Totcan
 pub mod Turn

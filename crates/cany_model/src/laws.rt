@@ -1,23 +1,26 @@
 //! What holds of every run: each law is the contract of a function that does nothing.
-ghost use Rattle.std.specs.Prelude.{◌≡◌, ◌≤◌, ◌+◌, ◌↔◌, ℕ, true, List, ◌∷◌, Some, None, Contains};
+ghost use Rattle.std.specs.Prelude.{◌≡◌, ◌<◌, ◌≤◌, ◌+◌, ◌↔◌, ℕ, true, List, ◌∷◌, Some, None, Contains, count_by};
 ghost use Rattle.cany_base.specs.Limits.{most_nodes};
+ghost use Rattle.cany_base.specs.declared.frame.Class.TheVariants as class;
 ghost use Rattle.cany_base.specs.declared.message.Service.TheVariants as service;
 ghost use Rattle.cany_base.specs.declared.slot_note.SlotNote.{SlotNote};
 ghost use Rattle.cany_base.specs.declared.step.Step.{Step};
 ghost use Rattle.cany_base.specs.Params.{Parameters};
 ghost use Rattle.cany_base.specs.Scenario.{ScenarioParts};
 ghost use Rattle.cany_model.specs.Bus.Follow.{journal_fault};
+ghost use Rattle.cany_model.specs.Bus.Frames.{same_class};
 ghost use Rattle.cany_model.specs.Promises.Hypothesis.{IsWithin, first_break};
 ghost use Rattle.cany_model.specs.Rules.Messages.{Message, messages_of};
 ghost use Rattle.cany_model.specs.Bus.RoundRobin.{round_robin};
 ghost use Rattle.cany_model.specs.Bus.Run.{IsLegal, IsWhole, run};
 ghost use Rattle.cany_model.specs.Bus.State.{node_at, runs};
-ghost use Rattle.cany_model.specs.Promises.Safe.{IsIntegral, IsAgreedOn};
+ghost use Rattle.cany_model.specs.Promises.Safe.{IsIntegral, IsAgreedOn, IsSignAgreedOn};
+ghost use Rattle.cany_model.specs.Rules.Station.{Sign};
 ghost use Rattle.cany_model.specs.declared.breaks.Break.{Break};
 
 /// Integrity: the log of the present incarnation of a running node has no message twice, and each message that it delivers is one of
 /// the scenario, with its service and its payload, whose data frame was carried with its origin among the senders in a
-/// slot not after the entry.
+/// slot not after the entry. Each failure that it tells of is that of a node of the bus, in a cycle that had begun by then.
 ///
 /// It holds of every journal, legal or not, at any lag and under any fault script. A set of nodes has room for the greatest number of
 /// nodes that there can be.
@@ -53,6 +56,19 @@ pub fn relcan_agreement()
         → IsAgreedOn scenario (run scenario journal) m }
 {}
 
+/// Agreement of failure signs, in every run within the fault hypothesis, among the correct nodes that take part since the frame of
+/// the sign was first carried: where nobody waits with the frame and every running node has read every notice, the sign stands in the
+/// logs of all of them or of none. Where the frame was never carried and nobody waits with it, the sign stands in the log of no
+/// correct node.
+///
+/// It holds for every journal, at every lag, and for every length of the intervals, by the argument of EDCAN: a node that knows a sign,
+/// by a copy or by silence, has asked for its frame. It uses no timing, so it does not say that a failed node is found out.
+pub fn failure_sign_agreement()
+    ensures { (scenario : ScenarioParts) (journal : List Step) → scenario.params.nodes ≤ most_nodes
+        → IsWithin scenario.params (run scenario journal).trace
+        → (sign : Sign) → IsSignAgreedOn scenario (run scenario journal) sign }
+{}
+
 /// The first break: a run has none exactly if it is within the fault hypothesis. A break stays the first as the run goes
 /// on, and one that is new has the number of the newest slot.
 ///
@@ -73,6 +89,18 @@ pub fn first_break_is_exact()
 pub fn unread_notices()
     ensures { (scenario : ScenarioParts) (journal : List Step) (i : ℕ) → runs (node_at (run scenario journal).nodes i) ≡ true
         → (node_at (run scenario journal).nodes i).unread ≤ scenario.params.lag + 1 }
+{}
+
+/// Few life signs: in every run, of the life signs that a running node asks for at most two wait at any moment, where the life interval is
+/// longer than the lag.
+///
+/// Two asks of a node lie more than a life interval apart, so when it asks, it has read each sign that was sent before its last ask. It
+/// holds of every journal, legal or not, and under any fault script: also where no sign comes through, since the node then asks for the
+/// same one again. It asks for nothing else of the scenario.
+pub fn few_life_signs()
+    ensures { (scenario : ScenarioParts) (journal : List Step) → scenario.params.lag < scenario.params.life → (i : ℕ)
+        → runs (node_at (run scenario journal).nodes i) ≡ true
+        → count_by (λ f. same_class f.class class.Els) (node_at (run scenario journal).nodes i).waiting ≤ 2 }
 {}
 
 /// The round robin journal: in every scenario each step of it is done, and at its end all slots ran and every running node

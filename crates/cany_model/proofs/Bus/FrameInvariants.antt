@@ -22,7 +22,7 @@ use Rattle.cany_model.proofs.Among.{Among, Among-from_Contains, Among-weaker, Am
 use Rattle.cany_model.proofs.Bus.Carried.{Has, read_among, read_note}
 use Rattle.cany_model.proofs.Bus.Notes.{note_of-slot, note_of-offered, waiting_sends}
 use Rattle.cany_model.proofs.Bus.Restarts.{after_restarts-trace, restarts_or_stays}
-use Rattle.cany_model.proofs.Bus.Runs.{IsOrderly, along_run, opening_within}
+use Rattle.cany_model.proofs.Bus.Runs.{IsKept, IsOrderly, along_run, opening_within}
 use Rattle.cany_model.proofs.Bus.Seen.{Among-seen, history-is}
 use Rattle.cany_model.proofs.Bus.States.{no_note, note_at, node_at-opening, runs_within}
 use Rattle.cany_model.proofs.Bus.Steps.{MayTurn, next_notice, after_slot-trace, after_slot-waiting, running_before_slot, after_turn-trace, after_turn-node, after_turn-other, after_turn-runs, after_turn-history}
@@ -39,8 +39,8 @@ pub record HoldsOfFrames (W : OfWaiting) (C : OfCarried) (s : RunState) : Type 0
   pub waiting : (i : ℕ) → runs (node_at s.nodes i) ≡ true → AllByRecursion (W s.trace i) (node_at s.nodes i).waiting
   pub carried : (note : SlotNote) (f : FrameParts) → Contains s.trace note → note.frame ≡ Some f → C s.trace note.slot f
 
--- what a proof of it has to show
-pub record IsKeptByFrames (scenario : ScenarioParts) (W : OfWaiting) (C : OfCarried) : Type 0 where
+-- what a proof of it has to show, where something else is known of each state
+pub record IsKeptByFrames (scenario : ScenarioParts) (J : RunState → Type 0) (W : OfWaiting) (C : OfCarried) : Type 0 where
   -- it is kept as the trace grows
   pub waiting_later : (note : SlotNote) (trace : List SlotNote) (i : ℕ) (f : FrameParts) → W trace i f → W (note ∷ trace) i f
   pub carried_later : (note : SlotNote) (trace : List SlotNote) (slot : ℕ) (f : FrameParts) → C trace slot f → C (note ∷ trace) slot f
@@ -48,15 +48,15 @@ pub record IsKeptByFrames (scenario : ScenarioParts) (W : OfWaiting) (C : OfCarr
   pub sent : (note : SlotNote) (trace : List SlotNote) (i : ℕ) (f : FrameParts) → note.slot ≡ length trace → note.frame ≡ Some f
       → has note.senders i ≡ true → W trace i f → C (note ∷ trace) note.slot f
   -- and a frame that a turn asks for may wait
-  pub asked : (s : RunState) (i : ℕ) → IsOrderly scenario.params.nodes s → MayTurn s i → HoldsOfFrames W C s
+  pub asked : (s : RunState) (i : ℕ) → IsOrderly scenario.params.nodes s → MayTurn s i → J s → HoldsOfFrames W C s
       → AllByRecursion (AsksOnly (W s.trace i)) (turn_effects (scenario_at scenario s i) i (next_notice s i ∷ history i s))
 
 -- ---- a slot
 
-carried_slot : (scenario : ScenarioParts) (W : OfWaiting) (C : OfCarried) → IsKeptByFrames scenario W C → (rules : FaultScript) (s : RunState) → length s.nodes ≤ most_nodes
+carried_slot : (scenario : ScenarioParts) (J : RunState → Type 0) (W : OfWaiting) (C : OfCarried) → IsKeptByFrames scenario J W C → (rules : FaultScript) (s : RunState) → length s.nodes ≤ most_nodes
     → HoldsOfFrames W C s → (note : SlotNote) (f : FrameParts) → Contains (slot_note_of rules s ∷ s.trace) note → note.frame ≡ Some f
     → C (slot_note_of rules s ∷ s.trace) note.slot f
-carried_slot scenario W C keeps rules s few h note f c frame =
+carried_slot scenario J W C keeps rules s few h note f c frame =
     elim (Contains-cons_cases (slot_note_of rules s) note s.trace c) [
       | inl now ↦
           let frame' : (slot_note_of rules s).frame ≡ Some f = ap (λ n. n.frame) now ∙ frame in
@@ -71,24 +71,24 @@ carried_slot scenario W C keeps rules s few h note f c frame =
       | inr before ↦ keeps.carried_later (slot_note_of rules s) s.trace note.slot f (h.carried note f before frame)
     ]
 
-waiting_slot : (scenario : ScenarioParts) (W : OfWaiting) (C : OfCarried) → IsKeptByFrames scenario W C → (rules : FaultScript) (s : RunState) → HoldsOfFrames W C s
+waiting_slot : (scenario : ScenarioParts) (J : RunState → Type 0) (W : OfWaiting) (C : OfCarried) → IsKeptByFrames scenario J W C → (rules : FaultScript) (s : RunState) → HoldsOfFrames W C s
     → (i : ℕ) → runs (node_at (after_slot rules s).nodes i) ≡ true
     → AllByRecursion (W (slot_note_of rules s ∷ s.trace) i) (node_at (after_slot rules s).nodes i).waiting
-waiting_slot scenario W C keeps rules s h i running =
+waiting_slot scenario J W C keeps rules s h i running =
     let ran = (running_before_slot rules s i running).0 in
     Each-weaker (W s.trace i) (W (slot_note_of rules s ∷ s.trace) i) (keeps.waiting_later (slot_note_of rules s) s.trace i)
     (node_at (after_slot rules s).nodes i).waiting
     (rw (after_slot-waiting rules s i ran) (Each-kept (W s.trace i) (given i (slot_note_of rules s)) (node_at s.nodes i).waiting (h.waiting i ran)))
 
-holds_slot : (scenario : ScenarioParts) (W : OfWaiting) (C : OfCarried) → IsKeptByFrames scenario W C → (rules : FaultScript) (s : RunState) → length s.nodes ≤ most_nodes
+holds_slot : (scenario : ScenarioParts) (J : RunState → Type 0) (W : OfWaiting) (C : OfCarried) → IsKeptByFrames scenario J W C → (rules : FaultScript) (s : RunState) → length s.nodes ≤ most_nodes
     → HoldsOfFrames W C s → HoldsOfFrames W C (after_slot rules s)
-holds_slot scenario W C keeps rules s few h =
+holds_slot scenario J W C keeps rules s few h =
     let at : slot_note_of rules s ∷ s.trace ≡ (after_slot rules s).trace = sym (after_slot-trace rules s) in
     record {
       waiting = λ i running. subst (λ trace. AllByRecursion (W trace i) (node_at (after_slot rules s).nodes i).waiting) at
-          (waiting_slot scenario W C keeps rules s h i running);
+          (waiting_slot scenario J W C keeps rules s h i running);
       carried = subst (λ trace. (note : SlotNote) (f : FrameParts) → Contains trace note → note.frame ≡ Some f → C trace note.slot f) at
-          (carried_slot scenario W C keeps rules s few h);
+          (carried_slot scenario J W C keeps rules s few h);
     }
 
 -- ---- restarts
@@ -149,22 +149,22 @@ turn_note scenario s i f may short h =
     subst (λ trace. (note : SlotNote) × Contains trace note × (note.frame ≡ Some f)) (after_turn-trace scenario i s)
     (history_note (after_turn scenario i s) i f (subst (Among (Has f)) (sym (after_turn-history scenario i s may short)) h))
 
-waiting_turn : (scenario : ScenarioParts) (W : OfWaiting) (C : OfCarried) → IsKeptByFrames scenario W C → (s : RunState) (i : ℕ) → IsOrderly scenario.params.nodes s
-    → MayTurn s i → HoldsOfFrames W C s → AllByRecursion (W s.trace i) (node_at (after_turn scenario i s).nodes i).waiting
-waiting_turn scenario W C keeps s i o may h =
+waiting_turn : (scenario : ScenarioParts) (J : RunState → Type 0) (W : OfWaiting) (C : OfCarried) → IsKeptByFrames scenario J W C → (s : RunState) (i : ℕ) → IsOrderly scenario.params.nodes s
+    → MayTurn s i → J s → HoldsOfFrames W C s → AllByRecursion (W s.trace i) (node_at (after_turn scenario i s).nodes i).waiting
+waiting_turn scenario J W C keeps s i o may known h =
     rw (after_turn-node scenario i s may (o.unread i))
     (Each-after (W s.trace i) (turn_effects (scenario_at scenario s i) i (next_notice s i ∷ history i s)) (node_at s.nodes i).waiting
-    (keeps.asked s i o may h) (h.waiting i may.running))
+    (keeps.asked s i o may known h) (h.waiting i may.running))
 
-holds_turn : (scenario : ScenarioParts) (W : OfWaiting) (C : OfCarried) → IsKeptByFrames scenario W C → (s : RunState) (i : ℕ) → IsOrderly scenario.params.nodes s
-    → MayTurn s i → HoldsOfFrames W C s → HoldsOfFrames W C (after_turn scenario i s)
-holds_turn scenario W C keeps s i o may h =
+holds_turn : (scenario : ScenarioParts) (J : RunState → Type 0) (W : OfWaiting) (C : OfCarried) → IsKeptByFrames scenario J W C → (s : RunState) (i : ℕ) → IsOrderly scenario.params.nodes s
+    → MayTurn s i → J s → HoldsOfFrames W C s → HoldsOfFrames W C (after_turn scenario i s)
+holds_turn scenario J W C keeps s i o may known h =
     let at : s.trace ≡ (after_turn scenario i s).trace = sym (after_turn-trace scenario i s) in
     record {
       waiting = λ j running. subst (λ trace. AllByRecursion (W trace j) (node_at (after_turn scenario i s).nodes j).waiting) at
           (elim (cases_eq j i) [
             | inl same ↦ subst (λ k. AllByRecursion (W s.trace k) (node_at (after_turn scenario i s).nodes k).waiting) (sym same)
-                (waiting_turn scenario W C keeps s i o may h)
+                (waiting_turn scenario J W C keeps s i o may known h)
             | inr other ↦ rw (after_turn-other scenario i s j other) (h.waiting j (sym (after_turn-runs scenario i s j may (o.unread i)) ∙ running))
           ]);
       carried = subst (λ trace. (note : SlotNote) (f : FrameParts) → Contains trace note → note.frame ≡ Some f → C trace note.slot f) at h.carried;
@@ -179,13 +179,25 @@ holds_opening W C nodes = record {
 }
 
 -- a set of nodes has room for the greatest number of nodes, so a sender with a greater number would not be noted
-pub holds_of_frames : (scenario : ScenarioParts) (W : OfWaiting) (C : OfCarried) → IsKeptByFrames scenario W C → (journal : List Step) → scenario.params.nodes ≤ most_nodes
-    → HoldsOfFrames W C (run scenario journal)
-holds_of_frames scenario W C keeps journal few =
-    along_run scenario (HoldsOfFrames W C) (holds_opening W C scenario.params.nodes)
+pub holds_of_frames : (scenario : ScenarioParts) (J : RunState → Type 0) → J (opening scenario.params.nodes) → IsKept scenario J → (W : OfWaiting) (C : OfCarried)
+    → IsKeptByFrames scenario J W C → (journal : List Step) → scenario.params.nodes ≤ most_nodes → HoldsOfFrames W C (run scenario journal)
+holds_of_frames scenario J first known W C keeps journal few =
+    (along_run scenario (λ s. J s × HoldsOfFrames W C s) (first, holds_opening W C scenario.params.nodes)
     (record {
-      slot = λ s o may h. holds_slot scenario W C keeps (script scenario.rules) s (subst (λ n. n ≤ most_nodes) (sym o.count) few) h;
-      restarts = λ s o some h. holds_restarts scenario W C s h;
-      turn = λ s i o may h. holds_turn scenario W C keeps s i o may h;
+      slot = λ s o may h. (
+        known.slot s o may h.0,
+        holds_slot scenario J W C keeps (script scenario.rules) s (subst (λ n. n ≤ most_nodes) (sym o.count) few) h.1,
+      );
+      restarts = λ s o some h. (known.restarts s o some h.0, holds_restarts scenario W C s h.1);
+      turn = λ s i o may h. (known.turn s i o may h.0, holds_turn scenario J W C keeps s i o may h.0 h.1);
     })
-    journal
+    journal).1
+
+-- where nothing else has to be known
+abbrev pub nothing_known : RunState → Type 0
+nothing_known s = Unit {0}
+
+pub frames_alone : (scenario : ScenarioParts) (W : OfWaiting) (C : OfCarried) → IsKeptByFrames scenario nothing_known W C → (journal : List Step)
+    → scenario.params.nodes ≤ most_nodes → HoldsOfFrames W C (run scenario journal)
+frames_alone scenario W C keeps journal few =
+    holds_of_frames scenario nothing_known tt (record { slot = λ s o may h. tt; restarts = λ s o some h. tt; turn = λ s i o may h. tt }) W C keeps journal few

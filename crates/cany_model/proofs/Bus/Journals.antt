@@ -11,7 +11,7 @@ use Rattle.cany_model.specs.Bus.Run.{reply, is_done, proceed, after_step, after_
 use Rattle.cany_model.specs.Bus.Slot.{FaultScript, script, after_slot, slot_note_of}
 use Rattle.cany_model.specs.Bus.State.{NodeState, RunState, opening, node_at, runs, reads}
 use Rattle.cany_model.proofs.Bus.Restarts.{after_restarts-trace, restarts_or_stays}
-use Rattle.cany_model.proofs.Bus.Runs.{IsOrderly, along_run, orderly_opening, orderly_restarts, orderly_slot, orderly_turn, turn_done}
+use Rattle.cany_model.proofs.Bus.Runs.{IsKept, IsOrderly, along_run, orderly_opening, orderly_restarts, orderly_slot, orderly_turn, turn_done}
 use Rattle.cany_model.proofs.Bus.Steps.{MayTurn, after_slot-trace, after_slot-unread, after_turn-trace, after_turn-node, after_turn-other, running_before_slot, after_turn-runs}
 use Rattle.cany_model.proofs.Bus.States.{runs_within}
 
@@ -233,27 +233,32 @@ legal_short scenario journal legal =
     omega (arith, count, few, short, more, below_opening scenario.params.nodes scenario.params.nodes)
 
 -- a running node has at most one unread notice more than the lag
+abbrev pub FewUnread : ScenarioParts → RunState → Type 0
+FewUnread scenario s = (i : ℕ) → runs (node_at s.nodes i) ≡ true → (node_at s.nodes i).unread ≤ scenario.params.lag + 1
+
+pub unread_at_first : (scenario : ScenarioParts) → FewUnread scenario (opening scenario.params.nodes)
+unread_at_first scenario i running = omega (arith, (orderly_opening scenario.params.nodes).unread i)
+
+pub unread_kept : (scenario : ScenarioParts) → IsKept scenario (FewUnread scenario)
+unread_kept scenario = record {
+  slot = λ s o may h i running.
+      let ran = running_before_slot (script scenario.rules) s i running in
+      omega (arith, after_slot-unread (script scenario.rules) s i (runs_within s.nodes i ran.0), may.lag i ran.0);
+  restarts = λ s o some h i running. elim (restarts_or_stays scenario s i) [
+    | inl new ↦ omega (arith, ap (λ (node : NodeState). node.unread) new.is)
+    | inr same ↦
+        let ran : runs (node_at s.nodes i) ≡ true = ap (λ (node : NodeState). runs node) (sym same) ∙ running in
+        omega (arith, ap (λ (node : NodeState). node.unread) same, h i ran)
+  ];
+  turn = λ s i o may h j running.
+      let ran : runs (node_at s.nodes j) ≡ true = sym (after_turn-runs scenario i s j may (o.unread i)) ∙ running in
+      elim (cases_eq j i) [
+        | inl same ↦ subst (λ k. (node_at (after_turn scenario i s).nodes k).unread ≤ scenario.params.lag + 1) (sym same)
+            (omega (arith, ap (λ (node : NodeState). node.unread) (after_turn-node scenario i s may (o.unread i)), h i may.running))
+        | inr other ↦ omega (arith, ap (λ (node : NodeState). node.unread) (after_turn-other scenario i s j other), h j ran)
+      ];
+}
+
 pub unread_within : (scenario : ScenarioParts) (journal : List Step) (i : ℕ) → runs (node_at (run scenario journal).nodes i) ≡ true
     → (node_at (run scenario journal).nodes i).unread ≤ scenario.params.lag + 1
-unread_within scenario journal =
-    along_run scenario (λ s. (i : ℕ) → runs (node_at s.nodes i) ≡ true → (node_at s.nodes i).unread ≤ scenario.params.lag + 1)
-    (λ i running. omega (arith, (orderly_opening scenario.params.nodes).unread i))
-    (record {
-      slot = λ s o may h i running.
-          let ran = running_before_slot (script scenario.rules) s i running in
-          omega (arith, after_slot-unread (script scenario.rules) s i (runs_within s.nodes i ran.0), may.lag i ran.0);
-      restarts = λ s o some h i running. elim (restarts_or_stays scenario s i) [
-        | inl new ↦ omega (arith, ap (λ (node : NodeState). node.unread) new.is)
-        | inr same ↦
-            let ran : runs (node_at s.nodes i) ≡ true = ap (λ (node : NodeState). runs node) (sym same) ∙ running in
-            omega (arith, ap (λ (node : NodeState). node.unread) same, h i ran)
-      ];
-      turn = λ s i o may h j running.
-          let ran : runs (node_at s.nodes j) ≡ true = sym (after_turn-runs scenario i s j may (o.unread i)) ∙ running in
-          elim (cases_eq j i) [
-            | inl same ↦ subst (λ k. (node_at (after_turn scenario i s).nodes k).unread ≤ scenario.params.lag + 1) (sym same)
-                (omega (arith, ap (λ (node : NodeState). node.unread) (after_turn-node scenario i s may (o.unread i)), h i may.running))
-            | inr other ↦ omega (arith, ap (λ (node : NodeState). node.unread) (after_turn-other scenario i s j other), h j ran)
-          ];
-    })
-    journal
+unread_within scenario journal = along_run scenario (FewUnread scenario) (unread_at_first scenario) (unread_kept scenario) journal

@@ -37,7 +37,7 @@ pub idle_carries : (x : Identity) (note : SlotNote) → note.frame ≡ None → 
 idle_carries x note none c = let frame : note.frame ≡ Some c.what = c.frame in absurd (cc)
 
 -- what an incarnation sees to be carried Clean, was
-seen_clean : (x : Identity) (s : RunState) (i : ℕ) → Among (CarriesClean x) (seen (node_at s.nodes i).present s.trace) → Among (CarriesClean x) s.trace
+pub seen_clean : (x : Identity) (s : RunState) (i : ℕ) → Among (CarriesClean x) (seen (node_at s.nodes i).present s.trace) → Among (CarriesClean x) s.trace
 seen_clean x s i h = Among-seen (CarriesClean x) (λ note none c. idle_carries x note none c.carries) (node_at s.nodes i).present s.trace h
 
 -- a frame that a correct node was to send was carried Clean

@@ -133,9 +133,9 @@ record WasRead (m : Message) (past : List NoticeKind) : Type 0 where
   same : data_id m ≡ identity_of frame
   read : Among (Has frame) past
 
-delivered_frame : (m : Message) (p : Protocol) (past : List NoticeKind) (place : ℕ) (entry : LogEntry) → is_delivery_of m entry
-    → IsFoundedEntry p (drop place past) entry → WasRead m past
-delivered_frame m p past place (Deliver slot by msg payload) is r =
+delivered_frame : (m : Message) (scenario : ScenarioParts) (i : ℕ) (p : Protocol) (past : List NoticeKind) (place : ℕ) (entry : LogEntry) → is_delivery_of m entry
+    → IsFoundedEntry scenario p i (drop place past) entry → WasRead m past
+delivered_frame m scenario i p past place (Deliver slot by msg payload) is r =
     let key = is.0 ∙ sym r.key in
     let number : m.seq ≡ r.frame.number = ap (λ (k : MsgKey). k.seq) key in
     let origin : m.origin ≡ r.frame.node = ap (λ (k : MsgKey). k.origin) key in
@@ -145,8 +145,8 @@ delivered_frame m p past place (Deliver slot by msg payload) is r =
       same = λ k. record { class = class k; number = number k; node = origin k };
       read = Among-drop (Has r.frame) place past r.read;
     }
-delivered_frame m p past place (Failed slot node cycle) is r = absurd is
-delivered_frame m p past place (View slot number members) is r = absurd is
+delivered_frame m scenario i p past place (Failed slot node cycle) is r = absurd is
+delivered_frame m scenario i p past place (View slot number members) is r = absurd is
 
 -- a message that a node delivered, it has read
 delivered_read : (scenario : ScenarioParts) (s : RunState) (i : ℕ) (m : Message) → HasDelivered scenario s i m → WasRead m (history i s)
@@ -154,7 +154,7 @@ delivered_read scenario s i m h =
     let sc : ScenarioParts = scenario_at scenario s i in
     let split = log_split (λ y. y ≡ h.entry) sc i (history i s) (Among-from_Contains (log scenario s i) h.entry h.stands) in
     let made = made_by (λ y. y ≡ h.entry) sc split.0 split.1 i (history i s) split.2 in
-    delivered_frame m split.0 (history i s) made.place made.entry (subst (is_delivery_of m) (sym made.is) h.delivers) made.founded
+    delivered_frame m sc i split.0 (history i s) made.place made.entry (subst (is_delivery_of m) (sym made.is) h.delivers) made.founded
 
 delivered_carried : (scenario : ScenarioParts) (m : Message) (owes : Owes) (s : RunState) → Rules scenario m owes s → Ground scenario m owes s → (first : ℕ)
     → first_carried (data_id m) s.trace ≡ Some first → (i : ℕ) → IsCorrectFrom scenario s first i → HasDelivered scenario s i m

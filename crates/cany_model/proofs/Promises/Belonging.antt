@@ -1,8 +1,8 @@
 -- Each frame that waits at a running node or was carried in a run belongs to the scenario: a node can read it, and may ask for it.
-use Rattle.std.specs.Prelude.{◌≡◌, ℕ, ◌≤◌, List, ◌∷◌, Option, Some, None, length, Contains, refl}
+use Rattle.std.specs.Prelude.{◌≡◌, ℕ, ◌*◌, ◌/◌, ◌<◌, ◌≤◌, List, ◌∷◌, length, Contains, refl}
 use Rattle.cany_base.specs.Limits.{most_nodes}
 use Rattle.std.specs.List.{AllByRecursion}
-use Rattle.std.proofs.Common.{sym, ap, ◌∙◌, subst, inl, inr}
+use Rattle.std.proofs.Common.{sym, ap, ◌∙◌, subst, inl, inr, arith}
 use Rattle.std.proofs.lemmas.Bool.{cases_Bool}
 use Rattle.cany_base.specs.declared.frame.Class.{Class}
 use Rattle.cany_base.specs.declared.frame.Class.TheVariants as class
@@ -18,27 +18,33 @@ use Rattle.cany_model.specs.Bus.Frames.{Identity, identity_of}
 use Rattle.cany_model.specs.Bus.History.{as_seen, given, history, is_hidden}
 use Rattle.cany_model.specs.Bus.Run.{run}
 use Rattle.cany_model.specs.Bus.State.{Incarnation, RunState}
+use Rattle.cany_model.specs.Rules.Life.{els_frame, signs_sent}
 use Rattle.cany_model.specs.Rules.Messages.{IsOfMessage, Message, messages_of, data_frame}
 use Rattle.cany_model.specs.Rules.Notices.{BelongsTo, IsDataOf, IsReadable, NamesNode}
 use Rattle.cany_model.specs.Rules.Relcan.{confirm_frame}
-use Rattle.cany_model.specs.Rules.Rooms.{IsAskable, IsAskableBy, service_of}
+use Rattle.cany_model.specs.Rules.Rooms.{IsAskable, IsAskableAs, IsOfNode}
+use Rattle.cany_model.specs.Rules.Station.{Sign, fda_frame}
 use Rattle.cany_model.specs.Rules.Totcan.{accept_frame}
 use Rattle.cany_model.specs.Rules.Turn.{scenario_at, scenario_for, turn_effects}
 use Rattle.cany_model.proofs.Among.{Among, Among-weaker, Contains-from_Among}
 use Rattle.cany_model.proofs.Bus.Carried.{Has}
-use Rattle.cany_model.proofs.Bus.FrameInvariants.{HoldsOfFrames, IsKeptByFrames, holds_of_frames, turn_note}
+use Rattle.cany_model.proofs.Bus.FrameInvariants.{HoldsOfFrames, IsKeptByFrames, holds_of_frames, slot_of_note, turn_note}
 use Rattle.cany_model.proofs.Bus.Notes.{given-Got, given-Sent}
-use Rattle.cany_model.proofs.Bus.Runs.{IsOrderly}
+use Rattle.cany_model.proofs.Bus.Runs.{IsOrderly, history-length}
 use Rattle.cany_model.proofs.Bus.Seen.{seen_idle, seen_plain}
 use Rattle.cany_model.proofs.Bus.Steps.{MayTurn, next_notice}
 use Rattle.cany_model.proofs.Bus.Waits.{AsksOnly}
-use Rattle.cany_model.proofs.Rules.ProtocolFacts.{MayAsk, accepts, confirms, originates, relays}
+use Rattle.cany_model.proofs.Promises.EachNode.{EachRunning, nodes_at_first, nodes_kept}
+use Rattle.cany_model.proofs.Promises.Fair.{AllFair}
+use Rattle.cany_model.proofs.Promises.SignCounts.{Counted, signs_counted, signs_spaced}
+use Rattle.cany_model.proofs.Rules.SignRooms.{div_grows}
+use Rattle.cany_model.proofs.Rules.ProtocolFacts.{MayAsk, accepts, confirms, lives, originates, relays, signals}
 use Rattle.cany_model.proofs.Rules.TurnFacts.{turn_only}
 
--- the frame can be read in this slot, and may be asked for
+-- the frame can be read in this slot, and may be asked for, where the slot is one of the run
 pub record Belongs (scenario : ScenarioParts) (slot : ℕ) (f : FrameParts) : Type 0 where
   pub readable : BelongsTo scenario slot f.class f
-  pub askable : IsAskable scenario (identity_of f)
+  pub askable : slot ≤ scenario.params.slots → IsAskable scenario (identity_of f)
 
 abbrev pub Waiting : ScenarioParts → List SlotNote → ℕ → FrameParts → Type 0
 Waiting scenario trace i f = Belongs scenario (length trace) f
@@ -49,24 +55,30 @@ WasCarried scenario trace slot f = Belongs scenario slot f
 abbrev pub AllBelong : ScenarioParts → RunState → Type 0
 AllBelong scenario s = HoldsOfFrames (Waiting scenario) (WasCarried scenario) s
 
--- ---- in another slot
+-- the life signs of each running node are counted
+abbrev AreCounted : ScenarioParts → RunState → Type 0
+AreCounted scenario s = AllFair s × EachRunning (Counted scenario) s
 
--- a frame of a message can be read in every slot
-readable_by : (scenario : ScenarioParts) (a b : ℕ) (f : FrameParts) (c : Class) → IsAskableBy scenario (identity_of f) (service_of c) → BelongsTo scenario a c f
-    → BelongsTo scenario b c f
-readable_by scenario a b f class.Accept asked h = h
-readable_by scenario a b f class.Rha asked h = absurd asked
-readable_by scenario a b f class.Els asked h = absurd asked
-readable_by scenario a b f class.Fda asked h = absurd asked
-readable_by scenario a b f class.Join asked h = absurd asked
-readable_by scenario a b f class.Leave asked h = absurd asked
-readable_by scenario a b f class.Confirm asked h = h
-readable_by scenario a b f class.Tot asked h = h
-readable_by scenario a b f class.Rel asked h = h
-readable_by scenario a b f class.Ed asked h = h
+-- ---- in a later slot
 
-belongs_in : (scenario : ScenarioParts) (a b : ℕ) (f : FrameParts) → Belongs scenario a f → Belongs scenario b f
-belongs_in scenario a b f h = record { readable = readable_by scenario a b f f.class h.askable h.readable; askable = h.askable }
+names_later : (scenario : ScenarioParts) (interval a b : ℕ) (f : FrameParts) → a ≤ b → NamesNode scenario interval a f → NamesNode scenario interval b f
+names_later scenario interval a b f l h = record { node = h.node; number = omega (arith, h.number, div_grows a b interval l) }
+
+readable_later : (scenario : ScenarioParts) (a b : ℕ) (f : FrameParts) (c : Class) → a ≤ b → BelongsTo scenario a c f → BelongsTo scenario b c f
+readable_later scenario a b f class.Accept l h = h
+readable_later scenario a b f class.Rha l h = names_later scenario scenario.params.cycle a b f l h
+readable_later scenario a b f class.Els l h = record { node = h.node; passed = omega (arith, h.passed, l) }
+readable_later scenario a b f class.Fda l h = names_later scenario scenario.params.cycle a b f l h
+readable_later scenario a b f class.Join l h = names_later scenario scenario.params.cycle a b f l h
+readable_later scenario a b f class.Leave l h = names_later scenario scenario.params.cycle a b f l h
+readable_later scenario a b f class.Confirm l h = h
+readable_later scenario a b f class.Tot l h = h
+readable_later scenario a b f class.Rel l h = h
+readable_later scenario a b f class.Ed l h = h
+
+pub belongs_in : (scenario : ScenarioParts) (a b : ℕ) (f : FrameParts) → a ≤ b → Belongs scenario a f → Belongs scenario b f
+belongs_in scenario a b f l h =
+    record { readable = readable_later scenario a b f f.class l h.readable; askable = λ within. h.askable (omega (arith, l, within)) }
 
 -- ---- what a turn asks for
 
@@ -74,7 +86,7 @@ data_belongs : (scenario : ScenarioParts) (slot : ℕ) (m : Message) → Contain
     → (f : FrameParts) → data_frame m ≡ f → f.class ≡ data_class by → Belongs scenario slot f
 data_belongs scenario slot m stands by service f frame class = record {
   readable = subst (λ c. BelongsTo scenario slot c f) (sym class) (readable by service);
-  askable = subst (λ c. IsAskableBy scenario (identity_of f) (service_of c)) (sym class) (askable by service);
+  askable = λ within. subst (IsAskableAs scenario (identity_of f)) (sym class) (askable by service);
 }
   where
     readable : (by : Service) → m.service ≡ by → BelongsTo scenario slot (data_class by) f
@@ -82,74 +94,132 @@ data_belongs scenario slot m stands by service f frame class = record {
     readable Rel e = record { message = m; stands = stands; sent_by = e; frame = frame }
     readable Tot e = record { message = m; stands = stands; sent_by = e; frame = frame }
 
-    askable : (by : Service) → m.service ≡ by → IsAskableBy scenario (identity_of f) (service_of (data_class by))
-    askable Ed e = record { message = m; stands = stands; sent_by = e; number = ap (λ (g : FrameParts). g.number) frame; origin = ap (λ (g : FrameParts). g.node) frame }
-    askable Rel e = record { message = m; stands = stands; sent_by = e; number = ap (λ (g : FrameParts). g.number) frame; origin = ap (λ (g : FrameParts). g.node) frame }
-    askable Tot e = record { message = m; stands = stands; sent_by = e; number = ap (λ (g : FrameParts). g.number) frame; origin = ap (λ (g : FrameParts). g.node) frame }
+    of : (by : Service) → m.service ≡ by → IsOfMessage scenario by (identity_of f)
+    of by e = record {
+      message = m;
+      stands = stands;
+      sent_by = e;
+      number = ap (λ (g : FrameParts). g.number) frame;
+      origin = ap (λ (g : FrameParts). g.node) frame;
+    }
 
--- the frame of the same message, where another one of it belongs to the scenario
-of_message : (scenario : ScenarioParts) (by : Service) (g f : FrameParts) → g.number ≡ f.number → g.node ≡ f.node → IsOfMessage scenario by (identity_of g)
+    askable : (by : Service) → m.service ≡ by → IsAskableAs scenario (identity_of f) (data_class by)
+    askable Ed e = of Ed e
+    askable Rel e = of Rel e
+    askable Tot e = of Tot e
+
+-- the frame of the same message, where the data frame of it belongs to the scenario
+of_message : (scenario : ScenarioParts) (by : Service) (g f : FrameParts) → g.number ≡ f.number → g.node ≡ f.node → IsDataOf scenario by g
     → IsOfMessage scenario by (identity_of f)
-of_message scenario by g f number node h =
-    record { message = h.message; stands = h.stands; sent_by = h.sent_by; number = h.number ∙ number; origin = h.origin ∙ node }
+of_message scenario by g f number node h = record {
+  message = h.message;
+  stands = h.stands;
+  sent_by = h.sent_by;
+  number = ap (λ (x : FrameParts). x.number) h.frame ∙ number;
+  origin = ap (λ (x : FrameParts). x.node) h.frame ∙ node;
+}
 
 -- the confirmation of a data frame that belongs to the scenario
-confirm_belongs : (scenario : ScenarioParts) (slot : ℕ) (g f : FrameParts) → g.class ≡ class.Rel → confirm_frame g ≡ f → Belongs scenario slot g → Belongs scenario slot f
+confirm_belongs : (scenario : ScenarioParts) (slot : ℕ) (g f : FrameParts) → g.class ≡ class.Rel → confirm_frame g ≡ f
+    → Belongs scenario slot g → Belongs scenario slot f
 confirm_belongs scenario slot g f rel frame h =
     let class : class.Confirm ≡ f.class = ap (λ (x : FrameParts). x.class) frame in
     let of : IsOfMessage scenario Rel (identity_of f) =
     of_message scenario Rel g f (ap (λ (x : FrameParts). x.number) frame) (ap (λ (x : FrameParts). x.node) frame)
-    (subst (λ c. IsAskableBy scenario (identity_of g) (service_of c)) rel h.askable) in
+    (subst (λ c. BelongsTo scenario slot c g) rel h.readable) in
     record {
       readable = subst (λ c. BelongsTo scenario slot c f) class of;
-      askable = subst (λ c. IsAskableBy scenario (identity_of f) (service_of c)) class of;
+      askable = λ within. subst (IsAskableAs scenario (identity_of f)) class of;
     }
 
 -- the frame that accepts its message
-accept_belongs : (scenario : ScenarioParts) (slot : ℕ) (g f : FrameParts) → g.class ≡ class.Tot → accept_frame g ≡ f → Belongs scenario slot g → Belongs scenario slot f
+accept_belongs : (scenario : ScenarioParts) (slot : ℕ) (g f : FrameParts) → g.class ≡ class.Tot → accept_frame g ≡ f
+    → Belongs scenario slot g → Belongs scenario slot f
 accept_belongs scenario slot g f tot frame h =
     let class : class.Accept ≡ f.class = ap (λ (x : FrameParts). x.class) frame in
     let of : IsOfMessage scenario Tot (identity_of f) =
     of_message scenario Tot g f (ap (λ (x : FrameParts). x.number) frame) (ap (λ (x : FrameParts). x.node) frame)
-    (subst (λ c. IsAskableBy scenario (identity_of g) (service_of c)) tot h.askable) in
+    (subst (λ c. BelongsTo scenario slot c g) tot h.readable) in
     record {
       readable = subst (λ c. BelongsTo scenario slot c f) class of;
-      askable = subst (λ c. IsAskableBy scenario (identity_of f) (service_of c)) class of;
+      askable = λ within. subst (IsAskableAs scenario (identity_of f)) class of;
     }
 
-asked_belongs : (scenario : ScenarioParts) (s : RunState) (i : ℕ) → IsOrderly scenario.params.nodes s → MayTurn s i → AllBelong scenario s
+-- a failure sign that belongs to the scenario names a node, and a cycle that has begun
+pub fda_names : (scenario : ScenarioParts) (slot : ℕ) (f : FrameParts) → f.class ≡ class.Fda → Belongs scenario slot f
+    → NamesNode scenario scenario.params.cycle slot f
+fda_names scenario slot f fda h = subst (λ c. BelongsTo scenario slot c f) fda h.readable
+
+-- the frame of a sign that does so belongs to it
+sign_belongs : (scenario : ScenarioParts) (slot : ℕ) (sign : Sign) (f : FrameParts) → fda_frame sign ≡ f → sign.node < scenario.params.nodes
+    → sign.cycle ≤ slot / scenario.params.cycle → Belongs scenario slot f
+sign_belongs scenario slot sign f frame node cycle = subst (Belongs scenario slot) frame (record {
+  readable = record { node = node; number = cycle };
+  askable = λ within. record { node = node; number = omega (arith, cycle, div_grows slot scenario.params.slots scenario.params.cycle within) };
+})
+
+-- so does that of a life sign with a number that the node can have reached
+life_belongs : (scenario : ScenarioParts) (slot inc i number : ℕ) (f : FrameParts) → els_frame inc i number ≡ f → i < scenario.params.nodes
+    → number * scenario.params.life ≤ slot → Belongs scenario slot f
+life_belongs scenario slot inc i number f frame node passed = subst (Belongs scenario slot) frame (record {
+  readable = record { node = node; passed = passed };
+  askable = λ within. record { node = node; passed = omega (arith, passed, within) };
+})
+
+asked_belongs : (scenario : ScenarioParts) (s : RunState) (i : ℕ) → IsOrderly scenario.params.nodes s → MayTurn s i → AreCounted scenario s
+    → AllBelong scenario s
     → AllByRecursion (AsksOnly (Waiting scenario s.trace i)) (turn_effects (scenario_at scenario s i) i (next_notice s i ∷ history i s))
-asked_belongs scenario s i o may h =
+asked_belongs scenario s i o may counted h =
     turn_only (Waiting scenario s.trace i) (scenario_at scenario s i) i (next_notice s i ∷ history i s) (λ f. by_reason f)
   where
     read : (f : FrameParts) → Among (Has f) (next_notice s i ∷ history i s) → Belongs scenario (length s.trace) f
     read f has =
         let note = turn_note scenario s i f may (o.unread i) has in
-        belongs_in scenario note.0.slot (length s.trace) f (h.carried note.0 f note.1 note.2)
+        belongs_in scenario note.0.slot (length s.trace) f (slot_of_note scenario.params.nodes s o note.0 note.1) (h.carried note.0 f note.1 note.2)
 
     by_reason : (f : FrameParts) → MayAsk (scenario_at scenario s i) i (next_notice s i ∷ history i s) f → Belongs scenario (length s.trace) f
     by_reason f (relays relayed got) = read f (Among-weaker (λ n. n ≡ Got f) (Has f) (λ n e. inl e) (next_notice s i ∷ history i s) got)
     by_reason f (originates m is origin slot late frame) =
-        data_belongs scenario (length s.trace) m (Contains-from_Among (messages_of scenario.sends) m is) m.service refl f frame (sym (ap (λ (g : FrameParts). g.class) frame))
+        let class : f.class ≡ data_class m.service = sym (ap (λ (g : FrameParts). g.class) frame) in
+        data_belongs scenario (length s.trace) m (Contains-from_Among (messages_of scenario.sends) m is) m.service refl f frame class
     by_reason f (confirms g sent rel own frame) =
         confirm_belongs scenario (length s.trace) g f rel frame
         (read g (Among-weaker (λ n. n ≡ Sent g) (Has g) (λ n e. inr e) (next_notice s i ∷ history i s) sent))
     by_reason f (accepts g sent tot own frame) =
         accept_belongs scenario (length s.trace) g f tot frame
         (read g (Among-weaker (λ n. n ≡ Sent g) (Has g) (λ n e. inr e) (next_notice s i ∷ history i s) sent))
+    by_reason f (signals sign slot now known frame) = elim known [
+      | inl told ↦
+          let g : FrameParts = told.frame in
+          let names = fda_names scenario (length s.trace) g told.class
+          (read g (Among-weaker (λ n. n ≡ Got g) (Has g) (λ n e. inl e) (next_notice s i ∷ history i s) told.read)) in
+          let node : g.node ≡ sign.node = ap (λ (a : Sign). a.node) told.tells in
+          let cycle : g.number ≡ sign.cycle = ap (λ (a : Sign). a.cycle) told.tells in
+          sign_belongs scenario (length s.trace) sign f frame (omega (arith, node, names.node)) (omega (arith, cycle, names.number))
+      | inr found ↦
+          let early : slot ≤ length s.trace = omega (arith, now, history-length i s) in
+          sign_belongs scenario (length s.trace) sign f frame found.node
+          (omega (arith, found.cycle, div_grows slot (length s.trace) scenario.params.cycle early))
+    ]
+    by_reason f (lives slot now due frame) =
+        let passed = signs_spaced scenario s i may (o.unread i) counted.1 in
+        life_belongs scenario (length s.trace) (scenario_at scenario s i).inc i (signs_sent i (next_notice s i ∷ history i s)) f frame
+        (subst (λ n. i < n) o.count may.there) (omega (arith, passed, history-length i s))
 
 -- ---- every run
 
-belonging_kept : (scenario : ScenarioParts) → IsKeptByFrames scenario (Waiting scenario) (WasCarried scenario)
+belonging_kept : (scenario : ScenarioParts) → IsKeptByFrames scenario (AreCounted scenario) (Waiting scenario) (WasCarried scenario)
 belonging_kept scenario = record {
-  waiting_later = λ note trace i f h. belongs_in scenario (length trace) (length (note ∷ trace)) f h;
+  waiting_later = λ note trace i f h. belongs_in scenario (length trace) (length (note ∷ trace)) f (omega arith) h;
   carried_later = λ note trace slot f h. h;
-  sent = λ note trace i f number frame sender h. belongs_in scenario (length trace) note.slot f h;
+  sent = λ note trace i f number frame sender h. belongs_in scenario (length trace) note.slot f (omega (arith, number)) h;
   asked = asked_belongs scenario;
 }
 
 pub all_belong : (scenario : ScenarioParts) (journal : List Step) → scenario.params.nodes ≤ most_nodes → AllBelong scenario (run scenario journal)
-all_belong scenario journal few = holds_of_frames scenario (Waiting scenario) (WasCarried scenario) (belonging_kept scenario) journal few
+all_belong scenario journal few =
+    holds_of_frames scenario (AreCounted scenario) (nodes_at_first scenario (Counted scenario) (signs_counted scenario))
+    (nodes_kept scenario (Counted scenario) (signs_counted scenario)) (Waiting scenario) (WasCarried scenario) (belonging_kept scenario) journal few
 
 -- what a slot of a run gave a node can be read
 pub readable : (scenario : ScenarioParts) (s : RunState) (i : ℕ) (note : SlotNote) → AllBelong scenario s → Contains s.trace note
@@ -186,7 +256,7 @@ belongs_for : (scenario : ScenarioParts) (inc : Incarnation) (slot : ℕ) (f : F
     → BelongsTo (scenario_for scenario inc) slot c f
 belongs_for scenario inc slot f class.Accept h = message_for scenario inc Tot (identity_of f) h
 belongs_for scenario inc slot f class.Rha h = node_for scenario inc scenario.params.cycle slot f h
-belongs_for scenario inc slot f class.Els h = node_for scenario inc scenario.params.life slot f h
+belongs_for scenario inc slot f class.Els h = record { node = h.node; passed = h.passed }
 belongs_for scenario inc slot f class.Fda h = node_for scenario inc scenario.params.cycle slot f h
 belongs_for scenario inc slot f class.Join h = node_for scenario inc scenario.params.cycle slot f h
 belongs_for scenario inc slot f class.Leave h = node_for scenario inc scenario.params.cycle slot f h
@@ -203,10 +273,22 @@ readable_for scenario inc slot Bad h = tt
 readable_for scenario inc slot (Got f) h = belongs_for scenario inc slot f f.class h
 readable_for scenario inc slot (Sent f) h = belongs_for scenario inc slot f f.class h
 
+of_node_for : (scenario : ScenarioParts) (inc : Incarnation) (interval : ℕ) (x : Identity) → IsOfNode scenario interval x
+    → IsOfNode (scenario_for scenario inc) interval x
+of_node_for scenario inc interval x h = record { node = h.node; number = h.number }
+
 -- so it is with what may be asked for
 pub askable_for : (scenario : ScenarioParts) (inc : Incarnation) (x : Identity) → IsAskable scenario x → IsAskable (scenario_for scenario inc) x
-askable_for scenario inc x h = by_service (service_of x.class) h
+askable_for scenario inc x h = by_class x.class h
   where
-    by_service : (of : Option Service) → IsAskableBy scenario x of → IsAskableBy (scenario_for scenario inc) x of
-    by_service (Some by) h = message_for scenario inc by x h
-    by_service None h = absurd h
+    by_class : (c : Class) → IsAskableAs scenario x c → IsAskableAs (scenario_for scenario inc) x c
+    by_class class.Accept h = message_for scenario inc Tot x h
+    by_class class.Rha h = h
+    by_class class.Els h = record { node = h.node; passed = h.passed }
+    by_class class.Fda h = of_node_for scenario inc scenario.params.cycle x h
+    by_class class.Join h = h
+    by_class class.Leave h = h
+    by_class class.Confirm h = message_for scenario inc Rel x h
+    by_class class.Tot h = message_for scenario inc Tot x h
+    by_class class.Rel h = message_for scenario inc Rel x h
+    by_class class.Ed h = message_for scenario inc Ed x h

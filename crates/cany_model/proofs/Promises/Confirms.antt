@@ -17,10 +17,10 @@ use Rattle.cany_model.specs.Bus.State.{RunState, node_at}
 use Rattle.cany_model.specs.Rules.Turn.{scenario_at, turn_effects}
 use Rattle.cany_model.proofs.Among.{Among, Among-weaker, Among-which}
 use Rattle.cany_model.proofs.Bus.Carried.{Carries, Has, Succeeds, Succeeds-from_sent, is_sent-from}
-use Rattle.cany_model.proofs.Bus.FrameInvariants.{history_among, HoldsOfFrames, IsKeptByFrames, holds_of_frames, turn_note}
+use Rattle.cany_model.proofs.Bus.FrameInvariants.{history_among, HoldsOfFrames, IsKeptByFrames, frames_alone, nothing_known, turn_note}
 use Rattle.cany_model.proofs.Bus.Runs.{IsOrderly}
 use Rattle.cany_model.proofs.Bus.Steps.{MayTurn, next_notice, after_turn-history, after_turn-trace}
-use Rattle.cany_model.proofs.Rules.ProtocolFacts.{MayAsk, accepts, confirms, data_confirms_none, originates, relays}
+use Rattle.cany_model.proofs.Rules.ProtocolFacts.{MayAsk, accepts, confirms, data_confirms_none, lives, originates, relays, signals}
 use Rattle.cany_model.proofs.Rules.TurnFacts.{turn_only}
 use Rattle.cany_model.proofs.Bus.Waits.{AsksOnly}
 
@@ -64,17 +64,19 @@ asked_true scenario s i o may h = turn_only (IsTrue s.trace i) (scenario_at scen
     by_reason f (confirms g sent rel own frame) = λ is.
         subst (λ x. Among (Succeeds x) s.trace) (confirmed_frame g f frame) (own_succeeds scenario s i g may (o.unread i) rel sent)
     by_reason f (accepts g sent tot own frame) = λ is. let class = ap (λ (x : FrameParts). x.class) frame in absurd (cc)
+    by_reason f (signals sign slot now known frame) = λ is. let class = ap (λ (x : FrameParts). x.class) frame in absurd (cc)
+    by_reason f (lives slot now due frame) = λ is. let class = ap (λ (x : FrameParts). x.class) frame in absurd (cc)
 
-confirms_kept : (scenario : ScenarioParts) → IsKeptByFrames scenario IsTrue IsTrue
+confirms_kept : (scenario : ScenarioParts) → IsKeptByFrames scenario nothing_known IsTrue IsTrue
 confirms_kept scenario = record {
   waiting_later = λ note trace i f h confirms. inr (h confirms);
   carried_later = λ note trace slot f h confirms. inr (h confirms);
   sent = λ note trace i f number frame sender h confirms. inr (h confirms);
-  asked = asked_true scenario;
+  asked = λ s i o may known h. asked_true scenario s i o may h;
 }
 
 pub confirmed : (scenario : ScenarioParts) (journal : List Step) → scenario.params.nodes ≤ most_nodes → IsConfirmed (run scenario journal)
-confirmed scenario journal few = holds_of_frames scenario IsTrue IsTrue (confirms_kept scenario) journal few
+confirmed scenario journal few = frames_alone scenario IsTrue IsTrue (confirms_kept scenario) journal few
 
 -- a message whose confirmation was carried had its data frame carried with success
 pub confirm_carried : (s : RunState) → IsConfirmed s → (x : Identity) → x.class ≡ Rel → Among (Carries (confirm_of x)) s.trace → Among (Succeeds x) s.trace

@@ -21,6 +21,7 @@ use Rattle.cany_model.proofs.Among.{Among, Among-weaker, Among-with, Among-drop,
 use Rattle.cany_model.proofs.Bus.Carried.{Succeeds, CarriesClean, SentBy, Succeeds-from_own, Succeeds-from_sent, is_got-from, is_sent-from}
 use Rattle.cany_model.proofs.Bus.Counting.{Accepts, clean_from_copies, clean_from_success}
 use Rattle.cany_model.proofs.Bus.Notes.{given-Sent}
+use Rattle.cany_model.proofs.Bus.Steps.{kept_at}
 use Rattle.cany_model.proofs.Bus.Waits.{Asks, Withdraws, waits_after, waits-from_after, waits-without, waits-from_without}
 
 -- what the node has read
@@ -71,7 +72,7 @@ pub record Turned (turn : ℕ → List NoticeKind → List Effect) (trace : List
   pub past : past_of i trace after ≡ notice ∷ past_of i trace node
   pub waiting : after.waiting ≡ waiting_after (turn i (past_of i trace after)) node.waiting
 
-copies_grow : (x : Identity) (e : NoticeKind) (past : List NoticeKind) → copies x past ≤ copies x (e ∷ past)
+pub copies_grow : (x : Identity) (e : NoticeKind) (past : List NoticeKind) → copies x past ≤ copies x (e ∷ past)
 unfolding copies
 copies_grow x e past = count-grows (is_got x) e past
 
@@ -87,7 +88,8 @@ waits_or turn omit x duty rule i past w h = elim (waits_after x (turn i past) w 
 ]
 
 turn_kept : (turn : ℕ → List NoticeKind → List Effect) (omit : ℕ) (x : Identity) (duty : Duty) → IsDiffused turn omit x duty
-    → (trace : List SlotNote) (i : ℕ) (node after : NodeState) → Turned turn trace i node after → Diffuses omit x duty trace i node → duty.owes i (past_of i trace after)
+    → (trace : List SlotNote) (i : ℕ) (node after : NodeState) → Turned turn trace i node after → Diffuses omit x duty trace i node
+    → duty.owes i (past_of i trace after)
     → (waits x after.waiting ≡ true) ⊎ (Among (Succeeds x) trace ⊎ (omit < copies x (past_of i trace after)))
 turn_kept turn omit x duty rule trace i node after t h owes =
     let after_or : (waits x node.waiting ≡ true) ⊎ Among (Asks x) (turn i (past_of i trace after))
@@ -119,7 +121,8 @@ turn_caused turn omit x duty rule trace i node after t h k =
     ]
 
 pub turn_diffuses : (turn : ℕ → List NoticeKind → List Effect) (omit : ℕ) (x : Identity) (duty : Duty) → IsDiffused turn omit x duty
-    → (trace : List SlotNote) (i : ℕ) (node after : NodeState) → Turned turn trace i node after → Diffuses omit x duty trace i node → Diffuses omit x duty trace i after
+    → (trace : List SlotNote) (i : ℕ) (node after : NodeState) → Turned turn trace i node after → Diffuses omit x duty trace i node
+    → Diffuses omit x duty trace i after
 turn_diffuses turn omit x duty rule trace i node after t h = record {
   kept = turn_kept turn omit x duty rule trace i node after t h;
   caused = turn_caused turn omit x duty rule trace i node after t h;
@@ -131,6 +134,7 @@ turn_diffuses turn omit x duty rule trace i node after t h = record {
 -- what a slot makes of a node that still runs after it
 pub record Lived (note : SlotNote) (trace : List SlotNote) (i : ℕ) (node after : NodeState) : Type 0 where
   pub past : past_of i (note ∷ trace) after ≡ past_of i trace node
+  pub kept : after.waiting ≡ kept_at (given i note) node.waiting
   pub waiting : (after.waiting ≡ node.waiting) ⊎ ((f : FrameParts) × (given i note ≡ Sent f) × (after.waiting ≡ without (identity_of f) node.waiting))
   pub heard : Heard i note
   pub sender : (f : FrameParts) → note.frame ≡ Some f → has note.senders i ≡ true → waits (identity_of f) node.waiting ≡ true
@@ -148,8 +152,8 @@ slot_waits note trace x i node after l h = elim l.waiting [
   ]
 ]
 
-slot_waited : (note : SlotNote) (trace : List SlotNote) (x : Identity) (i : ℕ) (node after : NodeState) → Lived note trace i node after → waits x after.waiting ≡ true
-    → waits x node.waiting ≡ true
+slot_waited : (note : SlotNote) (trace : List SlotNote) (x : Identity) (i : ℕ) (node after : NodeState) → Lived note trace i node after
+    → waits x after.waiting ≡ true → waits x node.waiting ≡ true
 slot_waited note trace x i node after l h = elim l.waiting [
   | inl same ↦ rw same at h
   | inr (f, sent, rest) ↦ waits-from_without x (identity_of f) node.waiting (rw rest at h)
@@ -194,12 +198,15 @@ pub got_or_sent : (i : ℕ) (x : Identity) (note : SlotNote) → i < most_nodes 
     → (is_got x (given i note) ≡ true) ⊎ (SentBy i x note × (is_sent x (given i note) ≡ true))
 got_or_sent i x note few c heard = elim (heard.clean few c.carries.what c.carries.frame c.clean) [
   | inl got ↦ inl (is_got-from x c.carries.what (given i note) got c.carries.identity)
-  | inr sent ↦ inr (record { carries = c.carries; sender = (given-Sent i note c.carries.what sent).1 }, is_sent-from x c.carries.what (given i note) sent c.carries.identity)
+  | inr sent ↦ inr (
+    record { carries = c.carries; sender = (given-Sent i note c.carries.what sent).1 },
+    is_sent-from x c.carries.what (given i note) sent c.carries.identity,
+  )
 ]
 
 -- so of a frame that was carried Clean, a node that runs and has read every notice has got it, or may start it and has sent it
-pub carried_is_read : (turn : ℕ → List NoticeKind → List Effect) (omit : ℕ) (x : Identity) (duty : Duty) → IsDiffused turn omit x duty → (trace : List SlotNote) (i : ℕ) (node : NodeState)
-    → Diffuses omit x duty trace i node → i < most_nodes → node.unread ≡ 0 → Among (CarriesClean x) trace
+pub carried_is_read : (turn : ℕ → List NoticeKind → List Effect) (omit : ℕ) (x : Identity) (duty : Duty) → IsDiffused turn omit x duty
+    → (trace : List SlotNote) (i : ℕ) (node : NodeState) → Diffuses omit x duty trace i node → i < most_nodes → node.unread ≡ 0 → Among (CarriesClean x) trace
     → Among (λ e. is_got x e ≡ true) (past_of i trace node) ⊎ (duty.starts i (past_of i trace node) × Among (λ e. is_sent x e ≡ true) (past_of i trace node))
 unfolding copies
 carried_is_read turn omit x duty rule trace i node h few read clean =
@@ -209,12 +216,15 @@ carried_is_read turn omit x duty rule trace i node h few read clean =
     (λ note k. got_or_sent i x note few k.0 k.1) trace (Among-with (CarriesClean x) (Heard i) trace h.heard clean) in
     elim (Among-either (λ note. is_got x (given i note) ≡ true) (λ note. SentBy i x note × (is_sent x (given i note) ≡ true)) trace each) [
       | inl got ↦ inl (rw past (Among-map (given i) (λ e. is_got x e ≡ true) trace got))
-      | inr sent ↦ elim (rule.known i (past_of i trace node) (h.caused (inr (Among-weaker (λ note. SentBy i x note × (is_sent x (given i note) ≡ true)) (SentBy i x) (λ note k. k.0) trace sent)))) [
-        | inl origin ↦ inr (
-          origin,
-          rw past (Among-map (given i) (λ e. is_sent x e ≡ true) trace
-              (Among-weaker (λ note. SentBy i x note × (is_sent x (given i note) ≡ true)) (λ note. is_sent x (given i note) ≡ true) (λ note k. k.1) trace sent)),
-        )
-        | inr some ↦ inl (Among-from_count (is_got x) (past_of i trace node) some)
-      ]
+      | inr sent ↦
+          let own : Among (SentBy i x) trace =
+          Among-weaker (λ note. SentBy i x note × (is_sent x (given i note) ≡ true)) (SentBy i x) (λ note k. k.0) trace sent in
+          elim (rule.known i (past_of i trace node) (h.caused (inr own))) [
+            | inl origin ↦ inr (
+              origin,
+              rw past (Among-map (given i) (λ e. is_sent x e ≡ true) trace
+                  (Among-weaker (λ note. SentBy i x note × (is_sent x (given i note) ≡ true)) (λ note. is_sent x (given i note) ≡ true) (λ note k. k.1) trace sent)),
+            )
+            | inr some ↦ inl (Among-from_count (is_got x) (past_of i trace node) some)
+          ]
     ]

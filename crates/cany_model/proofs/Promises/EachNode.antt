@@ -24,13 +24,13 @@ use Rattle.cany_model.specs.Rules.Effect.{waiting_after}
 use Rattle.cany_model.specs.Rules.Turn.{scenario_for, turn_effects}
 use Rattle.cany_model.proofs.Bus.Notes.{given-Got, given-Sent, given_sender, given_taker, running_takes, sender_waits, taker_accepts, waits_with-from_Contains}
 use Rattle.cany_model.proofs.Bus.Restarts.{Restarts, after_restarts-trace, restarts_or_stays}
-use Rattle.cany_model.proofs.Bus.Runs.{IsOrderly, opening_within}
+use Rattle.cany_model.proofs.Bus.Runs.{IsKept, IsOrderly, along_run, opening_within}
 use Rattle.cany_model.proofs.Bus.Seen.{Numbered, early_hidden, history-is, length-seen, seen_hidden, seen_idle, seen_one, seen_past, seen_plain}
 use Rattle.cany_model.proofs.Bus.States.{node_at-opening, runs_within}
 use Rattle.cany_model.proofs.Bus.Steps.{MayTurn, after_slot-present, after_slot-trace, after_slot-unread, after_slot-waiting, after_turn-history, after_turn-node, after_turn-other, after_turn-present, after_turn-runs, after_turn-trace, kept_at, next_notice, running_before_slot}
 use Rattle.cany_model.proofs.Bus.Waits.{waits-from_with}
 use Rattle.cany_model.proofs.Promises.Diffusion.{Heard, Lived, Turned, past_of}
-use Rattle.cany_model.proofs.Promises.Fair.{AllFair, IsFair, along_fair_run, from_later, run_numbered, sent_plain}
+use Rattle.cany_model.proofs.Promises.Fair.{AllFair, IsFair, fair_opening, fairly_kept, from_later, members_later, run_numbered, sent_plain}
 use Rattle.cany_model.proofs.Rules.Begun.{IsBegun, begun_first}
 use Rattle.cany_model.proofs.Rules.MutedFacts.{begun_later}
 
@@ -100,7 +100,7 @@ seen_waiting rules s i fair ran = after_slot-waiting rules s i ran ∙ elim (cas
 slot_past : (i : ℕ) (note : SlotNote) (trace : List SlotNote) (n k : ℕ) → n ≡ k + 1 → map (given i) (drop n (note ∷ trace)) ≡ map (given i) (drop k trace)
 slot_past i note trace n k e = ap (λ u. map (given i) (drop u (note ∷ trace))) (e ∙ add-one k)
 
-slot_lived : (rules : FaultScript) (s : RunState) (i : ℕ) → IsFair s.trace (node_at s.nodes i) → runs (node_at s.nodes i) ≡ true
+pub slot_lived : (rules : FaultScript) (s : RunState) (i : ℕ) → IsFair s.trace (node_at s.nodes i) → runs (node_at s.nodes i) ≡ true
     → let inc = (node_at s.nodes i).present in
     Lived (as_seen inc (slot_note_of rules s)) (seen inc s.trace) i (node_at s.nodes i) (node_at (after_slot rules s).nodes i)
 slot_lived rules s i fair ran =
@@ -109,6 +109,7 @@ slot_lived rules s i fair ran =
     record {
       past = slot_past i (as_seen inc note) (seen inc s.trace) (node_at (after_slot rules s).nodes i).unread (node_at s.nodes i).unread
           (after_slot-unread rules s i (runs_within s.nodes i ran));
+      kept = seen_waiting rules s i fair ran;
       waiting = kept_cases (given i (as_seen inc note)) (node_at s.nodes i).waiting (node_at (after_slot rules s).nodes i).waiting (seen_waiting rules s i fair ran);
       heard = seen_heard rules s i ran inc;
       sender = λ f frame sent.
@@ -121,7 +122,7 @@ slot_lived rules s i fair ran =
 
 -- ---- a turn
 
-turn_turned : (scenario : ScenarioParts) (i : ℕ) (s : RunState) → MayTurn s i → (node_at s.nodes i).unread ≤ length s.trace
+pub turn_turned : (scenario : ScenarioParts) (i : ℕ) (s : RunState) → MayTurn s i → (node_at s.nodes i).unread ≤ length s.trace
     → let inc = (node_at s.nodes i).present in
     Turned (turn_effects (scenario_for scenario inc)) (seen inc s.trace) i (node_at s.nodes i) (node_at (after_turn scenario i s).nodes i)
 turn_turned scenario i s may short =
@@ -159,7 +160,7 @@ all_blank inc [] h later short = tt
 all_blank inc (note ∷ trace) h later short =
     (seen_hidden inc note (early_hidden inc note later (omega (arith, h.0, short))), all_blank inc trace h.1 later (omega (arith, short)))
 
-opening_new : (scenario : ScenarioParts) → EachRunning (IsNew scenario) (opening scenario.params.nodes)
+pub opening_new : (scenario : ScenarioParts) → EachRunning (IsNew scenario) (opening scenario.params.nodes)
 opening_new scenario i running =
     rw (node_at-opening scenario.params.nodes i (opening_within scenario.params.nodes i running))
     (record { waiting = refl; blank = tt; past = begun_first scenario })
@@ -174,11 +175,11 @@ incarnation_new scenario trace i node numbered later short waiting unread =
     record {
       waiting = waiting;
       blank = all_blank inc trace numbered later short;
-      past = rw past (begun_later inc (scenario_for scenario inc) (from_later scenario inc later) (map (given i) (seen inc trace)) later
+      past = rw past (begun_later inc (scenario_for scenario inc) (from_later scenario inc later) (members_later scenario inc later) (map (given i) (seen inc trace)) later
           (seen_past i inc trace numbered) (omega (arith, short, length_past)));
     }
 
-restarted_new : (scenario : ScenarioParts) (s : RunState) (i : ℕ) → IsOrderly scenario.params.nodes s → 0 < length s.trace → Restarts scenario s i
+pub restarted_new : (scenario : ScenarioParts) (s : RunState) (i : ℕ) → IsOrderly scenario.params.nodes s → 0 < length s.trace → Restarts scenario s i
     → IsNew scenario (seen (node_at (after_restarts scenario s).nodes i).present s.trace) i (node_at (after_restarts scenario s).nodes i)
 restarted_new scenario s i o some new =
     let node : NodeState = restarted scenario.params (slots_run s - 1) (node_at s.nodes i) in
@@ -227,14 +228,21 @@ nodes_turn scenario P is s i may short all j running =
       | inr other ↦ rw (after_turn-other scenario i s j other) (all j (sym (after_turn-runs scenario i s j may short) ∙ running))
     ])
 
--- what holds of a node that begins, and is kept by its slots and its turns, holds of each running node of every run
+-- what holds of a node that begins, and is kept by its slots and its turns, is kept of each running node by each step
+pub nodes_kept : (scenario : ScenarioParts) (P : List SlotNote → ℕ → NodeState → Type 0) → IsNodes scenario P
+    → IsKept scenario (λ s. AllFair s × EachRunning P s)
+nodes_kept scenario P is = fairly_kept scenario (EachRunning P) (record {
+  slot = λ s o fair all. nodes_slot scenario P is (script scenario.rules) s fair all;
+  restarts = λ s o some all. nodes_restarts scenario P is s o some all;
+  turn = λ s i o may all. nodes_turn scenario P is s i may (o.unread i) all;
+})
+
+pub nodes_at_first : (scenario : ScenarioParts) (P : List SlotNote → ℕ → NodeState → Type 0) → IsNodes scenario P
+    → AllFair (opening scenario.params.nodes) × EachRunning P (opening scenario.params.nodes)
+nodes_at_first scenario P is = (fair_opening scenario.params.nodes, λ i running. is.new _ i _ (opening_new scenario i running))
+
+-- so it holds of each running node of every run
 pub each_running : (scenario : ScenarioParts) (P : List SlotNote → ℕ → NodeState → Type 0) → IsNodes scenario P → (journal : List Step)
     → EachRunning P (run scenario journal)
 each_running scenario P is journal =
-    along_fair_run scenario (EachRunning P) (λ i running. is.new _ i _ (opening_new scenario i running))
-    (record {
-      slot = λ s o fair all. nodes_slot scenario P is (script scenario.rules) s fair all;
-      restarts = λ s o some all. nodes_restarts scenario P is s o some all;
-      turn = λ s i o may all. nodes_turn scenario P is s i may (o.unread i) all;
-    })
-    journal
+    (along_run scenario (λ s. AllFair s × EachRunning P s) (nodes_at_first scenario P is) (nodes_kept scenario P is) journal).1

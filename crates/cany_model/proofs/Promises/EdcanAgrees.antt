@@ -20,8 +20,8 @@ use Rattle.cany_model.specs.Rules.Sends.{is_sent_at_once}
 use Rattle.cany_model.specs.Rules.Turn.{scenario_for, turn_effects}
 use Rattle.cany_model.proofs.Promises.Agreement.{owed_carried}
 use Rattle.cany_model.proofs.Promises.Agrees.{Owes, Rules, duty_of, run_agrees}
-use Rattle.cany_model.proofs.Among.{Among, count-grows, count-yes, count-no}
-use Rattle.cany_model.proofs.Promises.Diffusion.{IsDiffused}
+use Rattle.cany_model.proofs.Among.{Among, count-yes, count-no}
+use Rattle.cany_model.proofs.Promises.Diffusion.{IsDiffused, copies_grow}
 use Rattle.cany_model.proofs.Rules.MessageKeys.{IsOneOf}
 use Rattle.cany_model.proofs.Rules.TurnFacts.{turn_withdraws, turn_cause_data, turn_relays, turn_sends}
 use Rattle.cany_model.proofs.Bus.Waits.{Asks}
@@ -35,10 +35,6 @@ use Rattle.cany_model.proofs.Rules.Protocols.{edcan_is_one}
 abbrev pub OwesEd : Message → Owes
 OwesEd m scenario i past = (0 < copies (data_id m) past) ⊎ MayStart scenario m i past
 
-copies_grow : (x : Identity) (e : NoticeKind) (past : List NoticeKind) → copies x past ≤ copies x (e ∷ past)
-unfolding copies
-copies_grow x e past = count-grows (is_got x) e past
-
 copies_got : (x : Identity) (e : NoticeKind) (past : List NoticeKind) → is_got x e ≡ true → copies x (e ∷ past) ≡ suc (copies x past)
 unfolding copies
 copies_got x e past h = count-yes (is_got x) e past h
@@ -49,7 +45,8 @@ copies_other x e past h = count-no (is_got x) e past h
 
 abbrev Asked : ScenarioParts → Message → ℕ → NoticeKind → List NoticeKind → Type 0
 Asked scenario m i e past =
-    Among (Asks (data_id m)) (turn_effects scenario i (e ∷ past)) ⊎ ((scenario.params.omit < copies (data_id m) (e ∷ past)) ⊎ (has_own (data_id m) (e ∷ past) ≡ true))
+    Among (Asks (data_id m)) (turn_effects scenario i (e ∷ past))
+    ⊎ ((scenario.params.omit < copies (data_id m) (e ∷ past)) ⊎ (has_own (data_id m) (e ∷ past) ≡ true))
 
 class_of_ed : (m : Message) → m.service ≡ Ed → (data_id m).class ≡ class.Ed
 class_of_ed m ed = ap data_class ed

@@ -4,21 +4,20 @@ use Rattle.std.proofs.lemmas.Bool.{and_parts, cases_eq, false_from_ne_true, ltb-
 use Rattle.cany_base.specs.declared.notice.NoticeKind.{NoticeKind}
 use Rattle.cany_base.specs.declared.notice.NoticeKind.TheVariants.{Idle, Got, Sent, Bad}
 use Rattle.cany_base.specs.declared.slot_note.SlotNote.{SlotNote}
-use Rattle.cany_base.specs.declared.step.Step.{Step}
 use Rattle.cany_base.specs.Frame.{FrameParts}
 use Rattle.cany_base.specs.Nodes.{has}
 use Rattle.cany_base.specs.Scenario.{ScenarioParts}
 use Rattle.cany_model.specs.Bus.History.{given, history, is_hidden}
 use Rattle.cany_model.specs.Bus.Restart.{after_restarts}
-use Rattle.cany_model.specs.Bus.Run.{after_turn, run}
-use Rattle.cany_model.specs.Bus.Slot.{FaultScript, after_slot, script, slot_note_of}
+use Rattle.cany_model.specs.Bus.Run.{after_turn}
+use Rattle.cany_model.specs.Bus.Slot.{nobody, FaultScript, after_slot, script, slot_note_of}
 use Rattle.cany_model.specs.Bus.State.{Incarnation, NodeState, RunState, node_at, opening, runs}
 use Rattle.cany_model.specs.Rules.Effect.{waiting_after}
 use Rattle.cany_model.specs.Rules.Turn.{scenario_for, turn_effects}
 use Rattle.cany_model.proofs.Among.{Contains-none}
 use Rattle.cany_model.proofs.Bus.Notes.{note_of-slot, sender_waits}
 use Rattle.cany_model.proofs.Bus.Restarts.{after_restarts-trace, restarts_or_stays}
-use Rattle.cany_model.proofs.Bus.Runs.{IsOrderly, along_run, history-length, opening_within}
+use Rattle.cany_model.proofs.Bus.Runs.{IsKept, IsOrderly, history-length, opening_within}
 use Rattle.cany_model.proofs.Bus.Seen.{IsSeenPast, Numbered, history-is, seen_past_of}
 use Rattle.cany_model.proofs.Bus.States.{node_at-opening, note_at, runs_within}
 use Rattle.cany_model.proofs.Bus.Steps.{MayTurn, after_slot-present, after_slot-trace, after_slot-waiting, after_turn-history, after_turn-node, after_turn-other, after_turn-present, after_turn-runs, after_turn-trace, kept_at, next_notice, running_before_slot}
@@ -30,7 +29,7 @@ pub record IsFair (trace : List SlotNote) (node : NodeState) : Type 0 where
 abbrev pub AllFair : RunState → Type 0
 AllFair s = (i : ℕ) → runs (node_at s.nodes i) ≡ true → IsFair s.trace (node_at s.nodes i)
 
-fair_opening : (nodes : ℕ) → AllFair (opening nodes)
+pub fair_opening : (nodes : ℕ) → AllFair (opening nodes)
 fair_opening nodes i running = rw (node_at-opening nodes i (opening_within nodes i running)) (record { quiet = λ later. absurd (omega arith) })
 
 -- ---- a slot
@@ -91,7 +90,11 @@ after_turn-seen scenario nodes i s may o =
     (subst (λ (inc : Incarnation). IsSeenPast inc (history i t)) (after_turn-present scenario i s i may (o.unread i))
     (subst (IsSeenPast node.present) (sym (history-is i t)) (seen_past_of i node.unread node.present t.trace numbered)))
 
--- a restarted node follows the scenario from its first slot on
+-- a restarted node is at first no member
+pub members_later : (scenario : ScenarioParts) (inc : Incarnation) → 0 < inc.number → (scenario_for scenario inc).members ≡ nobody
+members_later scenario inc later = rw (ne_eqb inc.number 0 (λ e. omega (arith, e, later))) refl
+
+-- and follows the scenario from its first slot on
 pub from_later : (scenario : ScenarioParts) (inc : Incarnation) → 0 < inc.number → (scenario_for scenario inc).from ≡ inc.from
 from_later scenario inc later = rw (ne_eqb inc.number 0 (λ e. omega (arith, e, later))) refl
 
@@ -112,7 +115,8 @@ fair_turn scenario nodes i s may o all =
         → turn_effects (scenario_for scenario (node_at s.nodes i).present) i (next_notice s i ∷ history i s) ≡ []
     nothing later early =
         let inc = (node_at s.nodes i).present in
-        does_nothing inc (scenario_for scenario inc) (from_later scenario inc later) i (next_notice s i) (history i s) later (after_turn-seen scenario nodes i s may o) early
+        does_nothing inc (scenario_for scenario inc) (from_later scenario inc later) (members_later scenario inc later) i (next_notice s i) (history i s)
+        later (after_turn-seen scenario nodes i s may o) early
 
 fair_turns : (nodes : ℕ) (scenario : ScenarioParts) (i : ℕ) (s : RunState) → MayTurn s i → IsOrderly nodes s → AllFair s → AllFair (after_turn scenario i s)
 fair_turns nodes scenario i s may o all j running =
@@ -129,16 +133,12 @@ pub record IsKeptFairly (scenario : ScenarioParts) (P : RunState → Type 0) : T
   pub restarts : (s : RunState) → IsOrderly scenario.params.nodes s → 0 < length s.trace → P s → P (after_restarts scenario s)
   pub turn : (s : RunState) (i : ℕ) → IsOrderly scenario.params.nodes s → MayTurn s i → P s → P (after_turn scenario i s)
 
-pub along_fair_run : (scenario : ScenarioParts) (P : RunState → Type 0) → P (opening scenario.params.nodes) → IsKeptFairly scenario P
-    → (journal : List Step) → P (run scenario journal)
-along_fair_run scenario P first keeps journal =
-    (along_run scenario (λ s. AllFair s × P s) (fair_opening scenario.params.nodes, first)
-    (record {
-      slot = λ s o may h. (fair_slot (script scenario.rules) s h.0, keeps.slot s o h.0 h.1);
-      restarts = λ s o some h. (fair_restarts scenario s h.0, keeps.restarts s o some h.1);
-      turn = λ s i o may h. (fair_turns scenario.params.nodes scenario i s may o h.0, keeps.turn s i o may h.1);
-    })
-    journal).1
+pub fairly_kept : (scenario : ScenarioParts) (P : RunState → Type 0) → IsKeptFairly scenario P → IsKept scenario (λ s. AllFair s × P s)
+fairly_kept scenario P keeps = record {
+  slot = λ s o may h. (fair_slot (script scenario.rules) s h.0, keeps.slot s o h.0 h.1);
+  restarts = λ s o some h. (fair_restarts scenario s h.0, keeps.restarts s o some h.1);
+  turn = λ s i o may h. (fair_turns scenario.params.nodes scenario i s may o h.0, keeps.turn s i o may h.1);
+}
 
 -- what a running node sends, its incarnation sees
 pub sent_plain : (rules : FaultScript) (s : RunState) (i : ℕ) → IsFair s.trace (node_at s.nodes i) → (f : FrameParts)

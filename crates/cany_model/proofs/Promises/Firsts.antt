@@ -1,5 +1,5 @@
 -- The first slot that carried a frame.
-use Rattle.std.proofs.Common.{◌≡◌, ℕ, suc, ◌<◌, ◌≤◌, ◌⊎◌, inl, inr, Bool, true, false, if◌then◌else◌, List, [], ◌∷◌, length, Option, Some, None, refl, ap, sym, ◌∙◌, arith}
+use Rattle.std.proofs.Common.{◌≡◌, ℕ, ◌<◌, ◌≤◌, ◌⊎◌, inl, inr, Bool, true, false, if◌then◌else◌, List, [], ◌∷◌, length, Option, Some, None, refl, ap, sym, ◌∙◌, arith}
 use Rattle.std.specs.List.{AllByRecursion}
 use Rattle.std.specs.Option.{option_or}
 use Rattle.std.proofs.lemmas.Bool.{false≢true}
@@ -45,7 +45,8 @@ first_cases : (x : Identity) (note : SlotNote) (before : List SlotNote) (first :
 unfolding first_carried
 first_cases x note before first h = by_earlier (first_carried x before) refl
   where
-    by_earlier : (o : Option ℕ) → first_carried x before ≡ o → (first_carried x before ≡ Some first) ⊎ ((first_carried x before ≡ None) × (slot_of x note ≡ Some first))
+    by_earlier : (o : Option ℕ) → first_carried x before ≡ o
+        → (first_carried x before ≡ Some first) ⊎ ((first_carried x before ≡ None) × (slot_of x note ≡ Some first))
     by_earlier (Some earlier) e = inl (e ∙ sym (ap (λ o. option_or o (slot_of x note)) e) ∙ h)
     by_earlier None e = inr (e, sym (ap (λ o. option_or o (slot_of x note)) e) ∙ h)
 

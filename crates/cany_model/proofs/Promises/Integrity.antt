@@ -1,7 +1,7 @@
 -- Integrity of every run: no message is delivered twice, or without having been sent.
-use Rattle.std.specs.Prelude.{◌≡◌, ℕ, suc, ◌+◌, ◌-◌, ◌<◌, ◌≤◌, ◌==◌, true, List, Some, None, length, drop, count_by, Contains}
+use Rattle.std.specs.Prelude.{◌≡◌, ℕ, suc, ◌+◌, ◌-◌, ◌/◌, ◌<◌, ◌≤◌, ◌==◌, true, List, Some, None, length, drop, count_by, Contains}
 use Rattle.cany_base.specs.Limits.{most_nodes}
-use Rattle.std.proofs.Common.{sym, ap, ◌∙◌, subst, arith, length-drop, eqb-true}
+use Rattle.std.proofs.Common.{sym, ap, ◌∙◌, subst, inl, inr, arith, length-drop, eqb-true}
 use Rattle.std.proofs.lemmas.Bool.{and_parts}
 use Rattle.std.proofs.lemmas.List.{get_or-map}
 use Rattle.std.proofs.lemmas.List.Elements.{Contains-get_or}
@@ -9,7 +9,7 @@ use Rattle.cany_base.specs.declared.log_entry.LogEntry.{LogEntry}
 use Rattle.cany_base.specs.declared.log_entry.LogEntry.TheVariants.{Deliver, Failed, View}
 use Rattle.cany_base.specs.declared.message.MsgKey.{MsgKey}
 use Rattle.cany_base.specs.declared.message.Service.{Service}
-use Rattle.cany_base.specs.declared.notice.NoticeKind.TheVariants.{Idle}
+use Rattle.cany_base.specs.declared.notice.NoticeKind.TheVariants.{Got, Idle}
 use Rattle.cany_base.specs.declared.slot_note.SlotNote.{SlotNote}
 use Rattle.cany_base.specs.declared.step.Step.{Step}
 use Rattle.cany_base.specs.Frame.{FrameParts, data_class}
@@ -22,17 +22,19 @@ use Rattle.cany_model.specs.Promises.Safe.{IsSound, IsIntegral, delivers_key}
 use Rattle.cany_model.specs.Rules.Log.{log}
 use Rattle.cany_model.specs.Rules.Messages.{data_of}
 use Rattle.cany_model.specs.Rules.Protocol.{Protocol}
+use Rattle.cany_model.specs.Rules.Station.{Sign}
 use Rattle.cany_model.specs.Rules.Turn.{scenario_at}
-use Rattle.cany_model.proofs.Among.{Among, Among-from_Contains, Among-from_count, Among-get_or, Among-place}
+use Rattle.cany_model.proofs.Among.{Among, Among-from_Contains, Among-from_count, Among-get_or, Among-place, Among-weaker}
 use Rattle.cany_model.proofs.Bus.Carried.{Carries, Has, frame_of_notice}
 use Rattle.cany_model.proofs.Bus.Runs.{IsOrderly, orderly, history-length, history-at}
 use Rattle.cany_model.proofs.Bus.Seen.{seen_one}
 use Rattle.cany_model.proofs.Bus.States.{no_note, note_at}
+use Rattle.cany_model.proofs.Promises.Belonging.{AllBelong, Belongs, all_belong, belongs_in, fda_names}
 use Rattle.cany_model.proofs.Promises.OneFrame.{data_carries, one_service}
 use Rattle.cany_model.proofs.Promises.Sources.{carries_data, IsSent, IsSourced, sourced}
 use Rattle.cany_model.proofs.Rules.LogFacts.{log_once, log_split, made_by}
 use Rattle.cany_model.proofs.Rules.MessageKeys.{data_class-one}
-use Rattle.cany_model.proofs.Rules.ProtocolFacts.{IsFoundedEntry, IsLawful, log_by}
+use Rattle.cany_model.proofs.Rules.ProtocolFacts.{IsFoundedEntry, IsLawful, IsSignal, log_by}
 
 -- ---- what was read by some slot, was carried by then
 
@@ -75,6 +77,29 @@ carries_of : (s : RunState) (by : Service) (key : MsgKey) (f : FrameParts) (slot
 carries_of s by key f slot same w =
     Among-get_or (Carries (data_of by key)) s.trace w.age no_note w.below (record { what = f; frame = w.frame; identity = same })
 
+-- ---- what is told of a failure
+
+-- a frame that was carried belongs to the scenario in the slot of the entry
+carried_belongs : (scenario : ScenarioParts) (s : RunState) → AllBelong scenario s → (f : FrameParts) (slot : ℕ) → WasCarried s f slot → Belongs scenario slot f
+carried_belongs scenario s all f slot w =
+    belongs_in scenario (note_at s.trace w.age).slot slot f w.by_then
+    (all.carried (note_at s.trace w.age) f (Contains-get_or s.trace w.age no_note w.below) w.frame)
+
+signal_sound : (scenario : ScenarioParts) (s : RunState) (i : ℕ) → IsOrderly scenario.params.nodes s → AllBelong scenario s → (place slot : ℕ) (sign : Sign)
+    → IsSignal (scenario_at scenario s i) i (drop place (history i s)) slot sign
+    → (sign.node < scenario.params.nodes) × (sign.cycle ≤ slot / scenario.params.cycle)
+signal_sound scenario s i o all place slot sign r = elim r.because [
+  | inr found ↦ (found.node, omega (arith, found.cycle))
+  | inl told ↦
+      let f : FrameParts = told.frame in
+      let read : Among (Has f) (drop place (history i s)) = Among-weaker (λ n. n ≡ Got f) (Has f) (λ n e. inl e) (drop place (history i s)) told.read in
+      let names = fda_names scenario slot f told.class
+      (carried_belongs scenario s all f slot (read_carried scenario.params.nodes s i o f place slot r.now read)) in
+      let node : f.node ≡ sign.node = ap (λ (a : Sign). a.node) told.tells in
+      let cycle : f.number ≡ sign.cycle = ap (λ (a : Sign). a.cycle) told.tells in
+      (omega (arith, node, names.node), omega (arith, cycle, names.number))
+]
+
 -- ---- what is delivered was sent
 
 sent_of : (scenario : ScenarioParts) (s : RunState) → IsSourced scenario s → (f : FrameParts) (by : Service) (slot : ℕ) → f.class ≡ data_class by → (w : WasCarried s f slot)
@@ -82,9 +107,10 @@ sent_of : (scenario : ScenarioParts) (s : RunState) → IsSourced scenario s →
 sent_of scenario s h f by slot class w =
     h.carried (note_at s.trace w.age) f (Contains-get_or s.trace w.age no_note w.below) w.frame (ap (λ c. carries_data c) class ∙ data_carries by)
 
-sound : (scenario : ScenarioParts) (s : RunState) (i : ℕ) → IsOrderly scenario.params.nodes s → IsSourced scenario s → (p : Protocol) (place : ℕ) (entry : LogEntry)
-    → IsFoundedEntry p (drop place (history i s)) entry → IsSound scenario s entry
-sound scenario s i o h p place (Deliver slot by msg payload) r =
+sound : (scenario : ScenarioParts) (s : RunState) (i : ℕ) → IsOrderly scenario.params.nodes s → IsSourced scenario s → AllBelong scenario s → (p : Protocol)
+    (place : ℕ) (entry : LogEntry)
+    → IsFoundedEntry (scenario_at scenario s i) p i (drop place (history i s)) entry → IsSound scenario s entry
+sound scenario s i o h all p place (Deliver slot by msg payload) r =
     let w = read_carried scenario.params.nodes s i o r.frame place slot r.now r.read in
     let sent = sent_of scenario s h r.frame by slot r.class w in (
       sent.message,
@@ -94,8 +120,8 @@ sound scenario s i o h p place (Deliver slot by msg payload) r =
       ap (λ (g : FrameParts). g.payload) sent.is ∙ r.carries,
       record { note = sent.sent.note; stands = sent.sent.stands; by_then = omega (arith, sent.sent.by_then, w.by_then); frame = sent.sent.frame; sender = sent.sent.sender },
     )
-sound scenario s i o h p place (Failed slot node cycle) r = tt
-sound scenario s i o h p place (View slot number members) r = tt
+sound scenario s i o h all p place (Failed slot node cycle) r = signal_sound scenario s i o all place slot (record { node = node; cycle = cycle }) r
+sound scenario s i o h all p place (View slot number members) r = tt
 
 -- ---- and once
 
@@ -105,23 +131,23 @@ record Served (s : RunState) (p : Protocol) (key : MsgKey) : Type 0 where
   serves : p.delivers by ≡ true
   carried : Among (Carries (data_of by key)) s.trace
 
-served_by : (nodes : ℕ) (s : RunState) (i : ℕ) → IsOrderly nodes s → (p : Protocol) (key : MsgKey) (place : ℕ) (entry : LogEntry) → delivers_key key entry ≡ true
-    → IsFoundedEntry p (drop place (history i s)) entry → Served s p key
-served_by nodes s i o p key place (Deliver slot by msg payload) is r =
+served_by : (scenario : ScenarioParts) (nodes : ℕ) (s : RunState) (i : ℕ) → IsOrderly nodes s → (p : Protocol) (key : MsgKey) (place : ℕ) (entry : LogEntry) → delivers_key key entry ≡ true
+    → IsFoundedEntry scenario p i (drop place (history i s)) entry → Served s p key
+served_by scenario nodes s i o p key place (Deliver slot by msg payload) is r =
     let parts = and_parts (msg.origin == key.origin) (msg.seq == key.seq) is in
     let origin : r.frame.node ≡ key.origin = ap (λ (k : MsgKey). k.origin) r.key ∙ eqb-true msg.origin key.origin parts.0 in
     let seq : r.frame.number ≡ key.seq = ap (λ (k : MsgKey). k.seq) r.key ∙ eqb-true msg.seq key.seq parts.1 in
     let same : data_of by key ≡ identity_of r.frame = λ k. record { class = (sym r.class) k; number = (sym seq) k; node = (sym origin) k } in
     record { by = by; serves = r.serves; carried = carries_of s by key r.frame slot same (read_carried nodes s i o r.frame place slot r.now r.read) }
-served_by nodes s i o p key place (Failed slot node cycle) is r = absurd (cc)
-served_by nodes s i o p key place (View slot number members) is r = absurd (cc)
+served_by scenario nodes s i o p key place (Failed slot node cycle) is r = absurd (cc)
+served_by scenario nodes s i o p key place (View slot number members) is r = absurd (cc)
 
 served : (scenario : ScenarioParts) (s : RunState) (i : ℕ) → IsOrderly scenario.params.nodes s → (key : MsgKey) (p : Protocol) → IsLawful p
     → 0 < count_by (delivers_key key) (log_by p (scenario_at scenario s i) i (history i s)) → Served s p key
 served scenario s i o key p lawful some =
     let made = made_by (λ entry. delivers_key key entry ≡ true) (scenario_at scenario s i) p lawful i (history i s)
     (Among-from_count (delivers_key key) (log_by p (scenario_at scenario s i) i (history i s)) some) in
-    served_by scenario.params.nodes s i o p key made.place made.entry made.is made.founded
+    served_by (scenario_at scenario s i) scenario.params.nodes s i o p key made.place made.entry made.is made.founded
 
 -- messages of one key have one service
 one_serves : (scenario : ScenarioParts) (s : RunState) → IsSourced scenario s → (key : MsgKey) (p q : Protocol) (first : Served s p key) → Served s q key
@@ -138,15 +164,17 @@ delivered_once scenario s o h i key =
       λ q other more. one_serves scenario s h key p q (served scenario s i o key p lawful some) (served scenario s i o key q other more),
     ))
 
-sound_entry : (scenario : ScenarioParts) (s : RunState) → IsOrderly scenario.params.nodes s → IsSourced scenario s → (i : ℕ) (entry : LogEntry)
+sound_entry : (scenario : ScenarioParts) (s : RunState) → IsOrderly scenario.params.nodes s → IsSourced scenario s → AllBelong scenario s → (i : ℕ) (entry : LogEntry)
     → Contains (log scenario s i) entry → IsSound scenario s entry
-sound_entry scenario s o h i entry c =
+sound_entry scenario s o h all i entry c =
     let split = log_split (λ y. y ≡ entry) (scenario_at scenario s i) i (history i s) (Among-from_Contains (log scenario s i) entry c) in
     let made = made_by (λ y. y ≡ entry) (scenario_at scenario s i) split.0 split.1 i (history i s) split.2 in
-    sound scenario s i o h split.0 made.place entry (subst (IsFoundedEntry split.0 (drop made.place (history i s))) made.is made.founded)
+    sound scenario s i o h all split.0 made.place entry
+    (subst (IsFoundedEntry (scenario_at scenario s i) split.0 i (drop made.place (history i s))) made.is made.founded)
 
 pub integral : (scenario : ScenarioParts) (journal : List Step) → scenario.params.nodes ≤ most_nodes → IsIntegral scenario (run scenario journal)
 integral scenario journal few = record {
   once = λ i correct key. delivered_once scenario (run scenario journal) (orderly scenario journal) (sourced scenario journal few) i key;
-  sent = λ i correct entry c. sound_entry scenario (run scenario journal) (orderly scenario journal) (sourced scenario journal few) i entry c;
+  sent = λ i correct entry c. sound_entry scenario (run scenario journal) (orderly scenario journal) (sourced scenario journal few)
+      (all_belong scenario journal few) i entry c;
 }

@@ -9,6 +9,7 @@ use Rattle.cany_model.specs.Promises.Safe.{IsSafe}
 use Rattle.cany_model.proofs.Promises.EdcanAgrees.{edcan_agrees}
 use Rattle.cany_model.proofs.Promises.Integrity.{integral}
 use Rattle.cany_model.proofs.Promises.RelcanAgrees.{relcan_agrees}
+use Rattle.cany_model.proofs.Promises.SignAgrees.{sign_agrees}
 
 pub safe : (scenario : ScenarioParts) → scenario.params.nodes ≤ most_nodes → (journal : List Step) → IsWithin scenario.params (run scenario journal).trace
     → IsSafe scenario (run scenario journal)
@@ -18,4 +19,5 @@ safe scenario few journal within = record {
     | inl ed ↦ edcan_agrees scenario few journal within m stands ed
     | inr rel ↦ relcan_agrees scenario few journal within m stands rel
   ];
+  signs = λ sign. sign_agrees scenario few journal within sign;
 }

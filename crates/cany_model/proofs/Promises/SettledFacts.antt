@@ -1,14 +1,14 @@
 -- What it says of a node that a message is settled.
-use Rattle.std.proofs.Common.{◌≡◌, ℕ, ◌<◌, ◌==◌, ◌&&◌, ◌||◌, ◌⊎◌, inl, inr, Bool, true, false, not, get_or, ap, sym, ◌∙◌, subst, arith}
-use Rattle.std.specs.List.{list_any, list_all, range_with_len}
+use Rattle.std.proofs.Common.{◌≡◌, ℕ, ◌<◌, ◌==◌, ◌&&◌, ◌||◌, ◌⊎◌, inl, inr, Bool, true, false, not, List, [], ◌∷◌, get_or, ap, sym, ◌∙◌, subst, arith}
+use Rattle.std.specs.List.{list_any, range_with_len}
 use Rattle.std.proofs.lemmas.Bool.{both_ways, and_parts, and_from, or_cases, or_left, not-true, eqb-true, ltb-true, false_from_ne_true}
 use Rattle.std.proofs.lemmas.List.Folds.{list_any_at}
 use Rattle.std.proofs.lemmas.List.FromFn.{get_or-range_with_len, length-range_with_len}
 use Rattle.std.proofs.lemmas.List.Sums.{AllPass-from_list_all}
 use Rattle.cany_base.specs.Scenario.{ScenarioParts}
-use Rattle.cany_model.specs.Bus.Frames.{identity_of}
+use Rattle.cany_model.specs.Bus.Frames.{Identity, identity_of}
 use Rattle.cany_model.specs.Bus.History.{history}
-use Rattle.cany_model.specs.Rules.Messages.{Message, data_frame, frames_of}
+use Rattle.cany_model.specs.Rules.Messages.{Message, accept_of_key, confirm_of_key, data_frame, data_id, frames_of, message_key}
 use Rattle.cany_model.specs.Rules.Protocol.{Protocol}
 use Rattle.cany_model.specs.Rules.Turn.{is_ahead_at, protocols, scenario_at}
 use Rattle.cany_model.specs.Bus.Run.{all_read}
@@ -62,31 +62,39 @@ settled_asked_or_late scenario s m h running = elim (settled_asked scenario s m 
   | inr late ↦ inr (ltb-true m.slot (node_at s.nodes m.origin).present.from late)
 ]
 
--- a running node does not wait with its data frame
-pub settled_waits : (scenario : ScenarioParts) (s : RunState) (m : Message) → is_settled scenario s m ≡ true → (i : ℕ) → runs (node_at s.nodes i) ≡ true
-    → waits (identity_of (data_frame m)) (node_at s.nodes i).waiting ≡ false
+-- a running node does not wait with a frame that is not awaited
+pub none_waits : (s : RunState) (x : Identity) (frames : List Identity) → is_awaited (x ∷ frames) s ≡ false → (i : ℕ) → runs (node_at s.nodes i) ≡ true
+    → waits x (node_at s.nodes i).waiting ≡ false
 unfolding node_at
-settled_waits scenario s m h i running =
-    let test : NodeState → Bool = λ node. runs node && list_any (λ x. waits x node.waiting) (frames_of m) in
-    let none : list_any test s.nodes ≡ false = (parts scenario s m h).quiet in
-    false_from_ne_true (waits (identity_of (data_frame m)) (node_at s.nodes i).waiting) (λ waiting.
+none_waits s x frames none i running =
+    let test : NodeState → Bool = λ node. runs node && list_any (λ y. waits y node.waiting) (x ∷ frames) in
+    false_from_ne_true (waits x (node_at s.nodes i).waiting) (λ waiting.
     both_ways (list_any test s.nodes) none
     (list_any_at test s.nodes i absent (runs_within s.nodes i running)
-    (and_from (runs (get_or s.nodes i absent)) (list_any (λ x. waits x (get_or s.nodes i absent).waiting) (frames_of m)) running
-    (or_left (waits (identity_of (data_frame m)) (get_or s.nodes i absent).waiting) _ waiting))))
+    (and_from (runs (get_or s.nodes i absent)) (list_any (λ y. waits y (get_or s.nodes i absent).waiting) (x ∷ frames)) running
+    (or_left (waits x (get_or s.nodes i absent).waiting) _ waiting))))
 
--- a running node has read every notice
-pub settled_read : (scenario : ScenarioParts) (s : RunState) (m : Message) → is_settled scenario s m ≡ true → (i : ℕ) → runs (node_at s.nodes i) ≡ true
-    → (node_at s.nodes i).unread ≡ 0
+-- and has read every notice where all have
+pub each_has_read : (s : RunState) → all_read s ≡ true → (i : ℕ) → runs (node_at s.nodes i) ≡ true → (node_at s.nodes i).unread ≡ 0
 unfolding node_at
-settled_read scenario s m h i running =
+each_has_read s all i running =
     let test : NodeState → Bool = λ node. not (runs node) || node.unread == 0 in
-    let all : list_all test s.nodes ≡ true = (parts scenario s m h).read in
     let at : test (get_or s.nodes i absent) ≡ true = AllPass-from_list_all test s.nodes all i absent (runs_within s.nodes i running) in
     elim (or_cases (not (runs (get_or s.nodes i absent))) ((get_or s.nodes i absent).unread == 0) at) [
       | inl stopped ↦ absurd (both_ways (runs (get_or s.nodes i absent)) (not-true (runs (get_or s.nodes i absent)) stopped) running)
       | inr read ↦ eqb-true (get_or s.nodes i absent).unread 0 read
     ]
+
+-- a running node does not wait with its data frame
+pub settled_waits : (scenario : ScenarioParts) (s : RunState) (m : Message) → is_settled scenario s m ≡ true → (i : ℕ) → runs (node_at s.nodes i) ≡ true
+    → waits (identity_of (data_frame m)) (node_at s.nodes i).waiting ≡ false
+settled_waits scenario s m h i running =
+    none_waits s (data_id m) (confirm_of_key (message_key m) ∷ accept_of_key (message_key m) ∷ []) (parts scenario s m h).quiet i running
+
+-- a running node has read every notice
+pub settled_read : (scenario : ScenarioParts) (s : RunState) (m : Message) → is_settled scenario s m ≡ true → (i : ℕ) → runs (node_at s.nodes i) ≡ true
+    → (node_at s.nodes i).unread ≡ 0
+settled_read scenario s m h i running = each_has_read s (parts scenario s m h).read i running
 
 -- at a correct node no protocol has anything of it ahead
 pub settled_none_ahead : (scenario : ScenarioParts) (s : RunState) (m : Message) → is_settled scenario s m ≡ true → (i : ℕ) → IsCorrect scenario s i
@@ -99,7 +107,8 @@ settled_none_ahead scenario s m h i correct p is =
     false_from_ne_true (p.ahead (scenario_at scenario s i) m i (history i s)) (λ yes'.
     let here : ahead i ≡ true =
     any-from_Among (λ q. q.ahead (scenario_at scenario s i) m i (history i s)) protocols
-    (Among-weaker (λ q. q ≡ p) (λ q. q.ahead (scenario_at scenario s i) m i (history i s) ≡ true) (λ q e. ap (λ (r : Protocol). r.ahead (scenario_at scenario s i) m i (history i s)) e ∙ yes') protocols is) in
+    (Among-weaker (λ q. q ≡ p) (λ q. q.ahead (scenario_at scenario s i) m i (history i s) ≡ true)
+    (λ q e. ap (λ (r : Protocol). r.ahead (scenario_at scenario s i) m i (history i s)) e ∙ yes') protocols is) in
     both_ways (list_any test (range_with_len 0 scenario.params.nodes)) none
     (list_any_at test (range_with_len 0 scenario.params.nodes) i 0
     (subst (λ n. i < n) (sym (length-range_with_len 0 scenario.params.nodes)) correct.there)

@@ -20,10 +20,10 @@ use Rattle.cany_model.specs.Bus.State.{RunState}
 use Rattle.cany_model.specs.Rules.Turn.{scenario_at, turn_effects}
 use Rattle.cany_model.proofs.Among.{Among, Among-weaker, Contains-cons, Contains-head, Contains-from_Among}
 use Rattle.cany_model.proofs.Bus.Carried.{Has}
-use Rattle.cany_model.proofs.Bus.FrameInvariants.{HoldsOfFrames, IsKeptByFrames, holds_of_frames, slot_of_note, turn_note}
+use Rattle.cany_model.proofs.Bus.FrameInvariants.{HoldsOfFrames, IsKeptByFrames, frames_alone, nothing_known, slot_of_note, turn_note}
 use Rattle.cany_model.proofs.Bus.Runs.{IsOrderly}
 use Rattle.cany_model.proofs.Bus.Steps.{MayTurn, next_notice}
-use Rattle.cany_model.proofs.Rules.ProtocolFacts.{MayAsk, accepts, confirms, originates, relays}
+use Rattle.cany_model.proofs.Rules.ProtocolFacts.{MayAsk, accepts, confirms, lives, originates, relays, signals}
 use Rattle.cany_model.proofs.Rules.TurnFacts.{turn_only}
 use Rattle.cany_model.proofs.Bus.Waits.{AsksOnly}
 
@@ -147,16 +147,18 @@ may_hold_asked scenario s i o may h =
         record { message = m; stands = Contains-from_Among (messages_of scenario.sends) m is; is = frame; why = inl origin }
     by_reason f (confirms g sent rel own frame) = λ carries. absurd (false≢true (ap (λ (x : FrameParts). carries_data x.class) frame ∙ carries))
     by_reason f (accepts g sent tot own frame) = λ carries. absurd (false≢true (ap (λ (x : FrameParts). carries_data x.class) frame ∙ carries))
+    by_reason f (signals sign slot now known frame) = λ carries. absurd (false≢true (ap (λ (x : FrameParts). carries_data x.class) frame ∙ carries))
+    by_reason f (lives slot now due frame) = λ carries. absurd (false≢true (ap (λ (x : FrameParts). carries_data x.class) frame ∙ carries))
 
 -- ---- every run
 
-sources_kept : (scenario : ScenarioParts) → IsKeptByFrames scenario (MayHold scenario) (WasData scenario)
+sources_kept : (scenario : ScenarioParts) → IsKeptByFrames scenario nothing_known (MayHold scenario) (WasData scenario)
 sources_kept scenario = record {
   waiting_later = λ note trace i f may carries. may_wait_later scenario note trace i f (may carries);
   carried_later = λ note trace slot f was carries. sent_then scenario note trace f slot (was carries);
   sent = λ note trace i f number frame sender may carries. sent_now scenario note trace i f number frame sender (may carries);
-  asked = may_hold_asked scenario;
+  asked = λ s i o may known h. may_hold_asked scenario s i o may h;
 }
 
 pub sourced : (scenario : ScenarioParts) (journal : List Step) → scenario.params.nodes ≤ most_nodes → IsSourced scenario (run scenario journal)
-sourced scenario journal few = holds_of_frames scenario (MayHold scenario) (WasData scenario) (sources_kept scenario) journal few
+sourced scenario journal few = frames_alone scenario (MayHold scenario) (WasData scenario) (sources_kept scenario) journal few

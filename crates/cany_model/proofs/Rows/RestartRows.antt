@@ -286,10 +286,10 @@ none_is_hidden_from_the_first : map (λ slot. is_hidden (incarnation 0 0 3) (idl
 unfolding restart_row
 none_is_hidden_from_the_first = refl
 
--- the scenario as it follows it: it is no member, and that of the opening follows it as it is read
+-- the scenario as it follows it: it is no member, and tells its number, and that of the opening follows it as it is read
 followed_scenario :
     (let sc = record (scenario (three 60 1 2) [] []) { members = set 7 } in map (scenario_for sc) (original ∷ incarnation 1 11 47 ∷ []))
-    ≡ record (scenario (three 60 1 2) [] []) { members = set 7 } ∷ record (scenario (three 60 1 2) [] []) { from = 47 } ∷ []
+    ≡ record (scenario (three 60 1 2) [] []) { members = set 7 } ∷ record (scenario (three 60 1 2) [] []) { from = 47; inc = 1 } ∷ []
 unfolding restart_row
 followed_scenario = refl
 

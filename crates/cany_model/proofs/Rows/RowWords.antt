@@ -29,6 +29,7 @@ use Rattle.cany_model.specs.Rules.Effect.{waiting_after, entered}
 use Rattle.cany_model.specs.Bus.Frames.{same_class, same_identity, same_frame, is_before}
 use Rattle.cany_model.specs.Bus.History.{is_hidden, as_seen, history, copies, has_own}
 use Rattle.cany_model.specs.Promises.Hypothesis.{break_at, first_break, count_together}
+use Rattle.cany_model.specs.Rules.Life.{sign_effects, fda_copy_effects, failure_effects, failures_at, signs_sent, life_effects}
 use Rattle.cany_model.specs.Rules.Log.{log, log_from}
 use Rattle.cany_model.specs.Rules.Messages.{messages_after, messages_of, is_service}
 use Rattle.cany_model.specs.Rules.Relcan.{fell_back, relcan_at, timer_effects, relcan_effects}
@@ -39,6 +40,7 @@ use Rattle.cany_model.specs.Promises.Settled.{is_settled}
 use Rattle.cany_model.specs.Bus.Slot.{least_frame, winner, script, share_of, after_share, slot_note_of, node_after, nodes_after, after_slot}
 use Rattle.cany_model.specs.Bus.State.{RunState, node_at, opening, reads}
 use Rattle.cany_model.specs.Rules.Sends.{send_effects}
+use Rattle.cany_model.specs.Rules.Station.{shows_life, after_life, with_signs, told, found, after_notice, station_of}
 use Rattle.cany_model.specs.Rules.Totcan.{tot_in, is_recent, after_place, is_heard, is_accepted, accept_effects, closing_effects, is_clear, done_from, delivered as delivered_tot, delivered_now, totcan_effects}
 use Rattle.cany_model.specs.Rules.Turn.{has_asked, turn_effects}
 use Rattle.cany_model.specs.Bus.Waiting.{put_in_order}
@@ -62,7 +64,7 @@ unfoldable pub frame_rule : Class → ℕ → ℕ → ℕ → Verdict → ℕ �
 frame_rule class number node nth verdict stop = record { place = FrameNth class number node nth; verdict = verdict; stop = set stop }
 
 unfoldable pub scenario : Parameters → List SendAsk → List Rule → ScenarioParts
-scenario p sends rules = record { params = p; members = set 0; sends = sends; rules = rules; joins = []; leaves = []; restarts = []; from = 0; journal = None }
+scenario p sends rules = record { params = p; members = set 0; sends = sends; rules = rules; joins = []; leaves = []; restarts = []; from = 0; inc = 0; journal = None }
 
 -- a journal in its alphabet: a dot is a slot, and a digit or a letter is the turn of a node
 abbrev pub step_of : ℕ → Step
@@ -134,7 +136,7 @@ node_report sc s i = record { stopped = (node_at s.nodes i).stopped; read = read
 
 -- that of a scenario by a journal; what computes it is opened here, once for all rows
 unfoldable pub report : ScenarioParts → List Step → RunReport
-unfolding shown has bits_where those_where same_class same_identity same_frame is_before messages_after node_at put_in_order least_frame winner script share_of after_share slot_note_of node_after nodes_after after_slot names_restart after_entries nodes_after_entries after_restarts is_hidden as_seen history copies has_own waiting_after entered eager_effects delivery_effects edcan_at edcan_effects fell_back relcan_at timer_effects relcan_effects send_effects tot_in is_recent after_place is_heard is_accepted accept_effects closing_effects is_clear done_from delivered_tot delivered_now totcan_effects backlog asked backlog_effects is_service turn_effects has_asked log_from first_lagging reply is_legal_from after_turn proceed after_step run_from round rounds break_at first_break count_together is_settled
+unfolding shown has bits_where those_where same_class same_identity same_frame is_before messages_after node_at put_in_order least_frame winner script share_of after_share slot_note_of node_after nodes_after after_slot names_restart after_entries nodes_after_entries after_restarts is_hidden as_seen history copies has_own waiting_after entered eager_effects delivery_effects edcan_at edcan_effects fell_back relcan_at timer_effects relcan_effects send_effects tot_in is_recent after_place is_heard is_accepted accept_effects closing_effects is_clear done_from delivered_tot delivered_now totcan_effects shows_life after_life with_signs told found after_notice station_of sign_effects fda_copy_effects failure_effects failures_at signs_sent life_effects backlog asked backlog_effects is_service turn_effects has_asked log_from first_lagging reply is_legal_from after_turn proceed after_step run_from round rounds break_at first_break count_together is_settled
 report sc journal =
     let s = run sc journal in
     record {

@@ -107,7 +107,7 @@ ask_founded scenario i past (Some m) is =
     let h = is m refl in
     ((originates m h.stands h.origin h.read h.late refl, ap (λ by. tot_backlog.names (data_class by)) h.tot), tt)
 
-asks_enter_none : (o : Option Message) → entered (ask_for o) ≡ []
+pub asks_enter_none : (o : Option Message) → entered (ask_for o) ≡ []
 unfolding entered
 asks_enter_none None = refl
 asks_enter_none (Some m) = refl

@@ -7,16 +7,18 @@ use Rattle.cany_base.specs.declared.notice.NoticeKind.TheVariants.{Idle}
 use Rattle.cany_base.specs.Scenario.{ScenarioParts}
 use Rattle.cany_model.specs.Bus.Frames.{Identity}
 use Rattle.cany_model.specs.Bus.History.{copies, has_own, is_got, is_sent}
+use Rattle.cany_model.specs.Bus.Slot.{nobody}
 use Rattle.cany_model.specs.Rules.Relcan.{falls_back, fell_back, has_confirm, has_copy, is_first_got, is_timed}
 use Rattle.cany_model.proofs.Among.{Each-drop, count-no}
 
 abbrev pub AreIdle : List NoticeKind → Type 0
 AreIdle past = AllByRecursion (λ e. e ≡ Idle) past
 
--- none of these slots is one whose scripted asks are made
+-- None of these slots is one whose scripted asks are made. A node that has read some of them has started again, and is no member.
 pub record IsBegun (scenario : ScenarioParts) (past : List NoticeKind) : Type 0 where
   pub idle : AreIdle past
   pub early : length past ≤ scenario.from
+  pub outside : 0 < length past → scenario.members ≡ nobody
 
 -- ---- of idle slots
 
@@ -55,7 +57,11 @@ idle_fell_back timer i x (e ∷ past) h = rw (idle_falls timer i x (e ∷ past) 
 -- ---- of a node that has only begun
 
 pub begun_first : (scenario : ScenarioParts) → IsBegun scenario []
-begun_first scenario = record { idle = tt; early = omega arith }
+begun_first scenario = record { idle = tt; early = omega arith; outside = λ some. absurd (omega (arith, some)) }
+
+pub begun_before : (scenario : ScenarioParts) (e : NoticeKind) (past : List NoticeKind) → IsBegun scenario (e ∷ past) → IsBegun scenario past
+begun_before scenario e past begun =
+    record { idle = begun.idle.1; early = omega (arith, begun.early); outside = λ some. begun.outside (omega arith) }
 
 pub begun_copies : (scenario : ScenarioParts) (x : Identity) (past : List NoticeKind) → IsBegun scenario past → copies x past ≡ 0
 begun_copies scenario x past begun = idle_copies x past begun.idle

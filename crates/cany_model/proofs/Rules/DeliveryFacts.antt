@@ -17,7 +17,7 @@ use Rattle.cany_model.specs.Rules.Delivery.{brings, is_delivery, delivery, deliv
 use Rattle.cany_model.specs.Rules.Effect.{Effect, Ask, Withdraw, Enter, entered}
 use Rattle.cany_model.specs.Rules.Messages.{data_of}
 use Rattle.cany_model.specs.Rules.Protocol.{Protocol}
-use Rattle.cany_model.proofs.Among.{Among, Among-append_left, Among-append_right, Among-from_any}
+use Rattle.cany_model.proofs.Among.{Among, Among-append_left, Among-append_right, Among-from_any, one_if}
 use Rattle.cany_model.proofs.Bus.Carried.{Has, brings-true}
 use Rattle.cany_model.proofs.Bus.Identities.{same_class-true, same_class_self}
 use Rattle.cany_model.proofs.Rules.ProtocolFacts.{IsFounded, log_by}
@@ -94,9 +94,6 @@ delivery_enters by i f notice before rest none = either (same_class f.class (dat
 abbrev pub is_brought : ℕ → Service → MsgKey → List NoticeKind → Bool
 is_brought i by key past = list_any (brings i (data_of by key)) past
 
-abbrev one_if : Bool → ℕ
-one_if b = cond b 1 0
-
 abbrev count : MsgKey → List LogEntry → ℕ
 count key entries = count_by (delivers_key key) entries
 
@@ -146,7 +143,10 @@ count_log : (p : Protocol) (by : Service) → DeliversAtOnce p by → (scenario 
     → count key (log_by p scenario i past) ≤ one_if (is_brought i by key past)
 count_log p by at_once scenario i key [] = omega arith
 count_log p by at_once scenario i key (notice ∷ before) =
-    rw (sum_by-append (λ entry. cond (delivers_key key entry) 1 0) (log_by p scenario i before) (entered (p.effects scenario i (notice ∷ before))), at_once scenario i notice before)
+    rw (
+      sum_by-append (λ entry. cond (delivers_key key entry) 1 0) (log_by p scenario i before) (entered (p.effects scenario i (notice ∷ before))),
+      at_once scenario i notice before,
+    )
     (omega (arith, count_log p by at_once scenario i key before, count_at by i key notice before))
 
 one_if-few : (b : Bool) → one_if b ≤ 1
@@ -197,7 +197,8 @@ entry_now p by at_once scenario i x e before class b none =
     let w = brings-true i x e b in
     let is : w.what.class ≡ data_class by = sym (ap (λ (y : Identity). y.class) w.identity) ∙ class in
     let first : is_delivery i w.what e before ≡ true =
-    and_from (brings i (identity_of w.what) e) (not (list_any (brings i (identity_of w.what)) before)) (rw w.identity at b) (not_from_false _ (rw w.identity at none)) in
+    and_from (brings i (identity_of w.what) e) (not (list_any (brings i (identity_of w.what)) before)) (rw w.identity at b)
+    (not_from_false _ (rw w.identity at none)) in
     record {
       what = w.what;
       identity = w.identity;

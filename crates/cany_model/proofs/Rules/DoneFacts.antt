@@ -1,19 +1,15 @@
--- The order in which TOTCAN delivers: the recursion by which it is usually said, and that what is done is delivered.
-use Rattle.std.proofs.Common.{◌≡◌, ℕ, zero, suc, ◌+◌, ◌<◌, ◌≤◌, ◌==◌, ◌&&◌, ◌||◌, ◌⊎◌, ◌↔◌, inl, inr, Bool, true, false, not, nat_le, nat_lt, if◌then◌else◌, List, [], ◌∷◌, count_by, drop, Option, Some, None, refl, ap, sym, ◌∙◌, subst, arith}
+-- The order in which TOTCAN delivers: what is done, by the recursion by which it is usually said.
+use Rattle.std.proofs.Common.{◌≡◌, ℕ, zero, suc, ◌+◌, ◌&&◌, ◌||◌, ◌↔◌, inl, inr, Bool, true, false, not, nat_le, nat_lt, if◌then◌else◌, List, [], ◌∷◌, drop, Option, Some, None, refl, ap, sym, ◌∙◌, subst, arith}
 use Rattle.std.proofs.Math.Bool.{and_assoc}
-use Rattle.std.proofs.lemmas.Bool.{and_from, and_parts, and_right, cases_Bool, cases_lt, cond_both, eq-eqb, le-leb, le-ltb, lt-leb, lt-ltb, not-false, not-true, not_from_false, or_parts}
+use Rattle.std.proofs.lemmas.Bool.{and_from, and_parts, cases_lt, cond_both, le-leb, le-ltb, lt-leb, lt-ltb, not-true, not_from_false}
 use Rattle.cany_base.specs.declared.message.MsgKey.{MsgKey}
 use Rattle.cany_base.specs.declared.notice.NoticeKind.{NoticeKind}
 use Rattle.cany_base.specs.Frame.{FrameParts}
 use Rattle.cany_base.specs.Params.{Parameters}
-use Rattle.cany_model.specs.Bus.Frames.{identity_of, same_identity}
-use Rattle.cany_model.specs.Bus.History.{is_got}
-use Rattle.cany_model.specs.Rules.Messages.{accept_of_key}
-use Rattle.cany_model.specs.Rules.Totcan.{delivered, delivered_now, done, done_at, done_from, holds, is_accepted, is_among, is_clear, is_pending, is_place, is_recent, message_in, new_among, tot_in}
-use Rattle.cany_model.proofs.Among.{Among, Among-append_cases, Among-append_left, Among-append_right, Among-from_any, Among-weaker, count-from_Among}
-use Rattle.cany_model.proofs.Bus.Identities.{same_identity-true}
-use Rattle.cany_model.proofs.Rules.PlaceFacts.{Place, accepted-placed, accepted-same, holds-place, place-old, place_of, recent-cons, tot_in-holds}
-use Rattle.cany_model.proofs.Rules.TotcanFacts.{all_tot, delivered_brought, done_brought, drop-next, is_named, not_new}
+use Rattle.cany_model.specs.Rules.Totcan.{done, done_at, done_from, holds, is_accepted, is_clear, is_pending, is_place, is_recent, message_in, tot_in}
+use Rattle.cany_model.proofs.Among.{Among, Among-append_cases, Among-append_left, Among-append_right}
+use Rattle.cany_model.proofs.Rules.PlaceFacts.{Place, holds-place, place-old, tot_in-holds}
+use Rattle.cany_model.proofs.Rules.TotcanFacts.{drop-next}
 
 -- ---- the recursion
 
@@ -186,118 +182,3 @@ done_exactly p i key past w = (
       (subst (λ age. is_done p i past (are_through p i past (age + 1) d.place.older) key ≡ true) (same_age key past d.place w) d.is),
   λ h. done_deeper p i past (IsNamed key) w.age 0 w.age (omega arith) past w.notice w.older w.at (done_here p i key past w h),
 )
-
--- ---- what is done is delivered
-
--- what is not new was delivered
-new_has : (key : MsgKey) (earlier frames : List FrameParts) → Among (IsNamed key) frames
-    → Among (IsNamed key) earlier ⊎ Among (IsNamed key) (new_among earlier frames)
-new_has key earlier [] h = absurd h
-new_has key earlier (f ∷ frames) h =
-    cond_both (not (is_among earlier f)) (f ∷ new_among earlier frames) (new_among earlier frames)
-    (λ kept. Among (IsNamed key) earlier ⊎ Among (IsNamed key) kept)
-    (λ _. elim h [
-      | inl here ↦ inr (inl here)
-      | inr there ↦ elim (new_has key earlier frames there) [ inl old ↦ inl old | inr new ↦ inr (inr new) ]
-    ])
-    (λ old. elim h [
-      | inl here ↦ inl (Among-weaker (λ g. same_identity (identity_of f) (identity_of g) ≡ true) (IsNamed key)
-          (λ g same. ap (λ x. record { origin = x.node; seq = x.number }) (sym (same_identity-true (identity_of f) (identity_of g) same)) ∙ here)
-          earlier (Among-from_any (λ g. same_identity (identity_of f) (identity_of g)) earlier (not-false (is_among earlier f) old)))
-      | inr there ↦ new_has key earlier frames there
-    ])
-
-pub done_delivered : (p : Parameters) (i : ℕ) (key : MsgKey) (past : List NoticeKind) → Among (IsNamed key) (done p i past)
-    → Among (IsNamed key) (delivered p i past)
-unfolding delivered done_from
-done_delivered p i key [] h = absurd h
-done_delivered p i key (e ∷ before) h =
-    let earlier : List FrameParts = delivered p i before in
-    let now : List FrameParts = done p i (e ∷ before) in
-    elim (new_has key earlier now h) [
-      | inl old ↦ Among-append_left (IsNamed key) earlier (new_among earlier now) old
-      | inr new ↦ Among-append_right (IsNamed key) earlier (new_among earlier now) new
-    ]
-
--- closed messages hold nothing back
-old_clear : (p : Parameters) (i : ℕ) (past : List NoticeKind) (age : ℕ) (notices : List NoticeKind) → p.bound ≤ age → is_clear p i past age notices ≡ true
-unfolding is_clear
-old_clear p i past age [] old = refl
-old_clear p i past age (e ∷ older) old =
-    and_from (not (is_pending p i past age (tot_in e))) (is_clear p i past (age + 1) older) (settled (tot_in e))
-    (old_clear p i past (age + 1) older (omega (arith, old)))
-  where
-    none : (place accepted : Bool) → not (place && false && not accepted) ≡ true
-    none true accepted = refl
-    none false accepted = refl
-
-    settled : (o : Option FrameParts) → not (is_pending p i past age o) ≡ true
-    settled None = refl
-    settled (Some f) = rw (le-ltb age p.bound old) (none (is_place age past (message_in f)) (is_accepted p.bound i (message_in f) past))
-
--- an accepted message that is closed is delivered
-pub closed_delivered : (p : Parameters) (i : ℕ) (key : MsgKey) (past : List NoticeKind) → is_accepted p.bound i key past ≡ true
-    → is_recent p.bound key past ≡ false → Among (IsNamed key) (delivered p i past)
-closed_delivered p i key past accepted closed =
-    let w = place_of key past (accepted-placed p.bound i key past accepted) in
-    let old : p.bound ≤ w.age = place-old p.bound key past closed w in
-    let clear : are_through p i past (w.age + 1) w.older ≡ true =
-    through_is_clear p i past (w.age + 1) w.older ∙ old_clear p i past (w.age + 1) w.older (omega (arith, old)) in
-    done_delivered p i key past
-    ((done_exactly p i key past w).1 (and_from (is_accepted p.bound i key past) (are_through p i past (w.age + 1) w.older) accepted clear))
-
--- ---- what is delivered in one turn
-
-from_new : (key : MsgKey) (earlier frames : List FrameParts) → Among (IsNamed key) (new_among earlier frames) → Among (IsNamed key) frames
-from_new key earlier [] h = h
-from_new key earlier (f ∷ frames) h =
-    cond_both (not (is_among earlier f)) (f ∷ new_among earlier frames) (new_among earlier frames)
-    (λ kept. Among (IsNamed key) kept → Among (IsNamed key) (f ∷ frames))
-    (λ _ a. elim a [ inl here ↦ inl here | inr there ↦ inr (from_new key earlier frames there) ])
-    (λ _ a. inr (from_new key earlier frames a))
-    h
-
-named-from : (key : MsgKey) (f : FrameParts) → IsNamed key f → is_named key f ≡ true
-named-from key f h =
-    and_from (f.node == key.origin) (f.number == key.seq) (eq-eqb f.node key.origin (ap (λ (k : MsgKey). k.origin) h))
-    (eq-eqb f.number key.seq (ap (λ (k : MsgKey). k.seq) h))
-
-counted : (key : MsgKey) (frames : List FrameParts) → Among (IsNamed key) frames → 0 < count_by (is_named key) frames
-counted key frames h =
-    count-from_Among (is_named key) frames (Among-weaker (IsNamed key) (λ f. is_named key f ≡ true) (λ f named. named-from key f named) frames h)
-
--- it was done by then, and not delivered before
-pub record DeliversNow (p : Parameters) (i : ℕ) (key : MsgKey) (e : NoticeKind) (before : List NoticeKind) : Type 0 where
-  pub done : DoneWith p i key (e ∷ before)
-  pub new : Among (IsNamed key) (delivered p i before) → ⊥
-
-pub delivers-now : (p : Parameters) (i : ℕ) (key : MsgKey) (e : NoticeKind) (before : List NoticeKind)
-    → Among (IsNamed key) (delivered_now p i (e ∷ before)) → DeliversNow p i key e before
-unfolding delivered_now
-delivers-now p i key e before h =
-    let earlier : List FrameParts = delivered p i before in
-    let now : List FrameParts = done p i (e ∷ before) in
-    record {
-      done = done-with p i key (e ∷ before) (from_new key earlier now h);
-      new = λ old.
-          omega (
-            arith,
-            counted key (new_among earlier now) h,
-            not_new key earlier (all_tot before earlier (delivered_brought p i before)) (counted key earlier old) now
-                (all_tot (e ∷ before) now (done_brought p i (e ∷ before))),
-          );
-    }
-
--- so it was still open before this turn, or its place is new
-pub now_is_recent : (p : Parameters) (i : ℕ) (key : MsgKey) (e : NoticeKind) (before : List NoticeKind)
-    → Among (IsNamed key) (delivered_now p i (e ∷ before)) → is_recent (suc p.bound) key (e ∷ before) ≡ true
-now_is_recent p i key e before h = elim (cases_Bool (is_recent (suc p.bound) key (e ∷ before))) [
-  | inl recent ↦ recent
-  | inr old ↦
-      let d = delivers-now p i key e before h in
-      let parts = or_parts (holds key e) (is_recent p.bound key before) (sym (recent-cons p.bound key e before) ∙ old) in
-      let accepted : is_accepted p.bound i key (e ∷ before) ≡ true =
-      (and_parts (is_accepted p.bound i key (e ∷ before)) (are_through p i (e ∷ before) (d.done.place.age + 1) d.done.place.older) d.done.is).0 in
-      absurd (d.new (closed_delivered p i key before
-      (sym (accepted-same p.bound i key e before parts.0 (and_right (is_got (accept_of_key key) e) (is_recent p.bound key before) parts.1)) ∙ accepted) parts.1))
-]

@@ -13,7 +13,7 @@ use Rattle.cany_model.specs.Rules.Effect.{Effect, Ask, Withdraw, Enter, entered}
 use Rattle.cany_model.specs.Rules.Log.{log_from}
 use Rattle.cany_model.specs.Rules.Protocol.{Protocol}
 use Rattle.cany_model.specs.Rules.Turn.{protocols, turn_effects}
-use Rattle.cany_model.proofs.Among.{Among, Among-append_cases, Among-append_left, Among-append_right, Among-from_flat_map, Among-which, Among-with, Each-weaker}
+use Rattle.cany_model.proofs.Among.{Among, Among-append_cases, Among-append_left, Among-append_right, Among-from_flat_map, Among-which, Among-with, Each-weaker, one_if}
 use Rattle.cany_model.proofs.Rules.DeliveryFacts.{entered-append}
 use Rattle.cany_model.proofs.Rules.ProtocolFacts.{IsFounded, IsFoundedEntry, IsLawful, log_by}
 use Rattle.cany_model.proofs.Rules.Protocols.{IsProtocol, are_lawful, one_delivers}
@@ -22,12 +22,12 @@ use Rattle.cany_model.proofs.Rules.TurnFacts.{turn_has}
 -- ---- what a turn enters
 
 -- the effect makes an entry that has the property
-abbrev EntersSome : (LogEntry → Type 0) → Effect → Type 0
+abbrev pub EntersSome : (LogEntry → Type 0) → Effect → Type 0
 EntersSome P (Ask f) = ⊥
 EntersSome P (Withdraw x) = ⊥
 EntersSome P (Enter entry) = P entry
 
-entered-from : (P : LogEntry → Type 0) (effects : List Effect) → Among P (entered effects) → Among (EntersSome P) effects
+pub entered-from : (P : LogEntry → Type 0) (effects : List Effect) → Among P (entered effects) → Among (EntersSome P) effects
 unfolding entered
 entered-from P [] h = h
 entered-from P (Ask f ∷ effects) h = inr (entered-from P effects h)
@@ -35,7 +35,7 @@ entered-from P (Withdraw x ∷ effects) h = inr (entered-from P effects h)
 entered-from P (Enter entry ∷ effects) (inl here) = inl here
 entered-from P (Enter entry ∷ effects) (inr h) = inr (entered-from P effects h)
 
-entered-to : (P : LogEntry → Type 0) (effects : List Effect) → Among (EntersSome P) effects → Among P (entered effects)
+pub entered-to : (P : LogEntry → Type 0) (effects : List Effect) → Among (EntersSome P) effects → Among P (entered effects)
 unfolding entered
 entered-to P [] h = h
 entered-to P (Ask f ∷ effects) (inl none) = absurd none
@@ -48,22 +48,22 @@ entered-to P (Enter entry ∷ effects) (inr h) = inr (entered-to P effects h)
 -- ---- from the log to what was read
 
 -- an entry that has the property, which the protocol made in the turn of the notice at this place of what was read
-pub record IsMade (P : LogEntry → Type 0) (p : Protocol) (past : List NoticeKind) : Type 0 where
+pub record IsMade (P : LogEntry → Type 0) (scenario : ScenarioParts) (p : Protocol) (i : ℕ) (past : List NoticeKind) : Type 0 where
   pub entry : LogEntry
   pub is : P entry
   pub place : ℕ
   pub below : place < length past
-  pub founded : IsFoundedEntry p (drop place past) entry
+  pub founded : IsFoundedEntry scenario p i (drop place past) entry
 
 entry_of : (P : LogEntry → Type 0) (scenario : ScenarioParts) (p : Protocol) (i : ℕ) (past : List NoticeKind) (e : Effect) → EntersSome P e
-    → IsFounded scenario p i past e → (entry : LogEntry) × P entry × IsFoundedEntry p past entry
+    → IsFounded scenario p i past e → (entry : LogEntry) × P entry × IsFoundedEntry scenario p i past entry
 entry_of P scenario p i past (Ask f) h k = absurd h
 entry_of P scenario p i past (Withdraw x) h k = absurd h
 entry_of P scenario p i past (Enter entry) h k = (entry, h, k)
 
 -- each entry of a protocol has its reason
 pub made_by : (P : LogEntry → Type 0) (scenario : ScenarioParts) (p : Protocol) → IsLawful p → (i : ℕ) (past : List NoticeKind)
-    → Among P (log_by p scenario i past) → IsMade P p past
+    → Among P (log_by p scenario i past) → IsMade P scenario p i past
 made_by P scenario p lawful i [] h = absurd h
 made_by P scenario p lawful i (notice ∷ before) h =
     elim (Among-append_cases P (log_by p scenario i before) (entered (p.effects scenario i (notice ∷ before))) h) [
@@ -73,7 +73,8 @@ made_by P scenario p lawful i (notice ∷ before) h =
       | inr now ↦
           let effects = p.effects scenario i (notice ∷ before) in
           let w = Among-which (λ e. EntersSome P e × IsFounded scenario p i (notice ∷ before) e) effects
-          (Among-with (EntersSome P) (IsFounded scenario p i (notice ∷ before)) effects (lawful.founded scenario i (notice ∷ before)) (entered-from P effects now)) in
+          (Among-with (EntersSome P) (IsFounded scenario p i (notice ∷ before)) effects (lawful.founded scenario i (notice ∷ before))
+          (entered-from P effects now)) in
           let made = entry_of P scenario p i (notice ∷ before) w.0 w.2.0 w.2.1 in
           record { entry = made.0; is = made.1; place = 0; below = omega arith; founded = made.2 }
     ]
@@ -108,7 +109,8 @@ unfolding log_from
 log_has P scenario i p is [] h = h
 log_has P scenario i p is (notice ∷ before) h =
     elim (Among-append_cases P (log_by p scenario i before) (entered (p.effects scenario i (notice ∷ before))) h) [
-      | inl earlier ↦ Among-append_left P (log_from scenario i before) (entered (turn_effects scenario i (notice ∷ before))) (log_has P scenario i p is before earlier)
+      | inl earlier ↦
+          Among-append_left P (log_from scenario i before) (entered (turn_effects scenario i (notice ∷ before))) (log_has P scenario i p is before earlier)
       | inr now ↦
           Among-append_right P (log_from scenario i before) (entered (turn_effects scenario i (notice ∷ before)))
           (entered-to P (turn_effects scenario i (notice ∷ before))
@@ -124,7 +126,7 @@ count-append : (key : MsgKey) (first rest : List LogEntry) → count key (first 
 count-append key first rest = sum_by-append (λ entry. cond (delivers_key key entry) 1 0) first rest
 
 -- the sum over protocols
-abbrev total : (Protocol → ℕ) → List Protocol → ℕ
+abbrev pub total : (Protocol → ℕ) → List Protocol → ℕ
 total f [] = 0
 total f (p ∷ ps) = f p + total f ps
 
@@ -161,12 +163,10 @@ count_log scenario i key (notice ∷ before) =
     let split = count-append key (log_from scenario i before) (entered (turn_effects scenario i (notice ∷ before))) in
     let a = count_log scenario i key before in
     let b = count_turn scenario i key (notice ∷ before) protocols in
-    let c = total-same whole (λ p. earlier p + now p) (λ p. count-append key (log_by p scenario i before) (entered (p.effects scenario i (notice ∷ before)))) protocols in
+    let c = total-same whole (λ p. earlier p + now p)
+    (λ p. count-append key (log_by p scenario i before) (entered (p.effects scenario i (notice ∷ before)))) protocols in
     let d = total-plus earlier now protocols in
     split ∙ omega (arith, a, b, c, d)
-
-abbrev one_if : Bool → ℕ
-one_if b = cond b 1 0
 
 -- where each has at most one, and none where the test fails
 few_in : (f : Protocol → ℕ) (test : Protocol → Bool) (ps : List Protocol) → AllByRecursion (λ p. f p ≤ one_if (test p)) ps → total f ps ≤ count_by test ps
@@ -196,6 +196,7 @@ log_once scenario i key past alone =
           let by = alone first.0 first.1 first.2 in
           let few : total f protocols ≤ count_by (λ p. p.delivers by.0) protocols =
           few_in f (λ p. p.delivers by.0) protocols
-          (Each-weaker IsLawful (λ p. f p ≤ one_if (p.delivers by.0)) (λ p lawful. one_of (f p) (p.delivers by.0) (lawful.once scenario i key past) (by.1 p lawful)) protocols are_lawful) in
+          (Each-weaker IsLawful (λ p. f p ≤ one_if (p.delivers by.0))
+          (λ p lawful. one_of (f p) (p.delivers by.0) (lawful.once scenario i key past) (by.1 p lawful)) protocols are_lawful) in
           omega (arith, same, few, one_delivers by.0)
     ]

@@ -3,6 +3,7 @@ use Rattle.std.proofs.Common.{◌≡◌, ℕ, ◌<◌, ◌≤◌, List, [], ◌�
 use Rattle.std.specs.List.{AllByRecursion, flat_map}
 use Rattle.cany_base.specs.declared.notice.NoticeKind.{NoticeKind}
 use Rattle.cany_base.specs.Scenario.{ScenarioParts}
+use Rattle.cany_model.specs.Bus.Slot.{nobody}
 use Rattle.cany_model.specs.Bus.State.{Incarnation}
 use Rattle.cany_model.specs.Rules.Protocol.{Protocol}
 use Rattle.cany_model.specs.Rules.Turn.{protocols, turn_effects}
@@ -26,12 +27,12 @@ all_idle inc (e ∷ past) later seen short =
     (seen.0 later (omega (arith, short)), all_idle inc past later seen.1 (omega (arith, short)))
 
 -- a restarted node that has read no slot in which it takes part has only begun
-pub begun_later : (inc : Incarnation) (scenario : ScenarioParts) → scenario.from ≡ inc.from → (past : List NoticeKind) → 0 < inc.number
-    → IsSeenPast inc past → length past ≤ inc.from → IsBegun scenario past
-begun_later inc scenario from past later seen short =
-    record { idle = all_idle inc past later seen short; early = omega (arith, short, from) }
+pub begun_later : (inc : Incarnation) (scenario : ScenarioParts) → scenario.from ≡ inc.from → scenario.members ≡ nobody → (past : List NoticeKind)
+    → 0 < inc.number → IsSeenPast inc past → length past ≤ inc.from → IsBegun scenario past
+begun_later inc scenario from outside past later seen short =
+    record { idle = all_idle inc past later seen short; early = omega (arith, short, from); outside = λ some. outside }
 
-pub does_nothing : (inc : Incarnation) (scenario : ScenarioParts) → scenario.from ≡ inc.from → (i : ℕ) (e : NoticeKind) (past : List NoticeKind)
-    → 0 < inc.number → IsSeenPast inc (e ∷ past) → length past < inc.from → turn_effects scenario i (e ∷ past) ≡ []
-does_nothing inc scenario from i e past later seen early =
-    turn_muted scenario i (e ∷ past) (begun_later inc scenario from (e ∷ past) later seen (omega (arith, early)))
+pub does_nothing : (inc : Incarnation) (scenario : ScenarioParts) → scenario.from ≡ inc.from → scenario.members ≡ nobody → (i : ℕ) (e : NoticeKind)
+    (past : List NoticeKind) → 0 < inc.number → IsSeenPast inc (e ∷ past) → length past < inc.from → turn_effects scenario i (e ∷ past) ≡ []
+does_nothing inc scenario from outside i e past later seen early =
+    turn_muted scenario i (e ∷ past) (begun_later inc scenario from outside (e ∷ past) later seen (omega (arith, early)))

@@ -1,6 +1,7 @@
 -- The numbers of the frames of a legal scenario: each is below what every format has room for, and each node is one of the bus.
 use Rattle.std.proofs.Common.{◌≡◌, ℕ, suc, ◌+◌, ◌*◌, ◌/◌, ◌<◌, ◌≤◌, inl, inr, List, [], ◌∷◌, length, All, Contains, refl, ap, subst, arith}
 use Rattle.std.proofs.Math.Nat.{div-lt_iff_lt-mul, mul-le-mul_left}
+use Rattle.std.proofs.lemmas.Nat.{le-div}
 use Rattle.std.proofs.lemmas.List.Elements.{All-head, All-tail}
 use Rattle.std.proofs.lemmas.List.Sums.{count_by-le-length}
 use Rattle.cany_base.specs.declared.frame.Class.{Class}
@@ -104,7 +105,9 @@ belongs_small scenario slot f legal within h = by_class f.class h
     by_class : (c : Class) → BelongsTo scenario slot c f → IsSmall scenario (identity_of f)
     by_class class.Accept m = message_is_small scenario Tot (identity_of f) legal m
     by_class class.Rha n = node_is_small scenario scenario.params.cycle slot f legal within cycle n
-    by_class class.Els n = node_is_small scenario scenario.params.life slot f legal within life n
+    by_class class.Els n =
+        node_is_small scenario scenario.params.life slot f legal within life
+        (record { node = n.node; number = le-div f.number slot scenario.params.life (omega (arith, life)) n.passed })
     by_class class.Fda n = node_is_small scenario scenario.params.cycle slot f legal within cycle n
     by_class class.Join n = node_is_small scenario scenario.params.cycle slot f legal within cycle n
     by_class class.Leave n = node_is_small scenario scenario.params.cycle slot f legal within cycle n

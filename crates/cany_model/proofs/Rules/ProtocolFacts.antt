@@ -1,5 +1,5 @@
 -- What is proved of each protocol. Proofs about runs see a turn through these facts and the list of protocols alone.
-use Rattle.std.proofs.Common.{◌≡◌, ℕ, suc, ◌<◌, ◌≤◌, ◌⊎◌, inl, inr, Bool, true, false, List, [], ◌∷◌, ◌++◌, length, count_by, refl, ap, sym, ◌∙◌, arith}
+use Rattle.std.proofs.Common.{◌≡◌, ℕ, suc, ◌/◌, ◌<◌, ◌≤◌, ◌⊎◌, inl, inr, Bool, true, false, List, [], ◌∷◌, ◌++◌, length, count_by, refl, ap, sym, ◌∙◌, arith}
 use Rattle.std.specs.List.{AllByRecursion}
 use Rattle.std.proofs.lemmas.Bool.{false≢true}
 use Rattle.cany_base.specs.declared.frame.Class.{Class}
@@ -17,9 +17,11 @@ use Rattle.cany_model.specs.Bus.Frames.{Identity, identity_of}
 use Rattle.cany_model.specs.Bus.History.{copies, is_got}
 use Rattle.cany_model.specs.Promises.Safe.{delivers_key}
 use Rattle.cany_model.specs.Rules.Effect.{Effect, Ask, Withdraw, Enter, entered}
+use Rattle.cany_model.specs.Rules.Life.{els_frame, is_due, signs_sent}
 use Rattle.cany_model.specs.Rules.Messages.{Message, messages_of, accept_of_key, data_frame, data_id}
 use Rattle.cany_model.specs.Rules.Protocol.{Protocol}
 use Rattle.cany_model.specs.Rules.Relcan.{confirm_frame}
+use Rattle.cany_model.specs.Rules.Station.{Sign, fda_frame, knows, sign_of, station_of}
 use Rattle.cany_model.specs.Rules.Totcan.{accept_frame, after_place, is_open, message_in}
 use Rattle.cany_model.proofs.Among.{Among, Among-gives, Among-weaker, Among-with, count-from_Among}
 use Rattle.cany_model.proofs.Bus.Carried.{Has, is_got-from}
@@ -42,6 +44,22 @@ is_relayed class.Tot = false
 is_relayed class.Rel = true
 is_relayed class.Ed = true
 
+-- a copy of its frame tells of the sign
+pub record IsTold (past : List NoticeKind) (sign : Sign) : Type 0 where
+  pub frame : FrameParts
+  pub read : Among (λ n. n ≡ Got frame) past
+  pub class : frame.class ≡ class.Fda
+  pub tells : sign_of frame ≡ sign
+
+-- silence can bring the sign in the slot: it names a node of the bus, and the cycle of the slot
+pub record IsFound (scenario : ScenarioParts) (slot : ℕ) (sign : Sign) : Type 0 where
+  pub node : sign.node < scenario.params.nodes
+  pub cycle : sign.cycle ≡ slot / scenario.params.cycle
+
+-- why a sign is known in the turn of the slot
+abbrev pub IsKnownBy : ScenarioParts → ℕ → List NoticeKind → Sign → Type 0
+IsKnownBy scenario slot past sign = IsTold past sign ⊎ IsFound scenario slot sign
+
 -- why a node may ask for a frame, by what it has read
 pub data MayAsk (scenario : ScenarioParts) (i : ℕ) (past : List NoticeKind) (f : FrameParts) : Type 0 where
   -- it has got the frame, which is one that is relayed
@@ -55,6 +73,11 @@ pub data MayAsk (scenario : ScenarioParts) (i : ℕ) (past : List NoticeKind) (f
   -- the frame accepts a message of its own that it has sent
   accepts : (g : FrameParts) → Among (λ n. n ≡ Sent g) past → g.class ≡ class.Tot → g.node ≡ i → accept_frame g ≡ f
       → MayAsk scenario i past f
+  -- the frame is that of a failure sign: a copy told of it, or silence brought it in the slot of the newest notice
+  signals : (sign : Sign) (slot : ℕ) → length past ≡ suc slot → IsKnownBy scenario slot past sign → fda_frame sign ≡ f → MayAsk scenario i past f
+  -- the frame is the node's own life sign, which is due in the slot of the newest notice
+  lives : (slot : ℕ) → length past ≡ suc slot → is_due scenario.params.life i slot (station_of scenario i past) ≡ true → els_frame scenario.inc i (signs_sent i past) ≡ f
+      → MayAsk scenario i past f
 
 -- what is delivered in the turn of the newest notice is what a data frame of the service carried, which the node has read by then
 pub record IsRead (p : Protocol) (past : List NoticeKind) (slot : ℕ) (by : Service) (msg : MsgKey) (payload : List ℕ) : Type 0 where
@@ -66,11 +89,17 @@ pub record IsRead (p : Protocol) (past : List NoticeKind) (slot : ℕ) (by : Ser
   pub now : length past ≡ suc slot
   pub serves : p.delivers by ≡ true
 
--- an entry that a protocol makes: none makes those of failures and views yet
-abbrev pub IsFoundedEntry : Protocol → List NoticeKind → LogEntry → Type 0
-IsFoundedEntry p past (Deliver slot by msg payload) = IsRead p past slot by msg payload
-IsFoundedEntry p past (Failed slot node cycle) = ⊥
-IsFoundedEntry p past (View slot number members) = ⊥
+-- the sign that is entered in the turn of the newest notice was told of, or silence brought it, and is known then
+pub record IsSignal (scenario : ScenarioParts) (i : ℕ) (past : List NoticeKind) (slot : ℕ) (sign : Sign) : Type 0 where
+  pub now : length past ≡ suc slot
+  pub because : IsKnownBy scenario slot past sign
+  pub known : knows sign (station_of scenario i past) ≡ true
+
+-- an entry that a protocol makes: none makes those of views yet
+abbrev pub IsFoundedEntry : ScenarioParts → Protocol → ℕ → List NoticeKind → LogEntry → Type 0
+IsFoundedEntry scenario p i past (Deliver slot by msg payload) = IsRead p past slot by msg payload
+IsFoundedEntry scenario p i past (Failed slot node cycle) = IsSignal scenario i past slot (record { node = node; cycle = cycle })
+IsFoundedEntry scenario p i past (View slot number members) = ⊥
 
 -- The frames that are withdrawn only with more than omit copies: those of eager diffusion by all copies, and those of a node that
 -- falls back. A frame that accepts a message is not among them: the copies since the place of the message count, and it is
@@ -115,7 +144,7 @@ diffused_is_relayed class.Ed h = h
 abbrev pub IsFounded : ScenarioParts → Protocol → ℕ → List NoticeKind → Effect → Type 0
 IsFounded scenario p i past (Ask f) = MayAsk scenario i past f × (p.names f.class ≡ true)
 IsFounded scenario p i past (Withdraw x) = MayWithdraw scenario past x × (p.names x.class ≡ true)
-IsFounded scenario p i past (Enter entry) = IsFoundedEntry p past entry
+IsFounded scenario p i past (Enter entry) = IsFoundedEntry scenario p i past entry
 
 -- ---- a protocol
 
@@ -141,14 +170,6 @@ unfolding copies
 got_copies past x f same got =
     count-from_Among (is_got x) past (Among-weaker (λ n. n ≡ Got f) (λ n. is_got x n ≡ true) (λ n is. is_got-from x f n is same) past got)
 
--- a frame is asked for because a copy was read, or by the node that it names
-pub asked_cause : (scenario : ScenarioParts) (i : ℕ) (past : List NoticeKind) (x : Identity) (f : FrameParts) → x ≡ identity_of f → MayAsk scenario i past f
-    → (x.node ≡ i) ⊎ (0 < copies x past)
-asked_cause scenario i past x f same (relays relayed got) = inr (got_copies past x f same got)
-asked_cause scenario i past x f same (originates m is origin slot late frame) = inl (ap (λ (y : Identity). y.node) same ∙ sym (ap (λ (g : FrameParts). g.node) frame) ∙ origin)
-asked_cause scenario i past x f same (confirms g sent rel own frame) = inl (ap (λ (y : Identity). y.node) same ∙ sym (ap (λ (g : FrameParts). g.node) frame) ∙ own)
-asked_cause scenario i past x f same (accepts g sent tot own frame) = inl (ap (λ (y : Identity). y.node) same ∙ sym (ap (λ (g : FrameParts). g.node) frame) ∙ own)
-
 -- the origin may send its message: it has read the slot, which is one whose scripted asks are made
 abbrev pub MayStart : ScenarioParts → Message → ℕ → List NoticeKind → Type 0
 MayStart scenario m i past = (m.origin ≡ i) × (m.slot < length past) × (scenario.from ≤ m.slot)
@@ -157,6 +178,16 @@ pub data_confirms_none : (by : Service) → data_class by ≡ class.Confirm → 
 data_confirms_none Ed e = cc
 data_confirms_none Rel e = cc
 data_confirms_none Tot e = cc
+
+pub data_signals_none : (by : Service) → data_class by ≡ class.Fda → ⊥
+data_signals_none Ed e = cc
+data_signals_none Rel e = cc
+data_signals_none Tot e = cc
+
+pub data_lives_none : (by : Service) → data_class by ≡ class.Els → ⊥
+data_lives_none Ed e = cc
+data_lives_none Rel e = cc
+data_lives_none Tot e = cc
 
 pub data_accepts_none : (by : Service) → data_class by ≡ class.Accept → ⊥
 data_accepts_none Ed e = cc
@@ -176,6 +207,10 @@ asked_start scenario i past m is f same (confirms g sent rel own frame) =
     absurd (data_confirms_none m.service (ap (λ (x : Identity). x.class) same ∙ sym (ap (λ (h : FrameParts). h.class) frame)))
 asked_start scenario i past m is f same (accepts g sent tot own frame) =
     absurd (data_accepts_none m.service (ap (λ (x : Identity). x.class) same ∙ sym (ap (λ (h : FrameParts). h.class) frame)))
+asked_start scenario i past m is f same (signals sign slot now known frame) =
+    absurd (data_signals_none m.service (ap (λ (x : Identity). x.class) same ∙ sym (ap (λ (h : FrameParts). h.class) frame)))
+asked_start scenario i past m is f same (lives slot now due frame) =
+    absurd (data_lives_none m.service (ap (λ (x : Identity). x.class) same ∙ sym (ap (λ (h : FrameParts). h.class) frame)))
 
 -- an effect that asks, withdraws or enters among effects that have their reason
 pub ask_of : (scenario : ScenarioParts) (p : Protocol) (i : ℕ) (past : List NoticeKind) (x : Identity) (e : Effect) → Asks x e → IsFounded scenario p i past e

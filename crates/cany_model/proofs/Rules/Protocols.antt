@@ -6,6 +6,7 @@ use Rattle.cany_base.specs.declared.message.Service.TheVariants.{Ed, Rel, Tot}
 use Rattle.cany_model.specs.Bus.Frames.{same_class}
 use Rattle.cany_model.specs.Rules.Backlog.{tot_backlog}
 use Rattle.cany_model.specs.Rules.Edcan.{edcan}
+use Rattle.cany_model.specs.Rules.Life.{failure_signs, life_signs}
 use Rattle.cany_model.specs.Rules.Messages.{is_service}
 use Rattle.cany_model.specs.Rules.Protocol.{Protocol}
 use Rattle.cany_model.specs.Rules.Relcan.{relcan}
@@ -15,13 +16,15 @@ use Rattle.cany_model.specs.Rules.Turn.{protocols}
 use Rattle.cany_model.proofs.Among.{Among}
 use Rattle.cany_model.proofs.Rules.BacklogFacts.{backlog_is_lawful}
 use Rattle.cany_model.proofs.Rules.EdcanFacts.{edcan_is_lawful}
+use Rattle.cany_model.proofs.Rules.LifeFacts.{failures_are_lawful, life_is_lawful}
 use Rattle.cany_model.proofs.Rules.ProtocolFacts.{IsLawful}
 use Rattle.cany_model.proofs.Rules.RelcanFacts.{relcan_is_lawful}
 use Rattle.cany_model.proofs.Rules.SendFacts.{sends_are_lawful}
 use Rattle.cany_model.proofs.Rules.TotcanFacts.{totcan_is_lawful}
 
 pub are_lawful : AllByRecursion IsLawful protocols
-are_lawful = (edcan_is_lawful, (relcan_is_lawful, (totcan_is_lawful, (sends_are_lawful, (backlog_is_lawful, tt)))))
+are_lawful =
+    (edcan_is_lawful, (relcan_is_lawful, (totcan_is_lawful, (failures_are_lawful, (life_is_lawful, (sends_are_lawful, (backlog_is_lawful, tt)))))))
 
 -- ---- where each stands
 
@@ -37,11 +40,17 @@ relcan_is_one = inr (inl refl)
 pub totcan_is_one : IsProtocol totcan
 totcan_is_one = inr (inr (inl refl))
 
+pub failures_are_one : IsProtocol failure_signs
+failures_are_one = inr (inr (inr (inl refl)))
+
+pub life_is_one : IsProtocol life_signs
+life_is_one = inr (inr (inr (inr (inl refl))))
+
 pub sends_are_one : IsProtocol scripted_sends
-sends_are_one = inr (inr (inr (inl refl)))
+sends_are_one = inr (inr (inr (inr (inr (inl refl)))))
 
 pub backlog_is_one : IsProtocol tot_backlog
-backlog_is_one = inr (inr (inr (inr (inl refl))))
+backlog_is_one = inr (inr (inr (inr (inr (inr (inl refl))))))
 
 -- ---- no two deliver the messages of one service
 

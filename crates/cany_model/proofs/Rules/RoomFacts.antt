@@ -1,9 +1,9 @@
 -- How many frames may wait at a node: of each class at most as many as its room, and so of all fewer than the room.
-use Rattle.std.proofs.Common.{◌≡◌, ℕ, ◌+◌, ◌<◌, ◌≤◌, ◌&&◌, inl, inr, Bool, true, false, cond, List, [], ◌∷◌, length, count_by, sum_by, Option, Some, None, refl, ap, sym, ◌∙◌, subst, arith}
+use Rattle.std.proofs.Common.{◌≡◌, ℕ, zero, suc, ◌++◌, ◌*◌, suc-mul, ◌+◌, ◌<◌, ◌≤◌, ◌&&◌, inl, inr, Bool, true, false, cond, List, [], ◌∷◌, length, count_by, sum_by, refl, ap, sym, ◌∙◌, subst, arith}
 use Rattle.std.specs.List.{AllByRecursion}
 use Rattle.std.proofs.Math.Nat.{add-mul, mul-add}
-use Rattle.std.proofs.lemmas.Bool.{and_from, cases_Bool}
-use Rattle.std.proofs.lemmas.List.Sums.{sum_by-cons, sum_by-le-sum_by}
+use Rattle.std.proofs.lemmas.Bool.{and_from, cases_Bool, cases_eq, cases_lt}
+use Rattle.std.proofs.lemmas.List.Sums.{sum_by-append, sum_by-cons, sum_by-le-sum_by}
 use Rattle.cany_base.specs.declared.frame.Class.{Class}
 use Rattle.cany_base.specs.declared.frame.Class.TheVariants.{Accept, Rha, Els, Fda, Join, Leave, Confirm, Tot, Rel, Ed}
 use Rattle.cany_base.specs.declared.message.SendAsk.{SendAsk}
@@ -13,8 +13,9 @@ use Rattle.cany_base.specs.Frame.{FrameParts}
 use Rattle.cany_base.specs.Scenario.{ScenarioParts}
 use Rattle.cany_model.specs.Bus.Frames.{Identity, identity_of, is_of, same_class}
 use Rattle.cany_model.specs.Rules.Messages.{IsOfMessage, Message, is_service, message_of, messages_after, messages_of}
-use Rattle.cany_model.specs.Rules.Rooms.{IsAskable, IsAskableBy, class_room, cycles, sends_by, service_of, waiting_room}
-use Rattle.cany_model.proofs.Among.{Among, Among-from_Contains, Among-weaker, Each-weaker, count-cons, count-from_Among, count-no, count-yes}
+use Rattle.cany_model.specs.Rules.Rooms.{IsAskable, IsAskableAs, IsOfNode, class_room, cycles, sends_by, waiting_room}
+use Rattle.cany_model.specs.Rules.Station.{Sign, fda_of, sign_of}
+use Rattle.cany_model.proofs.Among.{Among, Among-append_left, Among-append_right, Among-from_Contains, Among-weaker, Each-weaker, count-cons, count-from_Among, count-no, count-yes, one_if}
 use Rattle.cany_model.proofs.Bus.Identities.{same_class-true, same_identity-from}
 use Rattle.cany_model.proofs.Rules.MessageKeys.{is_service-from}
 
@@ -69,6 +70,51 @@ count_messages by earlier (send ∷ sends) =
       count_messages by (send ∷ earlier) sends,
     )
 
+-- ---- failure signs
+
+-- those of one node in so many cycles, and of so many nodes
+signs_of : ℕ → ℕ → List Sign
+signs_of r zero = []
+signs_of r (suc k) = record { node = r; cycle = k } ∷ signs_of r k
+
+pub signs_below : ℕ → ℕ → List Sign
+signs_below zero k = []
+signs_below (suc n) k = signs_of n k ++ signs_below n k
+
+stands_of : (r j k : ℕ) → j < k → Among (λ sign. sign ≡ record { node = r; cycle = j }) (signs_of r k)
+unfolding signs_of
+stands_of r j zero below = absurd (omega (arith, below))
+stands_of r j (suc k) below = elim (cases_eq k j) [
+  | inl e ↦ inl (ap (λ n. record { node = r; cycle = n }) e)
+  | inr other ↦ inr (stands_of r j k (below_other j k below other))
+]
+  where
+    below_other : (j k : ℕ) → j < suc k → (k ≡ j → ⊥) → j < k
+    below_other j k h other = elim (cases_lt j k) [ inl less ↦ less | inr past ↦ absurd (other (omega (arith, h, past))) ]
+
+pub stands_below : (r j n k : ℕ) → r < n → j < k → Among (λ sign. sign ≡ record { node = r; cycle = j }) (signs_below n k)
+unfolding signs_below
+stands_below r j zero k here below = absurd (omega (arith, here))
+stands_below r j (suc n) k here below = elim (cases_eq n r) [
+  | inl e ↦ Among-append_left (λ sign. sign ≡ record { node = r; cycle = j }) (signs_of n k) (signs_below n k)
+      (subst (λ m. Among (λ sign. sign ≡ record { node = r; cycle = j }) (signs_of m k)) (sym e) (stands_of r j k below))
+  | inr other ↦ Among-append_right (λ sign. sign ≡ record { node = r; cycle = j }) (signs_of n k) (signs_below n k)
+      (stands_below r j n k (less n r here other) below)
+]
+  where
+    less : (n r : ℕ) → r < suc n → (n ≡ r → ⊥) → r < n
+    less n r h other = elim (cases_lt r n) [ inl below ↦ below | inr past ↦ absurd (other (omega (arith, h, past))) ]
+
+count_of : (r k : ℕ) → count_by (λ sign. true) (signs_of r k) ≡ k
+unfolding signs_of
+count_of r zero = refl
+count_of r (suc k) = omega (arith, count-cons (λ sign. true) (record { node = r; cycle = k }) (signs_of r k), count_of r k)
+
+pub count_below : (n k : ℕ) → count_by (λ sign. true) (signs_below n k) ≡ n * k
+unfolding signs_below
+count_below zero k = omega arith
+count_below (suc n) k = omega (arith, sum_by-append {X = Sign} (λ sign. cond true 1 0) (signs_of n k) (signs_below n k), count_of n k, count_below n k, suc-mul n k)
+
 -- ---- class by class
 
 abbrev pub is_in : Class → FrameParts → Bool
@@ -78,10 +124,8 @@ is_in c f = same_class f.class c
 module _ (scenario : ScenarioParts) (w : List FrameParts) (distinct : (x : Identity) → count_by (is_of x) w ≤ 1)
     (all : AllByRecursion (λ f. IsAskable scenario (identity_of f)) w) where
   -- why a frame of the class may be asked for
-  of_class : (c : Class) (o : Option Service) → service_of c ≡ o → (f : FrameParts) → IsAskable scenario (identity_of f) → is_in c f ≡ true
-      → IsAskableBy scenario (identity_of f) o
-  of_class c o is f h in_class =
-      subst (IsAskableBy scenario (identity_of f)) (ap service_of (same_class-true f.class c in_class) ∙ is) h
+  of_class : (c : Class) (f : FrameParts) → IsAskable scenario (identity_of f) → is_in c f ≡ true → IsAskableAs scenario (identity_of f) c
+  of_class c f h in_class = subst (IsAskableAs scenario (identity_of f)) (same_class-true f.class c in_class) h
 
   -- a message hits the frame of the class that is named as it is
   abbrev name : Class → Message → Identity
@@ -108,43 +152,63 @@ module _ (scenario : ScenarioParts) (w : List FrameParts) (distinct : (x : Ident
   ]
 
   -- of a class whose frames belong to the messages of a service
-  of_messages : (c : Class) (by : Service) → service_of c ≡ Some by → count_by (is_in c) w ≤ sends_by scenario by
+  of_messages : (c : Class) (by : Service) → ((x : Identity) → IsAskableAs scenario x c → IsOfMessage scenario by x)
+      → count_by (is_in c) w ≤ sends_by scenario by
   of_messages c by is =
       omega (
         arith,
         pigeonhole (names c by) (is_in c) (λ m. is_service by m.service) w (messages_of scenario.sends)
             (Each-weaker (λ f. IsAskable scenario (identity_of f)) (λ f. is_in c f ≡ true → Among (λ m. names c by m f ≡ true) (messages_of scenario.sends))
-            (λ f h in_class. named c by f in_class (of_class c (Some by) is f h in_class)) w all)
+            (λ f h in_class. named c by f in_class (is (identity_of f) (of_class c f h in_class))) w all)
             (names_one c by),
         count_messages by [] scenario.sends,
       )
 
   -- of a class that nobody asks for
-  of_none : (c : Class) → service_of c ≡ None → count_by (is_in c) w ≤ 0
+  of_none : (c : Class) → ((x : Identity) → IsAskableAs scenario x c → ⊥) → count_by (is_in c) w ≤ 0
   of_none c is =
       pigeonhole {Y = Message} (λ m f. false) (is_in c) (λ m. false) w []
-      (Each-weaker (λ f. IsAskable scenario (identity_of f)) (λ f. is_in c f ≡ true → ⊥) (λ f h in_class. of_class c None is f h in_class) w all)
+      (Each-weaker (λ f. IsAskable scenario (identity_of f)) (λ f. is_in c f ≡ true → ⊥) (λ f h in_class. is (identity_of f) (of_class c f h in_class)) w all)
       (λ m. none_hit w)
 
-  pub few_of_class : (c : Class) → count_by (is_in c) w ≤ class_room scenario c
-  few_of_class Accept = of_messages Accept service.Tot refl
-  few_of_class Rha = omega (arith, of_none Rha refl)
-  few_of_class Els = omega (arith, of_none Els refl)
-  few_of_class Fda = omega (arith, of_none Fda refl)
-  few_of_class Join = omega (arith, of_none Join refl)
-  few_of_class Leave = omega (arith, of_none Leave refl)
-  few_of_class Confirm = of_messages Confirm service.Rel refl
-  few_of_class Tot = of_messages Tot service.Tot refl
-  few_of_class Rel = of_messages Rel service.Rel refl
-  few_of_class Ed = of_messages Ed service.Ed refl
+  told : (f : FrameParts) → is_in Fda f ≡ true → IsOfNode scenario scenario.params.cycle (identity_of f)
+      → Among (λ sign. is_of (fda_of sign) f ≡ true) (signs_below scenario.params.nodes (cycles scenario + 1))
+  told f in_class h =
+      let class : f.class ≡ Fda = same_class-true f.class Fda in_class in
+      Among-weaker (λ sign. sign ≡ sign_of f) (λ sign. is_of (fda_of sign) f ≡ true)
+      (λ sign e. same_identity-from (fda_of sign) (identity_of f) (λ k. record { class = (sym class) k; number = (e k).cycle; node = (e k).node }))
+      (signs_below scenario.params.nodes (cycles scenario + 1))
+      (stands_below f.node f.number scenario.params.nodes (cycles scenario + 1) h.node (omega (arith, h.number)))
+
+  of_signs : count_by (is_in Fda) w ≤ scenario.params.nodes * (cycles scenario + 1)
+  of_signs =
+      omega (
+        arith,
+        pigeonhole (λ sign f. is_of (fda_of sign) f) (is_in Fda) (λ sign. true) w (signs_below scenario.params.nodes (cycles scenario + 1))
+            (Each-weaker (λ f. IsAskable scenario (identity_of f))
+            (λ f. is_in Fda f ≡ true → Among (λ sign. is_of (fda_of sign) f ≡ true) (signs_below scenario.params.nodes (cycles scenario + 1)))
+            (λ f h in_class. told f in_class (of_class Fda f h in_class)) w all)
+            (λ sign. distinct (fda_of sign)),
+        count_below scenario.params.nodes (cycles scenario + 1),
+      )
+
+  -- the life signs are counted apart
+  pub few_of_class : count_by (is_in Els) w ≤ class_room scenario Els → (c : Class) → count_by (is_in c) w ≤ class_room scenario c
+  few_of_class signs Accept = of_messages Accept service.Tot (λ x h. h)
+  few_of_class signs Rha = omega (arith, of_none Rha (λ x h. h))
+  few_of_class signs Els = signs
+  few_of_class signs Fda = of_signs
+  few_of_class signs Join = omega (arith, of_none Join (λ x h. h))
+  few_of_class signs Leave = omega (arith, of_none Leave (λ x h. h))
+  few_of_class signs Confirm = of_messages Confirm service.Rel (λ x h. h)
+  few_of_class signs Tot = of_messages Tot service.Tot (λ x h. h)
+  few_of_class signs Rel = of_messages Rel service.Rel (λ x h. h)
+  few_of_class signs Ed = of_messages Ed service.Ed (λ x h. h)
 
 -- ---- the ten classes together
 
 abbrev pub over_classes : (Class → ℕ) → ℕ
 over_classes f = f Accept + f Rha + f Els + f Fda + f Join + f Leave + f Confirm + f Tot + f Rel + f Ed
-
-abbrev one_if : Bool → ℕ
-one_if b = cond b 1 0
 
 one_class : (c : Class) → over_classes (λ d. one_if (same_class c d)) ≡ 1
 unfolding same_class
@@ -193,9 +257,9 @@ rooms_together scenario =
     let nodes : ℕ = scenario.params.nodes in
     omega (arith, each_service scenario.sends, add-mul nodes 1 (cycles scenario + 2), mul-add nodes (cycles scenario) 2, mul-add nodes (cycles scenario) 1)
 
--- so are the frames
+-- so are the frames, where the life signs are few
 pub few_waiting : (scenario : ScenarioParts) (w : List FrameParts) → ((x : Identity) → count_by (is_of x) w ≤ 1)
-    → AllByRecursion (λ f. IsAskable scenario (identity_of f)) w → length w < waiting_room scenario
-few_waiting scenario w distinct all =
-    let few : (c : Class) → count_by (is_in c) w ≤ class_room scenario c = few_of_class scenario w distinct all in
+    → AllByRecursion (λ f. IsAskable scenario (identity_of f)) w → count_by (is_in Els) w ≤ class_room scenario Els → length w < waiting_room scenario
+few_waiting scenario w distinct all signs =
+    let few : (c : Class) → count_by (is_in c) w ≤ class_room scenario c = few_of_class scenario w distinct all signs in
     omega (arith, all_classes w, few Accept, few Rha, few Els, few Fda, few Join, few Leave, few Confirm, few Tot, few Rel, few Ed, rooms_together scenario)

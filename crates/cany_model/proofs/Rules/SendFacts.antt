@@ -59,7 +59,7 @@ sends_founded scenario i e past (m ∷ messages) are =
     ((originates m one.0 h.origin (omega (arith, h.at)) (omega (arith, h.at, one.1)) refl, sends_named m.service h.at_once), rest))
     (λ _. rest)
 
-asks_enter_none : (messages : List Message) → entered (map (λ m. Ask (data_frame m)) messages) ≡ []
+pub asks_enter_none : (messages : List Message) → entered (map (λ m. Ask (data_frame m)) messages) ≡ []
 unfolding entered
 asks_enter_none [] = refl
 asks_enter_none (m ∷ messages) = asks_enter_none messages

@@ -21,7 +21,7 @@ use Rattle.cany_model.specs.Rules.Eager.{eager_effects, has_enough, is_first_cop
 use Rattle.cany_model.specs.Rules.Effect.{Effect, Ask, Withdraw, entered}
 use Rattle.cany_model.specs.Rules.Messages.{Message, accept_of_key, is_service, message_key}
 use Rattle.cany_model.specs.Rules.Totcan.{accept_effects, accept_frame, after_place, closing_effects, closing_of, delivered, delivered_now, done, done_at, done_from, has_closing_ahead, holds, is_accepted, is_among, is_clear, is_open, is_place, is_recent, message_in, new_among, tot_delivery, tot_in, totcan, totcan_effects}
-use Rattle.cany_model.proofs.Among.{Among, Among-from_count, Among-get_or, Among-gives, Among-weaker, Among-with, Each-append, Each-weaker, any-from_Among, count-cons, count-no, count-yes}
+use Rattle.cany_model.proofs.Among.{Among, Among-from_count, Among-get_or, Among-gives, Among-weaker, Among-with, Each-append, Each-filter, Each-weaker, any-from_Among, count-cons, count-no, count-yes}
 use Rattle.cany_model.proofs.Bus.Carried.{Has}
 use Rattle.cany_model.proofs.Bus.Identities.{same_class-true, same_identity-from}
 use Rattle.cany_model.proofs.Rules.Begun.{AreIdle, idle_at}
@@ -149,11 +149,6 @@ done_from_brought p i past age (e ∷ older) =
 
 pub done_brought : (p : Parameters) (i : ℕ) (past : List NoticeKind) → AllByRecursion (IsBrought past) (done p i past)
 done_brought p i past = done_from_brought p i past 0 past
-
-Each-filter : {X : Type 0} (P : X → Type 0) (q : X → Bool) (xs : List X) → AllByRecursion P xs → AllByRecursion P (filter q xs)
-Each-filter P q [] h = tt
-Each-filter P q (x ∷ xs) h =
-    cond_both (q x) (x ∷ filter q xs) (filter q xs) (AllByRecursion P) (λ _. (h.0, Each-filter P q xs h.1)) (λ _. Each-filter P q xs h.1)
 
 now_brought : (p : Parameters) (i : ℕ) (past : List NoticeKind) → AllByRecursion (IsBrought past) (delivered_now p i past)
 unfolding delivered_now

@@ -12,6 +12,7 @@ use Rattle.cany_model.specs.Bus.History.{copies, has_own, is_got}
 use Rattle.cany_model.specs.Rules.Backlog.{tot_backlog}
 use Rattle.cany_model.specs.Rules.Edcan.{edcan}
 use Rattle.cany_model.specs.Rules.Effect.{Effect}
+use Rattle.cany_model.specs.Rules.Life.{failure_effects, failure_signs, life_signs}
 use Rattle.cany_model.specs.Rules.Messages.{Message, messages_of, data_frame, data_id}
 use Rattle.cany_model.specs.Rules.Protocol.{Protocol}
 use Rattle.cany_model.specs.Rules.Relcan.{falls_back, fell_back, relcan}
@@ -22,11 +23,12 @@ use Rattle.cany_model.proofs.Among.{Among, Among-flat_map, Among-from_flat_map, 
 use Rattle.cany_model.proofs.Bus.Waits.{Asks, Withdraws, AsksOnly}
 use Rattle.cany_model.proofs.Rules.BacklogFacts.{backlog_is_lawful}
 use Rattle.cany_model.proofs.Rules.EdcanFacts.{edcan_is_lawful, edcan_relays}
+use Rattle.cany_model.proofs.Rules.LifeFacts.{failures_are_lawful, life_is_lawful}
 use Rattle.cany_model.proofs.Rules.MessageKeys.{IsOneOf}
-use Rattle.cany_model.proofs.Rules.ProtocolFacts.{IsFounded, IsLawful, MayAsk, MayStart, ask_of, asked_cause, asked_start, asks_named, asks_only, is_diffused, withdrawal_of}
+use Rattle.cany_model.proofs.Rules.ProtocolFacts.{IsFounded, IsLawful, MayAsk, MayStart, ask_of, asked_start, asks_named, asks_only, is_diffused, withdrawal_of}
 use Rattle.cany_model.proofs.Rules.Protocols.{IsProtocol, are_lawful, edcan_is_one, relcan_is_one, sends_are_one}
-use Rattle.cany_model.proofs.Rules.RelcanFacts.{relcan_asks, relcan_falls_back}
-use Rattle.cany_model.proofs.Rules.SendFacts.{sends_ask, sends_cause}
+use Rattle.cany_model.proofs.Rules.RelcanFacts.{relcan_asks, relcan_falls_back, relcan_is_lawful}
+use Rattle.cany_model.proofs.Rules.SendFacts.{sends_are_lawful, sends_ask, sends_cause}
 use Rattle.cany_model.proofs.Rules.TotcanFacts.{totcan_is_lawful}
 
 -- ---- the list
@@ -71,15 +73,7 @@ turn_withdraws scenario i x past diffused h =
     let w = turn_effect (Withdraws x) scenario i past h in
     withdrawal_of scenario w.protocol i past x w.effect w.is w.founded diffused
 
--- a frame is asked for because a copy was read, or by the node that it names
-pub turn_cause : (scenario : ScenarioParts) (i : ℕ) (x : Identity) (past : List NoticeKind) → Among (Asks x) (turn_effects scenario i past)
-    → (x.node ≡ i) ⊎ (0 < copies x past)
-turn_cause scenario i x past h =
-    let w = turn_effect (Asks x) scenario i past h in
-    let asked = ask_of scenario w.protocol i past x w.effect w.is w.founded in
-    asked_cause scenario i past x asked.0 asked.1 asked.2
-
--- the data frame of a message because a copy was read, or by its origin, which has read the slot
+-- the data frame of a message is asked for because a copy was read, or by its origin, which has read the slot
 pub turn_cause_data : (scenario : ScenarioParts) (i : ℕ) (m : Message) (past : List NoticeKind) → IsOneOf (messages_of scenario.sends) m
     → Among (Asks (data_id m)) (turn_effects scenario i past) → MayStart scenario m i past ⊎ (0 < copies (data_id m) past)
 turn_cause_data scenario i m past is h =
@@ -103,9 +97,28 @@ rel_cause scenario i m past is rel h =
       | inl ed ↦ absurd (not_asked scenario edcan edcan_is_lawful i past (data_id m) (ap edcan.names of) ed)
       | inr (inl late) ↦ inr (relcan_asks scenario i (data_id m) past of late)
       | inr (inr (inl tot)) ↦ absurd (not_asked scenario totcan totcan_is_lawful i past (data_id m) (ap totcan.names of) tot)
-      | inr (inr (inr (inl sent))) ↦ inl (sends_cause scenario i m past is sent)
-      | inr (inr (inr (inr (inl next)))) ↦ absurd (not_asked scenario tot_backlog backlog_is_lawful i past (data_id m) (ap tot_backlog.names of) next)
-      | inr (inr (inr (inr (inr none)))) ↦ absurd none
+      | inr (inr (inr (inl fda))) ↦ absurd (not_asked scenario failure_signs failures_are_lawful i past (data_id m) (ap failure_signs.names of) fda)
+      | inr (inr (inr (inr (inl els)))) ↦ absurd (not_asked scenario life_signs life_is_lawful i past (data_id m) (ap life_signs.names of) els)
+      | inr (inr (inr (inr (inr (inl sent))))) ↦ inl (sends_cause scenario i m past is sent)
+      | inr (inr (inr (inr (inr (inr (inl next)))))) ↦
+          absurd (not_asked scenario tot_backlog backlog_is_lawful i past (data_id m) (ap tot_backlog.names of) next)
+      | inr (inr (inr (inr (inr (inr (inr none)))))) ↦ absurd none
+    ]
+
+-- the frame of a failure sign by the rules of failure signs
+pub fda_cause : (scenario : ScenarioParts) (i : ℕ) (x : Identity) (past : List NoticeKind) → x.class ≡ class.Fda → Among (Asks x) (turn_effects scenario i past)
+    → Among (Asks x) (failure_effects scenario i past)
+unfolding turn_effects same_class
+fda_cause scenario i x past fda h =
+    elim (Among-from_flat_map (λ p. p.effects scenario i past) (Asks x) protocols h) [
+      | inl ed ↦ absurd (not_asked scenario edcan edcan_is_lawful i past x (ap edcan.names fda) ed)
+      | inr (inl rel) ↦ absurd (not_asked scenario relcan relcan_is_lawful i past x (ap relcan.names fda) rel)
+      | inr (inr (inl tot)) ↦ absurd (not_asked scenario totcan totcan_is_lawful i past x (ap totcan.names fda) tot)
+      | inr (inr (inr (inl sign))) ↦ sign
+      | inr (inr (inr (inr (inl els)))) ↦ absurd (not_asked scenario life_signs life_is_lawful i past x (ap life_signs.names fda) els)
+      | inr (inr (inr (inr (inr (inl sent))))) ↦ absurd (not_asked scenario scripted_sends sends_are_lawful i past x (ap scripted_sends.names fda) sent)
+      | inr (inr (inr (inr (inr (inr (inl next)))))) ↦ absurd (not_asked scenario tot_backlog backlog_is_lawful i past x (ap tot_backlog.names fda) next)
+      | inr (inr (inr (inr (inr (inr (inr none)))))) ↦ absurd none
     ]
 
 -- each frame that is asked for has what follows from the reason

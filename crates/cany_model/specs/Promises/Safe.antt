@@ -1,5 +1,5 @@
 -- What is promised of a run.
-use Rattle.std.specs.Prelude.{◌≡◌, ℕ, ◌==◌, ◌&&◌, ◌≤◌, Bool, true, false, if◌then◌else◌, List, [], ◌∷◌, Option, Some, None, Contains, count_by, ◌⊎◌}
+use Rattle.std.specs.Prelude.{◌≡◌, ℕ, ◌/◌, ◌==◌, ◌&&◌, ◌<◌, ◌≤◌, Bool, true, false, not, if◌then◌else◌, List, [], ◌∷◌, Option, Some, None, Contains, count_by, ◌⊎◌}
 use Rattle.std.specs.Option.{option_or}
 use Rattle.cany_base.specs.declared.log_entry.LogEntry.{LogEntry}
 use Rattle.cany_base.specs.declared.log_entry.LogEntry.TheVariants.{Deliver, Failed, View}
@@ -10,7 +10,9 @@ use Rattle.cany_base.specs.Nodes.{has}
 use Rattle.cany_base.specs.Scenario.{ScenarioParts}
 use Rattle.cany_model.specs.Rules.Log.{log}
 use Rattle.cany_model.specs.Rules.Messages.{Message, messages_of, message_key, data_frame, data_id}
-use Rattle.cany_model.specs.Promises.Settled.{IsCorrect, IsCorrectFrom, is_settled}
+use Rattle.cany_model.specs.Rules.Station.{Sign, fda_of}
+use Rattle.cany_model.specs.Promises.Settled.{IsCorrect, IsCorrectFrom, is_awaited, is_settled}
+use Rattle.cany_model.specs.Bus.Run.{all_read}
 use Rattle.cany_model.specs.Bus.Frames.{Identity, is_of}
 use Rattle.cany_model.specs.Bus.Slot.{carried}
 use Rattle.cany_model.specs.Bus.State.{RunState}
@@ -28,15 +30,16 @@ pub record WasSent (trace : List SlotNote) (m : Message) (slot : ℕ) : Type 0 w
   pub frame : note.frame ≡ Some (data_frame m)
   pub sender : has note.senders m.origin ≡ true
 
--- what an entry delivers is a message of the scenario that was sent
+-- what an entry delivers is a message of the scenario that was sent, and a failure that it tells of is that of a node of the bus, in a
+-- cycle that had begun by then
 abbrev pub IsSound : ScenarioParts → RunState → LogEntry → Type 0
 IsSound scenario s (Deliver slot service msg payload) =
     (m : Message) × Contains (messages_of scenario.sends) m × (message_key m ≡ msg) × (m.service ≡ service)
     × (m.payload ≡ payload) × WasSent s.trace m slot
-IsSound scenario s (Failed slot node cycle) = Unit {0}
+IsSound scenario s (Failed slot node cycle) = (node < scenario.params.nodes) × (cycle ≤ slot / scenario.params.cycle)
 IsSound scenario s (View slot number members) = Unit {0}
 
--- no message twice or unsent in the log of a correct node
+-- no message twice or unsent in the log of a correct node, and no failure of a node that is not there
 pub record IsIntegral (scenario : ScenarioParts) (s : RunState) : Type 0 where
   pub once : (i : ℕ) → IsCorrect scenario s i → (key : MsgKey) → count_by (delivers_key key) (log scenario s i) ≤ 1
   pub sent : (i : ℕ) → IsCorrect scenario s i → (entry : LogEntry) → Contains (log scenario s i) entry → IsSound scenario s entry
@@ -76,8 +79,40 @@ IsAgreedFrom scenario s m None =
 abbrev pub IsAgreedOn : ScenarioParts → RunState → Message → Type 0
 IsAgreedOn scenario s m = IsAgreedFrom scenario s m (first_carried (data_id m) s.trace)
 
--- What a run within the fault hypothesis keeps. Integrity covers the messages of TOTCAN too; their order and agreement, the views
--- and the failure signs join it with their parts.
+-- ---- failure signs
+
+-- the entry is that of the sign
+abbrev pub tells_of : Sign → LogEntry → Type 0
+tells_of sign (Deliver slot service msg payload) = ⊥
+tells_of sign (Failed slot node cycle) = (node ≡ sign.node) × (cycle ≡ sign.cycle)
+tells_of sign (View slot number members) = ⊥
+
+pub record HasSigned (scenario : ScenarioParts) (s : RunState) (i : ℕ) (sign : Sign) : Type 0 where
+  pub entry : LogEntry
+  pub stands : Contains (log scenario s i) entry
+  pub tells : tells_of sign entry
+
+-- nobody waits with the frame of the sign
+abbrev pub is_sign_quiet : RunState → Sign → Bool
+is_sign_quiet s sign = not (is_awaited (fda_of sign ∷ []) s)
+
+-- Of a sign whose frame nobody waits with, where every running node has read every notice: it stands in the logs of all nodes that take
+-- part since the first slot that carried the frame, or of none. One whose frame was never carried, and that nobody waits with, stands in
+-- the log of no correct node.
+abbrev pub IsSignAgreedFrom : ScenarioParts → RunState → Sign → Option ℕ → Type 0
+IsSignAgreedFrom scenario s sign (Some first) =
+    (is_sign_quiet s sign && all_read s) ≡ true
+    → (i : ℕ) → IsCorrectFrom scenario s first i → HasSigned scenario s i sign
+    → (j : ℕ) → IsCorrectFrom scenario s first j → HasSigned scenario s j sign
+IsSignAgreedFrom scenario s sign None =
+    is_sign_quiet s sign ≡ true → (i : ℕ) → IsCorrect scenario s i → HasSigned scenario s i sign → ⊥
+
+abbrev pub IsSignAgreedOn : ScenarioParts → RunState → Sign → Type 0
+IsSignAgreedOn scenario s sign = IsSignAgreedFrom scenario s sign (first_carried (fda_of sign) s.trace)
+
+-- What a run within the fault hypothesis keeps. Integrity covers the messages of TOTCAN too; their order and agreement, and the views,
+-- join it with their parts.
 pub record IsSafe (scenario : ScenarioParts) (s : RunState) : Type 0 where
   pub integrity : IsIntegral scenario s
   pub agreement : (m : Message) → Contains (messages_of scenario.sends) m → (m.service ≡ Ed) ⊎ (m.service ≡ Rel) → IsAgreedOn scenario s m
+  pub signs : (sign : Sign) → IsSignAgreedOn scenario s sign

@@ -1,5 +1,5 @@
 -- How much a node can come to hold in a run: what it may ask for, what it may enter.
-use Rattle.std.specs.Prelude.{ℕ, ◌+◌, ◌*◌, ◌/◌, length, count_by, Option, Some, None}
+use Rattle.std.specs.Prelude.{ℕ, ◌+◌, ◌*◌, ◌/◌, ◌<◌, ◌≤◌, length, count_by}
 use Rattle.cany_base.specs.declared.frame.Class.{Class}
 use Rattle.cany_base.specs.declared.frame.Class.TheVariants.{Accept, Rha, Els, Fda, Join, Leave, Confirm, Tot, Rel, Ed}
 use Rattle.cany_base.specs.declared.message.Service.{Service}
@@ -8,27 +8,32 @@ use Rattle.cany_base.specs.Scenario.{ScenarioParts}
 use Rattle.cany_model.specs.Bus.Frames.{Identity}
 use Rattle.cany_model.specs.Rules.Messages.{IsOfMessage, is_service}
 
--- the service of the messages that frames of this class belong to
-abbrev pub service_of : Class → Option Service
-service_of Accept = Some service.Tot
-service_of Rha = None
-service_of Els = None
-service_of Fda = None
-service_of Join = None
-service_of Leave = None
-service_of Confirm = Some service.Rel
-service_of Tot = Some service.Tot
-service_of Rel = Some service.Rel
-service_of Ed = Some service.Ed
+-- the identity names a node of the bus, and a number that it can reach in a run by intervals of this length
+pub record IsOfNode (scenario : ScenarioParts) (interval : ℕ) (x : Identity) : Type 0 where
+  pub node : x.node < scenario.params.nodes
+  pub number : x.number ≤ scenario.params.slots / interval
 
-abbrev pub IsAskableBy : ScenarioParts → Identity → Option Service → Type 0
-IsAskableBy scenario x (Some by) = IsOfMessage scenario by x
-IsAskableBy scenario x None = ⊥
+-- the identity names a node of the bus, and a life sign that it can have sent in a run
+pub record IsOfLife (scenario : ScenarioParts) (x : Identity) : Type 0 where
+  pub node : x.node < scenario.params.nodes
+  pub passed : x.number * scenario.params.life ≤ scenario.params.slots
 
--- A frame of this identity may come to wait at a node, by its class: it is a frame of a message of the service. No protocol
--- asks for frames of the other classes yet.
+-- A frame of this identity may come to wait at a node, by its class: it is a frame of a message of the service, a failure sign, or a
+-- life sign. No protocol asks for frames of the other classes yet.
+abbrev pub IsAskableAs : ScenarioParts → Identity → Class → Type 0
+IsAskableAs scenario x Accept = IsOfMessage scenario service.Tot x
+IsAskableAs scenario x Rha = ⊥
+IsAskableAs scenario x Els = IsOfLife scenario x
+IsAskableAs scenario x Fda = IsOfNode scenario scenario.params.cycle x
+IsAskableAs scenario x Join = ⊥
+IsAskableAs scenario x Leave = ⊥
+IsAskableAs scenario x Confirm = IsOfMessage scenario service.Rel x
+IsAskableAs scenario x Tot = IsOfMessage scenario service.Tot x
+IsAskableAs scenario x Rel = IsOfMessage scenario service.Rel x
+IsAskableAs scenario x Ed = IsOfMessage scenario service.Ed x
+
 abbrev pub IsAskable : ScenarioParts → Identity → Type 0
-IsAskable scenario x = IsAskableBy scenario x (service_of x.class)
+IsAskable scenario x = IsAskableAs scenario x x.class
 
 -- at most so many membership cycles start after slot 0
 abbrev pub cycles : ScenarioParts → ℕ

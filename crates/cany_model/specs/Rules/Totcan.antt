@@ -15,7 +15,7 @@ use Rattle.cany_model.specs.Bus.History.{is_got, is_sent, has_own}
 use Rattle.cany_model.specs.Rules.Delivery.{delivery}
 use Rattle.cany_model.specs.Rules.Eager.{eager_effects}
 use Rattle.cany_model.specs.Rules.Effect.{Effect, Ask, Withdraw, Enter, TurnRule}
-use Rattle.cany_model.specs.Rules.Messages.{Message, message_key, data_id, accept_of_key, is_service}
+use Rattle.cany_model.specs.Rules.Messages.{Message, message_key, accept_of_key, is_service}
 use Rattle.cany_model.specs.Rules.Protocol.{Protocol}
 
 -- ---- frames

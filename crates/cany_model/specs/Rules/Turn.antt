@@ -9,6 +9,7 @@ use Rattle.cany_model.specs.Bus.State.{Incarnation, RunState, node_at}
 use Rattle.cany_model.specs.Rules.Backlog.{tot_backlog}
 use Rattle.cany_model.specs.Rules.Edcan.{edcan}
 use Rattle.cany_model.specs.Rules.Effect.{Effect, Ask, Withdraw, Enter, TurnRule}
+use Rattle.cany_model.specs.Rules.Life.{failure_signs, life_signs}
 use Rattle.cany_model.specs.Rules.Messages.{Message, data_id}
 use Rattle.cany_model.specs.Rules.Protocol.{Protocol}
 use Rattle.cany_model.specs.Rules.Relcan.{relcan}
@@ -17,18 +18,19 @@ use Rattle.cany_model.specs.Rules.Totcan.{totcan}
 
 -- the protocols, in the order in which a turn goes through them
 abbrev pub protocols : List Protocol
-protocols = edcan ∷ relcan ∷ totcan ∷ scripted_sends ∷ tot_backlog ∷ []
+protocols = edcan ∷ relcan ∷ totcan ∷ failure_signs ∷ life_signs ∷ scripted_sends ∷ tot_backlog ∷ []
 
 -- one after another
 unfoldable pub turn_effects : TurnRule
 turn_effects scenario i past = flat_map (λ protocol. protocol.effects scenario i past) protocols
 
--- The scenario as an incarnation follows it. One of a restarted node makes no scripted ask of a slot before its first one, and
--- is at first no member.
+-- The scenario as an incarnation follows it. One of a restarted node makes no scripted ask of a slot before its first one, is at
+-- first no member, and tells its number.
 abbrev pub scenario_for : ScenarioParts → Incarnation → ScenarioParts
 scenario_for scenario inc = record scenario {
   members = if inc.number == 0 then scenario.members else nobody;
   from = if inc.number == 0 then scenario.from else inc.from;
+  inc = if inc.number == 0 then scenario.inc else inc.number;
 }
 
 -- the scenario as the present incarnation of node i follows it

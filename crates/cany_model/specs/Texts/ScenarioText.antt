@@ -22,9 +22,9 @@ top_keys =
     codes "format" ∷ codes "nodes" ∷ codes "slots" ∷ codes "lag" ∷ codes "omit" ∷ codes "errors" ∷ codes "bound" ∷ codes "cycle" ∷ codes "life"
     ∷ codes "silence" ∷ codes "confirm" ∷ codes "send" ∷ codes "fault" ∷ codes "journal" ∷ []
 
--- the run is over before the first life sign that falls due could be carried
+-- the run ends within the first membership cycle, so no views are exchanged in it
 abbrev pub ends_in_time : Parameters → Bool
-ends_in_time params = nat_le params.slots params.life
+ends_in_time params = nat_le params.slots params.cycle
 
 -- every node is a member, and there are no joins, leaves and restarts
 unfoldable pub scenario_from : Members → Option ScenarioParts
@@ -44,6 +44,7 @@ scenario_from top = do
     leaves = [];
     restarts = [];
     from = 0;
+    inc = 0;
     journal = journal;
   })
 

@@ -1,0 +1,107 @@
+-- How a fact about each running node is proved of every run, where its proof rests on two things more: that a node sends the first of its
+-- waiting frames, and that it has few notices unread after a turn.
+use Rattle.std.proofs.Common.{◌≡◌, ℕ, ◌<◌, ◌≤◌, inl, inr, true, List, ◌∷◌, Some, None, length, ap, sym, ◌∙◌, subst, arith}
+use Rattle.std.proofs.lemmas.Bool.{cases_eq}
+use Rattle.cany_base.specs.declared.notice.NoticeKind.TheVariants.{Sent}
+use Rattle.cany_base.specs.declared.slot_note.SlotNote.{SlotNote}
+use Rattle.cany_base.specs.declared.step.Step.{Step}
+use Rattle.cany_base.specs.Frame.{FrameParts}
+use Rattle.cany_base.specs.Scenario.{ScenarioParts}
+use Rattle.cany_model.specs.Bus.History.{as_seen, given, seen}
+use Rattle.cany_model.specs.Bus.Restart.{after_restarts}
+use Rattle.cany_model.specs.Bus.Run.{after_turn, run}
+use Rattle.cany_model.specs.Bus.Slot.{FaultScript, after_slot, script, slot_note_of}
+use Rattle.cany_model.specs.Bus.State.{Incarnation, NodeState, RunState, node_at, runs}
+use Rattle.cany_model.specs.Rules.Turn.{scenario_for, turn_effects}
+use Rattle.cany_model.proofs.Bus.Journals.{FewUnread, unread_at_first, unread_kept}
+use Rattle.cany_model.proofs.Bus.Notes.{given-Sent}
+use Rattle.cany_model.proofs.Bus.Restarts.{after_restarts-trace, restarts_or_stays}
+use Rattle.cany_model.proofs.Bus.Runs.{IsKept, IsOrderly, along_run}
+use Rattle.cany_model.proofs.Bus.Seen.{seen_one}
+use Rattle.cany_model.proofs.Bus.States.{runs_within}
+use Rattle.cany_model.proofs.Bus.Steps.{MayTurn, after_slot-present, after_slot-trace, after_turn-node, after_turn-other, after_turn-present, after_turn-runs, after_turn-trace, running_before_slot}
+use Rattle.cany_model.proofs.Promises.Diffusion.{Lived, Turned}
+use Rattle.cany_model.proofs.Promises.EachNode.{EachRunning, IsNew, opening_new, restarted_new, slot_lived, turn_turned}
+use Rattle.cany_model.proofs.Promises.Fair.{AllFair, fair_opening, fairly_kept}
+use Rattle.cany_model.proofs.Promises.FewLifeSignsOrder.{NoneBefore, carried_first}
+
+-- what a slot gave the node as sent was the first of the frames that it waited with
+abbrev pub SendsFirst : SlotNote → ℕ → NodeState → Type 0
+SendsFirst note i node = (f : FrameParts) → given i note ≡ Sent f → NoneBefore f node.waiting
+
+-- what is shown of a node: that it holds of a new one, and is kept by a slot and by a turn
+pub record IsNodesWithin (scenario : ScenarioParts) (P : List SlotNote → ℕ → NodeState → Type 0) : Type 0 where
+  pub new : (trace : List SlotNote) (i : ℕ) (node : NodeState) → IsNew scenario trace i node → P trace i node
+  pub slot : (note : SlotNote) (trace : List SlotNote) (i : ℕ) (node after : NodeState) → after.present ≡ node.present → Lived note trace i node after
+      → SendsFirst note i node → P trace i node → P (note ∷ trace) i after
+  pub turn : (trace : List SlotNote) (i : ℕ) (node after : NodeState) → after.present ≡ node.present → after.unread ≤ scenario.params.lag
+      → Turned (turn_effects (scenario_for scenario node.present)) trace i node after → P trace i node → P trace i after
+
+sends_first : (rules : FaultScript) (s : RunState) (i : ℕ) → runs (node_at s.nodes i) ≡ true → (inc : Incarnation)
+    → SendsFirst (as_seen inc (slot_note_of rules s)) i (node_at s.nodes i)
+sends_first rules s i running inc f sent =
+    let frame = (given-Sent i (as_seen inc (slot_note_of rules s)) f sent).0 in
+    carried_first rules s f (seen_one (λ n. n.frame ≡ Some f) (λ n none some. idle n none some) inc (slot_note_of rules s) frame).1 i running
+  where
+    idle : (n : SlotNote) → n.frame ≡ None → n.frame ≡ Some f → ⊥
+    idle n a b = cc
+
+module _ (scenario : ScenarioParts) (P : List SlotNote → ℕ → NodeState → Type 0) (is : IsNodesWithin scenario P) where
+  within_slot : (rules : FaultScript) (s : RunState) → AllFair s → EachRunning P s → EachRunning P (after_slot rules s)
+  within_slot rules s fair all i running =
+      let ran = (running_before_slot rules s i running).0 in
+      let after : NodeState = node_at (after_slot rules s).nodes i in
+      let inc = (node_at s.nodes i).present in
+      let same : after.present ≡ inc = after_slot-present rules s i (runs_within s.nodes i ran) in
+      subst (λ t. P (seen after.present t) i after) (sym (after_slot-trace rules s))
+      (subst (λ (k : Incarnation). P (seen k (slot_note_of rules s ∷ s.trace)) i after) (sym same)
+      (is.slot (as_seen inc (slot_note_of rules s)) (seen inc s.trace) i (node_at s.nodes i) after same (slot_lived rules s i (fair i ran) ran)
+      (sends_first rules s i ran inc) (all i ran)))
+
+  within_restarts : (s : RunState) → IsOrderly scenario.params.nodes s → 0 < length s.trace → EachRunning P s
+      → EachRunning P (after_restarts scenario s)
+  within_restarts s o some all i running =
+      let after : NodeState = node_at (after_restarts scenario s).nodes i in
+      subst (λ t. P (seen after.present t) i after) (sym (after_restarts-trace scenario s)) (elim (restarts_or_stays scenario s i) [
+        | inl new ↦ is.new (seen after.present s.trace) i after (restarted_new scenario s i o some new)
+        | inr same ↦ rw same (all i (sym (ap (λ node. runs node) same) ∙ running))
+      ])
+
+  within_turn : (s : RunState) (i : ℕ) → MayTurn s i → IsOrderly scenario.params.nodes s → FewUnread scenario s → EachRunning P s
+      → EachRunning P (after_turn scenario i s)
+  within_turn s i may o few all j running =
+      let t : RunState = after_turn scenario i s in
+      let left : (node_at t.nodes i).unread ≤ scenario.params.lag =
+      omega (arith, ap (λ (node : NodeState). node.unread) (after_turn-node scenario i s may (o.unread i)), few i may.running) in
+      subst (λ notes. P (seen (node_at t.nodes j).present notes) j (node_at t.nodes j)) (sym (after_turn-trace scenario i s)) (elim (cases_eq j i) [
+        | inl same ↦ subst (λ k. P (seen (node_at t.nodes k).present s.trace) k (node_at t.nodes k)) (sym same)
+            (subst (λ (inc : Incarnation). P (seen inc s.trace) i (node_at t.nodes i)) (sym (after_turn-present scenario i s i may (o.unread i)))
+            (is.turn (seen (node_at s.nodes i).present s.trace) i (node_at s.nodes i) (node_at t.nodes i)
+            (after_turn-present scenario i s i may (o.unread i)) left (turn_turned scenario i s may (o.unread i)) (all i may.running)))
+        | inr other ↦ rw (after_turn-other scenario i s j other) (all j (sym (after_turn-runs scenario i s j may (o.unread i)) ∙ running))
+      ])
+
+  -- each node is fair
+  abbrev fair : IsKept scenario (λ s. AllFair s × Unit {0})
+  fair = fairly_kept scenario (λ s. Unit {0}) (record { slot = λ s o all p. tt; restarts = λ s o some p. tt; turn = λ s i o may p. tt })
+
+  abbrev Known : RunState → Type 0
+  Known s = (AllFair s × Unit {0}) × (FewUnread scenario s × EachRunning P s)
+
+  -- so it holds of each running node of every run
+  pub each_within : (journal : List Step) → EachRunning P (run scenario journal)
+  each_within journal =
+      (along_run scenario Known
+      ((fair_opening scenario.params.nodes, tt), (unread_at_first scenario, λ i running. is.new _ i _ (opening_new scenario i running)))
+      (record {
+        slot = λ s o may h. (
+          fair.slot s o may h.0,
+          ((unread_kept scenario).slot s o may h.1.0, within_slot (script scenario.rules) s h.0.0 h.1.1),
+        );
+        restarts = λ s o some h. (
+          fair.restarts s o some h.0,
+          ((unread_kept scenario).restarts s o some h.1.0, within_restarts s o some h.1.1),
+        );
+        turn = λ s i o may h. (fair.turn s i o may h.0, ((unread_kept scenario).turn s i o may h.1.0, within_turn s i may o h.1.0 h.1.1));
+      })
+      journal).1.1

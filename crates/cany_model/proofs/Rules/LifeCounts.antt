@@ -1,0 +1,110 @@
+-- How many life signs a node has asked for: those of its turns lie more than a life interval apart.
+use Rattle.std.proofs.Common.{◌≡◌, ℕ, suc, ◌+◌, ◌*◌, ◌<◌, ◌≤◌, ◌==◌, ◌&&◌, ◌⊎◌, inl, inr, Bool, true, cond, List, [], ◌∷◌, length, refl, ap, ◌∙◌, arith, suc-mul}
+use Rattle.std.proofs.lemmas.Bool.{and_parts, cases_Bool, cond-false, cond-true, cond_both, eqb-true}
+use Rattle.cany_base.specs.declared.notice.NoticeKind.{NoticeKind}
+use Rattle.cany_base.specs.declared.notice.NoticeKind.TheVariants.{Idle, Got, Sent, Bad}
+use Rattle.cany_base.specs.Nodes.{has}
+use Rattle.cany_base.specs.Scenario.{ScenarioParts}
+use Rattle.cany_model.specs.Rules.Life.{is_due}
+use Rattle.cany_model.specs.Rules.Station.{Sign, Station, after_life, after_notice, found_in, having_heard, having_learnt, shows_life, station_of, told_in, with_shown, with_sign, with_signs}
+
+-- ---- the slot of the node's own last life
+
+signs_keep_last : (signs : List Sign) (st : Station) → (with_signs signs st).last ≡ st.last
+unfolding with_signs
+signs_keep_last [] st = refl
+signs_keep_last (sign ∷ signs) st = signs_keep_last signs (with_sign sign st)
+
+last_heard : (i slot : ℕ) (e : NoticeKind) (st : Station) → ((having_heard i slot e st).last ≡ st.last) ⊎ ((having_heard i slot e st).last ≡ slot)
+unfolding after_life
+last_heard i slot Idle st = inl refl
+last_heard i slot Bad st = inl refl
+last_heard i slot (Got f) st =
+    inl (cond_both (shows_life f) (with_shown f.node slot st) st (λ s. s.last ≡ st.last) (λ _. refl) (λ _. refl))
+last_heard i slot (Sent f) st =
+    cond_both (shows_life f && f.node == i) (record st { last = slot }) st (λ s. (s.last ≡ st.last) ⊎ (s.last ≡ slot)) (λ _. inr refl) (λ _. inl refl)
+
+-- a turn leaves it, or it is that of the turn
+pub last_cases : (scenario : ScenarioParts) (i : ℕ) (e : NoticeKind) (past : List NoticeKind)
+    → ((station_of scenario i (e ∷ past)).last ≡ (station_of scenario i past).last) ⊎ ((station_of scenario i (e ∷ past)).last ≡ length past)
+unfolding station_of after_notice
+last_cases scenario i e past =
+    let st : Station = station_of scenario i past in
+    let kept = signs_keep_last (found_in scenario.params i (length past) e st) (having_learnt i (length past) e st)
+    ∙ signs_keep_last (told_in i (length past) e st) (having_heard i (length past) e st) in
+    elim (last_heard i (length past) e st) [ inl same ↦ inl (kept ∙ same) | inr now ↦ inr (kept ∙ now) ]
+
+last_read : (scenario : ScenarioParts) (i : ℕ) (past : List NoticeKind) → (station_of scenario i past).last ≤ length past
+unfolding station_of
+last_read scenario i [] = omega arith
+last_read scenario i (e ∷ past) = elim (last_cases scenario i e past) [
+  | inl same ↦ omega (arith, same, last_read scenario i past)
+  | inr now ↦ omega (arith, now)
+]
+
+-- ---- how many were asked for
+
+abbrev pub due_in : ScenarioParts → ℕ → NoticeKind → List NoticeKind → Bool
+due_in scenario i e past = is_due scenario.params.life i (length past) (station_of scenario i (e ∷ past))
+
+abbrev pub signs_asked : ScenarioParts → ℕ → List NoticeKind → ℕ
+signs_asked scenario i [] = 0
+signs_asked scenario i (e ∷ past) = cond (due_in scenario i e past) 1 0 + signs_asked scenario i past
+
+-- a life sign that is due lies an interval after the last life
+pub due_at : (scenario : ScenarioParts) (i : ℕ) (e : NoticeKind) (past : List NoticeKind) → due_in scenario i e past ≡ true
+    → length past ≡ (station_of scenario i (e ∷ past)).last + scenario.params.life
+due_at scenario i e past due =
+    let st : Station = station_of scenario i (e ∷ past) in
+    eqb-true (length past) (st.last + scenario.params.life) (and_parts (has st.members i) (length past == st.last + scenario.params.life) due).1
+
+-- Those that were asked for so far take as many intervals up to the last life, or up to one interval after it, which has passed.
+abbrev IsSpaced : ScenarioParts → ℕ → List NoticeKind → Type 0
+IsSpaced scenario i past =
+    let last = (station_of scenario i past).last in
+    (signs_asked scenario i past * scenario.params.life ≤ last)
+    ⊎ ((last + scenario.params.life < length past) × (signs_asked scenario i past * scenario.params.life ≤ last + scenario.params.life))
+
+-- where one is due, those before it take the intervals up to the last life
+spaced_before : (scenario : ScenarioParts) (i : ℕ) (e : NoticeKind) (past : List NoticeKind) → IsSpaced scenario i past → due_in scenario i e past ≡ true
+    → signs_asked scenario i past * scenario.params.life ≤ (station_of scenario i (e ∷ past)).last
+spaced_before scenario i e past h due =
+    let at = due_at scenario i e past due in
+    elim (last_cases scenario i e past) [
+      | inl same ↦ elim h [ inl few ↦ omega (arith, same, few) | inr later ↦ absurd (omega (arith, same, at, later.0)) ]
+      | inr now ↦ elim h [ inl few ↦ omega (arith, now, few, last_read scenario i past) | inr later ↦ omega (arith, now, later.0, later.1) ]
+    ]
+
+spaced : (scenario : ScenarioParts) (i : ℕ) (past : List NoticeKind) → IsSpaced scenario i past
+unfolding station_of
+spaced scenario i [] = inl (omega arith)
+spaced scenario i (e ∷ past) =
+    let h : IsSpaced scenario i past = spaced scenario i past in
+    let n : ℕ = signs_asked scenario i past in
+    let life : ℕ = scenario.params.life in
+    elim (cases_Bool (due_in scenario i e past)) [
+      | inl due ↦
+          let now : cond (due_in scenario i e past) 1 0 + n ≡ suc n = ap (λ k. k + n) (cond-true {A = ℕ} (due_in scenario i e past) 1 0 due) ∙ omega arith in
+          let more : (cond (due_in scenario i e past) 1 0 + n) * life ≡ n * life + life = ap (λ k. k * life) now ∙ suc-mul n life in
+          inr (omega (arith, due_at scenario i e past due), omega (arith, more, spaced_before scenario i e past h due))
+      | inr idle ↦
+          let none : cond (due_in scenario i e past) 1 0 + n ≡ n = ap (λ k. k + n) (cond-false {A = ℕ} (due_in scenario i e past) 1 0 idle) ∙ omega arith in
+          let same : (cond (due_in scenario i e past) 1 0 + n) * life ≡ n * life = ap (λ k. k * life) none in
+          elim (last_cases scenario i e past) [
+            | inl kept ↦ elim h [
+              | inl few ↦ inl (omega (arith, same, kept, few))
+              | inr later ↦ inr (omega (arith, kept, later.0), omega (arith, same, kept, later.1))
+            ]
+            | inr set ↦ elim h [
+              | inl few ↦ inl (omega (arith, same, set, few, last_read scenario i past))
+              | inr later ↦ inl (omega (arith, same, set, later.0, later.1))
+            ]
+          ]
+    ]
+
+-- so those that were asked for take no more slots than the node has read
+pub asked_few : (scenario : ScenarioParts) (i : ℕ) (past : List NoticeKind) → signs_asked scenario i past * scenario.params.life ≤ length past
+asked_few scenario i past = elim (spaced scenario i past) [
+  | inl few ↦ omega (arith, few, last_read scenario i past)
+  | inr later ↦ omega (arith, later.0, later.1)
+]

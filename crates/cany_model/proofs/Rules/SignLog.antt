@@ -1,0 +1,358 @@
+-- Of each failure sign at most one entry stands in the log of a node: it is made in the turn in which the sign becomes known.
+use Rattle.std.proofs.Common.{◌≡◌, ℕ, zero, suc, ◌+◌, ◌<◌, ◌≤◌, ◌==◌, ◌&&◌, ◌||◌, inl, inr, Bool, true, false, not, cond, if◌then◌else◌, List, [], ◌∷◌, ◌++◌, map, filter, length, count_by, refl, ap, sym, ◌∙◌, arith}
+use Rattle.std.specs.List.{AllByRecursion, flat_map, range_with_len}
+use Rattle.std.proofs.lemmas.Bool.{and_parts, both_ways, cases_Bool, cases_lt, cond_both, eqb-true, not-true}
+use Rattle.std.proofs.lemmas.List.Sums.{sum_by-append}
+use Rattle.cany_base.specs.declared.frame.Class.TheVariants as class
+use Rattle.cany_base.specs.declared.log_entry.LogEntry.{LogEntry}
+use Rattle.cany_base.specs.declared.log_entry.LogEntry.TheVariants.{Deliver, Failed, View}
+use Rattle.cany_base.specs.declared.message.Service.{Service}
+use Rattle.cany_base.specs.declared.message.Service.TheVariants.{Ed, Rel, Tot}
+use Rattle.cany_base.specs.declared.notice.NoticeKind.{NoticeKind}
+use Rattle.cany_base.specs.declared.notice.NoticeKind.TheVariants.{Idle, Got, Sent, Bad}
+use Rattle.cany_base.specs.Frame.{FrameParts, data_class}
+use Rattle.cany_base.specs.Params.{Parameters}
+use Rattle.cany_base.specs.Scenario.{ScenarioParts}
+use Rattle.cany_model.specs.Bus.Frames.{identity_of, same_class}
+use Rattle.cany_model.specs.Rules.Backlog.{asked, backlog, backlog_effects, next_after, tot_backlog}
+use Rattle.cany_model.specs.Rules.Delivery.{delivery, is_delivery}
+use Rattle.cany_model.specs.Rules.Eager.{has_enough}
+use Rattle.cany_model.specs.Rules.Edcan.{edcan}
+use Rattle.cany_model.specs.Rules.Effect.{Effect, Ask, Withdraw, entered}
+use Rattle.cany_model.specs.Rules.Life.{els_frame, failure_effects, failures_at, failure_signs, fda_copy_effects, is_due, life_effects, life_signs, sign_effects, signs_sent}
+use Rattle.cany_model.specs.Rules.Log.{log_from}
+use Rattle.cany_model.specs.Rules.Protocol.{Protocol}
+use Rattle.cany_model.specs.Rules.Relcan.{relcan}
+use Rattle.cany_model.specs.Rules.Sends.{is_sent_in, scripted_sends, send_effects, sendable}
+use Rattle.cany_model.specs.Rules.Station.{Sign, Station, after_notice, fda_frame, fda_of, found, found_in, having_heard, having_learnt, is_silent, knows, same_sign, sign_in, sign_of, station_of, told, told_in, with_signs}
+use Rattle.cany_model.specs.Rules.Totcan.{delivered_now, totcan}
+use Rattle.cany_model.specs.Rules.Turn.{turn_effects}
+use Rattle.cany_model.proofs.Among.{Among-from_count, Among-weaker, any-from_Among, count-cons, count-no, count-yes}
+use Rattle.cany_model.proofs.Rules.BacklogFacts.{asks_enter_none as next_enters_none}
+use Rattle.cany_model.proofs.Rules.DeliveryFacts.{DeliversAtOnce, EntersNone, entered-append, entered-none, entries_at, entries_with}
+use Rattle.cany_model.proofs.Rules.EdcanFacts.{edcan_delivers}
+use Rattle.cany_model.proofs.Rules.RelcanFacts.{relcan_delivers}
+use Rattle.cany_model.proofs.Rules.SendFacts.{asks_enter_none as sends_enter_none}
+use Rattle.cany_model.proofs.Rules.StationFacts.{knows_heard, knows_with, same_sign-from, tells}
+use Rattle.cany_model.proofs.Rules.TotcanFacts.{totcan_enters}
+
+-- the entry is that of the sign
+abbrev pub is_entry_of : Sign → LogEntry → Bool
+is_entry_of sign (Deliver slot by msg payload) = false
+is_entry_of sign (Failed slot node cycle) = node == sign.node && cycle == sign.cycle
+is_entry_of sign (View slot number members) = false
+
+abbrev one_if : Bool → ℕ
+one_if b = cond b 1 0
+
+one_at_most : (b : Bool) → one_if b ≤ 1
+one_at_most true = omega arith
+one_at_most false = omega arith
+
+or_more : (a b : Bool) → one_if b ≤ one_if (a || b)
+or_more true b = one_at_most b
+or_more false b = omega arith
+
+one_of_both : (a b : Bool) → one_if (a && b) ≤ one_if a
+one_of_both true b = one_at_most b
+one_of_both false b = omega arith
+
+-- ---- lists
+
+filter_fewer : {X : Type 0} (p q : X → Bool) (xs : List X) → count_by p (filter q xs) ≤ count_by p xs
+filter_fewer p q [] = omega arith
+filter_fewer p q (x ∷ xs) =
+    cond_both (q x) (x ∷ filter q xs) (filter q xs) (λ kept. count_by p kept ≤ count_by p (x ∷ xs))
+    (λ _. omega (arith, count-cons p x (filter q xs), count-cons p x xs, filter_fewer p q xs))
+    (λ _. omega (arith, count-cons p x xs, filter_fewer p q xs))
+
+-- each number stands in a range once
+above_none : (n a k : ℕ) → n < a → count_by (λ r. r == n) (range_with_len a k) ≡ 0
+above_none n a zero above = refl
+above_none n a (suc k) above = elim (cases_Bool (a == n)) [
+  | inl same ↦ absurd (omega (arith, above, eqb-true a n same))
+  | inr other ↦ count-no (λ r. r == n) a (range_with_len (a + 1) k) other ∙ above_none n (a + 1) k (omega (arith, above))
+]
+
+range_once : (n a k : ℕ) → count_by (λ r. r == n) (range_with_len a k) ≤ 1
+range_once n a zero = omega arith
+range_once n a (suc k) = elim (cases_Bool (a == n)) [
+  | inl same ↦
+      omega (arith, count-yes (λ r. r == n) a (range_with_len (a + 1) k) same, above_none n (a + 1) k (omega (arith, eqb-true a n same)))
+  | inr other ↦ omega (arith, count-no (λ r. r == n) a (range_with_len (a + 1) k) other, range_once n (a + 1) k)
+]
+
+module _ (sign : Sign) where
+  abbrev count : List LogEntry → ℕ
+  count entries = count_by (is_entry_of sign) entries
+
+  count-append : (first rest : List LogEntry) → count (first ++ rest) ≡ count first + count rest
+  count-append first rest = sum_by-append (λ entry. cond (is_entry_of sign entry) 1 0) first rest
+
+  -- ---- the other protocols enter no signs
+
+  abbrev IsNoSign : LogEntry → Type 0
+  IsNoSign (Deliver slot by msg payload) = Unit {0}
+  IsNoSign (Failed slot node cycle) = ⊥
+  IsNoSign (View slot number members) = Unit {0}
+
+  none_counted : (entries : List LogEntry) → AllByRecursion IsNoSign entries → count entries ≡ 0
+  none_counted [] h = refl
+  none_counted (Deliver slot by msg payload ∷ entries) h =
+      count-no (is_entry_of sign) (Deliver slot by msg payload) entries refl ∙ none_counted entries h.1
+  none_counted (Failed slot node cycle ∷ entries) h = absurd h.0
+  none_counted (View slot number members ∷ entries) h =
+      count-no (is_entry_of sign) (View slot number members) entries refl ∙ none_counted entries h.1
+
+  delivered_with : (by : Service) (i : ℕ) (f : FrameParts) (e : NoticeKind) (before : List NoticeKind)
+      → AllByRecursion IsNoSign (entries_with by i f e before)
+  delivered_with by i f e before =
+      cond_both (same_class f.class (data_class by)) _ [] (AllByRecursion IsNoSign)
+      (λ _. cond_both (is_delivery i f e before) (delivery (length before) by f ∷ []) [] (AllByRecursion IsNoSign) (λ _. (tt, tt)) (λ _. tt))
+      (λ _. tt)
+
+  delivered_at : (by : Service) (i : ℕ) (e : NoticeKind) (before : List NoticeKind) → AllByRecursion IsNoSign (entries_at by i e before)
+  delivered_at by i Idle before = tt
+  delivered_at by i (Got f) before = delivered_with by i f (Got f) before
+  delivered_at by i (Sent f) before = delivered_with by i f (Sent f) before
+  delivered_at by i Bad before = tt
+
+  all_delivered : (slot : ℕ) (frames : List FrameParts) → AllByRecursion IsNoSign (map (delivery slot Tot) frames)
+  all_delivered slot [] = tt
+  all_delivered slot (f ∷ frames) = (tt, all_delivered slot frames)
+
+  module _ (scenario : ScenarioParts) (i : ℕ) (e : NoticeKind) (before : List NoticeKind) where
+    abbrev count_of : Protocol → ℕ
+    count_of p = count (entered (p.effects scenario i (e ∷ before)))
+
+    at_once : (p : Protocol) (by : Service) → DeliversAtOnce p by → count_of p ≡ 0
+    at_once p by at = ap count (at scenario i e before) ∙ none_counted (entries_at by i e before) (delivered_at by i e before)
+
+    totcan_none : count_of totcan ≡ 0
+    totcan_none =
+        ap count (totcan_enters scenario i e before)
+        ∙ none_counted (map (delivery (length before) Tot) (delivered_now scenario.params i (e ∷ before)))
+        (all_delivered (length before) (delivered_now scenario.params i (e ∷ before)))
+
+    life_none : count_of life_signs ≡ 0
+    unfolding life_effects
+    life_none =
+        ap count (entered-none (life_effects scenario i (e ∷ before))
+        (cond_both (is_due scenario.params.life i (length before) (station_of scenario i (e ∷ before)))
+        (Ask (els_frame scenario.inc i (signs_sent i (e ∷ before))) ∷ []) [] (AllByRecursion EntersNone) (λ _. (tt, tt)) (λ _. tt)))
+
+    sends_none : count_of scripted_sends ≡ 0
+    unfolding send_effects
+    sends_none = ap count (sends_enter_none (filter (is_sent_in i (length before)) (sendable scenario (length before))))
+
+    backlog_none : count_of tot_backlog ≡ 0
+    unfolding backlog_effects
+    backlog_none = ap count (next_enters_none (next_after scenario.params (e ∷ before) (backlog scenario i (e ∷ before)) (asked scenario i before)))
+
+    abbrev count_all : List Protocol → ℕ
+    count_all ps = count (entered (flat_map (λ p. p.effects scenario i (e ∷ before)) ps))
+
+    count_more : (p : Protocol) (ps : List Protocol) → count_all (p ∷ ps) ≡ count_of p + count_all ps
+    count_more p ps =
+        ap count (entered-append (p.effects scenario i (e ∷ before)) (flat_map (λ q. q.effects scenario i (e ∷ before)) ps))
+        ∙ count-append (entered (p.effects scenario i (e ∷ before))) (entered (flat_map (λ q. q.effects scenario i (e ∷ before)) ps))
+
+    -- so of a sign a turn enters what the rules of failure signs enter
+    turn_signs : count (entered (turn_effects scenario i (e ∷ before))) ≡ count (entered (failure_effects scenario i (e ∷ before)))
+    unfolding turn_effects entered
+    turn_signs =
+        let after : List Protocol = life_signs ∷ scripted_sends ∷ tot_backlog ∷ [] in
+        omega (
+          arith,
+          count_more edcan (relcan ∷ totcan ∷ failure_signs ∷ after),
+          count_more relcan (totcan ∷ failure_signs ∷ after),
+          count_more totcan (failure_signs ∷ after),
+          count_more failure_signs after,
+          count_more life_signs (scripted_sends ∷ tot_backlog ∷ []),
+          count_more scripted_sends (tot_backlog ∷ []),
+          count_more tot_backlog [],
+          at_once edcan Ed edcan_delivers,
+          at_once relcan Rel relcan_delivers,
+          totcan_none,
+          life_none,
+          sends_none,
+          backlog_none,
+        )
+
+  -- ---- each sign that becomes known is entered
+
+  abbrev is_it : Sign → Bool
+  is_it s = is_entry_of sign (Failed 0 s.node s.cycle)
+
+  is_it-true : (s : Sign) → is_it s ≡ true → sign ≡ s
+  is_it-true s h =
+      let parts = and_parts (s.node == sign.node) (s.cycle == sign.cycle) h in
+      let node : s.node ≡ sign.node = eqb-true s.node sign.node parts.0 in
+      let cycle : s.cycle ≡ sign.cycle = eqb-true s.cycle sign.cycle parts.1 in
+      λ k. record { node = (sym node) k; cycle = (sym cycle) k }
+
+  copy_enters : (omit : ℕ) (e : NoticeKind) (past : List NoticeKind) → AllByRecursion EntersNone (fda_copy_effects omit e past)
+  unfolding fda_copy_effects
+  copy_enters omit Idle past = tt
+  copy_enters omit Bad past = tt
+  copy_enters omit (Sent f) past = tt
+  copy_enters omit (Got f) past =
+      cond_both (same_class f.class class.Fda && has_enough omit (identity_of f) past) (Withdraw (identity_of f) ∷ []) [] (AllByRecursion EntersNone)
+      (λ _. (tt, tt)) (λ _. tt)
+
+  sign_enters : (omit slot : ℕ) (past : List NoticeKind) (s : Sign) → entered (sign_effects omit slot past s) ≡ Failed slot s.node s.cycle ∷ []
+  unfolding sign_effects entered
+  sign_enters omit slot past s =
+      ap (λ rest. Failed slot s.node s.cycle ∷ rest)
+      (entered-none (if has_enough omit (fda_of s) past then [] else Ask (fda_frame s) ∷ [])
+      (cond_both (has_enough omit (fda_of s) past) [] (Ask (fda_frame s) ∷ []) (AllByRecursion EntersNone) (λ _. tt) (λ _. (tt, tt))))
+
+  signs_enter : (omit slot : ℕ) (past : List NoticeKind) (signs : List Sign)
+      → count (entered (flat_map (sign_effects omit slot past) signs)) ≡ count_by is_it signs
+  unfolding entered
+  signs_enter omit slot past [] = refl
+  signs_enter omit slot past (s ∷ signs) =
+      ap count (entered-append (sign_effects omit slot past s) (flat_map (sign_effects omit slot past) signs))
+      ∙ ap (λ entries. count (entries ++ entered (flat_map (sign_effects omit slot past) signs))) (sign_enters omit slot past s)
+      ∙ omega (
+        arith,
+        count-cons (is_entry_of sign) (Failed slot s.node s.cycle) (entered (flat_map (sign_effects omit slot past) signs)),
+        count-cons is_it s signs,
+        signs_enter omit slot past signs,
+      )
+
+  failures_enter : (scenario : ScenarioParts) (i : ℕ) (e : NoticeKind) (past : List NoticeKind)
+      → count (entered (failure_effects scenario i (e ∷ past)))
+      ≡ count_by is_it (told_in i (length past) e (station_of scenario i past))
+      + count_by is_it (found_in scenario.params i (length past) e (station_of scenario i past))
+  unfolding failure_effects failures_at
+  failures_enter scenario i e past =
+      let each : Sign → List Effect = sign_effects scenario.params.omit (length past) (e ∷ past) in
+      let copied : List Effect = fda_copy_effects scenario.params.omit e (e ∷ past) in
+      let told_now : List Sign = told_in i (length past) e (station_of scenario i past) in
+      let found_now : List Sign = found_in scenario.params i (length past) e (station_of scenario i past) in
+      let halves : count (entered ((flat_map each told_now ++ copied) ++ flat_map each found_now))
+      ≡ count (entered (flat_map each told_now ++ copied)) + count (entered (flat_map each found_now)) =
+      ap count (entered-append (flat_map each told_now ++ copied) (flat_map each found_now))
+      ∙ count-append (entered (flat_map each told_now ++ copied)) (entered (flat_map each found_now)) in
+      let first : count (entered (flat_map each told_now ++ copied)) ≡ count (entered (flat_map each told_now)) + count (entered copied) =
+      ap count (entered-append (flat_map each told_now) copied) ∙ count-append (entered (flat_map each told_now)) (entered copied) in
+      let none : count (entered copied) ≡ 0 = ap count (entered-none copied (copy_enters scenario.params.omit e (e ∷ past))) in
+      omega (
+        arith,
+        halves,
+        first,
+        none,
+        signs_enter scenario.params.omit (length past) (e ∷ past) told_now,
+        signs_enter scenario.params.omit (length past) (e ∷ past) found_now,
+      )
+
+  -- ---- a sign becomes known once
+
+  -- a sign that a notice tells of is told of once, and was not known
+  told_once : (e : NoticeKind) (st : Station) → count_by is_it (told e st) + one_if (knows sign st) ≤ 1
+  unfolding told
+  told_once Idle st = omega (arith, one_at_most (knows sign st))
+  told_once Bad st = omega (arith, one_at_most (knows sign st))
+  told_once (Sent f) st = omega (arith, one_at_most (knows sign st))
+  told_once (Got f) st =
+      cond_both (same_class f.class class.Fda && not (knows (sign_of f) st)) (sign_of f ∷ []) []
+      (λ signs. count_by is_it signs + one_if (knows sign st) ≤ 1)
+      (λ new. elim (cases_Bool (is_it (sign_of f))) [
+        | inl same ↦
+            let unknown : knows (sign_of f) st ≡ false =
+            not-true (knows (sign_of f) st) (and_parts (same_class f.class class.Fda) (not (knows (sign_of f) st)) new).1 in
+            let none : one_if (knows sign st) ≡ 0 = ap (λ s. one_if (knows s st)) (is_it-true (sign_of f) same) ∙ ap one_if unknown in
+            omega (arith, none, count-yes is_it (sign_of f) [] same)
+        | inr other ↦ omega (arith, count-no is_it (sign_of f) [] other, one_at_most (knows sign st))
+      ])
+      (λ _. omega (arith, one_at_most (knows sign st)))
+
+  -- a sign that is known is none of those that are not
+  unknown_none : (st : Station) → knows sign st ≡ true → (signs : List Sign) → count_by is_it (filter (λ s. not (knows s st)) signs) ≡ 0
+  unknown_none st known [] = refl
+  unknown_none st known (s ∷ signs) =
+      cond_both (not (knows s st)) (s ∷ filter (λ x. not (knows x st)) signs) (filter (λ x. not (knows x st)) signs) (λ kept. count_by is_it kept ≡ 0)
+      (λ new. elim (cases_Bool (is_it s)) [
+        | inl same ↦ absurd (both_ways (knows s st) (not-true (knows s st) new) (ap (λ x. knows x st) (sym (is_it-true s same)) ∙ known))
+        | inr other ↦ count-no is_it s (filter (λ x. not (knows x st)) signs) other ∙ unknown_none st known signs
+      ])
+      (λ _. unknown_none st known signs)
+
+  silent_fewer : (p : Parameters) (slot : ℕ) (rs : List ℕ) → count_by is_it (map (sign_in p slot) rs) ≤ count_by (λ r. r == sign.node) rs
+  silent_fewer p slot [] = omega arith
+  silent_fewer p slot (r ∷ rs) =
+      omega (
+        arith,
+        count-cons is_it (sign_in p slot r) (map (sign_in p slot) rs),
+        count-cons (λ q. q == sign.node) r rs,
+        one_of_both (r == sign.node) ((sign_in p slot r).cycle == sign.cycle),
+        silent_fewer p slot rs,
+      )
+
+  -- so is one that silence brings: each node is looked at once
+  found_once : (p : Parameters) (i slot : ℕ) (st : Station) → count_by is_it (found p i slot st) + one_if (knows sign st) ≤ 1
+  unfolding found
+  found_once p i slot st =
+      let silent : List ℕ = filter (is_silent p i slot st) (range_with_len 0 p.nodes) in
+      let all : List Sign = map (sign_in p slot) silent in
+      elim (cases_Bool (knows sign st)) [
+        | inl known ↦ omega (arith, unknown_none st known all, one_at_most (knows sign st))
+        | inr unknown ↦
+            let none : one_if (knows sign st) ≡ 0 = ap one_if unknown in
+            omega (
+              arith,
+              none,
+              filter_fewer is_it (λ s. not (knows s st)) all,
+              silent_fewer p slot silent,
+              filter_fewer (λ r. r == sign.node) (is_silent p i slot st) (range_with_len 0 p.nodes),
+              range_once sign.node 0 p.nodes,
+            )
+      ]
+
+  -- and it is known from then on
+  then_known : (signs : List Sign) (st : Station) → count_by is_it signs + one_if (knows sign st) ≤ 1
+      → count_by is_it signs + one_if (knows sign st) ≤ one_if (knows sign (with_signs signs st))
+  then_known signs st few = elim (cases_lt 0 (count_by is_it signs)) [
+    | inl some ↦
+        let is_told : tells sign signs ≡ true =
+        any-from_Among (same_sign sign) signs
+        (Among-weaker (λ s. is_it s ≡ true) (λ s. same_sign sign s ≡ true) (λ s h. same_sign-from sign s (is_it-true s h)) signs
+        (Among-from_count is_it signs some)) in
+        let known : one_if (knows sign (with_signs signs st)) ≡ 1 =
+        ap one_if (knows_with sign signs st ∙ ap (λ b. b || knows sign st) is_told) in
+        omega (arith, few, known)
+    | inr none ↦
+        let known : one_if (knows sign (with_signs signs st)) ≡ one_if (tells sign signs || knows sign st) = ap one_if (knows_with sign signs st) in
+        omega (arith, none, known, or_more (tells sign signs) (knows sign st))
+  ]
+
+  -- ---- in a log
+
+  -- its entry stands there only once it is known, and at most once
+  signs_known : (scenario : ScenarioParts) (i : ℕ) (past : List NoticeKind)
+      → count (log_from scenario i past) ≤ one_if (knows sign (station_of scenario i past))
+  unfolding log_from station_of after_notice
+  signs_known scenario i [] = omega arith
+  signs_known scenario i (e ∷ past) =
+      let st : Station = station_of scenario i past in
+      let heard : Station = having_heard i (length past) e st in
+      let learnt : Station = having_learnt i (length past) e st in
+      let told_now : List Sign = told_in i (length past) e st in
+      let found_now : List Sign = found_in scenario.params i (length past) e st in
+      let same : one_if (knows sign heard) ≡ one_if (knows sign st) = ap one_if (knows_heard sign i (length past) e st) in
+      omega (
+        arith,
+        count-append (log_from scenario i past) (entered (turn_effects scenario i (e ∷ past))),
+        turn_signs scenario i e past,
+        failures_enter scenario i e past,
+        same,
+        then_known told_now heard (told_once e heard),
+        then_known found_now learnt (found_once scenario.params i (length past) learnt),
+        signs_known scenario i past,
+      )
+
+-- of each sign at most one entry stands in the log of a node
+pub signs_once : (scenario : ScenarioParts) (i : ℕ) (past : List NoticeKind) (sign : Sign)
+    → count_by (is_entry_of sign) (log_from scenario i past) ≤ 1
+signs_once scenario i past sign = omega (arith, signs_known sign scenario i past, one_at_most (knows sign (station_of scenario i past)))

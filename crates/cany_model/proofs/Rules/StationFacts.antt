@@ -1,0 +1,233 @@
+-- What a node knows of the site: its members stay, and what becomes known stays known.
+use Rattle.std.proofs.Common.{◌≡◌, ℕ, zero, suc, ◌==◌, ◌&&◌, ◌||◌, inl, inr, Bool, true, false, not, List, [], ◌∷◌, ◌++◌, map, filter, drop, length, refl, ap, sym, ◌∙◌, subst, arith}
+use Rattle.std.specs.List.{AllByRecursion, list_any, range_with_len}
+use Rattle.std.proofs.lemmas.Bool.{false≢true, and_from, and_parts, cases_Bool, cond_both, eq-eqb, eqb-true, not_from_false, or_cases, or_left, or_right}
+use Rattle.cany_base.specs.declared.frame.Class.TheVariants as class
+use Rattle.cany_base.specs.declared.notice.NoticeKind.{NoticeKind}
+use Rattle.cany_base.specs.declared.notice.NoticeKind.TheVariants.{Idle, Got, Sent, Bad}
+use Rattle.cany_base.specs.Params.{Parameters}
+use Rattle.cany_base.specs.Scenario.{ScenarioParts}
+use Rattle.cany_base.proofs.NodesFacts.{has_none}
+use Rattle.cany_model.specs.Bus.Frames.{Identity, identity_of, same_class}
+use Rattle.cany_model.specs.Bus.History.{is_got}
+use Rattle.cany_model.specs.Bus.Slot.{nobody}
+use Rattle.cany_model.specs.Rules.Station.{Sign, Station, after_life, after_notice, fda_of, found, found_in, having_heard, having_learnt, is_silent, knows, same_sign, shows_life, sign_in, sign_of, station_at_first, station_of, told, told_in, with_shown, with_sign, with_signs}
+use Rattle.cany_model.proofs.Among.{Among, Each-weaker}
+use Rattle.cany_model.proofs.Bus.Carried.{is_got-true}
+use Rattle.cany_model.proofs.Bus.Identities.{same_class_self}
+use Rattle.cany_model.proofs.Rules.Begun.{IsBegun, begun_before}
+
+-- ---- the members
+
+-- what shows life, and a sign that becomes known, change no member
+life_keeps_members : (i slot : ℕ) (e : NoticeKind) (st : Station) → (after_life i slot e st).members ≡ st.members
+unfolding after_life
+life_keeps_members i slot Idle st = refl
+life_keeps_members i slot Bad st = refl
+life_keeps_members i slot (Got f) st = cond_both (shows_life f) (with_shown f.node slot st) st (λ s. s.members ≡ st.members) (λ _. refl) (λ _. refl)
+life_keeps_members i slot (Sent f) st =
+    cond_both (shows_life f && f.node == i) (record st { last = slot }) st (λ s. s.members ≡ st.members) (λ _. refl) (λ _. refl)
+
+signs_keep_members : (signs : List Sign) (st : Station) → (with_signs signs st).members ≡ st.members
+unfolding with_signs
+signs_keep_members [] st = refl
+signs_keep_members (sign ∷ signs) st = signs_keep_members signs _
+
+learnt_members : (i slot : ℕ) (e : NoticeKind) (st : Station) → (having_learnt i slot e st).members ≡ st.members
+learnt_members i slot e st = signs_keep_members (told_in i slot e st) (having_heard i slot e st) ∙ life_keeps_members i slot e st
+
+-- so the members are those of the scenario
+pub station_members : (scenario : ScenarioParts) (i : ℕ) (past : List NoticeKind) → (station_of scenario i past).members ≡ scenario.members
+unfolding station_of after_notice
+station_members scenario i [] = refl
+station_members scenario i (e ∷ past) =
+    let st : Station = station_of scenario i past in
+    signs_keep_members (found_in scenario.params i (length past) e st) (having_learnt i (length past) e st)
+    ∙ learnt_members i (length past) e st ∙ station_members scenario i past
+
+-- ---- silence
+
+none_kept : {X : Type 0} (p : X → Bool) → ((x : X) → p x ≡ false) → (xs : List X) → filter p xs ≡ []
+none_kept p none [] = refl
+none_kept p none (x ∷ xs) = rw (none x) (none_kept p none xs)
+
+silent_none : (p : Parameters) (i slot : ℕ) (st : Station) → st.members ≡ nobody → (r : ℕ) → is_silent p i slot st r ≡ false
+silent_none p i slot st none r = rw (none, has_none r) refl
+
+-- where there are no members nobody is found to have failed
+pub found_none : (p : Parameters) (i slot : ℕ) (st : Station) → st.members ≡ nobody → found p i slot st ≡ []
+unfolding found
+found_none p i slot st none =
+    ap (λ rs. filter (λ sign. not (knows sign st)) (map (sign_in p slot) rs))
+    (none_kept (is_silent p i slot st) (silent_none p i slot st none) (range_with_len 0 p.nodes))
+
+-- at an idle notice only silence brings signs
+idle_is : (scenario : ScenarioParts) (i : ℕ) (past : List NoticeKind)
+    → station_of scenario i (Idle ∷ past) ≡ with_signs (found scenario.params i (length past) (station_of scenario i past)) (station_of scenario i past)
+unfolding station_of after_notice told with_signs after_life
+idle_is scenario i past = refl
+
+no_signs : (st : Station) → with_signs [] st ≡ st
+unfolding with_signs
+no_signs st = refl
+
+-- a node that has only begun knows what it knew at first
+begun_station : (scenario : ScenarioParts) (i : ℕ) (past : List NoticeKind) → IsBegun scenario past
+    → station_of scenario i past ≡ station_at_first scenario.members
+unfolding station_of
+begun_station scenario i [] begun = refl
+begun_station scenario i (e ∷ past) begun =
+    let st : Station = station_of scenario i past in
+    let none : st.members ≡ nobody = station_members scenario i past ∙ begun.outside (omega arith) in
+    ap (λ n. station_of scenario i (n ∷ past)) begun.idle.0 ∙ idle_is scenario i past
+    ∙ ap (λ signs. with_signs signs st) (found_none scenario.params i (length past) st none) ∙ no_signs st
+    ∙ begun_station scenario i past (begun_before scenario e past begun)
+
+-- ---- signs
+
+pub same_sign-true : (a b : Sign) → same_sign a b ≡ true → a ≡ b
+same_sign-true a b h =
+    let parts = and_parts (a.node == b.node) (a.cycle == b.cycle) h in
+    let node : a.node ≡ b.node = eqb-true a.node b.node parts.0 in
+    let cycle : a.cycle ≡ b.cycle = eqb-true a.cycle b.cycle parts.1 in
+    λ k. record { node = node k; cycle = cycle k }
+
+same_sign_self : (a : Sign) → same_sign a a ≡ true
+same_sign_self a = and_from (a.node == a.node) (a.cycle == a.cycle) (eq-eqb a.node a.node refl) (eq-eqb a.cycle a.cycle refl)
+
+pub same_sign-from : (a b : Sign) → a ≡ b → same_sign a b ≡ true
+same_sign-from a b e = subst (λ s. same_sign a s ≡ true) e (same_sign_self a)
+
+-- one frame tells of one sign
+pub fda_one : (a b : Sign) → fda_of a ≡ fda_of b → a ≡ b
+fda_one a b e = λ k. record { node = (e k).node; cycle = (e k).number }
+
+-- whether these tell of the sign
+abbrev pub tells : Sign → List Sign → Bool
+tells sign signs = list_any (same_sign sign) signs
+
+-- ---- what becomes known
+
+pub knows_with : (sign : Sign) (signs : List Sign) (st : Station) → knows sign (with_signs signs st) ≡ (tells sign signs || knows sign st)
+unfolding with_signs
+knows_with sign [] st = refl
+knows_with sign (x ∷ signs) st = knows_with sign signs (with_sign x st) ∙ moved (tells sign signs) (same_sign sign x) (knows sign st)
+  where
+    moved : (rest here known : Bool) → (rest || (here || known)) ≡ ((here || rest) || known)
+    moved true true known = refl
+    moved true false known = refl
+    moved false true known = refl
+    moved false false known = refl
+
+pub knows_heard : (sign : Sign) (i slot : ℕ) (e : NoticeKind) (st : Station) → knows sign (having_heard i slot e st) ≡ knows sign st
+unfolding after_life
+knows_heard sign i slot Idle st = refl
+knows_heard sign i slot Bad st = refl
+knows_heard sign i slot (Got f) st =
+    cond_both (shows_life f) (with_shown f.node slot st) st (λ s. knows sign s ≡ knows sign st) (λ _. refl) (λ _. refl)
+knows_heard sign i slot (Sent f) st =
+    cond_both (shows_life f && f.node == i) (record st { last = slot }) st (λ s. knows sign s ≡ knows sign st) (λ _. refl) (λ _. refl)
+
+-- those that become known in the turn: from the notice, and by silence
+abbrev pub newly : Parameters → ℕ → ℕ → NoticeKind → Station → List Sign
+newly p i slot e st = told_in i slot e st ++ found_in p i slot e st
+
+any_two : (sign : Sign) (xs ys : List Sign) → tells sign (xs ++ ys) ≡ (tells sign xs || tells sign ys)
+any_two sign [] ys = refl
+any_two sign (x ∷ xs) ys = ap (λ b. same_sign sign x || b) (any_two sign xs ys) ∙ nested (same_sign sign x) (tells sign xs) (tells sign ys)
+  where
+    nested : (a b c : Bool) → (a || (b || c)) ≡ ((a || b) || c)
+    nested true b c = refl
+    nested false b c = refl
+
+each_tells : (signs : List Sign) → AllByRecursion (λ sign. tells sign signs ≡ true) signs
+each_tells [] = tt
+each_tells (x ∷ signs) = (
+  or_left (same_sign x x) (tells x signs) (same_sign_self x),
+  Each-weaker (λ sign. tells sign signs ≡ true) (λ sign. tells sign (x ∷ signs) ≡ true) (λ sign h. or_right (same_sign sign x) (tells sign signs) h) signs
+      (each_tells signs),
+)
+
+-- a sign is known after a turn where it was known before, or becomes known in it
+pub known_after : (scenario : ScenarioParts) (i : ℕ) (e : NoticeKind) (past : List NoticeKind) (sign : Sign)
+    → knows sign (station_of scenario i (e ∷ past))
+    ≡ (tells sign (newly scenario.params i (length past) e (station_of scenario i past)) || knows sign (station_of scenario i past))
+unfolding station_of after_notice
+known_after scenario i e past sign =
+    let st : Station = station_of scenario i past in
+    let a : List Sign = told_in i (length past) e st in
+    let b : List Sign = found_in scenario.params i (length past) e st in
+    knows_with sign b (having_learnt i (length past) e st)
+    ∙ ap (λ k. tells sign b || k) (knows_with sign a (having_heard i (length past) e st) ∙ ap (λ k. tells sign a || k) (knows_heard sign i (length past) e st))
+    ∙ swapped (tells sign a) (tells sign b) (knows sign st)
+    ∙ ap (λ k. k || knows sign st) (sym (any_two sign a b))
+  where
+    swapped : (a b known : Bool) → (b || (a || known)) ≡ ((a || b) || known)
+    swapped true true known = refl
+    swapped true false known = refl
+    swapped false true known = refl
+    swapped false false known = refl
+
+-- each that becomes known is known
+pub newly_known : (scenario : ScenarioParts) (i : ℕ) (e : NoticeKind) (past : List NoticeKind)
+    → AllByRecursion (λ sign. knows sign (station_of scenario i (e ∷ past)) ≡ true) (newly scenario.params i (length past) e (station_of scenario i past))
+newly_known scenario i e past =
+    let st : Station = station_of scenario i past in
+    let signs : List Sign = newly scenario.params i (length past) e st in
+    Each-weaker (λ sign. tells sign signs ≡ true) (λ sign. knows sign (station_of scenario i (e ∷ past)) ≡ true)
+    (λ sign h. known_after scenario i e past sign ∙ or_left (tells sign signs) (knows sign st) h) signs (each_tells signs)
+
+-- what is known stays known
+pub known_stays : (scenario : ScenarioParts) (i : ℕ) (e : NoticeKind) (past : List NoticeKind) (sign : Sign) → knows sign (station_of scenario i past) ≡ true
+    → knows sign (station_of scenario i (e ∷ past)) ≡ true
+known_stays scenario i e past sign h =
+    known_after scenario i e past sign
+    ∙ or_right (tells sign (newly scenario.params i (length past) e (station_of scenario i past))) (knows sign (station_of scenario i past)) h
+
+-- also over several turns
+pub known_since : (scenario : ScenarioParts) (i : ℕ) (sign : Sign) (place : ℕ) (past : List NoticeKind)
+    → knows sign (station_of scenario i (drop place past)) ≡ true → knows sign (station_of scenario i past) ≡ true
+known_since scenario i sign zero past h = h
+known_since scenario i sign (suc place) [] h = h
+known_since scenario i sign (suc place) (e ∷ past) h = known_stays scenario i e past sign (known_since scenario i sign place past h)
+
+-- a node that has only begun knows none
+pub begun_knows : (scenario : ScenarioParts) (i : ℕ) (past : List NoticeKind) (sign : Sign) → IsBegun scenario past
+    → knows sign (station_of scenario i past) ≡ false
+begun_knows scenario i past sign begun = ap (knows sign) (begun_station scenario i past begun)
+
+-- ---- a copy that is read makes the sign known
+
+told_of : (e : NoticeKind) (sign : Sign) (st : Station) → is_got (fda_of sign) e ≡ true → (tells sign (told e st) || knows sign st) ≡ true
+unfolding told
+told_of Idle sign st h = absurd (false≢true h)
+told_of Bad sign st h = absurd (false≢true h)
+told_of (Sent f) sign st h = absurd (false≢true h)
+told_of (Got f) sign st h =
+    let got = is_got-true (fda_of sign) (Got f) h in
+    let same : f ≡ got.what = cc in
+    let id : fda_of sign ≡ identity_of f = got.identity ∙ ap identity_of (sym same) in
+    let is : sign ≡ sign_of f = λ k. record { node = (id k).node; cycle = (id k).number } in
+    let fda : same_class f.class class.Fda ≡ true = ap (λ (y : Identity). same_class y.class class.Fda) (sym id) ∙ same_class_self class.Fda in
+    cond_both (same_class f.class class.Fda && not (knows (sign_of f) st)) (sign_of f ∷ []) [] (λ signs. (tells sign signs || knows sign st) ≡ true)
+    (λ _. or_left (tells sign (sign_of f ∷ [])) (knows sign st) (or_left (same_sign sign (sign_of f)) false (same_sign-from sign (sign_of f) is)))
+    (λ other. elim (cases_Bool (knows (sign_of f) st)) [
+      | inl known ↦ ap (λ s. knows s st) is ∙ known
+      | inr unknown ↦
+          absurd (false≢true (sym other ∙ and_from (same_class f.class class.Fda) (not (knows (sign_of f) st)) fda (not_from_false (knows (sign_of f) st) unknown)))
+    ])
+
+pub got_is_known : (scenario : ScenarioParts) (i : ℕ) (sign : Sign) (past : List NoticeKind) → Among (λ e. is_got (fda_of sign) e ≡ true) past
+    → knows sign (station_of scenario i past) ≡ true
+got_is_known scenario i sign [] h = absurd h
+got_is_known scenario i sign (e ∷ past) (inr before) = known_stays scenario i e past sign (got_is_known scenario i sign past before)
+got_is_known scenario i sign (e ∷ past) (inl now) =
+    let st : Station = station_of scenario i past in
+    let a : List Sign = told_in i (length past) e st in
+    let b : List Sign = found_in scenario.params i (length past) e st in
+    known_after scenario i e past sign
+    ∙ ap (λ k. k || knows sign st) (any_two sign a b)
+    ∙ elim (or_cases (tells sign a) (knows sign (having_heard i (length past) e st)) (told_of e sign (having_heard i (length past) e st) now)) [
+      | inl tells_now ↦ or_left (tells sign a || tells sign b) (knows sign st) (or_left (tells sign a) (tells sign b) tells_now)
+      | inr known ↦ or_right (tells sign a || tells sign b) (knows sign st) (sym (knows_heard sign i (length past) e st) ∙ known)
+    ]

@@ -1,0 +1,142 @@
+-- What a node knows of the site from what it has read: who the members are, which nodes have failed, and when each last showed life.
+use Rattle.std.specs.Prelude.{ℕ, ◌-◌, ◌/◌, ◌==◌, ◌&&◌, ◌||◌, Bool, not, nat_le, if◌then◌else◌, List, [], ◌∷◌, filter, map, length}
+use Rattle.std.specs.List.{list_any, range_with_len}
+use Rattle.cany_base.specs.declared.frame.Class.TheVariants as class
+use Rattle.cany_base.specs.declared.notice.NoticeKind.{NoticeKind}
+use Rattle.cany_base.specs.declared.notice.NoticeKind.TheVariants.{Idle, Got, Sent, Bad}
+use Rattle.cany_base.specs.Frame.{FrameParts}
+use Rattle.cany_base.specs.Nodes.{Nodes, has, those_where}
+use Rattle.cany_base.specs.Params.{Parameters}
+use Rattle.cany_base.specs.Scenario.{ScenarioParts}
+use Rattle.cany_model.specs.Bus.Frames.{Identity, identity_of, same_class}
+use Rattle.cany_model.specs.Bus.Slot.{nobody}
+
+-- ---- failure signs
+
+-- that a node has failed, as it was found out in a membership cycle, counted from 0
+pub record Sign : Type 0 where
+  pub node : ℕ
+  pub cycle : ℕ
+
+abbrev pub same_sign : Sign → Sign → Bool
+same_sign a b = a.node == b.node && a.cycle == b.cycle
+
+-- the frame that tells of a sign, and what names it
+abbrev pub fda_frame : Sign → FrameParts
+fda_frame sign = record { class = class.Fda; number = sign.cycle; node = sign.node; inc = 0; payload = [] }
+
+abbrev pub fda_of : Sign → Identity
+fda_of sign = identity_of (fda_frame sign)
+
+-- the sign that such a frame tells of
+abbrev pub sign_of : FrameParts → Sign
+sign_of f = record { node = f.node; cycle = f.number }
+
+-- ---- what a node knows
+
+pub record Station : Type 0 where
+  -- its view of the site
+  pub members : Nodes
+  -- the nodes that have failed here, and the signs that are known, the newest first
+  pub failed : Nodes
+  pub signs : List Sign
+  -- the slot in which each other node last showed life, and the one of the node's own last life: 0 where there was none
+  pub shown : ℕ → ℕ
+  pub last : ℕ
+
+-- before it has read anything
+abbrev pub station_at_first : Nodes → Station
+station_at_first members = record { members = members; failed = nobody; signs = []; shown = λ r. 0; last = 0 }
+
+abbrev pub knows : Sign → Station → Bool
+knows sign station = list_any (same_sign sign) station.signs
+
+-- with these members
+abbrev pub with_members : Nodes → Station → Station
+with_members members station = record station { members = members }
+
+-- ---- a node shows life
+
+-- whether the frame shows that the node lives which it names: that node alone sends it
+unfoldable pub shows_life : FrameParts → Bool
+shows_life f = same_class f.class class.Els || same_class f.class class.Rha || same_class f.class class.Tot
+
+abbrev pub with_shown : ℕ → ℕ → Station → Station
+with_shown r slot station = record station { shown = λ q. if q == r then slot else station.shown q }
+
+-- node i hears another node in the slot, or reads that it was heard itself
+unfoldable pub after_life : ℕ → ℕ → NoticeKind → Station → Station
+after_life i slot Idle station = station
+after_life i slot (Got f) station = if shows_life f then with_shown f.node slot station else station
+after_life i slot (Sent f) station = if shows_life f && f.node == i then record station { last = slot } else station
+after_life i slot Bad station = station
+
+-- Those newly admitted have not failed, and show life from this slot on: so does node i itself, if it is one of them.
+abbrev pub having_admitted : ℕ → ℕ → Nodes → Station → Station
+having_admitted i slot newly station = record station {
+  failed = those_where (λ r. has station.failed r && not (has newly r));
+  shown = λ r. if has newly r then slot else station.shown r;
+  last = if has newly i then slot else station.last;
+}
+
+-- ---- a sign becomes known
+
+-- It counts in its cycle alone: one that is known already has no effect again, also where the node no longer counts as failed.
+abbrev pub with_sign : Sign → Station → Station
+with_sign sign station =
+    record station { failed = those_where (λ r. has station.failed r || r == sign.node); signs = sign ∷ station.signs }
+
+-- one after another
+unfoldable pub with_signs : List Sign → Station → Station
+with_signs [] station = station
+with_signs (sign ∷ signs) station = with_signs signs (with_sign sign station)
+
+-- the sign that a notice tells of, where it is not known: it may name the node itself, or one that is no member
+unfoldable pub told : NoticeKind → Station → List Sign
+told Idle station = []
+told (Got f) station = if same_class f.class class.Fda && not (knows (sign_of f) station) then sign_of f ∷ [] else []
+told (Sent f) station = []
+told Bad station = []
+
+-- whether node r is another member that has not failed here, and has shown no life for as many slots as the silence has
+abbrev pub is_silent : Parameters → ℕ → ℕ → Station → ℕ → Bool
+is_silent p i slot station r =
+    has station.members r && not (r == i) && not (has station.failed r) && nat_le p.silence (slot - station.shown r)
+
+-- the sign by which a node is found to have failed in a slot
+abbrev pub sign_in : Parameters → ℕ → ℕ → Sign
+sign_in p slot r = record { node = r; cycle = slot / p.cycle }
+
+-- the signs that silence brings, where they are not known, by ascending node
+unfoldable pub found : Parameters → ℕ → ℕ → Station → List Sign
+found p i slot station =
+    filter (λ sign. not (knows sign station)) (map (sign_in p slot) (filter (is_silent p i slot station) (range_with_len 0 p.nodes)))
+
+-- ---- a turn, step by step: what node i knows after each step in the turn of a slot, from what it knew before the turn
+
+-- it hears who shows life
+abbrev pub having_heard : ℕ → ℕ → NoticeKind → Station → Station
+having_heard i slot notice before = after_life i slot notice before
+
+-- it learns the sign that the notice tells of
+abbrev pub told_in : ℕ → ℕ → NoticeKind → Station → List Sign
+told_in i slot notice before = told notice (having_heard i slot notice before)
+
+abbrev pub having_learnt : ℕ → ℕ → NoticeKind → Station → Station
+having_learnt i slot notice before = with_signs (told_in i slot notice before) (having_heard i slot notice before)
+
+-- and it finds signs by silence: a node that the notice tells of is not found by it
+abbrev pub found_in : Parameters → ℕ → ℕ → NoticeKind → Station → List Sign
+found_in p i slot notice before = found p i slot (having_learnt i slot notice before)
+
+abbrev pub having_found : Parameters → ℕ → ℕ → NoticeKind → Station → Station
+having_found p i slot notice before = with_signs (found_in p i slot notice before) (having_learnt i slot notice before)
+
+-- after the turn
+unfoldable pub after_notice : Parameters → ℕ → ℕ → NoticeKind → Station → Station
+after_notice p i slot notice before = having_found p i slot notice before
+
+-- what node i knows once it has read this
+unfoldable pub station_of : ScenarioParts → ℕ → List NoticeKind → Station
+station_of scenario i [] = station_at_first scenario.members
+station_of scenario i (notice ∷ before) = after_notice scenario.params i (length before) notice (station_of scenario i before)
