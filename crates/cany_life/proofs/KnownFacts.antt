@@ -1,0 +1,104 @@
+-- What a value stands for once signs become known.
+use Rattle.std.specs.Prelude.{nat_lt}
+use Rattle.std.proofs.Common.{◌≡◌, ℕ, ◌<◌, ◌==◌, ◌&&◌, ◌||◌, Bool, true, false, inl, inr, List, [], ◌∷◌, length, set, refl, ap, sym, ◌∙◌, arith}
+use Rattle.std.specs.List.{AllByRecursion}
+use Rattle.std.proofs.lemmas.Bool.{cases_eq, eq-eqb, lt-ltb, ne_eqb}
+use Rattle.std.proofs.lemmas.List.{get_or-set_other, get_or-set_same}
+use Rattle.cany_base.specs.declared.notice.NoticeKind.{NoticeKind}
+use Rattle.cany_base.specs.Limits.{most_nodes}
+use Rattle.cany_base.specs.Nodes.{Nodes, has}
+use Rattle.cany_base.specs.Scenario.{ScenarioParts}
+use Rattle.cany_base.proofs.NodesFacts.{has-those_where}
+use Rattle.cany_base.proofs.ParamsFacts.{few_nodes}
+use Rattle.cany_diffuse.specs.Eager.{EagerParts}
+use Rattle.cany_model.specs.Bus.Slot.{nobody}
+use Rattle.cany_model.specs.Rules.Station.{Sign, Station, knows, with_sign, with_signs}
+use Rattle.cany_life.specs.Life.{AreCopies, IsSignOf, LifeParts, known_in}
+use Rattle.cany_life.specs.LifeSteps.{IsReading, all_marked, marked, with_node}
+use Rattle.cany_life.proofs.MarkFacts.{length-marked}
+
+-- the nodes of a set with one node more
+has-with_node : (r node : ℕ) (nodes : Nodes) → r < most_nodes → has (with_node node nodes) r ≡ (has nodes r || r == node)
+has-with_node r node nodes near = has-those_where (λ q. has nodes q || q == node) r ∙ (rw (lt-ltb r most_nodes near) refl)
+
+-- the sets of nodes at which two tests agree have the same nodes
+same_failed : (a b : Nodes) (node r : ℕ) → has a r ≡ has b r → has (with_node node a) r ≡ has (with_node node b) r
+same_failed a b node r same =
+    has-those_where (λ q. has a q || q == node) r ∙ ap (λ t. nat_lt r most_nodes && (t || r == node)) same ∙ sym (has-those_where (λ q. has b q || q == node) r)
+
+module _ (scenario : ScenarioParts) (i : ℕ) (counted past : List NoticeKind) where
+  -- which signs are known once one is marked
+  known_marked : (station : Station) (v : LifeParts) (sign : Sign) → IsReading scenario i counted past station v → IsSignOf scenario sign
+      → (q : Sign) → IsSignOf scenario q → has (known_in (marked sign v).known q.cycle) q.node ≡ knows q (with_sign sign station)
+  unfolding marked
+  known_marked station v sign h of q of_q =
+      let near : q.node < most_nodes = omega (arith, of_q.node, few_nodes scenario.params h.legal.in_range) in
+      let within : sign.cycle < length v.known = omega (arith, of.cycle, h.cycles) in
+      let sets : List Nodes = set v.known sign.cycle (with_node sign.node (known_in v.known sign.cycle)) in
+      elim (cases_eq q.cycle sign.cycle) [
+        | inl same ↦
+            ap (λ c. has (known_in sets c) q.node) same
+            ∙ ap (λ s. has s q.node) (get_or-set_same v.known sign.cycle (with_node sign.node (known_in v.known sign.cycle)) nobody within)
+            ∙ has-with_node q.node sign.node (known_in v.known sign.cycle) near
+            ∙ ap (λ c. has (known_in v.known c) q.node || q.node == sign.node) (sym same)
+            ∙ ap (λ b. b || q.node == sign.node) (h.known q of_q)
+            ∙ swapped (knows q station) (q.node == sign.node) (q.cycle == sign.cycle) (eq-eqb q.cycle sign.cycle same)
+        | inr apart ↦
+            ap (λ s. has s q.node) (get_or-set_other v.known sign.cycle q.cycle (with_node sign.node (known_in v.known sign.cycle)) nobody apart)
+            ∙ h.known q of_q ∙ other (knows q station) (q.node == sign.node) (q.cycle == sign.cycle) (ne_eqb q.cycle sign.cycle apart)
+      ]
+    where
+      swapped : (known node cycle : Bool) → cycle ≡ true → (known || node) ≡ ((node && cycle) || known)
+      swapped true true true e = refl
+      swapped true false true e = refl
+      swapped false true true e = refl
+      swapped false false true e = refl
+      swapped known node false e = absurd (cc)
+
+      other : (known node cycle : Bool) → cycle ≡ false → known ≡ ((node && cycle) || known)
+      other known true false e = refl
+      other known false false e = refl
+      other known node true e = absurd (cc)
+
+  stands_marked : (station : Station) (v : LifeParts) (sign : Sign) → IsReading scenario i counted past station v → IsSignOf scenario sign
+      → IsReading scenario i counted past (with_sign sign station) (marked sign v)
+  unfolding marked all_marked
+  stands_marked station v sign h of = record {
+    legal = h.legal;
+    node = h.node;
+    params = h.params;
+    failed = λ r. same_failed v.failed station.failed sign.node r (h.failed r);
+    cycles = length-marked (sign ∷ []) v ∙ h.cycles;
+    known = known_marked station v sign h of;
+    copies = h.copies;
+    nodes = h.nodes;
+    shown = h.shown;
+    last = h.last;
+    sent = h.sent;
+    few = h.few;
+  }
+
+  -- one sign after another
+  pub stands_all : (station : Station) (v : LifeParts) (signs : List Sign) → IsReading scenario i counted past station v → AllByRecursion (IsSignOf scenario) signs
+      → IsReading scenario i counted past (with_signs signs station) (all_marked signs v)
+  unfolding with_signs all_marked
+  stands_all station v [] h each = h
+  stands_all station v (sign ∷ signs) h each = stands_all (with_sign sign station) (marked sign v) signs (stands_marked station v sign h each.0) each.1
+
+-- with another table of copies
+pub stands_counted : (scenario : ScenarioParts) (i : ℕ) (counted more past : List NoticeKind) (station : Station) (v : LifeParts) (table : EagerParts)
+    → AreCopies scenario more table → IsReading scenario i counted past station v → IsReading scenario i more past station (record v { copies = table })
+stands_counted scenario i counted more past station v table copies h = record {
+  legal = h.legal;
+  node = h.node;
+  params = h.params;
+  failed = h.failed;
+  cycles = h.cycles;
+  known = h.known;
+  copies = copies;
+  nodes = h.nodes;
+  shown = h.shown;
+  last = h.last;
+  sent = h.sent;
+  few = h.few;
+}

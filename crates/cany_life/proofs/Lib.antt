@@ -1,0 +1,11 @@
+pub mod CopyFacts
+pub mod CountFacts
+pub mod FindFacts
+pub mod FoundFacts
+pub mod HeardFacts
+pub mod KnownFacts
+pub mod LearnFacts
+pub mod MarkFacts
+pub mod SentFacts
+pub mod SetFacts
+pub mod TurnFacts

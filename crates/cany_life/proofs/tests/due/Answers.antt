@@ -1,0 +1,12 @@
+use Rattle.std.proofs.Common.{ap, arith}
+use Rattle.cany_base.specs.Params.{Parameters}
+use Rattle.cany_life.proofs.tests.due.Goals as goal
+
+pub sign-requires-clause-now : goal.sign-requires-clause-now
+sign-requires-clause-now c =
+    let s = c.requires.stands in
+    record { scenario = c.args.scenario.now; past = s.past; station = s.station; stands = s.stands; within = c.requires.within; newest = s.read }
+
+pub sign-requires-clause-members : goal.sign-requires-clause-members
+sign-requires-clause-members c = λ node h.
+    omega (arith, c.requires.members node h, ap (λ (p : Parameters). p.nodes) c.requires.stands.stands.params, c.requires.bus)

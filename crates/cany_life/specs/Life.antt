@@ -1,0 +1,93 @@
+-- What a value of life signs and failure signs stands for.
+use Rattle.std.specs.Prelude.{◌≡◌, ℕ, ◌+◌, ◌*◌, ◌<◌, ◌≤◌, true, List, ◌∷◌, length, slice_index_or}
+use Rattle.cany_base.specs.declared.notice.Notice.{Notice}
+use Rattle.cany_base.specs.declared.notice.NoticeKind.{NoticeKind}
+use Rattle.cany_base.specs.Limits.{most_nodes}
+use Rattle.cany_base.specs.Nodes.{Nodes, has}
+use Rattle.cany_base.specs.Params.{Parameters}
+use Rattle.cany_base.specs.Scenario.{ScenarioParts, IsLegalScenario}
+use Rattle.cany_diffuse.specs.Eager.{EagerParts, copies_of, is_there}
+use Rattle.cany_model.specs.Bus.History.{copies}
+use Rattle.cany_model.specs.Bus.Slot.{nobody}
+use Rattle.cany_model.specs.Rules.Life.{signs_sent}
+use Rattle.cany_model.specs.Rules.Notices.{HasFewSigns, IsNextNotice}
+use Rattle.cany_model.specs.Rules.Rooms.{cycles}
+use Rattle.cany_model.specs.Rules.Station.{Sign, Station, fda_of, knows}
+
+-- the node, the parameters, the nodes that have failed here, for each cycle the nodes whose sign of that cycle is known, the copies of
+-- the frames of signs, for each node the slot in which it last showed life, that of the node's own last life, and how many life signs
+-- of its own it has sent
+pub record LifeParts : Type 0 where
+  pub node : ℕ
+  pub params : Parameters
+  pub failed : Nodes
+  pub known : List Nodes
+  pub copies : EagerParts
+  pub shown : List ℕ
+  pub last : ℕ
+  pub sent : ℕ
+
+-- the number that stands for a sign
+abbrev pub sign_number : Sign → ℕ
+sign_number sign = sign.cycle * most_nodes + sign.node
+
+-- the sign is that of a node of the bus, in a cycle of the run
+pub record IsSignOf (scenario : ScenarioParts) (sign : Sign) : Type 0 where
+  pub node : sign.node < scenario.params.nodes
+  pub cycle : sign.cycle ≤ cycles scenario
+
+-- a number that stands for such a sign
+pub record IsSignNumber (scenario : ScenarioParts) (number : ℕ) : Type 0 where
+  pub sign : Sign
+  pub of : IsSignOf scenario sign
+  pub stands : sign_number sign ≡ number
+
+-- The table has of each sign the copies of its frame that stand in these notices. All that is there is of signs that there can be, and
+-- there is room for each of them.
+pub record AreCopies (scenario : ScenarioParts) (past : List NoticeKind) (table : EagerParts) : Type 0 where
+  pub omit : table.omit ≡ scenario.params.omit
+  pub room : table.room ≡ scenario.params.nodes * (cycles scenario + 1)
+  pub copies : (sign : Sign) → sign.node < most_nodes → copies_of table (sign_number sign) ≡ copies (fda_of sign) past
+  pub signs : (number : ℕ) → is_there table number ≡ true → IsSignNumber scenario number
+
+-- those whose sign of a cycle is known
+abbrev pub known_in : List Nodes → ℕ → Nodes
+known_in known cycle = slice_index_or known cycle nobody
+
+-- The value is that of node i after these notices, newest first, where it knows what this station knows, its members left aside: they
+-- are given to each call.
+pub record IsLifeOf (scenario : ScenarioParts) (i : ℕ) (past : List NoticeKind) (station : Station) (v : LifeParts) : Type 0 where
+  pub legal : IsLegalScenario scenario
+  pub node : v.node ≡ i
+  pub params : v.params ≡ scenario.params
+  pub failed : (r : ℕ) → has v.failed r ≡ has station.failed r
+  pub cycles : length v.known ≡ cycles scenario + 1
+  pub known : (sign : Sign) → IsSignOf scenario sign → has (known_in v.known sign.cycle) sign.node ≡ knows sign station
+  pub copies : AreCopies scenario past v.copies
+  pub nodes : length v.shown ≡ most_nodes
+  pub shown : (r : ℕ) → r < scenario.params.nodes → slice_index_or v.shown r 0 ≡ station.shown r
+  pub last : v.last ≡ station.last
+  pub sent : v.sent ≡ signs_sent i past
+  pub few : HasFewSigns scenario i past (length past)
+
+-- the notice can come next: of the node's own life signs there are not too many with it
+pub record IsNextAt (scenario : ScenarioParts) (i : ℕ) (past : List NoticeKind) (notice : Notice) : Type 0 where
+  pub next : IsNextNotice scenario past notice
+  pub few : HasFewSigns scenario i (notice.kind ∷ past) notice.slot
+
+-- there are notices, and what is known by them, that the value stands for, and this one can come after them
+pub record CanRead (v : LifeParts) (notice : Notice) : Type 0 where
+  pub scenario : ScenarioParts
+  pub past : List NoticeKind
+  pub station : Station
+  pub stands : IsLifeOf scenario v.node past station v
+  pub next : IsNextAt scenario v.node past notice
+
+-- the value stands for notices the newest of which is that of the slot
+pub record HasReadSlot (v : LifeParts) (slot : ℕ) : Type 0 where
+  pub scenario : ScenarioParts
+  pub past : List NoticeKind
+  pub station : Station
+  pub stands : IsLifeOf scenario v.node past station v
+  pub within : slot < scenario.params.slots
+  pub newest : length past ≡ slot + 1

@@ -1,0 +1,131 @@
+-- What a notice, and a sign that becomes known, do to a value of life signs and failure signs, and the actions that a sign calls for.
+use Rattle.std.specs.Prelude.{◌≡◌, ℕ, zero, suc, ◌+◌, ◌-◌, ◌<◌, ◌==◌, ◌&&◌, ◌||◌, Bool, true, false, not, nat_le, if◌then◌else◌, List, [], ◌∷◌, ◌++◌, length, slice_index_or, slice_set}
+use Rattle.std.specs.List.{flat_map}
+use Rattle.cany_base.specs.declared.actions.Action.{Action}
+use Rattle.cany_base.specs.declared.actions.Action.TheVariants.{Ask, Enter}
+use Rattle.cany_base.specs.declared.frame.Class.TheVariants as class
+use Rattle.cany_base.specs.declared.log_entry.LogEntry.TheVariants.{Failed}
+use Rattle.cany_base.specs.declared.notice.Notice.{Notice}
+use Rattle.cany_base.specs.declared.notice.NoticeKind.{NoticeKind}
+use Rattle.cany_base.specs.declared.notice.NoticeKind.TheVariants.{Idle, Got, Sent, Bad}
+use Rattle.cany_base.specs.Limits.{most_nodes}
+use Rattle.cany_base.specs.Nodes.{Nodes, has, those_where}
+use Rattle.cany_base.specs.Scenario.{ScenarioParts, IsLegalScenario}
+use Rattle.cany_diffuse.specs.declared.learnt.Learnt.{Learnt}
+use Rattle.cany_diffuse.specs.declared.learnt.Learnt.TheVariants.{First, Again, Enough}
+use Rattle.cany_diffuse.specs.Eager.{copies_of}
+use Rattle.cany_model.specs.Bus.Frames.{same_class}
+use Rattle.cany_model.specs.Rules.Life.{signs_sent}
+use Rattle.cany_model.specs.Rules.Notices.{HasFewSigns, IsNextNotice}
+use Rattle.cany_model.specs.Rules.Rooms.{cycles}
+use Rattle.cany_model.specs.Rules.Station.{Sign, Station, fda_frame, knows, shows_life, sign_in}
+use Rattle.cany_life.specs.Life.{AreCopies, IsLifeOf, IsSignOf, LifeParts, known_in, sign_number}
+
+-- ---- who shows life
+
+-- the slot in which a node last showed life
+abbrev pub shown_by : LifeParts → ℕ → ℕ
+shown_by v r = slice_index_or v.shown r 0
+
+unfoldable pub heard : ℕ → NoticeKind → LifeParts → LifeParts
+heard slot Idle v = v
+heard slot (Got f) v = if shows_life f then record v { shown = slice_set v.shown f.node slot } else v
+heard slot (Sent f) v = if f.node == v.node then record v {
+  last = if shows_life f then slot else v.last;
+  sent = v.sent + (if same_class f.class class.Els then 1 else 0);
+} else v
+heard slot Bad v = v
+
+-- ---- a sign becomes known
+
+abbrev pub with_node : ℕ → Nodes → Nodes
+with_node node nodes = those_where (λ r. has nodes r || r == node)
+
+abbrev pub without_nodes : Nodes → Nodes → Nodes
+without_nodes others nodes = those_where (λ r. has nodes r && not (has others r))
+
+abbrev pub is_known : Sign → LifeParts → Bool
+is_known sign v = has (known_in v.known sign.cycle) sign.node
+
+unfoldable pub marked : Sign → LifeParts → LifeParts
+marked sign v = record v {
+  failed = with_node sign.node v.failed;
+  known = slice_set v.known sign.cycle (with_node sign.node (known_in v.known sign.cycle));
+}
+
+-- these, one after another
+unfoldable pub all_marked : List Sign → LifeParts → LifeParts
+all_marked [] v = v
+all_marked (sign ∷ signs) v = all_marked signs (marked sign v)
+
+-- the sign, where it is not known
+abbrev pub unknown : Sign → LifeParts → List Sign
+unknown sign v = if is_known sign v then [] else sign ∷ []
+
+-- whether more than omit copies of its frame were read
+abbrev pub has_enough_of : LifeParts → Sign → Bool
+has_enough_of v sign = nat_le (v.params.omit + 1) (copies_of v.copies (sign_number sign))
+
+-- what a sign that becomes known calls for, with enough copies or not
+abbrev pub sign_actions : ℕ → Bool → Sign → List Action
+sign_actions slot is_enough sign = Enter (Failed slot sign.node sign.cycle) ∷ (if is_enough then [] else Ask (fda_frame sign) ∷ [])
+
+abbrev pub known_actions : ℕ → Bool → List Sign → List Action
+known_actions slot is_enough signs = flat_map (sign_actions slot is_enough) signs
+
+abbrev pub is_enough : Learnt → Bool
+is_enough First = false
+is_enough (Again copies) = false
+is_enough (Enough copies) = true
+
+-- ---- signs by silence
+
+-- whether node r, one of these members, has shown no life for as many slots as the silence has
+abbrev pub is_silent_at : LifeParts → Nodes → ℕ → ℕ → Bool
+is_silent_at v members slot r =
+    has members r && not (r == v.node) && not (has v.failed r) && nat_le v.params.silence (slot - shown_by v r)
+
+-- the sign of a node that is silent, where it is not known
+abbrev pub found_at : LifeParts → Nodes → ℕ → ℕ → List Sign
+found_at v members slot r = if is_silent_at v members slot r then unknown (sign_in v.params slot r) v else []
+
+-- those of the nodes below n, ascending
+unfoldable pub found_below : LifeParts → Nodes → ℕ → ℕ → List Sign
+found_below v members slot zero = []
+found_below v members slot (suc n) = found_below v members slot n ++ found_at v members slot n
+
+-- what they call for
+abbrev pub found_actions : LifeParts → ℕ → List Sign → List Action
+found_actions v slot signs = flat_map (λ sign. sign_actions slot (has_enough_of v sign) sign) signs
+
+-- ---- in the middle of a turn
+
+-- As `IsLifeOf`, but the copies are those in other notices than the rest.
+pub record IsReading (scenario : ScenarioParts) (i : ℕ) (counted past : List NoticeKind) (station : Station) (v : LifeParts) : Type 0 where
+  pub legal : IsLegalScenario scenario
+  pub node : v.node ≡ i
+  pub params : v.params ≡ scenario.params
+  pub failed : (r : ℕ) → has v.failed r ≡ has station.failed r
+  pub cycles : length v.known ≡ cycles scenario + 1
+  pub known : (sign : Sign) → IsSignOf scenario sign → has (known_in v.known sign.cycle) sign.node ≡ knows sign station
+  pub copies : AreCopies scenario counted v.copies
+  pub nodes : length v.shown ≡ most_nodes
+  pub shown : (r : ℕ) → r < scenario.params.nodes → slice_index_or v.shown r 0 ≡ station.shown r
+  pub last : v.last ≡ station.last
+  pub sent : v.sent ≡ signs_sent i past
+  pub few : HasFewSigns scenario i past (length past)
+
+-- it has read the notice, but counted no copy in it, and the notice came next
+pub record CanLearn (v : LifeParts) (notice : Notice) : Type 0 where
+  pub scenario : ScenarioParts
+  pub past : List NoticeKind
+  pub station : Station
+  pub stands : IsReading scenario v.node past (notice.kind ∷ past) station v
+  pub next : IsNextNotice scenario past notice
+
+-- the value stands for the notices of so many slots
+pub record HasReadSlots (scenario : ScenarioParts) (slots : ℕ) (v : LifeParts) : Type 0 where
+  pub past : List NoticeKind
+  pub station : Station
+  pub stands : IsLifeOf scenario v.node past station v
+  pub read : length past ≡ slots

@@ -1,0 +1,94 @@
+ghost use Rattle.std.specs.Prelude.{◌≡◌, ◌<◌};
+ghost use Rattle.cany_base.specs.declared.frame.Class.TheVariants as class;
+ghost use Rattle.cany_base.specs.Limits.{most_nodes};
+ghost use Rattle.cany_model.specs.Bus.Frames.{same_class};
+ghost use Rattle.cany_model.specs.Rules.Station.{shows_life, sign_of};
+
+use cany_base::{Class, Frame, NodeId, Payload};
+use cany_diffuse::Diffused;
+use cany_message::is_of_class;
+use std::marker::Model;
+
+/// That a node has failed, as it was found out in a membership cycle. It is told of by a frame without payload.
+#[derive(Clone, Copy)]
+pub(crate) struct FailureSign {
+    pub(crate) node: NodeId,
+    /// The number of the cycle, counted from 0.
+    pub(crate) cycle: u16,
+}
+
+impl Model for FailureSign {
+    ghost use Rattle.cany_model.specs.Rules.Station.{Sign};
+
+    ghost Value = { Sign };
+
+    ghost view = { λ s. record { node = s.node; cycle = s.cycle } };
+
+    ghost inverse = { λ s. record { node = s.node; cycle = s.cycle } };
+}
+
+impl FailureSign {
+    /// The sign that a frame tells of. The frame's class is not looked at.
+    pub(crate) fn of(frame: &Frame) -> FailureSign
+        ensures sign { result ≡ sign_of frame.now }
+        ensures in_range { frame.now.node < most_nodes }
+    {
+        // Read for what it ensures: that the node is in range.
+        let _number = frame.node.get();
+        FailureSign {
+            node: frame.node,
+            cycle: frame.number,
+        }
+    }
+}
+
+impl Diffused for FailureSign {
+    ghost use Rattle.std.proofs.Common.{arith, refl};
+    ghost use Rattle.cany_base.specs.Limits.{most_nodes};
+    ghost use Rattle.cany_life.specs.Life.{sign_number};
+    ghost use Rattle.cany_model.specs.Rules.Station.{fda_frame};
+
+    ghost key = { sign_number };
+
+    ghost form = { fda_frame };
+
+    ghost is_value = { λ s. s.node < most_nodes };
+
+    fn key(&self) -> u64 {
+        u64::from(self.cycle) * u64::from(NodeId::COUNT) + u64::from(self.node.get())
+    }
+
+    fn form(&self) -> Frame {
+        Frame {
+            class: Class::Fda,
+            number: self.cycle,
+            node: self.node,
+            inc: 0,
+            payload: Payload::empty(),
+        }
+    }
+
+    ghost one_name_one_key = { λ a b in_a in_b. (λ one. Prim.omega (arith, one.number, one.node), λ e. record { class = refl; number = Prim.omega (arith, e, in_a, in_b); node = Prim.omega (arith, e, in_a, in_b) }) };
+}
+
+/// Whether the frame tells of a failure sign.
+pub(crate) fn is_failure_sign(frame: &Frame) -> bool
+    ensures { result ≡ same_class frame.now.class class.Fda }
+{
+    is_of_class(frame, Class::Fda)
+}
+
+/// Whether the frame is a life sign.
+pub(crate) fn is_life_sign(frame: &Frame) -> bool
+    ensures { result ≡ same_class frame.now.class class.Els }
+{
+    is_of_class(frame, Class::Els)
+}
+
+/// Whether the frame shows that the node lives which it names.
+#[tactic(auto, unfolding(cany_model::specs::Rules::Station::shows_life))]
+pub(crate) fn shows_life(frame: &Frame) -> bool
+    ensures { result ≡ shows_life frame.now }
+{
+    is_life_sign(frame) || is_of_class(frame, Class::Rha) || is_of_class(frame, Class::Tot)
+}

@@ -1,0 +1,10 @@
+//! Life signs and failure signs: a member shows life at intervals, and a node that learns that another one failed tells of it.
+#![tactic(auto)]
+
+mod frames;
+mod life;
+#[cfg(test)]
+mod tests;
+mod threads;
+
+pub use life::Life;

@@ -1,0 +1,450 @@
+ghost use Rattle.std.specs.Prelude.{◌≡◌, ℕ, ◌+◌, ◌*◌, ◌/◌, ◌<◌, ◌≤◌, ◌==◌, ◌&&◌, ◌++◌, ◌∷◌, if◌then◌else◌, length, List, replicate, slice_index, EachIndex, IfOk};
+ghost use Rattle.std.specs.List.{flat_map};
+ghost use Rattle.can_frame.specs.Identifier.{HasSmallNumbers};
+ghost use Rattle.cany_base.specs.declared.frame.Class.TheVariants as class;
+ghost use Rattle.cany_base.specs.declared.notice.NoticeKind.{NoticeKind};
+ghost use Rattle.cany_base.specs.declared.notice.NoticeKind.TheVariants.{Idle};
+ghost use Rattle.cany_base.specs.Limits.{most_nodes, most_numbers, most_slots};
+ghost use Rattle.cany_base.specs.Nodes.{AllBelow, Nodes, has};
+ghost use Rattle.cany_base.specs.Scenario.{ScenarioParts};
+ghost use Rattle.cany_diffuse.specs.Eager.{IsLearnt};
+ghost use Rattle.cany_life.specs.Life.{CanRead, HasReadSlot, IsLifeOf, IsNextAt, sign_number};
+ghost use Rattle.cany_life.specs.LifeSteps.{CanLearn, IsReading, all_marked, found_actions, found_at, found_below, has_enough_of, heard, is_enough, is_known, is_silent_at, known_actions, marked, unknown, with_node, without_nodes};
+ghost use Rattle.cany_message.specs.Actions.{withdraw_actions};
+ghost use Rattle.cany_message.specs.Table.{CanTake};
+ghost use Rattle.cany_model.specs.Bus.Frames.{same_class};
+ghost use Rattle.cany_model.specs.Bus.Slot.{nobody};
+ghost use Rattle.cany_model.specs.Rules.Actions.{actions_of};
+ghost use Rattle.cany_model.specs.Rules.Life.{els_frame, failures_at, fda_copy_effects, life_sign, sign_effects, signs_sent};
+ghost use Rattle.cany_model.specs.Rules.Notices.{IsNextNotice};
+ghost use Rattle.cany_model.specs.Rules.Station.{Station, having_admitted, having_found, shows_life, sign_of, station_at_first, told, with_members, with_signs};
+
+use crate::frames::{FailureSign, is_failure_sign, is_life_sign, shows_life};
+use cany_base::{
+    Action, Actions, BoundedVec, Class, Format, Frame, LogEntry, Memory, NodeId, NodeSet, Notice,
+    NoticeKind, Params, Payload, Scenario, Slot,
+};
+use cany_diffuse::{Diffused, Eager, Learnt};
+use cany_message::withdraw;
+use std::alloc::Global;
+use std::marker::Model;
+
+/// Life signs and failure signs at one node: when each other node last showed life, which nodes have failed, and the signs by which
+/// that is known.
+///
+/// This project's own rule. A member shows life at intervals of `life` slots. A node from which a member has heard no sign of life
+/// for `silence` slots has failed there, and so has one of which a failure sign is got. Each sign becomes known once, is entered in the
+/// log then, and its frame is spread, with more than `omit` copies no longer. The members are not kept here: each call is given them.
+#[derive(Drop)]
+pub struct Life {
+    node: NodeId,
+    params: Params,
+    /// The nodes that have failed here.
+    failed: NodeSet,
+    /// For each membership cycle of the run, the nodes whose sign of that cycle is known.
+    known: BoundedVec<NodeSet>,
+    /// The copies of the frames of failure signs.
+    copies: Eager<FailureSign>,
+    /// For each node the slot in which it last showed life, 0 before it did.
+    shown: [Slot; NodeId::COUNT as usize],
+    /// The slot of the node's own last life, 0 before it showed any.
+    last: Slot,
+    /// How many life signs of its own the node has sent, as it has read.
+    sent: u32,
+}
+
+impl Model for Life {
+    ghost use Rattle.cany_life.specs.Life.{LifeParts};
+
+    ghost Value = { LifeParts };
+
+    ghost view = { λ l. record {
+      node = l.node;
+      params = l.params;
+      failed = l.failed;
+      known = l.known.items;
+      copies = l.copies;
+      shown = l.shown;
+      last = l.last;
+      sent = l.sent;
+    } };
+}
+
+impl Life {
+    /// That of a node that has read nothing, or only notices of idle slots, with room for the signs of all nodes in all cycles.
+    pub fn build(alloc: Global, node: NodeId, scenario: &Scenario) -> Result<Life, Memory>
+        requires { node < scenario.now.params.nodes }
+        ensures { IfOk result (λ life. (n : ℕ) (members : Nodes) → IsLifeOf scenario.now node (replicate n Idle) (station_at_first members) life) }
+    {
+        let params = *scenario.params();
+        let cycles = (params.slots / params.cycle) as usize + 1;
+        let known = nobody_known(alloc, cycles)?;
+        let copies = Eager::build(alloc, params.omit, usize::from(params.nodes) * cycles)?;
+        Ok(Life {
+            node,
+            params,
+            failed: NodeSet::empty(),
+            known,
+            copies,
+            shown: [0; NodeId::COUNT as usize],
+            last: 0,
+            sent: 0,
+        })
+    }
+
+    /// What a notice leads to: who shows life in it, the failure sign in it, and then the signs that silence brings, by ascending node.
+    /// The notices of the slots before the first that a value is given count as idle ones.
+    ///
+    /// At most three actions are appended, and two for each node.
+    pub fn on(&mut self, notice: &Notice, members: NodeSet, out: &mut Actions)
+        requires reads { CanRead self.old notice.now }
+        requires members { AllBelow self.old.params.nodes members }
+        requires room { length out.old.items + 2 * self.old.params.nodes + 3 ≤ out.old.room }
+        ensures actions { (scenario : ScenarioParts) (past : List NoticeKind) (station : Station) → IsLifeOf scenario self.old.node past station self.old →
+            IsNextAt scenario self.old.node past notice.now →
+            out.new.items ≡ out.old.items
+            ++ actions_of scenario.params.format (failures_at scenario.params self.old.node notice.now.kind past (with_members members station)) }
+        ensures stands { (scenario : ScenarioParts) (past : List NoticeKind) (station : Station) → IsLifeOf scenario self.old.node past station self.old →
+            IsNextAt scenario self.old.node past notice.now →
+            IsLifeOf scenario self.old.node (notice.now.kind ∷ past)
+            (having_found scenario.params self.old.node (length past) notice.now.kind (with_members members station)) self.new }
+        ensures node { self.new.node ≡ self.old.node }
+        ensures params { self.new.params ≡ self.old.params }
+        ensures few { length out.new.items ≤ length out.old.items + 2 * self.old.params.nodes + 3 }
+        ensures room { out.new.room ≡ out.old.room }
+    {
+        self.hear(notice);
+        self.learn(notice, out);
+        self.find(notice.slot, members, out);
+    }
+
+    /// These nodes are newly admitted to the view in the turn of a slot: they have not failed, and show life from that slot on.
+    pub fn admit(&mut self, newly: NodeSet, now: Slot)
+        requires newly { AllBelow self.old.params.nodes newly }
+        requires now { HasReadSlot self.old now }
+        ensures stands { (scenario : ScenarioParts) (past : List NoticeKind) (station : Station) → IsLifeOf scenario self.old.node past station self.old →
+            IsLifeOf scenario self.old.node past (having_admitted self.old.node now newly station) self.new }
+        ensures node { self.new.node ≡ self.old.node }
+        ensures params { self.new.params ≡ self.old.params }
+    {
+        self.failed = without(self.failed, newly);
+        show(&mut self.shown, newly, now);
+        if newly.has(self.node) {
+            self.last = now;
+        }
+    }
+
+    /// In the turn of a slot, after its notice: a member asks for its next life sign if it is due.
+    ///
+    /// At most one action is appended. The frame tells no incarnation: its node does that.
+    pub fn sign(&mut self, now: Slot, members: NodeSet, out: &mut Actions)
+        requires members { AllBelow self.old.params.nodes members }
+        requires now { HasReadSlot self.old now }
+        requires room { length out.old.items < out.old.room }
+        ensures actions { (scenario : ScenarioParts) (past : List NoticeKind) (station : Station) → IsLifeOf scenario self.old.node past station self.old →
+            out.new.items ≡ out.old.items
+            ++ actions_of scenario.params.format (life_sign scenario.params.life 0 self.old.node now (with_members members station) (signs_sent self.old.node past)) }
+        ensures state { self.new ≡ self.old }
+        ensures few { length out.new.items ≤ length out.old.items + 1 }
+        ensures room { out.new.room ≡ out.old.room }
+    {
+        if self.is_due(now, members) {
+            out.push(Action::Ask(self.life_sign()));
+        }
+    }
+
+    /// The nodes that have failed here.
+    pub fn failed(&self) -> NodeSet
+        ensures failed { result ≡ self.now.failed }
+        ensures exact { (scenario : ScenarioParts) (past : List NoticeKind) (station : Station) → IsLifeOf scenario self.now.node past station self.now →
+            (r : ℕ) → has result r ≡ has station.failed r }
+    {
+        self.failed
+    }
+
+    /// Who shows life in a notice: another node, or the node itself, which counts its own life signs.
+    #[tactic(auto, unfolding(crate::specs::LifeSteps::heard))]
+    fn hear(&mut self, notice: &Notice)
+        requires { self.old.sent < most_slots }
+        ensures { self.new ≡ heard notice.now.slot notice.now.kind self.old }
+    {
+        match &notice.kind {
+            NoticeKind::Got(frame) => {
+                if shows_life(frame) {
+                    self.shown[usize::from(frame.node.get())] = notice.slot;
+                }
+            }
+            NoticeKind::Sent(frame) => {
+                if frame.node.get() == self.node.get() {
+                    self.hear_own(notice.slot, frame);
+                }
+            }
+            NoticeKind::Idle => {}
+            NoticeKind::Bad => {}
+        }
+    }
+
+    /// The node reads its own transmission of a frame of its own.
+    fn hear_own(&mut self, slot: Slot, frame: &Frame)
+        requires { self.old.sent < most_slots }
+        ensures { self.new ≡ record self.old {
+          last = if shows_life frame.now then slot else self.old.last;
+          sent = self.old.sent + (if same_class frame.now.class class.Els then 1 else 0);
+        } }
+    {
+        if shows_life(frame) {
+            self.last = slot;
+        }
+        if is_life_sign(frame) {
+            self.sent += 1;
+        }
+    }
+
+    /// The failure sign in a notice becomes known, and its copy counts.
+    fn learn(&mut self, notice: &Notice, out: &mut Actions)
+        requires learns { CanLearn self.old notice.now }
+        requires room { length out.old.items + 3 ≤ out.old.room }
+        ensures stands { (scenario : ScenarioParts) (past : List NoticeKind) (station : Station)
+            → IsReading scenario self.old.node past (notice.now.kind ∷ past) station self.old → IsNextNotice scenario past notice.now
+            → IsReading scenario self.old.node (notice.now.kind ∷ past) (notice.now.kind ∷ past) (with_signs (told notice.now.kind station) station) self.new }
+        ensures actions { (scenario : ScenarioParts) (past : List NoticeKind) (station : Station)
+            → IsReading scenario self.old.node past (notice.now.kind ∷ past) station self.old → IsNextNotice scenario past notice.now
+            → out.new.items ≡ out.old.items ++ actions_of scenario.params.format
+            (flat_map (sign_effects scenario.params.omit (length past) (notice.now.kind ∷ past)) (told notice.now.kind station)
+            ++ fda_copy_effects scenario.params.omit notice.now.kind (notice.now.kind ∷ past)) }
+        ensures node { self.new.node ≡ self.old.node }
+        ensures params { self.new.params ≡ self.old.params }
+        ensures few { length out.new.items ≤ length out.old.items + 3 }
+        ensures room { out.new.room ≡ out.old.room }
+    {
+        match &notice.kind {
+            NoticeKind::Got(frame) => {
+                if is_failure_sign(frame) {
+                    self.on_copy(notice.slot, frame, out);
+                }
+            }
+            NoticeKind::Sent(_) => {}
+            NoticeKind::Idle => {}
+            NoticeKind::Bad => {}
+        }
+    }
+
+    /// A copy of the frame of a failure sign: the sign becomes known, and with enough copies the frame is withdrawn.
+    fn on_copy(&mut self, slot: Slot, frame: &Frame, out: &mut Actions)
+        requires small { HasSmallNumbers self.old.params.format frame.now }
+        requires takes { CanTake (sign_number (sign_of frame.now)) self.old.copies }
+        requires omit { self.old.copies.omit ≡ self.old.params.omit }
+        requires cycle { frame.now.number < length self.old.known }
+        requires room { length out.old.items + 3 ≤ out.old.room }
+        ensures learnt { IsLearnt (sign_number (sign_of frame.now)) self.old.copies self.new.copies }
+        ensures state { self.new ≡ all_marked (unknown (sign_of frame.now) self.old) (record self.old { copies = self.new.copies }) }
+        ensures actions { let is_enough = has_enough_of self.new (sign_of frame.now) in
+            out.new.items ≡ (out.old.items ++ known_actions slot is_enough (unknown (sign_of frame.now) self.old)) ++ withdraw_actions self.old.params.format is_enough frame.now }
+        ensures few { length out.new.items ≤ length out.old.items + 3 }
+        ensures room { out.new.room ≡ out.old.room }
+    {
+        let format = self.format();
+        let sign = FailureSign::of(frame);
+        let is_enough = self.count(sign);
+        self.know(slot, sign, is_enough, out);
+        withdraw(format, frame, is_enough, out);
+    }
+
+    /// Counts a copy of the frame of a sign. Whether there are enough then.
+    fn count(&mut self, sign: FailureSign) -> bool
+        requires takes { CanTake (sign_number sign) self.old.copies }
+        requires omit { self.old.copies.omit ≡ self.old.params.omit }
+        ensures learnt { IsLearnt (sign_number sign) self.old.copies self.new.copies }
+        ensures state { self.new ≡ record self.old { copies = self.new.copies } }
+        ensures enough { result ≡ has_enough_of self.new sign }
+    {
+        // Read for what it ensures: that the node is in range.
+        let _node = sign.node.get();
+        // Called for what it ensures: no sign is there twice, so there is room for this one.
+        let _copies = self.copies.copies(&sign);
+        let learnt = self.copies.learn(sign);
+        is_enough(&learnt)
+    }
+
+    /// The signs that silence brings, by ascending node.
+    fn find(&mut self, slot: Slot, members: NodeSet, out: &mut Actions)
+        requires cycle { 0 < self.old.params.cycle }
+        requires number { slot / self.old.params.cycle < most_numbers }
+        requires known { slot / self.old.params.cycle < length self.old.known }
+        requires nodes { self.old.params.nodes ≤ most_nodes }
+        requires room { length out.old.items + 2 * self.old.params.nodes ≤ out.old.room }
+        ensures state { self.new ≡ all_marked (found_below self.old members slot self.old.params.nodes) self.old }
+        ensures actions { out.new.items ≡ out.old.items ++ found_actions self.old slot (found_below self.old members slot self.old.params.nodes) }
+        ensures few { length out.new.items ≤ length out.old.items + 2 * self.old.params.nodes }
+        ensures room { out.new.room ≡ out.old.room }
+    {
+        for n in 0..usize::from(self.params.nodes) {
+            self.find_node(slot, NodeId::of_index(n), members, out);
+        }
+    }
+
+    /// The sign of a node that is silent becomes known.
+    #[tactic(auto, unfolding(crate::specs::LifeSteps::all_marked))]
+    fn find_node(&mut self, slot: Slot, node: NodeId, members: NodeSet, out: &mut Actions)
+        requires cycle { 0 < self.old.params.cycle }
+        requires number { slot / self.old.params.cycle < most_numbers }
+        requires known { slot / self.old.params.cycle < length self.old.known }
+        requires room { length out.old.items + 2 ≤ out.old.room }
+        ensures state { self.new ≡ all_marked (found_at self.old members slot node) self.old }
+        ensures actions { out.new.items ≡ out.old.items ++ found_actions self.old slot (found_at self.old members slot node) }
+        ensures few { length out.new.items ≤ length out.old.items + 2 }
+        ensures room { out.new.room ≡ out.old.room }
+    {
+        if self.is_silent(slot, node, members) {
+            let cycle = (slot / self.params.cycle) as u16;
+            let sign = FailureSign { node, cycle };
+            let is_enough = self.has_enough(&sign);
+            self.know(slot, sign, is_enough, out);
+        }
+    }
+
+    /// Whether a node, one of these members, has shown no life for as many slots as the silence has.
+    fn is_silent(&self, slot: Slot, node: NodeId, members: NodeSet) -> bool
+        ensures { result ≡ is_silent_at self.now members slot node }
+    {
+        members.has(node)
+            && node.get() != self.node.get()
+            && !self.failed.has(node)
+            && slot.saturating_sub(self.shown[usize::from(node.get())]) >= self.params.silence
+    }
+
+    /// A sign becomes known, unless it is: it is entered, and its frame is asked for, unless there are enough copies of it.
+    #[tactic(auto, unfolding(crate::specs::LifeSteps::all_marked))]
+    fn know(&mut self, slot: Slot, sign: FailureSign, is_enough: bool, out: &mut Actions)
+        requires cycle { sign.cycle < length self.old.known }
+        requires room { length out.old.items + 2 ≤ out.old.room }
+        ensures state { self.new ≡ all_marked (unknown sign self.old) self.old }
+        ensures actions { out.new.items ≡ out.old.items ++ known_actions slot is_enough (unknown sign self.old) }
+        ensures few { length out.new.items ≤ length out.old.items + 2 }
+        ensures room { out.new.room ≡ out.old.room }
+    {
+        if self.is_known(&sign) {
+            return;
+        }
+        self.mark(&sign);
+        out.push(Action::Enter(LogEntry::Failed {
+            slot,
+            node: sign.node,
+            cycle: sign.cycle,
+        }));
+        if !is_enough {
+            out.push(Action::Ask(sign.form()));
+        }
+    }
+
+    /// The sign is known from now on, and its node has failed here.
+    #[tactic(auto, unfolding(crate::specs::LifeSteps::marked))]
+    fn mark(&mut self, sign: &FailureSign)
+        requires { sign.now.cycle < length self.old.known }
+        ensures { self.new ≡ marked sign.now self.old }
+    {
+        let cycle = usize::from(sign.cycle);
+        let known = with(self.known.get(cycle), sign.node);
+        self.known.set(cycle, known);
+        self.failed = with(self.failed, sign.node);
+    }
+
+    fn is_known(&self, sign: &FailureSign) -> bool
+        requires { sign.now.cycle < length self.now.known }
+        ensures { result ≡ is_known sign.now self.now }
+    {
+        self.known.get(usize::from(sign.cycle)).has(sign.node)
+    }
+
+    /// Whether there are more copies of the frame of a sign than there may be omissions.
+    fn has_enough(&self, sign: &FailureSign) -> bool
+        ensures { result ≡ has_enough_of self.now sign.now }
+    {
+        // Read for what it ensures: that the node is in range.
+        let _node = sign.node.get();
+        self.copies.copies(sign) > self.params.omit
+    }
+
+    /// The format in which a withdrawal names its frame.
+    fn format(&self) -> Format
+        ensures { result ≡ self.now.params.format }
+    {
+        self.params.format
+    }
+
+    /// Whether the node is one of these members, and its own last life lies just the life interval back.
+    fn is_due(&self, now: Slot, members: NodeSet) -> bool
+        ensures { result ≡ (has members self.now.node && now == self.now.last + self.now.params.life) }
+    {
+        let life = self.params.life;
+        members.has(self.node) && now >= life && now - life == self.last
+    }
+
+    /// The frame of the node's next life sign.
+    fn life_sign(&self) -> Frame
+        requires { self.now.sent < most_numbers }
+        ensures { result ≡ els_frame 0 self.now.node self.now.sent }
+    {
+        Frame {
+            class: Class::Els,
+            number: self.sent as u16,
+            node: self.node,
+            inc: 0,
+            payload: Payload::empty(),
+        }
+    }
+}
+
+/// Whether a copy is one of more than there may be omissions.
+fn is_enough(learnt: &Learnt) -> bool
+    ensures { result ≡ is_enough learnt.now }
+{
+    match learnt {
+        Learnt::First | Learnt::Again { .. } => false,
+        Learnt::Enough { .. } => true,
+    }
+}
+
+/// The set with one node more.
+fn with(nodes: NodeSet, node: NodeId) -> NodeSet
+    ensures { result ≡ with_node node nodes }
+{
+    let mut more = nodes;
+    more.insert(node);
+    // Called for what it ensures: each node has a place in a set.
+    let _bits = more.bits();
+    more
+}
+
+/// The nodes of the set that are not among the others.
+fn without(nodes: NodeSet, others: NodeSet) -> NodeSet
+    ensures { result ≡ without_nodes others nodes }
+{
+    let fewer = nodes.minus(others);
+    // Called for what it ensures: each node has a place in a set.
+    let _bits = fewer.bits();
+    fewer
+}
+
+/// So many sets of nodes, all empty.
+fn nobody_known(alloc: Global, cycles: usize) -> Result<BoundedVec<NodeSet>, Memory>
+    ensures { IfOk result (λ known. known.items ≡ replicate cycles nobody) }
+{
+    let mut known = BoundedVec::build(alloc, cycles)?;
+    for _ in 0..cycles {
+        known.push(NodeSet::empty());
+    }
+    Ok(known)
+}
+
+/// These nodes show life in the slot.
+fn show(shown: &mut [Slot], nodes: NodeSet, slot: Slot)
+    requires { length shown.old ≤ most_nodes }
+    ensures { EachIndex shown.new (λ r. slice_index shown.new r ≡ (if has nodes r then slot else slice_index shown.old r)) }
+{
+    for (i, last) in shown.iter_mut().enumerate() {
+        if nodes.has(NodeId::of_index(i)) {
+            *last = slot;
+        }
+    }
+}
