@@ -1,7 +1,10 @@
 -- What a node may ask for fits the identifiers, and a turn names nothing else.
-use Rattle.std.proofs.Common.{false, ◌≡◌, ℕ, ◌<◌, ◌||◌, true, inl, inr, List, [], ◌∷◌, length, Contains, Option, Some, None, is_some, refl, ap, sym, ◌∙◌, subst, arith}
+use Rattle.std.proofs.Common.{◌≡◌, ℕ, suc, ◌*◌, ◌/◌, ◌<◌, ◌≤◌, Bool, true, false, inl, inr, List, [], ◌∷◌, length, Contains, refl, ap, sym, ◌∙◌, subst, arith}
+use Rattle.std.specs.Prelude.{◌==◌, ◌+◌}
 use Rattle.std.specs.List.{AllByRecursion}
-use Rattle.std.proofs.lemmas.Bool.{false≢true, or_cases}
+use Rattle.std.proofs.Math.Nat.{div-mul-le_self}
+use Rattle.std.proofs.lemmas.Bool.{false≢true, and_parts}
+use Rattle.std.proofs.lemmas.Nat.{le-div}
 use Rattle.cany_base.specs.declared.frame.Class.{Class}
 use Rattle.cany_base.specs.declared.frame.Class.TheVariants as class
 use Rattle.cany_base.specs.declared.message.Service.{Service}
@@ -9,64 +12,86 @@ use Rattle.cany_base.specs.declared.message.Service.TheVariants as service
 use Rattle.cany_base.specs.declared.notice.NoticeKind.{NoticeKind}
 use Rattle.cany_base.specs.declared.notice.NoticeKind.TheVariants.{Got, Sent}
 use Rattle.cany_base.specs.Frame.{FrameParts, data_class, has_incarnation}
+use Rattle.cany_base.specs.Nodes.{has}
 use Rattle.cany_base.specs.Scenario.{ScenarioParts, IsLegalScenario}
-use Rattle.cany_model.specs.Bus.Frames.{Identity, bare, identity_of, same_class}
+use Rattle.cany_base.proofs.ParamsFacts.{few_slots}
+use Rattle.cany_model.specs.Bus.Frames.{Identity, bare, identity_of}
 use Rattle.cany_model.specs.Bus.History.{copies, is_got}
 use Rattle.cany_model.specs.Rules.Effect.{Effect, Ask, Withdraw, Enter}
+use Rattle.cany_model.specs.Rules.Life.{els_frame, is_due, signs_sent}
 use Rattle.cany_model.specs.Rules.Messages.{IsOfMessage, Message, messages_of, data_frame, accept_of_key}
 use Rattle.cany_model.specs.Rules.Totcan.{message_in}
-use Rattle.cany_model.specs.Rules.Notices.{BelongsTo, IsDataOf, IsReadable}
+use Rattle.cany_model.specs.Rules.Notices.{BelongsTo, HasFewSigns, IsDataOf, IsReadable}
 use Rattle.cany_model.specs.Rules.Protocol.{Protocol}
 use Rattle.cany_model.specs.Rules.Relcan.{confirm_frame}
-use Rattle.cany_model.specs.Rules.Rooms.{IsAskable, IsAskableBy, service_of}
+use Rattle.cany_model.specs.Rules.Rooms.{IsAskable, IsAskableAs, IsOfNode}
+use Rattle.cany_model.specs.Rules.Station.{Sign, Station, fda_frame, sign_of, station_of}
 use Rattle.cany_model.specs.Rules.Turn.{protocols, turn_effects}
 use Rattle.cany_model.proofs.Among.{Among, Among-from_Contains, Among-from_count, Among-weaker, Among-which, Contains-from_Among, Each-flat_map, Each-weaker}
 use Rattle.cany_model.proofs.Bus.Carried.{Has, is_got-true}
-use Rattle.cany_model.proofs.Bus.Identities.{same_class-true}
-use Rattle.cany_model.proofs.Rules.ProtocolFacts.{accepts, closes, confirms, enough, enough_accept, IsFounded, IsLawful, MayAsk, MayWithdraw, originates, relays}
+use Rattle.cany_model.proofs.Rules.NumberFacts.{IsSmall, message_is_small}
+use Rattle.cany_model.proofs.Rules.ProtocolFacts.{accepts, closes, confirms, diffused_is_relayed, enough, enough_accept, is_diffused, is_relayed, IsFounded, IsKnownBy, IsLawful, lives, MayAsk, MayWithdraw, originates, relays, signals}
 use Rattle.cany_model.proofs.Rules.Protocols.{are_lawful}
-use Rattle.cany_model.proofs.Rules.NumberFacts.{message_is_small}
+use Rattle.cany_model.proofs.Rules.StationFacts.{station_members}
 use Rattle.can_frame.specs.Identifier.{FitsFormat}
 use Rattle.can_frame.proofs.IdentityFacts.{small_fits}
 use Rattle.cany_node.specs.Apply.{NamesAskable}
 use Rattle.cany_node.specs.Node.{AreReadable}
+use Rattle.cany_node.proofs.LimitFacts.{bound_long, intervals_few}
 
 -- ---- numbers
 
-pub askable_fits : (scenario : ScenarioParts) (x : Identity) → IsLegalScenario scenario → IsAskable scenario x → FitsFormat scenario.params.format (bare x)
-askable_fits scenario x legal is = by_service (service_of x.class) is
+askable_small : (scenario : ScenarioParts) (x : Identity) → IsLegalScenario scenario → IsAskable scenario x → IsSmall scenario x
+askable_small scenario x legal is = by_class x.class is
   where
-    by_service : (o : Option Service) → IsAskableBy scenario x o → FitsFormat scenario.params.format (bare x)
-    by_service None h = absurd h
-    by_service (Some by) m =
-        let small = message_is_small scenario by x legal m in
-        small_fits scenario.params.format (bare x) (small.number, omega (arith, small.node, legal.in_range.nodes.1))
+    bound : 17 ≤ scenario.params.bound
+    bound = bound_long scenario legal
 
--- nothing that is asked for tells an incarnation
-pub askable_plain : (scenario : ScenarioParts) (x : Identity) → IsAskable scenario x → has_incarnation x.class ≡ false
-askable_plain scenario x is = by_class x.class is
-  where
-    by_class : (c : Class) → IsAskableBy scenario x (service_of c) → has_incarnation c ≡ false
-    by_class class.Accept h = refl
+    cycle : 17 ≤ scenario.params.cycle
+    cycle = omega (arith, bound, legal.formulas.cycle)
+
+    life : 17 ≤ scenario.params.life
+    life = omega (arith, bound, legal.formulas.life)
+
+    number_few : (interval : ℕ) → 17 ≤ interval → x.number ≤ scenario.params.slots / interval → x.node < scenario.params.nodes → IsSmall scenario x
+    number_few interval long number node = record {
+      number = intervals_few scenario.params.slots interval x.number (few_slots scenario.params legal.in_range) long number;
+      node = node;
+    }
+
+    by_class : (c : Class) → IsAskableAs scenario x c → IsSmall scenario x
+    by_class class.Accept m = message_is_small scenario service.Tot x legal m
     by_class class.Rha h = absurd h
-    by_class class.Els h = absurd h
-    by_class class.Fda h = refl
+    by_class class.Els n =
+        number_few scenario.params.life life (le-div x.number scenario.params.slots scenario.params.life (omega (arith, life)) n.passed) n.node
+    by_class class.Fda n = number_few scenario.params.cycle cycle n.number n.node
     by_class class.Join h = absurd h
     by_class class.Leave h = absurd h
-    by_class class.Confirm h = refl
-    by_class class.Tot h = refl
-    by_class class.Rel h = refl
-    by_class class.Ed h = refl
+    by_class class.Confirm m = message_is_small scenario service.Rel x legal m
+    by_class class.Tot m = message_is_small scenario service.Tot x legal m
+    by_class class.Rel m = message_is_small scenario service.Rel x legal m
+    by_class class.Ed m = message_is_small scenario service.Ed x legal m
 
--- ---- a frame that was read, and one that is asked for
+pub askable_fits : (scenario : ScenarioParts) (x : Identity) → IsLegalScenario scenario → IsAskable scenario x → FitsFormat scenario.params.format (bare x)
+askable_fits scenario x legal is =
+    let small = askable_small scenario x legal is in
+    small_fits scenario.params.format (bare x) (small.number, omega (arith, small.node, legal.in_range.nodes.1))
 
--- what was read belongs to the scenario
+-- ---- a frame that was read
+
+-- what was read belongs to the scenario, in the slot in which it was read
+read_in_time : (scenario : ScenarioParts) (past : List NoticeKind) (f : FrameParts) → AreReadable scenario past → Among (Has f) past
+    → (slot : ℕ) × (slot < length past) × BelongsTo scenario slot f.class f
+read_in_time scenario [] f readable h = absurd h
+read_in_time scenario (kind ∷ past) f readable (inl (inl got)) = (length past, omega arith, subst (IsReadable scenario (length past)) got readable.0)
+read_in_time scenario (kind ∷ past) f readable (inl (inr sent)) = (length past, omega arith, subst (IsReadable scenario (length past)) sent readable.0)
+read_in_time scenario (kind ∷ past) f readable (inr h) =
+    let read = read_in_time scenario past f readable.1 h in
+    (read.0, omega (arith, read.1), read.2)
+
 pub read_belongs : (scenario : ScenarioParts) (past : List NoticeKind) (f : FrameParts) → AreReadable scenario past → Among (Has f) past
     → (slot : ℕ) × BelongsTo scenario slot f.class f
-read_belongs scenario [] f readable h = absurd h
-read_belongs scenario (kind ∷ past) f readable (inl (inl got)) = (length past, subst (IsReadable scenario (length past)) got readable.0)
-read_belongs scenario (kind ∷ past) f readable (inl (inr sent)) = (length past, subst (IsReadable scenario (length past)) sent readable.0)
-read_belongs scenario (kind ∷ past) f readable (inr h) = read_belongs scenario past f readable.1 h
+read_belongs scenario past f readable h = let read = read_in_time scenario past f readable h in (read.0, read.2)
 
 data_askable : (scenario : ScenarioParts) (by : Service) (f : FrameParts) → IsDataOf scenario by f → IsOfMessage scenario by (identity_of f)
 data_askable scenario by f h = record {
@@ -77,123 +102,141 @@ data_askable scenario by f h = record {
   origin = ap (λ (g : FrameParts). g.node) h.frame;
 }
 
--- a frame of a message that belongs to the scenario may be asked for
-belongs_askable : (scenario : ScenarioParts) (slot : ℕ) (f : FrameParts) (c : Class) → is_some (service_of c) ≡ true → BelongsTo scenario slot c f
-    → IsAskableBy scenario (identity_of f) (service_of c)
-belongs_askable scenario slot f class.Accept of h = record { message = h.message; stands = h.stands; sent_by = h.sent_by; number = h.number; origin = h.origin }
-belongs_askable scenario slot f class.Rha of h = absurd (false≢true of)
-belongs_askable scenario slot f class.Els of h = absurd (false≢true of)
-belongs_askable scenario slot f class.Fda of h = absurd (false≢true of)
-belongs_askable scenario slot f class.Join of h = absurd (false≢true of)
-belongs_askable scenario slot f class.Leave of h = absurd (false≢true of)
-belongs_askable scenario slot f class.Confirm of h = record { message = h.message; stands = h.stands; sent_by = h.sent_by; number = h.number; origin = h.origin }
-belongs_askable scenario slot f class.Tot of h = data_askable scenario service.Tot f h
-belongs_askable scenario slot f class.Rel of h = data_askable scenario service.Rel f h
-belongs_askable scenario slot f class.Ed of h = data_askable scenario service.Ed f h
+-- no frame that is diffused tells an incarnation
+diffused_plain : (c : Class) → is_diffused c ≡ true → has_incarnation c ≡ false
+diffused_plain class.Accept h = refl
+diffused_plain class.Rha h = sym h
+diffused_plain class.Els h = sym h
+diffused_plain class.Fda h = refl
+diffused_plain class.Join h = sym h
+diffused_plain class.Leave h = sym h
+diffused_plain class.Confirm h = refl
+diffused_plain class.Tot h = refl
+diffused_plain class.Rel h = refl
+diffused_plain class.Ed h = refl
 
-read_askable : (scenario : ScenarioParts) (past : List NoticeKind) (f : FrameParts) → AreReadable scenario past → Among (Has f) past
-    → is_some (service_of f.class) ≡ true → IsAskable scenario (identity_of f)
-read_askable scenario past f readable h of =
-    let read = read_belongs scenario past f readable h in
-    belongs_askable scenario read.0 f f.class of read.1
+-- what is known to a node that has read no more slots than the run has
+module _ (scenario : ScenarioParts) (past : List NoticeKind) (legal : IsLegalScenario scenario) (readable : AreReadable scenario past)
+    (within : length past ≤ scenario.params.slots) where
+  -- the cycle of a slot of the run is one of the run
+  cycle_within : (slot : ℕ) → slot ≤ length past → slot / scenario.params.cycle ≤ scenario.params.slots / scenario.params.cycle
+  cycle_within slot early =
+      le-div (slot / scenario.params.cycle) scenario.params.slots scenario.params.cycle (omega (arith, legal.in_range.cycle.0))
+      (omega (arith, div-mul-le_self slot scenario.params.cycle, early, within))
 
-message_askable : (scenario : ScenarioParts) (m : Message) → Contains (messages_of scenario.sends) m → IsAskable scenario (identity_of (data_frame m))
-message_askable scenario m stands =
-    subst (IsAskableBy scenario (identity_of (data_frame m))) (serves m.service)
-    (record { message = m; stands = stands; sent_by = refl; number = refl; origin = refl })
-  where
-    serves : (by : Service) → Some by ≡ service_of (data_class by)
-    serves service.Ed = refl
-    serves service.Rel = refl
-    serves service.Tot = refl
+  -- a frame that others send too
+  belongs_askable : (slot : ℕ) (f : FrameParts) (c : Class) → is_relayed c ≡ true → slot < length past → BelongsTo scenario slot c f
+      → IsAskableAs scenario (identity_of f) c
+  belongs_askable slot f class.Accept relayed early h = record { message = h.message; stands = h.stands; sent_by = h.sent_by; number = h.number; origin = h.origin }
+  belongs_askable slot f class.Rha relayed early h = absurd (false≢true relayed)
+  belongs_askable slot f class.Els relayed early h = absurd (false≢true relayed)
+  belongs_askable slot f class.Fda relayed early h = record { node = h.node; number = omega (arith, h.number, cycle_within slot (omega (arith, early))) }
+  belongs_askable slot f class.Join relayed early h = absurd (false≢true relayed)
+  belongs_askable slot f class.Leave relayed early h = absurd (false≢true relayed)
+  belongs_askable slot f class.Confirm relayed early h = absurd (false≢true relayed)
+  belongs_askable slot f class.Tot relayed early h = absurd (false≢true relayed)
+  belongs_askable slot f class.Rel relayed early h = data_askable scenario service.Rel f h
+  belongs_askable slot f class.Ed relayed early h = data_askable scenario service.Ed f h
 
-confirm_askable : (scenario : ScenarioParts) (past : List NoticeKind) (g : FrameParts) → AreReadable scenario past → Among (Has g) past → g.class ≡ class.Rel
-    → IsAskable scenario (identity_of (confirm_frame g))
-confirm_askable scenario past g readable h rel =
-    let read = read_belongs scenario past g readable h in
-    let m = data_askable scenario service.Rel g (subst (λ c. BelongsTo scenario read.0 c g) rel read.1) in
-    record { message = m.message; stands = m.stands; sent_by = m.sent_by; number = m.number; origin = m.origin }
+  read_askable : (f : FrameParts) → Among (Has f) past → is_relayed f.class ≡ true → IsAskable scenario (identity_of f)
+  read_askable f h relayed =
+      let read = read_in_time scenario past f readable h in
+      belongs_askable read.0 f f.class relayed read.1 read.2
 
-accept_askable : (scenario : ScenarioParts) (past : List NoticeKind) (g : FrameParts) → AreReadable scenario past → Among (Has g) past → g.class ≡ class.Tot
-    → IsAskable scenario (accept_of_key (message_in g))
-accept_askable scenario past g readable h tot =
-    let read = read_belongs scenario past g readable h in
-    let m = data_askable scenario service.Tot g (subst (λ c. BelongsTo scenario read.0 c g) tot read.1) in
-    record { message = m.message; stands = m.stands; sent_by = m.sent_by; number = m.number; origin = m.origin }
+  got_askable : (f : FrameParts) → Among (λ n. n ≡ Got f) past → is_relayed f.class ≡ true → IsAskable scenario (identity_of f)
+  got_askable f got relayed = read_askable f (Among-weaker (λ n. n ≡ Got f) (Has f) (λ n e. inl e) past got) relayed
 
-asked_askable : (scenario : ScenarioParts) (i : ℕ) (past : List NoticeKind) (f : FrameParts) → AreReadable scenario past → is_some (service_of f.class) ≡ true
-    → MayAsk scenario i past f → IsAskable scenario (identity_of f)
-asked_askable scenario i past f readable of (relays relayed got) =
-    read_askable scenario past f readable (Among-weaker (λ n. n ≡ Got f) (Has f) (λ n e. inl e) past got) of
-asked_askable scenario i past f readable of (originates m is origin slot late frame) =
-    subst (λ g. IsAskable scenario (identity_of g)) frame (message_askable scenario m (Contains-from_Among (messages_of scenario.sends) m is))
-asked_askable scenario i past f readable of (confirms g sent rel own frame) =
-    subst (λ h. IsAskable scenario (identity_of h)) frame
-    (confirm_askable scenario past g readable (Among-weaker (λ n. n ≡ Sent g) (Has g) (λ n e. inr e) past sent) rel)
-asked_askable scenario i past f readable of (accepts g sent tot own frame) =
-    subst (λ h. IsAskable scenario (identity_of h)) frame
-    (accept_askable scenario past g readable (Among-weaker (λ n. n ≡ Sent g) (Has g) (λ n e. inr e) past sent) tot)
+  message_askable : (m : Message) → Contains (messages_of scenario.sends) m → IsAskable scenario (identity_of (data_frame m))
+  message_askable m stands = by_service m.service refl
+    where
+      by_service : (by : Service) → m.service ≡ by → IsAskableAs scenario (identity_of (data_frame m)) (data_class by)
+      by_service service.Ed e = record { message = m; stands = stands; sent_by = e; number = refl; origin = refl }
+      by_service service.Rel e = record { message = m; stands = stands; sent_by = e; number = refl; origin = refl }
+      by_service service.Tot e = record { message = m; stands = stands; sent_by = e; number = refl; origin = refl }
 
--- a copy of which was read
-copied_askable : (scenario : ScenarioParts) (past : List NoticeKind) (x : Identity) → AreReadable scenario past → is_some (service_of x.class) ≡ true
-    → 0 < copies x past → IsAskable scenario x
-unfolding copies
-copied_askable scenario past x readable of some =
-    let w = Among-which (λ n. is_got x n ≡ true) past (Among-from_count (is_got x) past some) in
-    let got = is_got-true x w.0 w.2 in
-    subst (IsAskable scenario) (sym got.identity)
-    (read_askable scenario past got.what readable
-    (Among-weaker (λ n. n ≡ w.0) (Has got.what) (λ n e. inl (e ∙ got.was)) past (Among-from_Contains past w.0 w.1))
-    (ap (λ (y : Identity). is_some (service_of y.class)) (sym got.identity) ∙ of))
+  confirm_askable : (g : FrameParts) → Among (Has g) past → g.class ≡ class.Rel → IsAskable scenario (identity_of (confirm_frame g))
+  confirm_askable g h rel =
+      let read = read_belongs scenario past g readable h in
+      let m = data_askable scenario service.Rel g (subst (λ c. BelongsTo scenario read.0 c g) rel read.1) in
+      record { message = m.message; stands = m.stands; sent_by = m.sent_by; number = m.number; origin = m.origin }
 
-withdrawn_askable : (scenario : ScenarioParts) (past : List NoticeKind) (x : Identity) → AreReadable scenario past → is_some (service_of x.class) ≡ true
-    → MayWithdraw scenario past x → IsAskable scenario x
-withdrawn_askable scenario past x readable of (enough diffused many) = copied_askable scenario past x readable of (omega (arith, many))
-withdrawn_askable scenario past x readable of (enough_accept f got accept same many) =
-    subst (IsAskable scenario) same
-    (read_askable scenario past f readable (Among-weaker (λ n. n ≡ Got f) (Has f) (λ n e. inl e) past got) (ap (λ c. is_some (service_of c)) accept))
-withdrawn_askable scenario past x readable of (closes f read tot same closed) =
-    subst (IsAskable scenario) same (accept_askable scenario past f readable read tot)
+  accept_askable : (g : FrameParts) → Among (Has g) past → g.class ≡ class.Tot → IsAskable scenario (accept_of_key (message_in g))
+  accept_askable g h tot =
+      let read = read_belongs scenario past g readable h in
+      let m = data_askable scenario service.Tot g (subst (λ c. BelongsTo scenario read.0 c g) tot read.1) in
+      record { message = m.message; stands = m.stands; sent_by = m.sent_by; number = m.number; origin = m.origin }
 
--- ---- what a turn names
+  -- a failure sign names a node of the bus, and a cycle that has come
+  signal_askable : (sign : Sign) (slot : ℕ) → length past ≡ suc slot → IsKnownBy scenario slot past sign → IsAskable scenario (identity_of (fda_frame sign))
+  signal_askable sign slot now (inl told) =
+      let f : FrameParts = told.frame in
+      let read = read_in_time scenario past f readable (Among-weaker (λ n. n ≡ Got f) (Has f) (λ n e. inl e) past told.read) in
+      let of : IsOfNode scenario scenario.params.cycle (identity_of f) =
+      belongs_askable read.0 f class.Fda refl read.1 (subst (λ c. BelongsTo scenario read.0 c f) told.class read.2) in
+      let node : f.node ≡ sign.node = ap (λ (s : Sign). s.node) told.tells in
+      let cycle : f.number ≡ sign.cycle = ap (λ (s : Sign). s.cycle) told.tells in
+      record { node = omega (arith, of.node, node); number = omega (arith, of.number, cycle) }
+  signal_askable sign slot now (inr found) =
+      record { node = found.node; number = omega (arith, found.cycle, cycle_within slot (omega (arith, now))) }
 
--- the protocol names frames of messages
-abbrev NamesMessages : Protocol → Type 0
-NamesMessages p = (c : Class) → p.names c ≡ true → is_some (service_of c) ≡ true
+  -- a member asks for its next life sign
+  life_askable : (i slot : ℕ) → signs_sent i past * scenario.params.life ≤ scenario.params.slots
+      → is_due scenario.params.life i slot (station_of scenario i past) ≡ true → IsAskable scenario (identity_of (els_frame scenario.inc i (signs_sent i past)))
+  life_askable i slot few due =
+      let station : Station = station_of scenario i past in
+      let member : has station.members i ≡ true = (and_parts (has station.members i) (slot == station.last + scenario.params.life) due).0 in
+      record { node = legal.members i (ap (λ members. has members i) (sym (station_members scenario i past)) ∙ member); passed = few }
 
-either_class : (a b c : Class) → is_some (service_of a) ≡ true → is_some (service_of b) ≡ true → (same_class c a || same_class c b) ≡ true
-    → is_some (service_of c) ≡ true
-either_class a b c of_a of_b h = elim (or_cases (same_class c a) (same_class c b) h) [
-  | inl e ↦ rw (same_class-true c a e) of_a
-  | inr e ↦ rw (same_class-true c b e) of_b
-]
+  asked_askable : (i : ℕ) (f : FrameParts) → signs_sent i past * scenario.params.life ≤ scenario.params.slots → MayAsk scenario i past f
+      → IsAskable scenario (identity_of f)
+  asked_askable i f few (relays relayed got) = got_askable f got relayed
+  asked_askable i f few (originates m is origin slot late frame) =
+      subst (λ g. IsAskable scenario (identity_of g)) frame (message_askable m (Contains-from_Among (messages_of scenario.sends) m is))
+  asked_askable i f few (confirms g sent rel own frame) =
+      subst (λ h. IsAskable scenario (identity_of h)) frame (confirm_askable g (Among-weaker (λ n. n ≡ Sent g) (Has g) (λ n e. inr e) past sent) rel)
+  asked_askable i f few (accepts g sent tot own frame) =
+      subst (λ h. IsAskable scenario (identity_of h)) frame (accept_askable g (Among-weaker (λ n. n ≡ Sent g) (Has g) (λ n e. inr e) past sent) tot)
+  asked_askable i f few (signals sign slot now known frame) =
+      subst (λ g. IsAskable scenario (identity_of g)) frame (signal_askable sign slot now known)
+  asked_askable i f few (lives slot now due frame) =
+      subst (λ g. IsAskable scenario (identity_of g)) frame (life_askable i slot few due)
 
-all_name_messages : AllByRecursion NamesMessages protocols
-all_name_messages = (
-  λ c ed. rw (same_class-true c class.Ed ed) refl,
-  (
-    λ c h. either_class class.Rel class.Confirm c refl refl h,
-    (
-      λ c accept. rw (same_class-true c class.Accept accept) refl,
-      (λ c h. either_class class.Ed class.Rel c refl refl h, (λ c tot. rw (same_class-true c class.Tot tot) refl, tt)),
-    ),
-  ),
-)
+  -- a copy of which was read
+  copied_askable : (x : Identity) → is_relayed x.class ≡ true → 0 < copies x past → IsAskable scenario x
+  unfolding copies
+  copied_askable x relayed some =
+      let w = Among-which (λ n. is_got x n ≡ true) past (Among-from_count (is_got x) past some) in
+      let got = is_got-true x w.0 w.2 in
+      subst (IsAskable scenario) (sym got.identity)
+      (read_askable got.what (Among-weaker (λ n. n ≡ w.0) (Has got.what) (λ n e. inl (e ∙ got.was)) past (Among-from_Contains past w.0 w.1))
+      (ap (λ (y : Identity). is_relayed y.class) (sym got.identity) ∙ relayed))
 
-module _ (scenario : ScenarioParts) (i : ℕ) (past : List NoticeKind) (readable : AreReadable scenario past) where
-  effect_names : (p : Protocol) → NamesMessages p → (e : Effect) → IsFounded scenario p i past e → NamesAskable scenario e
-  effect_names p of (Ask f) k = asked_askable scenario i past f readable (of f.class k.1) k.0
-  effect_names p of (Withdraw x) k = withdrawn_askable scenario past x readable (of x.class k.1) k.0
-  effect_names p of (Enter entry) k = tt
-
-  each_names : (ps : List Protocol) → AllByRecursion IsLawful ps → AllByRecursion NamesMessages ps
-      → AllByRecursion (λ p. AllByRecursion (NamesAskable scenario) (p.effects scenario i past)) ps
-  each_names [] lawful of = tt
-  each_names (p ∷ ps) lawful of = (
-    Each-weaker (IsFounded scenario p i past) (NamesAskable scenario) (effect_names p of.0) (p.effects scenario i past) (lawful.0.founded scenario i past),
-    each_names ps lawful.1 of.1,
+  -- what is withdrawn tells no incarnation
+  withdrawn_askable : (x : Identity) → MayWithdraw scenario past x → IsAskable scenario x × (has_incarnation x.class ≡ false)
+  withdrawn_askable x (enough diffused many) =
+      (copied_askable x (diffused_is_relayed x.class diffused) (omega (arith, many)), diffused_plain x.class diffused)
+  withdrawn_askable x (enough_accept f got accept same many) = (
+    subst (IsAskable scenario) same (got_askable f got (ap is_relayed accept)),
+    ap (λ (y : Identity). has_incarnation y.class) (sym same) ∙ ap has_incarnation accept,
   )
+  withdrawn_askable x (closes f read tot same closed) =
+      (subst (IsAskable scenario) same (accept_askable f read tot), ap (λ (y : Identity). has_incarnation y.class) (sym same))
 
-  pub turn_names : AllByRecursion (NamesAskable scenario) (turn_effects scenario i past)
-  unfolding turn_effects
-  turn_names = Each-flat_map (λ p. p.effects scenario i past) (NamesAskable scenario) protocols (each_names protocols are_lawful all_name_messages)
+  -- ---- what a turn names
+
+  module _ (i : ℕ) (few : HasFewSigns scenario i past scenario.params.slots) where
+    effect_names : (p : Protocol) (e : Effect) → IsFounded scenario p i past e → NamesAskable scenario e
+    effect_names p (Ask f) k = asked_askable i f few k.0
+    effect_names p (Withdraw x) k = withdrawn_askable x k.0
+    effect_names p (Enter entry) k = tt
+
+    each_names : (ps : List Protocol) → AllByRecursion IsLawful ps → AllByRecursion (λ p. AllByRecursion (NamesAskable scenario) (p.effects scenario i past)) ps
+    each_names [] lawful = tt
+    each_names (p ∷ ps) lawful = (
+      Each-weaker (IsFounded scenario p i past) (NamesAskable scenario) (effect_names p) (p.effects scenario i past) (lawful.0.founded scenario i past),
+      each_names ps lawful.1,
+    )
+
+    pub turn_names : AllByRecursion (NamesAskable scenario) (turn_effects scenario i past)
+    unfolding turn_effects
+    turn_names = Each-flat_map (λ p. p.effects scenario i past) (NamesAskable scenario) protocols (each_names protocols are_lawful)

@@ -1,6 +1,5 @@
 -- How many frames wait at most, and how many entries a log has.
 use Rattle.std.proofs.Common.{◌≡◌, ℕ, ◌<◌, ◌≤◌, ◌==◌, inl, inr, true, List, [], ◌∷◌, length, drop, count_by, refl, ap, sym, subst, ◌∙◌, arith, eqb-true, eq-eqb, All}
-use Rattle.std.specs.List.{AllByRecursion}
 use Rattle.std.proofs.lemmas.Bool.{and_from, and_parts, cases_Bool, false≢true}
 use Rattle.std.proofs.lemmas.List.Elements.{All-head, All-tail}
 use Rattle.std.proofs.lemmas.List.Sums.{count_by-le-length}
@@ -20,15 +19,16 @@ use Rattle.cany_model.specs.Rules.Messages.{Message, messages_of, message_key}
 use Rattle.cany_model.specs.Rules.Notices.{BelongsTo, IsDataOf}
 use Rattle.cany_model.specs.Rules.Protocol.{Protocol}
 use Rattle.cany_model.specs.Rules.Rooms.{waiting_room, log_room}
-use Rattle.cany_model.proofs.Among.{Among, Among-drop, Among-from_Contains, Among-from_count, Among-weaker, Each-weaker, count-no, count-yes}
+use Rattle.cany_model.proofs.Among.{Among, Among-drop, Among-from_Contains, Among-from_count, Among-weaker, count-no, count-yes}
 use Rattle.cany_model.proofs.Bus.Carried.{Has}
 use Rattle.cany_model.proofs.Bus.Identities.{same_identity-true}
-use Rattle.cany_model.proofs.Rules.LogFacts.{log_once, log_split, made_by}
+use Rattle.cany_model.proofs.Rules.LogFacts.{log_once, made_by}
 use Rattle.cany_model.proofs.Rules.MessageKeys.{IsOneOf, length-messages_of, same_message}
 use Rattle.cany_model.proofs.Rules.ProtocolFacts.{IsFoundedEntry, IsLawful, log_by}
 use Rattle.cany_model.proofs.Rules.RoomFacts.{few_waiting, pigeonhole}
+use Rattle.cany_model.proofs.Rules.SignRooms.{each_made, few_signs, is_delivered, log_parts}
 use Rattle.can_controller.specs.Waiting.{IsAscending, identity_number}
-use Rattle.cany_node.specs.Apply.{AreAskable}
+use Rattle.cany_node.specs.Apply.{AreAskable, is_sign}
 use Rattle.cany_node.specs.Node.{AreReadable}
 use Rattle.cany_node.proofs.Askable.{read_belongs}
 
@@ -51,8 +51,9 @@ ascending_distinct format (f ∷ w) up x = elim (cases_Bool (is_of x f)) [
   | inr other ↦ omega (arith, count-no (is_of x) f w other, ascending_distinct format w up.1 x)
 ]
 
-pub waiting_below : (scenario : ScenarioParts) (format : Format) (w : List FrameParts) → IsAscending format w → AreAskable scenario w → length w < waiting_room scenario
-waiting_below scenario format w up all = few_waiting scenario w (ascending_distinct format w up) all
+pub waiting_below : (scenario : ScenarioParts) (format : Format) (w : List FrameParts) → IsAscending format w → AreAskable scenario w → count_by is_sign w ≤ 3
+    → length w < waiting_room scenario
+waiting_below scenario format w up all signs = few_waiting scenario w (ascending_distinct format w up) all signs
 
 -- ---- a delivery is of a message of the scenario
 
@@ -68,9 +69,9 @@ belongs_data scenario Ed slot f h = h
 belongs_data scenario Rel slot f h = h
 belongs_data scenario Tot slot f h = h
 
-served_by : (scenario : ScenarioParts) (p : Protocol) (past : List NoticeKind) (place : ℕ) (key : MsgKey) (entry : LogEntry) → AreReadable scenario past
-    → delivers_key key entry ≡ true → IsFoundedEntry p (drop place past) entry → Served scenario p key
-served_by scenario p past place key (Deliver slot by msg payload) readable is r =
+served_by : (scenario : ScenarioParts) (p : Protocol) (i : ℕ) (past : List NoticeKind) (place : ℕ) (key : MsgKey) (entry : LogEntry)
+    → AreReadable scenario past → delivers_key key entry ≡ true → IsFoundedEntry scenario p i (drop place past) entry → Served scenario p key
+served_by scenario p i past place key (Deliver slot by msg payload) readable is r =
     let parts = and_parts (msg.origin == key.origin) (msg.seq == key.seq) is in
     let same : msg ≡ key = λ k. record { origin = eqb-true msg.origin key.origin parts.0 k; seq = eqb-true msg.seq key.seq parts.1 k } in
     let read = read_belongs scenario past r.frame readable (Among-drop (Has r.frame) place past r.read) in
@@ -81,8 +82,8 @@ served_by scenario p past place key (Deliver slot by msg payload) readable is r 
       named = ap (λ (f : FrameParts). record { origin = f.node; seq = f.number }) found.frame ∙ r.key ∙ same;
       serves = ap p.delivers found.sent_by ∙ r.serves;
     }
-served_by scenario p past place key (Failed slot node cycle) readable is r = absurd (false≢true is)
-served_by scenario p past place key (View slot number members) readable is r = absurd (false≢true is)
+served_by scenario p i past place key (Failed slot node cycle) readable is r = absurd (false≢true is)
+served_by scenario p i past place key (View slot number members) readable is r = absurd (false≢true is)
 
 -- ---- no key twice
 
@@ -90,7 +91,7 @@ served : (scenario : ScenarioParts) (i : ℕ) (past : List NoticeKind) (key : Ms
     → 0 < count_by (delivers_key key) (log_by p scenario i past) → Served scenario p key
 served scenario i past key p readable lawful some =
     let made = made_by (λ entry. delivers_key key entry ≡ true) scenario p lawful i past (Among-from_count (delivers_key key) (log_by p scenario i past) some) in
-    served_by scenario p past made.place key made.entry readable made.is made.founded
+    served_by scenario p i past made.place key made.entry readable made.is made.founded
 
 one_serves : (scenario : ScenarioParts) (key : MsgKey) (p q : Protocol) (first : Served scenario p key) → Served scenario q key → q.delivers first.message.service ≡ true
 one_serves scenario key p q first next =
@@ -109,48 +110,44 @@ delivered_once scenario i past readable key =
 
 -- ---- as many as the messages
 
--- the entry delivers one of the messages
+-- the entry delivers one of the messages, if it delivers one
 abbrev Known : ScenarioParts → LogEntry → Type 0
-Known scenario e = Among (λ m. delivers_key (message_key m) e ≡ true) (messages_of scenario.sends)
+Known scenario e = is_delivered e ≡ true → Among (λ m. delivers_key (message_key m) e ≡ true) (messages_of scenario.sends)
 
-known : (scenario : ScenarioParts) (p : Protocol) (past : List NoticeKind) (place : ℕ) (e : LogEntry) → AreReadable scenario past
-    → IsFoundedEntry p (drop place past) e → Known scenario e
-known scenario p past place (Deliver slot by msg payload) readable r =
+known : (scenario : ScenarioParts) (i : ℕ) (past : List NoticeKind) → AreReadable scenario past → (p : Protocol) (place : ℕ) (e : LogEntry)
+    → IsFoundedEntry scenario p i (drop place past) e → Known scenario e
+known scenario i past readable p place (Deliver slot by msg payload) r is =
     let e : LogEntry = Deliver slot by msg payload in
     let itself : delivers_key msg e ≡ true =
     and_from (msg.origin == msg.origin) (msg.seq == msg.seq) (eq-eqb msg.origin msg.origin refl) (eq-eqb msg.seq msg.seq refl) in
-    let s = served_by scenario p past place msg e readable itself r in
+    let s = served_by scenario p i past place msg e readable itself r in
     Among-weaker (λ k. k ≡ s.message) (λ m. delivers_key (message_key m) e ≡ true)
     (λ m same. ap (λ k. delivers_key (message_key k) e) same ∙ ap (λ key. delivers_key key e) s.named ∙ itself) (messages_of scenario.sends) s.stands
-known scenario p past place (Failed slot node cycle) readable r = absurd r
-known scenario p past place (View slot number members) readable r = absurd r
+known scenario i past readable p place (Failed slot node cycle) r is = absurd (false≢true is)
+known scenario i past readable p place (View slot number members) r is = absurd r
 
-each_known : (scenario : ScenarioParts) (i : ℕ) (past : List NoticeKind) → AreReadable scenario past → AllByRecursion (Known scenario) (log_from scenario i past)
-each_known scenario i past readable = each_from (log_from scenario i past) one
-  where
-    each_from : (entries : List LogEntry) → ((e : LogEntry) → Among (λ y. y ≡ e) entries → Known scenario e) → AllByRecursion (Known scenario) entries
-    each_from [] gives = tt
-    each_from (e ∷ entries) gives = (gives e (inl refl), each_from entries (λ d h. gives d (inr h)))
-
-    one : (e : LogEntry) → Among (λ y. y ≡ e) (log_from scenario i past) → Known scenario e
-    one e h =
-        let split = log_split (λ y. y ≡ e) scenario i past h in
-        let made = made_by (λ y. y ≡ e) scenario split.0 split.1 i past split.2 in
-        known scenario split.0 past made.place e readable (subst (IsFoundedEntry split.0 (drop made.place past)) made.is made.founded)
-
-all_counted : (entries : List LogEntry) → length entries ≤ count_by (λ e. true) entries
-all_counted [] = omega arith
-all_counted (e ∷ entries) = omega (arith, count-yes (λ d. true) e entries refl, all_counted entries)
-
--- no log has more entries than there are messages
-pub log_within : (scenario : ScenarioParts) (i : ℕ) (past : List NoticeKind) → AreReadable scenario past → length (log_from scenario i past) ≤ log_room scenario
-log_within scenario i past readable =
+-- no log has more deliveries than there are messages
+few_delivered : (scenario : ScenarioParts) (i : ℕ) (past : List NoticeKind) → AreReadable scenario past
+    → count_by is_delivered (log_from scenario i past) ≤ length scenario.sends
+few_delivered scenario i past readable =
     omega (
       arith,
-      all_counted (log_from scenario i past),
-      pigeonhole (λ m e. delivers_key (message_key m) e) (λ e. true) (λ m. true) (log_from scenario i past) (messages_of scenario.sends)
-          (Each-weaker (Known scenario) (λ e. true ≡ true → Known scenario e) (λ e k is. k) (log_from scenario i past) (each_known scenario i past readable))
+      pigeonhole (λ m e. delivers_key (message_key m) e) is_delivered (λ m. true) (log_from scenario i past) (messages_of scenario.sends)
+          (each_made (Known scenario) scenario i past (known scenario i past readable))
           (λ m. delivered_once scenario i past readable (message_key m)),
       count_by-le-length (λ m. true) (messages_of scenario.sends),
       length-messages_of scenario.sends,
+    )
+
+-- ---- the whole log
+
+-- no log has more entries than its room: its deliveries, and its failure signs
+pub log_within : (scenario : ScenarioParts) (i : ℕ) (past : List NoticeKind) → AreReadable scenario past → length past ≤ scenario.params.slots
+    → length (log_from scenario i past) ≤ log_room scenario
+log_within scenario i past readable within =
+    omega (
+      arith,
+      log_parts scenario i past,
+      few_delivered scenario i past readable,
+      few_signs scenario i past readable within,
     )

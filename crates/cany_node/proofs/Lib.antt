@@ -8,8 +8,10 @@ pub mod Doing
 pub mod Filled
 pub mod GiveFacts
 pub mod Hearing
+pub mod LimitFacts
 pub mod MessageLists
 pub mod PassFacts
 pub mod SendFacts
+pub mod SigningFacts
 pub mod TurnSteps
 pub mod WholeTurn

@@ -1,8 +1,9 @@
 -- What becomes of a controller and a log as actions are done.
-use Rattle.std.specs.Prelude.{◌≡◌, ◌≤◌, ◌<◌, ◌+◌, false, List, length, ◌++◌}
+use Rattle.std.specs.Prelude.{◌≡◌, ◌≤◌, ◌<◌, ◌+◌, Bool, false, List, length, ◌++◌, count_by}
 use Rattle.std.specs.List.{AllByRecursion}
 use Rattle.cany_base.specs.declared.actions.Action.{Action}
 use Rattle.cany_base.specs.declared.actions.Action.TheVariants as action
+use Rattle.cany_base.specs.declared.frame.Class.TheVariants as class
 use Rattle.cany_base.specs.declared.frame.Format.{Format}
 use Rattle.cany_base.specs.declared.log_entry.LogEntry.{LogEntry}
 use Rattle.cany_base.specs.Bounded.{Bounded}
@@ -10,7 +11,7 @@ use Rattle.cany_base.specs.Frame.{FrameParts, has_incarnation}
 use Rattle.cany_base.specs.Scenario.{ScenarioParts, IsLegalScenario}
 use Rattle.cany_model.specs.Rules.Actions.{actions_of}
 use Rattle.cany_model.specs.Rules.Effect.{Effect, Ask, Withdraw, Enter, waiting_after, entered}
-use Rattle.cany_model.specs.Bus.Frames.{bare, identity_of}
+use Rattle.cany_model.specs.Bus.Frames.{bare, identity_of, same_class}
 use Rattle.cany_model.specs.Rules.Rooms.{IsAskable, waiting_room}
 use Rattle.can_frame.specs.Identifier.{FitsFormat, FitsIdentifier}
 use Rattle.can_controller.specs.Controller.{ControllerState}
@@ -20,10 +21,19 @@ use Rattle.can_controller.specs.Waiting.{HasRoomFor}
 abbrev pub AreAskable : ScenarioParts → List FrameParts → Type 0
 AreAskable scenario waiting = AllByRecursion (λ f. IsAskable scenario (identity_of f)) waiting
 
--- the effect asks for or withdraws nothing else
+-- whether the frame is a life sign, and whether the effect asks for one
+abbrev pub is_sign : FrameParts → Bool
+is_sign f = same_class f.class class.Els
+
+abbrev pub asks_sign : Effect → Bool
+asks_sign (Ask f) = is_sign f
+asks_sign (Withdraw x) = false
+asks_sign (Enter entry) = false
+
+-- the effect asks for or withdraws nothing else, and withdraws no frame that tells an incarnation
 abbrev pub NamesAskable : ScenarioParts → Effect → Type 0
 NamesAskable scenario (Ask f) = IsAskable scenario (identity_of f)
-NamesAskable scenario (Withdraw x) = IsAskable scenario x
+NamesAskable scenario (Withdraw x) = IsAskable scenario x × (has_incarnation x.class ≡ false)
 NamesAskable scenario (Enter entry) = Unit {0}
 
 -- these effects are done: on the waiting frames, and on the log
@@ -32,7 +42,8 @@ pub record AreDone (effects : List Effect) (ctl ctl' : ControllerState) (log log
   pub entries : log'.items ≡ log.items ++ entered effects
   pub room : log'.room ≡ log.room
 
--- the actions are those of effects that can be done: what they name may be asked for, and there is room for all
+-- The actions are those of effects that can be done: what they name may be asked for, and there is room for all. The life signs
+-- that wait and those that are asked for are three at most.
 pub record CanApply (actions : List Action) (ctl : ControllerState) (log : Bounded LogEntry) : Type 0 where
   pub scenario : ScenarioParts
   pub effects : List Effect
@@ -41,6 +52,7 @@ pub record CanApply (actions : List Action) (ctl : ControllerState) (log : Bound
   pub are : actions ≡ actions_of scenario.params.format effects
   pub names : AllByRecursion (NamesAskable scenario) effects
   pub waiting : AreAskable scenario ctl.waiting
+  pub signs : count_by is_sign ctl.waiting + count_by asks_sign effects ≤ 3
   pub room : ctl.room ≡ waiting_room scenario
   pub entries : length log.items + length (entered effects) ≤ log.room
 

@@ -1,3 +1,5 @@
 pub mod Agenda
 pub mod Apply
 pub mod Node
+pub mod Protocols
+pub mod Telling

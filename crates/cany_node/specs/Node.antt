@@ -1,30 +1,34 @@
 -- What a contract sees of a node, and what a turn does.
-use Rattle.std.specs.Prelude.{◌≡◌, ◌+◌, ◌<◌, ◌≤◌, ◌==◌, ◌&&◌, ℕ, not, nat_lt, if◌then◌else◌, List, [], ◌∷◌, length, drop, replicate, slice_get, Option, Some, None}
+use Rattle.std.specs.Prelude.{◌≡◌, ◌+◌, ◌<◌, ◌≤◌, ◌==◌, ◌&&◌, ℕ, not, nat_lt, if◌then◌else◌, List, [], ◌∷◌, length, drop, replicate, slice_get, count_by, Option, Some, None}
 use Rattle.cany_base.specs.declared.actions.Action.{Action}
 use Rattle.cany_base.specs.declared.log_entry.LogEntry.{LogEntry}
 use Rattle.cany_base.specs.declared.notice.Notice.{Notice}
 use Rattle.cany_base.specs.declared.notice.NoticeKind.{NoticeKind}
 use Rattle.cany_base.specs.declared.notice.NoticeKind.TheVariants.{Idle}
 use Rattle.cany_base.specs.Bounded.{Bounded}
+use Rattle.cany_base.specs.Nodes.{Nodes}
 use Rattle.cany_base.specs.Scenario.{ScenarioParts, IsLegalScenario}
+use Rattle.cany_model.specs.Bus.Slot.{nobody}
 use Rattle.cany_model.specs.Rules.Backlog.{asked, backlog}
 use Rattle.cany_model.specs.Rules.Effect.{Effect, waiting_after}
 use Rattle.cany_model.specs.Rules.Log.{log_from}
-use Rattle.cany_model.specs.Rules.Notices.{IsNextNotice, IsReadable}
-use Rattle.cany_model.specs.Rules.Turn.{turn_effects}
+use Rattle.cany_model.specs.Rules.Notices.{HasFewSigns, IsNextNotice, IsReadable}
 use Rattle.cany_model.specs.Rules.Rooms.{waiting_room, actions_room, log_room}
+use Rattle.cany_model.specs.Rules.Station.{station_at_first, station_of}
+use Rattle.cany_model.specs.Rules.Turn.{turn_effects}
 use Rattle.can_controller.specs.Controller.{ControllerState}
 use Rattle.cany_edcan.specs.Edcan.{EdcanParts, IsEdcanOf}
+use Rattle.cany_life.specs.Life.{IsLifeOf, IsNextAt, LifeParts}
 use Rattle.cany_relcan.specs.Relcan.{RelcanParts, IsRelcanOf}
 use Rattle.cany_totcan.specs.Totcan.{TotcanParts, IsTotcanOf}
 use Rattle.cany_node.specs.declared.reply.TurnReply.{TurnReply}
 use Rattle.cany_node.specs.declared.reply.TurnReply.TheVariants.{Turned, NothingYet, Stopped}
 use Rattle.cany_node.specs.Agenda.{AgendaParts, IsAgendaOf, IsPlanOf}
-use Rattle.cany_node.specs.Apply.{AreAskable}
+use Rattle.cany_node.specs.Apply.{AreAskable, is_sign}
 
 -- its number, the number of its incarnation, how many slots a restart keeps one from taking part, and the first slot in which
--- this one does; its log and how much the log can hold, how many notices it has read, and the parts that its protocols and its
--- scripted sends keep
+-- this one does; its log and how much the log can hold, how many notices it has read, its view of the site, and the parts that
+-- its protocols and its scripted sends keep
 pub record NodeParts : Type 0 where
   pub node : ℕ
   pub inc : ℕ
@@ -33,9 +37,11 @@ pub record NodeParts : Type 0 where
   pub log : List LogEntry
   pub room : ℕ
   pub read : ℕ
+  pub members : Nodes
   pub edcan : EdcanParts
   pub relcan : RelcanParts
   pub totcan : TotcanParts
+  pub life : LifeParts
   pub agenda : AgendaParts
 
 -- What an incarnation hears of a slot: nothing, before the first in which it takes part. The one of the opening takes part in
@@ -52,17 +58,24 @@ abbrev pub AreReadable : ScenarioParts → List NoticeKind → Type 0
 AreReadable scenario [] = Unit {0}
 AreReadable scenario (kind ∷ past) = IsReadable scenario (length past) kind × AreReadable scenario past
 
+-- the members that an incarnation knows at first: one of a restarted node none, not even itself
+abbrev pub first_members : ScenarioParts → ℕ → Nodes
+first_members scenario inc = if inc == 0 then scenario.members else nobody
+
 -- the node stands for what it has heard, newest first, in the scenario as its incarnation follows it
 pub record IsNodeOf (scenario : ScenarioParts) (past : List NoticeKind) (v : NodeParts) : Type 0 where
   pub legal : IsLegalScenario scenario
+  pub inc : v.inc ≡ scenario.inc
   pub from : v.from ≡ scenario.from
   pub log : v.log ≡ log_from scenario v.node past
   pub room : v.room ≡ log_room scenario
   pub read : v.read ≡ length past
   pub readable : AreReadable scenario past
+  pub members : v.members ≡ scenario.members
   pub edcan : IsEdcanOf scenario v.node past v.edcan
   pub relcan : IsRelcanOf scenario v.node past v.relcan
   pub totcan : IsTotcanOf scenario v.node past (backlog scenario v.node past) (asked scenario v.node past) v.totcan
+  pub life : IsLifeOf scenario v.node past (station_of scenario v.node past) v.life
   pub agenda : IsAgendaOf scenario v.node (length past) v.agenda
   pub room_to_give : length v.totcan.backlog.given + length v.agenda.left ≤ v.totcan.backlog.room
 
@@ -73,9 +86,11 @@ pub record IsWaiting (scenario : ScenarioParts) (v : NodeParts) : Type 0 where
   pub delay : v.delay ≡ scenario.params.bound + scenario.params.lag
   pub log : v.log ≡ []
   pub room : v.room ≡ log_room scenario
+  pub members : v.members ≡ first_members scenario v.inc
   pub edcan : (n : ℕ) → IsEdcanOf scenario v.node (replicate n Idle) v.edcan
   pub relcan : (n : ℕ) → IsRelcanOf scenario v.node (replicate n Idle) v.relcan
   pub totcan : (n : ℕ) → IsTotcanOf scenario v.node (replicate n Idle) [] 0 v.totcan
+  pub life : (n : ℕ) (members : Nodes) → IsLifeOf scenario v.node (replicate n Idle) (station_at_first members) v.life
   pub agenda : IsPlanOf scenario v.node v.agenda
   pub room_to_give : length v.totcan.backlog.given + length v.agenda.left ≤ v.totcan.backlog.room
 
@@ -96,7 +111,9 @@ pub record CanTurn (v : NodeParts) (ctl : ControllerState) (out : Bounded Action
   pub params : ctl.params ≡ scenario.params
   pub room : ctl.room ≡ waiting_room scenario
   pub askable : ctl.stopped ≡ None → AreAskable scenario ctl.waiting
+  pub signs : ctl.stopped ≡ None → count_by is_sign ctl.waiting ≤ 2
   pub next : (notice : Notice) → slice_get ctl.unread 0 ≡ Some notice → IsNextNotice scenario past (heard_by v notice)
+  pub few : ctl.stopped ≡ None → (notice : Notice) → slice_get ctl.unread 0 ≡ Some notice → HasFewSigns scenario v.node ((heard_by v notice).kind ∷ past) notice.slot
   pub read : ctl.read ≡ length past
   pub free : out.items ≡ []
   pub actions : out.room ≡ actions_room scenario
@@ -106,10 +123,11 @@ pub record CanAct (v : NodeParts) (notice : Notice) (ctl : ControllerState) (out
   pub scenario : ScenarioParts
   pub past : List NoticeKind
   pub stands : IsNodeOf scenario past v
-  pub next : IsNextNotice scenario past notice
+  pub next : IsNextAt scenario v.node past notice
   pub format : ctl.params.format ≡ scenario.params.format
   pub room : ctl.room ≡ waiting_room scenario
   pub askable : AreAskable scenario ctl.waiting
+  pub signs : count_by is_sign ctl.waiting ≤ 2
   pub free : out.items ≡ []
   pub actions : out.room ≡ actions_room scenario
 
@@ -122,10 +140,11 @@ reply_at read None None = NothingYet read
 abbrev pub reply_of : ControllerState → TurnReply
 reply_of ctl = reply_at ctl.read (slice_get ctl.unread 0) ctl.stopped
 
--- the node reads this notice next, after what it stands for, and can hear it
+-- the node reads this notice next, after what it stands for, and can hear it: of its own life signs there are not too many with it
 pub record Reads (scenario : ScenarioParts) (past : List NoticeKind) (notice : Notice) (v : NodeParts) (ctl : ControllerState) : Type 0 where
   pub stands : IsNodeOf scenario past v
   pub next : IsNextNotice scenario past (heard_by v notice)
+  pub few : HasFewSigns scenario v.node ((heard_by v notice).kind ∷ past) notice.slot
   pub running : ctl.stopped ≡ None
   pub oldest : slice_get ctl.unread 0 ≡ Some notice
 

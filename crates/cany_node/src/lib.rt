@@ -4,9 +4,11 @@
 mod agenda;
 mod apply;
 mod node;
+mod protocols;
 mod reply;
 mod rooms;
 mod sending;
+mod signing;
 mod threads;
 
 pub use node::Node;

@@ -4,23 +4,27 @@ ghost use Rattle.cany_base.specs.declared.notice.NoticeKind.{NoticeKind};
 ghost use Rattle.cany_base.specs.declared.notice.NoticeKind.TheVariants.{Idle};
 ghost use Rattle.cany_base.specs.Limits.{most_restarts_of_node};
 ghost use Rattle.cany_base.specs.Scenario.{ScenarioParts};
+ghost use Rattle.cany_life.specs.Life.{IsNextAt};
 ghost use Rattle.cany_model.specs.Bus.State.{Incarnation};
 ghost use Rattle.cany_model.specs.Rules.Messages.{Message, messages_of, message_key};
-ghost use Rattle.cany_model.specs.Rules.Notices.{IsNextNotice};
 ghost use Rattle.cany_model.specs.Rules.Turn.{has_asked, is_ahead_at, scenario_for, turn_effects};
 ghost use Rattle.cany_model.specs.Rules.Effect.{waiting_after};
-ghost use Rattle.cany_node.specs.Node.{IsNodeOf, IsWaiting, CanBegin, CanTurn, CanAct, Reads, IsTurnOf, IsRefused, heard_by, reply_of};
+ghost use Rattle.cany_node.specs.Node.{IsNodeOf, IsWaiting, CanBegin, CanTurn, CanAct, Reads, IsTurnOf, IsRefused, first_members, heard_by, reply_of};
 
 use crate::agenda::Agenda;
 use crate::apply::apply_all;
+use crate::protocols::{Protocols, build_protocols};
 use crate::reply::TurnReply;
 use crate::rooms::log_room;
 use crate::sending::send_due;
+use crate::signing::sign;
 use can_controller::Controller;
 use cany_base::{
-    Actions, BoundedVec, LogEntry, Memory, MsgKey, NodeId, Notice, NoticeKind, Scenario, Slot,
+    Actions, BoundedVec, LogEntry, Memory, MsgKey, NodeId, NodeSet, Notice, NoticeKind, Scenario,
+    Slot,
 };
 use cany_edcan::Edcan;
+use cany_life::Life;
 use cany_relcan::Relcan;
 use cany_totcan::Totcan;
 use std::alloc::Global;
@@ -40,14 +44,21 @@ pub struct Node {
     /// sends.
     from: Slot,
     read: Slot,
+    /// The view of the site. An incarnation of a restarted node is at first no member, and knows of none.
+    members: NodeSet,
     edcan: Edcan,
     relcan: Relcan,
     totcan: Totcan,
+    life: Life,
     agenda: Agenda,
+    /// Empty but for a moment of a turn: what is asked for there is to tell the incarnation.
+    asks: Actions,
     log: BoundedVec<LogEntry>,
 }
 
 impl Model for Node {
+    ghost use Rattle.std.specs.Prelude.{◌≡◌, ◌≤◌, []};
+    ghost use Rattle.cany_base.specs.Limits.{most_restarts_of_node};
     ghost use Rattle.cany_node.specs.Node.{NodeParts};
 
     ghost Value = { NodeParts };
@@ -60,11 +71,26 @@ impl Model for Node {
       log = n.log.items;
       room = n.log.room;
       read = n.read;
+      members = n.members;
       edcan = n.edcan;
       relcan = n.relcan;
       totcan = n.totcan;
+      life = n.life;
       agenda = n.agenda;
     } };
+
+    ghost invariant = { λ n. (n.inc ≤ most_restarts_of_node) × (n.asks ≡ record { items = []; room = 1 }) };
+}
+
+/// The members that an incarnation knows at first.
+fn first_members(inc: u8, scenario: &Scenario) -> NodeSet
+    ensures { result ≡ first_members scenario.now inc }
+{
+    if inc == 0 {
+        scenario.members()
+    } else {
+        NodeSet::of_bits(0)
+    }
 }
 
 impl Node {
@@ -78,21 +104,29 @@ impl Node {
         ensures waits { IfOk result (IsWaiting scenario.now) }
     {
         let params = *scenario.params();
-        let edcan = Edcan::build(alloc, node, scenario)?;
-        let relcan = Relcan::build(alloc, node, scenario)?;
-        let totcan = Totcan::build(alloc, node, scenario)?;
+        let protocols = build_protocols(alloc, node, scenario)?;
         let agenda = Agenda::build(alloc, node, scenario)?;
+        let asks = Actions::build(alloc, 1)?;
         let log = BoundedVec::build(alloc, log_room(scenario))?;
+        let Protocols {
+            edcan,
+            relcan,
+            totcan,
+            life,
+        } = protocols;
         Ok(Node {
             node,
             inc,
             delay: params.bound + Slot::from(params.lag),
             from: 0,
             read: 0,
+            members: first_members(inc, scenario),
             edcan,
             relcan,
             totcan,
+            life,
             agenda,
+            asks,
             log,
         })
     }
@@ -112,8 +146,9 @@ impl Node {
         self.agenda.pass_before(self.from);
     }
 
-    /// Reads the oldest unread notice of the controller and does what the rules say of what it hears: EDCAN, RELCAN, TOTCAN,
-    /// then the scripted sends of the slot, and then the next message of the backlog. `out` is where the actions of the turn are kept while they are done.
+    /// Reads the oldest unread notice of the controller and does what the rules say of what it hears: EDCAN, RELCAN, TOTCAN, the
+    /// failure signs, then the node's own life sign, the scripted sends of the slot, and the next message of the backlog. `out` is
+    /// where the actions of the turn are kept while they are done.
     pub fn turn(&mut self, ctl: &mut Controller, out: &mut Actions) -> TurnReply
         requires { CanTurn self.old ctl.old out.old }
         ensures reply { result ≡ reply_of ctl.old }
@@ -154,9 +189,9 @@ impl Node {
     /// Does what the rules say of a notice, as it is heard.
     fn act(&mut self, notice: &Notice, ctl: &mut Controller, out: &mut Actions)
         requires { CanAct self.old notice.now ctl.old out.old }
-        ensures controller { (scenario : ScenarioParts) (past : List NoticeKind) → IsNodeOf scenario past self.old → IsNextNotice scenario past notice.now →
+        ensures controller { (scenario : ScenarioParts) (past : List NoticeKind) → IsNodeOf scenario past self.old → IsNextAt scenario self.old.node past notice.now →
             ctl.new ≡ record ctl.old { waiting = waiting_after (turn_effects scenario self.old.node (notice.now.kind ∷ past)) ctl.old.waiting } }
-        ensures stands { (scenario : ScenarioParts) (past : List NoticeKind) → IsNodeOf scenario past self.old → IsNextNotice scenario past notice.now →
+        ensures stands { (scenario : ScenarioParts) (past : List NoticeKind) → IsNodeOf scenario past self.old → IsNextAt scenario self.old.node past notice.now →
             IsNodeOf scenario (notice.now.kind ∷ past) self.new }
         ensures node { self.new.node ≡ self.old.node }
         ensures inc { self.new.inc ≡ self.old.inc }
@@ -165,6 +200,15 @@ impl Node {
         self.edcan.on(notice, out);
         self.relcan.on(notice, out);
         self.totcan.on(notice, out);
+        self.life.on(notice, self.members, out);
+        sign(
+            &mut self.life,
+            notice.slot,
+            self.members,
+            self.inc,
+            &mut self.asks,
+            out,
+        );
         send_due(
             self.node,
             notice.slot,

@@ -1,12 +1,13 @@
 -- A turn of a node keeps the controllers and the nodes of a world those of the run.
 use Rattle.std.proofs.Common.{◌≡◌, ◌≢◌, ℕ, ◌-◌, ◌<◌, ◌≤◌, ◌==◌, false, nat_le, List, [], ◌∷◌, length, Contains, refl, sym, ap, ◌∙◌, subst, arith}
-use Rattle.std.specs.Prelude.{if◌then◌else◌, is_none, slice_get, slice_set, Option, Some, None}
+use Rattle.std.specs.Prelude.{if◌then◌else◌, is_none, slice_get, slice_set, count_by, Option, Some, None}
 use Rattle.std.proofs.lemmas.Bool.{lt-leb, eq-eqb, ne_eqb}
 use Rattle.std.proofs.lemmas.List.{get_or-map, get_or_default}
 use Rattle.cany_base.specs.declared.actions.Action.{Action}
 use Rattle.cany_base.specs.declared.notice.Notice.{Notice}
 use Rattle.cany_base.specs.declared.slot_note.SlotNote.{SlotNote}
 use Rattle.cany_base.specs.declared.step.Step.{Step}
+use Rattle.cany_base.specs.Frame.{FrameParts}
 use Rattle.cany_base.specs.Bounded.{Bounded}
 use Rattle.cany_base.specs.Limits.{most_nodes}
 use Rattle.cany_base.proofs.ParamsFacts.{few_nodes}
@@ -20,18 +21,20 @@ use Rattle.cany_model.specs.Bus.History.{as_seen, given, history, seen}
 use Rattle.cany_model.specs.Bus.Run.{run, after_turn, turn_reply}
 use Rattle.cany_model.specs.Bus.State.{Incarnation, NodeState, RunState, node_at, reads}
 use Rattle.cany_model.specs.Rules.Effect.{Effect}
-use Rattle.cany_model.specs.Rules.Notices.{IsNextNotice, IsReadable}
+use Rattle.cany_model.specs.Rules.Notices.{HasFewSigns, IsNextNotice, IsReadable}
 use Rattle.cany_model.specs.Rules.Rooms.{IsAskable, actions_room}
 use Rattle.cany_model.specs.Rules.Turn.{scenario_at, turn_effects}
 use Rattle.cany_model.proofs.Among.{Each-weaker}
 use Rattle.cany_model.proofs.Bus.Journals.{trace_short}
 use Rattle.cany_model.proofs.Bus.Runs.{IsOrderly, orderly, history-length}
 use Rattle.cany_model.proofs.Bus.Seen.{history-is}
-use Rattle.cany_model.proofs.Bus.States.{no_note, note_at}
+use Rattle.cany_model.proofs.Bus.States.{no_note, note_at, runs_within}
 use Rattle.cany_model.proofs.Bus.Steps.{MayTurn, next_age, next_notice, after_turn-node, after_turn-other, after_turn-trace, after_turn-history}
 use Rattle.cany_model.proofs.Promises.Belonging.{Waiting, all_belong, askable_for, readable_for, seen_readable}
+use Rattle.cany_model.proofs.Promises.FewLifeSigns.{few_life_signs}
+use Rattle.cany_model.proofs.Promises.SpacedSigns.{own_signs_few}
 use Rattle.can_controller.specs.Controller.{ControllerState}
-use Rattle.cany_node.specs.Apply.{AreAskable}
+use Rattle.cany_node.specs.Apply.{AreAskable, is_sign}
 use Rattle.cany_node.specs.declared.reply.TurnReply.{TurnReply}
 use Rattle.cany_node.specs.declared.reply.TurnReply.TheVariants.{Turned, NothingYet, Stopped}
 use Rattle.cany_node.specs.Node.{NodeParts, IsNodeOf, Reads, heard, heard_by, reply_at, reply_of, turned}
@@ -148,6 +151,42 @@ next_notice_is scenario journal few i v c notice node kept first = record {
     stands : Contains s.trace note
     stands = (age, age_within, sym (get_or_default s.trace age no_note note age_within))
 
+-- of the node's own life signs there are so few with it that a life interval passed before each
+pub few_with_next : (scenario : ScenarioParts) (journal : List Step) → scenario.params.nodes ≤ most_nodes → (i : ℕ) (v : IncarnationsParts) (c : ControllerState) (notice : Notice)
+    → (kept : IsKeptAt scenario (run scenario journal).trace i (node_at (run scenario journal).nodes i) v)
+    → IsKeptAs scenario (run scenario journal).trace i (node_at (run scenario journal).nodes i) c → c.stopped ≡ None → slice_get c.unread 0 ≡ Some notice
+    → HasFewSigns (scenario_at scenario (run scenario journal) i) kept.present.it.node
+    ((heard_by kept.present.it notice).kind ∷ past_of i (run scenario journal).trace (node_at (run scenario journal).nodes i)) notice.slot
+few_with_next scenario journal few i v c notice node kept running first =
+    subst (λ k. HasFewSigns follows k ((heard_by p.it notice).kind ∷ past) notice.slot) (sym p.number)
+    (subst (λ n. HasFewSigns follows i (n ∷ past) notice.slot) (sym it.is)
+    (subst (λ h. HasFewSigns follows i (next_notice s i ∷ h) notice.slot) (history-is i s)
+    (subst (HasFewSigns follows i (next_notice s i ∷ history i s)) (sym slot) (own_signs_few scenario journal i it.may))))
+  where
+    s : RunState
+    s = run scenario journal
+
+    p : IsPresentAt scenario (run scenario journal).trace i (node_at (run scenario journal).nodes i) v
+    p = node.present
+
+    follows : ScenarioParts
+    follows = scenario_at scenario s i
+
+    past : List NoticeKind
+    past = past_of i s.trace (node_at s.nodes i)
+
+    o : IsOrderly scenario.params.nodes (run scenario journal)
+    o = orderly scenario journal
+
+    within : i < scenario.params.nodes
+    within = subst (λ n. i < n) o.count (runs_within s.nodes i (ap is_none (sym kept.stopped ∙ running)))
+
+    it : IsToRead (run scenario journal) i node.present.it notice
+    it = to_read scenario s i v c notice o within node kept running first
+
+    slot : notice.slot ≡ length (history i (run scenario journal))
+    slot = (next_notice_is scenario journal few i v c notice node kept first).slot ∙ ap (λ (l : List NoticeKind). length l) (sym (history-is i s))
+
 -- ---- that a turn can be made
 
 pub can_turn : (scenario : ScenarioParts) (journal : List Step) (i : ℕ) (v : IncarnationsParts) (c : ControllerState) (out : Bounded Action) → IsLegalScenario scenario
@@ -166,9 +205,12 @@ can_turn scenario journal i v c out legal node kept empty = record {
     room = kept.room;
     askable = λ running. subst (AreAskable (scenario_at scenario s i)) (sym kept.waiting)
         (Each-weaker (Waiting scenario s.trace i) (λ f. IsAskable (scenario_at scenario s i) (identity_of f))
-        (λ f h. askable_for scenario (node_at s.nodes i).present (identity_of f) h.askable) (node_at s.nodes i).waiting
+        (λ f h. askable_for scenario (node_at s.nodes i).present (identity_of f) (h.askable (trace_short scenario journal))) (node_at s.nodes i).waiting
         ((all_belong scenario journal few).waiting i (ap is_none (sym kept.stopped ∙ running))));
+    signs = λ running. subst (λ (w : List FrameParts). count_by is_sign w ≤ 2) (sym kept.waiting)
+        (few_life_signs scenario journal longer i (ap is_none (sym kept.stopped ∙ running)));
     next = λ notice first. next_notice_is scenario journal few i v c notice node kept first;
+    few = λ running notice first. few_with_next scenario journal few i v c notice node kept running first;
     read = kept.read ∙ sym (past_length s i);
     free = ap (λ (b : Bounded Action). b.items) empty;
     actions = ap (λ (b : Bounded Action). b.room) empty;
@@ -183,6 +225,9 @@ can_turn scenario journal i v c out legal node kept empty = record {
 
     few : scenario.params.nodes ≤ most_nodes
     few = few_nodes scenario.params legal.in_range
+
+    longer : scenario.params.lag < scenario.params.life
+    longer = omega (arith, legal.formulas.life, legal.in_range.bound.0)
 
 -- ---- what the turn leaves
 
@@ -261,7 +306,10 @@ turned_on scenario journal i nodes controllers v v' c c' r row nodes_are within 
         let p : IsPresentAt scenario s.trace i (node_at s.nodes i) v = node.present in
         let it : IsToRead s i p.it notice = to_read scenario s i v c notice (orderly scenario journal) (omega (arith, nodes_are.whole)) node kept running first in
         let next : IsNextNotice follows past (heard_by p.it notice) = next_notice_is scenario journal (few_nodes scenario.params p.stands.legal.in_range) i v c notice node kept first in
-        let made : HasTurned follows past notice p.it v v' c c' = law p.it p.at follows past notice (record { stands = p.stands; next = next; running = running; oldest = first }) in
+        let few : HasFewSigns follows p.it.node ((heard_by p.it notice).kind ∷ past) notice.slot =
+        few_with_next scenario journal (few_nodes scenario.params p.stands.legal.in_range) i v c notice node kept running first in
+        let made : HasTurned follows past notice p.it v v' c c' =
+        law p.it p.at follows past notice (record { stands = p.stands; next = next; few = few; running = running; oldest = first }) in
         let effects : turn_effects follows p.it.node ((heard_by p.it notice).kind ∷ past) ≡ turn_effects follows i (next_notice s i ∷ history i s) =
         ap (λ k. turn_effects follows k ((heard_by p.it notice).kind ∷ past)) p.number ∙ ap (λ n. turn_effects follows i (n ∷ past)) it.is
         ∙ ap (λ t. turn_effects follows i (next_notice s i ∷ t)) (sym (history-is i s)) in

@@ -8,19 +8,21 @@ use Rattle.cany_node.proofs.node.Node.build.Goals as goal
 
 pub returns-clause-waits : goal.returns-clause-waits
 returns-clause-waits c = record {
-  legal = (c.in_ok-edcan.ensures 0).legal;
+  legal = (c.in_ok-protocols.ensures.edcan 0).legal;
   delay = ap (λ n. c.params.inside.bound + n) c.from.ensures ∙ ap (λ (p : Parameters). p.bound + p.lag) (c.params.view_is ∙ c.params-params.ensures.params);
   log = ap (λ (b : Bounded LogEntry). b.items) c.in_ok-log.ensures;
   room = ap (λ (b : Bounded LogEntry). b.room) c.in_ok-log.ensures ∙ c.log_room.ensures;
-  edcan = λ n. c.in_ok-edcan.ensures n;
-  relcan = λ n. c.in_ok-relcan.ensures n;
-  totcan = λ n. c.in_ok-totcan.ensures n;
+  members = c.first_members.ensures;
+  edcan = c.in_ok-protocols.ensures.edcan;
+  relcan = c.in_ok-protocols.ensures.relcan;
+  totcan = c.in_ok-protocols.ensures.totcan;
+  life = c.in_ok-protocols.ensures.life;
   agenda = c.in_ok-agenda.ensures;
   room_to_give =
-      let tot = (c.in_ok-totcan.ensures 0).backlog in
+      let tot = (c.in_ok-protocols.ensures.totcan 0).backlog in
       let plan = c.in_ok-agenda.ensures in
       omega (arith, ap length tot.given, tot.room, plan.own, planned_count c.args.node c.args.scenario.now.sends c.in_ok-agenda.agenda.planned plan.planned);
 }
 
 pub returns-clause-stands : goal.returns-clause-stands
-returns-clause-stands c first = opens _ _ (returns-clause-waits c) c.params-params.ensures.whole refl refl
+returns-clause-stands c first = opens _ _ (returns-clause-waits c) c.params-params.ensures.whole c.params-params.ensures.opening first refl refl
