@@ -40,7 +40,7 @@ def scenario(nodes, slots, sends, services, extra):
 
 def storm_sized(services):
     name = "storm-sized " + "+".join(services)
-    extra = ["omit = 2", "errors = 2", "bound = 211", "life = 20000"]
+    extra = ["omit = 2", "errors = 2", "bound = 211", "cycle = 20000"]
     return name, 20000, 200, scenario(8, 20000, 200, services, extra)
 
 
@@ -48,7 +48,7 @@ def largest(services, tenths):
     """So many tenths of the largest run."""
     name = PARTS[tenths] + "largest " + "+".join(services)
     slots, sends = 10000 * tenths, 2000 * tenths
-    return name, slots, sends, scenario(32, slots, sends, services, [f"life = {slots}"])
+    return name, slots, sends, scenario(32, slots, sends, services, [f"cycle = {slots}"])
 
 
 def dense(tenths):
@@ -56,7 +56,7 @@ def dense(tenths):
     from one to the next, and `bound` grows with the square of the nodes, so that two nodes send most."""
     name = PARTS[tenths] + "dense tot"
     slots, sends = 10000 * tenths, 1000 * tenths
-    return name, slots, sends, scenario(2, slots, sends, ["tot"], [f"life = {slots}"])
+    return name, slots, sends, scenario(2, slots, sends, ["tot"], [f"cycle = {slots}"])
 
 
 def runs():

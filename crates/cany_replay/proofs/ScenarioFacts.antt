@@ -43,13 +43,13 @@ pub those_where-below : (set : Nodes) (nodes : ℕ) → nodes ≤ most_nodes →
 those_where-below set nodes few all =
     same_nodes set (those_where (λ i. nat_lt i nodes)) (λ i. all i ∙ both_below i nodes few ∙ sym (has-those_where (λ i. nat_lt i nodes) i))
 
-in_time-test : (slots life : ℕ) → slots ≤ life → nat_le slots life ≡ true
-in_time-test slots life h = grind (arith, nat_tests)
+in_time-test : (slots cycle : ℕ) → slots ≤ cycle → nat_le slots cycle ≡ true
+in_time-test slots cycle h = grind (arith, nat_tests)
 
 -- the parts that were read, where q are the parameters as their fields show them
 pub scenario_from-parts : (top : Members) (q params : Parameters) (members : Nodes) (sends : List SendAsk) (rules : List Rule) (joins leaves restarts : List NodeAsk)
     (journal : Option (List Step))
-    → has_only top_keys top ≡ true → params_of top ≡ Some params → q ≡ params → q.slots ≤ q.life → q.nodes ≤ most_nodes
+    → has_only top_keys top ≡ true → params_of top ≡ Some params → q ≡ params → q.slots ≤ q.cycle → q.nodes ≤ most_nodes
     → ((i : ℕ) → has members i ≡ nat_lt i q.nodes) → optional (sends_from params) [] (codes "send") top ≡ Some sends
     → optional (rules_from params) [] (codes "fault") top ≡ Some rules → joins ≡ [] → leaves ≡ [] → restarts ≡ []
     → journal_at top ≡ Some journal
@@ -62,10 +62,11 @@ pub scenario_from-parts : (top : Members) (q params : Parameters) (members : Nod
       leaves = leaves;
       restarts = restarts;
       from = 0;
+      inc = 0;
       journal = journal;
     })
 unfolding scenario_from
 scenario_from-parts top q params members sends rules joins leaves restarts journal known read same in_time few all listed scripted no_joins no_leaves no_restarts given =
-    let test : nat_le params.slots params.life ≡ true = rw (← same) (in_time-test q.slots q.life in_time) in
+    let test : nat_le params.slots params.cycle ≡ true = rw (← same) (in_time-test q.slots q.cycle in_time) in
     let every : members ≡ those_where (λ i. nat_lt i params.nodes) = rw (← same) (those_where-below members q.nodes few all) in
     rw (known, read, test, listed, scripted, no_joins, no_leaves, no_restarts, given, every) refl

@@ -59,7 +59,7 @@ fn scenario_from(alloc: Global, top: &Table) -> Result<Scenario, ReadRefusal>
         return Err(ReadRefusal::FORM);
     }
     let params = read_params(top)?;
-    if params.slots > params.life {
+    if params.slots > params.cycle {
         return Err(ReadRefusal::FORM);
     }
     let sends = read_sends(alloc, &params, top)?;

@@ -1,6 +1,7 @@
 use crate::replay_top;
 use crate::status::{DONE, OTHER_WORDS, READ_FAULT, REFUSED, TOO_LONG, WRITE_FAULT};
 use crate::tests::journals::JOURNALS;
+use crate::tests::life::LIFE_RUNS;
 use crate::tests::relcan::RELCAN_RUNS;
 use crate::tests::runs::RUNS;
 use crate::tests::thirty_two_nodes::THIRTY_TWO_NODES;
@@ -12,6 +13,7 @@ use std::test::Fail;
 mod backlog;
 mod forty_nodes;
 mod journals;
+mod life;
 mod relcan;
 mod restarts;
 mod runs;
@@ -134,6 +136,7 @@ fn texts_and_their_answers(rt: HostRuntime) -> Result<(), Fail> {
         RUNS.as_slice(),
         RELCAN_RUNS.as_slice(),
         TOTCAN_RUNS.as_slice(),
+        LIFE_RUNS.as_slice(),
         JOURNALS.as_slice(),
         &[THIRTY_TWO_NODES],
     ] {

@@ -189,8 +189,8 @@ fn other_texts_are_refused(rt: HostRuntime) {
         "format = 1\nnodes = 3\nslots = 5\n[[fault]]\nclass = \"ed\"\nnumber = 0\nnode = 0\nnth = 1\nslot = 1\n",
         "format = 1\nnodes = 3\nslots = 5\n[[fault]]\nclass = \"ed\"\nnumber = 0\nnode = 0\nnth = 0\n",
         "format = 1\nnodes = 3\nslots = 5\n[[fault]]\nclass = 9\nnumber = 0\nnode = 0\nnth = 1\n",
-        // More slots than `life`.
-        "format = 1\nnodes = 3\nslots = 117\nlag = 2\n",
+        // More slots than `cycle`.
+        "format = 1\nnodes = 3\nslots = 233\nlag = 2\n",
     ] {
         assert!(rt; is_refused(rt.alloc(), text, LaterName::Form), "at {text}");
     }

@@ -28,7 +28,7 @@ stop = [0]
 /// Whether each of the two messages is settled in a run of so many slots, with this entry besides.
 fn settled_after(alloc: Global, slots: u64, entry: &str) -> Result<(bool, bool), Fail> {
     let text = format!(in alloc;
-        "format = 1\nnodes = 3\nslots = {slots}\nlife = 75\n{TWO_SENDS}{entry}"
+        "format = 1\nnodes = 3\nslots = {slots}\ncycle = 75\nlife = 75\n{TWO_SENDS}{entry}"
     )?;
     let Ok(scenario) = read_scenario(alloc, text.as_bytes()) else {
         return Err(Fail::from("the text is refused"));

@@ -8,7 +8,8 @@ ghost use Rattle.cany_world.specs.World.{WorldParts, state_of};
 
 use crate::reader::read_scenario;
 use cany_base::{
-    LogEntry, MsgKey, NodeAsk, NodeId, NodeSet, Params, Payload, Scenario, Service, Slot,
+    Class, LogEntry, MsgKey, NodeAsk, NodeId, NodeSet, Params, Payload, Scenario, Service, Slot,
+    SlotNote,
 };
 use cany_world::{Span, World, follow, round_robin};
 use std::alloc::Global;
@@ -50,6 +51,17 @@ fn delivery(slot: Slot, service: Service, origin: u8, seq: u16) -> LogEntry
             seq,
         },
         payload: Payload::empty(),
+    }
+}
+
+/// That a node, of the cycle in which this was found, has failed.
+fn failure(slot: Slot, number: u8, cycle: u16) -> LogEntry
+    requires { number < 3 }
+{
+    LogEntry::Failed {
+        slot,
+        node: node(number),
+        cycle,
     }
 }
 
@@ -211,6 +223,22 @@ fn frames(world: &World) -> usize {
         .count()
 }
 
+fn is_life_sign(note: &SlotNote, number: u8) -> bool {
+    match note.frame {
+        Some(frame) => frame.class == Class::Els && frame.node.get() == number,
+        None => false,
+    }
+}
+
+/// How many life signs of the node were carried.
+fn life_signs(world: &World, number: u8) -> usize {
+    world
+        .trace()
+        .iter()
+        .filter(|note| is_life_sign(note, number))
+        .count()
+}
+
 #[test]
 fn restart_hears_again(rt: HostRuntime) -> Result<(), Fail> {
     let text = "format = 1
@@ -353,6 +381,7 @@ fn a_restarted_origin_has_no_timer(rt: HostRuntime) -> Result<(), Fail> {
 nodes = 3
 slots = 105
 confirm = 50
+cycle = 105
 life = 105
 
 [[send]]
@@ -384,6 +413,62 @@ stop = [0]
     assert_eq!(rt; log_now(&world, 0), Some(late.as_slice()));
     assert_eq!(rt; log_now(&world, 2), Some(late.as_slice()));
     assert_eq!(rt; log_now(&world, 1), Some(early.as_slice()));
+    Ok(())
+}
+
+#[test]
+fn a_restarted_node_shows_no_life(rt: HostRuntime) -> Result<(), Fail> {
+    // The first incarnation of node 0 stopped before it showed any life. The next one is no member: it asks for no life sign and
+    // finds no silence. All learn the sign of the first, the next one too, which relays it.
+    let text = "format = 1
+nodes = 3
+slots = 120
+cycle = 120
+
+[[fault]]
+slot = 5
+stop = [0]
+";
+    let world = run(rt.alloc(), text, &[again(10, 0)])?;
+    let found = [failure(73, 0, 0)];
+    let told = [failure(76, 0, 0)];
+    assert!(rt; has_empty_log(&world, 0, 0));
+    assert_eq!(rt; log_now(&world, 0), Some(told.as_slice()));
+    assert_eq!(rt; log_now(&world, 1), Some(found.as_slice()));
+    assert_eq!(rt; log_now(&world, 2), Some(found.as_slice()));
+    assert_eq!(rt; life_signs(&world, 0), 0);
+    assert_eq!(rt; life_signs(&world, 1), 3);
+    assert_eq!(rt; life_signs(&world, 2), 3);
+    assert_eq!(rt; senders_in(&world, 76), Some(both(1, 2)));
+    assert_eq!(rt; takers_in(&world, 76), Some(only(0)));
+    assert_eq!(rt; senders_in(&world, 77), Some(only(0)));
+    Ok(())
+}
+
+#[test]
+fn a_restarted_node_misses_a_sign(rt: HostRuntime) -> Result<(), Fail> {
+    // Node 0 showed life once and stopped. Its controller takes the sign of that in slot 111, but the new incarnation takes part
+    // from slot 127 on alone.
+    let text = "format = 1
+nodes = 3
+slots = 160
+cycle = 160
+
+[[fault]]
+slot = 40
+stop = [0]
+";
+    let world = run(rt.alloc(), text, &[again(90, 0)])?;
+    let found = [failure(110, 0, 0)];
+    assert_eq!(rt; span_at(&world, 0, 1), Some(span(91, None, 69)));
+    assert!(rt; has_empty_log(&world, 0, 0));
+    assert!(rt; has_empty_log(&world, 0, 1));
+    assert_eq!(rt; log_now(&world, 1), Some(found.as_slice()));
+    assert_eq!(rt; log_now(&world, 2), Some(found.as_slice()));
+    assert_eq!(rt; life_signs(&world, 0), 1);
+    assert_eq!(rt; life_signs(&world, 1), 4);
+    assert_eq!(rt; takers_in(&world, 111), Some(only(0)));
+    assert_eq!(rt; frames(&world), 10);
     Ok(())
 }
 
