@@ -1,6 +1,7 @@
 -- What holds of slots, turns and runs, whatever the rules of a node are.
 pub mod Carried
 pub mod Counting
+pub mod EachRead
 pub mod FollowFacts
 pub mod Following
 pub mod FrameInvariants

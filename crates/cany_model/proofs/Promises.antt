@@ -7,15 +7,19 @@ pub mod Confirms
 pub mod Diffusion
 pub mod DiffusionRun
 pub mod EachNode
-pub mod Fair
 pub mod EdcanAgrees
+pub mod Fair
 pub mod FewLifeSigns
 pub mod FewLifeSignsOrder
 pub mod FewLifeSignsRun
 pub mod FewLifeSignsWaiting
+pub mod FirstCycles
 pub mod Firsts
 pub mod Integrity
+pub mod KeptVectors
+pub mod LateVectors
 pub mod OneFrame
+pub mod OwnIncarnation
 pub mod RelcanAgrees
 pub mod Safety
 pub mod SettledFacts
@@ -23,3 +27,4 @@ pub mod SignAgrees
 pub mod SignCounts
 pub mod Sources
 pub mod SpacedSigns
+pub mod VectorNotices

@@ -1,4 +1,5 @@
 -- Worked rows: single runs and lines, computed from the definitions.
+pub mod AsksTextRows
 pub mod BacklogRows
 pub mod EagerRows
 pub mod FaultsTextRows
@@ -6,6 +7,8 @@ pub mod FollowRows
 pub mod HypothesisRows
 pub mod JournalTextRows
 pub mod LifeRows
+pub mod MembershipRows
+pub mod RejoinRows
 pub mod RelcanRows
 pub mod RelcanTurnRows
 pub mod ReplyRows
@@ -13,8 +16,13 @@ pub mod ReportRows
 pub mod RestartRows
 pub mod RowWords
 pub mod Rows
+pub mod ScenarioTextRows
 pub mod ScriptRows
 pub mod SimulatedRows
+pub mod SiteWords
 pub mod TotcanRows
 pub mod TotcanTurnRows
+pub mod VectorRows
 pub mod VerdictRows
+pub mod ViewReportRows
+pub mod ViewRows

@@ -7,12 +7,16 @@ pub mod Edcan
 pub mod Effect
 pub mod Life
 pub mod Log
+pub mod Membership
 pub mod Messages
 pub mod Notices
 pub mod Protocol
 pub mod Relcan
 pub mod Rooms
 pub mod Sends
+pub mod Site
 pub mod Station
 pub mod Totcan
 pub mod Turn
+pub mod Vectors
+pub mod Views

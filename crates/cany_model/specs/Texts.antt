@@ -1,6 +1,8 @@
 -- The texts: the scenario that bytes stand for, the report and the refusals.
+pub mod AsksText
 pub mod FaultsText
 pub mod JournalText
+pub mod NodesText
 pub mod ParamsText
 pub mod RefusalLines
 pub mod Report

@@ -1,21 +1,23 @@
--- The trace as an incarnation sees it: idle before its first slot.
-use Rattle.std.proofs.Common.{◌≡◌, ℕ, zero, suc, ◌+◌, ◌-◌, ◌<◌, ◌≤◌, ◌==◌, ◌&&◌, inl, inr, Bool, true, false, not, nat_lt, if◌then◌else◌, List, [], ◌∷◌, map, drop, take, count_by, length, None, refl, ap, sym, ◌∙◌, subst, arith}
+-- The trace as an incarnation sees it: idle before its first slot, and where a slot carries a vector of a cycle before its first.
+use Rattle.std.proofs.Common.{◌≡◌, ℕ, zero, suc, ◌+◌, ◌-◌, ◌<◌, ◌≤◌, ◌==◌, ◌&&◌, ◌||◌, ◌⊎◌, inl, inr, Bool, true, false, not, nat_lt, if◌then◌else◌, List, [], ◌∷◌, map, drop, take, count_by, length, None, Some, refl, ap, sym, ◌∙◌, subst, arith}
 use Rattle.std.specs.List.{AllByRecursion}
-use Rattle.std.proofs.lemmas.Bool.{and_from, both_ways, cases_Bool, eq-eqb, false_from_ne_true, le-ltb, lt-ltb, ne_eqb, not_from_false}
+use Rattle.std.proofs.lemmas.Bool.{and_from, and_parts, both_ways, cases_Bool, eq-eqb, eqb-false, false_from_ne_true, le-ltb, lt-ltb, ltb-true, ne_eqb, not-true, not_from_false, or_cases, or_left, or_right}
 use Rattle.std.proofs.lemmas.List.{length-map}
 use Rattle.std.proofs.lemmas.List.Elements.{All-from_recursion, recursion_from_All}
+use Rattle.cany_base.specs.declared.frame.Class.TheVariants as class
 use Rattle.cany_base.specs.declared.notice.NoticeKind.{NoticeKind}
-use Rattle.cany_base.specs.declared.notice.NoticeKind.TheVariants.{Idle}
+use Rattle.cany_base.specs.declared.notice.NoticeKind.TheVariants.{Idle, Got, Sent, Bad}
 use Rattle.cany_base.specs.declared.slot_note.SlotNote.{SlotNote}
 use Rattle.cany_base.specs.Frame.{FrameParts}
 use Rattle.cany_base.specs.Params.{Parameters}
-use Rattle.cany_model.specs.Bus.Frames.{Identity, identity_of}
-use Rattle.cany_model.specs.Bus.History.{as_seen, ended_history, given, history, is_hidden, seen, trace_for}
+use Rattle.cany_model.specs.Bus.Frames.{Identity, identity_of, same_class}
+use Rattle.cany_model.specs.Bus.History.{as_seen, carries_early, ended_history, given, history, is_hidden, seen, trace_for}
 use Rattle.cany_model.specs.Bus.Slot.{carried}
 use Rattle.cany_model.specs.Bus.State.{Incarnation, RunState, node_at, reads}
 use Rattle.cany_model.specs.Promises.Hypothesis.{IsWithin, any_frame, count_together, error_slots, is_error, is_error_slot, is_partial, is_partial_slot_of, is_silent, is_silent_slot, partial_slots}
+use Rattle.cany_model.specs.Rules.Notices.{is_early, is_early_frame}
 use Rattle.cany_model.proofs.Among.{Among, Among-from_map, Among-map, Among-weaker, count-grows, count-no, count-yes}
-use Rattle.cany_model.proofs.Bus.Notes.{given_idle}
+use Rattle.cany_model.proofs.Bus.Notes.{given-Got, given-Sent, given_idle}
 
 -- ---- one slot
 
@@ -38,20 +40,56 @@ seen_verdict inc note = either (is_hidden inc note)
     either true = refl
     either false = refl
 
--- the slots before the first one of a restarted node are hidden, the later ones are not
+not_first : (inc : Incarnation) → 0 < inc.number → not (inc.number == 0) ≡ true
+not_first inc later = not_from_false (inc.number == 0) (ne_eqb inc.number 0 (λ e. omega (arith, e, later)))
+
+-- the slots before the first one of a restarted node are hidden
 pub early_hidden : (inc : Incarnation) (note : SlotNote) → 0 < inc.number → note.slot < inc.from → is_hidden inc note ≡ true
 unfolding is_hidden
 early_hidden inc note later early =
-    and_from (not (inc.number == 0)) (nat_lt note.slot inc.from)
-    (not_from_false (inc.number == 0) (ne_eqb inc.number 0 (λ e. omega (arith, e, later)))) (lt-ltb note.slot inc.from early)
+    and_from (not (inc.number == 0)) (nat_lt note.slot inc.from || carries_early inc.cycle note) (not_first inc later)
+    (or_left (nat_lt note.slot inc.from) (carries_early inc.cycle note) (lt-ltb note.slot inc.from early))
 
-pub hidden_not : (inc : Incarnation) (note : SlotNote) → inc.from ≤ note.slot → is_hidden inc note ≡ false
+-- and so are those that carry a vector of a cycle before its first
+pub vector_hidden : (inc : Incarnation) (note : SlotNote) → 0 < inc.number → carries_early inc.cycle note ≡ true → is_hidden inc note ≡ true
 unfolding is_hidden
-hidden_not inc note late = rw (le-ltb note.slot inc.from late) (never (not (inc.number == 0)))
+vector_hidden inc note later early =
+    and_from (not (inc.number == 0)) (nat_lt note.slot inc.from || carries_early inc.cycle note) (not_first inc later)
+    (or_right (nat_lt note.slot inc.from) (carries_early inc.cycle note) early)
+
+-- the others are not
+pub hidden_not : (inc : Incarnation) (note : SlotNote) → inc.from ≤ note.slot → carries_early inc.cycle note ≡ false → is_hidden inc note ≡ false
+unfolding is_hidden
+hidden_not inc note late plain = rw (le-ltb note.slot inc.from late, plain) (never (not (inc.number == 0)))
   where
     never : (b : Bool) → (b && false) ≡ false
     never true = refl
     never false = refl
+
+-- why a slot is hidden
+pub hidden_why : (inc : Incarnation) (note : SlotNote) → is_hidden inc note ≡ true
+    → (0 < inc.number) × ((note.slot < inc.from) ⊎ (carries_early inc.cycle note ≡ true))
+unfolding is_hidden
+hidden_why inc note h =
+    let parts = and_parts (not (inc.number == 0)) (nat_lt note.slot inc.from || carries_early inc.cycle note) h in (
+      some inc.number (not-true (inc.number == 0) parts.0),
+      elim (or_cases (nat_lt note.slot inc.from) (carries_early inc.cycle note) parts.1) [
+        | inl early ↦ inl (ltb-true note.slot inc.from early)
+        | inr vector ↦ inr vector
+      ],
+    )
+  where
+    some : (n : ℕ) → (n == 0) ≡ false → 0 < n
+    some n k = let other = eqb-false n 0 k in omega (arith, other)
+
+-- a slot that carries a frame of another class carries no vector
+pub carries_other : (cycle : ℕ) (note : SlotNote) (f : FrameParts) → note.frame ≡ Some f → same_class f.class class.Rha ≡ false
+    → carries_early cycle note ≡ false
+carries_other cycle note f frame other = rw (frame, other) refl
+
+-- whether it carries one of an earlier cycle, its frame tells
+pub carries_frame : (cycle : ℕ) (note : SlotNote) (f : FrameParts) → note.frame ≡ Some f → carries_early cycle note ≡ is_early_frame cycle f
+carries_frame cycle note f frame = rw frame refl
 
 -- what holds of a slot as it is seen, and of no idle one, holds of the slot
 pub seen_one : (P : SlotNote → Type 0) → ((note : SlotNote) → note.frame ≡ None → P note → ⊥) → (inc : Incarnation) (note : SlotNote)
@@ -110,6 +148,32 @@ trace_for-is inc trace = by_number inc.number refl
 abbrev pub IsSeenPast : Incarnation → List NoticeKind → Type 0
 IsSeenPast inc [] = Unit {0}
 IsSeenPast inc (e ∷ past) = (0 < inc.number → length past < inc.from → e ≡ Idle) × IsSeenPast inc past
+
+-- of the vectors that it has read, none is of a cycle before its first
+abbrev pub HearsNoEarly : Incarnation → List NoticeKind → Type 0
+HearsNoEarly inc past = 0 < inc.number → AllByRecursion (λ e. is_early inc.cycle e ≡ false) past
+
+given_early : (cycle i : ℕ) (note : SlotNote) (e : NoticeKind) → given i note ≡ e → carries_early cycle note ≡ false → is_early cycle e ≡ false
+given_early cycle i note Idle is plain = refl
+given_early cycle i note Bad is plain = refl
+given_early cycle i note (Got f) is plain = sym (carries_frame cycle note f (given-Got i note f is).0) ∙ plain
+given_early cycle i note (Sent f) is plain = sym (carries_frame cycle note f (given-Sent i note f is).0) ∙ plain
+
+heard_early : (i : ℕ) (inc : Incarnation) (note : SlotNote) → 0 < inc.number → is_early inc.cycle (given i (as_seen inc note)) ≡ false
+heard_early i inc note later = elim (cases_Bool (is_hidden inc note)) [
+  | inl hidden ↦ rw (seen_idle i inc note hidden) refl
+  | inr plain ↦
+      rw (seen_plain inc note plain)
+      (given_early inc.cycle i note (given i note) refl
+      (false_from_ne_true (carries_early inc.cycle note) (λ early. both_ways (is_hidden inc note) plain (vector_hidden inc note later early))))
+]
+
+pub hears_no_early : (i : ℕ) (inc : Incarnation) (trace : List SlotNote) → HearsNoEarly inc (map (given i) (seen inc trace))
+hears_no_early i inc [] later = tt
+hears_no_early i inc (note ∷ trace) later = (heard_early i inc note later, hears_no_early i inc trace later)
+
+pub hears_no_early_of : (i n : ℕ) (inc : Incarnation) (trace : List SlotNote) → HearsNoEarly inc (map (given i) (drop n (seen inc trace)))
+hears_no_early_of i n inc trace = subst (λ t. HearsNoEarly inc (map (given i) t)) (sym (drop_seen n inc trace)) (hears_no_early i inc (drop n trace))
 
 -- a trace whose notes say which slot they are of
 abbrev pub Numbered : List SlotNote → Type 0

@@ -1,12 +1,13 @@
 -- Agreement on a frame that is diffused, once nobody waits with it and all is read: more than omit copies include a Clean one,
 -- and a frame that was asked for and no longer waits was carried Clean, or was withdrawn for that reason. So where a node was to
 -- send it, a slot carried it Clean, and every node that runs and took part since then got or sent it there.
-use Rattle.std.proofs.Common.{◌≡◌, ℕ, ◌≤◌, ◌⊎◌, inr, true, false, List, Some, None, subst, sym, arith}
+use Rattle.std.proofs.Common.{◌≡◌, ℕ, ◌≤◌, ◌⊎◌, inr, true, false, List, Some, None, ap, subst, sym, ◌∙◌, arith}
+use Rattle.cany_base.specs.declared.frame.Class.TheVariants as class
 use Rattle.cany_base.specs.Limits.{most_nodes}
 use Rattle.cany_base.specs.declared.slot_note.SlotNote.{SlotNote}
 use Rattle.cany_base.specs.Scenario.{ScenarioParts}
-use Rattle.cany_model.specs.Bus.Frames.{Identity}
-use Rattle.cany_model.specs.Bus.History.{history, has_own, is_got, is_hidden, is_sent, seen}
+use Rattle.cany_model.specs.Bus.Frames.{Identity, same_class}
+use Rattle.cany_model.specs.Bus.History.{carries_early, history, has_own, is_got, is_hidden, is_sent, seen}
 use Rattle.cany_model.specs.Bus.State.{Incarnation, RunState, node_at, runs}
 use Rattle.cany_model.specs.Bus.Waiting.{waits}
 use Rattle.cany_model.specs.Promises.Hypothesis.{IsWithin}
@@ -16,7 +17,7 @@ use Rattle.cany_model.specs.Rules.Turn.{scenario_at, scenario_for, turn_effects}
 use Rattle.cany_model.proofs.Among.{Among, Among-weaker, Among-with}
 use Rattle.cany_model.proofs.Bus.Carried.{Carries, CarriesClean, SentBy}
 use Rattle.cany_model.proofs.Bus.Counting.{clean_from_success}
-use Rattle.cany_model.proofs.Bus.Seen.{Among-seen, Among-to_seen, Numbered, hidden_not, history-is, within_seen}
+use Rattle.cany_model.proofs.Bus.Seen.{Among-seen, Among-to_seen, Numbered, carries_other, hidden_not, history-is, within_seen}
 use Rattle.cany_model.proofs.Promises.Diffusion.{Duty, IsDiffused, own_carried, owed_is_carried, carried_is_read}
 use Rattle.cany_model.proofs.Promises.DiffusionRun.{NodeDiffuses}
 use Rattle.cany_model.proofs.Promises.EachNode.{EachRunning}
@@ -27,6 +28,8 @@ pub record IsAtRest (scenario : ScenarioParts) (x : Identity) (duty : ScenarioPa
   pub few : scenario.params.nodes ≤ most_nodes
   pub within : IsWithin scenario.params s.trace
   pub numbered : Numbered s.trace
+  -- the frame is none of the class of vectors, some of which a restarted node does not hear
+  pub heard : same_class x.class class.Rha ≡ false
   pub rules : (inc : Incarnation) → IsDiffused (turn_effects (scenario_for scenario inc)) scenario.params.omit x (duty (scenario_for scenario inc))
   pub diffuses : EachRunning (NodeDiffuses scenario scenario.params.omit x duty) s
   pub gone : (i : ℕ) → runs (node_at s.nodes i) ≡ true → waits x (node_at s.nodes i).waiting ≡ false
@@ -61,13 +64,21 @@ own_clean scenario x s within i own =
 
 -- ---- since the first slot that carried it
 
+-- a slot that carries a frame of another class carries no vector of an earlier cycle
+carries_plain : (x : Identity) (inc : Incarnation) (note : SlotNote) → same_class x.class class.Rha ≡ false → Carries x note
+    → carries_early inc.cycle note ≡ false
+carries_plain x inc note heard c =
+    carries_other inc.cycle note c.what c.frame (ap (λ (y : Identity). same_class y.class class.Rha) (sym c.identity) ∙ heard)
+
 -- each slot that carried the frame is seen by an incarnation that took part since the first one
 visible : (P : SlotNote → Type 0) (x : Identity) (trace : List SlotNote) (first : ℕ) (inc : Incarnation) → ((note : SlotNote) → P note → Carries x note)
-    → Numbered trace → first_carried x trace ≡ Some first → inc.from ≤ first → Among P trace → Among P (seen inc trace)
-visible P x trace first inc carries numbered is from h =
+    → same_class x.class class.Rha ≡ false → Numbered trace → first_carried x trace ≡ Some first → inc.from ≤ first → Among P trace → Among P (seen inc trace)
+visible P x trace first inc carries heard numbered is from h =
     Among-to_seen P inc trace
     (Among-weaker (λ note. P note × (Carries x note → first ≤ note.slot)) (λ note. P note × (is_hidden inc note ≡ false))
-    (λ note k. let late = k.1 (carries note k.0) in (k.0, hidden_not inc note (omega (arith, late, from)))) trace
+    (λ note k.
+    let late = k.1 (carries note k.0) in
+    (k.0, hidden_not inc note (omega (arith, late, from)) (carries_plain x inc note heard (carries note k.0)))) trace
     (Among-with P (λ note. Carries x note → first ≤ note.slot) trace (first_is_first x trace numbered first is) h))
 
 -- what was carried Clean, every correct node that took part since then has got, or may start and has sent
@@ -81,7 +92,7 @@ carried_read scenario x duty s rest first is j correct clean =
     rw (history-is j s)
     (carried_is_read (turn_effects (scenario_for scenario inc)) scenario.params.omit x (duty (scenario_for scenario inc)) (rest.rules inc) (seen inc s.trace) j
     (node_at s.nodes j) (rest.diffuses j running) (omega (arith, correct.correct.there, rest.few)) (rest.read j running)
-    (visible (CarriesClean x) x s.trace first inc (λ note c. c.carries) rest.numbered is correct.took_part clean))
+    (visible (CarriesClean x) x s.trace first inc (λ note c. c.carries) rest.heard rest.numbered is correct.took_part clean))
 
 -- a correct node that took part since then, and was a sender, owed the frame, so it was carried Clean
 pub sent_carried : (scenario : ScenarioParts) (x : Identity) (duty : ScenarioParts → Duty) (s : RunState) → IsAtRest scenario x duty s → (first : ℕ)
@@ -91,4 +102,4 @@ sent_carried scenario x duty s rest first is i correct sent =
     owed_carried scenario x duty s rest i correct.correct
     (subst ((duty (scenario_for scenario inc)).owes i) (sym (history-is i s))
     ((rest.diffuses i correct.correct.running).caused
-    (inr (visible (SentBy i x) x s.trace first inc (λ note c. c.carries) rest.numbered is correct.took_part sent))))
+    (inr (visible (SentBy i x) x s.trace first inc (λ note c. c.carries) rest.heard rest.numbered is correct.took_part sent))))

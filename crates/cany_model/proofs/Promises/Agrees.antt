@@ -1,16 +1,19 @@
 -- Agreement on a message whose data frame is diffused and that is delivered at once: the frame is agreed on, and who got it or
 -- sent it as its origin has delivered it.
-use Rattle.std.proofs.Common.{◌≡◌, ℕ, ◌<◌, ◌≤◌, ◌==◌, ◌&&◌, ◌⊎◌, inl, inr, true, not, nat_lt, List, length, drop, Contains, Option, Some, None, refl, ap, sym, ◌∙◌, subst, arith, ltb-false}
+use Rattle.std.proofs.Common.{◌≡◌, ℕ, ◌<◌, ◌≤◌, ◌==◌, ◌&&◌, ◌⊎◌, inl, inr, true, false, not, nat_lt, List, length, drop, Contains, Option, Some, None, refl, ap, sym, ◌∙◌, subst, arith, ltb-false}
 use Rattle.cany_base.specs.Limits.{most_nodes}
 use Rattle.std.proofs.lemmas.Bool.{or_left, or_right, and_from, and_parts, cases_eq, eq-eqb, ltb-true, not-true}
+use Rattle.cany_base.specs.declared.frame.Class.TheVariants as class
 use Rattle.cany_base.specs.declared.log_entry.LogEntry.{LogEntry}
 use Rattle.cany_base.specs.declared.log_entry.LogEntry.TheVariants.{Deliver, Failed, View}
 use Rattle.cany_base.specs.declared.message.MsgKey.{MsgKey}
+use Rattle.cany_base.specs.declared.message.Service.{Service}
+use Rattle.cany_base.specs.declared.message.Service.TheVariants.{Ed, Rel, Tot}
 use Rattle.cany_base.specs.declared.notice.NoticeKind.{NoticeKind}
 use Rattle.cany_base.specs.declared.step.Step.{Step}
 use Rattle.cany_base.specs.Frame.{FrameParts, data_class}
 use Rattle.cany_base.specs.Scenario.{ScenarioParts}
-use Rattle.cany_model.specs.Bus.Frames.{Identity, identity_of}
+use Rattle.cany_model.specs.Bus.Frames.{Identity, identity_of, same_class}
 use Rattle.cany_model.specs.Bus.History.{history, copies, has_own, is_got, is_sent}
 use Rattle.cany_model.specs.Bus.Run.{run}
 use Rattle.cany_model.specs.Bus.State.{Incarnation, RunState}
@@ -43,6 +46,13 @@ use Rattle.cany_model.proofs.Bus.Runs.{orderly}
 use Rattle.cany_model.proofs.Rules.Begun.{IsBegun}
 use Rattle.cany_model.proofs.Rules.ProtocolFacts.{IsFoundedEntry, MayStart}
 use Rattle.cany_model.proofs.Rules.Protocols.{IsProtocol}
+
+-- a data frame carries no vector
+data_is_heard : (by : Service) → same_class (data_class by) class.Rha ≡ false
+unfolding same_class
+data_is_heard Ed = refl
+data_is_heard Rel = refl
+data_is_heard Tot = refl
 
 -- which nodes are to send the frame of the message, by the scenario that their incarnation follows and what they have read
 abbrev pub Owes : Type 1
@@ -250,6 +260,7 @@ run_agrees scenario few journal within m stands at_once owes diffused rules =
         few = few;
         within = within;
         numbered = run_numbered scenario.params.nodes s (orderly scenario journal);
+        heard = data_is_heard m.service;
         rules = diffused is;
         diffuses = run_diffuses scenario scenario.params.omit (data_id m) (duty_of m owes) (diffused is) (λ inc past begun. begun) journal;
         gone = settled_waits scenario s m settled;

@@ -1,11 +1,13 @@
--- Each frame that waits at a running node or was carried in a run belongs to the scenario: a node can read it, and may ask for it.
-use Rattle.std.specs.Prelude.{◌≡◌, ℕ, ◌*◌, ◌/◌, ◌<◌, ◌≤◌, List, ◌∷◌, length, Contains, refl}
+-- Each frame that waits at a running node or was carried in a run belongs to the scenario: a node can read it, and one may ask for it
+-- where it waits.
+use Rattle.std.specs.Prelude.{◌≡◌, ℕ, suc, true, ◌*◌, ◌/◌, ◌<◌, ◌≤◌, List, ◌∷◌, length, Contains, refl}
 use Rattle.cany_base.specs.Limits.{most_nodes}
 use Rattle.std.specs.List.{AllByRecursion}
 use Rattle.std.proofs.Common.{sym, ap, ◌∙◌, subst, inl, inr, arith}
-use Rattle.std.proofs.lemmas.Bool.{cases_Bool}
+use Rattle.std.proofs.lemmas.Bool.{cases_Bool, false≢true}
 use Rattle.cany_base.specs.declared.frame.Class.{Class}
 use Rattle.cany_base.specs.declared.frame.Class.TheVariants as class
+use Rattle.cany_base.specs.declared.message.NodeAsk.{NodeAsk}
 use Rattle.cany_base.specs.declared.message.Service.{Service}
 use Rattle.cany_base.specs.declared.message.Service.TheVariants.{Ed, Rel, Tot}
 use Rattle.cany_base.specs.declared.notice.NoticeKind.{NoticeKind}
@@ -13,19 +15,22 @@ use Rattle.cany_base.specs.declared.notice.NoticeKind.TheVariants.{Idle, Got, Se
 use Rattle.cany_base.specs.declared.slot_note.SlotNote.{SlotNote}
 use Rattle.cany_base.specs.declared.step.Step.{Step}
 use Rattle.cany_base.specs.Frame.{FrameParts, data_class}
+use Rattle.cany_base.specs.Nodes.{Nodes}
 use Rattle.cany_base.specs.Scenario.{ScenarioParts}
 use Rattle.cany_model.specs.Bus.Frames.{Identity, identity_of}
 use Rattle.cany_model.specs.Bus.History.{as_seen, given, history, is_hidden}
 use Rattle.cany_model.specs.Bus.Run.{run}
-use Rattle.cany_model.specs.Bus.State.{Incarnation, RunState}
+use Rattle.cany_model.specs.Bus.State.{Incarnation, RunState, node_at}
 use Rattle.cany_model.specs.Rules.Life.{els_frame, signs_sent}
 use Rattle.cany_model.specs.Rules.Messages.{IsOfMessage, Message, messages_of, data_frame}
 use Rattle.cany_model.specs.Rules.Notices.{BelongsTo, IsDataOf, IsReadable, NamesNode}
 use Rattle.cany_model.specs.Rules.Relcan.{confirm_frame}
-use Rattle.cany_model.specs.Rules.Rooms.{IsAskable, IsAskableAs, IsOfNode}
+use Rattle.cany_model.specs.Rules.Rooms.{IsAskable, IsAskableAs, IsOfAsk, IsOfNode, IsOfVector}
 use Rattle.cany_model.specs.Rules.Station.{Sign, fda_frame}
 use Rattle.cany_model.specs.Rules.Totcan.{accept_frame}
 use Rattle.cany_model.specs.Rules.Turn.{scenario_at, scenario_for, turn_effects}
+use Rattle.cany_model.specs.Rules.Vectors.{cycle_of, rha_frame}
+use Rattle.cany_model.specs.Rules.Views.{ask_frame}
 use Rattle.cany_model.proofs.Among.{Among, Among-weaker, Contains-from_Among}
 use Rattle.cany_model.proofs.Bus.Carried.{Has}
 use Rattle.cany_model.proofs.Bus.FrameInvariants.{HoldsOfFrames, IsKeptByFrames, holds_of_frames, slot_of_note, turn_note}
@@ -38,19 +43,20 @@ use Rattle.cany_model.proofs.Promises.EachNode.{EachRunning, nodes_at_first, nod
 use Rattle.cany_model.proofs.Promises.Fair.{AllFair}
 use Rattle.cany_model.proofs.Promises.SignCounts.{Counted, signs_counted, signs_spaced}
 use Rattle.cany_model.proofs.Rules.SignRooms.{div_grows}
-use Rattle.cany_model.proofs.Rules.ProtocolFacts.{MayAsk, accepts, confirms, lives, originates, relays, signals}
+use Rattle.cany_model.proofs.Rules.ProtocolFacts.{IsScripted, MayAsk, MayRequest, accepts, confirms, exchanges, is_relayed, lives, originates, relays, request_now, requests, signals}
 use Rattle.cany_model.proofs.Rules.TurnFacts.{turn_only}
 
--- the frame can be read in this slot, and may be asked for, where the slot is one of the run
-pub record Belongs (scenario : ScenarioParts) (slot : ℕ) (f : FrameParts) : Type 0 where
+-- the frame can be read in this slot, and node i may ask for it, where the slot is one of the run
+pub record Belongs (scenario : ScenarioParts) (i slot : ℕ) (f : FrameParts) : Type 0 where
   pub readable : BelongsTo scenario slot f.class f
-  pub askable : slot ≤ scenario.params.slots → IsAskable scenario (identity_of f)
+  pub askable : slot ≤ scenario.params.slots → IsAskable scenario i (identity_of f)
 
 abbrev pub Waiting : ScenarioParts → List SlotNote → ℕ → FrameParts → Type 0
-Waiting scenario trace i f = Belongs scenario (length trace) f
+Waiting scenario trace i f = Belongs scenario i (length trace) f
 
+-- the frame that was carried can be read since
 abbrev pub WasCarried : ScenarioParts → List SlotNote → ℕ → FrameParts → Type 0
-WasCarried scenario trace slot f = Belongs scenario slot f
+WasCarried scenario trace slot f = BelongsTo scenario slot f.class f
 
 abbrev pub AllBelong : ScenarioParts → RunState → Type 0
 AllBelong scenario s = HoldsOfFrames (Waiting scenario) (WasCarried scenario) s
@@ -64,7 +70,7 @@ AreCounted scenario s = AllFair s × EachRunning (Counted scenario) s
 names_later : (scenario : ScenarioParts) (interval a b : ℕ) (f : FrameParts) → a ≤ b → NamesNode scenario interval a f → NamesNode scenario interval b f
 names_later scenario interval a b f l h = record { node = h.node; number = omega (arith, h.number, div_grows a b interval l) }
 
-readable_later : (scenario : ScenarioParts) (a b : ℕ) (f : FrameParts) (c : Class) → a ≤ b → BelongsTo scenario a c f → BelongsTo scenario b c f
+pub readable_later : (scenario : ScenarioParts) (a b : ℕ) (f : FrameParts) (c : Class) → a ≤ b → BelongsTo scenario a c f → BelongsTo scenario b c f
 readable_later scenario a b f class.Accept l h = h
 readable_later scenario a b f class.Rha l h = names_later scenario scenario.params.cycle a b f l h
 readable_later scenario a b f class.Els l h = record { node = h.node; passed = omega (arith, h.passed, l) }
@@ -76,17 +82,46 @@ readable_later scenario a b f class.Tot l h = h
 readable_later scenario a b f class.Rel l h = h
 readable_later scenario a b f class.Ed l h = h
 
-pub belongs_in : (scenario : ScenarioParts) (a b : ℕ) (f : FrameParts) → a ≤ b → Belongs scenario a f → Belongs scenario b f
-belongs_in scenario a b f l h =
+belongs_in : (scenario : ScenarioParts) (i a b : ℕ) (f : FrameParts) → a ≤ b → Belongs scenario i a f → Belongs scenario i b f
+belongs_in scenario i a b f l h =
     record { readable = readable_later scenario a b f f.class l h.readable; askable = λ within. h.askable (omega (arith, l, within)) }
 
 -- ---- what a turn asks for
 
-data_belongs : (scenario : ScenarioParts) (slot : ℕ) (m : Message) → Contains (messages_of scenario.sends) m → (by : Service) → m.service ≡ by
-    → (f : FrameParts) → data_frame m ≡ f → f.class ≡ data_class by → Belongs scenario slot f
-data_belongs scenario slot m stands by service f frame class = record {
+-- the frame of the same message, where the data frame of it belongs to the scenario
+of_message : (scenario : ScenarioParts) (by : Service) (g f : FrameParts) → g.number ≡ f.number → g.node ≡ f.node → IsDataOf scenario by g
+    → IsOfMessage scenario by (identity_of f)
+of_message scenario by g f number node h = record {
+  message = h.message;
+  stands = h.stands;
+  sent_by = h.sent_by;
+  number = ap (λ (x : FrameParts). x.number) h.frame ∙ number;
+  origin = ap (λ (x : FrameParts). x.node) h.frame ∙ node;
+}
+
+of_data : (scenario : ScenarioParts) (by : Service) (f : FrameParts) → IsDataOf scenario by f → IsOfMessage scenario by (identity_of f)
+of_data scenario by f h = of_message scenario by f f refl refl h
+
+-- a frame that is relayed may be asked for by each node, where it can be read
+relayed_askable : (scenario : ScenarioParts) (i slot : ℕ) (f : FrameParts) (c : Class) → is_relayed c ≡ true → BelongsTo scenario slot c f
+    → slot ≤ scenario.params.slots → IsAskableAs scenario i (identity_of f) c
+relayed_askable scenario i slot f class.Accept relayed h within = h
+relayed_askable scenario i slot f class.Rha relayed h within = absurd (false≢true relayed)
+relayed_askable scenario i slot f class.Els relayed h within = absurd (false≢true relayed)
+relayed_askable scenario i slot f class.Fda relayed h within =
+    record { node = h.node; number = omega (arith, h.number, div_grows slot scenario.params.slots scenario.params.cycle within) }
+relayed_askable scenario i slot f class.Join relayed h within = absurd (false≢true relayed)
+relayed_askable scenario i slot f class.Leave relayed h within = absurd (false≢true relayed)
+relayed_askable scenario i slot f class.Confirm relayed h within = absurd (false≢true relayed)
+relayed_askable scenario i slot f class.Tot relayed h within = of_data scenario Tot f h
+relayed_askable scenario i slot f class.Rel relayed h within = of_data scenario Rel f h
+relayed_askable scenario i slot f class.Ed relayed h within = of_data scenario Ed f h
+
+data_belongs : (scenario : ScenarioParts) (i slot : ℕ) (m : Message) → Contains (messages_of scenario.sends) m → (by : Service) → m.service ≡ by
+    → (f : FrameParts) → data_frame m ≡ f → f.class ≡ data_class by → Belongs scenario i slot f
+data_belongs scenario i slot m stands by service f frame class = record {
   readable = subst (λ c. BelongsTo scenario slot c f) (sym class) (readable by service);
-  askable = λ within. subst (IsAskableAs scenario (identity_of f)) (sym class) (askable by service);
+  askable = λ within. subst (IsAskableAs scenario i (identity_of f)) (sym class) (askable by service);
 }
   where
     readable : (by : Service) → m.service ≡ by → BelongsTo scenario slot (data_class by) f
@@ -103,68 +138,100 @@ data_belongs scenario slot m stands by service f frame class = record {
       origin = ap (λ (g : FrameParts). g.node) frame;
     }
 
-    askable : (by : Service) → m.service ≡ by → IsAskableAs scenario (identity_of f) (data_class by)
+    askable : (by : Service) → m.service ≡ by → IsAskableAs scenario i (identity_of f) (data_class by)
     askable Ed e = of Ed e
     askable Rel e = of Rel e
     askable Tot e = of Tot e
 
--- the frame of the same message, where the data frame of it belongs to the scenario
-of_message : (scenario : ScenarioParts) (by : Service) (g f : FrameParts) → g.number ≡ f.number → g.node ≡ f.node → IsDataOf scenario by g
-    → IsOfMessage scenario by (identity_of f)
-of_message scenario by g f number node h = record {
-  message = h.message;
-  stands = h.stands;
-  sent_by = h.sent_by;
-  number = ap (λ (x : FrameParts). x.number) h.frame ∙ number;
-  origin = ap (λ (x : FrameParts). x.node) h.frame ∙ node;
-}
-
--- the confirmation of a data frame that belongs to the scenario
-confirm_belongs : (scenario : ScenarioParts) (slot : ℕ) (g f : FrameParts) → g.class ≡ class.Rel → confirm_frame g ≡ f
-    → Belongs scenario slot g → Belongs scenario slot f
-confirm_belongs scenario slot g f rel frame h =
+-- the confirmation of a data frame that can be read
+confirm_belongs : (scenario : ScenarioParts) (i slot : ℕ) (g f : FrameParts) → g.class ≡ class.Rel → confirm_frame g ≡ f
+    → BelongsTo scenario slot g.class g → Belongs scenario i slot f
+confirm_belongs scenario i slot g f rel frame h =
     let class : class.Confirm ≡ f.class = ap (λ (x : FrameParts). x.class) frame in
     let of : IsOfMessage scenario Rel (identity_of f) =
     of_message scenario Rel g f (ap (λ (x : FrameParts). x.number) frame) (ap (λ (x : FrameParts). x.node) frame)
-    (subst (λ c. BelongsTo scenario slot c g) rel h.readable) in
+    (subst (λ c. BelongsTo scenario slot c g) rel h) in
     record {
       readable = subst (λ c. BelongsTo scenario slot c f) class of;
-      askable = λ within. subst (IsAskableAs scenario (identity_of f)) class of;
+      askable = λ within. subst (IsAskableAs scenario i (identity_of f)) class of;
     }
 
 -- the frame that accepts its message
-accept_belongs : (scenario : ScenarioParts) (slot : ℕ) (g f : FrameParts) → g.class ≡ class.Tot → accept_frame g ≡ f
-    → Belongs scenario slot g → Belongs scenario slot f
-accept_belongs scenario slot g f tot frame h =
+accept_belongs : (scenario : ScenarioParts) (i slot : ℕ) (g f : FrameParts) → g.class ≡ class.Tot → accept_frame g ≡ f
+    → BelongsTo scenario slot g.class g → Belongs scenario i slot f
+accept_belongs scenario i slot g f tot frame h =
     let class : class.Accept ≡ f.class = ap (λ (x : FrameParts). x.class) frame in
     let of : IsOfMessage scenario Tot (identity_of f) =
     of_message scenario Tot g f (ap (λ (x : FrameParts). x.number) frame) (ap (λ (x : FrameParts). x.node) frame)
-    (subst (λ c. BelongsTo scenario slot c g) tot h.readable) in
+    (subst (λ c. BelongsTo scenario slot c g) tot h) in
     record {
       readable = subst (λ c. BelongsTo scenario slot c f) class of;
-      askable = λ within. subst (IsAskableAs scenario (identity_of f)) class of;
+      askable = λ within. subst (IsAskableAs scenario i (identity_of f)) class of;
     }
 
--- a failure sign that belongs to the scenario names a node, and a cycle that has begun
-pub fda_names : (scenario : ScenarioParts) (slot : ℕ) (f : FrameParts) → f.class ≡ class.Fda → Belongs scenario slot f
+-- a failure sign that can be read names a node, and a cycle that has begun
+pub fda_names : (scenario : ScenarioParts) (slot : ℕ) (f : FrameParts) → f.class ≡ class.Fda → BelongsTo scenario slot f.class f
     → NamesNode scenario scenario.params.cycle slot f
-fda_names scenario slot f fda h = subst (λ c. BelongsTo scenario slot c f) fda h.readable
+fda_names scenario slot f fda h = subst (λ c. BelongsTo scenario slot c f) fda h
 
 -- the frame of a sign that does so belongs to it
-sign_belongs : (scenario : ScenarioParts) (slot : ℕ) (sign : Sign) (f : FrameParts) → fda_frame sign ≡ f → sign.node < scenario.params.nodes
-    → sign.cycle ≤ slot / scenario.params.cycle → Belongs scenario slot f
-sign_belongs scenario slot sign f frame node cycle = subst (Belongs scenario slot) frame (record {
+sign_belongs : (scenario : ScenarioParts) (i slot : ℕ) (sign : Sign) (f : FrameParts) → fda_frame sign ≡ f → sign.node < scenario.params.nodes
+    → sign.cycle ≤ slot / scenario.params.cycle → Belongs scenario i slot f
+sign_belongs scenario i slot sign f frame node cycle = subst (Belongs scenario i slot) frame (record {
   readable = record { node = node; number = cycle };
   askable = λ within. record { node = node; number = omega (arith, cycle, div_grows slot scenario.params.slots scenario.params.cycle within) };
 })
 
 -- so does that of a life sign with a number that the node can have reached
-life_belongs : (scenario : ScenarioParts) (slot inc i number : ℕ) (f : FrameParts) → els_frame inc i number ≡ f → i < scenario.params.nodes
-    → number * scenario.params.life ≤ slot → Belongs scenario slot f
-life_belongs scenario slot inc i number f frame node passed = subst (Belongs scenario slot) frame (record {
+life_belongs : (scenario : ScenarioParts) (i slot inc number : ℕ) (f : FrameParts) → els_frame inc i number ≡ f → i < scenario.params.nodes
+    → number * scenario.params.life ≤ slot → Belongs scenario i slot f
+life_belongs scenario i slot inc number f frame node passed = subst (Belongs scenario i slot) frame (record {
   readable = record { node = node; passed = passed };
   askable = λ within. record { node = node; passed = omega (arith, passed, within) };
 })
+
+-- so does the vector of a node, in a cycle that has begun
+vector_belongs : (scenario : ScenarioParts) (i slot inc cycle : ℕ) (v : Nodes) (f : FrameParts)
+    → rha_frame scenario.params.format inc cycle i v ≡ f → i < scenario.params.nodes → cycle ≤ slot / scenario.params.cycle → Belongs scenario i slot f
+vector_belongs scenario i slot inc cycle v f frame node begun = subst (Belongs scenario i slot) frame (record {
+  readable = record { node = node; number = begun };
+  askable = λ within. record { node = refl; number = omega (arith, begun, div_grows slot scenario.params.slots scenario.params.cycle within) };
+})
+
+-- and what it asks by a scripted ask, in the cycle of its slot
+request_belongs : (scenario : ScenarioParts) (inc : Incarnation) (i slot now : ℕ) (past : List NoticeKind) (c : Class) (f : FrameParts)
+    → ask_frame c (scenario_for scenario inc).inc (cycle_of scenario.params slot) i ≡ f → i < scenario.params.nodes → slot ≤ now
+    → MayRequest (scenario_for scenario inc) i past slot c → Belongs scenario i now f
+request_belongs scenario inc i slot now past c f frame node early may = subst (Belongs scenario i now) frame (by_class may)
+  where
+    number : ℕ
+    number = (scenario_for scenario inc).inc
+
+    names : NamesNode scenario scenario.params.cycle now (ask_frame c number (cycle_of scenario.params slot) i)
+    names = record { node = node; number = div_grows slot now scenario.params.cycle early }
+
+    of : (asks : List NodeAsk) → IsScripted (scenario_for scenario inc) asks i past slot
+        → IsOfAsk scenario asks i (identity_of (ask_frame c number (cycle_of scenario.params slot) i))
+    of asks s = record {
+      ask = s.ask;
+      stands = s.stands;
+      asker = s.asker;
+      node = refl;
+      number = ap (λ n. n / scenario.params.cycle) (sym s.asked_in);
+    }
+
+    by_class : MayRequest (scenario_for scenario inc) i past slot c
+        → Belongs scenario i now (ask_frame c number (cycle_of scenario.params slot) i)
+    by_class (inl join) = record {
+      readable = subst (λ k. BelongsTo scenario now k (ask_frame c number (cycle_of scenario.params slot) i)) (sym join.0) names;
+      askable = λ within. subst (IsAskableAs scenario i (identity_of (ask_frame c number (cycle_of scenario.params slot) i))) (sym join.0)
+          (of scenario.joins join.1);
+    }
+    by_class (inr leave) = record {
+      readable = subst (λ k. BelongsTo scenario now k (ask_frame c number (cycle_of scenario.params slot) i)) (sym leave.0) names;
+      askable = λ within. subst (IsAskableAs scenario i (identity_of (ask_frame c number (cycle_of scenario.params slot) i))) (sym leave.0)
+          (of scenario.leaves leave.1);
+    }
 
 asked_belongs : (scenario : ScenarioParts) (s : RunState) (i : ℕ) → IsOrderly scenario.params.nodes s → MayTurn s i → AreCounted scenario s
     → AllBelong scenario s
@@ -172,47 +239,62 @@ asked_belongs : (scenario : ScenarioParts) (s : RunState) (i : ℕ) → IsOrderl
 asked_belongs scenario s i o may counted h =
     turn_only (Waiting scenario s.trace i) (scenario_at scenario s i) i (next_notice s i ∷ history i s) (λ f. by_reason f)
   where
-    read : (f : FrameParts) → Among (Has f) (next_notice s i ∷ history i s) → Belongs scenario (length s.trace) f
+    read : (f : FrameParts) → Among (Has f) (next_notice s i ∷ history i s) → BelongsTo scenario (length s.trace) f.class f
     read f has =
         let note = turn_note scenario s i f may (o.unread i) has in
-        belongs_in scenario note.0.slot (length s.trace) f (slot_of_note scenario.params.nodes s o note.0 note.1) (h.carried note.0 f note.1 note.2)
+        readable_later scenario note.0.slot (length s.trace) f f.class (slot_of_note scenario.params.nodes s o note.0 note.1)
+        (h.carried note.0 f note.1 note.2)
 
-    by_reason : (f : FrameParts) → MayAsk (scenario_at scenario s i) i (next_notice s i ∷ history i s) f → Belongs scenario (length s.trace) f
-    by_reason f (relays relayed got) = read f (Among-weaker (λ n. n ≡ Got f) (Has f) (λ n e. inl e) (next_notice s i ∷ history i s) got)
+    node : i < scenario.params.nodes
+    node = subst (λ n. i < n) o.count may.there
+
+    early : (slot : ℕ) → length (next_notice s i ∷ history i s) ≡ suc slot → slot ≤ length s.trace
+    early slot now = omega (arith, now, history-length i s)
+
+    by_reason : (f : FrameParts) → MayAsk (scenario_at scenario s i) i (next_notice s i ∷ history i s) f → Belongs scenario i (length s.trace) f
+    by_reason f (relays relayed got) =
+        let h = read f (Among-weaker (λ n. n ≡ Got f) (Has f) (λ n e. inl e) (next_notice s i ∷ history i s) got) in
+        record { readable = h; askable = relayed_askable scenario i (length s.trace) f f.class relayed h }
     by_reason f (originates m is origin slot late frame) =
         let class : f.class ≡ data_class m.service = sym (ap (λ (g : FrameParts). g.class) frame) in
-        data_belongs scenario (length s.trace) m (Contains-from_Among (messages_of scenario.sends) m is) m.service refl f frame class
+        data_belongs scenario i (length s.trace) m (Contains-from_Among (messages_of scenario.sends) m is) m.service refl f frame class
     by_reason f (confirms g sent rel own frame) =
-        confirm_belongs scenario (length s.trace) g f rel frame
+        confirm_belongs scenario i (length s.trace) g f rel frame
         (read g (Among-weaker (λ n. n ≡ Sent g) (Has g) (λ n e. inr e) (next_notice s i ∷ history i s) sent))
     by_reason f (accepts g sent tot own frame) =
-        accept_belongs scenario (length s.trace) g f tot frame
+        accept_belongs scenario i (length s.trace) g f tot frame
         (read g (Among-weaker (λ n. n ≡ Sent g) (Has g) (λ n e. inr e) (next_notice s i ∷ history i s) sent))
     by_reason f (signals sign slot now known frame) = elim known [
       | inl told ↦
           let g : FrameParts = told.frame in
           let names = fda_names scenario (length s.trace) g told.class
           (read g (Among-weaker (λ n. n ≡ Got g) (Has g) (λ n e. inl e) (next_notice s i ∷ history i s) told.read)) in
-          let node : g.node ≡ sign.node = ap (λ (a : Sign). a.node) told.tells in
+          let same : g.node ≡ sign.node = ap (λ (a : Sign). a.node) told.tells in
           let cycle : g.number ≡ sign.cycle = ap (λ (a : Sign). a.cycle) told.tells in
-          sign_belongs scenario (length s.trace) sign f frame (omega (arith, node, names.node)) (omega (arith, cycle, names.number))
+          sign_belongs scenario i (length s.trace) sign f frame (omega (arith, same, names.node)) (omega (arith, cycle, names.number))
       | inr found ↦
-          let early : slot ≤ length s.trace = omega (arith, now, history-length i s) in
-          sign_belongs scenario (length s.trace) sign f frame found.node
-          (omega (arith, found.cycle, div_grows slot (length s.trace) scenario.params.cycle early))
+          sign_belongs scenario i (length s.trace) sign f frame found.node
+          (omega (arith, found.cycle, div_grows slot (length s.trace) scenario.params.cycle (early slot now)))
     ]
     by_reason f (lives slot now due frame) =
         let passed = signs_spaced scenario s i may (o.unread i) counted.1 in
-        life_belongs scenario (length s.trace) (scenario_at scenario s i).inc i (signs_sent i (next_notice s i ∷ history i s)) f frame
-        (subst (λ n. i < n) o.count may.there) (omega (arith, passed, history-length i s))
+        life_belongs scenario i (length s.trace) (scenario_at scenario s i).inc (signs_sent i (next_notice s i ∷ history i s)) f frame node
+        (omega (arith, passed, history-length i s))
+    by_reason f (exchanges slot v sends frame) =
+        vector_belongs scenario i (length s.trace) (scenario_at scenario s i).inc (cycle_of scenario.params slot) v f frame node
+        (div_grows slot (length s.trace) scenario.params.cycle (early slot sends.now))
+    by_reason f (requests slot c request frame) =
+        request_belongs scenario (node_at s.nodes i).present i slot (length s.trace) (next_notice s i ∷ history i s) c f frame node
+        (early slot (request_now (scenario_at scenario s i) i (next_notice s i ∷ history i s) slot c request)) request
 
 -- ---- every run
 
 belonging_kept : (scenario : ScenarioParts) → IsKeptByFrames scenario (AreCounted scenario) (Waiting scenario) (WasCarried scenario)
 belonging_kept scenario = record {
-  waiting_later = λ note trace i f h. belongs_in scenario (length trace) (length (note ∷ trace)) f (omega arith) h;
+  waiting_later = λ note trace i f h. belongs_in scenario i (length trace) (length (note ∷ trace)) f (omega arith) h;
   carried_later = λ note trace slot f h. h;
-  sent = λ note trace i f number frame sender h. belongs_in scenario (length trace) note.slot f (omega (arith, number)) h;
+  sent = λ note trace i f number frame sender h.
+      readable_later scenario (length trace) note.slot f f.class (omega (arith, number)) h.readable;
   asked = asked_belongs scenario;
 }
 
@@ -229,8 +311,8 @@ readable scenario s i note h c = go (given i note) refl
     go : (notice : NoticeKind) → given i note ≡ notice → IsReadable scenario note.slot notice
     go Idle e = tt
     go Bad e = tt
-    go (Got f) e = (h.carried note f c (given-Got i note f e).0).readable
-    go (Sent f) e = (h.carried note f c (given-Sent i note f e).0).readable
+    go (Got f) e = h.carried note f c (given-Got i note f e).0
+    go (Sent f) e = h.carried note f c (given-Sent i note f e).0
 
 -- so can what its incarnation sees of it
 pub seen_readable : (scenario : ScenarioParts) (s : RunState) (i : ℕ) (inc : Incarnation) (note : SlotNote) → AllBelong scenario s → Contains s.trace note
@@ -277,17 +359,26 @@ of_node_for : (scenario : ScenarioParts) (inc : Incarnation) (interval : ℕ) (x
     → IsOfNode (scenario_for scenario inc) interval x
 of_node_for scenario inc interval x h = record { node = h.node; number = h.number }
 
+vector_for : (scenario : ScenarioParts) (inc : Incarnation) (i : ℕ) (x : Identity) → IsOfVector scenario i x
+    → IsOfVector (scenario_for scenario inc) i x
+vector_for scenario inc i x h = record { node = h.node; number = h.number }
+
+ask_for : (scenario : ScenarioParts) (inc : Incarnation) (asks : List NodeAsk) (i : ℕ) (x : Identity) → IsOfAsk scenario asks i x
+    → IsOfAsk (scenario_for scenario inc) asks i x
+ask_for scenario inc asks i x h = record { ask = h.ask; stands = h.stands; asker = h.asker; node = h.node; number = h.number }
+
 -- so it is with what may be asked for
-pub askable_for : (scenario : ScenarioParts) (inc : Incarnation) (x : Identity) → IsAskable scenario x → IsAskable (scenario_for scenario inc) x
-askable_for scenario inc x h = by_class x.class h
+pub askable_for : (scenario : ScenarioParts) (inc : Incarnation) (i : ℕ) (x : Identity) → IsAskable scenario i x
+    → IsAskable (scenario_for scenario inc) i x
+askable_for scenario inc i x h = by_class x.class h
   where
-    by_class : (c : Class) → IsAskableAs scenario x c → IsAskableAs (scenario_for scenario inc) x c
+    by_class : (c : Class) → IsAskableAs scenario i x c → IsAskableAs (scenario_for scenario inc) i x c
     by_class class.Accept h = message_for scenario inc Tot x h
-    by_class class.Rha h = h
+    by_class class.Rha h = vector_for scenario inc i x h
     by_class class.Els h = record { node = h.node; passed = h.passed }
     by_class class.Fda h = of_node_for scenario inc scenario.params.cycle x h
-    by_class class.Join h = h
-    by_class class.Leave h = h
+    by_class class.Join h = ask_for scenario inc scenario.joins i x h
+    by_class class.Leave h = ask_for scenario inc scenario.leaves i x h
     by_class class.Confirm h = message_for scenario inc Rel x h
     by_class class.Tot h = message_for scenario inc Tot x h
     by_class class.Rel h = message_for scenario inc Rel x h

@@ -20,7 +20,7 @@ use Rattle.cany_model.proofs.Bus.Carried.{Carries, Has, Succeeds, Succeeds-from_
 use Rattle.cany_model.proofs.Bus.FrameInvariants.{history_among, HoldsOfFrames, IsKeptByFrames, frames_alone, nothing_known, turn_note}
 use Rattle.cany_model.proofs.Bus.Runs.{IsOrderly}
 use Rattle.cany_model.proofs.Bus.Steps.{MayTurn, next_notice, after_turn-history, after_turn-trace}
-use Rattle.cany_model.proofs.Rules.ProtocolFacts.{MayAsk, accepts, confirms, data_confirms_none, lives, originates, relays, signals}
+use Rattle.cany_model.proofs.Rules.ProtocolFacts.{MayAsk, accepts, confirms, data_confirms_none, exchanges, lives, originates, relays, request_class, requests, signals}
 use Rattle.cany_model.proofs.Rules.TurnFacts.{turn_only}
 use Rattle.cany_model.proofs.Bus.Waits.{AsksOnly}
 
@@ -66,6 +66,13 @@ asked_true scenario s i o may h = turn_only (IsTrue s.trace i) (scenario_at scen
     by_reason f (accepts g sent tot own frame) = λ is. let class = ap (λ (x : FrameParts). x.class) frame in absurd (cc)
     by_reason f (signals sign slot now known frame) = λ is. let class = ap (λ (x : FrameParts). x.class) frame in absurd (cc)
     by_reason f (lives slot now due frame) = λ is. let class = ap (λ (x : FrameParts). x.class) frame in absurd (cc)
+    by_reason f (exchanges slot v sends frame) = λ is. let class = ap (λ (x : FrameParts). x.class) frame in absurd (cc)
+    by_reason f (requests slot c request frame) = λ is.
+        let class = ap (λ (x : FrameParts). x.class) frame in
+        elim (request_class (scenario_at scenario s i) i (next_notice s i ∷ history i s) slot c request) [
+          | inl join ↦ absurd (cc)
+          | inr leave ↦ absurd (cc)
+        ]
 
 confirms_kept : (scenario : ScenarioParts) → IsKeptByFrames scenario nothing_known IsTrue IsTrue
 confirms_kept scenario = record {

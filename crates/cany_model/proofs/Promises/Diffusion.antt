@@ -1,6 +1,6 @@
 -- Eager diffusion: a node that is to send a frame waits with it, or the frame was carried with success, or the node read
 -- more than omit copies of it. All of it is said of the trace, a node's number and that node's state.
-use Rattle.std.proofs.Common.{◌≡◌, ℕ, ◌<◌, ◌≤◌, ◌⊎◌, inl, inr, true, false, List, ◌∷◌, map, drop, Some, ap, sym, subst, arith}
+use Rattle.std.proofs.Common.{◌≡◌, ℕ, ◌<◌, ◌≤◌, ◌⊎◌, inl, inr, true, false, List, ◌∷◌, map, drop, Some, Contains, ap, sym, subst, arith}
 use Rattle.cany_base.specs.Limits.{most_nodes}
 use Rattle.std.specs.List.{AllByRecursion}
 use Rattle.std.proofs.lemmas.Bool.{both_ways}
@@ -138,6 +138,7 @@ pub record Lived (note : SlotNote) (trace : List SlotNote) (i : ℕ) (node after
   pub waiting : (after.waiting ≡ node.waiting) ⊎ ((f : FrameParts) × (given i note ≡ Sent f) × (after.waiting ≡ without (identity_of f) node.waiting))
   pub heard : Heard i note
   pub sender : (f : FrameParts) → note.frame ≡ Some f → has note.senders i ≡ true → waits (identity_of f) node.waiting ≡ true
+  pub sends : (f : FrameParts) → given i note ≡ Sent f → Contains node.waiting f
 
 sent_succeeds : (i : ℕ) (x : Identity) (note : SlotNote) (f : FrameParts) → given i note ≡ Sent f → x ≡ identity_of f → Succeeds x note
 sent_succeeds i x note f h e = Succeeds-from_sent i x note (is_sent-from x f (given i note) h e)

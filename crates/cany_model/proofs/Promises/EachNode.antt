@@ -28,11 +28,13 @@ use Rattle.cany_model.proofs.Bus.Runs.{IsKept, IsOrderly, along_run, opening_wit
 use Rattle.cany_model.proofs.Bus.Seen.{Numbered, early_hidden, history-is, length-seen, seen_hidden, seen_idle, seen_one, seen_past, seen_plain}
 use Rattle.cany_model.proofs.Bus.States.{node_at-opening, runs_within}
 use Rattle.cany_model.proofs.Bus.Steps.{MayTurn, after_slot-present, after_slot-trace, after_slot-unread, after_slot-waiting, after_turn-history, after_turn-node, after_turn-other, after_turn-present, after_turn-runs, after_turn-trace, kept_at, next_notice, running_before_slot}
-use Rattle.cany_model.proofs.Bus.Waits.{waits-from_with}
+use Rattle.cany_model.proofs.Bus.Waits.{Each-after, Each-kept, waits-from_with}
 use Rattle.cany_model.proofs.Promises.Diffusion.{Heard, Lived, Turned, past_of}
 use Rattle.cany_model.proofs.Promises.Fair.{AllFair, IsFair, fair_opening, fairly_kept, from_later, members_later, run_numbered, sent_plain}
 use Rattle.cany_model.proofs.Rules.Begun.{IsBegun, begun_first}
 use Rattle.cany_model.proofs.Rules.MutedFacts.{begun_later}
+use Rattle.cany_model.proofs.Rules.ProtocolFacts.{MayAsk}
+use Rattle.cany_model.proofs.Rules.TurnFacts.{turn_only}
 
 -- ---- a slot
 
@@ -115,6 +117,10 @@ slot_lived rules s i fair ran =
       sender = λ f frame sent.
           let one = seen_one (λ n. (n.frame ≡ Some f) × (has n.senders i ≡ true)) (λ n none p. absurd_none n f none p.0) inc note (frame, sent) in
           waits-from_with f (node_at s.nodes i).waiting (waits_with-from_Contains f (node_at s.nodes i).waiting (sender_waits rules s f i one.1.0 one.1.1).1);
+      sends = λ f sent.
+          let parts = given-Sent i (as_seen inc note) f sent in
+          let one = seen_one (λ n. (n.frame ≡ Some f) × (has n.senders i ≡ true)) (λ n none p. absurd_none n f none p.0) inc note (parts.0, parts.1) in
+          (sender_waits rules s f i one.1.0 one.1.1).1;
     }
   where
     absurd_none : (n : SlotNote) (f : FrameParts) → n.frame ≡ None → n.frame ≡ Some f → ⊥
@@ -246,3 +252,20 @@ pub each_running : (scenario : ScenarioParts) (P : List SlotNote → ℕ → Nod
     → EachRunning P (run scenario journal)
 each_running scenario P is journal =
     (along_run scenario (λ s. AllFair s × EachRunning P s) (nodes_at_first scenario P is) (nodes_kept scenario P is) journal).1
+
+-- ---- the frames that wait
+
+-- what each frame has that a node may ask for, each has that waits at the node
+pub waiting_has : (scenario : ScenarioParts) (W : Incarnation → ℕ → FrameParts → Type 0)
+    → ((inc : Incarnation) (i : ℕ) (past : List NoticeKind) (f : FrameParts) → MayAsk (scenario_for scenario inc) i past f → W inc i f)
+    → IsNodes scenario (λ trace i node. AllByRecursion (W node.present i) node.waiting)
+waiting_has scenario W asked = record {
+  new = λ trace i node new. rw new.waiting tt;
+  slot = λ note trace i node after same l h.
+      rw (same, l.kept) (Each-kept (W node.present i) (given i note) node.waiting h);
+  turn = λ trace i node after same t h.
+      let sc : ScenarioParts = scenario_for scenario node.present in
+      rw (same, t.waiting)
+      (Each-after (W node.present i) (turn_effects sc i (past_of i trace after)) node.waiting
+      (turn_only (W node.present i) sc i (past_of i trace after) (asked node.present i (past_of i trace after))) h);
+}

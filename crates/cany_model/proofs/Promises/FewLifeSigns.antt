@@ -19,7 +19,7 @@ use Rattle.cany_model.specs.Bus.State.{Incarnation, NodeState, node_at, runs}
 use Rattle.cany_model.specs.Bus.Waiting.{waits}
 use Rattle.cany_model.specs.Rules.Effect.{Effect, waiting_after}
 use Rattle.cany_model.specs.Rules.Life.{is_own_sign, signs_sent}
-use Rattle.cany_model.specs.Rules.Station.{station_of}
+use Rattle.cany_model.specs.Rules.Site.{station_of}
 use Rattle.cany_model.specs.Rules.Turn.{scenario_for, turn_effects}
 use Rattle.cany_model.proofs.Among.{count-cons, count-drop, count-grows}
 use Rattle.cany_model.proofs.Bus.Waits.{Each-kept, waits-without}

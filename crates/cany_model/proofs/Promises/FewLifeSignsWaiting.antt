@@ -4,6 +4,7 @@ use Rattle.std.proofs.Common.{◌≡◌, ℕ, suc, ◌≤◌, ◌⊎◌, inl, in
 use Rattle.std.specs.List.{AllByRecursion}
 use Rattle.std.proofs.lemmas.Bool.{both_ways, cases_Bool, cond_both, cond-false, cond-true, false≢true, not-true}
 use Rattle.std.proofs.lemmas.Bool.Decides.{nat_tests}
+use Rattle.cany_base.specs.declared.frame.Class.{Class}
 use Rattle.cany_base.specs.declared.frame.Class.TheVariants as class
 use Rattle.cany_base.specs.declared.notice.NoticeKind.{NoticeKind}
 use Rattle.cany_base.specs.Frame.{FrameParts}
@@ -13,7 +14,7 @@ use Rattle.cany_model.specs.Bus.Waiting.{waits, with_frame, without}
 use Rattle.cany_model.specs.Rules.Effect.{Effect, Ask, Withdraw, Enter, waiting_after}
 use Rattle.cany_model.specs.Rules.Life.{els_frame, is_due, life_effects, life_signs, signs_sent}
 use Rattle.cany_model.specs.Rules.Protocol.{Protocol}
-use Rattle.cany_model.specs.Rules.Station.{station_of}
+use Rattle.cany_model.specs.Rules.Site.{station_of}
 use Rattle.cany_model.specs.Rules.Turn.{turn_effects}
 use Rattle.cany_model.proofs.Among.{Among, Each-weaker, count-no, one_if}
 use Rattle.cany_model.proofs.Bus.Identities.{same_class-true, same_class_self, same_identity-from}
@@ -21,7 +22,7 @@ use Rattle.cany_model.proofs.Bus.Waits.{Asks, AsksOnly, Withdraws, Each-after, w
 use Rattle.cany_model.proofs.Promises.FewLifeSignsOrder.{NoneBefore}
 use Rattle.cany_model.proofs.Promises.SignCounts.{asks_more, els_asks, els_test, is_els, put_one, turn_asks, waiting_few, without_fewer, without_one}
 use Rattle.cany_model.proofs.Rules.LifeCounts.{due_in}
-use Rattle.cany_model.proofs.Rules.ProtocolFacts.{IsFounded, MayAsk, MayWithdraw, accepts, closes, confirms, data_lives_none, enough, enough_accept, is_diffused, is_relayed, lives, originates, relays, signals}
+use Rattle.cany_model.proofs.Rules.ProtocolFacts.{IsFounded, MayAsk, MayWithdraw, accepts, answered, closes, confirms, data_lives_none, enough, enough_accept, exchanges, is_diffused, is_relayed, lives, originates, relays, request_class, requests, settles, signals}
 use Rattle.cany_model.proofs.Rules.Protocols.{life_is_one}
 use Rattle.cany_model.proofs.Rules.TurnFacts.{turn_effect, turn_has, turn_only}
 
@@ -85,6 +86,12 @@ pub record IsDueSign (scenario : ScenarioParts) (i : ℕ) (past : List NoticeKin
   pub now : length past ≡ suc slot
   pub due : is_due scenario.params.life i slot (station_of scenario i past) ≡ true
 
+-- neither a join nor a leave is one
+requests_none : (c : Class) → (c ≡ class.Join) ⊎ (c ≡ class.Leave) → same_class c class.Els ≡ false
+unfolding same_class
+requests_none c (inl join) = ap (λ d. same_class d class.Els) join
+requests_none c (inr leave) = ap (λ d. same_class d class.Els) leave
+
 ask_is_due : (scenario : ScenarioParts) (i : ℕ) (past : List NoticeKind) (f : FrameParts) → MayAsk scenario i past f → is_els f ≡ true
     → IsDueSign scenario i past f
 unfolding same_class
@@ -99,24 +106,34 @@ ask_is_due scenario i past f (accepts g sent tot own frame) els =
     absurd (false≢true (ap (λ (h : FrameParts). same_class h.class class.Els) frame ∙ els))
 ask_is_due scenario i past f (signals sign slot now known frame) els =
     absurd (false≢true (ap (λ (h : FrameParts). same_class h.class class.Els) frame ∙ els))
+ask_is_due scenario i past f (exchanges slot v sends frame) els =
+    absurd (false≢true (ap (λ (h : FrameParts). same_class h.class class.Els) frame ∙ els))
+ask_is_due scenario i past f (requests slot c may frame) els =
+    let none : same_class c class.Els ≡ false = requests_none c (request_class scenario i past slot c may) in
+    absurd (false≢true (sym none ∙ ap (λ (h : FrameParts). same_class h.class class.Els) frame ∙ els))
 
 -- and none is withdrawn
-may_not_withdraw : (scenario : ScenarioParts) (past : List NoticeKind) (x : Identity) → MayWithdraw scenario past x
+may_not_withdraw : (scenario : ScenarioParts) (i : ℕ) (past : List NoticeKind) (x : Identity) → MayWithdraw scenario i past x
     → same_class x.class class.Els ≡ true → ⊥
 unfolding same_class
-may_not_withdraw scenario past x (enough diffused many) els =
+may_not_withdraw scenario i past x (enough diffused many) els =
     false≢true (sym (ap is_diffused (same_class-true x.class class.Els els)) ∙ diffused)
-may_not_withdraw scenario past x (enough_accept f got accept same many) els =
+may_not_withdraw scenario i past x (enough_accept f got accept same many) els =
     false≢true (ap (λ c. same_class c class.Els) (sym accept) ∙ ap (λ (y : Identity). same_class y.class class.Els) same ∙ els)
-may_not_withdraw scenario past x (closes f read tot same closed) els =
+may_not_withdraw scenario i past x (closes f read tot same closed) els =
     false≢true (ap (λ (y : Identity). same_class y.class class.Els) same ∙ els)
+may_not_withdraw scenario i past x (settles slot may same) els =
+    false≢true (ap (λ (y : Identity). same_class y.class class.Els) same ∙ els)
+may_not_withdraw scenario i past x (answered slot c ask now ends is own same) els =
+    let none : same_class c class.Els ≡ false = requests_none c (elim is [ inl join ↦ inl join.0 | inr leave ↦ inr leave.0 ]) in
+    false≢true (sym none ∙ ap (λ (y : Identity). same_class y.class class.Els) same ∙ els)
 
 withdraws_none : (scenario : ScenarioParts) (p : Protocol) (i : ℕ) (past : List NoticeKind) (i' number : ℕ) (e : Effect)
     → Withdraws (own_sign i' number) e → IsFounded scenario p i past e → ⊥
 withdraws_none scenario p i past i' number (Ask f) h k = h
 withdraws_none scenario p i past i' number (Enter entry) h k = h
 withdraws_none scenario p i past i' number (Withdraw x) h k =
-    may_not_withdraw scenario past x k.0 (ap (λ (y : Identity). same_class y.class class.Els) (sym h) ∙ same_class_self class.Els)
+    may_not_withdraw scenario i past x k.0 (ap (λ (y : Identity). same_class y.class class.Els) (sym h) ∙ same_class_self class.Els)
 
 turn_withdraws_none : (scenario : ScenarioParts) (i : ℕ) (past : List NoticeKind) (number : ℕ)
     → Among (Withdraws (own_sign i number)) (turn_effects scenario i past) → ⊥

@@ -21,6 +21,7 @@ use Rattle.cany_model.specs.Bus.State.{Incarnation, RunState, node_at}
 use Rattle.cany_model.specs.Promises.Safe.{IsSound, IsIntegral, delivers_key}
 use Rattle.cany_model.specs.Rules.Log.{log}
 use Rattle.cany_model.specs.Rules.Messages.{data_of}
+use Rattle.cany_model.specs.Rules.Notices.{BelongsTo}
 use Rattle.cany_model.specs.Rules.Protocol.{Protocol}
 use Rattle.cany_model.specs.Rules.Station.{Sign}
 use Rattle.cany_model.specs.Rules.Turn.{scenario_at}
@@ -29,7 +30,7 @@ use Rattle.cany_model.proofs.Bus.Carried.{Carries, Has, frame_of_notice}
 use Rattle.cany_model.proofs.Bus.Runs.{IsOrderly, orderly, history-length, history-at}
 use Rattle.cany_model.proofs.Bus.Seen.{seen_one}
 use Rattle.cany_model.proofs.Bus.States.{no_note, note_at}
-use Rattle.cany_model.proofs.Promises.Belonging.{AllBelong, Belongs, all_belong, belongs_in, fda_names}
+use Rattle.cany_model.proofs.Promises.Belonging.{AllBelong, all_belong, fda_names, readable_later}
 use Rattle.cany_model.proofs.Promises.OneFrame.{data_carries, one_service}
 use Rattle.cany_model.proofs.Promises.Sources.{carries_data, IsSent, IsSourced, sourced}
 use Rattle.cany_model.proofs.Rules.LogFacts.{log_once, log_split, made_by}
@@ -79,10 +80,11 @@ carries_of s by key f slot same w =
 
 -- ---- what is told of a failure
 
--- a frame that was carried belongs to the scenario in the slot of the entry
-carried_belongs : (scenario : ScenarioParts) (s : RunState) → AllBelong scenario s → (f : FrameParts) (slot : ℕ) → WasCarried s f slot → Belongs scenario slot f
+-- a frame that was carried can be read in the slot of the entry
+carried_belongs : (scenario : ScenarioParts) (s : RunState) → AllBelong scenario s → (f : FrameParts) (slot : ℕ) → WasCarried s f slot
+    → BelongsTo scenario slot f.class f
 carried_belongs scenario s all f slot w =
-    belongs_in scenario (note_at s.trace w.age).slot slot f w.by_then
+    readable_later scenario (note_at s.trace w.age).slot slot f f.class w.by_then
     (all.carried (note_at s.trace w.age) f (Contains-get_or s.trace w.age no_note w.below) w.frame)
 
 signal_sound : (scenario : ScenarioParts) (s : RunState) (i : ℕ) → IsOrderly scenario.params.nodes s → AllBelong scenario s → (place slot : ℕ) (sign : Sign)
@@ -121,7 +123,7 @@ sound scenario s i o h all p place (Deliver slot by msg payload) r =
       record { note = sent.sent.note; stands = sent.sent.stands; by_then = omega (arith, sent.sent.by_then, w.by_then); frame = sent.sent.frame; sender = sent.sent.sender },
     )
 sound scenario s i o h all p place (Failed slot node cycle) r = signal_sound scenario s i o all place slot (record { node = node; cycle = cycle }) r
-sound scenario s i o h all p place (View slot number members) r = tt
+sound scenario s i o h all p place (View slot number members) r = r.number
 
 -- ---- and once
 

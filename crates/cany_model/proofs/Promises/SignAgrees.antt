@@ -7,6 +7,8 @@ use Rattle.cany_base.specs.declared.log_entry.LogEntry.TheVariants.{Deliver, Fai
 use Rattle.cany_base.specs.declared.notice.NoticeKind.{NoticeKind}
 use Rattle.cany_base.specs.declared.step.Step.{Step}
 use Rattle.cany_base.specs.Scenario.{ScenarioParts}
+use Rattle.cany_base.specs.declared.frame.Class.TheVariants as class
+use Rattle.cany_model.specs.Bus.Frames.{same_class}
 use Rattle.cany_model.specs.Bus.History.{history, seen}
 use Rattle.cany_model.specs.Bus.Run.{all_read, run}
 use Rattle.cany_model.specs.Bus.State.{RunState, node_at, runs}
@@ -17,7 +19,8 @@ use Rattle.cany_model.specs.Promises.Settled.{IsCorrect, IsCorrectFrom, is_await
 use Rattle.cany_model.specs.Rules.Life.{failure_signs}
 use Rattle.cany_model.specs.Rules.Log.{log}
 use Rattle.cany_model.specs.Rules.Protocol.{Protocol}
-use Rattle.cany_model.specs.Rules.Station.{Sign, fda_of, knows, station_of}
+use Rattle.cany_model.specs.Rules.Site.{station_of}
+use Rattle.cany_model.specs.Rules.Station.{Sign, fda_of, knows}
 use Rattle.cany_model.specs.Rules.Turn.{scenario_at, scenario_for, turn_effects}
 use Rattle.cany_model.proofs.Among.{Among, Among-from_Contains, Among-weaker, Among-which}
 use Rattle.cany_model.proofs.Bus.Carried.{Carries, CarriesClean}
@@ -122,6 +125,11 @@ carried_known scenario s sign rest first is j correct clean =
       | inr known ↦ known.0
     ]
 
+-- the frame of a sign carries no vector
+sign_is_heard : (sign : Sign) → same_class (fda_of sign).class class.Rha ≡ false
+unfolding same_class
+sign_is_heard sign = refl
+
 pub sign_agrees : (scenario : ScenarioParts) → scenario.params.nodes ≤ most_nodes → (journal : List Step) → IsWithin scenario.params (run scenario journal).trace
     → (sign : Sign) → IsSignAgreedOn scenario (run scenario journal) sign
 sign_agrees scenario few journal within sign = by_first (first_carried (fda_of sign) (run scenario journal).trace) refl
@@ -137,6 +145,7 @@ sign_agrees scenario few journal within sign = by_first (first_carried (fda_of s
       few = few;
       within = within;
       numbered = run_numbered scenario.params.nodes (run scenario journal) (orderly scenario journal);
+      heard = sign_is_heard sign;
       rules = λ inc. sign_is_diffused (scenario_for scenario inc) sign;
       diffuses = diffuses;
       gone = quiet_waits (run scenario journal) sign quiet;

@@ -23,7 +23,7 @@ use Rattle.cany_model.proofs.Bus.Carried.{Has}
 use Rattle.cany_model.proofs.Bus.FrameInvariants.{HoldsOfFrames, IsKeptByFrames, frames_alone, nothing_known, slot_of_note, turn_note}
 use Rattle.cany_model.proofs.Bus.Runs.{IsOrderly}
 use Rattle.cany_model.proofs.Bus.Steps.{MayTurn, next_notice}
-use Rattle.cany_model.proofs.Rules.ProtocolFacts.{MayAsk, accepts, confirms, lives, originates, relays, signals}
+use Rattle.cany_model.proofs.Rules.ProtocolFacts.{MayAsk, MayRequest, accepts, confirms, exchanges, lives, originates, relays, request_class, requests, signals}
 use Rattle.cany_model.proofs.Rules.TurnFacts.{turn_only}
 use Rattle.cany_model.proofs.Bus.Waits.{AsksOnly}
 
@@ -136,6 +136,14 @@ may_hold_got scenario s i f o may h got carries =
     note : (note : SlotNote) × Contains s.trace note × (note.frame ≡ Some f)
     note = turn_note scenario s i f may (o.unread i) (Among-weaker (λ n. n ≡ Got f) (Has f) (λ n e. inl e) (next_notice s i ∷ history i s) got)
 
+-- what asks to join or to leave carries no message
+request_carries_none : (scenario : ScenarioParts) (s : RunState) (i slot : ℕ) (c : Class)
+    → MayRequest (scenario_at scenario s i) i (next_notice s i ∷ history i s) slot c → carries_data c ≡ false
+request_carries_none scenario s i slot c request = elim (request_class (scenario_at scenario s i) i (next_notice s i ∷ history i s) slot c request) [
+  | inl join ↦ ap carries_data join
+  | inr leave ↦ ap carries_data leave
+]
+
 may_hold_asked : (scenario : ScenarioParts) (s : RunState) (i : ℕ) → IsOrderly scenario.params.nodes s → MayTurn s i → IsSourced scenario s
     → AllByRecursion (AsksOnly (MayHold scenario s.trace i)) (turn_effects (scenario_at scenario s i) i (next_notice s i ∷ history i s))
 may_hold_asked scenario s i o may h =
@@ -149,6 +157,11 @@ may_hold_asked scenario s i o may h =
     by_reason f (accepts g sent tot own frame) = λ carries. absurd (false≢true (ap (λ (x : FrameParts). carries_data x.class) frame ∙ carries))
     by_reason f (signals sign slot now known frame) = λ carries. absurd (false≢true (ap (λ (x : FrameParts). carries_data x.class) frame ∙ carries))
     by_reason f (lives slot now due frame) = λ carries. absurd (false≢true (ap (λ (x : FrameParts). carries_data x.class) frame ∙ carries))
+    by_reason f (exchanges slot v sends frame) = λ carries.
+        absurd (false≢true (ap (λ (x : FrameParts). carries_data x.class) frame ∙ carries))
+    by_reason f (requests slot c request frame) = λ carries.
+        absurd (false≢true (sym (request_carries_none scenario s i slot c request)
+        ∙ ap (λ (x : FrameParts). carries_data x.class) frame ∙ carries))
 
 -- ---- every run
 

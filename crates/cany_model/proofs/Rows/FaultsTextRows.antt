@@ -6,7 +6,8 @@ use Rattle.cany_base.specs.declared.message.Service.TheVariants as service
 use Rattle.cany_base.specs.declared.rule.Rule.{Rule}
 use Rattle.cany_base.specs.declared.rule.Verdict.TheVariants.{Clean, Lost, Partial}
 use Rattle.cany_base.specs.Nodes.{bits_where, those_where}
-use Rattle.cany_model.specs.Texts.FaultsText.{nodes_from, verdict_from, class_named, class_from, slot_place_from, frame_place_from, place_from, rule_from, have_distinct_places, rules_from}
+use Rattle.cany_model.specs.Texts.FaultsText.{verdict_from, class_named, class_from, slot_place_from, frame_place_from, place_from, rule_from, have_distinct_places, rules_from}
+use Rattle.cany_model.specs.Texts.NodesText.{nodes_from}
 use Rattle.cany_model.specs.Texts.ReportLines.{class_name}
 use Rattle.cany_model.specs.Texts.SendsText.{service_named}
 use Rattle.cany_model.proofs.Rows.RowWords.{three, slot_rule, frame_rule, set}

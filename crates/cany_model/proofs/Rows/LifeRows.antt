@@ -25,7 +25,8 @@ use Rattle.cany_model.specs.Promises.Settled.{IsCorrectFrom}
 use Rattle.cany_model.specs.Rules.Effect.{Effect, Ask, Withdraw, Enter}
 use Rattle.cany_model.specs.Rules.Life.{failure_effects, life_effects}
 use Rattle.cany_model.specs.Rules.Log.{log}
-use Rattle.cany_model.specs.Rules.Station.{Sign, Station, after_life, fda_of, found as found_by_silence, having_admitted, station_at_first, station_of, told}
+use Rattle.cany_model.specs.Rules.Site.{station_of}
+use Rattle.cany_model.specs.Rules.Station.{Sign, Station, after_life, fda_of, found as found_by_silence, having_admitted, station_at_first, told}
 use Rattle.cany_model.specs.Rules.Turn.{effects_for, scenario_for, turn_effects}
 use Rattle.cany_model.proofs.Promises.BreakFacts.{first_break_exact}
 use Rattle.cany_model.proofs.Rows.RowWords.{accept, carries, delivers, delivers_rel, delivers_tot, confirm, ed, first_accept, first_tot, idle, one_tot, rel, report, row, scenario, send, send_rel, send_tot, set, slot_rule, steps, three, tot}
@@ -410,7 +411,7 @@ unfoldable known : Station → Known
 known st = record { members = st.members; failed = st.failed; signs = st.signs; lives = lives st }
 
 unfoldable before_admission : Station
-before_admission = record { members = set 5; failed = set 6; signs = sign 2 1 ∷ sign 1 1 ∷ []; shown = λ r. r; last = 3 }
+before_admission = record { members = set 5; failed = set 6; signs = sign 2 1 ∷ sign 1 1 ∷ []; shown = λ r. r; last = 3; joiners = set 0; leavers = set 0; vector = None }
 
 -- node 1 was found in slot 6, and is admitted in slot 7: cycles have 15 slots
 unfoldable after_failure : Station
@@ -684,7 +685,7 @@ order_of_a_full_turn = refl
 -- ---- what a node that started again does
 
 unfoldable third : Incarnation
-third = record { number = 2; since = 1; from = 3 }
+third = record { number = 2; since = 1; from = 3; cycle = 1 }
 
 unfoldable all_members : ScenarioParts
 all_members = of_members 7 (scenario (soon 1) [] [])

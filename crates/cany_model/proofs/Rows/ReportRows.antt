@@ -12,34 +12,13 @@ use Rattle.cany_base.specs.declared.log_entry.LogEntry.{LogEntry}
 use Rattle.cany_base.specs.declared.log_entry.LogEntry.TheVariants.{Deliver, Failed, View}
 use Rattle.cany_base.specs.declared.step.Step.TheVariants.{Slot, Turn}
 use Rattle.cany_model.specs.declared.breaks.BreakKind.TheVariants as kind
-use Rattle.cany_base.specs.Nodes.{Nodes, has, bits_where, those_where}
+use Rattle.cany_base.specs.Nodes.{Nodes, has}
 use Rattle.cany_base.specs.Params.{Parameters}
 use Rattle.cany_base.specs.Scenario.{ScenarioParts}
-use Rattle.cany_model.specs.Promises.Hypothesis.{break_at, first_break, count_together}
-use Rattle.cany_model.specs.Promises.Settled.{is_settled}
-use Rattle.cany_model.specs.Bus.Frames.{same_class, same_identity, same_frame, is_before}
-use Rattle.cany_model.specs.Rules.Messages.{messages_after, is_service}
-use Rattle.cany_model.specs.Bus.State.{node_at}
-use Rattle.cany_model.specs.Bus.Waiting.{put_in_order}
-use Rattle.cany_model.specs.Bus.Slot.{least_frame, winner, script, share_of, after_share, slot_note_of, node_after, nodes_after, after_slot}
-use Rattle.cany_model.specs.Bus.History.{is_hidden, as_seen, history, copies, has_own}
-use Rattle.cany_model.specs.Rules.Effect.{waiting_after, entered}
-use Rattle.cany_model.specs.Rules.Eager.{eager_effects}
-use Rattle.cany_model.specs.Rules.Delivery.{delivery_effects}
-use Rattle.cany_model.specs.Rules.Edcan.{edcan_at, edcan_effects}
-use Rattle.cany_model.specs.Rules.Relcan.{fell_back, relcan_at, relcan_effects, timer_effects}
-use Rattle.cany_model.specs.Rules.Life.{sign_effects, fda_copy_effects, failure_effects, failures_at, signs_sent, life_effects}
-use Rattle.cany_model.specs.Rules.Sends.{send_effects}
-use Rattle.cany_model.specs.Rules.Station.{shows_life, after_life, with_signs, told, found, after_notice, station_of}
-use Rattle.cany_model.specs.Rules.Totcan.{tot_in, is_recent, after_place, is_heard, is_accepted, accept_effects, closing_effects, is_clear, done_from, delivered, delivered_now, totcan_effects}
-use Rattle.cany_model.specs.Rules.Backlog.{backlog, asked, backlog_effects}
-use Rattle.cany_model.specs.Rules.Turn.{has_asked, turn_effects}
-use Rattle.cany_model.specs.Rules.Log.{log_from}
 use Rattle.cany_model.specs.Texts.Report.{bus_lines, node_lines, message_lines, report_lines, report}
 use Rattle.cany_model.specs.Texts.ReportLines.{line_of, class_name, service_name, verdict_name, break_name, payload_text, set_text, step_letter, first_line, params_line, journal_line, journal_lines, has_any, bus_line, is_shown, hypothesis_line, node_line, entry_line, message_line}
-use Rattle.cany_model.specs.Bus.Run.{first_lagging, reply, is_legal_from, after_turn, proceed, after_step, run_from}
-use Rattle.cany_model.specs.Bus.Restart.{names_restart, after_entries, nodes_after_entries, after_restarts}
-use Rattle.cany_model.specs.Bus.RoundRobin.{round, rounds, round_robin}
+use Rattle.cany_model.specs.Bus.RoundRobin.{round_robin}
+use Rattle.cany_model.proofs.Rows.RowWords.{report as run_report}
 
 -- the parameters of three nodes, with everything else by default, at lag 0
 unfoldable params : ℕ → Parameters
@@ -72,8 +51,8 @@ one_send slots rules = record {
   journal = None;
 }
 
-unfoldable text_of : ScenarioParts → List ℕ
-unfolding digits line_of class_name service_name verdict_name break_name payload_text set_text step_letter first_line params_line journal_line journal_lines has_any bus_line is_shown hypothesis_line node_line entry_line message_line bus_lines node_lines message_lines report_lines report has bits_where those_where same_class same_identity same_frame is_before messages_after node_at put_in_order least_frame winner script share_of after_share slot_note_of node_after nodes_after after_slot names_restart after_entries nodes_after_entries after_restarts is_hidden as_seen history copies has_own waiting_after entered eager_effects delivery_effects edcan_at edcan_effects fell_back relcan_at timer_effects relcan_effects send_effects tot_in is_recent after_place is_heard is_accepted accept_effects closing_effects is_clear done_from delivered delivered_now totcan_effects shows_life after_life with_signs told found after_notice station_of sign_effects fda_copy_effects failure_effects failures_at signs_sent life_effects backlog asked backlog_effects is_service turn_effects has_asked log_from first_lagging reply is_legal_from after_turn proceed after_step run_from round rounds break_at first_break count_together is_settled
+unfoldable pub text_of : ScenarioParts → List ℕ
+unfolding run_report digits line_of class_name service_name verdict_name break_name payload_text set_text step_letter first_line params_line journal_line journal_lines has_any bus_line is_shown hypothesis_line node_line entry_line message_line bus_lines node_lines message_lines report_lines report
 text_of scenario = report scenario (round_robin scenario)
 
 -- one message, no fault: all deliver it, and the others relay it together

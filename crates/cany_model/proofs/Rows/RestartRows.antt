@@ -40,17 +40,17 @@ use Rattle.cany_model.proofs.Rows.RowWords.{Followed-all, Refused, carries, deli
 unfoldable again : ℕ → ℕ → NodeAsk
 again slot node = record { slot = slot; node = node }
 
-unfoldable with_restarts : List NodeAsk → ScenarioParts → ScenarioParts
+unfoldable pub with_restarts : List NodeAsk → ScenarioParts → ScenarioParts
 with_restarts restarts sc = record sc { restarts = restarts }
 
-unfoldable span : ℕ → Option ℕ → ℕ → Span
+unfoldable pub span : ℕ → Option ℕ → ℕ → Span
 span since stopped read = record { since = since; stopped = stopped; read = read }
 
-unfoldable incarnation : ℕ → ℕ → ℕ → Incarnation
-incarnation number since from = record { number = number; since = since; from = from }
+unfoldable pub incarnation : ℕ → ℕ → ℕ → ℕ → Incarnation
+incarnation number since from cycle = record { number = number; since = since; from = from; cycle = cycle }
 
 -- the spans and the logs of the incarnations of node i, by number, one more than there are
-unfoldable lives : ScenarioParts → RunState → ℕ → List (Option Span × List LogEntry)
+unfoldable pub lives : ScenarioParts → RunState → ℕ → List (Option Span × List LogEntry)
 unfolding report incarnation_of ended_history
 lives sc s i = map (λ number. (span_of s i number, log_of sc s i number)) (range_with_len 0 (suc (suc (length (node_at s.nodes i).ended))))
 
@@ -71,7 +71,7 @@ restart_report sc slots journal =
 unfoldable soon : ℕ → Parameters
 soon slots = record (three slots 1 2) { bound = 2 }
 
-unfoldable restart_row : Unit {0}
+unfoldable pub restart_row : Unit {0}
 unfolding row again with_restarts span incarnation incarnation_of ended_history lives restarted_in restart_report soon lag_1
 restart_row = tt
 
@@ -90,7 +90,7 @@ unfolding restart_row stopped_and_back
 restart_hears_again = refl
 
 -- it takes part bound and lag slots after its first one: these are 36 and 0, and 75 and 1
-first_slots : map (λ p. next_incarnation p 10 original) (three 60 1 2 ∷ lag_1 60 1 ∷ []) ≡ incarnation 1 11 47 ∷ incarnation 1 11 87 ∷ []
+first_slots : map (λ p. next_incarnation p 10 original) (three 60 1 2 ∷ lag_1 60 1 ∷ []) ≡ incarnation 1 11 47 1 ∷ incarnation 1 11 87 1 ∷ []
 unfolding restart_row
 first_slots = refl
 
@@ -278,17 +278,17 @@ hidden_slots_are_idle :
 unfolding restart_row two_are_sent from_3 hidden_frame heard_frame
 hidden_slots_are_idle = refl
 
-slots_before_from_are_hidden : map (λ slot. is_hidden (incarnation 1 1 3) (idle slot 0)) (0 ∷ 1 ∷ 2 ∷ 3 ∷ 4 ∷ []) ≡ true ∷ true ∷ true ∷ false ∷ false ∷ []
+slots_before_from_are_hidden : map (λ slot. is_hidden (incarnation 1 1 3 1) (idle slot 0)) (0 ∷ 1 ∷ 2 ∷ 3 ∷ 4 ∷ []) ≡ true ∷ true ∷ true ∷ false ∷ false ∷ []
 unfolding restart_row
 slots_before_from_are_hidden = refl
 
-none_is_hidden_from_the_first : map (λ slot. is_hidden (incarnation 0 0 3) (idle slot 0)) (0 ∷ 2 ∷ 3 ∷ []) ≡ false ∷ false ∷ false ∷ []
+none_is_hidden_from_the_first : map (λ slot. is_hidden (incarnation 0 0 3 1) (idle slot 0)) (0 ∷ 2 ∷ 3 ∷ []) ≡ false ∷ false ∷ false ∷ []
 unfolding restart_row
 none_is_hidden_from_the_first = refl
 
 -- the scenario as it follows it: it is no member, and tells its number, and that of the opening follows it as it is read
 followed_scenario :
-    (let sc = record (scenario (three 60 1 2) [] []) { members = set 7 } in map (scenario_for sc) (original ∷ incarnation 1 11 47 ∷ []))
+    (let sc = record (scenario (three 60 1 2) [] []) { members = set 7 } in map (scenario_for sc) (original ∷ incarnation 1 11 47 1 ∷ []))
     ≡ record (scenario (three 60 1 2) [] []) { members = set 7 } ∷ record (scenario (three 60 1 2) [] []) { from = 47; inc = 1 } ∷ []
 unfolding restart_row
 followed_scenario = refl

@@ -1,19 +1,16 @@
 -- How many life signs a node has asked for: those of its turns lie more than a life interval apart.
-use Rattle.std.proofs.Common.{◌≡◌, ℕ, suc, ◌+◌, ◌*◌, ◌<◌, ◌≤◌, ◌==◌, ◌&&◌, ◌⊎◌, inl, inr, Bool, true, cond, List, [], ◌∷◌, length, refl, ap, ◌∙◌, arith, suc-mul}
+use Rattle.std.proofs.Common.{◌≡◌, ℕ, suc, ◌+◌, ◌*◌, ◌<◌, ◌≤◌, ◌==◌, ◌&&◌, ◌⊎◌, inl, inr, Bool, true, cond, if◌then◌else◌, List, [], ◌∷◌, length, refl, ap, ◌∙◌, arith, suc-mul}
 use Rattle.std.proofs.lemmas.Bool.{and_parts, cases_Bool, cond-false, cond-true, cond_both, eqb-true}
 use Rattle.cany_base.specs.declared.notice.NoticeKind.{NoticeKind}
 use Rattle.cany_base.specs.declared.notice.NoticeKind.TheVariants.{Idle, Got, Sent, Bad}
 use Rattle.cany_base.specs.Nodes.{has}
 use Rattle.cany_base.specs.Scenario.{ScenarioParts}
 use Rattle.cany_model.specs.Rules.Life.{is_due}
-use Rattle.cany_model.specs.Rules.Station.{Sign, Station, after_life, after_notice, found_in, having_heard, having_learnt, shows_life, station_of, told_in, with_shown, with_sign, with_signs}
+use Rattle.cany_model.specs.Rules.Site.{ended_in, station_of}
+use Rattle.cany_model.specs.Rules.Station.{Station, after_life, having_heard, shows_life, with_shown}
+use Rattle.cany_model.proofs.Rules.StationSteps.{is_admitted, last_after}
 
 -- ---- the slot of the node's own last life
-
-signs_keep_last : (signs : List Sign) (st : Station) → (with_signs signs st).last ≡ st.last
-unfolding with_signs
-signs_keep_last [] st = refl
-signs_keep_last (sign ∷ signs) st = signs_keep_last signs (with_sign sign st)
 
 last_heard : (i slot : ℕ) (e : NoticeKind) (st : Station) → ((having_heard i slot e st).last ≡ st.last) ⊎ ((having_heard i slot e st).last ≡ slot)
 unfolding after_life
@@ -24,15 +21,22 @@ last_heard i slot (Got f) st =
 last_heard i slot (Sent f) st =
     cond_both (shows_life f && f.node == i) (record st { last = slot }) st (λ s. (s.last ≡ st.last) ⊎ (s.last ≡ slot)) (λ _. inr refl) (λ _. inl refl)
 
--- a turn leaves it, or it is that of the turn
+-- A turn leaves it, or it is that of the turn: where the node reads that it was heard, or is newly admitted in it.
 pub last_cases : (scenario : ScenarioParts) (i : ℕ) (e : NoticeKind) (past : List NoticeKind)
     → ((station_of scenario i (e ∷ past)).last ≡ (station_of scenario i past).last) ⊎ ((station_of scenario i (e ∷ past)).last ≡ length past)
-unfolding station_of after_notice
+unfolding station_of
 last_cases scenario i e past =
+    let slot : ℕ = length past in
     let st : Station = station_of scenario i past in
-    let kept = signs_keep_last (found_in scenario.params i (length past) e st) (having_learnt i (length past) e st)
-    ∙ signs_keep_last (told_in i (length past) e st) (having_heard i (length past) e st) in
-    elim (last_heard i (length past) e st) [ inl same ↦ inl (kept ∙ same) | inr now ↦ inr (kept ∙ now) ]
+    let heard : Station = having_heard i slot e st in
+    let after : (station_of scenario i (e ∷ past)).last
+    ≡ (if is_admitted (ended_in scenario.params slot e st) st.members i then slot else heard.last) = last_after scenario.params i slot e st in
+    let cases : (n : ℕ) → (n ≡ st.last) ⊎ (n ≡ slot) → (station_of scenario i (e ∷ past)).last ≡ n
+    → ((station_of scenario i (e ∷ past)).last ≡ st.last) ⊎ ((station_of scenario i (e ∷ past)).last ≡ slot) =
+    λ n is same. elim is [ inl kept ↦ inl (same ∙ kept) | inr now ↦ inr (same ∙ now) ] in
+    cases (if is_admitted (ended_in scenario.params slot e st) st.members i then slot else heard.last)
+    (cond_both (is_admitted (ended_in scenario.params slot e st) st.members i) slot heard.last (λ n. (n ≡ st.last) ⊎ (n ≡ slot))
+    (λ _. inr refl) (λ _. last_heard i slot e st)) after
 
 last_read : (scenario : ScenarioParts) (i : ℕ) (past : List NoticeKind) → (station_of scenario i past).last ≤ length past
 unfolding station_of

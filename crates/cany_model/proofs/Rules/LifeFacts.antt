@@ -21,12 +21,13 @@ use Rattle.cany_model.specs.Rules.Eager.{has_enough}
 use Rattle.cany_model.specs.Rules.Effect.{Effect, Ask, Withdraw, Enter, entered}
 use Rattle.cany_model.specs.Rules.Life.{els_frame, failure_effects, failures_at, failure_signs, fda_copy_effects, is_due, life_effects, life_signs, sign_effects, signs_sent}
 use Rattle.cany_model.specs.Rules.Protocol.{Protocol}
-use Rattle.cany_model.specs.Rules.Station.{Sign, Station, after_life, fda_frame, fda_of, found, found_in, having_heard, having_learnt, is_silent, knows, sign_in, sign_of, station_of, told, told_in, with_signs}
+use Rattle.cany_model.specs.Rules.Site.{station_of}
+use Rattle.cany_model.specs.Rules.Station.{Sign, Station, after_life, fda_frame, fda_of, found, found_in, having_heard, having_learnt, is_silent, knows, sign_in, sign_of, told, told_in, with_signs}
 use Rattle.cany_model.proofs.Among.{Each-append, Each-filter, Each-flat_map, Each-map, Each-weaker, count-no}
 use Rattle.cany_model.proofs.Bus.Identities.{same_class-true}
-use Rattle.cany_model.proofs.Rules.Begun.{IsBegun}
+use Rattle.cany_model.proofs.Rules.Begun.{IsBegun, begun_before}
 use Rattle.cany_model.proofs.Rules.ProtocolFacts.{IsFounded, IsFoundedEntry, IsKnownBy, IsLawful, enough, is_diffused, lives, log_by, signals}
-use Rattle.cany_model.proofs.Rules.StationFacts.{found_none, newly_known, station_members}
+use Rattle.cany_model.proofs.Rules.StationFacts.{found_none, newly_known, begun_members}
 
 -- ---- lists
 
@@ -133,7 +134,7 @@ none_entered scenario p never i past key (Enter entry ∷ effects) h =
     ∙ none_entered scenario p never i past key effects h.1
 
 -- a protocol that delivers no service enters no delivery
-delivers_none : (p : Protocol) → ((by : Service) → p.delivers by ≡ false)
+pub delivers_none : (p : Protocol) → ((by : Service) → p.delivers by ≡ false)
     → ((scenario : ScenarioParts) (i : ℕ) (past : List NoticeKind) → AllByRecursion (IsFounded scenario p i past) (p.effects scenario i past))
     → (scenario : ScenarioParts) (i : ℕ) (key : MsgKey) (past : List NoticeKind) → count_by (delivers_key key) (log_by p scenario i past) ≡ 0
 delivers_none p never founded scenario i key [] = refl
@@ -200,7 +201,8 @@ failures_are_lawful = record {
     mute : (scenario : ScenarioParts) (i : ℕ) (past : List NoticeKind) → IsBegun scenario past → failure_effects scenario i past ≡ []
     mute scenario i [] begun = refl
     mute scenario i (e ∷ past) begun =
-        let none : (station_of scenario i past).members ≡ nobody = station_members scenario i past ∙ begun.outside (omega arith) in
+        let none : (station_of scenario i past).members ≡ nobody =
+        begun_members scenario i past (begun_before scenario e past begun) ∙ begun.outside (omega arith) in
         ap (λ n. failure_effects scenario i (n ∷ past)) begun.idle.0 ∙ idle_failures scenario i past
         ∙ ap (flat_map (sign_effects scenario.params.omit (length past) (Idle ∷ past)))
         (found_none scenario.params i (length past) (station_of scenario i past) none)
@@ -227,5 +229,5 @@ life_is_lawful = record {
     mute : (scenario : ScenarioParts) (i : ℕ) (past : List NoticeKind) → IsBegun scenario past → life_effects scenario i past ≡ []
     mute scenario i [] begun = refl
     mute scenario i (e ∷ past) begun =
-        let none : (station_of scenario i (e ∷ past)).members ≡ nobody = station_members scenario i (e ∷ past) ∙ begun.outside (omega arith) in
+        let none : (station_of scenario i (e ∷ past)).members ≡ nobody = begun_members scenario i (e ∷ past) begun ∙ begun.outside (omega arith) in
         rw (none, has_none i) refl

@@ -1,5 +1,5 @@
 -- What is proved of each protocol. Proofs about runs see a turn through these facts and the list of protocols alone.
-use Rattle.std.proofs.Common.{◌≡◌, ℕ, suc, ◌/◌, ◌<◌, ◌≤◌, ◌⊎◌, inl, inr, Bool, true, false, List, [], ◌∷◌, ◌++◌, length, count_by, refl, ap, sym, ◌∙◌, arith}
+use Rattle.std.proofs.Common.{◌≡◌, ℕ, suc, ◌/◌, ◌<◌, ◌≤◌, ◌⊎◌, inl, inr, Bool, true, false, List, [], ◌∷◌, ◌++◌, length, count_by, Contains, Some, refl, ap, sym, ◌∙◌, arith}
 use Rattle.std.specs.List.{AllByRecursion}
 use Rattle.std.proofs.lemmas.Bool.{false≢true}
 use Rattle.cany_base.specs.declared.frame.Class.{Class}
@@ -7,11 +7,13 @@ use Rattle.cany_base.specs.declared.frame.Class.TheVariants as class
 use Rattle.cany_base.specs.declared.log_entry.LogEntry.{LogEntry}
 use Rattle.cany_base.specs.declared.log_entry.LogEntry.TheVariants.{Deliver, Failed, View}
 use Rattle.cany_base.specs.declared.message.MsgKey.{MsgKey}
+use Rattle.cany_base.specs.declared.message.NodeAsk.{NodeAsk}
 use Rattle.cany_base.specs.declared.message.Service.{Service}
 use Rattle.cany_base.specs.declared.message.Service.TheVariants.{Ed, Rel, Tot}
 use Rattle.cany_base.specs.declared.notice.NoticeKind.{NoticeKind}
 use Rattle.cany_base.specs.declared.notice.NoticeKind.TheVariants.{Got, Sent}
 use Rattle.cany_base.specs.Frame.{FrameParts, data_class}
+use Rattle.cany_base.specs.Nodes.{Nodes, has}
 use Rattle.cany_base.specs.Scenario.{ScenarioParts}
 use Rattle.cany_model.specs.Bus.Frames.{Identity, identity_of}
 use Rattle.cany_model.specs.Bus.History.{copies, is_got}
@@ -21,8 +23,11 @@ use Rattle.cany_model.specs.Rules.Life.{els_frame, is_due, signs_sent}
 use Rattle.cany_model.specs.Rules.Messages.{Message, messages_of, accept_of_key, data_frame, data_id}
 use Rattle.cany_model.specs.Rules.Protocol.{Protocol}
 use Rattle.cany_model.specs.Rules.Relcan.{confirm_frame}
-use Rattle.cany_model.specs.Rules.Station.{Sign, fda_frame, knows, sign_of, station_of}
+use Rattle.cany_model.specs.Rules.Site.{station_of}
+use Rattle.cany_model.specs.Rules.Station.{Sign, fda_frame, knows, sign_of}
 use Rattle.cany_model.specs.Rules.Totcan.{accept_frame, after_place, is_open, message_in}
+use Rattle.cany_model.specs.Rules.Vectors.{cycle_of, is_end, is_exchange, is_start, rha_frame, rha_of}
+use Rattle.cany_model.specs.Rules.Views.{ask_frame, ask_of as ask_id}
 use Rattle.cany_model.proofs.Among.{Among, Among-gives, Among-weaker, Among-with, count-from_Among}
 use Rattle.cany_model.proofs.Bus.Carried.{Has, is_got-from}
 use Rattle.cany_model.proofs.Bus.Waits.{Asks, Withdraws, AsksOnly}
@@ -60,6 +65,37 @@ pub record IsFound (scenario : ScenarioParts) (slot : ℕ) (sign : Sign) : Type 
 abbrev pub IsKnownBy : ScenarioParts → ℕ → List NoticeKind → Sign → Type 0
 IsKnownBy scenario slot past sign = IsTold past sign ⊎ IsFound scenario slot sign
 
+-- vectors are exchanged in the slot, and the node has got one of its cycle
+pub record IsTaken (scenario : ScenarioParts) (past : List NoticeKind) (slot : ℕ) : Type 0 where
+  pub frame : FrameParts
+  pub read : Among (λ n. n ≡ Got frame) past
+  pub class : frame.class ≡ class.Rha
+  pub number : frame.number ≡ cycle_of scenario.params slot
+  pub exchange : is_exchange scenario.params slot ≡ true
+
+-- Node i sends the vector in the turn of the newest notice: a cycle starts in its slot, or it has got another one. It has the vector
+-- after the turn, but where the cycle ends: there it gives the vector up, and the frame waits no longer.
+pub record IsExchanged (scenario : ScenarioParts) (i : ℕ) (past : List NoticeKind) (slot : ℕ) (v : Nodes) : Type 0 where
+  pub now : length past ≡ suc slot
+  pub cycle : 0 < cycle_of scenario.params slot
+  pub during : (is_start scenario.params slot ≡ true) ⊎ IsTaken scenario past slot
+  pub vector : (is_start scenario.params slot ≡ true) ⊎ (is_end scenario.params slot ≡ false) → (station_of scenario i past).vector ≡ Some v
+
+-- one of these scripted asks is that of node i in the slot, which is that of the newest notice, and one whose scripted asks are made
+pub record IsScripted (scenario : ScenarioParts) (asks : List NodeAsk) (i : ℕ) (past : List NoticeKind) (slot : ℕ) : Type 0 where
+  pub ask : NodeAsk
+  pub stands : Contains asks ask
+  pub asker : ask.node ≡ i
+  pub asked_in : ask.slot ≡ slot
+  pub now : length past ≡ suc slot
+  pub late : scenario.from ≤ slot
+
+-- a node that is no member asks to join, and a member to leave
+abbrev pub MayRequest : ScenarioParts → ℕ → List NoticeKind → ℕ → Class → Type 0
+MayRequest scenario i past slot c =
+    ((c ≡ class.Join) × IsScripted scenario scenario.joins i past slot × (has (station_of scenario i past).members i ≡ false))
+    ⊎ ((c ≡ class.Leave) × IsScripted scenario scenario.leaves i past slot × (has (station_of scenario i past).members i ≡ true))
+
 -- why a node may ask for a frame, by what it has read
 pub data MayAsk (scenario : ScenarioParts) (i : ℕ) (past : List NoticeKind) (f : FrameParts) : Type 0 where
   -- it has got the frame, which is one that is relayed
@@ -78,6 +114,12 @@ pub data MayAsk (scenario : ScenarioParts) (i : ℕ) (past : List NoticeKind) (f
   -- the frame is the node's own life sign, which is due in the slot of the newest notice
   lives : (slot : ℕ) → length past ≡ suc slot → is_due scenario.params.life i slot (station_of scenario i past) ≡ true → els_frame scenario.inc i (signs_sent i past) ≡ f
       → MayAsk scenario i past f
+  -- the frame carries the node's own vector, of the cycle of the slot of the newest notice
+  exchanges : (slot : ℕ) (v : Nodes) → IsExchanged scenario i past slot v
+      → rha_frame scenario.params.format scenario.inc (cycle_of scenario.params slot) i v ≡ f → MayAsk scenario i past f
+  -- the frame is that of a scripted ask of the node, to join or to leave
+  requests : (slot : ℕ) (c : Class) → MayRequest scenario i past slot c → ask_frame c scenario.inc (cycle_of scenario.params slot) i ≡ f
+      → MayAsk scenario i past f
 
 -- what is delivered in the turn of the newest notice is what a data frame of the service carried, which the node has read by then
 pub record IsRead (p : Protocol) (past : List NoticeKind) (slot : ℕ) (by : Service) (msg : MsgKey) (payload : List ℕ) : Type 0 where
@@ -95,11 +137,19 @@ pub record IsSignal (scenario : ScenarioParts) (i : ℕ) (past : List NoticeKind
   pub because : IsKnownBy scenario slot past sign
   pub known : knows sign (station_of scenario i past) ≡ true
 
--- an entry that a protocol makes: none makes those of views yet
+-- the view is that of a member, which comes to it at the end of a cycle, in the turn of the newest notice
+pub record IsInstalled (scenario : ScenarioParts) (i : ℕ) (past : List NoticeKind) (slot cycle : ℕ) (view : Nodes) : Type 0 where
+  pub now : length past ≡ suc slot
+  pub number : cycle ≡ cycle_of scenario.params slot
+  pub ends : is_end scenario.params slot ≡ true
+  pub members : (station_of scenario i past).members ≡ view
+  pub member : has view i ≡ true
+
+-- an entry that a protocol makes
 abbrev pub IsFoundedEntry : ScenarioParts → Protocol → ℕ → List NoticeKind → LogEntry → Type 0
 IsFoundedEntry scenario p i past (Deliver slot by msg payload) = IsRead p past slot by msg payload
 IsFoundedEntry scenario p i past (Failed slot node cycle) = IsSignal scenario i past slot (record { node = node; cycle = cycle })
-IsFoundedEntry scenario p i past (View slot number members) = ⊥
+IsFoundedEntry scenario p i past (View slot number members) = IsInstalled scenario i past slot number members
 
 -- The frames that are withdrawn only with more than omit copies: those of eager diffusion by all copies, and those of a node that
 -- falls back. A frame that accepts a message is not among them: the copies since the place of the message count, and it is
@@ -116,16 +166,31 @@ is_diffused class.Tot = false
 is_diffused class.Rel = true
 is_diffused class.Ed = true
 
+-- vectors are exchanged in the slot, or the exchange ends in it
+abbrev pub MaySettle : ScenarioParts → List NoticeKind → ℕ → Type 0
+MaySettle scenario past slot =
+    (length past ≡ suc slot) × ((is_exchange scenario.params slot ≡ true) ⊎ (is_end scenario.params slot ≡ true))
+
+-- the ask is a scripted one, of this class
+abbrev pub IsAskOf : ScenarioParts → Class → NodeAsk → Type 0
+IsAskOf scenario c ask =
+    ((c ≡ class.Join) × Contains scenario.joins ask) ⊎ ((c ≡ class.Leave) × Contains scenario.leaves ask)
+
 -- why a node may withdraw a frame
-pub data MayWithdraw (scenario : ScenarioParts) (past : List NoticeKind) (x : Identity) : Type 0 where
+pub data MayWithdraw (scenario : ScenarioParts) (i : ℕ) (past : List NoticeKind) (x : Identity) : Type 0 where
   -- more than omit copies were read of a frame that is diffused
-  enough : is_diffused x.class ≡ true → scenario.params.omit < copies x past → MayWithdraw scenario past x
+  enough : is_diffused x.class ≡ true → scenario.params.omit < copies x past → MayWithdraw scenario i past x
   -- it accepts a message, and more than omit copies were read after the place of the message
   enough_accept : (f : FrameParts) → Among (λ n. n ≡ Got f) past → f.class ≡ class.Accept → identity_of f ≡ x
-      → scenario.params.omit < copies x (after_place (message_in f) past) → MayWithdraw scenario past x
+      → scenario.params.omit < copies x (after_place (message_in f) past) → MayWithdraw scenario i past x
   -- it accepts a message that is closed, whose data frame was read
   closes : (f : FrameParts) → Among (Has f) past → f.class ≡ class.Tot → accept_of_key (message_in f) ≡ x
-      → is_open scenario.params.bound (message_in f) past ≡ false → MayWithdraw scenario past x
+      → is_open scenario.params.bound (message_in f) past ≡ false → MayWithdraw scenario i past x
+  -- it carries the node's own vector, of the cycle of the slot of the newest notice
+  settles : (slot : ℕ) → MaySettle scenario past slot → rha_of (cycle_of scenario.params slot) i ≡ x → MayWithdraw scenario i past x
+  -- it is that of a scripted ask of the node, and a cycle ends in the slot of the newest notice
+  answered : (slot : ℕ) (c : Class) (ask : NodeAsk) → length past ≡ suc slot → is_end scenario.params slot ≡ true → IsAskOf scenario c ask
+      → ask.node ≡ i → ask_id c (cycle_of scenario.params ask.slot) i ≡ x → MayWithdraw scenario i past x
 
 -- a frame that is diffused is relayed
 pub diffused_is_relayed : (c : Class) → is_diffused c ≡ true → is_relayed c ≡ true
@@ -143,7 +208,7 @@ diffused_is_relayed class.Ed h = h
 -- the effect has its reason in what was read, and names only what the protocol names
 abbrev pub IsFounded : ScenarioParts → Protocol → ℕ → List NoticeKind → Effect → Type 0
 IsFounded scenario p i past (Ask f) = MayAsk scenario i past f × (p.names f.class ≡ true)
-IsFounded scenario p i past (Withdraw x) = MayWithdraw scenario past x × (p.names x.class ≡ true)
+IsFounded scenario p i past (Withdraw x) = MayWithdraw scenario i past x × (p.names x.class ≡ true)
 IsFounded scenario p i past (Enter entry) = IsFoundedEntry scenario p i past entry
 
 -- ---- a protocol
@@ -189,6 +254,31 @@ data_lives_none Ed e = cc
 data_lives_none Rel e = cc
 data_lives_none Tot e = cc
 
+pub data_exchanges_none : (by : Service) → data_class by ≡ class.Rha → ⊥
+data_exchanges_none Ed e = cc
+data_exchanges_none Rel e = cc
+data_exchanges_none Tot e = cc
+
+pub data_requests_none : (by : Service) (c : Class) → (c ≡ class.Join) ⊎ (c ≡ class.Leave) → data_class by ≡ c → ⊥
+data_requests_none Ed c (inl join) e = cc
+data_requests_none Rel c (inl join) e = cc
+data_requests_none Tot c (inl join) e = cc
+data_requests_none Ed c (inr leave) e = cc
+data_requests_none Rel c (inr leave) e = cc
+data_requests_none Tot c (inr leave) e = cc
+
+-- the class of a frame that asks to join or to leave
+pub request_class : (scenario : ScenarioParts) (i : ℕ) (past : List NoticeKind) (slot : ℕ) (c : Class) → MayRequest scenario i past slot c
+    → (c ≡ class.Join) ⊎ (c ≡ class.Leave)
+request_class scenario i past slot c (inl join) = inl join.0
+request_class scenario i past slot c (inr leave) = inr leave.0
+
+-- and its slot
+pub request_now : (scenario : ScenarioParts) (i : ℕ) (past : List NoticeKind) (slot : ℕ) (c : Class) → MayRequest scenario i past slot c
+    → length past ≡ suc slot
+request_now scenario i past slot c (inl join) = join.1.now
+request_now scenario i past slot c (inr leave) = leave.1.now
+
 pub data_accepts_none : (by : Service) → data_class by ≡ class.Accept → ⊥
 data_accepts_none Ed e = cc
 data_accepts_none Rel e = cc
@@ -211,6 +301,11 @@ asked_start scenario i past m is f same (signals sign slot now known frame) =
     absurd (data_signals_none m.service (ap (λ (x : Identity). x.class) same ∙ sym (ap (λ (h : FrameParts). h.class) frame)))
 asked_start scenario i past m is f same (lives slot now due frame) =
     absurd (data_lives_none m.service (ap (λ (x : Identity). x.class) same ∙ sym (ap (λ (h : FrameParts). h.class) frame)))
+asked_start scenario i past m is f same (exchanges slot v sends frame) =
+    absurd (data_exchanges_none m.service (ap (λ (x : Identity). x.class) same ∙ sym (ap (λ (h : FrameParts). h.class) frame)))
+asked_start scenario i past m is f same (requests slot c may frame) =
+    absurd (data_requests_none m.service c (request_class scenario i past slot c may)
+    (ap (λ (x : Identity). x.class) same ∙ sym (ap (λ (h : FrameParts). h.class) frame)))
 
 -- an effect that asks, withdraws or enters among effects that have their reason
 pub ask_of : (scenario : ScenarioParts) (p : Protocol) (i : ℕ) (past : List NoticeKind) (x : Identity) (e : Effect) → Asks x e → IsFounded scenario p i past e
@@ -223,11 +318,25 @@ accepts_undiffused : (x y : Identity) → y.class ≡ class.Accept → y ≡ x �
 accepts_undiffused x y accept same diffused =
     false≢true (sym (ap is_diffused (sym (ap (λ (z : Identity). z.class) same) ∙ accept)) ∙ diffused)
 
-enough_of : (scenario : ScenarioParts) (past : List NoticeKind) (x : Identity) → MayWithdraw scenario past x → is_diffused x.class ≡ true
+vectors_undiffused : (x y : Identity) → y.class ≡ class.Rha → y ≡ x → is_diffused x.class ≡ true → ⊥
+vectors_undiffused x y rha same diffused =
+    false≢true (sym (ap is_diffused (sym (ap (λ (z : Identity). z.class) same) ∙ rha)) ∙ diffused)
+
+asks_undiffused : (scenario : ScenarioParts) (c : Class) (ask : NodeAsk) (x y : Identity) → IsAskOf scenario c ask → y.class ≡ c → y ≡ x
+    → is_diffused x.class ≡ true → ⊥
+asks_undiffused scenario c ask x y (inl join) at same diffused =
+    false≢true (sym (ap is_diffused (sym (ap (λ (z : Identity). z.class) same) ∙ at ∙ join.0)) ∙ diffused)
+asks_undiffused scenario c ask x y (inr leave) at same diffused =
+    false≢true (sym (ap is_diffused (sym (ap (λ (z : Identity). z.class) same) ∙ at ∙ leave.0)) ∙ diffused)
+
+enough_of : (scenario : ScenarioParts) (i : ℕ) (past : List NoticeKind) (x : Identity) → MayWithdraw scenario i past x → is_diffused x.class ≡ true
     → scenario.params.omit < copies x past
-enough_of scenario past x (enough diffused many) d = many
-enough_of scenario past x (enough_accept f got accept same many) d = absurd (accepts_undiffused x (identity_of f) accept same d)
-enough_of scenario past x (closes f read tot same closed) d = absurd (accepts_undiffused x (accept_of_key (message_in f)) refl same d)
+enough_of scenario i past x (enough diffused many) d = many
+enough_of scenario i past x (enough_accept f got accept same many) d = absurd (accepts_undiffused x (identity_of f) accept same d)
+enough_of scenario i past x (closes f read tot same closed) d = absurd (accepts_undiffused x (accept_of_key (message_in f)) refl same d)
+enough_of scenario i past x (settles slot may same) d = absurd (vectors_undiffused x (rha_of (cycle_of scenario.params slot) i) refl same d)
+enough_of scenario i past x (answered slot c ask now ends is own same) d =
+    absurd (asks_undiffused scenario c ask x (ask_id c (cycle_of scenario.params ask.slot) i) is refl same d)
 
 -- a frame that a lawful protocol asks for is of a class that it names
 named_of : (scenario : ScenarioParts) (p : Protocol) (i : ℕ) (past : List NoticeKind) (x : Identity) (e : Effect) → Asks x e → IsFounded scenario p i past e
@@ -246,7 +355,7 @@ asks_named p lawful scenario i x past h =
 pub withdrawal_of : (scenario : ScenarioParts) (p : Protocol) (i : ℕ) (past : List NoticeKind) (x : Identity) (e : Effect) → Withdraws x e
     → IsFounded scenario p i past e → is_diffused x.class ≡ true → scenario.params.omit < copies x past
 withdrawal_of scenario p i past x (Ask f) h k d = absurd h
-withdrawal_of scenario p i past x (Withdraw y) h k d = rw h (enough_of scenario past y k.0 (rw h at d))
+withdrawal_of scenario p i past x (Withdraw y) h k d = rw h (enough_of scenario i past y k.0 (rw h at d))
 withdrawal_of scenario p i past x (Enter entry) h k d = absurd h
 
 pub asks_only : (scenario : ScenarioParts) (p : Protocol) (i : ℕ) (past : List NoticeKind) (P : FrameParts → Type 0) (e : Effect)

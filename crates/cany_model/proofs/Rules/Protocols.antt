@@ -7,6 +7,7 @@ use Rattle.cany_model.specs.Bus.Frames.{same_class}
 use Rattle.cany_model.specs.Rules.Backlog.{tot_backlog}
 use Rattle.cany_model.specs.Rules.Edcan.{edcan}
 use Rattle.cany_model.specs.Rules.Life.{failure_signs, life_signs}
+use Rattle.cany_model.specs.Rules.Membership.{scripted_asks, vectors, views}
 use Rattle.cany_model.specs.Rules.Messages.{is_service}
 use Rattle.cany_model.specs.Rules.Protocol.{Protocol}
 use Rattle.cany_model.specs.Rules.Relcan.{relcan}
@@ -21,10 +22,32 @@ use Rattle.cany_model.proofs.Rules.ProtocolFacts.{IsLawful}
 use Rattle.cany_model.proofs.Rules.RelcanFacts.{relcan_is_lawful}
 use Rattle.cany_model.proofs.Rules.SendFacts.{sends_are_lawful}
 use Rattle.cany_model.proofs.Rules.TotcanFacts.{totcan_is_lawful}
+use Rattle.cany_model.proofs.Rules.VectorFacts.{vectors_are_lawful}
+use Rattle.cany_model.proofs.Rules.ViewFacts.{asks_are_lawful, views_are_lawful}
 
 pub are_lawful : AllByRecursion IsLawful protocols
-are_lawful =
-    (edcan_is_lawful, (relcan_is_lawful, (totcan_is_lawful, (failures_are_lawful, (life_is_lawful, (sends_are_lawful, (backlog_is_lawful, tt)))))))
+are_lawful = (
+  edcan_is_lawful,
+  (
+    relcan_is_lawful,
+    (
+      totcan_is_lawful,
+      (
+        failures_are_lawful,
+        (
+          vectors_are_lawful,
+          (
+            views_are_lawful,
+            (
+              life_is_lawful,
+              (sends_are_lawful, (asks_are_lawful, (backlog_is_lawful, tt))),
+            ),
+          ),
+        ),
+      ),
+    ),
+  ),
+)
 
 -- ---- where each stands
 
@@ -43,14 +66,23 @@ totcan_is_one = inr (inr (inl refl))
 pub failures_are_one : IsProtocol failure_signs
 failures_are_one = inr (inr (inr (inl refl)))
 
+pub vectors_are_one : IsProtocol vectors
+vectors_are_one = inr (inr (inr (inr (inl refl))))
+
+pub views_are_one : IsProtocol views
+views_are_one = inr (inr (inr (inr (inr (inl refl)))))
+
 pub life_is_one : IsProtocol life_signs
-life_is_one = inr (inr (inr (inr (inl refl))))
+life_is_one = inr (inr (inr (inr (inr (inr (inl refl))))))
 
 pub sends_are_one : IsProtocol scripted_sends
-sends_are_one = inr (inr (inr (inr (inr (inl refl)))))
+sends_are_one = inr (inr (inr (inr (inr (inr (inr (inl refl)))))))
+
+pub asks_are_one : IsProtocol scripted_asks
+asks_are_one = inr (inr (inr (inr (inr (inr (inr (inr (inl refl))))))))
 
 pub backlog_is_one : IsProtocol tot_backlog
-backlog_is_one = inr (inr (inr (inr (inr (inr (inl refl))))))
+backlog_is_one = inr (inr (inr (inr (inr (inr (inr (inr (inr (inl refl)))))))))
 
 -- ---- no two deliver the messages of one service
 

@@ -6,6 +6,7 @@ use Rattle.std.proofs.lemmas.Bool.{and_from, cases_Bool, cases_eq, cases_lt}
 use Rattle.std.proofs.lemmas.List.Sums.{sum_by-append, sum_by-cons, sum_by-le-sum_by}
 use Rattle.cany_base.specs.declared.frame.Class.{Class}
 use Rattle.cany_base.specs.declared.frame.Class.TheVariants.{Accept, Rha, Els, Fda, Join, Leave, Confirm, Tot, Rel, Ed}
+use Rattle.cany_base.specs.declared.message.NodeAsk.{NodeAsk}
 use Rattle.cany_base.specs.declared.message.SendAsk.{SendAsk}
 use Rattle.cany_base.specs.declared.message.Service.{Service}
 use Rattle.cany_base.specs.declared.message.Service.TheVariants as service
@@ -13,8 +14,10 @@ use Rattle.cany_base.specs.Frame.{FrameParts}
 use Rattle.cany_base.specs.Scenario.{ScenarioParts}
 use Rattle.cany_model.specs.Bus.Frames.{Identity, identity_of, is_of, same_class}
 use Rattle.cany_model.specs.Rules.Messages.{IsOfMessage, Message, is_service, message_of, messages_after, messages_of}
-use Rattle.cany_model.specs.Rules.Rooms.{IsAskable, IsAskableAs, IsOfNode, class_room, cycles, sends_by, waiting_room}
+use Rattle.cany_model.specs.Rules.Rooms.{IsAskable, IsAskableAs, IsOfAsk, IsOfNode, IsOfVector, class_room, cycles, sends_by, waiting_room}
 use Rattle.cany_model.specs.Rules.Station.{Sign, fda_of, sign_of}
+use Rattle.cany_model.specs.Rules.Vectors.{cycle_of, rha_of}
+use Rattle.cany_model.specs.Rules.Views.{ask_of}
 use Rattle.cany_model.proofs.Among.{Among, Among-append_left, Among-append_right, Among-from_Contains, Among-weaker, Each-weaker, count-cons, count-from_Among, count-no, count-yes, one_if}
 use Rattle.cany_model.proofs.Bus.Identities.{same_class-true, same_identity-from}
 use Rattle.cany_model.proofs.Rules.MessageKeys.{is_service-from}
@@ -72,6 +75,9 @@ count_messages by earlier (send ∷ sends) =
 
 -- ---- failure signs
 
+still_below : (j k : ℕ) → j < suc k → (k ≡ j → ⊥) → j < k
+still_below j k h other = elim (cases_lt j k) [ inl less ↦ less | inr past ↦ absurd (other (omega (arith, h, past))) ]
+
 -- those of one node in so many cycles, and of so many nodes
 signs_of : ℕ → ℕ → List Sign
 signs_of r zero = []
@@ -86,11 +92,8 @@ unfolding signs_of
 stands_of r j zero below = absurd (omega (arith, below))
 stands_of r j (suc k) below = elim (cases_eq k j) [
   | inl e ↦ inl (ap (λ n. record { node = r; cycle = n }) e)
-  | inr other ↦ inr (stands_of r j k (below_other j k below other))
+  | inr other ↦ inr (stands_of r j k (still_below j k below other))
 ]
-  where
-    below_other : (j k : ℕ) → j < suc k → (k ≡ j → ⊥) → j < k
-    below_other j k h other = elim (cases_lt j k) [ inl less ↦ less | inr past ↦ absurd (other (omega (arith, h, past))) ]
 
 pub stands_below : (r j n k : ℕ) → r < n → j < k → Among (λ sign. sign ≡ record { node = r; cycle = j }) (signs_below n k)
 unfolding signs_below
@@ -99,11 +102,8 @@ stands_below r j (suc n) k here below = elim (cases_eq n r) [
   | inl e ↦ Among-append_left (λ sign. sign ≡ record { node = r; cycle = j }) (signs_of n k) (signs_below n k)
       (subst (λ m. Among (λ sign. sign ≡ record { node = r; cycle = j }) (signs_of m k)) (sym e) (stands_of r j k below))
   | inr other ↦ Among-append_right (λ sign. sign ≡ record { node = r; cycle = j }) (signs_of n k) (signs_below n k)
-      (stands_below r j n k (less n r here other) below)
+      (stands_below r j n k (still_below r n here other) below)
 ]
-  where
-    less : (n r : ℕ) → r < suc n → (n ≡ r → ⊥) → r < n
-    less n r h other = elim (cases_lt r n) [ inl below ↦ below | inr past ↦ absurd (other (omega (arith, h, past))) ]
 
 count_of : (r k : ℕ) → count_by (λ sign. true) (signs_of r k) ≡ k
 unfolding signs_of
@@ -115,17 +115,41 @@ unfolding signs_below
 count_below zero k = omega arith
 count_below (suc n) k = omega (arith, sum_by-append {X = Sign} (λ sign. cond true 1 0) (signs_of n k) (signs_below n k), count_of n k, count_below n k, suc-mul n k)
 
+-- ---- cycles
+
+-- the numbers of so many
+cycles_below : ℕ → List ℕ
+cycles_below zero = []
+cycles_below (suc k) = k ∷ cycles_below k
+
+cycle_stands : (j k : ℕ) → j < k → Among (λ n. n ≡ j) (cycles_below k)
+unfolding cycles_below
+cycle_stands j zero below = absurd (omega (arith, below))
+cycle_stands j (suc k) below = elim (cases_eq k j) [
+  | inl e ↦ inl e
+  | inr other ↦ inr (cycle_stands j k (still_below j k below other))
+]
+
+count_cycles : (k : ℕ) → count_by (λ n. true) (cycles_below k) ≡ k
+unfolding cycles_below
+count_cycles zero = refl
+count_cycles (suc k) = omega (arith, count-cons (λ n. true) k (cycles_below k), count_cycles k)
+
+count_all : {X : Type 0} (xs : List X) → count_by (λ x. true) xs ≡ length xs
+count_all [] = refl
+count_all (x ∷ xs) = omega (arith, count-cons (λ y. true) x xs, count_all xs)
+
 -- ---- class by class
 
 abbrev pub is_in : Class → FrameParts → Bool
 is_in c f = same_class f.class c
 
--- frames that may be asked for, no two of one identity: those of each class are at most as many as its room
-module _ (scenario : ScenarioParts) (w : List FrameParts) (distinct : (x : Identity) → count_by (is_of x) w ≤ 1)
-    (all : AllByRecursion (λ f. IsAskable scenario (identity_of f)) w) where
+-- frames that node i may ask for, no two of one identity: those of each class are at most as many as its room
+module _ (scenario : ScenarioParts) (i : ℕ) (w : List FrameParts) (distinct : (x : Identity) → count_by (is_of x) w ≤ 1)
+    (all : AllByRecursion (λ f. IsAskable scenario i (identity_of f)) w) where
   -- why a frame of the class may be asked for
-  of_class : (c : Class) (f : FrameParts) → IsAskable scenario (identity_of f) → is_in c f ≡ true → IsAskableAs scenario (identity_of f) c
-  of_class c f h in_class = subst (IsAskableAs scenario (identity_of f)) (same_class-true f.class c in_class) h
+  of_class : (c : Class) (f : FrameParts) → IsAskable scenario i (identity_of f) → is_in c f ≡ true → IsAskableAs scenario i (identity_of f) c
+  of_class c f h in_class = subst (IsAskableAs scenario i (identity_of f)) (same_class-true f.class c in_class) h
 
   -- a message hits the frame of the class that is named as it is
   abbrev name : Class → Message → Identity
@@ -152,24 +176,17 @@ module _ (scenario : ScenarioParts) (w : List FrameParts) (distinct : (x : Ident
   ]
 
   -- of a class whose frames belong to the messages of a service
-  of_messages : (c : Class) (by : Service) → ((x : Identity) → IsAskableAs scenario x c → IsOfMessage scenario by x)
+  of_messages : (c : Class) (by : Service) → ((x : Identity) → IsAskableAs scenario i x c → IsOfMessage scenario by x)
       → count_by (is_in c) w ≤ sends_by scenario by
   of_messages c by is =
       omega (
         arith,
         pigeonhole (names c by) (is_in c) (λ m. is_service by m.service) w (messages_of scenario.sends)
-            (Each-weaker (λ f. IsAskable scenario (identity_of f)) (λ f. is_in c f ≡ true → Among (λ m. names c by m f ≡ true) (messages_of scenario.sends))
+            (Each-weaker (λ f. IsAskable scenario i (identity_of f)) (λ f. is_in c f ≡ true → Among (λ m. names c by m f ≡ true) (messages_of scenario.sends))
             (λ f h in_class. named c by f in_class (is (identity_of f) (of_class c f h in_class))) w all)
             (names_one c by),
         count_messages by [] scenario.sends,
       )
-
-  -- of a class that nobody asks for
-  of_none : (c : Class) → ((x : Identity) → IsAskableAs scenario x c → ⊥) → count_by (is_in c) w ≤ 0
-  of_none c is =
-      pigeonhole {Y = Message} (λ m f. false) (is_in c) (λ m. false) w []
-      (Each-weaker (λ f. IsAskable scenario (identity_of f)) (λ f. is_in c f ≡ true → ⊥) (λ f h in_class. is (identity_of f) (of_class c f h in_class)) w all)
-      (λ m. none_hit w)
 
   told : (f : FrameParts) → is_in Fda f ≡ true → IsOfNode scenario scenario.params.cycle (identity_of f)
       → Among (λ sign. is_of (fda_of sign) f ≡ true) (signs_below scenario.params.nodes (cycles scenario + 1))
@@ -185,21 +202,68 @@ module _ (scenario : ScenarioParts) (w : List FrameParts) (distinct : (x : Ident
       omega (
         arith,
         pigeonhole (λ sign f. is_of (fda_of sign) f) (is_in Fda) (λ sign. true) w (signs_below scenario.params.nodes (cycles scenario + 1))
-            (Each-weaker (λ f. IsAskable scenario (identity_of f))
+            (Each-weaker (λ f. IsAskable scenario i (identity_of f))
             (λ f. is_in Fda f ≡ true → Among (λ sign. is_of (fda_of sign) f ≡ true) (signs_below scenario.params.nodes (cycles scenario + 1)))
             (λ f h in_class. told f in_class (of_class Fda f h in_class)) w all)
             (λ sign. distinct (fda_of sign)),
         count_below scenario.params.nodes (cycles scenario + 1),
       )
 
+  -- a cycle hits the vector of the node in it
+  vector_told : (f : FrameParts) → is_in Rha f ≡ true → IsOfVector scenario i (identity_of f)
+      → Among (λ k. is_of (rha_of k i) f ≡ true) (cycles_below (cycles scenario + 1))
+  vector_told f in_class h =
+      let class : f.class ≡ Rha = same_class-true f.class Rha in_class in
+      Among-weaker (λ k. k ≡ f.number) (λ k. is_of (rha_of k i) f ≡ true)
+      (λ k e. same_identity-from (rha_of k i) (identity_of f) (λ t. record { class = (sym class) t; number = e t; node = (sym h.node) t }))
+      (cycles_below (cycles scenario + 1)) (cycle_stands f.number (cycles scenario + 1) (omega (arith, h.number)))
+
+  of_vectors : count_by (is_in Rha) w ≤ cycles scenario + 1
+  of_vectors =
+      omega (
+        arith,
+        pigeonhole (λ k f. is_of (rha_of k i) f) (is_in Rha) (λ k. true) w (cycles_below (cycles scenario + 1))
+            (Each-weaker (λ f. IsAskable scenario i (identity_of f))
+            (λ f. is_in Rha f ≡ true → Among (λ k. is_of (rha_of k i) f ≡ true) (cycles_below (cycles scenario + 1)))
+            (λ f h in_class. vector_told f in_class (of_class Rha f h in_class)) w all)
+            (λ k. distinct (rha_of k i)),
+        count_cycles (cycles scenario + 1),
+      )
+
+  -- a scripted ask hits the frame of the class by which the node makes it
+  abbrev asks : Class → NodeAsk → FrameParts → Bool
+  asks c ask f = is_of (ask_of c (cycle_of scenario.params ask.slot) i) f
+
+  ask_told : (c : Class) (scripted : List NodeAsk) (f : FrameParts) → is_in c f ≡ true → IsOfAsk scenario scripted i (identity_of f)
+      → Among (λ ask. asks c ask f ≡ true) scripted
+  ask_told c scripted f in_class h =
+      let class : f.class ≡ c = same_class-true f.class c in_class in
+      let same : ask_of c (cycle_of scenario.params h.ask.slot) i ≡ identity_of f =
+      λ t. record { class = (sym class) t; number = (sym h.number) t; node = (sym h.node) t } in
+      Among-weaker (λ ask. ask ≡ h.ask) (λ ask. asks c ask f ≡ true)
+      (λ ask e. ap (λ a. asks c a f) e ∙ same_identity-from (ask_of c (cycle_of scenario.params h.ask.slot) i) (identity_of f) same)
+      scripted (Among-from_Contains scripted h.ask h.stands)
+
+  of_asks : (c : Class) (scripted : List NodeAsk) → ((x : Identity) → IsAskableAs scenario i x c → IsOfAsk scenario scripted i x)
+      → count_by (is_in c) w ≤ length scripted
+  of_asks c scripted is =
+      omega (
+        arith,
+        pigeonhole (asks c) (is_in c) (λ ask. true) w scripted
+            (Each-weaker (λ f. IsAskable scenario i (identity_of f)) (λ f. is_in c f ≡ true → Among (λ ask. asks c ask f ≡ true) scripted)
+            (λ f h in_class. ask_told c scripted f in_class (is (identity_of f) (of_class c f h in_class))) w all)
+            (λ ask. distinct (ask_of c (cycle_of scenario.params ask.slot) i)),
+        count_all scripted,
+      )
+
   -- the life signs are counted apart
   pub few_of_class : count_by (is_in Els) w ≤ class_room scenario Els → (c : Class) → count_by (is_in c) w ≤ class_room scenario c
   few_of_class signs Accept = of_messages Accept service.Tot (λ x h. h)
-  few_of_class signs Rha = omega (arith, of_none Rha (λ x h. h))
+  few_of_class signs Rha = of_vectors
   few_of_class signs Els = signs
   few_of_class signs Fda = of_signs
-  few_of_class signs Join = omega (arith, of_none Join (λ x h. h))
-  few_of_class signs Leave = omega (arith, of_none Leave (λ x h. h))
+  few_of_class signs Join = of_asks Join scenario.joins (λ x h. h)
+  few_of_class signs Leave = of_asks Leave scenario.leaves (λ x h. h)
   few_of_class signs Confirm = of_messages Confirm service.Rel (λ x h. h)
   few_of_class signs Tot = of_messages Tot service.Tot (λ x h. h)
   few_of_class signs Rel = of_messages Rel service.Rel (λ x h. h)
@@ -258,8 +322,8 @@ rooms_together scenario =
     omega (arith, each_service scenario.sends, add-mul nodes 1 (cycles scenario + 2), mul-add nodes (cycles scenario) 2, mul-add nodes (cycles scenario) 1)
 
 -- so are the frames, where the life signs are few
-pub few_waiting : (scenario : ScenarioParts) (w : List FrameParts) → ((x : Identity) → count_by (is_of x) w ≤ 1)
-    → AllByRecursion (λ f. IsAskable scenario (identity_of f)) w → count_by (is_in Els) w ≤ class_room scenario Els → length w < waiting_room scenario
-few_waiting scenario w distinct all signs =
-    let few : (c : Class) → count_by (is_in c) w ≤ class_room scenario c = few_of_class scenario w distinct all signs in
+pub few_waiting : (scenario : ScenarioParts) (i : ℕ) (w : List FrameParts) → ((x : Identity) → count_by (is_of x) w ≤ 1)
+    → AllByRecursion (λ f. IsAskable scenario i (identity_of f)) w → count_by (is_in Els) w ≤ class_room scenario Els → length w < waiting_room scenario
+few_waiting scenario i w distinct all signs =
+    let few : (c : Class) → count_by (is_in c) w ≤ class_room scenario c = few_of_class scenario i w distinct all signs in
     omega (arith, all_classes w, few Accept, few Rha, few Els, few Fda, few Join, few Leave, few Confirm, few Tot, few Rel, few Ed, rooms_together scenario)

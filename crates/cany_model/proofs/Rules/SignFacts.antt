@@ -12,7 +12,8 @@ use Rattle.cany_model.specs.Promises.Safe.{tells_of}
 use Rattle.cany_model.specs.Rules.Eager.{has_enough}
 use Rattle.cany_model.specs.Rules.Effect.{Effect, Ask, Withdraw, entered}
 use Rattle.cany_model.specs.Rules.Life.{failure_effects, failures_at, failure_signs, fda_copy_effects, sign_effects}
-use Rattle.cany_model.specs.Rules.Station.{Sign, Station, fda_frame, fda_of, found_in, knows, same_sign, station_of, told_in}
+use Rattle.cany_model.specs.Rules.Site.{station_of}
+use Rattle.cany_model.specs.Rules.Station.{Sign, Station, fda_frame, fda_of, found_in, knows, same_sign, told_in}
 use Rattle.cany_model.proofs.Among.{Among, Among-append_cases, Among-append_left, Among-append_right, Among-flat_map, Among-from_flat_map}
 use Rattle.cany_model.proofs.Bus.Waits.{Asks}
 use Rattle.cany_model.proofs.Rules.LogFacts.{EntersSome, entered-to}

@@ -1,40 +1,28 @@
 -- Of each failure sign at most one entry stands in the log of a node: it is made in the turn in which the sign becomes known.
-use Rattle.std.proofs.Common.{◌≡◌, ℕ, zero, suc, ◌+◌, ◌<◌, ◌≤◌, ◌==◌, ◌&&◌, ◌||◌, inl, inr, Bool, true, false, not, cond, if◌then◌else◌, List, [], ◌∷◌, ◌++◌, map, filter, length, count_by, refl, ap, sym, ◌∙◌, arith}
+use Rattle.std.proofs.Common.{◌≡◌, ℕ, zero, suc, ◌+◌, ◌<◌, ◌≤◌, ◌==◌, ◌&&◌, ◌||◌, inl, inr, Bool, true, false, not, cond, List, [], ◌∷◌, ◌++◌, map, filter, length, count_by, refl, ap, sym, ◌∙◌, arith}
 use Rattle.std.specs.List.{AllByRecursion, flat_map, range_with_len}
 use Rattle.std.proofs.lemmas.Bool.{and_parts, both_ways, cases_Bool, cases_lt, cond_both, eqb-true, not-true}
 use Rattle.std.proofs.lemmas.List.Sums.{sum_by-append}
 use Rattle.cany_base.specs.declared.frame.Class.TheVariants as class
 use Rattle.cany_base.specs.declared.log_entry.LogEntry.{LogEntry}
 use Rattle.cany_base.specs.declared.log_entry.LogEntry.TheVariants.{Deliver, Failed, View}
-use Rattle.cany_base.specs.declared.message.Service.{Service}
-use Rattle.cany_base.specs.declared.message.Service.TheVariants.{Ed, Rel, Tot}
 use Rattle.cany_base.specs.declared.notice.NoticeKind.{NoticeKind}
 use Rattle.cany_base.specs.declared.notice.NoticeKind.TheVariants.{Idle, Got, Sent, Bad}
-use Rattle.cany_base.specs.Frame.{FrameParts, data_class}
 use Rattle.cany_base.specs.Params.{Parameters}
 use Rattle.cany_base.specs.Scenario.{ScenarioParts}
-use Rattle.cany_model.specs.Bus.Frames.{identity_of, same_class}
-use Rattle.cany_model.specs.Rules.Backlog.{asked, backlog, backlog_effects, next_after, tot_backlog}
-use Rattle.cany_model.specs.Rules.Delivery.{delivery, is_delivery}
-use Rattle.cany_model.specs.Rules.Eager.{has_enough}
-use Rattle.cany_model.specs.Rules.Edcan.{edcan}
-use Rattle.cany_model.specs.Rules.Effect.{Effect, Ask, Withdraw, entered}
-use Rattle.cany_model.specs.Rules.Life.{els_frame, failure_effects, failures_at, failure_signs, fda_copy_effects, is_due, life_effects, life_signs, sign_effects, signs_sent}
+use Rattle.cany_model.specs.Bus.Frames.{same_class}
+use Rattle.cany_model.specs.Rules.Effect.{Effect, entered}
+use Rattle.cany_model.specs.Rules.Life.{failure_effects, failures_at, fda_copy_effects, sign_effects}
 use Rattle.cany_model.specs.Rules.Log.{log_from}
-use Rattle.cany_model.specs.Rules.Protocol.{Protocol}
-use Rattle.cany_model.specs.Rules.Relcan.{relcan}
-use Rattle.cany_model.specs.Rules.Sends.{is_sent_in, scripted_sends, send_effects, sendable}
-use Rattle.cany_model.specs.Rules.Station.{Sign, Station, after_notice, fda_frame, fda_of, found, found_in, having_heard, having_learnt, is_silent, knows, same_sign, sign_in, sign_of, station_of, told, told_in, with_signs}
-use Rattle.cany_model.specs.Rules.Totcan.{delivered_now, totcan}
+use Rattle.cany_model.specs.Rules.Membership.{views}
+use Rattle.cany_model.specs.Rules.Site.{station_of}
+use Rattle.cany_model.specs.Rules.Station.{Sign, Station, found, found_in, having_found, having_heard, having_learnt, is_silent, knows, same_sign, sign_in, sign_of, told, told_in, with_signs}
 use Rattle.cany_model.specs.Rules.Turn.{turn_effects}
 use Rattle.cany_model.proofs.Among.{Among-from_count, Among-weaker, any-from_Among, count-cons, count-no, count-yes}
-use Rattle.cany_model.proofs.Rules.BacklogFacts.{asks_enter_none as next_enters_none}
-use Rattle.cany_model.proofs.Rules.DeliveryFacts.{DeliversAtOnce, EntersNone, entered-append, entered-none, entries_at, entries_with}
-use Rattle.cany_model.proofs.Rules.EdcanFacts.{edcan_delivers}
-use Rattle.cany_model.proofs.Rules.RelcanFacts.{relcan_delivers}
-use Rattle.cany_model.proofs.Rules.SendFacts.{asks_enter_none as sends_enter_none}
-use Rattle.cany_model.proofs.Rules.StationFacts.{knows_heard, knows_with, same_sign-from, tells}
-use Rattle.cany_model.proofs.Rules.TotcanFacts.{totcan_enters}
+use Rattle.cany_model.proofs.Rules.DeliveryFacts.{entered-append, entered-none}
+use Rattle.cany_model.proofs.Rules.MembershipEntries.{IsOfView, views_enter}
+use Rattle.cany_model.proofs.Rules.StationFacts.{knows_found, knows_heard, knows_with, same_sign-from, tells}
+use Rattle.cany_model.proofs.Rules.TurnEntries.{copy_enters, sign_enters, turn_enters}
 
 -- the entry is that of the sign
 abbrev pub is_entry_of : Sign → LogEntry → Bool
@@ -89,95 +77,24 @@ module _ (sign : Sign) where
   count-append : (first rest : List LogEntry) → count (first ++ rest) ≡ count first + count rest
   count-append first rest = sum_by-append (λ entry. cond (is_entry_of sign entry) 1 0) first rest
 
-  -- ---- the other protocols enter no signs
+  -- ---- what a turn enters of the sign
 
-  abbrev IsNoSign : LogEntry → Type 0
-  IsNoSign (Deliver slot by msg payload) = Unit {0}
-  IsNoSign (Failed slot node cycle) = ⊥
-  IsNoSign (View slot number members) = Unit {0}
+  no_view : (entries : List LogEntry) → AllByRecursion IsOfView entries → count entries ≡ 0
+  no_view [] h = refl
+  no_view (Deliver slot by msg payload ∷ entries) h = absurd h.0
+  no_view (Failed slot node cycle ∷ entries) h = absurd h.0
+  no_view (View slot number members ∷ entries) h =
+      count-no (is_entry_of sign) (View slot number members) entries refl ∙ no_view entries h.1
 
-  none_counted : (entries : List LogEntry) → AllByRecursion IsNoSign entries → count entries ≡ 0
-  none_counted [] h = refl
-  none_counted (Deliver slot by msg payload ∷ entries) h =
-      count-no (is_entry_of sign) (Deliver slot by msg payload) entries refl ∙ none_counted entries h.1
-  none_counted (Failed slot node cycle ∷ entries) h = absurd h.0
-  none_counted (View slot number members ∷ entries) h =
-      count-no (is_entry_of sign) (View slot number members) entries refl ∙ none_counted entries h.1
-
-  delivered_with : (by : Service) (i : ℕ) (f : FrameParts) (e : NoticeKind) (before : List NoticeKind)
-      → AllByRecursion IsNoSign (entries_with by i f e before)
-  delivered_with by i f e before =
-      cond_both (same_class f.class (data_class by)) _ [] (AllByRecursion IsNoSign)
-      (λ _. cond_both (is_delivery i f e before) (delivery (length before) by f ∷ []) [] (AllByRecursion IsNoSign) (λ _. (tt, tt)) (λ _. tt))
-      (λ _. tt)
-
-  delivered_at : (by : Service) (i : ℕ) (e : NoticeKind) (before : List NoticeKind) → AllByRecursion IsNoSign (entries_at by i e before)
-  delivered_at by i Idle before = tt
-  delivered_at by i (Got f) before = delivered_with by i f (Got f) before
-  delivered_at by i (Sent f) before = delivered_with by i f (Sent f) before
-  delivered_at by i Bad before = tt
-
-  all_delivered : (slot : ℕ) (frames : List FrameParts) → AllByRecursion IsNoSign (map (delivery slot Tot) frames)
-  all_delivered slot [] = tt
-  all_delivered slot (f ∷ frames) = (tt, all_delivered slot frames)
-
-  module _ (scenario : ScenarioParts) (i : ℕ) (e : NoticeKind) (before : List NoticeKind) where
-    abbrev count_of : Protocol → ℕ
-    count_of p = count (entered (p.effects scenario i (e ∷ before)))
-
-    at_once : (p : Protocol) (by : Service) → DeliversAtOnce p by → count_of p ≡ 0
-    at_once p by at = ap count (at scenario i e before) ∙ none_counted (entries_at by i e before) (delivered_at by i e before)
-
-    totcan_none : count_of totcan ≡ 0
-    totcan_none =
-        ap count (totcan_enters scenario i e before)
-        ∙ none_counted (map (delivery (length before) Tot) (delivered_now scenario.params i (e ∷ before)))
-        (all_delivered (length before) (delivered_now scenario.params i (e ∷ before)))
-
-    life_none : count_of life_signs ≡ 0
-    unfolding life_effects
-    life_none =
-        ap count (entered-none (life_effects scenario i (e ∷ before))
-        (cond_both (is_due scenario.params.life i (length before) (station_of scenario i (e ∷ before)))
-        (Ask (els_frame scenario.inc i (signs_sent i (e ∷ before))) ∷ []) [] (AllByRecursion EntersNone) (λ _. (tt, tt)) (λ _. tt)))
-
-    sends_none : count_of scripted_sends ≡ 0
-    unfolding send_effects
-    sends_none = ap count (sends_enter_none (filter (is_sent_in i (length before)) (sendable scenario (length before))))
-
-    backlog_none : count_of tot_backlog ≡ 0
-    unfolding backlog_effects
-    backlog_none = ap count (next_enters_none (next_after scenario.params (e ∷ before) (backlog scenario i (e ∷ before)) (asked scenario i before)))
-
-    abbrev count_all : List Protocol → ℕ
-    count_all ps = count (entered (flat_map (λ p. p.effects scenario i (e ∷ before)) ps))
-
-    count_more : (p : Protocol) (ps : List Protocol) → count_all (p ∷ ps) ≡ count_of p + count_all ps
-    count_more p ps =
-        ap count (entered-append (p.effects scenario i (e ∷ before)) (flat_map (λ q. q.effects scenario i (e ∷ before)) ps))
-        ∙ count-append (entered (p.effects scenario i (e ∷ before))) (entered (flat_map (λ q. q.effects scenario i (e ∷ before)) ps))
-
-    -- so of a sign a turn enters what the rules of failure signs enter
-    turn_signs : count (entered (turn_effects scenario i (e ∷ before))) ≡ count (entered (failure_effects scenario i (e ∷ before)))
-    unfolding turn_effects entered
-    turn_signs =
-        let after : List Protocol = life_signs ∷ scripted_sends ∷ tot_backlog ∷ [] in
-        omega (
-          arith,
-          count_more edcan (relcan ∷ totcan ∷ failure_signs ∷ after),
-          count_more relcan (totcan ∷ failure_signs ∷ after),
-          count_more totcan (failure_signs ∷ after),
-          count_more failure_signs after,
-          count_more life_signs (scripted_sends ∷ tot_backlog ∷ []),
-          count_more scripted_sends (tot_backlog ∷ []),
-          count_more tot_backlog [],
-          at_once edcan Ed edcan_delivers,
-          at_once relcan Rel relcan_delivers,
-          totcan_none,
-          life_none,
-          sends_none,
-          backlog_none,
-        )
+  -- what the rules of failure signs enter
+  turn_signs : (scenario : ScenarioParts) (i : ℕ) (e : NoticeKind) (before : List NoticeKind)
+      → count (entered (turn_effects scenario i (e ∷ before))) ≡ count (entered (failure_effects scenario i (e ∷ before)))
+  turn_signs scenario i e before =
+      omega (
+        arith,
+        turn_enters (is_entry_of sign) (λ slot by msg payload. refl) scenario i e before,
+        no_view (entered (views.effects scenario i (e ∷ before))) (views_enter scenario i (e ∷ before)),
+      )
 
   -- ---- each sign that becomes known is entered
 
@@ -190,22 +107,6 @@ module _ (sign : Sign) where
       let node : s.node ≡ sign.node = eqb-true s.node sign.node parts.0 in
       let cycle : s.cycle ≡ sign.cycle = eqb-true s.cycle sign.cycle parts.1 in
       λ k. record { node = (sym node) k; cycle = (sym cycle) k }
-
-  copy_enters : (omit : ℕ) (e : NoticeKind) (past : List NoticeKind) → AllByRecursion EntersNone (fda_copy_effects omit e past)
-  unfolding fda_copy_effects
-  copy_enters omit Idle past = tt
-  copy_enters omit Bad past = tt
-  copy_enters omit (Sent f) past = tt
-  copy_enters omit (Got f) past =
-      cond_both (same_class f.class class.Fda && has_enough omit (identity_of f) past) (Withdraw (identity_of f) ∷ []) [] (AllByRecursion EntersNone)
-      (λ _. (tt, tt)) (λ _. tt)
-
-  sign_enters : (omit slot : ℕ) (past : List NoticeKind) (s : Sign) → entered (sign_effects omit slot past s) ≡ Failed slot s.node s.cycle ∷ []
-  unfolding sign_effects entered
-  sign_enters omit slot past s =
-      ap (λ rest. Failed slot s.node s.cycle ∷ rest)
-      (entered-none (if has_enough omit (fda_of s) past then [] else Ask (fda_frame s) ∷ [])
-      (cond_both (has_enough omit (fda_of s) past) [] (Ask (fda_frame s) ∷ []) (AllByRecursion EntersNone) (λ _. tt) (λ _. (tt, tt))))
 
   signs_enter : (omit slot : ℕ) (past : List NoticeKind) (signs : List Sign)
       → count (entered (flat_map (sign_effects omit slot past) signs)) ≡ count_by is_it signs
@@ -332,7 +233,7 @@ module _ (sign : Sign) where
   -- its entry stands there only once it is known, and at most once
   signs_known : (scenario : ScenarioParts) (i : ℕ) (past : List NoticeKind)
       → count (log_from scenario i past) ≤ one_if (knows sign (station_of scenario i past))
-  unfolding log_from station_of after_notice
+  unfolding log_from station_of
   signs_known scenario i [] = omega arith
   signs_known scenario i (e ∷ past) =
       let st : Station = station_of scenario i past in
@@ -341,6 +242,8 @@ module _ (sign : Sign) where
       let told_now : List Sign = told_in i (length past) e st in
       let found_now : List Sign = found_in scenario.params i (length past) e st in
       let same : one_if (knows sign heard) ≡ one_if (knows sign st) = ap one_if (knows_heard sign i (length past) e st) in
+      let stays : one_if (knows sign (station_of scenario i (e ∷ past)))
+      ≡ one_if (knows sign (having_found scenario.params i (length past) e st)) = ap one_if (knows_found scenario.params i (length past) e st sign) in
       omega (
         arith,
         count-append (log_from scenario i past) (entered (turn_effects scenario i (e ∷ past))),
@@ -349,6 +252,7 @@ module _ (sign : Sign) where
         same,
         then_known told_now heard (told_once e heard),
         then_known found_now learnt (found_once scenario.params i (length past) learnt),
+        stays,
         signs_known scenario i past,
       )
 

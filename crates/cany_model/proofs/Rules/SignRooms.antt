@@ -1,4 +1,5 @@
--- How many entries the log of a node has: each failure sign names a node and a cycle of the run, and what is no sign is a delivery.
+-- How many entries the log of a node has: each failure sign names a node and a cycle of the run, and what is neither a sign nor a view is a
+-- delivery.
 use Rattle.std.proofs.Common.{◌≡◌, ◌∙◌, ℕ, ◌+◌, ◌-◌, ◌*◌, ◌/◌, ◌<◌, ◌≤◌, ◌==◌, inl, inr, Bool, true, false, List, [], ◌∷◌, length, drop, count_by, refl, ap, subst, arith, div-mul-le_self, eq-eqb, eq-zero-or-pos, le_trans, length-drop}
 use Rattle.std.specs.List.{AllByRecursion}
 use Rattle.std.proofs.Math.Nat.{div-zero}
@@ -16,7 +17,7 @@ use Rattle.cany_model.specs.Rules.Notices.{BelongsTo, IsReadable, NamesNode}
 use Rattle.cany_model.specs.Rules.Protocol.{Protocol}
 use Rattle.cany_model.specs.Rules.Rooms.{cycles}
 use Rattle.cany_model.specs.Rules.Station.{Sign}
-use Rattle.cany_model.proofs.Among.{Among, Among-drop, Among-weaker, Each-weaker, count-no, count-yes}
+use Rattle.cany_model.proofs.Among.{Among, Among-drop, Among-weaker, Each-weaker, count-cons, one_if}
 use Rattle.cany_model.proofs.Rules.LogFacts.{log_split, made_by}
 use Rattle.cany_model.proofs.Rules.ProtocolFacts.{IsFoundedEntry, IsSignal}
 use Rattle.cany_model.proofs.Rules.RoomFacts.{count_below, pigeonhole, signs_below, stands_below}
@@ -132,46 +133,38 @@ few_signs scenario i past read within =
       count_below scenario.params.nodes (cycles scenario + 1),
     )
 
--- ---- deliveries and signs are all
+-- ---- deliveries, signs and views are all
 
 abbrev pub is_delivered : LogEntry → Bool
 is_delivered (Deliver slot by msg payload) = true
 is_delivered (Failed slot node cycle) = false
 is_delivered (View slot number members) = false
 
--- no protocol enters a view yet
-abbrev pub IsNoView : LogEntry → Type 0
-IsNoView (Deliver slot by msg payload) = Unit {0}
-IsNoView (Failed slot node cycle) = Unit {0}
-IsNoView (View slot number members) = ⊥
+abbrev pub is_view : LogEntry → Bool
+is_view (Deliver slot by msg payload) = false
+is_view (Failed slot node cycle) = false
+is_view (View slot number members) = true
 
-pub no_views : (scenario : ScenarioParts) (i : ℕ) (past : List NoticeKind) → AllByRecursion IsNoView (log_from scenario i past)
-no_views scenario i past = each_made IsNoView scenario i past (λ p place entry. plain p place entry)
+three_kinds : (entries : List LogEntry)
+    → length entries ≡ count_by is_delivered entries + count_by is_failed entries + count_by is_view entries
+three_kinds [] = refl
+three_kinds (entry ∷ entries) =
+    omega (
+      arith,
+      count-cons is_delivered entry entries,
+      count-cons is_failed entry entries,
+      count-cons is_view entry entries,
+      one_kind entry,
+      three_kinds entries,
+    )
   where
-    plain : (p : Protocol) (place : ℕ) (entry : LogEntry) → IsFoundedEntry scenario p i (drop place past) entry → IsNoView entry
-    plain p place (Deliver slot by msg payload) r = tt
-    plain p place (Failed slot node cycle) r = tt
-    plain p place (View slot number members) r = r
+    one_kind : (entry : LogEntry) → one_if (is_delivered entry) + one_if (is_failed entry) + one_if (is_view entry) ≡ 1
+    one_kind (Deliver slot by msg payload) = refl
+    one_kind (Failed slot node cycle) = refl
+    one_kind (View slot number members) = refl
 
-two_kinds : (entries : List LogEntry) → AllByRecursion IsNoView entries → length entries ≡ count_by is_delivered entries + count_by is_failed entries
-two_kinds [] h = refl
-two_kinds (Deliver slot by msg payload ∷ entries) h =
-    omega (
-      arith,
-      count-yes is_delivered (Deliver slot by msg payload) entries refl,
-      count-no is_failed (Deliver slot by msg payload) entries refl,
-      two_kinds entries h.1,
-    )
-two_kinds (Failed slot node cycle ∷ entries) h =
-    omega (
-      arith,
-      count-no is_delivered (Failed slot node cycle) entries refl,
-      count-yes is_failed (Failed slot node cycle) entries refl,
-      two_kinds entries h.1,
-    )
-two_kinds (View slot number members ∷ entries) h = absurd h.0
-
--- an entry of a log is that of a delivery or of a sign
+-- an entry of a log is that of a delivery, of a sign or of a view
 pub log_parts : (scenario : ScenarioParts) (i : ℕ) (past : List NoticeKind)
-    → length (log_from scenario i past) ≡ count_by is_delivered (log_from scenario i past) + count_by is_failed (log_from scenario i past)
-log_parts scenario i past = two_kinds (log_from scenario i past) (no_views scenario i past)
+    → length (log_from scenario i past)
+    ≡ count_by is_delivered (log_from scenario i past) + count_by is_failed (log_from scenario i past) + count_by is_view (log_from scenario i past)
+log_parts scenario i past = three_kinds (log_from scenario i past)

@@ -1,5 +1,5 @@
--- What a node knows of the site: its members stay, and what becomes known stays known.
-use Rattle.std.proofs.Common.{◌≡◌, ℕ, zero, suc, ◌==◌, ◌&&◌, ◌||◌, inl, inr, Bool, true, false, not, List, [], ◌∷◌, ◌++◌, map, filter, drop, length, refl, ap, sym, ◌∙◌, subst, arith}
+-- What a node knows of the site: nothing while it has only begun, and a sign that becomes known stays known.
+use Rattle.std.proofs.Common.{◌≡◌, ℕ, zero, suc, ◌==◌, ◌&&◌, ◌||◌, inl, inr, Bool, true, false, not, List, [], ◌∷◌, ◌++◌, map, filter, drop, length, None, refl, ap, sym, ◌∙◌, subst, arith}
 use Rattle.std.specs.List.{AllByRecursion, list_any, range_with_len}
 use Rattle.std.proofs.lemmas.Bool.{false≢true, and_from, and_parts, cases_Bool, cond_both, eq-eqb, eqb-true, not_from_false, or_cases, or_left, or_right}
 use Rattle.cany_base.specs.declared.frame.Class.TheVariants as class
@@ -11,39 +11,15 @@ use Rattle.cany_base.proofs.NodesFacts.{has_none}
 use Rattle.cany_model.specs.Bus.Frames.{Identity, identity_of, same_class}
 use Rattle.cany_model.specs.Bus.History.{is_got}
 use Rattle.cany_model.specs.Bus.Slot.{nobody}
-use Rattle.cany_model.specs.Rules.Station.{Sign, Station, after_life, after_notice, fda_of, found, found_in, having_heard, having_learnt, is_silent, knows, same_sign, shows_life, sign_in, sign_of, station_at_first, station_of, told, told_in, with_shown, with_sign, with_signs}
+use Rattle.cany_model.specs.Rules.Site.{after_notice, having_installed, having_met, station_of}
+use Rattle.cany_model.specs.Rules.Station.{Sign, Station, after_life, fda_of, found, found_in, having_found, having_heard, having_learnt, is_silent, knows, same_sign, shows_life, sign_in, sign_of, station_at_first, told, told_in, with_shown, with_sign, with_signs}
+use Rattle.cany_model.specs.Rules.Vectors.{brought, is_end, is_start, met}
+use Rattle.cany_model.specs.Rules.Views.{after_ask, start_of, with_ended}
 use Rattle.cany_model.proofs.Among.{Among, Each-weaker}
 use Rattle.cany_model.proofs.Bus.Carried.{is_got-true}
 use Rattle.cany_model.proofs.Bus.Identities.{same_class_self}
 use Rattle.cany_model.proofs.Rules.Begun.{IsBegun, begun_before}
-
--- ---- the members
-
--- what shows life, and a sign that becomes known, change no member
-life_keeps_members : (i slot : ℕ) (e : NoticeKind) (st : Station) → (after_life i slot e st).members ≡ st.members
-unfolding after_life
-life_keeps_members i slot Idle st = refl
-life_keeps_members i slot Bad st = refl
-life_keeps_members i slot (Got f) st = cond_both (shows_life f) (with_shown f.node slot st) st (λ s. s.members ≡ st.members) (λ _. refl) (λ _. refl)
-life_keeps_members i slot (Sent f) st =
-    cond_both (shows_life f && f.node == i) (record st { last = slot }) st (λ s. s.members ≡ st.members) (λ _. refl) (λ _. refl)
-
-signs_keep_members : (signs : List Sign) (st : Station) → (with_signs signs st).members ≡ st.members
-unfolding with_signs
-signs_keep_members [] st = refl
-signs_keep_members (sign ∷ signs) st = signs_keep_members signs _
-
-learnt_members : (i slot : ℕ) (e : NoticeKind) (st : Station) → (having_learnt i slot e st).members ≡ st.members
-learnt_members i slot e st = signs_keep_members (told_in i slot e st) (having_heard i slot e st) ∙ life_keeps_members i slot e st
-
--- so the members are those of the scenario
-pub station_members : (scenario : ScenarioParts) (i : ℕ) (past : List NoticeKind) → (station_of scenario i past).members ≡ scenario.members
-unfolding station_of after_notice
-station_members scenario i [] = refl
-station_members scenario i (e ∷ past) =
-    let st : Station = station_of scenario i past in
-    signs_keep_members (found_in scenario.params i (length past) e st) (having_learnt i (length past) e st)
-    ∙ learnt_members i (length past) e st ∙ station_members scenario i past
+use Rattle.cany_model.proofs.Rules.StationSteps.{signs_after}
 
 -- ---- silence
 
@@ -61,27 +37,61 @@ found_none p i slot st none =
     ap (λ rs. filter (λ sign. not (knows sign st)) (map (sign_in p slot) rs))
     (none_kept (is_silent p i slot st) (silent_none p i slot st none) (range_with_len 0 p.nodes))
 
--- at an idle notice only silence brings signs
-idle_is : (scenario : ScenarioParts) (i : ℕ) (past : List NoticeKind)
-    → station_of scenario i (Idle ∷ past) ≡ with_signs (found scenario.params i (length past) (station_of scenario i past)) (station_of scenario i past)
-unfolding station_of after_notice told with_signs after_life
-idle_is scenario i past = refl
+-- ---- a node that has only begun
 
 no_signs : (st : Station) → with_signs [] st ≡ st
 unfolding with_signs
 no_signs st = refl
 
+-- what a node knows that is no member and has read nothing
+abbrev pub outside : Station
+outside = station_at_first nobody
+
+-- in an idle slot it finds nobody, since there are no members
+outside_finds : (p : Parameters) (i slot : ℕ) → having_found p i slot Idle outside ≡ outside
+unfolding after_life told with_signs
+outside_finds p i slot = ap (λ signs. with_signs signs outside) (found_none p i slot outside refl) ∙ no_signs outside
+
+-- it meets no vector
+outside_meets : (p : Parameters) (i slot : ℕ) → having_met p i slot Idle outside ≡ outside
+unfolding after_ask met brought
+outside_meets p i slot = ap (λ (st : Station). record st { vector = None }) (outside_finds p i slot)
+
+-- so none ends the cycle
+pub outside_installs : (p : Parameters) (i slot : ℕ) → having_installed p i slot Idle outside ≡ outside
+unfolding with_ended met brought
+outside_installs p i slot =
+    cond_both (is_end p slot) None None (λ w. with_ended i slot w (having_met p i slot Idle outside) ≡ outside)
+    (λ _. outside_meets p i slot) (λ _. outside_meets p i slot)
+
+-- and it starts the next one with none
+outside_starts : (p : Parameters) (i slot : ℕ) → after_notice p i slot Idle outside ≡ outside
+unfolding after_notice
+outside_starts p i slot =
+    let st : Station = having_installed p i slot Idle outside in
+    let start : start_of i st ≡ None = ap (start_of i) (outside_installs p i slot) ∙ none_starts in
+    cond_both (is_start p slot) (record st { vector = start_of i st }) st (λ s. s ≡ outside)
+    (λ _. ap (λ w. record st { vector = w }) start ∙ ap (λ (s : Station). record s { vector = None }) (outside_installs p i slot))
+    (λ _. outside_installs p i slot)
+  where
+    none_starts : start_of i outside ≡ None
+    none_starts = rw (has_none i) refl
+
 -- a node that has only begun knows what it knew at first
-begun_station : (scenario : ScenarioParts) (i : ℕ) (past : List NoticeKind) → IsBegun scenario past
+pub begun_station : (scenario : ScenarioParts) (i : ℕ) (past : List NoticeKind) → IsBegun scenario past
     → station_of scenario i past ≡ station_at_first scenario.members
 unfolding station_of
 begun_station scenario i [] begun = refl
 begun_station scenario i (e ∷ past) begun =
-    let st : Station = station_of scenario i past in
-    let none : st.members ≡ nobody = station_members scenario i past ∙ begun.outside (omega arith) in
-    ap (λ n. station_of scenario i (n ∷ past)) begun.idle.0 ∙ idle_is scenario i past
-    ∙ ap (λ signs. with_signs signs st) (found_none scenario.params i (length past) st none) ∙ no_signs st
-    ∙ begun_station scenario i past (begun_before scenario e past begun)
+    let none : station_at_first scenario.members ≡ outside = ap station_at_first (begun.outside (omega arith)) in
+    ap (λ n. station_of scenario i (n ∷ past)) begun.idle.0
+    ∙ ap (after_notice scenario.params i (length past) Idle) (begun_station scenario i past (begun_before scenario e past begun) ∙ none)
+    ∙ outside_starts scenario.params i (length past) ∙ sym none
+
+-- so it has the members of the scenario
+pub begun_members : (scenario : ScenarioParts) (i : ℕ) (past : List NoticeKind) → IsBegun scenario past
+    → (station_of scenario i past).members ≡ scenario.members
+begun_members scenario i past begun = ap (λ (st : Station). st.members) (begun_station scenario i past begun)
 
 -- ---- signs
 
@@ -128,6 +138,11 @@ knows_heard sign i slot (Got f) st =
 knows_heard sign i slot (Sent f) st =
     cond_both (shows_life f && f.node == i) (record st { last = slot }) st (λ s. knows sign s ≡ knows sign st) (λ _. refl) (λ _. refl)
 
+-- the other steps of a turn leave what is known
+pub knows_found : (p : Parameters) (i slot : ℕ) (e : NoticeKind) (st : Station) (sign : Sign)
+    → knows sign (after_notice p i slot e st) ≡ knows sign (having_found p i slot e st)
+knows_found p i slot e st sign = ap (list_any (same_sign sign)) (signs_after p i slot e st)
+
 -- those that become known in the turn: from the notice, and by silence
 abbrev pub newly : Parameters → ℕ → ℕ → NoticeKind → Station → List Sign
 newly p i slot e st = told_in i slot e st ++ found_in p i slot e st
@@ -152,12 +167,13 @@ each_tells (x ∷ signs) = (
 pub known_after : (scenario : ScenarioParts) (i : ℕ) (e : NoticeKind) (past : List NoticeKind) (sign : Sign)
     → knows sign (station_of scenario i (e ∷ past))
     ≡ (tells sign (newly scenario.params i (length past) e (station_of scenario i past)) || knows sign (station_of scenario i past))
-unfolding station_of after_notice
+unfolding station_of
 known_after scenario i e past sign =
     let st : Station = station_of scenario i past in
     let a : List Sign = told_in i (length past) e st in
     let b : List Sign = found_in scenario.params i (length past) e st in
-    knows_with sign b (having_learnt i (length past) e st)
+    knows_found scenario.params i (length past) e st sign
+    ∙ knows_with sign b (having_learnt i (length past) e st)
     ∙ ap (λ k. tells sign b || k) (knows_with sign a (having_heard i (length past) e st) ∙ ap (λ k. tells sign a || k) (knows_heard sign i (length past) e st))
     ∙ swapped (tells sign a) (tells sign b) (knows sign st)
     ∙ ap (λ k. k || knows sign st) (sym (any_two sign a b))

@@ -13,6 +13,7 @@ use Rattle.cany_model.specs.Rules.Backlog.{tot_backlog}
 use Rattle.cany_model.specs.Rules.Edcan.{edcan}
 use Rattle.cany_model.specs.Rules.Effect.{Effect}
 use Rattle.cany_model.specs.Rules.Life.{failure_effects, failure_signs, life_signs}
+use Rattle.cany_model.specs.Rules.Membership.{scripted_asks, vectors, views}
 use Rattle.cany_model.specs.Rules.Messages.{Message, messages_of, data_frame, data_id}
 use Rattle.cany_model.specs.Rules.Protocol.{Protocol}
 use Rattle.cany_model.specs.Rules.Relcan.{falls_back, fell_back, relcan}
@@ -30,6 +31,8 @@ use Rattle.cany_model.proofs.Rules.Protocols.{IsProtocol, are_lawful, edcan_is_o
 use Rattle.cany_model.proofs.Rules.RelcanFacts.{relcan_asks, relcan_falls_back, relcan_is_lawful}
 use Rattle.cany_model.proofs.Rules.SendFacts.{sends_are_lawful, sends_ask, sends_cause}
 use Rattle.cany_model.proofs.Rules.TotcanFacts.{totcan_is_lawful}
+use Rattle.cany_model.proofs.Rules.VectorFacts.{vectors_are_lawful}
+use Rattle.cany_model.proofs.Rules.ViewFacts.{asks_are_lawful, views_are_lawful}
 
 -- ---- the list
 
@@ -98,11 +101,16 @@ rel_cause scenario i m past is rel h =
       | inr (inl late) ↦ inr (relcan_asks scenario i (data_id m) past of late)
       | inr (inr (inl tot)) ↦ absurd (not_asked scenario totcan totcan_is_lawful i past (data_id m) (ap totcan.names of) tot)
       | inr (inr (inr (inl fda))) ↦ absurd (not_asked scenario failure_signs failures_are_lawful i past (data_id m) (ap failure_signs.names of) fda)
-      | inr (inr (inr (inr (inl els)))) ↦ absurd (not_asked scenario life_signs life_is_lawful i past (data_id m) (ap life_signs.names of) els)
-      | inr (inr (inr (inr (inr (inl sent))))) ↦ inl (sends_cause scenario i m past is sent)
-      | inr (inr (inr (inr (inr (inr (inl next)))))) ↦
+      | inr (inr (inr (inr (inl rha)))) ↦ absurd (not_asked scenario vectors vectors_are_lawful i past (data_id m) (ap vectors.names of) rha)
+      | inr (inr (inr (inr (inr (inl view))))) ↦ absurd (not_asked scenario views views_are_lawful i past (data_id m) (ap views.names of) view)
+      | inr (inr (inr (inr (inr (inr (inl els)))))) ↦
+          absurd (not_asked scenario life_signs life_is_lawful i past (data_id m) (ap life_signs.names of) els)
+      | inr (inr (inr (inr (inr (inr (inr (inl sent))))))) ↦ inl (sends_cause scenario i m past is sent)
+      | inr (inr (inr (inr (inr (inr (inr (inr (inl asks)))))))) ↦
+          absurd (not_asked scenario scripted_asks asks_are_lawful i past (data_id m) (ap scripted_asks.names of) asks)
+      | inr (inr (inr (inr (inr (inr (inr (inr (inr (inl next))))))))) ↦
           absurd (not_asked scenario tot_backlog backlog_is_lawful i past (data_id m) (ap tot_backlog.names of) next)
-      | inr (inr (inr (inr (inr (inr (inr none)))))) ↦ absurd none
+      | inr (inr (inr (inr (inr (inr (inr (inr (inr (inr none))))))))) ↦ absurd none
     ]
 
 -- the frame of a failure sign by the rules of failure signs
@@ -115,10 +123,16 @@ fda_cause scenario i x past fda h =
       | inr (inl rel) ↦ absurd (not_asked scenario relcan relcan_is_lawful i past x (ap relcan.names fda) rel)
       | inr (inr (inl tot)) ↦ absurd (not_asked scenario totcan totcan_is_lawful i past x (ap totcan.names fda) tot)
       | inr (inr (inr (inl sign))) ↦ sign
-      | inr (inr (inr (inr (inl els)))) ↦ absurd (not_asked scenario life_signs life_is_lawful i past x (ap life_signs.names fda) els)
-      | inr (inr (inr (inr (inr (inl sent))))) ↦ absurd (not_asked scenario scripted_sends sends_are_lawful i past x (ap scripted_sends.names fda) sent)
-      | inr (inr (inr (inr (inr (inr (inl next)))))) ↦ absurd (not_asked scenario tot_backlog backlog_is_lawful i past x (ap tot_backlog.names fda) next)
-      | inr (inr (inr (inr (inr (inr (inr none)))))) ↦ absurd none
+      | inr (inr (inr (inr (inl rha)))) ↦ absurd (not_asked scenario vectors vectors_are_lawful i past x (ap vectors.names fda) rha)
+      | inr (inr (inr (inr (inr (inl view))))) ↦ absurd (not_asked scenario views views_are_lawful i past x (ap views.names fda) view)
+      | inr (inr (inr (inr (inr (inr (inl els)))))) ↦ absurd (not_asked scenario life_signs life_is_lawful i past x (ap life_signs.names fda) els)
+      | inr (inr (inr (inr (inr (inr (inr (inl sent))))))) ↦
+          absurd (not_asked scenario scripted_sends sends_are_lawful i past x (ap scripted_sends.names fda) sent)
+      | inr (inr (inr (inr (inr (inr (inr (inr (inl asks)))))))) ↦
+          absurd (not_asked scenario scripted_asks asks_are_lawful i past x (ap scripted_asks.names fda) asks)
+      | inr (inr (inr (inr (inr (inr (inr (inr (inr (inl next))))))))) ↦
+          absurd (not_asked scenario tot_backlog backlog_is_lawful i past x (ap tot_backlog.names fda) next)
+      | inr (inr (inr (inr (inr (inr (inr (inr (inr (inr none))))))))) ↦ absurd none
     ]
 
 -- each frame that is asked for has what follows from the reason

@@ -1,5 +1,5 @@
 -- The rules that a text gives are legal.
-use Rattle.std.proofs.Common.{◌≡◌, ◌≢◌, ℕ, ◌-◌, ◌<◌, ◌≤◌, ◌==◌, Bool, true, false, ◌||◌, not, nat_le, nat_lt, List, [], ◌∷◌, length, Option, Some, None, refl, ap, sym, ◌∙◌, arith, lit≤, suc}
+use Rattle.std.proofs.Common.{◌≡◌, ◌≢◌, ℕ, ◌-◌, ◌≤◌, Bool, true, false, not, nat_le, List, [], ◌∷◌, length, Option, Some, None, refl, ap, sym, ◌∙◌, arith, lit≤, suc}
 use Rattle.cany_base.specs.declared.frame.Format.{Format}
 use Rattle.cany_base.specs.Layout.{layout}
 use Rattle.cany_base.specs.declared.frame.Format.TheVariants.{One, Two}
@@ -8,57 +8,26 @@ use Rattle.std.specs.Bool.{Decides}
 use Rattle.std.specs.List.{list_any}
 use Rattle.std.specs.Str.{bytes_eq}
 use Rattle.std.proofs.lemmas.Bool.{and_parts, and_from, not-true, not_from_false, false_from_ne_true, false≢true}
-use Rattle.std.proofs.lemmas.Bool.Decides.{nat_tests}
-use Rattle.std.proofs.lemmas.List.Elements.{All-nil, All-head, All-tail}
+use Rattle.std.proofs.lemmas.List.Elements.{All-nil}
 use Rattle.std.proofs.lemmas.List.Folds.{list_any_at, list_any_none}
 use Rattle.std.proofs.lemmas.List.Kept.{AllPairs-cons}
 use Rattle.std.proofs.lemmas.Option.{same_Some}
 use Rattle.toml.specs.Data.{Data, as_str, as_array, as_table, Members, get_member}
-use Rattle.cany_base.specs.Limits.{greatest_attempt, most_nodes, most_rules}
+use Rattle.cany_base.specs.Limits.{greatest_attempt, most_rules}
 use Rattle.cany_base.specs.declared.rule.Place.{Place}
 use Rattle.cany_base.specs.declared.rule.Place.TheVariants.{At, FrameNth}
 use Rattle.cany_base.specs.declared.rule.Rule.{Rule}
 use Rattle.cany_base.specs.declared.rule.Verdict.{Verdict}
 use Rattle.cany_base.specs.declared.rule.Verdict.TheVariants.{Clean, Lost, Partial, Silent}
 use Rattle.cany_base.specs.Nodes.{Nodes, AllBelow}
-use Rattle.cany_base.proofs.NodesFacts.{has-those_where}
 use Rattle.cany_base.proofs.PlaceFacts.{same_place-true, same_place_self}
 use Rattle.cany_base.specs.Params.{Parameters, IsInRange}
 use Rattle.cany_base.specs.Scenario.{IsPlaceOf, IsVerdictOf, IsRuleOf, same_place, HaveDistinctPlaces}
+use Rattle.cany_model.specs.Texts.NodesText.{set_of, nodes_from}
 use Rattle.cany_model.specs.Texts.TomlKeys.{has_only, required, optional, number_from, each_of}
-use Rattle.cany_model.specs.Texts.FaultsText.{set_of, nodes_from, verdict_named, verdict_from, class_from, slot_rule_keys, frame_rule_keys, slot_place_from, frame_place_from, is_frame_rule, place_from, rule_from, have_distinct_places, rules_from}
-use Rattle.cany_model.proofs.Texts.TomlSteps.{bind_some, only_if-true, number_from-range, required-range, some_node, below_count, few-from_test, optional-holds, each_of-All}
-
--- ---- sets of nodes
-
-one_more_below : (bound number node : ℕ) (among : Bool) → number < bound → (among ≡ true → node < bound) → (number == node || among) ≡ true → node < bound
-one_more_below bound number node true here rest h = rest refl
-one_more_below bound number node false here rest h = grind (arith, nat_tests)
-
-among_below : (bound : ℕ) (numbers : List ℕ) (node : ℕ) → All (λ number. number < bound) numbers → list_any (λ number. number == node) numbers ≡ true → node < bound
-among_below bound [] node all h = absurd (false≢true h)
-among_below bound (number ∷ rest) node all h =
-    let IsBelow : ℕ → Type 0 = λ n. n < bound in
-    one_more_below bound number node (list_any (λ n. n == node) rest) (All-head IsBelow number rest all) (among_below bound rest node (All-tail IsBelow number rest all)) h
-
-set_of-below : (bound : ℕ) (numbers : List ℕ) → All (λ number. number < bound) numbers → AllBelow bound (set_of numbers)
-set_of-below bound numbers all node h =
-    let tests = sym (has-those_where (λ n. list_any (λ number. number == n) numbers) node) ∙ h in
-    among_below bound numbers node all (and_parts (nat_lt node most_nodes) _ tests).1
-
-nodes_from-below : (p : Parameters) → IsInRange p → (value : Data) (nodes : Nodes) → nodes_from p value ≡ Some nodes → AllBelow p.nodes nodes
-unfolding nodes_from
-nodes_from-below p r value nodes h =
-    let entries = bind_some (as_array value) _ nodes h in
-    let numbers = bind_some (each_of (number_from 0 (p.nodes - 1)) entries.0) _ nodes entries.2 in
-    let made = same_Some (set_of numbers.0) nodes numbers.2 in
-    let all = each_of-All (λ number. number < p.nodes) (number_from 0 (p.nodes - 1))
-    (λ entry number e. below_count p.nodes number (some_node p.nodes (layout p.format).nodes r.nodes) (number_from-range 0 (p.nodes - 1) entry number e)) entries.0 numbers.0 numbers.1 in
-    rw (← made) (set_of-below p.nodes numbers.0 all)
-
-nodes_at-below : (p : Parameters) → IsInRange p → (key : List ℕ) (entry : Members) (nodes : Nodes) → optional (nodes_from p) (set_of []) key entry ≡ Some nodes → AllBelow p.nodes nodes
-nodes_at-below p r key entry nodes h =
-    optional-holds (AllBelow p.nodes) (nodes_from p) (set_of []) (set_of-below p.nodes [] (All-nil _)) (nodes_from-below p r) (get_member key entry) nodes h
+use Rattle.cany_model.specs.Texts.FaultsText.{verdict_named, verdict_from, class_from, slot_rule_keys, frame_rule_keys, slot_place_from, frame_place_from, is_frame_rule, place_from, rule_from, have_distinct_places, rules_from}
+use Rattle.cany_model.proofs.Texts.NodesTextLegal.{nobody-below, nodes_at-below}
+use Rattle.cany_model.proofs.Texts.TomlSteps.{bind_some, only_if-true, required-range, some_node, below_count, few-from_test, optional-holds, each_of-All}
 
 -- ---- a rule
 
@@ -124,11 +93,11 @@ rule_from-of p r value rule h =
     let verdict = bind_some (optional (verdict_from reject.0) Clean (codes "verdict") entry.0) _ rule reject.2 in
     let stop = bind_some (optional (nodes_from p) (set_of []) (codes "stop") entry.0) _ rule verdict.2 in
     let made = same_Some _ rule stop.2 in
-    let rejects = nodes_at-below p r (codes "reject") entry.0 reject.0 reject.1 in
+    let rejects = nodes_at-below p r (set_of []) (nobody-below p) (codes "reject") entry.0 reject.0 reject.1 in
     rw (← made) (record {
       place = place_from-of p r entry.0 place.0 place.1;
       verdict = optional-holds (IsVerdictOf p) (verdict_from reject.0) Clean tt (verdict_from-of p reject.0 rejects) (get_member (codes "verdict") entry.0) verdict.0 verdict.1;
-      stop = nodes_at-below p r (codes "stop") entry.0 stop.0 stop.1;
+      stop = nodes_at-below p r (set_of []) (nobody-below p) (codes "stop") entry.0 stop.0 stop.1;
     })
 
 -- ---- the places

@@ -1,5 +1,5 @@
 -- The scenario that a text stands for is legal.
-use Rattle.std.proofs.Common.{◌≡◌, ℕ, ◌-◌, ◌<◌, ◌≤◌, min, max, Bool, true, false, ◌&&◌, nat_le, nat_lt, List, [], length, Option, Some, None, refl, ap, sym, ◌∙◌, arith, lit≤}
+use Rattle.std.proofs.Common.{◌≡◌, ℕ, ◌-◌, ◌≤◌, min, max, Bool, true, false, nat_le, nat_lt, List, [], length, Option, Some, None, refl, ap, sym, ◌∙◌, arith, lit≤}
 use Rattle.cany_base.specs.Layout.{layout}
 use Rattle.std.specs.Prelude.{All, is_ok, codes, if◌then◌else◌, Result, Err}
 use Rattle.std.specs.Option.{option_map_or}
@@ -10,18 +10,20 @@ use Rattle.toml.specs.Data.{Data, as_array, as_table, Members, get_member}
 use Rattle.cany_base.specs.declared.message.SendAsk.{SendAsk}
 use Rattle.cany_base.specs.declared.frame.Format.TheVariants.{One}
 use Rattle.cany_base.specs.declared.params.ParamFault.{ParamFault}
-use Rattle.cany_base.specs.Nodes.{those_where, AllBelow}
-use Rattle.cany_base.proofs.NodesFacts.{has-those_where}
-use Rattle.cany_base.specs.Limits.{greatest_errors, greatest_given, greatest_lag, greatest_omit, greatest_slots, most_nodes, most_sends}
+use Rattle.cany_base.specs.Limits.{greatest_errors, greatest_given, greatest_lag, greatest_omit, greatest_slots, most_joins, most_leaves, most_sends}
 use Rattle.cany_base.specs.Params.{Parameters, IsInRange, MeetsFormulas, least_bound, least_cycle, least_life, least_silence, first_fault}
 use Rattle.cany_base.specs.Scenario.{ScenarioParts, IsLegalScenario, IsSendOf}
 use Rattle.cany_model.specs.Texts.TomlKeys.{has_only, required, optional, number_from, each_of}
 use Rattle.cany_model.specs.Texts.ParamsText.{given_params, params_of}
 use Rattle.cany_model.specs.Texts.SendsText.{payload_from, service_from, send_keys, send_from, sends_from}
+use Rattle.cany_model.specs.Texts.AsksText.{asks_from}
 use Rattle.cany_model.specs.Texts.FaultsText.{rules_from}
+use Rattle.cany_model.specs.Texts.NodesText.{nodes_from, all_nodes}
 use Rattle.cany_model.specs.Texts.JournalText.{journal_at}
-use Rattle.cany_model.specs.Texts.ScenarioText.{document_of, top_keys, ends_in_time, scenario_from, scenario_of}
+use Rattle.cany_model.specs.Texts.ScenarioText.{document_of, top_keys, scenario_from, scenario_of}
+use Rattle.cany_model.proofs.Texts.AsksTextLegal.{asks_at-legal}
 use Rattle.cany_model.proofs.Texts.FaultsTextLegal.{AreRulesOf, no_rules, rules_from-legal}
+use Rattle.cany_model.proofs.Texts.NodesTextLegal.{all_nodes-below, nodes_at-below}
 use Rattle.cany_model.proofs.Texts.TomlSteps.{bind_some, only_if-true, number_from-range, required-range, some_node, below_count, few-from_test, optional-holds, each_of-All}
 
 -- ---- parameters
@@ -168,38 +170,36 @@ sends_from-legal p value sends r h =
 
 -- ---- the scenario
 
-below_from_tests : (node nodes : ℕ) → (nat_lt node most_nodes && nat_lt node nodes) ≡ true → node < nodes
-below_from_tests node nodes h = grind (arith, nat_tests)
-
-all_nodes-below : (nodes : ℕ) → AllBelow nodes (those_where (λ node. nat_lt node nodes))
-all_nodes-below nodes node h = below_from_tests node nodes (sym (has-those_where (λ node. nat_lt node nodes) node) ∙ h)
-
 pub scenario_from-legal : (top : Members) (s : ScenarioParts) → scenario_from top ≡ Some s → IsLegalScenario s
 unfolding scenario_from
 scenario_from-legal top s h =
     let known = only_if-true (has_only top_keys top) _ s h in
     let params = bind_some (params_of top) _ s known.1 in
-    let in_time = only_if-true (ends_in_time params.0) _ s params.2 in
-    let sends = bind_some (optional (sends_from params.0) [] (codes "send") top) _ s in_time.1 in
+    let members = bind_some (optional (nodes_from params.0) (all_nodes params.0) (codes "members") top) _ s params.2 in
+    let sends = bind_some (optional (sends_from params.0) [] (codes "send") top) _ s members.2 in
     let rules = bind_some (optional (rules_from params.0) [] (codes "fault") top) _ s sends.2 in
-    let journal = bind_some (journal_at top) _ s rules.2 in
+    let joins = bind_some (optional (asks_from most_joins params.0) [] (codes "join") top) _ s rules.2 in
+    let leaves = bind_some (optional (asks_from most_leaves params.0) [] (codes "leave") top) _ s joins.2 in
+    let journal = bind_some (journal_at top) _ s leaves.2 in
     let made = same_Some _ s journal.2 in
     let legal = params_of-legal top params.0 params.1 in
     let legal_sends = optional-holds (AreSendsOf params.0) (sends_from params.0) [] (no_sends params.0) (λ value found. sends_from-legal params.0 value found legal.0) (get_member (codes "send") top) sends.0 sends.1 in
     let legal_rules = optional-holds (AreRulesOf params.0) (rules_from params.0) [] (no_rules params.0) (λ value found. rules_from-legal params.0 value found legal.0) (get_member (codes "fault") top) rules.0 rules.1 in
+    let legal_joins = asks_at-legal most_joins params.0 legal.0 (codes "join") top joins.0 joins.1 in
+    let legal_leaves = asks_at-legal most_leaves params.0 legal.0 (codes "leave") top leaves.0 leaves.1 in
     rw (← made) (record {
       in_range = legal.0;
       formulas = legal.1;
-      members = all_nodes-below params.0.nodes;
+      members = nodes_at-below params.0 legal.0 (all_nodes params.0) (all_nodes-below params.0) (codes "members") top members.0 members.1;
       sends = legal_sends.0;
       rules = legal_rules.all;
-      joins = All-nil _;
-      leaves = All-nil _;
+      joins = legal_joins.0;
+      leaves = legal_leaves.0;
       restarts = All-nil _;
       few_sends = legal_sends.1;
       few_rules = legal_rules.few;
-      few_joins = lit≤ tt;
-      few_leaves = lit≤ tt;
+      few_joins = legal_joins.1;
+      few_leaves = legal_leaves.1;
       few_restarts = lit≤ tt;
       few_of_node = λ node. lit≤ tt;
       places = legal_rules.apart;

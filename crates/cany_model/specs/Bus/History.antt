@@ -1,14 +1,15 @@
 -- What a node has read: for each slot below the next one that it has to read, newest first, what it gave the present
 -- incarnation.
-use Rattle.std.specs.Prelude.{ℕ, zero, suc, ◌-◌, ◌==◌, ◌&&◌, Bool, false, not, nat_lt, if◌then◌else◌, List, length, map, drop, count_by, None}
+use Rattle.std.specs.Prelude.{ℕ, zero, suc, ◌-◌, ◌==◌, ◌&&◌, ◌||◌, Bool, false, not, nat_lt, if◌then◌else◌, List, length, map, drop, count_by, None}
 use Rattle.std.specs.List.{list_any}
+use Rattle.cany_base.specs.declared.frame.Class.TheVariants as class
 use Rattle.cany_base.specs.declared.notice.NoticeKind.{NoticeKind}
 use Rattle.cany_base.specs.declared.notice.NoticeKind.TheVariants.{Idle, Got, Sent, Bad}
 use Rattle.cany_base.specs.declared.slot_note.SlotNote.{SlotNote}
 use Rattle.cany_model.specs.declared.share.Share.{Share}
 use Rattle.cany_model.specs.declared.share.Share.TheVariants as share
-use Rattle.cany_model.specs.Bus.Frames.{Identity, is_of}
-use Rattle.cany_model.specs.Bus.Slot.{share_of}
+use Rattle.cany_model.specs.Bus.Frames.{Identity, is_of, same_class}
+use Rattle.cany_model.specs.Bus.Slot.{carried, share_of}
 use Rattle.cany_model.specs.Bus.State.{Incarnation, Ended, RunState, node_at}
 
 -- the notice that a share in a slot leads to
@@ -23,10 +24,14 @@ notice_of share.Errored = Bad
 abbrev pub given : ℕ → SlotNote → NoticeKind
 given i note = notice_of (share_of i note)
 
--- whether a slot comes before the first one in which an incarnation takes part, so that its notice counts as idle: the one of the
--- opening takes part in all
+-- whether the slot carries a vector of a membership cycle before this one
+abbrev pub carries_early : ℕ → SlotNote → Bool
+carries_early cycle note = carried (λ f. same_class f.class class.Rha && nat_lt f.number cycle) note
+
+-- whether a slot comes before the first one in which an incarnation takes part, or carries a vector of a cycle before the first in which
+-- it does, so that its notice counts as idle: the incarnation of the opening takes part in all
 unfoldable pub is_hidden : Incarnation → SlotNote → Bool
-is_hidden inc note = not (inc.number == 0) && nat_lt note.slot inc.from
+is_hidden inc note = not (inc.number == 0) && (nat_lt note.slot inc.from || carries_early inc.cycle note)
 
 -- the slot as the incarnation sees it: idle, where it is hidden
 unfoldable pub as_seen : Incarnation → SlotNote → SlotNote

@@ -1,5 +1,5 @@
 -- Restarts: at the end of a slot, after the stops, each stopped node of a restart entry of the slot starts again.
-use Rattle.std.specs.Prelude.{ℕ, ◌+◌, ◌-◌, ◌==◌, ◌&&◌, ◌||◌, Bool, not, if◌then◌else◌, List, [], ◌∷◌}
+use Rattle.std.specs.Prelude.{ℕ, ◌+◌, ◌-◌, ◌/◌, ◌==◌, ◌&&◌, ◌||◌, Bool, not, if◌then◌else◌, List, [], ◌∷◌}
 use Rattle.std.specs.List.{list_any}
 use Rattle.cany_base.specs.declared.message.NodeAsk.{NodeAsk}
 use Rattle.cany_base.specs.Nodes.{Nodes, those_where}
@@ -14,10 +14,19 @@ is_restart slot i ask = ask.slot == slot && ask.node == i
 unfoldable pub names_restart : List NodeAsk → ℕ → ℕ → Bool
 names_restart restarts slot i = list_any (is_restart slot i) restarts
 
+-- the first membership cycle that does not start before the slot
+abbrev pub first_cycle : Parameters → ℕ → ℕ
+first_cycle p slot = (slot + (p.cycle - 1)) / p.cycle
+
 -- The incarnation that begins at the end of a slot. It takes part only so much later that no window of bound + lag slots has
 -- frames sent by two incarnations of a node.
 abbrev pub next_incarnation : Parameters → ℕ → Incarnation → Incarnation
-next_incarnation p slot inc = record { number = inc.number + 1; since = slot + 1; from = slot + 1 + (p.bound + p.lag) }
+next_incarnation p slot inc = record {
+  number = inc.number + 1;
+  since = slot + 1;
+  from = slot + 1 + (p.bound + p.lag);
+  cycle = first_cycle p (slot + 1 + (p.bound + p.lag));
+}
 
 -- the incarnation of a node that ends when the slot does
 abbrev pub ended_at : ℕ → NodeState → Ended

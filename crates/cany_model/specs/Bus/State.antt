@@ -3,12 +3,14 @@ use Rattle.std.specs.Prelude.{ℕ, ◌-◌, Bool, List, [], Option, Some, None, 
 use Rattle.cany_base.specs.declared.slot_note.SlotNote.{SlotNote}
 use Rattle.cany_base.specs.Frame.{FrameParts}
 
--- An incarnation of a node: its number, counted from 0 at the opening; the first slot that gives it a notice; and the first in
--- which it takes part. The notice of an earlier slot counts as idle, and no scripted ask of one is made.
+-- An incarnation of a node: its number, counted from 0 at the opening; the first slot that gives it a notice; the first in which
+-- it takes part; and the first membership cycle in which it does. The notice of an earlier slot counts as idle, and no scripted ask of
+-- one is made. So does the notice of a slot that carries a vector of an earlier cycle.
 pub record Incarnation : Type 0 where
   pub number : ℕ
   pub since : ℕ
   pub from : ℕ
+  pub cycle : ℕ
 
 -- an incarnation as it is when it ends: the next slot that it would have read, and the slot of its stop
 pub record Ended : Type 0 where
@@ -33,7 +35,7 @@ pub record RunState : Type 0 where
   pub nodes : List NodeState
 
 abbrev pub original : Incarnation
-original = record { number = 0; since = 0; from = 0 }
+original = record { number = 0; since = 0; from = 0; cycle = 0 }
 
 abbrev pub fresh : NodeState
 fresh = record { present = original; ended = []; unread = 0; waiting = []; transmit = 0; receive = 0; stopped = None }

@@ -31,13 +31,13 @@ pub record WasSent (trace : List SlotNote) (m : Message) (slot : ℕ) : Type 0 w
   pub sender : has note.senders m.origin ≡ true
 
 -- what an entry delivers is a message of the scenario that was sent, and a failure that it tells of is that of a node of the bus, in a
--- cycle that had begun by then
+-- cycle that had begun by then. The number of a view is that of the cycle of its slot.
 abbrev pub IsSound : ScenarioParts → RunState → LogEntry → Type 0
 IsSound scenario s (Deliver slot service msg payload) =
     (m : Message) × Contains (messages_of scenario.sends) m × (message_key m ≡ msg) × (m.service ≡ service)
     × (m.payload ≡ payload) × WasSent s.trace m slot
 IsSound scenario s (Failed slot node cycle) = (node < scenario.params.nodes) × (cycle ≤ slot / scenario.params.cycle)
-IsSound scenario s (View slot number members) = Unit {0}
+IsSound scenario s (View slot number members) = number ≡ slot / scenario.params.cycle
 
 -- no message twice or unsent in the log of a correct node, and no failure of a node that is not there
 pub record IsIntegral (scenario : ScenarioParts) (s : RunState) : Type 0 where

@@ -12,7 +12,8 @@ use Rattle.cany_model.specs.Bus.Frames.{identity_of, same_class}
 use Rattle.cany_model.specs.Rules.Eager.{has_enough}
 use Rattle.cany_model.specs.Rules.Effect.{Effect, Ask, Withdraw, Enter, TurnRule}
 use Rattle.cany_model.specs.Rules.Protocol.{Protocol, nothing_ahead}
-use Rattle.cany_model.specs.Rules.Station.{Sign, Station, fda_frame, fda_of, found_in, station_of, told_in}
+use Rattle.cany_model.specs.Rules.Site.{station_of}
+use Rattle.cany_model.specs.Rules.Station.{Sign, Station, fda_frame, fda_of, found_in, told_in}
 
 -- ---- failure signs
 

@@ -1,7 +1,8 @@
 -- How much a node can come to hold in a run: what it may ask for, what it may enter.
-use Rattle.std.specs.Prelude.{ℕ, ◌+◌, ◌*◌, ◌/◌, ◌<◌, ◌≤◌, length, count_by}
+use Rattle.std.specs.Prelude.{◌≡◌, ℕ, ◌+◌, ◌*◌, ◌/◌, ◌<◌, ◌≤◌, List, length, count_by, Contains}
 use Rattle.cany_base.specs.declared.frame.Class.{Class}
 use Rattle.cany_base.specs.declared.frame.Class.TheVariants.{Accept, Rha, Els, Fda, Join, Leave, Confirm, Tot, Rel, Ed}
+use Rattle.cany_base.specs.declared.message.NodeAsk.{NodeAsk}
 use Rattle.cany_base.specs.declared.message.Service.{Service}
 use Rattle.cany_base.specs.declared.message.Service.TheVariants as service
 use Rattle.cany_base.specs.Scenario.{ScenarioParts}
@@ -18,22 +19,35 @@ pub record IsOfLife (scenario : ScenarioParts) (x : Identity) : Type 0 where
   pub node : x.node < scenario.params.nodes
   pub passed : x.number * scenario.params.life ≤ scenario.params.slots
 
--- A frame of this identity may come to wait at a node, by its class: it is a frame of a message of the service, a failure sign, or a
--- life sign. No protocol asks for frames of the other classes yet.
-abbrev pub IsAskableAs : ScenarioParts → Identity → Class → Type 0
-IsAskableAs scenario x Accept = IsOfMessage scenario service.Tot x
-IsAskableAs scenario x Rha = ⊥
-IsAskableAs scenario x Els = IsOfLife scenario x
-IsAskableAs scenario x Fda = IsOfNode scenario scenario.params.cycle x
-IsAskableAs scenario x Join = ⊥
-IsAskableAs scenario x Leave = ⊥
-IsAskableAs scenario x Confirm = IsOfMessage scenario service.Rel x
-IsAskableAs scenario x Tot = IsOfMessage scenario service.Tot x
-IsAskableAs scenario x Rel = IsOfMessage scenario service.Rel x
-IsAskableAs scenario x Ed = IsOfMessage scenario service.Ed x
+-- the identity names node i, and a membership cycle of the run
+pub record IsOfVector (scenario : ScenarioParts) (i : ℕ) (x : Identity) : Type 0 where
+  pub node : x.node ≡ i
+  pub number : x.number ≤ scenario.params.slots / scenario.params.cycle
 
-abbrev pub IsAskable : ScenarioParts → Identity → Type 0
-IsAskable scenario x = IsAskableAs scenario x x.class
+-- the identity names node i, and the cycle of one of these scripted asks of it
+pub record IsOfAsk (scenario : ScenarioParts) (asks : List NodeAsk) (i : ℕ) (x : Identity) : Type 0 where
+  pub ask : NodeAsk
+  pub stands : Contains asks ask
+  pub asker : ask.node ≡ i
+  pub node : x.node ≡ i
+  pub number : x.number ≡ ask.slot / scenario.params.cycle
+
+-- A frame of this identity may come to wait at node i, by its class: it is a frame of a message of the service, a vector of its own, a
+-- life sign, a failure sign, or a scripted ask of its own.
+abbrev pub IsAskableAs : ScenarioParts → ℕ → Identity → Class → Type 0
+IsAskableAs scenario i x Accept = IsOfMessage scenario service.Tot x
+IsAskableAs scenario i x Rha = IsOfVector scenario i x
+IsAskableAs scenario i x Els = IsOfLife scenario x
+IsAskableAs scenario i x Fda = IsOfNode scenario scenario.params.cycle x
+IsAskableAs scenario i x Join = IsOfAsk scenario scenario.joins i x
+IsAskableAs scenario i x Leave = IsOfAsk scenario scenario.leaves i x
+IsAskableAs scenario i x Confirm = IsOfMessage scenario service.Rel x
+IsAskableAs scenario i x Tot = IsOfMessage scenario service.Tot x
+IsAskableAs scenario i x Rel = IsOfMessage scenario service.Rel x
+IsAskableAs scenario i x Ed = IsOfMessage scenario service.Ed x
+
+abbrev pub IsAskable : ScenarioParts → ℕ → Identity → Type 0
+IsAskable scenario i x = IsAskableAs scenario i x x.class
 
 -- at most so many membership cycles start after slot 0
 abbrev pub cycles : ScenarioParts → ℕ

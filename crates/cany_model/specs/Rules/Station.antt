@@ -1,5 +1,5 @@
 -- What a node knows of the site from what it has read: who the members are, which nodes have failed, and when each last showed life.
-use Rattle.std.specs.Prelude.{ℕ, ◌-◌, ◌/◌, ◌==◌, ◌&&◌, ◌||◌, Bool, not, nat_le, if◌then◌else◌, List, [], ◌∷◌, filter, map, length}
+use Rattle.std.specs.Prelude.{ℕ, ◌-◌, ◌/◌, ◌==◌, ◌&&◌, ◌||◌, Bool, not, nat_le, if◌then◌else◌, List, [], ◌∷◌, filter, map, Option, None}
 use Rattle.std.specs.List.{list_any, range_with_len}
 use Rattle.cany_base.specs.declared.frame.Class.TheVariants as class
 use Rattle.cany_base.specs.declared.notice.NoticeKind.{NoticeKind}
@@ -7,7 +7,6 @@ use Rattle.cany_base.specs.declared.notice.NoticeKind.TheVariants.{Idle, Got, Se
 use Rattle.cany_base.specs.Frame.{FrameParts}
 use Rattle.cany_base.specs.Nodes.{Nodes, has, those_where}
 use Rattle.cany_base.specs.Params.{Parameters}
-use Rattle.cany_base.specs.Scenario.{ScenarioParts}
 use Rattle.cany_model.specs.Bus.Frames.{Identity, identity_of, same_class}
 use Rattle.cany_model.specs.Bus.Slot.{nobody}
 
@@ -43,10 +42,24 @@ pub record Station : Type 0 where
   -- the slot in which each other node last showed life, and the one of the node's own last life: 0 where there was none
   pub shown : ℕ → ℕ
   pub last : ℕ
+  -- the nodes that have asked to join the view, and the members that have asked to leave it
+  pub joiners : Nodes
+  pub leavers : Nodes
+  -- its vector, while vectors are exchanged
+  pub vector : Option Nodes
 
 -- before it has read anything
 abbrev pub station_at_first : Nodes → Station
-station_at_first members = record { members = members; failed = nobody; signs = []; shown = λ r. 0; last = 0 }
+station_at_first members = record {
+  members = members;
+  failed = nobody;
+  signs = [];
+  shown = λ r. 0;
+  last = 0;
+  joiners = nobody;
+  leavers = nobody;
+  vector = None;
+}
 
 abbrev pub knows : Sign → Station → Bool
 knows sign station = list_any (same_sign sign) station.signs
@@ -131,12 +144,3 @@ found_in p i slot notice before = found p i slot (having_learnt i slot notice be
 
 abbrev pub having_found : Parameters → ℕ → ℕ → NoticeKind → Station → Station
 having_found p i slot notice before = with_signs (found_in p i slot notice before) (having_learnt i slot notice before)
-
--- after the turn
-unfoldable pub after_notice : Parameters → ℕ → ℕ → NoticeKind → Station → Station
-after_notice p i slot notice before = having_found p i slot notice before
-
--- what node i knows once it has read this
-unfoldable pub station_of : ScenarioParts → ℕ → List NoticeKind → Station
-station_of scenario i [] = station_at_first scenario.members
-station_of scenario i (notice ∷ before) = after_notice scenario.params i (length before) notice (station_of scenario i before)

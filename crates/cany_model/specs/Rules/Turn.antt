@@ -10,6 +10,7 @@ use Rattle.cany_model.specs.Rules.Backlog.{tot_backlog}
 use Rattle.cany_model.specs.Rules.Edcan.{edcan}
 use Rattle.cany_model.specs.Rules.Effect.{Effect, Ask, Withdraw, Enter, TurnRule}
 use Rattle.cany_model.specs.Rules.Life.{failure_signs, life_signs}
+use Rattle.cany_model.specs.Rules.Membership.{scripted_asks, vectors, views}
 use Rattle.cany_model.specs.Rules.Messages.{Message, data_id}
 use Rattle.cany_model.specs.Rules.Protocol.{Protocol}
 use Rattle.cany_model.specs.Rules.Relcan.{relcan}
@@ -18,7 +19,8 @@ use Rattle.cany_model.specs.Rules.Totcan.{totcan}
 
 -- the protocols, in the order in which a turn goes through them
 abbrev pub protocols : List Protocol
-protocols = edcan ∷ relcan ∷ totcan ∷ failure_signs ∷ life_signs ∷ scripted_sends ∷ tot_backlog ∷ []
+protocols =
+    edcan ∷ relcan ∷ totcan ∷ failure_signs ∷ vectors ∷ views ∷ life_signs ∷ scripted_sends ∷ scripted_asks ∷ tot_backlog ∷ []
 
 -- one after another
 unfoldable pub turn_effects : TurnRule

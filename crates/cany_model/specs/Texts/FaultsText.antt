@@ -1,5 +1,5 @@
 -- The scripted faults that a scenario text gives.
-use Rattle.std.specs.Prelude.{ℕ, ◌-◌, ◌==◌, ◌&&◌, not, nat_le, Bool, true, List, [], ◌∷◌, length, Option, Some, None, is_some, find, codes, if◌then◌else◌}
+use Rattle.std.specs.Prelude.{ℕ, ◌-◌, ◌&&◌, not, nat_le, Bool, true, List, [], ◌∷◌, length, Option, Some, None, is_some, find, codes, if◌then◌else◌}
 use Rattle.cany_base.specs.declared.frame.Format.TheVariants.{One}
 use Rattle.std.specs.List.{list_any}
 use Rattle.std.specs.Str.{bytes_eq}
@@ -12,22 +12,12 @@ use Rattle.cany_base.specs.declared.rule.Place.TheVariants.{At, FrameNth}
 use Rattle.cany_base.specs.declared.rule.Rule.{Rule}
 use Rattle.cany_base.specs.declared.rule.Verdict.{Verdict}
 use Rattle.cany_base.specs.declared.rule.Verdict.TheVariants.{Clean, Lost, Partial, Silent}
-use Rattle.cany_base.specs.Nodes.{Nodes, those_where}
+use Rattle.cany_base.specs.Nodes.{Nodes}
 use Rattle.cany_base.specs.Params.{Parameters}
 use Rattle.cany_base.specs.Scenario.{same_place}
+use Rattle.cany_model.specs.Texts.NodesText.{set_of, nodes_from}
 use Rattle.cany_model.specs.Texts.ReportLines.{class_name}
 use Rattle.cany_model.specs.Texts.TomlKeys.{◌>>=◌, only_if, has_only, required, optional, number_from, each_of}
-
--- the set of the nodes with these numbers, of which one may stand twice
-abbrev pub set_of : List ℕ → Nodes
-set_of numbers = those_where (λ node. list_any (λ number. number == node) numbers)
-
--- an array of numbers of nodes of the bus
-unfoldable pub nodes_from : Parameters → Data → Option Nodes
-nodes_from params value = do
-  entries ← as_array value
-  numbers ← each_of (number_from 0 (params.nodes - 1)) entries
-  Some (set_of numbers)
 
 -- the verdict of this name, where these nodes reject the frame: two of the verdicts have no use for them
 abbrev pub verdict_named : List ℕ → Nodes → Option Verdict
