@@ -1,0 +1,6 @@
+pub mod ActFacts
+pub mod CycleFacts
+pub mod PastFacts
+pub mod ReadFacts
+pub mod SetFacts
+pub mod TurnFacts

@@ -1,0 +1,12 @@
+//! Reception history vectors: in each membership cycle the nodes come to one set of nodes by exchanging it.
+#![tactic(auto)]
+
+mod cycle;
+mod ended;
+mod history;
+#[cfg(test)]
+mod tests;
+mod threads;
+
+pub use ended::Ended;
+pub use history::History;
