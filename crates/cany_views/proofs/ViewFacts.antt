@@ -1,0 +1,114 @@
+-- What a value of views stands for with other sets: before anything is heard, outside, and with a vector that becomes the view.
+use Rattle.std.proofs.Common.{◌≡◌, ℕ, ◌<◌, refl, ap, sym, ◌∙◌}
+use Rattle.std.proofs.lemmas.Bool.{false≢true}
+use Rattle.cany_base.specs.Nodes.{AllBelow, Nodes}
+use Rattle.cany_base.specs.Scenario.{ScenarioParts, IsLegalScenario}
+use Rattle.cany_base.proofs.NodesFacts.{has_none}
+use Rattle.cany_model.specs.Bus.Slot.{nobody}
+use Rattle.cany_model.specs.Rules.Station.{Station, station_at_first}
+use Rattle.cany_model.specs.Rules.Vectors.{meet}
+use Rattle.cany_model.specs.Rules.Views.{minus, with_view}
+use Rattle.cany_views.specs.Views.{HasNodesOfBus, IsInBounds, IsViewsOf, ViewsParts, asked_cycles}
+use Rattle.cany_views.specs.ViewsSteps.{installed}
+use Rattle.cany_views.proofs.AskFacts.{asked_small, cycle_small}
+use Rattle.cany_views.proofs.SetFacts.{below_meet, below_minus}
+
+-- ---- with other sets
+
+abbrev pub with_sets : Nodes → Nodes → Nodes → ViewsParts → ViewsParts
+with_sets members joiners leavers v = record v { members = members; joiners = joiners; leavers = leavers }
+
+-- it keeps its bounds
+pub bounds_with : (v : ViewsParts) (members joiners leavers : Nodes) → IsInBounds v
+    → HasNodesOfBus (with_sets members joiners leavers v) → IsInBounds (with_sets members joiners leavers v)
+bounds_with v members joiners leavers h below =
+    record { node = h.node; below = below; cycles = h.cycles; joins = h.joins; leaves = h.leaves }
+
+-- and stands for a station that has these sets
+pub stands_with : (scenario : ScenarioParts) (i : ℕ) (station after : Station) (v : ViewsParts) (members joiners leavers : Nodes)
+    → IsViewsOf scenario i station v → HasNodesOfBus (with_sets members joiners leavers v)
+    → members ≡ after.members → joiners ≡ after.joiners → leavers ≡ after.leavers
+    → IsViewsOf scenario i after (with_sets members joiners leavers v)
+stands_with scenario i station after v members joiners leavers h below is_members is_joiners is_leavers = record {
+  legal = h.legal;
+  node = h.node;
+  params = h.params;
+  members = is_members;
+  joiners = is_joiners;
+  leavers = is_leavers;
+  below = below;
+  joins = h.joins;
+  leaves = h.leaves;
+}
+
+-- ---- before anything is heard
+
+nobody_below : (bound : ℕ) → AllBelow bound nobody
+nobody_below bound i is = absurd (false≢true (sym (has_none i) ∙ is))
+
+-- outside no member is known, and nobody has asked
+pub outside_below : (v : ViewsParts) → HasNodesOfBus (with_sets nobody nobody nobody v)
+outside_below v = record {
+  members = nobody_below v.params.nodes;
+  joiners = nobody_below v.params.nodes;
+  leavers = nobody_below v.params.nodes;
+}
+
+pub outside_stands : (scenario : ScenarioParts) (i : ℕ) (station : Station) (v : ViewsParts) → IsViewsOf scenario i station v
+    → IsViewsOf scenario i (station_at_first nobody) (with_sets nobody nobody nobody v)
+outside_stands scenario i station v h =
+    stands_with scenario i station (station_at_first nobody) v nobody nobody nobody h (outside_below v) refl refl refl
+
+-- the value that is built
+abbrev pub first_views : ScenarioParts → ℕ → ViewsParts
+first_views scenario i = record {
+  node = i;
+  params = scenario.params;
+  members = scenario.members;
+  joiners = nobody;
+  leavers = nobody;
+  joins = asked_cycles scenario.params i scenario.joins;
+  leaves = asked_cycles scenario.params i scenario.leaves;
+}
+
+pub first_stands : (scenario : ScenarioParts) (i : ℕ) → IsLegalScenario scenario
+    → IsViewsOf scenario i (station_at_first scenario.members) (first_views scenario i)
+first_stands scenario i legal = record {
+  legal = legal;
+  node = refl;
+  params = refl;
+  members = refl;
+  joiners = refl;
+  leavers = refl;
+  below = record {
+    members = legal.members;
+    joiners = nobody_below scenario.params.nodes;
+    leavers = nobody_below scenario.params.nodes;
+  };
+  joins = refl;
+  leaves = refl;
+}
+
+pub first_bounds : (scenario : ScenarioParts) (i : ℕ) → IsLegalScenario scenario → i < scenario.params.nodes
+    → IsInBounds (first_views scenario i)
+first_bounds scenario i legal near = record {
+  node = near;
+  below = (first_stands scenario i legal).below;
+  cycles = cycle_small scenario legal;
+  joins = asked_small scenario legal i scenario.joins legal.joins;
+  leaves = asked_small scenario legal i scenario.leaves legal.leaves;
+}
+
+-- ---- a vector becomes the view
+
+pub view_stands : (scenario : ScenarioParts) (i : ℕ) (station : Station) (v : ViewsParts) → IsViewsOf scenario i station v
+    → (slot : ℕ) (vector : Nodes) → AllBelow v.params.nodes vector
+    → IsViewsOf scenario i (with_view i slot vector station) (installed vector v)
+view_stands scenario i station v h slot vector below =
+    stands_with scenario i station (with_view i slot vector station) v vector (minus v.joiners vector) (meet v.leavers vector) h
+    (record {
+      members = below;
+      joiners = below_minus v.params.nodes v.joiners vector h.below.joiners;
+      leavers = below_meet v.params.nodes v.leavers vector h.below.leavers;
+    })
+    refl (ap (λ joiners. minus joiners vector) h.joiners) (ap (λ leavers. meet leavers vector) h.leavers)

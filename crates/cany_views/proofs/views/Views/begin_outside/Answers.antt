@@ -1,0 +1,18 @@
+use Rattle.std.proofs.Common.{subst, sym}
+use Rattle.cany_model.specs.Bus.Slot.{nobody}
+use Rattle.cany_views.specs.Views.{IsViewsOf}
+use Rattle.cany_views.specs.ViewsFields.{parts_of}
+use Rattle.cany_views.proofs.ViewFacts.{bounds_with, outside_below, outside_stands}
+use Rattle.cany_views.proofs.views.Views.begin_outside.Goals as goal
+
+pub invariant_of-self : goal.invariant_of-self
+invariant_of-self c =
+    let v = parts_of c.self.inside in
+    rw (c.nobody-self-inside.ensures, c.nobody-self-inside-2.ensures, c.nobody-self-inside-3.ensures)
+    (bounds_with v nobody nobody nobody c.self.invariant (outside_below v))
+
+pub returns-clause-stands : goal.returns-clause-stands
+returns-clause-stands c = λ scenario station h.
+    rw (c.nobody-self-inside.ensures, c.nobody-self-inside-2.ensures, c.nobody-self-inside-3.ensures)
+    (outside_stands scenario c.args.self.now.node station (parts_of c.self.inside)
+    (subst (λ v. IsViewsOf scenario c.args.self.now.node station v) (sym c.self.view_is) h))

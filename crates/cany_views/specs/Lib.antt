@@ -1,0 +1,4 @@
+pub mod Small
+pub mod Views
+pub mod ViewsFields
+pub mod ViewsSteps

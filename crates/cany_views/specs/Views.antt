@@ -1,0 +1,63 @@
+-- What a value of views stands for.
+use Rattle.std.specs.Prelude.{◌≡◌, ℕ, ◌<◌, ◌==◌, List, filter, map, All}
+use Rattle.cany_base.specs.declared.message.NodeAsk.{NodeAsk}
+use Rattle.cany_base.specs.declared.notice.Notice.{Notice}
+use Rattle.cany_base.specs.Limits.{most_numbers}
+use Rattle.cany_base.specs.Nodes.{AllBelow, Nodes}
+use Rattle.cany_base.specs.Params.{Parameters}
+use Rattle.cany_base.specs.Scenario.{ScenarioParts, IsLegalScenario}
+use Rattle.cany_model.specs.Rules.Notices.{IsReadable}
+use Rattle.cany_model.specs.Rules.Station.{Station}
+use Rattle.cany_model.specs.Rules.Vectors.{cycle_of}
+
+-- the node, the parameters, its view of the site, the nodes that have asked to join it and those that have asked to leave it, and the
+-- cycles in which the node's own script asks to join and to leave
+pub record ViewsParts : Type 0 where
+  pub node : ℕ
+  pub params : Parameters
+  pub members : Nodes
+  pub joiners : Nodes
+  pub leavers : Nodes
+  pub joins : List ℕ
+  pub leaves : List ℕ
+
+-- the sets have nodes of the bus alone
+pub record HasNodesOfBus (v : ViewsParts) : Type 0 where
+  pub members : AllBelow v.params.nodes v.members
+  pub joiners : AllBelow v.params.nodes v.joiners
+  pub leavers : AllBelow v.params.nodes v.leavers
+
+-- frames can have each of these numbers
+abbrev pub AreNumbers : List ℕ → Type 0
+AreNumbers cycles = All (λ cycle. cycle < most_numbers) cycles
+
+-- What is true of every value: its nodes are those of the bus, and frames can have the numbers of the cycles of the run and of its asks.
+pub record IsInBounds (v : ViewsParts) : Type 0 where
+  pub node : v.node < v.params.nodes
+  pub below : HasNodesOfBus v
+  pub cycles : (slot : ℕ) → slot < v.params.slots → cycle_of v.params slot < most_numbers
+  pub joins : AreNumbers v.joins
+  pub leaves : AreNumbers v.leaves
+
+-- the cycles of those of the asks that node i makes, in file order
+abbrev pub asked_cycles : Parameters → ℕ → List NodeAsk → List ℕ
+asked_cycles p i asks = map (λ ask. cycle_of p ask.slot) (filter (λ ask. ask.node == i) asks)
+
+-- The value is that of node i where it knows what this station knows of members, and of who has asked.
+pub record IsViewsOf (scenario : ScenarioParts) (i : ℕ) (station : Station) (v : ViewsParts) : Type 0 where
+  pub legal : IsLegalScenario scenario
+  pub node : v.node ≡ i
+  pub params : v.params ≡ scenario.params
+  pub members : v.members ≡ station.members
+  pub joiners : v.joiners ≡ station.joiners
+  pub leavers : v.leavers ≡ station.leavers
+  pub below : HasNodesOfBus v
+  pub joins : v.joins ≡ asked_cycles scenario.params i scenario.joins
+  pub leaves : v.leaves ≡ asked_cycles scenario.params i scenario.leaves
+
+-- there is a scenario, and what is known in it, that the value stands for, and its nodes can read the notice
+pub record CanHear (v : ViewsParts) (notice : Notice) : Type 0 where
+  pub scenario : ScenarioParts
+  pub station : Station
+  pub stands : IsViewsOf scenario v.node station v
+  pub readable : IsReadable scenario notice.slot notice.kind

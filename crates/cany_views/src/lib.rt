@@ -1,0 +1,11 @@
+//! Views of the site: who asks to join and to leave, what a member starts a cycle with, and how a vector becomes the view.
+#![tactic(auto)]
+
+mod asks;
+mod sets;
+#[cfg(test)]
+mod tests;
+mod threads;
+mod views;
+
+pub use views::Views;

@@ -1,0 +1,302 @@
+ghost use Rattle.std.specs.Prelude.{◌≡◌, ℕ, ◌+◌, ◌<◌, ◌≤◌, ◌++◌, length, Some, IfOk, IfSome};
+ghost use Rattle.cany_base.specs.declared.frame.Class.TheVariants as class;
+ghost use Rattle.cany_base.specs.Nodes.{AllBelow, has};
+ghost use Rattle.cany_base.specs.Scenario.{ScenarioParts};
+ghost use Rattle.cany_model.specs.Bus.Slot.{nobody};
+ghost use Rattle.cany_model.specs.Rules.Actions.{actions_of};
+ghost use Rattle.cany_model.specs.Rules.Notices.{IsReadable};
+ghost use Rattle.cany_model.specs.Rules.Station.{Station, station_at_first};
+ghost use Rattle.cany_model.specs.Rules.Vectors.{cycle_of};
+ghost use Rattle.cany_model.specs.Rules.Views.{after_ask, join_asked, leave_asked, minus, plus, start_of, view_effects, with_view};
+ghost use Rattle.cany_views.specs.Views.{CanHear, IsViewsOf};
+ghost use Rattle.cany_views.specs.ViewsSteps.{heard_join, heard_leave, installed, installed_actions, withdrawals};
+
+use crate::asks::{ask_frame, asked_cycles, withdraw_asks};
+use crate::sets::{meet, minus, nobody, plus, with_node};
+use cany_base::{
+    Action, Actions, BoundedVec, Class, Frame, LogEntry, Memory, NodeId, NodeSet, Notice,
+    NoticeKind, Params, Scenario, Slot,
+};
+use cany_history::Ended;
+use cany_message::is_of_class;
+use std::alloc::Global;
+use std::marker::Model;
+
+/// The view of the site at one node, and who has asked to join it and to leave it.
+///
+/// This project's own rule. A node outside the view asks to join it, a member asks to leave it. At the start of a membership cycle a
+/// member offers the members that have not failed and do not leave, and those that join. The vector to which the nodes come by the end
+/// of the cycle becomes the view.
+#[derive(Drop)]
+pub struct Views {
+    node: NodeId,
+    params: Params,
+    /// The view: before the first that is installed, the members of the scenario.
+    members: NodeSet,
+    /// The nodes outside the view that have asked to join it.
+    joiners: NodeSet,
+    /// The members that have asked to leave the view.
+    leavers: NodeSet,
+    /// The cycles in which the node's script asks to join, in file order.
+    joins: BoundedVec<u16>,
+    /// The cycles in which the node's script asks to leave, in file order.
+    leaves: BoundedVec<u16>,
+}
+
+impl Model for Views {
+    ghost use Rattle.cany_views.specs.Views.{ViewsParts, IsInBounds};
+    ghost use Rattle.cany_views.specs.ViewsFields.{parts_of};
+
+    ghost Value = { ViewsParts };
+
+    ghost view = { parts_of };
+
+    ghost invariant = { λ v. IsInBounds (parts_of v) };
+}
+
+impl Views {
+    /// That of a node that has read nothing. The members are those of the scenario, and nobody has asked.
+    pub fn build(alloc: Global, node: NodeId, scenario: &Scenario) -> Result<Views, Memory>
+        requires { node < scenario.now.params.nodes }
+        ensures { IfOk result (λ views. IsViewsOf scenario.now node (station_at_first scenario.now.members) views) }
+    {
+        let params = *scenario.params();
+        let joins = asked_cycles(alloc, &params, node, scenario.joins())?;
+        let leaves = asked_cycles(alloc, &params, node, scenario.leaves())?;
+        Ok(Views {
+            node,
+            params,
+            members: scenario.members(),
+            joiners: nobody(),
+            leavers: nobody(),
+            joins,
+            leaves,
+        })
+    }
+
+    /// That of a node which is at first no member, as one that starts again: it knows no member, and of nobody that has asked.
+    pub fn begin_outside(&mut self)
+        ensures stands { (scenario : ScenarioParts) (station : Station) → IsViewsOf scenario self.old.node station self.old →
+            IsViewsOf scenario self.old.node (station_at_first nobody) self.new }
+        ensures node { self.new.node ≡ self.old.node }
+        ensures params { self.new.params ≡ self.old.params }
+        ensures joins { self.new.joins ≡ self.old.joins }
+        ensures leaves { self.new.leaves ≡ self.old.leaves }
+    {
+        self.members = nobody();
+        self.joiners = nobody();
+        self.leavers = nobody();
+    }
+
+    /// Who asks in a notice to join the view or to leave it. A join counts where it is got, a leave also where it is the node's own.
+    pub fn hear(&mut self, notice: &Notice)
+        requires { CanHear self.old notice.now }
+        ensures stands { (scenario : ScenarioParts) (station : Station) → IsViewsOf scenario self.old.node station self.old →
+            IsReadable scenario notice.now.slot notice.now.kind →
+            IsViewsOf scenario self.old.node (after_ask notice.now.kind station) self.new }
+        ensures node { self.new.node ≡ self.old.node }
+        ensures params { self.new.params ≡ self.old.params }
+        ensures joins { self.new.joins ≡ self.old.joins }
+        ensures leaves { self.new.leaves ≡ self.old.leaves }
+    {
+        match &notice.kind {
+            NoticeKind::Got(frame) => {
+                if is_of_class(frame, Class::Join) {
+                    self.hear_join(frame);
+                } else if is_of_class(frame, Class::Leave) {
+                    self.hear_leave(frame);
+                }
+            }
+            NoticeKind::Sent(frame) => {
+                if is_of_class(frame, Class::Leave) {
+                    self.hear_leave(frame);
+                }
+            }
+            NoticeKind::Idle => {}
+            NoticeKind::Bad => {}
+        }
+    }
+
+    /// The view of the site.
+    pub fn members(&self) -> NodeSet
+        ensures members { result ≡ self.now.members }
+        ensures below { AllBelow self.now.params.nodes result }
+    {
+        self.members
+    }
+
+    /// What a member starts a cycle with, where these nodes have failed: the members that have not failed and do not leave, and those
+    /// that join. A node that is no member starts with nothing.
+    pub fn start(&self, failed: NodeSet) -> Option<NodeSet>
+        requires failed { AllBelow self.now.params.nodes failed }
+        ensures exact { (scenario : ScenarioParts) (station : Station) → IsViewsOf scenario self.now.node station self.now →
+            ((r : ℕ) → has failed r ≡ has station.failed r) → result ≡ start_of self.now.node station }
+        ensures below { IfSome result (AllBelow self.now.params.nodes) }
+    {
+        if self.members.has(self.node) {
+            Some(self.offered(failed))
+        } else {
+            None
+        }
+    }
+
+    /// The vector of a cycle that ends becomes the view. The nodes that are newly admitted, which were not in the view before.
+    ///
+    /// A node of the new view enters it in its log and withdraws its asks to join. One that is not in it withdraws its asks to leave.
+    /// At most one action is appended, and one for each scripted ask of the node.
+    pub fn install(&mut self, ended: Ended, now: Slot, out: &mut Actions) -> NodeSet
+        requires vector { AllBelow self.old.params.nodes ended.vector }
+        requires cycle { ended.cycle ≡ cycle_of self.old.params now }
+        requires room { length out.old.items + 1 + length self.old.joins + length self.old.leaves ≤ out.old.room }
+        ensures newly { result ≡ minus ended.vector self.old.members }
+        ensures below { AllBelow self.old.params.nodes result }
+        ensures stands { (scenario : ScenarioParts) (station : Station) → IsViewsOf scenario self.old.node station self.old →
+            IsViewsOf scenario self.old.node (with_view self.old.node now ended.vector station) self.new }
+        ensures actions { (scenario : ScenarioParts) (station : Station) → IsViewsOf scenario self.old.node station self.old →
+            out.new.items ≡ out.old.items ++ actions_of scenario.params.format
+            (view_effects scenario.params scenario.joins scenario.leaves self.old.node now (Some ended.vector)) }
+        ensures node { self.new.node ≡ self.old.node }
+        ensures params { self.new.params ≡ self.old.params }
+        ensures joins { self.new.joins ≡ self.old.joins }
+        ensures leaves { self.new.leaves ≡ self.old.leaves }
+        ensures few { length out.new.items ≤ length out.old.items + 1 + length self.old.joins + length self.old.leaves }
+        ensures room { out.new.room ≡ out.old.room }
+    {
+        let newly = minus(ended.vector, self.members);
+        self.become_view(ended.vector);
+        self.act_on_view(&ended, now, out);
+        newly
+    }
+
+    /// In the turn of a slot in which the node's script asks to join: a node that is no member asks.
+    ///
+    /// At most one action is appended. The frame tells no incarnation: its node does that.
+    pub fn ask_join(&self, now: Slot, out: &mut Actions)
+        requires now { now < self.now.params.slots }
+        requires room { length out.old.items < out.old.room }
+        ensures actions { out.new.items ≡ out.old.items
+            ++ actions_of self.now.params.format (join_asked self.now.params 0 self.now.node now self.now.members) }
+        ensures few { length out.new.items ≤ length out.old.items + 1 }
+        ensures room { out.new.room ≡ out.old.room }
+    {
+        if !self.members.has(self.node) {
+            let cycle = self.cycle_of(now);
+            out.push(Action::Ask(ask_frame(Class::Join, cycle, self.node)));
+        }
+    }
+
+    /// In the turn of a slot in which the node's script asks to leave: a member asks.
+    ///
+    /// At most one action is appended. The frame tells no incarnation: its node does that.
+    pub fn ask_leave(&self, now: Slot, out: &mut Actions)
+        requires now { now < self.now.params.slots }
+        requires room { length out.old.items < out.old.room }
+        ensures actions { out.new.items ≡ out.old.items
+            ++ actions_of self.now.params.format (leave_asked self.now.params 0 self.now.node now self.now.members) }
+        ensures few { length out.new.items ≤ length out.old.items + 1 }
+        ensures room { out.new.room ≡ out.old.room }
+    {
+        if self.members.has(self.node) {
+            let cycle = self.cycle_of(now);
+            out.push(Action::Ask(ask_frame(Class::Leave, cycle, self.node)));
+        }
+    }
+
+    /// The members that have not failed and do not leave, and those that join.
+    fn offered(&self, failed: NodeSet) -> NodeSet
+        ensures nodes { result ≡ plus (minus (minus self.now.members failed) self.now.leavers) self.now.joiners }
+        ensures below { AllBelow self.now.params.nodes result }
+    {
+        let stay = minus(minus(self.members, failed), self.leavers);
+        plus(stay, self.joiners)
+    }
+
+    /// The node that the frame names asks to join the view, if it is outside.
+    fn hear_join(&mut self, frame: &Frame)
+        requires { frame.now.node < self.old.params.nodes }
+        ensures { self.new ≡ heard_join frame.now.node self.old }
+    {
+        if !self.members.has(frame.node) {
+            self.joiners = with_node(self.joiners, frame.node);
+        }
+    }
+
+    /// The node that the frame names asks to leave the view, if it is a member.
+    fn hear_leave(&mut self, frame: &Frame)
+        requires { frame.now.node < self.old.params.nodes }
+        ensures { self.new ≡ heard_leave frame.now.node self.old }
+    {
+        if self.members.has(frame.node) {
+            self.leavers = with_node(self.leavers, frame.node);
+        }
+    }
+
+    /// The vector becomes the view: who is in it asks no longer to join, and who is not in it no longer to leave.
+    fn become_view(&mut self, vector: NodeSet)
+        requires { AllBelow self.old.params.nodes vector }
+        ensures { self.new ≡ installed vector self.old }
+    {
+        self.members = vector;
+        self.joiners = minus(self.joiners, vector);
+        self.leavers = meet(self.leavers, vector);
+    }
+
+    /// A node of the view enters it and withdraws its asks to join, another node withdraws its asks to leave.
+    fn act_on_view(&self, ended: &Ended, now: Slot, out: &mut Actions)
+        requires room { length out.old.items + 1 + length self.now.joins + length self.now.leaves ≤ out.old.room }
+        ensures actions { out.new.items ≡ out.old.items ++ installed_actions now ended.now.cycle ended.now.vector self.now }
+        ensures few { length out.new.items ≤ length out.old.items + 1 + length self.now.joins + length self.now.leaves }
+        ensures room { out.new.room ≡ out.old.room }
+    {
+        if ended.vector.has(self.node) {
+            out.push(Action::Enter(LogEntry::View {
+                slot: now,
+                number: ended.cycle,
+                members: ended.vector,
+            }));
+            self.withdraw_joins(out);
+        } else {
+            self.withdraw_leaves(out);
+        }
+    }
+
+    /// The node's asks to join wait no longer, whatever their cycle.
+    fn withdraw_joins(&self, out: &mut Actions)
+        requires { length out.old.items + length self.now.joins ≤ out.old.room }
+        ensures actions { out.new.items ≡ out.old.items ++ withdrawals self.now.params.format class.Join self.now.node self.now.joins }
+        ensures few { length out.new.items ≤ length out.old.items + length self.now.joins }
+        ensures room { out.new.room ≡ out.old.room }
+    {
+        withdraw_asks(
+            self.params.format,
+            Class::Join,
+            self.node,
+            self.joins.as_slice(),
+            out,
+        );
+    }
+
+    /// The node's asks to leave wait no longer, whatever their cycle.
+    fn withdraw_leaves(&self, out: &mut Actions)
+        requires { length out.old.items + length self.now.leaves ≤ out.old.room }
+        ensures actions { out.new.items ≡ out.old.items ++ withdrawals self.now.params.format class.Leave self.now.node self.now.leaves }
+        ensures few { length out.new.items ≤ length out.old.items + length self.now.leaves }
+        ensures room { out.new.room ≡ out.old.room }
+    {
+        withdraw_asks(
+            self.params.format,
+            Class::Leave,
+            self.node,
+            self.leaves.as_slice(),
+            out,
+        );
+    }
+
+    /// The number of the cycle of a slot.
+    fn cycle_of(&self, slot: Slot) -> u16
+        requires { slot < self.now.params.slots }
+        ensures { result ≡ cycle_of self.now.params slot }
+    {
+        (slot / self.params.cycle) as u16
+    }
+}
