@@ -1,6 +1,6 @@
 //! What ties the calls of a controller to the definitions of a run, each law as the contract of a function that does
 //! nothing.
-ghost use Rattle.std.specs.Prelude.{◌≡◌, ◌==◌, ◌/◌, ◌^◌, ℕ};
+ghost use Rattle.std.specs.Prelude.{◌≡◌, ◌==◌, ◌/◌, ◌^◌, ℕ, All};
 ghost use Rattle.cany_base.specs.declared.slot_note.SlotNote.{SlotNote};
 ghost use Rattle.cany_base.specs.Frame.{FrameParts, identifier_of};
 ghost use Rattle.cany_model.specs.Bus.Frames.{identity_of, same_identity};
@@ -34,4 +34,11 @@ pub fn frames_ascend(controller: &Controller)
     ensures { IsAscending controller.now.params.format controller.now.waiting }
 {
     controller.waiting.ascend();
+}
+
+/// Each waiting frame fits an identifier.
+pub fn frames_fit(controller: &Controller)
+    ensures { All (FitsIdentifier controller.now.params.format) controller.now.waiting }
+{
+    controller.waiting.fit();
 }

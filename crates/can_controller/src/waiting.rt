@@ -186,6 +186,14 @@ impl Waiting {
         let _frames = &self.frames;
     }
 
+    /// Each frame fits an identifier, as it is kept.
+    pub(crate) fn fit(&self)
+        ensures { All (FitsIdentifier self.now.format) self.now.frames }
+    {
+        // A read of a field gives the proof what holds of all fields.
+        let _frames = &self.frames;
+    }
+
     /// The frame that wins over the others.
     pub(crate) fn first(&self) -> Option<Frame>
         ensures head { result ≡ slice_get self.now.frames 0 }

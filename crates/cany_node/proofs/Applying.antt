@@ -13,9 +13,11 @@ use Rattle.cany_model.specs.Bus.Frames.{Identity}
 use Rattle.cany_model.specs.Bus.Waiting.{with_frame, without}
 use Rattle.cany_model.proofs.Rules.DeliveryFacts.{entered-append}
 use Rattle.can_controller.specs.Controller.{ControllerState}
-use Rattle.cany_node.specs.Apply.{AreDone}
+use Rattle.cany_node.specs.Apply.{AreDone, all_told}
+use Rattle.cany_node.specs.Telling.{with_incarnation}
 
-pub waiting-append : (first rest : List Effect) (w : List FrameParts) → waiting_after (first ++ rest) w ≡ waiting_after rest (waiting_after first w)
+pub waiting-append : (first rest : List Effect) (w : List FrameParts)
+    → waiting_after (first ++ rest) w ≡ waiting_after rest (waiting_after first w)
 unfolding waiting_after
 waiting-append [] rest w = refl
 waiting-append (Ask f ∷ first) rest w = waiting-append first rest (with_frame f w)
@@ -24,48 +26,50 @@ waiting-append (Enter entry ∷ first) rest w = waiting-append first rest w
 
 -- ---- one effect
 
-with_waiting : ControllerState → List FrameParts → ControllerState
-with_waiting ctl w = record ctl { waiting = w }
-
-pub done-ask : (format : Format) (f : FrameParts) (effect : Effect) (ctl ctl' : ControllerState) (log log' : Bounded LogEntry) → action_of format effect ≡ action.Ask f
-    → ctl' ≡ record ctl { waiting = with_frame f ctl.waiting } → log' ≡ log → AreDone (effect ∷ []) ctl ctl' log log'
+pub done-ask : (format : Format) (inc : ℕ) (f told : FrameParts) (effect : Effect) (ctl ctl' : ControllerState) (log log' : Bounded LogEntry)
+    → action_of format effect ≡ action.Ask f → told ≡ with_incarnation inc f → ctl' ≡ record ctl { waiting = with_frame told ctl.waiting }
+    → log' ≡ log
+    → AreDone (all_told inc (effect ∷ [])) ctl ctl' log log'
 unfolding waiting_after entered
-done-ask format f (Ask g) ctl ctl' log log' e is same =
+done-ask format inc f told (Ask g) ctl ctl' log log' e tells is same =
     let frame : g ≡ f = cc in
     record {
-      controller = is ∙ ap (λ (h : FrameParts). record ctl { waiting = with_frame h ctl.waiting }) (sym frame);
+      controller = is ∙ ap (λ (h : FrameParts). record ctl { waiting = with_frame h ctl.waiting }) (tells ∙ ap (with_incarnation inc) (sym frame));
       entries = ap (λ (b : Bounded LogEntry). b.items) same ∙ sym (append-nil log.items);
       room = ap (λ (b : Bounded LogEntry). b.room) same;
     }
-done-ask format f (Withdraw x) ctl ctl' log log' e is same = absurd (cc)
-done-ask format f (Enter entry) ctl ctl' log log' e is same = absurd (cc)
+done-ask format inc f told (Withdraw x) ctl ctl' log log' e tells is same = absurd (cc)
+done-ask format inc f told (Enter entry) ctl ctl' log log' e tells is same = absurd (cc)
 
-pub done-withdraw : (format : Format) (ident : ℕ) (effect : Effect) (ctl ctl' : ControllerState) (log log' : Bounded LogEntry) → action_of format effect ≡ action.Withdraw ident
-    → ((x : Identity) → effect ≡ Withdraw x → ident_of format x ≡ ident → ctl' ≡ record ctl { waiting = without x ctl.waiting }) → log' ≡ log
-    → AreDone (effect ∷ []) ctl ctl' log log'
+pub done-withdraw : (format : Format) (inc ident : ℕ) (effect : Effect) (ctl ctl' : ControllerState) (log log' : Bounded LogEntry)
+    → action_of format effect ≡ action.Withdraw ident
+    → ((x : Identity) → effect ≡ Withdraw x → ident_of format x ≡ ident → ctl' ≡ record ctl { waiting = without x ctl.waiting })
+    → log' ≡ log
+    → AreDone (all_told inc (effect ∷ [])) ctl ctl' log log'
 unfolding waiting_after entered
-done-withdraw format ident (Withdraw x) ctl ctl' log log' e is same =
+done-withdraw format inc ident (Withdraw x) ctl ctl' log log' e is same =
     let number : ident_of format x ≡ ident = cc in
     record {
       controller = is x refl number;
       entries = ap (λ (b : Bounded LogEntry). b.items) same ∙ sym (append-nil log.items);
       room = ap (λ (b : Bounded LogEntry). b.room) same;
     }
-done-withdraw format ident (Ask g) ctl ctl' log log' e is same = absurd (cc)
-done-withdraw format ident (Enter entry) ctl ctl' log log' e is same = absurd (cc)
+done-withdraw format inc ident (Ask g) ctl ctl' log log' e is same = absurd (cc)
+done-withdraw format inc ident (Enter entry) ctl ctl' log log' e is same = absurd (cc)
 
-pub done-enter : (format : Format) (entry : LogEntry) (effect : Effect) (ctl ctl' : ControllerState) (log log' : Bounded LogEntry) → action_of format effect ≡ action.Enter entry
-    → ctl' ≡ ctl → log' ≡ record { items = log.items ++ entry ∷ []; room = log.room } → AreDone (effect ∷ []) ctl ctl' log log'
+pub done-enter : (format : Format) (inc : ℕ) (entry : LogEntry) (effect : Effect) (ctl ctl' : ControllerState) (log log' : Bounded LogEntry)
+    → action_of format effect ≡ action.Enter entry → ctl' ≡ ctl → log' ≡ record { items = log.items ++ entry ∷ []; room = log.room }
+    → AreDone (all_told inc (effect ∷ [])) ctl ctl' log log'
 unfolding waiting_after entered
-done-enter format entry (Enter made) ctl ctl' log log' e is same =
+done-enter format inc entry (Enter made) ctl ctl' log log' e is same =
     let one : made ≡ entry = cc in
     record {
       controller = is;
       entries = ap (λ (b : Bounded LogEntry). b.items) same ∙ ap (λ m. log.items ++ m ∷ []) (sym one);
       room = ap (λ (b : Bounded LogEntry). b.room) same;
     }
-done-enter format entry (Ask g) ctl ctl' log log' e is same = absurd (cc)
-done-enter format entry (Withdraw x) ctl ctl' log log' e is same = absurd (cc)
+done-enter format inc entry (Ask g) ctl ctl' log log' e is same = absurd (cc)
+done-enter format inc entry (Withdraw x) ctl ctl' log log' e is same = absurd (cc)
 
 -- ---- one after another
 
@@ -73,7 +77,8 @@ pub done-none : (ctl : ControllerState) (log : Bounded LogEntry) → AreDone [] 
 unfolding waiting_after entered
 done-none ctl log = record { controller = refl; entries = sym (append-nil log.items); room = refl }
 
-pub done-then : (first rest : List Effect) (a b c : ControllerState) (x y z : Bounded LogEntry) → AreDone first a b x y → AreDone rest b c y z
+pub done-then : (first rest : List Effect) (a b c : ControllerState) (x y z : Bounded LogEntry) → AreDone first a b x y
+    → AreDone rest b c y z
     → AreDone (first ++ rest) a c x z
 done-then first rest a b c x y z one two = record {
   controller =
@@ -92,7 +97,8 @@ pub record Stands (format : Format) (effects : List Effect) (i : ℕ) (a : Actio
   pub taken : take (i + 1) effects ≡ take i effects ++ effect ∷ []
   pub whole : effects ≡ take i effects ++ effect ∷ drop (i + 1) effects
 
-pub stands : (format : Format) (effects : List Effect) (i : ℕ) (a : Action) → i < length effects → a ≡ get_or (actions_of format effects) i a → Stands format effects i a
+pub stands : (format : Format) (effects : List Effect) (i : ℕ) (a : Action) → i < length effects
+    → a ≡ get_or (actions_of format effects) i a → Stands format effects i a
 stands format [] i a within is = absurd (omega arith)
 stands format (effect ∷ effects) zero a within is = record { effect = effect; action = sym is; taken = refl; whole = refl }
 stands format (first ∷ effects) (suc i) a within is =

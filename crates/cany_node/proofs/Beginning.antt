@@ -1,10 +1,11 @@
 -- A node before its first turn.
 use Rattle.std.proofs.Common.{◌≡◌, ℕ, zero, suc, ◌+◌, ◌<◌, ◌≤◌, inl, inr, List, [], ◌∷◌, filter, length, map, nat_lt, replicate, refl, ap, sym, subst, ◌∙◌, arith}
-use Rattle.std.proofs.lemmas.Bool.{cases_Bool, eq-eqb, le-ltb, lt-ltb, ltb-false, ltb-true, ne_eqb}
+use Rattle.std.proofs.lemmas.Bool.{cases_Bool, le-ltb, lt-ltb, ltb-false, ltb-true, ne_eqb}
 use Rattle.std.proofs.lemmas.List.{length-replicate}
 use Rattle.cany_base.specs.declared.notice.NoticeKind.{NoticeKind}
 use Rattle.cany_base.specs.declared.notice.NoticeKind.TheVariants.{Idle}
-use Rattle.cany_base.specs.Scenario.{ScenarioParts, IsLegalScenario}
+use Rattle.cany_base.specs.Params.{Parameters}
+use Rattle.cany_base.specs.Scenario.{ScenarioParts}
 use Rattle.cany_model.specs.Bus.Slot.{nobody}
 use Rattle.cany_model.specs.Bus.State.{Incarnation}
 use Rattle.cany_model.specs.Rules.Backlog.{asked, backlog}
@@ -12,46 +13,23 @@ use Rattle.cany_model.specs.Rules.Effect.{entered}
 use Rattle.cany_model.specs.Rules.Log.{log_from}
 use Rattle.cany_model.specs.Rules.Messages.{messages_of}
 use Rattle.cany_model.specs.Rules.Sends.{sendable}
-use Rattle.cany_model.specs.Rules.Station.{Station, after_life, after_notice, found, station_at_first, station_of, told, with_signs}
 use Rattle.cany_model.specs.Rules.Turn.{scenario_for}
 use Rattle.cany_model.proofs.Promises.Fair.{from_later, members_later}
 use Rattle.cany_model.proofs.Rules.Begun.{AreIdle, IsBegun, begun_before}
 use Rattle.cany_model.proofs.Rules.MutedFacts.{turn_muted}
-use Rattle.cany_model.proofs.Rules.StationFacts.{found_none, station_members}
 use Rattle.cany_edcan.specs.Edcan.{IsEdcanOf}
 use Rattle.cany_edcan.proofs.EdcanFacts.{edcan_for}
-use Rattle.cany_life.specs.Life.{IsLifeOf, LifeParts}
 use Rattle.cany_relcan.proofs.FollowedFacts.{relcan_for}
 use Rattle.cany_totcan.specs.Totcan.{IsTotcanOf}
 use Rattle.cany_totcan.proofs.FollowedFacts.{totcan_for}
 use Rattle.cany_node.specs.Agenda.{AgendaParts, ArePassed, IsAgendaOf, IsPlanOf, IsRising, is_due, message_from}
+use Rattle.cany_node.specs.Asks.{AreAsksPassed}
 use Rattle.cany_node.specs.Node.{AreReadable, IsNodeOf, IsWaiting, NodeParts}
+use Rattle.cany_node.specs.Site.{SiteParts}
 use Rattle.cany_node.proofs.AgendaFacts.{rising-earlier}
+use Rattle.cany_node.proofs.AskFacts.{passed_asks, whole_asks}
 use Rattle.cany_node.proofs.SendFacts.{none_for}
-
--- ---- what it knows
-
--- at an idle notice only silence brings signs
-idle_is : (scenario : ScenarioParts) (i : ℕ) (past : List NoticeKind)
-    → station_of scenario i (Idle ∷ past) ≡ with_signs (found scenario.params i (length past) (station_of scenario i past)) (station_of scenario i past)
-unfolding station_of after_notice told with_signs after_life
-idle_is scenario i past = refl
-
-no_signs : (st : Station) → with_signs [] st ≡ st
-unfolding with_signs
-no_signs st = refl
-
--- a node that has only begun knows what it knew at first
-begun_station : (scenario : ScenarioParts) (i : ℕ) (past : List NoticeKind) → IsBegun scenario past
-    → station_of scenario i past ≡ station_at_first scenario.members
-unfolding station_of
-begun_station scenario i [] begun = refl
-begun_station scenario i (e ∷ past) begun =
-    let st : Station = station_of scenario i past in
-    let none : st.members ≡ nobody = station_members scenario i past ∙ begun.outside (omega arith) in
-    ap (λ n. station_of scenario i (n ∷ past)) begun.idle.0 ∙ idle_is scenario i past
-    ∙ ap (λ signs. with_signs signs st) (found_none scenario.params i (length past) st none) ∙ no_signs st
-    ∙ begun_station scenario i past (begun_before scenario e past begun)
+use Rattle.cany_node.proofs.SiteBeginning.{IsOutside, site_begins, site_opens}
 
 -- from the first slot on whose scripted asks are made, all are
 all_sendable : (scenario : ScenarioParts) (s : ℕ) → scenario.from ≤ s → sendable scenario s ≡ messages_of scenario.sends
@@ -65,15 +43,16 @@ whole_agenda scenario i a first plan = record {
   few = plan.few;
 }
 
--- the node of the opening waits for nothing
-pub opens : (scenario : ScenarioParts) (v : NodeParts) → IsWaiting scenario v → scenario.from ≡ 0 → scenario.inc ≡ 0 → v.inc ≡ 0 → v.from ≡ 0 → v.read ≡ 0
-    → IsNodeOf scenario [] v
-unfolding log_from backlog asked station_of
+-- ---- the node of the opening
+
+-- it waits for nothing
+pub opens : (scenario : ScenarioParts) (v : NodeParts) → IsWaiting scenario v → scenario.from ≡ 0 → scenario.inc ≡ 0
+    → v.inc ≡ 0 → v.from ≡ 0 → v.read ≡ 0 → IsNodeOf scenario [] v
+unfolding log_from backlog asked
 opens scenario v waits first original inc from read = record {
   legal = waits.legal;
   inc = inc ∙ sym original;
   from = from ∙ sym first;
-  members = waits.members ∙ rw (eq-eqb v.inc 0 inc) refl;
   log = waits.log;
   room = waits.room;
   read = read;
@@ -81,8 +60,10 @@ opens scenario v waits first original inc from read = record {
   edcan = waits.edcan 0;
   relcan = waits.relcan 0;
   totcan = waits.totcan 0;
-  life = waits.life 0 scenario.members;
+  site = site_opens scenario v.node v.site waits.site;
   agenda = whole_agenda scenario v.node v.agenda first waits.agenda;
+  joins = whole_asks scenario v.node scenario.joins v.joins first waits.joins;
+  leaves = whole_asks scenario v.node scenario.leaves v.leaves first waits.leaves;
   room_to_give = waits.room_to_give;
 }
 
@@ -130,8 +111,8 @@ asked_muted scenario i (e ∷ past) begun =
 -- ---- an incarnation of a restarted node
 
 -- none of its sends is made before its first slot, and those of that slot and later ones are still to come
-passed_agenda : (scenario : ScenarioParts) (i slot : ℕ) (old new : AgendaParts) → IsPlanOf scenario i old → ArePassed scenario.from old new → slot ≤ scenario.from
-    → IsAgendaOf scenario i slot new
+passed_agenda : (scenario : ScenarioParts) (i slot : ℕ) (old new : AgendaParts) → IsPlanOf scenario i old → ArePassed scenario.from old new
+    → slot ≤ scenario.from → IsAgendaOf scenario i slot new
 passed_agenda scenario i slot old new plan passed early = record {
   planned = ap (map (message_from i)) passed.planned ∙ plan.planned;
   left = λ s later. elim (cases_Bool (nat_lt s scenario.from)) [
@@ -150,60 +131,61 @@ passed_agenda scenario i slot old new plan passed early = record {
     rising = passed.rising plan.rising
 
 plan_for : (scenario : ScenarioParts) (inc : Incarnation) (i : ℕ) (a : AgendaParts) → IsPlanOf scenario i a → IsPlanOf (scenario_for scenario inc) i a
-plan_for scenario inc i a plan = record { planned = plan.planned; left = plan.left; rising = plan.rising; few = plan.few; own = plan.own }
+plan_for scenario inc i a plan =
+    record { planned = plan.planned; left = plan.left; rising = plan.rising; few = plan.few; own = plan.own }
 
 inc_later : (scenario : ScenarioParts) (inc : Incarnation) → 0 < inc.number → (scenario_for scenario inc).inc ≡ inc.number
 inc_later scenario inc later = rw (ne_eqb inc.number 0 (λ e. omega (arith, e, later))) refl
 
--- a value of life signs and failure signs stands for the same
-life_for : (scenario : ScenarioParts) (inc : Incarnation) (i : ℕ) (past : List NoticeKind) (station : Station) (v : LifeParts)
-    → IsLegalScenario (scenario_for scenario inc) → IsLifeOf scenario i past station v → IsLifeOf (scenario_for scenario inc) i past station v
-life_for scenario inc i past station v legal h = record {
-  legal = legal;
-  node = h.node;
-  params = h.params;
-  failed = h.failed;
-  cycles = h.cycles;
-  known = λ sign of. h.known sign (record { node = of.node; cycle = of.cycle });
-  copies = record {
-    omit = h.copies.omit;
-    room = h.copies.room;
-    copies = h.copies.copies;
-    signs = λ number there.
-        let is = h.copies.signs number there in
-        record { sign = is.sign; of = record { node = is.of.node; cycle = is.of.cycle }; stands = is.stands };
-  };
-  nodes = h.nodes;
-  shown = h.shown;
-  last = h.last;
-  sent = h.sent;
-  few = h.few;
-}
+-- It takes part from this slot and this cycle on, as a node that is at first no member, and what its script has of earlier slots is
+-- passed over.
+pub record Begins (restart from cycle : ℕ) (site : SiteParts) (old new : NodeParts) : Type 0 where
+  pub first : from ≡ restart + 1 + (old.params.bound + old.params.lag)
+  pub outside : IsOutside old.site site
+  pub passed : ℕ
+  pub before : passed ≡ from
+  pub agenda : ArePassed passed old.agenda new.agenda
+  pub joins : AreAsksPassed passed old.joins new.joins
+  pub leaves : AreAsksPassed passed old.leaves new.leaves
+  pub state : new ≡ record old {
+    from = from;
+    cycle = cycle;
+    read = restart + 1;
+    site = site;
+    agenda = new.agenda;
+    joins = new.joins;
+    leaves = new.leaves;
+  }
 
 -- it has heard nothing in the slots so far
-pub begins : (scenario : ScenarioParts) (inc : Incarnation) (restart from : ℕ) (v : NodeParts) (agenda : AgendaParts) → IsWaiting scenario v → 0 < inc.number
-    → inc.number ≡ v.inc → inc.from ≡ restart + 1 + (scenario.params.bound + scenario.params.lag) → from ≡ restart + 1 + v.delay → ArePassed from v.agenda agenda
-    → IsNodeOf (scenario_for scenario inc) (replicate (restart + 1) Idle) (record v { from = from; read = restart + 1; agenda = agenda })
-begins scenario inc restart from v agenda waits later number starts is passed = record {
-  legal = edcan.legal;
-  inc = sym number ∙ sym (inc_later scenario inc later);
-  from = at;
-  log = waits.log ∙ sym (log_muted followed v.node past begun);
-  room = waits.room;
-  read = sym long;
-  readable = idle_readable followed (restart + 1);
-  members = waits.members ∙ rw (ne_eqb v.inc 0 (λ e. omega (arith, e, number, later))) refl ∙ sym outside;
-  edcan = edcan;
-  relcan = relcan_for scenario inc v.node past v.relcan (waits.relcan (restart + 1));
-  totcan = subst (λ ms. IsTotcanOf followed v.node past ms (asked followed v.node past) v.totcan) (sym (backlog_muted followed v.node past begun))
-      (subst (λ n. IsTotcanOf followed v.node past [] n v.totcan) (sym (asked_muted followed v.node past begun))
-      (totcan_for scenario inc v.node past [] 0 v.totcan (waits.totcan (restart + 1))));
-  life = subst (λ station. IsLifeOf followed v.node past station v.life) (sym (begun_station followed v.node past begun))
-      (life_for scenario inc v.node past (station_at_first followed.members) v.life edcan.legal (waits.life (restart + 1) followed.members));
-  agenda = passed_agenda followed v.node (length past) v.agenda agenda (plan_for scenario inc v.node v.agenda waits.agenda)
-      (subst (λ n. ArePassed n v.agenda agenda) at passed) begun.early;
-  room_to_give = omega (arith, waits.room_to_give, passed.few);
-}
+pub begins : (scenario : ScenarioParts) (inc : Incarnation) (restart from cycle : ℕ) (site : SiteParts) (old new : NodeParts)
+    → IsWaiting scenario old → 0 < inc.number → inc.number ≡ old.inc
+    → inc.from ≡ restart + 1 + (scenario.params.bound + scenario.params.lag) → Begins restart from cycle site old new
+    → IsNodeOf (scenario_for scenario inc) (replicate (restart + 1) Idle) new
+begins scenario inc restart from cycle site old new waits later number starts does =
+    subst (IsNodeOf followed past) (sym does.state) (record {
+      legal = edcan.legal;
+      inc = sym number ∙ sym (inc_later scenario inc later);
+      from = at;
+      log = waits.log ∙ sym (log_muted followed old.node past begun);
+      room = waits.room;
+      read = sym long;
+      readable = idle_readable followed (restart + 1);
+      edcan = edcan;
+      relcan = relcan_for scenario inc old.node past old.relcan (waits.relcan (restart + 1));
+      totcan = subst (λ ms. IsTotcanOf followed old.node past ms (asked followed old.node past) old.totcan)
+          (sym (backlog_muted followed old.node past begun))
+          (subst (λ n. IsTotcanOf followed old.node past [] n old.totcan) (sym (asked_muted followed old.node past begun))
+          (totcan_for scenario inc old.node past [] 0 old.totcan (waits.totcan (restart + 1))));
+      site = site_begins scenario inc old.node (restart + 1) old.site site waits.site does.outside edcan.legal outside begun;
+      agenda = passed_agenda followed old.node (length past) old.agenda new.agenda (plan_for scenario inc old.node old.agenda waits.agenda)
+          (subst (λ n. ArePassed n old.agenda new.agenda) (does.before ∙ at) does.agenda) begun.early;
+      joins = passed_asks followed old.node (length past) scenario.joins old.joins new.joins waits.joins
+          (subst (λ n. AreAsksPassed n old.joins new.joins) (does.before ∙ at) does.joins) begun.early;
+      leaves = passed_asks followed old.node (length past) scenario.leaves old.leaves new.leaves waits.leaves
+          (subst (λ n. AreAsksPassed n old.leaves new.leaves) (does.before ∙ at) does.leaves) begun.early;
+      room_to_give = omega (arith, waits.room_to_give, does.agenda.few);
+    })
   where
     followed : ScenarioParts
     followed = scenario_for scenario inc
@@ -211,17 +193,20 @@ begins scenario inc restart from v agenda waits later number starts is passed = 
     past : List NoticeKind
     past = replicate (restart + 1) Idle
 
-    edcan : IsEdcanOf followed v.node past v.edcan
-    edcan = edcan_for scenario inc v.node past v.edcan (waits.edcan (restart + 1))
+    edcan : IsEdcanOf followed old.node past old.edcan
+    edcan = edcan_for scenario inc old.node past old.edcan (waits.edcan (restart + 1))
 
     long : length past ≡ restart + 1
     long = length-replicate (restart + 1) Idle
 
+    starts_here : restart + 1 + (old.params.bound + old.params.lag) ≡ restart + 1 + (scenario.params.bound + scenario.params.lag)
+    starts_here = ap (λ (p : Parameters). restart + 1 + (p.bound + p.lag)) waits.params
+
     at : from ≡ followed.from
-    at = omega (arith, is, starts, waits.delay, from_later scenario inc later)
+    at = does.first ∙ starts_here ∙ sym starts ∙ sym (from_later scenario inc later)
 
     outside : followed.members ≡ nobody
     outside = members_later scenario inc later
 
     begun : IsBegun followed past
-    begun = record { idle = idle_slots (restart + 1); early = omega (arith, long, at, is); outside = λ some. outside }
+    begun = record { idle = idle_slots (restart + 1); early = omega (arith, long, at, does.first); outside = λ some. outside }

@@ -1,16 +1,20 @@
--- How many frames wait at most, and how many entries a log has.
-use Rattle.std.proofs.Common.{◌≡◌, ℕ, ◌<◌, ◌≤◌, ◌==◌, inl, inr, true, List, [], ◌∷◌, length, drop, count_by, refl, ap, sym, subst, ◌∙◌, arith, eqb-true, eq-eqb, All}
+-- How many frames wait at most, how many entries a log has, and how many actions a turn.
+use Rattle.std.proofs.Common.{◌≡◌, ℕ, ◌+◌, ◌*◌, ◌<◌, ◌≤◌, ◌==◌, inl, inr, true, List, [], ◌∷◌, length, drop, filter, count_by, refl, ap, sym, subst, ◌∙◌, arith, eqb-true, eq-eqb, All}
+use Rattle.std.proofs.Math.Nat.{mul-le-mul_left}
 use Rattle.std.proofs.lemmas.Bool.{and_from, and_parts, cases_Bool, false≢true}
+use Rattle.std.proofs.lemmas.List.{length-map}
 use Rattle.std.proofs.lemmas.List.Elements.{All-head, All-tail}
-use Rattle.std.proofs.lemmas.List.Sums.{count_by-le-length}
+use Rattle.std.proofs.lemmas.List.Sums.{count_by-le-length, length-filter}
 use Rattle.cany_base.specs.declared.frame.Format.{Format}
 use Rattle.cany_base.specs.declared.log_entry.LogEntry.{LogEntry}
 use Rattle.cany_base.specs.declared.log_entry.LogEntry.TheVariants.{Deliver, Failed, View}
 use Rattle.cany_base.specs.declared.message.MsgKey.{MsgKey}
+use Rattle.cany_base.specs.declared.message.NodeAsk.{NodeAsk}
 use Rattle.cany_base.specs.declared.message.Service.{Service}
 use Rattle.cany_base.specs.declared.message.Service.TheVariants.{Ed, Rel, Tot}
 use Rattle.cany_base.specs.declared.notice.NoticeKind.{NoticeKind}
 use Rattle.cany_base.specs.Frame.{FrameParts, data_class, identifier_of}
+use Rattle.cany_base.specs.Params.{Parameters}
 use Rattle.cany_base.specs.Scenario.{ScenarioParts}
 use Rattle.cany_model.specs.Bus.Frames.{Identity, bare, identity_of, is_of}
 use Rattle.cany_model.specs.Promises.Safe.{delivers_key}
@@ -18,7 +22,8 @@ use Rattle.cany_model.specs.Rules.Log.{log_from}
 use Rattle.cany_model.specs.Rules.Messages.{Message, messages_of, message_key}
 use Rattle.cany_model.specs.Rules.Notices.{BelongsTo, IsDataOf}
 use Rattle.cany_model.specs.Rules.Protocol.{Protocol}
-use Rattle.cany_model.specs.Rules.Rooms.{waiting_room, log_room}
+use Rattle.cany_model.specs.Rules.Rooms.{actions_room, cycles, log_room, waiting_room}
+use Rattle.cany_model.specs.Rules.Vectors.{cycle_of}
 use Rattle.cany_model.proofs.Among.{Among, Among-drop, Among-from_Contains, Among-from_count, Among-weaker, count-no, count-yes}
 use Rattle.cany_model.proofs.Bus.Carried.{Has}
 use Rattle.cany_model.proofs.Bus.Identities.{same_identity-true}
@@ -27,17 +32,22 @@ use Rattle.cany_model.proofs.Rules.MessageKeys.{IsOneOf, length-messages_of, sam
 use Rattle.cany_model.proofs.Rules.ProtocolFacts.{IsFoundedEntry, IsLawful, log_by}
 use Rattle.cany_model.proofs.Rules.RoomFacts.{few_waiting, pigeonhole}
 use Rattle.cany_model.proofs.Rules.SignRooms.{each_made, few_signs, is_delivered, log_parts}
+use Rattle.cany_model.proofs.Rules.ViewLog.{few_views}
 use Rattle.can_controller.specs.Waiting.{IsAscending, identity_number}
+use Rattle.cany_views.specs.Views.{asked_cycles}
 use Rattle.cany_node.specs.Apply.{AreAskable, is_sign}
-use Rattle.cany_node.specs.Node.{AreReadable}
+use Rattle.cany_node.specs.Node.{AreReadable, IsNodeOf, NodeParts}
+use Rattle.cany_node.specs.Turning.{heard_room, script_room}
 use Rattle.cany_node.proofs.Askable.{read_belongs}
 
 -- ---- the waiting frames
 
-is_of-ident : (format : Format) (x : Identity) (f : FrameParts) → is_of x f ≡ true → identifier_of format (bare x) ≡ identity_number format f
+is_of-ident : (format : Format) (x : Identity) (f : FrameParts) → is_of x f ≡ true
+    → identifier_of format (bare x) ≡ identity_number format f
 is_of-ident format x f is = ap (λ y. identifier_of format (bare y)) (same_identity-true x (identity_of f) is)
 
-none_above : (format : Format) (x : Identity) (n : ℕ) (w : List FrameParts) → identifier_of format (bare x) ≡ n → All (λ g. n < identity_number format g) w → count_by (is_of x) w ≡ 0
+none_above : (format : Format) (x : Identity) (n : ℕ) (w : List FrameParts) → identifier_of format (bare x) ≡ n
+    → All (λ g. n < identity_number format g) w → count_by (is_of x) w ≡ 0
 none_above format x n [] is up = refl
 none_above format x n (g ∷ w) is up = elim (cases_Bool (is_of x g)) [
   | inl same ↦ absurd (omega (arith, is, is_of-ident format x g same, All-head (λ h. n < identity_number format h) g w up))
@@ -51,9 +61,10 @@ ascending_distinct format (f ∷ w) up x = elim (cases_Bool (is_of x f)) [
   | inr other ↦ omega (arith, count-no (is_of x) f w other, ascending_distinct format w up.1 x)
 ]
 
-pub waiting_below : (scenario : ScenarioParts) (format : Format) (w : List FrameParts) → IsAscending format w → AreAskable scenario w → count_by is_sign w ≤ 3
-    → length w < waiting_room scenario
-waiting_below scenario format w up all signs = few_waiting scenario w (ascending_distinct format w up) all signs
+pub waiting_below : (scenario : ScenarioParts) (i : ℕ) (format : Format) (w : List FrameParts) → IsAscending format w
+    → AreAskable scenario i w
+    → count_by is_sign w ≤ 3 → length w < waiting_room scenario
+waiting_below scenario i format w up all signs = few_waiting scenario i w (ascending_distinct format w up) all signs
 
 -- ---- a delivery is of a message of the scenario
 
@@ -64,13 +75,15 @@ record Served (scenario : ScenarioParts) (p : Protocol) (key : MsgKey) : Type 0 
   named : message_key message ≡ key
   serves : p.delivers message.service ≡ true
 
-belongs_data : (scenario : ScenarioParts) (by : Service) (slot : ℕ) (f : FrameParts) → BelongsTo scenario slot (data_class by) f → IsDataOf scenario by f
+belongs_data : (scenario : ScenarioParts) (by : Service) (slot : ℕ) (f : FrameParts) → BelongsTo scenario slot (data_class by) f
+    → IsDataOf scenario by f
 belongs_data scenario Ed slot f h = h
 belongs_data scenario Rel slot f h = h
 belongs_data scenario Tot slot f h = h
 
 served_by : (scenario : ScenarioParts) (p : Protocol) (i : ℕ) (past : List NoticeKind) (place : ℕ) (key : MsgKey) (entry : LogEntry)
-    → AreReadable scenario past → delivers_key key entry ≡ true → IsFoundedEntry scenario p i (drop place past) entry → Served scenario p key
+    → AreReadable scenario past → delivers_key key entry ≡ true → IsFoundedEntry scenario p i (drop place past) entry
+    → Served scenario p key
 served_by scenario p i past place key (Deliver slot by msg payload) readable is r =
     let parts = and_parts (msg.origin == key.origin) (msg.seq == key.seq) is in
     let same : msg ≡ key = λ k. record { origin = eqb-true msg.origin key.origin parts.0 k; seq = eqb-true msg.seq key.seq parts.1 k } in
@@ -93,7 +106,8 @@ served scenario i past key p readable lawful some =
     let made = made_by (λ entry. delivers_key key entry ≡ true) scenario p lawful i past (Among-from_count (delivers_key key) (log_by p scenario i past) some) in
     served_by scenario p i past made.place key made.entry readable made.is made.founded
 
-one_serves : (scenario : ScenarioParts) (key : MsgKey) (p q : Protocol) (first : Served scenario p key) → Served scenario q key → q.delivers first.message.service ≡ true
+one_serves : (scenario : ScenarioParts) (key : MsgKey) (p q : Protocol) (first : Served scenario p key) → Served scenario q key
+    → q.delivers first.message.service ≡ true
 one_serves scenario key p q first next =
     let keys : message_key first.message ≡ message_key next.message = first.named ∙ sym next.named in
     ap (λ (m : Message). q.delivers m.service)
@@ -124,7 +138,7 @@ known scenario i past readable p place (Deliver slot by msg payload) r is =
     Among-weaker (λ k. k ≡ s.message) (λ m. delivers_key (message_key m) e ≡ true)
     (λ m same. ap (λ k. delivers_key (message_key k) e) same ∙ ap (λ key. delivers_key key e) s.named ∙ itself) (messages_of scenario.sends) s.stands
 known scenario i past readable p place (Failed slot node cycle) r is = absurd (false≢true is)
-known scenario i past readable p place (View slot number members) r is = absurd r
+known scenario i past readable p place (View slot number members) r is = absurd (false≢true is)
 
 -- no log has more deliveries than there are messages
 few_delivered : (scenario : ScenarioParts) (i : ℕ) (past : List NoticeKind) → AreReadable scenario past
@@ -141,8 +155,9 @@ few_delivered scenario i past readable =
 
 -- ---- the whole log
 
--- no log has more entries than its room: its deliveries, and its failure signs
-pub log_within : (scenario : ScenarioParts) (i : ℕ) (past : List NoticeKind) → AreReadable scenario past → length past ≤ scenario.params.slots
+-- no log has more entries than its room: its deliveries, its failure signs and its views
+pub log_within : (scenario : ScenarioParts) (i : ℕ) (past : List NoticeKind) → AreReadable scenario past
+    → length past ≤ scenario.params.slots
     → length (log_from scenario i past) ≤ log_room scenario
 log_within scenario i past readable within =
     omega (
@@ -150,4 +165,37 @@ log_within scenario i past readable within =
       log_parts scenario i past,
       few_delivered scenario i past readable,
       few_signs scenario i past readable within,
+      few_views scenario i past within,
+    )
+
+-- ---- the actions of a turn
+
+-- a node makes no more of the scripted asks than there are
+own_asks : (p : Parameters) (i : ℕ) (asks : List NodeAsk) → length (asked_cycles p i asks) ≤ length asks
+own_asks p i asks =
+    let own : List NodeAsk = filter (λ ask. ask.node == i) asks in
+    omega (
+      arith,
+      length-map own (λ ask. cycle_of p ask.slot),
+      length-filter (λ ask. ask.node == i) asks,
+      count_by-le-length (λ ask. ask.node == i) asks,
+    )
+
+-- there is room for what the protocols do at a notice, for what the script asks for, and for the next of the backlog
+pub actions_within : (scenario : ScenarioParts) (past : List NoticeKind) (v : NodeParts) → IsNodeOf scenario past v
+    → heard_room v + script_room v < actions_room scenario
+actions_within scenario past v stands =
+    let two : (scenario.params.nodes + 1) * 2 ≤ (scenario.params.nodes + 1) * (cycles scenario + 2) = mul-le-mul_left (scenario.params.nodes + 1) (omega arith) in
+    omega (
+      arith,
+      two,
+      stands.totcan.limits.room,
+      ap (λ (p : Parameters). p.nodes) stands.site.life.params,
+      ap length stands.site.views.joins,
+      ap length stands.site.views.leaves,
+      own_asks scenario.params v.node scenario.joins,
+      own_asks scenario.params v.node scenario.leaves,
+      stands.agenda.few,
+      stands.joins.few,
+      stands.leaves.few,
     )

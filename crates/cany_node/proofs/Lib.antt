@@ -1,5 +1,7 @@
+pub mod ActSteps
 pub mod AgendaFacts
 pub mod Applying
+pub mod AskFacts
 pub mod Askable
 pub mod AskedFacts
 pub mod BacklogFacts
@@ -7,11 +9,15 @@ pub mod Beginning
 pub mod Doing
 pub mod Filled
 pub mod GiveFacts
-pub mod Hearing
+pub mod HeardTurn
 pub mod LimitFacts
 pub mod MessageLists
 pub mod PassFacts
+pub mod ScriptSteps
 pub mod SendFacts
-pub mod SigningFacts
-pub mod TurnSteps
+pub mod SiteBeginning
+pub mod SiteFacts
+pub mod SiteSteps
+pub mod TellingFacts
+pub mod ToldFacts
 pub mod WholeTurn

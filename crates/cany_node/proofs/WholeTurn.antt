@@ -7,8 +7,8 @@ use Rattle.cany_base.specs.Scenario.{ScenarioParts}
 use Rattle.cany_model.specs.Rules.Effect.{waiting_after}
 use Rattle.cany_model.specs.Rules.Turn.{turn_effects}
 use Rattle.can_controller.specs.Controller.{ControllerState}
-use Rattle.cany_life.specs.Life.{IsNextAt}
 use Rattle.cany_node.specs.Node.{NodeParts, IsNodeOf, Reads, IsTurnOf, heard_by, turned}
+use Rattle.cany_node.specs.Site.{IsNextOf}
 
 -- the controller once the notice is read
 abbrev pub notice_read : ℕ → ControllerState → ControllerState
@@ -21,14 +21,14 @@ acted scenario past i notice ctl = record ctl { waiting = waiting_after (turn_ef
 -- `given` is what the controller gives, and `told` is what the node hears of it
 pub whole_turn : (scenario : ScenarioParts) (past : List NoticeKind) (notice given told : Notice) (v v' : NodeParts) (ctl mid ctl' : ControllerState) (most : ℕ)
     → Reads scenario past notice v ctl → Some given ≡ slice_get ctl.unread 0 → told ≡ heard_by v given → mid ≡ notice_read most ctl → ctl.read < most
-    → ((s : ScenarioParts) (p : List NoticeKind) → IsNodeOf s p v → IsNextAt s v.node p told → ctl' ≡ acted s p v.node told mid)
-    → ((s : ScenarioParts) (p : List NoticeKind) → IsNodeOf s p v → IsNextAt s v.node p told → IsNodeOf s (told.kind ∷ p) v')
+    → ((s : ScenarioParts) (p : List NoticeKind) → IsNodeOf s p v → IsNextOf s v.node p told → ctl' ≡ acted s p v.node told mid)
+    → ((s : ScenarioParts) (p : List NoticeKind) → IsNodeOf s p v → IsNextOf s v.node p told → IsNodeOf s (told.kind ∷ p) v')
     → IsTurnOf scenario past notice v v' ctl ctl'
 whole_turn scenario past notice given told v v' ctl mid ctl' most reads oldest hears is few controls stands =
     let one : Some given ≡ Some notice = oldest ∙ reads.oldest in
     let same : notice ≡ given = cc in
     let heard : heard_by v notice ≡ told = ap (heard_by v) same ∙ sym hears in
-    let next : IsNextAt scenario v.node past told = subst (IsNextAt scenario v.node past) heard (record { next = reads.next; few = reads.few }) in
+    let next : IsNextOf scenario v.node past told = subst (IsNextOf scenario v.node past) heard (record { next = reads.next; few = reads.few; vector = reads.vector }) in
     let read : min (ctl.read + 1) most ≡ ctl.read + 1 = omega arith in
     let kind : NoticeKind = (heard_by v notice).kind in
     let after : ctl' ≡ turned (turn_effects scenario v.node (kind ∷ past)) ctl =

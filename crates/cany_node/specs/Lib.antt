@@ -1,5 +1,9 @@
 pub mod Agenda
 pub mod Apply
+pub mod Asks
 pub mod Node
 pub mod Protocols
+pub mod Script
+pub mod Site
 pub mod Telling
+pub mod Turning

@@ -1,66 +1,66 @@
 -- What a contract sees of a node, and what a turn does.
-use Rattle.std.specs.Prelude.{◌≡◌, ◌+◌, ◌<◌, ◌≤◌, ◌==◌, ◌&&◌, ℕ, not, nat_lt, if◌then◌else◌, List, [], ◌∷◌, length, drop, replicate, slice_get, count_by, Option, Some, None}
+use Rattle.std.specs.Prelude.{◌≡◌, ◌+◌, ◌<◌, ◌≤◌, ◌==◌, ◌&&◌, ◌||◌, ℕ, not, nat_lt, if◌then◌else◌, List, [], ◌∷◌, length, drop, replicate, slice_get, count_by, Option, Some, None}
 use Rattle.cany_base.specs.declared.actions.Action.{Action}
 use Rattle.cany_base.specs.declared.log_entry.LogEntry.{LogEntry}
 use Rattle.cany_base.specs.declared.notice.Notice.{Notice}
 use Rattle.cany_base.specs.declared.notice.NoticeKind.{NoticeKind}
 use Rattle.cany_base.specs.declared.notice.NoticeKind.TheVariants.{Idle}
 use Rattle.cany_base.specs.Bounded.{Bounded}
-use Rattle.cany_base.specs.Nodes.{Nodes}
+use Rattle.cany_base.specs.Params.{Parameters}
 use Rattle.cany_base.specs.Scenario.{ScenarioParts, IsLegalScenario}
-use Rattle.cany_model.specs.Bus.Slot.{nobody}
 use Rattle.cany_model.specs.Rules.Backlog.{asked, backlog}
 use Rattle.cany_model.specs.Rules.Effect.{Effect, waiting_after}
 use Rattle.cany_model.specs.Rules.Log.{log_from}
-use Rattle.cany_model.specs.Rules.Notices.{HasFewSigns, IsNextNotice, IsReadable}
+use Rattle.cany_model.specs.Rules.Notices.{HasFewSigns, IsNextNotice, IsReadable, IsReadableVector, error_as_idle, is_early}
 use Rattle.cany_model.specs.Rules.Rooms.{waiting_room, actions_room, log_room}
-use Rattle.cany_model.specs.Rules.Station.{station_at_first, station_of}
+use Rattle.cany_model.specs.Rules.Site.{station_of}
 use Rattle.cany_model.specs.Rules.Turn.{turn_effects}
 use Rattle.can_controller.specs.Controller.{ControllerState}
 use Rattle.cany_edcan.specs.Edcan.{EdcanParts, IsEdcanOf}
-use Rattle.cany_life.specs.Life.{IsLifeOf, IsNextAt, LifeParts}
 use Rattle.cany_relcan.specs.Relcan.{RelcanParts, IsRelcanOf}
 use Rattle.cany_totcan.specs.Totcan.{TotcanParts, IsTotcanOf}
 use Rattle.cany_node.specs.declared.reply.TurnReply.{TurnReply}
 use Rattle.cany_node.specs.declared.reply.TurnReply.TheVariants.{Turned, NothingYet, Stopped}
 use Rattle.cany_node.specs.Agenda.{AgendaParts, IsAgendaOf, IsPlanOf}
 use Rattle.cany_node.specs.Apply.{AreAskable, is_sign}
+use Rattle.cany_node.specs.Asks.{AreAsksOf, IsAskPlanOf}
+use Rattle.cany_node.specs.Site.{IsNextOf, IsSiteAtRest, IsSiteOf, SiteParts}
+use Rattle.cany_node.specs.Telling.{AreTold}
 
--- its number, the number of its incarnation, how many slots a restart keeps one from taking part, and the first slot in which
--- this one does; its log and how much the log can hold, how many notices it has read, its view of the site, and the parts that
--- its protocols and its scripted sends keep
+-- its number, the number of its incarnation, the parameters, and the first slot and the first membership cycle in which this one takes
+-- part; its log and how much the log can hold, how many notices it has read, the parts that its protocols keep, and its scripted sends
+-- and asks that are still to come
 pub record NodeParts : Type 0 where
   pub node : ℕ
   pub inc : ℕ
-  pub delay : ℕ
+  pub params : Parameters
   pub from : ℕ
+  pub cycle : ℕ
   pub log : List LogEntry
   pub room : ℕ
   pub read : ℕ
-  pub members : Nodes
   pub edcan : EdcanParts
   pub relcan : RelcanParts
   pub totcan : TotcanParts
-  pub life : LifeParts
+  pub site : SiteParts
   pub agenda : AgendaParts
+  pub joins : List ℕ
+  pub leaves : List ℕ
 
--- What an incarnation hears of a slot: nothing, before the first in which it takes part. The one of the opening takes part in
--- all.
-abbrev pub heard : ℕ → ℕ → ℕ → NoticeKind → NoticeKind
-heard inc from slot kind = if not (inc == 0) && nat_lt slot from then Idle else kind
+-- What an incarnation hears of a slot: nothing before the first in which it takes part, and nothing of a vector of a membership cycle
+-- before the first in which it does. The one of the opening takes part in all. An error is heard as an idle slot: whether the slot of an
+-- error carried such a vector does not show in the notice.
+abbrev pub heard : ℕ → ℕ → ℕ → ℕ → NoticeKind → NoticeKind
+heard inc from cycle slot kind = if not (inc == 0) && (nat_lt slot from || is_early cycle kind) then Idle else error_as_idle kind
 
 -- the notice as the node hears it
 abbrev pub heard_by : NodeParts → Notice → Notice
-heard_by v notice = record { slot = notice.slot; kind = heard v.inc v.from notice.slot notice.kind }
+heard_by v notice = record { slot = notice.slot; kind = heard v.inc v.from v.cycle notice.slot notice.kind }
 
 -- each notice that was heard belongs to the scenario
 abbrev pub AreReadable : ScenarioParts → List NoticeKind → Type 0
 AreReadable scenario [] = Unit {0}
 AreReadable scenario (kind ∷ past) = IsReadable scenario (length past) kind × AreReadable scenario past
-
--- the members that an incarnation knows at first: one of a restarted node none, not even itself
-abbrev pub first_members : ScenarioParts → ℕ → Nodes
-first_members scenario inc = if inc == 0 then scenario.members else nobody
 
 -- the node stands for what it has heard, newest first, in the scenario as its incarnation follows it
 pub record IsNodeOf (scenario : ScenarioParts) (past : List NoticeKind) (v : NodeParts) : Type 0 where
@@ -71,27 +71,29 @@ pub record IsNodeOf (scenario : ScenarioParts) (past : List NoticeKind) (v : Nod
   pub room : v.room ≡ log_room scenario
   pub read : v.read ≡ length past
   pub readable : AreReadable scenario past
-  pub members : v.members ≡ scenario.members
   pub edcan : IsEdcanOf scenario v.node past v.edcan
   pub relcan : IsRelcanOf scenario v.node past v.relcan
   pub totcan : IsTotcanOf scenario v.node past (backlog scenario v.node past) (asked scenario v.node past) v.totcan
-  pub life : IsLifeOf scenario v.node past (station_of scenario v.node past) v.life
+  pub site : IsSiteOf scenario v.node past v.site
   pub agenda : IsAgendaOf scenario v.node (length past) v.agenda
+  pub joins : AreAsksOf scenario v.node (length past) scenario.joins v.joins
+  pub leaves : AreAsksOf scenario v.node (length past) scenario.leaves v.leaves
   pub room_to_give : length v.totcan.backlog.given + length v.agenda.left ≤ v.totcan.backlog.room
 
 -- The node was built for a run of the scenario and has made no turn. It stands for nothing yet: its protocols are as they are
 -- after any number of idle slots.
 pub record IsWaiting (scenario : ScenarioParts) (v : NodeParts) : Type 0 where
   pub legal : IsLegalScenario scenario
-  pub delay : v.delay ≡ scenario.params.bound + scenario.params.lag
+  pub params : v.params ≡ scenario.params
   pub log : v.log ≡ []
   pub room : v.room ≡ log_room scenario
-  pub members : v.members ≡ first_members scenario v.inc
   pub edcan : (n : ℕ) → IsEdcanOf scenario v.node (replicate n Idle) v.edcan
   pub relcan : (n : ℕ) → IsRelcanOf scenario v.node (replicate n Idle) v.relcan
   pub totcan : (n : ℕ) → IsTotcanOf scenario v.node (replicate n Idle) [] 0 v.totcan
-  pub life : (n : ℕ) (members : Nodes) → IsLifeOf scenario v.node (replicate n Idle) (station_at_first members) v.life
+  pub site : IsSiteAtRest scenario v.node v.site
   pub agenda : IsPlanOf scenario v.node v.agenda
+  pub joins : IsAskPlanOf v.node scenario.joins v.joins
+  pub leaves : IsAskPlanOf v.node scenario.leaves v.leaves
   pub room_to_give : length v.totcan.backlog.given + length v.agenda.left ≤ v.totcan.backlog.room
 
 -- the node can begin as an incarnation after a restart at the end of this slot
@@ -110,10 +112,13 @@ pub record CanTurn (v : NodeParts) (ctl : ControllerState) (out : Bounded Action
   pub node : ctl.node ≡ v.node
   pub params : ctl.params ≡ scenario.params
   pub room : ctl.room ≡ waiting_room scenario
-  pub askable : ctl.stopped ≡ None → AreAskable scenario ctl.waiting
+  pub askable : ctl.stopped ≡ None → AreAskable scenario v.node ctl.waiting
+  pub told : ctl.stopped ≡ None → AreTold v.inc ctl.waiting
   pub signs : ctl.stopped ≡ None → count_by is_sign ctl.waiting ≤ 2
   pub next : (notice : Notice) → slice_get ctl.unread 0 ≡ Some notice → IsNextNotice scenario past (heard_by v notice)
   pub few : ctl.stopped ≡ None → (notice : Notice) → slice_get ctl.unread 0 ≡ Some notice → HasFewSigns scenario v.node ((heard_by v notice).kind ∷ past) notice.slot
+  pub vector : ctl.stopped ≡ None → (notice : Notice) → slice_get ctl.unread 0 ≡ Some notice
+      → IsReadableVector scenario.params v.node notice.slot (station_of scenario v.node past).vector (heard_by v notice).kind
   pub read : ctl.read ≡ length past
   pub free : out.items ≡ []
   pub actions : out.room ≡ actions_room scenario
@@ -123,10 +128,11 @@ pub record CanAct (v : NodeParts) (notice : Notice) (ctl : ControllerState) (out
   pub scenario : ScenarioParts
   pub past : List NoticeKind
   pub stands : IsNodeOf scenario past v
-  pub next : IsNextAt scenario v.node past notice
+  pub next : IsNextOf scenario v.node past notice
   pub format : ctl.params.format ≡ scenario.params.format
   pub room : ctl.room ≡ waiting_room scenario
-  pub askable : AreAskable scenario ctl.waiting
+  pub askable : AreAskable scenario v.node ctl.waiting
+  pub told : AreTold v.inc ctl.waiting
   pub signs : count_by is_sign ctl.waiting ≤ 2
   pub free : out.items ≡ []
   pub actions : out.room ≡ actions_room scenario
@@ -140,11 +146,13 @@ reply_at read None None = NothingYet read
 abbrev pub reply_of : ControllerState → TurnReply
 reply_of ctl = reply_at ctl.read (slice_get ctl.unread 0) ctl.stopped
 
--- the node reads this notice next, after what it stands for, and can hear it: of its own life signs there are not too many with it
+-- the node reads this notice next, after what it stands for, and can hear it: of its own life signs there are not too many with it, and
+-- its vector can be read
 pub record Reads (scenario : ScenarioParts) (past : List NoticeKind) (notice : Notice) (v : NodeParts) (ctl : ControllerState) : Type 0 where
   pub stands : IsNodeOf scenario past v
   pub next : IsNextNotice scenario past (heard_by v notice)
   pub few : HasFewSigns scenario v.node ((heard_by v notice).kind ∷ past) notice.slot
+  pub vector : IsReadableVector scenario.params v.node notice.slot (station_of scenario v.node past).vector (heard_by v notice).kind
   pub running : ctl.stopped ≡ None
   pub oldest : slice_get ctl.unread 0 ≡ Some notice
 

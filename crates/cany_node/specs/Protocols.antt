@@ -1,13 +1,11 @@
 -- The protocols of a node before its first turn.
 use Rattle.std.specs.Prelude.{ℕ, [], replicate}
 use Rattle.cany_base.specs.declared.notice.NoticeKind.TheVariants.{Idle}
-use Rattle.cany_base.specs.Nodes.{Nodes}
 use Rattle.cany_base.specs.Scenario.{ScenarioParts}
-use Rattle.cany_model.specs.Rules.Station.{station_at_first}
 use Rattle.cany_edcan.specs.Edcan.{IsEdcanOf}
-use Rattle.cany_life.specs.Life.{IsLifeOf}
 use Rattle.cany_relcan.specs.Relcan.{IsRelcanOf}
 use Rattle.cany_totcan.specs.Totcan.{IsTotcanOf}
+use Rattle.cany_node.specs.Site.{IsSiteAtRest}
 use Rattle.cany_node.specs.declared.protocols.Protocols.{Protocols}
 
 -- they are those of node i after any number of idle slots, whoever its members are
@@ -15,4 +13,4 @@ pub record AreAtRest (scenario : ScenarioParts) (i : ℕ) (p : Protocols) : Type
   pub edcan : (n : ℕ) → IsEdcanOf scenario i (replicate n Idle) p.edcan
   pub relcan : (n : ℕ) → IsRelcanOf scenario i (replicate n Idle) p.relcan
   pub totcan : (n : ℕ) → IsTotcanOf scenario i (replicate n Idle) [] 0 p.totcan
-  pub life : (n : ℕ) (members : Nodes) → IsLifeOf scenario i (replicate n Idle) (station_at_first members) p.life
+  pub site : IsSiteAtRest scenario i p.site

@@ -3,12 +3,16 @@
 
 mod agenda;
 mod apply;
+mod asks;
 mod node;
+mod notices;
 mod protocols;
 mod reply;
 mod rooms;
+mod script;
 mod sending;
-mod signing;
+mod site;
+mod telling;
 mod threads;
 
 pub use node::Node;

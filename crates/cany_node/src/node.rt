@@ -1,30 +1,37 @@
-ghost use Rattle.std.specs.Prelude.{◌≡◌, ◌≢◌, ◌+◌, ◌<◌, ◌≤◌, [], ◌∷◌, replicate, List, false, Contains, IfOk};
+ghost use Rattle.std.specs.Prelude.{◌≡◌, ◌≢◌, ◌+◌, ◌<◌, ◌≤◌, ◌++◌, [], ◌∷◌, length, replicate, List, false, Contains, IfOk};
 ghost use Rattle.cany_base.specs.declared.notice.Notice.{Notice};
 ghost use Rattle.cany_base.specs.declared.notice.NoticeKind.{NoticeKind};
 ghost use Rattle.cany_base.specs.declared.notice.NoticeKind.TheVariants.{Idle};
 ghost use Rattle.cany_base.specs.Limits.{most_restarts_of_node};
 ghost use Rattle.cany_base.specs.Scenario.{ScenarioParts};
-ghost use Rattle.cany_life.specs.Life.{IsNextAt};
+ghost use Rattle.cany_model.specs.Bus.Restart.{first_cycle};
 ghost use Rattle.cany_model.specs.Bus.State.{Incarnation};
 ghost use Rattle.cany_model.specs.Rules.Messages.{Message, messages_of, message_key};
 ghost use Rattle.cany_model.specs.Rules.Turn.{has_asked, is_ahead_at, scenario_for, turn_effects};
+ghost use Rattle.cany_model.specs.Rules.Actions.{actions_of};
 ghost use Rattle.cany_model.specs.Rules.Effect.{waiting_after};
-ghost use Rattle.cany_node.specs.Node.{IsNodeOf, IsWaiting, CanBegin, CanTurn, CanAct, Reads, IsTurnOf, IsRefused, first_members, heard_by, reply_of};
+ghost use Rattle.cany_node.specs.Node.{IsNodeOf, IsWaiting, CanBegin, CanTurn, CanAct, Reads, IsTurnOf, IsRefused, heard_by, reply_of};
+ghost use Rattle.cany_node.specs.Asks.{AreAsksPassed};
+ghost use Rattle.cany_node.specs.Agenda.{ArePassed};
+ghost use Rattle.cany_node.specs.Site.{IsNextOf};
+ghost use Rattle.cany_node.specs.Turning.{CanHearNext, CanScript, HasHeard, HasScripted, heard_effects, heard_room, script_effects, script_room};
 
 use crate::agenda::Agenda;
 use crate::apply::apply_all;
+use crate::asks::{AskKind, AskPlan, ask_due};
+use crate::notices::{error_as_idle, is_early};
 use crate::protocols::{Protocols, build_protocols};
 use crate::reply::TurnReply;
 use crate::rooms::log_room;
+use crate::script::{Script, build_script};
 use crate::sending::send_due;
-use crate::signing::sign;
+use crate::site::Site;
 use can_controller::Controller;
 use cany_base::{
-    Actions, BoundedVec, LogEntry, Memory, MsgKey, NodeId, NodeSet, Notice, NoticeKind, Scenario,
+    Actions, BoundedVec, LogEntry, Memory, MsgKey, NodeId, Notice, NoticeKind, Params, Scenario,
     Slot,
 };
 use cany_edcan::Edcan;
-use cany_life::Life;
 use cany_relcan::Relcan;
 use cany_totcan::Totcan;
 use std::alloc::Global;
@@ -38,26 +45,25 @@ pub struct Node {
     node: NodeId,
     /// The number of the incarnation, 0 at the opening.
     inc: u8,
-    /// How many slots a restart keeps an incarnation from taking part.
-    delay: Slot,
+    params: Params,
     /// The first slot in which the incarnation takes part: of an earlier one it hears nothing, and makes none of its scripted
-    /// sends.
+    /// sends and asks.
     from: Slot,
+    /// The first membership cycle in which it takes part: of the vectors of an earlier one it hears nothing.
+    cycle: u64,
     read: Slot,
-    /// The view of the site. An incarnation of a restarted node is at first no member, and knows of none.
-    members: NodeSet,
     edcan: Edcan,
     relcan: Relcan,
     totcan: Totcan,
-    life: Life,
+    site: Site,
     agenda: Agenda,
-    /// Empty but for a moment of a turn: what is asked for there is to tell the incarnation.
-    asks: Actions,
+    joins: AskPlan,
+    leaves: AskPlan,
     log: BoundedVec<LogEntry>,
 }
 
 impl Model for Node {
-    ghost use Rattle.std.specs.Prelude.{◌≡◌, ◌≤◌, []};
+    ghost use Rattle.std.specs.Prelude.{◌≤◌};
     ghost use Rattle.cany_base.specs.Limits.{most_restarts_of_node};
     ghost use Rattle.cany_node.specs.Node.{NodeParts};
 
@@ -66,31 +72,22 @@ impl Model for Node {
     ghost view = { λ n. record {
       node = n.node;
       inc = n.inc;
-      delay = n.delay;
+      params = n.params;
       from = n.from;
+      cycle = n.cycle;
       log = n.log.items;
       room = n.log.room;
       read = n.read;
-      members = n.members;
       edcan = n.edcan;
       relcan = n.relcan;
       totcan = n.totcan;
-      life = n.life;
+      site = n.site;
       agenda = n.agenda;
+      joins = n.joins;
+      leaves = n.leaves;
     } };
 
-    ghost invariant = { λ n. (n.inc ≤ most_restarts_of_node) × (n.asks ≡ record { items = []; room = 1 }) };
-}
-
-/// The members that an incarnation knows at first.
-fn first_members(inc: u8, scenario: &Scenario) -> NodeSet
-    ensures { result ≡ first_members scenario.now inc }
-{
-    if inc == 0 {
-        scenario.members()
-    } else {
-        NodeSet::of_bits(0)
-    }
+    ghost invariant = { λ n. n.inc ≤ most_restarts_of_node };
 }
 
 impl Node {
@@ -105,50 +102,71 @@ impl Node {
     {
         let params = *scenario.params();
         let protocols = build_protocols(alloc, node, scenario)?;
-        let agenda = Agenda::build(alloc, node, scenario)?;
-        let asks = Actions::build(alloc, 1)?;
+        let script = build_script(alloc, node, scenario)?;
         let log = BoundedVec::build(alloc, log_room(scenario))?;
         let Protocols {
             edcan,
             relcan,
             totcan,
-            life,
+            site,
         } = protocols;
+        let Script {
+            agenda,
+            joins,
+            leaves,
+        } = script;
         Ok(Node {
             node,
             inc,
-            delay: params.bound + Slot::from(params.lag),
+            params,
             from: 0,
+            cycle: 0,
             read: 0,
-            members: first_members(inc, scenario),
             edcan,
             relcan,
             totcan,
-            life,
+            site,
             agenda,
-            asks,
+            joins,
+            leaves,
             log,
         })
     }
 
-    /// The incarnation begins, after a restart at the end of this slot: it has heard nothing in the slots so far, and takes part
-    /// only `delay` slots later.
+    /// The incarnation begins, after a restart at the end of this slot. It has heard nothing in the slots so far, is no member, and
+    /// takes part only `bound + lag` slots later, in vectors from the first membership cycle on that does not start before.
     pub fn begin(&mut self, restart: Slot)
         requires { CanBegin self.old restart }
         ensures stands { (scenario : ScenarioParts) (inc : Incarnation) → inc.number ≡ self.old.inc →
             inc.from ≡ restart + 1 + (scenario.params.bound + scenario.params.lag) → IsWaiting scenario self.old →
             IsNodeOf (scenario_for scenario inc) (replicate (restart + 1) Idle) self.new }
+        ensures cycle { (scenario : ScenarioParts) → IsWaiting scenario self.old →
+            self.new.cycle ≡ first_cycle scenario.params (restart + 1 + (scenario.params.bound + scenario.params.lag)) }
         ensures node { self.new.node ≡ self.old.node }
         ensures inc { self.new.inc ≡ self.old.inc }
     {
         self.read = restart + 1;
-        self.from = self.read + self.delay;
-        self.agenda.pass_before(self.from);
+        self.from = self.read + (self.params.bound + Slot::from(self.params.lag));
+        self.cycle = (self.from + (self.params.cycle - 1)) / self.params.cycle;
+        self.site.begin_outside();
+        self.pass_before(self.from);
     }
 
-    /// Reads the oldest unread notice of the controller and does what the rules say of what it hears: EDCAN, RELCAN, TOTCAN, the
-    /// failure signs, then the node's own life sign, the scripted sends of the slot, and the next message of the backlog. `out` is
-    /// where the actions of the turn are kept while they are done.
+    /// Passes over the scripted sends and asks of the slots before this one.
+    fn pass_before(&mut self, slot: Slot)
+        ensures agenda { ArePassed slot self.old.agenda self.new.agenda }
+        ensures joins { AreAsksPassed slot self.old.joins self.new.joins }
+        ensures leaves { AreAsksPassed slot self.old.leaves self.new.leaves }
+        ensures state { self.new ≡ record self.old { agenda = self.new.agenda; joins = self.new.joins; leaves = self.new.leaves } }
+    {
+        self.agenda.pass_before(slot);
+        self.joins.pass_before(slot);
+        self.leaves.pass_before(slot);
+    }
+
+    /// Reads the oldest unread notice of the controller and does what the rules say of what it hears: EDCAN, RELCAN, TOTCAN, what it
+    /// tells of the site, then the scripted sends, joins and leaves of the slot, and the next message of the backlog. `out` is where
+    /// the actions of the turn are kept while they are done.
     pub fn turn(&mut self, ctl: &mut Controller, out: &mut Actions) -> TurnReply
         requires { CanTurn self.old ctl.old out.old }
         ensures reply { result ≡ reply_of ctl.old }
@@ -157,6 +175,7 @@ impl Node {
             IsTurnOf scenario past notice self.old self.new ctl.old ctl.new }
         ensures node { self.new.node ≡ self.old.node }
         ensures inc { self.new.inc ≡ self.old.inc }
+        ensures cycle { self.new.cycle ≡ self.old.cycle }
         ensures out { out.new ≡ out.old }
     {
         if let Some(slot) = ctl.stopped() {
@@ -174,11 +193,12 @@ impl Node {
     fn heard(&self, notice: &Notice) -> Notice
         ensures { result ≡ heard_by self.now notice.now }
     {
-        let is_hidden = self.inc != 0 && notice.slot < self.from;
+        let is_hidden = self.inc != 0
+            && (notice.slot < self.from || is_early(self.cycle, &notice.kind));
         let kind = if is_hidden {
             NoticeKind::Idle
         } else {
-            notice.kind
+            error_as_idle(notice.kind)
         };
         Notice {
             slot: notice.slot,
@@ -189,39 +209,64 @@ impl Node {
     /// Does what the rules say of a notice, as it is heard.
     fn act(&mut self, notice: &Notice, ctl: &mut Controller, out: &mut Actions)
         requires { CanAct self.old notice.now ctl.old out.old }
-        ensures controller { (scenario : ScenarioParts) (past : List NoticeKind) → IsNodeOf scenario past self.old → IsNextAt scenario self.old.node past notice.now →
+        ensures controller { (scenario : ScenarioParts) (past : List NoticeKind) → IsNodeOf scenario past self.old → IsNextOf scenario self.old.node past notice.now →
             ctl.new ≡ record ctl.old { waiting = waiting_after (turn_effects scenario self.old.node (notice.now.kind ∷ past)) ctl.old.waiting } }
-        ensures stands { (scenario : ScenarioParts) (past : List NoticeKind) → IsNodeOf scenario past self.old → IsNextAt scenario self.old.node past notice.now →
+        ensures stands { (scenario : ScenarioParts) (past : List NoticeKind) → IsNodeOf scenario past self.old → IsNextOf scenario self.old.node past notice.now →
             IsNodeOf scenario (notice.now.kind ∷ past) self.new }
         ensures node { self.new.node ≡ self.old.node }
         ensures inc { self.new.inc ≡ self.old.inc }
+        ensures cycle { self.new.cycle ≡ self.old.cycle }
         ensures out { out.new ≡ out.old }
+    {
+        self.hear(notice, out);
+        self.script(notice.slot, out);
+        self.totcan.next(notice.slot, out);
+        apply_all(out, self.inc, ctl, &mut self.log);
+        out.clear();
+        self.read = notice.slot + 1;
+    }
+
+    /// What the protocols do at a notice.
+    fn hear(&mut self, notice: &Notice, out: &mut Actions)
+        requires hears { CanHearNext self.old notice.now }
+        requires room { length out.old.items + heard_room self.old ≤ out.old.room }
+        ensures actions { (scenario : ScenarioParts) (past : List NoticeKind) → IsNodeOf scenario past self.old → IsNextOf scenario self.old.node past notice.now →
+            out.new.items ≡ out.old.items ++ actions_of scenario.params.format (heard_effects scenario self.old.node (notice.now.kind ∷ past)) }
+        ensures stands { (scenario : ScenarioParts) (past : List NoticeKind) → IsNodeOf scenario past self.old → IsNextOf scenario self.old.node past notice.now →
+            HasHeard scenario past notice.now.kind self.new }
+        ensures state { let v = self.new in self.new ≡ record self.old { edcan = v.edcan; relcan = v.relcan; totcan = v.totcan; site = v.site } }
+        ensures few { length out.new.items ≤ length out.old.items + heard_room self.old }
+        ensures room { out.new.room ≡ out.old.room }
     {
         self.edcan.on(notice, out);
         self.relcan.on(notice, out);
         self.totcan.on(notice, out);
-        self.life.on(notice, self.members, out);
-        sign(
-            &mut self.life,
-            notice.slot,
-            self.members,
-            self.inc,
-            &mut self.asks,
-            out,
-        );
+        self.site.on(notice, out);
+    }
+
+    /// What the script asks of the node in a slot: its sends, its joins and then its leaves, each in file order.
+    fn script(&mut self, slot: Slot, out: &mut Actions)
+        requires scripts { CanScript self.old slot }
+        requires room { length out.old.items + script_room self.old ≤ out.old.room }
+        ensures actions { (scenario : ScenarioParts) (past : List NoticeKind) (notice : NoticeKind) → HasHeard scenario past notice self.old → slot ≡ length past →
+            out.new.items ≡ out.old.items ++ actions_of scenario.params.format (script_effects scenario self.old.node (notice ∷ past)) }
+        ensures stands { (scenario : ScenarioParts) (past : List NoticeKind) (notice : NoticeKind) → HasHeard scenario past notice self.old → slot ≡ length past →
+            HasScripted scenario past notice self.new }
+        ensures state { let v = self.new in self.new ≡ record self.old { edcan = v.edcan; relcan = v.relcan; totcan = v.totcan; agenda = v.agenda; joins = v.joins; leaves = v.leaves } }
+        ensures few { length out.new.items ≤ length out.old.items + script_room self.old }
+        ensures room { out.new.room ≡ out.old.room }
+    {
         send_due(
             self.node,
-            notice.slot,
+            slot,
             &mut self.agenda,
             &mut self.edcan,
             &mut self.relcan,
             &mut self.totcan,
             out,
         );
-        self.totcan.next(notice.slot, out);
-        apply_all(out, ctl, &mut self.log);
-        out.clear();
-        self.read = notice.slot + 1;
+        ask_due(AskKind::Join, slot, &mut self.joins, &self.site, out);
+        ask_due(AskKind::Leave, slot, &mut self.leaves, &self.site, out);
     }
 
     /// The first slot in which the incarnation takes part. That of the opening takes part in all.

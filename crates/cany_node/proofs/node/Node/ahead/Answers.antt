@@ -8,12 +8,12 @@ use Rattle.cany_node.specs.Node.{NodeParts, IsNodeOf}
 use Rattle.cany_node.proofs.node.Node.ahead.Goals as goal
 
 -- of the protocols RELCAN and TOTCAN alone have something ahead
-closing_ahead : (rel tot : Bool) → tot ≡ true → tot ≡ (false || (rel || (tot || (false || (false || (false || (false || false)))))))
+closing_ahead : (rel tot : Bool) → tot ≡ true → tot ≡ (rel || (tot || false))
 closing_ahead true tot h = h
 closing_ahead false true h = refl
 closing_ahead false false h = refl
 
-timer_ahead : (rel tot : Bool) → tot ≡ false → rel ≡ (false || (rel || (tot || (false || (false || (false || (false || false)))))))
+timer_ahead : (rel tot : Bool) → tot ≡ false → rel ≡ (rel || (tot || false))
 timer_ahead true tot h = refl
 timer_ahead false true h = sym h
 timer_ahead false false h = refl

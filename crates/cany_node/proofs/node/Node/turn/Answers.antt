@@ -4,7 +4,7 @@ use Rattle.cany_node.proofs.WholeTurn.{whole_turn}
 use Rattle.cany_node.proofs.node.Node.turn.Goals as goal
 
 pub returns-clause-turn : goal.returns-clause-turn
-returns-clause-turn c scenario past notice reads =
+returns-clause-turn c = λ scenario past notice reads.
     let found = c.in-Some-next_notice.ensures.oldest in
     let next = c.requires.next c.in-Some-next_notice.given (sym found) in
     whole_turn scenario past notice c.in-Some-next_notice.given c.heard-notice.result c.args.self.now c.act.new.self c.args.ctl.now c.next_notice.new.self c.act.new.ctl (2 ^ 64 - 1) reads found c.heard-notice.ensures

@@ -1,0 +1,132 @@
+-- What a node knows of the site before its first turn.
+use Rattle.std.proofs.Common.{◌≡◌, ℕ, List, [], None, replicate, ap, sym, subst, ◌∙◌}
+use Rattle.std.proofs.lemmas.Bool.{false≢true}
+use Rattle.cany_base.specs.declared.notice.NoticeKind.{NoticeKind}
+use Rattle.cany_base.specs.declared.notice.NoticeKind.TheVariants.{Idle}
+use Rattle.cany_base.specs.Nodes.{AllBelow}
+use Rattle.cany_base.specs.Scenario.{ScenarioParts, IsLegalScenario}
+use Rattle.cany_base.proofs.NodesFacts.{has_none}
+use Rattle.cany_model.specs.Bus.Slot.{nobody}
+use Rattle.cany_model.specs.Bus.State.{Incarnation}
+use Rattle.cany_model.specs.Rules.Site.{station_of}
+use Rattle.cany_model.specs.Rules.Station.{Station, station_at_first}
+use Rattle.cany_model.specs.Rules.Turn.{scenario_for}
+use Rattle.cany_model.proofs.Rules.Begun.{IsBegun}
+use Rattle.cany_model.proofs.Rules.StationFacts.{begun_station}
+use Rattle.cany_history.specs.History.{HistoryParts, IsHistoryOf}
+use Rattle.cany_life.specs.Life.{IsLifeOf, LifeParts}
+use Rattle.cany_views.specs.Views.{IsViewsOf, ViewsParts}
+use Rattle.cany_node.specs.Site.{IsSiteAtRest, IsSiteOf, SiteParts}
+
+nobody_below : (bound : ℕ) → AllBelow bound nobody
+nobody_below bound = λ node is. absurd (false≢true (sym (has_none node) ∙ is))
+
+-- at the node of the opening nobody has failed, and it has the members of the scenario
+pub site_opens : (scenario : ScenarioParts) (i : ℕ) (v : SiteParts) → IsSiteAtRest scenario i v → IsSiteOf scenario i [] v
+unfolding station_of
+site_opens scenario i v rest = record {
+  params = rest.params;
+  failed = nobody_below scenario.params.nodes;
+  life = rest.life 0 scenario.members;
+  history = rest.history 0;
+  views = rest.views;
+}
+
+-- ---- in the scenario as an incarnation follows it
+
+-- a value of life signs and failure signs stands for the same
+life_for : (scenario : ScenarioParts) (inc : Incarnation) (i : ℕ) (past : List NoticeKind) (station : Station) (v : LifeParts)
+    → IsLegalScenario (scenario_for scenario inc) → IsLifeOf scenario i past station v → IsLifeOf (scenario_for scenario inc) i past station v
+life_for scenario inc i past station v legal h = record {
+  legal = legal;
+  node = h.node;
+  params = h.params;
+  failed = h.failed;
+  cycles = h.cycles;
+  known = λ sign of. h.known sign (record { node = of.node; cycle = of.cycle });
+  copies = record {
+    omit = h.copies.omit;
+    room = h.copies.room;
+    copies = h.copies.copies;
+    signs = λ number there.
+        let is = h.copies.signs number there in
+        record { sign = is.sign; of = record { node = is.of.node; cycle = is.of.cycle }; stands = is.stands };
+  };
+  nodes = h.nodes;
+  shown = h.shown;
+  last = h.last;
+  sent = h.sent;
+  few = h.few;
+}
+
+-- a value of the exchange of vectors does too
+history_for : (scenario : ScenarioParts) (inc : Incarnation) (i : ℕ) (past : List NoticeKind) (v : HistoryParts)
+    → IsLegalScenario (scenario_for scenario inc) → IsHistoryOf scenario i past None v → IsHistoryOf (scenario_for scenario inc) i past None v
+history_for scenario inc i past v legal h = record {
+  legal = legal;
+  place = h.place;
+  node = h.node;
+  params = h.params;
+  vector = h.vector;
+  below = h.below;
+  few = h.few;
+  unread = h.unread;
+  exchange = h.exchange;
+}
+
+-- and so does one of the view
+views_for : (scenario : ScenarioParts) (inc : Incarnation) (i : ℕ) (station : Station) (v : ViewsParts)
+    → IsLegalScenario (scenario_for scenario inc) → IsViewsOf scenario i station v → IsViewsOf (scenario_for scenario inc) i station v
+views_for scenario inc i station v legal h = record {
+  legal = legal;
+  node = h.node;
+  params = h.params;
+  members = h.members;
+  joiners = h.joiners;
+  leavers = h.leavers;
+  below = h.below;
+  joins = h.joins;
+  leaves = h.leaves;
+}
+
+-- ---- a node that is at first no member
+
+-- what becomes of its site
+pub record IsOutside (old new : SiteParts) : Type 0 where
+  pub life : new.life ≡ old.life
+  pub history : new.history ≡ old.history
+  pub views : (scenario : ScenarioParts) (station : Station) → IsViewsOf scenario old.views.node station old.views
+      → IsViewsOf scenario old.views.node (station_at_first nobody) new.views
+  pub params : new.params ≡ old.params
+
+-- it knows nothing of the site
+pub site_begins : (scenario : ScenarioParts) (inc : Incarnation) (i n : ℕ) (old new : SiteParts) → IsSiteAtRest scenario i old
+    → IsOutside old new → IsLegalScenario (scenario_for scenario inc) → (scenario_for scenario inc).members ≡ nobody
+    → IsBegun (scenario_for scenario inc) (replicate n Idle)
+    → IsSiteOf (scenario_for scenario inc) i (replicate n Idle) new
+site_begins scenario inc i n old new rest became legal outside begun = record {
+  params = became.params ∙ rest.params;
+  failed = subst (λ (st : Station). AllBelow scenario.params.nodes st.failed) (sym known) (nobody_below scenario.params.nodes);
+  life = subst (λ st. IsLifeOf followed i past st new.life) (sym known)
+      (subst (IsLifeOf followed i past (station_at_first nobody)) (sym became.life)
+      (life_for scenario inc i past (station_at_first nobody) old.life legal (rest.life n nobody)));
+  history = subst (λ (st : Station). IsHistoryOf followed i past st.vector new.history) (sym known)
+      (subst (IsHistoryOf followed i past None) (sym became.history)
+      (history_for scenario inc i past old.history legal (rest.history n)));
+  views = subst (λ st. IsViewsOf followed i st new.views) (sym known)
+      (views_for scenario inc i (station_at_first nobody) new.views legal seen);
+}
+  where
+    followed : ScenarioParts
+    followed = scenario_for scenario inc
+
+    past : List NoticeKind
+    past = replicate n Idle
+
+    known : station_of followed i past ≡ station_at_first nobody
+    known = begun_station followed i past begun ∙ ap station_at_first outside
+
+    seen : IsViewsOf scenario i (station_at_first nobody) new.views
+    seen = subst (λ k. IsViewsOf scenario k (station_at_first nobody) new.views) rest.views.node
+        (became.views scenario (station_at_first scenario.members)
+        (subst (λ k. IsViewsOf scenario k (station_at_first scenario.members) old.views) (sym rest.views.node) rest.views))

@@ -1,0 +1,122 @@
+-- What a node keeps of the site: life signs and failure signs, the exchange of vectors, and the view.
+use Rattle.std.specs.Prelude.{◌≡◌, ℕ, ◌+◌, ◌*◌, ◌<◌, [], ◌∷◌, ◌++◌, List, length, Option, None, IfSome, option_map, replicate}
+use Rattle.cany_base.specs.declared.notice.Notice.{Notice}
+use Rattle.cany_base.specs.declared.notice.NoticeKind.{NoticeKind}
+use Rattle.cany_base.specs.declared.notice.NoticeKind.TheVariants.{Idle}
+use Rattle.cany_base.specs.Nodes.{AllBelow, Nodes}
+use Rattle.cany_base.specs.Params.{Parameters}
+use Rattle.cany_base.specs.Scenario.{ScenarioParts}
+use Rattle.cany_model.specs.Rules.Effect.{TurnRule}
+use Rattle.cany_model.specs.Rules.Life.{failure_effects, life_sign, signs_sent}
+use Rattle.cany_model.specs.Rules.Membership.{install_effects}
+use Rattle.cany_model.specs.Rules.Notices.{HasFewSigns, IsNextNotice, IsReadableVector}
+use Rattle.cany_model.specs.Rules.Site.{having_met, start_in, station_of}
+use Rattle.cany_model.specs.Rules.Station.{Station, station_at_first}
+use Rattle.cany_model.specs.Rules.Vectors.{cycle_of, exchange_at}
+use Rattle.cany_history.specs.declared.ended.Ended.{Ended}
+use Rattle.cany_history.specs.History.{HistoryParts, IsHistoryOf}
+use Rattle.cany_life.specs.Life.{IsLifeOf, LifeParts}
+use Rattle.cany_views.specs.Views.{IsViewsOf, ViewsParts}
+
+pub record SiteParts : Type 0 where
+  pub params : Parameters
+  pub life : LifeParts
+  pub history : HistoryParts
+  pub views : ViewsParts
+
+-- the value is that of node i after these notices, newest first: only nodes of the bus have failed
+pub record IsSiteOf (scenario : ScenarioParts) (i : ℕ) (past : List NoticeKind) (v : SiteParts) : Type 0 where
+  pub params : v.params ≡ scenario.params
+  pub failed : AllBelow scenario.params.nodes (station_of scenario i past).failed
+  pub life : IsLifeOf scenario i past (station_of scenario i past) v.life
+  pub history : IsHistoryOf scenario i past (station_of scenario i past).vector v.history
+  pub views : IsViewsOf scenario i (station_of scenario i past) v.views
+
+-- that of a node which has read nothing, or only notices of idle slots, whoever its members are
+pub record IsSiteAtRest (scenario : ScenarioParts) (i : ℕ) (v : SiteParts) : Type 0 where
+  pub params : v.params ≡ scenario.params
+  pub life : (n : ℕ) (members : Nodes) → IsLifeOf scenario i (replicate n Idle) (station_at_first members) v.life
+  pub history : (n : ℕ) → IsHistoryOf scenario i (replicate n Idle) None v.history
+  pub views : IsViewsOf scenario i (station_at_first scenario.members) v.views
+
+-- The notice can be the next that node i hears after these: it comes next, of the node's own life signs there are not too many with it,
+-- and its vector can be read.
+pub record IsNextOf (scenario : ScenarioParts) (i : ℕ) (past : List NoticeKind) (notice : Notice) : Type 0 where
+  pub next : IsNextNotice scenario past notice
+  pub few : HasFewSigns scenario i (notice.kind ∷ past) notice.slot
+  pub vector : IsReadableVector scenario.params i notice.slot (station_of scenario i past).vector notice.kind
+
+-- ---- in the middle of a turn
+
+-- there is a scenario, and what node i has heard in it, that the value stands for, and this notice can come next
+pub record CanHear (v : SiteParts) (notice : Notice) : Type 0 where
+  pub scenario : ScenarioParts
+  pub node : ℕ
+  pub past : List NoticeKind
+  pub stands : IsSiteOf scenario node past v
+  pub next : IsNextOf scenario node past notice
+
+-- parameters, life and views are those of node i where it knows this
+pub record KnowsOf (scenario : ScenarioParts) (i : ℕ) (past : List NoticeKind) (station : Station) (v : SiteParts) : Type 0 where
+  pub params : v.params ≡ scenario.params
+  pub failed : AllBelow scenario.params.nodes station.failed
+  pub life : IsLifeOf scenario i past station v.life
+  pub views : IsViewsOf scenario i station v.views
+
+-- the vector with which a cycle ends in the slot, as the code has it
+abbrev pub ended_as : Parameters → ℕ → Option Nodes → Option Ended
+ended_as p slot vector = option_map (λ v. record { cycle = cycle_of p slot; vector = v }) vector
+
+-- what the node knows once it has heard the notice, and met its vector with the one that the notice brings
+abbrev pub met_by : ScenarioParts → ℕ → Notice → List NoticeKind → Station
+met_by scenario i notice past = having_met scenario.params i (length past) notice.kind (station_of scenario i past)
+
+-- Life and views know what the notice tells, and nothing of its vector yet: that is exchanged next.
+pub record Exchanges (scenario : ScenarioParts) (i : ℕ) (past : List NoticeKind) (notice : Notice) (v : SiteParts) : Type 0 where
+  pub knows : KnowsOf scenario i (notice.kind ∷ past) (met_by scenario i notice past) v
+  pub history : IsHistoryOf scenario i past (station_of scenario i past).vector v.history
+  pub next : IsNextOf scenario i past notice
+
+pub record CanExchange (v : SiteParts) (notice : Notice) : Type 0 where
+  pub scenario : ScenarioParts
+  pub node : ℕ
+  pub past : List NoticeKind
+  pub exchanges : Exchanges scenario node past notice v
+
+-- the vector with which a cycle ended in the slot has only nodes of the bus, and is named by the cycle
+abbrev pub FitsCycle : Parameters → ℕ → Option Ended → Type 0
+FitsCycle p slot ended = IfSome ended (λ e. (e.cycle ≡ cycle_of p slot) × AllBelow p.nodes e.vector)
+
+-- the value stands for what a node knows after the turn of the slot has begun
+pub record HasKnown (v : SiteParts) (slot : ℕ) : Type 0 where
+  pub scenario : ScenarioParts
+  pub node : ℕ
+  pub past : List NoticeKind
+  pub station : Station
+  pub knows : KnowsOf scenario node past station v
+  pub within : slot < scenario.params.slots
+  pub newest : length past ≡ slot + 1
+
+-- ---- what a turn does, without incarnations
+
+-- the exchange of vectors, where the frames tell no incarnation
+abbrev pub exchange_plain : TurnRule
+exchange_plain scenario i [] = []
+exchange_plain scenario i (notice ∷ before) =
+    exchange_at scenario.params 0 i notice before (station_of scenario i before).vector
+    (start_in scenario.params i (length before) notice (station_of scenario i before))
+
+-- the next life sign, likewise
+abbrev pub life_plain : TurnRule
+life_plain scenario i [] = []
+life_plain scenario i (notice ∷ before) =
+    life_sign scenario.params.life 0 i (length before) (station_of scenario i (notice ∷ before)) (signs_sent i (notice ∷ before))
+
+-- all that is done for the site
+abbrev pub site_effects : TurnRule
+site_effects scenario i past =
+    failure_effects scenario i past ++ (exchange_plain scenario i past ++ (install_effects scenario i past ++ life_plain scenario i past))
+
+-- the most actions of it
+abbrev pub site_room : SiteParts → ℕ
+site_room v = 2 * v.life.params.nodes + length v.views.joins + length v.views.leaves + 8

@@ -1,0 +1,34 @@
+//! What an incarnation hears of a notice.
+
+ghost use Rattle.std.specs.Prelude.{◌≡◌};
+ghost use Rattle.cany_model.specs.Rules.Notices.{error_as_idle, is_early, is_early_frame};
+
+use cany_base::{Class, Frame, NoticeKind};
+use cany_message::is_of_class;
+
+/// Whether the frame carries a vector of a membership cycle before this one.
+fn is_early_frame(cycle: u64, frame: &Frame) -> bool
+    ensures { result ≡ is_early_frame cycle frame.now }
+{
+    is_of_class(frame, Class::Rha) && u64::from(frame.number) < cycle
+}
+
+/// Whether a notice brings a vector of a membership cycle before this one.
+pub(crate) fn is_early(cycle: u64, kind: &NoticeKind) -> bool
+    ensures { result ≡ is_early cycle kind.now }
+{
+    match kind {
+        NoticeKind::Got(frame) | NoticeKind::Sent(frame) => is_early_frame(cycle, frame),
+        NoticeKind::Idle | NoticeKind::Bad => false,
+    }
+}
+
+/// An error is heard as an idle slot: no rule tells the one from the other.
+pub(crate) fn error_as_idle(kind: NoticeKind) -> NoticeKind
+    ensures { result ≡ error_as_idle kind }
+{
+    match kind {
+        NoticeKind::Bad => NoticeKind::Idle,
+        NoticeKind::Idle | NoticeKind::Got(_) | NoticeKind::Sent(_) => kind,
+    }
+}
