@@ -1,5 +1,5 @@
 -- The end of an incarnation and the beginning of the next: what both have read.
-use Rattle.std.proofs.Common.{◌≡◌, ℕ, suc, ◌+◌, ◌-◌, ◌<◌, ◌≤◌, ◌==◌, inl, inr, List, [], ◌∷◌, length, map, drop, refl, ap, ◌∙◌, arith}
+use Rattle.std.proofs.Common.{◌≡◌, ℕ, zero, suc, ◌+◌, ◌-◌, ◌<◌, ◌≤◌, ◌==◌, inl, inr, List, [], ◌∷◌, length, map, drop, refl, ap, ◌∙◌, arith}
 use Rattle.std.specs.Prelude.{Some, find, replicate}
 use Rattle.std.specs.List.{AllByRecursion}
 use Rattle.std.proofs.lemmas.Bool.{cases_eq, eq-eqb, ne_eqb}
@@ -10,7 +10,8 @@ use Rattle.cany_model.specs.Bus.History.{ended_history, given, seen}
 use Rattle.cany_model.specs.Bus.Restart.{ended_at, next_incarnation, restarted}
 use Rattle.cany_model.specs.Bus.State.{Ended, Incarnation, NodeState}
 use Rattle.cany_model.proofs.Bus.Seen.{Numbered, early_hidden, seen_idle}
-use Rattle.cany_world.specs.Kept.{past_of}
+use Rattle.cany_model.specs.Rules.Notices.{error_as_idle}
+use Rattle.cany_world.specs.Kept.{heard_of, past_of}
 use Rattle.cany_world.proofs.InOrder.{AreInOrder, weaker}
 
 -- ---- what a restarted node has read
@@ -23,10 +24,18 @@ hidden_all i inc (note ∷ trace) numbered later early =
     ∙ ap (λ past. Idle ∷ past) (hidden_all i inc trace numbered.1 later (omega (arith, early)))
 
 -- an idle notice for each slot that ran before
-pub past_restarted : (i : ℕ) (p : Parameters) (slot : ℕ) (trace : List SlotNote) (node : NodeState) → Numbered trace → length trace ≡ slot + 1
+past_restarted : (i : ℕ) (p : Parameters) (slot : ℕ) (trace : List SlotNote) (node : NodeState) → Numbered trace → length trace ≡ slot + 1
     → past_of i trace (restarted p slot node) ≡ replicate (slot + 1) Idle
 past_restarted i p slot trace node numbered e =
     hidden_all i (next_incarnation p slot node.present) trace numbered (omega arith) (omega (arith, e)) ∙ ap (λ n. replicate n Idle) e
+
+idle_heard : (n : ℕ) → map error_as_idle (replicate n Idle) ≡ replicate n Idle
+idle_heard zero = refl
+idle_heard (suc n) = ap (λ past. Idle ∷ past) (idle_heard n)
+
+pub heard_restarted : (i : ℕ) (p : Parameters) (slot : ℕ) (trace : List SlotNote) (node : NodeState) → Numbered trace → length trace ≡ slot + 1
+    → heard_of i trace (restarted p slot node) ≡ replicate (slot + 1) Idle
+heard_restarted i p slot trace node numbered e = ap (λ past. map error_as_idle past) (past_restarted i p slot trace node numbered e) ∙ idle_heard (slot + 1)
 
 -- ---- what an incarnation that ended had read
 

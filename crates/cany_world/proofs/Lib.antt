@@ -3,6 +3,7 @@ pub mod ControllerFacts
 pub mod Endings
 pub mod EntriesLeft
 pub mod FollowFacts
+pub mod HeardFacts
 pub mod InOrder
 pub mod JournalFacts
 pub mod NodeFacts

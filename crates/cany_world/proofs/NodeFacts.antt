@@ -1,5 +1,5 @@
 -- How a slot, a turn and a restart keep the incarnations of a node those of a run.
-use Rattle.std.proofs.Common.{◌≡◌, ◌≢◌, ℕ, ◌+◌, ◌-◌, ◌<◌, ◌≤◌, List, [], ◌∷◌, length, refl, ap, sym, ◌∙◌, subst, arith}
+use Rattle.std.proofs.Common.{◌≡◌, ◌≢◌, ℕ, ◌+◌, ◌-◌, ◌<◌, ◌≤◌, List, [], ◌∷◌, length, map, refl, ap, sym, ◌∙◌, subst, arith}
 use Rattle.std.specs.Prelude.{slice_get, slice_set, Option, Some, None}
 use Rattle.std.specs.List.{AllByRecursion}
 use Rattle.std.proofs.lemmas.List.{length-set}
@@ -12,13 +12,15 @@ use Rattle.cany_model.specs.Bus.History.{ended_history}
 use Rattle.cany_model.specs.Bus.Restart.{ended_at, next_incarnation, restarted}
 use Rattle.cany_model.specs.Bus.State.{Ended, Incarnation, NodeState}
 use Rattle.cany_model.specs.Rules.Log.{log_from}
+use Rattle.cany_model.specs.Rules.Notices.{error_as_idle}
 use Rattle.cany_model.specs.Rules.Turn.{scenario_for}
 use Rattle.cany_model.proofs.Bus.Seen.{Numbered}
+use Rattle.cany_model.proofs.Rules.ErrorFacts.{error_log}
 use Rattle.can_controller.specs.Controller.{ControllerState}
 use Rattle.cany_node.specs.Node.{NodeParts, IsNodeOf, IsTurnOf}
 use Rattle.cany_world.specs.Incarnations.{IncarnationsParts, HasTurned, IsBegunAs, IsRestarted, span_until, spans_after}
-use Rattle.cany_world.specs.Kept.{IsEndedAt, IsKeptAt, IsPresentAt, IsWaitingAt, past_of}
-use Rattle.cany_world.proofs.Endings.{ended_below, ended_past, past_restarted}
+use Rattle.cany_world.specs.Kept.{IsEndedAt, IsKeptAt, IsPresentAt, IsWaitingAt, heard_of, past_of}
+use Rattle.cany_world.proofs.Endings.{ended_below, ended_past, heard_restarted}
 use Rattle.cany_world.proofs.InOrder.{HaveSame, IsInOrder}
 use Rattle.cany_world.proofs.PlaceFacts.{got_other, got_same}
 
@@ -73,8 +75,9 @@ kept_still scenario trace trace' i node node' v same past ends kept =
         at = p.at;
         number = p.number;
         inc = p.inc ∙ ap (λ (inc : Incarnation). inc.number) (sym same.present);
-        stands = subst (λ read. IsNodeOf (scenario_for scenario node'.present) read p.it) (sym past)
-            (subst (λ (inc : Incarnation). IsNodeOf (scenario_for scenario inc) (past_of i trace node) p.it) (sym same.present) p.stands);
+        cycle = subst (λ (inc : Incarnation). 0 < inc.number → p.it.cycle ≡ inc.cycle) (sym same.present) p.cycle;
+        stands = subst (λ read. IsNodeOf (scenario_for scenario node'.present) (map error_as_idle read) p.it) (sym past)
+            (subst (λ (inc : Incarnation). IsNodeOf (scenario_for scenario inc) (heard_of i trace node) p.it) (sym same.present) p.stands);
         span = p.span;
         span_at = p.span_at;
         since = p.since ∙ ap (λ (inc : Incarnation). inc.since) (sym same.present);
@@ -87,7 +90,8 @@ kept_still scenario trace trace' i node node' v same past ends kept =
 
 module _ (scenario : ScenarioParts) (trace : List SlotNote) (i : ℕ) (node node' : NodeState) (v : IncarnationsParts) (it after : NodeParts)
     (order : IsInOrder trace node) (same : HaveSame node node') (kept : IsKeptAt scenario trace i node v) (at : slice_get v.nodes v.present ≡ Some it)
-    (number : after.node ≡ it.node) (inc : after.inc ≡ it.inc) (stands : IsNodeOf (scenario_for scenario node.present) (past_of i trace node') after) where
+    (number : after.node ≡ it.node) (inc : after.inc ≡ it.inc) (cycle : after.cycle ≡ it.cycle)
+    (stands : IsNodeOf (scenario_for scenario node.present) (heard_of i trace node') after) where
   abbrev changed : IncarnationsParts
   changed = record v { nodes = slice_set v.nodes v.present after }
 
@@ -128,7 +132,9 @@ module _ (scenario : ScenarioParts) (trace : List SlotNote) (i : ℕ) (node node
       at = got_same v.nodes v.present after it at;
       number = number ∙ ap (λ (x : NodeParts). x.node) (sym it_is) ∙ present.number;
       inc = inc ∙ ap (λ (x : NodeParts). x.inc) (sym it_is) ∙ present.inc ∙ ap (λ (x : Incarnation). x.number) (sym same.present);
-      stands = subst (λ (x : Incarnation). IsNodeOf (scenario_for scenario x) (past_of i trace node') after) (sym same.present) stands;
+      cycle = subst (λ (x : Incarnation). 0 < x.number → after.cycle ≡ x.cycle) (sym same.present)
+          (λ later. cycle ∙ ap (λ (x : NodeParts). x.cycle) (sym it_is) ∙ present.cycle later);
+      stands = subst (λ (x : Incarnation). IsNodeOf (scenario_for scenario x) (heard_of i trace node') after) (sym same.present) stands;
       span = present.span;
       span_at = present.span_at;
       since = present.since ∙ ap (λ (x : Incarnation). x.since) (sym same.present);
@@ -187,7 +193,8 @@ module _ (scenario : ScenarioParts) (trace : List SlotNote) (i slot : ℕ) (node
       record {
         it = was.it;
         at = ap (slice_get v'.nodes) (sym kept.number) ∙ node_stays v.present (λ e. absurd (omega (arith, e))) ∙ was.at;
-        log = was.stands.log ∙ ap (λ n. log_from (scenario_for scenario node.present) n (past_of i trace node)) was.number
+        log = was.stands.log ∙ ap (λ n. log_from (scenario_for scenario node.present) n (heard_of i trace node)) was.number
+            ∙ error_log (scenario_for scenario node.present) i (past_of i trace node)
             ∙ ap (log_from (scenario_for scenario node.present) i) (sym (ended_past i slot trace node ran short));
         span = ap (slice_get v'.spans) (sym kept.number) ∙ span_ended ∙ span;
       }
@@ -217,10 +224,10 @@ module _ (scenario : ScenarioParts) (trace : List SlotNote) (i slot : ℕ) (node
         unset = w.unset;
       }
 
-  begun_stands : IsNodeOf (scenario_for scenario (next_incarnation scenario.params slot node.present)) (past_of i trace (restarted scenario.params slot node)) made.after
+  begun_stands : IsNodeOf (scenario_for scenario (next_incarnation scenario.params slot node.present)) (heard_of i trace (restarted scenario.params slot node)) made.after
   begun_stands =
       subst (λ past. IsNodeOf (scenario_for scenario (next_incarnation scenario.params slot node.present)) past made.after)
-      (sym (past_restarted i scenario.params slot trace node numbered ran))
+      (sym (heard_restarted i scenario.params slot trace node numbered ran))
       (begun.stands scenario (next_incarnation scenario.params slot node.present) (omega (arith, kept.number, waits.inc)) refl waits.waits)
 
   length_nodes : length v'.nodes ≡ length v.nodes
@@ -243,6 +250,7 @@ module _ (scenario : ScenarioParts) (trace : List SlotNote) (i slot : ℕ) (node
           ∙ got_same v.nodes (v.present + 1) made.after waits.it waits.at;
       number = begun.node ∙ waits.node;
       inc = begun.inc ∙ waits.inc ∙ ap (λ n. n + 1) kept.number;
+      cycle = λ later. begun.cycle scenario waits.waits;
       stands = begun_stands;
       span = record { since = slot + 1; stopped = None; read = 0 };
       span_at = ap (λ k. slice_get v'.spans k) made.present ∙ begun_span;
@@ -256,10 +264,10 @@ module _ (scenario : ScenarioParts) (trace : List SlotNote) (i slot : ℕ) (node
 
 pub turned_by : (scenario : ScenarioParts) (past : List NoticeKind) (notice : Notice) (it after : NodeParts) (v was : IncarnationsParts) {v' : IncarnationsParts} (ctl ctl' : ControllerState)
     → was ≡ v → v'.nodes ≡ slice_set was.nodes was.present after → v'.spans ≡ was.spans → v'.present ≡ was.present → after.node ≡ it.node → after.inc ≡ it.inc
-    → IsTurnOf scenario past notice it after ctl ctl' → HasTurned scenario past notice it v v' ctl ctl'
-turned_by scenario past notice it after v was {v'} ctl ctl' same nodes spans present number inc turn =
+    → after.cycle ≡ it.cycle → IsTurnOf scenario past notice it after ctl ctl' → HasTurned scenario past notice it v v' ctl ctl'
+turned_by scenario past notice it after v was {v'} ctl ctl' same nodes spans present number inc cycle turn =
     subst (λ (x : IncarnationsParts). HasTurned scenario past notice it x v' ctl ctl') same
-    (record { after = after; is = λ k. record { nodes = nodes k; spans = spans k; present = present k }; number = number; inc = inc; turn = turn })
+    (record { after = after; is = λ k. record { nodes = nodes k; spans = spans k; present = present k }; number = number; inc = inc; cycle = cycle; turn = turn })
 
 pub restarted_by : (slot : ℕ) (stopped : Option ℕ) (next : ℕ) (after : NodeParts) (v was : IncarnationsParts) {v' : IncarnationsParts} → was ≡ v
     → v'.nodes ≡ slice_set was.nodes (was.present + 1) after → ((span : Span) → slice_get was.spans was.present ≡ Some span → v'.spans ≡ spans_after slot stopped next was span)

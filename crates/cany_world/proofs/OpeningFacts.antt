@@ -65,6 +65,7 @@ module _ (scenario : ScenarioParts) (i number : ℕ) (v : IncarnationsParts) (na
         at = ap (slice_get v.nodes) first.present ∙ it.1;
         number = built.node ∙ named;
         inc = built.inc;
+        cycle = λ later. absurd (omega (arith, later));
         stands = built.stands refl;
         span = unset;
         span_at = ap (slice_get v.spans) first.present ∙ unset_at 0 here;

@@ -19,13 +19,14 @@ use Rattle.cany_model.specs.Rules.Turn.{has_asked, is_ahead_at, scenario_at}
 use Rattle.cany_model.proofs.Bus.Seen.{history-is}
 use Rattle.cany_model.specs.Promises.Settled.{came_too_late, is_ahead, is_awaited, is_settled, origin_has_asked}
 use Rattle.cany_model.specs.Rules.Messages.{Message, frames_named, frames_of, message_key, message_of, messages_of}
+use Rattle.cany_model.proofs.Rules.ErrorFacts.{error_ahead, error_asked}
 use Rattle.cany_model.proofs.Rules.MessageKeys.{length-messages_of, message_at}
 use Rattle.cany_model.proofs.Rules.NumberFacts.{IsBelow, message_below}
 use Rattle.can_controller.specs.Controller.{ControllerState}
 use Rattle.cany_node.specs.Node.{NodeParts, IsNodeOf}
 use Rattle.cany_world.specs.Incarnations.{IncarnationsParts}
 use Rattle.cany_world.specs.Controllers.{IsSmallKey, awaits, has_read}
-use Rattle.cany_world.specs.Kept.{IsKeptAs, IsKeptAt, IsPresentAt, past_of}
+use Rattle.cany_world.specs.Kept.{IsKeptAs, IsKeptAt, IsPresentAt, heard_of, past_of}
 use Rattle.cany_world.specs.Settled.{IsAbout, is_asked, has_ahead}
 use Rattle.cany_world.proofs.AlikeFacts.{all_read_same, awaited_same}
 use Rattle.cany_world.proofs.PlaceFacts.{found}
@@ -74,8 +75,8 @@ module _ (scenario : ScenarioParts) (s : RunState) (i : ℕ) (m : Message) (key 
   number : it.node ≡ i
   number = ap (λ (x : NodeParts). x.node) (sym same) ∙ kept.present.number
 
-  node_of : IsNodeOf (scenario_at scenario s i) (past_of i s.trace (node_at s.nodes i)) it
-  node_of = subst (IsNodeOf (scenario_at scenario s i) (past_of i s.trace (node_at s.nodes i))) same kept.present.stands
+  node_of : IsNodeOf (scenario_at scenario s i) (heard_of i s.trace (node_at s.nodes i)) it
+  node_of = subst (IsNodeOf (scenario_at scenario s i) (heard_of i s.trace (node_at s.nodes i))) same kept.present.stands
 
   -- whether it has something of the message ahead
   pub ahead_is : (c : ControllerState) (ahead : Bool) → IsKeptAs scenario s.trace i (node_at s.nodes i) c → is_none c.stopped ≡ true
@@ -85,8 +86,9 @@ module _ (scenario : ScenarioParts) (s : RunState) (i : ℕ) (m : Message) (key 
   ahead_is c ahead ctl running law =
       let follows : ScenarioParts = scenario_at scenario s i in
       let runs_here : runs (node_at s.nodes i) ≡ true = sym (ap is_none ctl.stopped) ∙ running in
-      law follows (past_of i s.trace (node_at s.nodes i)) node_of m stands named
-      ∙ ap (λ k. is_ahead_at follows m k (past_of i s.trace (node_at s.nodes i))) number
+      law follows (heard_of i s.trace (node_at s.nodes i)) node_of m stands named
+      ∙ ap (λ k. is_ahead_at follows m k (heard_of i s.trace (node_at s.nodes i))) number
+      ∙ error_ahead follows m i (past_of i s.trace (node_at s.nodes i))
       ∙ ap (λ past. is_ahead_at follows m i past) (sym (history-is i s))
       ∙ sym (ap (λ b. b && is_ahead_at follows m i (history i s)) runs_here)
 
@@ -97,8 +99,9 @@ module _ (scenario : ScenarioParts) (s : RunState) (i : ℕ) (m : Message) (key 
       → asked ≡ has_asked (scenario_at scenario s i) m i (history i s)
   asked_is asked origin law =
       let follows : ScenarioParts = scenario_at scenario s i in
-      law follows (past_of i s.trace (node_at s.nodes i)) node_of m stands named (origin ∙ sym number)
-      ∙ ap (λ k. has_asked follows m k (past_of i s.trace (node_at s.nodes i))) number
+      law follows (heard_of i s.trace (node_at s.nodes i)) node_of m stands named (origin ∙ sym number)
+      ∙ ap (λ k. has_asked follows m k (heard_of i s.trace (node_at s.nodes i))) number
+      ∙ error_asked follows m i (past_of i s.trace (node_at s.nodes i))
       ∙ ap (λ past. has_asked follows m i past) (sym (history-is i s))
 
 pub is_running : (o : Option ℕ) (b : Bool) → is_some o ≡ not b → b ≡ true → is_none o ≡ true

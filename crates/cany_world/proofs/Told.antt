@@ -21,10 +21,11 @@ use Rattle.cany_model.proofs.Bus.Runs.{orderly}
 use Rattle.cany_model.proofs.Bus.Seen.{ended_history-present, history-is}
 use Rattle.cany_model.proofs.Bus.States.{node_at_past}
 use Rattle.cany_model.proofs.Promises.Fair.{from_later}
+use Rattle.cany_model.proofs.Rules.ErrorFacts.{error_log}
 use Rattle.can_controller.specs.Controller.{ControllerState}
 use Rattle.cany_node.specs.Node.{NodeParts}
 use Rattle.cany_world.specs.Incarnations.{IncarnationsParts, began_in, span_in}
-use Rattle.cany_world.specs.Kept.{IsEndedAt, IsKeptAs, IsKeptAt, IsPresentAt, IsWaitingAt, past_of}
+use Rattle.cany_world.specs.Kept.{IsEndedAt, IsKeptAs, IsKeptAt, IsPresentAt, IsWaitingAt, heard_of, past_of}
 use Rattle.cany_world.proofs.Endings.{HasEnded, has_ended}
 use Rattle.cany_world.proofs.InOrder.{AreInOrder, IsInOrder, first_is_original, in_order}
 use Rattle.cany_world.proofs.PlaceFacts.{there}
@@ -51,7 +52,8 @@ log_is scenario s i v it entries kept at e =
     let some : Some p.it ≡ Some it = sym p.at ∙ at in
     let same : p.it ≡ it = cc in
     e ∙ ap (λ (x : NodeParts). x.log) (sym same) ∙ p.stands.log
-    ∙ ap (λ k. log_from (scenario_for scenario (node_at s.nodes i).present) k (past_of i s.trace (node_at s.nodes i))) p.number
+    ∙ ap (λ k. log_from (scenario_for scenario (node_at s.nodes i).present) k (heard_of i s.trace (node_at s.nodes i))) p.number
+    ∙ error_log (scenario_for scenario (node_at s.nodes i).present) i (past_of i s.trace (node_at s.nodes i))
     ∙ ap (log_from (scenario_for scenario (node_at s.nodes i).present) i) (sym (history-is i s))
 
 -- ---- by its number

@@ -1,5 +1,5 @@
 -- A turn of a node keeps the controllers and the nodes of a world those of the run.
-use Rattle.std.proofs.Common.{◌≡◌, ◌≢◌, ℕ, ◌-◌, ◌<◌, ◌≤◌, ◌==◌, false, nat_le, List, [], ◌∷◌, length, Contains, refl, sym, ap, ◌∙◌, subst, arith}
+use Rattle.std.proofs.Common.{◌≡◌, ◌≢◌, ℕ, ◌-◌, ◌*◌, ◌<◌, ◌≤◌, ◌==◌, false, nat_le, List, [], ◌∷◌, length, Contains, refl, sym, ap, ◌∙◌, subst, arith}
 use Rattle.std.specs.Prelude.{if◌then◌else◌, is_none, slice_get, slice_set, count_by, Option, Some, None}
 use Rattle.std.proofs.lemmas.Bool.{lt-leb, eq-eqb, ne_eqb}
 use Rattle.std.proofs.lemmas.List.{get_or-map, get_or_default}
@@ -17,12 +17,17 @@ use Rattle.cany_model.specs.declared.reply.StepReply.TheVariants.{Done}
 use Rattle.cany_model.specs.declared.reply.StepReply.TheVariants as reply
 use Rattle.cany_model.specs.Bus.Frames.{identity_of}
 use Rattle.cany_base.specs.declared.notice.NoticeKind.{NoticeKind}
+use Rattle.cany_base.specs.declared.notice.NoticeKind.TheVariants as notice
+use Rattle.cany_base.specs.Nodes.{Nodes}
+use Rattle.cany_base.specs.Params.{Parameters}
 use Rattle.cany_model.specs.Bus.History.{as_seen, given, history, seen}
 use Rattle.cany_model.specs.Bus.Run.{run, after_turn, turn_reply}
 use Rattle.cany_model.specs.Bus.State.{Incarnation, NodeState, RunState, node_at, reads}
 use Rattle.cany_model.specs.Rules.Effect.{Effect}
-use Rattle.cany_model.specs.Rules.Notices.{HasFewSigns, IsNextNotice, IsReadable}
+use Rattle.cany_model.specs.Rules.Notices.{HasFewSigns, IsNextNotice, IsReadable, IsReadableVector, error_as_idle}
 use Rattle.cany_model.specs.Rules.Rooms.{IsAskable, actions_room}
+use Rattle.cany_model.specs.Rules.Site.{station_of}
+use Rattle.cany_model.specs.Rules.Station.{Station}
 use Rattle.cany_model.specs.Rules.Turn.{scenario_at, turn_effects}
 use Rattle.cany_model.proofs.Among.{Each-weaker}
 use Rattle.cany_model.proofs.Bus.Journals.{trace_short}
@@ -32,17 +37,23 @@ use Rattle.cany_model.proofs.Bus.States.{no_note, note_at, runs_within}
 use Rattle.cany_model.proofs.Bus.Steps.{MayTurn, next_age, next_notice, after_turn-node, after_turn-other, after_turn-trace, after_turn-history}
 use Rattle.cany_model.proofs.Promises.Belonging.{Waiting, all_belong, askable_for, readable_for, seen_readable}
 use Rattle.cany_model.proofs.Promises.FewLifeSigns.{few_life_signs}
+use Rattle.cany_model.proofs.Promises.OwnIncarnation.{tells_incarnation}
 use Rattle.cany_model.proofs.Promises.SpacedSigns.{own_signs_few}
+use Rattle.cany_model.proofs.Promises.VectorNotices.{readable_vector}
+use Rattle.cany_model.proofs.Rules.ErrorCounts.{plain, plain-length}
+use Rattle.cany_model.proofs.Rules.ErrorFacts.{error_turn}
+use Rattle.cany_model.proofs.Rules.ErrorSite.{plain_signs_sent, plain_station}
 use Rattle.can_controller.specs.Controller.{ControllerState}
 use Rattle.cany_node.specs.Apply.{AreAskable, is_sign}
 use Rattle.cany_node.specs.declared.reply.TurnReply.{TurnReply}
 use Rattle.cany_node.specs.declared.reply.TurnReply.TheVariants.{Turned, NothingYet, Stopped}
 use Rattle.cany_node.specs.Node.{NodeParts, IsNodeOf, Reads, heard, heard_by, reply_at, reply_of, turned}
-use Rattle.cany_node.proofs.Hearing.{heard-followed}
+use Rattle.cany_node.specs.Telling.{AreTold}
 use Rattle.cany_world.specs.Incarnations.{IncarnationsParts, CanTurnNow, HasTurned, IsLeft}
-use Rattle.cany_world.specs.Kept.{IsKeptAs, IsKeptAt, IsPresentAt, AreControllersOf, AreNodesOf, past_of}
+use Rattle.cany_world.specs.Kept.{IsKeptAs, IsKeptAt, IsPresentAt, AreControllersOf, AreNodesOf, heard_of}
 use Rattle.cany_world.specs.Replies.{IfDone, step_reply}
 use Rattle.cany_world.proofs.ControllerFacts.{IsOldest, oldest, kept_turn}
+use Rattle.cany_world.proofs.HeardFacts.{heard-followed}
 use Rattle.cany_world.proofs.InOrder.{AllInOrder, in_order, turn_same}
 use Rattle.cany_world.proofs.NodeFacts.{kept_turned}
 use Rattle.cany_world.proofs.PlaceFacts.{one_changed, set_same}
@@ -81,17 +92,17 @@ seen_note inc trace age within = get_or-map (as_seen inc) trace age no_note no_n
 -- what an incarnation of node i hears of its oldest unread notice is what its slot, as it sees it, gave the node
 pub heard_next : (scenario : ScenarioParts) (s : RunState) (i : ℕ) (v : IncarnationsParts) (notice : Notice) → IsOrderly scenario.params.nodes s
     → (kept : IsKeptAt scenario s.trace i (node_at s.nodes i) v) → IsOldest s.trace i (node_at s.nodes i) notice
-    → (heard_by kept.present.it notice).kind ≡ given i (as_seen (node_at s.nodes i).present (note_at s.trace (next_age s i)))
+    → (heard_by kept.present.it notice).kind ≡ error_as_idle (given i (as_seen (node_at s.nodes i).present (note_at s.trace (next_age s i))))
 heard_next scenario s i v notice o kept oldest =
     let p : IsPresentAt scenario s.trace i (node_at s.nodes i) v = kept.present in
     let note : SlotNote = note_at s.trace (next_age s i) in
-    ap (λ (n : Notice). heard p.it.inc p.it.from n.slot n.kind) oldest.is
-    ∙ sym (heard-followed scenario i (node_at s.nodes i).present note p.it.inc p.it.from p.inc p.stands.from)
+    ap (λ (n : Notice). heard p.it.inc p.it.from p.it.cycle n.slot n.kind) oldest.is
+    ∙ sym (heard-followed scenario i (node_at s.nodes i).present note p.it.inc p.it.from p.it.cycle p.inc p.stands.from p.cycle)
 
 -- node i runs and has a notice to read, of which it hears this
 pub record IsToRead (s : RunState) (i : ℕ) (it : NodeParts) (notice : Notice) : Type 0 where
   pub may : MayTurn s i
-  pub is : (heard_by it notice).kind ≡ next_notice s i
+  pub is : (heard_by it notice).kind ≡ error_as_idle (next_notice s i)
 
 pub to_read : (scenario : ScenarioParts) (s : RunState) (i : ℕ) (v : IncarnationsParts) (c : ControllerState) (notice : Notice) → IsOrderly scenario.params.nodes s → i < scenario.params.nodes
     → (kept : IsKeptAt scenario s.trace i (node_at s.nodes i) v) → IsKeptAs scenario s.trace i (node_at s.nodes i) c → c.stopped ≡ None → slice_get c.unread 0 ≡ Some notice
@@ -101,24 +112,42 @@ to_read scenario s i v c notice o within node kept running first =
     let age : next_age s i < length s.trace = omega (arith, it.some, o.unread i) in
     record {
       may = record { there = omega (arith, o.count); running = ap is_none (sym kept.stopped ∙ running); unread = it.some };
-      is = heard_next scenario s i v notice o node it ∙ ap (given i) (sym (seen_note (node_at s.nodes i).present s.trace (next_age s i) age));
+      is = heard_next scenario s i v notice o node it ∙ ap (λ n. error_as_idle (given i n)) (sym (seen_note (node_at s.nodes i).present s.trace (next_age s i) age));
     }
 
-past_length : (s : RunState) (i : ℕ) → length (past_of i s.trace (node_at s.nodes i)) ≡ length s.trace - (node_at s.nodes i).unread
-past_length s i = ap (λ (l : List NoticeKind). length l) (sym (history-is i s)) ∙ history-length i s
+-- what the node has heard is its history, with errors as idle slots
+heard_history : (s : RunState) (i : ℕ) → heard_of i s.trace (node_at s.nodes i) ≡ plain (history i s)
+heard_history s i = ap (λ past. plain past) (sym (history-is i s))
+
+past_length : (s : RunState) (i : ℕ) → length (heard_of i s.trace (node_at s.nodes i)) ≡ length s.trace - (node_at s.nodes i).unread
+past_length s i = ap (λ (l : List NoticeKind). length l) (heard_history s i) ∙ plain-length (history i s) ∙ history-length i s
+
+-- as an idle slot an error can be read where it could
+plain_readable : (scenario : ScenarioParts) (slot : ℕ) (e : NoticeKind) → IsReadable scenario slot e → IsReadable scenario slot (error_as_idle e)
+plain_readable scenario slot notice.Idle h = h
+plain_readable scenario slot (notice.Got f) h = h
+plain_readable scenario slot (notice.Sent f) h = h
+plain_readable scenario slot notice.Bad h = h
+
+plain_vector : (p : Parameters) (i slot : ℕ) (vector : Option Nodes) (e : NoticeKind) → IsReadableVector p i slot vector e
+    → IsReadableVector p i slot vector (error_as_idle e)
+plain_vector p i slot vector notice.Idle h = h
+plain_vector p i slot vector (notice.Got f) h = h
+plain_vector p i slot vector (notice.Sent f) h = h
+plain_vector p i slot vector notice.Bad h = h
 
 -- it is the next notice of what the node has read
 pub next_notice_is : (scenario : ScenarioParts) (journal : List Step) → scenario.params.nodes ≤ most_nodes → (i : ℕ) (v : IncarnationsParts) (c : ControllerState) (notice : Notice)
     → (kept : IsKeptAt scenario (run scenario journal).trace i (node_at (run scenario journal).nodes i) v)
     → IsKeptAs scenario (run scenario journal).trace i (node_at (run scenario journal).nodes i) c → slice_get c.unread 0 ≡ Some notice
-    → IsNextNotice (scenario_at scenario (run scenario journal) i) (past_of i (run scenario journal).trace (node_at (run scenario journal).nodes i)) (heard_by kept.present.it notice)
+    → IsNextNotice (scenario_at scenario (run scenario journal) i) (heard_of i (run scenario journal).trace (node_at (run scenario journal).nodes i)) (heard_by kept.present.it notice)
 next_notice_is scenario journal few i v c notice node kept first = record {
   slot = ap (λ (n : Notice). n.slot) it.is ∙ number ∙ sym (past_length s i);
   within = subst (λ k. k < scenario.params.slots) (sym (ap (λ (n : Notice). n.slot) it.is)) small;
   readable = subst (IsReadable (scenario_at scenario s i) notice.slot) (sym (heard_next scenario s i v notice o node it))
-      (readable_for scenario inc notice.slot (given i (as_seen inc note))
+      (plain_readable (scenario_at scenario s i) notice.slot (given i (as_seen inc note)) (readable_for scenario inc notice.slot (given i (as_seen inc note))
       (subst (λ k. IsReadable scenario k (given i (as_seen inc note))) (sym (ap (λ (n : Notice). n.slot) it.is))
-      (seen_readable scenario s i inc note (all_belong scenario journal few) stands)));
+      (seen_readable scenario s i inc note (all_belong scenario journal few) stands))));
 }
   where
     s : RunState
@@ -156,12 +185,13 @@ pub few_with_next : (scenario : ScenarioParts) (journal : List Step) → scenari
     → (kept : IsKeptAt scenario (run scenario journal).trace i (node_at (run scenario journal).nodes i) v)
     → IsKeptAs scenario (run scenario journal).trace i (node_at (run scenario journal).nodes i) c → c.stopped ≡ None → slice_get c.unread 0 ≡ Some notice
     → HasFewSigns (scenario_at scenario (run scenario journal) i) kept.present.it.node
-    ((heard_by kept.present.it notice).kind ∷ past_of i (run scenario journal).trace (node_at (run scenario journal).nodes i)) notice.slot
+    ((heard_by kept.present.it notice).kind ∷ heard_of i (run scenario journal).trace (node_at (run scenario journal).nodes i)) notice.slot
 few_with_next scenario journal few i v c notice node kept running first =
     subst (λ k. HasFewSigns follows k ((heard_by p.it notice).kind ∷ past) notice.slot) (sym p.number)
     (subst (λ n. HasFewSigns follows i (n ∷ past) notice.slot) (sym it.is)
-    (subst (λ h. HasFewSigns follows i (next_notice s i ∷ h) notice.slot) (history-is i s)
-    (subst (HasFewSigns follows i (next_notice s i ∷ history i s)) (sym slot) (own_signs_few scenario journal i it.may))))
+    (subst (λ h. HasFewSigns follows i (error_as_idle (next_notice s i) ∷ h) notice.slot) (sym (heard_history s i))
+    (subst (λ n. n * follows.params.life ≤ notice.slot) (sym (plain_signs_sent i (next_notice s i ∷ history i s)))
+    (subst (HasFewSigns follows i (next_notice s i ∷ history i s)) (sym slot) (own_signs_few scenario journal i it.may)))))
   where
     s : RunState
     s = run scenario journal
@@ -173,7 +203,7 @@ few_with_next scenario journal few i v c notice node kept running first =
     follows = scenario_at scenario s i
 
     past : List NoticeKind
-    past = past_of i s.trace (node_at s.nodes i)
+    past = heard_of i s.trace (node_at s.nodes i)
 
     o : IsOrderly scenario.params.nodes (run scenario journal)
     o = orderly scenario journal
@@ -185,32 +215,89 @@ few_with_next scenario journal few i v c notice node kept running first =
     it = to_read scenario s i v c notice o within node kept running first
 
     slot : notice.slot ≡ length (history i (run scenario journal))
-    slot = (next_notice_is scenario journal few i v c notice node kept first).slot ∙ ap (λ (l : List NoticeKind). length l) (sym (history-is i s))
+    slot =
+        (next_notice_is scenario journal few i v c notice node kept first).slot ∙ ap (λ (l : List NoticeKind). length l) (heard_history s i)
+        ∙ plain-length (history i s)
+
+-- and its vector can be read
+pub vector_with_next : (scenario : ScenarioParts) (journal : List Step) → IsLegalScenario scenario → (i : ℕ) (v : IncarnationsParts) (c : ControllerState) (notice : Notice)
+    → (kept : IsKeptAt scenario (run scenario journal).trace i (node_at (run scenario journal).nodes i) v)
+    → IsKeptAs scenario (run scenario journal).trace i (node_at (run scenario journal).nodes i) c → c.stopped ≡ None → slice_get c.unread 0 ≡ Some notice
+    → IsReadableVector scenario.params kept.present.it.node notice.slot
+    (station_of (scenario_at scenario (run scenario journal) i) kept.present.it.node (heard_of i (run scenario journal).trace (node_at (run scenario journal).nodes i))).vector
+    (heard_by kept.present.it notice).kind
+vector_with_next scenario journal legal i v c notice node kept running first =
+    subst (λ k. IsReadableVector scenario.params k notice.slot (station_of follows k past).vector (heard_by p.it notice).kind) (sym p.number)
+    (subst (IsReadableVector scenario.params i notice.slot (station_of follows i past).vector) (sym it.is)
+    (plain_vector scenario.params i notice.slot (station_of follows i past).vector (next_notice s i)
+    (subst (λ (st : Station). IsReadableVector scenario.params i notice.slot st.vector (next_notice s i)) (sym knows)
+    (subst (λ n. IsReadableVector scenario.params i n (station_of follows i (history i s)).vector (next_notice s i)) (sym slot)
+    (readable_vector scenario legal.in_range legal.members short journal i it.may)))))
+  where
+    few : scenario.params.nodes ≤ most_nodes
+    few = few_nodes scenario.params legal.in_range
+
+    short : scenario.params.bound ≤ scenario.params.cycle
+    short = omega (arith, legal.formulas.cycle)
+
+    s : RunState
+    s = run scenario journal
+
+    p : IsPresentAt scenario (run scenario journal).trace i (node_at (run scenario journal).nodes i) v
+    p = node.present
+
+    follows : ScenarioParts
+    follows = scenario_at scenario s i
+
+    past : List NoticeKind
+    past = heard_of i s.trace (node_at s.nodes i)
+
+    knows : station_of follows i past ≡ station_of follows i (history i s)
+    knows = ap (station_of follows i) (heard_history s i) ∙ plain_station follows i (history i s)
+
+    o : IsOrderly scenario.params.nodes (run scenario journal)
+    o = orderly scenario journal
+
+    within : i < scenario.params.nodes
+    within = subst (λ n. i < n) o.count (runs_within s.nodes i (ap is_none (sym kept.stopped ∙ running)))
+
+    it : IsToRead (run scenario journal) i node.present.it notice
+    it = to_read scenario s i v c notice o within node kept running first
+
+    slot : notice.slot ≡ length (history i (run scenario journal))
+    slot =
+        (next_notice_is scenario journal few i v c notice node kept first).slot ∙ ap (λ (l : List NoticeKind). length l) (heard_history s i)
+        ∙ plain-length (history i s)
 
 -- ---- that a turn can be made
 
-pub can_turn : (scenario : ScenarioParts) (journal : List Step) (i : ℕ) (v : IncarnationsParts) (c : ControllerState) (out : Bounded Action) → IsLegalScenario scenario
+pub can_turn : (scenario : ScenarioParts) (journal : List Step) (i : ℕ) (v : IncarnationsParts) (c : ControllerState) (out : Bounded Action) → IsLegalScenario scenario → scenario.inc ≡ 0
     → IsKeptAt scenario (run scenario journal).trace i (node_at (run scenario journal).nodes i) v → IsKeptAs scenario (run scenario journal).trace i (node_at (run scenario journal).nodes i) c
     → out ≡ record { items = []; room = actions_room scenario } → CanTurnNow v c out
-can_turn scenario journal i v c out legal node kept empty = record {
+can_turn scenario journal i v c out legal opening node kept empty = record {
   it = p.it;
   at = p.at;
   can = record {
     scenario = scenario_at scenario s i;
-    past = past_of i s.trace (node_at s.nodes i);
+    past = heard_of i s.trace (node_at s.nodes i);
     legal = p.stands.legal;
     stands = p.stands;
     node = kept.number ∙ sym p.number;
     params = kept.params;
     room = kept.room;
-    askable = λ running. subst (AreAskable (scenario_at scenario s i)) (sym kept.waiting)
-        (Each-weaker (Waiting scenario s.trace i) (λ f. IsAskable (scenario_at scenario s i) (identity_of f))
-        (λ f h. askable_for scenario (node_at s.nodes i).present (identity_of f) (h.askable (trace_short scenario journal))) (node_at s.nodes i).waiting
-        ((all_belong scenario journal few).waiting i (ap is_none (sym kept.stopped ∙ running))));
+    askable = λ running. subst (λ k. AreAskable (scenario_at scenario s i) k c.waiting) (sym p.number)
+        (subst (AreAskable (scenario_at scenario s i) i) (sym kept.waiting)
+        (Each-weaker (Waiting scenario s.trace i) (λ f. IsAskable (scenario_at scenario s i) i (identity_of f))
+        (λ f h. askable_for scenario (node_at s.nodes i).present i (identity_of f) (h.askable (trace_short scenario journal))) (node_at s.nodes i).waiting
+        ((all_belong scenario journal few).waiting i (ap is_none (sym kept.stopped ∙ running)))));
+    told = λ running. subst (λ k. AreTold k c.waiting) (sym p.inc)
+        (subst (AreTold (node_at s.nodes i).present.number) (sym kept.waiting)
+        (tells_incarnation scenario opening journal i (ap is_none (sym kept.stopped ∙ running))));
     signs = λ running. subst (λ (w : List FrameParts). count_by is_sign w ≤ 2) (sym kept.waiting)
         (few_life_signs scenario journal longer i (ap is_none (sym kept.stopped ∙ running)));
     next = λ notice first. next_notice_is scenario journal few i v c notice node kept first;
     few = λ running notice first. few_with_next scenario journal few i v c notice node kept running first;
+    vector = λ running notice first. vector_with_next scenario journal legal i v c notice node kept running first;
     read = kept.read ∙ sym (past_length s i);
     free = ap (λ (b : Bounded Action). b.items) empty;
     actions = ap (λ (b : Bounded Action). b.room) empty;
@@ -251,22 +338,23 @@ controllers_turn scenario s i controllers c o may kept at running =
         (subst (λ (n : NodeState). IsKeptAs scenario s.trace j n z) state there)
 
 turn_past : (scenario : ScenarioParts) (s : RunState) (i : ℕ) → MayTurn s i → (node_at s.nodes i).unread ≤ length s.trace
-    → past_of i s.trace (node_at (after_turn scenario i s).nodes i) ≡ next_notice s i ∷ past_of i s.trace (node_at s.nodes i)
+    → heard_of i s.trace (node_at (after_turn scenario i s).nodes i) ≡ error_as_idle (next_notice s i) ∷ heard_of i s.trace (node_at s.nodes i)
 turn_past scenario s i may short =
-    ap (λ (t : List SlotNote). past_of i t (node_at (after_turn scenario i s).nodes i)) (sym (after_turn-trace scenario i s))
-    ∙ sym (history-is i (after_turn scenario i s)) ∙ after_turn-history scenario i s may short ∙ ap (λ past. next_notice s i ∷ past) (history-is i s)
+    ap (λ (t : List SlotNote). heard_of i t (node_at (after_turn scenario i s).nodes i)) (sym (after_turn-trace scenario i s))
+    ∙ heard_history (after_turn scenario i s) i ∙ ap (λ past. plain past) (after_turn-history scenario i s may short)
+    ∙ ap (λ past. error_as_idle (next_notice s i) ∷ past) (sym (heard_history s i))
 
 nodes_turn : (scenario : ScenarioParts) (s : RunState) (i : ℕ) (nodes : List IncarnationsParts) (v : IncarnationsParts) (after : NodeParts) → IsOrderly scenario.params.nodes s → AllInOrder s
     → MayTurn s i → AreNodesOf scenario s nodes → (at : slice_get nodes i ≡ Some v) → (kept : IsKeptAt scenario s.trace i (node_at s.nodes i) v)
-    → after.node ≡ kept.present.it.node → after.inc ≡ kept.present.it.inc
-    → IsNodeOf (scenario_at scenario s i) (next_notice s i ∷ past_of i s.trace (node_at s.nodes i)) after
+    → after.node ≡ kept.present.it.node → after.inc ≡ kept.present.it.inc → after.cycle ≡ kept.present.it.cycle
+    → IsNodeOf (scenario_at scenario s i) (error_as_idle (next_notice s i) ∷ heard_of i s.trace (node_at s.nodes i)) after
     → AreNodesOf scenario (after_turn scenario i s) (slice_set nodes i (record v { nodes = slice_set v.nodes v.present after }))
-nodes_turn scenario s i nodes v after o order may are at kept number inc stands =
+nodes_turn scenario s i nodes v after o order may are at kept number inc cycle stands =
     one_changed (λ j z. IsKeptAt scenario s.trace j (node_at s.nodes j) z) (λ j z. IsKeptAt scenario (after_turn scenario i s).trace j (node_at (after_turn scenario i s).nodes j) z)
     scenario.params.nodes nodes i (record v { nodes = slice_set v.nodes v.present after }) are
     (now i (record v { nodes = slice_set v.nodes v.present after })
     (kept_turned scenario s.trace i (node_at s.nodes i) (node_at (after_turn scenario i s).nodes i) v kept.present.it after (order i) (turn_same scenario i s i may (o.unread i)) kept
-    kept.present.at number inc (subst (λ past. IsNodeOf (scenario_at scenario s i) past after) (sym (turn_past scenario s i may (o.unread i))) stands)))
+    kept.present.at number inc cycle (subst (λ past. IsNodeOf (scenario_at scenario s i) past after) (sym (turn_past scenario s i may (o.unread i))) stands)))
     (λ j z other there. now j z (subst (λ (n : NodeState). IsKeptAt scenario s.trace j n z) (sym (after_turn-other scenario i s j other)) there))
   where
     now : (j : ℕ) (z : IncarnationsParts) → IsKeptAt scenario s.trace j (node_at (after_turn scenario i s).nodes j) z
@@ -274,14 +362,14 @@ nodes_turn scenario s i nodes v after o order may are at kept number inc stands 
     now j z there = subst (λ (t : List SlotNote). IsKeptAt scenario t j (node_at (after_turn scenario i s).nodes j) z) (sym (after_turn-trace scenario i s)) there
 
 -- the controllers and the nodes after a turn that was done are those of the run after it
-pub turned_on : (scenario : ScenarioParts) (journal : List Step) (i : ℕ) (nodes : List IncarnationsParts) (controllers : List ControllerState) (v v' : IncarnationsParts) (c c' : ControllerState) (r : StepReply)
+pub turned_on : (scenario : ScenarioParts) (journal : List Step) (i : ℕ) (nodes : List IncarnationsParts) (controllers : List ControllerState) (v v' : IncarnationsParts) (c c' : ControllerState) (r : StepReply) → IsLegalScenario scenario
     → AreControllersOf scenario (run scenario journal) controllers → AreNodesOf scenario (run scenario journal) nodes → i < length nodes
     → slice_get nodes i ≡ Some v → slice_get controllers i ≡ Some c → r ≡ step_reply (reply_of c)
     → ((it : NodeParts) → slice_get v.nodes v.present ≡ Some it → (follows : ScenarioParts) (past : List NoticeKind) (notice : Notice) → Reads follows past notice it c
     → HasTurned follows past notice it v v' c c')
     → IfDone r (AreControllersOf scenario (after_turn scenario i (run scenario journal)) (slice_set controllers i c')
     × AreNodesOf scenario (after_turn scenario i (run scenario journal)) (slice_set nodes i v')) (Unit {0})
-turned_on scenario journal i nodes controllers v v' c c' r row nodes_are within at_node at is law = subst Q (sym is) (go c.stopped refl)
+turned_on scenario journal i nodes controllers v v' c c' r legal row nodes_are within at_node at is law = subst Q (sym is) (go c.stopped refl)
   where
     s : RunState
     s = run scenario journal
@@ -299,7 +387,7 @@ turned_on scenario journal i nodes controllers v v' c c' r row nodes_are within 
     follows = scenario_at scenario s i
 
     past : List NoticeKind
-    past = past_of i s.trace (node_at s.nodes i)
+    past = heard_of i s.trace (node_at s.nodes i)
 
     turns : (notice : Notice) → c.stopped ≡ None → slice_get c.unread 0 ≡ Some notice → Q Done
     turns notice running first =
@@ -308,16 +396,18 @@ turned_on scenario journal i nodes controllers v v' c c' r row nodes_are within 
         let next : IsNextNotice follows past (heard_by p.it notice) = next_notice_is scenario journal (few_nodes scenario.params p.stands.legal.in_range) i v c notice node kept first in
         let few : HasFewSigns follows p.it.node ((heard_by p.it notice).kind ∷ past) notice.slot =
         few_with_next scenario journal (few_nodes scenario.params p.stands.legal.in_range) i v c notice node kept running first in
+        let vector : IsReadableVector follows.params p.it.node notice.slot (station_of follows p.it.node past).vector (heard_by p.it notice).kind =
+        vector_with_next scenario journal legal i v c notice node kept running first in
         let made : HasTurned follows past notice p.it v v' c c' =
-        law p.it p.at follows past notice (record { stands = p.stands; next = next; few = few; running = running; oldest = first }) in
+        law p.it p.at follows past notice (record { stands = p.stands; next = next; few = few; vector = vector; running = running; oldest = first }) in
         let effects : turn_effects follows p.it.node ((heard_by p.it notice).kind ∷ past) ≡ turn_effects follows i (next_notice s i ∷ history i s) =
         ap (λ k. turn_effects follows k ((heard_by p.it notice).kind ∷ past)) p.number ∙ ap (λ n. turn_effects follows i (n ∷ past)) it.is
-        ∙ ap (λ t. turn_effects follows i (next_notice s i ∷ t)) (sym (history-is i s)) in
+        ∙ ap (λ t. turn_effects follows i (error_as_idle (next_notice s i) ∷ t)) (heard_history s i) ∙ error_turn follows i (next_notice s i ∷ history i s) in
         let left : turned (turn_effects follows i (next_notice s i ∷ history i s)) c ≡ c' = sym (made.turn.controller ∙ ap (λ e. turned e c) effects) in (
           subst (λ x. AreControllersOf scenario (after_turn scenario i s) (slice_set controllers i x)) left
               (controllers_turn scenario s i controllers c (orderly scenario journal) it.may row at running),
           subst (λ (x : IncarnationsParts). AreNodesOf scenario (after_turn scenario i s) (slice_set nodes i x)) (sym made.is)
-              (nodes_turn scenario s i nodes v made.after (orderly scenario journal) (in_order scenario journal) it.may nodes_are at_node node made.number made.inc
+              (nodes_turn scenario s i nodes v made.after (orderly scenario journal) (in_order scenario journal) it.may nodes_are at_node node made.number made.inc made.cycle
               (subst (λ n. IsNodeOf follows (n ∷ past) made.after) it.is made.turn.stands)),
         )
 

@@ -7,6 +7,7 @@ use Rattle.cany_base.specs.declared.notice.NoticeKind.TheVariants.{Idle}
 use Rattle.cany_base.specs.Bounded.{Bounded}
 use Rattle.cany_base.specs.Scenario.{ScenarioParts, is_ask_of_node}
 use Rattle.cany_model.specs.declared.span.Span.{Span}
+use Rattle.cany_model.specs.Bus.Restart.{first_cycle}
 use Rattle.cany_model.specs.Bus.State.{Incarnation}
 use Rattle.cany_model.specs.Rules.Turn.{scenario_for}
 use Rattle.can_controller.specs.Controller.{ControllerState}
@@ -44,6 +45,7 @@ pub record HasTurned (scenario : ScenarioParts) (past : List NoticeKind) (notice
   pub is : v' ≡ record v { nodes = slice_set v.nodes v.present after }
   pub number : after.node ≡ it.node
   pub inc : after.inc ≡ it.inc
+  pub cycle : after.cycle ≡ it.cycle
   pub turn : IsTurnOf scenario past notice it after ctl ctl'
 
 -- a turn that is refused leaves all as it is
@@ -90,6 +92,7 @@ pub record IsBegunAs (slot : ℕ) (it after : NodeParts) : Type 0 where
   pub inc : after.inc ≡ it.inc
   pub stands : (scenario : ScenarioParts) (inc : Incarnation) → inc.number ≡ it.inc → inc.from ≡ slot + 1 + (scenario.params.bound + scenario.params.lag)
       → IsWaiting scenario it → IsNodeOf (scenario_for scenario inc) (replicate (slot + 1) Idle) after
+  pub cycle : (scenario : ScenarioParts) → IsWaiting scenario it → after.cycle ≡ first_cycle scenario.params (slot + 1 + (scenario.params.bound + scenario.params.lag))
 
 -- the next incarnation has begun, and the span of the one that ended is final
 pub record IsRestarted (slot : ℕ) (stopped : Option ℕ) (next : ℕ) (v v' : IncarnationsParts) : Type 0 where

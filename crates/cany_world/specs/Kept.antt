@@ -13,6 +13,7 @@ use Rattle.cany_model.specs.declared.span.Span.{Span}
 use Rattle.cany_model.specs.Bus.History.{ended_history, given, seen}
 use Rattle.cany_model.specs.Bus.Incarnations.{span_from}
 use Rattle.cany_model.specs.Rules.Log.{log_from}
+use Rattle.cany_model.specs.Rules.Notices.{error_as_idle}
 use Rattle.cany_model.specs.Rules.Rooms.{waiting_room, actions_room}
 use Rattle.cany_model.specs.Bus.Run.{run}
 use Rattle.cany_model.specs.Bus.State.{Ended, NodeState, RunState, node_at}
@@ -49,13 +50,18 @@ pub record IsKeptAs (scenario : ScenarioParts) (trace : List SlotNote) (i : ℕ)
 abbrev pub past_of : ℕ → List SlotNote → NodeState → List NoticeKind
 past_of i trace node = map (given i) (drop node.unread (seen node.present trace))
 
--- the present incarnation stands for what it has read
+-- what it has heard of that: an error is heard as an idle slot
+abbrev pub heard_of : ℕ → List SlotNote → NodeState → List NoticeKind
+heard_of i trace node = map error_as_idle (past_of i trace node)
+
+-- the present incarnation stands for what it has heard, and hears vectors from its first membership cycle on
 pub record IsPresentAt (scenario : ScenarioParts) (trace : List SlotNote) (i : ℕ) (node : NodeState) (v : IncarnationsParts) : Type 0 where
   pub it : NodeParts
   pub at : slice_get v.nodes v.present ≡ Some it
   pub number : it.node ≡ i
   pub inc : it.inc ≡ node.present.number
-  pub stands : IsNodeOf (scenario_for scenario node.present) (past_of i trace node) it
+  pub cycle : 0 < node.present.number → it.cycle ≡ node.present.cycle
+  pub stands : IsNodeOf (scenario_for scenario node.present) (heard_of i trace node) it
   pub span : Span
   pub span_at : slice_get v.spans v.present ≡ Some span
   pub since : span.since ≡ node.present.since
@@ -116,6 +122,7 @@ pub record CanRunSlot (scenario : ScenarioParts) (script : List Rule) (b : BusPa
 -- a step can be asked for: some journal leads to the state that they stand for
 pub record CanStep (scenario : ScenarioParts) (script : List Rule) (bus : BusParts) (controllers : List ControllerState) (nodes : List IncarnationsParts) (actions : Bounded Action) : Type 0 where
   pub legal : IsLegalScenario scenario
+  pub opening : scenario.inc ≡ 0
   pub rules : script ≡ scenario.rules
   pub journal : List Step
   pub stands : StandFor scenario (run scenario journal) bus controllers nodes

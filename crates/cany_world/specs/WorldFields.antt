@@ -14,6 +14,7 @@ world_parts w = record { scenario = w.scenario; journal = w.journal.items }
 -- the journal has only steps that were done, and room for a slot and a turn of each node in each slot of the run
 pub record IsRun (w : Inside) : Type 0 where
   pub legal : IsLegalScenario w.scenario
+  pub opening : w.scenario.inc ≡ 0
   pub script : w.script ≡ w.scenario.rules
   pub steps : IsLegal w.scenario w.journal.items
   pub room : w.journal.room ≡ w.scenario.params.slots * (w.scenario.params.nodes + 1)

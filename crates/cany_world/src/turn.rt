@@ -1,7 +1,7 @@
 //! The step in which a node takes its turn.
 ghost use Rattle.std.specs.Prelude.{◌≡◌, List, Some, length, slice_get};
 ghost use Rattle.cany_base.specs.declared.step.Step.{Step};
-ghost use Rattle.cany_base.specs.Scenario.{ScenarioParts};
+ghost use Rattle.cany_base.specs.Scenario.{IsLegalScenario, ScenarioParts};
 ghost use Rattle.cany_model.specs.Bus.Run.{after_turn, run, turn_reply};
 ghost use Rattle.can_controller.specs.Controller.{ControllerState};
 ghost use Rattle.cany_world.specs.Incarnations.{CanTurnNow, IncarnationsParts};
@@ -41,7 +41,7 @@ pub(crate) fn take_turn(
 
     // The controllers and the nodes are those of the run after the turn.
     ensures done { (scenario : ScenarioParts) (journal : List Step) → let s = run scenario journal in
-        AreControllersOf scenario s controllers.old → AreNodesOf scenario s nodes.old
+        IsLegalScenario scenario → AreControllersOf scenario s controllers.old → AreNodesOf scenario s nodes.old
         → IfDone result (AreControllersOf scenario (after_turn scenario node s) controllers.new
         × AreNodesOf scenario (after_turn scenario node s) nodes.new) (Unit {0}) }
 

@@ -8,7 +8,7 @@ run_slot-requires c = record { legal = c.requires.legal; rules = c.requires.rule
 
 pub take_turn-requires-clause-turn : goal.take_turn-requires-clause-turn
 take_turn-requires-clause-turn c v x at_node at =
-    can_turn c.args.scenario.now c.requires.journal c.in-Turn.node v x c.args.actions.now c.requires.legal
+    can_turn c.args.scenario.now c.requires.journal c.in-Turn.node v x c.args.actions.now c.requires.legal c.requires.opening
     (c.requires.stands.nodes.each c.in-Turn.node v at_node) (c.requires.stands.controllers.each c.in-Turn.node x at) c.requires.free
 
 pub returns-in-Slot-clause-reply : goal.returns-in-Slot-clause-reply
@@ -28,4 +28,4 @@ returns-in-Turn-clause-reply c journal stands =
 pub returns-in-Turn-clause-done : goal.returns-in-Turn-clause-done
 returns-in-Turn-clause-done c journal stands =
     turn_stands c.args.scenario.now journal c.args.step c.in-Turn.node c.take_turn.result c.args.bus.now c.args.controllers.now c.take_turn.new.controllers c.args.nodes.now c.take_turn.new.nodes
-    c.in-Turn.is stands (c.take_turn.ensures.done c.args.scenario.now journal stands.controllers stands.nodes)
+    c.in-Turn.is stands (c.take_turn.ensures.done c.args.scenario.now journal c.requires.legal stands.controllers stands.nodes)

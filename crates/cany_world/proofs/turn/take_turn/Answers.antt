@@ -28,7 +28,7 @@ returns-clause-reply c scenario journal row kept =
     ∙ turn_reply_is scenario (run scenario journal) c.args.node x (omega (arith, number, kept.whole)) (row.each c.args.node x at)
 
 pub returns-clause-done : goal.returns-clause-done
-returns-clause-done c scenario journal row kept =
+returns-clause-done c scenario journal legal row kept =
     let v : IncarnationsParts = get_or c.args.nodes.now c.from-i.result c.index-nodes-i.result in
     let x : ControllerState = get_or c.args.controllers.now c.from-i.result c.index-controllers-i.result in
     let number : c.from-i.result ≡ c.args.node = c.from-i.ensures ∙ c.get.ensures.value in
@@ -39,4 +39,4 @@ returns-clause-done c scenario journal row kept =
     subst (λ k. IfDone c.step_reply.result (AreControllersOf scenario (after_turn scenario c.args.node (run scenario journal)) (slice_set c.args.controllers.now k c.turn.new.ctl)
     × AreNodesOf scenario (after_turn scenario c.args.node (run scenario journal)) (slice_set c.args.nodes.now k c.turn.new.self)) (Unit {0})) (sym number)
     (turned_on scenario journal c.args.node c.args.nodes.now c.args.controllers.now v c.turn.new.self x c.turn.new.ctl c.step_reply.result
-    row kept (omega (arith, number)) at_node at (c.step_reply.ensures ∙ ap step_reply c.turn.ensures.reply) c.turn.ensures.turn)
+    legal row kept (omega (arith, number)) at_node at (c.step_reply.ensures ∙ ap step_reply c.turn.ensures.reply) c.turn.ensures.turn)

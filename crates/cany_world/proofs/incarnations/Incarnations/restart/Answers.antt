@@ -40,4 +40,5 @@ returns c =
       inc = c.begin.ensures.inc ∙ ap (λ (x : NodeParts). x.inc) same;
       stands = λ scenario inc number from waits.
           c.begin.ensures.stands scenario inc (number ∙ ap (λ (x : NodeParts). x.inc) (sym same)) from (subst (IsWaiting scenario) (sym same) waits);
+      cycle = λ scenario waits. c.begin.ensures.cycle scenario (subst (IsWaiting scenario) (sym same) waits);
     })

@@ -22,5 +22,6 @@ returns-clause-turn c it at scenario past notice reads =
     (written nodes _ c.self.inside.nodes.len (length-set c.as_mut_slice-nodes.result.now c.self.inside.present c.turn.new.self ∙ c.as_mut_slice-nodes.ensures.len)
     ∙ ap (λ (l : List NodeParts). slice_set l c.self.inside.present c.turn.new.self) c.as_mut_slice-nodes.ensures.value)
     refl refl (c.turn.ensures.node ∙ ap (λ (x : NodeParts). x.node) same) (c.turn.ensures.inc ∙ ap (λ (x : NodeParts). x.inc) same)
+    (c.turn.ensures.cycle ∙ ap (λ (x : NodeParts). x.cycle) same)
     (subst (λ (x : NodeParts). IsTurnOf scenario past notice x c.turn.new.self c.args.ctl.now c.turn.new.ctl) same
     (c.turn.ensures.turn scenario past notice (subst (λ (x : NodeParts). Reads scenario past notice x c.args.ctl.now) (sym same) reads)))

@@ -21,6 +21,7 @@ invariant_of-result c =
     let none : [] ≡ c.in_ok-journal.journal.items = sym (ap (λ (b : Bounded Step). b.items) c.in_ok-journal.ensures) in
     record {
       legal = subst IsLegalScenario same c.params-params.ensures.legal;
+      opening = ap (λ (s : ScenarioParts). s.inc) (sym same) ∙ c.params-params.ensures.opening;
       script = c.in_ok-script.ensures ∙ ap (λ (s : ScenarioParts). s.rules) same;
       steps = subst (λ (j : List Step). IsLegal kept j) none (legal_none kept (opening kept.params.nodes));
       room = ap (λ (b : Bounded Step). b.room) c.in_ok-journal.ensures ∙ c.journal_room.ensures

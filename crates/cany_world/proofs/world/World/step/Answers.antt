@@ -40,6 +40,7 @@ invariant_of-self c =
     written c.make-reply.new.nodes _ c.self.inside.nodes.len (c.make-reply.auto.nodes ∙ c.as_mut_slice-2.ensures.len) in
     record {
       legal = c.self.invariant.legal;
+      opening = c.self.invariant.opening;
       script = c.self.invariant.script;
       steps = subst (λ (j : List Step). IsLegal scenario j) (sym items) (legal_push scenario journal c.args.step c.self.invariant.steps (ap is_done (sym answer ∙ c.in-Done.is)));
       room = ap (λ (b : Bounded Step). b.room) c.push_copy.ensures ∙ c.self.invariant.room;
@@ -61,6 +62,7 @@ invariant_of-self-in_default c =
     rw (refused c.make-reply.result c.in_default.not-Done) at c.make-reply.ensures.refused in
     record {
       legal = c.self.invariant.legal;
+      opening = c.self.invariant.opening;
       script = c.self.invariant.script;
       steps = c.self.invariant.steps;
       room = c.self.invariant.room;
