@@ -59,6 +59,19 @@ def dense(tenths):
     return name, slots, sends, scenario(2, slots, sends, ["tot"], [f"cycle = {slots}"])
 
 
+def with_views():
+    """The largest run with views: a new one in each cycle, and in each half of a cycle joins and leaves of many nodes. Nodes 24 and
+    above are no members at first."""
+    slots, sends, asks = 100000, 20000, 1000
+    members = ", ".join(str(node) for node in range(24))
+    lines = [scenario(32, slots, sends, ["ed", "rel", "tot"], [f"members = [{members}]"])]
+    for table, first in [("join", 0), ("leave", 16)]:
+        for index in range(asks):
+            slot = index * (slots - 100) // asks
+            lines += [f"[[{table}]]", f"slot = {slot}", f"node = {(first + index) % 32}"]
+    return "largest with views", slots, sends, "\n".join(lines) + "\n"
+
+
 def runs():
     """The name, slots, messages and text of each run."""
     for service in ["ed", "rel", "tot"]:
@@ -69,6 +82,7 @@ def runs():
         yield dense(tenths)
     yield storm_sized(["ed", "rel"])
     yield largest(["ed", "rel"], 10)
+    yield with_views()
 
 
 def measure(program, text):

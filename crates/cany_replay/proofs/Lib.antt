@@ -1,4 +1,5 @@
 pub mod AfterFacts
+pub mod AsksFacts
 pub mod EntriesFacts
 pub mod FaultsFacts
 pub mod FieldFacts

@@ -1,5 +1,5 @@
 -- A set of nodes that grows by the entries of an array.
-use Rattle.std.proofs.Common.{◌≡◌, ℕ, ◌+◌, ◌<◌, ◌==◌, ◌&&◌, ◌||◌, nat_lt, Bool, true, false, List, [], length, get_or, Option, Some, None, option_map, refl, ap, sym, ◌∙◌, arith}
+use Rattle.std.proofs.Common.{◌≡◌, ℕ, ◌+◌, ◌<◌, ◌≤◌, ◌==◌, ◌&&◌, ◌||◌, nat_lt, Bool, true, false, List, [], length, get_or, Option, Some, None, option_map, refl, ap, sym, ◌∙◌, arith}
 use Rattle.std.specs.List.{list_any}
 use Rattle.std.proofs.Math.Seq.{drop-length}
 use Rattle.std.proofs.lemmas.Bool.{false≢true, lt-ltb}
@@ -9,10 +9,11 @@ use Rattle.toml.specs.View.{view}
 use Rattle.toml.specs.declared.value.Value.{Value}
 use Rattle.cany_base.specs.Limits.{most_nodes}
 use Rattle.cany_base.specs.Nodes.{Nodes, has, those_where, AllBelow}
+use Rattle.cany_base.specs.Params.{Parameters}
 -- no contract speaks of the words on sets alone, which the definition of a text uses
 use Rattle.cany_base.proofs.NodesFacts.{those_where-ext, same_as_those_where}
+use Rattle.cany_model.specs.Texts.NodesText.{set_of, all_nodes}
 use Rattle.cany_model.specs.Texts.TomlKeys.{◌>>=◌}
-use Rattle.cany_model.specs.Texts.FaultsText.{set_of}
 use Rattle.cany_replay.proofs.EntriesFacts.{from_index, from_index-more, in_front}
 
 -- the nodes so far and those with the numbers that are left
@@ -81,3 +82,10 @@ AllBelow-none nodes none i h = absurd (false≢true (sym (none i) ∙ h))
 -- the empty set is the set of no numbers
 pub empty-set_of : (nodes : Nodes) → ((i : ℕ) → has nodes i ≡ false) → nodes ≡ set_of []
 empty-set_of nodes none = same_as_those_where nodes (λ i. false) (λ i. none i ∙ below_test i false (λ e. absurd (false≢true e)))
+
+both_below : (i nodes : ℕ) → nodes ≤ most_nodes → nat_lt i nodes ≡ (nat_lt i most_nodes && nat_lt i nodes)
+both_below i nodes few = grind (arith, nat_tests)
+
+-- the set that has every node of the bus, of which there are so many
+pub all-all_nodes : (params : Parameters) (count : ℕ) (nodes : Nodes) → count ≡ params.nodes → count ≤ most_nodes → ((i : ℕ) → has nodes i ≡ nat_lt i count) → nodes ≡ all_nodes params
+all-all_nodes params count nodes same few all = same_as_those_where nodes (λ i. nat_lt i params.nodes) (rw (← same) (λ i. all i ∙ both_below i count few))

@@ -3,8 +3,8 @@ use Rattle.std.specs.Prelude.{◌-◌, Option, Some}
 use Rattle.toml.specs.Data.{Items}
 use Rattle.cany_base.specs.Nodes.{Nodes}
 use Rattle.cany_base.specs.Params.{Parameters}
+use Rattle.cany_model.specs.Texts.NodesText.{set_of}
 use Rattle.cany_model.specs.Texts.TomlKeys.{◌>>=◌, number_from, each_of}
-use Rattle.cany_model.specs.Texts.FaultsText.{set_of}
 
 -- the set of the nodes with the numbers that the entries are
 abbrev pub each_node : Parameters → Items → Option Nodes

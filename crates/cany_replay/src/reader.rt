@@ -4,6 +4,7 @@ ghost use Rattle.toml.specs.View.{table_view};
 ghost use Rattle.cany_model.specs.Texts.ScenarioText.{scenario_from, scenario_of};
 ghost use Rattle.cany_replay.specs.Refusal.{IfLater};
 
+mod asks;
 mod document;
 mod faults;
 mod journal;
@@ -17,21 +18,24 @@ mod sends;
 #[cfg(test)]
 mod tests;
 
+use crate::reader::asks::read_asks;
 use crate::reader::document::read_document;
 use crate::reader::faults::read_rules;
 use crate::reader::journal::read_journal;
 use crate::reader::keys::has_only;
+use crate::reader::nodes::read_members;
 use crate::reader::params::read_params;
 pub(crate) use crate::reader::refusal::{LaterName, ReadRefusal};
 use crate::reader::sends::read_sends;
-use cany_base::{NodeSet, Scenario};
+use cany_base::Scenario;
+use cany_base::limits::{MOST_JOINS, MOST_LEAVES};
 use std::alloc::Global;
 use toml::Table;
 
-/// The top keys that a text can have so far. The reader refuses each other key of the format.
-const TOP_KEYS: [&str; 14] = [
+/// The top keys of format one. A text with any other key is refused.
+const TOP_KEYS: [&str; 17] = [
     "format", "nodes", "slots", "lag", "omit", "errors", "bound", "cycle", "life", "silence",
-    "confirm", "send", "fault", "journal",
+    "confirm", "members", "send", "fault", "join", "leave", "journal",
 ];
 
 /// The scenario that the bytes stand for. A text has no restart entries yet.
@@ -59,20 +63,19 @@ fn scenario_from(alloc: Global, top: &Table) -> Result<Scenario, ReadRefusal>
         return Err(ReadRefusal::FORM);
     }
     let params = read_params(top)?;
-    if params.slots > params.cycle {
-        return Err(ReadRefusal::FORM);
-    }
+    let members = read_members(&params, top).ok_or(ReadRefusal::FORM)?;
     let sends = read_sends(alloc, &params, top)?;
     let rules = read_rules(alloc, &params, top)?;
+    let joins = read_asks(alloc, &params, top, "join", MOST_JOINS)?;
+    let leaves = read_asks(alloc, &params, top, "leave", MOST_LEAVES)?;
     let journal = read_journal(alloc, top)?;
-    let members = NodeSet::all(params.nodes);
     Ok(Scenario::of_parts(
         params,
         members,
         sends,
         rules,
-        Vec::new(alloc),
-        Vec::new(alloc),
+        joins,
+        leaves,
         Vec::new(alloc),
         journal,
     ))

@@ -2,6 +2,7 @@ use crate::replay_top;
 use crate::status::{DONE, OTHER_WORDS, READ_FAULT, REFUSED, TOO_LONG, WRITE_FAULT};
 use crate::tests::journals::JOURNALS;
 use crate::tests::life::LIFE_RUNS;
+use crate::tests::membership::MEMBERSHIP_RUNS;
 use crate::tests::relcan::RELCAN_RUNS;
 use crate::tests::runs::RUNS;
 use crate::tests::thirty_two_nodes::THIRTY_TWO_NODES;
@@ -14,6 +15,7 @@ mod backlog;
 mod forty_nodes;
 mod journals;
 mod life;
+mod membership;
 mod relcan;
 mod restarts;
 mod runs;
@@ -137,6 +139,7 @@ fn texts_and_their_answers(rt: HostRuntime) -> Result<(), Fail> {
         RELCAN_RUNS.as_slice(),
         TOTCAN_RUNS.as_slice(),
         LIFE_RUNS.as_slice(),
+        MEMBERSHIP_RUNS.as_slice(),
         JOURNALS.as_slice(),
         &[THIRTY_TWO_NODES],
     ] {

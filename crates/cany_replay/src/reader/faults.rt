@@ -2,7 +2,8 @@
 ghost use Rattle.std.specs.Prelude.{◌≡◌, [], codes, IfOk, IfErr, Some, None};
 ghost use Rattle.toml.specs.View.{view, items_view, table_view};
 ghost use Rattle.cany_model.specs.Texts.TomlKeys.{optional, each_of};
-ghost use Rattle.cany_model.specs.Texts.FaultsText.{set_of, nodes_from, verdict_from, rule_from, rules_from};
+ghost use Rattle.cany_model.specs.Texts.FaultsText.{verdict_from, rule_from, rules_from};
+ghost use Rattle.cany_model.specs.Texts.NodesText.{set_of, nodes_from};
 ghost use Rattle.cany_replay.specs.Refusal.{IfLater};
 
 use crate::reader::keys::value_at;

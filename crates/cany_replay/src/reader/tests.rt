@@ -3,8 +3,8 @@ ghost use Rattle.cany_base.specs.Limits.{most_nodes};
 
 use crate::reader::{LaterName, ReadRefusal, read_scenario};
 use cany_base::{
-    Class, NodeId, NodeSet, ParamFault, ParamName, Params, Payload, Place, Rule, SendAsk, Service,
-    Step, Verdict,
+    Class, NodeAsk, NodeId, NodeSet, ParamFault, ParamName, Params, Payload, Place, Rule, SendAsk,
+    Service, Step, Verdict,
 };
 use std::alloc::Global;
 
@@ -17,6 +17,24 @@ fn gives(alloc: Global, text: &str, params: &Params, sends: &[SendAsk], rules: &
                 && scenario.sends() == sends
                 && scenario.rules() == rules
                 && scenario.journal().is_none()
+        }
+        Err(_) => false,
+    }
+}
+
+/// Whether the text gives these members, joins and leaves.
+fn gives_asks(
+    alloc: Global,
+    text: &str,
+    members: NodeSet,
+    joins: &[NodeAsk],
+    leaves: &[NodeAsk],
+) -> bool {
+    match read_scenario(alloc, text.as_bytes()) {
+        Ok(scenario) => {
+            scenario.members() == members
+                && scenario.joins() == joins
+                && scenario.leaves() == leaves
         }
         Err(_) => false,
     }
@@ -52,6 +70,15 @@ fn send(service: Service, bytes: &[u8]) -> SendAsk
         node: node(0),
         service,
         payload: Payload::of(bytes).unwrap(),
+    }
+}
+
+fn ask(slot: u64, number: u8) -> NodeAsk
+    requires { number < most_nodes }
+{
+    NodeAsk {
+        slot,
+        node: node(number),
     }
 }
 
@@ -173,6 +200,22 @@ fn parameters_and_a_journal_are_read(rt: HostRuntime) {
 }
 
 #[test]
+fn members_joins_and_leaves_are_read(rt: HostRuntime) {
+    let alloc = rt.alloc();
+    // A run of more than two cycles, of 72 slots each. The entries stand in file order, whatever their slots.
+    let joins = [ask(199, 2), ask(0, 2)];
+    let leaves = [ask(80, 0)];
+    let text =
+        "format = 1\nnodes = 3\nslots = 200\nmembers = [1, 0, 1]\n[[join]]\nslot = 199\nnode = 2\n[[leave]]\nslot = 80\nnode = 0\n[[join]]\nnode = 2\nslot = 0\n";
+    assert!(rt; gives_asks(alloc, text, NodeSet::of_bits(0b011), &joins, &leaves));
+    // All are members where the text does not say who is, and nobody where it lists nobody.
+    let text = "format = 1\nnodes = 32\nslots = 100000\n";
+    assert!(rt; gives_asks(alloc, text, NodeSet::all(32), &[], &[]));
+    let text = "format = 1\nnodes = 3\nslots = 5\nmembers = []\njoin = []\n";
+    assert!(rt; gives_asks(alloc, text, NodeSet::empty(), &[], &[]));
+}
+
+#[test]
 fn other_texts_are_refused(rt: HostRuntime) {
     for text in [
         "",
@@ -189,8 +232,18 @@ fn other_texts_are_refused(rt: HostRuntime) {
         "format = 1\nnodes = 3\nslots = 5\n[[fault]]\nclass = \"ed\"\nnumber = 0\nnode = 0\nnth = 1\nslot = 1\n",
         "format = 1\nnodes = 3\nslots = 5\n[[fault]]\nclass = \"ed\"\nnumber = 0\nnode = 0\nnth = 0\n",
         "format = 1\nnodes = 3\nslots = 5\n[[fault]]\nclass = 9\nnumber = 0\nnode = 0\nnth = 1\n",
-        // More slots than `cycle`.
-        "format = 1\nnodes = 3\nslots = 233\nlag = 2\n",
+        // A member off the bus, and one of another kind.
+        "format = 1\nnodes = 3\nslots = 5\nmembers = [0, 3]\n",
+        "format = 1\nnodes = 3\nslots = 5\nmembers = [\"0\"]\n",
+        // A join after the run, a leave of a node off the bus, and one with a key besides.
+        "format = 1\nnodes = 3\nslots = 5\n[[join]]\nslot = 5\nnode = 0\n",
+        "format = 1\nnodes = 3\nslots = 5\n[[leave]]\nslot = 0\nnode = 3\n",
+        "format = 1\nnodes = 3\nslots = 5\n[[leave]]\nslot = 0\nnode = 0\nservice = \"ed\"\n",
+        // A node that starts again, and the second format.
+        "format = 1\nnodes = 3\nslots = 5\n[[restart]]\nslot = 1\nnode = 0\n",
+        "format = 2\nnodes = 3\nslots = 5\n",
+        // More slots than a run has.
+        "format = 1\nnodes = 3\nslots = 100001\n",
     ] {
         assert!(rt; is_refused(rt.alloc(), text, LaterName::Form), "at {text}");
     }

@@ -65,6 +65,14 @@ fn failure(slot: Slot, number: u8, cycle: u16) -> LogEntry
     }
 }
 
+fn view(slot: Slot, number: u16, members: NodeSet) -> LogEntry {
+    LogEntry::View {
+        slot,
+        number,
+        members,
+    }
+}
+
 /// The set of this node alone.
 fn only(number: u8) -> NodeSet
     requires { number < 3 }
@@ -109,8 +117,8 @@ fn with_restarts(alloc: Global, text: &str, restarts: &[NodeAsk]) -> Result<Scen
         read.members(),
         Vec::from_slice(alloc, read.sends())?,
         Vec::from_slice(alloc, read.rules())?,
-        Vec::new(alloc),
-        Vec::new(alloc),
+        Vec::from_slice(alloc, read.joins())?,
+        Vec::from_slice(alloc, read.leaves())?,
         Vec::from_slice(alloc, restarts)?,
         journal,
     ))
@@ -469,6 +477,44 @@ stop = [0]
     assert_eq!(rt; life_signs(&world, 1), 4);
     assert_eq!(rt; takers_in(&world, 111), Some(only(0)));
     assert_eq!(rt; frames(&world), 10);
+    Ok(())
+}
+
+#[test]
+fn restart_joins(rt: HostRuntime) -> Result<(), Fail> {
+    // Node 1 stops and leaves the views. Its next incarnation hears nothing before slot 147, asks to join in slot 190, and is in view 3.
+    let text = "format = 1
+nodes = 3
+slots = 253
+
+[[join]]
+slot = 190
+node = 1
+
+[[fault]]
+slot = 5
+stop = [1]
+";
+    let world = run(rt.alloc(), text, &[again(110, 1)])?;
+    let all = NodeSet::all(3);
+    let whole = [
+        failure(73, 1, 1),
+        view(108, 1, all),
+        view(180, 2, both(0, 2)),
+        view(252, 3, all),
+    ];
+    let joined = [view(252, 3, all)];
+    assert_eq!(rt; span_at(&world, 1, 0), Some(span(0, Some(5), 5)));
+    assert!(rt; has_empty_log(&world, 1, 0));
+    assert_eq!(rt; span_at(&world, 1, 1), Some(span(111, None, 142)));
+    assert_eq!(rt; log_now(&world, 1), Some(joined.as_slice()));
+    assert_eq!(rt; log_now(&world, 0), Some(whole.as_slice()));
+    assert_eq!(rt; log_now(&world, 2), Some(whole.as_slice()));
+    assert_eq!(rt; world.restarted(110), only(1));
+    assert_eq!(rt; senders_in(&world, 191), Some(only(1)));
+    assert_eq!(rt; takers_in(&world, 191), Some(both(0, 2)));
+    assert_eq!(rt; senders_in(&world, 218), Some(only(1)));
+    assert_eq!(rt; frames(&world), 15);
     Ok(())
 }
 
