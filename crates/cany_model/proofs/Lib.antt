@@ -4,3 +4,4 @@ pub mod Promises
 pub mod Rows
 pub mod Rules
 pub mod Texts
+pub mod Timed

@@ -1,6 +1,7 @@
 -- Worked rows: single runs and lines, computed from the definitions.
 pub mod AsksTextRows
 pub mod BacklogRows
+pub mod DetectorRows
 pub mod EagerRows
 pub mod FaultsTextRows
 pub mod FollowRows
@@ -8,6 +9,9 @@ pub mod HypothesisRows
 pub mod JournalTextRows
 pub mod LifeRows
 pub mod MembershipRows
+pub mod OrderRows
+pub mod PromiseRows
+pub mod QuietRows
 pub mod RejoinRows
 pub mod RelcanRows
 pub mod RelcanTurnRows

@@ -1,22 +1,31 @@
 //! What holds of every run: each law is the contract of a function that does nothing.
-ghost use Rattle.std.specs.Prelude.{◌≡◌, ◌<◌, ◌≤◌, ◌+◌, ◌↔◌, ℕ, true, List, ◌∷◌, Some, None, Contains, count_by};
+ghost use Rattle.std.specs.Prelude.{◌≡◌, ◌<◌, ◌≤◌, ◌+◌, ◌↔◌, ℕ, true, List, ◌∷◌, Some, None, Contains, count_by, []};
 ghost use Rattle.cany_base.specs.Limits.{most_nodes};
 ghost use Rattle.cany_base.specs.declared.frame.Class.TheVariants as class;
 ghost use Rattle.cany_base.specs.declared.message.Service.TheVariants as service;
 ghost use Rattle.cany_base.specs.declared.slot_note.SlotNote.{SlotNote};
 ghost use Rattle.cany_base.specs.declared.step.Step.{Step};
-ghost use Rattle.cany_base.specs.Params.{Parameters};
-ghost use Rattle.cany_base.specs.Scenario.{ScenarioParts};
+ghost use Rattle.cany_base.specs.Params.{MeetsFormulas, Parameters};
+ghost use Rattle.cany_base.specs.Scenario.{IsLegalScenario, ScenarioParts};
 ghost use Rattle.cany_model.specs.Bus.Follow.{journal_fault};
 ghost use Rattle.cany_model.specs.Bus.Frames.{same_class};
+ghost use Rattle.cany_model.specs.Promises.Detector.{AsksNoLeave, HasNotFailed, IsAdmitted, IsRemoved, JoinWasCarried, StandsAfter, StaysInViews};
 ghost use Rattle.cany_model.specs.Promises.Hypothesis.{IsWithin, first_break};
+ghost use Rattle.cany_model.specs.Promises.Settled.{IsCorrect};
 ghost use Rattle.cany_model.specs.Rules.Messages.{Message, messages_of};
 ghost use Rattle.cany_model.specs.Bus.RoundRobin.{round_robin};
 ghost use Rattle.cany_model.specs.Bus.Run.{IsLegal, IsWhole, run};
 ghost use Rattle.cany_model.specs.Bus.State.{node_at, runs};
-ghost use Rattle.cany_model.specs.Promises.Safe.{IsIntegral, IsAgreedOn, IsSignAgreedOn};
+ghost use Rattle.cany_model.specs.Promises.Safe.{IsAgreedOn, IsIntegral, IsSafe, IsSignAgreedOn};
 ghost use Rattle.cany_model.specs.Rules.Station.{Sign};
 ghost use Rattle.cany_model.specs.declared.breaks.Break.{Break};
+ghost use Rattle.cany_base.specs.declared.message.MsgKey.{MsgKey};
+ghost use Rattle.cany_base.specs.Nodes.{AllBelow};
+ghost use Rattle.cany_model.specs.Promises.Acceptance.{IsAcceptedByAllOrNone, WasCarriedClean};
+ghost use Rattle.cany_model.specs.Promises.OneView.{HasOneView, InstallsOneVector};
+ghost use Rattle.cany_model.specs.Promises.Order.{HasOneOrder};
+ghost use Rattle.cany_model.specs.Promises.Quiet.{HasFewAskingSlots, HasQuietSlots};
+ghost use Rattle.cany_model.specs.Promises.Windows.{HasFewAccepts, HasFewLifeSigns, HasFewTotFrames, HasFewVectors};
 
 /// Integrity: the log of the present incarnation of a running node has no message twice, and each message that it delivers is one of
 /// the scenario, with its service and its payload, whose data frame was carried with its origin among the senders in a
@@ -101,6 +110,138 @@ pub fn few_life_signs()
     ensures { (scenario : ScenarioParts) (journal : List Step) → scenario.params.lag < scenario.params.life → (i : ℕ)
         → runs (node_at (run scenario journal).nodes i) ≡ true
         → count_by (λ f. same_class f.class class.Els) (node_at (run scenario journal).nodes i).waiting ≤ 2 }
+{}
+
+/// Few frames that accept: in every run within the fault hypothesis any window of `bound + lag` consecutive slots, or fewer, has at most two
+/// Clean frames that accept for each pair of a node and an origin.
+///
+/// It holds of every journal, legal or not, under any fault script without a Silent slot, and asks for no formula of the parameters.
+pub fn few_accept_frames()
+    ensures { (scenario : ScenarioParts) (journal : List Step) → scenario.params.nodes ≤ most_nodes
+        → IsWithin scenario.params (run scenario journal).trace → HasFewAccepts scenario.params (run scenario journal).trace }
+{}
+
+/// Few data frames of TOTCAN: in such a run any window has at most one Clean data frame of each origin.
+pub fn few_tot_frames()
+    ensures { (scenario : ScenarioParts) (journal : List Step) → scenario.params.nodes ≤ most_nodes
+        → IsWithin scenario.params (run scenario journal).trace → HasFewTotFrames scenario.params (run scenario journal).trace }
+{}
+
+/// Few vectors: in every run of a scenario that meets the formulas any window has, for each node, at most one Clean vector more than there
+/// are nodes. It needs nothing of the fault hypothesis.
+pub fn few_vector_frames()
+    ensures { (scenario : ScenarioParts) (journal : List Step) → scenario.params.nodes ≤ most_nodes → MeetsFormulas scenario.params
+        → AllBelow scenario.params.nodes scenario.members → HasFewVectors scenario.params (run scenario journal).trace }
+{}
+
+/// Few life signs are carried: in every run within the fault hypothesis of a scenario that meets the formulas any window has at most one
+/// Clean life sign of each node.
+///
+/// It rests on the two counts before it: a life sign that waits while other frames of the first classes are carried is asked for again only
+/// after it was carried, since those are few.
+pub fn few_life_sign_frames()
+    ensures { (scenario : ScenarioParts) (journal : List Step) → scenario.params.nodes ≤ most_nodes → MeetsFormulas scenario.params
+        → AllBelow scenario.params.nodes scenario.members → IsWithin scenario.params (run scenario journal).trace
+        → HasFewLifeSigns scenario.params (run scenario journal).trace }
+{}
+
+/// Few asking slots: in such a run few slots of a window leave a notice at which a running node asks for a frame that accepts or for a
+/// vector.
+pub fn few_asking_slots()
+    ensures { (scenario : ScenarioParts) (journal : List Step) → scenario.params.nodes ≤ most_nodes → MeetsFormulas scenario.params
+        → AllBelow scenario.params.nodes scenario.members → IsWithin scenario.params (run scenario journal).trace
+        → HasFewAskingSlots scenario (run scenario journal) }
+{}
+
+/// The quiet slot: of any `bound` consecutive slots of such a run, one was run in a quiet state.
+///
+/// So what is to be agreed on by frames that accept, or by vectors, was sent before it. The formula for `bound` is made for this law.
+pub fn quiet_slots()
+    ensures { (scenario : ScenarioParts) (journal : List Step) → scenario.params.nodes ≤ most_nodes → MeetsFormulas scenario.params
+        → AllBelow scenario.params.nodes scenario.members → IsWithin scenario.params (run scenario journal).trace
+        → HasQuietSlots scenario journal }
+{}
+
+/// Acceptance: in such a run a TOTCAN message whose data frame was carried Clean in a slot c is accepted by slot c + `bound` by all running
+/// nodes that take part since c and have read that slot, or by none; and by all of them, if any running node has accepted it.
+pub fn acceptance()
+    ensures { (scenario : ScenarioParts) (journal : List Step) → scenario.params.nodes ≤ most_nodes → MeetsFormulas scenario.params
+        → AllBelow scenario.params.nodes scenario.members → IsWithin scenario.params (run scenario journal).trace
+        → (key : MsgKey) (c : ℕ) → WasCarriedClean (run scenario journal).trace key c
+        → IsAcceptedByAllOrNone scenario (run scenario journal) key c }
+{}
+
+/// Total order: in such a run each correct node has delivered a prefix of one list, and every settled message of it: the accepted messages
+/// in the order of the slots in which their data frames were carried Clean, from the first slot on in which the node takes part.
+pub fn total_order()
+    ensures { (scenario : ScenarioParts) (journal : List Step) → scenario.params.nodes ≤ most_nodes → MeetsFormulas scenario.params
+        → AllBelow scenario.params.nodes scenario.members → IsWithin scenario.params (run scenario journal).trace
+        → HasOneOrder scenario (run scenario journal) }
+{}
+
+/// Agreement of TOTCAN, in such a run, of settled TOTCAN messages and among the correct nodes that take part since the data frame of the
+/// message was first carried: if one of them is its origin or delivered it, each of them delivered it. Where the frame was never carried, no
+/// correct node delivered the message.
+pub fn totcan_agreement()
+    ensures { (scenario : ScenarioParts) (journal : List Step) → scenario.params.nodes ≤ most_nodes → MeetsFormulas scenario.params
+        → AllBelow scenario.params.nodes scenario.members → IsWithin scenario.params (run scenario journal).trace
+        → (m : Message) → Contains (messages_of scenario.sends) m → m.service ≡ service.Tot
+        → IsAgreedOn scenario (run scenario journal) m }
+{}
+
+/// One vector: in every run within the fault hypothesis of a legal scenario the correct nodes that take part since a membership cycle starts,
+/// and have read its end, install one vector there, or none of them has one. A correct node that takes part only since later has none.
+pub fn vector_agreement()
+    ensures { (scenario : ScenarioParts) (journal : List Step) → IsLegalScenario scenario
+        → IsWithin scenario.params (run scenario journal).trace → (k : ℕ) → InstallsOneVector scenario (run scenario journal) k }
+{}
+
+/// One view: in such a run correct nodes whose logs have a view of one number have equal members in it.
+pub fn view_agreement()
+    ensures { (scenario : ScenarioParts) (journal : List Step) → IsLegalScenario scenario
+        → IsWithin scenario.params (run scenario journal).trace → HasOneView scenario (run scenario journal) }
+{}
+
+/// Safety: every run within the fault hypothesis of a legal scenario is safe.
+///
+/// It holds of every journal, in whatever order the nodes take their turns and however far they lag, with restarts too.
+pub fn safety()
+    ensures { (scenario : ScenarioParts) (journal : List Step) → IsLegalScenario scenario
+        → IsWithin scenario.params (run scenario journal).trace → IsSafe scenario (run scenario journal) }
+{}
+
+/// Accuracy: in every run within the fault hypothesis of a legal scenario without restart entries a running node has failed at no correct
+/// node. It rests on no view: a node that asked for a leave, or that is no member, is not taken for failed either.
+pub fn detector_accuracy()
+    ensures { (scenario : ScenarioParts) (journal : List Step) → IsLegalScenario scenario → scenario.restarts ≡ []
+        → IsWithin scenario.params (run scenario journal).trace → (r : ℕ) → IsCorrect scenario (run scenario journal) r
+        → HasNotFailed scenario (run scenario journal) r }
+{}
+
+/// Staying: in such a run a running node that asks for no leave, and that each correct node has in its view after its turn of a slot, stands
+/// in each view that a correct node holds of a cycle that ends after that slot.
+pub fn members_stay()
+    ensures { (scenario : ScenarioParts) (journal : List Step) → IsLegalScenario scenario → scenario.restarts ≡ []
+        → IsWithin scenario.params (run scenario journal).trace → (r t : ℕ) → IsCorrect scenario (run scenario journal) r
+        → AsksNoLeave scenario r → StandsAfter scenario (run scenario journal) r t → StaysInViews scenario (run scenario journal) r t }
+{}
+
+/// Removal: in such a run a node that stopped in a slot after which each correct node has it in its view stands in no view that a correct
+/// node holds of a cycle that starts more than `silence` slots later.
+pub fn removal()
+    ensures { (scenario : ScenarioParts) (journal : List Step) → IsLegalScenario scenario → scenario.restarts ≡ []
+        → IsWithin scenario.params (run scenario journal).trace → (r t : ℕ) → r < scenario.params.nodes
+        → (node_at (run scenario journal).nodes r).stopped ≡ Some t → StandsAfter scenario (run scenario journal) r t
+        → IsRemoved scenario (run scenario journal) r t }
+{}
+
+/// Admission: in such a run a node whose JOIN was carried Clean between the starts of two cycles, and that no correct node had in its view
+/// then, stands in the vector that a correct node installs in the later of the two, or, where that is not the first, in the one that this node
+/// installed in the cycle before.
+pub fn admission()
+    ensures { (scenario : ScenarioParts) (journal : List Step) → IsLegalScenario scenario → scenario.restarts ≡ []
+        → IsWithin scenario.params (run scenario journal).trace → (r k : ℕ) → r < scenario.params.nodes
+        → JoinWasCarried scenario (run scenario journal) r k → IsAdmitted scenario (run scenario journal) r k }
 {}
 
 /// The round robin journal: in every scenario each step of it is done, and at its end all slots ran and every running node

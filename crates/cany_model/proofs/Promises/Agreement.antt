@@ -11,7 +11,7 @@ use Rattle.cany_model.specs.Bus.History.{carries_early, history, has_own, is_got
 use Rattle.cany_model.specs.Bus.State.{Incarnation, RunState, node_at, runs}
 use Rattle.cany_model.specs.Bus.Waiting.{waits}
 use Rattle.cany_model.specs.Promises.Hypothesis.{IsWithin}
-use Rattle.cany_model.specs.Promises.Safe.{first_carried}
+use Rattle.cany_model.specs.Promises.FirstSlots.{first_carried}
 use Rattle.cany_model.specs.Promises.Settled.{IsCorrect, IsCorrectFrom}
 use Rattle.cany_model.specs.Rules.Turn.{scenario_at, scenario_for, turn_effects}
 use Rattle.cany_model.proofs.Among.{Among, Among-weaker, Among-with}

@@ -19,7 +19,9 @@ use Rattle.cany_model.specs.Bus.Run.{run}
 use Rattle.cany_model.specs.Bus.State.{Incarnation, RunState}
 use Rattle.cany_base.specs.Nodes.{has}
 use Rattle.cany_model.specs.Promises.Hypothesis.{IsWithin}
-use Rattle.cany_model.specs.Promises.Safe.{HasDelivered, IsAgreedFrom, IsAgreedOn, first_carried, is_delivery_of}
+use Rattle.cany_model.specs.Promises.Entries.{HasDelivered, is_delivery_of}
+use Rattle.cany_model.specs.Promises.FirstSlots.{first_carried}
+use Rattle.cany_model.specs.Promises.Safe.{IsAgreedFrom, IsAgreedOn}
 use Rattle.cany_model.specs.Promises.Settled.{IsCorrect, IsCorrectFrom, is_settled, origin_has_asked}
 use Rattle.cany_model.specs.Rules.Delivery.{brings, delivery}
 use Rattle.cany_model.specs.Rules.Log.{log}

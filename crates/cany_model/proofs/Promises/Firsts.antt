@@ -7,7 +7,7 @@ use Rattle.cany_base.specs.declared.slot_note.SlotNote.{SlotNote}
 use Rattle.cany_base.specs.Frame.{FrameParts}
 use Rattle.cany_model.specs.Bus.Frames.{Identity, identity_of, is_of}
 use Rattle.cany_model.specs.Bus.Slot.{carried}
-use Rattle.cany_model.specs.Promises.Safe.{first_carried, slot_of}
+use Rattle.cany_model.specs.Promises.FirstSlots.{first_carried, slot_of}
 use Rattle.cany_model.proofs.Among.{Among}
 use Rattle.cany_model.proofs.Bus.Carried.{Carries}
 use Rattle.cany_model.proofs.Bus.Identities.{same_identity-from, same_identity-true}

@@ -18,7 +18,8 @@ use Rattle.cany_model.specs.Bus.Frames.{identity_of}
 use Rattle.cany_model.specs.Bus.History.{as_seen, given, history}
 use Rattle.cany_model.specs.Bus.Run.{run}
 use Rattle.cany_model.specs.Bus.State.{Incarnation, RunState, node_at}
-use Rattle.cany_model.specs.Promises.Safe.{IsSound, IsIntegral, delivers_key}
+use Rattle.cany_model.specs.Promises.Entries.{delivers_key}
+use Rattle.cany_model.specs.Promises.Safe.{IsSound, IsIntegral}
 use Rattle.cany_model.specs.Rules.Log.{log}
 use Rattle.cany_model.specs.Rules.Messages.{data_of}
 use Rattle.cany_model.specs.Rules.Notices.{BelongsTo}

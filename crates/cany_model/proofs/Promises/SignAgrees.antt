@@ -14,8 +14,10 @@ use Rattle.cany_model.specs.Bus.Run.{all_read, run}
 use Rattle.cany_model.specs.Bus.State.{RunState, node_at, runs}
 use Rattle.cany_model.specs.Bus.Waiting.{waits}
 use Rattle.cany_model.specs.Promises.Hypothesis.{IsWithin}
-use Rattle.cany_model.specs.Promises.Safe.{HasSigned, IsSignAgreedFrom, IsSignAgreedOn, first_carried, is_sign_quiet, tells_of}
-use Rattle.cany_model.specs.Promises.Settled.{IsCorrect, IsCorrectFrom, is_awaited}
+use Rattle.cany_model.specs.Promises.Entries.{HasSigned, tells_of}
+use Rattle.cany_model.specs.Promises.FirstSlots.{first_carried}
+use Rattle.cany_model.specs.Promises.Safe.{IsSignAgreedFrom, IsSignAgreedOn}
+use Rattle.cany_model.specs.Promises.Settled.{IsCorrect, IsCorrectFrom, is_awaited, is_sign_quiet}
 use Rattle.cany_model.specs.Rules.Life.{failure_signs}
 use Rattle.cany_model.specs.Rules.Log.{log}
 use Rattle.cany_model.specs.Rules.Protocol.{Protocol}

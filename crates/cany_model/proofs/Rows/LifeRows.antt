@@ -20,8 +20,9 @@ use Rattle.cany_model.specs.Bus.RoundRobin.{round_robin}
 use Rattle.cany_model.specs.Bus.Run.{all_read, run}
 use Rattle.cany_model.specs.Bus.State.{Incarnation, original}
 use Rattle.cany_model.specs.Promises.Hypothesis.{IsWithin}
-use Rattle.cany_model.specs.Promises.Safe.{HasSigned, first_carried, is_sign_quiet}
-use Rattle.cany_model.specs.Promises.Settled.{IsCorrectFrom}
+use Rattle.cany_model.specs.Promises.Entries.{HasSigned}
+use Rattle.cany_model.specs.Promises.FirstSlots.{first_carried}
+use Rattle.cany_model.specs.Promises.Settled.{IsCorrectFrom, is_sign_quiet}
 use Rattle.cany_model.specs.Rules.Effect.{Effect, Ask, Withdraw, Enter}
 use Rattle.cany_model.specs.Rules.Life.{failure_effects, life_effects}
 use Rattle.cany_model.specs.Rules.Log.{log}

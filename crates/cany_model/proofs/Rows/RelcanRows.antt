@@ -10,7 +10,7 @@ use Rattle.cany_model.specs.Promises.Hypothesis.{IsWithin}
 use Rattle.cany_model.specs.Rules.Messages.{Message, messages_of}
 use Rattle.cany_model.specs.Bus.RoundRobin.{round_robin}
 use Rattle.cany_model.specs.Bus.Run.{run}
-use Rattle.cany_model.specs.Promises.Safe.{HasDelivered}
+use Rattle.cany_model.specs.Promises.Entries.{HasDelivered}
 use Rattle.cany_model.specs.Promises.Settled.{IsCorrect, is_settled}
 use Rattle.cany_model.proofs.Promises.BreakFacts.{first_break_exact}
 use Rattle.cany_model.proofs.Rows.RowWords.{carries, delivers_rel, first_confirm, first_rel, frame_rule, one_rel, report, row, scenario, set, slot_rule, steps, three}

@@ -27,7 +27,8 @@ use Rattle.cany_model.specs.Bus.Run.{run}
 use Rattle.cany_model.specs.Bus.Slot.{attempts}
 use Rattle.cany_model.specs.Bus.State.{Incarnation, RunState, node_at, original}
 use Rattle.cany_model.specs.Promises.Hypothesis.{IsWithin}
-use Rattle.cany_model.specs.Promises.Safe.{HasDelivered, first_carried}
+use Rattle.cany_model.specs.Promises.Entries.{HasDelivered}
+use Rattle.cany_model.specs.Promises.FirstSlots.{first_carried}
 use Rattle.cany_model.specs.Promises.Settled.{IsCorrectFrom, is_settled}
 use Rattle.cany_model.specs.Rules.Log.{log}
 use Rattle.cany_model.specs.Rules.Messages.{Message, data_id, messages_of}

@@ -12,7 +12,8 @@ use Rattle.cany_model.specs.declared.breaks.BreakKind.TheVariants as kind
 use Rattle.cany_model.specs.Rules.Messages.{Message}
 use Rattle.cany_model.specs.Bus.RoundRobin.{round_robin}
 use Rattle.cany_model.specs.Bus.Run.{run}
-use Rattle.cany_model.specs.Promises.Safe.{IsAgreedOn, first_carried}
+use Rattle.cany_model.specs.Promises.FirstSlots.{first_carried}
+use Rattle.cany_model.specs.Promises.Safe.{IsAgreedOn}
 use Rattle.cany_model.specs.Bus.Slot.{script, after_slot}
 use Rattle.cany_model.specs.Bus.State.{NodeState, original}
 use Rattle.cany_model.proofs.Rows.RowWords.{carries, delivered, ed, first_frame, frame_rule, idle, insides, one_message, report, row, scenario, send, set, slot_rule, steps, three}

@@ -16,7 +16,7 @@ use Rattle.cany_base.proofs.NodesFacts.{has_none}
 use Rattle.cany_model.specs.Bus.Frames.{identity_of, same_class}
 use Rattle.cany_model.specs.Bus.History.{copies}
 use Rattle.cany_model.specs.Bus.Slot.{nobody}
-use Rattle.cany_model.specs.Promises.Safe.{delivers_key}
+use Rattle.cany_model.specs.Promises.Entries.{delivers_key}
 use Rattle.cany_model.specs.Rules.Eager.{has_enough}
 use Rattle.cany_model.specs.Rules.Effect.{Effect, Ask, Withdraw, Enter, entered}
 use Rattle.cany_model.specs.Rules.Life.{els_frame, failure_effects, failures_at, failure_signs, fda_copy_effects, is_due, life_effects, life_signs, sign_effects, signs_sent}

@@ -8,7 +8,7 @@ use Rattle.cany_base.specs.declared.message.MsgKey.{MsgKey}
 use Rattle.cany_base.specs.declared.message.Service.{Service}
 use Rattle.cany_base.specs.declared.notice.NoticeKind.{NoticeKind}
 use Rattle.cany_base.specs.Scenario.{ScenarioParts}
-use Rattle.cany_model.specs.Promises.Safe.{delivers_key}
+use Rattle.cany_model.specs.Promises.Entries.{delivers_key}
 use Rattle.cany_model.specs.Rules.Effect.{Effect, Ask, Withdraw, Enter, entered}
 use Rattle.cany_model.specs.Rules.Log.{log_from}
 use Rattle.cany_model.specs.Rules.Protocol.{Protocol}

@@ -8,7 +8,7 @@ use Rattle.cany_base.specs.declared.notice.NoticeKind.TheVariants.{Idle, Got, Se
 use Rattle.cany_base.specs.Scenario.{ScenarioParts}
 use Rattle.cany_model.specs.Bus.Frames.{Identity, identity_of, same_class}
 use Rattle.cany_model.specs.Bus.History.{copies}
-use Rattle.cany_model.specs.Promises.Safe.{tells_of}
+use Rattle.cany_model.specs.Promises.Entries.{tells_of}
 use Rattle.cany_model.specs.Rules.Eager.{has_enough}
 use Rattle.cany_model.specs.Rules.Effect.{Effect, Ask, Withdraw, entered}
 use Rattle.cany_model.specs.Rules.Life.{failure_effects, failures_at, failure_signs, fda_copy_effects, sign_effects}

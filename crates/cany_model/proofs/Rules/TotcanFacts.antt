@@ -15,7 +15,7 @@ use Rattle.cany_base.specs.Params.{Parameters}
 use Rattle.cany_base.specs.Scenario.{ScenarioParts}
 use Rattle.cany_model.specs.Bus.Frames.{identity_of, same_class, same_identity}
 use Rattle.cany_model.specs.Bus.History.{copies}
-use Rattle.cany_model.specs.Promises.Safe.{delivers_key}
+use Rattle.cany_model.specs.Promises.Entries.{delivers_key}
 use Rattle.cany_model.specs.Rules.Delivery.{delivery}
 use Rattle.cany_model.specs.Rules.Eager.{eager_effects, has_enough, is_first_copy}
 use Rattle.cany_model.specs.Rules.Effect.{Effect, Ask, Withdraw, entered}

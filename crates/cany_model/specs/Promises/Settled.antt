@@ -1,10 +1,11 @@
 -- When nothing more is to come of a message.
-use Rattle.std.specs.Prelude.{◌≡◌, ℕ, ◌<◌, ◌≤◌, ◌&&◌, ◌||◌, Bool, true, not, nat_lt, List}
+use Rattle.std.specs.Prelude.{◌≡◌, ℕ, ◌<◌, ◌≤◌, ◌&&◌, ◌||◌, Bool, true, not, nat_lt, List, [], ◌∷◌}
 use Rattle.std.specs.List.{list_any, range_with_len}
 use Rattle.cany_base.specs.Scenario.{ScenarioParts}
 use Rattle.cany_model.specs.Bus.Frames.{Identity}
 use Rattle.cany_model.specs.Bus.History.{history}
 use Rattle.cany_model.specs.Rules.Messages.{Message, frames_of}
+use Rattle.cany_model.specs.Rules.Station.{Sign, fda_of}
 use Rattle.cany_model.specs.Rules.Turn.{has_asked, is_ahead_at, scenario_at}
 use Rattle.cany_model.specs.Bus.Run.{all_read}
 use Rattle.cany_model.specs.Bus.State.{RunState, node_at, runs}
@@ -45,3 +46,7 @@ is_settled scenario s m =
     (origin_has_asked scenario s m || not (runs (node_at s.nodes m.origin)) || came_too_late s m)
     && not (is_awaited (frames_of m) s) && all_read s
     && not (is_ahead scenario s m)
+
+-- nobody waits with the frame of the sign
+abbrev pub is_sign_quiet : RunState → Sign → Bool
+is_sign_quiet s sign = not (is_awaited (fda_of sign ∷ []) s)

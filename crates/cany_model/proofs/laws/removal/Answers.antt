@@ -1,0 +1,5 @@
+use Rattle.cany_model.proofs.Timed.DetectorLaws.{stopped_are_removed}
+use Rattle.cany_model.proofs.laws.removal.Goals as goal
+
+pub returns : goal.returns
+returns c scenario journal legal none within = stopped_are_removed scenario legal none journal within

@@ -1,0 +1,5 @@
+use Rattle.cany_model.proofs.Promises.Safety.{safe}
+use Rattle.cany_model.proofs.laws.safety.Goals as goal
+
+pub returns : goal.returns
+returns c scenario journal legal within = safe scenario legal journal within

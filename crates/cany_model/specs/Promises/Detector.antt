@@ -1,0 +1,73 @@
+-- What users of the failure detector and of the membership are promised: is a running node ever thrown out, is a stopped one removed, is
+-- one that asks to join admitted.
+use Rattle.std.specs.Prelude.{◌≡◌, ℕ, ◌+◌, ◌-◌, ◌*◌, ◌<◌, ◌≤◌, ◌≢◌, ◌⊎◌, true, false, Some, Contains, All}
+use Rattle.cany_base.specs.declared.frame.Class.TheVariants as class
+use Rattle.cany_base.specs.declared.log_entry.LogEntry.TheVariants.{View}
+use Rattle.cany_base.specs.declared.rule.Verdict.TheVariants.{Clean}
+use Rattle.cany_base.specs.declared.slot_note.SlotNote.{SlotNote}
+use Rattle.cany_base.specs.Frame.{FrameParts}
+use Rattle.cany_base.specs.Nodes.{Nodes, has}
+use Rattle.cany_base.specs.Scenario.{ScenarioParts}
+use Rattle.cany_model.specs.Bus.History.{history}
+use Rattle.cany_model.specs.Bus.State.{RunState, slots_run}
+use Rattle.cany_model.specs.Promises.OneView.{installed}
+use Rattle.cany_model.specs.Promises.Quiet.{history_but}
+use Rattle.cany_model.specs.Promises.Settled.{IsCorrect}
+use Rattle.cany_model.specs.Rules.Log.{log}
+use Rattle.cany_model.specs.Rules.Site.{station_of}
+use Rattle.cany_model.specs.Rules.Turn.{scenario_at}
+
+-- the view that node i has, or will have, before its turn of slot t
+abbrev pub members_before : ScenarioParts → RunState → (t i : ℕ) → Nodes
+members_before scenario s t i = (station_of (scenario_at scenario s i) i (history_but (slots_run s - t) i s)).members
+
+-- after its turn of slot t, which ran, each correct node has node r in its view
+pub record StandsAfter (scenario : ScenarioParts) (s : RunState) (r t : ℕ) : Type 0 where
+  pub ran : t < slots_run s
+  pub member : (i : ℕ) → IsCorrect scenario s i → has (members_before scenario s (t + 1) i) r ≡ true
+
+-- ---- accuracy
+
+-- node r has failed at no correct node
+abbrev pub HasNotFailed : ScenarioParts → RunState → ℕ → Type 0
+HasNotFailed scenario s r = (i : ℕ) → IsCorrect scenario s i → has (station_of (scenario_at scenario s i) i (history i s)).failed r ≡ false
+
+-- it has no scripted leave
+abbrev pub AsksNoLeave : ScenarioParts → ℕ → Type 0
+AsksNoLeave scenario r = All (λ ask. ask.node ≢ r) scenario.leaves
+
+-- it stands in each view that a correct node holds of a cycle that ends after slot t
+abbrev pub StaysInViews : ScenarioParts → RunState → (r t : ℕ) → Type 0
+StaysInViews scenario s r t =
+    (i : ℕ) → IsCorrect scenario s i → (slot number : ℕ) (members : Nodes) → Contains (log scenario s i) (View slot number members)
+    → t < number * scenario.params.cycle + scenario.params.bound → has members r ≡ true
+
+-- ---- removal
+
+-- node r stands in no view that a correct node holds of a cycle that starts more than `silence` slots after slot t
+abbrev pub IsRemoved : ScenarioParts → RunState → (r t : ℕ) → Type 0
+IsRemoved scenario s r t =
+    (i : ℕ) → IsCorrect scenario s i → (slot number : ℕ) (members : Nodes) → Contains (log scenario s i) (View slot number members)
+    → t + scenario.params.silence < number * scenario.params.cycle → has members r ≡ false
+
+-- ---- admission
+
+-- A JOIN of node r was carried Clean in a slot after the start of the cycle before cycle k, and not after that of cycle k. Before its turn
+-- of that slot no correct node had r in its view.
+pub record JoinWasCarried (scenario : ScenarioParts) (s : RunState) (r k : ℕ) : Type 0 where
+  pub note : SlotNote
+  pub stands : Contains s.trace note
+  pub what : FrameParts
+  pub frame : note.frame ≡ Some what
+  pub join : what.class ≡ class.Join
+  pub asker : what.node ≡ r
+  pub clean : note.verdict ≡ Clean
+  pub after : (k - 1) * scenario.params.cycle < note.slot
+  pub by_start : note.slot ≤ k * scenario.params.cycle
+  pub outside : (i : ℕ) → IsCorrect scenario s i → has (members_before scenario s note.slot i) r ≡ false
+
+-- each correct node that installs a vector at the end of cycle k has r in it, or, for k > 1, in the one that it installed in the cycle before
+abbrev pub IsAdmitted : ScenarioParts → RunState → (r k : ℕ) → Type 0
+IsAdmitted scenario s r k =
+    (i : ℕ) → IsCorrect scenario s i → (v : Nodes) → installed scenario s i k ≡ Some v
+    → (has v r ≡ true) ⊎ ((1 < k) × ((w : Nodes) × (installed scenario s i (k - 1) ≡ Some w) × (has w r ≡ true)))
