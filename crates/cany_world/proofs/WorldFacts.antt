@@ -26,7 +26,7 @@ pub world_integral : (w : WorldParts) → IsLegalScenario w.scenario → IsInteg
 world_integral w legal = integral w.scenario w.journal (few_nodes w.scenario.params legal.in_range)
 
 pub world_safe : (w : WorldParts) → IsLegalScenario w.scenario → IsWithin w.scenario.params (state_of w).trace → IsSafe w.scenario (state_of w)
-world_safe w legal within = safe w.scenario (few_nodes w.scenario.params legal.in_range) w.journal within
+world_safe w legal within = safe w.scenario legal w.journal within
 
 -- the trace of the bus is that of the run
 pub within_run : (scenario : ScenarioParts) (s : RunState) (bus : BusParts) → IsBusOf scenario s bus → IsWithin bus.params bus.trace → IsWithin scenario.params s.trace
