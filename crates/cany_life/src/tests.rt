@@ -413,20 +413,32 @@ fn a_node_is_silent_as_many_slots_after_its_life_as_the_silence_has(
     Ok(())
 }
 
+/// What node 1 asks for in the turn of a slot, where it has read idle slots alone.
+fn asked_at(alloc: Global, slot: Slot, members: NodeSet) -> Result<Actions, Fail>
+    requires slot { slot < 200 }
+    requires members { AllBelow 3 members }
+{
+    let node = NodeId::new(1).ok_or("a node")?;
+    let scenario = scenario_of(alloc, 1)?;
+    Ok(due_at_first(alloc, &scenario, node, slot, members)?)
+}
+
 #[test]
 fn a_life_sign_is_due_in_one_slot(rt: HostRuntime) -> Result<(), Fail> {
+    let asks = asked_at(rt.alloc(), 36, between(0, 3))?;
     let node = NodeId::new(1).ok_or("a node")?;
-    let scenario = scenario_of(rt.alloc(), 1)?;
-    let members = between(0, 3);
-    let early = due_at_first(rt.alloc(), &scenario, node, 35, members)?;
-    assert_eq!(rt; early.len(), 0);
-    let asks = due_at_first(rt.alloc(), &scenario, node, 36, members)?;
-    let first = Action::Ask(life_frame(node, 0));
-    assert_eq!(rt; asks.as_slice(), [first].as_slice());
-    let late = due_at_first(rt.alloc(), &scenario, node, 37, members)?;
-    assert_eq!(rt; late.len(), 0);
-    let outside = due_at_first(rt.alloc(), &scenario, node, 36, between(0, 1))?;
-    assert_eq!(rt; outside.len(), 0);
+    assert_eq!(rt;
+        asks.as_slice(),
+        [Action::Ask(life_frame(node, 0))].as_slice()
+    );
+    Ok(())
+}
+
+#[test]
+fn no_life_sign_is_due_in_other_slots_or_outside(rt: HostRuntime) -> Result<(), Fail> {
+    assert_eq!(rt; asked_at(rt.alloc(), 35, between(0, 3))?.len(), 0);
+    assert_eq!(rt; asked_at(rt.alloc(), 37, between(0, 3))?.len(), 0);
+    assert_eq!(rt; asked_at(rt.alloc(), 36, between(0, 1))?.len(), 0);
     Ok(())
 }
 

@@ -8,6 +8,8 @@ mod refusal;
 mod row;
 mod whole;
 
+#[cfg(test)]
+pub use lines::write_entry;
 pub use names::class_name;
 pub use refusal::{write_journal_refusal, write_later_form};
 pub use whole::write_report;

@@ -4,6 +4,7 @@ use crate::tests::journals::JOURNALS;
 use crate::tests::life::LIFE_RUNS;
 use crate::tests::membership::MEMBERSHIP_RUNS;
 use crate::tests::relcan::RELCAN_RUNS;
+use crate::tests::round_robin::ROUND_ROBIN_RUNS;
 use crate::tests::runs::RUNS;
 use crate::tests::thirty_two_nodes::THIRTY_TWO_NODES;
 use crate::tests::totcan::TOTCAN_RUNS;
@@ -18,6 +19,7 @@ mod life;
 mod membership;
 mod relcan;
 mod restarts;
+mod round_robin;
 mod runs;
 mod streams;
 mod thirty_two_nodes;
@@ -140,6 +142,7 @@ fn texts_and_their_answers(rt: HostRuntime) -> Result<(), Fail> {
         TOTCAN_RUNS.as_slice(),
         LIFE_RUNS.as_slice(),
         MEMBERSHIP_RUNS.as_slice(),
+        ROUND_ROBIN_RUNS.as_slice(),
         JOURNALS.as_slice(),
         &[THIRTY_TWO_NODES],
     ] {

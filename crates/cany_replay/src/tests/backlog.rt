@@ -1,6 +1,7 @@
 //! When a message of a backlog is settled: it counts as asked for only once its data frame was.
 
 use crate::reader::read_scenario;
+use cany_base::Scenario;
 use cany_world::{World, round_robin};
 use std::alloc::Global;
 use std::test::Fail;
@@ -25,36 +26,49 @@ slot = 10
 stop = [0]
 ";
 
-/// Whether each of the two messages is settled in a run of so many slots, with this entry besides.
-fn settled_after(alloc: Global, slots: u64, entry: &str) -> Result<(bool, bool), Fail> {
+/// The scenario of so many slots with the two messages, and with this entry besides.
+fn scenario(alloc: Global, slots: u64, entry: &str) -> Result<Scenario, Fail> {
     let text = format!(in alloc;
         "format = 1\nnodes = 3\nslots = {slots}\ncycle = 75\nlife = 75\n{TWO_SENDS}{entry}"
     )?;
-    let Ok(scenario) = read_scenario(alloc, text.as_bytes()) else {
-        return Err(Fail::from("the text is refused"));
-    };
-    let mut world = World::build(alloc, &scenario)?;
-    round_robin(&mut world);
+    match read_scenario(alloc, text.as_bytes()) {
+        Ok(scenario) => Ok(scenario),
+        Err(_) => Err(Fail::from("the text is refused")),
+    }
+}
+
+/// Whether each of the two messages is settled.
+fn settled(world: &World) -> Result<(bool, bool), Fail> {
     if world.scenario().sends().len() != 2 {
         return Err(Fail::from("there are two messages"));
     }
     Ok((world.settled(0), world.settled(1)))
 }
 
+/// Whether each of the two messages is settled in a run of so many slots, with this entry besides.
+fn settled_after(alloc: Global, slots: u64, entry: &str) -> Result<(bool, bool), Fail> {
+    let mut world = World::build(alloc, &scenario(alloc, slots, entry)?)?;
+    round_robin(&mut world);
+    settled(&world)
+}
+
+/// How many slots, the entry besides, and whether each message is settled then.
+const RUNS: [(u64, &str, (bool, bool)); 6] = [
+    // Of the second no frame waits and nothing is ahead.
+    (37, "", (false, false)),
+    (38, "", (true, false)),
+    (74, "", (true, false)),
+    (75, "", (true, true)),
+    // The second is never asked for, and settled since its origin stopped.
+    (37, STOP, (false, true)),
+    (38, STOP, (true, true)),
+];
+
 #[test]
 fn a_message_waits_its_turn(rt: HostRuntime) -> Result<(), Fail> {
-    for (slots, entry, settled) in [
-        // Of the second no frame waits and nothing is ahead.
-        (37, "", (false, false)),
-        (38, "", (true, false)),
-        (74, "", (true, false)),
-        (75, "", (true, true)),
-        // The second is never asked for, and settled since its origin stopped.
-        (37, STOP, (false, true)),
-        (38, STOP, (true, true)),
-    ] {
+    for (slots, entry, wanted) in RUNS {
         let seen = settled_after(rt.alloc(), slots, entry)?;
-        assert_eq!(rt; seen, settled, "after {slots}");
+        assert!(rt; seen == wanted, "after {slots}");
     }
     Ok(())
 }

@@ -7,96 +7,63 @@ ghost use Rattle.cany_model.specs.Bus.State.{node_at};
 ghost use Rattle.cany_world.specs.World.{WorldParts, state_of};
 
 use crate::reader::read_scenario;
-use cany_base::{
-    Class, LogEntry, MsgKey, NodeAsk, NodeId, NodeSet, Params, Payload, Scenario, Service, Slot,
-    SlotNote,
-};
+use crate::report::write_entry;
+use crate::tests::ROOM;
+use cany_base::{Class, LogEntry, NodeAsk, NodeId, NodeSet, Params, Scenario, Slot, SlotNote};
+use cany_io::MemSink;
 use cany_world::{Span, World, follow, round_robin};
 use std::alloc::Global;
 use std::test::Fail;
 
-fn node(number: u8) -> NodeId
-    requires { number < 3 }
-    ensures { result ≡ number }
-{
-    NodeId::of_index(usize::from(number))
+/// What is to hold after a run. Sets of nodes stand as bits, and logs in the lines of a report.
+enum Fact {
+    /// The number of the present incarnation of a node.
+    Present(u8, u8),
+    /// Since when an incarnation of a node lived, the slot in which it stopped, and how many notices it read.
+    Lived(u8, u8, Slot, Option<Slot>, u64),
+    /// The log of an incarnation of a node.
+    Log(u8, u8, &'static str),
+    /// The log of the present incarnation of a node.
+    LogNow(u8, &'static str),
+    /// The nodes that started again in a slot.
+    Restarted(Slot, u64),
+    /// Whether the message of this send is settled.
+    Settled(usize, bool),
+    /// The nodes that sent the frame of a slot.
+    Senders(usize, u64),
+    /// The nodes that accepted the frame of a slot.
+    Takers(usize, u64),
+    /// How many slots had a frame.
+    Frames(usize),
+    /// How many life signs of a node were carried.
+    LifeSigns(u8, usize),
 }
 
-fn again(slot: Slot, number: u8) -> NodeAsk
-    requires { number < 3 }
-    ensures { result ≡ record { slot = slot; node = number } }
-{
-    NodeAsk {
-        slot,
-        node: node(number),
-    }
-}
-
-fn span(since: Slot, stopped: Option<Slot>, read: u64) -> Span {
-    Span {
-        since,
-        stopped,
-        read,
-    }
-}
-
-fn delivery(slot: Slot, service: Service, origin: u8, seq: u16) -> LogEntry
-    requires { origin < 3 }
-{
-    LogEntry::Deliver {
-        slot,
-        service,
-        msg: MsgKey {
-            origin: node(origin),
-            seq,
-        },
-        payload: Payload::empty(),
-    }
-}
-
-/// That a node, of the cycle in which this was found, has failed.
-fn failure(slot: Slot, number: u8, cycle: u16) -> LogEntry
-    requires { number < 3 }
-{
-    LogEntry::Failed {
-        slot,
-        node: node(number),
-        cycle,
-    }
-}
-
-fn view(slot: Slot, number: u16, members: NodeSet) -> LogEntry {
-    LogEntry::View {
-        slot,
-        number,
-        members,
-    }
-}
-
-/// The set of this node alone.
-fn only(number: u8) -> NodeSet
-    requires { number < 3 }
-{
-    let mut set = NodeSet::empty();
-    set.insert(node(number));
-    set
-}
-
-/// The set of these two nodes.
-fn both(one: u8, other: u8) -> NodeSet
-    requires one { one < 3 }
-    requires other { other < 3 }
-{
-    let mut set = only(one);
-    set.insert(node(other));
-    set
-}
+/// A run: its name, its text, its restart entries as slots and nodes, and what is to hold after it.
+type Run = (
+    &'static str,
+    &'static str,
+    &'static [(Slot, u8)],
+    &'static [Fact],
+);
 
 /// Whether each entry is of a slot and of a node of the run.
 fn are_of(params: &Params, entries: &[NodeAsk]) -> bool
     ensures { IsTrue result → All (IsAskOf params.now) entries.now }
 {
     entries.iter().all(|entry| entry.slot < params.slots && entry.node.get() < params.nodes)
+}
+
+/// The restart entries of these slots and nodes.
+fn asks_of(alloc: Global, entries: &[(Slot, u8)]) -> Result<Vec<NodeAsk>, Fail> {
+    let mut asks = Vec::new(alloc);
+    for (slot, number) in entries {
+        let Some(node) = NodeId::new(*number) else {
+            return Err(Fail::from("there is no such node"));
+        };
+        asks.push(NodeAsk { slot: *slot, node })?;
+    }
+    Ok(asks)
 }
 
 /// The scenario of the text, with these restart entries.
@@ -140,62 +107,72 @@ fn run(alloc: Global, text: &str, restarts: &[NodeAsk]) -> Result<World, Fail> {
 }
 
 /// Whether the node is one of the run and had an incarnation of this number.
-fn has_lived(world: &World, number: u8, inc: u8) -> bool
-    requires { number < 3 }
-    ensures node { IsTrue result → number < world.now.scenario.params.nodes }
-    ensures inc { IsTrue result → inc ≤ (node_at (state_of world.now).nodes number).present.number }
+fn has_lived(world: &World, node: NodeId, inc: u8) -> bool
+    ensures node { IsTrue result → node < world.now.scenario.params.nodes }
+    ensures inc { IsTrue result → inc ≤ (node_at (state_of world.now).nodes node).present.number }
 {
-    number < world.scenario().params().nodes && inc <= world.incarnation(node(number))
+    node.get() < world.scenario().params().nodes && inc <= world.incarnation(node)
 }
 
 /// The span of an incarnation of a node, where it had it.
-fn span_at(world: &World, number: u8, inc: u8) -> Option<Span>
-    requires { number < 3 }
-{
-    if has_lived(world, number, inc) {
-        Some(world.span(node(number), inc))
+fn span_at(world: &World, number: u8, inc: u8) -> Option<Span> {
+    let node = NodeId::new(number)?;
+    if has_lived(world, node, inc) {
+        Some(world.span(node, inc))
     } else {
         None
     }
 }
 
 /// The log of an incarnation of a node, where it had it.
-fn log_at(world: &World, number: u8, inc: u8) -> Option<&[LogEntry]>
-    requires { number < 3 }
-{
-    if has_lived(world, number, inc) {
-        Some(world.log_of(node(number), inc))
+fn log_at(world: &World, number: u8, inc: u8) -> Option<&[LogEntry]> {
+    let node = NodeId::new(number)?;
+    if has_lived(world, node, inc) {
+        Some(world.log_of(node, inc))
     } else {
         None
     }
 }
 
-/// Whether there was this incarnation of the node, and it delivered nothing.
-fn has_empty_log(world: &World, number: u8, inc: u8) -> bool
-    requires { number < 3 }
-{
-    has_lived(world, number, inc) && world.log_of(node(number), inc).is_empty()
-}
-
 /// The number of the present incarnation of a node.
-fn present(world: &World, number: u8) -> Option<u8>
-    requires { number < 3 }
-{
-    if has_lived(world, number, 0) {
-        Some(world.incarnation(node(number)))
+fn present(world: &World, number: u8) -> Option<u8> {
+    let node = NodeId::new(number)?;
+    if has_lived(world, node, 0) {
+        Some(world.incarnation(node))
     } else {
         None
     }
 }
 
 /// The log of the present incarnation of a node, where there is that node.
-fn log_now(world: &World, number: u8) -> Option<&[LogEntry]>
-    requires { number < 3 }
-{
-    if has_lived(world, number, 0) {
-        Some(world.log(node(number)))
+fn log_now(world: &World, number: u8) -> Option<&[LogEntry]> {
+    let node = NodeId::new(number)?;
+    if has_lived(world, node, 0) {
+        Some(world.log(node))
     } else {
         None
+    }
+}
+
+fn write_log(entries: &[LogEntry], sink: &mut MemSink) -> Result<(), Fail> {
+    for entry in entries {
+        write_entry(entry, sink)?;
+    }
+    Ok(())
+}
+
+/// Whether a report has these lines for the log.
+fn is_written_as(alloc: Global, entries: &[LogEntry], lines: &str) -> Result<bool, Fail> {
+    let mut sink = MemSink::new(alloc, Vec::new(alloc), ROOM)?;
+    write_log(entries, &mut sink)?;
+    Ok(sink.taken() == lines.as_bytes())
+}
+
+/// Whether there is this log, and a report has these lines for it.
+fn has_lines(alloc: Global, log: Option<&[LogEntry]>, lines: &str) -> Result<bool, Fail> {
+    match log {
+        Some(entries) => is_written_as(alloc, entries, lines),
+        None => Ok(false),
     }
 }
 
@@ -247,9 +224,109 @@ fn life_signs(world: &World, number: u8) -> usize {
         .count()
 }
 
+fn span(since: Slot, stopped: Option<Slot>, read: u64) -> Span {
+    Span {
+        since,
+        stopped,
+        read,
+    }
+}
+
+fn has_span(world: &World, number: u8, inc: u8, wanted: Span) -> bool {
+    span_at(world, number, inc) == Some(wanted)
+}
+
+fn is_present(world: &World, number: u8, inc: u8) -> bool {
+    present(world, number) == Some(inc)
+}
+
+fn has_restarted(world: &World, slot: Slot, nodes: NodeSet) -> bool {
+    world.restarted(slot) == nodes
+}
+
+fn is_settled(world: &World, index: usize, settled: bool) -> bool {
+    settled_at(world, index) == Some(settled)
+}
+
+fn has_senders(world: &World, slot: usize, nodes: NodeSet) -> bool {
+    senders_in(world, slot) == Some(nodes)
+}
+
+fn has_takers(world: &World, slot: usize, nodes: NodeSet) -> bool {
+    takers_in(world, slot) == Some(nodes)
+}
+
+/// Whether this holds after the run, of a fact of anything but a log.
+fn is_so(world: &World, fact: &Fact) -> bool {
+    match fact {
+        Fact::Present(number, inc) => is_present(world, *number, *inc),
+        Fact::Lived(number, inc, since, stopped, read) => {
+            has_span(world, *number, *inc, span(*since, *stopped, *read))
+        }
+        Fact::Restarted(slot, nodes) => has_restarted(world, *slot, NodeSet::of_bits(*nodes)),
+        Fact::Settled(index, settled) => is_settled(world, *index, *settled),
+        Fact::Senders(slot, nodes) => has_senders(world, *slot, NodeSet::of_bits(*nodes)),
+        Fact::Takers(slot, nodes) => has_takers(world, *slot, NodeSet::of_bits(*nodes)),
+        Fact::Frames(count) => frames(world) == *count,
+        Fact::LifeSigns(number, count) => life_signs(world, *number) == *count,
+        Fact::Log(..) | Fact::LogNow(..) => false,
+    }
+}
+
+/// Whether this holds after the run.
+fn holds(alloc: Global, world: &World, fact: &Fact) -> Result<bool, Fail> {
+    match fact {
+        Fact::Log(number, inc, lines) => has_lines(alloc, log_at(world, *number, *inc), lines),
+        Fact::LogNow(number, lines) => has_lines(alloc, log_now(world, *number), lines),
+        _ => Ok(is_so(world, fact)),
+    }
+}
+
+/// The place of the first fact that does not hold.
+fn first_wrong(alloc: Global, world: &World, facts: &[Fact]) -> Result<Option<usize>, Fail> {
+    for place in 0..facts.len() {
+        if !holds(alloc, world, &facts[place])? {
+            return Ok(Some(place));
+        }
+    }
+    Ok(None)
+}
+
+/// The place of the first fact that does not hold after the run of the text with these restarts.
+fn wrong_after(
+    alloc: Global,
+    text: &str,
+    restarts: &[NodeAsk],
+    facts: &[Fact],
+) -> Result<Option<usize>, Fail> {
+    let world = run(alloc, text, restarts)?;
+    first_wrong(alloc, &world, facts)
+}
+
+/// The place of the first fact of the run that does not hold.
+fn wrong_in(
+    alloc: Global,
+    text: &str,
+    restarts: &[(Slot, u8)],
+    facts: &[Fact],
+) -> Result<Option<usize>, Fail> {
+    let restarts = asks_of(alloc, restarts)?;
+    wrong_after(alloc, text, &restarts, facts)
+}
+
 #[test]
-fn restart_hears_again(rt: HostRuntime) -> Result<(), Fail> {
-    let text = "format = 1
+fn runs_with_restarts(rt: HostRuntime) -> Result<(), Fail> {
+    for (name, text, restarts, facts) in RUNS {
+        let wrong = wrong_in(rt.alloc(), text, restarts, facts)?;
+        assert_eq!(rt; wrong, None, "at {name}");
+    }
+    Ok(())
+}
+
+const RUNS: [Run; 8] = [
+    (
+        "restart_hears_again",
+        "format = 1
 nodes = 3
 slots = 60
 life = 60
@@ -262,30 +339,29 @@ service = \"ed\"
 [[fault]]
 slot = 5
 stop = [0]
-";
-    let world = run(rt.alloc(), text, &[again(10, 0)])?;
-    let heard = [delivery(51, Service::Ed, 1, 0)];
-    assert_eq!(rt; present(&world, 0), Some(1));
-    assert_eq!(rt; span_at(&world, 0, 0), Some(span(0, Some(5), 5)));
-    assert!(rt; has_empty_log(&world, 0, 0));
-    assert_eq!(rt; span_at(&world, 0, 1), Some(span(11, None, 49)));
-    assert_eq!(rt; log_at(&world, 0, 1), Some(heard.as_slice()));
-    assert_eq!(rt; log_now(&world, 1), Some(heard.as_slice()));
-    assert_eq!(rt; world.restarted(10), only(0));
-    assert_eq!(rt; world.restarted(11), NodeSet::empty());
-    assert_eq!(rt; settled_at(&world, 0), Some(true));
-    assert_eq!(rt; senders_in(&world, 51), Some(only(1)));
-    assert_eq!(rt; takers_in(&world, 51), Some(both(0, 2)));
-    assert_eq!(rt; senders_in(&world, 52), Some(both(0, 2)));
-    assert_eq!(rt; takers_in(&world, 52), Some(only(1)));
-    assert_eq!(rt; frames(&world), 2);
-    Ok(())
-}
-
-#[test]
-fn restarts_at_the_edges(rt: HostRuntime) -> Result<(), Fail> {
+",
+        &[(10, 0)],
+        &[
+            Fact::Present(0, 1),
+            Fact::Lived(0, 0, 0, Some(5), 5),
+            Fact::Log(0, 0, ""),
+            Fact::Lived(0, 1, 11, None, 49),
+            Fact::Log(0, 1, "deliver 51 ed 1 0 x\n"),
+            Fact::LogNow(1, "deliver 51 ed 1 0 x\n"),
+            Fact::Restarted(10, 0b001),
+            Fact::Restarted(11, 0b000),
+            Fact::Settled(0, true),
+            Fact::Senders(51, 0b010),
+            Fact::Takers(51, 0b101),
+            Fact::Senders(52, 0b101),
+            Fact::Takers(52, 0b010),
+            Fact::Frames(2),
+        ],
+    ),
     // A stop and a restart in one slot, in which an entry for a running node does nothing; and a restart in the last slot.
-    let text = "format = 1
+    (
+        "restarts_at_the_edges",
+        "format = 1
 nodes = 3
 slots = 45
 life = 45
@@ -307,34 +383,25 @@ stop = [2]
 [[fault]]
 slot = 43
 stop = [1]
-";
-    let world = run(
-        rt.alloc(),
-        text,
-        &[again(1, 2), again(1, 0), again(44, 1), again(44, 1)],
-    )?;
-    let whole = [
-        delivery(1, Service::Ed, 0, 0),
-        delivery(41, Service::Ed, 2, 0),
-    ];
-    let last = [delivery(41, Service::Ed, 2, 0)];
-    assert_eq!(rt; span_at(&world, 2, 0), Some(span(0, Some(1), 1)));
-    assert!(rt; has_empty_log(&world, 2, 0));
-    assert_eq!(rt; span_at(&world, 2, 1), Some(span(2, None, 43)));
-    assert_eq!(rt; log_now(&world, 2), Some(last.as_slice()));
-    assert_eq!(rt; present(&world, 0), Some(0));
-    assert_eq!(rt; log_now(&world, 0), Some(whole.as_slice()));
-    assert_eq!(rt; present(&world, 1), Some(1));
-    assert_eq!(rt; span_at(&world, 1, 0), Some(span(0, Some(43), 43)));
-    assert_eq!(rt; log_at(&world, 1, 0), Some(whole.as_slice()));
-    assert_eq!(rt; span_at(&world, 1, 1), Some(span(45, None, 0)));
-    assert!(rt; has_empty_log(&world, 1, 1));
-    Ok(())
-}
-
-#[test]
-fn a_restart_between_two_copies(rt: HostRuntime) -> Result<(), Fail> {
-    let text = "format = 1
+",
+        &[(1, 2), (1, 0), (44, 1), (44, 1)],
+        &[
+            Fact::Lived(2, 0, 0, Some(1), 1),
+            Fact::Log(2, 0, ""),
+            Fact::Lived(2, 1, 2, None, 43),
+            Fact::LogNow(2, "deliver 41 ed 2 0 x\n"),
+            Fact::Present(0, 0),
+            Fact::LogNow(0, "deliver 1 ed 0 0 x\ndeliver 41 ed 2 0 x\n"),
+            Fact::Present(1, 1),
+            Fact::Lived(1, 0, 0, Some(43), 43),
+            Fact::Log(1, 0, "deliver 1 ed 0 0 x\ndeliver 41 ed 2 0 x\n"),
+            Fact::Lived(1, 1, 45, None, 0),
+            Fact::Log(1, 1, ""),
+        ],
+    ),
+    (
+        "a_restart_between_two_copies",
+        "format = 1
 nodes = 3
 slots = 125
 lag = 2
@@ -366,26 +433,20 @@ service = \"ed\"
 slot = 2
 verdict = \"lost\"
 stop = [2]
-";
-    let world = run(rt.alloc(), text, &[again(3, 2)])?;
-    let whole = [
-        delivery(1, Service::Ed, 0, 0),
-        delivery(121, Service::Ed, 2, 1),
-    ];
-    let first = [delivery(1, Service::Ed, 0, 0)];
-    let last = [delivery(121, Service::Ed, 2, 1)];
-    assert_eq!(rt; span_at(&world, 2, 0), Some(span(0, Some(2), 2)));
-    assert_eq!(rt; log_at(&world, 2, 0), Some(first.as_slice()));
-    assert_eq!(rt; span_at(&world, 2, 1), Some(span(4, None, 121)));
-    assert_eq!(rt; log_now(&world, 2), Some(last.as_slice()));
-    assert_eq!(rt; log_now(&world, 0), Some(whole.as_slice()));
-    assert_eq!(rt; log_now(&world, 1), Some(whole.as_slice()));
-    Ok(())
-}
-
-#[test]
-fn a_restarted_origin_has_no_timer(rt: HostRuntime) -> Result<(), Fail> {
-    let text = "format = 1
+",
+        &[(3, 2)],
+        &[
+            Fact::Lived(2, 0, 0, Some(2), 2),
+            Fact::Log(2, 0, "deliver 1 ed 0 0 x\n"),
+            Fact::Lived(2, 1, 4, None, 121),
+            Fact::LogNow(2, "deliver 121 ed 2 1 x\n"),
+            Fact::LogNow(0, "deliver 1 ed 0 0 x\ndeliver 121 ed 2 1 x\n"),
+            Fact::LogNow(1, "deliver 1 ed 0 0 x\ndeliver 121 ed 2 1 x\n"),
+        ],
+    ),
+    (
+        "a_restarted_origin_has_no_timer",
+        "format = 1
 nodes = 3
 slots = 105
 confirm = 50
@@ -407,28 +468,20 @@ slot = 1
 verdict = \"partial\"
 reject = [2]
 stop = [0]
-";
-    let world = run(rt.alloc(), text, &[again(3, 0)])?;
-    let late = [
-        delivery(52, Service::Rel, 0, 0),
-        delivery(61, Service::Rel, 0, 1),
-    ];
-    let early = [
-        delivery(1, Service::Rel, 0, 0),
-        delivery(61, Service::Rel, 0, 1),
-    ];
-    assert!(rt; has_empty_log(&world, 0, 0));
-    assert_eq!(rt; log_now(&world, 0), Some(late.as_slice()));
-    assert_eq!(rt; log_now(&world, 2), Some(late.as_slice()));
-    assert_eq!(rt; log_now(&world, 1), Some(early.as_slice()));
-    Ok(())
-}
-
-#[test]
-fn a_restarted_node_shows_no_life(rt: HostRuntime) -> Result<(), Fail> {
+",
+        &[(3, 0)],
+        &[
+            Fact::Log(0, 0, ""),
+            Fact::LogNow(0, "deliver 52 rel 0 0 x\ndeliver 61 rel 0 1 x\n"),
+            Fact::LogNow(2, "deliver 52 rel 0 0 x\ndeliver 61 rel 0 1 x\n"),
+            Fact::LogNow(1, "deliver 1 rel 0 0 x\ndeliver 61 rel 0 1 x\n"),
+        ],
+    ),
     // The first incarnation of node 0 stopped before it showed any life. The next one is no member: it asks for no life sign and
     // finds no silence. All learn the sign of the first, the next one too, which relays it.
-    let text = "format = 1
+    (
+        "a_restarted_node_shows_no_life",
+        "format = 1
 nodes = 3
 slots = 120
 cycle = 120
@@ -436,28 +489,26 @@ cycle = 120
 [[fault]]
 slot = 5
 stop = [0]
-";
-    let world = run(rt.alloc(), text, &[again(10, 0)])?;
-    let found = [failure(73, 0, 0)];
-    let told = [failure(76, 0, 0)];
-    assert!(rt; has_empty_log(&world, 0, 0));
-    assert_eq!(rt; log_now(&world, 0), Some(told.as_slice()));
-    assert_eq!(rt; log_now(&world, 1), Some(found.as_slice()));
-    assert_eq!(rt; log_now(&world, 2), Some(found.as_slice()));
-    assert_eq!(rt; life_signs(&world, 0), 0);
-    assert_eq!(rt; life_signs(&world, 1), 3);
-    assert_eq!(rt; life_signs(&world, 2), 3);
-    assert_eq!(rt; senders_in(&world, 76), Some(both(1, 2)));
-    assert_eq!(rt; takers_in(&world, 76), Some(only(0)));
-    assert_eq!(rt; senders_in(&world, 77), Some(only(0)));
-    Ok(())
-}
-
-#[test]
-fn a_restarted_node_misses_a_sign(rt: HostRuntime) -> Result<(), Fail> {
+",
+        &[(10, 0)],
+        &[
+            Fact::Log(0, 0, ""),
+            Fact::LogNow(0, "failed 76 0 0\n"),
+            Fact::LogNow(1, "failed 73 0 0\n"),
+            Fact::LogNow(2, "failed 73 0 0\n"),
+            Fact::LifeSigns(0, 0),
+            Fact::LifeSigns(1, 3),
+            Fact::LifeSigns(2, 3),
+            Fact::Senders(76, 0b110),
+            Fact::Takers(76, 0b001),
+            Fact::Senders(77, 0b001),
+        ],
+    ),
     // Node 0 showed life once and stopped. Its controller takes the sign of that in slot 111, but the new incarnation takes part
     // from slot 127 on alone.
-    let text = "format = 1
+    (
+        "a_restarted_node_misses_a_sign",
+        "format = 1
 nodes = 3
 slots = 160
 cycle = 160
@@ -465,25 +516,24 @@ cycle = 160
 [[fault]]
 slot = 40
 stop = [0]
-";
-    let world = run(rt.alloc(), text, &[again(90, 0)])?;
-    let found = [failure(110, 0, 0)];
-    assert_eq!(rt; span_at(&world, 0, 1), Some(span(91, None, 69)));
-    assert!(rt; has_empty_log(&world, 0, 0));
-    assert!(rt; has_empty_log(&world, 0, 1));
-    assert_eq!(rt; log_now(&world, 1), Some(found.as_slice()));
-    assert_eq!(rt; log_now(&world, 2), Some(found.as_slice()));
-    assert_eq!(rt; life_signs(&world, 0), 1);
-    assert_eq!(rt; life_signs(&world, 1), 4);
-    assert_eq!(rt; takers_in(&world, 111), Some(only(0)));
-    assert_eq!(rt; frames(&world), 10);
-    Ok(())
-}
-
-#[test]
-fn restart_joins(rt: HostRuntime) -> Result<(), Fail> {
+",
+        &[(90, 0)],
+        &[
+            Fact::Lived(0, 1, 91, None, 69),
+            Fact::Log(0, 0, ""),
+            Fact::Log(0, 1, ""),
+            Fact::LogNow(1, "failed 110 0 0\n"),
+            Fact::LogNow(2, "failed 110 0 0\n"),
+            Fact::LifeSigns(0, 1),
+            Fact::LifeSigns(1, 4),
+            Fact::Takers(111, 0b001),
+            Fact::Frames(10),
+        ],
+    ),
     // Node 1 stops and leaves the views. Its next incarnation hears nothing before slot 147, asks to join in slot 190, and is in view 3.
-    let text = "format = 1
+    (
+        "restart_joins",
+        "format = 1
 nodes = 3
 slots = 253
 
@@ -494,63 +544,32 @@ node = 1
 [[fault]]
 slot = 5
 stop = [1]
-";
-    let world = run(rt.alloc(), text, &[again(110, 1)])?;
-    let all = NodeSet::all(3);
-    let whole = [
-        failure(73, 1, 1),
-        view(108, 1, all),
-        view(180, 2, both(0, 2)),
-        view(252, 3, all),
-    ];
-    let joined = [view(252, 3, all)];
-    assert_eq!(rt; span_at(&world, 1, 0), Some(span(0, Some(5), 5)));
-    assert!(rt; has_empty_log(&world, 1, 0));
-    assert_eq!(rt; span_at(&world, 1, 1), Some(span(111, None, 142)));
-    assert_eq!(rt; log_now(&world, 1), Some(joined.as_slice()));
-    assert_eq!(rt; log_now(&world, 0), Some(whole.as_slice()));
-    assert_eq!(rt; log_now(&world, 2), Some(whole.as_slice()));
-    assert_eq!(rt; world.restarted(110), only(1));
-    assert_eq!(rt; senders_in(&world, 191), Some(only(1)));
-    assert_eq!(rt; takers_in(&world, 191), Some(both(0, 2)));
-    assert_eq!(rt; senders_in(&world, 218), Some(only(1)));
-    assert_eq!(rt; frames(&world), 15);
-    Ok(())
-}
-
-#[test]
-fn fifteen_restarts(rt: HostRuntime) -> Result<(), Fail> {
-    let entries = [
-        again(1, 0),
-        again(2, 0),
-        again(3, 0),
-        again(4, 0),
-        again(5, 0),
-        again(6, 0),
-        again(7, 0),
-        again(8, 0),
-        again(9, 0),
-        again(10, 0),
-        again(11, 0),
-        again(12, 0),
-        again(13, 0),
-        again(14, 0),
-        again(15, 0),
-    ];
-    let world = run(rt.alloc(), FIFTEEN_STOPS, &entries)?;
-    let heard = [delivery(56, Service::Ed, 1, 0)];
-    assert_eq!(rt; present(&world, 0), Some(15));
-    assert_eq!(rt; span_at(&world, 0, 0), Some(span(0, Some(1), 1)));
-    assert_eq!(rt; span_at(&world, 0, 1), Some(span(2, Some(2), 0)));
-    assert_eq!(rt; span_at(&world, 0, 14), Some(span(15, Some(15), 0)));
-    assert_eq!(rt; span_at(&world, 0, 15), Some(span(16, None, 44)));
-    assert_eq!(rt; log_now(&world, 0), Some(heard.as_slice()));
-    assert_eq!(rt; log_now(&world, 1), Some(heard.as_slice()));
-    Ok(())
-}
-
-/// Node 0 is stopped in each of the slots 1 to 15, and node 1 sends in slot 55.
-const FIFTEEN_STOPS: &str = "format = 1
+",
+        &[(110, 1)],
+        &[
+            Fact::Lived(1, 0, 0, Some(5), 5),
+            Fact::Log(1, 0, ""),
+            Fact::Lived(1, 1, 111, None, 142),
+            Fact::LogNow(1, "view 252 3 0,1,2\n"),
+            Fact::LogNow(
+                0,
+                "failed 73 1 1\nview 108 1 0,1,2\nview 180 2 0,2\nview 252 3 0,1,2\n",
+            ),
+            Fact::LogNow(
+                2,
+                "failed 73 1 1\nview 108 1 0,1,2\nview 180 2 0,2\nview 252 3 0,1,2\n",
+            ),
+            Fact::Restarted(110, 0b010),
+            Fact::Senders(191, 0b010),
+            Fact::Takers(191, 0b101),
+            Fact::Senders(218, 0b010),
+            Fact::Frames(15),
+        ],
+    ),
+    // Node 0 is stopped in each of the slots 1 to 15, and node 1 sends in slot 55.
+    (
+        "fifteen_restarts",
+        "format = 1
 nodes = 3
 slots = 60
 life = 60
@@ -572,4 +591,32 @@ fault = [
     { slot = 15, stop = [0] },
 ]
 send = [{ slot = 55, node = 1, service = \"ed\" }]
-";
+",
+        &[
+            (1, 0),
+            (2, 0),
+            (3, 0),
+            (4, 0),
+            (5, 0),
+            (6, 0),
+            (7, 0),
+            (8, 0),
+            (9, 0),
+            (10, 0),
+            (11, 0),
+            (12, 0),
+            (13, 0),
+            (14, 0),
+            (15, 0),
+        ],
+        &[
+            Fact::Present(0, 15),
+            Fact::Lived(0, 0, 0, Some(1), 1),
+            Fact::Lived(0, 1, 2, Some(2), 0),
+            Fact::Lived(0, 14, 15, Some(15), 0),
+            Fact::Lived(0, 15, 16, None, 44),
+            Fact::LogNow(0, "deliver 56 ed 1 0 x\n"),
+            Fact::LogNow(1, "deliver 56 ed 1 0 x\n"),
+        ],
+    ),
+];
