@@ -68,13 +68,18 @@ abbrev pub greatest_slots : Format → ℕ
 greatest_slots One = 100000
 greatest_slots Two = most_slots
 
+-- numbers of frames: the greatest that a fault rule may name in a format, which is the greatest of its identifiers
+abbrev pub greatest_number : Format → ℕ
+greatest_number One = 65535
+greatest_number Two = 32767
+
 -- attempts: the greatest number of an attempt that a fault rule may name; a run has no more attempts than slots
 abbrev pub greatest_attempt : Format → ℕ
 greatest_attempt format = greatest_slots format
 
 -- bytes of a scenario text
 abbrev pub most_text_bytes : ℕ
-most_text_bytes = 8388608
+most_text_bytes = 33554432
 
 -- bytes of a report line, its newline counted
 abbrev pub most_line_bytes : ℕ

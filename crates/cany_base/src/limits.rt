@@ -54,7 +54,7 @@ pub const MOST_NUMBERS: u16 = 32_768;
 pub const MOST_SLOTS: u64 = 400_000;
 
 /// The most bytes of a scenario text.
-pub const MOST_TEXT_BYTES: usize = 8_388_608;
+pub const MOST_TEXT_BYTES: usize = 33_554_432;
 
 /// The most bytes of a report line, its newline counted: the length of the buffer in which a line is made.
 pub const MOST_LINE_BYTES: usize = 1_024;
@@ -66,6 +66,16 @@ pub fn greatest_slots(format: Format) -> u64
     match format {
         Format::One => 100_000,
         Format::Two => MOST_SLOTS,
+    }
+}
+
+/// The greatest number of a frame that a fault rule of a format may name.
+pub fn greatest_number(format: Format) -> u64
+    ensures { result ≡ limit.greatest_number format }
+{
+    match format {
+        Format::One => 65_535,
+        Format::Two => 32_767,
     }
 }
 

@@ -1,6 +1,20 @@
--- What a text stands for is legal.
+-- What a text stands for is legal, and what a report says of a run.
 pub mod AsksTextLegal
 pub mod FaultsTextLegal
+pub mod FirstAfter
+pub mod JournalLetters
 pub mod NodesTextLegal
+pub mod ReadOff
+pub mod ReadOffEntries
+pub mod ReadOffJournal
+pub mod ReadOffLines
+pub mod ReadOffLists
+pub mod ReadOffLogs
+pub mod ReadOffNumbers
+pub mod ReadOffSite
+pub mod ReadOffText
+pub mod SameRunBus
+pub mod SameRunReport
+pub mod SameRunRules
 pub mod ScenarioTextLegal
 pub mod TomlSteps

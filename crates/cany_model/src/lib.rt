@@ -4,7 +4,9 @@
 mod breaks;
 mod follow;
 pub mod laws;
+pub mod names;
 mod reply;
+mod scenario_fault;
 mod share;
 mod span;
 mod threads;
@@ -12,5 +14,6 @@ mod threads;
 pub use breaks::{Break, BreakKind};
 pub use follow::FollowFault;
 pub use reply::StepReply;
+pub use scenario_fault::{KeyName, Position, ScenarioFault, TableName};
 pub use share::Share;
 pub use span::Span;

@@ -3,6 +3,7 @@
 use crate::breaks::Break;
 use crate::follow::FollowFault;
 use crate::reply::StepReply;
+use crate::scenario_fault::ScenarioFault;
 use crate::share::Share;
 
 fn is_thread_safe<T: Send + Sync>() {}
@@ -10,6 +11,7 @@ fn is_thread_safe<T: Send + Sync>() {}
 fn all_cross_threads() {
     is_thread_safe::<Break>();
     is_thread_safe::<FollowFault>();
+    is_thread_safe::<ScenarioFault>();
     is_thread_safe::<Share>();
     is_thread_safe::<StepReply>();
 }

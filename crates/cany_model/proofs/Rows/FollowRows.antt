@@ -5,7 +5,7 @@ use Rattle.cany_base.specs.declared.rule.Rule.{Rule}
 use Rattle.cany_base.specs.declared.rule.Verdict.TheVariants.{Clean}
 use Rattle.cany_base.specs.Scenario.{ScenarioParts}
 use Rattle.cany_model.specs.Bus.Follow.{first_refused_from, journal_fault}
-use Rattle.cany_model.specs.Texts.RefusalLines.{later_form_line, journal_refusal_line}
+use Rattle.cany_model.specs.Texts.RefusalLines.{journal_refusal_line}
 use Rattle.cany_model.specs.Texts.ReportLines.{line_of}
 use Rattle.cany_model.proofs.Rows.RowWords.{report, row, scenario, slot_rule, steps, three}
 
@@ -62,7 +62,3 @@ an_empty_journal = refl
 a_whole_journal : line_for [] (codes ".210.102") ≡ None
 unfolding refused
 a_whole_journal = refl
-
-no_scenario : later_form_line ≡ codes "refused later form\n"
-unfolding later_form_line line_of
-no_scenario = refl

@@ -1,8 +1,8 @@
 -- Worked reports, computed from the definitions.
-use Rattle.std.specs.Prelude.{ℕ, ◌≡◌, List, [], ◌∷◌, ◌++◌, Some, None, false, length, map, replicate, codes, refl}
+use Rattle.std.specs.Prelude.{ℕ, ◌≡◌, List, [], ◌∷◌, ◌++◌, Option, Some, None, true, false, length, map, replicate, codes, refl}
 use Rattle.std.specs.List.{concat, flat_map}
 use Rattle.std.specs.Fmt.{digits}
-use Rattle.cany_base.specs.declared.frame.Format.TheVariants.{One}
+use Rattle.cany_base.specs.declared.frame.Format.TheVariants.{One, Two}
 use Rattle.cany_base.specs.declared.message.Service.TheVariants as service
 use Rattle.cany_base.specs.declared.rule.Rule.{Rule}
 use Rattle.cany_base.specs.declared.rule.Place.TheVariants.{At}
@@ -10,13 +10,19 @@ use Rattle.cany_base.specs.declared.rule.Verdict.TheVariants.{Clean, Lost, Parti
 use Rattle.cany_base.specs.declared.frame.Class.TheVariants.{Els}
 use Rattle.cany_base.specs.declared.log_entry.LogEntry.{LogEntry}
 use Rattle.cany_base.specs.declared.log_entry.LogEntry.TheVariants.{Deliver, Failed, View}
+use Rattle.cany_base.specs.declared.slot_note.SlotNote.{SlotNote}
 use Rattle.cany_base.specs.declared.step.Step.TheVariants.{Slot, Turn}
 use Rattle.cany_model.specs.declared.breaks.BreakKind.TheVariants as kind
+use Rattle.cany_model.specs.declared.span.Span.{Span}
 use Rattle.cany_base.specs.Nodes.{Nodes, has}
 use Rattle.cany_base.specs.Params.{Parameters}
 use Rattle.cany_base.specs.Scenario.{ScenarioParts}
-use Rattle.cany_model.specs.Texts.Report.{bus_lines, node_lines, message_lines, report_lines, report}
-use Rattle.cany_model.specs.Texts.ReportLines.{line_of, class_name, service_name, verdict_name, break_name, payload_text, set_text, step_letter, first_line, params_line, journal_line, journal_lines, has_any, bus_line, is_shown, hypothesis_line, node_line, entry_line, message_line}
+use Rattle.cany_model.specs.Texts.Report.{bus_lines, incarnation_lines, node_lines, message_lines, report_lines, report}
+use Rattle.cany_model.specs.Texts.ReportLines.{line_of, break_name, payload_text, set_text, step_letter, first_line, params_line, journal_line, journal_lines, node_text, has_any, bus_line, is_shown, hypothesis_line, node_line, entry_line, message_line}
+use Rattle.cany_model.specs.Texts.TextNames.{class_name, service_name, verdict_name}
+use Rattle.cany_model.specs.Bus.History.{ended_history}
+use Rattle.cany_model.specs.Bus.Incarnations.{incarnation_of}
+use Rattle.cany_model.specs.Bus.Restart.{restarted_in}
 use Rattle.cany_model.specs.Bus.RoundRobin.{round_robin}
 use Rattle.cany_model.proofs.Rows.RowWords.{report as run_report}
 
@@ -52,7 +58,7 @@ one_send slots rules = record {
 }
 
 unfoldable pub text_of : ScenarioParts → List ℕ
-unfolding run_report digits line_of class_name service_name verdict_name break_name payload_text set_text step_letter first_line params_line journal_line journal_lines has_any bus_line is_shown hypothesis_line node_line entry_line message_line bus_lines node_lines message_lines report_lines report
+unfolding run_report ended_history incarnation_of restarted_in digits line_of class_name service_name verdict_name break_name payload_text set_text step_letter first_line params_line journal_line journal_lines node_text has_any bus_line is_shown hypothesis_line node_line entry_line message_line bus_lines incarnation_lines node_lines message_lines report_lines report
 text_of scenario = report scenario (round_robin scenario)
 
 -- one message, no fault: all deliver it, and the others relay it together
@@ -113,25 +119,73 @@ entry_lines : lines_of_entries (
 unfolding lines_of_entries nodes entry_line line_of digits service_name payload_text set_text has
 entry_lines = refl
 
--- a stop in an idle slot, and a remote frame that nobody accepted
-bus_lines_alone : bus_lines (
-    record { slot = 9; frame = Some (record { class = Els; number = 4; node = 2; inc = 0; payload = [] }); senders = nodes 4; takers = nodes 0; verdict = Lost; stops = nodes 0 }
-    ∷ record { slot = 8; frame = None; senders = nodes 0; takers = nodes 0; verdict = Clean; stops = nodes 0 }
-    ∷ record { slot = 7; frame = None; senders = nodes 0; takers = nodes 0; verdict = Clean; stops = nodes 9 } ∷ [])
+-- the notes of slots that carried no frame, and of one whose remote frame nobody accepted, with the stops
+unfoldable idle_slot : ℕ → ℕ → SlotNote
+idle_slot slot stops = record { slot = slot; frame = None; senders = nodes 0; takers = nodes 0; verdict = Clean; stops = nodes stops }
+
+unfoldable lost_sign : ℕ → SlotNote
+lost_sign inc = record {
+  slot = 9;
+  frame = Some (record { class = Els; number = 4; node = 2; inc = inc; payload = [] });
+  senders = nodes 4;
+  takers = nodes 0;
+  verdict = Lost;
+  stops = nodes 0;
+}
+
+-- opens what the lines of a note are written with
+unfoldable note_row : Unit {0}
+unfolding bus_line idle_slot lost_sign nodes node_text is_shown has_any line_of digits class_name verdict_name payload_text set_text has
+note_row = tt
+
+bus_lines_alone : bus_line (idle_slot 7 9) (nodes 0) ∷ bus_line (lost_sign 0) (nodes 0) ∷ []
     ≡ codes "bus 7 idle stop 0,3\n" ∷ codes "bus 9 els 2 4 r from 2 to - lost\n" ∷ []
-unfolding bus_lines nodes bus_line is_shown has_any line_of digits class_name verdict_name payload_text set_text has
+unfolding note_row
 bus_lines_alone = refl
+
+-- a node that is not in its first incarnation is told with its number; the nodes that start again come after those that stop
+bus_lines_with_restarts : bus_line (idle_slot 7 0) (nodes 1) ∷ bus_line (idle_slot 7 9) (nodes 6) ∷ bus_line (lost_sign 15) (nodes 4) ∷ []
+    ≡ codes "bus 7 idle restart 0\n" ∷ codes "bus 7 idle stop 0,3 restart 1,2\n" ∷ codes "bus 9 els 2/15 4 r from 2 to - lost restart 2\n"
+    ∷ []
+unfolding note_row
+bus_lines_with_restarts = refl
+
+-- a slot is shown that carried a frame, or in which a node stopped or started again
+shown_slots :
+    is_shown (lost_sign 0) (nodes 0) ∷ is_shown (idle_slot 7 1) (nodes 0) ∷ is_shown (idle_slot 7 0) (nodes 2)
+    ∷ is_shown (idle_slot 7 0) (nodes 0) ∷ []
+    ≡ true ∷ true ∷ true ∷ false ∷ []
+unfolding note_row
+shown_slots = refl
+
+unfoldable span : ℕ → Option ℕ → ℕ → Span
+span since stopped read = record { since = since; stopped = stopped; read = read }
+
+-- the head of an incarnation: the first one tells no slot since when it runs
+node_lines_alone :
+    node_line 3 0 (span 0 None 60) ∷ node_line 3 0 (span 0 (Some 5) 5) ∷ node_line 3 1 (span 11 None 49)
+    ∷ node_line 63 15 (span 400000 (Some 399999) 0) ∷ []
+    ≡ codes "node 3 correct read 60\n" ∷ codes "node 3 stopped 5 read 5\n" ∷ codes "node 3 inc 1 since 11 correct read 49\n"
+    ∷ codes "node 63 inc 15 since 400000 stopped 399999 read 0\n" ∷ []
+unfolding node_line span line_of digits
+node_lines_alone = refl
+
+first_lines : first_line One ∷ first_line Two ∷ [] ≡ codes "canely report 1\n" ∷ codes "canely report 2\n" ∷ []
+unfolding first_line line_of digits
+first_lines = refl
 
 hypothesis_broken : hypothesis_line (Some (record { kind = kind.Errors; slot = 3 })) ≡ codes "hypothesis outside errors 3\n"
 unfolding hypothesis_line line_of digits break_name
 hypothesis_broken = refl
 
-message_open : message_line (record { slot = 0; origin = 12; seq = 7; service = service.Tot; payload = [] }) false ≡ codes "message tot 12 7 open\n"
+message_open : message_line (record { slot = 0; origin = 12; seq = 7; service = service.Tot; payload = [] }) false
+    ≡ codes "message tot 12 7 open\n"
 unfolding message_line line_of digits service_name
 message_open = refl
 
 -- 64 steps a line
-journal_of_65_steps : journal_lines (replicate 64 (Turn 31) ++ Slot ∷ []) ≡ line_of (codes "journal" ∷ replicate 64 118 ∷ []) ∷ codes "journal .\n" ∷ []
+journal_of_65_steps : journal_lines (replicate 64 (Turn 31) ++ Slot ∷ [])
+    ≡ line_of (codes "journal" ∷ replicate 64 118 ∷ []) ∷ codes "journal .\n" ∷ []
 unfolding journal_lines journal_line line_of step_letter
 journal_of_65_steps = refl
 

@@ -6,7 +6,7 @@ use Rattle.cany_base.specs.Scenario.{IsLegalScenario, ScenarioParts}
 use Rattle.cany_base.proofs.ParamsFacts.{few_nodes}
 use Rattle.cany_model.specs.Bus.Run.{run}
 use Rattle.cany_model.specs.Bus.State.{node_at}
-use Rattle.cany_model.specs.Promises.Detector.{AsksNoLeave, HasNotFailed, IsAdmitted, IsRemoved, JoinWasCarried, StandsAfter, StaysInViews}
+use Rattle.cany_model.specs.Promises.Detector.{AsksNoLeave, HasNotFailed, IsAdmitted, IsRemoved, JoinWasCarried, KeepsMembers, StandsAfter, StaysInViews}
 use Rattle.cany_model.specs.Promises.Hypothesis.{IsWithin}
 use Rattle.cany_model.specs.Promises.OneView.{InstallsOneVector}
 use Rattle.cany_model.specs.Promises.Quiet.{HasQuietSlots}
@@ -52,3 +52,12 @@ module _ (scenario : ScenarioParts) (legal : IsLegalScenario scenario) (none : s
   pub joiners_are_admitted : (r k : ℕ) → r < scenario.params.nodes → JoinWasCarried scenario (run scenario journal) r k
       → IsAdmitted scenario (run scenario journal) r k
   joiners_are_admitted = admitted scenario legal.in_range.nodes.1 legal.formulas legal.members none journal one
+
+  -- all of it
+  pub keeps_members : KeepsMembers scenario (run scenario journal)
+  keeps_members = record {
+    accuracy = none_is_thrown_out;
+    staying = members_remain;
+    removal = stopped_are_removed;
+    admission = joiners_are_admitted;
+  }

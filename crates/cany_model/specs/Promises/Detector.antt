@@ -9,7 +9,7 @@ use Rattle.cany_base.specs.Frame.{FrameParts}
 use Rattle.cany_base.specs.Nodes.{Nodes, has}
 use Rattle.cany_base.specs.Scenario.{ScenarioParts}
 use Rattle.cany_model.specs.Bus.History.{history}
-use Rattle.cany_model.specs.Bus.State.{RunState, slots_run}
+use Rattle.cany_model.specs.Bus.State.{RunState, node_at, slots_run}
 use Rattle.cany_model.specs.Promises.OneView.{installed}
 use Rattle.cany_model.specs.Promises.Quiet.{history_but}
 use Rattle.cany_model.specs.Promises.Settled.{IsCorrect}
@@ -71,3 +71,17 @@ abbrev pub IsAdmitted : ScenarioParts → RunState → (r k : ℕ) → Type 0
 IsAdmitted scenario s r k =
     (i : ℕ) → IsCorrect scenario s i → (v : Nodes) → installed scenario s i k ≡ Some v
     → (has v r ≡ true) ⊎ ((1 < k) × ((w : Nodes) × (installed scenario s i (k - 1) ≡ Some w) × (has w r ≡ true)))
+
+-- ---- the promise
+
+-- what a run within the fault hypothesis of a scenario without restart entries keeps
+pub record KeepsMembers (scenario : ScenarioParts) (s : RunState) : Type 0 where
+  -- a running node has failed at no correct node
+  pub accuracy : (r : ℕ) → IsCorrect scenario s r → HasNotFailed scenario s r
+  -- one that stands in the views, and has no scripted leave, stays in them
+  pub staying : (r t : ℕ) → IsCorrect scenario s r → AsksNoLeave scenario r → StandsAfter scenario s r t → StaysInViews scenario s r t
+  -- one that stops while it stands in the views is removed from them
+  pub removal : (r t : ℕ) → r < scenario.params.nodes → (node_at s.nodes r).stopped ≡ Some t → StandsAfter scenario s r t
+      → IsRemoved scenario s r t
+  -- one whose ask to join gets through is admitted
+  pub admission : (r k : ℕ) → r < scenario.params.nodes → JoinWasCarried scenario s r k → IsAdmitted scenario s r k

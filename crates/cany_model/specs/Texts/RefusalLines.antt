@@ -1,14 +1,45 @@
 -- The line of a refusal: its fields, parted by one space, and a line feed.
-use Rattle.std.specs.Prelude.{ℕ, List, [], ◌∷◌, Option, Some, None, codes, decimal}
+use Rattle.std.specs.Prelude.{ℕ, ℤ, pos, negsuc, suc, List, [], ◌∷◌, ◌++◌, Option, Some, None, codes, decimal}
 use Rattle.cany_model.specs.declared.follow.FollowFault.{FollowFault}
 use Rattle.cany_model.specs.declared.follow.FollowFault.TheVariants.{Refused, Unfinished}
 use Rattle.cany_model.specs.declared.reply.StepReply.{StepReply}
 use Rattle.cany_model.specs.declared.reply.StepReply.TheVariants.{Done, Lagging, Over, NothingYet, Stopped, NoNode}
+use Rattle.cany_model.specs.declared.scenario_fault.ScenarioFault.{ScenarioFault}
+use Rattle.cany_model.specs.declared.scenario_fault.ScenarioFault.TheVariants.{NotText, NotToml, UnknownKey, MissingKey, WrongKind, OutOfRange, TooMany, BadData, BoundTooSmall, RepeatedRule, TooOften, BadJournal, Memory}
+use Rattle.cany_model.specs.declared.scenario_fault.TableName.{TableName}
 use Rattle.cany_model.specs.Texts.ReportLines.{line_of}
+use Rattle.cany_model.specs.Texts.TextNames.{key_name, param_name, table_name}
 
--- the line of a text that stands for no scenario of the form that is read so far
-unfoldable pub later_form_line : List ℕ
-later_form_line = line_of (codes "refused later form" ∷ [])
+-- a number, with a `-` before one below zero
+abbrev pub signed_decimal : ℤ → List ℕ
+signed_decimal (pos n) = decimal n
+signed_decimal (negsuc n) = codes "-" ++ decimal (suc n)
+
+-- where a fault is: the table, and the place of the entry in it
+abbrev place_fields : TableName → ℕ → List (List ℕ)
+place_fields table place = codes "in" ∷ table_name table ∷ decimal place ∷ []
+
+-- the line of a text that is no scenario, by its first fault; want of memory has no line
+unfoldable pub scenario_refusal_line : ScenarioFault → List ℕ
+scenario_refusal_line NotText = line_of (codes "refused not utf-8" ∷ [])
+scenario_refusal_line NotToml = line_of (codes "refused not toml" ∷ [])
+scenario_refusal_line (UnknownKey table place) = line_of (codes "refused unknown key" ∷ place_fields table place)
+scenario_refusal_line (MissingKey table place name) = line_of (codes "refused missing key" ∷ key_name name ∷ place_fields table place)
+scenario_refusal_line (WrongKind table place name) = line_of (codes "refused wrong kind" ∷ key_name name ∷ place_fields table place)
+scenario_refusal_line (OutOfRange table place name value) =
+    line_of (codes "refused out of range" ∷ key_name name ∷ place_fields table place ++ codes "value" ∷ signed_decimal value ∷ [])
+scenario_refusal_line (TooMany table) = line_of (codes "refused too many" ∷ table_name table ∷ [])
+scenario_refusal_line (BadData place) = line_of (codes "refused bad data in send" ∷ decimal place ∷ [])
+scenario_refusal_line (BoundTooSmall which needed) =
+    line_of (codes "refused bound too small" ∷ param_name which ∷ codes "needs" ∷ decimal needed ∷ [])
+scenario_refusal_line (RepeatedRule index) = line_of (codes "refused repeated rule" ∷ decimal index ∷ [])
+scenario_refusal_line (TooOften place) = line_of (codes "refused too often in restart" ∷ decimal place ∷ [])
+scenario_refusal_line (BadJournal place) = line_of (codes "refused bad journal at" ∷ decimal place ∷ [])
+scenario_refusal_line Memory = []
+
+-- the line of a scenario that brings its own journal, where it may bring none
+unfoldable pub journal_given_line : List ℕ
+journal_given_line = line_of (codes "refused journal given to run" ∷ [])
 
 -- why a step was refused; a step that was done is never refused
 abbrev pub reply_fields : StepReply → List (List ℕ)

@@ -1,15 +1,9 @@
 -- The lines of a report. A line is its fields, parted by one space, and ends with a line feed.
-use Rattle.std.specs.Prelude.{ℕ, ◌+◌, ◌*◌, ◌/◌, ◌%◌, Bool, ◌||◌, nat_lt, if◌then◌else◌, List, [], ◌∷◌, ◌++◌, length, take, drop, map, filter, slice_index, Option, Some, None, is_some, codes, decimal}
+use Rattle.std.specs.Prelude.{ℕ, ◌+◌, ◌*◌, ◌/◌, ◌%◌, Bool, ◌==◌, ◌||◌, nat_lt, if◌then◌else◌, List, [], ◌∷◌, ◌++◌, length, take, drop, map, filter, slice_index, Option, Some, None, is_some, codes, decimal}
 use Rattle.std.specs.List.{flat_map, join_with_byte, range_with_len}
-use Rattle.cany_base.specs.declared.frame.Class.{Class}
-use Rattle.cany_base.specs.declared.frame.Class.TheVariants.{Accept, Rha, Els, Fda, Join, Leave, Confirm, Tot, Rel, Ed}
 use Rattle.cany_base.specs.declared.frame.Format.{Format}
 use Rattle.cany_base.specs.declared.log_entry.LogEntry.{LogEntry}
 use Rattle.cany_base.specs.declared.log_entry.LogEntry.TheVariants.{Deliver, Failed, View}
-use Rattle.cany_base.specs.declared.message.Service.{Service}
-use Rattle.cany_base.specs.declared.message.Service.TheVariants as service
-use Rattle.cany_base.specs.declared.rule.Verdict.{Verdict}
-use Rattle.cany_base.specs.declared.rule.Verdict.TheVariants.{Clean, Lost, Partial, Silent}
 use Rattle.cany_base.specs.declared.slot_note.SlotNote.{SlotNote}
 use Rattle.cany_base.specs.declared.step.Step.{Step}
 use Rattle.cany_base.specs.declared.step.Step.TheVariants.{Slot, Turn}
@@ -20,36 +14,15 @@ use Rattle.cany_base.specs.Params.{Parameters}
 use Rattle.cany_model.specs.declared.breaks.Break.{Break}
 use Rattle.cany_model.specs.declared.breaks.BreakKind.{BreakKind}
 use Rattle.cany_model.specs.declared.breaks.BreakKind.TheVariants as kind
+use Rattle.cany_model.specs.declared.span.Span.{Span}
 use Rattle.cany_model.specs.Rules.Messages.{Message}
+use Rattle.cany_model.specs.Texts.TextNames.{class_name, service_name, verdict_name}
 
 -- the fields, parted by one space, and a line feed
 unfoldable pub line_of : List (List ℕ) → List ℕ
 line_of fields = join_with_byte 32 fields ++ 10 ∷ []
 
 -- Fields. A number is decimal.
-
-unfoldable pub class_name : Class → List ℕ
-class_name Accept = codes "accept"
-class_name Rha = codes "rha"
-class_name Els = codes "els"
-class_name Fda = codes "fda"
-class_name Join = codes "join"
-class_name Leave = codes "leave"
-class_name Confirm = codes "confirm"
-class_name Tot = codes "tot"
-class_name Rel = codes "rel"
-class_name Ed = codes "ed"
-
-unfoldable pub service_name : Service → List ℕ
-service_name service.Ed = codes "ed"
-service_name service.Rel = codes "rel"
-service_name service.Tot = codes "tot"
-
-unfoldable pub verdict_name : Verdict → List ℕ
-verdict_name Clean = codes "clean"
-verdict_name Lost = codes "lost"
-verdict_name (Partial reject) = codes "partial"
-verdict_name (Silent reject) = codes "silent"
 
 unfoldable pub break_name : BreakKind → List ℕ
 break_name kind.Silent = codes "silent"
@@ -106,35 +79,49 @@ unfoldable pub journal_lines : List Step → List (List ℕ)
 journal_lines journal =
     map (λ k. journal_line (take 64 (drop (64 * k) journal))) (range_with_len 0 ((length journal + 63) / 64))
 
+-- a node by its number, with that of its incarnation where it is not the first
+unfoldable pub node_text : ℕ → ℕ → List ℕ
+node_text node inc = decimal node ++ (if inc == 0 then [] else codes "/" ++ decimal inc)
+
 abbrev frame_fields : SlotNote → Option FrameParts → List (List ℕ)
 frame_fields note None = codes "idle" ∷ []
 frame_fields note (Some f) =
-    class_name f.class ∷ decimal f.node ∷ decimal f.number ∷ frame_payload f
+    class_name f.class ∷ node_text f.node f.inc ∷ decimal f.number ∷ frame_payload f
     ∷ codes "from" ∷ set_text note.senders ∷ codes "to" ∷ set_text note.takers ∷ verdict_name note.verdict ∷ []
 
 -- whether the set has a node
 unfoldable pub has_any : Nodes → Bool
 has_any nodes = nat_lt 0 (node_count nodes)
 
-abbrev stop_fields : Nodes → List (List ℕ)
-stop_fields stops = if has_any stops then codes "stop" ∷ set_text stops ∷ [] else []
+-- the word and the set, where it has a node
+abbrev set_fields : List ℕ → Nodes → List (List ℕ)
+set_fields word nodes = if has_any nodes then word ∷ set_text nodes ∷ [] else []
 
--- what happened on the bus in a slot
-unfoldable pub bus_line : SlotNote → List ℕ
-bus_line note = line_of (codes "bus" ∷ decimal note.slot ∷ frame_fields note note.frame ++ stop_fields note.stops)
+-- what happened on the bus in a slot, at whose end these nodes started again
+unfoldable pub bus_line : SlotNote → Nodes → List ℕ
+bus_line note again = line_of (
+    codes "bus" ∷ decimal note.slot ∷ frame_fields note note.frame
+    ++ set_fields (codes "stop") note.stops ++ set_fields (codes "restart") again)
 
--- whether a slot has a line: it carried a frame, or a node stopped in it
-unfoldable pub is_shown : SlotNote → Bool
-is_shown note = is_some note.frame || has_any note.stops
+-- whether a slot has a line: it carried a frame, or a node stopped or started again in it
+unfoldable pub is_shown : SlotNote → Nodes → Bool
+is_shown note again = is_some note.frame || has_any note.stops || has_any again
 
 unfoldable pub hypothesis_line : Option Break → List ℕ
 hypothesis_line None = line_of (codes "hypothesis within" ∷ [])
 hypothesis_line (Some broken) = line_of (codes "hypothesis outside" ∷ break_name broken.kind ∷ decimal broken.slot ∷ [])
 
--- a node: whether it stopped, and how many notices it read
-unfoldable pub node_line : ℕ → Option ℕ → ℕ → List ℕ
-node_line i None read = line_of (codes "node" ∷ decimal i ∷ codes "correct read" ∷ decimal read ∷ [])
-node_line i (Some slot) read = line_of (codes "node" ∷ decimal i ∷ codes "stopped" ∷ decimal slot ∷ codes "read" ∷ decimal read ∷ [])
+abbrev incarnation_fields : ℕ → ℕ → List (List ℕ)
+incarnation_fields inc since = if inc == 0 then [] else codes "inc" ∷ decimal inc ∷ codes "since" ∷ decimal since ∷ []
+
+abbrev stop_fields : Option ℕ → List (List ℕ)
+stop_fields None = codes "correct" ∷ []
+stop_fields (Some slot) = codes "stopped" ∷ decimal slot ∷ []
+
+-- an incarnation of a node: since when it runs, where it is not the first; whether it stopped; and how many notices it read
+unfoldable pub node_line : ℕ → ℕ → Span → List ℕ
+node_line i inc span = line_of (
+    codes "node" ∷ decimal i ∷ incarnation_fields inc span.since ++ stop_fields span.stopped ++ codes "read" ∷ decimal span.read ∷ [])
 
 unfoldable pub entry_line : LogEntry → List ℕ
 entry_line (Deliver slot service message payload) =
