@@ -7,11 +7,13 @@ use Rattle.cany_base.proofs.ParamsFacts.{few_nodes}
 use Rattle.cany_base.specs.Scenario.{ScenarioParts, IsLegalScenario}
 use Rattle.cany_model.specs.Bus.Run.{run, has_ended}
 use Rattle.cany_model.specs.Bus.State.{RunState, opening, slots_run}
+use Rattle.cany_model.specs.Promises.Detector.{KeepsMembers}
 use Rattle.cany_model.specs.Promises.Hypothesis.{IsWithin}
 use Rattle.cany_model.specs.Promises.Safe.{IsIntegral, IsSafe}
 use Rattle.cany_model.proofs.Bus.Journals.{run_none}
 use Rattle.cany_model.proofs.Promises.Integrity.{integral}
 use Rattle.cany_model.proofs.Promises.Safety.{safe}
+use Rattle.cany_model.proofs.Timed.DetectorLaws.{keeps_members}
 use Rattle.can_bus.specs.Bus.{BusParts, Follows}
 use Rattle.can_controller.specs.Controller.{ControllerState}
 use Rattle.cany_world.specs.Incarnations.{IncarnationsParts}
@@ -27,6 +29,10 @@ world_integral w legal = integral w.scenario w.journal (few_nodes w.scenario.par
 
 pub world_safe : (w : WorldParts) → IsLegalScenario w.scenario → IsWithin w.scenario.params (state_of w).trace → IsSafe w.scenario (state_of w)
 world_safe w legal within = safe w.scenario legal w.journal within
+
+pub world_keeps_members : (w : WorldParts) → IsLegalScenario w.scenario → w.scenario.restarts ≡ []
+    → IsWithin w.scenario.params (state_of w).trace → KeepsMembers w.scenario (state_of w)
+world_keeps_members w legal none within = keeps_members w.scenario legal none w.journal within
 
 -- the trace of the bus is that of the run
 pub within_run : (scenario : ScenarioParts) (s : RunState) (bus : BusParts) → IsBusOf scenario s bus → IsWithin bus.params bus.trace → IsWithin scenario.params s.trace

@@ -2,6 +2,7 @@ ghost use Rattle.std.specs.Prelude.{◌≡◌, ◌<◌, ◌≤◌, ◌↔◌, []
 ghost use Rattle.cany_model.specs.Bus.Follow as following;
 ghost use Rattle.cany_model.specs.Bus.Incarnations.{log_of, span_of};
 ghost use Rattle.cany_model.specs.Bus.Restart.{restarted_in};
+ghost use Rattle.cany_model.specs.Promises.Detector.{KeepsMembers};
 ghost use Rattle.cany_model.specs.Promises.Hypothesis.{IsWithin, first_break};
 ghost use Rattle.cany_model.specs.Rules.Log as model;
 ghost use Rattle.cany_model.specs.Rules.Messages.{message_key, messages_of};
@@ -225,11 +226,16 @@ impl World {
     ///
     /// In any case no message stands twice or unsent in the log of a node that runs. Where there is no such slot, the run
     /// keeps what is promised of a run within the hypothesis.
+    ///
+    /// If besides the scenario has no restart entry, a node that runs counts as failed at no node that runs, and stays in the
+    /// views of their logs unless it asks to leave; a node that stopped as a member is in no view there of a cycle that starts
+    /// more than `silence` slots later; and a node whose ask to join got through is admitted.
     pub fn hypothesis(&self) -> Option<Break>
         ensures first { result ≡ first_break self.now.scenario.params (state_of self.now).trace }
         ensures within { (result ≡ None) ↔ IsWithin self.now.scenario.params (state_of self.now).trace }
         ensures integrity { IsIntegral self.now.scenario (state_of self.now) }
         ensures safe { result ≡ None → IsSafe self.now.scenario (state_of self.now) }
+        ensures members { result ≡ None → self.now.scenario.restarts ≡ [] → KeepsMembers self.now.scenario (state_of self.now) }
     {
         self.bus.first_break()
     }

@@ -1,8 +1,9 @@
-use Rattle.std.proofs.Common.{subst}
+use Rattle.std.proofs.Common.{◌≡◌, [], subst}
+use Rattle.cany_model.specs.Promises.Detector.{KeepsMembers}
 use Rattle.cany_model.specs.Promises.Safe.{IsIntegral, IsSafe}
 use Rattle.cany_world.specs.World.{WorldParts, state_of}
 use Rattle.cany_world.specs.WorldFields.{world_parts}
-use Rattle.cany_world.proofs.WorldFacts.{world_integral, world_safe, within_run}
+use Rattle.cany_world.proofs.WorldFacts.{world_integral, world_keeps_members, world_safe, within_run}
 use Rattle.cany_world.proofs.world.World.hypothesis.Goals as goal
 
 pub returns-clause-integrity : goal.returns-clause-integrity
@@ -14,3 +15,10 @@ returns-clause-safe c none =
     let w : WorldParts = world_parts c.self.inside in
     subst (λ (v : WorldParts). IsSafe v.scenario (state_of v)) c.self.view_is
     (world_safe w c.self.invariant.legal (within_run w.scenario (state_of w) c.self.inside.bus c.self.invariant.stands.bus (c.first_break.ensures.within.0 none)))
+
+pub returns-clause-members : goal.returns-clause-members
+returns-clause-members c none asks =
+    let w : WorldParts = world_parts c.self.inside in
+    subst (λ (v : WorldParts). v.scenario.restarts ≡ [] → KeepsMembers v.scenario (state_of v)) c.self.view_is
+    (λ unasked. world_keeps_members w c.self.invariant.legal unasked
+    (within_run w.scenario (state_of w) c.self.inside.bus c.self.invariant.stands.bus (c.first_break.ensures.within.0 none))) asks
