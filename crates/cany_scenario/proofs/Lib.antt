@@ -1,0 +1,10 @@
+pub mod ArraysFacts
+pub mod AsksFacts
+pub mod DocumentFacts
+pub mod EntryFacts
+pub mod FormatFacts
+pub mod JournalFacts
+pub mod KindsFacts
+pub mod NodesFacts
+pub mod PlacesFacts
+pub mod ScenarioFacts

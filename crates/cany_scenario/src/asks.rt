@@ -1,0 +1,153 @@
+//! The scripted joins, leaves and restarts of a scenario text.
+ghost use Rattle.std.specs.Prelude.{◌≡◌, ◌≢◌, ◌-◌, [], count_by, IfOk, IfErr, Ok, Err};
+ghost use Rattle.toml.specs.View.{items_view};
+ghost use Rattle.cany_base.specs.Scenario.{is_ask_of_node};
+ghost use Rattle.cany_model.specs.declared.scenario_fault.KeyName.TheVariants as key;
+ghost use Rattle.cany_model.specs.declared.scenario_fault.ScenarioFault.TheVariants.{Memory};
+ghost use Rattle.cany_model.specs.Texts.AsksText.{ask_from, joins_of, leaves_of, restarts_of, is_one_too_many};
+ghost use Rattle.cany_model.specs.Texts.TomlKeys.{required, number_from, each_entry, entries_of, first_after};
+ghost use Rattle.cany_scenario.specs.Entries.{entry_of};
+
+use crate::array::{entry_at, items_at};
+use crate::entry::Entry;
+use cany_base::limits::{MOST_JOINS, MOST_LEAVES, MOST_RESTARTS, MOST_RESTARTS_OF_NODE};
+use cany_base::{NodeAsk, NodeId, Params};
+use cany_model::{KeyName, ScenarioFault, TableName};
+use std::alloc::Global;
+use toml::Value;
+
+/// The keys that an entry can have.
+const ASK_KEYS: [KeyName; 2] = [KeyName::Slot, KeyName::Node];
+
+/// The joins that the text lists, in file order.
+pub(crate) fn read_joins(
+    alloc: Global,
+    params: &Params,
+    top: &Entry,
+) -> Result<Vec<NodeAsk>, ScenarioFault>
+    ensures ok { IfOk result (λ asks. joins_of params.now (entry_of top.now) ≡ Ok asks.items) }
+    ensures fault { IfErr result (λ fault. fault ≢ Memory → joins_of params.now (entry_of top.now) ≡ Err fault) }
+{
+    asks_at(
+        alloc,
+        params,
+        top,
+        TableName::Join,
+        MOST_JOINS,
+        KeyName::Join,
+    )
+}
+
+/// The leaves that the text lists, in file order.
+pub(crate) fn read_leaves(
+    alloc: Global,
+    params: &Params,
+    top: &Entry,
+) -> Result<Vec<NodeAsk>, ScenarioFault>
+    ensures ok { IfOk result (λ asks. leaves_of params.now (entry_of top.now) ≡ Ok asks.items) }
+    ensures fault { IfErr result (λ fault. fault ≢ Memory → leaves_of params.now (entry_of top.now) ≡ Err fault) }
+{
+    asks_at(
+        alloc,
+        params,
+        top,
+        TableName::Leave,
+        MOST_LEAVES,
+        KeyName::Leave,
+    )
+}
+
+/// The restarts that the text lists, in file order, of which no node has too many.
+#[tactic(auto, unfolding(cany_model::specs::Texts::AsksText::restarts_of))]
+pub(crate) fn read_restarts(
+    alloc: Global,
+    params: &Params,
+    top: &Entry,
+) -> Result<Vec<NodeAsk>, ScenarioFault>
+    ensures ok { IfOk result (λ asks. restarts_of params.now (entry_of top.now) ≡ Ok asks.items) }
+    ensures fault { IfErr result (λ fault. fault ≢ Memory → restarts_of params.now (entry_of top.now) ≡ Err fault) }
+{
+    let restarts = asks_at(
+        alloc,
+        params,
+        top,
+        TableName::Restart,
+        MOST_RESTARTS,
+        KeyName::Restart,
+    )?;
+    match first_too_often(&restarts) {
+        Some(place) => Err(ScenarioFault::TooOften { place }),
+        None => Ok(restarts),
+    }
+}
+
+/// The asks of the array of tables at a key, at most so many.
+fn asks_at(
+    alloc: Global,
+    params: &Params,
+    top: &Entry,
+    table: TableName,
+    most: usize,
+    name: KeyName,
+) -> Result<Vec<NodeAsk>, ScenarioFault>
+    ensures ok { IfOk result (λ asks. entries_of table most (ask_from params.now) name (entry_of top.now) ≡ Ok asks.items) }
+    ensures fault { IfErr result (λ fault. fault ≢ Memory → entries_of table most (ask_from params.now) name (entry_of top.now) ≡ Err fault) }
+{
+    let items = items_at(top, table, most, name)?;
+    each_ask(alloc, params, table, name, items)
+}
+
+fn each_ask(
+    alloc: Global,
+    params: &Params,
+    table: TableName,
+    name: KeyName,
+    items: &[Value],
+) -> Result<Vec<NodeAsk>, ScenarioFault>
+    ensures ok { IfOk result (λ asks. each_entry table name (ask_from params.now) 0 (items_view items.now) ≡ Ok asks.items) }
+    ensures fault { IfErr result (λ fault. fault ≢ Memory → each_entry table name (ask_from params.now) 0 (items_view items.now) ≡ Err fault) }
+{
+    let mut asks = Vec::with_capacity(alloc, items.len())?;
+    for (place, item) in items.iter().enumerate() {
+        let entry = entry_at(table, name, place, item)?;
+        asks.push(ask_from(params, &entry)?)?;
+    }
+    Ok(asks)
+}
+
+#[tactic(auto, unfolding(cany_model::specs::Texts::AsksText::ask_from))]
+fn ask_from(params: &Params, entry: &Entry) -> Result<NodeAsk, ScenarioFault>
+    ensures { result ≡ ask_from params.now (entry_of entry.now) }
+{
+    entry.only_keys(&ASK_KEYS)?;
+    let slot = entry.number(KeyName::Slot, 0, params.slots - 1)?;
+    let node = node_at(params, entry)?;
+    Ok(NodeAsk { slot, node })
+}
+
+/// The node of the bus that an entry names.
+pub(crate) fn node_at(params: &Params, entry: &Entry) -> Result<NodeId, ScenarioFault>
+    ensures { result ≡ required (number_from 0 (params.now.nodes - 1)) key.Node (entry_of entry.now) }
+{
+    let number = entry.number(KeyName::Node, 0, u64::from(params.nodes) - 1)?;
+    Ok(NodeId::of_index(number as usize))
+}
+
+/// The place of the first entry that is one too many for its node.
+fn first_too_often(restarts: &[NodeAsk]) -> Option<usize>
+    ensures { result ≡ first_after is_one_too_many [] restarts.now }
+{
+    for (place, restart) in restarts.iter().enumerate() {
+        if count_of_node(&restarts[..place], restart.node) >= MOST_RESTARTS_OF_NODE {
+            return Some(place);
+        }
+    }
+    None
+}
+
+/// How many of the entries are of the node.
+fn count_of_node(asks: &[NodeAsk], node: NodeId) -> usize
+    ensures { result ≡ count_by (is_ask_of_node node) asks.now }
+{
+    asks.iter().filter(|ask| ask.node == node).count()
+}

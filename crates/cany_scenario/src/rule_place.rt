@@ -1,0 +1,142 @@
+//! Where a fault rule of a scenario text acts.
+ghost use Rattle.std.specs.Prelude.{◌≡◌, ◌-◌};
+ghost use Rattle.toml.specs.View.{view};
+ghost use Rattle.cany_base.specs.Limits.{greatest_attempt, greatest_number};
+ghost use Rattle.cany_model.specs.declared.scenario_fault.KeyName.TheVariants as key;
+ghost use Rattle.cany_model.specs.Texts.FaultsText.{classes, class_from, slot_place_from, frame_place_from, place_from};
+ghost use Rattle.cany_model.specs.Texts.TextNames.{class_name, named};
+ghost use Rattle.cany_model.specs.Texts.TomlKeys.{number_from, required};
+ghost use Rattle.cany_scenario.specs.Entries.{entry_of};
+
+use crate::entry::{Entry, wrong_kind};
+use cany_base::limits::{greatest_attempt, greatest_number};
+use cany_base::{Class, NodeId, Params, Place};
+use cany_model::names::class_name;
+use cany_model::{KeyName, Position, ScenarioFault};
+use toml::Value;
+
+/// The keys that a rule for a slot can have.
+const SLOT_RULE_KEYS: [KeyName; 4] = [
+    KeyName::Slot,
+    KeyName::Verdict,
+    KeyName::Reject,
+    KeyName::Stop,
+];
+
+/// The keys that a rule for a frame can have.
+const FRAME_RULE_KEYS: [KeyName; 7] = [
+    KeyName::Class,
+    KeyName::Number,
+    KeyName::Node,
+    KeyName::Nth,
+    KeyName::Verdict,
+    KeyName::Reject,
+    KeyName::Stop,
+];
+
+/// The classes that a rule for a frame can name.
+const CLASSES: [Class; 10] = [
+    Class::Accept,
+    Class::Rha,
+    Class::Els,
+    Class::Fda,
+    Class::Join,
+    Class::Leave,
+    Class::Confirm,
+    Class::Tot,
+    Class::Rel,
+    Class::Ed,
+];
+
+/// Where the rule of an entry acts: at a frame where the entry has the key `class`, whatever that holds, and at a slot
+/// elsewhere.
+#[tactic(auto, unfolding(cany_model::specs::Texts::FaultsText::place_from))]
+pub(crate) fn place_from(params: &Params, entry: &Entry) -> Result<Place, ScenarioFault>
+    ensures { result ≡ place_from params.now (entry_of entry.now) }
+{
+    if entry.value(KeyName::Class).is_some() {
+        frame_place_from(params, entry)
+    } else {
+        slot_place_from(params, entry)
+    }
+}
+
+#[tactic(auto, unfolding(cany_model::specs::Texts::FaultsText::slot_place_from))]
+fn slot_place_from(params: &Params, entry: &Entry) -> Result<Place, ScenarioFault>
+    ensures { result ≡ slot_place_from params.now (entry_of entry.now) }
+{
+    entry.only_keys(&SLOT_RULE_KEYS)?;
+    let slot = entry.number(KeyName::Slot, 0, params.slots - 1)?;
+    Ok(Place::At { slot })
+}
+
+#[tactic(auto, unfolding(cany_model::specs::Texts::FaultsText::frame_place_from))]
+fn frame_place_from(params: &Params, entry: &Entry) -> Result<Place, ScenarioFault>
+    ensures { result ≡ frame_place_from params.now (entry_of entry.now) }
+{
+    entry.only_keys(&FRAME_RULE_KEYS)?;
+    let class = read_class(entry)?;
+    let number = read_number(params, entry)?;
+    let node = read_node(params, entry)?;
+    let nth = read_attempt(params, entry)?;
+    Ok(Place::FrameNth {
+        class,
+        number,
+        node,
+        nth,
+    })
+}
+
+/// The number of the frame.
+#[tactic(auto, using(crate::proofs::FormatFacts::at_most_number))]
+fn read_number(params: &Params, entry: &Entry) -> Result<u16, ScenarioFault>
+    ensures { result ≡ required (number_from 0 (greatest_number params.now.format)) key.Number (entry_of entry.now) }
+{
+    let number = entry.number(KeyName::Number, 0, greatest_number(params.format))?;
+    Ok(number as u16)
+}
+
+/// The node of the frame.
+fn read_node(params: &Params, entry: &Entry) -> Result<NodeId, ScenarioFault>
+    ensures { result ≡ required (number_from 0 (params.now.nodes - 1)) key.Node (entry_of entry.now) }
+{
+    let node = entry.number(KeyName::Node, 0, u64::from(params.nodes) - 1)?;
+    Ok(NodeId::of_index(node as usize))
+}
+
+/// Which attempt to carry the frame, counted from 1.
+#[tactic(auto, using(crate::proofs::FormatFacts::at_most_attempt))]
+fn read_attempt(params: &Params, entry: &Entry) -> Result<u32, ScenarioFault>
+    ensures { result ≡ required (number_from 1 (greatest_attempt params.now.format)) key.Nth (entry_of entry.now) }
+{
+    let nth = entry.number(KeyName::Nth, 1, greatest_attempt(params.format))?;
+    Ok(nth as u32)
+}
+
+/// The class of the frame.
+fn read_class(entry: &Entry) -> Result<Class, ScenarioFault>
+    ensures { result ≡ required class_from key.Class (entry_of entry.now) }
+{
+    class_from(
+        entry.position(KeyName::Class),
+        entry.required(KeyName::Class)?,
+    )
+}
+
+#[tactic(auto, unfolding(cany_model::specs::Texts::FaultsText::class_from))]
+fn class_from(at: Position, value: &Value) -> Result<Class, ScenarioFault>
+    ensures { result ≡ class_from at (view value.now) }
+{
+    let name = value.as_str().ok_or(wrong_kind(at))?;
+    class_named(name).ok_or(wrong_kind(at))
+}
+
+/// The class of the name.
+fn class_named(name: &str) -> Option<Class>
+    ensures { result ≡ named class_name classes name.now }
+{
+    CLASSES
+        .iter()
+        .copied()
+        .find(|class| class_name(*class) == name)
+}

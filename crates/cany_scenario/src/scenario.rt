@@ -1,0 +1,72 @@
+//! The scenario of a whole text.
+ghost use Rattle.std.specs.Prelude.{◌≡◌, ◌≢◌, IfOk, IfErr, Ok, Err};
+ghost use Rattle.cany_model.specs.declared.scenario_fault.ScenarioFault.TheVariants.{Memory};
+ghost use Rattle.cany_model.specs.Texts.ScenarioText.{scenario_from, scenario_of};
+ghost use Rattle.cany_scenario.specs.Entries.{entry_of};
+
+use crate::asks::{read_joins, read_leaves, read_restarts};
+use crate::document::read_document;
+use crate::entry::Entry;
+use crate::journal::read_journal;
+use crate::nodes::read_members;
+use crate::params::read_params;
+use crate::rules::read_rules;
+use crate::sends::read_sends;
+use cany_base::Scenario;
+use cany_model::{KeyName, ScenarioFault};
+use std::alloc::Global;
+
+/// The keys that the top table can have.
+const TOP_KEYS: [KeyName; 18] = [
+    KeyName::Format,
+    KeyName::Nodes,
+    KeyName::Slots,
+    KeyName::Lag,
+    KeyName::Omit,
+    KeyName::Errors,
+    KeyName::Bound,
+    KeyName::Cycle,
+    KeyName::Life,
+    KeyName::Silence,
+    KeyName::Confirm,
+    KeyName::Members,
+    KeyName::Send,
+    KeyName::Fault,
+    KeyName::Join,
+    KeyName::Leave,
+    KeyName::Restart,
+    KeyName::Journal,
+];
+
+/// The scenario that the bytes of a text stand for.
+///
+/// # Errors
+///
+/// The first fault of the text, or `Memory` for want of memory before that was found.
+#[tactic(auto, unfolding(cany_model::specs::Texts::ScenarioText::scenario_of))]
+pub fn read_scenario(alloc: Global, bytes: &[u8]) -> Result<Scenario, ScenarioFault>
+    ensures ok { IfOk result (λ scenario. scenario_of bytes.now ≡ Ok scenario) }
+    ensures fault { IfErr result (λ fault. fault ≢ Memory → scenario_of bytes.now ≡ Err fault) }
+{
+    let members = read_document(alloc, bytes)?;
+    scenario_from(alloc, &Entry::top(&members))
+}
+
+#[tactic(auto, unfolding(cany_model::specs::Texts::ScenarioText::scenario_from))]
+fn scenario_from(alloc: Global, top: &Entry) -> Result<Scenario, ScenarioFault>
+    ensures ok { IfOk result (λ scenario. scenario_from (entry_of top.now) ≡ Ok scenario) }
+    ensures fault { IfErr result (λ fault. fault ≢ Memory → scenario_from (entry_of top.now) ≡ Err fault) }
+{
+    top.only_keys(&TOP_KEYS)?;
+    let params = read_params(top)?;
+    let members = read_members(&params, top)?;
+    let sends = read_sends(alloc, &params, top)?;
+    let rules = read_rules(alloc, &params, top)?;
+    let joins = read_joins(alloc, &params, top)?;
+    let leaves = read_leaves(alloc, &params, top)?;
+    let restarts = read_restarts(alloc, &params, top)?;
+    let journal = read_journal(alloc, params.format, top)?;
+    Ok(Scenario::of_parts(
+        params, members, sends, rules, joins, leaves, restarts, journal,
+    ))
+}

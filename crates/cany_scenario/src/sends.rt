@@ -1,0 +1,133 @@
+//! The scripted sends of a scenario text.
+ghost use Rattle.std.specs.Prelude.{◌≡◌, ◌≢◌, [], IfOk, IfErr, Ok, Err};
+ghost use Rattle.toml.specs.View.{view, items_view};
+ghost use Rattle.cany_model.specs.declared.scenario_fault.KeyName.TheVariants as key;
+ghost use Rattle.cany_model.specs.declared.scenario_fault.ScenarioFault.TheVariants.{Memory};
+ghost use Rattle.cany_model.specs.declared.scenario_fault.TableName.TheVariants as table;
+ghost use Rattle.cany_model.specs.Texts.SendsText.{bytes_of, payload_from, services, service_from, send_from, sends_of};
+ghost use Rattle.cany_model.specs.Texts.TextNames.{named, service_name};
+ghost use Rattle.cany_model.specs.Texts.TomlKeys.{each_entry, optional, required};
+ghost use Rattle.cany_scenario.specs.Entries.{entry_of};
+
+use crate::array::{entry_at, items_at};
+use crate::asks::node_at;
+use crate::entry::{Entry, wrong_kind};
+use cany_base::limits::MOST_SENDS;
+use cany_base::{Params, Payload, SendAsk, Service};
+use cany_model::names::service_name;
+use cany_model::{KeyName, Position, ScenarioFault, TableName};
+use std::alloc::Global;
+use toml::Value;
+
+/// The keys that an entry can have.
+const SEND_KEYS: [KeyName; 4] = [
+    KeyName::Slot,
+    KeyName::Node,
+    KeyName::Service,
+    KeyName::DataKey,
+];
+
+/// The services that an entry can name.
+const SERVICES: [Service; 3] = [Service::Ed, Service::Rel, Service::Tot];
+
+/// How many digits a payload can have.
+const MOST_DIGITS: usize = 16;
+
+/// The sends that the text lists, in file order.
+pub(crate) fn read_sends(
+    alloc: Global,
+    params: &Params,
+    top: &Entry,
+) -> Result<Vec<SendAsk>, ScenarioFault>
+    ensures ok { IfOk result (λ sends. sends_of params.now (entry_of top.now) ≡ Ok sends.items) }
+    ensures fault { IfErr result (λ fault. fault ≢ Memory → sends_of params.now (entry_of top.now) ≡ Err fault) }
+{
+    let items = items_at(top, TableName::Send, MOST_SENDS, KeyName::Send)?;
+    each_send(alloc, params, items)
+}
+
+fn each_send(alloc: Global, params: &Params, items: &[Value]) -> Result<Vec<SendAsk>, ScenarioFault>
+    ensures ok { IfOk result (λ sends. each_entry table.Send key.Send (send_from params.now) 0 (items_view items.now) ≡ Ok sends.items) }
+    ensures fault { IfErr result (λ fault. fault ≢ Memory → each_entry table.Send key.Send (send_from params.now) 0 (items_view items.now) ≡ Err fault) }
+{
+    let mut sends = Vec::with_capacity(alloc, items.len())?;
+    for (place, item) in items.iter().enumerate() {
+        let entry = entry_at(TableName::Send, KeyName::Send, place, item)?;
+        sends.push(send_from(params, &entry)?)?;
+    }
+    Ok(sends)
+}
+
+#[tactic(auto, unfolding(cany_model::specs::Texts::SendsText::send_from))]
+fn send_from(params: &Params, entry: &Entry) -> Result<SendAsk, ScenarioFault>
+    ensures { result ≡ send_from params.now (entry_of entry.now) }
+{
+    entry.only_keys(&SEND_KEYS)?;
+    let slot = entry.number(KeyName::Slot, 0, params.slots - 1)?;
+    let node = node_at(params, entry)?;
+    let service = service_at(entry)?;
+    let payload = payload_at(entry)?;
+    Ok(SendAsk {
+        slot,
+        node,
+        service,
+        payload,
+    })
+}
+
+/// The service that an entry names.
+fn service_at(entry: &Entry) -> Result<Service, ScenarioFault>
+    ensures { result ≡ required service_from key.Service (entry_of entry.now) }
+{
+    let value = entry.required(KeyName::Service)?;
+    service_from(entry.position(KeyName::Service), value)
+}
+
+#[tactic(auto, unfolding(cany_model::specs::Texts::SendsText::service_from))]
+fn service_from(at: Position, value: &Value) -> Result<Service, ScenarioFault>
+    ensures { result ≡ service_from at (view value.now) }
+{
+    let name = value.as_str().ok_or(wrong_kind(at))?;
+    service_named(name).ok_or(wrong_kind(at))
+}
+
+/// The service of the name.
+fn service_named(name: &str) -> Option<Service>
+    ensures { result ≡ named service_name services name.now }
+{
+    SERVICES
+        .iter()
+        .copied()
+        .find(|service| service_name(*service) == name)
+}
+
+/// The payload of an entry: no bytes where the key is absent.
+fn payload_at(entry: &Entry) -> Result<Payload, ScenarioFault>
+    ensures { result ≡ optional payload_from [] key.DataKey (entry_of entry.now) }
+{
+    match entry.value(KeyName::DataKey) {
+        Some(value) => payload_from(entry.position(KeyName::DataKey), value),
+        None => Ok(Payload::empty()),
+    }
+}
+
+#[tactic(auto, unfolding(cany_model::specs::Texts::SendsText::payload_from))]
+fn payload_from(at: Position, value: &Value) -> Result<Payload, ScenarioFault>
+    ensures { result ≡ payload_from at (view value.now) }
+{
+    let digits = value.as_str().ok_or(wrong_kind(at))?;
+    bytes_of(digits).ok_or(ScenarioFault::BadData { place: at.place })
+}
+
+/// The bytes that the digits write.
+fn bytes_of(digits: &str) -> Option<Payload>
+    ensures { result ≡ bytes_of digits.now }
+{
+    if digits.len() > MOST_DIGITS {
+        return None;
+    }
+    let mut bytes = [0; MOST_DIGITS / 2];
+    let room = &mut bytes[..digits.len() / 2];
+    hex::decode_to_slice(digits, room).ok()?;
+    Payload::of(room)
+}
