@@ -1,0 +1,34 @@
+-- The line of an incarnation of a node, by whether it stopped.
+use Rattle.std.proofs.Common.{◌≡◌, ℕ, ◌==◌, Bool, true, false, List, [], ◌∷◌, ◌++◌, Option, Some, None, refl, ap}
+use Rattle.std.specs.Prelude.{if◌then◌else◌, codes, decimal}
+use Rattle.cany_log.specs.Fields.{number_if_any}
+use Rattle.cany_model.specs.declared.span.Span.{Span}
+use Rattle.cany_model.specs.Texts.ReportLines.{line_of, node_line}
+
+-- nothing of the first incarnation, and two fields of a later one
+later_fields : (b : Bool) (inc since : ℕ) (stop rest : List (List ℕ))
+    → ((if b then [] else codes "inc" ∷ decimal inc ∷ codes "since" ∷ decimal since ∷ []) ++ stop) ++ rest
+    ≡ number_if_any (codes "inc") (if b then None else Some inc) ++ (number_if_any (codes "since") (if b then None else Some since) ++ (stop ++ rest))
+later_fields true inc since stop rest = refl
+later_fields false inc since stop rest = refl
+
+pub correct_line : (i inc : ℕ) (span : Span) (number since : Option ℕ) → number ≡ (if inc == 0 then None else Some inc)
+    → since ≡ (if inc == 0 then None else Some span.since) → span.stopped ≡ None
+    → node_line i inc span ≡ line_of (
+    codes "node" ∷ decimal i ∷ number_if_any (codes "inc") number ++ (number_if_any (codes "since") since
+    ++ (codes "correct" ∷ codes "read" ∷ decimal span.read ∷ [])))
+unfolding node_line
+correct_line i inc span number since number_is since_is runs =
+    rw (number_is, since_is, runs)
+    (ap (λ fields. line_of (codes "node" ∷ decimal i ∷ fields)) (later_fields (inc == 0) inc span.since (codes "correct" ∷ []) (codes "read" ∷ decimal span.read ∷ [])))
+
+pub stopped_line : (i inc : ℕ) (span : Span) (number since : Option ℕ) (slot : ℕ) → number ≡ (if inc == 0 then None else Some inc)
+    → since ≡ (if inc == 0 then None else Some span.since) → span.stopped ≡ Some slot
+    → node_line i inc span ≡ line_of (
+    codes "node" ∷ decimal i ∷ number_if_any (codes "inc") number ++ (number_if_any (codes "since") since
+    ++ (codes "stopped" ∷ decimal slot ∷ codes "read" ∷ decimal span.read ∷ [])))
+unfolding node_line
+stopped_line i inc span number since slot number_is since_is stopped =
+    rw (number_is, since_is, stopped)
+    (ap (λ fields. line_of (codes "node" ∷ decimal i ∷ fields))
+    (later_fields (inc == 0) inc span.since (codes "stopped" ∷ decimal slot ∷ []) (codes "read" ∷ decimal span.read ∷ [])))

@@ -1,0 +1,28 @@
+use Rattle.cany_model.specs.Texts.RefusalLines.{journal_refusal_line}
+use Rattle.cany_log.proofs.journal_refusal.write_refused_step.Goals as goal
+
+pub returns-in-Done : goal.returns-in-Done
+unfolding journal_refusal_line
+returns-in-Done g c = rw c.in-Done.is c.write_line.ensures
+
+pub returns-in-Lagging : goal.returns-in-Lagging
+unfolding journal_refusal_line
+returns-in-Lagging g c =
+    rw c.in-Lagging.is (rw (c.from.ensures, c.get.ensures.value, c.from-in-Lagging.ensures) at c.write_line-in-Lagging.ensures)
+
+pub returns-in-Over : goal.returns-in-Over
+unfolding journal_refusal_line
+returns-in-Over g c = rw c.in-Over.is c.write_cause.ensures
+
+pub returns-in-NothingYet : goal.returns-in-NothingYet
+unfolding journal_refusal_line
+returns-in-NothingYet g c = rw c.in-NothingYet.is c.write_cause-in-NothingYet.ensures
+
+pub returns-in-Stopped : goal.returns-in-Stopped
+unfolding journal_refusal_line
+returns-in-Stopped g c = rw c.in-Stopped.is c.write_cause-in-Stopped.ensures
+
+pub returns-in-NoNode : goal.returns-in-NoNode
+unfolding journal_refusal_line
+returns-in-NoNode g c =
+    rw c.in-NoNode.is (rw (c.from-in-NoNode.ensures, c.get-in-NoNode.ensures.value) at c.write_cause-in-NoNode.ensures)

@@ -1,0 +1,23 @@
+use cany_base::{NodeId, NodeSet, Payload, Step};
+
+/// A piece of a line: one field of it, or two that stand there together or not at all.
+#[derive(Clone, Copy, Debug)]
+pub(crate) enum Field<'a> {
+    /// Fixed words.
+    Text(&'static str),
+    /// A number, in decimal.
+    Number(u64),
+    /// A number that may be below zero, in decimal.
+    Signed(i64),
+    /// A node by its number, with that of its incarnation where it is not the first.
+    Node(NodeId, u8),
+    /// The bytes of a data frame or of a message, in hexadecimal.
+    Bytes(Payload),
+    Set(NodeSet),
+    /// Steps of a journal, a letter each.
+    Steps(&'a [Step]),
+    /// A word and a number, where there is one.
+    NumberIfAny(&'static str, Option<u64>),
+    /// A word and a set, where it has a node.
+    SetIfAny(&'static str, NodeSet),
+}

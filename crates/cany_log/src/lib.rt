@@ -1,0 +1,25 @@
+//! The report of a run, and the lines of refusals, written to a sink. Each line is put together before the sink is given any of
+//! it, and no call takes memory.
+#![tactic(auto)]
+
+mod bus_lines;
+mod entries;
+mod field;
+mod heading;
+mod hypothesis;
+mod journal_refusal;
+mod line;
+mod messages;
+mod node_lines;
+mod refusal;
+mod report;
+mod row;
+mod scenario_refusal;
+
+pub use entries::write_entry;
+pub use hypothesis::write_hypothesis;
+pub use refusal::{Refusal, write_refusal};
+pub use report::write_report;
+
+#[cfg(test)]
+mod tests;

@@ -1,0 +1,128 @@
+//! The lines of texts that are no scenarios.
+ghost use Rattle.std.specs.Prelude.{◌≤◌, [], ◌∷◌, length, codes, decimal};
+ghost use Rattle.cany_model.specs.declared.scenario_fault.ScenarioFault.TheVariants.{OutOfRange};
+ghost use Rattle.cany_model.specs.Texts.RefusalLines.{scenario_refusal_line};
+ghost use Rattle.cany_model.specs.Texts.ReportLines.{line_of};
+ghost use Rattle.cany_model.specs.Texts.TextNames as names;
+ghost use Rattle.cany_log.specs.Written.{IsWritten};
+
+use crate::field::Field;
+use crate::line::write_line;
+use cany_io::{Failed, Sink};
+use cany_model::names::{key_name, param_name, table_name};
+use cany_model::{KeyName, ScenarioFault, TableName};
+
+/// Writes the line of a text that is no scenario, by its first fault. Want of memory has no line.
+#[tactic(auto, unfolding(cany_model::specs::Texts::RefusalLines::scenario_refusal_line))]
+pub(crate) fn write_scenario_refusal<K: Sink>(
+    fault: &ScenarioFault,
+    sink: &mut K,
+) -> Result<(), Failed>
+    ensures { IsWritten (scenario_refusal_line fault.now) result
+        (K.taken sink.old) (K.taken sink.new) (K.faults sink.old) (K.faults sink.new) }
+{
+    match *fault {
+        ScenarioFault::NotText => write_line("refused not utf-8", &[], sink),
+        ScenarioFault::NotToml => write_line("refused not toml", &[], sink),
+        ScenarioFault::UnknownKey { table, place } => write_unknown_key(table, place, sink),
+        ScenarioFault::MissingKey { table, place, name } => write_of_key(
+            "refused missing key",
+            table,
+            place,
+            name,
+            sink,
+        ),
+        ScenarioFault::WrongKind { table, place, name } => write_of_key(
+            "refused wrong kind",
+            table,
+            place,
+            name,
+            sink,
+        ),
+        ScenarioFault::OutOfRange {
+            table,
+            place,
+            name,
+            value,
+        } => write_out_of_range(table, place, name, value, sink),
+        ScenarioFault::TooMany { table } => write_line(
+            "refused too many",
+            &[Field::Text(table_name(table))],
+            sink,
+        ),
+        ScenarioFault::BadData { place } => write_at("refused bad data in send", place, sink),
+        ScenarioFault::BoundTooSmall { which, needed } => {
+            let which = Field::Text(param_name(which));
+            let fields = [which, Field::Text("needs"), Field::Number(needed)];
+            write_line("refused bound too small", &fields, sink)
+        }
+        ScenarioFault::RepeatedRule { index } => write_at("refused repeated rule", index, sink),
+        ScenarioFault::TooOften { place } => write_at("refused too often in restart", place, sink),
+        ScenarioFault::BadJournal { place } => write_at("refused bad journal at", place, sink),
+        ScenarioFault::Memory => Ok(()),
+    }
+}
+
+/// Writes the line of a fault that has only a place.
+fn write_at<K: Sink>(words: &'static str, place: usize, sink: &mut K) -> Result<(), Failed>
+    requires { length words.now ≤ 30 }
+    ensures { IsWritten (line_of (words.now ∷ decimal place ∷ [])) result
+        (K.taken sink.old) (K.taken sink.new) (K.faults sink.old) (K.faults sink.new) }
+{
+    write_line(words, &[Field::Number(place as u64)], sink)
+}
+
+fn write_unknown_key<K: Sink>(table: TableName, place: usize, sink: &mut K) -> Result<(), Failed>
+    ensures { IsWritten (line_of (codes "refused unknown key" ∷ codes "in" ∷ names.table_name table ∷ decimal place ∷ [])) result
+        (K.taken sink.old) (K.taken sink.new) (K.faults sink.old) (K.faults sink.new) }
+{
+    let fields = [
+        Field::Text("in"),
+        Field::Text(table_name(table)),
+        Field::Number(place as u64),
+    ];
+    write_line("refused unknown key", &fields, sink)
+}
+
+/// Writes the line of a fault of a key.
+fn write_of_key<K: Sink>(
+    words: &'static str,
+    table: TableName,
+    place: usize,
+    name: KeyName,
+    sink: &mut K,
+) -> Result<(), Failed>
+    requires { length words.now ≤ 30 }
+    ensures { IsWritten (line_of (words.now ∷ names.key_name name ∷ codes "in" ∷ names.table_name table ∷ decimal place ∷ [])) result
+        (K.taken sink.old) (K.taken sink.new) (K.faults sink.old) (K.faults sink.new) }
+{
+    let fields = [
+        Field::Text(key_name(name)),
+        Field::Text("in"),
+        Field::Text(table_name(table)),
+        Field::Number(place as u64),
+    ];
+    write_line(words, &fields, sink)
+}
+
+#[tactic(auto, unfolding(cany_model::specs::Texts::RefusalLines::scenario_refusal_line))]
+fn write_out_of_range<K: Sink>(
+    table: TableName,
+    place: usize,
+    name: KeyName,
+    value: i64,
+    sink: &mut K,
+) -> Result<(), Failed>
+    ensures { IsWritten (scenario_refusal_line (OutOfRange table place name value)) result
+        (K.taken sink.old) (K.taken sink.new) (K.faults sink.old) (K.faults sink.new) }
+{
+    let fields = [
+        Field::Text(key_name(name)),
+        Field::Text("in"),
+        Field::Text(table_name(table)),
+        Field::Number(place as u64),
+        Field::Text("value"),
+        Field::Signed(value),
+    ];
+    write_line("refused out of range", &fields, sink)
+}

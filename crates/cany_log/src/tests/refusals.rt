@@ -1,0 +1,127 @@
+use super::{node, sink};
+use crate::{Refusal, write_refusal};
+use cany_base::ParamName;
+use cany_io::{Failed, Sink};
+use cany_model::{FollowFault, KeyName, ScenarioFault, StepReply, TableName};
+use std::process::Abort;
+use std::test::Fail;
+
+fn write_of_scenarios<K: Sink>(sink: &mut K) -> Result<(), Failed> {
+    for fault in [
+        ScenarioFault::NotText,
+        ScenarioFault::NotToml,
+        ScenarioFault::UnknownKey {
+            table: TableName::Top,
+            place: 0,
+        },
+        ScenarioFault::MissingKey {
+            table: TableName::Send,
+            place: 19_999,
+            name: KeyName::DataKey,
+        },
+        ScenarioFault::WrongKind {
+            table: TableName::Restart,
+            place: 3,
+            name: KeyName::Restart,
+        },
+        ScenarioFault::OutOfRange {
+            table: TableName::Fault,
+            place: 1,
+            name: KeyName::Nth,
+            value: 100_001,
+        },
+        ScenarioFault::OutOfRange {
+            table: TableName::Join,
+            place: 2,
+            name: KeyName::Node,
+            value: -1,
+        },
+        ScenarioFault::OutOfRange {
+            table: TableName::Leave,
+            place: 999,
+            name: KeyName::Slot,
+            value: i64::MIN,
+        },
+        ScenarioFault::TooMany {
+            table: TableName::Restart,
+        },
+        ScenarioFault::BadData { place: 5 },
+        ScenarioFault::BoundTooSmall {
+            which: ParamName::Silence,
+            needed: 73,
+        },
+        ScenarioFault::RepeatedRule { index: 1 },
+        ScenarioFault::TooOften { place: 15 },
+        ScenarioFault::BadJournal { place: 4 },
+        ScenarioFault::Memory,
+    ] {
+        write_refusal(&Refusal::Scenario(fault), sink)?;
+    }
+    Ok(())
+}
+
+#[test]
+fn lines_of_texts_that_are_no_scenarios(rt: HostRuntime) -> Result<(), Fail> {
+    let alloc = rt.alloc();
+    let mut sink = sink(alloc, Vec::new(alloc))?;
+    write_of_scenarios(&mut sink)?;
+    let lines: &[u8] = b"refused not utf-8
+refused not toml
+refused unknown key in top 0
+refused missing key data in send 19999
+refused wrong kind restart in restart 3
+refused out of range nth in fault 1 value 100001
+refused out of range node in join 2 value -1
+refused out of range slot in leave 999 value -9223372036854775808
+refused too many restart
+refused bad data in send 5
+refused bound too small silence needs 73
+refused repeated rule 1
+refused too often in restart 15
+refused bad journal at 4
+";
+    assert_eq!(rt; sink.taken(), lines);
+    Ok(())
+}
+
+fn write_of_journals<K: Sink>(sink: &mut K) -> Result<(), Failed> {
+    for reply in [
+        StepReply::Lagging {
+            node: node(31),
+            unread: 9,
+        },
+        StepReply::Over { slots: 100_000 },
+        StepReply::NothingYet { now: 7 },
+        StepReply::Stopped { slot: 3 },
+        StepReply::NoNode { node: node(12) },
+    ] {
+        let fault = FollowFault::Refused {
+            place: 3_300_000,
+            reply,
+        };
+        write_refusal(&Refusal::Journal(fault), sink)?;
+    }
+    for node in [None, Some(node(2))] {
+        let fault = FollowFault::Unfinished { ran: 6, node };
+        write_refusal(&Refusal::Journal(fault), sink)?;
+    }
+    write_refusal(&Refusal::JournalGiven, sink)
+}
+
+#[test]
+fn lines_of_refused_journals(rt: HostRuntime) -> Result<(), Fail> {
+    let alloc = rt.alloc();
+    let mut sink = sink(alloc, Vec::new(alloc))?;
+    write_of_journals(&mut sink)?;
+    let lines: &[u8] = b"refused journal step 3300000 lagging node 31 unread 9
+refused journal step 3300000 over slots 100000
+refused journal step 3300000 nothing yet now 7
+refused journal step 3300000 stopped slot 3
+refused journal step 3300000 no node 12
+refused journal unfinished ran 6
+refused journal unfinished ran 6 node 2
+refused journal given to run
+";
+    assert_eq!(rt; sink.taken(), lines);
+    Ok(())
+}
