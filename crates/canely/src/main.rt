@@ -60,6 +60,17 @@ usage: canely replay < SCENARIO > REPORT
 replay reads a scenario, runs it by its own journal or, where it has none, by the round robin
 journal, and writes the report of the run.
 
+A scenario is a TOML document; slots, nodes and entries are counted from 0:
+  format, nodes, slots       required; format 1 has up to 32 nodes, format 2 up to 64
+  lag, omit, errors          unread notices, omissions, errors; 0, 1 and 2 where absent
+  bound, cycle, life, silence, confirm   in slots; the least legal ones, and 10, where absent
+  members = [NODE, ..]       the members of view 0; all nodes where absent
+  [[send]]                   slot, node, service = \"ed\", \"rel\" or \"tot\", data = \"HEX\"
+  [[fault]]                  slot, or class, number, node and nth; verdict = \"clean\", \"lost\",
+                             \"partial\" or \"silent\"; reject = [NODE, ..], stop = [NODE, ..]
+  [[join]] [[leave]] [[restart]]   slot, node
+  journal = [\".012\", ..]   . is a slot; 0 to 9, a to z, A to Z, + and - are turns of nodes
+
 status {DONE}  done
        {OTHER_WORDS}  the words are none of these
        {REFUSED}  the scenario or its journal was refused, and one line says so
@@ -87,6 +98,25 @@ fn print(rt: &HostRuntime, text: &str) -> u8 {
     }
 }
 
+/// What was wrong, where a status other than that of a refusal says only that something was: a refusal has its own line.
+fn complaint(status: u8) -> Option<&'static str> {
+    match status {
+        OTHER_WORDS => Some("canely: the words are none that it knows: see canely --help\n"),
+        READ_FAULT => Some("canely: reading the scenario failed\n"),
+        WRITE_FAULT => Some("canely: writing failed\n"),
+        NO_MEMORY => Some("canely: out of memory\n"),
+        TOO_LONG => Some("canely: the scenario has more than 33554432 bytes\n"),
+        _ => None,
+    }
+}
+
+/// Writes the complaint to standard error. Where that fails too, the status alone tells.
+fn complain(rt: &HostRuntime, status: u8) {
+    if let Some(text) = complaint(status) {
+        let _ = write_whole(&mut StdSink::new(rt.stderr()), text.as_bytes());
+    }
+}
+
 /// Does what the words say, and answers the status.
 fn run(rt: &HostRuntime) -> u8 {
     let words = match words_of(rt) {
@@ -105,7 +135,9 @@ fn run(rt: &HostRuntime) -> u8 {
 }
 
 fn main(rt: HostRuntime) -> ExitCode {
-    ExitCode::from(run(&rt))
+    let status = run(&rt);
+    complain(&rt, status);
+    ExitCode::from(status)
 }
 
 #[cfg(test)]

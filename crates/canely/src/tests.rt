@@ -11,13 +11,24 @@ usage: canely replay < SCENARIO > REPORT
 replay reads a scenario, runs it by its own journal or, where it has none, by the round robin
 journal, and writes the report of the run.
 
+A scenario is a TOML document; slots, nodes and entries are counted from 0:
+  format, nodes, slots       required; format 1 has up to 32 nodes, format 2 up to 64
+  lag, omit, errors          unread notices, omissions, errors; 0, 1 and 2 where absent
+  bound, cycle, life, silence, confirm   in slots; the least legal ones, and 10, where absent
+  members = [NODE, ..]       the members of view 0; all nodes where absent
+  [[send]]                   slot, node, service = \"ed\", \"rel\" or \"tot\", data = \"HEX\"
+  [[fault]]                  slot, or class, number, node and nth; verdict = \"clean\", \"lost\",
+                             \"partial\" or \"silent\"; reject = [NODE, ..], stop = [NODE, ..]
+  [[join]] [[leave]] [[restart]]   slot, node
+  journal = [\".012\", ..]   . is a slot; 0 to 9, a to z, A to Z, + and - are turns of nodes
+
 status 0  done
        2  the words are none of these
        3  the scenario or its journal was refused, and one line says so
        4  reading failed
        5  writing failed
        6  out of memory, and nothing was written
-       7  more than 8388608 bytes were read
+       7  more than 33554432 bytes were read
 ";
 
 #[test]

@@ -1,17 +1,2 @@
-pub mod AfterFacts
-pub mod AsksFacts
-pub mod EntriesFacts
-pub mod FaultsFacts
-pub mod FieldFacts
-pub mod JournalFacts
-pub mod KeysFacts
-pub mod PlacesFacts
-pub mod ReportFacts
 pub mod RunFacts
-pub mod ScenarioFacts
-pub mod SendsFacts
-pub mod SetTextFacts
-pub mod SetsFacts
-pub mod TextFacts
 pub mod TopFacts
-pub mod WrittenFacts

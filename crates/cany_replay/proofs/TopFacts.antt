@@ -1,5 +1,5 @@
 -- What is written for a text, and the words of the command.
-use Rattle.std.proofs.Common.{◌≡◌, ℕ, ◌<◌, ◌≤◌, ◌↔◌, Bool, true, IsTrue, List, [], ◌∷◌, length, map, get_or, Option, Some, None, option_map, IsSomeAnd, sym, ◌∙◌, ap, subst, arith}
+use Rattle.std.proofs.Common.{◌≡◌, ℕ, ◌<◌, ◌≤◌, ◌↔◌, Bool, true, IsTrue, List, [], ◌∷◌, length, map, get_or, Option, Some, None, option_map, Ok, Err, IsOkAnd, IsSomeAnd, sym, ◌∙◌, ap, subst, arith}
 use Rattle.std.specs.Bool.{Decides}
 use Rattle.std.specs.Str.{bytes_eq}
 use Rattle.std.proofs.lemmas.Slice.Eq.{bytes_eq-Decides}
@@ -7,20 +7,22 @@ use Rattle.std.specs.Option.{option_map_or}
 use Rattle.cany_base.specs.Scenario.{ScenarioParts}
 use Rattle.cany_io.specs.Sink.{Takes, TakesPrefix}
 use Rattle.cany_model.specs.declared.follow.FollowFault.{FollowFault}
+use Rattle.cany_model.specs.declared.scenario_fault.ScenarioFault.{ScenarioFault}
 use Rattle.cany_model.specs.Bus.Follow.{journal_of}
-use Rattle.cany_model.specs.Texts.RefusalLines.{later_form_line, journal_refusal_line}
+use Rattle.cany_model.specs.Texts.RefusalLines.{journal_refusal_line, scenario_refusal_line}
 use Rattle.cany_model.specs.Texts.Report.{report}
 use Rattle.cany_model.specs.Texts.ScenarioText.{scenario_of}
-use Rattle.cany_replay.specs.Top.{IsReplay, KeepsPromises, own_fault, refusal_for, refusal_of, answer_for, answer_of}
+use Rattle.cany_model.specs.Texts.TomlKeys.{Read}
+use Rattle.cany_replay.specs.Top.{IsReplay, KeepsPromises, own_fault, refusal_for, refusal_of, answer_for, answer_to, answer_of}
 use Rattle.cany_world.specs.World.{WorldParts}
 
-pub reported : (bytes : List ℕ) (scenario : ScenarioParts) (old new : Option (List ℕ)) → scenario_of bytes ≡ Some scenario → KeepsPromises scenario
-    → Takes old (report scenario (journal_of scenario)) new → IsSomeAnd (scenario_of bytes) (λ s. IsReplay s old new)
+pub reported : (bytes : List ℕ) (scenario : ScenarioParts) (old new : Option (List ℕ)) → scenario_of bytes ≡ Ok scenario → KeepsPromises scenario
+    → Takes old (report scenario (journal_of scenario)) new → IsOkAnd (scenario_of bytes) (λ s. IsReplay s old new)
 reported bytes scenario old new is promises written =
-    let P : Option ScenarioParts → Type 0 = λ o. IsSomeAnd o (λ s. IsReplay s old new) in
+    let P : Read ScenarioParts → Type 0 = λ o. IsOkAnd o (λ s. IsReplay s old new) in
     subst P (sym is) (record { written = written; promises = promises })
 
-pub not_refused : (bytes : List ℕ) (scenario : ScenarioParts) → scenario_of bytes ≡ Some scenario → own_fault scenario ≡ None → refusal_of bytes ≡ None
+pub not_refused : (bytes : List ℕ) (scenario : ScenarioParts) → scenario_of bytes ≡ Ok scenario → own_fault scenario ≡ None → refusal_of bytes ≡ None
 unfolding refusal_of
 not_refused bytes scenario is followed = ap refusal_for is ∙ ap (option_map journal_refusal_line) followed
 
@@ -30,32 +32,32 @@ line_for : (o : Option FollowFault) (old new : Option (List ℕ)) → IsSomeAnd 
 line_for None old new h = h
 line_for (Some fault) old new h = h
 
-pub refused_journal : (bytes : List ℕ) (scenario : ScenarioParts) (old new : Option (List ℕ)) → scenario_of bytes ≡ Some scenario
+pub refused_journal : (bytes : List ℕ) (scenario : ScenarioParts) (old new : Option (List ℕ)) → scenario_of bytes ≡ Ok scenario
     → IsSomeAnd (own_fault scenario) (λ fault. Takes old (journal_refusal_line fault) new) → IsSomeAnd (refusal_of bytes) (λ line. Takes old line new)
 unfolding refusal_of
 refused_journal bytes scenario old new is taken =
-    let P : Option ScenarioParts → Type 0 = λ o. IsSomeAnd (refusal_for o) (λ line. Takes old line new) in
+    let P : Read ScenarioParts → Type 0 = λ o. IsSomeAnd (refusal_for o) (λ line. Takes old line new) in
     subst P (sym is) (line_for (own_fault scenario) old new taken)
 
-pub refused_text : (bytes : List ℕ) (old new : Option (List ℕ)) → scenario_of bytes ≡ None → Takes old later_form_line new
-    → IsSomeAnd (refusal_of bytes) (λ line. Takes old line new)
+pub refused_text : (bytes : List ℕ) (fault : ScenarioFault) (old new : Option (List ℕ)) → scenario_of bytes ≡ Err fault
+    → Takes old (scenario_refusal_line fault) new → IsSomeAnd (refusal_of bytes) (λ line. Takes old line new)
 unfolding refusal_of
-refused_text bytes old new is taken =
-    let P : Option ScenarioParts → Type 0 = λ o. IsSomeAnd (refusal_for o) (λ line. Takes old line new) in
+refused_text bytes fault old new is taken =
+    let P : Read ScenarioParts → Type 0 = λ o. IsSomeAnd (refusal_for o) (λ line. Takes old line new) in
     subst P (sym is) taken
 
-pub answer_of_scenario : (bytes : List ℕ) (scenario : ScenarioParts) (old new : Option (List ℕ)) → scenario_of bytes ≡ Some scenario
+pub answer_of_scenario : (bytes : List ℕ) (scenario : ScenarioParts) (old new : Option (List ℕ)) → scenario_of bytes ≡ Ok scenario
     → TakesPrefix old (answer_for scenario) new → TakesPrefix old (answer_of bytes) new
 unfolding answer_of
 answer_of_scenario bytes scenario old new is part =
-    let P : Option ScenarioParts → Type 0 = λ o. TakesPrefix old (option_map_or answer_for o later_form_line) new in
+    let P : Read ScenarioParts → Type 0 = λ o. TakesPrefix old (answer_to o) new in
     subst P (sym is) part
 
-pub answer_of_other : (bytes : List ℕ) (old new : Option (List ℕ)) → scenario_of bytes ≡ None → TakesPrefix old later_form_line new
-    → TakesPrefix old (answer_of bytes) new
+pub answer_of_other : (bytes : List ℕ) (fault : ScenarioFault) (old new : Option (List ℕ)) → scenario_of bytes ≡ Err fault
+    → TakesPrefix old (scenario_refusal_line fault) new → TakesPrefix old (answer_of bytes) new
 unfolding answer_of
-answer_of_other bytes old new is part =
-    let P : Option ScenarioParts → Type 0 = λ o. TakesPrefix old (option_map_or answer_for o later_form_line) new in
+answer_of_other bytes fault old new is part =
+    let P : Read ScenarioParts → Type 0 = λ o. TakesPrefix old (answer_to o) new in
     subst P (sym is) part
 
 -- what is written of a run

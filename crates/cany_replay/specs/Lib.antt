@@ -1,10 +1,3 @@
-pub mod Fields
-pub mod JournalParts
-pub mod Keys
-pub mod Refusal
-pub mod ReportParts
 pub mod RunFaults
-pub mod Sets
 pub mod Status
 pub mod Top
-pub mod Written

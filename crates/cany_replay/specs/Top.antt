@@ -1,16 +1,17 @@
 -- The command `replay`: its words, what it writes, and what its success says.
-use Rattle.std.specs.Prelude.{◌≡◌, ℕ, List, [], ◌∷◌, Option, Some, None, option_map, option_and_then, codes}
+use Rattle.std.specs.Prelude.{◌≡◌, ℕ, List, [], ◌∷◌, Option, Some, None, option_map, option_and_then, Ok, Err, codes}
 use Rattle.std.specs.Option.{option_map_or}
 use Rattle.cany_base.specs.Scenario.{ScenarioParts}
 use Rattle.cany_io.specs.Sink.{Takes}
 use Rattle.cany_model.specs.declared.follow.FollowFault.{FollowFault}
 use Rattle.cany_model.specs.Bus.Follow.{journal_fault, journal_of}
 use Rattle.cany_model.specs.Promises.Hypothesis.{IsWithin}
-use Rattle.cany_model.specs.Texts.RefusalLines.{later_form_line, journal_refusal_line}
+use Rattle.cany_model.specs.Texts.RefusalLines.{journal_refusal_line, scenario_refusal_line}
 use Rattle.cany_model.specs.Texts.Report.{report}
 use Rattle.cany_model.specs.Bus.Run.{IsLegal, IsWhole, run}
 use Rattle.cany_model.specs.Promises.Safe.{IsIntegral, IsSafe}
 use Rattle.cany_model.specs.Texts.ScenarioText.{scenario_of}
+use Rattle.cany_model.specs.Texts.TomlKeys.{Read}
 use Rattle.cany_model.specs.Bus.State.{RunState}
 
 -- the words are the one word of the command
@@ -21,21 +22,25 @@ AreReplay words = words ≡ codes "replay" ∷ []
 abbrev pub own_fault : ScenarioParts → Option FollowFault
 own_fault scenario = option_and_then (journal_fault scenario) scenario.journal
 
-abbrev pub refusal_for : Option ScenarioParts → Option (List ℕ)
-refusal_for None = Some later_form_line
-refusal_for (Some scenario) = option_map journal_refusal_line (own_fault scenario)
+abbrev pub refusal_for : Read ScenarioParts → Option (List ℕ)
+refusal_for (Err fault) = Some (scenario_refusal_line fault)
+refusal_for (Ok scenario) = option_map journal_refusal_line (own_fault scenario)
 
--- the line of the refusal, where the bytes stand for no scenario of the form that is read so far, or its journal is refused
+-- the line of the refusal, where the bytes are no scenario, for their first fault, or where its journal is refused
 unfoldable pub refusal_of : List ℕ → Option (List ℕ)
 refusal_of bytes = refusal_for (scenario_of bytes)
 
 abbrev pub answer_for : ScenarioParts → List ℕ
 answer_for scenario = option_map_or journal_refusal_line (own_fault scenario) (report scenario (journal_of scenario))
 
+abbrev pub answer_to : Read ScenarioParts → List ℕ
+answer_to (Err fault) = scenario_refusal_line fault
+answer_to (Ok scenario) = answer_for scenario
+
 -- what is written for the bytes of a text: the report of the scenario that they stand for by its own journal or, where it has
 -- none, by its round robin journal; or the line of the refusal
 unfoldable pub answer_of : List ℕ → List ℕ
-answer_of bytes = option_map_or answer_for (scenario_of bytes) later_form_line
+answer_of bytes = answer_to (scenario_of bytes)
 
 -- the run of the scenario by its own journal or by its round robin journal
 abbrev pub replayed : ScenarioParts → RunState

@@ -1,8 +1,6 @@
 //! The command `replay`: a scenario text in, the report of its run out.
 #![tactic(auto)]
 
-mod reader;
-mod report;
 mod run;
 pub mod status;
 mod top;

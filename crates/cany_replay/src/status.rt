@@ -6,8 +6,8 @@ pub const DONE: u8 = 0;
 /// The words are none that the program knows, or cannot be had. Nothing was read or written.
 pub const OTHER_WORDS: u8 = 2;
 
-/// The text stands for no scenario of the form that is read so far, or a step of the scenario's journal could not be done, or
-/// slots or notices are left at its end. The line of the refusal was written.
+/// The text stands for no scenario, or a step of the scenario's journal could not be done, or slots or notices are left at its
+/// end. The line of the refusal was written.
 pub const REFUSED: u8 = 3;
 
 /// The source failed. Nothing was written.

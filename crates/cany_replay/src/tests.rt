@@ -4,8 +4,10 @@ use crate::tests::journals::JOURNALS;
 use crate::tests::life::LIFE_RUNS;
 use crate::tests::membership::MEMBERSHIP_RUNS;
 use crate::tests::relcan::RELCAN_RUNS;
+use crate::tests::restart_reports::RESTART_REPORTS;
 use crate::tests::round_robin::ROUND_ROBIN_RUNS;
 use crate::tests::runs::RUNS;
+use crate::tests::second_format::SECOND_FORMAT_RUNS;
 use crate::tests::thirty_two_nodes::THIRTY_TWO_NODES;
 use crate::tests::totcan::TOTCAN_RUNS;
 use cany_io::{MemSink, MemSource, PlainSource, Source};
@@ -13,14 +15,15 @@ use std::alloc::{AllocError, Global};
 use std::test::Fail;
 
 mod backlog;
-mod forty_nodes;
 mod journals;
 mod life;
 mod membership;
 mod relcan;
+mod restart_reports;
 mod restarts;
 mod round_robin;
 mod runs;
+mod second_format;
 mod streams;
 mod thirty_two_nodes;
 mod totcan;
@@ -59,7 +62,8 @@ message ed 0 0 settled
 end
 ";
 
-const REFUSAL: &str = "refused later form\n";
+/// The refusal of a text without a key.
+const NO_FORMAT: &str = "refused missing key format in top 0\n";
 
 /// What became of a call.
 #[derive(Clone, Copy)]
@@ -142,6 +146,8 @@ fn texts_and_their_answers(rt: HostRuntime) -> Result<(), Fail> {
         TOTCAN_RUNS.as_slice(),
         LIFE_RUNS.as_slice(),
         MEMBERSHIP_RUNS.as_slice(),
+        RESTART_REPORTS.as_slice(),
+        SECOND_FORMAT_RUNS.as_slice(),
         ROUND_ROBIN_RUNS.as_slice(),
         JOURNALS.as_slice(),
         &[THIRTY_TWO_NODES],

@@ -1,24 +1,25 @@
 //! The call behind the command `replay`.
-ghost use Rattle.std.specs.Prelude.{◌≡◌, ◌⊎◌, ◌↔◌, ◌<◌, ◌≤◌, [], map, length, string_bytes, None, IsTrue, IfSome, IsSomeAnd, MatchOption};
+ghost use Rattle.std.specs.Prelude.{◌≡◌, ◌⊎◌, ◌↔◌, ◌<◌, ◌≤◌, map, length, string_bytes, None, IsTrue, IfSome, IsOkAnd, IsSomeAnd, MatchOption};
 ghost use Rattle.cany_base.specs.Limits.{most_text_bytes};
 ghost use Rattle.cany_io.specs.Faults.{HasRisen, StandsStill};
 ghost use Rattle.cany_io.specs.Sink.{Takes, TakesPrefix};
 ghost use Rattle.cany_io.specs.Source.{IsAtEnd};
 ghost use Rattle.cany_model.specs.Bus.Follow.{journal_of};
-ghost use Rattle.cany_model.specs.Texts.RefusalLines.{later_form_line, journal_refusal_line};
+ghost use Rattle.cany_log.specs.Refusals.{refusal_line};
+ghost use Rattle.cany_model.specs.declared.scenario_fault.ScenarioFault.TheVariants.{Memory};
+ghost use Rattle.cany_model.specs.Texts.RefusalLines.{journal_refusal_line};
 ghost use Rattle.cany_model.specs.Texts.Report.{report};
 ghost use Rattle.cany_model.specs.Texts.ScenarioText.{scenario_of};
 ghost use Rattle.cany_replay.specs.Status.{HasAnswered, HasNoAnswer};
 ghost use Rattle.cany_replay.specs.Top.{AreReplay, IsReplay, KeepsPromises, own_fault, refusal_of, answer_for, answer_of};
 
-use crate::reader::{ReadRefusal, read_scenario};
-use crate::report::{write_journal_refusal, write_later_form, write_report};
 use crate::run::{RunFault, run};
 use crate::status::{DONE, NO_MEMORY, OTHER_WORDS, READ_FAULT, REFUSED, TOO_LONG, WRITE_FAULT};
 use cany_base::Scenario;
 use cany_base::limits::MOST_TEXT_BYTES;
 use cany_io::{Failed, ReadFault, Sink, Source, read_all};
-use cany_model::FollowFault;
+use cany_log::{Refusal, write_refusal, write_report};
+use cany_scenario::{ScenarioFault, read_scenario};
 use cany_world::World;
 use std::alloc::Global;
 
@@ -33,7 +34,6 @@ fn is_replay(words: &[String]) -> bool
 
 /// Writes the report of a run.
 fn report_run<K: Sink>(world: &World, sink: &mut K) -> u8
-    requires { world.now.scenario.restarts ≡ [] }
     ensures done { result ≡ DONE → Takes (K.taken sink.old) (report world.now.scenario world.now.journal) (K.taken sink.new) }
     ensures write_fault { result ≡ WRITE_FAULT → HasRisen (K.faults sink.old) (K.faults sink.new) }
     ensures prefix { TakesPrefix (K.taken sink.old) (report world.now.scenario world.now.journal) (K.taken sink.new) }
@@ -45,27 +45,14 @@ fn report_run<K: Sink>(world: &World, sink: &mut K) -> u8
     }
 }
 
-/// Refuses a text that stands for no scenario of the form that is read so far.
-fn refuse_text<K: Sink>(sink: &mut K) -> u8
-    ensures refused { result ≡ REFUSED → Takes (K.taken sink.old) later_form_line (K.taken sink.new) }
+/// Refuses the text or the journal.
+fn refuse<K: Sink>(refusal: &Refusal, sink: &mut K) -> u8
+    ensures refused { result ≡ REFUSED → Takes (K.taken sink.old) (refusal_line refusal.now) (K.taken sink.new) }
     ensures write_fault { result ≡ WRITE_FAULT → HasRisen (K.faults sink.old) (K.faults sink.new) }
-    ensures prefix { TakesPrefix (K.taken sink.old) later_form_line (K.taken sink.new) }
+    ensures prefix { TakesPrefix (K.taken sink.old) (refusal_line refusal.now) (K.taken sink.new) }
     ensures status { (result ≡ REFUSED) ⊎ (result ≡ WRITE_FAULT) }
 {
-    match write_later_form(sink) {
-        Ok(()) => REFUSED,
-        Err(Failed) => WRITE_FAULT,
-    }
-}
-
-/// Refuses a scenario for its journal.
-fn refuse_journal<K: Sink>(fault: &FollowFault, sink: &mut K) -> u8
-    ensures refused { result ≡ REFUSED → Takes (K.taken sink.old) (journal_refusal_line fault.now) (K.taken sink.new) }
-    ensures write_fault { result ≡ WRITE_FAULT → HasRisen (K.faults sink.old) (K.faults sink.new) }
-    ensures prefix { TakesPrefix (K.taken sink.old) (journal_refusal_line fault.now) (K.taken sink.new) }
-    ensures status { (result ≡ REFUSED) ⊎ (result ≡ WRITE_FAULT) }
-{
-    match write_journal_refusal(fault, sink) {
+    match write_refusal(refusal, sink) {
         Ok(()) => REFUSED,
         Err(Failed) => WRITE_FAULT,
     }
@@ -73,7 +60,6 @@ fn refuse_journal<K: Sink>(fault: &FollowFault, sink: &mut K) -> u8
 
 /// Runs a scenario and writes the report, or refuses its journal. Nothing is written before the run has ended.
 fn replay_scenario<K: Sink>(alloc: Global, scenario: &Scenario, sink: &mut K) -> u8
-    requires { scenario.now.restarts ≡ [] }
     ensures done { result ≡ DONE → Takes (K.taken sink.old) (report scenario.now (journal_of scenario.now)) (K.taken sink.new) }
     ensures followed { result ≡ DONE → own_fault scenario.now ≡ None }
     ensures promises { result ≡ DONE → KeepsPromises scenario.now }
@@ -85,14 +71,21 @@ fn replay_scenario<K: Sink>(alloc: Global, scenario: &Scenario, sink: &mut K) ->
 {
     match run(alloc, scenario) {
         Ok(world) => report_run(&world, sink),
-        Err(RunFault::Journal(fault)) => refuse_journal(&fault, sink),
+        Err(RunFault::Journal(fault)) => refuse(&Refusal::Journal(fault), sink),
         Err(RunFault::Memory) => NO_MEMORY,
     }
 }
 
+/// Whether a text was not read for want of memory, which is no fault of the text.
+fn is_memory(fault: &ScenarioFault) -> bool
+    ensures { IsTrue result ↔ (fault.now ≡ Memory) }
+{
+    matches!(fault, ScenarioFault::Memory)
+}
+
 /// Replays the scenario of a text, or refuses the text.
 fn replay_text<K: Sink>(alloc: Global, text: &[u8], sink: &mut K) -> u8
-    ensures done { result ≡ DONE → IsSomeAnd (scenario_of text.now) (λ scenario. IsReplay scenario (K.taken sink.old) (K.taken sink.new)) }
+    ensures done { result ≡ DONE → IsOkAnd (scenario_of text.now) (λ scenario. IsReplay scenario (K.taken sink.old) (K.taken sink.new)) }
     ensures not_refused { result ≡ DONE → refusal_of text.now ≡ None }
     ensures refused { result ≡ REFUSED → IsSomeAnd (refusal_of text.now) (λ line. Takes (K.taken sink.old) line (K.taken sink.new)) }
     ensures write_fault { result ≡ WRITE_FAULT → HasRisen (K.faults sink.old) (K.faults sink.new) }
@@ -102,8 +95,8 @@ fn replay_text<K: Sink>(alloc: Global, text: &[u8], sink: &mut K) -> u8
 {
     match read_scenario(alloc, text) {
         Ok(scenario) => replay_scenario(alloc, &scenario, sink),
-        Err(ReadRefusal::Later { .. }) => refuse_text(sink),
-        Err(ReadRefusal::Memory) => NO_MEMORY,
+        Err(fault) if is_memory(&fault) => NO_MEMORY,
+        Err(fault) => refuse(&Refusal::Scenario(fault), sink),
     }
 }
 
@@ -122,7 +115,7 @@ pub fn replay_top<S: Source, K: Sink>(
     ensures unread { result ≡ OTHER_WORDS → source.new ≡ source.old }
 
     // Success. Here and below, `bytes` are all that the source had.
-    ensures done { result ≡ DONE → IfSome (S.left source.old) (λ bytes. IsSomeAnd (scenario_of bytes) (λ scenario.
+    ensures done { result ≡ DONE → IfSome (S.left source.old) (λ bytes. IsOkAnd (scenario_of bytes) (λ scenario.
         IsReplay scenario (K.taken sink.old) (K.taken sink.new))) }
 
     // The text or the journal is refused.

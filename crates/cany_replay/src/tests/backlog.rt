@@ -1,7 +1,7 @@
 //! When a message of a backlog is settled: it counts as asked for only once its data frame was.
 
-use crate::reader::read_scenario;
 use cany_base::Scenario;
+use cany_scenario::read_scenario;
 use cany_world::{World, round_robin};
 use std::alloc::Global;
 use std::test::Fail;

@@ -118,7 +118,7 @@ stop = [1]
 ];
 
 /// Journals of three nodes and two slots without a send, and the line of the refusal: of a journal that cannot be followed to
-/// the end of the run, and of texts of another form.
+/// the end of the run, or has a byte that is no step, or is no list of texts.
 const REFUSED_JOURNALS: [(&str, &str); 15] = [
     (
         "[\"..012012\"]",
@@ -135,12 +135,12 @@ const REFUSED_JOURNALS: [(&str, &str); 15] = [
     ("[\".012\"]", "refused journal unfinished ran 1\n"),
     ("[]", "refused journal unfinished ran 0\n"),
     ("[\"\"]", "refused journal unfinished ran 0\n"),
-    ("[\".0*\"]", REFUSAL),
-    ("[\".w\"]", REFUSAL),
-    ("[\".A\"]", REFUSAL),
-    ("[\". 012\"]", REFUSAL),
-    ("[0]", REFUSAL),
-    ("\".012.012\"", REFUSAL),
+    ("[\".0*\"]", "refused bad journal at 2\n"),
+    ("[\".w\"]", "refused bad journal at 1\n"),
+    ("[\".A\"]", "refused bad journal at 1\n"),
+    ("[\". 012\"]", "refused bad journal at 1\n"),
+    ("[0]", "refused wrong kind journal in top 0\n"),
+    ("\".012.012\"", "refused wrong kind journal in top 0\n"),
 ];
 
 #[test]

@@ -1,16 +1,14 @@
-//! Nodes that start again: the spans and logs of their incarnations, and the nodes that started again in a slot. A text has no
-//! restart entries yet, and a report no lines for them, so each scenario is that of a text with entries put in.
+//! Nodes that start again: the spans and logs of their incarnations, and the nodes that started again in a slot.
 
-ghost use Rattle.std.specs.Prelude.{◌≡◌, ◌<◌, ◌≤◌, [], length, All, IsTrue};
-ghost use Rattle.cany_base.specs.Scenario.{IsAskOf};
+ghost use Rattle.std.specs.Prelude.{◌<◌, ◌≤◌, IsTrue};
 ghost use Rattle.cany_model.specs.Bus.State.{node_at};
 ghost use Rattle.cany_world.specs.World.{WorldParts, state_of};
 
-use crate::reader::read_scenario;
-use crate::report::write_entry;
 use crate::tests::ROOM;
-use cany_base::{Class, LogEntry, NodeAsk, NodeId, NodeSet, Params, Scenario, Slot, SlotNote};
+use cany_base::{Class, LogEntry, NodeId, NodeSet, Slot, SlotNote};
 use cany_io::MemSink;
+use cany_log::write_entry;
+use cany_scenario::read_scenario;
 use cany_world::{Span, World, follow, round_robin};
 use std::alloc::Global;
 use std::test::Fail;
@@ -39,61 +37,14 @@ enum Fact {
     LifeSigns(u8, usize),
 }
 
-/// A run: its name, its text, its restart entries as slots and nodes, and what is to hold after it.
-type Run = (
-    &'static str,
-    &'static str,
-    &'static [(Slot, u8)],
-    &'static [Fact],
-);
-
-/// Whether each entry is of a slot and of a node of the run.
-fn are_of(params: &Params, entries: &[NodeAsk]) -> bool
-    ensures { IsTrue result → All (IsAskOf params.now) entries.now }
-{
-    entries.iter().all(|entry| entry.slot < params.slots && entry.node.get() < params.nodes)
-}
-
-/// The restart entries of these slots and nodes.
-fn asks_of(alloc: Global, entries: &[(Slot, u8)]) -> Result<Vec<NodeAsk>, Fail> {
-    let mut asks = Vec::new(alloc);
-    for (slot, number) in entries {
-        let Some(node) = NodeId::new(*number) else {
-            return Err(Fail::from("there is no such node"));
-        };
-        asks.push(NodeAsk { slot: *slot, node })?;
-    }
-    Ok(asks)
-}
-
-/// The scenario of the text, with these restart entries.
-fn with_restarts(alloc: Global, text: &str, restarts: &[NodeAsk]) -> Result<Scenario, Fail> {
-    let Ok(read) = read_scenario(alloc, text.as_bytes()) else {
-        return Err(Fail::from("the text is refused"));
-    };
-    let params = *read.params();
-    if !are_of(&params, restarts) || restarts.len() > 15 {
-        return Err(Fail::from("the entries are not of the run"));
-    }
-    let journal = match read.journal() {
-        Some(steps) => Some(Vec::from_slice(alloc, steps)?),
-        None => None,
-    };
-    Ok(Scenario::of_parts(
-        params,
-        read.members(),
-        Vec::from_slice(alloc, read.sends())?,
-        Vec::from_slice(alloc, read.rules())?,
-        Vec::from_slice(alloc, read.joins())?,
-        Vec::from_slice(alloc, read.leaves())?,
-        Vec::from_slice(alloc, restarts)?,
-        journal,
-    ))
-}
+/// A run: its name, its text, and what is to hold after it.
+type Run = (&'static str, &'static str, &'static [Fact]);
 
 /// The world of this scenario after its journal, or after its round robin journal.
-fn run(alloc: Global, text: &str, restarts: &[NodeAsk]) -> Result<World, Fail> {
-    let scenario = with_restarts(alloc, text, restarts)?;
+fn run(alloc: Global, text: &str) -> Result<World, Fail> {
+    let Ok(scenario) = read_scenario(alloc, text.as_bytes()) else {
+        return Err(Fail::from("the text is refused"));
+    };
     let mut world = World::build(alloc, &scenario)?;
     match scenario.journal() {
         Some(steps) => {
@@ -292,32 +243,16 @@ fn first_wrong(alloc: Global, world: &World, facts: &[Fact]) -> Result<Option<us
     Ok(None)
 }
 
-/// The place of the first fact that does not hold after the run of the text with these restarts.
-fn wrong_after(
-    alloc: Global,
-    text: &str,
-    restarts: &[NodeAsk],
-    facts: &[Fact],
-) -> Result<Option<usize>, Fail> {
-    let world = run(alloc, text, restarts)?;
+/// The place of the first fact that does not hold after the run of the text.
+fn wrong_after(alloc: Global, text: &str, facts: &[Fact]) -> Result<Option<usize>, Fail> {
+    let world = run(alloc, text)?;
     first_wrong(alloc, &world, facts)
-}
-
-/// The place of the first fact of the run that does not hold.
-fn wrong_in(
-    alloc: Global,
-    text: &str,
-    restarts: &[(Slot, u8)],
-    facts: &[Fact],
-) -> Result<Option<usize>, Fail> {
-    let restarts = asks_of(alloc, restarts)?;
-    wrong_after(alloc, text, &restarts, facts)
 }
 
 #[test]
 fn runs_with_restarts(rt: HostRuntime) -> Result<(), Fail> {
-    for (name, text, restarts, facts) in RUNS {
-        let wrong = wrong_in(rt.alloc(), text, restarts, facts)?;
+    for (name, text, facts) in RUNS {
+        let wrong = wrong_after(rt.alloc(), text, facts)?;
         assert_eq!(rt; wrong, None, "at {name}");
     }
     Ok(())
@@ -339,8 +274,11 @@ service = \"ed\"
 [[fault]]
 slot = 5
 stop = [0]
+
+[[restart]]
+slot = 10
+node = 0
 ",
-        &[(10, 0)],
         &[
             Fact::Present(0, 1),
             Fact::Lived(0, 0, 0, Some(5), 5),
@@ -383,8 +321,23 @@ stop = [2]
 [[fault]]
 slot = 43
 stop = [1]
+
+[[restart]]
+slot = 1
+node = 2
+
+[[restart]]
+slot = 1
+node = 0
+
+[[restart]]
+slot = 44
+node = 1
+
+[[restart]]
+slot = 44
+node = 1
 ",
-        &[(1, 2), (1, 0), (44, 1), (44, 1)],
         &[
             Fact::Lived(2, 0, 0, Some(1), 1),
             Fact::Log(2, 0, ""),
@@ -433,8 +386,11 @@ service = \"ed\"
 slot = 2
 verdict = \"lost\"
 stop = [2]
+
+[[restart]]
+slot = 3
+node = 2
 ",
-        &[(3, 2)],
         &[
             Fact::Lived(2, 0, 0, Some(2), 2),
             Fact::Log(2, 0, "deliver 1 ed 0 0 x\n"),
@@ -468,8 +424,11 @@ slot = 1
 verdict = \"partial\"
 reject = [2]
 stop = [0]
+
+[[restart]]
+slot = 3
+node = 0
 ",
-        &[(3, 0)],
         &[
             Fact::Log(0, 0, ""),
             Fact::LogNow(0, "deliver 52 rel 0 0 x\ndeliver 61 rel 0 1 x\n"),
@@ -489,8 +448,11 @@ cycle = 120
 [[fault]]
 slot = 5
 stop = [0]
+
+[[restart]]
+slot = 10
+node = 0
 ",
-        &[(10, 0)],
         &[
             Fact::Log(0, 0, ""),
             Fact::LogNow(0, "failed 76 0 0\n"),
@@ -516,8 +478,11 @@ cycle = 160
 [[fault]]
 slot = 40
 stop = [0]
+
+[[restart]]
+slot = 90
+node = 0
 ",
-        &[(90, 0)],
         &[
             Fact::Lived(0, 1, 91, None, 69),
             Fact::Log(0, 0, ""),
@@ -544,8 +509,11 @@ node = 1
 [[fault]]
 slot = 5
 stop = [1]
+
+[[restart]]
+slot = 110
+node = 1
 ",
-        &[(110, 1)],
         &[
             Fact::Lived(1, 0, 0, Some(5), 5),
             Fact::Log(1, 0, ""),
@@ -591,24 +559,24 @@ fault = [
     { slot = 15, stop = [0] },
 ]
 send = [{ slot = 55, node = 1, service = \"ed\" }]
+restart = [
+    { slot = 1, node = 0 },
+    { slot = 2, node = 0 },
+    { slot = 3, node = 0 },
+    { slot = 4, node = 0 },
+    { slot = 5, node = 0 },
+    { slot = 6, node = 0 },
+    { slot = 7, node = 0 },
+    { slot = 8, node = 0 },
+    { slot = 9, node = 0 },
+    { slot = 10, node = 0 },
+    { slot = 11, node = 0 },
+    { slot = 12, node = 0 },
+    { slot = 13, node = 0 },
+    { slot = 14, node = 0 },
+    { slot = 15, node = 0 },
+]
 ",
-        &[
-            (1, 0),
-            (2, 0),
-            (3, 0),
-            (4, 0),
-            (5, 0),
-            (6, 0),
-            (7, 0),
-            (8, 0),
-            (9, 0),
-            (10, 0),
-            (11, 0),
-            (12, 0),
-            (13, 0),
-            (14, 0),
-            (15, 0),
-        ],
         &[
             Fact::Present(0, 15),
             Fact::Lived(0, 0, 0, Some(1), 1),

@@ -8,7 +8,7 @@ pub const RUNS: [Case; 9] = [
         DONE,
         ONE_MESSAGE_REPORT,
     ),
-    ("an_empty_text", "", REFUSED, REFUSAL),
+    ("an_empty_text", "", REFUSED, NO_FORMAT),
     (
         "a_payload_of_nine_bytes",
         "format = 1
@@ -21,7 +21,7 @@ service = \"ed\"
 data = \"0123456789ABCDEF01\"
 ",
         REFUSED,
-        REFUSAL,
+        "refused bad data in send 0\n",
     ),
     (
         "nothing_sent",

@@ -2,7 +2,7 @@
 use super::*;
 
 /// The most bytes of a text.
-const LIMIT: usize = 8_388_608;
+const LIMIT: usize = 33_554_432;
 
 /// The first lines of a text.
 fn first_lines(text: &[u8], count: usize) -> &[u8] {
@@ -76,7 +76,7 @@ fn each_read_fails_in_turn(rt: HostRuntime) -> Result<(), Fail> {
 #[test]
 fn reads_of_a_long_text_fail_in_turn(rt: HostRuntime) -> Result<(), Fail> {
     let text = vec![in rt.alloc(); b'#'; 10_001]?;
-    let refusal = REFUSAL.as_bytes();
+    let refusal = NO_FORMAT.as_bytes();
     let reads = call(rt.alloc(), &["replay"], &text, &[], &[], refusal)?.reads;
     assert_eq!(rt; reads, 4);
     for k in 1..5u32 {

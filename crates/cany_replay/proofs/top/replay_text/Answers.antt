@@ -1,3 +1,6 @@
+use Rattle.std.proofs.Common.{◌≡◌, ◌≢◌, ◌∙◌, true, sym}
+use Rattle.std.proofs.lemmas.Bool.{false≢true}
+use Rattle.cany_model.specs.declared.scenario_fault.ScenarioFault.TheVariants.{Memory}
 use Rattle.cany_replay.proofs.TopFacts.{reported, not_refused, refused_journal, refused_text, answer_of_scenario, answer_of_other}
 use Rattle.cany_replay.proofs.top.replay_text.Goals as goal
 
@@ -17,10 +20,12 @@ pub returns-in-Ok-clause-prefix : goal.returns-in-Ok-clause-prefix
 returns-in-Ok-clause-prefix g c = λ fault.
     answer_of_scenario c.args.text.now c.in-Ok.scenario _ _ c.in-Ok.ensures.ok (c.replay_scenario.ensures.prefix fault)
 
-pub returns-in-Err-Later-clause-refused : goal.returns-in-Err-Later-clause-refused
-returns-in-Err-Later-clause-refused g c = λ refused.
-    refused_text c.args.text.now _ _ (rw c.in-Err-Later.field-0-is at c.in-Err-Later.ensures.later) (c.refuse_text.ensures.refused refused)
+pub returns-in-Err-2-clause-refused : goal.returns-in-Err-2-clause-refused
+returns-in-Err-2-clause-refused g c = λ refused.
+    let other : c.in-Err.fault ≢ Memory = λ e. false≢true (sym c.if-is_memory.false ∙ c.is_memory.ensures.1 e) in
+    refused_text c.args.text.now c.in-Err.fault _ _ (c.in-Err.ensures.fault other) (c.refuse.ensures.refused refused)
 
-pub returns-in-Err-Later-clause-prefix : goal.returns-in-Err-Later-clause-prefix
-returns-in-Err-Later-clause-prefix g c = λ fault.
-    answer_of_other c.args.text.now _ _ (rw c.in-Err-Later.field-0-is at c.in-Err-Later.ensures.later) c.refuse_text.ensures.prefix
+pub returns-in-Err-2-clause-prefix : goal.returns-in-Err-2-clause-prefix
+returns-in-Err-2-clause-prefix g c = λ fault.
+    let other : c.in-Err.fault ≢ Memory = λ e. false≢true (sym c.if-is_memory.false ∙ c.is_memory.ensures.1 e) in
+    answer_of_other c.args.text.now c.in-Err.fault _ _ (c.in-Err.ensures.fault other) c.refuse.ensures.prefix

@@ -1,7 +1,0 @@
-use Rattle.cany_model.specs.Texts.ReportLines.{params_line}
-use Rattle.cany_replay.proofs.report.lines.write_params.Goals as goal
-
-pub returns : goal.returns
-unfolding params_line
-returns g c =
-    rw (← c.params.view_is) (rw (c.from.ensures, c.from-2.ensures, c.from-3.ensures, c.from-4.ensures) at c.write_line.ensures)
