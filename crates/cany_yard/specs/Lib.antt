@@ -1,0 +1,3 @@
+pub mod Course
+pub mod Seats
+pub mod Steps

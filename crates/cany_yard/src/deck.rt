@@ -1,0 +1,64 @@
+ghost use Rattle.std.specs.Prelude.{◌≡◌, ℕ, true};
+ghost use Rattle.cany_base.specs.declared.step.Step.TheVariants as step;
+ghost use Rattle.cany_model.specs.Bus.Run.{is_done};
+ghost use Rattle.cany_model.specs.Bus.State.{reads};
+ghost use Rattle.cany_world.specs.Replies.{step_reply};
+ghost use Rattle.cany_world.specs.World.{state_of};
+ghost use Rattle.cany_yard.specs.Seats.{count_after, seat_after};
+ghost use Rattle.cany_yard.specs.Steps.{has_turned, reply_in, state_after, world_after};
+
+use crate::course::Course;
+use crate::locked::Locked;
+use crate::seat::{BusSeat, Seat};
+use cany_model::StepReply;
+use cany_node::TurnReply;
+use cany_world::World;
+use std::marker::Model;
+use std::sync::MutexGuard;
+use std::sync::ledger::Ledger;
+
+/// The world of a yard, lent to whoever holds the lock. The lock is free again when the deck ends.
+#[derive(Drop)]
+pub struct Deck<'a, L: Course, B: Ledger> {
+    pub(crate) locked: MutexGuard<'a, Locked<L, B>>,
+}
+
+impl<'a, L: Course, B: Ledger> Model for Deck<'a, L, B> {
+    ghost use Rattle.std.specs.Sync.Mutex.{mutex_guard_value};
+    ghost use Rattle.cany_world.specs.World.{WorldParts};
+
+    ghost Value = { WorldParts };
+
+    ghost view = { λ deck. (mutex_guard_value deck.locked).world };
+}
+
+impl<'a, L: Course, B: Ledger> Deck<'a, L, B> {
+    /// The world as it is now: the run, by its journal, of the scenario with which the yard was started.
+    pub fn world(&self) -> &World
+        ensures world { result.now ≡ self.now }
+        ensures scenario { result.now.scenario ≡ L.scenario }
+    {
+        &self.locked.world
+    }
+
+    /// Makes the turn of the seat's node, if it can be made. The reply names the slot whose notice was read.
+    pub fn turn(&mut self, seat: &mut Seat<L, B>) -> TurnReply
+        ensures reply { step_reply result ≡ reply_in self.old (step.Turn seat.old.node) }
+        ensures slot { (slot : ℕ) → result ≡ TurnReply.Turned slot → slot ≡ reads (state_of self.old) seat.old.node }
+        ensures new { self.new ≡ world_after (has_turned result) self.old (step.Turn seat.old.node) }
+        ensures run { has_turned result ≡ true → state_of self.new ≡ state_after self.old (step.Turn seat.old.node) }
+        ensures seat { seat.new ≡ seat_after (has_turned result) seat.old }
+    {
+        self.locked.turn(seat)
+    }
+
+    /// Runs the next slot, if it can run.
+    pub fn slot(&mut self, bus: &mut BusSeat<L, B>) -> StepReply
+        ensures reply { result ≡ reply_in self.old step.Slot }
+        ensures new { self.new ≡ world_after (is_done result) self.old step.Slot }
+        ensures run { result ≡ StepReply.Done → state_of self.new ≡ state_after self.old step.Slot }
+        ensures seat { bus.new ≡ count_after (is_done result) bus.old }
+    {
+        self.locked.slot(bus)
+    }
+}
