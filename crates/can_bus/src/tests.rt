@@ -14,7 +14,7 @@ use can_frame::small_numbers_fit;
 use cany_base::limits::MOST_NUMBERS;
 use cany_base::{
     Class, Format, Frame, Memory, NodeId, NodeSet, NoticeKind, Params, Payload, Place, Rule,
-    Scenario, SlotNote, Verdict,
+    Scenario, Slot, SlotNote, Verdict,
 };
 use std::alloc::Global;
 use std::process::Abort;
@@ -182,22 +182,45 @@ fn run(
     }
 }
 
-/// The first node sends the frame in the slots before slot 16, which are all lost, stops in the last of them, and leaves
-/// the bus idle.
-fn check_notes(rt: &impl Abort, notes: &[SlotNote], frame: Frame) {
+/// The bus after 17 slots in which the first node had the frame to send.
+fn run_alone(
+    rt: &impl Abort,
+    alloc: Global,
+    scenario: &Scenario,
+    script: &Script,
+    frame: Frame,
+) -> Result<Bus, Memory>
+    requires slots { scenario.now.params.slots ≡ 100 }
+    requires script { script.now ≡ scenario.now.rules }
+{
+    let mut bus = Bus::build(alloc, scenario)?;
+    let mut controllers = row_of(alloc, scenario.params())?;
+    let row = controllers.as_mut_slice();
+    run(rt, scenario.params(), &mut bus, row, script, frame, 17);
+    Ok(bus)
+}
+
+/// The note of a slot: the first node sends the frame in the slots before slot 16, which are all lost, stops in the last of
+/// them, and leaves the bus idle.
+fn lost_note(slot: Slot, frame: Frame) -> SlotNote {
     let nobody = NodeSet::of_bits(0);
     let first = NodeSet::of_bits(1);
-    for (place, note) in notes.iter().enumerate() {
-        let sent = place < 16;
-        assert_eq!(rt; note.slot, place as u64);
-        assert_eq!(rt; note.frame, sent.then_some(frame));
-        assert_eq!(rt; note.senders, if sent { first } else { nobody });
-        assert_eq!(rt; note.takers, nobody);
-        assert_eq!(rt;
-            note.verdict,
-            if sent { Verdict::Lost } else { Verdict::Clean }
-        );
-        assert_eq!(rt; note.stops, if place == 15 { first } else { nobody });
+    let sent = slot < 16;
+    SlotNote {
+        slot,
+        frame: sent.then_some(frame),
+        senders: if sent { first } else { nobody },
+        takers: nobody,
+        verdict: if sent { Verdict::Lost } else { Verdict::Clean },
+        stops: if slot == 15 { first } else { nobody },
+    }
+}
+
+/// These are the notes of 17 such slots.
+fn check_notes(rt: &impl Abort, notes: &[SlotNote], frame: Frame) {
+    assert_eq!(rt; notes.len(), 17);
+    for (slot, note) in notes.iter().enumerate() {
+        assert_eq!(rt; *note, lost_note(slot as Slot, frame));
     }
 }
 
@@ -206,11 +229,7 @@ fn sixteen_lost_slots_stop_a_sender(rt: HostRuntime) -> Result<(), Fail> {
     let frame = message(0, 0);
     let scenario = lossy(rt.alloc())?;
     let script = Script::of_scenario(rt.alloc(), &scenario)?;
-    let mut bus = Bus::build(rt.alloc(), &scenario)?;
-    let mut controllers = row_of(rt.alloc(), scenario.params())?;
-    let row = controllers.as_mut_slice();
-    run(&rt, scenario.params(), &mut bus, row, &script, frame, 17);
-    assert_eq!(rt; bus.trace().len(), 17);
+    let bus = run_alone(&rt, rt.alloc(), &scenario, &script, frame)?;
     check_notes(&rt, bus.trace(), frame);
     let kind = BreakKind::Errors;
     assert_eq!(rt; bus.first_break(), Some(Break { kind, slot: 2 }));
@@ -218,27 +237,66 @@ fn sixteen_lost_slots_stop_a_sender(rt: HostRuntime) -> Result<(), Fail> {
 }
 
 /// What the node got of the slot that ran last.
-fn got(controllers: &mut [Controller], i: usize) -> Result<Option<NoticeKind>, Fail> {
-    let controller = controllers.get_mut(i).ok_or("no such node")?;
-    Ok(controller.next_notice().map(|notice| notice.kind))
+fn got(controllers: &mut [Controller], i: usize) -> Option<NoticeKind> {
+    let controller = controllers.get_mut(i)?;
+    let notice = controller.next_notice()?;
+    Some(notice.kind)
+}
+
+/// The note of the first slot, and what nodes 0, 33 and 40 got of it.
+type FirstSlot = (Option<SlotNote>, [Option<NoticeKind>; 3]);
+
+/// Runs the first slot, in which node 33 and node 40 have a frame to send.
+fn first_slot(
+    rt: &impl Abort,
+    params: &Params,
+    bus: &mut Bus,
+    controllers: &mut [Controller],
+    script: &Script,
+    of_33: Frame,
+    of_40: Frame,
+) -> FirstSlot
+    requires params { params.now ≡ bus.old.params }
+    requires slots { bus.old.params.slots ≡ 100 }
+    requires row { IsRowFor bus.old.params controllers.old }
+    requires follows { Follows script.now bus.old }
+{
+    ask(rt, params, controllers, 33, of_33);
+    ask(rt, params, controllers, 40, of_40);
+    next(rt, bus, controllers, script);
+    let note = bus.trace().first().copied();
+    let kinds = [
+        got(controllers, 0),
+        got(controllers, 33),
+        got(controllers, 40),
+    ];
+    (note, kinds)
+}
+
+/// What comes of the first slot of a wide bus.
+fn contest(
+    rt: &impl Abort,
+    alloc: Global,
+    of_33: Frame,
+    of_40: Frame,
+) -> Result<FirstSlot, Memory> {
+    let scenario = wide(alloc);
+    let script = Script::of_scenario(alloc, &scenario)?;
+    let mut bus = Bus::build(alloc, &scenario)?;
+    let mut controllers = row_of(alloc, scenario.params())?;
+    let row = controllers.as_mut_slice();
+    Ok(first_slot(rt, scenario.params(), &mut bus, row, &script, of_33, of_40))
 }
 
 /// In the fields of format one the frame of node 33 would win.
 #[test]
 fn node_40_wins_over_node_33_in_format_two(rt: HostRuntime) -> Result<(), Fail> {
-    let scenario = wide(rt.alloc());
-    let script = Script::of_scenario(rt.alloc(), &scenario)?;
-    let mut bus = Bus::build(rt.alloc(), &scenario)?;
-    let mut controllers = row_of(rt.alloc(), scenario.params())?;
-    let row = controllers.as_mut_slice();
     let lesser = message(4, 40);
     let greater = message(5, 1);
-    ask(&rt, scenario.params(), row, 33, greater);
-    ask(&rt, scenario.params(), row, 40, lesser);
-    next(&rt, &mut bus, row, &script);
+    let (note, kinds) = contest(&rt, rt.alloc(), greater, lesser)?;
     assert_eq!(rt;
-        bus.trace().first(),
-        Some(&SlotNote {
+        note,
+        Some(SlotNote {
             slot: 0,
             frame: Some(lesser),
             senders: NodeSet::of_bits(1 << 40),
@@ -247,8 +305,13 @@ fn node_40_wins_over_node_33_in_format_two(rt: HostRuntime) -> Result<(), Fail> 
             stops: NodeSet::empty(),
         })
     );
-    assert_eq!(rt; got(row, 0)?, Some(NoticeKind::Got(lesser)));
-    assert_eq!(rt; got(row, 33)?, Some(NoticeKind::Got(lesser)));
-    assert_eq!(rt; got(row, 40)?, Some(NoticeKind::Sent(lesser)));
+    assert_eq!(rt;
+        kinds,
+        [
+            Some(NoticeKind::Got(lesser)),
+            Some(NoticeKind::Got(lesser)),
+            Some(NoticeKind::Sent(lesser)),
+        ]
+    );
     Ok(())
 }
