@@ -1,17 +1,15 @@
--- One more bit of the walk.
-use Rattle.std.proofs.Common.{◌≡◌, ℕ, ◌+◌, ◌*◌, ◌^◌, ◌<◌, ◌≤◌, ◌/◌, Bool, true, false, ◌⊎◌, inl, inr, IsTrue, IfSome, IfNone, is_some, Some, None, ◌==◌, ◌&&◌, arith, sym, ◌∙◌}
-use Rattle.std.specs.Prelude.{Option}
+-- The walk bit by bit leaves those of the least word.
+use Rattle.std.proofs.Common.{◌≡◌, ℕ, zero, suc, ◌+◌, ◌*◌, ◌^◌, ◌<◌, ◌≤◌, ◌/◌, ◌⊎◌, inl, inr, Bool, false, IsTrue, arith, sym, ◌∙◌, refl}
 use Rattle.std.specs.Int.{bit_at}
 use Rattle.std.proofs.lemmas.Nat.{shr-shr}
-use Rattle.std.proofs.lemmas.Bool.{cases_lt, false≢true, and_parts, and_from, eqb-true, eqb-false, eq-eqb}
-use Rattle.cany_base.specs.Limits.{most_nodes}
-use Rattle.can_arbiter.specs.Walk.{Leads, IsWalked}
+use Rattle.std.proofs.lemmas.Bool.{cases_lt, cases_eq, false≢true, false_from_ne_true}
+use Rattle.can_arbiter.specs.Walk.{Leads, IsWalked, IsWalk, GoesOn}
 
 -- the bits from a place on, and those from the next
-pub next_bits : (n place : ℕ) → n / 2 ^ place ≡ 2 * (n / 2 ^ (place + 1)) + bit_at n place
+next_bits : (n place : ℕ) → n / 2 ^ place ≡ 2 * (n / 2 ^ (place + 1)) + bit_at n place
 next_bits n place = omega (arith, shr-shr n place 1)
 
-pub bit_of : (n place : ℕ) → bit_at n place < 2
+bit_of : (n place : ℕ) → bit_at n place < 2
 bit_of n place = omega arith
 
 -- who leads in more bits leads in fewer
@@ -28,59 +26,72 @@ leads_too offering word place i k h o same = record {
   least = λ m p. omega (arith, h.least m p);
 }
 
--- where all send recessive, nobody stops
-pub all_recessive : (offering sending : ℕ → Bool) (word : ℕ → ℕ) (place : ℕ) → IsWalked offering sending word (place + 1) → ((i : ℕ) → IsTrue (sending i) → bit_at (word i) place ≡ 1) → IsWalked offering sending word place
-all_recessive offering sending word place walked recessive = record {
-  leads = λ i s. record {
-    offers = (walked.leads i s).offers;
-    least = λ k o. at_most i k (walked.leads i s) o (cases_lt (word i / 2 ^ (place + 1)) (word k / 2 ^ (place + 1)));
-  };
-  stays = λ i h. walked.stays i (leads_before offering word place i h);
-  nobody = walked.nobody;
+module _ (offering sending : ℕ → Bool) (word : ℕ → ℕ) (place : ℕ) (walked : IsWalked offering sending word (place + 1)) where
+  -- who leads so far and goes on leads in one bit more
+  goes_on : (i : ℕ) → IsTrue (sending i) → GoesOn sending word place i → Leads offering word place i
+  goes_on i s on = record { offers = (walked.leads i s).offers; least = λ k o. at_most k o (cases_lt (word i / 2 ^ (place + 1)) (word k / 2 ^ (place + 1))) on }
+    where
+      at_most : (k : ℕ) → IsTrue (offering k) → (word i / 2 ^ (place + 1) < word k / 2 ^ (place + 1)) ⊎ (word k / 2 ^ (place + 1) ≤ word i / 2 ^ (place + 1))
+          → GoesOn sending word place i → word i / 2 ^ place ≤ word k / 2 ^ place
+      at_most k o (inl lower) on = omega (arith, next_bits (word i) place, next_bits (word k) place, bit_of (word i) place)
+      at_most k o (inr same) (inl dominant) = omega (arith, (walked.leads i s).least k o, next_bits (word i) place, next_bits (word k) place, dominant)
+      at_most k o (inr same) (inr recessive) =
+          let k_sends : IsTrue (sending k) = walked.stays k (leads_too offering word (place + 1) i k (walked.leads i s) o same) in
+          omega (arith, (walked.leads i s).least k o, recessive k k_sends, next_bits (word i) place, next_bits (word k) place, bit_of (word i) place)
+
+  -- who leads in one bit more goes on
+  leads_on : (i : ℕ) → Leads offering word place i → GoesOn sending word place i
+  leads_on i h = elim (cases_eq (bit_at (word i) place) 0) [
+    | inl dominant ↦ inl dominant
+    | inr other ↦ inr (λ k s.
+        let k_leads : Leads offering word (place + 1) k = walked.leads k s in
+        omega (
+          arith,
+          other,
+          h.least k k_leads.offers,
+          k_leads.least i h.offers,
+          next_bits (word i) place,
+          next_bits (word k) place,
+          bit_of (word i) place,
+          bit_of (word k) place,
+        ))
+  ]
+
+  -- where nobody goes on, nobody sent
+  none_on : ((i : ℕ) → IsTrue (sending i) → GoesOn sending word place i → ⊥) → (i : ℕ) → sending i ≡ false
+  none_on stop i = false_from_ne_true (sending i) (λ s. stop i s (inr (λ k t. all_recessive k t (cases_eq (bit_at (word k) place) 0))))
+    where
+      all_recessive : (k : ℕ) → IsTrue (sending k) → (bit_at (word k) place ≡ 0) ⊎ (bit_at (word k) place ≡ 0 → ⊥) → bit_at (word k) place ≡ 1
+      all_recessive k t (inl dominant) = absurd (stop k t (inl dominant))
+      all_recessive k t (inr other) = omega (arith, other, bit_of (word k) place)
+
+-- one bit more is walked
+one_bit : (offering : ℕ → Bool) (word : ℕ → ℕ) (sending : ℕ → ℕ → Bool) (place : ℕ) → IsWalk offering word sending → place < 32
+    → IsWalked offering (sending (place + 1)) word (place + 1) → IsWalked offering (sending place) word place
+one_bit offering word sending place walk below walked = record {
+  leads = λ i s. let before = (walk.stops place i below).0 s in goes_on offering (sending (place + 1)) word place walked i before.0 before.1;
+  stays = λ i h. (walk.stops place i below).1 (walked.stays i (leads_before offering word place i h), leads_on offering (sending (place + 1)) word place walked i h);
+  nobody = λ none. walked.nobody (none_on offering (sending (place + 1)) word place walked (λ i s on. false≢true (sym (none i) ∙ (walk.stops place i below).1 (s, on))));
 }
-  where
-    at_most : (i k : ℕ) → Leads offering word (place + 1) i → IsTrue (offering k) → (word i / 2 ^ (place + 1) < word k / 2 ^ (place + 1)) ⊎ (word k / 2 ^ (place + 1) ≤ word i / 2 ^ (place + 1)) → word i / 2 ^ place ≤ word k / 2 ^ place
-    at_most i k h o (inl lower) = omega (arith, next_bits (word i) place, next_bits (word k) place, bit_of (word i) place)
-    at_most i k h o (inr same) =
-        let k_leads = leads_too offering word (place + 1) i k h o same in
-        omega (arith, h.least k o, recessive k (walked.stays k k_leads), next_bits (word i) place, next_bits (word k) place, bit_of (word i) place)
 
--- where some send dominant, those stay
-pub some_dominant : (offering sending staying : ℕ → Bool) (word : ℕ → ℕ) (place : ℕ) → IsWalked offering sending word (place + 1) → (d : ℕ) → IsTrue (staying d) → ((i : ℕ) → IsTrue (staying i) → IsTrue (sending i) × (bit_at (word i) place ≡ 0)) → ((i : ℕ) → IsTrue (sending i) → bit_at (word i) place ≡ 0 → IsTrue (staying i)) → IsWalked offering staying word place
-some_dominant offering sending staying word place walked d dominant keeps kept = record {
-  leads = λ i s. record {
-    offers = (walked.leads i (keeps i s).0).offers;
-    least = λ k o. omega (arith, (walked.leads i (keeps i s).0).least k o, (keeps i s).1, next_bits (word i) place, next_bits (word k) place);
-  };
-  stays = λ i h.
-      let before = leads_before offering word place i h in
-      let d_before = walked.leads d (keeps d dominant).0 in
-      kept i (walked.stays i before) (omega (arith, h.least d d_before.offers, d_before.least i h.offers, before.least d d_before.offers, (keeps d dominant).1, next_bits (word i) place, next_bits (word d) place, bit_of (word i) place));
-  nobody = λ none. absurd (false≢true (sym (none d) ∙ dominant));
+-- before the first bit all send
+all_send : (offering : ℕ → Bool) (word : ℕ → ℕ) (sending : ℕ → ℕ → Bool) → IsWalk offering word sending → ((i : ℕ) → word i < 2 ^ 32)
+    → IsWalked offering (sending 32) word 32
+all_send offering word sending walk small = record {
+  leads = λ i s. record { offers = sym (walk.begins i) ∙ s; least = λ k o. omega (arith, small i) };
+  stays = λ i h. walk.begins i ∙ h.offers;
+  nobody = λ none i. sym (walk.begins i) ∙ none i;
 }
 
--- those of the nodes that still send that send dominant at a place
-pub record AreDominant (sending dominant : ℕ → Bool) (word : ℕ → ℕ) (place : ℕ) : Type 0 where
-  pub below : (i : ℕ) → IsTrue (dominant i) → i < most_nodes
-  pub test : (i : ℕ) → i < most_nodes → dominant i ≡ (sending i && (bit_at (word i) place == 0))
+-- `left` places are left
+after_bits : (offering : ℕ → Bool) (word : ℕ → ℕ) (sending : ℕ → ℕ → Bool) (gone left : ℕ) → IsWalk offering word sending → ((i : ℕ) → word i < 2 ^ 32)
+    → gone + left ≡ 32 → IsWalked offering (sending left) word left
+after_bits offering word sending zero left walk small e =
+    let all : left ≡ 32 = omega (arith, e) in
+    rw all (all_send offering word sending walk small)
+after_bits offering word sending (suc gone) left walk small e =
+    one_bit offering word sending left walk (omega (arith, e)) (after_bits offering word sending gone (left + 1) walk small (omega (arith, e)))
 
--- the walk over one bit where some node sends dominant
-pub walk_some : (offering sending dominant : ℕ → Bool) (word : ℕ → ℕ) (place : ℕ) (least : Option ℕ) → ((i : ℕ) → IsTrue (offering i) → i < most_nodes) → IsWalked offering sending word (place + 1) → AreDominant sending dominant word place → is_some least ≡ true → IfSome least (λ d. IsTrue (dominant d)) → IsWalked offering dominant word place
-walk_some offering sending dominant word place None small walked are some found = absurd (false≢true some)
-walk_some offering sending dominant word place (Some d) small walked are some found =
-    some_dominant offering sending dominant word place walked d found
-    (λ i s. let both = and_parts _ _ (sym (are.test i (are.below i s)) ∙ s) in (both.0, eqb-true _ _ both.1))
-    (λ i s bit.
-    let near : i < most_nodes = small i (walked.leads i s).offers in
-    are.test i near ∙ and_from _ _ s (eq-eqb _ _ bit))
-
--- and where none does
-pub walk_none : (offering sending dominant : ℕ → Bool) (word : ℕ → ℕ) (place : ℕ) (least : Option ℕ) → ((i : ℕ) → IsTrue (offering i) → i < most_nodes) → IsWalked offering sending word (place + 1) → AreDominant sending dominant word place → is_some least ≡ false → IfNone least ((i : ℕ) → dominant i ≡ false) → IsWalked offering sending word place
-walk_none offering sending dominant word place (Some d) small walked are none found = absurd (false≢true (sym none))
-walk_none offering sending dominant word place None small walked are none found =
-    all_recessive offering sending word place walked (λ i s.
-    let near : i < most_nodes = small i (walked.leads i s).offers in
-    let test : (sending i && (bit_at (word i) place == 0)) ≡ false = sym (are.test i near) ∙ found i in
-    let recessive : (bit_at (word i) place == 0) ≡ false = rw s at test in
-    let not_zero : bit_at (word i) place ≡ 0 → ⊥ = eqb-false _ _ recessive in
-    omega (arith, bit_of (word i) place, not_zero))
+pub walk_leaves : (offering : ℕ → Bool) (word : ℕ → ℕ) (sending : ℕ → ℕ → Bool) → IsWalk offering word sending → ((i : ℕ) → word i < 2 ^ 32)
+    → IsWalked offering (sending 0) word 0
+walk_leaves offering word sending walk small = after_bits offering word sending 32 0 walk small refl

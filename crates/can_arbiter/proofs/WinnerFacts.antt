@@ -1,48 +1,52 @@
 -- Who still sends after the walk has the offer of the least key.
 use Rattle.std.proofs.Common.{◌≡◌, ℕ, ◌/◌, ◌^◌, ◌≤◌, Bool, Some, IsTrue, is_some, arith, sym, ◌∙◌, ap}
+use Rattle.std.specs.Prelude.{Option}
+use Rattle.std.specs.Option.{option_map_or}
 use Rattle.cany_base.specs.Frame.{FrameParts, key_of}
 use Rattle.can_arbiter.specs.Levels.{levels_of}
-use Rattle.can_arbiter.specs.Offers.{OfferRow, offer_at}
+use Rattle.can_arbiter.specs.Offers.{OfferRow, does_offer, offer_at, word_at}
 use Rattle.can_arbiter.specs.Outcome.{IsWinner}
 use Rattle.can_arbiter.specs.Walk.{Leads, IsWalked}
 use Rattle.can_arbiter.proofs.OrderFacts.{keys_at_most, levels_same}
 
 -- the walk over the offers is done, and the first of those that still send offers the frame
-pub record IsDone (offers : OfferRow) (offering sending : ℕ → Bool) (word : ℕ → ℕ) (first : ℕ) (frame : FrameParts) : Type 0 where
-  pub words : (i : ℕ) (f : FrameParts) → offer_at offers i ≡ Some f → word i ≡ levels_of offers.format f
-  pub offers_known : (i : ℕ) → offering i ≡ is_some (offer_at offers i)
-  pub walked : IsWalked offering sending word 0
+pub record IsDone (offers : OfferRow) (sending : ℕ → Bool) (first : ℕ) (frame : FrameParts) : Type 0 where
+  pub walked : IsWalked (does_offer offers) sending (word_at offers) 0
   pub sends : IsTrue (sending first)
   pub least : (i : ℕ) → IsTrue (sending i) → first ≤ i
   pub offered : offer_at offers first ≡ Some frame
 
-it_offers : (offers : OfferRow) (offering : ℕ → Bool) (i : ℕ) (f : FrameParts) → ((j : ℕ) → offering j ≡ is_some (offer_at offers j)) → offer_at offers i ≡ Some f → IsTrue (offering i)
-it_offers offers offering i f e offered = e i ∙ ap is_some offered
+it_offers : (offers : OfferRow) (i : ℕ) (f : FrameParts) → offer_at offers i ≡ Some f → IsTrue (does_offer offers i)
+it_offers offers i f offered = ap is_some offered
+
+word_is : (offers : OfferRow) (i : ℕ) (f : FrameParts) → offer_at offers i ≡ Some f → word_at offers i ≡ levels_of offers.format f
+word_is offers i f offered = ap (λ (o : Option FrameParts). option_map_or (levels_of offers.format) o 0) offered
 
 whole : (n : ℕ) → n / 2 ^ 0 ≡ n
 whole n = omega arith
 
--- a node with an offer of the same key still sends
-pub still_sends : (offers : OfferRow) (offering sending : ℕ → Bool) (word : ℕ → ℕ) (first : ℕ) (frame : FrameParts) → IsDone offers offering sending word first frame → (i : ℕ) (f : FrameParts) → offer_at offers i ≡ Some f → key_of offers.format f ≡ key_of offers.format frame → IsTrue (sending i)
-still_sends offers offering sending word first frame done i f offered same =
-    let leads : Leads offering word 0 first = done.walked.leads first done.sends in
-    let equal : word i ≡ word first = done.words i f offered ∙ levels_same offers.format f frame same ∙ sym (done.words first frame done.offered) in
-    done.walked.stays i (record {
-      offers = it_offers offers offering i f done.offers_known offered;
-      least = λ k o. rw equal (leads.least k o);
-    })
+module _ (offers : OfferRow) (sending : ℕ → Bool) (first : ℕ) (frame : FrameParts) (done : IsDone offers sending first frame) where
+  -- a node with an offer of the same key still sends
+  pub still_sends : (i : ℕ) (f : FrameParts) → offer_at offers i ≡ Some f → key_of offers.format f ≡ key_of offers.format frame → IsTrue (sending i)
+  still_sends i f offered same =
+      let leads : Leads (does_offer offers) (word_at offers) 0 first = done.walked.leads first done.sends in
+      let equal : word_at offers i ≡ word_at offers first =
+      word_is offers i f offered ∙ levels_same offers.format f frame same ∙ sym (word_is offers first frame done.offered) in
+      done.walked.stays i (record {
+        offers = it_offers offers i f offered;
+        least = λ k o. rw equal (leads.least k o);
+      })
 
-pub wins : (offers : OfferRow) (offering sending : ℕ → Bool) (word : ℕ → ℕ) (first : ℕ) (frame : FrameParts) → IsDone offers offering sending word first frame → IsWinner offers frame
-wins offers offering sending word first frame done = record {
-  node = first;
-  offered = done.offered;
-  least_key = λ other rival offered.
-      let leads : Leads offering word 0 first = done.walked.leads first done.sends in
-      let word_at_most : word first / 2 ^ 0 ≤ word other / 2 ^ 0 = leads.least other (it_offers offers offering other rival done.offers_known offered) in
-      let here : word first ≡ levels_of offers.format frame = done.words first frame done.offered in
-      let there : word other ≡ levels_of offers.format rival = done.words other rival offered in
-      let at_most : levels_of offers.format frame ≤ levels_of offers.format rival = omega (arith, whole (word first), whole (word other)) in
-      keys_at_most offers.format frame rival at_most;
-  least_node = λ other rival offered same.
-      done.least other (still_sends offers offering sending word first frame done other rival offered same);
-}
+  pub wins : IsWinner offers frame
+  wins = record {
+    node = first;
+    offered = done.offered;
+    least_key = λ other rival offered.
+        let leads : Leads (does_offer offers) (word_at offers) 0 first = done.walked.leads first done.sends in
+        let word_at_most : word_at offers first / 2 ^ 0 ≤ word_at offers other / 2 ^ 0 = leads.least other (it_offers offers other rival offered) in
+        let here : word_at offers first ≡ levels_of offers.format frame = word_is offers first frame done.offered in
+        let there : word_at offers other ≡ levels_of offers.format rival = word_is offers other rival offered in
+        let at_most : levels_of offers.format frame ≤ levels_of offers.format rival = omega (arith, whole (word_at offers first), whole (word_at offers other)) in
+        keys_at_most offers.format frame rival at_most;
+    least_node = λ other rival offered same. done.least other (still_sends other rival offered same);
+  }

@@ -1,13 +1,11 @@
-ghost use Rattle.std.specs.Prelude.{◌≡◌, ◌<◌, ◌↔◌, ℕ, Some, IsTrue};
-ghost use Rattle.cany_base.specs.Limits.{most_nodes};
-ghost use Rattle.cany_base.specs.Nodes.{has, AllBelow};
+ghost use Rattle.std.specs.Prelude.{◌≡◌, ◌↔◌, ℕ, Some, IsTrue};
+ghost use Rattle.cany_base.specs.Nodes.{has};
 ghost use Rattle.can_arbiter.specs.Offers.{offer_at};
 ghost use Rattle.can_arbiter.specs.Outcome.{IsOutcome};
 
-use crate::nodes::nodes_where;
+use crate::least::least_words;
 use crate::offers::Offers;
-use crate::walk::walk;
-use cany_base::{Frame, NodeId, NodeSet};
+use cany_base::{Frame, NodeSet};
 
 /// What arbitration gives in one slot.
 #[derive(Clone, Copy, Debug, PartialEq, Eq)]
@@ -18,12 +16,12 @@ pub enum Outcome {
     Won { frame: Frame, senders: NodeSet },
 }
 
-/// Arbitration over the offers of one slot, bit by bit (CAN Specification 2.0 Part B, basic concepts,
-/// "arbitration"). The winner is the offer of the least key, and of equal keys that of the least node.
+/// Arbitration over the offers of one slot (CAN Specification 2.0 Part B, basic concepts, "arbitration"). The winner is the offer
+/// of the least key, and of equal keys that of the least node: the one that a bus finds bit by bit (`walk_leaves_least`).
 pub fn arbitrate(offers: &Offers) -> Outcome
     ensures { IsOutcome offers.now result }
 {
-    let sending = walk(&offers.words(), offers.offering());
+    let sending = least_words(offers);
     let Some(first) = sending.least() else {
         return Outcome::Idle;
     };
@@ -37,14 +35,16 @@ pub fn arbitrate(offers: &Offers) -> Outcome
 /// Those of `sending` that offer this frame. The others offer one with the same identifier and kind,
 /// and with another payload.
 fn senders_of(offers: &Offers, frame: &Frame, sending: NodeSet) -> NodeSet
-    ensures below { AllBelow most_nodes result }
-    ensures senders { (i : ℕ) → i < most_nodes →
+    ensures { (i : ℕ) →
         IsTrue (has result i) ↔ (IsTrue (has sending i) × (offer_at offers.now i ≡ Some frame.now)) }
 {
-    nodes_where(
-        |node: NodeId| -> bool
-            ensures { IsTrue result ↔
-                (IsTrue (has sending node) × (offer_at offers.entry.now node ≡ Some frame.entry.now)) }
-        { sending.has(node) && offers.get(node) == Some(*frame) },
-    )
+    let mut senders = sending;
+    let mut rest = sending;
+    while let Some(node) = rest.least() {
+        rest.remove(node);
+        if offers.get(node) != Some(*frame) {
+            senders.remove(node);
+        }
+    }
+    senders
 }

@@ -4,14 +4,13 @@
 
 mod arbitration;
 mod laws;
+mod least;
 mod levels;
-mod nodes;
 mod offers;
 #[cfg(test)]
 mod tests;
 mod threads;
-mod walk;
 
 pub use arbitration::{Outcome, arbitrate};
-pub use laws::{walk_orders_by_key, winner_is_unique};
+pub use laws::{walk_leaves_least, walk_orders_by_key, winner_is_unique};
 pub use offers::Offers;

@@ -1,13 +1,9 @@
-ghost use Rattle.std.specs.Prelude.{◌≡◌, ◌==◌, ℕ, Some, None, if◌then◌else◌, slice_index, slice_index_or, is_some};
-ghost use Rattle.cany_base.specs.Frame.{FrameParts};
-ghost use Rattle.cany_base.specs.Limits.{most_nodes};
-ghost use Rattle.cany_base.specs.Nodes.{has, AllBelow};
+ghost use Rattle.std.specs.Prelude.{◌≡◌, ◌==◌, ℕ, Some, None, if◌then◌else◌};
+ghost use Rattle.cany_base.specs.Nodes.{has};
 ghost use Rattle.can_frame.specs.Identifier.{FitsFormat};
-ghost use Rattle.can_arbiter.specs.Offers.{offer_at, AllFit};
-ghost use Rattle.can_arbiter.specs.Levels.{levels_of};
+ghost use Rattle.can_arbiter.specs.Offers.{does_offer, offer_at, word_at};
 
 use crate::levels::levels;
-use crate::nodes::nodes_where;
 use cany_base::{Format, Frame, NodeId, NodeSet};
 use std::marker::Model;
 
@@ -16,6 +12,8 @@ use std::marker::Model;
 pub struct Offers {
     format: Format,
     frames: [Option<Frame>; NodeId::COUNT as usize],
+    /// The nodes that offer a frame, so that no other has to be looked at.
+    offering: NodeSet,
 }
 
 impl Model for Offers {
@@ -25,7 +23,7 @@ impl Model for Offers {
 
     ghost view = { λ offers. record { format = offers.format; frames = offers.frames } };
 
-    ghost invariant = { λ offers. IsRow offers.format offers.frames };
+    ghost invariant = { λ offers. IsRow offers.format offers.frames offers.offering };
 }
 
 impl Offers {
@@ -37,6 +35,7 @@ impl Offers {
         Offers {
             format,
             frames: [None; NodeId::COUNT as usize],
+            offering: NodeSet::empty(),
         }
     }
 
@@ -47,6 +46,7 @@ impl Offers {
         ensures offers { (i : ℕ) → offer_at self.new i ≡ (if i == n then Some f else offer_at self.old i) }
     {
         self.frames[n.get() as usize] = Some(f);
+        self.offering.insert(n);
     }
 
     /// What node `n` offers.
@@ -58,38 +58,18 @@ impl Offers {
 
     /// The nodes that offer a frame.
     pub(crate) fn offering(&self) -> NodeSet
-        ensures below { AllBelow most_nodes result }
-        ensures offering { (i : ℕ) → has result i ≡ is_some (offer_at self.now i) }
+        ensures { (i : ℕ) → has result i ≡ does_offer self.now i }
     {
-        let frames = &self.frames;
-        nodes_where(
-            |node: NodeId| -> bool
-                ensures { result ≡ is_some (slice_index_or frames.entry.now node None) }
-            { frames[node.get() as usize].is_some() },
-        )
+        self.offering
     }
 
-    /// The levels that each node's frame sends, as a word; 0 where a node offers none.
-    pub(crate) fn words(&self) -> [u32; NodeId::COUNT as usize]
-        ensures { (i : ℕ) (f : FrameParts) → offer_at self.now i ≡ Some f → slice_index result i ≡ levels_of self.now.format f }
+    /// The levels that the node's frame sends, as a word; 0 where it offers none.
+    pub(crate) fn word(&self, n: NodeId) -> u32
+        ensures { result ≡ word_at self.now n }
     {
-        words_of(self.format, &self.frames)
-    }
-}
-
-fn words_of(
-    format: Format,
-    frames: &[Option<Frame>; NodeId::COUNT as usize],
-) -> [u32; NodeId::COUNT as usize]
-    requires { AllFit format frames.now }
-    ensures { (i : ℕ) (f : FrameParts) →
-        slice_index_or frames.now i None ≡ Some f → slice_index result i ≡ levels_of format f }
-{
-    let mut words = [0; NodeId::COUNT as usize];
-    for (i, offer) in frames.iter().enumerate() {
-        if let Some(frame) = offer {
-            words[i] = levels(format, frame);
+        match &self.frames[n.get() as usize] {
+            Some(frame) => levels(self.format, frame),
+            None => 0,
         }
     }
-    words
 }

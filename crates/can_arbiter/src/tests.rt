@@ -158,6 +158,32 @@ fn unequal_payloads(rt: HostRuntime) -> Result<(), Fail> {
 }
 
 #[test]
+fn three_senders_to_the_last_node(rt: HostRuntime) -> Result<(), Fail> {
+    let frame = ed(1, node(50)?, b"\x01")?;
+    let later = ed(2, node(50)?, b"\x01")?;
+    let other = ed(1, node(50)?, b"\x02")?;
+    let won = outcome_in(
+        Format::Two,
+        &[
+            (63, frame),
+            (1, later),
+            (5, frame),
+            (6, other),
+            (40, frame),
+            (62, later),
+        ],
+    )?;
+    assert_eq!(rt;
+        won,
+        Outcome::Won {
+            frame,
+            senders: set(&[5, 40, 63])?
+        }
+    );
+    Ok(())
+}
+
+#[test]
 fn nodes_of_the_second_format(rt: HostRuntime) -> Result<(), Fail> {
     let frame = ed(0, node(39)?, b"\x01")?;
     let later = ed(0, node(63)?, b"\x01")?;
