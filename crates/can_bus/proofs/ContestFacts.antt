@@ -20,8 +20,9 @@ use Rattle.can_arbiter.specs.declared.arbitration.Outcome.TheVariants.{Idle, Won
 use Rattle.can_arbiter.specs.Offers.{OfferRow, offer_at}
 use Rattle.can_arbiter.specs.Outcome.{IsOutcome, IsWinner}
 use Rattle.can_controller.specs.Waiting.{LesserKeyWins}
-use Rattle.can_bus.specs.Contest.{AreOffersOf, IsContestOf, StandInOrder, HasSenders, frame_of}
-use Rattle.can_bus.proofs.WinnerFacts.{WinsAmong, offer_of, no_winner, winner_wins}
+use Rattle.can_bus.specs.Contest.{AreOffering, AreOffersOf, IsContestOf, StandInOrder, HasSenders, frame_of}
+use Rattle.can_bus.proofs.OfferFacts.{nothing}
+use Rattle.can_bus.proofs.WinnerFacts.{WinsAmong, offer_of, no_offers, no_winner, winner_wins}
 
 clash : (o : Option FrameParts) (f : FrameParts) → o ≡ None → o ≡ Some f → ⊥
 clash o f a b = cc
@@ -97,6 +98,14 @@ one_winner offers f g first second =
     let other_way : second.node ≤ first.node = second.least_node first.node f first.offered (omega arith) in
     let node : first.node ≡ second.node = omega arith in
     same_Some f g (sym first.offered ∙ ap (offer_at offers) node ∙ second.offered)
+
+-- ---- where nobody offers
+
+pub idle : (nodes : List NodeState) (set : Nodes) → AreOffering nodes set → ((i : ℕ) → has set i ≡ false) → IsContestOf nodes Idle
+idle nodes set are none = record {
+  frame = sym (no_offers nodes (λ k. nothing (offer_of nodes k) (sym (are k) ∙ none k)));
+  senders = tt;
+}
 
 -- ---- of what the nodes offer
 

@@ -59,6 +59,12 @@ unfolding each
 each_same f g i [] same = refl
 each_same f g i (x ∷ xs) same = ap (λ t. t ∷ each f (i + 1) xs) (same i x) ∙ ap (λ t. g i x ∷ t) (each_same f g (i + 1) xs same)
 
+-- a change that changes nothing
+pub each_stays : {X : Type 0} (f : ℕ → X → X) (i : ℕ) (xs : List X) → ((k : ℕ) (x : X) → f k x ≡ x) → xs ≡ each f i xs
+unfolding each
+each_stays f i [] stays = refl
+each_stays f i (x ∷ xs) stays = ap (λ t. t ∷ xs) (sym (stays i x)) ∙ ap (λ t. f i x ∷ t) (each_stays f (i + 1) xs stays)
+
 pub length-each : {X : Type 0} (f : ℕ → X → X) (i : ℕ) (xs : List X) → length (each f i xs) ≡ length xs
 unfolding each
 length-each f i [] = refl

@@ -5,6 +5,7 @@ pub mod KeptFacts
 pub mod NodeFacts
 pub mod NoteFacts
 pub mod OfferFacts
+pub mod RestFacts
 pub mod RowFacts
 pub mod SetFacts
 pub mod UnreadFacts

@@ -1,6 +1,6 @@
 -- The controllers, and the nodes that they are.
 use Rattle.std.proofs.Common.{◌≡◌, ℕ, zero, suc, ◌+◌, ◌≤◌, Bool, true, false, not, ◌&&◌, List, [], ◌∷◌, length, refl, ap, sym, ◌∙◌, arith}
-use Rattle.std.specs.Prelude.{Option, Some, None, is_none, if◌then◌else◌, slice_get, unwrap_or}
+use Rattle.std.specs.Prelude.{Option, Some, None, is_none, if◌then◌else◌, slice_get, unwrap_or, option_map}
 use Rattle.std.proofs.lemmas.Option.{same_Some}
 use Rattle.std.proofs.lemmas.List.{get_or_past, length-map}
 use Rattle.cany_base.specs.declared.slot_note.SlotNote.{SlotNote}
@@ -11,7 +11,7 @@ use Rattle.can_controller.specs.Controller.{ControllerState, node_state, seen, s
 use Rattle.can_bus.specs.Contest.{seen_by, stopped_by}
 use Rattle.can_bus.specs.Each.{each}
 use Rattle.can_bus.specs.Row.{nodes_of, controller_after}
-use Rattle.can_bus.proofs.EachFacts.{each-each, each_same}
+use Rattle.can_bus.proofs.EachFacts.{each-each, each_same, get_each}
 
 pub state_at : (controllers : List ControllerState) (i : ℕ) (c : ControllerState) → slice_get controllers i ≡ Some c → node_at (nodes_of controllers) i ≡ node_state c
 unfolding node_at
@@ -59,6 +59,12 @@ pub runs_seen : (note : SlotNote) (controllers : List ControllerState) (i : ℕ)
 runs_seen note controllers i =
     let at : 0 + i ≡ i = omega arith in
     runs_seen_from note 0 controllers i ∙ ap (λ k. runs (node_at (nodes_of controllers) i) && not (over_after note k (node_at (nodes_of controllers) i))) at
+
+-- a controller of the row runs after its share where it has not stopped then
+pub runs_seen_at : (note : SlotNote) (controllers : List ControllerState) (i : ℕ) (c : ControllerState) → slice_get controllers i ≡ Some c
+    → runs (node_at (nodes_of (each (seen_by note) 0 controllers)) i) ≡ is_none (seen_by note i c).stopped
+runs_seen_at note controllers i c at =
+    ap runs (state_at (each (seen_by note) 0 controllers) i (seen_by note i c) (get_each (seen_by note) controllers i ∙ ap (option_map (seen_by note i)) at))
 
 share_in_same : (i : ℕ) (note : SlotNote) (stops : Nodes) (frame : Option _) → share_in i (record note { stops = stops }) frame ≡ share_in i note frame
 share_in_same i note stops None = refl

@@ -156,6 +156,12 @@ no_winner [] e k = refl
 no_winner (n ∷ ns) e zero = (pick_none (least_frame (offered n)) (winner ns) (sym (winner_cons n ns) ∙ e)).0
 no_winner (n ∷ ns) e (suc k) = no_winner ns (pick_none (least_frame (offered n)) (winner ns) (sym (winner_cons n ns) ∙ e)).1 k
 
+-- and where no node offers, there is no winner
+pub no_offers : (nodes : List NodeState) → ((k : ℕ) → offer_of nodes k ≡ None) → winner nodes ≡ None
+unfolding node_at
+no_offers [] none = winner_none
+no_offers (n ∷ ns) none = winner_cons n ns ∙ ap (λ o. pick o (winner ns)) (none 0) ∙ no_offers ns (λ k. none (suc k))
+
 module _ (format : Format) (lesser_wins : LesserKeyWins format) where
   by_order : (offers : ℕ → Option FrameParts) (g h f : FrameParts) (lost : Bool) → offers 0 ≡ Some g → WinsAmong format (λ k. offers (suc k)) h
       → ((k : ℕ) (r : FrameParts) → offers k ≡ Some r → FitsIdentifier format r) → is_before h g ≡ lost → better g (Some h) ≡ f → WinsAmong format offers f

@@ -1,5 +1,5 @@
 -- What arbitration gives, and what is offered to it, in the words of a run.
-use Rattle.std.specs.Prelude.{◌≡◌, ℕ, ◌<◌, ◌⊎◌, if◌then◌else◌, is_none, Option, Some, None, IfSome, List, All, slice_get}
+use Rattle.std.specs.Prelude.{◌≡◌, ℕ, ◌<◌, ◌⊎◌, if◌then◌else◌, is_none, is_some, Option, Some, None, IfSome, List, All, slice_get}
 use Rattle.cany_base.specs.declared.frame.Format.{Format}
 use Rattle.cany_base.specs.declared.slot_note.SlotNote.{SlotNote}
 use Rattle.cany_base.specs.Frame.{FrameParts, key_of}
@@ -16,6 +16,10 @@ use Rattle.can_controller.specs.Controller.{ControllerState, seen, stopped_at}
 pub record StandInOrder (format : Format) (frames : List FrameParts) : Type 0 where
   pub head : least_frame frames ≡ slice_get frames 0
   pub least_key : IfSome (slice_get frames 0) (λ f. All (λ g. (g ≡ f) ⊎ (key_of format f < key_of format g)) frames)
+
+-- the nodes that offer a frame
+abbrev pub AreOffering : List NodeState → Nodes → Type 0
+AreOffering nodes set = (i : ℕ) → has set i ≡ is_some (least_frame (offered (node_at nodes i)))
 
 -- each node offers, of the frames that it waits with, the one that wins
 pub record AreOffersOf (nodes : List NodeState) (offers : OfferRow) : Type 0 where

@@ -2,4 +2,5 @@ pub mod Bus
 pub mod BusFields
 pub mod Contest
 pub mod Each
+pub mod Rest
 pub mod Row

@@ -1,10 +1,13 @@
-ghost use Rattle.std.specs.Prelude.{◌≡◌, ◌<◌, ◌↔◌, ◌∷◌, [], List, None, IfOk, length, reverse};
+ghost use Rattle.std.specs.Prelude.{◌≡◌, ◌+◌, ◌<◌, ◌≤◌, ◌↔◌, ◌∷◌, [], List, None, IfOk, length, reverse};
 ghost use Rattle.cany_model.specs.Promises.Hypothesis.{IsWithin, first_break};
 ghost use Rattle.cany_model.specs.Bus.Slot.{script as script_of, slot_note_of};
+ghost use Rattle.cany_base.specs.declared.rule.Rule.{Rule};
 ghost use Rattle.cany_model.specs.Bus.State.{NodeState};
 ghost use Rattle.can_bus.specs.Bus.{Follows};
+ghost use Rattle.can_bus.specs.Rest.{idle_note, idle_trace};
 ghost use Rattle.can_bus.specs.Row.{AreAfter, IsRowFor, NoneLags, StandFor};
 
+use crate::exchange::idle_note;
 use crate::slot::run_slot;
 use can_controller::Controller;
 use can_fault::laws::partial_slots_are_fewer_than_rules;
@@ -83,6 +86,30 @@ impl Bus {
         self.tally.note(&note);
         self.trace.push_copy(&note);
         note
+    }
+
+    /// Runs so many slots in which no controller offers a frame and none stops.
+    pub fn rest(&mut self, slots: u64)
+        requires { length self.old.trace + slots ≤ self.old.params.slots }
+        ensures trace { self.new.trace ≡ idle_trace slots self.old.trace }
+        ensures params { self.new.params ≡ self.old.params }
+        ensures follows { (rules : List Rule) → Follows rules self.old → Follows rules self.new }
+    {
+        for _slot in 0..slots {
+            self.pass();
+        }
+    }
+
+    /// Runs the next slot, in which no controller offers a frame and none stops.
+    fn pass(&mut self)
+        requires { length self.old.trace < self.old.params.slots }
+        ensures trace { self.new.trace ≡ idle_note (length self.old.trace) ∷ self.old.trace }
+        ensures params { self.new.params ≡ self.old.params }
+        ensures follows { (rules : List Rule) → Follows rules self.old → Follows rules self.new }
+    {
+        let idle = idle_note(self.trace.len() as Slot);
+        self.tally.note(&idle);
+        self.trace.push_copy(&idle);
     }
 
     /// The notes of the slots that ran, oldest first.

@@ -5,6 +5,7 @@ ghost use Rattle.cany_base.specs.Nodes.{has};
 ghost use Rattle.cany_model.specs.Bus.Slot.{exchange, lets_accept, is_success, share_of, winner};
 ghost use Rattle.cany_model.specs.Bus.State.{NodeState};
 ghost use Rattle.can_bus.specs.Contest.{IsContestOf, running_nodes};
+ghost use Rattle.can_bus.specs.Rest.{idle_note};
 
 use crate::nodes::nobody;
 use can_arbiter::Outcome;
@@ -43,14 +44,21 @@ pub(crate) fn exchange(
             verdict: *verdict,
             stops: nobody(),
         },
-        Outcome::Idle => SlotNote {
-            slot,
-            frame: None,
-            senders: nobody(),
-            takers: nobody(),
-            verdict: Verdict::Clean,
-            stops: nobody(),
-        },
+        Outcome::Idle => idle_note(slot),
+    }
+}
+
+/// The note of a slot that carries no frame and stops nobody.
+pub(crate) fn idle_note(slot: Slot) -> SlotNote
+    ensures { result ≡ idle_note slot }
+{
+    SlotNote {
+        slot,
+        frame: None,
+        senders: nobody(),
+        takers: nobody(),
+        verdict: Verdict::Clean,
+        stops: nobody(),
     }
 }
 

@@ -1,10 +1,13 @@
 //! Sets of nodes.
-ghost use Rattle.std.specs.Prelude.{◌≡◌, ◌<◌, ◌≤◌, ◌&&◌, ◌||◌, ◌==◌, not, ℕ, length, is_none};
+ghost use Rattle.std.specs.Prelude.{◌≡◌, ◌<◌, ◌≤◌, ◌&&◌, ◌||◌, ◌==◌, not, ℕ, length, is_none, is_some};
 ghost use Rattle.cany_base.specs.Limits.{most_nodes};
 ghost use Rattle.cany_base.specs.Nodes.{has};
-ghost use Rattle.can_bus.specs.Contest.{running_nodes};
+ghost use Rattle.cany_model.specs.Bus.Slot.{least_frame, offered};
+ghost use Rattle.can_controller.specs.Controller.{node_state};
+ghost use Rattle.can_bus.specs.Contest.{AreOffering, running_nodes};
 ghost use Rattle.can_bus.specs.Row.{nodes_of};
 
+use crate::offers::offer_of;
 use can_controller::Controller;
 use cany_base::{NodeId, NodeSet};
 
@@ -15,7 +18,7 @@ pub(crate) fn nobody() -> NodeSet
 }
 
 /// Puts node i into the set if its controller runs.
-fn insert_running(set: &mut NodeSet, i: usize, controller: &Controller)
+pub(crate) fn insert_running(set: &mut NodeSet, i: usize, controller: &Controller)
     requires { i < most_nodes }
     ensures { (k : ℕ) → has set.new k ≡ (has set.old k || (is_none controller.now.stopped && k == i)) }
 {
@@ -24,16 +27,31 @@ fn insert_running(set: &mut NodeSet, i: usize, controller: &Controller)
     }
 }
 
-/// The nodes that run.
-pub(crate) fn running(controllers: &[Controller]) -> NodeSet
-    requires { length controllers.now ≤ most_nodes }
-    ensures { result ≡ running_nodes (nodes_of controllers.now) }
+/// Puts node i into the set if its controller offers a frame.
+fn insert_offering(set: &mut NodeSet, i: usize, controller: &Controller)
+    requires { i < most_nodes }
+    ensures { (k : ℕ) → has set.new k
+        ≡ (has set.old k || (is_some (least_frame (offered (node_state controller.now))) && k == i)) }
 {
-    let mut set = nobody();
-    for i in 0..controllers.len() {
-        insert_running(&mut set, i, &controllers[i]);
+    if offer_of(controller).is_some() {
+        set.insert(NodeId::of_index(i));
     }
-    set
+}
+
+/// The nodes that run, and those of them that offer a frame.
+pub(crate) fn running_and_offering(controllers: &[Controller]) -> (NodeSet, NodeSet)
+    requires { length controllers.now ≤ most_nodes }
+    ensures running { result.0 ≡ running_nodes (nodes_of controllers.now) }
+    ensures offering { AreOffering (nodes_of controllers.now) result.1 }
+{
+    let mut running = nobody();
+    let mut offering = nobody();
+    for i in 0..controllers.len() {
+        let controller = &controllers[i];
+        insert_running(&mut running, i, controller);
+        insert_offering(&mut offering, i, controller);
+    }
+    (running, offering)
 }
 
 /// Those of the nodes that run before the slot which do not run after it: the script names them, or they stopped by

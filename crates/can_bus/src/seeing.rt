@@ -1,11 +1,12 @@
 //! What the controllers learn of a slot.
 ghost use Rattle.std.specs.Prelude.{◌≡◌, ◌<◌, ◌≤◌, None, length};
 ghost use Rattle.cany_base.specs.Limits.{most_nodes};
-ghost use Rattle.can_bus.specs.Contest.{seen_by, stopped_by};
+ghost use Rattle.can_bus.specs.Contest.{running_nodes, seen_by, stopped_by};
 ghost use Rattle.can_bus.specs.Each.{each};
-ghost use Rattle.can_bus.specs.Row.{HaveRoom};
+ghost use Rattle.can_bus.specs.Row.{HaveRoom, nodes_of};
 
 use crate::exchange::share_of;
+use crate::nodes::{insert_running, nobody};
 use can_controller::Controller;
 use cany_base::{NodeId, NodeSet, Slot, SlotNote};
 
@@ -20,16 +21,20 @@ fn see_share(controller: &mut Controller, i: usize, note: &SlotNote)
     }
 }
 
-/// Each running controller sees its share.
-pub(crate) fn see_all(controllers: &mut [Controller], note: &SlotNote)
+/// Each running controller sees its share. Given are the nodes that then still run.
+pub(crate) fn see_all(controllers: &mut [Controller], note: &SlotNote) -> NodeSet
     requires few { length controllers.old ≤ most_nodes }
     requires room { HaveRoom controllers.old }
-    ensures { controllers.new ≡ each (seen_by note.now) 0 controllers.old }
+    ensures controllers { controllers.new ≡ each (seen_by note.now) 0 controllers.old }
+    ensures running { result ≡ running_nodes (nodes_of controllers.new) }
 {
+    let mut running = nobody();
     for i in 0..controllers.len() {
         let controller = &mut controllers[i];
         see_share(controller, i, note);
+        insert_running(&mut running, i, controller);
     }
+    running
 }
 
 /// The controller of node i stops, if the set has it.
@@ -47,6 +52,10 @@ pub(crate) fn stop_all(controllers: &mut [Controller], slot: Slot, stops: NodeSe
     requires { length controllers.old ≤ most_nodes }
     ensures { controllers.new ≡ each (stopped_by slot stops) 0 controllers.old }
 {
+    // In most slots nobody stops.
+    if stops.least().is_none() {
+        return;
+    }
     for i in 0..controllers.len() {
         let controller = &mut controllers[i];
         stop_one(controller, i, slot, stops);

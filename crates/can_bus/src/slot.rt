@@ -9,7 +9,7 @@ ghost use Rattle.can_bus.specs.Row.{AreAfter, HaveRoom, nodes_of};
 
 use crate::contest::contest;
 use crate::exchange::exchange;
-use crate::nodes::{running, stopping};
+use crate::nodes::{running_and_offering, stopping};
 use crate::ruling::ruling;
 use crate::seeing::{see_all, stop_all};
 use can_controller::Controller;
@@ -33,12 +33,11 @@ pub(crate) fn run_slot(
     ensures counts { (trace : List SlotNote) → AreCountsOf script.now trace attempts.old → AreCountsOf script.now (result ∷ trace) attempts.new }
     ensures controllers { AreAfter result controllers.old controllers.new }
 {
-    let before = running(controllers);
-    let outcome = contest(params, controllers);
+    let (before, offering) = running_and_offering(controllers);
+    let outcome = contest(params, controllers, offering);
     let (verdict, scripted) = ruling(slot, &outcome, attempts, script);
     let note = exchange(slot, before, &outcome, &verdict);
-    see_all(controllers, &note);
-    let after = running(controllers);
+    let after = see_all(controllers, &note);
     let stops = stopping(before, after, scripted);
     stop_all(controllers, slot, stops);
     // So each controller that ran is the node after the slot.

@@ -1,11 +1,11 @@
-ghost use Rattle.std.specs.Prelude.{◌≡◌, ◌≤◌, ◌<◌, ◌+◌, ◌==◌, ◌↔◌, ◌⊎◌, false, not, min, [], length, drop, filter, slice_get, All, IfOk, OnSome, IfSome, IfNone, IsNone};
+ghost use Rattle.std.specs.Prelude.{◌≡◌, ◌≤◌, ◌<◌, ◌+◌, ◌==◌, ◌↔◌, ◌⊎◌, true, false, not, min, [], length, drop, filter, slice_get, All, None, IfOk, OnSome, IfSome, IfNone, IsNone};
 ghost use Rattle.std.specs.List.{list_any};
 ghost use Rattle.cany_base.specs.Frame.{FrameParts, has_incarnation, identifier_of, key_of};
 ghost use Rattle.cany_model.specs.Bus.Frames.{identity_of};
-ghost use Rattle.cany_model.specs.Bus.Slot.{least_frame};
+ghost use Rattle.cany_model.specs.Bus.Slot.{exceeds, least_frame};
 ghost use Rattle.cany_model.specs.Bus.Waiting.{waits, with_frame, without};
 ghost use Rattle.can_frame.specs.Identifier.{FitsFormat, FitsIdentifier};
-ghost use Rattle.can_controller.specs.Controller.{HasStoppedBy, fresh_controller, restarted_at, seen, stopped_at};
+ghost use Rattle.can_controller.specs.Controller.{HasStoppedBy, fresh_controller, node_state, restarted_at, seen, stopped_at};
 ghost use Rattle.can_controller.specs.Waiting.{HasRoomFor};
 
 use crate::counters::Counters;
@@ -193,11 +193,36 @@ impl Controller {
         self.notices.len() as u32
     }
 
+    /// Whether the controller waits with nothing and its node has read every notice. If it runs too, a slot in which nobody offers a
+    /// frame changes nothing of it but that one notice more is to be read.
+    pub fn is_calm(&self) -> bool
+        ensures waiting { result ≡ true → self.now.waiting ≡ [] }
+        ensures unread { result ≡ true → self.now.unread ≡ [] }
+    {
+        self.waiting.is_empty() && self.notices.is_empty()
+    }
+
+    /// So many slots pass in which nobody offers a frame, and their notices are read.
+    pub fn rest(&mut self, slots: u64)
+        requires { self.old.read + slots ≤ u64.MAX }
+        ensures { self.new ≡ record self.old { read = self.old.read + slots } }
+    {
+        self.read += slots;
+    }
+
     /// The next slot to read. Of a controller that has never started again this is how many notices were read; a restart passes
     /// over the slots that are unread when it comes.
     pub fn read(&self) -> u64
         ensures { result ≡ self.now.read }
     {
         self.read
+    }
+
+    /// The counters of a controller that runs are within the limit, as they are kept.
+    pub(crate) fn counters_within(&self)
+        ensures { self.now.stopped ≡ None → exceeds (node_state self.now) ≡ false }
+    {
+        // A read of a field gives the proof what holds of all fields.
+        let _counters = &self.counters;
     }
 }

@@ -1,11 +1,12 @@
 //! What ties the calls of a controller to the definitions of a run, each law as the contract of a function that does
 //! nothing.
-ghost use Rattle.std.specs.Prelude.{◌≡◌, ◌==◌, ◌/◌, ◌^◌, ℕ, All};
+ghost use Rattle.std.specs.Prelude.{◌≡◌, ◌==◌, ◌/◌, ◌^◌, ℕ, false, All, None};
 ghost use Rattle.cany_base.specs.declared.slot_note.SlotNote.{SlotNote};
 ghost use Rattle.cany_base.specs.Frame.{FrameParts, identifier_of};
 ghost use Rattle.cany_model.specs.Bus.Frames.{identity_of, same_identity};
+ghost use Rattle.cany_model.specs.Bus.Slot.{exceeds};
 ghost use Rattle.can_frame.specs.Identifier.{FitsIdentifier};
-ghost use Rattle.can_controller.specs.Controller.{ControllerState, SeenIsNodeAfter};
+ghost use Rattle.can_controller.specs.Controller.{ControllerState, SeenIsNodeAfter, node_state};
 ghost use Rattle.can_controller.specs.Waiting.{IsAscending, LesserKeyWins};
 
 use crate::controller::Controller;
@@ -41,4 +42,11 @@ pub fn frames_fit(controller: &Controller)
     ensures { All (FitsIdentifier controller.now.params.format) controller.now.waiting }
 {
     controller.waiting.fit();
+}
+
+/// The counters of a running controller are within the limit.
+pub fn counters_within(controller: &Controller)
+    ensures { controller.now.stopped ≡ None → exceeds (node_state controller.now) ≡ false }
+{
+    controller.counters_within();
 }

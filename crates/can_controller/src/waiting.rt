@@ -1,4 +1,4 @@
-ghost use Rattle.std.specs.Prelude.{◌≡◌, ◌≢◌, ◌<◌, ◌+◌, ◌==◌, ◌⊎◌, false, not, [], length, filter, slice_get, All, IfOk, IfErr, IfSome, IfNone};
+ghost use Rattle.std.specs.Prelude.{◌≡◌, ◌≢◌, ◌<◌, ◌+◌, ◌==◌, ◌⊎◌, true, false, not, [], length, filter, slice_get, All, IfOk, IfErr, IfSome, IfNone};
 ghost use Rattle.std.specs.List.{list_any};
 ghost use Rattle.cany_base.specs.Frame.{FrameParts, has_incarnation, identifier_of, key_of};
 ghost use Rattle.cany_model.specs.Bus.Frames.{identity_of};
@@ -192,6 +192,13 @@ impl Waiting {
     {
         // A read of a field gives the proof what holds of all fields.
         let _frames = &self.frames;
+    }
+
+    /// Whether no frame waits.
+    pub(crate) fn is_empty(&self) -> bool
+        ensures { result ≡ true → self.now.frames ≡ [] }
+    {
+        self.frames.is_empty()
     }
 
     /// The frame that wins over the others.

@@ -1,6 +1,6 @@
-ghost use Rattle.std.specs.Prelude.{◌≡◌, ℕ, List, length, Err, IfOk, OnOk, option_map};
+ghost use Rattle.std.specs.Prelude.{◌≡◌, ℕ, List, length, Err, IfOk, OnOk, is_some, option_map};
 ghost use Rattle.cany_base.specs.declared.slot_note.SlotNote.{SlotNote};
-ghost use Rattle.cany_model.specs.Bus.Slot.{ruling_of, script};
+ghost use Rattle.cany_model.specs.Bus.Slot.{ruling_of, script, slot_rule};
 ghost use Rattle.cany_base.specs.Scenario.{HaveDistinctPlaces};
 ghost use Rattle.can_fault.specs.Rules.{IsFirstRepeated, rule_for, IsCounted};
 
@@ -111,6 +111,13 @@ impl Script {
             Some(rule) => (rule.verdict, rule.stop),
             None => (Verdict::Clean, NodeSet::empty()),
         }
+    }
+
+    /// Whether there is a rule for the slot, whatever the slot carries.
+    pub fn has_rule(&self, slot: Slot) -> bool
+        ensures { result ≡ is_some (slot_rule self.now slot) }
+    {
+        self.table.for_slot(slot).is_some()
     }
 
     fn rule(&self, slot: Slot, carried: Option<(Frame, u32)>) -> Option<Rule>

@@ -12,12 +12,12 @@ use Rattle.can_bus.proofs.slot.run_slot.Goals as goal
 
 -- the note but for its stops, and its stops
 bare_is : (c : goal.After-seen_is_node_after) → c.exchange-note.result ≡ exchange c.args.slot (nodes_of c.args.controllers.now) c.ruling-verdict.result.0 (winner (nodes_of c.args.controllers.now))
-bare_is c = c.exchange-note.ensures (nodes_of c.args.controllers.now) c.contest-outcome.ensures c.running-before.ensures
+bare_is c = c.exchange-note.ensures (nodes_of c.args.controllers.now) c.contest-outcome.ensures c.running_and_offering-before.ensures.running
 
 stops_is : (c : goal.After-seen_is_node_after) → c.stopping-stops.result ≡ stopping c.ruling-verdict.result.1 (nodes_of c.args.controllers.now) c.exchange-note.result
 stops_is c =
-    stops_are c.ruling-verdict.result.1 c.args.controllers.now c.exchange-note.result c.see_all.new.controllers c.running-before.result c.running-after.result c.stopping-stops.result
-    c.see_all.ensures c.running-before.ensures c.running-after.ensures c.stopping-stops.ensures
+    stops_are c.ruling-verdict.result.1 c.args.controllers.now c.exchange-note.result c.see_all-after.new.controllers c.running_and_offering-before.result.0 c.see_all-after.result c.stopping-stops.result
+    c.see_all-after.ensures.controllers c.running_and_offering-before.ensures.running c.see_all-after.ensures.running c.stopping-stops.ensures
 
 pub returns-clause-note : goal.returns-clause-note
 returns-clause-note c trace counts at short =
@@ -39,6 +39,6 @@ returns-clause-controllers c =
     (λ i x there. let within : i < length c.args.controllers.now = slice_get_within c.args.controllers.now i x there in omega (arith, c.requires.few))
     (stops_is c)
     (c.stop_all.ensures
-    ∙ ap (each (stopped_by c.args.slot c.stopping-stops.result) 0) c.see_all.ensures
+    ∙ ap (each (stopped_by c.args.slot c.stopping-stops.result) 0) c.see_all-after.ensures.controllers
     ∙ ap (λ k. each (stopped_by k c.stopping-stops.result) 0 (each (seen_by c.exchange-note.result) 0 c.args.controllers.now)) (sym at)
     ∙ seen_and_stopped c.exchange-note.result c.stopping-stops.result c.args.controllers.now)
