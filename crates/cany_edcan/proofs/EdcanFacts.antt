@@ -35,7 +35,7 @@ use Rattle.cany_model.specs.Rules.Effect.{Ask, Withdraw}
 use Rattle.cany_model.specs.Rules.Notices.{IsNextNotice}
 use Rattle.cany_model.specs.Rules.Turn.{scenario_for}
 use Rattle.cany_model.proofs.Bus.Identities.{same_class-true}
-use Rattle.cany_edcan.specs.Edcan.{EdcanParts, IsEdcanOf, CanRead, of_all}
+use Rattle.cany_edcan.specs.Edcan.{EdcanParts, IsEdcanOf, CanRead, Rests, of_all}
 use Rattle.cany_edcan.specs.EdcanSteps.{was_delivered, relay_actions}
 
 -- ---- what a caller meets
@@ -165,6 +165,11 @@ module _ (scenario : ScenarioParts) (i : ℕ) (past : List NoticeKind) (notice k
 
   pub other_stands : (v : EdcanParts) → IsEdcanOf scenario i past v → IsEdcanOf scenario i (notice ∷ past) v
   other_stands v h = rw is (record { legal = h.legal; node = h.node; format = h.format; copies = table_other scenario class.Ed of_all kind past v.copies other h.copies })
+
+-- an idle notice
+pub rests : (scenario : ScenarioParts) (i : ℕ) (past : List NoticeKind) (v : EdcanParts) → IsEdcanOf scenario i past v → Rests scenario i past v
+unfolding edcan_effects edcan_at
+rests scenario i past v h = record { stands = other_stands scenario i past Idle Idle refl tt v h; effects = refl }
 
 -- a transmission of another class
 pub sent_other : (f : FrameParts) → same_class f.class class.Ed ≡ false → IsOther class.Ed of_all (Sent f)

@@ -1,12 +1,14 @@
 -- What an EDCAN value stands for.
-use Rattle.std.specs.Prelude.{◌≡◌, ℕ, Bool, true, List}
+use Rattle.std.specs.Prelude.{◌≡◌, ℕ, Bool, true, List, [], ◌∷◌}
 use Rattle.cany_base.specs.declared.frame.Class.TheVariants.{Ed}
 use Rattle.cany_base.specs.declared.frame.Format.{Format}
 use Rattle.cany_base.specs.declared.notice.Notice.{Notice}
 use Rattle.cany_base.specs.declared.notice.NoticeKind.{NoticeKind}
+use Rattle.cany_base.specs.declared.notice.NoticeKind.TheVariants.{Idle}
 use Rattle.cany_base.specs.Scenario.{ScenarioParts, IsLegalScenario}
 use Rattle.cany_diffuse.specs.Eager.{EagerParts}
 use Rattle.cany_message.specs.Table.{IsTableOf}
+use Rattle.cany_model.specs.Rules.Edcan.{edcan_effects}
 use Rattle.cany_model.specs.Rules.Notices.{IsNextNotice}
 
 -- the node, the format of identifiers, and the copies of data frames
@@ -27,6 +29,11 @@ pub record IsEdcanOf (scenario : ScenarioParts) (i : ℕ) (past : List NoticeKin
   pub node : v.node ≡ i
   pub format : v.format ≡ scenario.params.format
   pub copies : IsTableOf scenario Ed of_all past v.copies
+
+-- An idle notice leads to nothing: the value as it is stands for the notices and this one too.
+pub record Rests (scenario : ScenarioParts) (i : ℕ) (past : List NoticeKind) (v : EdcanParts) : Type 0 where
+  pub stands : IsEdcanOf scenario i (Idle ∷ past) v
+  pub effects : edcan_effects scenario i (Idle ∷ past) ≡ []
 
 -- there are notices that the value stands for, and this one can come after them
 pub record CanRead (v : EdcanParts) (notice : Notice) : Type 0 where

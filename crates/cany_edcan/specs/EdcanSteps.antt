@@ -15,6 +15,16 @@ use Rattle.cany_edcan.specs.Edcan.{EdcanParts}
 abbrev pub was_delivered : EdcanParts → FrameParts → Bool
 was_delivered v f = nat_lt 0 (copies_of v.copies (frame_number f)) || (f.node == v.node && is_held v.copies (frame_number f))
 
+-- whether the copy that was counted is the first that was read
+abbrev pub is_first_copy : Learnt → Bool
+is_first_copy First = true
+is_first_copy (Again copies) = copies == 1
+is_first_copy (Enough copies) = copies == 1
+
+-- whether the node is the origin of the frame and has noted a copy or its own transmission
+abbrev pub holds_own : EdcanParts → FrameParts → Bool
+holds_own v f = f.node == v.node && is_held v.copies (frame_number f)
+
 -- what the node does with the frame for what its copy calls for
 abbrev pub relay_actions : Format → Learnt → FrameParts → List Action
 relay_actions format First f = Ask f ∷ []

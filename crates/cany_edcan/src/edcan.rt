@@ -16,7 +16,7 @@ ghost use Rattle.cany_model.specs.Rules.Actions.{actions_of};
 ghost use Rattle.cany_model.specs.Rules.Edcan.{edcan_effects};
 ghost use Rattle.cany_model.specs.Rules.Notices.{IsNextNotice};
 ghost use Rattle.cany_edcan.specs.Edcan.{IsEdcanOf, CanRead};
-ghost use Rattle.cany_edcan.specs.EdcanSteps.{was_delivered, relay_actions};
+ghost use Rattle.cany_edcan.specs.EdcanSteps.{holds_own, is_first_copy, was_delivered, relay_actions};
 
 use crate::data::{Data, is_data};
 use cany_base::{
@@ -103,7 +103,8 @@ impl Edcan {
         }
     }
 
-    /// A copy of a data frame: the message is delivered if none was before, and the frame is relayed.
+    /// A copy of a data frame: the message is delivered if none was before, and the frame is relayed. A node that is not the
+    /// origin knows from the count alone.
     fn on_copy(&mut self, slot: Slot, frame: &Frame, out: &mut Actions)
         requires small { HasSmallNumbers self.old.format frame.now }
         requires takes { CanTake (frame_number frame.now) self.old.copies }
@@ -116,9 +117,10 @@ impl Edcan {
         ensures few { length out.new.items ≤ length out.old.items + 2 }
         ensures room { out.new.room ≡ out.old.room }
     {
-        let is_new = !self.was_delivered(frame);
-        deliver(Service::Ed, slot, frame, is_new, out);
+        let was_held = self.holds_own(frame);
         let learnt = self.copies.learn(Data::of(frame));
+        let is_new = is_first_copy(&learnt) && !was_held;
+        deliver(Service::Ed, slot, frame, is_new, out);
         relay(self.format, &learnt, frame, out);
     }
 
@@ -134,22 +136,33 @@ impl Edcan {
         ensures few { length out.new.items ≤ length out.old.items + 1 }
         ensures room { out.new.room ≡ out.old.room }
     {
-        let was_delivered = self.was_delivered(frame);
-        let delivers = frame.node.get() == self.node.get() && !was_delivered;
+        let was_held = self.holds_own(frame);
+        let delivers = frame.node.get() == self.node.get() && !was_held;
         deliver(Service::Ed, slot, frame, delivers, out);
         self.copies.own(Data::of(frame));
     }
 
-    /// Whether the message of a data frame was delivered: the node got a copy, or it is the origin and has sent the frame.
-    fn was_delivered(&self, frame: &Frame) -> bool
-        ensures delivered { result ≡ was_delivered self.now frame.now }
+    /// Whether the node is the origin of a data frame and has noted a copy or its own transmission. At other nodes nothing is
+    /// looked up.
+    fn holds_own(&self, frame: &Frame) -> bool
+        ensures held { result ≡ holds_own self.now frame.now }
         ensures in_range { frame.now.node < most_nodes }
         ensures counted { IsCounted self.now.copies }
     {
+        // Called for what it ensures: no key is there twice, so there is room for the frame's.
+        let _spare = self.copies.spare();
         let data = Data::of(frame);
-        let is_held = self.copies.holds(&data);
-        let is_own = frame.node.get() == self.node.get();
-        self.copies.copies(&data) > 0 || (is_own && is_held)
+        frame.node.get() == self.node.get() && self.copies.holds(&data)
+    }
+}
+
+/// Whether the copy that was counted is the first that was read.
+fn is_first_copy(learnt: &Learnt) -> bool
+    ensures { result ≡ is_first_copy learnt.now }
+{
+    match learnt {
+        Learnt::First => true,
+        Learnt::Again { copies } | Learnt::Enough { copies } => *copies == 1,
     }
 }
 

@@ -3,8 +3,10 @@
 
 mod data;
 mod edcan;
+mod laws;
 #[cfg(test)]
 mod tests;
 mod threads;
 
 pub use edcan::Edcan;
+pub use laws::rests;

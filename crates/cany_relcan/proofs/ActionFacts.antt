@@ -64,7 +64,7 @@ module _ (scenario : ScenarioParts) (i slot : ℕ) (past : List NoticeKind) (v w
       ≡ withdraw_actions scenario.params.format (is_enough (learnt_of v.copies.omit (copies_of w.copies (frame_number f)) (is_owned v.copies (frame_number f))) && is_fallen v f) f =
       late_if scenario.params.format (fell_back scenario.params.confirm i (identity_of f) past) (has_enough scenario.params.omit (identity_of f) (Got f ∷ past)) f
       ∙ ap (λ x. withdraw_actions scenario.params.format (has_enough scenario.params.omit x (Got f ∷ past) && fell_back scenario.params.confirm i x past) f) (identity_is class.Rel f rel)
-      ∙ (rw (enough_is v.copies.omit (copies_of w.copies (frame_number f)) (is_owned v.copies (frame_number f)), after.tables.data_frames.copies f.number f.node small, h.tables.data_frames.omit, h.fallen f.number f.node) refl) in
+      ∙ (rw (enough_is v.copies.omit (copies_of w.copies (frame_number f)) (is_owned v.copies (frame_number f)), after.tables.data_frames.copies f.number f.node small, h.tables.data_frames.omit, h.fallen.held f.number f.node small) refl) in
       rw (is, at, h.limits.format)
       (both_actions scenario.params.format before (delivery_effects service.Rel i f (Got f) past) (late_copy_effects scenario.params i f past) _ _
       (delivery_got scenario.params.format service.Rel i past f (was_delivered v f) delivered_is) late)

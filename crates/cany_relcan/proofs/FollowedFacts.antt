@@ -32,9 +32,9 @@ module _ (scenario : ScenarioParts) (inc : Incarnation) where
       format = h.limits.format;
       confirm = h.limits.confirm;
       timers_room = h.limits.timers_room;
-      fallen_room = h.limits.fallen_room;
+      timers_few = h.limits.timers_few;
     };
     tables = tables_for i past v.copies v.confirms h.tables;
     timers = h.timers;
-    fallen = h.fallen;
+    fallen = record { room = h.fallen.room; held = h.fallen.held; messages = h.fallen.messages };
   }

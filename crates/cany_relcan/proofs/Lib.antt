@@ -2,7 +2,8 @@ pub mod ActionFacts
 pub mod AheadFacts
 pub mod EndFacts
 pub mod FollowedFacts
-pub mod ListFacts
+pub mod MarkFacts
 pub mod ReadFacts
+pub mod RestFacts
 pub mod TablesFacts
 pub mod TimerFacts

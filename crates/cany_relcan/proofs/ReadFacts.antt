@@ -1,7 +1,6 @@
 -- The value after a notice, before the timer that ends in its turn.
-use Rattle.std.specs.Prelude.{nat_lt}
-use Rattle.std.specs.List.{list_any}
-use Rattle.std.proofs.Common.{◌≡◌, ℕ, ◌+◌, ◌<◌, ◌≤◌, ◌==◌, ◌&&◌, ◌||◌, Bool, true, false, if◌then◌else◌, not, List, [], ◌∷◌, ◌++◌, length, refl, ap, subst, sym, ◌∙◌, arith, length-append}
+use Rattle.std.specs.Prelude.{min, nat_le, nat_lt}
+use Rattle.std.proofs.Common.{◌≡◌, ℕ, zero, suc, ◌+◌, ◌<◌, ◌≤◌, ◌==◌, ◌&&◌, ◌||◌, Bool, true, false, if◌then◌else◌, not, List, [], ◌∷◌, ◌++◌, length, refl, ap, subst, sym, ◌∙◌, arith, length-append}
 use Rattle.std.proofs.lemmas.Bool.{and_parts, not-true}
 use Rattle.std.proofs.lemmas.Bool.Decides.{nat_tests}
 use Rattle.std.proofs.lemmas.List.{append-nil}
@@ -13,7 +12,9 @@ use Rattle.cany_base.specs.declared.notice.NoticeKind.TheVariants.{Idle, Got, Se
 use Rattle.cany_base.specs.Frame.{FrameParts}
 use Rattle.cany_base.specs.Scenario.{ScenarioParts}
 use Rattle.cany_base.proofs.ParamsFacts.{few_slots}
-use Rattle.cany_diffuse.specs.Eager.{EagerParts, is_held, is_there, spare_of, IsPut, IsLearnt, IsOwned}
+use Rattle.cany_diffuse.specs.declared.learnt.Learnt.{Learnt}
+use Rattle.cany_diffuse.specs.declared.learnt.Learnt.TheVariants.{First, Again, Enough}
+use Rattle.cany_diffuse.specs.Eager.{EagerParts, copies_of, is_held, is_owned, is_there, learnt_of, raised, spare_of, IsPut, IsLearnt, IsOwned}
 use Rattle.cany_base.specs.Limits.{most_nodes}
 use Rattle.cany_message.specs.Numbers.{frame_number}
 use Rattle.cany_message.proofs.HistoryFacts.{has_copy-counted, identity_is}
@@ -23,9 +24,10 @@ use Rattle.cany_model.specs.Bus.History.{copies, has_own}
 use Rattle.cany_model.specs.Rules.Notices.{IsNextNotice, NamesMessage}
 use Rattle.cany_model.specs.Rules.Relcan.{has_copy, is_timed}
 use Rattle.cany_relcan.specs.declared.timers.Timer.{Timer}
-use Rattle.cany_relcan.specs.Relcan.{RelcanParts, HasLimitsOf, IsRelcanOf, HasRead, CanRead, data_identity, is_key_of, of_own, of_none}
-use Rattle.cany_relcan.specs.RelcanSteps.{starts_timer, timers_with, was_delivered}
+use Rattle.cany_relcan.specs.Relcan.{RelcanParts, HasLimitsOf, IsRelcanOf, AreMarksOf, HasRead, CanRead, data_identity, of_own, of_none}
+use Rattle.cany_relcan.specs.RelcanSteps.{holds_own, is_first_copy, starts_timer, timers_with, was_delivered}
 use Rattle.cany_relcan.specs.Timers.{TimersParts, started_by, started_since}
+use Rattle.cany_relcan.proofs.TimerFacts.{started_by_one}
 use Rattle.cany_relcan.proofs.TablesFacts.{tables_confirmed, tables_got, tables_other, tables_sent}
 
 -- ---- what a caller meets
@@ -49,22 +51,70 @@ spare_falls : (v : RelcanParts) (f : FrameParts) (new : EagerParts) → IsPut (f
     → spare_of new + 1 ≡ spare_of v.copies
 spare_falls v f new put absent = rw absent at (put.spare)
 
-pub spare_for_timer : (v : RelcanParts) (f : FrameParts) (new : EagerParts) → is_there v.copies (frame_number f) ≡ is_held v.copies (frame_number f)
-    → spare_of v.copies ≤ v.timers.spare → IsPut (frame_number f) v.copies new → starts_timer v f ≡ true → 0 < v.timers.spare
-spare_for_timer v f new there fit put starts = omega (arith, fit, spare_falls v f new put (new_entry v f there starts))
+pub room_for_timer : (v : RelcanParts) (f : FrameParts) (new : EagerParts) → is_there v.copies (frame_number f) ≡ is_held v.copies (frame_number f)
+    → (0 < spare_of v.copies → length v.timers.running < v.timers.room) → IsPut (frame_number f) v.copies new → starts_timer v f ≡ true → length v.timers.running < v.timers.room
+room_for_timer v f new there fit put starts = fit (omega (arith, spare_falls v f new put (new_entry v f there starts)))
 
-timers_fit : (b : Bool) (slot : ℕ) (f : FrameParts) (v w : RelcanParts) → w.timers ≡ timers_with b slot f v.timers → IsPut (frame_number f) v.copies w.copies
-    → (b ≡ true → is_there v.copies (frame_number f) ≡ false) → spare_of v.copies ≤ v.timers.spare → spare_of w.copies ≤ w.timers.spare
-timers_fit true slot f v w is put absent fit = rw is (omega (arith, fit, spare_falls v f w.copies put (absent refl)))
-timers_fit false slot f v w is put absent fit = rw is (omega (arith, fit, put.spare))
+-- at most one timer starts in a slot
+few_started : (i n : ℕ) (past : List NoticeKind) → length (started_since i n past) ≤ n
+unfolding started_since
+few_started i zero past = omega arith
+few_started i (suc n) [] = omega arith
+few_started i (suc n) (notice ∷ before) =
+    omega (arith, length-append (started_since i n before) (started_by i notice before), few_started i n before, started_by_one i notice before)
 
-fallen_fit : (b : Bool) (slot : ℕ) (f : FrameParts) (v w : RelcanParts) → w.timers ≡ timers_with b slot f v.timers → w.fallen ≡ v.fallen → (b ≡ true → 0 < v.timers.spare)
-    → length v.fallen.items + length v.timers.running + v.timers.spare ≤ v.fallen.room
-    → length w.fallen.items + length w.timers.running + w.timers.spare ≤ w.fallen.room
-fallen_fit true slot f v w is same some fit =
+both_less : (n a b room : ℕ) → room ≡ min a b → n < a → n < b → n < room
+both_less n a b room is less_a less_b = grind (arith, nat_tests, is, less_a, less_b)
+
+pub one_more_timer : (scenario : ScenarioParts) (i : ℕ) (past : List NoticeKind) (v : RelcanParts) → IsRelcanOf scenario i past v → 0 < spare_of v.copies
+    → length v.timers.running < v.timers.room
+one_more_timer scenario i past v h some =
+    both_less (length v.timers.running) (length scenario.sends) (scenario.params.confirm + 1) v.timers.room h.limits.timers_room
+    (omega (arith, h.limits.timers_few, some))
+    (omega (arith, ap (λ (timers : List Timer). length timers) h.timers, few_started i scenario.params.confirm past))
+
+timers_fit : (b : Bool) (slot most : ℕ) (f : FrameParts) (v w : RelcanParts) → w.timers ≡ timers_with b slot f v.timers → IsPut (frame_number f) v.copies w.copies
+    → (b ≡ true → is_there v.copies (frame_number f) ≡ false) → spare_of v.copies + length v.timers.running ≤ most → spare_of w.copies + length w.timers.running ≤ most
+timers_fit true slot most f v w is put absent fit =
     let one : length (v.timers.running ++ record { frame = f; first = slot } ∷ []) ≡ length v.timers.running + 1 = length-append v.timers.running (record { frame = f; first = slot } ∷ []) in
-    rw (is, same) (omega (arith, fit, some refl, one))
-fallen_fit false slot f v w is same some fit = rw (is, same) fit
+    rw is (omega (arith, fit, one, spare_falls v f w.copies put (absent refl)))
+timers_fit false slot most f v w is put absent fit = rw is (omega (arith, fit, put.spare))
+
+same_room : (b : Bool) (slot : ℕ) (f : FrameParts) (timers : TimersParts) → (timers_with b slot f timers).room ≡ timers.room
+same_room true slot f timers = refl
+same_room false slot f timers = refl
+
+-- ---- which copy is the first
+
+first_copy_is : (omit c : ℕ) (own : Bool) → is_first_copy (learnt_of omit c own) ≡ (c == 1)
+first_copy_is omit c own = go (nat_le (omit + 1) c) (c == 1 && not own) (λ first. (and_parts (c == 1) (not own) first).0)
+  where
+    go : (t u : Bool) → (u ≡ true → (c == 1) ≡ true) → is_first_copy (if t then Enough c else if u then First else Again c) ≡ (c == 1)
+    go true u one = refl
+    go false true one = sym (one refl)
+    go false false one = refl
+
+-- the message was not delivered before a copy that is the first, where the node does not know the frame as its own
+first_is_new : (got own noted first : Bool) → first ≡ not got → (own ≡ false → noted ≡ false) → (first && not (own && (got || noted))) ≡ true → not (got || noted) ≡ true
+first_is_new got own noted first counted none is = grind (arith, nat_tests, counted, none, is)
+
+pub not_delivered : (v : RelcanParts) (f : FrameParts) (new : EagerParts) (learnt : Learnt)
+    → learnt ≡ learnt_of v.copies.omit (copies_of new (frame_number f)) (is_owned v.copies (frame_number f))
+    → IsLearnt (frame_number f) v.copies new → ((f.node == v.node) ≡ false → is_owned v.copies (frame_number f) ≡ false)
+    → (is_first_copy learnt && not (holds_own v f)) ≡ true → not (was_delivered v f) ≡ true
+not_delivered v f new learnt is copy own first =
+    first_is_new (nat_lt 0 (copies_of v.copies (frame_number f))) (f.node == v.node) (is_owned v.copies (frame_number f)) (is_first_copy learnt) counted own first
+  where
+    one : (c n : ℕ) → n ≡ raised c → (n == 1) ≡ not (nat_lt 0 c)
+    one c n at = grind (arith, nat_tests, at)
+
+    more : copies_of new (frame_number f) ≡ raised (copies_of v.copies (frame_number f))
+    more = grind (arith, nat_tests, copy.copies (frame_number f))
+
+    counted : is_first_copy learnt ≡ not (nat_lt 0 (copies_of v.copies (frame_number f)))
+    counted =
+        ap is_first_copy is ∙ first_copy_is v.copies.omit (copies_of new (frame_number f)) (is_owned v.copies (frame_number f))
+        ∙ one (copies_of v.copies (frame_number f)) (copies_of new (frame_number f)) more
 
 -- ---- which copy starts a timer
 
@@ -114,8 +164,8 @@ module _ (scenario : ScenarioParts) (i : ℕ) (past : List NoticeKind) (v w : Re
           node = ap (λ (x : RelcanParts). x.node) state ∙ h.limits.node;
           format = ap (λ (x : RelcanParts). x.format) state ∙ h.limits.format;
           confirm = ap (λ (x : RelcanParts). x.confirm) state ∙ h.limits.confirm;
-          timers_room = timers_fit (starts_timer v f) slot f v w timers learnt.put (new_entry v f there) h.limits.timers_room;
-          fallen_room = fallen_fit (starts_timer v f) slot f v w timers fallen (spare_for_timer v f w.copies there h.limits.timers_room learnt.put) h.limits.fallen_room;
+          timers_room = ap (λ (t : TimersParts). t.room) timers ∙ same_room (starts_timer v f) slot f v.timers ∙ h.limits.timers_room;
+          timers_few = timers_fit (starts_timer v f) slot (length scenario.sends) f v w timers learnt.put (new_entry v f there) h.limits.timers_few;
         };
         tables = rw confirms (tables_got scenario i past v.copies v.confirms h.tables f small named w.copies rel (omega (arith, at, within, few_slots scenario.params h.limits.legal.in_range)) learnt);
         timers =
@@ -123,7 +173,7 @@ module _ (scenario : ScenarioParts) (i : ℕ) (past : List NoticeKind) (v w : Re
             ∙ with_is (starts_timer v f) slot (length past) f v.timers at
             ∙ ap (λ running. running ++ (if starts_timer v f then record { frame = f; first = length past } ∷ [] else [])) h.timers
             ∙ ap (λ b. started_since i scenario.params.confirm past ++ (if b then record { frame = f; first = length past } ∷ [] else [])) (starts_is rel is);
-        fallen = λ s o. ap (λ keys. list_any (is_key_of s o) keys.items) fallen ∙ h.fallen s o;
+        fallen = subst (AreMarksOf scenario i past) (sym fallen) h.fallen;
       }
 
   -- a confirmation
@@ -143,7 +193,7 @@ module _ (scenario : ScenarioParts) (i : ℕ) (past : List NoticeKind) (v w : Re
         format = h.limits.format;
         confirm = h.limits.confirm;
         timers_room = h.limits.timers_room;
-        fallen_room = h.limits.fallen_room;
+        timers_few = h.limits.timers_few;
       }
 
   -- the node's own transmission of the data frame of its own message
@@ -161,8 +211,8 @@ module _ (scenario : ScenarioParts) (i : ℕ) (past : List NoticeKind) (v w : Re
         node = h.limits.node;
         format = h.limits.format;
         confirm = h.limits.confirm;
-        timers_room = omega (arith, owned.put.spare, h.limits.timers_room);
-        fallen_room = h.limits.fallen_room;
+        timers_room = h.limits.timers_room;
+        timers_few = omega (arith, owned.put.spare, h.limits.timers_few);
       }
 
 -- any other notice

@@ -14,7 +14,8 @@ use Rattle.cany_model.specs.Rules.Eager.{has_enough}
 use Rattle.cany_model.specs.Rules.Effect.{Effect, Ask}
 use Rattle.cany_model.specs.Bus.Frames.{Identity, identity_of, is_of, same_class}
 use Rattle.cany_model.specs.Rules.Relcan.{fall_back_effects, fell_back, has_confirm, has_copy, is_first_got, is_timed, timer_effects}
-use Rattle.cany_model.proofs.Among.{Each-append, Each-weaker}
+use Rattle.cany_model.specs.Bus.History.{is_got}
+use Rattle.cany_model.proofs.Among.{Among-drop, Among-from_any, any-from_Among, Each-append, Each-weaker}
 use Rattle.cany_model.proofs.Bus.Identities.{same_class-true, same_identity-true, same_identity_self}
 use Rattle.cany_relcan.specs.declared.timers.Timer.{Timer}
 use Rattle.cany_relcan.specs.Timers.{oldest_from, without_from, started_by, started_since}
@@ -90,7 +91,7 @@ oldest_is slot (t ∷ []) rest from later =
     (rw (eq-eqb t.first slot from.first.0) refl, rw (eq-eqb t.first slot from.first.0) refl)
 oldest_is slot (t ∷ u ∷ more) rest from later = absurd (omega (arith, from.one))
 
-started_by_one : (i : ℕ) (notice : NoticeKind) (past : List NoticeKind) → length (started_by i notice past) ≤ 1
+pub started_by_one : (i : ℕ) (notice : NoticeKind) (past : List NoticeKind) → length (started_by i notice past) ≤ 1
 started_by_one i Idle past = omega arith
 started_by_one i Bad past = omega arith
 started_by_one i (Sent f) past = omega arith
@@ -219,6 +220,25 @@ due_class i newest f is = first_class (started_now i newest) (now_class newest) 
     first_class : (timers : List Timer) → AllByRecursion (λ t. t.frame.class ≡ class.Rel) timers → first_frame timers ≡ Some f → f.class ≡ class.Rel
     first_class [] all at = absurd (cc)
     first_class (t ∷ timers) all at = let same : t.frame ≡ f = cc in ap (λ (g : FrameParts). g.class) (sym same) ∙ all.0
+
+-- and a copy of it was read
+pub due_read : (i : ℕ) (newest : List NoticeKind) (f : FrameParts) → first_frame (started_now i newest) ≡ Some f → has_copy (identity_of f) newest ≡ true
+due_read i [] f is = absurd (cc)
+due_read i (Idle ∷ before) f is = absurd (cc)
+due_read i (Bad ∷ before) f is = absurd (cc)
+due_read i (Sent g ∷ before) f is = absurd (cc)
+due_read i (Got g ∷ before) f is = go (is_timed i (identity_of g) && not (has_copy (identity_of g) before)) is
+  where
+    go : (starts : Bool) → first_frame (if starts then record { frame = g; first = length before } ∷ [] else []) ≡ Some f → has_copy (identity_of f) (Got g ∷ before) ≡ true
+    go true at =
+        let same : g ≡ f = cc in
+        ap (λ (x : FrameParts). has_copy (identity_of x) (Got g ∷ before)) (sym same)
+        ∙ ap (λ b. b || has_copy (identity_of g) before) (same_identity_self (identity_of g))
+    go false at = absurd (cc)
+
+-- what was read before is read still
+pub dropped_copy : (x : Identity) (n : ℕ) (past : List NoticeKind) → has_copy x (drop n past) ≡ true → has_copy x past ≡ true
+dropped_copy x n past h = any-from_Among (is_got x) past (Among-drop (λ e. is_got x e ≡ true) n past (Among-from_any (is_got x) (drop n past) h))
 
 -- ---- idle slots
 

@@ -1,20 +1,20 @@
 -- What a RELCAN value stands for.
-use Rattle.std.specs.Prelude.{◌≡◌, ℕ, ◌+◌, ◌≤◌, ◌==◌, ◌&&◌, Bool, true, false, List, ◌∷◌, ◌++◌, length}
-use Rattle.std.specs.List.{list_any}
+use Rattle.std.specs.Prelude.{◌≡◌, ℕ, ◌+◌, ◌<◌, ◌≤◌, ◌==◌, min, Bool, true, false, List, [], ◌∷◌, ◌++◌, length}
 use Rattle.cany_base.specs.declared.frame.Class.TheVariants as class
 use Rattle.cany_base.specs.declared.frame.Format.{Format}
-use Rattle.cany_base.specs.declared.message.MsgKey.{MsgKey}
 use Rattle.cany_base.specs.declared.message.Service.TheVariants.{Rel}
 use Rattle.cany_base.specs.declared.notice.Notice.{Notice}
 use Rattle.cany_base.specs.declared.notice.NoticeKind.{NoticeKind}
-use Rattle.cany_base.specs.Bounded.{Bounded}
+use Rattle.cany_base.specs.declared.notice.NoticeKind.TheVariants.{Idle}
 use Rattle.cany_base.specs.Frame.{FrameParts}
 use Rattle.cany_base.specs.Scenario.{ScenarioParts, IsLegalScenario}
-use Rattle.cany_diffuse.specs.Eager.{EagerParts, spare_of}
+use Rattle.cany_base.specs.Limits.{most_nodes}
+use Rattle.cany_diffuse.specs.Eager.{EagerParts, is_among, is_held, is_there, spare_of}
+use Rattle.cany_message.specs.Numbers.{message_number, message_numbers}
 use Rattle.cany_message.specs.Table.{IsTableOf, frame_identity}
 use Rattle.cany_model.specs.Bus.Frames.{Identity, identity_of}
 use Rattle.cany_model.specs.Rules.Notices.{IsNextNotice, NamesMessage}
-use Rattle.cany_model.specs.Rules.Relcan.{fell_back, has_copy}
+use Rattle.cany_model.specs.Rules.Relcan.{fell_back, has_copy, relcan_effects}
 use Rattle.cany_relcan.specs.Timers.{TimersParts, started_by, started_since}
 
 -- the node, the format of identifiers, how long a timer runs, the copies of data frames and of confirmations, the timers that
@@ -26,15 +26,11 @@ pub record RelcanParts : Type 0 where
   pub copies : EagerParts
   pub confirms : EagerParts
   pub timers : TimersParts
-  pub fallen : Bounded MsgKey
+  pub fallen : EagerParts
 
 -- the data frame of the message of an origin
 abbrev pub data_identity : (seq origin : ℕ) → Identity
 data_identity seq origin = frame_identity class.Rel seq origin
-
--- whether a key names the message of an origin
-abbrev pub is_key_of : (seq origin : ℕ) → MsgKey → Bool
-is_key_of seq origin key = seq == key.seq && origin == key.origin
 
 -- the node's own transmissions are noted of the data frames of its own messages, and of no confirmations
 abbrev pub of_own : (i origin : ℕ) → Bool
@@ -44,14 +40,14 @@ abbrev pub of_none : ℕ → Bool
 of_none origin = false
 
 -- The value is that of a node of the scenario, with room for each of its messages. Its identifiers are those of the scenario's
--- format.
+-- format. At once run no more timers than there are messages, and than may start in the slots of one timer, one in each.
 pub record HasLimitsOf (scenario : ScenarioParts) (i : ℕ) (v : RelcanParts) : Type 0 where
   pub legal : IsLegalScenario scenario
   pub node : v.node ≡ i
   pub format : v.format ≡ scenario.params.format
   pub confirm : v.confirm ≡ scenario.params.confirm
-  pub timers_room : spare_of v.copies ≤ v.timers.spare
-  pub fallen_room : length v.fallen.items + length v.timers.running + v.timers.spare ≤ v.fallen.room
+  pub timers_room : v.timers.room ≡ min (length scenario.sends) (scenario.params.confirm + 1)
+  pub timers_few : spare_of v.copies + length v.timers.running ≤ length scenario.sends
 
 -- The tables of data frames and of confirmations have what stands in these notices. The data frames of which a copy was read
 -- are those of messages of RELCAN.
@@ -60,10 +56,12 @@ pub record AreTablesOf (scenario : ScenarioParts) (i : ℕ) (past : List NoticeK
   pub confirmations : IsTableOf scenario class.Confirm of_none past confirms
   pub named : (f : FrameParts) → f.class ≡ class.Rel → has_copy (identity_of f) past ≡ true → NamesMessage scenario Rel f
 
--- The messages for which the node fell back are marked.
-abbrev pub AreMarksOf : ℕ → ℕ → List NoticeKind → Bounded MsgKey → Type 0
-AreMarksOf confirm i past fallen =
-    (seq origin : ℕ) → list_any (is_key_of seq origin) fallen.items ≡ fell_back confirm i (data_identity seq origin) past
+-- The messages for which the node fell back are held. All that is there is of messages of the scenario, and there is room for
+-- each of them.
+pub record AreMarksOf (scenario : ScenarioParts) (i : ℕ) (past : List NoticeKind) (fallen : EagerParts) : Type 0 where
+  pub room : fallen.room ≡ length scenario.sends
+  pub held : (seq origin : ℕ) → origin < most_nodes → is_held fallen (message_number seq origin) ≡ fell_back scenario.params.confirm i (data_identity seq origin) past
+  pub messages : (number : ℕ) → is_there fallen number ≡ true → is_among number (message_numbers scenario) ≡ true
 
 -- The value is that of node i after these notices, newest first. The timers that run are those that the newest `confirm`
 -- notices started.
@@ -71,14 +69,19 @@ pub record IsRelcanOf (scenario : ScenarioParts) (i : ℕ) (past : List NoticeKi
   pub limits : HasLimitsOf scenario i v
   pub tables : AreTablesOf scenario i past v.copies v.confirms
   pub timers : v.timers.running ≡ started_since i scenario.params.confirm past
-  pub fallen : AreMarksOf scenario.params.confirm i past v.fallen
+  pub fallen : AreMarksOf scenario i past v.fallen
 
 -- The same in the turn of a notice, before the timer that runs out in it.
 pub record HasRead (scenario : ScenarioParts) (i : ℕ) (notice : NoticeKind) (past : List NoticeKind) (v : RelcanParts) : Type 0 where
   pub limits : HasLimitsOf scenario i v
   pub tables : AreTablesOf scenario i (notice ∷ past) v.copies v.confirms
   pub timers : v.timers.running ≡ started_since i scenario.params.confirm past ++ started_by i notice past
-  pub fallen : AreMarksOf scenario.params.confirm i past v.fallen
+  pub fallen : AreMarksOf scenario i past v.fallen
+
+-- An idle notice leads to nothing: the value as it is stands for the notices and this one too.
+pub record Rests (scenario : ScenarioParts) (i : ℕ) (past : List NoticeKind) (v : RelcanParts) : Type 0 where
+  pub stands : IsRelcanOf scenario i (Idle ∷ past) v
+  pub effects : relcan_effects scenario i (Idle ∷ past) ≡ []
 
 -- there are notices that the value stands for, and this one can come after them
 pub record CanRead (v : RelcanParts) (notice : Notice) : Type 0 where

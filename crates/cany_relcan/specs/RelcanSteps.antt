@@ -1,31 +1,42 @@
 -- What RELCAN does with a frame and at the end of a timer, from what the value has.
-use Rattle.std.specs.Prelude.{ℕ, ◌-◌, ◌==◌, ◌&&◌, Bool, true, false, not, nat_lt, if◌then◌else◌, List, [], ◌∷◌, ◌++◌, Option, Some, None}
-use Rattle.std.specs.List.{list_any}
+use Rattle.std.specs.Prelude.{◌≡◌, ℕ, ◌-◌, ◌==◌, ◌&&◌, ◌||◌, Bool, true, false, not, nat_lt, if◌then◌else◌, List, [], ◌∷◌, Option, Some, None}
 use Rattle.cany_base.specs.declared.actions.Action.{Action}
 use Rattle.cany_base.specs.declared.actions.Action.TheVariants.{Ask}
 use Rattle.cany_base.specs.declared.message.MsgKey.{MsgKey}
-use Rattle.cany_base.specs.Bounded.{Bounded}
 use Rattle.cany_base.specs.Frame.{FrameParts}
 use Rattle.cany_diffuse.specs.declared.learnt.Learnt.{Learnt}
 use Rattle.cany_diffuse.specs.declared.learnt.Learnt.TheVariants.{First, Again, Enough}
-use Rattle.cany_diffuse.specs.Eager.{EagerParts, copies_of, is_held}
-use Rattle.cany_message.specs.Numbers.{frame_number}
-use Rattle.cany_relcan.specs.Relcan.{RelcanParts, is_key_of}
+use Rattle.cany_diffuse.specs.Eager.{EagerParts, copies_of, is_held, is_there}
+use Rattle.cany_message.specs.Numbers.{frame_number, message_number}
+use Rattle.cany_relcan.specs.Relcan.{RelcanParts}
 use Rattle.cany_relcan.specs.Timers.{TimersParts, oldest_from, without_from, with_timer}
-
-abbrev pub key_of_frame : FrameParts → MsgKey
-key_of_frame f = record { origin = f.node; seq = f.number }
 
 -- whether the node delivered the message of a data frame
 abbrev pub was_delivered : RelcanParts → FrameParts → Bool
 was_delivered v f = is_held v.copies (frame_number f)
+
+-- whether the copy that was counted is the first that was read
+abbrev pub is_first_copy : Learnt → Bool
+is_first_copy First = true
+is_first_copy (Again copies) = copies == 1
+is_first_copy (Enough copies) = copies == 1
+
+-- whether the node is the origin of the frame and has noted a copy or its own transmission
+abbrev pub holds_own : RelcanParts → FrameParts → Bool
+holds_own v f = f.node == v.node && was_delivered v f
+
+-- whether the timer of a message runs and its confirmation was not read: a copy was read, and the node did not fall back
+abbrev pub is_awaited : RelcanParts → MsgKey → Bool
+is_awaited v msg =
+    let number = message_number msg.seq msg.origin in
+    not (nat_lt 0 (copies_of v.confirms number)) && (not (msg.origin == v.node) && (nat_lt 0 (copies_of v.copies number) && not (is_held v.fallen number)))
 
 -- whether a copy of a data frame starts a timer: it is the first, and the message is of another node
 abbrev pub starts_timer : RelcanParts → FrameParts → Bool
 starts_timer v f = not (was_delivered v f) && not (f.node == v.node)
 
 abbrev pub is_fallen : RelcanParts → FrameParts → Bool
-is_fallen v f = list_any (is_key_of f.number f.node) v.fallen.items
+is_fallen v f = is_held v.fallen (frame_number f)
 
 abbrev pub is_confirmed : EagerParts → FrameParts → Bool
 is_confirmed confirms f = nat_lt 0 (copies_of confirms (frame_number f))
@@ -51,16 +62,17 @@ without_due slot v = record v {
   };
 }
 
-abbrev pub marked : FrameParts → Bounded MsgKey → Bounded MsgKey
-marked f fallen = record { items = fallen.items ++ key_of_frame f ∷ []; room = fallen.room }
+-- whether the node falls back for the message of this number, with the frame of the timer that runs out: it is that frame's,
+-- and its confirmation was not read
+abbrev pub falls : Option FrameParts → EagerParts → ℕ → Bool
+falls None confirms number = false
+falls (Some f) confirms number = number == frame_number f && not (is_confirmed confirms f)
 
--- the node falls back for the message whose timer ran out, unless its confirmation was read
-abbrev pub fallen_after : Option FrameParts → EagerParts → Bounded MsgKey → Bounded MsgKey
-fallen_after None confirms fallen = fallen
-fallen_after (Some f) confirms fallen = if is_confirmed confirms f then fallen else marked f fallen
-
-abbrev pub after_timer : Option FrameParts → RelcanParts → RelcanParts
-after_timer due v = record v { fallen = fallen_after due v.confirms v.fallen }
+-- what is marked after a timer that runs out
+pub record AreMarksAfter (due : Option FrameParts) (confirms old new : EagerParts) : Type 0 where
+  pub room : new.room ≡ old.room
+  pub held : (number : ℕ) → is_held new number ≡ (falls due confirms number || is_held old number)
+  pub there : (number : ℕ) → is_there new number ≡ (falls due confirms number || is_there old number)
 
 -- ---- actions
 

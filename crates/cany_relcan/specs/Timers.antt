@@ -1,6 +1,5 @@
 -- The timers of messages: which run at a node, oldest first.
-use Rattle.std.specs.Prelude.{ℕ, zero, suc, ◌-◌, ◌==◌, ◌&&◌, Bool, not, if◌then◌else◌, List, [], ◌∷◌, ◌++◌, length, Option, Some, None}
-use Rattle.cany_base.specs.declared.message.MsgKey.{MsgKey}
+use Rattle.std.specs.Prelude.{ℕ, zero, suc, ◌==◌, ◌&&◌, not, if◌then◌else◌, List, [], ◌∷◌, ◌++◌, length, Option, Some, None}
 use Rattle.cany_base.specs.declared.notice.NoticeKind.{NoticeKind}
 use Rattle.cany_base.specs.declared.notice.NoticeKind.TheVariants.{Idle, Got, Sent, Bad}
 use Rattle.cany_base.specs.Frame.{FrameParts}
@@ -8,14 +7,10 @@ use Rattle.cany_model.specs.Bus.Frames.{identity_of}
 use Rattle.cany_model.specs.Rules.Relcan.{has_copy, is_timed}
 use Rattle.cany_relcan.specs.declared.timers.Timer.{Timer}
 
--- the timers that run, oldest first, and how many more may be started
+-- the timers that run, oldest first, and how many may run at once
 pub record TimersParts : Type 0 where
   pub running : List Timer
-  pub spare : ℕ
-
--- whether it is the timer of a message
-abbrev pub is_timer_of : MsgKey → Timer → Bool
-is_timer_of msg timer = msg.seq == timer.frame.number && msg.origin == timer.frame.node
+  pub room : ℕ
 
 -- the oldest timer's frame, if it was started in this slot, and the timers without it
 abbrev pub oldest_from : ℕ → List Timer → Option FrameParts
@@ -26,9 +21,14 @@ abbrev pub without_from : ℕ → List Timer → List Timer
 without_from slot [] = []
 without_from slot (timer ∷ timers) = if timer.first == slot then timers else timer ∷ timers
 
+-- when the oldest timer was started
+abbrev pub oldest_start : List Timer → Option ℕ
+oldest_start [] = None
+oldest_start (timer ∷ timers) = Some timer.first
+
 -- a timer is started
 abbrev pub with_timer : Timer → TimersParts → TimersParts
-with_timer timer timers = record { running = timers.running ++ timer ∷ []; spare = timers.spare - 1 }
+with_timer timer timers = record timers { running = timers.running ++ timer ∷ [] }
 
 -- the timer that a notice starts at node i, after those before it: its frame is the first copy
 abbrev pub started_by : ℕ → NoticeKind → List NoticeKind → List Timer

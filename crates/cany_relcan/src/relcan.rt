@@ -1,5 +1,4 @@
-ghost use Rattle.std.specs.Prelude.{◌≡◌, ◌≢◌, ℕ, ◌+◌, ◌-◌, ◌<◌, ◌≤◌, ◌==◌, ◌&&◌, false, [], ◌∷◌, ◌++◌, not, reverse, length, IsTrue, List, replicate, Contains, Some, IfSome, IfOk};
-ghost use Rattle.std.specs.List.{list_any};
+ghost use Rattle.std.specs.Prelude.{◌≡◌, ◌≢◌, ℕ, ◌+◌, ◌-◌, ◌<◌, ◌≤◌, ◌==◌, ◌&&◌, false, [], ◌∷◌, ◌++◌, min, not, length, IsTrue, List, replicate, Contains, Some, IfSome, IfOk};
 ghost use Rattle.cany_base.specs.declared.actions.Action.TheVariants as action;
 ghost use Rattle.cany_base.specs.declared.frame.Class.TheVariants as class;
 ghost use Rattle.cany_base.specs.declared.message.Service.TheVariants as service;
@@ -9,7 +8,7 @@ ghost use Rattle.cany_base.specs.Frame.{FrameParts};
 ghost use Rattle.cany_base.specs.Scenario.{ScenarioParts};
 ghost use Rattle.cany_diffuse.specs.Eager.{copies_of, is_held, is_owned, is_there, learnt_of, spare_of, IsCounted, IsLearnt, IsOwned};
 ghost use Rattle.cany_message.specs.Actions.{delivery_actions, withdraw_actions};
-ghost use Rattle.cany_base.specs.Limits.{most_nodes};
+ghost use Rattle.cany_base.specs.Limits.{greatest_default, most_nodes};
 ghost use Rattle.can_frame.specs.Identifier.{HasSmallNumbers};
 ghost use Rattle.cany_message.specs.Numbers.{frame_number};
 ghost use Rattle.cany_message.specs.Table.{CanTake};
@@ -18,14 +17,14 @@ ghost use Rattle.cany_model.specs.Bus.Frames.{same_class};
 ghost use Rattle.cany_model.specs.Rules.Messages.{Message, messages_of, message_key};
 ghost use Rattle.cany_model.specs.Rules.Notices.{IsNextNotice};
 ghost use Rattle.cany_model.specs.Rules.Relcan.{confirm_frame, has_timer_ahead, relcan_at, relcan_effects};
-ghost use Rattle.cany_relcan.specs.Relcan.{IsRelcanOf, HasRead, CanRead, is_key_of};
-ghost use Rattle.cany_relcan.specs.RelcanSteps.{after_timer, due_frame, is_enough, is_fallen, starts_timer, timer_actions, timers_with, was_delivered, without_due};
+ghost use Rattle.cany_relcan.specs.Relcan.{IsRelcanOf, HasRead, CanRead, Rests};
+ghost use Rattle.cany_relcan.specs.RelcanSteps.{due_frame, holds_own, is_awaited, is_enough, is_first_copy, is_fallen, starts_timer, timer_actions, timers_with, was_delivered, without_due, AreMarksAfter};
 
 use crate::frames::{Confirmation, Data, confirmation_of, is_confirmation, is_data};
 use crate::timers::{Timer, Timers};
 use cany_base::{
-    Action, Actions, BoundedVec, Format, Frame, Memory, MsgKey, NodeId, Notice, NoticeKind,
-    Payload, Scenario, Service, Slot,
+    Action, Actions, Format, Frame, Memory, MsgKey, NodeId, Notice, NoticeKind, Payload, Scenario,
+    Service, Slot,
 };
 use cany_diffuse::{Diffused, Eager, Learnt};
 use cany_message::{deliver, withdraw};
@@ -49,7 +48,7 @@ pub struct Relcan {
     confirms: Eager<Confirmation>,
     timers: Timers,
     /// The messages for which the node fell back.
-    fallen: BoundedVec<MsgKey>,
+    fallen: Eager<Data>,
 }
 
 impl Model for Relcan {
@@ -70,8 +69,8 @@ impl Relcan {
         let room = scenario.sends().len();
         let copies = Eager::build(alloc, params.omit, room)?;
         let confirms = Eager::build(alloc, params.omit, room)?;
-        let timers = Timers::build(alloc, room)?;
-        let fallen = BoundedVec::build(alloc, room)?;
+        let timers = Timers::build(alloc, timers_at_once(room, params.confirm))?;
+        let fallen = Eager::build(alloc, params.omit, room)?;
         Ok(Relcan {
             node,
             format: params.format,
@@ -119,12 +118,19 @@ impl Relcan {
         ensures no_message { (scenario : ScenarioParts) (past : List NoticeKind) → IsRelcanOf scenario self.now.node past self.now
             → ((m : Message) → Contains (messages_of scenario.sends) m → message_key m ≢ msg) → result ≡ false }
     {
-        // Read for what it ensures: that the origin is in range.
-        let _origin = msg.origin.get();
-        if !self.timers.is_running(&msg) {
-            return false;
+        self.is_awaited(&msg)
+    }
+
+    /// The slot in whose turn the oldest timer that runs is due, and `Slot::MAX` where none runs. An idle notice of an earlier
+    /// slot leads to nothing.
+    pub fn wake(&self) -> Slot
+        ensures rests { (scenario : ScenarioParts) (past : List NoticeKind) → IsRelcanOf scenario self.now.node past self.now → length past < result
+            → Rests scenario self.now.node past self.now }
+    {
+        match self.timers.oldest() {
+            Some(first) => first.saturating_add(self.confirm),
+            None => Slot::MAX,
         }
-        self.confirms.copies(&confirmation_of(msg)) == 0
     }
 
     /// What RELCAN does at a notice, whatever timers are due.
@@ -163,7 +169,8 @@ impl Relcan {
         requires small { HasSmallNumbers self.old.format frame.now }
         requires takes { CanTake (frame_number frame.now) self.old.copies }
         requires there { is_there self.old.copies (frame_number frame.now) ≡ is_held self.old.copies (frame_number frame.now) }
-        requires timers { spare_of self.old.copies ≤ self.old.timers.spare }
+        requires own { frame.now.node < most_nodes → (frame.now.node == self.old.node) ≡ false → is_owned self.old.copies (frame_number frame.now) ≡ false }
+        requires timers { 0 < spare_of self.old.copies → length self.old.timers.running < self.old.timers.room }
         requires room { length out.old.items + 2 ≤ out.old.room }
         ensures learnt { IsLearnt (frame_number frame.now) self.old.copies self.new.copies }
         ensures in_range { frame.now.node < most_nodes }
@@ -174,16 +181,17 @@ impl Relcan {
         ensures room { out.new.room ≡ out.old.room }
         ensures few { length out.new.items ≤ length out.old.items + 2 }
     {
-        let is_first = !self.was_delivered(frame);
-        deliver(Service::Rel, slot, frame, is_first, out);
+        let was_held = self.holds_own(frame);
         let learnt = self.copies.learn(Data::of(frame));
+        let is_first = is_first_copy(&learnt) && !was_held;
+        deliver(Service::Rel, slot, frame, is_first, out);
         self.start_timer(slot, frame, is_first);
         withdraw(self.format, frame, self.is_late(&learnt, frame), out);
     }
 
     /// The first copy of a message of another node starts its timer.
     fn start_timer(&mut self, slot: Slot, frame: &Frame, is_first: bool)
-        requires { IsTrue (is_first && not (frame.now.node == self.old.node)) → 0 < self.old.timers.spare }
+        requires { IsTrue (is_first && not (frame.now.node == self.old.node)) → length self.old.timers.running < self.old.timers.room }
         ensures { self.new ≡ record self.old { timers = timers_with (is_first && not (frame.now.node == self.old.node)) slot frame.now self.old.timers } }
     {
         if is_first && frame.node.get() != self.node.get() {
@@ -210,7 +218,7 @@ impl Relcan {
     {
         let confirmation = confirmation_of(Data::of(frame).msg);
         // Called for what it ensures: no key is there twice, so there is room for this one.
-        let _copies = self.confirms.copies(&confirmation);
+        let _spare = self.confirms.spare();
         // Confirmations are not relayed, so what this copy calls for is not done.
         let _ = self.confirms.learn(confirmation);
     }
@@ -228,9 +236,9 @@ impl Relcan {
         ensures room { out.new.room ≡ out.old.room }
         ensures few { length out.new.items ≤ length out.old.items + 2 }
     {
-        let delivers = !self.was_delivered(frame);
-        deliver(Service::Rel, slot, frame, delivers, out);
         let data = Data::of(frame);
+        let delivers = !self.copies.holds(&data);
+        deliver(Service::Rel, slot, frame, delivers, out);
         let confirmation = confirmation_of(data.msg);
         self.copies.own(data);
         out.push(Action::Ask(confirmation.form()));
@@ -238,9 +246,10 @@ impl Relcan {
 
     /// The timer ends that is due in the turn of a slot, if one is.
     fn end_timer(&mut self, slot: Slot, out: &mut Actions)
-        requires fits { length self.old.fallen.items + length self.old.timers.running + self.old.timers.spare ≤ self.old.fallen.room }
+        requires takes { IfSome (due_frame slot self.old) (λ f. CanTake (frame_number f) self.old.fallen) }
         requires room { length out.old.items < out.old.room }
-        ensures state { self.new ≡ after_timer (due_frame slot self.old) (without_due slot self.old) }
+        ensures state { self.new ≡ record (without_due slot self.old) { fallen = self.new.fallen } }
+        ensures marks { AreMarksAfter (due_frame slot self.old) self.old.confirms self.old.fallen self.new.fallen }
         ensures actions { out.new.items ≡ out.old.items ++ timer_actions (due_frame slot self.old) self.old }
         ensures in_range { IfSome (due_frame slot self.old) (λ f. f.node < most_nodes) }
         ensures few { length out.new.items ≤ length out.old.items + 1 }
@@ -257,9 +266,10 @@ impl Relcan {
 
     /// The timer of a message ends: the node falls back unless the confirmation was read.
     fn fall_back(&mut self, frame: &Frame, out: &mut Actions)
-        requires fits { length self.old.fallen.items < self.old.fallen.room }
+        requires takes { CanTake (frame_number frame.now) self.old.fallen }
         requires room { length out.old.items < out.old.room }
-        ensures state { self.new ≡ after_timer (Some frame.now) self.old }
+        ensures state { self.new ≡ record self.old { fallen = self.new.fallen } }
+        ensures marks { AreMarksAfter (Some frame.now) self.old.confirms self.old.fallen self.new.fallen }
         ensures actions { out.new.items ≡ out.old.items ++ timer_actions (Some frame.now) self.old }
         ensures in_range { frame.now.node < most_nodes }
         ensures few { length out.new.items ≤ length out.old.items + 1 }
@@ -269,10 +279,29 @@ impl Relcan {
         if self.confirms.copies(&confirmation_of(data.msg)) > 0 {
             return;
         }
-        self.fallen.push(data.msg);
-        if self.copies.copies(&data) <= self.copies.omit() {
+        let asks = self.copies.copies(&data) <= self.copies.omit();
+        // Called for what it ensures: no key is there twice, so there is room for this one.
+        let _spare = self.fallen.spare();
+        self.fallen.own(data);
+        if asks {
             out.push(Action::Ask(*frame));
         }
+    }
+
+    /// Whether the timer of a message runs and its confirmation was not read. Without a confirmation the node has fallen back
+    /// once the timer has run out, so the timers need not be looked through.
+    fn is_awaited(&self, msg: &MsgKey) -> bool
+        ensures awaited { result ≡ is_awaited self.now msg.now }
+        ensures in_range { msg.now.origin < most_nodes }
+    {
+        if msg.origin.get() == self.node.get() {
+            return false;
+        }
+        if self.confirms.copies(&confirmation_of(*msg)) > 0 {
+            return false;
+        }
+        let data = Data::new(*msg, Payload::empty());
+        self.copies.copies(&data) > 0 && !self.fallen.holds(&data)
     }
 
     /// Whether the frame is the data frame of a message of this node.
@@ -282,22 +311,43 @@ impl Relcan {
         is_data(frame) && frame.node.get() == self.node.get()
     }
 
-    /// Whether the message of a data frame was delivered.
-    fn was_delivered(&self, frame: &Frame) -> bool
-        ensures delivered { result ≡ was_delivered self.now frame.now }
+    /// Whether the node is the origin of a data frame and has noted a copy or its own transmission. At other nodes nothing is
+    /// looked up.
+    fn holds_own(&self, frame: &Frame) -> bool
+        ensures held { result ≡ holds_own self.now frame.now }
         ensures in_range { frame.now.node < most_nodes }
         ensures counted { IsCounted self.now.copies }
     {
-        self.copies.holds(&Data::of(frame))
+        // Called for what it ensures: no key is there twice, so there is room for the frame's.
+        let _spare = self.copies.spare();
+        let data = Data::of(frame);
+        frame.node.get() == self.node.get() && self.copies.holds(&data)
     }
 
-    /// Whether the node fell back for the message of a data frame. The newest are looked at first.
-    #[tactic(auto, using(crate::proofs::ListFacts::list_any_reversed))]
+    /// Whether the node fell back for the message of a data frame.
     fn is_fallen(&self, frame: &Frame) -> bool
         ensures { result ≡ is_fallen self.now frame.now }
     {
-        let node = frame.node.get();
-        has_key(self.fallen.as_slice(), node, frame.number)
+        self.fallen.holds(&Data::of(frame))
+    }
+}
+
+/// How many timers may run at once: at most one for each message, and at most one starts in a slot.
+fn timers_at_once(messages: usize, confirm: u64) -> usize
+    requires { confirm ≤ greatest_default }
+    ensures { result ≡ min messages (confirm + 1) }
+{
+    let slots = confirm as usize + 1;
+    if slots < messages { slots } else { messages }
+}
+
+/// Whether the copy that was counted is the first that was read.
+fn is_first_copy(learnt: &Learnt) -> bool
+    ensures { result ≡ is_first_copy learnt.now }
+{
+    match learnt {
+        Learnt::First => true,
+        Learnt::Again { copies } | Learnt::Enough { copies } => *copies == 1,
     }
 }
 
@@ -309,13 +359,4 @@ fn is_enough(learnt: &Learnt) -> bool
         Learnt::First | Learnt::Again { .. } => false,
         Learnt::Enough { .. } => true,
     }
-}
-
-/// Whether the message of an origin is one of these.
-fn has_key(keys: &[MsgKey], origin: u8, seq: u16) -> bool
-    ensures { result ≡ list_any (is_key_of seq origin) (reverse keys.now) }
-{
-    keys.iter()
-        .rev()
-        .any(|key| seq == key.seq && origin == key.origin.get())
 }

@@ -8,7 +8,7 @@ ghost use Rattle.cany_model.specs.Rules.Notices.{IsNextNotice};
 use crate::relcan::Relcan;
 use cany_base::{
     Action, Actions, Class, Format, Frame, LogEntry, Memory, MsgKey, NodeId, NodeSet, Notice,
-    NoticeKind, Params, Payload, Scenario, SendAsk, Service,
+    NoticeKind, Params, Payload, Scenario, SendAsk, Service, Slot,
 };
 use std::alloc::Global;
 use std::test::Fail;
@@ -73,7 +73,8 @@ fn send_of(node: NodeId, payload: Payload) -> SendAsk
     }
 }
 
-/// Node 1 reads three notices from slot 3 on. Tells after each whether a timer of the message lies ahead.
+/// Node 1 reads three notices from slot 3 on. Tells after each whether a timer of the message lies ahead, and until which slot
+/// the value rests after the second.
 fn read_three(
     alloc: Global,
     scenario: &Scenario,
@@ -82,7 +83,7 @@ fn read_three(
     third: &Notice,
     msg: &MsgKey,
     out: &mut Actions,
-) -> Result<[bool; 3], Memory>
+) -> Result<([bool; 3], Slot), Memory>
     requires nodes { 1 < scenario.now.params.nodes }
     requires first { IsNextNotice scenario.now (replicate 3 Idle) first.now }
     requires second { IsNextNotice scenario.now (first.now.kind ∷ replicate 3 Idle) second.now }
@@ -95,8 +96,9 @@ fn read_three(
     let after_first = relcan.ahead(*msg);
     relcan.on(second, out);
     let after_second = relcan.ahead(*msg);
+    let wake = relcan.wake();
     relcan.on(third, out);
-    Ok([after_first, after_second, relcan.ahead(*msg)])
+    Ok(([after_first, after_second, relcan.ahead(*msg)], wake))
 }
 
 #[test]
@@ -116,7 +118,7 @@ fn a_message_without_confirmation_is_asked_for(rt: HostRuntime) -> Result<(), Fa
         payload,
     };
     let mut out = Actions::build(rt.alloc(), 9)?;
-    let ahead = read_three(
+    let (ahead, wake) = read_three(
         rt.alloc(),
         &scenario,
         &Notice {
@@ -145,6 +147,7 @@ fn a_message_without_confirmation_is_asked_for(rt: HostRuntime) -> Result<(), Fa
     });
     assert_eq!(rt; out.as_slice(), [delivery, Action::Ask(frame)].as_slice());
     assert_eq!(rt; ahead, [true, true, false]);
+    assert_eq!(rt; wake, 5);
     Ok(())
 }
 
@@ -172,7 +175,7 @@ fn a_confirmation_in_time_ends_the_wait(rt: HostRuntime) -> Result<(), Fail> {
         payload: Payload::empty(),
     };
     let mut out = Actions::build(rt.alloc(), 9)?;
-    let ahead = read_three(
+    let (ahead, wake) = read_three(
         rt.alloc(),
         &scenario,
         &Notice {
@@ -192,6 +195,7 @@ fn a_confirmation_in_time_ends_the_wait(rt: HostRuntime) -> Result<(), Fail> {
     )?;
     assert_eq!(rt; out.len(), 1);
     assert_eq!(rt; ahead, [true, false, false]);
+    assert_eq!(rt; wake, 5);
     Ok(())
 }
 
@@ -213,7 +217,7 @@ fn a_withdrawal_names_the_identifier_of_the_second_format(rt: HostRuntime) -> Re
         payload,
     };
     let mut out = Actions::build(rt.alloc(), 9)?;
-    let ahead = read_three(
+    let (ahead, wake) = read_three(
         rt.alloc(),
         &scenario,
         &Notice {
@@ -247,6 +251,7 @@ fn a_withdrawal_names_the_identifier_of_the_second_format(rt: HostRuntime) -> Re
         [delivery, Action::Ask(frame), withdrawal].as_slice()
     );
     assert_eq!(rt; ahead, [true, false, false]);
+    assert_eq!(rt; wake, Slot::MAX);
     Ok(())
 }
 
@@ -262,6 +267,7 @@ fn a_message_is_asked_for(rt: HostRuntime) -> Result<(), Fail> {
         seq: 0,
     };
     relcan.send(msg, payload, &mut out);
+    assert_eq!(rt; relcan.wake(), Slot::MAX);
     let frame = Frame {
         class: Class::Rel,
         number: 0,

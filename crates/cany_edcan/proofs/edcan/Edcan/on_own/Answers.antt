@@ -5,4 +5,4 @@ use Rattle.cany_edcan.proofs.edcan.Edcan.on_own.Goals as goal
 pub own-requires-clause-room : goal.own-requires-clause-room
 own-requires-clause-room c =
     rw (c.of.ensures.seq, c.of.ensures.origin, ap (λ v. v.copies) c.self.view_is)
-    (room_to_take _ _ c.requires.takes c.was_delivered-was_delivered.ensures.counted)
+    (room_to_take _ _ c.requires.takes c.holds_own-was_held.ensures.counted)

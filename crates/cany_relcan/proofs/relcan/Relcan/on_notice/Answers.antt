@@ -1,5 +1,5 @@
 -- A notice, before the timer that ends in its turn.
-use Rattle.std.proofs.Common.{◌≡◌, ◌==◌, true, subst, sym, ◌∙◌, arith}
+use Rattle.std.proofs.Common.{◌≡◌, ◌==◌, ◌&&◌, true, ap, subst, sym, ◌∙◌, arith}
 use Rattle.std.proofs.lemmas.Bool.{and_parts, eqb-true}
 use Rattle.cany_base.specs.declared.frame.Class.TheVariants as class
 use Rattle.cany_base.specs.declared.message.Service.TheVariants as service
@@ -8,10 +8,11 @@ use Rattle.cany_message.proofs.DeliveryFacts.{no_actions}
 use Rattle.cany_message.proofs.NoticeFacts.{got_names, got_small, sent_names}
 use Rattle.cany_message.proofs.TableFacts.{can_take}
 use Rattle.cany_model.specs.Bus.Frames.{same_class}
+use Rattle.cany_model.specs.Bus.History.{has_own}
 use Rattle.cany_model.proofs.Bus.Identities.{same_class-true}
-use Rattle.cany_relcan.specs.Relcan.{HasRead, of_own, of_none}
+use Rattle.cany_relcan.specs.Relcan.{HasRead, data_identity, of_own, of_none}
 use Rattle.cany_relcan.proofs.ActionFacts.{got_actions, sent_actions, none_at}
-use Rattle.cany_relcan.proofs.ReadFacts.{read_copy, read_confirmation, read_sent, read_other}
+use Rattle.cany_relcan.proofs.ReadFacts.{one_more_timer, read_copy, read_confirmation, read_sent, read_other}
 use Rattle.cany_relcan.proofs.TablesFacts.{confirm_names, none_noted}
 use Rattle.cany_relcan.proofs.relcan.Relcan.on_notice.Goals as goal
 
@@ -29,8 +30,14 @@ on_copy-requires-clause-small c =
 pub on_copy-requires-clause-there : goal.on_copy-requires-clause-there
 on_copy-requires-clause-there c = c.requires.reads.stands.tables.data_frames.there _
 
+pub on_copy-requires-clause-own : goal.on_copy-requires-clause-own
+on_copy-requires-clause-own c = λ near other.
+    c.requires.reads.stands.tables.data_frames.owned c.in-Got.frame.number c.in-Got.frame.node near
+    ∙ ap (λ own. own && has_own (data_identity c.in-Got.frame.number c.in-Got.frame.node) c.requires.reads.past) other
+
 pub on_copy-requires-clause-timers : goal.on_copy-requires-clause-timers
-on_copy-requires-clause-timers c = c.requires.reads.stands.limits.timers_room
+on_copy-requires-clause-timers c =
+    one_more_timer c.requires.reads.scenario c.args.self.now.node c.requires.reads.past c.args.self.now c.requires.reads.stands
 
 pub on_confirmation-requires : goal.on_confirmation-requires
 on_confirmation-requires c =

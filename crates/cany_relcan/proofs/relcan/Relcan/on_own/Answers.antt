@@ -6,4 +6,4 @@ use Rattle.cany_relcan.proofs.relcan.Relcan.on_own.Goals as goal
 pub own-requires-clause-room : goal.own-requires-clause-room
 own-requires-clause-room c =
     rw (c.of-data.ensures.seq, c.of-data.ensures.origin, ap (λ (v : RelcanParts). v.copies) c.self.view_is)
-    (room_to_take _ _ c.requires.takes c.was_delivered-delivers.ensures.counted)
+    (room_to_take _ _ c.requires.takes (rw (ap (λ (v : RelcanParts). v.copies) c.self.view_is) at c.holds-delivers.ensures.counted))
