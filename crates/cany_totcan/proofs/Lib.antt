@@ -12,5 +12,6 @@ pub mod OpenFacts
 pub mod OwnFacts
 pub mod PlaceFacts
 pub mod QueueFacts
+pub mod RestFacts
 pub mod TurnFacts
 pub mod TwoSendsFacts

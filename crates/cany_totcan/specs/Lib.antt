@@ -1,5 +1,6 @@
 pub mod Backlog
 pub mod Deliveries
 pub mod Queue
+pub mod Rests
 pub mod Totcan
 pub mod TotcanSteps

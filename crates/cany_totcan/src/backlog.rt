@@ -1,4 +1,4 @@
-ghost use Rattle.std.specs.Prelude.{◌≡◌, ◌<◌, ◌++◌, ◌||◌, [], ◌∷◌, Some, count_by, length, replicate, slice_set, IfOk};
+ghost use Rattle.std.specs.Prelude.{◌≡◌, ℕ, ◌<◌, ◌++◌, ◌||◌, [], ◌∷◌, None, Some, count_by, false, length, replicate, slice_set, IfOk};
 ghost use Rattle.cany_model.specs.Rules.Messages.{is_from};
 ghost use Rattle.cany_totcan.specs.Backlog.{after_next, blank, is_asked, is_free, is_past, next_given, own_at};
 
@@ -127,6 +127,26 @@ impl Backlog {
         Some(given)
     }
 
+    /// The first slot in whose turn `next` may find a message, if nothing is read or given before
+    /// it: `Slot::MAX` where none is left, or the last one that was asked for was not sent.
+    pub(crate) fn wake(&self, spacing: Slot) -> Slot
+        ensures { (now : ℕ) → now < result → next_given now spacing self.now ≡ None }
+    {
+        if self.asked >= self.given.len() {
+            return Slot::MAX;
+        }
+        if self.asked == 0 {
+            return 0;
+        }
+        let last = self.given.get(self.asked - 1);
+        let own = self.own.get(usize::from(last.seq));
+        if own.sent {
+            past_from(own.place, spacing)
+        } else {
+            Slot::MAX
+        }
+    }
+
     /// Whether another message may be asked for after the last one.
     fn is_free(&self, now: Slot, spacing: Slot) -> bool
         ensures { result ≡ is_free now spacing self.now }
@@ -155,6 +175,16 @@ fn is_past(place: Option<Slot>, now: Slot, slots: Slot) -> bool
     match place {
         Some(place) => now >= place && now - place >= slots,
         None => true,
+    }
+}
+
+/// The first slot in whose turn so many slots have passed since a place.
+fn past_from(place: Option<Slot>, slots: Slot) -> Slot
+    ensures { (now : ℕ) → now < result → is_past now slots place ≡ false }
+{
+    match place {
+        Some(place) => place.saturating_add(slots),
+        None => 0,
     }
 }
 

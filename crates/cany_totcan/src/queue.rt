@@ -1,4 +1,4 @@
-ghost use Rattle.std.specs.Prelude.{◌≡◌, ◌<◌, ◌+◌, [], length, option_map, slice_get, false, IfOk, IfSome, IfNone};
+ghost use Rattle.std.specs.Prelude.{◌≡◌, ℕ, ◌<◌, ◌≤◌, ◌+◌, ◌-◌, [], None, length, option_map, slice_get, false, IfOk, IfSome, IfNone};
 ghost use Rattle.std.specs.List.{list_any};
 ghost use Rattle.cany_model.specs.Rules.Totcan.{message_in};
 ghost use Rattle.cany_totcan.specs.Queue.{IsIndexOf, is_at, is_removed, moved, oldest_from, without_key, without_oldest};
@@ -98,6 +98,16 @@ impl OpenMessages {
         self.placed.remove(0);
         self.done = self.done.saturating_sub(1);
         Some(oldest.frame)
+    }
+
+    /// The slot in whose turn the oldest message closes, or `Slot::MAX` where none is open.
+    pub(crate) fn closing(&self, bound: Slot) -> Slot
+        ensures { (slot : ℕ) → slot < result → bound ≤ slot → oldest_from (slot - bound) self.now.items ≡ None }
+    {
+        match self.placed.first() {
+            Some(oldest) => oldest.place.saturating_add(bound),
+            None => Slot::MAX,
+        }
     }
 
     /// The data frame of the first message that is not done, if there is one.

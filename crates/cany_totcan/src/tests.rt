@@ -210,6 +210,7 @@ fn a_message_closes_without_acceptance(rt: HostRuntime) -> Result<(), Fail> {
     read(&mut totcan, &scenario, 4, &[NoticeKind::Idle; 39], &mut out);
     assert_eq!(rt; out.len(), 0);
     assert_eq!(rt; totcan.ahead(key_of(node, 1)), true);
+    assert_eq!(rt; totcan.wake(), 43);
     read(&mut totcan, &scenario, 43, &[NoticeKind::Idle], &mut out);
     // Class 0, number 1 at bit 9, node 0.
     assert_eq!(rt;
@@ -217,6 +218,7 @@ fn a_message_closes_without_acceptance(rt: HostRuntime) -> Result<(), Fail> {
         [Action::Withdraw { ident: 512 }].as_slice()
     );
     assert_eq!(rt; totcan.ahead(key_of(node, 1)), false);
+    assert_eq!(rt; totcan.wake(), Slot::MAX);
     Ok(())
 }
 
@@ -230,7 +232,9 @@ fn the_next_message_waits_for_bound_and_lag_slots(rt: HostRuntime) -> Result<(),
     let mut out = Actions::build(rt.alloc(), 20)?;
     totcan.send(key_of(node, 0), payload);
     totcan.send(key_of(node, 1), payload);
+    assert_eq!(rt; totcan.wake(), 0);
     totcan.next(3, &mut out);
+    assert_eq!(rt; totcan.wake(), Slot::MAX);
     assert_eq!(rt; totcan.asked(key_of(node, 0)), true);
     assert_eq!(rt; totcan.asked(key_of(node, 1)), false);
     let sent = [NoticeKind::Sent(data_of(node, 0, payload))];

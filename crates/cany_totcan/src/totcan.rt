@@ -19,6 +19,7 @@ ghost use Rattle.cany_model.specs.Rules.Notices.{IsNextNotice};
 ghost use Rattle.cany_model.specs.Rules.Totcan.{accept_effects, accept_frame, has_closing_ahead, message_in, totcan_effects};
 ghost use Rattle.cany_totcan.specs.Deliveries.{CanDeliver};
 ghost use Rattle.cany_totcan.specs.Queue.{moved, without_key};
+ghost use Rattle.cany_totcan.specs.Rests.{Rests};
 ghost use Rattle.cany_totcan.specs.Totcan.{CanRead, HasHeard, IsOwnTot, IsTotcanOf, has_seq};
 ghost use Rattle.cany_totcan.specs.TotcanSteps.{AreAdded, AreKnown, HaveGone, closing_accepted, closing_actions, closing_frame, due, first_of, fresh_of, has_open, if_accepted, is_accepted_by, noted_if, origin_actions, relay_actions, tot_actions, without_closing};
 
@@ -159,6 +160,19 @@ impl Totcan {
             let data = Data::new(msg, given.payload);
             out.push(Action::Ask(data.form()));
         }
+    }
+
+    /// The first slot in whose turn a message may close, or one of the backlog may be asked for, if
+    /// the node reads nothing but idle slots and is given no message before it: `Slot::MAX` where
+    /// there is none. An idle notice of an earlier slot changes nothing.
+    pub fn wake(&self) -> Slot
+        ensures rests { (scenario : ScenarioParts) (past : List NoticeKind) (messages : List Message) (asked : ℕ) →
+            IsTotcanOf scenario self.now.node past messages asked self.now → length past < result →
+            Rests scenario self.now.node past messages asked self.now }
+    {
+        let closing = self.queue.closing(self.bound);
+        let next = self.backlog.wake(self.spacing);
+        closing.min(next)
     }
 
     /// Whether a closing of the message lies ahead at this node: it is open.
