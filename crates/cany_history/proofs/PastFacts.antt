@@ -91,7 +91,7 @@ module _ (format : Format) (cycle i : ℕ) where
       → list_any (is_vector_sent format cycle i v) past ≡ false
   unread_own v past none = no_own v past (each_not v past none)
 
-  more_from_none : (vector : Option Nodes) (notice : NoticeKind) → HasNoVector format cycle i notice
+  pub more_from_none : (vector : Option Nodes) (notice : NoticeKind) → HasNoVector format cycle i notice
       → HasMore format cycle i vector notice
   more_from_none vector notice none w h = let e : None ≡ Some w = sym none ∙ h in absurd (cc)
 

@@ -1,5 +1,5 @@
 -- What a value of reception history vectors stands for.
-use Rattle.std.specs.Prelude.{◌≡◌, ℕ, ◌+◌, ◌*◌, ◌<◌, ◌≤◌, ◌==◌, Bool, true, false, if◌then◌else◌, List, length, Option, Some, None, IfSome, count_by}
+use Rattle.std.specs.Prelude.{◌≡◌, ℕ, ◌+◌, ◌*◌, ◌<◌, ◌≤◌, ◌==◌, Bool, true, false, if◌then◌else◌, List, [], ◌∷◌, length, Option, Some, None, IfSome, count_by}
 use Rattle.std.specs.List.{AllByRecursion, list_any}
 use Rattle.cany_base.specs.declared.frame.Format.{Format}
 use Rattle.cany_base.specs.declared.notice.Notice.{Notice}
@@ -9,7 +9,7 @@ use Rattle.cany_base.specs.Nodes.{Nodes, AllBelow}
 use Rattle.cany_base.specs.Params.{Parameters}
 use Rattle.cany_base.specs.Scenario.{ScenarioParts, IsLegalScenario}
 use Rattle.cany_model.specs.Rules.Notices.{IsNextNotice, IsPart, IsReadableVector}
-use Rattle.cany_model.specs.Rules.Vectors.{cycle_of, is_exchange, is_start, is_vector_got, is_vector_sent, vector_in}
+use Rattle.cany_model.specs.Rules.Vectors.{brought, cycle_of, ended, exchange_at, is_end, is_exchange, is_start, is_vector_got, is_vector_sent, met, vector_in}
 
 -- the node, the parameters, its vector of the present cycle if it has one, how many copies of just this vector it got, and whether it has
 -- sent it
@@ -82,3 +82,14 @@ pub record CanRead (v : HistoryParts) (notice : Notice) : Type 0 where
   pub vector : Option Nodes
   pub stands : IsHistoryOf scenario v.node past vector v
   pub next : IsNextAt scenario v.node past vector notice
+
+-- ---- an idle notice that leads to nothing
+
+-- The value stands for one idle notice more as it is. No cycle starts or ends in its slot, and the node keeps its vector and does nothing.
+pub record Rests (scenario : ScenarioParts) (i : ℕ) (past : List NoticeKind) (own : Option Nodes) (v : HistoryParts) : Type 0 where
+  pub stands : IsHistoryOf scenario i (Idle ∷ past) own v
+  pub start : is_start scenario.params (length past) ≡ false
+  pub end : is_end scenario.params (length past) ≡ false
+  pub kept : met scenario.params own (brought scenario.params (length past) Idle) ≡ own
+  pub none : ended scenario.params (length past) (met scenario.params own (brought scenario.params (length past) Idle)) ≡ None
+  pub effects : exchange_at scenario.params 0 i Idle past own None ≡ []

@@ -8,6 +8,7 @@ use Rattle.cany_base.specs.Frame.{FrameParts}
 use Rattle.cany_base.specs.Layout.{layout}
 use Rattle.cany_base.specs.Limits.{most_numbers}
 use Rattle.cany_base.specs.Nodes.{Nodes}
+use Rattle.cany_base.specs.Params.{Parameters}
 use Rattle.cany_base.specs.Scenario.{ScenarioParts}
 use Rattle.cany_model.specs.Rules.Actions.{ident_of}
 use Rattle.cany_model.specs.Rules.Vectors.{brought, cycle_of, is_end, is_just, is_new, is_start, met_with, rha_frame, rha_of, vector_in}
@@ -100,6 +101,11 @@ having_started slot start v = if is_start v.params slot then record v { vector =
 unfoldable pub start_actions : ℕ → HistoryParts → Option Nodes → List Action
 start_actions slot v None = []
 start_actions slot v (Some own) = ask_at slot v own ∷ []
+
+-- ---- a slot in which no cycle starts or ends
+
+abbrev pub IsPlain : Parameters → ℕ → Type 0
+IsPlain p slot = (is_start p slot ≡ false) × (is_end p slot ≡ false)
 
 -- ---- so many slots
 

@@ -1,7 +1,8 @@
 //! The slots of a membership cycle. It starts at a multiple of its length, and there is none that starts at slot 0.
 
-ghost use Rattle.std.specs.Prelude.{◌≡◌, ◌<◌};
+ghost use Rattle.std.specs.Prelude.{◌≡◌, ℕ, ◌<◌, ◌≤◌};
 ghost use Rattle.cany_base.specs.Limits.{most_numbers};
+ghost use Rattle.cany_history.specs.HistorySteps.{IsPlain};
 ghost use Rattle.cany_model.specs.Rules.Vectors.{cycle_of, is_end, is_exchange, is_start};
 
 use cany_base::{Params, Slot};
@@ -38,4 +39,23 @@ pub(crate) fn is_end(params: &Params, slot: Slot) -> bool
     ensures { result ≡ is_end params.now slot }
 {
     slot % params.cycle == params.bound && 0 < slot / params.cycle
+}
+
+/// The first slot from this one on in which a cycle starts or ends.
+pub(crate) fn next_start_or_end(params: &Params, from: Slot) -> Slot
+    ensures { params.now.bound < params.now.cycle → (slot : ℕ) → from ≤ slot → slot < result → IsPlain params.now slot }
+{
+    if from <= params.cycle {
+        return params.cycle;
+    }
+    let after_start = from % params.cycle;
+    if after_start == 0 {
+        return from;
+    }
+    let ahead = if after_start <= params.bound {
+        params.bound - after_start
+    } else {
+        params.cycle - after_start
+    };
+    from.saturating_add(ahead)
 }

@@ -4,12 +4,12 @@ ghost use Rattle.cany_base.specs.declared.notice.NoticeKind.TheVariants.{Idle, G
 ghost use Rattle.cany_base.specs.Limits.{most_nodes, most_slots};
 ghost use Rattle.cany_base.specs.Nodes.{AllBelow, Nodes};
 ghost use Rattle.cany_base.specs.Scenario.{ScenarioParts};
-ghost use Rattle.cany_history.specs.History.{CanRead, IsHistoryOf, IsNextAt, StartsWith};
+ghost use Rattle.cany_history.specs.History.{CanRead, IsHistoryOf, IsNextAt, Rests, StartsWith};
 ghost use Rattle.cany_history.specs.HistorySteps.{IsInRun, end_actions, frame_at, got_actions, having_ended, having_read, having_started, is_covered_by, is_own_vector, met_by, is_just_own, read_actions, start_actions, with_vector, withdrawal_at};
 ghost use Rattle.cany_model.specs.Rules.Actions.{actions_of};
 ghost use Rattle.cany_model.specs.Rules.Vectors.{after_exchange, brought, cycle_of, ended, everybody, exchange_at, is_new, meet, met, met_with, vector_in};
 
-use crate::cycle::{cycle_of, is_end, is_exchange, is_start};
+use crate::cycle::{cycle_of, is_end, is_exchange, is_start, next_start_or_end};
 use crate::ended::Ended;
 use cany_base::{
     Action, Actions, Class, Frame, NodeId, NodeSet, Notice, NoticeKind, Params, Payload, Scenario,
@@ -104,6 +104,16 @@ impl History {
         let ended = self.end(notice.slot, out);
         self.start(notice.slot, start, out);
         ended
+    }
+
+    /// The first slot from `now` on in which an idle notice may lead to something: a membership cycle starts or ends in it. Until then
+    /// the value stands as it is for the idle notices too.
+    pub fn wake(&self, now: Slot) -> Slot
+        ensures rests { (scenario : ScenarioParts) (past : List NoticeKind) (vector : Option Nodes)
+            → IsHistoryOf scenario self.now.node past vector self.now → now ≤ length past → length past < result
+            → Rests scenario self.now.node past vector self.now }
+    {
+        next_start_or_end(&self.params, now)
     }
 
     /// A vector of the cycle from another node, or the node's own transmission of its present one.

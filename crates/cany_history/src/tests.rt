@@ -319,6 +319,7 @@ fn a_cycle_ends_as_many_slots_after_its_start_as_the_bound_has(
     let scenario = scenario_of(rt.alloc())?;
     let mut history = begun(&scenario, 72);
     start(rt.alloc(), &mut history, &scenario, nodes(7))?;
+    assert_eq!(rt; history.wake(73), 108);
     pass(rt.alloc(), &mut history, &scenario, 73, 107)?;
     let early = idle(rt.alloc(), &mut history, &scenario, 107)?;
     assert_eq!(rt; early.ended.is_none(), true);
@@ -330,6 +331,7 @@ fn a_cycle_ends_as_many_slots_after_its_start_as_the_bound_has(
     assert_eq!(rt; ended.vector.bits(), 7);
     let late = idle(rt.alloc(), &mut history, &scenario, 109)?;
     assert_eq!(rt; late.ended.is_none(), true);
+    assert_eq!(rt; history.wake(110), 144);
     Ok(())
 }
 

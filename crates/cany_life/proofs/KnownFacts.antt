@@ -18,7 +18,7 @@ use Rattle.cany_life.specs.LifeSteps.{IsReading, all_marked, marked, with_node}
 use Rattle.cany_life.proofs.MarkFacts.{length-marked}
 
 -- the nodes of a set with one node more
-has-with_node : (r node : ℕ) (nodes : Nodes) → r < most_nodes → has (with_node node nodes) r ≡ (has nodes r || r == node)
+pub has-with_node : (r node : ℕ) (nodes : Nodes) → r < most_nodes → has (with_node node nodes) r ≡ (has nodes r || r == node)
 has-with_node r node nodes near = has-those_where (λ q. has nodes q || q == node) r ∙ (rw (lt-ltb r most_nodes near) refl)
 
 -- the sets of nodes at which two tests agree have the same nodes

@@ -1,3 +1,4 @@
+pub mod AdmitFacts
 pub mod CopyFacts
 pub mod CountFacts
 pub mod FindFacts
@@ -6,6 +7,8 @@ pub mod HeardFacts
 pub mod KnownFacts
 pub mod LearnFacts
 pub mod MarkFacts
+pub mod QuietFacts
+pub mod RestFacts
 pub mod SentFacts
 pub mod SetFacts
 pub mod TurnFacts

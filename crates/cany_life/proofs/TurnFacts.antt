@@ -49,7 +49,7 @@ pub at_own_node : (scenario : ScenarioParts) (i : ℕ) (past : List NoticeKind) 
     → IsLifeOf scenario v.node past station v
 at_own_node scenario i past station v h = subst (λ n. IsLifeOf scenario n past station v) (sym h.node) h
 
-read_to_end : (scenario : ScenarioParts) (i : ℕ) (past : List NoticeKind) (station : Station) (v : LifeParts) → IsReading scenario i past past station v
+pub read_to_end : (scenario : ScenarioParts) (i : ℕ) (past : List NoticeKind) (station : Station) (v : LifeParts) → IsReading scenario i past past station v
     → IsLifeOf scenario i past station v
 read_to_end scenario i past station v h = record {
   legal = h.legal;
@@ -123,6 +123,9 @@ module _ (scenario : ScenarioParts) (i : ℕ) (past : List NoticeKind) (station 
     -- what finding rests on
     pub some_cycle : 0 < x.params.cycle
     some_cycle = rw learnt_reads.params (omega (arith, h.legal.in_range.cycle.0))
+
+    pub some_silence : 0 < x.params.silence
+    some_silence = rw learnt_reads.params (omega (arith, h.legal.in_range.silence.0))
 
     pub few_cycles : notice.slot / x.params.cycle < most_numbers
     few_cycles =

@@ -1,2 +1,3 @@
 pub mod Life
+pub mod LifeFields
 pub mod LifeSteps

@@ -1,7 +1,8 @@
 -- What a value of life signs and failure signs stands for.
-use Rattle.std.specs.Prelude.{◌≡◌, ℕ, ◌+◌, ◌*◌, ◌<◌, ◌≤◌, true, List, ◌∷◌, length, slice_index_or}
+use Rattle.std.specs.Prelude.{◌≡◌, ℕ, ◌+◌, ◌*◌, ◌<◌, ◌≤◌, true, List, [], ◌∷◌, length, slice_index_or}
 use Rattle.cany_base.specs.declared.notice.Notice.{Notice}
 use Rattle.cany_base.specs.declared.notice.NoticeKind.{NoticeKind}
+use Rattle.cany_base.specs.declared.notice.NoticeKind.TheVariants.{Idle}
 use Rattle.cany_base.specs.Limits.{most_nodes}
 use Rattle.cany_base.specs.Nodes.{Nodes, has}
 use Rattle.cany_base.specs.Params.{Parameters}
@@ -9,10 +10,10 @@ use Rattle.cany_base.specs.Scenario.{ScenarioParts, IsLegalScenario}
 use Rattle.cany_diffuse.specs.Eager.{EagerParts, copies_of, is_there}
 use Rattle.cany_model.specs.Bus.History.{copies}
 use Rattle.cany_model.specs.Bus.Slot.{nobody}
-use Rattle.cany_model.specs.Rules.Life.{signs_sent}
+use Rattle.cany_model.specs.Rules.Life.{failures_at, life_sign, signs_sent}
 use Rattle.cany_model.specs.Rules.Notices.{HasFewSigns, IsNextNotice}
 use Rattle.cany_model.specs.Rules.Rooms.{cycles}
-use Rattle.cany_model.specs.Rules.Station.{Sign, Station, fda_of, knows}
+use Rattle.cany_model.specs.Rules.Station.{Sign, Station, fda_of, having_found, knows}
 
 -- the node, the parameters, the nodes that have failed here, for each cycle the nodes whose sign of that cycle is known, the copies of
 -- the frames of signs, for each node the slot in which it last showed life, that of the node's own last life, and how many life signs
@@ -91,3 +92,13 @@ pub record HasReadSlot (v : LifeParts) (slot : ℕ) : Type 0 where
   pub stands : IsLifeOf scenario v.node past station v
   pub within : slot < scenario.params.slots
   pub newest : length past ≡ slot + 1
+
+-- ---- an idle notice that leads to nothing
+
+-- The value stands for one idle notice more as it is, and for what the node knew before it, its members too. The node finds nobody by
+-- silence, and no life sign of its own is due.
+pub record Rests (scenario : ScenarioParts) (i : ℕ) (past : List NoticeKind) (station : Station) (v : LifeParts) : Type 0 where
+  pub stands : IsLifeOf scenario i (Idle ∷ past) station v
+  pub failures : failures_at scenario.params i Idle past station ≡ []
+  pub found : having_found scenario.params i (length past) Idle station ≡ station
+  pub sign : life_sign scenario.params.life 0 i (length past) station (signs_sent i (Idle ∷ past)) ≡ []

@@ -1,5 +1,5 @@
 -- What a notice, and a sign that becomes known, do to a value of life signs and failure signs, and the actions that a sign calls for.
-use Rattle.std.specs.Prelude.{◌≡◌, ℕ, zero, suc, ◌+◌, ◌-◌, ◌<◌, ◌==◌, ◌&&◌, ◌||◌, Bool, true, false, not, nat_le, if◌then◌else◌, List, [], ◌∷◌, ◌++◌, length, slice_index_or, slice_set}
+use Rattle.std.specs.Prelude.{◌≡◌, ℕ, zero, suc, ◌+◌, ◌-◌, ◌<◌, ◌≤◌, ◌==◌, ◌&&◌, ◌||◌, Bool, true, false, not, nat_le, if◌then◌else◌, List, [], ◌∷◌, ◌++◌, length, slice_index_or, slice_set}
 use Rattle.std.specs.List.{flat_map}
 use Rattle.cany_base.specs.declared.actions.Action.{Action}
 use Rattle.cany_base.specs.declared.actions.Action.TheVariants.{Ask, Enter}
@@ -80,10 +80,17 @@ is_enough (Enough copies) = true
 
 -- ---- signs by silence
 
--- whether node r, one of these members, has shown no life for as many slots as the silence has
+-- whether silence can find node r, one of these members: it is another one that has not failed
+abbrev pub is_watched : LifeParts → Nodes → ℕ → Bool
+is_watched v members r = has members r && not (r == v.node) && not (has v.failed r)
+
+-- whether it finds it: the node has shown no life for as many slots as the silence has
 abbrev pub is_silent_at : LifeParts → Nodes → ℕ → ℕ → Bool
-is_silent_at v members slot r =
-    has members r && not (r == v.node) && not (has v.failed r) && nat_le v.params.silence (slot - shown_by v r)
+is_silent_at v members slot r = is_watched v members r && nat_le v.params.silence (slot - shown_by v r)
+
+-- before this slot it finds none of these members
+abbrev pub IsQuietUntil : ℕ → Nodes → LifeParts → Type 0
+IsQuietUntil quiet members v = (r : ℕ) → r < most_nodes → is_watched v members r ≡ true → quiet ≤ shown_by v r + v.params.silence
 
 -- the sign of a node that is silent, where it is not known
 abbrev pub found_at : LifeParts → Nodes → ℕ → ℕ → List Sign

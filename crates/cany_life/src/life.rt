@@ -1,4 +1,4 @@
-ghost use Rattle.std.specs.Prelude.{◌≡◌, ℕ, ◌+◌, ◌*◌, ◌/◌, ◌<◌, ◌≤◌, ◌==◌, ◌&&◌, ◌++◌, ◌∷◌, if◌then◌else◌, length, List, replicate, slice_index, EachIndex, IfOk};
+ghost use Rattle.std.specs.Prelude.{◌≡◌, ℕ, ◌+◌, ◌*◌, ◌/◌, ◌<◌, ◌≤◌, ◌==◌, ◌&&◌, ◌++◌, ◌∷◌, if◌then◌else◌, length, List, false, replicate, slice_index, slice_set, EachIndex, IfOk};
 ghost use Rattle.std.specs.List.{flat_map};
 ghost use Rattle.can_frame.specs.Identifier.{HasSmallNumbers};
 ghost use Rattle.cany_base.specs.declared.frame.Class.TheVariants as class;
@@ -8,8 +8,8 @@ ghost use Rattle.cany_base.specs.Limits.{most_nodes, most_numbers, most_slots};
 ghost use Rattle.cany_base.specs.Nodes.{AllBelow, Nodes, has};
 ghost use Rattle.cany_base.specs.Scenario.{ScenarioParts};
 ghost use Rattle.cany_diffuse.specs.Eager.{IsLearnt};
-ghost use Rattle.cany_life.specs.Life.{CanRead, HasReadSlot, IsLifeOf, IsNextAt, sign_number};
-ghost use Rattle.cany_life.specs.LifeSteps.{CanLearn, IsReading, all_marked, found_actions, found_at, found_below, has_enough_of, heard, is_enough, is_known, is_silent_at, known_actions, marked, unknown, with_node, without_nodes};
+ghost use Rattle.cany_life.specs.Life.{CanRead, HasReadSlot, IsLifeOf, IsNextAt, Rests, sign_number};
+ghost use Rattle.cany_life.specs.LifeSteps.{CanLearn, IsQuietUntil, IsReading, all_marked, found_actions, found_at, found_below, has_enough_of, heard, is_enough, is_known, is_silent_at, is_watched, known_actions, marked, unknown, with_node, without_nodes};
 ghost use Rattle.cany_message.specs.Actions.{withdraw_actions};
 ghost use Rattle.cany_message.specs.Table.{CanTake};
 ghost use Rattle.cany_model.specs.Bus.Frames.{same_class};
@@ -51,10 +51,16 @@ pub struct Life {
     last: Slot,
     /// How many life signs of its own the node has sent, as it has read.
     sent: u32,
+    /// The members among whom silence was last looked for.
+    watched: NodeSet,
+    /// A slot before which silence finds none of them. It is no part of what the value stands for.
+    quiet: Slot,
 }
 
 impl Model for Life {
     ghost use Rattle.cany_life.specs.Life.{LifeParts};
+    ghost use Rattle.cany_life.specs.LifeFields.{parts_of};
+    ghost use Rattle.cany_life.specs.LifeSteps.{IsQuietUntil};
 
     ghost Value = { LifeParts };
 
@@ -68,6 +74,8 @@ impl Model for Life {
       last = l.last;
       sent = l.sent;
     } };
+
+    ghost invariant = { λ l. IsQuietUntil l.quiet l.watched (parts_of l) };
 }
 
 impl Life {
@@ -89,6 +97,8 @@ impl Life {
             shown: [0; NodeId::COUNT as usize],
             last: 0,
             sent: 0,
+            watched: NodeSet::empty(),
+            quiet: 0,
         })
     }
 
@@ -128,6 +138,7 @@ impl Life {
         ensures params { self.new.params ≡ self.old.params }
     {
         self.failed = without(self.failed, newly);
+        self.quiet = 0;
         show(&mut self.shown, newly, now);
         if newly.has(self.node) {
             self.last = now;
@@ -153,6 +164,20 @@ impl Life {
         }
     }
 
+    /// The first slot from `now` on in which an idle notice may lead to something, where these are the members then too: silence may
+    /// find one of them, or the node's next life sign is due. Until then the value stands as it is for the idle notices too.
+    ///
+    /// It is `now` where silence was not looked for among just these members yet.
+    pub fn wake(&self, members: NodeSet, now: Slot) -> Slot
+        ensures rests { (scenario : ScenarioParts) (past : List NoticeKind) (station : Station) → IsLifeOf scenario self.now.node past station self.now →
+            now ≤ length past → length past < result → length past < scenario.params.slots →
+            Rests scenario self.now.node past (with_members members station) self.now }
+    {
+        let silent = self.next_silent(members, now);
+        let due = self.next_due(members, now);
+        silent.min(due)
+    }
+
     /// The nodes that have failed here.
     pub fn failed(&self) -> NodeSet
         ensures failed { result ≡ self.now.failed }
@@ -171,7 +196,7 @@ impl Life {
         match &notice.kind {
             NoticeKind::Got(frame) => {
                 if shows_life(frame) {
-                    self.shown[usize::from(frame.node.get())] = notice.slot;
+                    self.hear_other(notice.slot, frame.node);
                 }
             }
             NoticeKind::Sent(frame) => {
@@ -182,6 +207,14 @@ impl Life {
             NoticeKind::Idle => {}
             NoticeKind::Bad => {}
         }
+    }
+
+    /// Another node shows life.
+    fn hear_other(&mut self, slot: Slot, node: NodeId)
+        ensures { self.new ≡ record self.old { shown = slice_set self.old.shown node slot } }
+    {
+        self.shown[usize::from(node.get())] = slot;
+        self.quiet = self.quiet.min(slot.saturating_add(self.params.silence));
     }
 
     /// The node reads its own transmission of a frame of its own.
@@ -266,8 +299,27 @@ impl Life {
         is_enough(&learnt)
     }
 
-    /// The signs that silence brings, by ascending node.
+    /// The signs that silence brings, by ascending node. In most slots it is known that there are none.
     fn find(&mut self, slot: Slot, members: NodeSet, out: &mut Actions)
+        requires cycle { 0 < self.old.params.cycle }
+        requires silence { 0 < self.old.params.silence }
+        requires number { slot / self.old.params.cycle < most_numbers }
+        requires known { slot / self.old.params.cycle < length self.old.known }
+        requires nodes { self.old.params.nodes ≤ most_nodes }
+        requires room { length out.old.items + 2 * self.old.params.nodes ≤ out.old.room }
+        ensures state { self.new ≡ all_marked (found_below self.old members slot self.old.params.nodes) self.old }
+        ensures actions { out.new.items ≡ out.old.items ++ found_actions self.old slot (found_below self.old members slot self.old.params.nodes) }
+        ensures few { length out.new.items ≤ length out.old.items + 2 * self.old.params.nodes }
+        ensures room { out.new.room ≡ out.old.room }
+    {
+        if self.next_silent(members, slot) <= slot {
+            self.find_among(slot, members, out);
+            self.watch(members);
+        }
+    }
+
+    /// The signs that silence brings, as the nodes are looked at one after another.
+    fn find_among(&mut self, slot: Slot, members: NodeSet, out: &mut Actions)
         requires cycle { 0 < self.old.params.cycle }
         requires number { slot / self.old.params.cycle < most_numbers }
         requires known { slot / self.old.params.cycle < length self.old.known }
@@ -307,10 +359,61 @@ impl Life {
     fn is_silent(&self, slot: Slot, node: NodeId, members: NodeSet) -> bool
         ensures { result ≡ is_silent_at self.now members slot node }
     {
-        members.has(node)
-            && node.get() != self.node.get()
-            && !self.failed.has(node)
+        self.is_watched(node, members)
             && slot.saturating_sub(self.shown[usize::from(node.get())]) >= self.params.silence
+    }
+
+    /// Whether silence can find a node, one of these members: it is another one that has not failed here.
+    fn is_watched(&self, node: NodeId, members: NodeSet) -> bool
+        ensures { result ≡ is_watched self.now members node }
+    {
+        members.has(node) && node.get() != self.node.get() && !self.failed.has(node)
+    }
+
+    /// From now on it is known when silence can next find one of these members.
+    fn watch(&mut self, members: NodeSet)
+        ensures { self.new ≡ self.old }
+    {
+        let quiet = self.quiet_until(members);
+        self.watched = members;
+        self.quiet = quiet;
+    }
+
+    /// The first slot in which silence can find one of these members, `Slot::MAX` where it can find none.
+    fn quiet_until(&self, members: NodeSet) -> Slot
+        ensures { IsQuietUntil result members self.now }
+    {
+        let mut quiet = Slot::MAX;
+        for n in 0..usize::from(NodeId::COUNT) {
+            let node = NodeId::of_index(n);
+            if self.is_watched(node, members) {
+                quiet = quiet.min(self.shown[n].saturating_add(self.params.silence));
+            }
+        }
+        quiet
+    }
+
+    /// The first slot from `now` on in which silence may find one of these members: `now` where that is not known.
+    fn next_silent(&self, members: NodeSet, now: Slot) -> Slot
+        ensures { (slot : ℕ) → now ≤ slot → slot < result → IsQuietUntil (slot + 1) members self.now }
+    {
+        if self.watched == members {
+            self.quiet
+        } else {
+            now
+        }
+    }
+
+    /// The first slot from `now` on in which the node's next life sign is due, `Slot::MAX` where it is in none.
+    fn next_due(&self, members: NodeSet, now: Slot) -> Slot
+        ensures { (slot : ℕ) → now ≤ slot → slot < result → (has members self.now.node && slot == self.now.last + self.now.params.life) ≡ false }
+    {
+        let due = self.last.saturating_add(self.params.life);
+        if members.has(self.node) && due >= now {
+            due
+        } else {
+            Slot::MAX
+        }
     }
 
     /// A sign becomes known, unless it is: it is entered, and its frame is asked for, unless there are enough copies of it.

@@ -404,6 +404,9 @@ fn a_node_is_silent_as_many_slots_after_its_life_as_the_silence_has(
     let members = between(0, 2);
     let shown = heard(rt.alloc(), &mut life, &scenario, 10, least, members)?;
     assert_eq!(rt; shown.len(), 0);
+    // Its own life sign is due in slot 36, and then silence may find the other one.
+    assert_eq!(rt; life.wake(members, 11), 36);
+    assert_eq!(rt; life.wake(members, 37), 83);
     pass(rt.alloc(), &mut life, &scenario, 11, 82, members)?;
     let early = idle(rt.alloc(), &mut life, &scenario, 82, members)?;
     assert_eq!(rt; early.len(), 0);

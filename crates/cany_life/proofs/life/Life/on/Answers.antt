@@ -3,7 +3,7 @@ use Rattle.std.proofs.Common.{length, ap, arith, ◌∙◌}
 use Rattle.cany_base.specs.Params.{Parameters}
 use Rattle.cany_model.specs.Rules.Station.{having_heard, with_members}
 use Rattle.cany_life.proofs.MarkFacts.{marked-node, marked-params}
-use Rattle.cany_life.proofs.TurnFacts.{can_learn, few_cycles, few_sent, has_cycle, heard_node, heard_own, own_params, placed, some_cycle, turn_acts, turn_stands}
+use Rattle.cany_life.proofs.TurnFacts.{can_learn, few_cycles, few_sent, has_cycle, heard_node, heard_own, own_params, placed, some_cycle, some_silence, turn_acts, turn_stands}
 use Rattle.cany_life.specs.LifeSteps.{found_below}
 use Rattle.cany_life.proofs.life.Life.on.Goals as goal
 
@@ -21,6 +21,12 @@ pub find-requires-clause-cycle : goal.find-requires-clause-cycle
 find-requires-clause-cycle c =
     let reads = c.requires.reads in
     some_cycle reads.scenario c.args.self.now.node reads.past reads.station c.args.members c.args.notice.now c.args.self.now c.hear.new.self reads.stands reads.next
+    c.hear.ensures c.learn.new.self c.learn.ensures.stands
+
+pub find-requires-clause-silence : goal.find-requires-clause-silence
+find-requires-clause-silence c =
+    let reads = c.requires.reads in
+    some_silence reads.scenario c.args.self.now.node reads.past reads.station c.args.members c.args.notice.now c.args.self.now c.hear.new.self reads.stands reads.next
     c.hear.ensures c.learn.new.self c.learn.ensures.stands
 
 pub find-requires-clause-number : goal.find-requires-clause-number

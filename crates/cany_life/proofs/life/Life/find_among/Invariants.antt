@@ -1,6 +1,6 @@
 use Rattle.std.proofs.Common.{◌≡◌, ◌+◌, ◌*◌, ◌≤◌, ◌++◌, length}
 use Rattle.cany_life.specs.LifeSteps.{all_marked, found_actions, found_below}
-use Rattle.cany_life.proofs.life.Life.find.Given as goal
+use Rattle.cany_life.proofs.life.Life.find_among.Given as goal
 
 abbrev pub invariant-loop-n : goal.invariant-loop-n
 invariant-loop-n l = record {

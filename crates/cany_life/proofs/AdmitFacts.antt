@@ -1,0 +1,39 @@
+-- What a value stands for once nodes are admitted.
+use Rattle.std.specs.Prelude.{nat_lt}
+use Rattle.std.proofs.Common.{◌≡◌, ℕ, ◌<◌, ◌&&◌, not, if◌then◌else◌, List, length, get_or, ap, sym, ◌∙◌, arith}
+use Rattle.cany_base.specs.declared.notice.NoticeKind.{NoticeKind}
+use Rattle.cany_base.specs.Limits.{most_nodes}
+use Rattle.cany_base.specs.Nodes.{Nodes, has}
+use Rattle.cany_base.specs.Scenario.{ScenarioParts}
+use Rattle.cany_base.proofs.NodesFacts.{has-those_where}
+use Rattle.cany_base.proofs.ParamsFacts.{few_nodes}
+use Rattle.cany_model.specs.Rules.Station.{Station, having_admitted}
+use Rattle.cany_life.specs.Life.{IsLifeOf, LifeParts}
+use Rattle.cany_life.specs.LifeSteps.{without_nodes}
+
+module _ (scenario : ScenarioParts) (i : ℕ) (past : List NoticeKind) (station : Station) (v : LifeParts) (newly : Nodes) (slot : ℕ)
+    (h : IsLifeOf scenario i past station v) where
+  pub admitted : (failed : Nodes) (shown : List ℕ) (last : ℕ) → failed ≡ without_nodes newly v.failed → length shown ≡ most_nodes
+      → ((r : ℕ) → r < most_nodes → get_or shown r 0 ≡ (if has newly r then slot else get_or v.shown r 0))
+      → last ≡ (if has newly i then slot else v.last)
+      → IsLifeOf scenario i past (having_admitted i slot newly station) (record v { failed = failed; shown = shown; last = last })
+  admitted failed shown last fewer nodes same latest = record {
+    legal = h.legal;
+    node = h.node;
+    params = h.params;
+    failed = λ r.
+        ap (λ s. has s r) fewer
+        ∙ has-those_where (λ q. has v.failed q && not (has newly q)) r
+        ∙ ap (λ b. nat_lt r most_nodes && (b && not (has newly r))) (h.failed r)
+        ∙ sym (has-those_where (λ q. has station.failed q && not (has newly q)) r);
+    cycles = h.cycles;
+    known = h.known;
+    copies = h.copies;
+    nodes = nodes;
+    shown = λ r below.
+        same r (omega (arith, below, few_nodes scenario.params h.legal.in_range))
+        ∙ ap (λ n. if has newly r then slot else n) (h.shown r below);
+    last = latest ∙ ap (λ n. if has newly i then slot else n) h.last;
+    sent = h.sent;
+    few = h.few;
+  }
