@@ -1,9 +1,7 @@
 -- The scripted sends of a slot that join the backlog, one after another.
 use Rattle.std.proofs.Common.{◌≡◌, ℕ, ◌+◌, ◌<◌, ◌≤◌, ◌==◌, ◌&&◌, Bool, true, false, cond, inl, inr, List, [], ◌∷◌, ◌++◌, length, filter, map, Contains, refl, ap, sym, subst, ◌∙◌, arith, append_assoc, append-nil, count_by}
-use Rattle.std.specs.Prelude.{nat_lt}
 use Rattle.std.specs.List.{AllByRecursion}
 use Rattle.std.proofs.lemmas.Bool.{cond_both, eq-eqb, false≢true}
-use Rattle.std.proofs.lemmas.List.{map-append}
 use Rattle.std.proofs.lemmas.List.Elements.{filter_agree}
 use Rattle.cany_base.specs.declared.message.Service.{Service}
 use Rattle.cany_base.specs.declared.message.Service.TheVariants.{Ed, Rel, Tot}
@@ -13,8 +11,7 @@ use Rattle.cany_model.specs.Rules.Backlog.{joins_in}
 use Rattle.cany_model.specs.Rules.Messages.{Message, is_from, is_service, messages_of}
 use Rattle.cany_model.specs.Bus.Frames.{same_class}
 use Rattle.cany_model.specs.Rules.Sends.{is_sent_at_once, sendable}
-use Rattle.cany_model.proofs.Among.{Among, Among-append_right, Among-from_Contains, Contains-from_Among}
-use Rattle.cany_model.proofs.Rules.MessageKeys.{IsOneOf}
+use Rattle.cany_model.proofs.Among.{Among, Among-append_right, Contains-from_Among}
 use Rattle.cany_model.proofs.Rules.SendFacts.{sendable_one}
 use Rattle.cany_totcan.specs.Totcan.{TotcanParts, IsTotcanOf}
 use Rattle.cany_node.specs.declared.agenda.Planned.{Planned}
@@ -70,6 +67,11 @@ joined-from_slot i slot planned messages same =
     joined-filter i planned ∙ ap (filter (λ m. is_service m.service Tot)) same
     ∙ filter_both (is_due i slot) (λ m. is_service m.service Tot) messages
     ∙ filter_agree (λ m. is_due i slot m && is_service m.service Tot) (joins_in i slot) (λ m. turned (m.origin == i) (m.slot == slot) (is_service m.service Tot)) messages
+
+-- none joins in a slot for which nothing is planned
+pub none_joined : (i slot : ℕ) (messages : List Message) → [] ≡ filter (is_due i slot) messages → filter (joins_in i slot) messages ≡ []
+unfolding joined
+none_joined i slot messages none = sym (joined-from_slot i slot [] messages none)
 
 -- ---- what is planned for a slot are messages of the scenario
 

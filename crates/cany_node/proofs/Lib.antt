@@ -10,13 +10,16 @@ pub mod Doing
 pub mod Filled
 pub mod GiveFacts
 pub mod HeardTurn
+pub mod IdleTurn
 pub mod LimitFacts
 pub mod MessageLists
 pub mod PassFacts
+pub mod RestFacts
 pub mod ScriptSteps
 pub mod SendFacts
 pub mod SiteBeginning
 pub mod SiteFacts
+pub mod SiteRest
 pub mod SiteSteps
 pub mod TellingFacts
 pub mod ToldFacts

@@ -43,7 +43,7 @@ turned false b true = refl
 turned false b false = refl
 
 -- those of a slot that are sent at once
-asks-from_slot : (i slot : ℕ) (planned : List Planned) (messages : List Message) → map (message_from i) (filter (is_for slot) planned) ≡ filter (is_due i slot) messages
+pub asks-from_slot : (i slot : ℕ) (planned : List Planned) (messages : List Message) → map (message_from i) (filter (is_for slot) planned) ≡ filter (is_due i slot) messages
     → asks_for i slot planned ≡ sent_asks i slot messages
 unfolding at_once
 asks-from_slot i slot planned messages same =
@@ -61,7 +61,7 @@ none_for s n (p ∷ planned) less up = rw (other_slot p.slot s (omega (arith, up
     other_slot : (a b : ℕ) → b < a → (a == b) ≡ false
     other_slot a b h = grind (arith, nat_tests)
 
-none_asked : (i s n : ℕ) (planned : List Planned) → s < n → IsRising n planned → asks_for i s planned ≡ []
+pub none_asked : (i s n : ℕ) (planned : List Planned) → s < n → IsRising n planned → asks_for i s planned ≡ []
 unfolding at_once
 none_asked i s n planned less up = once i s planned ∙ ap (λ ps. at_once (map (message_from i) ps)) (none_for s n planned less up)
 

@@ -3,6 +3,7 @@ pub mod Apply
 pub mod Asks
 pub mod Node
 pub mod Protocols
+pub mod Resting
 pub mod Script
 pub mod Site
 pub mod Telling

@@ -1,4 +1,4 @@
-ghost use Rattle.std.specs.Prelude.{◌≡◌, ◌+◌, ◌<◌, ◌≤◌, ◌++◌, ◌∷◌, true, false, length, filter, map, IfOk};
+ghost use Rattle.std.specs.Prelude.{◌≡◌, ℕ, ◌+◌, ◌<◌, ◌≤◌, ◌++◌, ◌∷◌, true, false, length, filter, map, IfOk};
 ghost use Rattle.std.specs.List.{flat_map};
 ghost use Rattle.cany_base.specs.Scenario.{ScenarioParts};
 ghost use Rattle.cany_model.specs.Rules.Actions.{actions_of};
@@ -72,6 +72,16 @@ impl AskPlan {
         }
         self.next += 1;
         true
+    }
+
+    /// The slot of the next ask that is still to come, `Slot::MAX` where there is none.
+    pub(crate) fn wake(&self) -> Slot
+        ensures { (n : ℕ) → n < result → IsRisingFrom n self.now → IsRisingFrom (n + 1) self.now }
+    {
+        if self.next >= self.by_slot.len() {
+            return Slot::MAX;
+        }
+        self.by_slot[self.next]
     }
 
     /// Passes over the asks of the slots before this one, which are not made.

@@ -1,4 +1,4 @@
-ghost use Rattle.std.specs.Prelude.{◌≡◌, ◌≢◌, ◌+◌, ◌<◌, ◌≤◌, ◌++◌, [], ◌∷◌, length, replicate, List, false, Contains, IfOk};
+ghost use Rattle.std.specs.Prelude.{◌≡◌, ◌≢◌, ℕ, ◌+◌, ◌^◌, ◌<◌, ◌≤◌, ◌++◌, [], ◌∷◌, length, replicate, List, false, Contains, IfOk};
 ghost use Rattle.cany_base.specs.declared.notice.Notice.{Notice};
 ghost use Rattle.cany_base.specs.declared.notice.NoticeKind.{NoticeKind};
 ghost use Rattle.cany_base.specs.declared.notice.NoticeKind.TheVariants.{Idle};
@@ -11,8 +11,9 @@ ghost use Rattle.cany_model.specs.Rules.Turn.{has_asked, is_ahead_at, scenario_f
 ghost use Rattle.cany_model.specs.Rules.Actions.{actions_of};
 ghost use Rattle.cany_model.specs.Rules.Effect.{waiting_after};
 ghost use Rattle.cany_node.specs.Node.{IsNodeOf, IsWaiting, CanBegin, CanTurn, CanAct, Reads, IsTurnOf, IsRefused, heard_by, reply_of};
-ghost use Rattle.cany_node.specs.Asks.{AreAsksPassed};
-ghost use Rattle.cany_node.specs.Agenda.{ArePassed};
+ghost use Rattle.cany_node.specs.Asks.{AreAsksPassed, IsRisingFrom};
+ghost use Rattle.cany_node.specs.Agenda.{ArePassed, IsRising};
+ghost use Rattle.cany_node.specs.Resting.{RestsUntil};
 ghost use Rattle.cany_node.specs.Site.{IsNextOf};
 ghost use Rattle.cany_node.specs.Turning.{CanHearNext, CanScript, HasHeard, HasScripted, heard_effects, heard_room, script_effects, script_room};
 
@@ -31,7 +32,7 @@ use cany_base::{
     Actions, BoundedVec, LogEntry, Memory, MsgKey, NodeId, Notice, NoticeKind, Params, Scenario,
     Slot,
 };
-use cany_edcan::Edcan;
+use cany_edcan::{Edcan, rests};
 use cany_relcan::Relcan;
 use cany_totcan::Totcan;
 use std::alloc::Global;
@@ -267,6 +268,39 @@ impl Node {
         );
         ask_due(AskKind::Join, slot, &mut self.joins, &self.site, out);
         ask_due(AskKind::Leave, slot, &mut self.leaves, &self.site, out);
+    }
+
+    /// The first slot, from the next one that it reads on, in whose turn an idle notice may lead to something. Before it the
+    /// incarnation can rest.
+    ///
+    /// It may be too early: a turn then does nothing. It does not look at the messages or the nodes one by one.
+    pub fn wake(&self) -> Slot
+        ensures rests { RestsUntil result self.now }
+    {
+        rests(&self.edcan);
+        let protocols = self.relcan.wake().min(self.totcan.wake());
+        let site = self.site.wake(self.read);
+        protocols.min(site).min(self.next_scripted())
+    }
+
+    /// The first slot for which something of the script is still to come.
+    fn next_scripted(&self) -> Slot
+        ensures sends { (n : ℕ) → n < result → IsRising n self.now.agenda.left → IsRising (n + 1) self.now.agenda.left }
+        ensures joins { (n : ℕ) → n < result → IsRisingFrom n self.now.joins → IsRisingFrom (n + 1) self.now.joins }
+        ensures leaves { (n : ℕ) → n < result → IsRisingFrom n self.now.leaves → IsRisingFrom (n + 1) self.now.leaves }
+    {
+        let sends = self.agenda.wake();
+        sends.min(self.joins.wake()).min(self.leaves.wake())
+    }
+
+    /// The incarnation makes no turn in so many idle slots, in which it has nothing to do.
+    pub fn rest(&mut self, slots: u64)
+        requires { self.old.read + slots < 2 ^ 64 }
+        ensures state { self.new ≡ record self.old { read = self.old.read + slots } }
+        ensures stands { (scenario : ScenarioParts) (past : List NoticeKind) (wake : ℕ) → RestsUntil wake self.old → IsNodeOf scenario past self.old →
+            length past + slots ≤ wake → length past + slots ≤ scenario.params.slots → IsNodeOf scenario (replicate slots Idle ++ past) self.new }
+    {
+        self.read += slots;
     }
 
     /// The first slot in which the incarnation takes part. That of the opening takes part in all.

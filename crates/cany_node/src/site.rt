@@ -13,6 +13,7 @@ ghost use Rattle.cany_model.specs.Rules.Views.{start_of, view_effects, with_ende
 ghost use Rattle.cany_views.specs.Views.{IsViewsOf};
 ghost use Rattle.cany_node.specs.Asks.{asked_as};
 ghost use Rattle.cany_node.specs.Site.{CanExchange, CanHear, Exchanges, FitsCycle, HasKnown, IsNextOf, IsSiteAtRest, IsSiteOf, KnowsOf, ended_as, exchange_plain, site_effects, site_room};
+ghost use Rattle.cany_node.specs.Resting.{SiteRests};
 
 use crate::asks::AskKind;
 use cany_base::{Actions, Memory, NodeId, NodeSet, Notice, Params, Scenario, Slot};
@@ -90,6 +91,15 @@ impl Site {
         let ended = self.exchange(notice, out);
         self.install(ended, notice.slot, out);
         self.sign(notice.slot, out);
+    }
+
+    /// The first slot, from `now` on, in whose turn an idle notice may lead to something.
+    pub(crate) fn wake(&self, now: Slot) -> Slot
+        ensures rests { (scenario : ScenarioParts) (i : ℕ) (past : List NoticeKind) → IsSiteOf scenario i past self.now →
+            now ≤ length past → length past < result → length past < scenario.params.slots → SiteRests scenario i past self.now }
+    {
+        let life = self.life.wake(self.views.members(), now);
+        life.min(self.history.wake(now))
     }
 
     /// In the turn of a slot in which the node's script asks to join the view, or to leave it. At most one action is appended.

@@ -1,0 +1,27 @@
+-- The turns of idle slots in which a node has nothing to do: it stands for them as it is.
+use Rattle.std.specs.Prelude.{◌≡◌, ◌+◌, ◌<◌, ◌≤◌, ℕ, List, [], ◌∷◌, length}
+use Rattle.cany_base.specs.declared.notice.NoticeKind.{NoticeKind}
+use Rattle.cany_base.specs.declared.notice.NoticeKind.TheVariants.{Idle}
+use Rattle.cany_base.specs.Scenario.{ScenarioParts}
+use Rattle.cany_model.specs.Rules.Site.{station_of}
+use Rattle.cany_model.specs.Rules.Turn.{turn_effects}
+use Rattle.cany_node.specs.Node.{NodeParts, IsNodeOf}
+use Rattle.cany_node.specs.Site.{IsSiteOf, SiteParts, site_effects}
+
+-- after one more idle slot node i knows of the site what it knew, and nothing is done for it
+pub record SiteRests (scenario : ScenarioParts) (i : ℕ) (past : List NoticeKind) (v : SiteParts) : Type 0 where
+  pub stands : IsSiteOf scenario i (Idle ∷ past) v
+  pub effects : site_effects scenario i (Idle ∷ past) ≡ []
+  pub station : station_of scenario i (Idle ∷ past) ≡ station_of scenario i past
+
+-- after one more idle slot the node is as it was, but that it has read one more notice, and nothing is done in the turn
+pub record Rests (scenario : ScenarioParts) (past : List NoticeKind) (v : NodeParts) : Type 0 where
+  pub stands : IsNodeOf scenario (Idle ∷ past) (record v { read = length past + 1 })
+  pub effects : turn_effects scenario v.node (Idle ∷ past) ≡ []
+
+-- The node rests in each slot before this one from which it has read on, once it stands for what it has heard before the slot. That
+-- is so after idle slots in which it rested.
+abbrev pub RestsUntil : ℕ → NodeParts → Type 0
+RestsUntil wake v =
+    (scenario : ScenarioParts) (past : List NoticeKind) → IsNodeOf scenario past (record v { read = length past })
+    → v.read ≤ length past → length past < wake → length past < scenario.params.slots → Rests scenario past v
