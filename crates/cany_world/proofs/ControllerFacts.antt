@@ -109,7 +109,7 @@ running_after : (i : ℕ) (note : SlotNote) (c : ControllerState) → c.stopped 
 unfolding controller_after
 running_after i note c running = rw running refl
 
-stopped_after : (i : ℕ) (note : SlotNote) (c : ControllerState) (slot : ℕ) → c.stopped ≡ Some slot → controller_after i note c ≡ c
+pub stopped_after : (i : ℕ) (note : SlotNote) (c : ControllerState) (slot : ℕ) → c.stopped ≡ Some slot → controller_after i note c ≡ c
 unfolding controller_after
 stopped_after i note c slot e = rw e refl
 
@@ -147,7 +147,7 @@ node_after-alone i note node = either (runs node) (share_of i note)
     either true Errored = refl
     either false share = refl
 
-stopped_node : (i : ℕ) (note : SlotNote) (node : NodeState) (slot : ℕ) → node.stopped ≡ Some slot → node_after i note node ≡ record node { unread = node.unread + 1 }
+pub stopped_node : (i : ℕ) (note : SlotNote) (node : NodeState) (slot : ℕ) → node.stopped ≡ Some slot → node_after i note node ≡ record node { unread = node.unread + 1 }
 unfolding node_after
 stopped_node i note node slot e = rw e refl
 

@@ -1,17 +1,21 @@
 -- The rounds of the round robin journal, as a world makes them.
-use Rattle.std.proofs.Common.{◌≡◌, ℕ, suc, ◌+◌, ◌&&◌, Bool, true, false, List, [], ◌∷◌, ◌++◌, refl, sym, ap, ◌∙◌, subst}
+use Rattle.std.proofs.Common.{◌≡◌, ℕ, suc, ◌+◌, ◌-◌, ◌≤◌, ◌&&◌, Bool, true, false, cond, List, [], ◌∷◌, ◌++◌, length, map, refl, sym, ap, ◌∙◌, subst, arith, append_assoc}
 use Rattle.std.specs.Prelude.{if◌then◌else◌, nat_lt}
 use Rattle.std.proofs.Math.Bool.{and_self_left}
 use Rattle.cany_base.specs.declared.step.Step.{Step}
 use Rattle.cany_base.specs.declared.step.Step.TheVariants.{Slot, Turn}
 use Rattle.cany_base.specs.Scenario.{ScenarioParts}
 use Rattle.cany_model.specs.declared.reply.StepReply.{StepReply}
-use Rattle.cany_model.specs.Bus.RoundRobin.{round, rounds, round_robin}
-use Rattle.cany_model.specs.Bus.Run.{IsLegal, has_ended, is_done, reply, run}
-use Rattle.cany_model.specs.Bus.State.{NodeState, opening, node_at, runs}
+use Rattle.cany_base.specs.declared.slot_note.SlotNote.{SlotNote}
+use Rattle.cany_model.specs.Bus.RoundRobin.{reading_nodes, round, rounds, round_robin}
+use Rattle.cany_model.specs.Bus.Run.{IsLegal, after_step, after_turn, has_ended, is_done, proceed, reply, run, run_from}
+use Rattle.cany_model.specs.Bus.State.{NodeState, RunState, opening, node_at, runs, slots_run}
+use Rattle.cany_model.proofs.Bus.Journals.{run_then, slot_step-trace, step_is}
+use Rattle.cany_model.proofs.Bus.Steps.{after_turn-trace}
 use Rattle.cany_model.proofs.Bus.RoundRobinEnds.{round_robin_ends}
 use Rattle.cany_model.proofs.Bus.Rounds.{RoundSoFar, round_begins, round_turn, round_skips, round_ends, round_slot_done, to_read, turn_exactly, rounds_next, rounds_none, rounds_opening, next_round_legal}
 use Rattle.cany_world.specs.World.{WorldParts, state_of}
+use Rattle.cany_world.proofs.IdleRounds.{rounds_split}
 use Rattle.cany_world.proofs.JournalFacts.{made}
 
 -- ---- a round
@@ -71,34 +75,121 @@ round_whole before now i so all = λ k. record {
   journal = (round_ends before.scenario before.journal now.journal i so.steps all) k;
 }
 
+-- ---- the slots that ran
+
+turn_trace : (scenario : ScenarioParts) (s : RunState) (i : ℕ) → (after_step scenario s (Turn i)).trace ≡ s.trace
+unfolding after_step proceed
+turn_trace scenario s i = elim (is_done (reply scenario s (Turn i))) as (λ b. (cond b (after_turn scenario i s) s).trace ≡ s.trace) [
+  | true ↦ after_turn-trace scenario i s
+  | false ↦ refl
+]
+
+turns_trace : (scenario : ScenarioParts) (s : RunState) (nodes : List ℕ) → (run_from scenario s (map (λ i. Turn i) nodes)).trace ≡ s.trace
+unfolding run_from
+turns_trace scenario s [] = refl
+turns_trace scenario s (i ∷ nodes) = turns_trace scenario (after_step scenario s (Turn i)) nodes ∙ turn_trace scenario s i
+
+-- a round runs one slot
+pub round_ran : (scenario : ScenarioParts) (journal next : List Step) → IsLegal scenario (journal ++ round scenario (run scenario journal))
+    → next ≡ journal ++ round scenario (run scenario journal) → slots_run (run scenario next) ≡ slots_run (run scenario journal) + 1
+unfolding round run_from
+round_ran scenario journal next legal is =
+    let s : RunState = run scenario journal in
+    let nodes : List ℕ = reading_nodes (after_step scenario s Slot).nodes in
+    let slot : (after_step scenario s Slot).trace ≡ (proceed scenario s Slot).trace =
+    ap (λ (t : RunState). t.trace) (step_is scenario s Slot (round_slot_done scenario journal legal)) in
+    let longer : length (run scenario next).trace ≡ length (proceed scenario s Slot).trace =
+    ap (λ (j : List Step). length (run scenario j).trace) is
+    ∙ ap (λ (t : RunState). length t.trace) (run_then scenario (opening scenario.params.nodes) journal (round scenario s))
+    ∙ ap (λ (t : List SlotNote). length t) (turns_trace scenario (after_step scenario s Slot) nodes ∙ slot) in
+    omega (arith, longer, ap (λ (t : List SlotNote). length t) (slot_step-trace scenario s))
+
 -- ---- all rounds
+
+-- the rounds that are left after the first ones
+pub rounds_rest : (scenario : ScenarioParts) (journal next : List Step) (left made n : ℕ) → left ≡ made + n
+    → next ≡ journal ++ rounds scenario made (run scenario journal)
+    → next ++ rounds scenario n (run scenario next) ≡ journal ++ rounds scenario left (run scenario journal)
+rounds_rest scenario journal next left made n e is =
+    let s : RunState = run scenario journal in
+    ap (λ (j : List Step). j ++ rounds scenario n (run scenario j)) is
+    ∙ append_assoc journal (rounds scenario made s) (rounds scenario n (run scenario (journal ++ rounds scenario made s)))
+    ∙ ap (λ (t : RunState). journal ++ (rounds scenario made s ++ rounds scenario n t)) (run_then scenario (opening scenario.params.nodes) journal (rounds scenario made s))
+    ∙ ap (λ (j : List Step). journal ++ j) (sym (rounds_split scenario made n s))
+    ∙ ap (λ k. journal ++ rounds scenario k s) (sym e)
+
+-- the scenario stays, and what was made and what is left are the same steps
+pub record IsAdvanced (before now : WorldParts) (left more : ℕ) : Type 0 where
+  pub scenario : now.scenario ≡ before.scenario
+  pub made : now.journal ++ rounds now.scenario more (state_of now) ≡ before.journal ++ rounds before.scenario left (state_of before)
+  pub ran : slots_run (state_of now) + more ≡ slots_run (state_of before) + left
+
+pub after_rested : (before now : WorldParts) (left made : ℕ) → made ≤ left → now ≡ record before { journal = before.journal ++ rounds before.scenario made (state_of before) }
+    → slots_run (state_of now) ≡ slots_run (state_of before) + made → IsAdvanced before now left (left - made)
+after_rested before now left made within is ran =
+    let scenario : now.scenario ≡ before.scenario = ap (λ (w : WorldParts). w.scenario) is in
+    let steps = rounds_rest before.scenario before.journal now.journal left made (left - made) (omega (arith, within)) (ap (λ (w : WorldParts). w.journal) is) in
+    record {
+      scenario = scenario;
+      made = ap (λ (s : ScenarioParts). now.journal ++ rounds s (left - made) (run s now.journal)) scenario ∙ steps;
+      ran = omega (arith, ran, within);
+    }
+
+pub may_round : (before now : WorldParts) (left more n : ℕ) → IsAdvanced before now left more → more ≡ suc n
+    → IsLegal before.scenario (before.journal ++ rounds before.scenario left (state_of before))
+    → IsLegal now.scenario (now.journal ++ round now.scenario (state_of now))
+may_round before now left more n so e legal =
+    next_round_legal now.scenario now.journal (before.journal ++ rounds before.scenario left (state_of before)) more n e
+    (subst (λ (s : ScenarioParts). IsLegal s (before.journal ++ rounds before.scenario left (state_of before))) (sym so.scenario) legal) so.made
+
+pub after_round : (before now next : WorldParts) (left more n : ℕ) → IsAdvanced before now left more → more ≡ suc n
+    → IsLegal before.scenario (before.journal ++ rounds before.scenario left (state_of before))
+    → next ≡ record now { journal = now.journal ++ round now.scenario (state_of now) } → IsAdvanced before next left n
+after_round before now next left more n so e legal is =
+    let scenario : next.scenario ≡ now.scenario = ap (λ (w : WorldParts). w.scenario) is in
+    let journal : next.journal ≡ now.journal ++ round now.scenario (state_of now) = ap (λ (w : WorldParts). w.journal) is in
+    let ran : slots_run (state_of next) ≡ slots_run (state_of now) + 1 =
+    ap (λ (s : ScenarioParts). slots_run (run s next.journal)) scenario
+    ∙ round_ran now.scenario now.journal next.journal (may_round before now left more n so e legal) journal in
+    record {
+      scenario = scenario ∙ so.scenario;
+      made = ap (λ (s : ScenarioParts). next.journal ++ rounds s n (run s next.journal)) scenario
+          ∙ rounds_next now.scenario now.journal next.journal more n e journal ∙ so.made;
+      ran = omega (arith, ran, so.ran, e);
+    }
 
 -- what is left of the round robin journal
 pub record IsInRounds (before now : WorldParts) (left : ℕ) : Type 0 where
   pub scenario : now.scenario ≡ before.scenario
   pub steps : now.journal ++ rounds before.scenario left (run before.scenario now.journal) ≡ round_robin before.scenario
+  pub ran : slots_run (state_of now) + left ≡ before.scenario.params.slots
 
 pub rounds_begin : (before : WorldParts) (left : ℕ) → before.journal ≡ [] → left ≡ before.scenario.params.slots → IsInRounds before before left
+unfolding run_from
 rounds_begin before left none e = record {
   scenario = refl;
   steps = rounds_opening before.scenario before.journal left none ∙ ap (λ n. rounds before.scenario n (opening before.scenario.params.nodes)) e;
+  ran = omega (arith, e, ap (λ (j : List Step). slots_run (run before.scenario j)) none);
 }
 
-pub round_is_legal : (before now : WorldParts) (left n : ℕ) → IsInRounds before now left → left ≡ suc n
-    → IsLegal now.scenario (now.journal ++ round now.scenario (state_of now))
-round_is_legal before now left n so e =
-    subst (λ (s : ScenarioParts). IsLegal s (now.journal ++ round s (run s now.journal))) (sym so.scenario)
-    (next_round_legal before.scenario now.journal (round_robin before.scenario) left n e (round_robin_ends before.scenario).0 so.steps)
+-- they are legal, and there is room for them
+pub rounds_legal : (before now : WorldParts) (left : ℕ) → IsInRounds before now left → IsLegal now.scenario (now.journal ++ rounds now.scenario left (state_of now))
+rounds_legal before now left so =
+    subst (λ (s : ScenarioParts). IsLegal s (now.journal ++ rounds s left (run s now.journal))) (sym so.scenario)
+    (subst (λ (j : List Step). IsLegal before.scenario j) (sym so.steps) (round_robin_ends before.scenario).0)
 
-pub rounds_step : (before now new : WorldParts) (left n : ℕ) → IsInRounds before now left → left ≡ suc n
-    → new ≡ record now { journal = now.journal ++ round now.scenario (state_of now) } → IsInRounds before new n
-rounds_step before now new left n so e is =
-    let journal : new.journal ≡ now.journal ++ round before.scenario (run before.scenario now.journal) =
-    ap (λ (w : WorldParts). w.journal) is ∙ ap (λ (s : ScenarioParts). now.journal ++ round s (run s now.journal)) so.scenario in
-    record {
-      scenario = ap (λ (w : WorldParts). w.scenario) is ∙ so.scenario;
-      steps = rounds_next before.scenario now.journal new.journal left n e journal ∙ so.steps;
-    }
+pub rounds_room : (before now : WorldParts) (left : ℕ) → IsInRounds before now left → slots_run (state_of now) + left ≤ now.scenario.params.slots
+rounds_room before now left so = omega (arith, so.ran, ap (λ (s : ScenarioParts). s.params.slots) so.scenario)
+
+pub rounds_step : (before now new : WorldParts) (left more : ℕ) → IsInRounds before now left → new.scenario ≡ now.scenario
+    → new.journal ++ rounds new.scenario more (state_of new) ≡ now.journal ++ rounds now.scenario left (state_of now)
+    → slots_run (state_of new) + more ≡ slots_run (state_of now) + left → IsInRounds before new more
+rounds_step before now new left more so scenario made ran = record {
+  scenario = scenario ∙ so.scenario;
+  steps = ap (λ (s : ScenarioParts). new.journal ++ rounds s more (run s new.journal)) (sym (scenario ∙ so.scenario)) ∙ made
+      ∙ ap (λ (s : ScenarioParts). now.journal ++ rounds s left (run s now.journal)) so.scenario ∙ so.steps;
+  ran = ran ∙ so.ran;
+}
 
 pub rounds_whole : (before now : WorldParts) (left : ℕ) → IsInRounds before now left → left ≡ 0 → now ≡ record { scenario = before.scenario; journal = round_robin before.scenario }
 rounds_whole before now left so e = λ k. record {

@@ -119,7 +119,7 @@ to_read scenario s i v c notice o within node kept running first =
 heard_history : (s : RunState) (i : ℕ) → heard_of i s.trace (node_at s.nodes i) ≡ plain (history i s)
 heard_history s i = ap (λ past. plain past) (sym (history-is i s))
 
-past_length : (s : RunState) (i : ℕ) → length (heard_of i s.trace (node_at s.nodes i)) ≡ length s.trace - (node_at s.nodes i).unread
+pub past_length : (s : RunState) (i : ℕ) → length (heard_of i s.trace (node_at s.nodes i)) ≡ length s.trace - (node_at s.nodes i).unread
 past_length s i = ap (λ (l : List NoticeKind). length l) (heard_history s i) ∙ plain-length (history i s) ∙ history-length i s
 
 -- as an idle slot an error can be read where it could

@@ -5,6 +5,7 @@ pub mod Kept
 pub mod Places
 pub mod Replies
 pub mod Restarting
+pub mod Resting
 pub mod Settled
 pub mod World
 pub mod WorldFields

@@ -1,5 +1,5 @@
 //! The incarnations of one node.
-ghost use Rattle.std.specs.Prelude.{◌≡◌, ◌≤◌, ◌<◌, ◌+◌, ◌==◌, ◌&&◌, List, Some, IfOk, length, count_by, nat_lt, not, slice_get};
+ghost use Rattle.std.specs.Prelude.{◌≡◌, ◌≤◌, ◌<◌, ◌+◌, ◌^◌, ◌==◌, ◌&&◌, List, Some, IfOk, length, count_by, nat_lt, not, slice_get};
 ghost use Rattle.std.specs.List.{list_any};
 ghost use Rattle.cany_base.specs.declared.notice.Notice.{Notice};
 ghost use Rattle.cany_base.specs.declared.notice.NoticeKind.{NoticeKind};
@@ -7,6 +7,7 @@ ghost use Rattle.cany_base.specs.Limits.{most_restarts_of_node};
 ghost use Rattle.cany_base.specs.Scenario.{ScenarioParts, is_ask_of_node};
 ghost use Rattle.cany_model.specs.declared.span.Span.{Span as AnySpan};
 ghost use Rattle.cany_node.specs.Node.{NodeParts, Reads, reply_of};
+ghost use Rattle.cany_world.specs.Resting.{HasPassed, IncarnationRests};
 ghost use Rattle.cany_world.specs.Incarnations.{CanRestart, CanTurnNow, HasTurned, IsFirstOf, IsLeft, IsRestarted, AreBuilt, began_in, span_in, span_until};
 
 use can_controller::Controller;
@@ -145,6 +146,22 @@ impl Incarnations {
     {
         let nodes = self.nodes.as_mut_slice();
         nodes[self.present].turn(ctl, out)
+    }
+
+    /// The first slot in whose turn the present incarnation may have something to do, as `Node::wake` says.
+    pub(crate) fn wake(&self) -> Slot
+        ensures { IncarnationRests result self.now }
+    {
+        self.node().wake()
+    }
+
+    /// The present incarnation passes so many idle slots, in which it has nothing to do.
+    pub(crate) fn rest(&mut self, slots: u64)
+        requires { (it : NodeParts) → slice_get self.old.nodes self.old.present ≡ Some it → it.read + slots < 2 ^ 64 }
+        ensures { HasPassed slots self.old self.new }
+    {
+        let nodes = self.nodes.as_mut_slice();
+        nodes[self.present].rest(slots);
     }
 
     /// At the end of the slot the present incarnation ends, and the next begins. `next` is the slot that the one that ends would

@@ -4,9 +4,12 @@
 mod began;
 mod following;
 mod incarnations;
+mod journal;
 mod opening;
 mod restarting;
+mod resting;
 mod rounds;
+mod script;
 mod settled;
 mod slot;
 mod step;

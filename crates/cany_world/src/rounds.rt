@@ -1,8 +1,8 @@
 //! The round robin journal.
-ghost use Rattle.std.specs.Prelude.{◌≡◌, ◌<◌, ◌&&◌, ◌∷◌, ◌++◌, [], if◌then◌else◌, IsTrue};
-ghost use Rattle.cany_model.specs.Bus.RoundRobin.{round, round_robin};
+ghost use Rattle.std.specs.Prelude.{◌≡◌, ◌+◌, ◌<◌, ◌≤◌, ◌&&◌, ◌∷◌, ◌++◌, [], if◌then◌else◌, IsTrue};
+ghost use Rattle.cany_model.specs.Bus.RoundRobin.{round, round_robin, rounds};
 ghost use Rattle.cany_model.specs.Bus.Run.{IsLegal, has_ended, is_done, reply};
-ghost use Rattle.cany_model.specs.Bus.State.{node_at, runs};
+ghost use Rattle.cany_model.specs.Bus.State.{node_at, runs, slots_run};
 ghost use Rattle.cany_world.specs.World.{WorldParts, state_of};
 
 use crate::world::World;
@@ -33,6 +33,24 @@ fn make_round(world: &mut World)
     }
 }
 
+/// Makes at least one of the rounds that are left: those of the next idle slots, and then one more. How many are left.
+fn advance(world: &mut World, left: u64) -> u64
+    requires some { 0 < left }
+    requires room { slots_run (state_of world.old) + left ≤ world.old.scenario.params.slots }
+    requires legal { IsLegal world.old.scenario (world.old.journal ++ rounds world.old.scenario left (state_of world.old)) }
+    ensures fewer { result < left }
+    ensures scenario { world.new.scenario ≡ world.old.scenario }
+    ensures made { world.new.journal ++ rounds world.new.scenario result (state_of world.new) ≡ world.old.journal ++ rounds world.old.scenario left (state_of world.old) }
+    ensures ran { slots_run (state_of world.new) + result ≡ slots_run (state_of world.old) + left }
+{
+    let left = left - world.rest(left);
+    if left == 0 {
+        return 0;
+    }
+    make_round(world);
+    left - 1
+}
+
 /// Runs the whole of the scenario: in each slot the slot, and then the turns of the running nodes that have something to
 /// read, in ascending order.
 pub fn round_robin(world: &mut World)
@@ -40,8 +58,8 @@ pub fn round_robin(world: &mut World)
     ensures run { world.new ≡ record { scenario = world.old.scenario; journal = round_robin world.old.scenario } }
     ensures ended { IsTrue (has_ended world.new.scenario (state_of world.new)) }
 {
-    let slots = world.scenario().params().slots;
-    for _slot in 0..slots {
-        make_round(world);
+    let mut left = world.scenario().params().slots;
+    while left > 0 {
+        left = advance(world, left);
     }
 }

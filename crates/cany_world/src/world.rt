@@ -1,4 +1,4 @@
-ghost use Rattle.std.specs.Prelude.{◌≡◌, ◌<◌, ◌≤◌, ◌↔◌, [], ◌∷◌, ◌++◌, None, Some, if◌then◌else◌, length, reverse, slice_get, IfOk, IsSomeAnd};
+ghost use Rattle.std.specs.Prelude.{◌≡◌, ◌+◌, ◌<◌, ◌≤◌, ◌↔◌, [], ◌∷◌, ◌++◌, None, Some, if◌then◌else◌, length, reverse, slice_get, IfOk, IsSomeAnd};
 ghost use Rattle.cany_model.specs.Bus.Follow as following;
 ghost use Rattle.cany_model.specs.Bus.Incarnations.{log_of, span_of};
 ghost use Rattle.cany_model.specs.Bus.Restart.{restarted_in};
@@ -6,6 +6,7 @@ ghost use Rattle.cany_model.specs.Promises.Detector.{KeepsMembers};
 ghost use Rattle.cany_model.specs.Promises.Hypothesis.{IsWithin, first_break};
 ghost use Rattle.cany_model.specs.Rules.Log as model;
 ghost use Rattle.cany_model.specs.Rules.Messages.{message_key, messages_of};
+ghost use Rattle.cany_model.specs.Bus.RoundRobin.{rounds};
 ghost use Rattle.cany_model.specs.Bus.Run.{IsLegal, after_step, has_ended, is_done, reply};
 ghost use Rattle.cany_model.specs.Promises.Safe.{IsIntegral, IsSafe};
 ghost use Rattle.cany_model.specs.Promises.Settled.{is_settled};
@@ -14,7 +15,10 @@ ghost use Rattle.cany_world.specs.Kept.{IsKeptAs, IsKeptAt};
 
 use crate::began::began_nodes;
 use crate::incarnations::Incarnations;
+use crate::journal::push_rounds;
 use crate::opening::{controllers_of, journal_room, nodes_of};
+use crate::resting::{passed_by_all, rest};
+use crate::script::free_slots;
 use crate::settled::is_settled;
 use crate::step::make;
 use crate::unread::{all_read, first_lagging};
@@ -113,6 +117,30 @@ impl World {
         }
     }
 
+    /// Makes rounds of the next slots in bulk where they are known to be idle, at most so many: each slot, and the turns of all running
+    /// nodes, which find nothing to do. How many rounds it made, which may be none.
+    pub(crate) fn rest(&mut self, most: u64) -> u64
+        requires { slots_run (state_of self.old) + most ≤ self.old.scenario.params.slots }
+        ensures few { result ≤ most }
+        ensures rounds { self.new ≡ record self.old { journal = self.old.journal ++ rounds self.old.scenario result (state_of self.old) } }
+        ensures ran { slots_run (state_of self.new) ≡ slots_run (state_of self.old) + result }
+    {
+        let next = self.bus.trace().len() as u64;
+        let controllers = self.controllers.as_slice();
+        let passed = passed_by_all(next, most, controllers, self.nodes.as_slice());
+        let slots = free_slots(&self.script, self.scenario.restarts(), next, passed);
+        if slots > 0 {
+            push_rounds(&mut self.journal, controllers, slots);
+            rest(
+                slots,
+                &mut self.bus,
+                self.controllers.as_mut_slice(),
+                self.nodes.as_mut_slice(),
+            );
+        }
+        slots
+    }
+
     /// Whether all slots ran and every running node has read every notice.
     pub fn ended(&self) -> bool
         ensures { result ≡ has_ended self.now.scenario (state_of self.now) }
@@ -159,6 +187,9 @@ impl World {
     pub fn restarted(&self, slot: Slot) -> NodeSet
         ensures { result ≡ restarted_in (state_of self.now) slot }
     {
+        if self.scenario.restarts().is_empty() {
+            return NodeSet::empty();
+        }
         began_nodes(slot, self.nodes.as_slice())
     }
 

@@ -1,32 +1,32 @@
-use Rattle.std.proofs.Common.{◌≡◌, suc, ◌+◌, ◌-◌, ap, ◌∙◌, arith}
+use Rattle.std.proofs.Common.{◌≡◌, ap, ◌∙◌, arith}
 use Rattle.cany_base.specs.Params.{Parameters}
 use Rattle.cany_base.specs.Scenario.{ScenarioParts}
-use Rattle.cany_world.proofs.RoundFacts.{rounds_begin, round_is_legal, rounds_step, rounds_whole, rounds_end}
+use Rattle.cany_world.proofs.RoundFacts.{rounds_begin, rounds_end, rounds_legal, rounds_room, rounds_step, rounds_whole}
 use Rattle.cany_world.proofs.rounds.round_robin.Goals as goal
 
-pub loop-slot-init : goal.loop-slot-init
-loop-slot-init c =
+pub loop-left-init : goal.loop-left-init
+loop-left-init c =
     let slots : c.behind-scenario.inside.slots ≡ c.args.world.now.scenario.params.slots =
     ap (λ (p : Parameters). p.slots) (c.behind-scenario.view_is ∙ c.params.ensures.params) ∙ ap (λ (s : ScenarioParts). s.params.slots) c.scenario.ensures in
-    rounds_begin c.args.world.now (c.behind-scenario.inside.slots - 0) c.requires (omega (arith, slots))
+    rounds_begin c.args.world.now c.behind-scenario.inside.slots c.requires slots
 
-pub make_round-requires : goal.make_round-requires
-make_round-requires c =
-    let left : c.behind-scenario.inside.slots - c.loop-slot._slot ≡ suc (c.behind-scenario.inside.slots - (c.loop-slot._slot + 1)) = omega (arith, c.loop-slot-test.true) in
-    round_is_legal c.args.world.now c.loop-slot.world (c.behind-scenario.inside.slots - c.loop-slot._slot) (c.behind-scenario.inside.slots - (c.loop-slot._slot + 1)) c.loop-slot.invariant left
+pub advance-left-requires-clause-room : goal.advance-left-requires-clause-room
+advance-left-requires-clause-room c = rounds_room c.args.world.now c.loop-left.world c.loop-left.left c.loop-left.invariant
 
-pub loop-slot-preserved : goal.loop-slot-preserved
-loop-slot-preserved c =
-    let left : c.behind-scenario.inside.slots - c.loop-slot._slot ≡ suc (c.behind-scenario.inside.slots - (c.loop-slot._slot + 1)) = omega (arith, c.loop-slot-test.true) in
-    rounds_step c.args.world.now c.loop-slot.world c.make_round.new.world (c.behind-scenario.inside.slots - c.loop-slot._slot) (c.behind-scenario.inside.slots - (c.loop-slot._slot + 1))
-    c.loop-slot.invariant left c.make_round.ensures
+pub advance-left-requires-clause-legal : goal.advance-left-requires-clause-legal
+advance-left-requires-clause-legal c = rounds_legal c.args.world.now c.loop-left.world c.loop-left.left c.loop-left.invariant
+
+pub loop-left-preserved : goal.loop-left-preserved
+loop-left-preserved c =
+    rounds_step c.args.world.now c.loop-left.world c.advance-left.new.world c.loop-left.left c.advance-left.result c.loop-left.invariant
+    c.advance-left.ensures.scenario c.advance-left.ensures.made c.advance-left.ensures.ran
 
 pub returns-clause-run : goal.returns-clause-run
 returns-clause-run c =
-    let none : c.behind-scenario.inside.slots - c.loop-slot._slot ≡ 0 = omega (arith, c.loop-slot-test.false) in
-    rounds_whole c.args.world.now c.loop-slot.world (c.behind-scenario.inside.slots - c.loop-slot._slot) c.loop-slot.invariant none
+    let none : c.loop-left.left ≡ 0 = omega (arith, c.loop-left-test.false) in
+    rounds_whole c.args.world.now c.loop-left.world c.loop-left.left c.loop-left.invariant none
 
 pub returns-clause-ended : goal.returns-clause-ended
 returns-clause-ended c =
-    let none : c.behind-scenario.inside.slots - c.loop-slot._slot ≡ 0 = omega (arith, c.loop-slot-test.false) in
-    rounds_end c.args.world.now c.loop-slot.world (rounds_whole c.args.world.now c.loop-slot.world (c.behind-scenario.inside.slots - c.loop-slot._slot) c.loop-slot.invariant none)
+    let none : c.loop-left.left ≡ 0 = omega (arith, c.loop-left-test.false) in
+    rounds_end c.args.world.now c.loop-left.world (rounds_whole c.args.world.now c.loop-left.world c.loop-left.left c.loop-left.invariant none)

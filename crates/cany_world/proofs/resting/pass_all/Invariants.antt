@@ -1,0 +1,5 @@
+use Rattle.cany_world.proofs.PassFacts.{ArePassedBelow}
+use Rattle.cany_world.proofs.resting.pass_all.Given as goal
+
+abbrev pub invariant-loop-i : goal.invariant-loop-i
+invariant-loop-i l = ArePassedBelow l.slots l.i l.fn.controllers l.controllers l.fn.nodes l.nodes

@@ -1,0 +1,132 @@
+-- A stretch of idle slots: in what state the next slots are idle and lead no node to do anything, and what they leave.
+use Rattle.std.specs.Prelude.{◌≡◌, ℕ, zero, suc, ◌+◌, ◌^◌, ◌<◌, ◌≤◌, Bool, true, false, is_none, if◌then◌else◌, List, [], ◌∷◌, ◌++◌, Option, Some, None, length, filter, map, slice_get, slice_set}
+use Rattle.std.specs.List.{range_with_len}
+use Rattle.std.specs.Option.{option_map_or}
+use Rattle.cany_base.specs.declared.step.Step.{Step}
+use Rattle.cany_base.specs.declared.step.Step.TheVariants.{Slot, Turn}
+use Rattle.cany_base.specs.Scenario.{ScenarioParts}
+use Rattle.cany_model.specs.Bus.History.{history}
+use Rattle.cany_model.specs.Bus.Restart.{names_restart}
+use Rattle.cany_model.specs.Bus.Slot.{exceeds, slot_rule}
+use Rattle.cany_model.specs.Bus.State.{NodeState, RunState, node_at, runs, slots_run}
+use Rattle.cany_model.specs.Rules.Turn.{effects_for}
+use Rattle.can_bus.specs.Bus.{BusParts}
+use Rattle.can_bus.specs.Rest.{idle_trace}
+use Rattle.can_controller.specs.Controller.{ControllerState, node_state}
+use Rattle.cany_node.specs.Node.{NodeParts}
+use Rattle.cany_node.specs.Resting.{RestsUntil}
+use Rattle.cany_world.specs.Incarnations.{IncarnationsParts}
+
+-- A node after so many idle slots: a running one has read them, of a stopped one a run goes on counting the slots as unread.
+abbrev pub rested : ℕ → NodeState → NodeState
+rested slots node = if runs node then node else record node { unread = node.unread + slots }
+
+-- the state after so many idle slots, each with the turns of the running nodes
+abbrev pub after_rest : ℕ → RunState → RunState
+after_rest slots s = record { trace = idle_trace slots s.trace; nodes = map (rested slots) s.nodes }
+
+-- the steps of one of them
+abbrev pub idle_round : List NodeState → List Step
+idle_round nodes = Slot ∷ map (λ i. Turn i) (filter (λ i. runs (node_at nodes i)) (range_with_len 0 (length nodes)))
+
+-- those of so many
+unfoldable pub idle_rounds : ℕ → List NodeState → List Step
+idle_rounds zero nodes = []
+idle_rounds (suc slots) nodes = idle_round nodes ++ idle_rounds slots nodes
+
+-- no rule is that of the slot, and no restart entry
+pub record IsFree (scenario : ScenarioParts) (slot : ℕ) : Type 0 where
+  pub rules : slot_rule scenario.rules slot ≡ None
+  pub restarts : (i : ℕ) → names_restart scenario.restarts slot i ≡ false
+
+-- the node waits with nothing, has read every notice, and its counters do not stop it
+pub record IsCalm (node : NodeState) : Type 0 where
+  pub waiting : node.waiting ≡ []
+  pub unread : node.unread ≡ 0
+  pub counters : exceeds node ≡ false
+
+-- So many slots are left, of which the script says nothing. The running nodes are calm, and at none of the slots have they anything to do.
+pub record MayRest (scenario : ScenarioParts) (s : RunState) (slots : ℕ) : Type 0 where
+  pub room : slots_run s + slots ≤ scenario.params.slots
+  pub free : (slot : ℕ) → slots_run s ≤ slot → slot < slots_run s + slots → IsFree scenario slot
+  pub calm : (i : ℕ) → runs (node_at s.nodes i) ≡ true → IsCalm (node_at s.nodes i)
+  pub nothing : (n i : ℕ) → n < slots → runs (node_at s.nodes i) ≡ true
+      → effects_for (node_at s.nodes i).present.number scenario (node_at s.nodes i).present i (history i (after_rest (n + 1) s)) ≡ []
+
+-- ---- what the program keeps of it
+
+-- the present incarnation has nothing to do in the idle slots before this one
+abbrev pub IncarnationRests : ℕ → IncarnationsParts → Type 0
+IncarnationRests end v = (it : NodeParts) → slice_get v.nodes v.present ≡ Some it → RestsUntil end it
+
+-- a controller and its node which do nothing in the idle slots before this one
+pub record IsIdleUntil (end : ℕ) (c : ControllerState) (v : IncarnationsParts) : Type 0 where
+  pub waiting : c.waiting ≡ []
+  pub unread : c.unread ≡ []
+  pub counters : exceeds (node_state c) ≡ false
+  pub node : IncarnationRests end v
+
+-- a node can pass so many slots from the next one on: if these are any, and it runs, it has nothing to do in them
+abbrev pub CanPass : ℕ → ℕ → ControllerState → IncarnationsParts → Type 0
+CanPass next slots c v = c.stopped ≡ None → 0 < slots → IsIdleUntil (next + slots) c v
+
+-- and so can all
+abbrev pub CanAllPass : ℕ → ℕ → List ControllerState → List IncarnationsParts → Type 0
+CanAllPass next slots controllers nodes =
+    (i : ℕ) (c : ControllerState) (v : IncarnationsParts) → slice_get controllers i ≡ Some c → slice_get nodes i ≡ Some v → CanPass next slots c v
+
+-- the present incarnation has passed so many slots
+abbrev pub HasPassed : ℕ → IncarnationsParts → IncarnationsParts → Type 0
+HasPassed slots v v' = (it : NodeParts) → slice_get v.nodes v.present ≡ Some it
+    → v' ≡ record v { nodes = slice_set v.nodes v.present (record it { read = it.read + slots }) }
+
+-- a controller and its node have, if it runs
+abbrev pub HavePassed : Option ℕ → ℕ → ControllerState → ControllerState → IncarnationsParts → IncarnationsParts → Type 0
+HavePassed None slots c c' v v' = (c' ≡ record c { read = c.read + slots }) × HasPassed slots v v'
+HavePassed (Some stop) slots c c' v v' = (c' ≡ c) × (v' ≡ v)
+
+-- a controller and its node can count so many slots more
+pub record CanCount (slots : ℕ) (c : ControllerState) (v : IncarnationsParts) : Type 0 where
+  pub controller : c.read + slots < 2 ^ 64
+  pub it : NodeParts
+  pub at : slice_get v.nodes v.present ≡ Some it
+  pub node : it.read + slots < 2 ^ 64
+
+-- all can
+pub record CanAllCount (slots : ℕ) (row : List ControllerState) (kept : List IncarnationsParts) : Type 0 where
+  pub count : length row ≡ length kept
+  pub each : (i : ℕ) (c : ControllerState) (v : IncarnationsParts) → slice_get row i ≡ Some c → slice_get kept i ≡ Some v → CanCount slots c v
+
+-- what stands at the place of a node after the stretch
+pub record HavePassedAt (slots i : ℕ) (row' : List ControllerState) (kept' : List IncarnationsParts) (c : ControllerState) (v : IncarnationsParts) : Type 0 where
+  pub after : ControllerState
+  pub node : IncarnationsParts
+  pub at : slice_get row' i ≡ Some after
+  pub node_at : slice_get kept' i ≡ Some node
+  pub passed : HavePassed c.stopped slots c after v node
+
+-- all have passed so many slots
+pub record HaveAllPassed (slots : ℕ) (row row' : List ControllerState) (kept kept' : List IncarnationsParts) : Type 0 where
+  pub whole : length row' ≡ length row
+  pub nodes : length kept' ≡ length kept
+  pub each : (i : ℕ) (c : ControllerState) (v : IncarnationsParts) → slice_get row i ≡ Some c → slice_get kept i ≡ Some v → HavePassedAt slots i row' kept' c v
+
+-- these are some slots, for which the bus has room, and all can count them
+pub record CanRest (slots : ℕ) (bus : BusParts) (row : List ControllerState) (kept : List IncarnationsParts) : Type 0 where
+  pub some : 0 < slots
+  pub room : length bus.trace + slots ≤ bus.params.slots
+  pub all : CanAllCount slots row kept
+
+-- ---- its steps
+
+-- whether the controller of node i runs
+abbrev pub runs_at : List ControllerState → ℕ → Bool
+runs_at controllers i = option_map_or (λ c. is_none c.stopped) (slice_get controllers i) false
+
+-- the slot, and the turns of the nodes whose controllers run
+abbrev pub round_of : List ControllerState → List Step
+round_of controllers = Slot ∷ map (λ i. Turn i) (filter (runs_at controllers) (range_with_len 0 (length controllers)))
+
+unfoldable pub rounds_of : ℕ → List ControllerState → List Step
+rounds_of zero controllers = []
+rounds_of (suc slots) controllers = round_of controllers ++ rounds_of slots controllers
