@@ -1,7 +1,9 @@
+pub mod CountFacts
 pub mod FieldFacts
 pub mod NodeLineFacts
 pub mod NumberFacts
 pub mod ReportFacts
 pub mod SetTextFacts
+pub mod SummaryFacts
 pub mod TextFacts
 pub mod WrittenFacts

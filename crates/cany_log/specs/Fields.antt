@@ -3,7 +3,7 @@ use Rattle.std.specs.Prelude.{ℕ, ◌+◌, List, [], ◌∷◌, Option, Some, N
 use Rattle.std.specs.List.{flat_map}
 use Rattle.cany_base.specs.Nodes.{Nodes}
 use Rattle.cany_log.specs.declared.field.Field.{Field}
-use Rattle.cany_log.specs.declared.field.Field.TheVariants.{Text, Number, Signed, Node, Bytes, Set, Steps, NumberIfAny, SetIfAny}
+use Rattle.cany_log.specs.declared.field.Field.TheVariants.{Text, Number, Count, Signed, Node, Bytes, Set, Steps, NumberIfAny, SetIfAny}
 use Rattle.cany_model.specs.Texts.RefusalLines.{signed_decimal}
 use Rattle.cany_model.specs.Texts.ReportLines.{has_any, node_text, payload_text, set_text, step_letter}
 
@@ -20,6 +20,7 @@ set_if_any word nodes = if has_any nodes then word ∷ set_text nodes ∷ [] els
 abbrev pub texts_of : Field → List (List ℕ)
 texts_of (Text text) = text.now ∷ []
 texts_of (Number n) = decimal n ∷ []
+texts_of (Count n) = decimal n ∷ []
 texts_of (Signed n) = signed_decimal n ∷ []
 texts_of (Node node inc) = node_text node inc ∷ []
 texts_of (Bytes payload) = payload_text payload ∷ []
@@ -36,6 +37,7 @@ spaced texts = flat_map (λ text. 32 ∷ text) texts
 abbrev pub most_bytes : Field → ℕ
 most_bytes (Text text) = 1 + length text.now
 most_bytes (Number n) = 21
+most_bytes (Count n) = 40
 most_bytes (Signed n) = 21
 most_bytes (Node node inc) = 7
 most_bytes (Bytes payload) = 18

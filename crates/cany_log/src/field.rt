@@ -7,6 +7,8 @@ pub(crate) enum Field<'a> {
     Text(&'static str),
     /// A number, in decimal.
     Number(u64),
+    /// A number that may be past the range of the others, in decimal.
+    Count(u128),
     /// A number that may be below zero, in decimal.
     Signed(i64),
     /// A node by its number, with that of its incarnation where it is not the first.

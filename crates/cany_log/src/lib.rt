@@ -1,9 +1,10 @@
-//! The report of a run, and the lines of refusals, written to a sink. Each line is put together before the sink is given any of
+//! The report and the summary of a run, and the lines of refusals, written to a sink. Each line is put together before the sink is given any of
 //! it, and no call takes memory.
 #![tactic(auto)]
 
 mod bus_lines;
 mod entries;
+mod entry_counts;
 mod field;
 mod heading;
 mod hypothesis;
@@ -15,11 +16,13 @@ mod refusal;
 mod report;
 mod row;
 mod scenario_refusal;
+mod summary;
 
 pub use entries::write_entry;
 pub use hypothesis::write_hypothesis;
 pub use refusal::{Refusal, write_refusal};
 pub use report::write_report;
+pub use summary::write_summary;
 
 #[cfg(test)]
 mod tests;

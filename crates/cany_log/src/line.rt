@@ -7,8 +7,8 @@ ghost use Rattle.cany_log.specs.Written.{IsWritten};
 
 use crate::field::Field;
 use crate::row::{
-    Row, push_bytes, push_node, push_number, push_payload, push_set, push_signed, push_steps,
-    push_text,
+    Row, push_bytes, push_count, push_node, push_number, push_payload, push_set, push_signed,
+    push_steps, push_text,
 };
 use cany_base::NodeSet;
 use cany_io::{Failed, Sink, write_whole};
@@ -51,6 +51,7 @@ fn push_field(row: &mut Row, field: &Field)
     match *field {
         Field::Text(text) => push_text(row, text),
         Field::Number(number) => push_number(row, number),
+        Field::Count(number) => push_count(row, number),
         Field::Signed(number) => push_signed(row, number),
         Field::Node(node, inc) => push_node(row, node, inc),
         Field::Bytes(payload) => push_payload(row, &payload),

@@ -51,6 +51,17 @@ pub(crate) fn push_number(row: &mut Row, number: u64)
     push_digits(row, number);
 }
 
+/// Appends a number of up to 128 bits in decimal.
+pub(crate) fn push_count(row: &mut Row, number: u128)
+    requires { length row.old.items + 40 ≤ most_line_bytes }
+    ensures text { row.new.items ≡ row.old.items ++ 32 ∷ decimal number }
+    ensures short { length (decimal number) ≤ 39 }
+{
+    row.push(b' ');
+    let mut buffer = itoa::Buffer::new();
+    push_bytes(row, buffer.format(number).as_bytes());
+}
+
 /// Appends a number that may be below zero, in decimal.
 pub(crate) fn push_signed(row: &mut Row, number: i64)
     requires { length row.old.items + 21 ≤ most_line_bytes }

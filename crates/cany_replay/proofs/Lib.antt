@@ -1,2 +1,7 @@
+pub mod DrawFacts
+pub mod MessagePlaces
 pub mod RunFacts
+pub mod StormFacts
+pub mod StormTopFacts
+pub mod StormWordFacts
 pub mod TopFacts

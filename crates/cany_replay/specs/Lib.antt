@@ -1,3 +1,6 @@
 pub mod RunFaults
 pub mod Status
+pub mod Storm
+pub mod StormTop
+pub mod StormWords
 pub mod Top

@@ -1,6 +1,7 @@
 -- The command `replay`: its words, what it writes, and what its success says.
 use Rattle.std.specs.Prelude.{◌≡◌, ℕ, List, [], ◌∷◌, Option, Some, None, option_map, option_and_then, Ok, Err, codes}
 use Rattle.std.specs.Option.{option_map_or}
+use Rattle.cany_base.specs.declared.step.Step.{Step}
 use Rattle.cany_base.specs.Scenario.{ScenarioParts}
 use Rattle.cany_io.specs.Sink.{Takes}
 use Rattle.cany_model.specs.declared.follow.FollowFault.{FollowFault}
@@ -12,7 +13,6 @@ use Rattle.cany_model.specs.Bus.Run.{IsLegal, IsWhole, run}
 use Rattle.cany_model.specs.Promises.Safe.{IsIntegral, IsSafe}
 use Rattle.cany_model.specs.Texts.ScenarioText.{scenario_of}
 use Rattle.cany_model.specs.Texts.TomlKeys.{Read}
-use Rattle.cany_model.specs.Bus.State.{RunState}
 
 -- the words are the one word of the command
 abbrev pub AreReplay : List (List ℕ) → Type 0
@@ -42,19 +42,19 @@ answer_to (Ok scenario) = answer_for scenario
 unfoldable pub answer_of : List ℕ → List ℕ
 answer_of bytes = answer_to (scenario_of bytes)
 
--- the run of the scenario by its own journal or by its round robin journal
-abbrev pub replayed : ScenarioParts → RunState
-replayed scenario = run scenario (journal_of scenario)
-
--- what is promised of that run
-pub record KeepsPromises (scenario : ScenarioParts) : Type 0 where
+-- what is promised of the run of the scenario by a journal
+pub record PromisesHold (scenario : ScenarioParts) (journal : List Step) : Type 0 where
   -- each step of the journal could be done, and at its end all slots ran and nothing is left unread
-  pub legal : IsLegal scenario (journal_of scenario)
-  pub whole : IsWhole scenario (journal_of scenario)
+  pub legal : IsLegal scenario journal
+  pub whole : IsWhole scenario journal
   -- in every run, no message twice or unsent
-  pub integrity : IsIntegral scenario (replayed scenario)
+  pub integrity : IsIntegral scenario (run scenario journal)
   -- what a run within the fault hypothesis keeps
-  pub safe : IsWithin scenario.params (replayed scenario).trace → IsSafe scenario (replayed scenario)
+  pub safe : IsWithin scenario.params (run scenario journal).trace → IsSafe scenario (run scenario journal)
+
+-- and of that by its own journal or by its round robin journal
+abbrev pub KeepsPromises : ScenarioParts → Type 0
+KeepsPromises scenario = PromisesHold scenario (journal_of scenario)
 
 -- what success says of the scenario and of what the sink had taken before and has taken now
 pub record IsReplay (scenario : ScenarioParts) (old new : Option (List ℕ)) : Type 0 where

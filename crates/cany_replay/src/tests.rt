@@ -24,6 +24,7 @@ mod restarts;
 mod round_robin;
 mod runs;
 mod second_format;
+mod storms;
 mod streams;
 mod thirty_two_nodes;
 mod totcan;

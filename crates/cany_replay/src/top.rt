@@ -1,5 +1,5 @@
 //! The call behind the command `replay`.
-ghost use Rattle.std.specs.Prelude.{◌≡◌, ◌⊎◌, ◌↔◌, ◌<◌, ◌≤◌, map, length, string_bytes, None, IsTrue, IfSome, IsOkAnd, IsSomeAnd, MatchOption};
+ghost use Rattle.std.specs.Prelude.{◌≡◌, ◌≢◌, ◌⊎◌, ◌↔◌, ◌<◌, ◌≤◌, map, length, string_bytes, Ok, Err, None, IsTrue, IfErr, IfOk, IfSome, IsOkAnd, IsSomeAnd, MatchOption};
 ghost use Rattle.cany_base.specs.Limits.{most_text_bytes};
 ghost use Rattle.cany_io.specs.Faults.{HasRisen, StandsStill};
 ghost use Rattle.cany_io.specs.Sink.{Takes, TakesPrefix};
@@ -32,8 +32,8 @@ fn is_replay(words: &[String]) -> bool
     }
 }
 
-/// Writes the report of a run.
-fn report_run<K: Sink>(world: &World, sink: &mut K) -> u8
+/// Writes the report of a run, and answers the status.
+pub fn report_run<K: Sink>(world: &World, sink: &mut K) -> u8
     ensures done { result ≡ DONE → Takes (K.taken sink.old) (report world.now.scenario world.now.journal) (K.taken sink.new) }
     ensures write_fault { result ≡ WRITE_FAULT → HasRisen (K.faults sink.old) (K.faults sink.new) }
     ensures prefix { TakesPrefix (K.taken sink.old) (report world.now.scenario world.now.journal) (K.taken sink.new) }
@@ -45,8 +45,8 @@ fn report_run<K: Sink>(world: &World, sink: &mut K) -> u8
     }
 }
 
-/// Refuses the text or the journal.
-fn refuse<K: Sink>(refusal: &Refusal, sink: &mut K) -> u8
+/// Refuses a text, or a journal, and answers the status.
+pub fn refuse<K: Sink>(refusal: &Refusal, sink: &mut K) -> u8
     ensures refused { result ≡ REFUSED → Takes (K.taken sink.old) (refusal_line refusal.now) (K.taken sink.new) }
     ensures write_fault { result ≡ WRITE_FAULT → HasRisen (K.faults sink.old) (K.faults sink.new) }
     ensures prefix { TakesPrefix (K.taken sink.old) (refusal_line refusal.now) (K.taken sink.new) }
@@ -77,23 +77,31 @@ fn replay_scenario<K: Sink>(alloc: Global, scenario: &Scenario, sink: &mut K) ->
 }
 
 /// Whether a text was not read for want of memory, which is no fault of the text.
-fn is_memory(fault: &ScenarioFault) -> bool
+pub fn is_memory(fault: &ScenarioFault) -> bool
     ensures { IsTrue result ↔ (fault.now ≡ Memory) }
 {
     matches!(fault, ScenarioFault::Memory)
 }
 
+/// The scenario of a text, which is then given up, since the run has need of the memory.
+pub fn scenario_in(alloc: Global, text: Vec<u8>) -> Result<Scenario, ScenarioFault>
+    ensures ok { IfOk result (λ scenario. scenario_of text.items ≡ Ok scenario) }
+    ensures fault { IfErr result (λ fault. fault ≢ Memory → scenario_of text.items ≡ Err fault) }
+{
+    read_scenario(alloc, &text)
+}
+
 /// Replays the scenario of a text, or refuses the text.
-fn replay_text<K: Sink>(alloc: Global, text: &[u8], sink: &mut K) -> u8
-    ensures done { result ≡ DONE → IsOkAnd (scenario_of text.now) (λ scenario. IsReplay scenario (K.taken sink.old) (K.taken sink.new)) }
-    ensures not_refused { result ≡ DONE → refusal_of text.now ≡ None }
-    ensures refused { result ≡ REFUSED → IsSomeAnd (refusal_of text.now) (λ line. Takes (K.taken sink.old) line (K.taken sink.new)) }
+fn replay_text<K: Sink>(alloc: Global, text: Vec<u8>, sink: &mut K) -> u8
+    ensures done { result ≡ DONE → IsOkAnd (scenario_of text.items) (λ scenario. IsReplay scenario (K.taken sink.old) (K.taken sink.new)) }
+    ensures not_refused { result ≡ DONE → refusal_of text.items ≡ None }
+    ensures refused { result ≡ REFUSED → IsSomeAnd (refusal_of text.items) (λ line. Takes (K.taken sink.old) line (K.taken sink.new)) }
     ensures write_fault { result ≡ WRITE_FAULT → HasRisen (K.faults sink.old) (K.faults sink.new) }
-    ensures prefix { result ≡ WRITE_FAULT → TakesPrefix (K.taken sink.old) (answer_of text.now) (K.taken sink.new) }
+    ensures prefix { result ≡ WRITE_FAULT → TakesPrefix (K.taken sink.old) (answer_of text.items) (K.taken sink.new) }
     ensures untouched { result ≡ NO_MEMORY → sink.new ≡ sink.old }
     ensures status { (result ≡ DONE) ⊎ (result ≡ REFUSED) ⊎ (result ≡ WRITE_FAULT) ⊎ (result ≡ NO_MEMORY) }
 {
-    match read_scenario(alloc, text) {
+    match scenario_in(alloc, text) {
         Ok(scenario) => replay_scenario(alloc, &scenario, sink),
         Err(fault) if is_memory(&fault) => NO_MEMORY,
         Err(fault) => refuse(&Refusal::Scenario(fault), sink),
@@ -150,7 +158,7 @@ pub fn replay_top<S: Source, K: Sink>(
         return OTHER_WORDS;
     }
     match read_all(alloc, source, MOST_TEXT_BYTES) {
-        Ok(text) => replay_text(alloc, &text, sink),
+        Ok(text) => replay_text(alloc, text, sink),
         Err(ReadFault::Failed) => READ_FAULT,
         Err(ReadFault::TooLong) => TOO_LONG,
         Err(ReadFault::Memory) => NO_MEMORY,

@@ -5,7 +5,7 @@ use super::*;
 const LIMIT: usize = 33_554_432;
 
 /// The first lines of a text.
-fn first_lines(text: &[u8], count: usize) -> &[u8] {
+pub(super) fn first_lines(text: &[u8], count: usize) -> &[u8] {
     let mut ended = 0usize;
     for i in 0..text.len() {
         if ended == count {
