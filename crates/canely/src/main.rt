@@ -1,15 +1,19 @@
 //! The program `canely`: it hands its words to the call of the command that they name, and ends with the status.
 #![tactic(auto)]
 
-use cany_io::{Failed, StdSink, StdSource, write_whole};
+use cany_io::{Failed, Sink, StdSink, StdSource, write_whole};
 use cany_replay::status::{
     DONE, NO_MEMORY, OTHER_WORDS, READ_FAULT, REFUSED, TOO_LONG, WRITE_FAULT,
 };
-use cany_replay::{MOST_TEXT_BYTES, replay_top};
+use cany_replay::{MOST_TEXT_BYTES, replay_top, storm_top};
 use std::alloc::{AllocError, Global};
+use std::io::{BufWriter, Write};
 use std::process::ExitCode;
 use std::{env, io};
 use thiserror::Error;
+
+/// How many bytes of what is written are kept until they go to standard output together.
+const BUFFER_BYTES: usize = 65536;
 
 const VERSION: &str = "canely 1\n";
 
@@ -54,11 +58,15 @@ fn help(alloc: Global) -> Result<String, AllocError> {
 Runs scenarios of reliable broadcast on one CAN bus.
 
 usage: canely replay < SCENARIO > REPORT
+       canely storm NUMBER > SUMMARY
        canely --help
        canely --version
 
 replay reads a scenario, runs it by its own journal or, where it has none, by the round robin
 journal, and writes the report of the run.
+
+storm draws a scenario from the number, which has 1 to 10 digits and is at most 4294967295, runs
+it by the round robin journal, and writes the summary of the run.
 
 A scenario is a TOML document; slots, nodes and entries are counted from 0:
   format, nodes, slots       required; format 1 has up to 32 nodes, format 2 up to 64
@@ -88,6 +96,16 @@ fn text_for(alloc: Global, words: &[String]) -> Result<Option<String>, AllocErro
         [word] if word.as_str() == "--help" => Ok(Some(help(alloc)?)),
         [word] if word.as_str() == "--version" => Ok(Some(String::from_str(alloc, VERSION)?)),
         _ => Ok(None),
+    }
+}
+
+/// Hands the words to the call of the command that the first of them names.
+fn command<K: Sink>(rt: &HostRuntime, words: &[String], sink: &mut K) -> u8 {
+    let alloc = rt.alloc();
+    let mut source = StdSource::new(rt.stdin());
+    match words {
+        [word, ..] if word.as_str() == "storm" => storm_top(alloc, words, sink),
+        _ => replay_top(alloc, words, &mut source, sink),
     }
 }
 
@@ -129,9 +147,14 @@ fn run(rt: &HostRuntime) -> u8 {
         Ok(None) => {}
         Err(AllocError) => return NO_MEMORY,
     }
-    let mut source = StdSource::new(rt.stdin());
-    let mut sink = StdSink::new(rt.stdout());
-    replay_top(rt.alloc(), &words, &mut source, &mut sink)
+    let Ok(mut out) = BufWriter::with_capacity(rt.alloc(), BUFFER_BYTES, rt.stdout()) else {
+        return NO_MEMORY;
+    };
+    let status = command(rt, &words, &mut StdSink::new(&mut out));
+    match out.flush() {
+        Ok(()) => status,
+        Err(_) => WRITE_FAULT,
+    }
 }
 
 fn main(rt: HostRuntime) -> ExitCode {

@@ -5,11 +5,15 @@ const HELP: &str = "\
 Runs scenarios of reliable broadcast on one CAN bus.
 
 usage: canely replay < SCENARIO > REPORT
+       canely storm NUMBER > SUMMARY
        canely --help
        canely --version
 
 replay reads a scenario, runs it by its own journal or, where it has none, by the round robin
 journal, and writes the report of the run.
+
+storm draws a scenario from the number, which has 1 to 10 digits and is at most 4294967295, runs
+it by the round robin journal, and writes the summary of the run.
 
 A scenario is a TOML document; slots, nodes and entries are counted from 0:
   format, nodes, slots       required; format 1 has up to 32 nodes, format 2 up to 64
