@@ -56,19 +56,19 @@ edcan_for scenario inc i past v h = record {
   legal = legal_for scenario inc h.legal;
   node = h.node;
   format = h.format;
-  copies = table_for scenario inc class.Ed of_all past v.copies h.copies;
+  copies = table_for scenario inc service.Ed class.Ed of_all past v.copies h.copies;
 }
 
 -- ---- a data frame
 
 pub takes_got : (v : EdcanParts) (notice : Notice) (f : FrameParts) → CanRead v notice → notice.kind ≡ Got f → same_class f.class class.Ed ≡ true → CanTake (frame_number f) v.copies
 takes_got v notice f reads kind is =
-    can_take reads.scenario class.Ed of_all service.Ed reads.past v.copies f reads.stands.copies
+    can_take reads.scenario service.Ed class.Ed of_all reads.past v.copies f reads.stands.copies
     (got_names reads.scenario reads.past notice f reads.next service.Ed kind (same_class-true f.class class.Ed is))
 
 pub takes_sent : (v : EdcanParts) (notice : Notice) (f : FrameParts) → CanRead v notice → notice.kind ≡ Sent f → same_class f.class class.Ed ≡ true → CanTake (frame_number f) v.copies
 takes_sent v notice f reads kind is =
-    can_take reads.scenario class.Ed of_all service.Ed reads.past v.copies f reads.stands.copies
+    can_take reads.scenario service.Ed class.Ed of_all reads.past v.copies f reads.stands.copies
     (sent_names reads.scenario reads.past notice f reads.next service.Ed kind (same_class-true f.class class.Ed is))
 
 -- a copy that is read has small numbers
@@ -107,7 +107,7 @@ module _ (scenario : ScenarioParts) (past : List NoticeKind) (v w : EdcanParts) 
     legal = h.legal;
     node = ap (λ (x : EdcanParts). x.node) state;
     format = ap (λ (x : EdcanParts). x.format) state ∙ h.format;
-    copies = table_got scenario class.Ed of_all service.Ed f ed small (got_names scenario past notice f next service.Ed kind ed) past v.copies w.copies h.copies
+    copies = table_got scenario service.Ed class.Ed of_all f ed small (got_names scenario past notice f next service.Ed kind ed) past v.copies w.copies h.copies
         (omega (arith, next.slot, next.within, few_slots scenario.params h.legal.in_range)) learnt;
   })
 
@@ -116,7 +116,7 @@ module _ (scenario : ScenarioParts) (past : List NoticeKind) (v w : EdcanParts) 
     legal = h.legal;
     node = ap (λ (x : EdcanParts). x.node) state;
     format = ap (λ (x : EdcanParts). x.format) state ∙ h.format;
-    copies = table_sent scenario class.Ed of_all service.Ed f ed small (sent_names scenario past notice f next service.Ed kind ed) past v.copies w.copies h.copies refl owned;
+    copies = table_sent scenario service.Ed class.Ed of_all f ed small (sent_names scenario past notice f next service.Ed kind ed) past v.copies w.copies h.copies refl owned;
   })
 
   relay_is : IsEdcanOf scenario v.node (Got f ∷ past) w → actions_of scenario.params.format (eager_effects scenario.params.omit f (Got f ∷ past))
@@ -164,7 +164,7 @@ module _ (scenario : ScenarioParts) (i : ℕ) (past : List NoticeKind) (notice k
   other_acts before = rw is (no_actions scenario.params.format before (edcan_at scenario.params.omit i kind past) (none_at scenario.params.omit i kind past other))
 
   pub other_stands : (v : EdcanParts) → IsEdcanOf scenario i past v → IsEdcanOf scenario i (notice ∷ past) v
-  other_stands v h = rw is (record { legal = h.legal; node = h.node; format = h.format; copies = table_other scenario class.Ed of_all kind past v.copies other h.copies })
+  other_stands v h = rw is (record { legal = h.legal; node = h.node; format = h.format; copies = table_other scenario service.Ed class.Ed of_all kind past v.copies other h.copies })
 
 -- an idle notice
 pub rests : (scenario : ScenarioParts) (i : ℕ) (past : List NoticeKind) (v : EdcanParts) → IsEdcanOf scenario i past v → Rests scenario i past v

@@ -1,7 +1,8 @@
 -- What an EDCAN value stands for.
 use Rattle.std.specs.Prelude.{◌≡◌, ℕ, Bool, true, List, [], ◌∷◌}
-use Rattle.cany_base.specs.declared.frame.Class.TheVariants.{Ed}
+use Rattle.cany_base.specs.declared.frame.Class.TheVariants as class
 use Rattle.cany_base.specs.declared.frame.Format.{Format}
+use Rattle.cany_base.specs.declared.message.Service.TheVariants as service
 use Rattle.cany_base.specs.declared.notice.Notice.{Notice}
 use Rattle.cany_base.specs.declared.notice.NoticeKind.{NoticeKind}
 use Rattle.cany_base.specs.declared.notice.NoticeKind.TheVariants.{Idle}
@@ -22,13 +23,13 @@ abbrev pub of_all : ℕ → Bool
 of_all origin = true
 
 -- The value is that of node i after these notices, newest first: it has of each data frame the copies and the node's own
--- transmission that stand in them, and room for each message of the scenario. Its identifiers are those of the scenario's
--- format.
+-- transmission that stand in them, and room for each message of the scenario by EDCAN. Its identifiers are those of the
+-- scenario's format.
 pub record IsEdcanOf (scenario : ScenarioParts) (i : ℕ) (past : List NoticeKind) (v : EdcanParts) : Type 0 where
   pub legal : IsLegalScenario scenario
   pub node : v.node ≡ i
   pub format : v.format ≡ scenario.params.format
-  pub copies : IsTableOf scenario Ed of_all past v.copies
+  pub copies : IsTableOf scenario service.Ed class.Ed of_all past v.copies
 
 -- An idle notice leads to nothing: the value as it is stands for the notices and this one too.
 pub record Rests (scenario : ScenarioParts) (i : ℕ) (past : List NoticeKind) (v : EdcanParts) : Type 0 where

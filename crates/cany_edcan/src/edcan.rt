@@ -24,7 +24,7 @@ use cany_base::{
     Service, Slot,
 };
 use cany_diffuse::{Diffused, Eager, Learnt};
-use cany_message::{deliver, withdraw};
+use cany_message::{deliver, sends_by, withdraw};
 use std::alloc::Global;
 use std::marker::Model;
 
@@ -49,13 +49,15 @@ impl Model for Edcan {
 }
 
 impl Edcan {
-    /// The EDCAN of a node that has read nothing, or only notices of idle slots, with room for all messages of the scenario.
+    /// The EDCAN of a node that has read nothing, or only notices of idle slots, with room for all messages of the scenario
+    /// that are by EDCAN.
     pub fn build(alloc: Global, node: NodeId, scenario: &Scenario) -> Result<Edcan, Memory>
         requires { node < scenario.now.params.nodes }
         ensures { IfOk result (λ edcan. (n : ℕ) → IsEdcanOf scenario.now node (replicate n Idle) edcan) }
     {
         let params = *scenario.params();
-        let copies = Eager::build(alloc, params.omit, scenario.sends().len())?;
+        let room = sends_by(scenario, Service::Ed);
+        let copies = Eager::build(alloc, params.omit, room)?;
         Ok(Edcan {
             node,
             format: params.format,

@@ -2,6 +2,7 @@
 use Rattle.std.proofs.Common.{ℕ, ◌==◌, Bool, true, false, if◌then◌else◌, List, sym, ◌∙◌}
 use Rattle.std.proofs.lemmas.Bool.{false≢true}
 use Rattle.cany_base.specs.declared.frame.Class.{Class}
+use Rattle.cany_base.specs.declared.message.Service.{Service}
 use Rattle.cany_base.specs.declared.notice.NoticeKind.{NoticeKind}
 use Rattle.cany_base.specs.Nodes.{Nodes, AllBelow}
 use Rattle.cany_base.specs.Scenario.{ScenarioParts, IsLegalScenario}
@@ -35,7 +36,7 @@ legal_for scenario inc h = record {
   places = h.places;
 }
 
-pub table_for : (scenario : ScenarioParts) (inc : Incarnation) (class : Class) (notes : ℕ → Bool) (past : List NoticeKind) (table : EagerParts)
-    → IsTableOf scenario class notes past table → IsTableOf (scenario_for scenario inc) class notes past table
-table_for scenario inc class notes past table h =
+pub table_for : (scenario : ScenarioParts) (inc : Incarnation) (by : Service) (class : Class) (notes : ℕ → Bool) (past : List NoticeKind) (table : EagerParts)
+    → IsTableOf scenario by class notes past table → IsTableOf (scenario_for scenario inc) by class notes past table
+table_for scenario inc by class notes past table h =
     record { omit = h.omit; room = h.room; copies = h.copies; owned = h.owned; there = h.there; messages = h.messages }

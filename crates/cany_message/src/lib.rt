@@ -1,11 +1,12 @@
 //! What the broadcast protocols share: the number that stands for a message, the frames that name it, the actions that
-//! deliver it and withdraw its frame, and the sequence numbers of scripted sends.
+//! deliver it and withdraw its frame, the sequence numbers of scripted sends, and how many of them are by a service.
 #![tactic(auto)]
 
 mod actions;
 mod frame;
 mod keys;
 mod number;
+mod sends;
 mod sequence;
 #[cfg(test)]
 mod tests;
@@ -15,4 +16,5 @@ pub use actions::{deliver, withdraw};
 pub use frame::{FrameClass, MessageFrame, is_of_class};
 pub use keys::keys_of;
 pub use number::message_number;
+pub use sends::sends_by;
 pub use sequence::SequenceNumbers;

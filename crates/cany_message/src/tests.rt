@@ -1,15 +1,20 @@
-ghost use Rattle.std.specs.Prelude.{◌≡◌};
+ghost use Rattle.std.specs.Prelude.{◌≡◌, ◌≤◌, All, [], length};
 ghost use Rattle.cany_base.specs.declared.frame.Class.TheVariants as class;
+ghost use Rattle.cany_base.specs.Params.{IsInRange, MeetsFormulas};
+ghost use Rattle.cany_base.specs.Scenario.{IsSendOf};
 
 use crate::actions::{deliver, withdraw};
 use crate::frame::{FrameClass, MessageFrame, is_of_class};
 use crate::keys::keys_of;
 use crate::number::message_number;
+use crate::sends::sends_by;
 use crate::sequence::SequenceNumbers;
 use cany_base::{
-    Action, Actions, Class, Format, Frame, LogEntry, MsgKey, NodeId, Payload, SendAsk, Service,
+    Action, Actions, Class, Format, Frame, LogEntry, Memory, MsgKey, NodeId, NodeSet, Params,
+    Payload, Scenario, SendAsk, Service,
 };
 use cany_diffuse::Diffused;
+use std::alloc::Global;
 use std::test::Fail;
 
 /// The class of the frames that carry messages of TOTCAN.
@@ -119,11 +124,13 @@ fn messages_of_nodes_33_and_1_have_different_numbers(rt: HostRuntime) -> Result<
     Ok(())
 }
 
-fn send_of(node: NodeId) -> SendAsk {
+fn send_of(node: NodeId, service: Service) -> SendAsk
+    ensures { result ≡ record { slot = 0; node = node; service = service; payload = [] } }
+{
     SendAsk {
         slot: 0,
         node,
-        service: Service::Ed,
+        service,
         payload: Payload::empty(),
     }
 }
@@ -132,7 +139,11 @@ fn send_of(node: NodeId) -> SendAsk {
 fn messages_are_counted_by_origin(rt: HostRuntime) -> Result<(), Fail> {
     let one = NodeId::new(1).ok_or("a node")?;
     let two = NodeId::new(2).ok_or("a node")?;
-    let sends = [send_of(two), send_of(one), send_of(two)];
+    let sends = [
+        send_of(two, Service::Ed),
+        send_of(one, Service::Ed),
+        send_of(two, Service::Ed),
+    ];
     let keys = keys_of(rt.alloc(), &sends)?;
     let expected = [
         MsgKey {
@@ -157,5 +168,40 @@ fn the_first_number_is_zero(rt: HostRuntime) -> Result<(), Fail> {
     let node = NodeId::new(63).ok_or("a node")?;
     let mut numbers = SequenceNumbers::new();
     assert_eq!(rt; numbers.next(node), 0);
+    Ok(())
+}
+
+/// A scenario without faults, in which all nodes are members.
+fn scenario_of(alloc: Global, params: Params, sends: &[SendAsk]) -> Result<Scenario, Memory>
+    requires ranges { IsInRange params }
+    requires formulas { MeetsFormulas params }
+    requires sends { All (IsSendOf params) sends.now }
+    requires few { length sends.now ≤ 3 }
+{
+    let sends = Vec::from_slice(alloc, sends)?;
+    Ok(Scenario::of_parts(
+        params,
+        NodeSet::all(params.nodes),
+        sends,
+        Vec::new(alloc),
+        Vec::new(alloc),
+        Vec::new(alloc),
+        Vec::new(alloc),
+        None,
+    ))
+}
+
+#[test]
+fn sends_are_counted_by_service(rt: HostRuntime) -> Result<(), Fail> {
+    let node = NodeId::new(1).ok_or("a node")?;
+    let sends = [
+        send_of(node, Service::Ed),
+        send_of(node, Service::Rel),
+        send_of(node, Service::Ed),
+    ];
+    let scenario = scenario_of(rt.alloc(), Params::with_defaults(3, 100), &sends)?;
+    assert_eq!(rt; sends_by(&scenario, Service::Ed), 2);
+    assert_eq!(rt; sends_by(&scenario, Service::Rel), 1);
+    assert_eq!(rt; sends_by(&scenario, Service::Tot), 0);
     Ok(())
 }

@@ -33,6 +33,7 @@ use Rattle.cany_model.proofs.Rules.ProtocolFacts.{IsFoundedEntry, IsLawful, log_
 use Rattle.cany_model.proofs.Rules.RoomFacts.{few_waiting, pigeonhole}
 use Rattle.cany_model.proofs.Rules.SignRooms.{each_made, few_signs, is_delivered, log_parts}
 use Rattle.cany_model.proofs.Rules.ViewLog.{few_views}
+use Rattle.cany_message.proofs.NumberFacts.{few_sends}
 use Rattle.can_controller.specs.Waiting.{IsAscending, identity_number}
 use Rattle.cany_views.specs.Views.{asked_cycles}
 use Rattle.cany_node.specs.Apply.{AreAskable, is_sign}
@@ -190,6 +191,7 @@ actions_within scenario past v stands =
       arith,
       two,
       stands.totcan.limits.room,
+      few_sends scenario Tot,
       ap (λ (p : Parameters). p.nodes) stands.site.life.params,
       ap length stands.site.views.joins,
       ap length stands.site.views.leaves,

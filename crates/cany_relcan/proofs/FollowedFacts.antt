@@ -19,8 +19,8 @@ module _ (scenario : ScenarioParts) (inc : Incarnation) where
   tables_for : (i : ℕ) (past : List NoticeKind) (copies confirms : EagerParts) → AreTablesOf scenario i past copies confirms
       → AreTablesOf (scenario_for scenario inc) i past copies confirms
   tables_for i past copies confirms h = record {
-    data_frames = table_for scenario inc class.Rel (of_own i) past copies h.data_frames;
-    confirmations = table_for scenario inc class.Confirm of_none past confirms h.confirmations;
+    data_frames = table_for scenario inc service.Rel class.Rel (of_own i) past copies h.data_frames;
+    confirmations = table_for scenario inc service.Rel class.Confirm of_none past confirms h.confirmations;
     named = λ f is copy. names_for f (h.named f is copy);
   }
 

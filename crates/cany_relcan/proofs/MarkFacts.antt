@@ -1,6 +1,6 @@
 -- The messages for which the node fell back, as they are marked.
 use Rattle.std.specs.Prelude.{IfSome}
-use Rattle.std.proofs.Common.{◌≡◌, ℕ, ◌<◌, ◌==◌, ◌&&◌, ◌||◌, Bool, true, false, not, inl, inr, List, length, replicate, Option, Some, None, refl, ap, sym, ◌∙◌, arith}
+use Rattle.std.proofs.Common.{◌≡◌, ℕ, ◌<◌, ◌==◌, ◌&&◌, ◌||◌, Bool, true, false, not, inl, inr, List, replicate, Option, Some, None, refl, ap, sym, ◌∙◌, arith}
 use Rattle.std.proofs.lemmas.Bool.{and_parts, eqb-true, false≢true, or_cases}
 use Rattle.std.proofs.lemmas.Bool.Decides.{nat_tests}
 use Rattle.cany_base.specs.declared.frame.Class.TheVariants as class
@@ -18,13 +18,14 @@ use Rattle.cany_message.proofs.NumberFacts.{length-message_numbers, named_among,
 use Rattle.cany_model.specs.Bus.Frames.{identity_of, is_of}
 use Rattle.cany_model.specs.Rules.Notices.{NamesMessage}
 use Rattle.cany_model.specs.Rules.Relcan.{has_confirm}
+use Rattle.cany_model.specs.Rules.Rooms.{sends_by}
 use Rattle.cany_model.proofs.Bus.Identities.{same_identity-true}
 use Rattle.cany_relcan.specs.Relcan.{AreMarksOf, AreTablesOf, data_identity}
 use Rattle.cany_relcan.specs.RelcanSteps.{AreMarksAfter, falls, is_confirmed}
 use Rattle.cany_relcan.proofs.TablesFacts.{confirmed_is}
 use Rattle.cany_relcan.proofs.TimerFacts.{falls_with, fell_back-idle}
 
-pub marks_fresh : (scenario : ScenarioParts) (i n omit room : ℕ) (fallen : EagerParts) → IsFresh omit room fallen → room ≡ length scenario.sends
+pub marks_fresh : (scenario : ScenarioParts) (i n omit room : ℕ) (fallen : EagerParts) → IsFresh omit room fallen → room ≡ sends_by scenario service.Rel
     → AreMarksOf scenario i (replicate n Idle) fallen
 marks_fresh scenario i n omit room fallen fresh is = record {
   room = fresh.room ∙ is;
@@ -60,8 +61,8 @@ marked_now f confirms old new is owned = record {
 pub can_mark : (scenario : ScenarioParts) (i : ℕ) (past : List NoticeKind) (fallen : EagerParts) (f : FrameParts) → AreMarksOf scenario i past fallen
     → NamesMessage scenario service.Rel f → CanTake (frame_number f) fallen
 can_mark scenario i past fallen f h named = record {
-  numbers = message_numbers scenario;
-  room = omega (arith, length-message_numbers scenario, h.room);
+  numbers = message_numbers scenario service.Rel;
+  room = omega (arith, length-message_numbers scenario service.Rel, h.room);
   all = h.messages;
   this = named_among scenario service.Rel f named;
 }
@@ -88,8 +89,8 @@ module _ (scenario : ScenarioParts) (i : ℕ) (past : List NoticeKind) (copies c
 -- what is there after a timer is of messages of the scenario
 pub there_after : (scenario : ScenarioParts) (due : Option FrameParts) (confirms old new : EagerParts) → AreMarksAfter due confirms old new
     → ((f : FrameParts) → due ≡ Some f → NamesMessage scenario service.Rel f)
-    → ((number : ℕ) → is_there old number ≡ true → is_among number (message_numbers scenario) ≡ true)
-    → (number : ℕ) → is_there new number ≡ true → is_among number (message_numbers scenario) ≡ true
+    → ((number : ℕ) → is_there old number ≡ true → is_among number (message_numbers scenario service.Rel) ≡ true)
+    → (number : ℕ) → is_there new number ≡ true → is_among number (message_numbers scenario service.Rel) ≡ true
 there_after scenario due confirms old new after names before number is =
     elim (or_cases (falls due confirms number) (is_there old number) (sym (after.there number) ∙ is)) [
       | inl now ↦ fallen due now names
@@ -97,8 +98,8 @@ there_after scenario due confirms old new after names before number is =
     ]
   where
     fallen : (due : Option FrameParts) → falls due confirms number ≡ true → ((f : FrameParts) → due ≡ Some f → NamesMessage scenario service.Rel f)
-        → is_among number (message_numbers scenario) ≡ true
+        → is_among number (message_numbers scenario service.Rel) ≡ true
     fallen None now names = absurd (false≢true now)
     fallen (Some f) now names =
         let same : number ≡ frame_number f = eqb-true number (frame_number f) (and_parts (number == frame_number f) (not (is_confirmed confirms f)) now).0 in
-        ap (λ n. is_among n (message_numbers scenario)) same ∙ named_among scenario service.Rel f (names f refl)
+        ap (λ n. is_among n (message_numbers scenario service.Rel)) same ∙ named_among scenario service.Rel f (names f refl)

@@ -23,6 +23,7 @@ use Rattle.cany_model.specs.Bus.Frames.{identity_of, same_class}
 use Rattle.cany_model.specs.Bus.History.{copies, has_own}
 use Rattle.cany_model.specs.Rules.Notices.{IsNextNotice, NamesMessage}
 use Rattle.cany_model.specs.Rules.Relcan.{has_copy, is_timed}
+use Rattle.cany_model.specs.Rules.Rooms.{sends_by}
 use Rattle.cany_relcan.specs.declared.timers.Timer.{Timer}
 use Rattle.cany_relcan.specs.Relcan.{RelcanParts, HasLimitsOf, IsRelcanOf, AreMarksOf, HasRead, CanRead, data_identity, of_own, of_none}
 use Rattle.cany_relcan.specs.RelcanSteps.{holds_own, is_first_copy, starts_timer, timers_with, was_delivered}
@@ -69,7 +70,8 @@ both_less n a b room is less_a less_b = grind (arith, nat_tests, is, less_a, les
 pub one_more_timer : (scenario : ScenarioParts) (i : ℕ) (past : List NoticeKind) (v : RelcanParts) → IsRelcanOf scenario i past v → 0 < spare_of v.copies
     → length v.timers.running < v.timers.room
 one_more_timer scenario i past v h some =
-    both_less (length v.timers.running) (length scenario.sends) (scenario.params.confirm + 1) v.timers.room h.limits.timers_room
+    both_less (length v.timers.running) (sends_by scenario service.Rel) (scenario.params.confirm + 1) v.timers.room
+    h.limits.timers_room
     (omega (arith, h.limits.timers_few, some))
     (omega (arith, ap (λ (timers : List Timer). length timers) h.timers, few_started i scenario.params.confirm past))
 
@@ -165,7 +167,7 @@ module _ (scenario : ScenarioParts) (i : ℕ) (past : List NoticeKind) (v w : Re
           format = ap (λ (x : RelcanParts). x.format) state ∙ h.limits.format;
           confirm = ap (λ (x : RelcanParts). x.confirm) state ∙ h.limits.confirm;
           timers_room = ap (λ (t : TimersParts). t.room) timers ∙ same_room (starts_timer v f) slot f v.timers ∙ h.limits.timers_room;
-          timers_few = timers_fit (starts_timer v f) slot (length scenario.sends) f v w timers learnt.put (new_entry v f there) h.limits.timers_few;
+          timers_few = timers_fit (starts_timer v f) slot (sends_by scenario service.Rel) f v w timers learnt.put (new_entry v f there) h.limits.timers_few;
         };
         tables = rw confirms (tables_got scenario i past v.copies v.confirms h.tables f small named w.copies rel (omega (arith, at, within, few_slots scenario.params h.limits.legal.in_range)) learnt);
         timers =

@@ -21,6 +21,7 @@ use Rattle.cany_model.specs.Bus.Frames.{identity_of, is_of, same_class}
 use Rattle.cany_model.specs.Bus.History.{is_got}
 use Rattle.cany_model.specs.Rules.Notices.{BelongsTo, IsNextNotice, NamesMessage}
 use Rattle.cany_model.specs.Rules.Relcan.{confirm_of, has_confirm, has_copy}
+use Rattle.cany_model.specs.Rules.Rooms.{sends_by}
 use Rattle.cany_model.proofs.Bus.Identities.{same_identity-true}
 use Rattle.cany_relcan.specs.Relcan.{AreTablesOf, data_identity, of_own, of_none}
 
@@ -42,10 +43,11 @@ has_copy-idle f zero = refl
 has_copy-idle f (suc n) = has_copy-idle f n
 
 pub tables_fresh : (scenario : ScenarioParts) (i n omit room : ℕ) (copies confirms : EagerParts) → IsFresh omit room copies → IsFresh omit room confirms
-    → omit ≡ scenario.params.omit → room ≡ length scenario.sends → AreTablesOf scenario i (replicate n Idle) copies confirms
+    → omit ≡ scenario.params.omit → room ≡ sends_by scenario service.Rel
+    → AreTablesOf scenario i (replicate n Idle) copies confirms
 tables_fresh scenario i n omit room copies confirms copies_new confirms_new is_omit is_room = record {
-  data_frames = table_fresh scenario class.Rel (of_own i) n omit room copies copies_new is_omit is_room;
-  confirmations = table_fresh scenario class.Confirm of_none n omit room confirms confirms_new is_omit is_room;
+  data_frames = table_fresh scenario service.Rel class.Rel (of_own i) n omit room copies copies_new is_omit is_room;
+  confirmations = table_fresh scenario service.Rel class.Confirm of_none n omit room confirms confirms_new is_omit is_room;
   named = λ f rel h. absurd (false≢true (sym (has_copy-idle f n) ∙ h));
 }
 
@@ -84,30 +86,33 @@ module _ (scenario : ScenarioParts) (i : ℕ) (past : List NoticeKind) (copies c
   module _ (f : FrameParts) (small : f.node < most_nodes) (named : NamesMessage scenario service.Rel f) (new : EagerParts) where
     pub tables_got : f.class ≡ class.Rel → length past < most_slots → IsLearnt (frame_number f) copies new → AreTablesOf scenario i (Got f ∷ past) new confirms
     tables_got is short learnt = record {
-      data_frames = table_got scenario class.Rel (of_own i) service.Rel f is small named past copies new h.data_frames short learnt;
-      confirmations = table_other scenario class.Confirm of_none (Got f) past confirms (data_other f is) h.confirmations;
+      data_frames = table_got scenario service.Rel class.Rel (of_own i) f is small named past copies new h.data_frames short learnt;
+      confirmations =
+          table_other scenario service.Rel class.Confirm of_none (Got f) past confirms (data_other f is) h.confirmations;
       named = named_then f named;
     }
 
     pub tables_confirmed : f.class ≡ class.Confirm → length past < most_slots → IsLearnt (frame_number f) confirms new → AreTablesOf scenario i (Got f ∷ past) copies new
     tables_confirmed is short learnt = record {
-      data_frames = table_other scenario class.Rel (of_own i) (Got f) past copies (confirmation_other f is) h.data_frames;
-      confirmations = table_got scenario class.Confirm of_none service.Rel f is small named past confirms new h.confirmations short learnt;
+      data_frames =
+          table_other scenario service.Rel class.Rel (of_own i) (Got f) past copies (confirmation_other f is) h.data_frames;
+      confirmations = table_got scenario service.Rel class.Confirm of_none f is small named past confirms new h.confirmations short learnt;
       named = named_then f named;
     }
 
     pub tables_sent : f.class ≡ class.Rel → f.node ≡ i → IsOwned (frame_number f) copies new → AreTablesOf scenario i (Sent f ∷ past) new confirms
     tables_sent is own owned = record {
-      data_frames = table_sent scenario class.Rel (of_own i) service.Rel f is small named past copies new h.data_frames (eq-eqb f.node i own) owned;
-      confirmations = table_other scenario class.Confirm of_none (Sent f) past confirms (none_noted f) h.confirmations;
+      data_frames = table_sent scenario service.Rel class.Rel (of_own i) f is small named past copies new h.data_frames (eq-eqb f.node i own) owned;
+      confirmations =
+          table_other scenario service.Rel class.Confirm of_none (Sent f) past confirms (none_noted f) h.confirmations;
       named = h.named;
     }
 
   -- a notice of which nothing is noted
   pub tables_other : (notice : NoticeKind) → IsOther class.Rel (of_own i) notice → IsOther class.Confirm of_none notice → AreTablesOf scenario i (notice ∷ past) copies confirms
   tables_other notice no_data no_confirm = record {
-    data_frames = table_other scenario class.Rel (of_own i) notice past copies no_data h.data_frames;
-    confirmations = table_other scenario class.Confirm of_none notice past confirms no_confirm h.confirmations;
+    data_frames = table_other scenario service.Rel class.Rel (of_own i) notice past copies no_data h.data_frames;
+    confirmations = table_other scenario service.Rel class.Confirm of_none notice past confirms no_confirm h.confirmations;
     named = λ f rel copy. h.named f rel (ap (λ b. b || has_copy (identity_of f) past) (sym (not_got notice no_data f rel)) ∙ copy);
   }
     where

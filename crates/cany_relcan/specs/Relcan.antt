@@ -2,7 +2,7 @@
 use Rattle.std.specs.Prelude.{◌≡◌, ℕ, ◌+◌, ◌<◌, ◌≤◌, ◌==◌, min, Bool, true, false, List, [], ◌∷◌, ◌++◌, length}
 use Rattle.cany_base.specs.declared.frame.Class.TheVariants as class
 use Rattle.cany_base.specs.declared.frame.Format.{Format}
-use Rattle.cany_base.specs.declared.message.Service.TheVariants.{Rel}
+use Rattle.cany_base.specs.declared.message.Service.TheVariants as service
 use Rattle.cany_base.specs.declared.notice.Notice.{Notice}
 use Rattle.cany_base.specs.declared.notice.NoticeKind.{NoticeKind}
 use Rattle.cany_base.specs.declared.notice.NoticeKind.TheVariants.{Idle}
@@ -15,6 +15,7 @@ use Rattle.cany_message.specs.Table.{IsTableOf, frame_identity}
 use Rattle.cany_model.specs.Bus.Frames.{Identity, identity_of}
 use Rattle.cany_model.specs.Rules.Notices.{IsNextNotice, NamesMessage}
 use Rattle.cany_model.specs.Rules.Relcan.{fell_back, has_copy, relcan_effects}
+use Rattle.cany_model.specs.Rules.Rooms.{sends_by}
 use Rattle.cany_relcan.specs.Timers.{TimersParts, started_by, started_since}
 
 -- the node, the format of identifiers, how long a timer runs, the copies of data frames and of confirmations, the timers that
@@ -39,29 +40,29 @@ of_own i origin = origin == i
 abbrev pub of_none : ℕ → Bool
 of_none origin = false
 
--- The value is that of a node of the scenario, with room for each of its messages. Its identifiers are those of the scenario's
--- format. At once run no more timers than there are messages, and than may start in the slots of one timer, one in each.
+-- The value is that of a node of the scenario. Its identifiers are those of the scenario's format. At once run no more timers
+-- than there are messages of RELCAN, and than may start in the slots of one timer, one in each.
 pub record HasLimitsOf (scenario : ScenarioParts) (i : ℕ) (v : RelcanParts) : Type 0 where
   pub legal : IsLegalScenario scenario
   pub node : v.node ≡ i
   pub format : v.format ≡ scenario.params.format
   pub confirm : v.confirm ≡ scenario.params.confirm
-  pub timers_room : v.timers.room ≡ min (length scenario.sends) (scenario.params.confirm + 1)
-  pub timers_few : spare_of v.copies + length v.timers.running ≤ length scenario.sends
+  pub timers_room : v.timers.room ≡ min (sends_by scenario service.Rel) (scenario.params.confirm + 1)
+  pub timers_few : spare_of v.copies + length v.timers.running ≤ sends_by scenario service.Rel
 
 -- The tables of data frames and of confirmations have what stands in these notices. The data frames of which a copy was read
 -- are those of messages of RELCAN.
 pub record AreTablesOf (scenario : ScenarioParts) (i : ℕ) (past : List NoticeKind) (copies confirms : EagerParts) : Type 0 where
-  pub data_frames : IsTableOf scenario class.Rel (of_own i) past copies
-  pub confirmations : IsTableOf scenario class.Confirm of_none past confirms
-  pub named : (f : FrameParts) → f.class ≡ class.Rel → has_copy (identity_of f) past ≡ true → NamesMessage scenario Rel f
+  pub data_frames : IsTableOf scenario service.Rel class.Rel (of_own i) past copies
+  pub confirmations : IsTableOf scenario service.Rel class.Confirm of_none past confirms
+  pub named : (f : FrameParts) → f.class ≡ class.Rel → has_copy (identity_of f) past ≡ true → NamesMessage scenario service.Rel f
 
--- The messages for which the node fell back are held. All that is there is of messages of the scenario, and there is room for
--- each of them.
+-- The messages for which the node fell back are held. All that is there is of messages of the scenario by RELCAN, and there is
+-- room for each of them.
 pub record AreMarksOf (scenario : ScenarioParts) (i : ℕ) (past : List NoticeKind) (fallen : EagerParts) : Type 0 where
-  pub room : fallen.room ≡ length scenario.sends
+  pub room : fallen.room ≡ sends_by scenario service.Rel
   pub held : (seq origin : ℕ) → origin < most_nodes → is_held fallen (message_number seq origin) ≡ fell_back scenario.params.confirm i (data_identity seq origin) past
-  pub messages : (number : ℕ) → is_there fallen number ≡ true → is_among number (message_numbers scenario) ≡ true
+  pub messages : (number : ℕ) → is_there fallen number ≡ true → is_among number (message_numbers scenario service.Rel) ≡ true
 
 -- The value is that of node i after these notices, newest first. The timers that run are those that the newest `confirm`
 -- notices started.

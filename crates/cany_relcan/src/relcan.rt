@@ -27,7 +27,7 @@ use cany_base::{
     Service, Slot,
 };
 use cany_diffuse::{Diffused, Eager, Learnt};
-use cany_message::{deliver, withdraw};
+use cany_message::{deliver, sends_by, withdraw};
 use std::alloc::Global;
 use std::marker::Model;
 
@@ -60,13 +60,14 @@ impl Model for Relcan {
 }
 
 impl Relcan {
-    /// The RELCAN of a node that has read nothing, or only notices of idle slots, with room for all messages of the scenario.
+    /// The RELCAN of a node that has read nothing, or only notices of idle slots, with room for all messages of the scenario
+    /// that are by RELCAN.
     pub fn build(alloc: Global, node: NodeId, scenario: &Scenario) -> Result<Relcan, Memory>
         requires { node < scenario.now.params.nodes }
         ensures { IfOk result (λ relcan. (n : ℕ) → IsRelcanOf scenario.now node (replicate n Idle) relcan) }
     {
         let params = *scenario.params();
-        let room = scenario.sends().len();
+        let room = sends_by(scenario, Service::Rel);
         let copies = Eager::build(alloc, params.omit, room)?;
         let confirms = Eager::build(alloc, params.omit, room)?;
         let timers = Timers::build(alloc, timers_at_once(room, params.confirm))?;

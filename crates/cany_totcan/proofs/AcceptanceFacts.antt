@@ -3,7 +3,7 @@ use Rattle.std.proofs.Common.{◌≡◌, ℕ, ◌+◌, ◌<◌, ◌≤◌, ◌==
 use Rattle.std.proofs.lemmas.Bool.{cases_Bool, false≢true, false_from_ne_true}
 use Rattle.std.proofs.lemmas.Bool.Decides.{nat_tests}
 use Rattle.cany_base.specs.declared.frame.Class.TheVariants as class
-use Rattle.cany_base.specs.declared.message.Service.{Service}
+use Rattle.cany_base.specs.declared.message.Service.TheVariants as service
 use Rattle.cany_base.specs.declared.message.MsgKey.{MsgKey}
 use Rattle.cany_base.specs.declared.notice.NoticeKind.{NoticeKind}
 use Rattle.cany_base.specs.declared.notice.NoticeKind.TheVariants.{Idle, Got, Sent, Bad}
@@ -19,6 +19,7 @@ use Rattle.cany_model.specs.Bus.Frames.{Identity, is_of, same_class}
 use Rattle.cany_model.specs.Bus.History.{copies, has_own, is_got, is_sent}
 use Rattle.cany_model.specs.Rules.Messages.{accept_of_key}
 use Rattle.cany_model.specs.Rules.Notices.{NamesMessage}
+use Rattle.cany_model.specs.Rules.Rooms.{sends_by}
 use Rattle.cany_model.specs.Rules.Totcan.{after_place, holds, is_recent, message_in, tot_in}
 use Rattle.cany_totcan.specs.Totcan.{AreAcceptances, key_of}
 use Rattle.cany_totcan.proofs.AcceptedFacts.{after_held, after_other}
@@ -89,7 +90,7 @@ module _ (newest : ℕ) (f : FrameParts) (before : List NoticeKind) (is : f.clas
 -- ---- the table
 
 pub acceptances_fresh : (scenario : ScenarioParts) (newest n omit room : ℕ) (table : EagerParts) → IsFresh omit room table → omit ≡ scenario.params.omit
-    → room ≡ length scenario.sends → ((key : MsgKey) → is_recent newest key (replicate n Idle) ≡ false) → AreAcceptances scenario newest (replicate n Idle) table
+    → room ≡ sends_by scenario service.Tot → ((key : MsgKey) → is_recent newest key (replicate n Idle) ≡ false) → AreAcceptances scenario newest (replicate n Idle) table
 acceptances_fresh scenario newest n omit room table fresh omit_is room_is none = record {
   omit = fresh.omit ∙ omit_is;
   room = fresh.room ∙ room_is;
@@ -109,20 +110,20 @@ acceptances_fewer scenario n m past table fewer h = record {
   messages = h.messages;
 }
 
-pub can_take_acceptance : (scenario : ScenarioParts) (n : ℕ) (past : List NoticeKind) (table : EagerParts) (f : FrameParts) (by : Service)
-    → AreAcceptances scenario n past table → NamesMessage scenario by f → CanTake (frame_number f) table
-can_take_acceptance scenario n past table f by h named = record {
-  numbers = message_numbers scenario;
-  room = omega (arith, length-message_numbers scenario, h.room);
+pub can_take_acceptance : (scenario : ScenarioParts) (n : ℕ) (past : List NoticeKind) (table : EagerParts) (f : FrameParts)
+    → AreAcceptances scenario n past table → NamesMessage scenario service.Tot f → CanTake (frame_number f) table
+can_take_acceptance scenario n past table f h named = record {
+  numbers = message_numbers scenario service.Tot;
+  room = omega (arith, length-message_numbers scenario service.Tot, h.room);
   all = h.messages;
-  this = named_among scenario by f named;
+  this = named_among scenario service.Tot f named;
 }
 
-messages_put : (scenario : ScenarioParts) (by : Service) (f : FrameParts) (old new : EagerParts) → NamesMessage scenario by f → IsPut (frame_number f) old new
-    → ((number : ℕ) → is_there old number ≡ true → is_among number (message_numbers scenario) ≡ true)
-    → (number : ℕ) → is_there new number ≡ true → is_among number (message_numbers scenario) ≡ true
-messages_put scenario by f old new named put before number h =
-    grind (arith, nat_tests, before number, h, put.there number, ap (λ n. is_among n (message_numbers scenario)), named_among scenario by f named)
+messages_put : (scenario : ScenarioParts) (f : FrameParts) (old new : EagerParts) → NamesMessage scenario service.Tot f → IsPut (frame_number f) old new
+    → ((number : ℕ) → is_there old number ≡ true → is_among number (message_numbers scenario service.Tot) ≡ true)
+    → (number : ℕ) → is_there new number ≡ true → is_among number (message_numbers scenario service.Tot) ≡ true
+messages_put scenario f old new named put before number h =
+    grind (arith, nat_tests, before number, h, put.there number, ap (λ n. is_among n (message_numbers scenario service.Tot)), named_among scenario service.Tot f named)
 
 module _ (scenario : ScenarioParts) (n : ℕ) (before : List NoticeKind) (old : EagerParts) (h : AreAcceptances scenario n before old) where
   -- a notice that brings no data frame moves no place
@@ -151,7 +152,7 @@ module _ (scenario : ScenarioParts) (n : ℕ) (before : List NoticeKind) (old : 
     }
 
   -- a frame that accepts a message
-  module _ (f : FrameParts) (new : EagerParts) (is : f.class ≡ class.Accept) (small : f.node < most_nodes) (by : Service) (named : NamesMessage scenario by f) where
+  module _ (f : FrameParts) (new : EagerParts) (is : f.class ≡ class.Accept) (small : f.node < most_nodes) (named : NamesMessage scenario service.Tot f) where
     this : (s o : ℕ) → o < most_nodes → (message_number s o == frame_number f) ≡ is_of (accept_id s o) f
     this s o near = same_number s o f.number f.node near small ∙ sym (is_this class.Accept s o f is)
 
@@ -176,7 +177,7 @@ module _ (scenario : ScenarioParts) (n : ℕ) (before : List NoticeKind) (old : 
       owned = λ s o near recent.
           learnt.owned (message_number s o) ∙ h.owned s o near (recent_before (Got f) none s o recent)
           ∙ sym (ap (has_own (accept_id s o)) (after_is (Got f) none s o) ∙ has_own-more (accept_id s o) (Got f) (after_place (key_of s o) before));
-      messages = messages_put scenario by f old new named learnt.put h.messages;
+      messages = messages_put scenario f old new named learnt.put h.messages;
     }
 
     pub acceptances_owned : tot_in (Sent f) ≡ None → IsOwned (frame_number f) old new → AreAcceptances scenario (n + 1) (Sent f ∷ before) new
@@ -191,7 +192,7 @@ module _ (scenario : ScenarioParts) (n : ℕ) (before : List NoticeKind) (old : 
           ∙ ap (λ b. b || is_owned old (message_number s o)) (this s o near)
           ∙ ap (λ b. is_of (accept_id s o) f || b) (h.owned s o near (recent_before (Sent f) none s o recent))
           ∙ sym (ap (has_own (accept_id s o)) (after_is (Sent f) none s o) ∙ has_own-more (accept_id s o) (Sent f) (after_place (key_of s o) before));
-      messages = messages_put scenario by f old new named owned.put h.messages;
+      messages = messages_put scenario f old new named owned.put h.messages;
     }
 
   -- a data frame, whose message is accepted by what is read from now on

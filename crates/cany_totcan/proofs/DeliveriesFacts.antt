@@ -2,19 +2,21 @@
 use Rattle.std.proofs.Common.{◌≡◌, ℕ, ◌+◌, ◌<◌, ◌≤◌, ◌==◌, ◌&&◌, ◌||◌, true, not, inl, inr, if◌then◌else◌, List, length, replicate, slice_set, ap, sym, ◌∙◌, arith, eq-eqb}
 use Rattle.std.proofs.lemmas.Bool.{cases_eq, cases_lt, ne_eqb}
 use Rattle.std.proofs.lemmas.Bool.Decides.{nat_tests}
-use Rattle.std.proofs.lemmas.List.{get_or-replicate, get_or-set_same, get_or-set_other, get_or_past, length-replicate}
+use Rattle.std.proofs.lemmas.List.{get_or-replicate, get_or-set_same, get_or-set_other, get_or_past, length-map, length-replicate}
 use Rattle.cany_base.specs.declared.message.MsgKey.{MsgKey}
 use Rattle.cany_base.specs.declared.message.Service.TheVariants as service
 use Rattle.cany_base.specs.Limits.{most_nodes}
 use Rattle.cany_base.specs.Scenario.{ScenarioParts}
-use Rattle.cany_diffuse.specs.Eager.{EagerParts, HasRoomFor, IsCounted, IsForgotten, IsFresh, IsOwned, is_among, is_held}
-use Rattle.cany_message.specs.Numbers.{message_number, message_numbers}
+use Rattle.cany_diffuse.specs.Eager.{EagerParts, HasRoomFor, IsCounted, IsForgotten, IsFresh, IsOwned, is_held}
+use Rattle.cany_message.specs.Numbers.{message_number, numbers_of}
 use Rattle.cany_message.specs.Table.{CanTake}
 use Rattle.cany_message.proofs.EarlierFacts.{earlier_among}
-use Rattle.cany_message.proofs.NumberFacts.{length-message_numbers, room_to_take, same_number}
-use Rattle.cany_model.specs.Rules.Messages.{IsOfMessage}
+use Rattle.cany_message.proofs.NumberFacts.{room_to_take, same_number, some_send}
+use Rattle.cany_model.specs.Rules.Messages.{IsOfMessage, messages_of}
+use Rattle.cany_model.specs.Rules.Rooms.{sends_by}
 use Rattle.cany_model.specs.Rules.Totcan.{tot_of_key}
-use Rattle.cany_totcan.specs.Deliveries.{AreBelow, AreExcepted, AreMessages, CanDeliver, CanExcept, DeliveriesParts, HasRoomOf, IsNothingDelivered, floor_of, was_delivered}
+use Rattle.cany_model.proofs.Rules.MessageKeys.{length-messages_of}
+use Rattle.cany_totcan.specs.Deliveries.{AreBelow, AreExcepted, AreMessages, CanDeliver, CanExcept, DeliveriesParts, HasRoomOf, IsNothingDelivered, floor_of, is_number_in, most_exceptions, was_delivered}
 
 -- ---- floors
 
@@ -96,22 +98,33 @@ below_excepted origin from to old new upto h below seq other near held =
 
 -- ---- their room
 
-pub room_to_except : (seq origin : ℕ) (scenario : ScenarioParts) (v : DeliveriesParts) → is_among (message_number seq origin) (message_numbers scenario) ≡ true
+-- where a message is by TOTCAN, there is room for all messages
+all_excepted : (scenario : ScenarioParts) → 0 < sends_by scenario service.Tot → most_exceptions scenario ≡ length scenario.sends
+all_excepted scenario some =
+    ap (λ b. if b then 0 else length scenario.sends)
+    (ne_eqb (sends_by scenario service.Tot) 0 (λ none. omega (arith, some, none)))
+
+length-all_numbers : (scenario : ScenarioParts) → length (numbers_of (messages_of scenario.sends)) ≡ length scenario.sends
+length-all_numbers scenario =
+    length-map (messages_of scenario.sends) (λ m. message_number m.seq m.origin) ∙ length-messages_of scenario.sends
+
+pub room_to_except : (seq origin : ℕ) (scenario : ScenarioParts) (v : DeliveriesParts) → 0 < sends_by scenario service.Tot
+    → is_number_in scenario (message_number seq origin) ≡ true
     → HasRoomOf scenario v → IsCounted v.exceptions → HasRoomFor (message_number seq origin) v.exceptions
-room_to_except seq origin scenario v among h counted =
+room_to_except seq origin scenario v some among h counted =
     let can : CanTake (message_number seq origin) v.exceptions = record {
-      numbers = message_numbers scenario;
-      room = omega (arith, length-message_numbers scenario, h.room);
+      numbers = numbers_of (messages_of scenario.sends);
+      room = omega (arith, length-all_numbers scenario, all_excepted scenario some, h.room);
       all = h.messages;
       this = among;
     } in
     room_to_take (message_number seq origin) v.exceptions can counted
 
-pub room_more : (seq origin : ℕ) (scenario : ScenarioParts) (old new : DeliveriesParts) → is_among (message_number seq origin) (message_numbers scenario) ≡ true
+pub room_more : (seq origin : ℕ) (scenario : ScenarioParts) (old new : DeliveriesParts) → is_number_in scenario (message_number seq origin) ≡ true
     → IsOwned (message_number seq origin) old.exceptions new.exceptions → HasRoomOf scenario old → HasRoomOf scenario new
 room_more seq origin scenario old new among owned h = record {
   room = owned.put.room ∙ h.room;
-  messages = λ number there. grind (arith, nat_tests, h.messages number, there, owned.put.there number, ap (λ n. is_among n (message_numbers scenario)), among);
+  messages = λ number there. grind (arith, nat_tests, h.messages number, there, owned.put.there number, ap (is_number_in scenario), among);
 }
 
 -- ---- the floor rises
@@ -140,7 +153,7 @@ delivered_raised key old new in_range above below h seq origin small =
 pub are_earlier : (key : MsgKey) (scenario : ScenarioParts) (from : ℕ) → IsOfMessage scenario service.Tot (tot_of_key key)
     → AreMessages scenario key.origin from key.seq
 are_earlier key scenario from is seq order before =
-    ap (λ origin. is_among (message_number seq origin) (message_numbers scenario)) (sym is.origin)
+    ap (λ origin. is_number_in scenario (message_number seq origin)) (sym is.origin)
     ∙ earlier_among scenario is.message seq is.stands (omega (arith, is.number))
 
 pub room_raised : (key : MsgKey) (scenario : ScenarioParts) (v : DeliveriesParts) → HasRoomOf scenario v → HasRoomOf scenario (raised key v)
@@ -153,6 +166,7 @@ can_except key v small in_range above can = record {
   order = above;
   below = omega (arith, get_or-set_same v.floors key.origin (key.seq + 1) 0 in_range);
   scenario = can.scenario;
+  some = some_send can.scenario service.Tot (tot_of_key key) can.message;
   messages = are_earlier key can.scenario (floor_of v.floors key.origin) can.message;
   room = room_raised key can.scenario v can.room;
 }

@@ -174,7 +174,7 @@ module _ (scenario : ScenarioParts) (i : ℕ) (before : List NoticeKind) (messag
     can_note own = omega (arith, own_named scenario f h.limits.legal named i (own ∙ h.limits.node), h.backlog.own)
 
     pub can_count : CanTake (frame_number f) v.acceptances
-    can_count = can_take_acceptance scenario scenario.params.bound before v.acceptances f service.Tot h.acceptances named
+    can_count = can_take_acceptance scenario scenario.params.bound before v.acceptances f h.acceptances named
 
     -- a data frame
     module _ (slot : ℕ) (is : same_class f.class class.Tot ≡ true) (at : slot ≡ length before) (small : f.node < most_nodes)
@@ -210,14 +210,14 @@ module _ (scenario : ScenarioParts) (i : ℕ) (before : List NoticeKind) (messag
       heard_acceptance within learnt =
           let none = tot_in-got_other f (not_carrying f is) in
           heard_other scenario i (Got f) before messages count v w h none (ap (λ b. b && f.node == i) (not_carrying f is))
-          (acceptances_learnt scenario scenario.params.bound before v.acceptances h.acceptances f w.acceptances is small service.Tot named none
+          (acceptances_learnt scenario scenario.params.bound before v.acceptances h.acceptances f w.acceptances is small named none
           (omega (arith, within, few_slots scenario.params h.limits.legal.in_range)) learnt) state
 
       pub heard_own_acceptance : IsOwned (frame_number f) v.acceptances w.acceptances → HasHeard scenario i (Sent f) before messages count w
       heard_own_acceptance owned =
           let none = tot_in-sent_other f (not_carrying f is) in
           heard_other scenario i (Sent f) before messages count v w h none (ap (λ b. b && f.node == i) (not_carrying f is))
-          (acceptances_owned scenario scenario.params.bound before v.acceptances h.acceptances f w.acceptances is small service.Tot named none owned) state
+          (acceptances_owned scenario scenario.params.bound before v.acceptances h.acceptances f w.acceptances is small named none owned) state
 
   -- any other frame
   module _ (other : same_class f.class class.Tot ≡ false) (none : (same_class f.class class.Accept && has_open v f) ≡ false) where

@@ -1,7 +1,7 @@
 -- Facts about the open messages of a node: which are there once a message was removed or placed, that each stands there once, and that
 -- there is room for the messages of a scenario.
 use Rattle.std.proofs.Common.{◌≡◌, ℕ, zero, suc, ◌+◌, ◌-◌, ◌<◌, ◌≤◌, ◌==◌, ◌&&◌, ◌||◌, inl, inr, Bool, true, false, not, List, [], ◌∷◌, ◌++◌, count_by, filter, length, take, drop, Option, Some, None, refl, ap, sym, ◌∙◌, subst, arith}
-use Rattle.std.specs.Prelude.{IfSome, IfNone, is_some, remove}
+use Rattle.std.specs.Prelude.{cond, IfSome, IfNone, is_some, remove}
 use Rattle.std.specs.List.{AllByRecursion, list_any}
 use Rattle.std.proofs.Math.Seq.{take-append_seam}
 use Rattle.std.proofs.lemmas.Bool.{cases_Bool, eq-eqb, eqb-true, and_from, and_parts, false≢true, false_from_ne_true, or_from, or_parts}
@@ -15,11 +15,13 @@ use Rattle.cany_base.specs.declared.message.MsgKey.{MsgKey}
 use Rattle.cany_base.specs.declared.message.Service.{Service}
 use Rattle.cany_base.specs.Frame.{FrameParts}
 use Rattle.cany_base.specs.Scenario.{ScenarioParts}
-use Rattle.cany_model.specs.Rules.Messages.{message_key, messages_of}
+use Rattle.cany_message.proofs.NumberFacts.{count_messages}
+use Rattle.cany_model.specs.Rules.Messages.{Message, is_service, message_key, messages_of}
 use Rattle.cany_model.specs.Rules.Notices.{NamesMessage}
+use Rattle.cany_model.specs.Rules.Rooms.{sends_by}
 use Rattle.cany_model.specs.Rules.Totcan.{message_in}
 use Rattle.cany_model.proofs.Among.{Among, Among-from_Contains, Among-weaker, Each-append, Each-weaker, count-cons, count-no, count-yes}
-use Rattle.cany_model.proofs.Rules.MessageKeys.{length-messages_of}
+use Rattle.cany_model.proofs.Rules.MessageKeys.{is_service-from}
 use Rattle.cany_model.proofs.Rules.RoomFacts.{pigeonhole}
 use Rattle.cany_totcan.specs.declared.queue.Placed.{Placed}
 use Rattle.cany_totcan.specs.Queue.{AreOnce, IsIndexOf, IsKept, OpenParts, is_at, is_removed, moved, without_key}
@@ -334,40 +336,60 @@ at_most_once key (x ∷ items) once = elim (cases_Bool (is_at key x)) [
   | inr other ↦ omega (arith, count-no (is_at key) x items other, at_most_once key items once.1)
 ]
 
+-- whether a message of the service stands here
+abbrev is_here : Service → Message → Placed → Bool
+is_here by m x = is_service by m.service && is_at (message_key m) x
+
+none_here : (items : List Placed) → count_by (λ x. false) items ≤ 0
+none_here [] = omega arith
+none_here (x ∷ items) = omega (arith, none_here items, count-cons (λ (y : Placed). false) x items)
+
+-- it does so once at most, and one of another service never
+here_once : (by : Service) (m : Message) (items : List Placed) → AreOnce items
+    → count_by (is_here by m) items ≤ cond (is_service by m.service) 1 0
+here_once by m items once = elim (is_service by m.service) as
+    (λ b. count_by (λ x. b && is_at (message_key m) x) items ≤ cond b 1 0) [
+      | true ↦ at_most_once (message_key m) items once
+      | false ↦ none_here items
+    ]
+
 -- one of the messages of the scenario stands here
 named_here : (scenario : ScenarioParts) (by : Service) (x : Placed) → NamesMessage scenario by x.frame
-    → Among (λ m. is_at (message_key m) x ≡ true) (messages_of scenario.sends)
+    → Among (λ m. is_here by m x ≡ true) (messages_of scenario.sends)
 named_here scenario by x named =
-    let here : is_at (message_key named.message) x ≡ true =
+    let at : is_at (message_key named.message) x ≡ true =
     and_from (named.message.seq == x.frame.number) (named.message.origin == x.frame.node)
     (eq-eqb named.message.seq x.frame.number named.number) (eq-eqb named.message.origin x.frame.node named.origin) in
-    Among-weaker (λ m. m ≡ named.message) (λ m. is_at (message_key m) x ≡ true) (λ m same. ap (λ n. is_at (message_key n) x) same ∙ here)
+    let here : is_here by named.message x ≡ true =
+    and_from (is_service by named.message.service) (is_at (message_key named.message) x)
+    (is_service-from by named.message.service (sym named.sent_by)) at in
+    Among-weaker (λ m. m ≡ named.message) (λ m. is_here by m x ≡ true) (λ m same. ap (λ n. is_here by n x) same ∙ here)
     (messages_of scenario.sends) (Among-from_Contains (messages_of scenario.sends) named.message named.stands)
 
--- messages of a scenario, each once, are no more than it has
+-- messages of a scenario by a service, each once, are no more than it has
 pub few_named : (scenario : ScenarioParts) (by : Service) (items : List Placed) → AreNamed scenario by items → AreOnce items
-    → length items ≤ length scenario.sends
+    → length items ≤ sends_by scenario by
 few_named scenario by items named once =
     omega (
       arith,
       all_counted items,
-      all_counted (messages_of scenario.sends),
-      length-messages_of scenario.sends,
-      pigeonhole (λ m x. is_at (message_key m) x) (λ x. true) (λ m. true) items (messages_of scenario.sends)
-          (Each-weaker (λ x. NamesMessage scenario by x.frame) (λ x. true ≡ true → Among (λ m. is_at (message_key m) x ≡ true) (messages_of scenario.sends))
+      count_messages by [] scenario.sends,
+      pigeonhole (is_here by) (λ x. true) (λ m. is_service by m.service) items (messages_of scenario.sends)
+          (Each-weaker (λ x. NamesMessage scenario by x.frame)
+          (λ x. true ≡ true → Among (λ m. is_here by m x ≡ true) (messages_of scenario.sends))
           (λ x h counts. named_here scenario by x h) items named)
-          (λ m. at_most_once (message_key m) items once),
+          (λ m. here_once by m items once),
     )
 
 -- and fewer, where one more of its messages is not among them
 pub fewer_named : (scenario : ScenarioParts) (by : Service) (f : FrameParts) (items : List Placed) → NamesMessage scenario by f
-    → AreNamed scenario by items → AreOnce items → list_any (is_at (message_in f)) items ≡ false → length items < length scenario.sends
+    → AreNamed scenario by items → AreOnce items → list_any (is_at (message_in f)) items ≡ false → length items < sends_by scenario by
 fewer_named scenario by f items this named once none =
     omega (arith, few_named scenario by (record { frame = f; place = 0 } ∷ items) (this, named) (none, once))
 
 -- so a message of the scenario can be placed
 pub room_to_place : (scenario : ScenarioParts) (by : Service) (f : FrameParts) (items : List Placed) → NamesMessage scenario by f
-    → AreNamed scenario by items → AreOnce items → length (without_key (message_in f) items) < length scenario.sends
+    → AreNamed scenario by items → AreOnce items → length (without_key (message_in f) items) < sends_by scenario by
 room_to_place scenario by f items this named once =
     fewer_named scenario by f (without_key (message_in f) items) this (named-without scenario by (message_in f) items named)
     (once-without (message_in f) items once) (any-without_self (message_in f) items)

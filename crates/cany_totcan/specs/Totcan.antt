@@ -16,6 +16,7 @@ use Rattle.cany_model.specs.Bus.Frames.{identity_of, same_identity}
 use Rattle.cany_model.specs.Bus.History.{copies, has_own}
 use Rattle.cany_model.specs.Rules.Messages.{Message, accept_of_key, data_id, is_from, messages_of}
 use Rattle.cany_model.specs.Rules.Notices.{IsNextNotice, NamesMessage}
+use Rattle.cany_model.specs.Rules.Rooms.{sends_by}
 use Rattle.cany_model.specs.Rules.Totcan.{after_place, delivered, holds, is_accepted, is_among as is_one_of, is_recent, message_in, tot_of_key}
 use Rattle.cany_totcan.specs.declared.backlog.Given.{Given}
 use Rattle.cany_totcan.specs.declared.queue.Placed.{Placed}
@@ -38,26 +39,26 @@ pub record TotcanParts : Type 0 where
 abbrev pub key_of : (seq origin : ℕ) → MsgKey
 key_of seq origin = record { origin = origin; seq = seq }
 
--- the value is that of a node of the scenario, with room for each of its messages
+-- the value is that of a node of the scenario, with room for each of its messages by TOTCAN
 pub record HasLimitsOf (scenario : ScenarioParts) (i : ℕ) (v : TotcanParts) : Type 0 where
   pub legal : IsLegalScenario scenario
   pub node : v.node ≡ i
   pub format : v.format ≡ scenario.params.format
   pub bound : v.bound ≡ scenario.params.bound
   pub spacing : v.spacing ≡ scenario.params.bound + scenario.params.lag
-  pub room : v.queue.room ≡ length scenario.sends
+  pub room : v.queue.room ≡ sends_by scenario service.Tot
   pub deliveries : HasRoomOf scenario v.deliveries
 
 -- The table has, of each message whose place is one of so many newest notices, the acceptances that were read after the place. All
--- that is there is of messages of the scenario, and there is room for each of them.
+-- that is there is of messages of the scenario by TOTCAN, and there is room for each of them.
 pub record AreAcceptances (scenario : ScenarioParts) (newest : ℕ) (past : List NoticeKind) (table : EagerParts) : Type 0 where
   pub omit : table.omit ≡ scenario.params.omit
-  pub room : table.room ≡ length scenario.sends
+  pub room : table.room ≡ sends_by scenario service.Tot
   pub copies : (seq origin : ℕ) → origin < most_nodes → is_recent newest (key_of seq origin) past ≡ true →
       copies_of table (message_number seq origin) ≡ copies (accept_of_key (key_of seq origin)) (after_place (key_of seq origin) past)
   pub owned : (seq origin : ℕ) → origin < most_nodes → is_recent newest (key_of seq origin) past ≡ true →
       is_owned table (message_number seq origin) ≡ has_own (accept_of_key (key_of seq origin)) (after_place (key_of seq origin) past)
-  pub messages : (number : ℕ) → is_there table number ≡ true → is_among number (message_numbers scenario) ≡ true
+  pub messages : (number : ℕ) → is_there table number ≡ true → is_among number (message_numbers scenario service.Tot) ≡ true
 
 -- The open messages are those whose places are among so many newest notices, and are messages of the scenario.
 pub record AreOpen (scenario : ScenarioParts) (newest : ℕ) (past : List NoticeKind) (items : List Placed) : Type 0 where

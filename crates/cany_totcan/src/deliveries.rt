@@ -4,17 +4,19 @@ ghost use Rattle.cany_base.specs.Limits.{most_nodes};
 ghost use Rattle.cany_base.specs.Scenario.{ScenarioParts};
 ghost use Rattle.cany_model.specs.Rules.Messages.{IsOfMessage};
 ghost use Rattle.cany_model.specs.Rules.Totcan.{tot_of_key};
-ghost use Rattle.cany_totcan.specs.Deliveries.{AreExcepted, AreMessages, CanDeliver, CanExcept, HasRoomOf, IsNothingDelivered, was_delivered};
+ghost use Rattle.cany_totcan.specs.Deliveries.{AreExcepted, AreMessages, CanDeliver, CanExcept, HasRoomOf, IsNothingDelivered, most_exceptions, was_delivered};
 
 use crate::frames::Data;
-use cany_base::{Memory, MsgKey, NodeId, Payload};
+use cany_base::{Memory, MsgKey, NodeId, Payload, Scenario, Service};
 use cany_diffuse::Eager;
+use cany_message::sends_by;
 use std::alloc::Global;
 use std::marker::Model;
 
 /// Which messages a node has delivered: of each origin those below a floor, but for the exceptions.
 ///
-/// The messages of an origin are mostly delivered in the order of their numbers, so that exceptions are few. There is room for all.
+/// The messages of an origin are mostly delivered in the order of their numbers, so that exceptions are few. There is room for
+/// all that there may be.
 #[derive(Drop)]
 pub(crate) struct Deliveries {
     /// For each origin the number above the greatest one that was delivered.
@@ -83,6 +85,17 @@ impl Deliveries {
             self.exceptions.own(data_of(MsgKey { origin, seq }));
         }
     }
+}
+
+/// How many exceptions there may be in a run of the scenario: the messages of an origin are numbered together, whatever their
+/// service, so each of them may be passed over, but none is unless a message is by TOTCAN.
+pub(crate) fn most_exceptions(scenario: &Scenario) -> usize
+    ensures { result ≡ most_exceptions scenario.now }
+{
+    if sends_by(scenario, Service::Tot) == 0 {
+        return 0;
+    }
+    scenario.sends().len()
 }
 
 /// The message of a key, as it is kept among the exceptions: its payload is not looked at.

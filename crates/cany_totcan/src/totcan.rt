@@ -24,7 +24,7 @@ ghost use Rattle.cany_totcan.specs.Totcan.{CanRead, HasHeard, IsOwnTot, IsTotcan
 ghost use Rattle.cany_totcan.specs.TotcanSteps.{AreAdded, AreKnown, HaveGone, closing_accepted, closing_actions, closing_frame, due, first_of, fresh_of, has_open, if_accepted, is_accepted_by, noted_if, origin_actions, relay_actions, tot_actions, without_closing};
 
 use crate::backlog::Backlog;
-use crate::deliveries::Deliveries;
+use crate::deliveries::{Deliveries, most_exceptions};
 use crate::frames::{Acceptance, Data, acceptance_of, is_acceptance, is_data};
 use crate::queue::OpenMessages;
 use cany_base::{
@@ -32,7 +32,7 @@ use cany_base::{
     Service, Slot,
 };
 use cany_diffuse::{Diffused, Eager, Learnt};
-use cany_message::{deliver, withdraw};
+use cany_message::{deliver, sends_by, withdraw};
 use std::alloc::Global;
 use std::marker::Model;
 
@@ -78,16 +78,17 @@ impl Model for Totcan {
 }
 
 impl Totcan {
-    /// The TOTCAN of a node that has read nothing, or only notices of idle slots, with room for all messages of the scenario.
+    /// The TOTCAN of a node that has read nothing, or only notices of idle slots, with room for all messages of the scenario
+    /// that are by TOTCAN.
     pub fn build(alloc: Global, node: NodeId, scenario: &Scenario) -> Result<Totcan, Memory>
         requires { node < scenario.now.params.nodes }
         ensures { IfOk result (λ totcan. (n : ℕ) → IsTotcanOf scenario.now node (replicate n Idle) [] 0 totcan) }
     {
         let params = *scenario.params();
-        let room = scenario.sends().len();
+        let room = sends_by(scenario, Service::Tot);
         let queue = OpenMessages::build(alloc, room)?;
         let acceptances = Eager::build(alloc, params.omit, room)?;
-        let deliveries = Deliveries::build(alloc, room)?;
+        let deliveries = Deliveries::build(alloc, most_exceptions(scenario))?;
         let backlog = Backlog::build(alloc, node, scenario)?;
         Ok(Totcan {
             node,

@@ -1,5 +1,7 @@
 use Rattle.std.proofs.Common.{◌∷◌, sym, ◌∙◌, arith}
+use Rattle.cany_base.specs.declared.message.Service.TheVariants as service
 use Rattle.cany_base.specs.declared.notice.Notice.{Notice}
+use Rattle.cany_message.proofs.NumberFacts.{few_sends}
 use Rattle.cany_model.specs.Rules.Notices.{IsNextNotice, IsReadable}
 use Rattle.cany_totcan.proofs.HeardFacts.{at_own_node, can_read}
 use Rattle.cany_totcan.proofs.TwoSendsFacts.{each_index}
@@ -35,6 +37,6 @@ loop-kind-preserved c =
         omega (arith, s.4),
       );
       slot = omega (arith, c.loop-kind.invariant.slot);
-      few = omega (arith, c.loop-kind.invariant.few, c.on.ensures.few, s.3.limits.room, c.requires.few);
+      few = omega (arith, c.loop-kind.invariant.few, c.on.ensures.few, s.3.limits.room, few_sends c.args.scenario.now service.Tot, c.requires.few);
       room = c.on.ensures.room ∙ c.loop-kind.invariant.room;
     }

@@ -1,5 +1,6 @@
-use Rattle.std.proofs.Common.{length, refl, ap, ◌∙◌}
+use Rattle.std.proofs.Common.{refl, ap, ◌∙◌}
 use Rattle.cany_base.specs.declared.frame.Class.TheVariants as class
+use Rattle.cany_base.specs.declared.message.Service.TheVariants as service
 use Rattle.cany_base.specs.Params.{Parameters}
 use Rattle.cany_message.proofs.TableFacts.{table_fresh}
 use Rattle.cany_edcan.specs.Edcan.{of_all}
@@ -13,6 +14,6 @@ returns c = λ n.
       node = refl;
       format = ap (λ (p : Parameters). p.format) params;
       copies =
-          table_fresh c.args.scenario.now class.Ed of_all n _ _ c.in_ok-copies.copies c.in_ok-copies.ensures
-          (ap (λ (p : Parameters). p.omit) params) (ap length c.sends.ensures);
+          table_fresh c.args.scenario.now service.Ed class.Ed of_all n _ _ c.in_ok-copies.copies c.in_ok-copies.ensures
+          (ap (λ (p : Parameters). p.omit) params) c.sends_by-room.ensures;
     }

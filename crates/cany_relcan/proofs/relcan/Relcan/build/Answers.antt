@@ -1,5 +1,5 @@
 use Rattle.std.proofs.Common.{ap, ◌+◌, ◌∙◌, refl, sym, arith}
-use Rattle.std.specs.Prelude.{length, min}
+use Rattle.std.specs.Prelude.{min}
 use Rattle.cany_base.specs.Params.{Parameters}
 use Rattle.cany_relcan.proofs.MarkFacts.{marks_fresh}
 use Rattle.cany_relcan.proofs.TablesFacts.{tables_fresh}
@@ -9,7 +9,7 @@ use Rattle.cany_relcan.proofs.relcan.Relcan.build.Goals as goal
 pub returns : goal.returns
 returns c = λ n.
     let params = c.params.view_is ∙ c.params-params.ensures.params in
-    let room = ap length c.sends-room.ensures in
+    let room = c.sends_by-room.ensures in
     record {
       limits = record {
         legal = c.params-params.ensures.legal;

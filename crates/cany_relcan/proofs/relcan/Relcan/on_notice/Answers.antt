@@ -19,7 +19,7 @@ use Rattle.cany_relcan.proofs.relcan.Relcan.on_notice.Goals as goal
 pub on_copy-requires-clause-takes : goal.on_copy-requires-clause-takes
 on_copy-requires-clause-takes c =
     let reads = c.requires.reads in
-    can_take reads.scenario class.Rel (of_own c.args.self.now.node) service.Rel reads.past c.args.self.now.copies c.in-Got.frame reads.stands.tables.data_frames
+    can_take reads.scenario service.Rel class.Rel (of_own c.args.self.now.node) reads.past c.args.self.now.copies c.in-Got.frame reads.stands.tables.data_frames
     (got_names reads.scenario reads.past c.args.notice.now c.in-Got.frame reads.next service.Rel c.in-Got.is (same_class-true c.in-Got.frame.class class.Rel (sym c.is_data.ensures ∙ c.if-is_data.true)))
 
 pub on_copy-requires-clause-small : goal.on_copy-requires-clause-small
@@ -42,14 +42,14 @@ on_copy-requires-clause-timers c =
 pub on_confirmation-requires : goal.on_confirmation-requires
 on_confirmation-requires c =
     let reads = c.requires.reads in
-    can_take reads.scenario class.Confirm of_none service.Rel reads.past c.args.self.now.confirms c.in-Got.frame reads.stands.tables.confirmations
+    can_take reads.scenario service.Rel class.Confirm of_none reads.past c.args.self.now.confirms c.in-Got.frame reads.stands.tables.confirmations
     (confirm_names reads.scenario reads.past c.args.notice.now c.in-Got.frame reads.next c.in-Got.is (same_class-true c.in-Got.frame.class class.Confirm (sym c.is_confirmation.ensures ∙ c.if-is_confirmation.true)))
 
 pub on_own-requires-clause-takes : goal.on_own-requires-clause-takes
 on_own-requires-clause-takes c =
     let reads = c.requires.reads in
     let own = and_parts (same_class c.in-Sent.frame.class class.Rel) (c.in-Sent.frame.node == c.args.self.now.node) (sym c.is_own.ensures ∙ c.if-is_own.true) in
-    can_take reads.scenario class.Rel (of_own c.args.self.now.node) service.Rel reads.past c.args.self.now.copies c.in-Sent.frame reads.stands.tables.data_frames
+    can_take reads.scenario service.Rel class.Rel (of_own c.args.self.now.node) reads.past c.args.self.now.copies c.in-Sent.frame reads.stands.tables.data_frames
     (sent_names reads.scenario reads.past c.args.notice.now c.in-Sent.frame reads.next service.Rel c.in-Sent.is (same_class-true c.in-Sent.frame.class class.Rel own.0))
 
 pub returns-then-is_data-clause-stands : goal.returns-then-is_data-clause-stands

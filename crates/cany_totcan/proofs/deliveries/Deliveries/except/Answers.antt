@@ -9,7 +9,7 @@ pub own-requires-clause-room : goal.own-requires-clause-room
 own-requires-clause-room c =
     let now : DeliveriesParts = record { floors = c.loop-seq.self-inside.floors; exceptions = c.loop-seq.self-inside.exceptions } in
     rw c.data_of.ensures
-    (room_to_except c.loop-seq.seq c.args.origin c.requires.scenario now (c.requires.messages c.loop-seq.seq c.loop-seq.auto.seq c.loop-seq-test.true)
+    (room_to_except c.loop-seq.seq c.args.origin c.requires.scenario now c.requires.some (c.requires.messages c.loop-seq.seq c.loop-seq.auto.seq c.loop-seq-test.true)
     (c.loop-seq.invariant.room c.requires.scenario c.requires.messages c.requires.room) c.spare-spare.ensures.counted)
 
 pub loop-seq-preserved : goal.loop-seq-preserved

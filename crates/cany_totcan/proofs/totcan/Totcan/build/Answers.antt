@@ -1,4 +1,4 @@
-use Rattle.std.proofs.Common.{ap, ◌∙◌, refl, replicate, subst, sym, arith, length, take, []}
+use Rattle.std.proofs.Common.{ap, ◌∙◌, refl, replicate, subst, sym, arith, take, []}
 use Rattle.std.specs.Prelude.{slice_get}
 use Rattle.cany_base.specs.declared.notice.NoticeKind.TheVariants.{Idle}
 use Rattle.cany_base.specs.Params.{Parameters}
@@ -16,7 +16,7 @@ returns c = λ n.
     let scenario = c.args.scenario.now in
     let p = scenario.params in
     let params = c.params.view_is ∙ c.params-params.ensures.params in
-    let room = ap length c.sends-room.ensures in
+    let room = c.sends_by-room.ensures in
     record {
       limits = record {
         legal = c.params-params.ensures.legal;
@@ -25,7 +25,7 @@ returns c = λ n.
         bound = ap (λ (q : Parameters). q.bound) params;
         spacing = omega (arith, ap (λ (q : Parameters). q.bound) params, ap (λ (q : Parameters). q.lag) params, c.from.ensures);
         room = ap (λ (q : OpenParts). q.room) c.in_ok-queue.ensures ∙ room;
-        deliveries = room_fresh scenario _ c.in_ok-deliveries.deliveries c.in_ok-deliveries.ensures room;
+        deliveries = room_fresh scenario _ c.in_ok-deliveries.deliveries c.in_ok-deliveries.ensures c.most_exceptions.ensures;
       };
       queue =
           subst (λ (q : OpenParts). AreOpen scenario p.bound (replicate n Idle) q.items) (sym c.in_ok-queue.ensures)
