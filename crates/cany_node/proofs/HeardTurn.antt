@@ -1,5 +1,5 @@
 -- The first part of a turn: the protocols hear the notice, one after another.
-use Rattle.std.proofs.Common.{◌≡◌, ℕ, ◌+◌, ◌*◌, ◌≤◌, List, [], ◌∷◌, ◌++◌, count_by, filter, length, map, refl, ap, sym, subst, ◌∙◌, arith, append_assoc}
+use Rattle.std.proofs.Common.{◌≡◌, ℕ, List, ◌∷◌, ◌++◌, count_by, length, refl, ap, sym, subst, ◌∙◌, arith, append_assoc}
 use Rattle.std.proofs.lemmas.List.{map-append}
 use Rattle.cany_base.specs.declared.actions.Action.{Action}
 use Rattle.cany_base.specs.declared.notice.Notice.{Notice}
@@ -16,7 +16,7 @@ use Rattle.cany_edcan.specs.Edcan.{EdcanParts, IsEdcanOf}
 use Rattle.cany_relcan.specs.Relcan.{IsRelcanOf, RelcanParts}
 use Rattle.cany_totcan.specs.Totcan.{IsTotcanOf, TotcanParts}
 use Rattle.cany_node.specs.Node.{IsNodeOf, NodeParts}
-use Rattle.cany_node.specs.Site.{IsNextOf, IsSiteOf, SiteParts, site_effects}
+use Rattle.cany_node.specs.Site.{IsSiteOf, SiteParts, site_effects}
 use Rattle.cany_node.specs.Turning.{HasHeard, heard_effects}
 
 -- what is listed after this

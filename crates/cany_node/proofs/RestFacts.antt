@@ -1,12 +1,14 @@
 -- A node that rests in many idle slots, one after another, stands for all of them, and nothing is done in any.
 use Rattle.std.proofs.Common.{◌≡◌, ℕ, zero, suc, ◌+◌, ◌≤◌, ◌<◌, List, [], ◌∷◌, ◌++◌, length, replicate, ap, sym, ◌∙◌, subst, arith}
 use Rattle.std.proofs.lemmas.List.{length-append, length-replicate}
+use Rattle.cany_base.specs.declared.notice.Notice.{Notice}
 use Rattle.cany_base.specs.declared.notice.NoticeKind.{NoticeKind}
 use Rattle.cany_base.specs.declared.notice.NoticeKind.TheVariants.{Idle}
 use Rattle.cany_base.specs.Scenario.{ScenarioParts}
 use Rattle.cany_model.specs.Rules.Turn.{turn_effects}
 use Rattle.cany_node.specs.Node.{NodeParts, IsNodeOf}
 use Rattle.cany_node.specs.Resting.{Rests, RestsUntil}
+use Rattle.cany_node.specs.Site.{IsNextOf}
 
 -- what was heard, and then as many idle slots
 abbrev pub rested_past : ℕ → List NoticeKind → List NoticeKind
@@ -52,3 +54,20 @@ pub rested_effects : (scenario : ScenarioParts) (past : List NoticeKind) (v : No
 rested_effects scenario past v wake slots rests is early within n less =
     let before = rested scenario past v wake n rests is (omega (arith, early, less)) (omega (arith, within, less)) in
     (rests_next scenario past v wake n rests is (omega (arith, early, less)) (omega (arith, within, less)) before).effects
+
+-- ---- the turn of an idle slot before it wakes
+
+module _ (scenario : ScenarioParts) (past : List NoticeKind) (notice : Notice) (v : NodeParts) (wake : ℕ) (rests : RestsUntil wake v)
+    (early : notice.slot < wake) (idle : notice.kind ≡ Idle) (is : IsNodeOf scenario past v) (next : IsNextOf scenario v.node past notice) where
+  in_turn : Rests scenario past v
+  in_turn =
+      rests scenario past (subst (λ n. IsNodeOf scenario past (record v { read = n })) is.read is)
+      (omega (arith, is.read)) (omega (arith, early, next.next.slot)) (omega (arith, next.next.slot, next.next.within))
+
+  pub idle_turn-effects : turn_effects scenario v.node (notice.kind ∷ past) ≡ []
+  idle_turn-effects = ap (λ k. turn_effects scenario v.node (k ∷ past)) idle ∙ in_turn.effects
+
+  pub idle_turn-stands : (w : NodeParts) → w ≡ record v { read = notice.slot + 1 } → IsNodeOf scenario (notice.kind ∷ past) w
+  idle_turn-stands w state =
+      subst (λ k. IsNodeOf scenario (k ∷ past) w) (sym idle)
+      (subst (IsNodeOf scenario (Idle ∷ past)) (sym (state ∙ ap (λ n. record v { read = n + 1 }) next.next.slot)) in_turn.stands)

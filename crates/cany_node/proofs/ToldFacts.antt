@@ -1,10 +1,9 @@
 -- What a turn asks for tells the incarnation, so that telling it to what the protocols list gives just the turn.
-use Rattle.std.proofs.Common.{◌≡◌, ℕ, ◌+◌, ◌≤◌, Bool, true, false, if◌then◌else◌, List, [], ◌∷◌, ◌++◌, length, map, Option, Some, None, count_by, refl, ap, sym, ◌∙◌, subst, arith, append-nil, append_assoc}
+use Rattle.std.proofs.Common.{◌≡◌, ℕ, Bool, true, false, if◌then◌else◌, List, [], ◌∷◌, ◌++◌, length, Option, Some, None, count_by, refl, ap, sym, ◌∙◌, subst, arith, append-nil, append_assoc}
 use Rattle.std.specs.List.{AllByRecursion, flat_map}
 use Rattle.std.proofs.lemmas.List.{map-append}
 use Rattle.cany_base.specs.declared.frame.Class.{Class}
 use Rattle.cany_base.specs.declared.frame.Class.TheVariants as class
-use Rattle.cany_base.specs.declared.frame.Format.{Format}
 use Rattle.cany_base.specs.declared.message.NodeAsk.{NodeAsk}
 use Rattle.cany_base.specs.declared.message.Service.{Service}
 use Rattle.cany_base.specs.declared.message.Service.TheVariants as service
@@ -18,14 +17,14 @@ use Rattle.cany_model.specs.Rules.Edcan.{edcan, edcan_effects}
 use Rattle.cany_model.specs.Rules.Effect.{Effect, Ask, Withdraw, Enter, entered}
 use Rattle.cany_model.specs.Rules.Life.{els_frame, failure_effects, failure_signs, is_due, life_effects, life_sign, signs_sent}
 use Rattle.cany_model.specs.Rules.Membership.{ask_effects, asks_in, exchange_effects, install_effects, views}
-use Rattle.cany_model.specs.Rules.Messages.{Message, data_frame}
+use Rattle.cany_model.specs.Rules.Messages.{data_frame}
 use Rattle.cany_model.specs.Rules.Protocol.{Protocol}
 use Rattle.cany_model.specs.Rules.Relcan.{relcan, relcan_effects}
 use Rattle.cany_model.specs.Rules.Sends.{scripted_sends, send_effects}
 use Rattle.cany_model.specs.Rules.Site.{start_in, station_of}
 use Rattle.cany_model.specs.Rules.Totcan.{totcan, totcan_effects}
 use Rattle.cany_model.specs.Rules.Turn.{turn_effects}
-use Rattle.cany_model.specs.Rules.Vectors.{brought, cycle_of, end_effects, ended, exchange_at, is_covered, is_new, is_start, met, met_with, rha_frame, rha_of, start_effects, vector_effects, vector_effects_of}
+use Rattle.cany_model.specs.Rules.Vectors.{brought, cycle_of, end_effects, ended, exchange_at, is_covered, is_new, is_start, met, met_with, rha_frame, rha_of, start_effects, vector_effects}
 use Rattle.cany_model.specs.Rules.Views.{ask_frame, join_asked, leave_asked}
 use Rattle.cany_model.proofs.Rules.ProtocolFacts.{IsFounded, IsLawful, MayAsk, accepts, confirms, exchanges, is_relayed, lives, originates, relays, requests, signals}
 use Rattle.cany_model.proofs.Rules.BacklogFacts.{backlog_is_lawful}

@@ -20,7 +20,7 @@ ghost use Rattle.cany_node.specs.Turning.{CanHearNext, CanScript, HasHeard, HasS
 use crate::agenda::Agenda;
 use crate::apply::apply_all;
 use crate::asks::{AskKind, AskPlan, ask_due};
-use crate::notices::{error_as_idle, is_early};
+use crate::notices::{error_as_idle, is_early, is_idle};
 use crate::protocols::{Protocols, build_protocols};
 use crate::reply::TurnReply;
 use crate::rooms::log_room;
@@ -207,8 +207,27 @@ impl Node {
         }
     }
 
-    /// Does what the rules say of a notice, as it is heard.
+    /// Does what the rules say of a notice, as it is heard. In an idle slot before `wake` that is nothing.
     fn act(&mut self, notice: &Notice, ctl: &mut Controller, out: &mut Actions)
+        requires { CanAct self.old notice.now ctl.old out.old }
+        ensures controller { (scenario : ScenarioParts) (past : List NoticeKind) → IsNodeOf scenario past self.old → IsNextOf scenario self.old.node past notice.now →
+            ctl.new ≡ record ctl.old { waiting = waiting_after (turn_effects scenario self.old.node (notice.now.kind ∷ past)) ctl.old.waiting } }
+        ensures stands { (scenario : ScenarioParts) (past : List NoticeKind) → IsNodeOf scenario past self.old → IsNextOf scenario self.old.node past notice.now →
+            IsNodeOf scenario (notice.now.kind ∷ past) self.new }
+        ensures node { self.new.node ≡ self.old.node }
+        ensures inc { self.new.inc ≡ self.old.inc }
+        ensures cycle { self.new.cycle ≡ self.old.cycle }
+        ensures out { out.new ≡ out.old }
+    {
+        if is_idle(&notice.kind) && notice.slot < self.wake() {
+            self.read = notice.slot + 1;
+        } else {
+            self.follow_rules(notice, ctl, out);
+        }
+    }
+
+    /// The same, rule by rule.
+    fn follow_rules(&mut self, notice: &Notice, ctl: &mut Controller, out: &mut Actions)
         requires { CanAct self.old notice.now ctl.old out.old }
         ensures controller { (scenario : ScenarioParts) (past : List NoticeKind) → IsNodeOf scenario past self.old → IsNextOf scenario self.old.node past notice.now →
             ctl.new ≡ record ctl.old { waiting = waiting_after (turn_effects scenario self.old.node (notice.now.kind ∷ past)) ctl.old.waiting } }

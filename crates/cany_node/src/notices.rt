@@ -1,6 +1,7 @@
 //! What an incarnation hears of a notice.
 
-ghost use Rattle.std.specs.Prelude.{◌≡◌};
+ghost use Rattle.std.specs.Prelude.{◌≡◌, ◌↔◌, true};
+ghost use Rattle.cany_base.specs.declared.notice.NoticeKind.TheVariants.{Idle};
 ghost use Rattle.cany_model.specs.Rules.Notices.{error_as_idle, is_early, is_early_frame};
 
 use cany_base::{Class, Frame, NoticeKind};
@@ -31,4 +32,11 @@ pub(crate) fn error_as_idle(kind: NoticeKind) -> NoticeKind
         NoticeKind::Bad => NoticeKind::Idle,
         NoticeKind::Idle | NoticeKind::Got(_) | NoticeKind::Sent(_) => kind,
     }
+}
+
+/// Whether nothing was heard in the slot.
+pub(crate) fn is_idle(kind: &NoticeKind) -> bool
+    ensures { (result ≡ true) ↔ (kind.now ≡ Idle) }
+{
+    matches!(kind, NoticeKind::Idle)
 }

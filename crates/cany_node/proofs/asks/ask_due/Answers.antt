@@ -1,6 +1,6 @@
-use Rattle.std.proofs.Common.{◌∙◌, arith, length, refl, ap, sym, subst}
-use Rattle.cany_node.specs.Asks.{IsRisingFrom, asked_as, asks_of}
-use Rattle.cany_node.proofs.AskFacts.{asking_more, asking_start, asks_made, asks_still}
+use Rattle.std.proofs.Common.{◌∙◌, arith, length, refl, ap}
+use Rattle.cany_node.specs.Asks.{asked_as, asks_of}
+use Rattle.cany_node.proofs.AskFacts.{asking_more, asking_start, asks_made}
 use Rattle.cany_node.proofs.asks.ask_due.Goals as goal
 
 pub loop-kind-init : goal.loop-kind-init

@@ -1,9 +1,8 @@
-use Rattle.std.proofs.Common.{◌≡◌, ◌++◌, if◌then◌else◌, List, [], ◌∷◌, ap, sym, subst, ◌∙◌, append-nil, refl}
-use Rattle.cany_base.specs.declared.message.Service.{Service}
-use Rattle.cany_base.specs.declared.message.Service.TheVariants.{Ed, Rel, Tot}
+use Rattle.std.proofs.Common.{◌++◌, [], ◌∷◌, ap, sym, subst, refl}
+use Rattle.cany_base.specs.declared.message.Service.TheVariants.{Ed, Rel}
 use Rattle.cany_model.specs.Rules.Messages.{Message}
 use Rattle.cany_totcan.specs.Totcan.{IsTotcanOf}
-use Rattle.cany_node.specs.Agenda.{joined_by, message_from}
+use Rattle.cany_node.specs.Agenda.{message_from}
 use Rattle.cany_node.proofs.GiveFacts.{joins_none, joins_one}
 use Rattle.cany_node.proofs.sending.send.Goals as goal
 

@@ -1,4 +1,3 @@
-use Rattle.std.proofs.Common.{sym, ◌∙◌}
 use Rattle.cany_node.proofs.AskFacts.{asks_passed, asks_passing}
 use Rattle.cany_node.proofs.asks.AskPlan.pass_before.Goals as goal
 

@@ -1,110 +1,16 @@
-use Rattle.std.proofs.Common.{ap, sym, subst, ◌∙◌, ◌++◌, ◌∷◌, ◌≡◌, length, arith}
-use Rattle.cany_base.specs.Scenario.{ScenarioParts}
-use Rattle.cany_model.specs.Rules.Actions.{actions_of}
+use Rattle.std.proofs.Common.{◌+◌, refl, ap, sym, arith}
 use Rattle.cany_model.specs.Rules.Effect.{waiting_after}
-use Rattle.cany_model.specs.Rules.Turn.{turn_effects}
-use Rattle.cany_node.specs.Apply.{CanApply}
-use Rattle.cany_node.specs.Node.{IsNodeOf, NodeParts}
-use Rattle.cany_node.specs.Turning.{HasScripted, script_effects, script_room}
-use Rattle.cany_node.proofs.ActSteps.{IsSame, can_apply, can_script, done, joined, listed, one_more_read, same_after, stands_after}
-use Rattle.cany_node.proofs.Filled.{actions_within}
+use Rattle.cany_node.specs.Node.{NodeParts}
+use Rattle.cany_node.proofs.RestFacts.{idle_turn-effects, idle_turn-stands}
 use Rattle.cany_node.proofs.node.Node.act.Goals as goal
 
-pub hear-requires-clause-room : goal.hear-requires-clause-room
-hear-requires-clause-room c =
-    omega (arith, actions_within c.requires.scenario c.requires.past c.args.self.now c.requires.stands, ap length c.requires.free, c.requires.actions)
+pub returns-then-notice-wake-clause-controller : goal.returns-then-notice-wake-clause-controller
+unfolding waiting_after
+returns-then-notice-wake-clause-controller c = λ scenario past stands next.
+    let none = idle_turn-effects scenario past c.args.notice.now c.args.self.now c.wake.result c.wake.ensures.rests (omega arith) (c.if-is_idle.ensures.0 refl) stands next in
+    sym (ap (λ effects. record c.args.ctl.now { waiting = waiting_after effects c.args.ctl.now.waiting }) none)
 
-pub script-requires-clause-scripts : goal.script-requires-clause-scripts
-script-requires-clause-scripts c =
-    can_script c.requires.scenario c.requires.past c.args.notice.now c.args.self.now.node c.hear.new.self c.requires.next
-    (c.hear.ensures.stands c.requires.scenario c.requires.past c.requires.stands c.requires.next)
-
-pub script-requires-clause-room : goal.script-requires-clause-room
-script-requires-clause-room c =
-    omega (
-      arith,
-      actions_within c.requires.scenario c.requires.past c.args.self.now c.requires.stands,
-      ap length c.requires.free,
-      c.requires.actions,
-      c.hear.ensures.few,
-      c.hear.ensures.room,
-      ap script_room c.hear.ensures.state,
-    )
-
-pub next-requires : goal.next-requires
-next-requires c = record {
-  room = omega (
-    arith,
-    actions_within c.requires.scenario c.requires.past c.args.self.now c.requires.stands,
-    ap length c.requires.free,
-    c.requires.actions,
-    c.hear.ensures.few,
-    c.hear.ensures.room,
-    ap script_room c.hear.ensures.state,
-    c.script.ensures.few,
-    c.script.ensures.room,
-  );
-}
-
-pub apply_all-requires : goal.apply_all-requires
-apply_all-requires c =
-    let scenario = c.requires.scenario in
-    let past = c.requires.past in
-    let v = c.args.self.now in
-    let notice = c.args.notice.now in
-    let heard = c.hear.ensures.stands scenario past c.requires.stands c.requires.next in
-    let done_script = c.script.ensures.stands scenario past notice.kind heard c.requires.next.next.slot in
-    let same = subst (IsSame v) (sym c.self.view_is) (same_after v c.hear.new.self c.script.new.self c.hear.ensures.state c.script.ensures.state) in
-    let scripted = subst (HasScripted scenario past notice.kind) (sym c.self.view_is) done_script in
-    let sent =
-    c.script.ensures.actions scenario past notice.kind heard c.requires.next.next.slot
-    ∙ ap (λ (x : NodeParts). c.hear.new.out.items ++ actions_of scenario.params.format (script_effects scenario x.node (notice.kind ∷ past))) c.hear.ensures.state in
-    can_apply scenario past notice v _ c.requires.stands c.requires.next same scripted c.next.new.out.items c.args.ctl.now
-    (listed scenario past notice v _ c.requires.stands c.requires.next same scripted c.args.out.now.items c.hear.new.out.items c.script.new.out.items c.next.new.out.items
-    c.requires.free (c.hear.ensures.actions scenario past c.requires.stands c.requires.next) sent
-    (c.next.ensures.actions scenario (notice.kind ∷ past) _ _ (joined scenario past notice v _ c.requires.stands c.requires.next same scripted)
-    (one_more_read scenario past notice v _ c.requires.stands c.requires.next same scripted)))
-    c.self.invariant c.requires.format c.requires.room c.requires.askable c.requires.told c.requires.signs
-
-pub returns-clause-controller : goal.returns-clause-controller
-returns-clause-controller c = λ scenario past stands next.
-    let v = c.args.self.now in
-    let notice = c.args.notice.now in
-    let format = c.requires.format ∙ sym c.requires.stands.edcan.format ∙ stands.edcan.format in
-    let heard = c.hear.ensures.stands scenario past stands next in
-    let done_script = c.script.ensures.stands scenario past notice.kind heard next.next.slot in
-    let same = subst (IsSame v) (sym c.self.view_is) (same_after v c.hear.new.self c.script.new.self c.hear.ensures.state c.script.ensures.state) in
-    let scripted = subst (HasScripted scenario past notice.kind) (sym c.self.view_is) done_script in
-    let sent =
-    c.script.ensures.actions scenario past notice.kind heard next.next.slot
-    ∙ ap (λ (x : NodeParts). c.hear.new.out.items ++ actions_of scenario.params.format (script_effects scenario x.node (notice.kind ∷ past))) c.hear.ensures.state in
-    let all =
-    done scenario past notice v _ stands next same scripted c.next.new.out.items c.args.ctl.now c.apply_all.new.ctl c.self.inside.log c.apply_all.new.log c.apply_all.ensures format
-    (listed scenario past notice v _ stands next same scripted c.args.out.now.items c.hear.new.out.items c.script.new.out.items c.next.new.out.items
-    c.requires.free (c.hear.ensures.actions scenario past stands next) sent
-    (c.next.ensures.actions scenario (notice.kind ∷ past) _ _ (joined scenario past notice v _ stands next same scripted)
-    (one_more_read scenario past notice v _ stands next same scripted)))
-    c.requires.told in
-    all.controller
-
-pub returns-clause-stands : goal.returns-clause-stands
-returns-clause-stands c = λ scenario past stands next.
-    let v = c.args.self.now in
-    let notice = c.args.notice.now in
-    let format = c.requires.format ∙ sym c.requires.stands.edcan.format ∙ stands.edcan.format in
-    let heard = c.hear.ensures.stands scenario past stands next in
-    let done_script = c.script.ensures.stands scenario past notice.kind heard next.next.slot in
-    let same = subst (IsSame v) (sym c.self.view_is) (same_after v c.hear.new.self c.script.new.self c.hear.ensures.state c.script.ensures.state) in
-    let scripted = subst (HasScripted scenario past notice.kind) (sym c.self.view_is) done_script in
-    let sent =
-    c.script.ensures.actions scenario past notice.kind heard next.next.slot
-    ∙ ap (λ (x : NodeParts). c.hear.new.out.items ++ actions_of scenario.params.format (script_effects scenario x.node (notice.kind ∷ past))) c.hear.ensures.state in
-    let ours = joined scenario past notice v _ stands next same scripted in
-    let one_more = one_more_read scenario past notice v _ stands next same scripted in
-    let all =
-    done scenario past notice v _ stands next same scripted c.next.new.out.items c.args.ctl.now c.apply_all.new.ctl c.self.inside.log c.apply_all.new.log c.apply_all.ensures format
-    (listed scenario past notice v _ stands next same scripted c.args.out.now.items c.hear.new.out.items c.script.new.out.items c.next.new.out.items
-    c.requires.free (c.hear.ensures.actions scenario past stands next) sent (c.next.ensures.actions scenario (notice.kind ∷ past) _ _ ours one_more))
-    c.requires.told in
-    stands_after scenario past notice v _ stands next same scripted c.next.new.self c.apply_all.new.log all.entries all.room
-    (c.next.ensures.stands scenario (notice.kind ∷ past) _ _ ours one_more)
+pub returns-then-notice-wake-clause-stands : goal.returns-then-notice-wake-clause-stands
+returns-then-notice-wake-clause-stands c = λ scenario past stands next.
+    let state = ap (λ (v : NodeParts). record v { read = c.args.notice.now.slot + 1 }) c.self.view_is in
+    idle_turn-stands scenario past c.args.notice.now c.args.self.now c.wake.result c.wake.ensures.rests (omega arith) (c.if-is_idle.ensures.0 refl) stands next _ state

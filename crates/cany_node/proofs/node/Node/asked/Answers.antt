@@ -1,5 +1,5 @@
 use Rattle.std.specs.List.{list_any}
-use Rattle.std.proofs.Common.{◌≡◌, ◌&&◌, not, nat_lt, length, take, ap, ◌∙◌, sym, subst}
+use Rattle.std.proofs.Common.{◌&&◌, not, nat_lt, length, take, ap, ◌∙◌, sym, subst}
 use Rattle.cany_model.specs.Rules.Backlog.{asked, backlog}
 use Rattle.cany_model.specs.Rules.Sends.{is_sent_at_once}
 use Rattle.cany_totcan.specs.Totcan.{IsTotcanOf, has_seq}

@@ -1,7 +1,7 @@
 use Rattle.std.proofs.Common.{ap, sym, subst, ◌∙◌, ◌++◌, ◌∷◌}
 use Rattle.cany_model.specs.Rules.Actions.{actions_of}
 use Rattle.cany_node.specs.Node.{NodeParts}
-use Rattle.cany_node.specs.Turning.{HasHeard, HasScripted, script_effects}
+use Rattle.cany_node.specs.Turning.{HasHeard, script_effects}
 use Rattle.cany_edcan.specs.Edcan.{EdcanParts, IsEdcanOf}
 use Rattle.cany_relcan.specs.Relcan.{IsRelcanOf, RelcanParts}
 use Rattle.cany_node.proofs.GiveFacts.{left_own}
