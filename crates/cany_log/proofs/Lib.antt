@@ -1,3 +1,4 @@
+pub mod AnyFacts
 pub mod CountFacts
 pub mod FieldFacts
 pub mod NodeLineFacts

@@ -14,11 +14,10 @@ use cany_base::NodeSet;
 use cany_io::{Failed, Sink, write_whole};
 
 /// Whether the set has a node.
-#[tactic(auto, unfolding(cany_model::specs::Texts::ReportLines::has_any))]
 pub(crate) fn has_any(nodes: NodeSet) -> bool
     ensures { result ≡ report.has_any nodes }
 {
-    nodes.count() > 0
+    nodes.bits() > 0
 }
 
 fn push_number_if_any(row: &mut Row, word: &'static str, number: Option<u64>)
