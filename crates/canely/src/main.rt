@@ -1,7 +1,9 @@
 //! The program `canely`: it hands its words to the call of the command that they name, and ends with the status.
 #![tactic(auto)]
 
-use cany_io::{Failed, Sink, StdSink, StdSource, write_whole};
+use cany_crew::status::HELD;
+use cany_crew::{free_gates, run_top};
+use cany_io::{Failed, Sink, Source, StdSink, StdSource, write_whole};
 use cany_replay::status::{
     DONE, NO_MEMORY, OTHER_WORDS, READ_FAULT, REFUSED, TOO_LONG, WRITE_FAULT,
 };
@@ -9,6 +11,8 @@ use cany_replay::{MOST_TEXT_BYTES, replay_top, storm_top};
 use std::alloc::{AllocError, Global};
 use std::io::{BufWriter, Write};
 use std::process::ExitCode;
+use std::sync::Wait;
+use std::thread::Threads;
 use std::{env, io};
 use thiserror::Error;
 
@@ -58,12 +62,16 @@ fn help(alloc: Global) -> Result<String, AllocError> {
 Runs scenarios of reliable broadcast on one CAN bus.
 
 usage: canely replay < SCENARIO > REPORT
+       canely run < SCENARIO > REPORT
        canely storm NUMBER > SUMMARY
        canely --help
        canely --version
 
 replay reads a scenario, runs it by its own journal or, where it has none, by the round robin
 journal, and writes the report of the run.
+
+run reads a scenario that has no journal, runs it by a thread for each node and one for the bus,
+and writes the report of the run, with the journal that the threads made.
 
 storm draws a scenario from the number, which has 1 to 10 digits and is at most 4294967295, runs
 it by the round robin journal, and writes the summary of the run.
@@ -86,6 +94,7 @@ status {DONE}  done
        {WRITE_FAULT}  writing failed
        {NO_MEMORY}  out of memory, and nothing was written
        {TOO_LONG}  more than {MOST_TEXT_BYTES} bytes were read
+       {HELD}  a gate held the run, and nothing was written; the gates of this program hold none
 "
     )
 }
@@ -99,12 +108,38 @@ fn text_for(alloc: Global, words: &[String]) -> Result<Option<String>, AllocErro
     }
 }
 
+/// The command `run`, with gates that never refuse.
+fn run_freely<R: Threads + Wait + Sync, S: Source, K: Sink>(
+    threads: &R,
+    alloc: Global,
+    words: &[String],
+    source: &mut S,
+    sink: &mut K,
+) -> u8 {
+    match free_gates(alloc) {
+        Ok(mut gates) => run_top(threads, alloc, words, source, sink, &mut gates),
+        Err(_) => NO_MEMORY,
+    }
+}
+
 /// Hands the words to the call of the command that the first of them names.
-fn command<K: Sink>(rt: &HostRuntime, words: &[String], sink: &mut K) -> u8 {
+fn command<R: Threads + Wait + Sync, K: Sink>(
+    rt: &HostRuntime,
+    threads: &R,
+    words: &[String],
+    sink: &mut K,
+) -> u8 {
     let alloc = rt.alloc();
     let mut source = StdSource::new(rt.stdin());
     match words {
         [word, ..] if word.as_str() == "storm" => storm_top(alloc, words, sink),
+        [word, ..] if word.as_str() == "run" => run_freely(
+            threads,
+            alloc,
+            words,
+            &mut source,
+            sink,
+        ),
         _ => replay_top(alloc, words, &mut source, sink),
     }
 }
@@ -124,6 +159,7 @@ fn complaint(status: u8) -> Option<&'static str> {
         WRITE_FAULT => Some("canely: writing failed\n"),
         NO_MEMORY => Some("canely: out of memory\n"),
         TOO_LONG => Some("canely: the scenario has more than 33554432 bytes\n"),
+        HELD => Some("canely: a gate held the run\n"),
         _ => None,
     }
 }
@@ -135,8 +171,8 @@ fn complain(rt: &HostRuntime, status: u8) {
     }
 }
 
-/// Does what the words say, and answers the status.
-fn run(rt: &HostRuntime) -> u8 {
+/// Does what the words say, and answers the status. The runtime is the one value that can make threads.
+fn run<R: Threads + Wait + Sync>(rt: &HostRuntime, threads: &R) -> u8 {
     let words = match words_of(rt) {
         Ok(words) => words,
         Err(WordsFault::Memory) => return NO_MEMORY,
@@ -150,7 +186,7 @@ fn run(rt: &HostRuntime) -> u8 {
     let Ok(mut out) = BufWriter::with_capacity(rt.alloc(), BUFFER_BYTES, rt.stdout()) else {
         return NO_MEMORY;
     };
-    let status = command(rt, &words, &mut StdSink::new(&mut out));
+    let status = command(rt, threads, &words, &mut StdSink::new(&mut out));
     match out.flush() {
         Ok(()) => status,
         Err(_) => WRITE_FAULT,
@@ -158,7 +194,7 @@ fn run(rt: &HostRuntime) -> u8 {
 }
 
 fn main(rt: HostRuntime) -> ExitCode {
-    let status = run(&rt);
+    let status = run(&rt, &rt);
     complain(&rt, status);
     ExitCode::from(status)
 }

@@ -5,12 +5,16 @@ const HELP: &str = "\
 Runs scenarios of reliable broadcast on one CAN bus.
 
 usage: canely replay < SCENARIO > REPORT
+       canely run < SCENARIO > REPORT
        canely storm NUMBER > SUMMARY
        canely --help
        canely --version
 
 replay reads a scenario, runs it by its own journal or, where it has none, by the round robin
 journal, and writes the report of the run.
+
+run reads a scenario that has no journal, runs it by a thread for each node and one for the bus,
+and writes the report of the run, with the journal that the threads made.
 
 storm draws a scenario from the number, which has 1 to 10 digits and is at most 4294967295, runs
 it by the round robin journal, and writes the summary of the run.
@@ -33,6 +37,7 @@ status 0  done
        5  writing failed
        6  out of memory, and nothing was written
        7  more than 33554432 bytes were read
+       8  a gate held the run, and nothing was written; the gates of this program hold none
 ";
 
 #[test]

@@ -7,7 +7,7 @@ pub const DONE: u8 = 0;
 pub const OTHER_WORDS: u8 = 2;
 
 /// The text stands for no scenario, or a step of the scenario's journal could not be done, or slots or notices are left at its
-/// end. The line of the refusal was written.
+/// end, or for `run` the scenario has a journal at all. The line of the refusal was written.
 pub const REFUSED: u8 = 3;
 
 /// The source failed. Nothing was written.

@@ -1,0 +1,4 @@
+pub mod FinishFacts
+pub mod GateFacts
+pub mod PostFacts
+pub mod TopFacts

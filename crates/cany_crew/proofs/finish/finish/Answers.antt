@@ -1,0 +1,35 @@
+use Rattle.std.proofs.Common.{◌≡◌, ◌<◌, true, sym, ap, ◌∙◌, subst, arith}
+use Rattle.cany_base.specs.declared.step.Step.{Step}
+use Rattle.cany_base.specs.Scenario.{ScenarioParts}
+use Rattle.cany_model.specs.Bus.Run.{is_done, reply}
+use Rattle.cany_world.specs.World.{state_of}
+use Rattle.cany_crew.proofs.FinishFacts.{made_leaves_fewer, turn_within}
+use Rattle.cany_crew.proofs.finish.finish.Given as given
+use Rattle.cany_crew.proofs.finish.finish.Goals as goal
+use Rattle.cany_crew.proofs.finish.finish.Goals.{in-Turn+else-not-ask, in_default-step}
+
+-- the node of a turn that can be made
+within : (g : given.Over) (c : goal.In-Turn g) → c.in-Turn.node < c.loop-step.world.scenario.params.nodes
+within g c =
+    let world = c.loop-step.world in
+    turn_within world.scenario world.journal c.in-Turn.node
+    (subst (λ (step : Step). is_done (reply world.scenario (state_of world) step) ≡ true) c.in-Turn.is c.in-Some.ensures.done)
+
+pub read-slot-requires : goal.read-slot-requires
+read-slot-requires g c = within g c
+
+pub ask-requires-after_bounds : goal.ask-requires-after_bounds
+ask-requires-after_bounds g c κs from =
+    let world = c.loop-step.world in
+    let below : c.in-Turn.node < world.scenario.params.nodes =
+    turn_within world.scenario world.journal c.in-Turn.node
+    (subst (λ (step : Step). is_done (reply world.scenario (state_of world) step) ≡ true) c.in-Turn.is c.in-Some.ensures.done) in
+    let same = ap (λ (s : ScenarioParts). s.params.nodes) c.loop-step.invariant.0 in
+    let gates = c.loop-step.invariant.1 in
+    omega (arith, below, same, gates, c.requires, c.as_mut_slice.ensures.len)
+
+pub loop-step-smaller : goal.loop-step-smaller
+loop-step-smaller g c =
+    let same : c.match-step.step ≡ c.in-Some.step = elim c.match-step.branch [ in-Turn+else-not-ask w ↦ w.step-is ∙ sym w.in-Turn.is | in_default-step w ↦ w.step-is ] in
+    made_leaves_fewer c.loop-step.world c.step.new.self c.in-Some.step c.match-step.step c.step.result same c.step.ensures.reply c.in-Some.ensures.done
+    c.in-Some.ensures.legal c.step.ensures.new

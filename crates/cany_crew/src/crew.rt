@@ -1,0 +1,123 @@
+//! A run whose steps are made by threads.
+ghost use Rattle.std.specs.Prelude.{◌≡◌, ◌≤◌, [], map, IfOk, IfErr, vec_len};
+ghost use Rattle.cany_crew.specs.Gates.{HasRefused, NoneFell};
+ghost use Rattle.cany_crew.specs.Held.{IfHeld, IfMemory, world_of};
+ghost use Rattle.cany_model.specs.Bus.Run.{IsLegal, IsWhole};
+
+use crate::finish::finish;
+use crate::gate::Gate;
+use crate::nodes::nodes_of;
+use crate::posting::Rooms;
+use crate::shift::work_seats;
+use crate::signals::Signals;
+use crate::worker::Work;
+use cany_base::{NodeId, Slot};
+use cany_world::World;
+use cany_yard::{Course, Yard};
+use std::alloc::Global;
+use std::marker::Brand;
+use std::sync::Wait;
+use std::sync::ledger::{Blank, Ledger};
+use std::thread::Threads;
+
+/// Why a run did not end. The world is handed back.
+#[derive(Drop)]
+pub enum CrewFault {
+    /// The gate of the node refused the turn that was to read this slot or, after a restart, a later one.
+    Held {
+        world: World,
+        node: NodeId,
+        slot: Slot,
+    },
+    /// There was no memory. No step was made.
+    Memory {
+        world: World,
+    },
+}
+
+/// `crew_run` under the names of the two blanks.
+fn run_as<L: Course + Send + Sync, B: Ledger + Send + Sync, G: Gate, R: Threads + Wait + Sync>(
+    rt: &R,
+    alloc: Global,
+    turns: Blank,
+    slots: Blank,
+    world: World,
+    gates: &mut Vec<G>,
+) -> Result<World, CrewFault>
+    requires fresh { world.journal ≡ [] }
+    requires gates { world.scenario.params.nodes ≤ vec_len gates.old }
+    requires course { world.scenario ≡ L.scenario }
+    requires turns { (turns.name ≡ L.name) × (turns.parts ≡ L.parts) × (turns.parts ≡ world.scenario.params.nodes) }
+    requires slots { (slots.name ≡ B.name) × (slots.parts ≡ B.parts) × (slots.parts ≡ 1) }
+    ensures scenario { IfOk result (λ ended. ended.scenario ≡ world.scenario) }
+    ensures ended { IfOk result (λ ended. IsLegal ended.scenario ended.journal × IsWhole ended.scenario ended.journal) }
+    ensures passed { IfOk result (λ _. map G.refusals gates.new.items ≡ map G.refusals gates.old.items) }
+    ensures held { IfErr result (λ fault. IfHeld fault (λ node. HasRefused node (map G.refusals gates.old.items) (map G.refusals gates.new.items))) }
+    ensures count { NoneFell (map G.refusals gates.old.items) (map G.refusals gates.new.items) }
+    ensures back { IfErr result (λ fault. (world_of fault).scenario ≡ world.scenario) }
+    ensures memory { IfErr result (λ fault. IfMemory fault (λ back. back ≡ world)) }
+{
+    let nodes = nodes_of(world.scenario());
+    let most_slots = world.scenario().params().slots;
+    let Ok(rooms) = Rooms::<L, B, G>::build(alloc, nodes) else {
+        return Err(CrewFault::Memory { world });
+    };
+    let (yard, bus, seats) = match Yard::<L, B>::start(alloc, turns, slots, world) {
+        Ok(started) => started,
+        Err((world, _)) => return Err(CrewFault::Memory { world }),
+    };
+    let signals = Signals::new();
+    let work = Work {
+        yard: &yard,
+        slots: most_slots,
+        signals: &signals,
+    };
+    let worked = work_seats(rt, &work, rooms, bus, seats, gates);
+    let Ok(mut world) = yard.close(worked.bus, worked.seats) else {
+        unreachable!()
+    };
+    if let Some((node, slot)) = worked.held {
+        return Err(CrewFault::Held { world, node, slot });
+    }
+    match finish(&mut world, gates) {
+        None => Ok(world),
+        Some((node, slot)) => Err(CrewFault::Held { world, node, slot }),
+    }
+}
+
+/// Runs the scenario of the world to its end by a thread for each node and one for the bus. The gate at place i is that of
+/// node i, and gates stand at their old places after the call.
+///
+/// The worker of a node asks its gate before the turn of each slot, outside the lock. After a refusal each worker ends at its
+/// next step, and `Held` names the least node whose pass was refused. A worker that has waited two seconds for a step of another
+/// ends too, as it may while a gate takes longer to answer. The steps that the workers have left are made after them, and ask the
+/// gates too. The call may wait for its threads, which may wait for one another at the lock.
+///
+/// # Errors
+///
+/// `Held` only where the gate of that node refused a pass, and `Memory` for want of memory.
+pub fn crew_run<G: Gate, R: Threads + Wait + Sync>(
+    rt: &R,
+    alloc: Global,
+    world: World,
+    gates: &mut Vec<G>,
+) -> Result<World, CrewFault>
+    requires fresh { world.journal ≡ [] }
+    requires gates { world.scenario.params.nodes ≤ vec_len gates.old }
+
+    // The run of the scenario to its end.
+    ensures scenario { IfOk result (λ ended. ended.scenario ≡ world.scenario) }
+    ensures ended { IfOk result (λ ended. IsLegal ended.scenario ended.journal × IsWhole ended.scenario ended.journal) }
+
+    // No gate's count rose in a run that ended, and that of the node named rose in one that is held.
+    ensures passed { IfOk result (λ _. map G.refusals gates.new.items ≡ map G.refusals gates.old.items) }
+    ensures held { IfErr result (λ fault. IfHeld fault (λ node. HasRefused node (map G.refusals gates.old.items) (map G.refusals gates.new.items))) }
+    ensures count { NoneFell (map G.refusals gates.old.items) (map G.refusals gates.new.items) }
+
+    // What is handed back.
+    ensures back { IfErr result (λ fault. (world_of fault).scenario ≡ world.scenario) }
+    ensures memory { IfErr result (λ fault. IfMemory fault (λ back. back ≡ world)) }
+{
+    let turns = Blank::new(u64::from(nodes_of(world.scenario())));
+    run_as::<Brand, Brand, G, R>(rt, alloc, turns, Blank::new(1), world, gates)
+}

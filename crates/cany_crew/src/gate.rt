@@ -1,0 +1,29 @@
+ghost use Rattle.std.specs.Prelude.{◌≡◌, ℕ, ◌<◌, ◌≤◌, true, false, map, length};
+ghost use Rattle.cany_crew.specs.Gates.{HasRefused, NoneFell};
+ghost use Rattle.cany_io.specs.Faults.{HasRisen};
+
+use cany_base::{NodeId, Slot};
+
+/// What lets a node take its turn. Each node has a gate of its own, which its worker holds while it runs, in whatever thread.
+pub trait Gate: Send + Drop {
+    /// How often a pass was refused. It never falls, and stands still at the last number of 64 bits.
+    ghost refusals: { Self → ℕ };
+
+    /// Whether the node may take its next turn, the one that reads this slot or, after a restart, a later one. The gate may take its
+    /// time before it answers.
+    fn pass(&mut self, node: NodeId, slot: Slot) -> bool
+        ensures count { refusals self.old ≤ refusals self.new }
+        ensures passed { result ≡ true → refusals self.new ≡ refusals self.old }
+        ensures refused { result ≡ false → HasRisen (refusals self.old) (refusals self.new) };
+}
+
+/// Asks the gate of the node.
+pub(crate) fn ask<G: Gate>(gates: &mut [G], node: NodeId, slot: Slot) -> bool
+    requires { node < length gates.old }
+    ensures passed { result ≡ true → map G.refusals gates.new ≡ map G.refusals gates.old }
+    ensures refused { result ≡ false → HasRefused node (map G.refusals gates.old) (map G.refusals gates.new) }
+    ensures count { NoneFell (map G.refusals gates.old) (map G.refusals gates.new) }
+{
+    let gate = &mut gates[usize::from(node.get())];
+    gate.pass(node, slot)
+}

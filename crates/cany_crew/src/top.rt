@@ -1,0 +1,179 @@
+//! The call behind the command `run`.
+ghost use Rattle.std.specs.Prelude.{◌≡◌, ◌⊎◌, ◌↔◌, ◌<◌, ◌≤◌, map, length, string_bytes, None, is_some, IsTrue, IfSome, IsOkAnd, IsSomeAnd, MatchOption, vec_len};
+ghost use Rattle.cany_base.specs.Limits.{most_nodes, most_text_bytes};
+ghost use Rattle.cany_crew.specs.Gates.{HasAnyRefused, NoneFell, NoneRefused};
+ghost use Rattle.cany_crew.specs.Top.{AreRun, HasNoAnswer, IsCrewRun, TakesReportStart, TakesStart, run_refusal};
+ghost use Rattle.cany_io.specs.Faults.{HasRisen, StandsStill};
+ghost use Rattle.cany_io.specs.Sink.{Takes, TakesPrefix};
+ghost use Rattle.cany_io.specs.Source.{IsAtEnd};
+ghost use Rattle.cany_model.specs.Texts.ScenarioText.{scenario_of};
+ghost use Rattle.cany_replay.specs.Status.{HasAnswered};
+
+use crate::crew::{CrewFault, crew_run};
+use crate::gate::Gate;
+use crate::nodes::nodes_of;
+use crate::status::HELD;
+use cany_base::Scenario;
+use cany_base::limits::MOST_TEXT_BYTES;
+use cany_io::{ReadFault, Sink, Source, read_all};
+use cany_log::Refusal;
+use cany_replay::status::{
+    DONE, NO_MEMORY, OTHER_WORDS, READ_FAULT, REFUSED, TOO_LONG, WRITE_FAULT,
+};
+use cany_replay::{is_memory, refuse, report_run, scenario_in};
+use cany_scenario::ScenarioFault;
+use cany_world::World;
+use std::alloc::Global;
+use std::sync::Wait;
+use std::thread::Threads;
+
+fn is_run(words: &[String]) -> bool
+    ensures { IsTrue result ↔ AreRun (map string_bytes words.now) }
+{
+    match words {
+        [word] => word.as_str() == "run",
+        _ => false,
+    }
+}
+
+/// Runs a scenario that has no journal by threads, and writes the report. Nothing is written before the run has ended.
+fn run_scenario<R: Threads + Wait + Sync, K: Sink, G: Gate>(
+    rt: &R,
+    alloc: Global,
+    scenario: &Scenario,
+    sink: &mut K,
+    gates: &mut Vec<G>,
+) -> u8
+    requires gates { most_nodes ≤ vec_len gates.old }
+    requires none { scenario.now.journal ≡ None }
+    ensures done { result ≡ DONE → IsCrewRun scenario.now (K.taken sink.old) (K.taken sink.new) }
+    ensures passed { result ≡ DONE → map G.refusals gates.new.items ≡ map G.refusals gates.old.items }
+    ensures held { result ≡ HELD → HasAnyRefused (map G.refusals gates.old.items) (map G.refusals gates.new.items) }
+    ensures count { NoneFell (map G.refusals gates.old.items) (map G.refusals gates.new.items) }
+    ensures write_fault { result ≡ WRITE_FAULT → HasRisen (K.faults sink.old) (K.faults sink.new) }
+    ensures start { result ≡ WRITE_FAULT → TakesReportStart scenario.now (K.taken sink.old) (K.taken sink.new) }
+    ensures untouched { (result ≡ NO_MEMORY) ⊎ (result ≡ HELD) → sink.new ≡ sink.old }
+    ensures status { (result ≡ DONE) ⊎ (result ≡ WRITE_FAULT) ⊎ (result ≡ NO_MEMORY) ⊎ (result ≡ HELD) }
+{
+    let Ok(world) = World::build(alloc, scenario) else {
+        return NO_MEMORY;
+    };
+    // What this call says of the number of nodes is a part of the contract here: there is a gate for each.
+    nodes_of(scenario);
+    match crew_run(rt, alloc, world, gates) {
+        Ok(ended) => {
+            // So is what this call says of the run.
+            ended.hypothesis();
+            report_run(&ended, sink)
+        }
+        Err(CrewFault::Held { .. }) => HELD,
+        Err(CrewFault::Memory { .. }) => NO_MEMORY,
+    }
+}
+
+/// Whether the scenario has a journal of its own.
+fn brings_journal(scenario: &Scenario) -> bool
+    ensures { result ≡ is_some scenario.now.journal }
+{
+    scenario.journal().is_some()
+}
+
+/// Runs the scenario of a text, or refuses the text, or the journal that it brings.
+fn run_text<R: Threads + Wait + Sync, K: Sink, G: Gate>(
+    rt: &R,
+    alloc: Global,
+    text: Vec<u8>,
+    sink: &mut K,
+    gates: &mut Vec<G>,
+) -> u8
+    requires gates { most_nodes ≤ vec_len gates.old }
+    ensures done { result ≡ DONE → IsOkAnd (scenario_of text.items) (λ scenario. IsCrewRun scenario (K.taken sink.old) (K.taken sink.new)) }
+    ensures not_refused { (result ≡ DONE) ⊎ (result ≡ HELD) → run_refusal text.items ≡ None }
+    ensures passed { result ≡ DONE → map G.refusals gates.new.items ≡ map G.refusals gates.old.items }
+    ensures held { result ≡ HELD → HasAnyRefused (map G.refusals gates.old.items) (map G.refusals gates.new.items) }
+    ensures count { NoneFell (map G.refusals gates.old.items) (map G.refusals gates.new.items) }
+    ensures refused { result ≡ REFUSED → IsSomeAnd (run_refusal text.items) (λ line. Takes (K.taken sink.old) line (K.taken sink.new)) }
+    ensures write_fault { result ≡ WRITE_FAULT → HasRisen (K.faults sink.old) (K.faults sink.new) }
+    ensures start { result ≡ WRITE_FAULT → TakesStart text.items (K.taken sink.old) (K.taken sink.new) }
+    ensures untouched { (result ≡ NO_MEMORY) ⊎ (result ≡ HELD) → sink.new ≡ sink.old }
+    ensures status { HasAnswered result ⊎ (result ≡ NO_MEMORY) ⊎ (result ≡ HELD) }
+{
+    match scenario_in(alloc, text) {
+        Ok(scenario) if brings_journal(&scenario) => refuse(&Refusal::JournalGiven, sink),
+        Ok(scenario) => run_scenario(rt, alloc, &scenario, sink, gates),
+        Err(fault) if is_memory(&fault) => NO_MEMORY,
+        Err(fault) => refuse(&Refusal::Scenario(fault), sink),
+    }
+}
+
+/// Runs by threads: reads a scenario text from the source, runs the scenario by a thread for each node and one for the bus,
+/// and writes the report to the sink, a line at a time. The journal is the one that the threads made, and the report prints
+/// it. It answers the status of the program, one of those in `status` here and in `cany_replay`. The words are the one word
+/// `run`; causes are looked at in this order: the words, the reading, the text, a journal in the scenario, the gates, the
+/// writing. The gate at place i is that of node i, and gates stand at their old places after the call, which may wait for its
+/// threads.
+pub fn run_top<R: Threads + Wait + Sync, S: Source, K: Sink, G: Gate>(
+    rt: &R,
+    alloc: Global,
+    words: &[String],
+    source: &mut S,
+    sink: &mut K,
+    gates: &mut Vec<G>,
+) -> u8
+    requires { most_nodes ≤ vec_len gates.old }
+
+    // The words alone decide on this status.
+    ensures words { (result ≡ OTHER_WORDS) ↔ (AreRun (map string_bytes words.now) → ⊥) }
+    ensures unread { result ≡ OTHER_WORDS → source.new ≡ source.old }
+
+    // Success. Here and below, `bytes` are all that the source had.
+    ensures done { result ≡ DONE → IfSome (S.left source.old) (λ bytes. IsOkAnd (scenario_of bytes) (λ scenario.
+        IsCrewRun scenario (K.taken sink.old) (K.taken sink.new))) }
+
+    // The text is refused, or the scenario for the journal that it brings.
+    ensures refused { result ≡ REFUSED → IfSome (S.left source.old) (λ bytes. IsSomeAnd (run_refusal bytes) (λ line.
+        Takes (K.taken sink.old) line (K.taken sink.new))) }
+
+    // A run that ended, or that a gate held, is one of a text that nothing refuses.
+    ensures unrefused { (result ≡ DONE) ⊎ (result ≡ HELD) → IfSome (S.left source.old) (λ bytes. run_refusal bytes ≡ None) }
+
+    // A gate refused a pass, and in a run that was reported none did.
+    ensures held { result ≡ HELD → HasAnyRefused (map G.refusals gates.old.items) (map G.refusals gates.new.items) }
+    ensures passed { result ≡ DONE → map G.refusals gates.new.items ≡ map G.refusals gates.old.items }
+    ensures count { NoneFell (map G.refusals gates.old.items) (map G.refusals gates.new.items) }
+
+    // The streams fail.
+    ensures read_fault { result ≡ READ_FAULT → HasRisen (S.faults source.old) (S.faults source.new) }
+    ensures write_fault { result ≡ WRITE_FAULT → HasRisen (K.faults sink.old) (K.faults sink.new) }
+    ensures start { result ≡ WRITE_FAULT → IfSome (S.left source.old) (λ bytes. TakesStart bytes (K.taken sink.old) (K.taken sink.new)) }
+
+    // The source has too many bytes, or all of them were read.
+    ensures too_long { result ≡ TOO_LONG → IfSome (S.left source.old) (λ bytes. most_text_bytes < length bytes) }
+    ensures fits { HasAnswered result ⊎ (result ≡ HELD) → IfSome (S.left source.old) (λ bytes. length bytes ≤ most_text_bytes) }
+    ensures drained { HasAnswered result ⊎ (result ≡ HELD) → IsAtEnd (S.left source.new) }
+
+    // Nothing else writes.
+    ensures unwritten { HasNoAnswer result → sink.new ≡ sink.old }
+    ensures status { HasAnswered result ⊎ HasNoAnswer result }
+
+    // Where no stream fails and no gate refuses, the text decides, but for want of memory.
+    ensures complete { AreRun (map string_bytes words.now)
+        → StandsStill (S.faults source.old) (S.faults source.new)
+        → StandsStill (K.faults sink.old) (K.faults sink.new)
+        → NoneRefused (map G.refusals gates.old.items) (map G.refusals gates.new.items)
+        → IfSome (S.left source.old) (λ bytes. length bytes ≤ most_text_bytes
+        → (result ≡ NO_MEMORY) ⊎ MatchOption (run_refusal bytes) (result ≡ DONE) (λ _. result ≡ REFUSED)) }
+    ensures complete_too_long { AreRun (map string_bytes words.now)
+        → StandsStill (S.faults source.old) (S.faults source.new)
+        → IfSome (S.left source.old) (λ bytes. most_text_bytes < length bytes → (result ≡ NO_MEMORY) ⊎ (result ≡ TOO_LONG)) }
+{
+    if !is_run(words) {
+        return OTHER_WORDS;
+    }
+    match read_all(alloc, source, MOST_TEXT_BYTES) {
+        Ok(text) => run_text(rt, alloc, text, sink, gates),
+        Err(ReadFault::Failed) => READ_FAULT,
+        Err(ReadFault::TooLong) => TOO_LONG,
+        Err(ReadFault::Memory) => NO_MEMORY,
+    }
+}
