@@ -11,75 +11,85 @@ use Rattle.cany_world.specs.Resting.{round_of, rounds_of, runs_at}
 
 -- the turns of the nodes from i on, so many of them, that are still to be appended
 abbrev pub turns_from : List ControllerState → ℕ → ℕ → List Step
-turns_from row i left = map (λ k. Turn k) (filter (runs_at row) (range_with_len i left))
+turns_from controllers i left = map (λ k. Turn k) (filter (runs_at controllers) (range_with_len i left))
 
 -- what was appended, and what is left, are the whole
 pub record IsInSteps (whole now left : List Step) : Type 0 where
   pub is : now ++ left ≡ whole
 
-pub round_begun : (row : List ControllerState) (before now : List Step) (left : ℕ) → left ≡ length row → now ≡ before ++ Slot ∷ []
-    → IsInSteps (before ++ round_of row) now (turns_from row 0 left)
-round_begun row before now left all e = record {
-  is = ap (λ n. now ++ turns_from row 0 n) all ∙ ap (λ l. l ++ turns_from row 0 (length row)) e ∙ append_assoc before (Slot ∷ []) (turns_from row 0 (length row));
+pub round_begun : (controllers : List ControllerState) (before now : List Step) (left : ℕ) → left ≡ length controllers → now ≡ before ++ Slot ∷ []
+    → IsInSteps (before ++ round_of controllers) now (turns_from controllers 0 left)
+round_begun controllers before now left all e = record {
+  is = ap (λ n. now ++ turns_from controllers 0 n) all ∙ ap (λ l. l ++ turns_from controllers 0 (length controllers)) e
+      ∙ append_assoc before (Slot ∷ []) (turns_from controllers 0 (length controllers));
 }
 
-next_turns : (row : List ControllerState) (i left n : ℕ) → left ≡ suc n → (b : Bool) → runs_at row i ≡ b
-    → turns_from row i left ≡ (if b then Turn i ∷ turns_from row (i + 1) n else turns_from row (i + 1) n)
-next_turns row i left n e true runs = ap (turns_from row i) e ∙ rw runs refl
-next_turns row i left n e false runs = ap (turns_from row i) e ∙ rw runs refl
+next_turns : (controllers : List ControllerState) (i left n : ℕ) → left ≡ suc n → (b : Bool) → runs_at controllers i ≡ b
+    → turns_from controllers i left ≡ (if b then Turn i ∷ turns_from controllers (i + 1) n else turns_from controllers (i + 1) n)
+next_turns controllers i left n e true runs = ap (turns_from controllers i) e ∙ rw runs refl
+next_turns controllers i left n e false runs = ap (turns_from controllers i) e ∙ rw runs refl
 
 -- node i runs: its turn is appended
-pub turn_pushed : (row : List ControllerState) (whole now next : List Step) (i left n : ℕ) → IsInSteps whole now (turns_from row i left) → left ≡ suc n
-    → runs_at row i ≡ true → next ≡ now ++ Turn i ∷ [] → IsInSteps whole next (turns_from row (i + 1) n)
-turn_pushed row whole now next i left n so e runs is = record {
-  is = ap (λ l. l ++ turns_from row (i + 1) n) is ∙ append_assoc now (Turn i ∷ []) (turns_from row (i + 1) n)
-      ∙ ap (λ l. now ++ l) (sym (next_turns row i left n e true runs)) ∙ so.is;
+pub turn_pushed : (controllers : List ControllerState) (whole now next : List Step) (i left n : ℕ)
+    → IsInSteps whole now (turns_from controllers i left) → left ≡ suc n
+    → runs_at controllers i ≡ true → next ≡ now ++ Turn i ∷ [] → IsInSteps whole next (turns_from controllers (i + 1) n)
+turn_pushed controllers whole now next i left n so e runs is = record {
+  is = ap (λ l. l ++ turns_from controllers (i + 1) n) is ∙ append_assoc now (Turn i ∷ []) (turns_from controllers (i + 1) n)
+      ∙ ap (λ l. now ++ l) (sym (next_turns controllers i left n e true runs)) ∙ so.is;
 }
 
 -- there is room for it
-pub turn_room : (row : List ControllerState) (whole now : List Step) (i left n room : ℕ) → IsInSteps whole now (turns_from row i left) → left ≡ suc n
-    → runs_at row i ≡ true → length whole ≤ room → length now < room
-turn_room row whole now i left n room so e runs fits =
-    let more : now ++ (Turn i ∷ turns_from row (i + 1) n) ≡ whole = ap (λ l. now ++ l) (sym (next_turns row i left n e true runs)) ∙ so.is in
-    omega (arith, fits, ap (λ (l : List Step). length l) more, length-append now (Turn i ∷ turns_from row (i + 1) n))
+pub turn_room : (controllers : List ControllerState) (whole now : List Step) (i left n room : ℕ)
+    → IsInSteps whole now (turns_from controllers i left) → left ≡ suc n
+    → runs_at controllers i ≡ true → length whole ≤ room → length now < room
+turn_room controllers whole now i left n room so e runs fits =
+    let more : now ++ (Turn i ∷ turns_from controllers (i + 1) n) ≡ whole = ap (λ l. now ++ l) (sym (next_turns controllers i left n e true runs)) ∙ so.is in
+    omega (arith, fits, ap (λ (l : List Step). length l) more, length-append now (Turn i ∷ turns_from controllers (i + 1) n))
 
 -- node i has stopped
-pub turn_left_out : (row : List ControllerState) (whole now : List Step) (i left n : ℕ) → IsInSteps whole now (turns_from row i left) → left ≡ suc n
-    → runs_at row i ≡ false → IsInSteps whole now (turns_from row (i + 1) n)
-turn_left_out row whole now i left n so e runs = record {
-  is = ap (λ l. now ++ l) (sym (next_turns row i left n e false runs)) ∙ so.is;
+pub turn_left_out : (controllers : List ControllerState) (whole now : List Step) (i left n : ℕ)
+    → IsInSteps whole now (turns_from controllers i left) → left ≡ suc n
+    → runs_at controllers i ≡ false → IsInSteps whole now (turns_from controllers (i + 1) n)
+turn_left_out controllers whole now i left n so e runs = record {
+  is = ap (λ l. now ++ l) (sym (next_turns controllers i left n e false runs)) ∙ so.is;
 }
 
-pub round_pushed : (row : List ControllerState) (whole now : List Step) (i left : ℕ) → IsInSteps whole now (turns_from row i left) → left ≡ 0 → now ≡ whole
-round_pushed row whole now i left so none = sym (append-nil now) ∙ ap (λ n. now ++ turns_from row i n) (sym none) ∙ so.is
+pub round_pushed : (controllers : List ControllerState) (whole now : List Step) (i left : ℕ)
+    → IsInSteps whole now (turns_from controllers i left) → left ≡ 0 → now ≡ whole
+round_pushed controllers whole now i left so none = sym (append-nil now) ∙ ap (λ n. now ++ turns_from controllers i n) (sym none) ∙ so.is
 
 -- ---- many rounds
 
-pub rounds_pushed_none : (row : List ControllerState) (before : List Step) (slots left : ℕ) → left ≡ slots
-    → IsInSteps (before ++ rounds_of slots row) before (rounds_of left row)
-rounds_pushed_none row before slots left e = record { is = ap (λ n. before ++ rounds_of n row) e }
+pub rounds_pushed_none : (controllers : List ControllerState) (before : List Step) (slots left : ℕ) → left ≡ slots
+    → IsInSteps (before ++ rounds_of slots controllers) before (rounds_of left controllers)
+rounds_pushed_none controllers before slots left e = record { is = ap (λ n. before ++ rounds_of n controllers) e }
 
-pub rounds_pushed_next : (row : List ControllerState) (whole now next : List Step) (left n : ℕ) → IsInSteps whole now (rounds_of left row) → left ≡ suc n
-    → next ≡ now ++ round_of row → IsInSteps whole next (rounds_of n row)
+pub rounds_pushed_next : (controllers : List ControllerState) (whole now next : List Step) (left n : ℕ)
+    → IsInSteps whole now (rounds_of left controllers) → left ≡ suc n
+    → next ≡ now ++ round_of controllers → IsInSteps whole next (rounds_of n controllers)
 unfolding rounds_of
-rounds_pushed_next row whole now next left n so e is = record {
-  is = ap (λ l. l ++ rounds_of n row) is ∙ append_assoc now (round_of row) (rounds_of n row) ∙ ap (λ k. now ++ rounds_of k row) (sym e) ∙ so.is;
+rounds_pushed_next controllers whole now next left n so e is = record {
+  is = ap (λ l. l ++ rounds_of n controllers) is ∙ append_assoc now (round_of controllers) (rounds_of n controllers)
+      ∙ ap (λ k. now ++ rounds_of k controllers) (sym e) ∙ so.is;
 }
 
-pub round_room : (row : List ControllerState) (whole now : List Step) (left n room : ℕ) → IsInSteps whole now (rounds_of left row) → left ≡ suc n
-    → length whole ≤ room → length now + length (round_of row) ≤ room
+pub round_room : (controllers : List ControllerState) (whole now : List Step) (left n room : ℕ)
+    → IsInSteps whole now (rounds_of left controllers) → left ≡ suc n
+    → length whole ≤ room → length now + length (round_of controllers) ≤ room
 unfolding rounds_of
-round_room row whole now left n room so e fits =
-    let more : now ++ (round_of row ++ rounds_of n row) ≡ whole = ap (λ k. now ++ rounds_of k row) (sym e) ∙ so.is in
-    omega (arith, fits, ap (λ (l : List Step). length l) more, length-append now (round_of row ++ rounds_of n row), length-append (round_of row) (rounds_of n row))
+round_room controllers whole now left n room so e fits =
+    let more : now ++ (round_of controllers ++ rounds_of n controllers) ≡ whole = ap (λ k. now ++ rounds_of k controllers) (sym e) ∙ so.is in
+    omega (arith, fits, ap (λ (l : List Step). length l) more, length-append now (round_of controllers ++ rounds_of n controllers), length-append (round_of controllers) (rounds_of n controllers))
 
-pub rounds_pushed_all : (row : List ControllerState) (whole now : List Step) (left : ℕ) → IsInSteps whole now (rounds_of left row) → left ≡ 0 → now ≡ whole
+pub rounds_pushed_all : (controllers : List ControllerState) (whole now : List Step) (left : ℕ)
+    → IsInSteps whole now (rounds_of left controllers) → left ≡ 0 → now ≡ whole
 unfolding rounds_of
-rounds_pushed_all row whole now left so none = sym (append-nil now) ∙ ap (λ n. now ++ rounds_of n row) (sym none) ∙ so.is
+rounds_pushed_all controllers whole now left so none = sym (append-nil now) ∙ ap (λ n. now ++ rounds_of n controllers) (sym none) ∙ so.is
 
 -- whether the controller of node i runs, from what stands there
-pub runs_here : (row : List ControllerState) (i : ℕ) (c : ControllerState) → slice_get row i ≡ Some c → (b : Bool) → is_none c.stopped ≡ b → runs_at row i ≡ b
-runs_here row i c at b e = ap (λ o. option_map_or (λ (x : ControllerState). is_none x.stopped) o false) at ∙ e
+pub runs_here : (controllers : List ControllerState) (i : ℕ) (c : ControllerState) → slice_get controllers i ≡ Some c → (b : Bool)
+    → is_none c.stopped ≡ b → runs_at controllers i ≡ b
+runs_here controllers i c at b e = ap (λ o. option_map_or (λ (x : ControllerState). is_none x.stopped) o false) at ∙ e
 
 pub not_not : (b : Bool) → not (not b) ≡ b
 not_not true = refl
