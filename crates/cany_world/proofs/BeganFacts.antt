@@ -1,5 +1,5 @@
 -- Where the scenario has no restart entry, no node starts again.
-use Rattle.std.proofs.Common.{◌≡◌, ℕ, suc, ◌+◌, ◌==◌, ◌&&◌, ◌||◌, Bool, true, false, List, [], ◌∷◌, refl, ap, sym, ◌∙◌, subst, arith}
+use Rattle.std.proofs.Common.{◌≡◌, ℕ, ◌+◌, ◌==◌, ◌&&◌, ◌||◌, Bool, true, false, List, [], ◌∷◌, refl, ap, sym, ◌∙◌, arith}
 use Rattle.std.specs.Prelude.{count_by, nat_lt, not}
 use Rattle.std.specs.List.{list_any}
 use Rattle.cany_base.specs.declared.message.NodeAsk.{NodeAsk}
@@ -10,7 +10,7 @@ use Rattle.cany_base.specs.Scenario.{ScenarioParts, is_ask_of_node}
 use Rattle.cany_base.proofs.NodesFacts.{same_as_those_where}
 use Rattle.cany_model.specs.Bus.Restart.{began_at, restarted_in}
 use Rattle.cany_model.specs.Bus.Run.{run}
-use Rattle.cany_model.specs.Bus.State.{Ended, Incarnation, NodeState, RunState, node_at}
+use Rattle.cany_model.specs.Bus.State.{Ended, Incarnation, NodeState, node_at}
 use Rattle.cany_world.proofs.EntriesLeft.{all_left}
 use Rattle.cany_world.proofs.InOrder.{AreInOrder, in_order}
 

@@ -1,18 +1,17 @@
 -- What idle slots add to what a node has read, and to what was read by the incarnations that ended.
-use Rattle.std.proofs.Common.{◌≡◌, ℕ, zero, suc, ◌+◌, ◌-◌, ◌≤◌, Bool, true, false, List, [], ◌∷◌, ◌++◌, length, map, drop, replicate, refl, ap, sym, ◌∙◌, subst, arith}
-use Rattle.std.specs.Prelude.{if◌then◌else◌, None, slice_index_or}
+use Rattle.std.proofs.Common.{◌≡◌, ℕ, zero, suc, ◌+◌, ◌≤◌, Bool, true, false, List, ◌∷◌, ◌++◌, length, map, drop, replicate, refl, ap, sym, ◌∙◌, arith}
+use Rattle.std.specs.Prelude.{if◌then◌else◌, None}
 use Rattle.std.specs.List.{AllByRecursion}
 use Rattle.cany_base.specs.declared.notice.NoticeKind.{NoticeKind}
 use Rattle.cany_base.specs.declared.notice.NoticeKind.TheVariants.{Idle}
 use Rattle.cany_base.specs.declared.slot_note.SlotNote.{SlotNote}
 use Rattle.cany_model.specs.Bus.History.{as_seen, ended_history, given, is_hidden, seen}
 use Rattle.cany_model.specs.Bus.Slot.{share_of}
-use Rattle.cany_model.specs.Bus.State.{Ended, Incarnation, NodeState, RunState, absent, node_at}
+use Rattle.cany_model.specs.Bus.State.{Ended, Incarnation, NodeState}
 use Rattle.cany_model.specs.Rules.Notices.{error_as_idle}
 use Rattle.can_bus.specs.Rest.{idle_note, idle_trace}
 use Rattle.can_bus.proofs.RestFacts.{length-idle_trace}
 use Rattle.cany_world.specs.Kept.{heard_of, past_of}
-use Rattle.cany_world.specs.Resting.{after_rest, rested}
 use Rattle.cany_world.proofs.Endings.{ended_later}
 use Rattle.cany_world.proofs.InOrder.{weaker}
 

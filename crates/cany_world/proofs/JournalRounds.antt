@@ -1,5 +1,5 @@
 -- How the steps of idle slots are appended to the journal.
-use Rattle.std.proofs.Common.{◌≡◌, ℕ, zero, suc, ◌+◌, ◌-◌, ◌<◌, ◌≤◌, Bool, true, false, List, [], ◌∷◌, ◌++◌, length, map, refl, ap, sym, ◌∙◌, subst, arith, append_assoc}
+use Rattle.std.proofs.Common.{◌≡◌, ℕ, suc, ◌+◌, ◌≤◌, Bool, true, false, List, [], ◌∷◌, ◌++◌, length, map, refl, ap, sym, ◌∙◌, arith, append_assoc}
 use Rattle.std.specs.Prelude.{filter, if◌then◌else◌, is_none, not, slice_get, Some}
 use Rattle.std.specs.Option.{option_map_or}
 use Rattle.std.specs.List.{range_with_len}
@@ -38,14 +38,6 @@ turn_pushed controllers whole now next i left n so e runs is = record {
       ∙ ap (λ l. now ++ l) (sym (next_turns controllers i left n e true runs)) ∙ so.is;
 }
 
--- there is room for it
-pub turn_room : (controllers : List ControllerState) (whole now : List Step) (i left n room : ℕ)
-    → IsInSteps whole now (turns_from controllers i left) → left ≡ suc n
-    → runs_at controllers i ≡ true → length whole ≤ room → length now < room
-turn_room controllers whole now i left n room so e runs fits =
-    let more : now ++ (Turn i ∷ turns_from controllers (i + 1) n) ≡ whole = ap (λ l. now ++ l) (sym (next_turns controllers i left n e true runs)) ∙ so.is in
-    omega (arith, fits, ap (λ (l : List Step). length l) more, length-append now (Turn i ∷ turns_from controllers (i + 1) n))
-
 -- node i has stopped
 pub turn_left_out : (controllers : List ControllerState) (whole now : List Step) (i left n : ℕ)
     → IsInSteps whole now (turns_from controllers i left) → left ≡ suc n
@@ -54,15 +46,7 @@ turn_left_out controllers whole now i left n so e runs = record {
   is = ap (λ l. now ++ l) (sym (next_turns controllers i left n e false runs)) ∙ so.is;
 }
 
-pub round_pushed : (controllers : List ControllerState) (whole now : List Step) (i left : ℕ)
-    → IsInSteps whole now (turns_from controllers i left) → left ≡ 0 → now ≡ whole
-round_pushed controllers whole now i left so none = sym (append-nil now) ∙ ap (λ n. now ++ turns_from controllers i n) (sym none) ∙ so.is
-
 -- ---- many rounds
-
-pub rounds_pushed_none : (controllers : List ControllerState) (before : List Step) (slots left : ℕ) → left ≡ slots
-    → IsInSteps (before ++ rounds_of slots controllers) before (rounds_of left controllers)
-rounds_pushed_none controllers before slots left e = record { is = ap (λ n. before ++ rounds_of n controllers) e }
 
 pub rounds_pushed_next : (controllers : List ControllerState) (whole now next : List Step) (left n : ℕ)
     → IsInSteps whole now (rounds_of left controllers) → left ≡ suc n

@@ -1,10 +1,9 @@
 -- A stretch of idle slots: that the next slots are one, and that bus, controllers and nodes stand for the run after it.
-use Rattle.std.proofs.Common.{◌≡◌, ℕ, zero, suc, ◌+◌, ◌-◌, ◌^◌, ◌<◌, ◌≤◌, Bool, true, false, List, [], ◌∷◌, ◌++◌, length, map, take, replicate, refl, ap, sym, ◌∙◌, subst, inl, inr, arith}
+use Rattle.std.proofs.Common.{◌≡◌, ℕ, zero, suc, ◌+◌, ◌<◌, ◌≤◌, true, false, List, [], ◌∷◌, ◌++◌, length, map, take, replicate, refl, ap, sym, ◌∙◌, subst, inl, inr, arith}
 use Rattle.std.specs.List.{range_with_len}
 use Rattle.std.specs.Option.{option_map_or}
 use Rattle.std.specs.Prelude.{is_none, filter, nat_lt, slice_get, slice_set, ◌||◌, Option, Some, None}
 use Rattle.std.proofs.lemmas.Bool.{cases_lt, true≢false}
-use Rattle.std.proofs.lemmas.List.{length-map}
 use Rattle.std.proofs.lemmas.Option.{slice_get_past, slice_get_within}
 use Rattle.cany_base.specs.declared.notice.Notice.{Notice}
 use Rattle.cany_base.specs.declared.notice.NoticeKind.{NoticeKind}
@@ -13,17 +12,14 @@ use Rattle.cany_base.specs.declared.rule.Rule.{Rule}
 use Rattle.cany_base.specs.declared.slot_note.SlotNote.{SlotNote}
 use Rattle.cany_base.specs.declared.step.Step.{Step}
 use Rattle.cany_base.specs.declared.step.Step.TheVariants.{Slot, Turn}
-use Rattle.cany_base.specs.Frame.{FrameParts}
-use Rattle.cany_base.specs.Limits.{greatest_error_counter, most_slots}
+use Rattle.cany_base.specs.Limits.{greatest_error_counter}
 use Rattle.cany_base.specs.Scenario.{ScenarioParts, IsLegalScenario}
 use Rattle.cany_base.proofs.ParamsFacts.{few_slots}
-use Rattle.cany_model.specs.Bus.History.{given, history}
+use Rattle.cany_model.specs.Bus.History.{history}
 use Rattle.cany_model.specs.Bus.Run.{run}
-use Rattle.cany_model.specs.Bus.Slot.{exceeds, node_after}
-use Rattle.cany_model.specs.Bus.State.{Incarnation, NodeState, RunState, node_at, runs, slots_run}
-use Rattle.cany_model.specs.Rules.Notices.{error_as_idle}
+use Rattle.cany_model.specs.Bus.Slot.{node_after}
+use Rattle.cany_model.specs.Bus.State.{NodeState, RunState, node_at, runs, slots_run}
 use Rattle.cany_model.specs.Rules.Turn.{effects_for, scenario_for, turn_effects}
-use Rattle.cany_model.proofs.Bus.Journals.{trace_short}
 use Rattle.cany_model.proofs.Bus.Runs.{IsOrderly, orderly}
 use Rattle.cany_model.proofs.Bus.Seen.{history-is}
 use Rattle.cany_model.proofs.Bus.States.{node_at_past, runs_within}
@@ -33,18 +29,18 @@ use Rattle.can_bus.specs.Bus.{BusParts, Follows}
 use Rattle.can_bus.specs.Rest.{idle_note, idle_trace}
 use Rattle.can_bus.specs.Row.{controller_after}
 use Rattle.can_bus.proofs.RestFacts.{length-idle_trace}
-use Rattle.can_controller.specs.Controller.{ControllerState, node_state}
+use Rattle.can_controller.specs.Controller.{ControllerState}
 use Rattle.cany_node.specs.Node.{NodeParts, IsNodeOf}
 use Rattle.cany_node.specs.Resting.{RestsUntil}
 use Rattle.cany_node.proofs.RestFacts.{rested_as, rested_effects}
 use Rattle.cany_world.specs.Incarnations.{IncarnationsParts}
-use Rattle.cany_world.specs.Kept.{IsBusOf, IsKeptAs, IsKeptAt, IsPresentAt, AreControllersOf, AreNodesOf, StandFor, heard_of, newest_notices, past_of}
+use Rattle.cany_world.specs.Kept.{IsKeptAs, IsKeptAt, IsPresentAt, AreControllersOf, AreNodesOf, StandFor, heard_of, newest_notices, past_of}
 use Rattle.cany_world.specs.Resting.{runs_at as controller_runs}
-use Rattle.cany_world.specs.Resting.{CanAllCount, CanAllPass, CanPass, HaveAllPassed, HavePassed, HavePassedAt, HasPassed, IsCalm, IsFree, IsIdleUntil, MayRest, after_rest, idle_round, idle_rounds, rested, round_of, rounds_of}
+use Rattle.cany_world.specs.Resting.{CanAllCount, CanAllPass, HaveAllPassed, HavePassed, HavePassedAt, IsCalm, IsFree, IsIdleUntil, MayRest, after_rest, idle_round, idle_rounds, rested, round_of, rounds_of}
 use Rattle.cany_world.proofs.ControllerFacts.{kept_slot, stopped_after, stopped_node}
 use Rattle.cany_world.proofs.IdleNotes.{all_ended_rested, heard_rested, past_rested, past_unread, plain_rested}
 use Rattle.cany_world.proofs.IdleRound.{node_at-map, rested_running, rested_stopped}
-use Rattle.cany_world.proofs.InOrder.{HaveSame, IsInOrder, in_order, weaker}
+use Rattle.cany_world.proofs.InOrder.{IsInOrder, in_order, weaker}
 use Rattle.cany_world.proofs.NodeFacts.{kept_still, kept_turned}
 use Rattle.cany_world.proofs.PlaceFacts.{there}
 use Rattle.cany_world.proofs.TurnFacts.{past_length}

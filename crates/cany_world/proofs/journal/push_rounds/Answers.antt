@@ -1,4 +1,4 @@
-use Rattle.std.proofs.Common.{◌≡◌, suc, ◌+◌, ◌-◌, ◌≤◌, ◌++◌, List, length, ap, sym, ◌∙◌, arith}
+use Rattle.std.proofs.Common.{◌≡◌, suc, ◌+◌, ◌-◌, ◌≤◌, ◌++◌, List, length, ap, ◌∙◌, arith}
 use Rattle.std.proofs.lemmas.List.{length-append}
 use Rattle.cany_base.specs.declared.step.Step.{Step}
 use Rattle.cany_base.specs.Bounded.{Bounded}
@@ -7,24 +7,24 @@ use Rattle.cany_world.specs.Resting.{rounds_of}
 use Rattle.cany_world.proofs.JournalRounds.{round_room, rounds_pushed_all, rounds_pushed_next}
 use Rattle.cany_world.proofs.journal.push_rounds.Goals as goal
 
-pub push_round-requires-clause-room : goal.push_round-requires-clause-room
-push_round-requires-clause-room c =
+pub push_steps-requires : goal.push_steps-requires
+push_steps-requires c =
     let row : List ControllerState = c.args.controllers.now in
     let whole : List Step = c.args.journal.now.items ++ rounds_of c.args.slots row in
     let left : c.args.slots - c.loop-slot._slot ≡ suc (c.args.slots - (c.loop-slot._slot + 1)) = omega (arith, c.loop-slot-test.true) in
     let fits : length whole ≤ c.args.journal.now.room = omega (arith, c.requires.room, length-append c.args.journal.now.items (rounds_of c.args.slots row)) in
     let room = round_room row whole c.loop-slot.journal.items (c.args.slots - c.loop-slot._slot) (c.args.slots - (c.loop-slot._slot + 1)) c.args.journal.now.room
     c.loop-slot.invariant.0 left fits in
-    omega (arith, room, c.loop-slot.invariant.1)
+    omega (arith, room, c.loop-slot.invariant.1, ap (λ (l : List Step). length l) c.round_of-steps.ensures.steps)
 
 pub loop-slot-preserved : goal.loop-slot-preserved
 loop-slot-preserved c =
     let row : List ControllerState = c.args.controllers.now in
     let left : c.args.slots - c.loop-slot._slot ≡ suc (c.args.slots - (c.loop-slot._slot + 1)) = omega (arith, c.loop-slot-test.true) in (
-      rounds_pushed_next row (c.args.journal.now.items ++ rounds_of c.args.slots row) c.loop-slot.journal.items c.push_round.new.journal.items
+      rounds_pushed_next row (c.args.journal.now.items ++ rounds_of c.args.slots row) c.loop-slot.journal.items c.push_steps.new.journal.items
           (c.args.slots - c.loop-slot._slot) (c.args.slots - (c.loop-slot._slot + 1)) c.loop-slot.invariant.0 left
-          (ap (λ (b : Bounded Step). b.items) c.push_round.ensures),
-      ap (λ (b : Bounded Step). b.room) c.push_round.ensures ∙ c.loop-slot.invariant.1,
+          (ap (λ (b : Bounded Step). b.items) c.push_steps.ensures ∙ ap (λ (l : List Step). c.loop-slot.journal.items ++ l) c.round_of-steps.ensures.steps),
+      ap (λ (b : Bounded Step). b.room) c.push_steps.ensures ∙ c.loop-slot.invariant.1,
     )
 
 pub returns : goal.returns

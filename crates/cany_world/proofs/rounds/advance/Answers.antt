@@ -1,4 +1,4 @@
-use Rattle.std.proofs.Common.{◌≡◌, suc, ◌+◌, ◌-◌, ◌++◌, sym, ◌∙◌, ap, arith}
+use Rattle.std.proofs.Common.{◌≡◌, suc, ◌-◌, ◌++◌, ◌∙◌, ap, arith}
 use Rattle.cany_model.specs.Bus.RoundRobin.{rounds}
 use Rattle.cany_world.specs.World.{state_of}
 use Rattle.cany_world.proofs.RoundFacts.{IsAdvanced, after_rested, after_round, may_round}

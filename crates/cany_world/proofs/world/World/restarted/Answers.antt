@@ -1,4 +1,4 @@
-use Rattle.std.proofs.Common.{◌≡◌, [], List, length, subst, sym, ◌∙◌}
+use Rattle.std.proofs.Common.{◌≡◌, [], length, subst, sym, ◌∙◌}
 use Rattle.std.proofs.lemmas.Bool.{eqb-true}
 use Rattle.std.proofs.lemmas.List.{nil_from_length}
 use Rattle.cany_model.specs.Bus.Restart.{restarted_in}
