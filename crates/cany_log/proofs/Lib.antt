@@ -6,5 +6,6 @@ pub mod NumberFacts
 pub mod ReportFacts
 pub mod SetTextFacts
 pub mod SummaryFacts
+pub mod TableFacts
 pub mod TextFacts
 pub mod WrittenFacts

@@ -1,11 +1,11 @@
 -- The pieces that the code makes lines of.
-use Rattle.std.specs.Prelude.{ℕ, ◌+◌, List, [], ◌∷◌, Option, Some, None, if◌then◌else◌, length, map, decimal}
+use Rattle.std.specs.Prelude.{ℕ, ◌+◌, List, [], ◌∷◌, Option, Some, None, if◌then◌else◌, length, decimal}
 use Rattle.std.specs.List.{flat_map}
 use Rattle.cany_base.specs.Nodes.{Nodes}
 use Rattle.cany_log.specs.declared.field.Field.{Field}
-use Rattle.cany_log.specs.declared.field.Field.TheVariants.{Text, Number, Count, Signed, Node, Bytes, Set, Steps, NumberIfAny, SetIfAny}
+use Rattle.cany_log.specs.declared.field.Field.TheVariants.{Text, Number, Count, Signed, Node, Bytes, Set, NumberIfAny, SetIfAny}
 use Rattle.cany_model.specs.Texts.RefusalLines.{signed_decimal}
-use Rattle.cany_model.specs.Texts.ReportLines.{has_any, node_text, payload_text, set_text, step_letter}
+use Rattle.cany_model.specs.Texts.ReportLines.{has_any, node_text, payload_text, set_text}
 
 -- the word and the number, where there is one
 abbrev pub number_if_any : List ℕ → Option ℕ → List (List ℕ)
@@ -25,7 +25,6 @@ texts_of (Signed n) = signed_decimal n ∷ []
 texts_of (Node node inc) = node_text node inc ∷ []
 texts_of (Bytes payload) = payload_text payload ∷ []
 texts_of (Set nodes) = set_text nodes ∷ []
-texts_of (Steps steps) = map step_letter steps.now ∷ []
 texts_of (NumberIfAny word n) = number_if_any word.now n
 texts_of (SetIfAny word nodes) = set_if_any word.now nodes
 
@@ -42,7 +41,6 @@ most_bytes (Signed n) = 21
 most_bytes (Node node inc) = 7
 most_bytes (Bytes payload) = 18
 most_bytes (Set nodes) = 182
-most_bytes (Steps steps) = 1 + length steps.now
 most_bytes (NumberIfAny word n) = length word.now + 22
 most_bytes (SetIfAny word nodes) = length word.now + 183
 

@@ -15,7 +15,7 @@ use cany_model::names::{class_name, verdict_name};
 use cany_world::World;
 
 /// The bytes of a data frame. A remote frame has none to show.
-fn frame_payload(frame: &Frame) -> Field<'static>
+fn frame_payload(frame: &Frame) -> Field
     ensures text { texts_of result ≡ report.frame_payload frame.now ∷ [] }
     ensures short { most_bytes result ≤ 18 }
 {

@@ -2,7 +2,7 @@ ghost use Rattle.cany_model.specs.Texts.ReportLines.{entry_line};
 ghost use Rattle.cany_log.specs.Written.{IsWritten};
 
 use crate::field::Field;
-use crate::line::write_line;
+use crate::line::write_short_line;
 use cany_base::LogEntry;
 use cany_io::{Failed, Sink};
 use cany_model::names::service_name;
@@ -19,7 +19,7 @@ pub fn write_entry<K: Sink>(entry: &LogEntry, sink: &mut K) -> Result<(), Failed
             service,
             msg,
             payload,
-        } => write_line(
+        } => write_short_line(
             "deliver",
             &[
                 Field::Number(slot),
@@ -30,7 +30,7 @@ pub fn write_entry<K: Sink>(entry: &LogEntry, sink: &mut K) -> Result<(), Failed
             ],
             sink,
         ),
-        LogEntry::Failed { slot, node, cycle } => write_line(
+        LogEntry::Failed { slot, node, cycle } => write_short_line(
             "failed",
             &[
                 Field::Number(slot),
@@ -43,7 +43,7 @@ pub fn write_entry<K: Sink>(entry: &LogEntry, sink: &mut K) -> Result<(), Failed
             slot,
             number,
             members,
-        } => write_line(
+        } => write_short_line(
             "view",
             &[
                 Field::Number(slot),

@@ -1,8 +1,8 @@
-use cany_base::{NodeId, NodeSet, Payload, Step};
+use cany_base::{NodeId, NodeSet, Payload};
 
 /// A piece of a line: one field of it, or two that stand there together or not at all.
 #[derive(Clone, Copy, Debug)]
-pub(crate) enum Field<'a> {
+pub(crate) enum Field {
     /// Fixed words.
     Text(&'static str),
     /// A number, in decimal.
@@ -16,8 +16,6 @@ pub(crate) enum Field<'a> {
     /// The bytes of a data frame or of a message, in hexadecimal.
     Bytes(Payload),
     Set(NodeSet),
-    /// Steps of a journal, a letter each.
-    Steps(&'a [Step]),
     /// A word and a number, where there is one.
     NumberIfAny(&'static str, Option<u64>),
     /// A word and a set, where it has a node.

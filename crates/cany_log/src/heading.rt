@@ -5,7 +5,7 @@ ghost use Rattle.cany_model.specs.Texts.ReportLines as report;
 ghost use Rattle.cany_log.specs.Written.{IsWritten};
 
 use crate::field::Field;
-use crate::line::write_line;
+use crate::line::{write_line, write_steps};
 use cany_base::{Format, Params, Step};
 use cany_io::{Failed, Sink};
 
@@ -56,16 +56,6 @@ pub(crate) fn write_params<K: Sink>(params: &Params, sink: &mut K) -> Result<(),
         ],
         sink,
     )
-}
-
-/// Writes the line of some steps of the journal, of which there are at most 64.
-#[tactic(auto, unfolding(cany_model::specs::Texts::ReportLines::journal_line))]
-fn write_steps<K: Sink>(steps: &[Step], sink: &mut K) -> Result<(), Failed>
-    requires { length steps.now ≤ 64 }
-    ensures { IsWritten (report.journal_line steps.now) result
-        (K.taken sink.old) (K.taken sink.new) (K.faults sink.old) (K.faults sink.new) }
-{
-    write_line("journal", &[Field::Steps(steps)], sink)
 }
 
 /// Writes the lines of the journal.

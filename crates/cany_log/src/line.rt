@@ -6,12 +6,16 @@ ghost use Rattle.cany_log.specs.Fields.{most_bytes, number_if_any, room_of, set_
 ghost use Rattle.cany_log.specs.Written.{IsWritten};
 
 use crate::field::Field;
-use crate::row::{
-    Row, push_bytes, push_count, push_node, push_number, push_payload, push_set, push_signed,
-    push_steps, push_text,
-};
-use cany_base::NodeSet;
+use crate::row::Row;
+use cany_base::limits::MOST_LINE_BYTES;
+use cany_base::{NodeSet, Step};
 use cany_io::{Failed, Sink, write_whole};
+
+/// How many bytes a short line has at most: one of an entry of a log, with all nodes in a view.
+const SHORT_LINE_BYTES: usize = 256;
+
+/// How many bytes a line of the journal has at most: its word, 64 letters and the line feed.
+const JOURNAL_LINE_BYTES: usize = 73;
 
 /// Whether the set has a node.
 pub(crate) fn has_any(nodes: NodeSet) -> bool
@@ -20,48 +24,75 @@ pub(crate) fn has_any(nodes: NodeSet) -> bool
     nodes.bits() > 0
 }
 
-fn push_number_if_any(row: &mut Row, word: &'static str, number: Option<u64>)
-    requires { length row.old.items + (length word.now + 22) ≤ most_line_bytes }
-    ensures text { row.new.items ≡ row.old.items ++ spaced (number_if_any word.now number) }
+fn put_number_if_any<const ROOM: usize>(
+    row: &mut Row<ROOM>,
+    word: &'static str,
+    number: Option<u64>,
+)
+    requires { length row.old + (length word.now + 22) ≤ ROOM }
+    ensures text { row.new ≡ spaced (number_if_any word.now number) ++ row.old }
     ensures short { length (spaced (number_if_any word.now number)) ≤ length word.now + 22 }
 {
     if let Some(number) = number {
-        push_text(row, word);
-        push_number(row, number);
+        row.put_number(number);
+        row.put_text(word);
     }
 }
 
-fn push_set_if_any(row: &mut Row, word: &'static str, nodes: NodeSet)
-    requires { length row.old.items + (length word.now + 183) ≤ most_line_bytes }
-    ensures text { row.new.items ≡ row.old.items ++ spaced (set_if_any word.now nodes) }
+fn put_set_if_any<const ROOM: usize>(row: &mut Row<ROOM>, word: &'static str, nodes: NodeSet)
+    requires { length row.old + (length word.now + 183) ≤ ROOM }
+    ensures text { row.new ≡ spaced (set_if_any word.now nodes) ++ row.old }
     ensures short { length (spaced (set_if_any word.now nodes)) ≤ length word.now + 183 }
 {
     if has_any(nodes) {
-        push_text(row, word);
-        push_set(row, nodes);
+        row.put_set(nodes);
+        row.put_text(word);
     }
 }
 
-fn push_field(row: &mut Row, field: &Field)
-    requires { length row.old.items + most_bytes field.now ≤ most_line_bytes }
-    ensures text { row.new.items ≡ row.old.items ++ spaced (texts_of field.now) }
+/// Puts a piece before the others, each of its fields with the space before it.
+fn put_field<const ROOM: usize>(row: &mut Row<ROOM>, field: &Field)
+    requires { length row.old + most_bytes field.now ≤ ROOM }
+    ensures text { row.new ≡ spaced (texts_of field.now) ++ row.old }
     ensures short { length (spaced (texts_of field.now)) ≤ most_bytes field.now }
 {
     match *field {
-        Field::Text(text) => push_text(row, text),
-        Field::Number(number) => push_number(row, number),
-        Field::Count(number) => push_count(row, number),
-        Field::Signed(number) => push_signed(row, number),
-        Field::Node(node, inc) => push_node(row, node, inc),
-        Field::Bytes(payload) => push_payload(row, &payload),
-        Field::Set(set) => push_set(row, set),
-        Field::Steps(steps) => push_steps(row, steps),
-        Field::NumberIfAny(word, number) => push_number_if_any(row, word, number),
-        Field::SetIfAny(word, set) => push_set_if_any(row, word, set),
+        Field::Text(text) => row.put_text(text),
+        Field::Number(number) => row.put_number(number),
+        Field::Count(number) => row.put_count(number),
+        Field::Signed(number) => row.put_signed(number),
+        Field::Node(node, inc) => row.put_node(node, inc),
+        Field::Bytes(payload) => row.put_payload(&payload),
+        Field::Set(set) => row.put_set(set),
+        Field::NumberIfAny(word, number) => put_number_if_any(row, word, number),
+        Field::SetIfAny(word, set) => put_set_if_any(row, word, set),
     }
 }
 
-/// Writes a line that begins with these words. It is put together before the sink is given any of it, and takes no memory.
+/// Writes a line of at most so many bytes that begins with these words. It is put together before the sink is given any of it, and
+/// takes no memory.
+fn write_row<const ROOM: usize, K: Sink>(
+    words: &'static str,
+    fields: &[Field],
+    sink: &mut K,
+) -> Result<(), Failed>
+    requires short { ROOM ≤ most_line_bytes }
+    requires room { length words.now + room_of fields.now + 1 ≤ ROOM }
+    ensures { IsWritten (report.line_of (words.now ∷ flat_map texts_of fields.now)) result
+        (K.taken sink.old) (K.taken sink.new) (K.faults sink.old) (K.faults sink.new) }
+{
+    let mut row: Row<ROOM> = Row::new();
+    row.put_bytes(b"\n");
+    let mut left = fields.len();
+    while left > 0 {
+        left -= 1;
+        put_field(&mut row, &fields[left]);
+    }
+    row.put_bytes(words.as_bytes());
+    write_whole(sink, row.as_slice())
+}
+
+/// Writes a line that begins with these words.
 pub(crate) fn write_line<K: Sink>(
     words: &'static str,
     fields: &[Field],
@@ -71,11 +102,33 @@ pub(crate) fn write_line<K: Sink>(
     ensures { IsWritten (report.line_of (words.now ∷ flat_map texts_of fields.now)) result
         (K.taken sink.old) (K.taken sink.new) (K.faults sink.old) (K.faults sink.new) }
 {
-    let mut row = Row::new();
-    push_bytes(&mut row, words.as_bytes());
-    for field in fields {
-        push_field(&mut row, field);
-    }
-    push_bytes(&mut row, b"\n");
+    write_row::<MOST_LINE_BYTES, K>(words, fields, sink)
+}
+
+/// Writes a short line that begins with these words. Lines that a report has many of are short: the bytes of a row are cleared before
+/// it is filled, which for a long one costs as much as filling it.
+pub(crate) fn write_short_line<K: Sink>(
+    words: &'static str,
+    fields: &[Field],
+    sink: &mut K,
+) -> Result<(), Failed>
+    requires room { length words.now + room_of fields.now + 1 ≤ 256 }
+    ensures { IsWritten (report.line_of (words.now ∷ flat_map texts_of fields.now)) result
+        (K.taken sink.old) (K.taken sink.new) (K.faults sink.old) (K.faults sink.new) }
+{
+    write_row::<SHORT_LINE_BYTES, K>(words, fields, sink)
+}
+
+/// Writes the line of some steps of a journal, of which there are at most 64.
+#[tactic(auto, unfolding(cany_model::specs::Texts::ReportLines::journal_line, cany_model::specs::Texts::ReportLines::line_of))]
+pub(crate) fn write_steps<K: Sink>(steps: &[Step], sink: &mut K) -> Result<(), Failed>
+    requires { length steps.now ≤ 64 }
+    ensures { IsWritten (report.journal_line steps.now) result
+        (K.taken sink.old) (K.taken sink.new) (K.faults sink.old) (K.faults sink.new) }
+{
+    let mut row: Row<JOURNAL_LINE_BYTES> = Row::new();
+    row.put_bytes(b"\n");
+    row.put_steps(steps);
+    row.put_bytes(b"journal ");
     write_whole(sink, row.as_slice())
 }

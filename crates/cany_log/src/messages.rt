@@ -6,7 +6,7 @@ ghost use Rattle.cany_log.specs.Written.{IsWritten};
 ghost use Rattle.cany_world.specs.World.{state_of};
 
 use crate::field::Field;
-use crate::line::write_line;
+use crate::line::write_short_line;
 use cany_base::SendAsk;
 use cany_io::{Failed, Sink};
 use cany_model::names::service_name;
@@ -29,7 +29,7 @@ pub(crate) fn write_message<K: Sink>(
     }) is_settled) result
         (K.taken sink.old) (K.taken sink.new) (K.faults sink.old) (K.faults sink.new) }
 {
-    write_line(
+    write_short_line(
         "message",
         &[
             Field::Text(service_name(send.service)),
