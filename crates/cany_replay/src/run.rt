@@ -21,24 +21,26 @@ pub(crate) enum RunFault {
     Memory,
 }
 
-/// The run of the scenario by its own journal, where it has one, and otherwise by its round robin journal.
+/// The run of the scenario by its own journal, where it has one, and otherwise by its round robin journal. The world has a copy of the
+/// scenario, and this one is given up before a run by round robin.
 ///
 /// # Errors
 ///
 /// `Journal` only where its own journal has a fault, `Memory` for want of memory.
-pub(crate) fn run(alloc: Global, scenario: &Scenario) -> Result<World, RunFault>
-    ensures ended { IfOk result (λ world. world ≡ record { scenario = scenario.now; journal = journal_of scenario.now }) }
-    ensures followed { IfOk result (λ _. own_fault scenario.now ≡ None) }
-    ensures promises { IfOk result (λ _. KeepsPromises scenario.now) }
-    ensures refused { IfErr result (λ fault. IfJournal fault (λ found. own_fault scenario.now ≡ Some found)) }
+pub(crate) fn run(alloc: Global, scenario: Scenario) -> Result<World, RunFault>
+    ensures ended { IfOk result (λ world. world ≡ record { scenario = scenario; journal = journal_of scenario }) }
+    ensures followed { IfOk result (λ _. own_fault scenario ≡ None) }
+    ensures promises { IfOk result (λ _. KeepsPromises scenario) }
+    ensures refused { IfErr result (λ fault. IfJournal fault (λ found. own_fault scenario ≡ Some found)) }
 {
     // The laws by which the journal that is made or followed is legal and whole.
     round_robin_is_whole();
     followed_journals();
-    let Ok(mut world) = World::build(alloc, scenario) else {
+    let Ok(mut world) = World::build(alloc, &scenario) else {
         return Err(RunFault::Memory);
     };
     let Some(journal) = scenario.journal() else {
+        drop(scenario);
         round_robin(&mut world);
         // What this call says of the run is a part of the contract here, too.
         world.hypothesis();

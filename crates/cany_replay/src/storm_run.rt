@@ -39,7 +39,7 @@ fn run_storm<K: Sink>(alloc: Global, number: u32, sink: &mut K) -> u8
     let Ok(scenario) = storm_scenario(alloc, number) else {
         return NO_MEMORY;
     };
-    match run(alloc, &scenario) {
+    match run(alloc, scenario) {
         Ok(world) => summarize(&world, number, sink),
         // A storm brings no journal that could be refused.
         Err(RunFault::Journal(_)) => unreachable!(),

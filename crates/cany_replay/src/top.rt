@@ -59,13 +59,13 @@ pub fn refuse<K: Sink>(refusal: &Refusal, sink: &mut K) -> u8
 }
 
 /// Runs a scenario and writes the report, or refuses its journal. Nothing is written before the run has ended.
-fn replay_scenario<K: Sink>(alloc: Global, scenario: &Scenario, sink: &mut K) -> u8
-    ensures done { result ≡ DONE → Takes (K.taken sink.old) (report scenario.now (journal_of scenario.now)) (K.taken sink.new) }
-    ensures followed { result ≡ DONE → own_fault scenario.now ≡ None }
-    ensures promises { result ≡ DONE → KeepsPromises scenario.now }
-    ensures refused { result ≡ REFUSED → IsSomeAnd (own_fault scenario.now) (λ fault. Takes (K.taken sink.old) (journal_refusal_line fault) (K.taken sink.new)) }
+fn replay_scenario<K: Sink>(alloc: Global, scenario: Scenario, sink: &mut K) -> u8
+    ensures done { result ≡ DONE → Takes (K.taken sink.old) (report scenario (journal_of scenario)) (K.taken sink.new) }
+    ensures followed { result ≡ DONE → own_fault scenario ≡ None }
+    ensures promises { result ≡ DONE → KeepsPromises scenario }
+    ensures refused { result ≡ REFUSED → IsSomeAnd (own_fault scenario) (λ fault. Takes (K.taken sink.old) (journal_refusal_line fault) (K.taken sink.new)) }
     ensures write_fault { result ≡ WRITE_FAULT → HasRisen (K.faults sink.old) (K.faults sink.new) }
-    ensures prefix { result ≡ WRITE_FAULT → TakesPrefix (K.taken sink.old) (answer_for scenario.now) (K.taken sink.new) }
+    ensures prefix { result ≡ WRITE_FAULT → TakesPrefix (K.taken sink.old) (answer_for scenario) (K.taken sink.new) }
     ensures untouched { result ≡ NO_MEMORY → sink.new ≡ sink.old }
     ensures status { (result ≡ DONE) ⊎ (result ≡ REFUSED) ⊎ (result ≡ WRITE_FAULT) ⊎ (result ≡ NO_MEMORY) }
 {
@@ -102,7 +102,7 @@ fn replay_text<K: Sink>(alloc: Global, text: Vec<u8>, sink: &mut K) -> u8
     ensures status { (result ≡ DONE) ⊎ (result ≡ REFUSED) ⊎ (result ≡ WRITE_FAULT) ⊎ (result ≡ NO_MEMORY) }
 {
     match scenario_in(alloc, text) {
-        Ok(scenario) => replay_scenario(alloc, &scenario, sink),
+        Ok(scenario) => replay_scenario(alloc, scenario, sink),
         Err(fault) if is_memory(&fault) => NO_MEMORY,
         Err(fault) => refuse(&Refusal::Scenario(fault), sink),
     }
