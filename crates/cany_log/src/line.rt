@@ -12,7 +12,7 @@ use cany_base::{NodeSet, Step};
 use cany_io::{Failed, Sink, write_whole};
 
 /// How many bytes a short line has at most: one of an entry of a log, with all nodes in a view.
-const SHORT_LINE_BYTES: usize = 256;
+pub(crate) const SHORT_LINE_BYTES: usize = 256;
 
 /// How many bytes a line of the journal has at most: its word, 64 letters and the line feed.
 const JOURNAL_LINE_BYTES: usize = 73;
@@ -69,8 +69,8 @@ fn put_field<const ROOM: usize>(row: &mut Row<ROOM>, field: &Field)
     }
 }
 
-/// Writes a line of at most so many bytes that begins with these words. It is put together before the sink is given any of it, and
-/// takes no memory.
+/// Writes a line of at most so many bytes that begins with these words. It is put together before the sink is given any of
+/// it, and takes no memory.
 fn write_row<const ROOM: usize, K: Sink>(
     words: &'static str,
     fields: &[Field],
@@ -105,8 +105,8 @@ pub(crate) fn write_line<K: Sink>(
     write_row::<MOST_LINE_BYTES, K>(words, fields, sink)
 }
 
-/// Writes a short line that begins with these words. Lines that a report has many of are short: the bytes of a row are cleared before
-/// it is filled, which for a long one costs as much as filling it.
+/// Writes a short line that begins with these words. Lines that a report has many of are short: the bytes of a row are
+/// cleared before it is filled, which for a long one costs as much as filling it.
 pub(crate) fn write_short_line<K: Sink>(
     words: &'static str,
     fields: &[Field],

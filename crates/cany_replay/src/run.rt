@@ -21,8 +21,8 @@ pub(crate) enum RunFault {
     Memory,
 }
 
-/// The run of the scenario by its own journal, where it has one, and otherwise by its round robin journal. The world has a copy of the
-/// scenario, and this one is given up before a run by round robin.
+/// The run of the scenario by its own journal, where it has one, and otherwise by its round robin journal. The world has a copy
+/// of the scenario, and this one is given up before a run by round robin.
 ///
 /// # Errors
 ///
