@@ -104,7 +104,7 @@ oldest scenario trace i node c notice kept short first =
 
 -- ---- a slot
 
-running_after : (i : ℕ) (note : SlotNote) (c : ControllerState) → c.stopped ≡ None
+pub running_after : (i : ℕ) (note : SlotNote) (c : ControllerState) → c.stopped ≡ None
     → controller_after i note c ≡ (if has note.stops i then stopped_at note.slot (seen note.slot (share_of i note) c) else seen note.slot (share_of i note) c)
 unfolding controller_after
 running_after i note c running = rw running refl

@@ -24,6 +24,7 @@ pub mod RoundFacts
 pub mod SettledFacts
 pub mod SlotFacts
 pub mod StepFacts
+pub mod StretchFacts
 pub mod Told
 pub mod TurnFacts
 pub mod WorldFacts

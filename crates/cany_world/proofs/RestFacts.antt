@@ -1,23 +1,26 @@
--- A stretch of idle slots: that the next slots are one, and that bus, controllers and nodes stand for the run after it.
-use Rattle.std.proofs.Common.{◌≡◌, ℕ, zero, suc, ◌+◌, ◌<◌, ◌≤◌, true, false, List, [], ◌∷◌, ◌++◌, length, map, take, replicate, refl, ap, sym, ◌∙◌, subst, inl, inr, arith}
+-- A stretch of idle slots: that the next slots are one, and what idle slots leave of a controller and its node.
+use Rattle.std.proofs.Common.{◌≡◌, ℕ, zero, suc, ◌+◌, ◌-◌, ◌<◌, ◌≤◌, true, false, List, [], ◌∷◌, ◌++◌, length, map, take, replicate, refl, ap, sym, ◌∙◌, subst, inl, inr, arith}
 use Rattle.std.specs.List.{range_with_len}
 use Rattle.std.specs.Option.{option_map_or}
-use Rattle.std.specs.Prelude.{is_none, filter, nat_lt, slice_get, slice_set, ◌||◌, Option, Some, None}
+use Rattle.std.specs.Prelude.{if◌then◌else◌, is_none, filter, nat_lt, slice_get, slice_set, ◌||◌, Option, Some, None}
 use Rattle.std.proofs.lemmas.Bool.{cases_lt, true≢false}
-use Rattle.std.proofs.lemmas.Option.{slice_get_past, slice_get_within}
+use Rattle.std.proofs.lemmas.List.{length-append}
+use Rattle.std.proofs.lemmas.Option.{slice_get_past}
 use Rattle.cany_base.specs.declared.notice.Notice.{Notice}
 use Rattle.cany_base.specs.declared.notice.NoticeKind.{NoticeKind}
 use Rattle.cany_base.specs.declared.notice.NoticeKind.TheVariants.{Idle}
-use Rattle.cany_base.specs.declared.rule.Rule.{Rule}
 use Rattle.cany_base.specs.declared.slot_note.SlotNote.{SlotNote}
 use Rattle.cany_base.specs.declared.step.Step.{Step}
 use Rattle.cany_base.specs.declared.step.Step.TheVariants.{Slot, Turn}
 use Rattle.cany_base.specs.Limits.{greatest_error_counter}
+use Rattle.cany_base.specs.Nodes.{Nodes}
 use Rattle.cany_base.specs.Scenario.{ScenarioParts, IsLegalScenario}
+use Rattle.cany_base.proofs.NodesFacts.{has_none}
 use Rattle.cany_base.proofs.ParamsFacts.{few_slots}
+use Rattle.cany_model.specs.declared.share.Share.TheVariants as share
 use Rattle.cany_model.specs.Bus.History.{history}
 use Rattle.cany_model.specs.Bus.Run.{run}
-use Rattle.cany_model.specs.Bus.Slot.{node_after}
+use Rattle.cany_model.specs.Bus.Slot.{after_share, exceeds, node_after, share_of}
 use Rattle.cany_model.specs.Bus.State.{NodeState, RunState, node_at, runs, slots_run}
 use Rattle.cany_model.specs.Rules.Turn.{effects_for, scenario_for, turn_effects}
 use Rattle.cany_model.proofs.Bus.Runs.{IsOrderly, orderly}
@@ -25,36 +28,38 @@ use Rattle.cany_model.proofs.Bus.Seen.{history-is}
 use Rattle.cany_model.proofs.Bus.States.{node_at_past, runs_within}
 use Rattle.cany_model.proofs.Rules.ErrorFacts.{error_turn}
 use Rattle.cany_model.proofs.Rules.IncarnationFacts.{effects_for-is}
-use Rattle.can_bus.specs.Bus.{BusParts, Follows}
+use Rattle.can_bus.specs.Bus.{BusParts}
 use Rattle.can_bus.specs.Rest.{idle_note, idle_trace}
 use Rattle.can_bus.specs.Row.{controller_after}
 use Rattle.can_bus.proofs.RestFacts.{length-idle_trace}
-use Rattle.can_controller.specs.Controller.{ControllerState}
+use Rattle.can_controller.specs.Controller.{ControllerState, node_state, seen, stopped_at}
 use Rattle.cany_node.specs.Node.{NodeParts, IsNodeOf}
 use Rattle.cany_node.specs.Resting.{RestsUntil}
 use Rattle.cany_node.proofs.RestFacts.{rested_as, rested_effects}
 use Rattle.cany_world.specs.Incarnations.{IncarnationsParts}
 use Rattle.cany_world.specs.Kept.{IsKeptAs, IsKeptAt, IsPresentAt, AreControllersOf, AreNodesOf, StandFor, heard_of, newest_notices, past_of}
 use Rattle.cany_world.specs.Resting.{runs_at as controller_runs}
-use Rattle.cany_world.specs.Resting.{CanAllCount, CanAllPass, HaveAllPassed, HavePassed, HavePassedAt, IsCalm, IsFree, IsIdleUntil, MayRest, after_rest, idle_round, idle_rounds, rested, round_of, rounds_of}
-use Rattle.cany_world.proofs.ControllerFacts.{kept_slot, stopped_after, stopped_node}
+use Rattle.cany_world.specs.Resting.{CanAllPass, CanCount, IncarnationRests, IsCalm, IsIdleFor, IsOpen, MayRest, after_rest, idle_round, idle_rounds, passes, rested, round_of, rounds_of}
+use Rattle.cany_world.proofs.ControllerFacts.{kept_slot, running_after, stopped_after, stopped_node}
 use Rattle.cany_world.proofs.IdleNotes.{all_ended_rested, heard_rested, past_rested, past_unread, plain_rested}
-use Rattle.cany_world.proofs.IdleRound.{node_at-map, rested_running, rested_stopped}
-use Rattle.cany_world.proofs.InOrder.{IsInOrder, in_order, weaker}
+use Rattle.cany_world.proofs.IdleRound.{IsIdleNext, idle_node, node_at-map, one_unread, rested_running}
+use Rattle.cany_world.proofs.IdleRounds.{still_is, still_runs}
+use Rattle.cany_world.proofs.InOrder.{IsInOrder, weaker}
 use Rattle.cany_world.proofs.NodeFacts.{kept_still, kept_turned}
+use Rattle.cany_world.proofs.PassFacts.{passes_few, passes_most}
 use Rattle.cany_world.proofs.PlaceFacts.{there}
 use Rattle.cany_world.proofs.TurnFacts.{past_length}
 
 -- ---- a node that runs, and its part of the program
 
 -- the controller and the incarnations of node i, which runs
-record IsThere (scenario : ScenarioParts) (s : RunState) (row : List ControllerState) (kept : List IncarnationsParts) (i : ℕ) : Type 0 where
-  c : ControllerState
-  v : IncarnationsParts
-  at : slice_get row i ≡ Some c
-  node_at : slice_get kept i ≡ Some v
+pub record IsThere (scenario : ScenarioParts) (s : RunState) (row : List ControllerState) (kept : List IncarnationsParts) (i : ℕ) : Type 0 where
+  pub c : ControllerState
+  pub v : IncarnationsParts
+  pub at : slice_get row i ≡ Some c
+  pub node_at : slice_get kept i ≡ Some v
 
-is_there : (scenario : ScenarioParts) (s : RunState) (row : List ControllerState) (kept : List IncarnationsParts) (i : ℕ) → AreControllersOf scenario s row
+pub is_there : (scenario : ScenarioParts) (s : RunState) (row : List ControllerState) (kept : List IncarnationsParts) (i : ℕ) → AreControllersOf scenario s row
     → AreNodesOf scenario s kept → i < scenario.params.nodes → IsThere scenario s row kept i
 is_there scenario s row kept i controllers nodes within =
     let c = there row i (omega (arith, within, controllers.whole)) in
@@ -65,18 +70,24 @@ running_stop : (stopped : Option ℕ) → is_none stopped ≡ true → stopped �
 running_stop None e = refl
 running_stop (Some slot) e = absurd (true≢false (sym e))
 
-calm_of : (scenario : ScenarioParts) (trace : List SlotNote) (i end : ℕ) (node : NodeState) (c : ControllerState) (v : IncarnationsParts)
-    → IsKeptAs scenario trace i node c → c.stopped ≡ None → IsIdleUntil end c v → IsCalm node
-calm_of scenario trace i end node c v kept running idle = record {
+calm_of : (scenario : ScenarioParts) (trace : List SlotNote) (i next slots : ℕ) (node : NodeState) (c : ControllerState) (v : IncarnationsParts)
+    → IsKeptAs scenario trace i node c → c.stopped ≡ None → IsIdleFor next slots c v → IsCalm node
+calm_of scenario trace i next slots node c v kept running idle = record {
   waiting = sym kept.waiting ∙ idle.waiting;
   unread = sym (kept.all running) ∙ ap (λ (l : List Notice). length l) idle.unread;
   counters = ap (λ n. nat_lt greatest_error_counter n || nat_lt greatest_error_counter node.receive) (sym kept.transmit)
       ∙ ap (λ n. nat_lt greatest_error_counter c.transmit || nat_lt greatest_error_counter n) (sym kept.receive) ∙ idle.counters;
 }
 
-module _ (scenario : ScenarioParts) (journal : List Step) (slots : ℕ) (bus : BusParts) (row : List ControllerState) (kept : List IncarnationsParts)
-    (stands : StandFor scenario (run scenario journal) bus row kept) (passes : CanAllPass (slots_run (run scenario journal)) slots row kept) (some : 0 < slots)
-    (room : slots_run (run scenario journal) + slots ≤ scenario.params.slots) where
+-- a node that has read so many notices has nothing to do in slots before this one, of which there are none
+rests_on : (next slots : ℕ) (v : IncarnationsParts) (it : NodeParts) → (0 < slots → IncarnationRests (next + slots) v) → slice_get v.nodes v.present ≡ Some it
+    → it.read ≡ next → RestsUntil (next + slots) it
+rests_on next zero v it rests at read = λ scenario past stands since early within. absurd (omega (arith, read, since, early))
+rests_on next (suc slots) v it rests at read = rests (omega arith) it at
+
+module _ (scenario : ScenarioParts) (journal : List Step) (slots : ℕ) (due : Nodes) (bus : BusParts) (row : List ControllerState) (kept : List IncarnationsParts)
+    (stands : StandFor scenario (run scenario journal) bus row kept) (passes_on : CanAllPass (slots_run (run scenario journal)) slots due row kept)
+    (open_on : IsOpen scenario (run scenario journal) slots) where
   abbrev s : RunState
   s = run scenario journal
 
@@ -87,35 +98,38 @@ module _ (scenario : ScenarioParts) (journal : List Step) (slots : ℕ) (bus : B
   o = orderly scenario journal
 
   -- what is known of a node that runs
-  record Runs (i : ℕ) : Type 0 where
-    at : IsThere scenario s row kept i
-    ctl : IsKeptAs scenario s.trace i (node i) at.c
-    is : IsKeptAt scenario s.trace i (node i) at.v
-    running : at.c.stopped ≡ None
-    idle : IsIdleUntil (slots_run s + slots) at.c at.v
-    calm : IsCalm (node i)
+  pub record Runs (i : ℕ) : Type 0 where
+    pub at : IsThere scenario s row kept i
+    pub ctl : IsKeptAs scenario s.trace i (node i) at.c
+    pub is : IsKeptAt scenario s.trace i (node i) at.v
+    pub running : at.c.stopped ≡ None
+    pub idle : IsIdleFor (slots_run s) (passes slots due i) at.c at.v
+    pub calm : IsCalm (node i)
+    pub heard : length (heard_of i s.trace (node i)) ≡ slots_run s
+    pub rests : RestsUntil (slots_run s + passes slots due i) is.present.it
 
-  runs_at : (i : ℕ) → runs (node i) ≡ true → Runs i
+  pub runs_at : (i : ℕ) → runs (node i) ≡ true → Runs i
   runs_at i running =
       let at = is_there scenario s row kept i stands.controllers stands.nodes (subst (λ n. i < n) o.count (runs_within s.nodes i running)) in
       let ctl : IsKeptAs scenario s.trace i (node i) at.c = stands.controllers.each i at.c at.at in
+      let is : IsKeptAt scenario s.trace i (node i) at.v = stands.nodes.each i at.v at.node_at in
       let none : at.c.stopped ≡ None = ctl.stopped ∙ running_stop (node i).stopped running in
-      let idle : IsIdleUntil (slots_run s + slots) at.c at.v = passes i at.c at.v at.at at.node_at none some in
+      let idle : IsIdleFor (slots_run s) (passes slots due i) at.c at.v = passes_on i at.c at.v at.at at.node_at none in
+      let calm : IsCalm (node i) = calm_of scenario s.trace i (slots_run s) (passes slots due i) (node i) at.c at.v ctl none idle in
+      let heard : length (heard_of i s.trace (node i)) ≡ slots_run s = omega (arith, past_length s i, calm.unread) in
       record {
         at = at;
         ctl = ctl;
-        is = stands.nodes.each i at.v at.node_at;
+        is = is;
         running = none;
         idle = idle;
-        calm = calm_of scenario s.trace i (slots_run s + slots) (node i) at.c at.v ctl none idle;
+        calm = calm;
+        heard = heard;
+        rests = rests_on (slots_run s) (passes slots due i) at.v is.present.it idle.node is.present.at (is.present.stands.read ∙ heard);
       }
 
-  -- what it has heard, and for how long it rests
-  heard_length : (i : ℕ) → (node i).unread ≡ 0 → length (heard_of i s.trace (node i)) ≡ slots_run s
-  heard_length i all = omega (arith, past_length s i, all)
-
-  -- in the turn of each of the slots nothing is done
-  nothing_at : (n i : ℕ) → n < slots → runs (node i) ≡ true
+  -- in the turn of each of the slots that it passes nothing is done
+  pub nothing_at : (n i : ℕ) → n < passes slots due i → runs (node i) ≡ true
       → effects_for (node i).present.number scenario (node i).present i (history i (after_rest (n + 1) s)) ≡ []
   nothing_at n i less running =
       let r : Runs i = runs_at i running in
@@ -123,7 +137,6 @@ module _ (scenario : ScenarioParts) (journal : List Step) (slots : ℕ) (bus : B
       let follows : ScenarioParts = scenario_for scenario (node i).present in
       let heard : List NoticeKind = heard_of i s.trace (node i) in
       let past : List NoticeKind = past_of i s.trace (node i) in
-      let long = heard_length i r.calm.unread in
       let here : node_at (after_rest (n + 1) s).nodes i ≡ node i =
       node_at-map (rested (n + 1)) s.nodes i (runs_within s.nodes i running) ∙ rested_running (n + 1) (node i) running in
       let reads : history i (after_rest (n + 1) s) ≡ replicate (n + 1) Idle ++ past =
@@ -132,7 +145,8 @@ module _ (scenario : ScenarioParts) (journal : List Step) (slots : ℕ) (bus : B
       let more : replicate (n + 1) Idle ++ past ≡ Idle ∷ (replicate n Idle ++ past) = next_idle n past in
       let none : turn_effects follows i (Idle ∷ (replicate n Idle ++ heard)) ≡ [] =
       subst (λ k. turn_effects follows k (Idle ∷ (replicate n Idle ++ heard)) ≡ []) p.number
-      (rested_effects follows heard p.it (slots_run s + slots) slots (r.idle.node p.it p.at) p.stands (omega (arith, long)) (omega (arith, long, room)) n less) in
+      (rested_effects follows heard p.it (slots_run s + passes slots due i) (passes slots due i) r.rests p.stands (omega (arith, r.heard))
+      (omega (arith, r.heard, open_on.room, passes_few slots due i)) n less) in
       effects_for-is scenario (node i).present i (history i (after_rest (n + 1) s))
       ∙ ap (turn_effects follows i) (reads ∙ more)
       ∙ sym (error_turn follows i (Idle ∷ (replicate n Idle ++ past)))
@@ -142,19 +156,31 @@ module _ (scenario : ScenarioParts) (journal : List Step) (slots : ℕ) (bus : B
       next_idle : (n : ℕ) (past : List NoticeKind) → replicate (n + 1) Idle ++ past ≡ Idle ∷ (replicate n Idle ++ past)
       next_idle n past = let e : n + 1 ≡ suc n = omega arith in ap (λ k. replicate k Idle ++ past) e
 
-  -- so the stretch is one of idle slots
-  pub may_rest : ((slot : ℕ) → slots_run s ≤ slot → slot < slots_run s + slots → IsFree scenario slot) → MayRest scenario s slots
-  may_rest free = record {
-    room = room;
-    free = free;
+  -- so before the last one no node has anything to do
+  pub may_rest : (fewer : ℕ) → fewer + 1 ≡ slots → MayRest scenario s fewer
+  may_rest fewer e = record {
+    room = omega (arith, open_on.room, e);
+    free = λ slot from below. open_on.free slot from (omega (arith, below, e));
     calm = λ i running. (runs_at i running).calm;
-    nothing = nothing_at;
+    nothing = λ n i less running. nothing_at n i (omega (arith, less, e, passes_most slots due i)) running;
   }
+
+  -- and the last one is idle
+  pub last_idle : (fewer : ℕ) → fewer + 1 ≡ slots → IsIdleNext scenario (after_rest fewer s)
+  last_idle fewer e =
+      let long : slots_run (after_rest fewer s) ≡ slots_run s + fewer = omega (arith, length-idle_trace fewer s.trace) in
+      record {
+        room = omega (arith, open_on.room, e, long);
+        free = open_on.free (slots_run (after_rest fewer s)) (omega (arith, long)) (omega (arith, long, e));
+        calm = λ i runs_on.
+            let running : runs (node i) ≡ true = sym (still_runs fewer s i) ∙ runs_on in
+            subst (λ (x : NodeState). IsCalm x) (sym (still_is fewer s i running)) (runs_at i running).calm;
+      }
 
 -- ---- controllers after it
 
 -- of a stopped node only the count of unread slots rises
-stopped_rests : (scenario : ScenarioParts) (trace : List SlotNote) (i : ℕ) (node : NodeState) (c : ControllerState) (stop : ℕ) → IsKeptAs scenario trace i node c
+pub stopped_rests : (scenario : ScenarioParts) (trace : List SlotNote) (i : ℕ) (node : NodeState) (c : ControllerState) (stop : ℕ) → IsKeptAs scenario trace i node c
     → node.unread ≤ length trace → c.stopped ≡ Some stop → (slots : ℕ)
     → IsKeptAs scenario (idle_trace slots trace) i (record node { unread = node.unread + slots }) c
 unfolding idle_trace
@@ -175,7 +201,7 @@ stopped_rests scenario trace i node c stop kept short stopped (suc slots) =
     (subst (IsKeptAs scenario (note ∷ now) i (node_after i note (record node { unread = node.unread + slots }))) (stopped_after i note c stop stopped) next))
 
 -- a running one has read them
-running_rests : (scenario : ScenarioParts) (trace : List SlotNote) (i : ℕ) (node : NodeState) (c : ControllerState) (slots : ℕ) → IsKeptAs scenario trace i node c
+pub running_rests : (scenario : ScenarioParts) (trace : List SlotNote) (i : ℕ) (node : NodeState) (c : ControllerState) (slots : ℕ) → IsKeptAs scenario trace i node c
     → node.unread ≡ 0 → c.unread ≡ [] → IsKeptAs scenario (idle_trace slots trace) i node (record c { read = c.read + slots })
 running_rests scenario trace i node c slots kept all none = record {
   number = kept.number;
@@ -224,140 +250,43 @@ module _ (scenario : ScenarioParts) (trace : List SlotNote) (i slots : ℕ) (nod
       (subst (λ past. IsNodeOf (scenario_for scenario node.present) past after) (sym (heard_rested i slots trace node all))
       (rested_as (scenario_for scenario node.present) (heard_of i trace node) kept.present.it after end slots rests kept.present.stands refl early within))
 
--- ---- all of them
+-- ---- one slot more
 
-module _ (scenario : ScenarioParts) (journal : List Step) (slots : ℕ) (bus bus' : BusParts) (row row' : List ControllerState) (kept kept' : List IncarnationsParts)
-    (stands : StandFor scenario (run scenario journal) bus row kept) (passes : CanAllPass (slots_run (run scenario journal)) slots row kept) (some : 0 < slots)
-    (may : MayRest scenario (run scenario journal) slots) (passed : HaveAllPassed slots row row' kept kept') where
-  abbrev was : RunState
-  was = run scenario journal
-
-  abbrev is : RunState
-  is = after_rest slots was
-
-  -- what is known of node i before and after
-  record Passes (i : ℕ) : Type 0 where
-    before : IsThere scenario was row kept i
-    within : i < length was.nodes
-    ctl : IsKeptAs scenario was.trace i (node_at was.nodes i) before.c
-    at : IsKeptAt scenario was.trace i (node_at was.nodes i) before.v
-    after : HavePassedAt slots i row' kept' before.c before.v
-
-  passes_at : (i : ℕ) → i < scenario.params.nodes → Passes i
-  passes_at i within =
-      let before = is_there scenario was row kept i stands.controllers stands.nodes within in
-      record {
-        before = before;
-        within = omega (arith, within, (orderly scenario journal).count);
-        ctl = stands.controllers.each i before.c before.at;
-        at = stands.nodes.each i before.v before.node_at;
-        after = passed.each i before.c before.v before.at before.node_at;
-      }
-
-  -- the state of node i after it
-  state_running : (i : ℕ) → i < length was.nodes → (node_at was.nodes i).stopped ≡ None → node_at is.nodes i ≡ node_at was.nodes i
-  state_running i within running = node_at-map (rested slots) was.nodes i within ∙ rested_running slots (node_at was.nodes i) (ap is_none running)
-
-  state_stopped : (i stop : ℕ) → i < length was.nodes → (node_at was.nodes i).stopped ≡ Some stop
-      → node_at is.nodes i ≡ record (node_at was.nodes i) { unread = (node_at was.nodes i).unread + slots }
-  state_stopped i stop within stopped = node_at-map (rested slots) was.nodes i within ∙ rested_stopped slots (node_at was.nodes i) (ap is_none stopped)
-
-  -- both at once
-  record IsKeptBoth (i : ℕ) (c : ControllerState) (v : IncarnationsParts) : Type 0 where
-    ctl : IsKeptAs scenario is.trace i (node_at is.nodes i) c
-    at : IsKeptAt scenario is.trace i (node_at is.nodes i) v
-
-  both_running : (i : ℕ) (p : Passes i) → p.before.c.stopped ≡ None → IsKeptBoth i p.after.after p.after.node
-  both_running i p running =
-      let node : NodeState = node_at was.nodes i in
-      let none : node.stopped ≡ None = sym p.ctl.stopped ∙ running in
-      let idle : IsIdleUntil (slots_run was + slots) p.before.c p.before.v = passes i p.before.c p.before.v p.before.at p.before.node_at running some in
-      let calm : IsCalm node = may.calm i (ap is_none none) in
-      let state : node ≡ node_at is.nodes i = sym (state_running i p.within none) in
-      let long : length (heard_of i was.trace node) ≡ slots_run was = omega (arith, past_length was i, calm.unread) in
-      let changes : HavePassed None slots p.before.c p.after.after p.before.v p.after.node =
-      subst (λ stopped. HavePassed stopped slots p.before.c p.after.after p.before.v p.after.node) running p.after.passed in
-      record {
-        ctl = subst (λ (x : NodeState). IsKeptAs scenario is.trace i x p.after.after) state
-            (subst (IsKeptAs scenario is.trace i node) (sym changes.0) (running_rests scenario was.trace i node p.before.c slots p.ctl calm.unread idle.unread));
-        at = subst (λ (x : NodeState). IsKeptAt scenario is.trace i x p.after.node) state
-            (subst (IsKeptAt scenario is.trace i node) (sym (changes.1 p.at.present.it p.at.present.at))
-            (node_rests scenario was.trace i slots node p.before.v (in_order scenario journal i) p.at (slots_run was + slots)
-            (idle.node p.at.present.it p.at.present.at) calm.unread (omega (arith, long)) (omega (arith, long, may.room))));
-      }
-
-  both_stopped : (i : ℕ) (p : Passes i) (stop : ℕ) → p.before.c.stopped ≡ Some stop → IsKeptBoth i p.after.after p.after.node
-  both_stopped i p stop stopped =
-      let node : NodeState = node_at was.nodes i in
-      let state : record node { unread = node.unread + slots } ≡ node_at is.nodes i = sym (state_stopped i stop p.within (sym p.ctl.stopped ∙ stopped)) in
-      let changes : HavePassed (Some stop) slots p.before.c p.after.after p.before.v p.after.node =
-      subst (λ stopped. HavePassed stopped slots p.before.c p.after.after p.before.v p.after.node) stopped p.after.passed in
-      record {
-        ctl = subst (λ (x : NodeState). IsKeptAs scenario is.trace i x p.after.after) state
-            (subst (IsKeptAs scenario is.trace i (record node { unread = node.unread + slots })) (sym changes.0)
-            (stopped_rests scenario was.trace i node p.before.c stop p.ctl ((orderly scenario journal).unread i) stopped slots));
-        at = subst (λ (x : NodeState). IsKeptAt scenario is.trace i x p.after.node) state
-            (subst (IsKeptAt scenario is.trace i (record node { unread = node.unread + slots })) (sym changes.1)
-            (node_waits scenario was.trace i slots node p.before.v (in_order scenario journal i) p.at));
-      }
-
-  both : (i : ℕ) (p : Passes i) → IsKeptBoth i p.after.after p.after.node
-  both i p = by_stop p.before.c.stopped refl
-    where
-      by_stop : (stopped : Option ℕ) → p.before.c.stopped ≡ stopped → IsKeptBoth i p.after.after p.after.node
-      by_stop None e = both_running i p e
-      by_stop (Some stop) e = both_stopped i p stop e
-
-  controllers_rest : AreControllersOf scenario is row'
-  controllers_rest = record {
-    whole = passed.whole ∙ stands.controllers.whole;
-    each = λ i c at.
-        let p : Passes i = passes_at i (omega (arith, slice_get_within row' i c at, passed.whole, stands.controllers.whole)) in
-        let same : Some p.after.after ≡ Some c = sym p.after.at ∙ at in
-        let is_c : p.after.after ≡ c = cc in
-        subst (IsKeptAs scenario is.trace i (node_at is.nodes i)) is_c (both i p).ctl;
-  }
-
-  nodes_rest : AreNodesOf scenario is kept'
-  nodes_rest = record {
-    whole = passed.nodes ∙ stands.nodes.whole;
-    each = λ i v at.
-        let p : Passes i = passes_at i (omega (arith, slice_get_within kept' i v at, passed.nodes, stands.nodes.whole)) in
-        let same : Some p.after.node ≡ Some v = sym p.after.node_at ∙ at in
-        let is_v : p.after.node ≡ v = cc in
-        subst (IsKeptAt scenario is.trace i (node_at is.nodes i)) is_v (both i p).at;
-  }
-
-  pub stand_after_rest : bus'.trace ≡ idle_trace slots bus.trace → bus'.params ≡ bus.params → ((rules : List Rule) → Follows rules bus → Follows rules bus')
-      → StandFor scenario is bus' row' kept'
-  stand_after_rest trace params follows = record {
-    bus = record {
-      params = params ∙ stands.bus.params;
-      trace = trace ∙ ap (idle_trace slots) stands.bus.trace;
-      follows = follows scenario.rules stands.bus.follows;
-    };
-    controllers = controllers_rest;
-    nodes = nodes_rest;
-  }
+-- a running controller whose counters do not stop it has one notice more to read
+pub idle_notice : (scenario : ScenarioParts) (trace : List SlotNote) (i slot : ℕ) (node : NodeState) (c : ControllerState) → IsKeptAs scenario trace i node c
+    → node.unread ≤ length trace → c.stopped ≡ None → exceeds (node_state c) ≡ false → slot ≡ length trace
+    → IsKeptAs scenario (idle_trace 1 trace) i (one_unread node) (seen slot share.Idle c)
+unfolding idle_trace share_of after_share
+idle_notice scenario trace i slot node c kept short running calm e =
+    let note : SlotNote = idle_note (length trace) in
+    let sees : controller_after i note c ≡ seen (length trace) share.Idle c =
+    running_after i note c running
+    ∙ ap (λ b. if b then stopped_at (length trace) (seen (length trace) share.Idle c) else seen (length trace) share.Idle c) (has_none i) in
+    let long : length (c.unread ++ record { slot = length trace; kind = Idle } ∷ []) ≡ length c.unread + 1 =
+    length-append c.unread (record { slot = length trace; kind = Idle } ∷ []) in
+    let goes_on : (if exceeds (node_state c) then Some (length trace) else None) ≡ c.stopped = rw (calm, running) refl in
+    let law : node_state (controller_after i note c) ≡ node_after i note (node_state c) =
+    ap node_state sees ∙ (λ k. record (node_state c) { unread = long k; stopped = goes_on k }) ∙ sym (idle_node i (length trace) (node_state c)) in
+    subst (λ n. IsKeptAs scenario (note ∷ trace) i (one_unread node) (seen n share.Idle c)) (sym e)
+    (subst (λ (x : NodeState). IsKeptAs scenario (note ∷ trace) i x (seen (length trace) share.Idle c)) (idle_node i (length trace) node)
+    (subst (IsKeptAs scenario (note ∷ trace) i (node_after i note node)) sees (kept_slot scenario trace i node c note kept short (λ _. law))))
 
 -- ---- what the calls ask for
 
 -- no count runs over
-pub can_count : (scenario : ScenarioParts) (journal : List Step) (slots : ℕ) (bus : BusParts) (row : List ControllerState) (kept : List IncarnationsParts)
-    → IsLegalScenario scenario → StandFor scenario (run scenario journal) bus row kept → slots_run (run scenario journal) + slots ≤ scenario.params.slots
-    → CanAllCount slots row kept
-can_count scenario journal slots bus row kept legal stands room = record {
-  count = stands.controllers.whole ∙ sym stands.nodes.whole;
-  each = λ i c v at node_at.
-      let few = few_slots scenario.params legal.in_range in
-      let p = (stands.nodes.each i v node_at).present in
-      record {
-        controller = omega (arith, (stands.controllers.each i c at).read, room, few);
-        it = p.it;
-        at = p.at;
-        node = omega (arith, p.stands.read, past_length (run scenario journal) i, room, few);
-      };
-}
+pub can_count : (scenario : ScenarioParts) (journal : List Step) (slots i : ℕ) (c : ControllerState) (v : IncarnationsParts) → IsLegalScenario scenario
+    → IsKeptAs scenario (run scenario journal).trace i (node_at (run scenario journal).nodes i) c
+    → IsKeptAt scenario (run scenario journal).trace i (node_at (run scenario journal).nodes i) v
+    → slots_run (run scenario journal) + slots ≤ scenario.params.slots → CanCount slots c v
+can_count scenario journal slots i c v legal kept node room =
+    let few = few_slots scenario.params legal.in_range in
+    let p = node.present in
+    record {
+      controller = omega (arith, kept.read, room, few);
+      it = p.it;
+      at = p.at;
+      node = omega (arith, p.stands.read, past_length (run scenario journal) i, room, few);
+    }
 
 -- the round of the controllers is that of the nodes
 runs_as : (stopped : Option ℕ) (row : List ControllerState) (i : ℕ) (c : ControllerState) → slice_get row i ≡ Some c → c.stopped ≡ stopped

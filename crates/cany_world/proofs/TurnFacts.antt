@@ -318,24 +318,17 @@ can_turn scenario journal i v c out legal opening node kept empty = record {
 
 -- ---- what the turn leaves
 
-controllers_turn : (scenario : ScenarioParts) (s : RunState) (i : ℕ) (controllers : List ControllerState) (c : ControllerState) → IsOrderly scenario.params.nodes s
-    → MayTurn s i → AreControllersOf scenario s controllers → slice_get controllers i ≡ Some c → c.stopped ≡ None
-    → AreControllersOf scenario (after_turn scenario i s) (slice_set controllers i (turned (turn_effects (scenario_at scenario s i) i (next_notice s i ∷ history i s)) c))
-controllers_turn scenario s i controllers c o may kept at running =
-    one_changed (λ j z. IsKeptAs scenario s.trace j (node_at s.nodes j) z) (λ j z. IsKeptAs scenario (after_turn scenario i s).trace j (node_at (after_turn scenario i s).nodes j) z)
-    scenario.params.nodes controllers i (turned effects c) kept
-    (now i (turned effects c) (sym (after_turn-node scenario i s may (o.unread i)))
-    (kept_turn scenario s.trace i (node_at s.nodes i) c effects (kept.each i c at) (o.unread i) may.unread running))
-    (λ j z other there. now j z (sym (after_turn-other scenario i s j other)) there)
+controller_turn : (scenario : ScenarioParts) (s : RunState) (i : ℕ) (c : ControllerState) → IsOrderly scenario.params.nodes s
+    → MayTurn s i → IsKeptAs scenario s.trace i (node_at s.nodes i) c → c.stopped ≡ None
+    → IsKeptAs scenario (after_turn scenario i s).trace i (node_at (after_turn scenario i s).nodes i)
+    (turned (turn_effects (scenario_at scenario s i) i (next_notice s i ∷ history i s)) c)
+controller_turn scenario s i c o may kept running =
+    subst (λ (t : List SlotNote). IsKeptAs scenario t i (node_at (after_turn scenario i s).nodes i) (turned effects c)) (sym (after_turn-trace scenario i s))
+    (subst (λ (n : NodeState). IsKeptAs scenario s.trace i n (turned effects c)) (sym (after_turn-node scenario i s may (o.unread i)))
+    (kept_turn scenario s.trace i (node_at s.nodes i) c effects kept (o.unread i) may.unread running))
   where
     effects : List Effect
     effects = turn_effects (scenario_at scenario s i) i (next_notice s i ∷ history i s)
-
-    now : (j : ℕ) (z : ControllerState) → {node : NodeState} → node ≡ node_at (after_turn scenario i s).nodes j → IsKeptAs scenario s.trace j node z
-        → IsKeptAs scenario (after_turn scenario i s).trace j (node_at (after_turn scenario i s).nodes j) z
-    now j z state there =
-        subst (λ (t : List SlotNote). IsKeptAs scenario t j (node_at (after_turn scenario i s).nodes j) z) (sym (after_turn-trace scenario i s))
-        (subst (λ (n : NodeState). IsKeptAs scenario s.trace j n z) state there)
 
 turn_past : (scenario : ScenarioParts) (s : RunState) (i : ℕ) → MayTurn s i → (node_at s.nodes i).unread ≤ length s.trace
     → heard_of i s.trace (node_at (after_turn scenario i s).nodes i) ≡ error_as_idle (next_notice s i) ∷ heard_of i s.trace (node_at s.nodes i)
@@ -344,22 +337,82 @@ turn_past scenario s i may short =
     ∙ heard_history (after_turn scenario i s) i ∙ ap (λ past. plain past) (after_turn-history scenario i s may short)
     ∙ ap (λ past. error_as_idle (next_notice s i) ∷ past) (sym (heard_history s i))
 
-nodes_turn : (scenario : ScenarioParts) (s : RunState) (i : ℕ) (nodes : List IncarnationsParts) (v : IncarnationsParts) (after : NodeParts) → IsOrderly scenario.params.nodes s → AllInOrder s
-    → MayTurn s i → AreNodesOf scenario s nodes → (at : slice_get nodes i ≡ Some v) → (kept : IsKeptAt scenario s.trace i (node_at s.nodes i) v)
+node_turn : (scenario : ScenarioParts) (s : RunState) (i : ℕ) (v : IncarnationsParts) (after : NodeParts) → IsOrderly scenario.params.nodes s → AllInOrder s
+    → MayTurn s i → (kept : IsKeptAt scenario s.trace i (node_at s.nodes i) v)
     → after.node ≡ kept.present.it.node → after.inc ≡ kept.present.it.inc → after.cycle ≡ kept.present.it.cycle
     → IsNodeOf (scenario_at scenario s i) (error_as_idle (next_notice s i) ∷ heard_of i s.trace (node_at s.nodes i)) after
-    → AreNodesOf scenario (after_turn scenario i s) (slice_set nodes i (record v { nodes = slice_set v.nodes v.present after }))
-nodes_turn scenario s i nodes v after o order may are at kept number inc cycle stands =
-    one_changed (λ j z. IsKeptAt scenario s.trace j (node_at s.nodes j) z) (λ j z. IsKeptAt scenario (after_turn scenario i s).trace j (node_at (after_turn scenario i s).nodes j) z)
-    scenario.params.nodes nodes i (record v { nodes = slice_set v.nodes v.present after }) are
-    (now i (record v { nodes = slice_set v.nodes v.present after })
+    → IsKeptAt scenario (after_turn scenario i s).trace i (node_at (after_turn scenario i s).nodes i) (record v { nodes = slice_set v.nodes v.present after })
+node_turn scenario s i v after o order may kept number inc cycle stands =
+    subst (λ (t : List SlotNote). IsKeptAt scenario t i (node_at (after_turn scenario i s).nodes i) (record v { nodes = slice_set v.nodes v.present after }))
+    (sym (after_turn-trace scenario i s))
     (kept_turned scenario s.trace i (node_at s.nodes i) (node_at (after_turn scenario i s).nodes i) v kept.present.it after (order i) (turn_same scenario i s i may (o.unread i)) kept
-    kept.present.at number inc cycle (subst (λ past. IsNodeOf (scenario_at scenario s i) past after) (sym (turn_past scenario s i may (o.unread i))) stands)))
-    (λ j z other there. now j z (subst (λ (n : NodeState). IsKeptAt scenario s.trace j n z) (sym (after_turn-other scenario i s j other)) there))
+    kept.present.at number inc cycle (subst (λ past. IsNodeOf (scenario_at scenario s i) past after) (sym (turn_past scenario s i may (o.unread i))) stands))
+
+-- controller and incarnations of a node are those of the run after its turn
+pub record AreTurned (scenario : ScenarioParts) (s : RunState) (i : ℕ) (c : ControllerState) (v : IncarnationsParts) : Type 0 where
+  pub controller : IsKeptAs scenario (after_turn scenario i s).trace i (node_at (after_turn scenario i s).nodes i) c
+  pub node : IsKeptAt scenario (after_turn scenario i s).trace i (node_at (after_turn scenario i s).nodes i) v
+
+pub turned_one : (scenario : ScenarioParts) (journal : List Step) (i : ℕ) (v v' : IncarnationsParts) (c c' : ControllerState) (notice : Notice) → IsLegalScenario scenario
+    → i < scenario.params.nodes → IsKeptAs scenario (run scenario journal).trace i (node_at (run scenario journal).nodes i) c
+    → IsKeptAt scenario (run scenario journal).trace i (node_at (run scenario journal).nodes i) v → c.stopped ≡ None → slice_get c.unread 0 ≡ Some notice
+    → ((it : NodeParts) → slice_get v.nodes v.present ≡ Some it → (follows : ScenarioParts) (past : List NoticeKind) (notice : Notice) → Reads follows past notice it c
+    → HasTurned follows past notice it v v' c c')
+    → AreTurned scenario (run scenario journal) i c' v'
+turned_one scenario journal i v v' c c' notice legal within kept node running first law =
+    let p : IsPresentAt scenario s.trace i (node_at s.nodes i) v = node.present in
+    let it : IsToRead s i p.it notice = to_read scenario s i v c notice o within node kept running first in
+    let next : IsNextNotice follows past (heard_by p.it notice) = next_notice_is scenario journal (few_nodes scenario.params p.stands.legal.in_range) i v c notice node kept first in
+    let few : HasFewSigns follows p.it.node ((heard_by p.it notice).kind ∷ past) notice.slot =
+    few_with_next scenario journal (few_nodes scenario.params p.stands.legal.in_range) i v c notice node kept running first in
+    let vector : IsReadableVector follows.params p.it.node notice.slot (station_of follows p.it.node past).vector (heard_by p.it notice).kind =
+    vector_with_next scenario journal legal i v c notice node kept running first in
+    let made : HasTurned follows past notice p.it v v' c c' =
+    law p.it p.at follows past notice (record { stands = p.stands; next = next; few = few; vector = vector; running = running; oldest = first }) in
+    let effects : turn_effects follows p.it.node ((heard_by p.it notice).kind ∷ past) ≡ turn_effects follows i (next_notice s i ∷ history i s) =
+    ap (λ k. turn_effects follows k ((heard_by p.it notice).kind ∷ past)) p.number ∙ ap (λ n. turn_effects follows i (n ∷ past)) it.is
+    ∙ ap (λ t. turn_effects follows i (error_as_idle (next_notice s i) ∷ t)) (heard_history s i) ∙ error_turn follows i (next_notice s i ∷ history i s) in
+    let left : turned (turn_effects follows i (next_notice s i ∷ history i s)) c ≡ c' = sym (made.turn.controller ∙ ap (λ e. turned e c) effects) in
+    record {
+      controller = subst (IsKeptAs scenario (after_turn scenario i s).trace i (node_at (after_turn scenario i s).nodes i)) left
+          (controller_turn scenario s i c o it.may kept running);
+      node = subst (IsKeptAt scenario (after_turn scenario i s).trace i (node_at (after_turn scenario i s).nodes i)) (sym made.is)
+          (node_turn scenario s i v made.after o (in_order scenario journal) it.may node made.number made.inc made.cycle
+          (subst (λ n. IsNodeOf follows (n ∷ past) made.after) it.is made.turn.stands));
+    }
   where
-    now : (j : ℕ) (z : IncarnationsParts) → IsKeptAt scenario s.trace j (node_at (after_turn scenario i s).nodes j) z
-        → IsKeptAt scenario (after_turn scenario i s).trace j (node_at (after_turn scenario i s).nodes j) z
-    now j z there = subst (λ (t : List SlotNote). IsKeptAt scenario t j (node_at (after_turn scenario i s).nodes j) z) (sym (after_turn-trace scenario i s)) there
+    s : RunState
+    s = run scenario journal
+
+    o : IsOrderly scenario.params.nodes (run scenario journal)
+    o = orderly scenario journal
+
+    follows : ScenarioParts
+    follows = scenario_at scenario s i
+
+    past : List NoticeKind
+    past = heard_of i s.trace (node_at s.nodes i)
+
+-- those of the other nodes are as they were
+controllers_turn : (scenario : ScenarioParts) (s : RunState) (i : ℕ) (controllers : List ControllerState) (c : ControllerState)
+    → AreControllersOf scenario s controllers → IsKeptAs scenario (after_turn scenario i s).trace i (node_at (after_turn scenario i s).nodes i) c
+    → AreControllersOf scenario (after_turn scenario i s) (slice_set controllers i c)
+controllers_turn scenario s i controllers c kept here =
+    one_changed (λ j z. IsKeptAs scenario s.trace j (node_at s.nodes j) z) (λ j z. IsKeptAs scenario (after_turn scenario i s).trace j (node_at (after_turn scenario i s).nodes j) z)
+    scenario.params.nodes controllers i c kept here
+    (λ j z other there.
+    subst (λ (t : List SlotNote). IsKeptAs scenario t j (node_at (after_turn scenario i s).nodes j) z) (sym (after_turn-trace scenario i s))
+    (subst (λ (n : NodeState). IsKeptAs scenario s.trace j n z) (sym (after_turn-other scenario i s j other)) there))
+
+nodes_turn : (scenario : ScenarioParts) (s : RunState) (i : ℕ) (nodes : List IncarnationsParts) (v : IncarnationsParts)
+    → AreNodesOf scenario s nodes → IsKeptAt scenario (after_turn scenario i s).trace i (node_at (after_turn scenario i s).nodes i) v
+    → AreNodesOf scenario (after_turn scenario i s) (slice_set nodes i v)
+nodes_turn scenario s i nodes v are here =
+    one_changed (λ j z. IsKeptAt scenario s.trace j (node_at s.nodes j) z) (λ j z. IsKeptAt scenario (after_turn scenario i s).trace j (node_at (after_turn scenario i s).nodes j) z)
+    scenario.params.nodes nodes i v are here
+    (λ j z other there.
+    subst (λ (t : List SlotNote). IsKeptAt scenario t j (node_at (after_turn scenario i s).nodes j) z) (sym (after_turn-trace scenario i s))
+    (subst (λ (n : NodeState). IsKeptAt scenario s.trace j n z) (sym (after_turn-other scenario i s j other)) there))
 
 -- the controllers and the nodes after a turn that was done are those of the run after it
 pub turned_on : (scenario : ScenarioParts) (journal : List Step) (i : ℕ) (nodes : List IncarnationsParts) (controllers : List ControllerState) (v v' : IncarnationsParts) (c c' : ControllerState) (r : StepReply) → IsLegalScenario scenario
@@ -377,39 +430,11 @@ turned_on scenario journal i nodes controllers v v' c c' r legal row nodes_are w
     Q : StepReply → Type 0
     Q x = IfDone x (AreControllersOf scenario (after_turn scenario i s) (slice_set controllers i c') × AreNodesOf scenario (after_turn scenario i s) (slice_set nodes i v')) (Unit {0})
 
-    node : IsKeptAt scenario s.trace i (node_at s.nodes i) v
-    node = nodes_are.each i v at_node
-
-    kept : IsKeptAs scenario s.trace i (node_at s.nodes i) c
-    kept = row.each i c at
-
-    follows : ScenarioParts
-    follows = scenario_at scenario s i
-
-    past : List NoticeKind
-    past = heard_of i s.trace (node_at s.nodes i)
-
     turns : (notice : Notice) → c.stopped ≡ None → slice_get c.unread 0 ≡ Some notice → Q Done
     turns notice running first =
-        let p : IsPresentAt scenario s.trace i (node_at s.nodes i) v = node.present in
-        let it : IsToRead s i p.it notice = to_read scenario s i v c notice (orderly scenario journal) (omega (arith, nodes_are.whole)) node kept running first in
-        let next : IsNextNotice follows past (heard_by p.it notice) = next_notice_is scenario journal (few_nodes scenario.params p.stands.legal.in_range) i v c notice node kept first in
-        let few : HasFewSigns follows p.it.node ((heard_by p.it notice).kind ∷ past) notice.slot =
-        few_with_next scenario journal (few_nodes scenario.params p.stands.legal.in_range) i v c notice node kept running first in
-        let vector : IsReadableVector follows.params p.it.node notice.slot (station_of follows p.it.node past).vector (heard_by p.it notice).kind =
-        vector_with_next scenario journal legal i v c notice node kept running first in
-        let made : HasTurned follows past notice p.it v v' c c' =
-        law p.it p.at follows past notice (record { stands = p.stands; next = next; few = few; vector = vector; running = running; oldest = first }) in
-        let effects : turn_effects follows p.it.node ((heard_by p.it notice).kind ∷ past) ≡ turn_effects follows i (next_notice s i ∷ history i s) =
-        ap (λ k. turn_effects follows k ((heard_by p.it notice).kind ∷ past)) p.number ∙ ap (λ n. turn_effects follows i (n ∷ past)) it.is
-        ∙ ap (λ t. turn_effects follows i (error_as_idle (next_notice s i) ∷ t)) (heard_history s i) ∙ error_turn follows i (next_notice s i ∷ history i s) in
-        let left : turned (turn_effects follows i (next_notice s i ∷ history i s)) c ≡ c' = sym (made.turn.controller ∙ ap (λ e. turned e c) effects) in (
-          subst (λ x. AreControllersOf scenario (after_turn scenario i s) (slice_set controllers i x)) left
-              (controllers_turn scenario s i controllers c (orderly scenario journal) it.may row at running),
-          subst (λ (x : IncarnationsParts). AreNodesOf scenario (after_turn scenario i s) (slice_set nodes i x)) (sym made.is)
-              (nodes_turn scenario s i nodes v made.after (orderly scenario journal) (in_order scenario journal) it.may nodes_are at_node node made.number made.inc made.cycle
-              (subst (λ n. IsNodeOf follows (n ∷ past) made.after) it.is made.turn.stands)),
-        )
+        let turned : AreTurned scenario s i c' v' =
+        turned_one scenario journal i v v' c c' notice legal (omega (arith, within, nodes_are.whole)) (row.each i c at) (nodes_are.each i v at_node) running first law in
+        (controllers_turn scenario s i controllers c' row turned.controller, nodes_turn scenario s i nodes v' nodes_are turned.node)
 
     by_notice : (o : Option Notice) → slice_get c.unread 0 ≡ o → c.stopped ≡ None → Q (step_reply (reply_of c))
     by_notice None e running = rw (e, running) tt

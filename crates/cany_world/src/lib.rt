@@ -13,6 +13,7 @@ mod script;
 mod settled;
 mod slot;
 mod step;
+mod stretch;
 mod threads;
 mod turn;
 mod unread;

@@ -17,10 +17,10 @@ use crate::began::began_nodes;
 use crate::incarnations::Incarnations;
 use crate::journal::push_rounds;
 use crate::opening::{controllers_of, journal_room, nodes_of};
-use crate::resting::{passed_by_all, rest};
-use crate::script::free_slots;
+use crate::resting::rest;
 use crate::settled::is_settled;
 use crate::step::make;
+use crate::stretch::{Stretch, next_stretch};
 use crate::unread::{all_read, first_lagging};
 use can_bus::Bus;
 use can_controller::Controller;
@@ -120,7 +120,8 @@ impl World {
     }
 
     /// Makes rounds of the next slots in bulk where they are known to be idle, at most so many: each slot, and the turns of all running
-    /// nodes, which find nothing to do. How many rounds it made, which may be none.
+    /// nodes. Only in the last slot some of them may find something to do, and only these take their turns one by one. How many rounds
+    /// it made, which may be none.
     pub(crate) fn rest(&mut self, most: u64) -> u64
         requires { slots_run (state_of self.old) + most ≤ self.old.scenario.params.slots }
         ensures few { result ≤ most }
@@ -129,15 +130,23 @@ impl World {
     {
         let next = self.bus.trace().len() as u64;
         let controllers = self.controllers.as_slice();
-        let passed = passed_by_all(next, most, controllers, self.nodes.as_slice());
-        let slots = free_slots(&self.script, self.scenario.restarts(), next, passed);
+        let Stretch { slots, due } = next_stretch(
+            next,
+            most,
+            &self.script,
+            self.scenario.restarts(),
+            controllers,
+            self.nodes.as_slice(),
+        );
         if slots > 0 {
             push_rounds(&mut self.journal, controllers, slots);
             rest(
                 slots,
+                due,
                 &mut self.bus,
                 self.controllers.as_mut_slice(),
                 self.nodes.as_mut_slice(),
+                &mut self.actions,
             );
         }
         slots

@@ -1,6 +1,0 @@
-use Rattle.std.proofs.Common.{◌≤◌}
-use Rattle.cany_world.proofs.PassFacts.{PassBelow}
-use Rattle.cany_world.proofs.resting.passed_by_all.Given as goal
-
-abbrev pub invariant-loop-i : goal.invariant-loop-i
-invariant-loop-i l = (l.slots ≤ l.most) × PassBelow l.next l.slots l.i l.controllers l.nodes
