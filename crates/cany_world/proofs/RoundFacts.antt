@@ -1,7 +1,6 @@
 -- The rounds of the round robin journal, as a world makes them.
-use Rattle.std.proofs.Common.{◌≡◌, ℕ, suc, ◌+◌, ◌-◌, ◌≤◌, ◌&&◌, Bool, true, false, cond, List, [], ◌∷◌, ◌++◌, length, map, refl, sym, ap, ◌∙◌, subst, arith, append_assoc}
-use Rattle.std.specs.Prelude.{if◌then◌else◌, nat_lt}
-use Rattle.std.proofs.Math.Bool.{and_self_left}
+use Rattle.std.proofs.Common.{◌≡◌, ℕ, suc, ◌+◌, ◌-◌, ◌≤◌, Bool, true, false, cond, List, [], ◌∷◌, ◌++◌, length, map, refl, sym, ap, ◌∙◌, subst, arith, append_assoc}
+use Rattle.std.specs.Prelude.{if◌then◌else◌}
 use Rattle.cany_base.specs.declared.step.Step.{Step}
 use Rattle.cany_base.specs.declared.step.Step.TheVariants.{Slot, Turn}
 use Rattle.cany_base.specs.Scenario.{ScenarioParts}
@@ -9,7 +8,7 @@ use Rattle.cany_model.specs.declared.reply.StepReply.{StepReply}
 use Rattle.cany_base.specs.declared.slot_note.SlotNote.{SlotNote}
 use Rattle.cany_model.specs.Bus.RoundRobin.{reading_nodes, round, rounds, round_robin}
 use Rattle.cany_model.specs.Bus.Run.{IsLegal, after_step, after_turn, has_ended, is_done, proceed, reply, run, run_from}
-use Rattle.cany_model.specs.Bus.State.{NodeState, RunState, opening, node_at, runs, slots_run}
+use Rattle.cany_model.specs.Bus.State.{RunState, opening, slots_run}
 use Rattle.cany_model.proofs.Bus.Journals.{run_then, slot_step-trace, step_is}
 use Rattle.cany_model.proofs.Bus.Steps.{after_turn-trace}
 use Rattle.cany_model.proofs.Bus.RoundRobinEnds.{round_robin_ends}
@@ -32,28 +31,30 @@ round_slot before new r legal is e =
     let now = made before new (before.journal ++ Slot ∷ []) (is_done r) e in
     record { scenario = now.0; steps = round_begins before.scenario before.journal new.journal (rw done at now.1) }
 
--- the world after the turn of a node, if it runs
+-- the world after the turn of a node, if it can be made
 abbrev pub turn_made : WorldParts → ℕ → WorldParts
-turn_made now i =
-    if runs (node_at (state_of now).nodes i) && is_done (reply now.scenario (state_of now) (Turn i)) then record now { journal = now.journal ++ Turn i ∷ [] } else now
+turn_made now i = if is_done (reply now.scenario (state_of now) (Turn i)) then record now { journal = now.journal ++ Turn i ∷ [] } else now
+
+pub done_made : (now : WorldParts) (i : ℕ) (journal : List Step) → is_done (reply now.scenario (state_of now) (Turn i)) ≡ true → journal ≡ now.journal ++ Turn i ∷ []
+    → record { scenario = now.scenario; journal = journal } ≡ turn_made now i
+done_made now i journal done e = rw done (λ k. record { scenario = now.scenario; journal = e k })
+
+pub none_made : (now : WorldParts) (i : ℕ) → is_done (reply now.scenario (state_of now) (Turn i)) ≡ false
+    → record { scenario = now.scenario; journal = now.journal } ≡ turn_made now i
+none_made now i refused = rw refused refl
 
 pub round_next : (before now new : WorldParts) (i : ℕ) → IsInRound before now i → new ≡ turn_made now i → IsInRound before new (i + 1)
 round_next before now new i so e = go (to_read before.scenario now.journal i) refl
   where
-    node : NodeState
-    node = node_at (state_of now).nodes i
-
     done : Bool
     done = is_done (reply now.scenario (state_of now) (Turn i))
 
-    next : (new.scenario ≡ now.scenario) × (new.journal ≡ (if runs node && done then now.journal ++ Turn i ∷ [] else now.journal))
-    next = made now new (now.journal ++ Turn i ∷ []) (runs node && done) e
+    next : (new.scenario ≡ now.scenario) × (new.journal ≡ (if done then now.journal ++ Turn i ∷ [] else now.journal))
+    next = made now new (now.journal ++ Turn i ∷ []) done e
 
     -- the turn is made exactly where the node has something to read
-    test : (runs node && done) ≡ to_read before.scenario now.journal i
-    test =
-        ap (λ b. runs node && b) (turn_exactly now.scenario now.journal i) ∙ and_self_left (runs node) (nat_lt 0 node.unread)
-        ∙ ap (λ (s : ScenarioParts). to_read s now.journal i) so.scenario
+    test : done ≡ to_read before.scenario now.journal i
+    test = turn_exactly now.scenario now.journal i ∙ ap (λ (s : ScenarioParts). to_read s now.journal i) so.scenario
 
     go : (b : Bool) → to_read before.scenario now.journal i ≡ b → IsInRound before new (i + 1)
     go true reads = record {

@@ -1,24 +1,12 @@
 //! The round robin journal.
-ghost use Rattle.std.specs.Prelude.{◌≡◌, ◌+◌, ◌<◌, ◌≤◌, ◌&&◌, ◌∷◌, ◌++◌, [], if◌then◌else◌, IsTrue};
+ghost use Rattle.std.specs.Prelude.{◌≡◌, ◌+◌, ◌<◌, ◌≤◌, ◌++◌, [], IsTrue};
 ghost use Rattle.cany_model.specs.Bus.RoundRobin.{round, round_robin, rounds};
-ghost use Rattle.cany_model.specs.Bus.Run.{IsLegal, has_ended, is_done, reply};
-ghost use Rattle.cany_model.specs.Bus.State.{node_at, runs, slots_run};
+ghost use Rattle.cany_model.specs.Bus.Run.{IsLegal, has_ended};
+ghost use Rattle.cany_model.specs.Bus.State.{slots_run};
 ghost use Rattle.cany_world.specs.World.{WorldParts, state_of};
 
 use crate::world::World;
 use cany_base::{NodeId, Step};
-
-/// Makes the turn of the node, if it runs.
-fn run_turn(world: &mut World, node: NodeId)
-    requires { node < world.old.scenario.params.nodes }
-    ensures { let s = state_of world.old in
-        world.new ≡ (if runs (node_at s.nodes node) && is_done (reply world.old.scenario s (Step.Turn node))
-        then record world.old { journal = world.old.journal ++ Step.Turn node ∷ [] } else world.old) }
-{
-    if world.stopped(node).is_none() {
-        world.step(Step::Turn(node));
-    }
-}
 
 /// Makes the steps of one slot: the slot, and then the turns of the running nodes that have something to read, in ascending
 /// order.
@@ -29,7 +17,7 @@ fn make_round(world: &mut World)
     let count = usize::from(world.scenario().params().nodes);
     world.step(Step::Slot);
     for i in 0..count {
-        run_turn(world, NodeId::of_index(i));
+        world.make_turn(NodeId::of_index(i));
     }
 }
 

@@ -1,4 +1,5 @@
 ghost use Rattle.std.specs.Prelude.{◌≡◌, ◌+◌, ◌<◌, ◌≤◌, ◌↔◌, [], ◌∷◌, ◌++◌, None, Some, if◌then◌else◌, length, reverse, slice_get, IfOk, IsSomeAnd};
+ghost use Rattle.cany_base.specs.declared.step.Step.TheVariants.{Turn};
 ghost use Rattle.cany_model.specs.Bus.Follow as following;
 ghost use Rattle.cany_model.specs.Bus.Incarnations.{log_of, span_of};
 ghost use Rattle.cany_model.specs.Bus.Restart.{restarted_in};
@@ -21,6 +22,7 @@ use crate::resting::rest;
 use crate::settled::is_settled;
 use crate::step::make;
 use crate::stretch::{Stretch, next_stretch};
+use crate::turn::take_turn;
 use crate::unread::{all_read, first_lagging};
 use can_bus::Bus;
 use can_controller::Controller;
@@ -116,6 +118,22 @@ impl World {
                 StepReply::Done
             }
             refusal => refusal,
+        }
+    }
+
+    /// Makes the turn of the node, if it runs and has something to read.
+    pub(crate) fn make_turn(&mut self, node: NodeId)
+        ensures { self.new ≡ (if is_done (reply self.old.scenario (state_of self.old) (Turn node)) then record self.old { journal = self.old.journal ++ Turn node ∷ [] } else self.old) }
+    {
+        let reply = take_turn(
+            node,
+            self.nodes.as_mut_slice(),
+            self.controllers.as_mut_slice(),
+            &mut self.actions,
+        );
+        match reply {
+            StepReply::Done => self.journal.push_copy(&Step::Turn(node)),
+            _ => {}
         }
     }
 
