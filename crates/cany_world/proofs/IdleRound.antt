@@ -4,7 +4,6 @@ use Rattle.std.specs.List.{range_with_len}
 use Rattle.std.proofs.Common.{sym, ap, ◌∙◌, subst, inl, inr, arith}
 use Rattle.std.proofs.lemmas.Bool.{false≢true, cases_Bool, cases_eq, cases_lt, cond_both, lt-ltb}
 use Rattle.std.proofs.lemmas.List.{ext_get_or, get_or-map, length-map}
-use Rattle.cany_base.specs.declared.notice.NoticeKind.{NoticeKind}
 use Rattle.cany_base.specs.declared.slot_note.SlotNote.{SlotNote}
 use Rattle.cany_base.specs.declared.step.Step.{Step}
 use Rattle.cany_base.specs.declared.step.Step.TheVariants.{Slot, Turn}
@@ -199,7 +198,8 @@ same_history i s t trace present unread = λ k. map (given i) (drop (unread k) (
 same_turn : (scenario : ScenarioParts) (u t : RunState) (k : ℕ) → MayTurn u k → MayTurn t k → (node_at u.nodes k).unread ≤ length u.trace
     → t.trace ≡ u.trace → node_at t.nodes k ≡ node_at u.nodes k → node_at (after_turn scenario k t).nodes k ≡ node_at (after_turn scenario k u).nodes k
 same_turn scenario u t k may may' short trace node =
-    let short' : (node_at t.nodes k).unread ≤ length t.trace = omega (arith, short, ap (λ (n : NodeState). n.unread) node, ap (λ (l : List SlotNote). length l) trace) in
+    let short' : (node_at t.nodes k).unread ≤ length t.trace =
+    omega (arith, short, ap (λ (n : NodeState). n.unread) node, ap (λ (l : List SlotNote). length l) trace) in
     let next : next_notice t k ≡ next_notice u k = λ j. given k (note_at (seen (node j).present (trace j)) ((node j).unread - 1)) in
     let past : history k t ≡ history k u = same_history k t u trace (ap (λ (n : NodeState). n.present) node) (ap (λ (n : NodeState). n.unread) node) in
     after_turn-node scenario k t may' short'
@@ -226,7 +226,9 @@ turn_taken scenario u t k o now may =
             (same_turn scenario u t k may (may_still u t k now.count here may) (o.unread k) now.trace here)
         | inr other ↦ after_turn-other scenario k t i other ∙ now.below i (omega arith) running
       ];
-      stopped = λ i h. after_turn-other scenario k t i (λ same. absurd (false≢true (sym h ∙ ap (λ n. runs (node_at u.nodes n)) same ∙ may.running))) ∙ now.stopped i h;
+      stopped = λ i h.
+          after_turn-other scenario k t i (λ same. absurd (false≢true (sym h ∙ ap (λ n. runs (node_at u.nodes n)) same ∙ may.running)))
+          ∙ now.stopped i h;
       from = λ i h. after_turn-other scenario k t i (λ same. absurd (omega arith)) ∙ now.from i (omega arith);
     }
 
@@ -368,8 +370,10 @@ slot_leads scenario s o idle =
 pub proceed_idle : (scenario : ScenarioParts) (s : RunState) → IsIdleNext scenario s → proceed scenario s Slot ≡ idle_slot s
 proceed_idle scenario s idle = idle_slot-is scenario s idle.calm idle.free
 
-orderly_idle : (scenario : ScenarioParts) (s : RunState) → IsOrderly scenario.params.nodes s → IsIdleNext scenario s → IsOrderly scenario.params.nodes (idle_slot s)
-orderly_idle scenario s o idle = subst (λ (t : RunState). IsOrderly scenario.params.nodes t) (proceed_idle scenario s idle) (orderly_slot_step scenario s o)
+orderly_idle : (scenario : ScenarioParts) (s : RunState) → IsOrderly scenario.params.nodes s → IsIdleNext scenario s
+    → IsOrderly scenario.params.nodes (idle_slot s)
+orderly_idle scenario s o idle =
+    subst (λ (t : RunState). IsOrderly scenario.params.nodes t) (proceed_idle scenario s idle) (orderly_slot_step scenario s o)
 
 may_turn : (s : RunState) → AllMayTurn (idle_slot s)
 may_turn s i runs_on =

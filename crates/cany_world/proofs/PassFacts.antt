@@ -30,7 +30,8 @@ pub record ArePassedBelow (next slots : ℕ) (due : Nodes) (k : ℕ) (row row' :
   pub left : (i : ℕ) → k ≤ i → slice_get row' i ≡ slice_get row i
   pub nodes_left : (i : ℕ) → k ≤ i → slice_get kept' i ≡ slice_get kept i
 
-pub none_passed : (next slots : ℕ) (due : Nodes) (row : List ControllerState) (kept : List IncarnationsParts) → ArePassedBelow next slots due 0 row row kept kept
+pub none_passed : (next slots : ℕ) (due : Nodes) (row : List ControllerState) (kept : List IncarnationsParts)
+    → ArePassedBelow next slots due 0 row row kept kept
 none_passed next slots due row kept = record {
   whole = refl;
   nodes = refl;
@@ -107,7 +108,8 @@ fewer_pass next slots fewer c v less passes running =
 -- those below k can pass the stretch
 abbrev pub PassBelow : ℕ → ℕ → Nodes → ℕ → List ControllerState → List IncarnationsParts → Type 0
 PassBelow next slots due k row kept =
-    (i : ℕ) (c : ControllerState) (v : IncarnationsParts) → i < k → slice_get row i ≡ Some c → slice_get kept i ≡ Some v → CanPass next (passes slots due i) c v
+    (i : ℕ) (c : ControllerState) (v : IncarnationsParts) → i < k → slice_get row i ≡ Some c → slice_get kept i ≡ Some v
+    → CanPass next (passes slots due i) c v
 
 pub pass_below_next : (next slots : ℕ) (due : Nodes) (fewer : ℕ) (due' : Nodes) (k can : ℕ) (row : List ControllerState) (kept : List IncarnationsParts)
     (c : ControllerState) (v : IncarnationsParts) → PassBelow next slots due k row kept → ((i : ℕ) → passes fewer due' i ≤ passes slots due i)

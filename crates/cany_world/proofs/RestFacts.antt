@@ -1,5 +1,5 @@
 -- A stretch of idle slots: that the next slots are one, and what idle slots leave of a controller and its node.
-use Rattle.std.proofs.Common.{◌≡◌, ℕ, zero, suc, ◌+◌, ◌-◌, ◌<◌, ◌≤◌, true, false, List, [], ◌∷◌, ◌++◌, length, map, take, replicate, refl, ap, sym, ◌∙◌, subst, inl, inr, arith}
+use Rattle.std.proofs.Common.{◌≡◌, ℕ, zero, suc, ◌+◌, ◌<◌, ◌≤◌, true, false, List, [], ◌∷◌, ◌++◌, length, map, take, replicate, refl, ap, sym, ◌∙◌, subst, inl, inr, arith}
 use Rattle.std.specs.List.{range_with_len}
 use Rattle.std.specs.Option.{option_map_or}
 use Rattle.std.specs.Prelude.{if◌then◌else◌, is_none, filter, nat_lt, slice_get, slice_set, ◌||◌, Option, Some, None}
@@ -80,12 +80,13 @@ calm_of scenario trace i next slots node c v kept running idle = record {
 }
 
 -- a node that has read so many notices has nothing to do in slots before this one, of which there are none
-rests_on : (next slots : ℕ) (v : IncarnationsParts) (it : NodeParts) → (0 < slots → IncarnationRests (next + slots) v) → slice_get v.nodes v.present ≡ Some it
-    → it.read ≡ next → RestsUntil (next + slots) it
+rests_on : (next slots : ℕ) (v : IncarnationsParts) (it : NodeParts) → (0 < slots → IncarnationRests (next + slots) v)
+    → slice_get v.nodes v.present ≡ Some it → it.read ≡ next → RestsUntil (next + slots) it
 rests_on next zero v it rests at read = λ scenario past stands since early within. absurd (omega (arith, read, since, early))
 rests_on next (suc slots) v it rests at read = rests (omega arith) it at
 
-module _ (scenario : ScenarioParts) (journal : List Step) (slots : ℕ) (due : Nodes) (bus : BusParts) (row : List ControllerState) (kept : List IncarnationsParts)
+module _ (scenario : ScenarioParts) (journal : List Step) (slots : ℕ) (due : Nodes) (bus : BusParts) (row : List ControllerState)
+    (kept : List IncarnationsParts)
     (stands : StandFor scenario (run scenario journal) bus row kept) (passes_on : CanAllPass (slots_run (run scenario journal)) slots due row kept)
     (open_on : IsOpen scenario (run scenario journal) slots) where
   abbrev s : RunState

@@ -26,7 +26,8 @@ use Rattle.cany_world.proofs.RestFacts.{last_idle, may_rest, rounds_are}
 use Rattle.cany_world.proofs.StretchFacts as stretch
 
 -- what the world has found out of the next slots
-pub record IsReady (scenario : ScenarioParts) (journal : List Step) (slots : ℕ) (due : Nodes) (bus : BusParts) (row : List ControllerState) (kept : List IncarnationsParts) : Type 0 where
+pub record IsReady (scenario : ScenarioParts) (journal : List Step) (slots : ℕ) (due : Nodes) (bus : BusParts) (row : List ControllerState)
+    (kept : List IncarnationsParts) : Type 0 where
   pub legal : IsLegalScenario scenario
   pub steps : IsLegal scenario journal
   pub stands : StandFor scenario (run scenario journal) bus row kept
@@ -34,7 +35,8 @@ pub record IsReady (scenario : ScenarioParts) (journal : List Step) (slots : ℕ
   pub passes : CanAllPass (slots_run (run scenario journal)) slots due row kept
   pub idle : IsOpen scenario (run scenario journal) slots
 
-module _ (scenario : ScenarioParts) (journal : List Step) (slots : ℕ) (due : Nodes) (bus : BusParts) (row : List ControllerState) (kept : List IncarnationsParts)
+module _ (scenario : ScenarioParts) (journal : List Step) (slots : ℕ) (due : Nodes) (bus : BusParts) (row : List ControllerState)
+    (kept : List IncarnationsParts)
     (ready : IsReady scenario journal slots due bus row kept) where
   with_last : slots - 1 + 1 ≡ slots
   with_last = omega (arith, ready.some)
@@ -78,12 +80,13 @@ module _ (scenario : ScenarioParts) (journal : List Step) (slots : ℕ) (due : N
       stretch.can_rest scenario journal slots due bus row kept ready.legal ready.stands ready.passes ready.idle ready.some opening actions free
 
 -- what was found out makes it ready
-pub ready_by : (scenario : ScenarioParts) (journal : List Step) (bus : BusParts) (row row0 : List ControllerState) (kept kept0 : List IncarnationsParts) (notes : List SlotNote)
-    (rules : List Rule) (restarts : List NodeAsk) (most slots : ℕ) (due : Nodes) → IsLegalScenario scenario → IsLegal scenario journal
+pub ready_by : (scenario : ScenarioParts) (journal : List Step) (bus : BusParts) (row row0 : List ControllerState) (kept kept0 : List IncarnationsParts)
+    (notes : List SlotNote) (rules : List Rule) (restarts : List NodeAsk) (most slots : ℕ) (due : Nodes) → IsLegalScenario scenario → IsLegal scenario journal
     → StandFor scenario (run scenario journal) bus row kept → row0 ≡ row → kept0 ≡ kept → notes ≡ reverse bus.trace
     → slots_run (run scenario journal) + most ≤ scenario.params.slots → slots ≤ most → (0 < slots → CanAllPass (length notes) slots due row0 kept0)
     → rules ≡ scenario.rules → restarts ≡ scenario.restarts
-    → ((follows : ScenarioParts) → rules ≡ follows.rules → restarts ≡ follows.restarts → (slot : ℕ) → length notes ≤ slot → slot < length notes + slots → IsFree follows slot)
+    → ((follows : ScenarioParts) → rules ≡ follows.rules → restarts ≡ follows.restarts → (slot : ℕ) → length notes ≤ slot
+    → slot < length notes + slots → IsFree follows slot)
     → 0 < slots → IsReady scenario journal slots due bus row kept
 ready_by scenario journal bus row row0 kept kept0 notes rules restarts most slots due legal steps stands same_row same_kept oldest room few passes same also free some =
     let now : length notes ≡ slots_run (run scenario journal) = ap (λ t. length t) oldest ∙ length-reverse bus.trace ∙ ap (λ t. length t) stands.bus.trace in

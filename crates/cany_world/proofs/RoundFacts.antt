@@ -35,7 +35,8 @@ round_slot before new r legal is e =
 abbrev pub turn_made : WorldParts → ℕ → WorldParts
 turn_made now i = if is_done (reply now.scenario (state_of now) (Turn i)) then record now { journal = now.journal ++ Turn i ∷ [] } else now
 
-pub done_made : (now : WorldParts) (i : ℕ) (journal : List Step) → is_done (reply now.scenario (state_of now) (Turn i)) ≡ true → journal ≡ now.journal ++ Turn i ∷ []
+pub done_made : (now : WorldParts) (i : ℕ) (journal : List Step) → is_done (reply now.scenario (state_of now) (Turn i)) ≡ true
+    → journal ≡ now.journal ++ Turn i ∷ []
     → record { scenario = now.scenario; journal = journal } ≡ turn_made now i
 done_made now i journal done e = rw done (λ k. record { scenario = now.scenario; journal = e k })
 

@@ -1,6 +1,6 @@
 -- A stretch of idle slots: bus, controllers and nodes stand for the run after it.
-use Rattle.std.proofs.Common.{◌≡◌, ℕ, ◌+◌, ◌-◌, ◌<◌, ◌≤◌, Bool, true, false, List, [], ◌∷◌, ◌++◌, length, map, refl, ap, sym, ◌∙◌, subst, arith}
-use Rattle.std.specs.Prelude.{is_none, slice_get, slice_set, Option, Some, None}
+use Rattle.std.proofs.Common.{◌≡◌, ℕ, ◌+◌, ◌-◌, ◌<◌, Bool, true, false, List, [], ◌∷◌, ◌++◌, length, refl, ap, sym, ◌∙◌, subst, arith}
+use Rattle.std.specs.Prelude.{is_none, slice_get, Option, Some, None}
 use Rattle.std.proofs.lemmas.List.{length-map}
 use Rattle.std.proofs.lemmas.Option.{slice_get_within}
 use Rattle.cany_base.specs.declared.actions.Action.{Action}
@@ -28,7 +28,7 @@ use Rattle.can_bus.specs.Rest.{idle_trace}
 use Rattle.can_bus.proofs.RestFacts.{length-idle_trace}
 use Rattle.can_controller.specs.Controller.{ControllerState}
 use Rattle.cany_world.specs.Incarnations.{IncarnationsParts}
-use Rattle.cany_world.specs.Kept.{IsKeptAs, IsKeptAt, AreControllersOf, AreNodesOf, StandFor}
+use Rattle.cany_world.specs.Kept.{IsKeptAs, IsKeptAt, StandFor}
 use Rattle.cany_world.specs.Resting.{CanAllGo, CanAllPass, CanGo, CanRest, CanTakeTurn, HasPassed, HasTakenTurn, HaveAllPassed, HavePassed, HavePassedAt, HaveRested, IsOpen, MayRest, after_rest, noticed, passes, rested}
 use Rattle.cany_world.proofs.IdleRound.{HasNothing, IsAfterRound, IsIdleNext, node_at-map, one_unread, proceed_idle, rested_stopped, turn_node}
 use Rattle.cany_world.proofs.IdleRounds.{after_rest_then, before_slot, before_slot_run, still_is, still_runs, stretch_run, trace_then, with_slot, with_slot_run}
@@ -37,9 +37,11 @@ use Rattle.cany_world.proofs.PassFacts.{passes_all, passes_most}
 use Rattle.cany_world.proofs.RestFacts.{IsThere, Runs, can_count, idle_notice, is_there, last_idle, may_rest, node_rests, node_waits, nothing_at, running_rests, runs_at, stopped_rests}
 use Rattle.cany_world.proofs.TurnFacts.{AreTurned, can_turn, turned_one}
 
-module _ (scenario : ScenarioParts) (journal : List Step) (slots : ℕ) (due : Nodes) (bus : BusParts) (row : List ControllerState) (kept : List IncarnationsParts)
+module _ (scenario : ScenarioParts) (journal : List Step) (slots : ℕ) (due : Nodes) (bus : BusParts) (row : List ControllerState)
+    (kept : List IncarnationsParts)
     (legal : IsLegalScenario scenario) (stands : StandFor scenario (run scenario journal) bus row kept)
-    (passes_on : CanAllPass (slots_run (run scenario journal)) slots due row kept) (open_on : IsOpen scenario (run scenario journal) slots) (some : 0 < slots) where
+    (passes_on : CanAllPass (slots_run (run scenario journal)) slots due row kept) (open_on : IsOpen scenario (run scenario journal) slots)
+    (some : 0 < slots) where
   abbrev s : RunState
   s = run scenario journal
 
@@ -116,7 +118,8 @@ module _ (scenario : ScenarioParts) (journal : List Step) (slots : ℕ) (due : N
 
   after_resting : (i : ℕ) → runs (node i) ≡ true → has due i ≡ false → node i ≡ node_at after.nodes i
   after_resting i running early =
-      sym (after_running i running ∙ turn_node scenario before i o last (still_runs fewer s i ∙ running) (nothing i running early) ∙ still_is fewer s i running)
+      sym (after_running i running ∙ turn_node scenario before i o last (still_runs fewer s i ∙ running) (nothing i running early)
+      ∙ still_is fewer s i running)
 
   -- ---- what stands for it
 
@@ -195,7 +198,8 @@ module _ (scenario : ScenarioParts) (journal : List Step) (slots : ℕ) (due : N
       record {
         ctl = subst (λ (t : List SlotNote). IsKeptAs scenario t i (node_at then.nodes i) (noticed (slots_run s) fewer r.at.c)) then_trace
             (subst (λ (x : NodeState). IsKeptAs scenario (idle_trace 1 before.trace) i x (noticed (slots_run s) fewer r.at.c)) (then_node i running within)
-            (idle_notice scenario before.trace i (slots_run s + fewer) (node i) c ctl (omega (arith, r.calm.unread)) r.running r.idle.counters (sym before_long)));
+            (idle_notice scenario before.trace i (slots_run s + fewer) (node i) c ctl (omega (arith, r.calm.unread)) r.running r.idle.counters
+            (sym before_long)));
         at = subst (λ (t : List SlotNote). IsKeptAt scenario t i (node_at then.nodes i) w) then_trace
             (subst (λ (x : NodeState). IsKeptAt scenario (idle_trace 1 before.trace) i x w) (then_node i running within)
             (node_waits scenario before.trace i 1 (node i) w (before_order i running) at));
@@ -272,7 +276,8 @@ module _ (scenario : ScenarioParts) (journal : List Step) (slots : ℕ) (due : N
       let same_v : was.v ≡ r.at.v = cc in
       subst (λ (x : IncarnationsParts). P r.at.c x) same_v (subst (λ (x : ControllerState). P x was.v) same_c holds)
 
-  module _ (bus' : BusParts) (row' : List ControllerState) (kept' : List IncarnationsParts) (passed : HaveAllPassed (slots_run s) slots due row row' kept kept') where
+  module _ (bus' : BusParts) (row' : List ControllerState) (kept' : List IncarnationsParts)
+      (passed : HaveAllPassed (slots_run s) slots due row row' kept kept') where
     -- what stands at the place of node i
     record IsAfterAt (i : ℕ) : Type 0 where
       c : ControllerState
@@ -281,8 +286,9 @@ module _ (scenario : ScenarioParts) (journal : List Step) (slots : ℕ) (due : N
       node_at : slice_get kept' i ≡ Some v
       is : IsKeptBoth i c v
 
-    by_stop : (i : ℕ) → i < scenario.params.nodes → i < length s.nodes → (was : IsThere scenario s row kept i) → (p : HavePassedAt (slots_run s) slots (has due i) i row' kept' was.c was.v)
-        → (stopped : Option ℕ) (is_due : Bool) → was.c.stopped ≡ stopped → has due i ≡ is_due → HavePassed (slots_run s) slots stopped is_due was.c p.after was.v p.node
+    by_stop : (i : ℕ) → i < scenario.params.nodes → i < length s.nodes → (was : IsThere scenario s row kept i)
+        → (p : HavePassedAt (slots_run s) slots (has due i) i row' kept' was.c was.v) → (stopped : Option ℕ) (is_due : Bool) → was.c.stopped ≡ stopped
+        → has due i ≡ is_due → HavePassed (slots_run s) slots stopped is_due was.c p.after was.v p.node
         → IsKeptBoth i p.after p.node
     by_stop i few within was p (Some stop) is_due e late changes = stopped_both i was stop e within p.after p.node changes.0 changes.1
     by_stop i few within was p None true e late changes =

@@ -144,7 +144,8 @@ pub record CanAllGo (next slots : ℕ) (due : Nodes) (row : List ControllerState
       → CanGo next slots (has due i) c v actions
 
 -- what stands at the place of a node after the stretch
-pub record HavePassedAt (next slots : ℕ) (is_due : Bool) (i : ℕ) (row' : List ControllerState) (kept' : List IncarnationsParts) (c : ControllerState) (v : IncarnationsParts) : Type 0 where
+pub record HavePassedAt (next slots : ℕ) (is_due : Bool) (i : ℕ) (row' : List ControllerState) (kept' : List IncarnationsParts)
+    (c : ControllerState) (v : IncarnationsParts) : Type 0 where
   pub after : ControllerState
   pub node : IncarnationsParts
   pub at : slice_get row' i ≡ Some after
@@ -159,7 +160,8 @@ pub record HaveAllPassed (next slots : ℕ) (due : Nodes) (row row' : List Contr
       → HavePassedAt next slots (has due i) i row' kept' c v
 
 -- these are some slots, for which the bus has room, and all can pass them
-pub record CanRest (slots : ℕ) (due : Nodes) (bus : BusParts) (row : List ControllerState) (kept : List IncarnationsParts) (actions : Bounded Action) : Type 0 where
+pub record CanRest (slots : ℕ) (due : Nodes) (bus : BusParts) (row : List ControllerState) (kept : List IncarnationsParts)
+    (actions : Bounded Action) : Type 0 where
   pub some : 0 < slots
   pub room : length bus.trace + slots ≤ bus.params.slots
   pub small : length bus.trace + slots < 2 ^ 64

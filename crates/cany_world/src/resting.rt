@@ -1,7 +1,6 @@
 //! Stretches of idle slots in which no node has anything to do before the last one.
-ghost use Rattle.std.specs.Prelude.{◌≡◌, ◌+◌, ◌^◌, ◌<◌, ◌≤◌, ◌++◌, ℕ, List, length};
+ghost use Rattle.std.specs.Prelude.{◌≡◌, ◌+◌, ◌^◌, ◌<◌, ◌≤◌, ◌++◌, List, length};
 ghost use Rattle.cany_base.specs.declared.step.Step.{Step};
-ghost use Rattle.cany_base.specs.Nodes.{has};
 ghost use Rattle.cany_base.specs.Limits.{most_nodes};
 ghost use Rattle.cany_base.specs.Scenario.{ScenarioParts, IsLegalScenario};
 ghost use Rattle.cany_model.specs.Bus.RoundRobin.{rounds};

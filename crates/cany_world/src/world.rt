@@ -123,7 +123,8 @@ impl World {
 
     /// Makes the turn of the node, if it runs and has something to read.
     pub(crate) fn make_turn(&mut self, node: NodeId)
-        ensures { self.new ≡ (if is_done (reply self.old.scenario (state_of self.old) (Turn node)) then record self.old { journal = self.old.journal ++ Turn node ∷ [] } else self.old) }
+        ensures { self.new ≡ (if is_done (reply self.old.scenario (state_of self.old) (Turn node))
+            then record self.old { journal = self.old.journal ++ Turn node ∷ [] } else self.old) }
     {
         let reply = take_turn(
             node,

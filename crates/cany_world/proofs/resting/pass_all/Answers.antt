@@ -21,7 +21,8 @@ pass-requires-clause-go c =
     (can_go_here c.args.next c.args.slots c.args.due c.loop-i.i c.args.controllers.now c.loop-i.controllers c.args.nodes.now c.loop-i.nodes c.loop-i.invariant.0 x v
     (slice_get-get_or c.loop-i.controllers c.loop-i.i c.index-controllers-i.result (omega (arith, c.loop-i-test.true, c.loop-i.invariant.0.whole)))
     (slice_get-get_or c.loop-i.nodes c.loop-i.i c.index-nodes-i.result (omega (arith, c.loop-i-test.true, c.loop-i.invariant.0.nodes, c.requires.go.count)))
-    c.loop-i.actions (subst (λ (a : Bounded Action). CanAllGo c.args.next c.args.slots c.args.due c.args.controllers.now c.args.nodes.now a) (sym c.loop-i.invariant.1) c.requires.go))
+    c.loop-i.actions
+    (subst (λ (a : Bounded Action). CanAllGo c.args.next c.args.slots c.args.due c.args.controllers.now c.args.nodes.now a) (sym c.loop-i.invariant.1) c.requires.go))
 
 pub loop-i-preserved : goal.loop-i-preserved
 loop-i-preserved c =

@@ -1,4 +1,4 @@
-use Rattle.std.proofs.Common.{◌≡◌, ◌+◌, ◌<◌, ◌≤◌, subst, sym, arith}
+use Rattle.std.proofs.Common.{arith}
 use Rattle.cany_world.proofs.PassFacts.{fewer_pass, passes_early}
 use Rattle.cany_world.proofs.stretch.next_stretch.Goals as goal
 
