@@ -71,6 +71,18 @@ pub record IsOpen (scenario : ScenarioParts) (s : RunState) (slots : ℕ) : Type
 abbrev pub passes : ℕ → Nodes → ℕ → ℕ
 passes slots due i = if has due i then slots - 1 else slots
 
+-- a controller waits with nothing and its node has read all, if it runs
+pub record IsAtRest (c : ControllerState) : Type 0 where
+  pub waiting : c.waiting ≡ []
+  pub unread : c.unread ≡ []
+
+abbrev pub IsCalmIfItRuns : ControllerState → Type 0
+IsCalmIfItRuns c = c.stopped ≡ None → IsAtRest c
+
+-- so it is with all controllers
+abbrev pub AreCalm : List ControllerState → Type 0
+AreCalm controllers = (i : ℕ) (c : ControllerState) → slice_get controllers i ≡ Some c → IsCalmIfItRuns c
+
 -- the present incarnation has nothing to do in the idle slots before this one
 abbrev pub IncarnationRests : ℕ → IncarnationsParts → Type 0
 IncarnationRests end v = (it : NodeParts) → slice_get v.nodes v.present ≡ Some it → RestsUntil end it

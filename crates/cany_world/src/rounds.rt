@@ -21,7 +21,8 @@ fn make_round(world: &mut World)
     }
 }
 
-/// Makes at least one of the rounds that are left: those of the next idle slots, and then one more. How many are left.
+/// Makes at least one of the rounds that are left: those of the next idle slots, or where the next slot is not known to be idle, its
+/// round. How many are left.
 fn advance(world: &mut World, left: u64) -> u64
     requires some { 0 < left }
     requires room { slots_run (state_of world.old) + left ≤ world.old.scenario.params.slots }
@@ -31,9 +32,9 @@ fn advance(world: &mut World, left: u64) -> u64
     ensures made { world.new.journal ++ rounds world.new.scenario result (state_of world.new) ≡ world.old.journal ++ rounds world.old.scenario left (state_of world.old) }
     ensures ran { slots_run (state_of world.new) + result ≡ slots_run (state_of world.old) + left }
 {
-    let left = left - world.rest(left);
-    if left == 0 {
-        return 0;
+    let rested = world.rest(left);
+    if rested > 0 {
+        return left - rested;
     }
     make_round(world);
     left - 1

@@ -1,8 +1,8 @@
 //! How long the next stretch of idle slots is in which no node has anything to do before the last one.
-ghost use Rattle.std.specs.Prelude.{◌≡◌, ◌+◌, ◌^◌, ◌<◌, ◌≤◌, ℕ, IfSome, length};
+ghost use Rattle.std.specs.Prelude.{◌≡◌, ◌+◌, ◌^◌, ◌<◌, ◌≤◌, ℕ, length, true};
 ghost use Rattle.cany_base.specs.Limits.{most_nodes};
 ghost use Rattle.cany_base.specs.Scenario.{ScenarioParts};
-ghost use Rattle.cany_world.specs.Resting.{CanAllPass, CanPass, IsFree, passes};
+ghost use Rattle.cany_world.specs.Resting.{AreCalm, CanAllPass, CanPass, IsCalmIfItRuns, IsFree, passes};
 
 use crate::incarnations::Incarnations;
 use crate::script::free_slots;
@@ -19,19 +19,29 @@ pub(crate) struct Stretch {
     pub(crate) due: NodeSet,
 }
 
-/// How many slots from the next one on the node can pass. One that has stopped can pass as many as are asked about. There is no
-/// answer where frames wait or notices are unread: then a turn may have something to do whatever the slots bring.
-fn passed_by(next: Slot, most: u64, controller: &Controller, node: &Incarnations) -> Option<u64>
-    ensures { IfSome result (λ slots. CanPass next slots controller.now node.now) }
+/// Whether no controller that runs waits with a frame or has a notice that is unread.
+fn all_calm(controllers: &[Controller]) -> bool
+    ensures { result ≡ true → AreCalm controllers.now }
+{
+    for i in 0..controllers.len() {
+        let controller = &controllers[i];
+        if controller.stopped().is_none() && !controller.is_calm() {
+            return false;
+        }
+    }
+    true
+}
+
+/// How many slots from the next one on the node can pass. One that has stopped can pass as many as are asked about.
+fn passed_by(next: Slot, most: u64, controller: &Controller, node: &Incarnations) -> u64
+    requires { IsCalmIfItRuns controller.now }
+    ensures { CanPass next result controller.now node.now }
 {
     if controller.stopped().is_some() {
-        return Some(most);
-    }
-    if !controller.is_calm() {
-        return None;
+        return most;
     }
     counters_within(controller);
-    Some(node.wake().saturating_sub(next))
+    node.wake().saturating_sub(next)
 }
 
 /// The stretch, or the part of it that is left where node i can pass only so many slots. In the slot after these it is due.
@@ -61,25 +71,27 @@ fn passed_by_all(
     most: u64,
     controllers: &[Controller],
     nodes: &[Incarnations],
-) -> Option<Stretch>
+) -> Stretch
     requires count { length controllers.now ≡ length nodes.now }
     requires few { length controllers.now ≤ most_nodes }
-    ensures few { IfSome result (λ stretch. stretch.slots ≤ most) }
-    ensures passes { IfSome result (λ stretch. CanAllPass next stretch.slots stretch.due controllers.now nodes.now) }
+    requires calm { AreCalm controllers.now }
+    ensures few { result.slots ≤ most }
+    ensures passes { CanAllPass next result.slots result.due controllers.now nodes.now }
 {
     let mut stretch = Stretch {
         slots: most,
         due: NodeSet::empty(),
     };
     for i in 0..controllers.len() {
-        let slots = passed_by(next, stretch.slots, &controllers[i], &nodes[i])?;
+        let slots = passed_by(next, stretch.slots, &controllers[i], &nodes[i]);
         stretch = narrowed(stretch, i, slots);
     }
-    Some(stretch)
+    stretch
 }
 
 /// The next slots, at most so many, of which the script says nothing, up to the first in which a node has something to do. They are
-/// none where a running node waits with a frame or has something to read.
+/// none where a running node waits with a frame or has something to read. That is looked at first, since it takes less than to ask
+/// the nodes.
 pub(crate) fn next_stretch(
     next: Slot,
     most: u64,
@@ -96,12 +108,13 @@ pub(crate) fn next_stretch(
     ensures free { (scenario : ScenarioParts) → script.now ≡ scenario.rules → restarts.now ≡ scenario.restarts →
         (slot : ℕ) → next ≤ slot → slot < next + result.slots → IsFree scenario slot }
 {
-    let Some(stretch) = passed_by_all(next, most, controllers, nodes) else {
+    if !all_calm(controllers) {
         return Stretch {
             slots: 0,
             due: NodeSet::empty(),
         };
-    };
+    }
+    let stretch = passed_by_all(next, most, controllers, nodes);
     let slots = free_slots(script, restarts, next, stretch.slots);
     if slots == stretch.slots {
         return stretch;

@@ -9,6 +9,6 @@ returns-then-slots-stretch-clause-free c scenario same also slot from below =
 pub returns-clause-passes : goal.returns-clause-passes
 returns-clause-passes c some i x v at node_at =
     fewer_pass c.args.next _ _ x v
-    (passes_early c.free_slots-slots.result c.in-Some.stretch.slots c.empty-2.result c.in-Some.stretch.due i
+    (passes_early c.free_slots-slots.result c.passed_by_all-stretch.result.slots c.empty-2.result c.passed_by_all-stretch.result.due i
     (omega (arith, c.free_slots-slots.ensures.few, c.if-slots-stretch.false)) (c.empty-2.ensures i))
-    (c.in-Some.ensures.passes i x v at node_at)
+    (c.passed_by_all-stretch.ensures.passes i x v at node_at)
