@@ -28,7 +28,8 @@ use Rattle.cany_model.proofs.Bus.States.{node_at_past, note_at, runs_within}
 use Rattle.cany_model.proofs.Bus.Steps.{MayTurn, after_slot-length, after_slot-node, after_slot-trace, after_turn-history, after_turn-length, after_turn-node, after_turn-other, after_turn-trace, next_notice, node_after_turn}
 use Rattle.cany_model.proofs.Rules.IncarnationFacts.{effects_for-is}
 use Rattle.can_bus.specs.Rest.{idle_note, idle_trace}
-use Rattle.cany_world.specs.Resting.{IsCalm, IsFree, MayRest, after_rest, idle_round, rested}
+use Rattle.cany_world.specs.Resting.{IsFree}
+use Rattle.cany_world.proofs.Idle.{IsCalm, MayRest, after_rest, idle_round, rested}
 
 -- ---- the slot
 
@@ -332,8 +333,8 @@ pub record IsIdleNext (scenario : ScenarioParts) (s : RunState) : Type 0 where
 
 pub idle_next : (scenario : ScenarioParts) (s : RunState) (slots : ℕ) → MayRest scenario s (suc slots) → IsIdleNext scenario s
 idle_next scenario s slots may = record {
-  room = omega (arith, may.room);
-  free = may.free (slots_run s) (omega arith) (omega arith);
+  room = omega (arith, may.left.room);
+  free = may.left.free (slots_run s) (omega arith) (omega arith);
   calm = may.calm;
 }
 

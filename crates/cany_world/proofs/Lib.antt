@@ -6,6 +6,7 @@ pub mod EntriesLeft
 pub mod FollowFacts
 pub mod FreeFacts
 pub mod HeardFacts
+pub mod Idle
 pub mod IdleNotes
 pub mod IdleRound
 pub mod IdleRounds

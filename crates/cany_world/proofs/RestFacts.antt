@@ -39,7 +39,8 @@ use Rattle.cany_node.proofs.RestFacts.{rested_as, rested_effects}
 use Rattle.cany_world.specs.Incarnations.{IncarnationsParts}
 use Rattle.cany_world.specs.Kept.{IsKeptAs, IsKeptAt, IsPresentAt, AreControllersOf, AreNodesOf, StandFor, heard_of, newest_notices, past_of}
 use Rattle.cany_world.specs.Resting.{runs_at as controller_runs}
-use Rattle.cany_world.specs.Resting.{CanAllPass, CanCount, IncarnationRests, IsCalm, IsIdleFor, IsOpen, MayRest, after_rest, idle_round, idle_rounds, passes, rested, round_of, rounds_of}
+use Rattle.cany_world.specs.Resting.{CanAllPass, CanCount, IncarnationRests, IsIdleFor, IsOpen, passes, round_of, rounds_of}
+use Rattle.cany_world.proofs.Idle.{IsCalm, MayRest, after_rest, idle_round, idle_rounds, rested}
 use Rattle.cany_world.proofs.ControllerFacts.{kept_slot, running_after, stopped_after, stopped_node}
 use Rattle.cany_world.proofs.IdleNotes.{all_ended_rested, heard_rested, past_rested, past_unread, plain_rested}
 use Rattle.cany_world.proofs.IdleRound.{IsIdleNext, idle_node, node_at-map, one_unread, rested_running}
@@ -160,8 +161,7 @@ module _ (scenario : ScenarioParts) (journal : List Step) (slots : ℕ) (due : N
   -- so before the last one no node has anything to do
   pub may_rest : (fewer : ℕ) → fewer + 1 ≡ slots → MayRest scenario s fewer
   may_rest fewer e = record {
-    room = omega (arith, open_on.room, e);
-    free = λ slot from below. open_on.free slot from (omega (arith, below, e));
+    left = record { room = omega (arith, open_on.room, e); free = λ slot from below. open_on.free slot from (omega (arith, below, e)) };
     calm = λ i running. (runs_at i running).calm;
     nothing = λ n i less running. nothing_at n i (omega (arith, less, e, passes_most slots due i)) running;
   }

@@ -19,7 +19,8 @@ use Rattle.can_bus.specs.Bus.{BusParts}
 use Rattle.can_controller.specs.Controller.{ControllerState}
 use Rattle.cany_world.specs.Incarnations.{IncarnationsParts}
 use Rattle.cany_world.specs.Kept.{StandFor}
-use Rattle.cany_world.specs.Resting.{CanAllPass, CanRest, IsFree, IsOpen, MayRest, after_rest, idle_rounds, rounds_of}
+use Rattle.cany_world.specs.Resting.{CanAllPass, CanRest, IsFree, IsOpen, rounds_of}
+use Rattle.cany_world.proofs.Idle.{MayRest, after_rest, idle_rounds}
 use Rattle.cany_world.proofs.IdleRound.{IsIdleNext}
 use Rattle.cany_world.proofs.IdleRounds.{stretch_legal, stretch_ran, stretch_steps}
 use Rattle.cany_world.proofs.RestFacts.{last_idle, may_rest, rounds_are}

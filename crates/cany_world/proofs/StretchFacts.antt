@@ -29,7 +29,8 @@ use Rattle.can_bus.proofs.RestFacts.{length-idle_trace}
 use Rattle.can_controller.specs.Controller.{ControllerState}
 use Rattle.cany_world.specs.Incarnations.{IncarnationsParts}
 use Rattle.cany_world.specs.Kept.{IsKeptAs, IsKeptAt, StandFor}
-use Rattle.cany_world.specs.Resting.{CanAllGo, CanAllPass, CanGo, CanRest, CanTakeTurn, HasPassed, HasTakenTurn, HaveAllPassed, HavePassed, HavePassedAt, HaveRested, IsOpen, MayRest, after_rest, noticed, passes, rested}
+use Rattle.cany_world.specs.Resting.{CanAllGo, CanAllPass, CanGo, CanRest, CanTakeTurn, HasPassed, HasTakenTurn, HaveAllPassed, HavePassed, HavePassedAt, HaveRested, IsOpen, noticed, passes}
+use Rattle.cany_world.proofs.Idle.{MayRest, after_rest, rested}
 use Rattle.cany_world.proofs.IdleRound.{HasNothing, IsAfterRound, IsIdleNext, node_at-map, one_unread, proceed_idle, rested_stopped, turn_node}
 use Rattle.cany_world.proofs.IdleRounds.{after_rest_then, before_slot, before_slot_run, still_is, still_runs, stretch_run, trace_then, with_slot, with_slot_run}
 use Rattle.cany_world.proofs.InOrder.{IsInOrder, in_order}

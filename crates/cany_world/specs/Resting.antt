@@ -1,4 +1,4 @@
--- A stretch of idle slots: in what state the next slots are idle and lead no node to do anything before the last one, and what they leave.
+-- A stretch of idle slots: when no node has anything to do before the last one, and what the program makes of its controllers and nodes then.
 use Rattle.std.specs.Prelude.{◌≡◌, ℕ, zero, suc, ◌+◌, ◌-◌, ◌^◌, ◌<◌, ◌≤◌, Bool, true, false, is_none, if◌then◌else◌, List, [], ◌∷◌, ◌++◌, Option, Some, None, length, filter, map, slice_get, slice_set}
 use Rattle.std.specs.List.{range_with_len}
 use Rattle.std.specs.Option.{option_map_or}
@@ -12,53 +12,19 @@ use Rattle.cany_base.specs.Limits.{most_nodes}
 use Rattle.cany_base.specs.Nodes.{Nodes, has}
 use Rattle.cany_base.specs.Scenario.{ScenarioParts}
 use Rattle.cany_model.specs.declared.share.Share.TheVariants.{Idle}
-use Rattle.cany_model.specs.Bus.History.{history}
 use Rattle.cany_model.specs.Bus.Restart.{names_restart}
 use Rattle.cany_model.specs.Bus.Slot.{exceeds, slot_rule}
-use Rattle.cany_model.specs.Bus.State.{NodeState, RunState, node_at, runs, slots_run}
-use Rattle.cany_model.specs.Rules.Turn.{effects_for}
+use Rattle.cany_model.specs.Bus.State.{RunState, node_at, runs, slots_run}
 use Rattle.can_bus.specs.Bus.{BusParts}
-use Rattle.can_bus.specs.Rest.{idle_trace}
 use Rattle.can_controller.specs.Controller.{ControllerState, node_state, seen}
 use Rattle.cany_node.specs.Node.{NodeParts, Reads}
 use Rattle.cany_node.specs.Resting.{RestsUntil}
 use Rattle.cany_world.specs.Incarnations.{IncarnationsParts, CanTurnNow, HasTurned}
 
--- A node after so many idle slots: a running one has read them, of a stopped one a run goes on counting the slots as unread.
-abbrev pub rested : ℕ → NodeState → NodeState
-rested slots node = if runs node then node else record node { unread = node.unread + slots }
-
--- the state after so many idle slots, each with the turns of the running nodes
-abbrev pub after_rest : ℕ → RunState → RunState
-after_rest slots s = record { trace = idle_trace slots s.trace; nodes = map (rested slots) s.nodes }
-
--- the steps of one of them
-abbrev pub idle_round : List NodeState → List Step
-idle_round nodes = Slot ∷ map (λ i. Turn i) (filter (λ i. runs (node_at nodes i)) (range_with_len 0 (length nodes)))
-
--- those of so many
-unfoldable pub idle_rounds : ℕ → List NodeState → List Step
-idle_rounds zero nodes = []
-idle_rounds (suc slots) nodes = idle_round nodes ++ idle_rounds slots nodes
-
 -- no rule is that of the slot, and no restart entry
 pub record IsFree (scenario : ScenarioParts) (slot : ℕ) : Type 0 where
   pub rules : slot_rule scenario.rules slot ≡ None
   pub restarts : (i : ℕ) → names_restart scenario.restarts slot i ≡ false
-
--- the node waits with nothing, has read every notice, and its counters do not stop it
-pub record IsCalm (node : NodeState) : Type 0 where
-  pub waiting : node.waiting ≡ []
-  pub unread : node.unread ≡ 0
-  pub counters : exceeds node ≡ false
-
--- So many slots are left, of which the script says nothing. The running nodes are calm, and at none of the slots have they anything to do.
-pub record MayRest (scenario : ScenarioParts) (s : RunState) (slots : ℕ) : Type 0 where
-  pub room : slots_run s + slots ≤ scenario.params.slots
-  pub free : (slot : ℕ) → slots_run s ≤ slot → slot < slots_run s + slots → IsFree scenario slot
-  pub calm : (i : ℕ) → runs (node_at s.nodes i) ≡ true → IsCalm (node_at s.nodes i)
-  pub nothing : (n i : ℕ) → n < slots → runs (node_at s.nodes i) ≡ true
-      → effects_for (node_at s.nodes i).present.number scenario (node_at s.nodes i).present i (history i (after_rest (n + 1) s)) ≡ []
 
 -- So many slots are left, of which the script says nothing.
 pub record IsOpen (scenario : ScenarioParts) (s : RunState) (slots : ℕ) : Type 0 where
