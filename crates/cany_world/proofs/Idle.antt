@@ -1,11 +1,9 @@
 -- Idle slots in a run: in what state the next slots are idle and lead no node to do anything, and what they leave.
-use Rattle.std.specs.Prelude.{◌≡◌, ℕ, zero, suc, ◌+◌, ◌-◌, ◌<◌, true, false, if◌then◌else◌, List, [], ◌∷◌, ◌++◌, length, filter, map}
+use Rattle.std.specs.Prelude.{◌≡◌, ℕ, zero, suc, ◌+◌, ◌<◌, true, false, if◌then◌else◌, List, [], ◌∷◌, ◌++◌, length, filter, map}
 use Rattle.std.specs.List.{range_with_len}
 use Rattle.cany_base.specs.declared.step.Step.{Step}
 use Rattle.cany_base.specs.declared.step.Step.TheVariants.{Slot, Turn}
-use Rattle.cany_base.specs.Nodes.{has}
 use Rattle.cany_base.specs.Scenario.{ScenarioParts}
-use Rattle.cany_model.specs.declared.share.Share.TheVariants.{Idle}
 use Rattle.cany_model.specs.Bus.History.{history}
 use Rattle.cany_model.specs.Bus.Slot.{exceeds}
 use Rattle.cany_model.specs.Bus.State.{NodeState, RunState, node_at, runs}

@@ -14,7 +14,7 @@ use Rattle.cany_base.specs.Scenario.{ScenarioParts}
 use Rattle.cany_model.specs.declared.share.Share.TheVariants.{Idle}
 use Rattle.cany_model.specs.Bus.Restart.{names_restart}
 use Rattle.cany_model.specs.Bus.Slot.{exceeds, slot_rule}
-use Rattle.cany_model.specs.Bus.State.{RunState, node_at, runs, slots_run}
+use Rattle.cany_model.specs.Bus.State.{RunState, slots_run}
 use Rattle.can_bus.specs.Bus.{BusParts}
 use Rattle.can_controller.specs.Controller.{ControllerState, node_state, seen}
 use Rattle.cany_node.specs.Node.{NodeParts, Reads}
