@@ -23,4 +23,5 @@ pub mod SiteRest
 pub mod SiteSteps
 pub mod TellingFacts
 pub mod ToldFacts
+pub mod Unheard
 pub mod WholeTurn

@@ -1,8 +1,10 @@
 -- What a node keeps of the site: life signs and failure signs, the exchange of vectors, and the view.
-use Rattle.std.specs.Prelude.{◌≡◌, ℕ, ◌+◌, ◌*◌, ◌<◌, [], ◌∷◌, ◌++◌, List, length, Option, None, IfSome, option_map, replicate}
+use Rattle.std.specs.Prelude.{◌≡◌, ℕ, ◌+◌, ◌*◌, ◌<◌, Bool, true, false, [], ◌∷◌, ◌++◌, List, length, Option, None, IfSome, option_map, replicate}
+use Rattle.cany_base.specs.declared.frame.Class.{Class}
+use Rattle.cany_base.specs.declared.frame.Class.TheVariants.{Accept, Rha, Els, Fda, Join, Leave, Confirm, Tot, Rel, Ed}
 use Rattle.cany_base.specs.declared.notice.Notice.{Notice}
 use Rattle.cany_base.specs.declared.notice.NoticeKind.{NoticeKind}
-use Rattle.cany_base.specs.declared.notice.NoticeKind.TheVariants.{Idle}
+use Rattle.cany_base.specs.declared.notice.NoticeKind.TheVariants.{Idle, Got, Sent, Bad}
 use Rattle.cany_base.specs.Nodes.{AllBelow, Nodes}
 use Rattle.cany_base.specs.Params.{Parameters}
 use Rattle.cany_base.specs.Scenario.{ScenarioParts}
@@ -45,6 +47,28 @@ pub record IsNextOf (scenario : ScenarioParts) (i : ℕ) (past : List NoticeKind
   pub next : IsNextNotice scenario past notice
   pub few : HasFewSigns scenario i (notice.kind ∷ past) notice.slot
   pub vector : IsReadableVector scenario.params i notice.slot (station_of scenario i past).vector notice.kind
+
+-- ---- what tells of the site
+
+-- whether frames of the class do: those of TOTCAN's data show that their node lives
+abbrev pub is_of_site : Class → Bool
+is_of_site Accept = false
+is_of_site Rha = true
+is_of_site Els = true
+is_of_site Fda = true
+is_of_site Join = true
+is_of_site Leave = true
+is_of_site Confirm = false
+is_of_site Tot = true
+is_of_site Rel = false
+is_of_site Ed = false
+
+-- whether the notice does
+abbrev pub tells_of_site : NoticeKind → Bool
+tells_of_site Idle = false
+tells_of_site (Got f) = is_of_site f.class
+tells_of_site (Sent f) = is_of_site f.class
+tells_of_site Bad = false
 
 -- ---- in the middle of a turn
 

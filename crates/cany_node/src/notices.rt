@@ -3,6 +3,7 @@
 ghost use Rattle.std.specs.Prelude.{◌≡◌, ◌↔◌, true};
 ghost use Rattle.cany_base.specs.declared.notice.NoticeKind.TheVariants.{Idle};
 ghost use Rattle.cany_model.specs.Rules.Notices.{error_as_idle, is_early, is_early_frame};
+ghost use Rattle.cany_node.specs.Site.{is_of_site, tells_of_site};
 
 use cany_base::{Class, Frame, NoticeKind};
 use cany_message::is_of_class;
@@ -39,4 +40,24 @@ pub(crate) fn is_idle(kind: &NoticeKind) -> bool
     ensures { (result ≡ true) ↔ (kind.now ≡ Idle) }
 {
     matches!(kind, NoticeKind::Idle)
+}
+
+/// Whether frames of the class tell of the site. Those of the data of TOTCAN do: they show that their node lives.
+fn is_of_site(class: Class) -> bool
+    ensures { result ≡ is_of_site class }
+{
+    match class {
+        Class::Rha | Class::Els | Class::Fda | Class::Join | Class::Leave | Class::Tot => true,
+        Class::Accept | Class::Confirm | Class::Rel | Class::Ed => false,
+    }
+}
+
+/// Whether a notice tells of the site: who lives, who has failed, who joins or leaves, or a vector.
+pub(crate) fn tells_of_site(kind: &NoticeKind) -> bool
+    ensures { result ≡ tells_of_site kind.now }
+{
+    match kind {
+        NoticeKind::Got(frame) | NoticeKind::Sent(frame) => is_of_site(frame.class),
+        NoticeKind::Idle | NoticeKind::Bad => false,
+    }
 }

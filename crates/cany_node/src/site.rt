@@ -16,6 +16,7 @@ ghost use Rattle.cany_node.specs.Site.{CanExchange, CanHear, Exchanges, FitsCycl
 ghost use Rattle.cany_node.specs.Resting.{SiteRests};
 
 use crate::asks::AskKind;
+use crate::notices::tells_of_site;
 use cany_base::{Actions, Memory, NodeId, NodeSet, Notice, Params, Scenario, Slot};
 use cany_history::{Ended, History};
 use cany_life::Life;
@@ -75,9 +76,25 @@ impl Site {
         self.views.begin_outside();
     }
 
-    /// What a notice tells, up to the node's own life sign: who asks to join or to leave, who shows life and who has failed, then the
-    /// vectors, at the end of a cycle the new view, and at the start of one what the node starts with.
+    /// What a notice tells, up to the node's own life sign. Before `wake`, a notice that tells nothing of the site leads to nothing.
     pub(crate) fn on(&mut self, notice: &Notice, out: &mut Actions)
+        requires hears { CanHear self.old notice.now }
+        requires room { length out.old.items + site_room self.old ≤ out.old.room }
+        ensures actions { (scenario : ScenarioParts) (i : ℕ) (past : List NoticeKind) → IsSiteOf scenario i past self.old → IsNextOf scenario i past notice.now →
+            out.new.items ≡ out.old.items ++ actions_of scenario.params.format (site_effects scenario i (notice.now.kind ∷ past)) }
+        ensures stands { (scenario : ScenarioParts) (i : ℕ) (past : List NoticeKind) → IsSiteOf scenario i past self.old → IsNextOf scenario i past notice.now →
+            IsSiteOf scenario i (notice.now.kind ∷ past) self.new }
+        ensures few { length out.new.items ≤ length out.old.items + site_room self.old }
+        ensures room { out.new.room ≡ out.old.room }
+    {
+        if tells_of_site(&notice.kind) || notice.slot >= self.wake(notice.slot) {
+            self.follow(notice, out);
+        }
+    }
+
+    /// The same, step by step: who asks to join or to leave, who shows life and who has failed, then the vectors, at the end of a cycle
+    /// the new view, and at the start of one what the node starts with.
+    fn follow(&mut self, notice: &Notice, out: &mut Actions)
         requires hears { CanHear self.old notice.now }
         requires room { length out.old.items + site_room self.old ≤ out.old.room }
         ensures actions { (scenario : ScenarioParts) (i : ℕ) (past : List NoticeKind) → IsSiteOf scenario i past self.old → IsNextOf scenario i past notice.now →

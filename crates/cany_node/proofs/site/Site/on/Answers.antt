@@ -1,65 +1,19 @@
-use Rattle.std.proofs.Common.{◌∷◌, length, subst, sym}
-use Rattle.cany_history.specs.History.{IsHistoryOf}
-use Rattle.cany_model.specs.Rules.Site.{ended_in, station_of}
-use Rattle.cany_node.specs.Site.{IsSiteOf, met_by}
-use Rattle.cany_node.proofs.SiteSteps.{all_listed, ended_now, has_known, known_exchanged, known_installed, site_stands}
+use Rattle.std.proofs.Common.{◌∙◌, ◌++◌, ap, sym, arith, append-nil}
+use Rattle.cany_model.specs.Rules.Actions.{actions_of}
+use Rattle.cany_node.proofs.Unheard.{none_unheard, site_unheard, unheard}
 use Rattle.cany_node.proofs.site.Site.on.Goals as goal
 
-pub install-requires-clause-known : goal.install-requires-clause-known
-install-requires-clause-known c =
-    let at = c.requires.hears in
+pub returns-else-notice-wake-clause-actions : goal.returns-else-notice-wake-clause-actions
+returns-else-notice-wake-clause-actions c = λ scenario i past h next.
     let notice = c.args.notice.now in
-    let exchanges = c.hear.ensures.exchanges at.scenario at.node at.past at.stands at.next in
-    has_known at.scenario at.node at.past notice at.next (met_by at.scenario at.node notice at.past) c.exchange-ended.new.self
-    (known_exchanged at.scenario at.node at.past notice at.next c.hear.new.self c.exchange-ended.new.self _ exchanges
-    c.exchange-ended.ensures.state)
+    let other = unheard notice.kind (sym c.if-tells_of_site.ensures) in
+    let rests = c.wake.ensures.rests scenario i past h (omega (arith, next.next.slot)) (omega (arith, next.next.slot)) (omega (arith, next.next.slot, next.next.within)) in
+    sym (append-nil c.args.out.now.items)
+    ∙ sym (ap (λ effects. c.args.out.now.items ++ actions_of scenario.params.format effects) (none_unheard scenario i past notice.kind other _ rests))
 
-pub sign-requires-clause-known : goal.sign-requires-clause-known
-sign-requires-clause-known c =
-    let scenario = c.requires.hears.scenario in
-    let i = c.requires.hears.node in
-    let past = c.requires.hears.past in
-    let next = c.requires.hears.next in
+pub returns-else-notice-wake-clause-stands : goal.returns-else-notice-wake-clause-stands
+returns-else-notice-wake-clause-stands c = λ scenario i past h next.
     let notice = c.args.notice.now in
-    let exchanges = c.hear.ensures.exchanges scenario i past c.requires.hears.stands next in
-    let state = c.exchange-ended.ensures.state in
-    let known = known_exchanged scenario i past notice next c.hear.new.self c.exchange-ended.new.self _ exchanges state in
-    let ended = ended_in scenario.params (length past) notice.kind (station_of scenario i past) in
-    let result = ended_now scenario i past notice next _ (c.exchange-ended.ensures.ended scenario i past exchanges) in
-    has_known scenario i past notice next _ c.install.new.self
-    (c.install.ensures.knows scenario i (notice.kind ∷ past) (met_by scenario i notice past) ended known result)
-
-pub returns-clause-actions : goal.returns-clause-actions
-returns-clause-actions c = λ scenario i past h next.
-    let notice = c.args.notice.now in
-    let read = notice.kind ∷ past in
-    let exchanges = c.hear.ensures.exchanges scenario i past h next in
-    let state = c.exchange-ended.ensures.state in
-    let known = known_exchanged scenario i past notice next c.hear.new.self c.exchange-ended.new.self _ exchanges state in
-    let ended = ended_in scenario.params (length past) notice.kind (station_of scenario i past) in
-    let result = ended_now scenario i past notice next _ (c.exchange-ended.ensures.ended scenario i past exchanges) in
-    let met = met_by scenario i notice past in
-    let knows = c.install.ensures.knows scenario i read met ended known result in
-    let installed = known_installed scenario i past notice next c.install.new.self knows in
-    all_listed scenario i past notice next c.args.out.now.items c.hear.new.out.items c.exchange-ended.new.out.items
-    c.install.new.out.items c.sign.new.out.items
-    (c.hear.ensures.actions scenario i past h next)
-    (c.exchange-ended.ensures.actions scenario i past exchanges)
-    (c.install.ensures.actions scenario i read met ended known result)
-    (c.sign.ensures.actions scenario i read (station_of scenario i read) installed)
-
-pub returns-clause-stands : goal.returns-clause-stands
-returns-clause-stands c = λ scenario i past h next.
-    let notice = c.args.notice.now in
-    let read = notice.kind ∷ past in
-    let exchanges = c.hear.ensures.exchanges scenario i past h next in
-    let state = c.exchange-ended.ensures.state in
-    let known = known_exchanged scenario i past notice next c.hear.new.self c.exchange-ended.new.self _ exchanges state in
-    let ended = ended_in scenario.params (length past) notice.kind (station_of scenario i past) in
-    let result = ended_now scenario i past notice next _ (c.exchange-ended.ensures.ended scenario i past exchanges) in
-    let knows = c.install.ensures.knows scenario i read (met_by scenario i notice past) ended known result in
-    let installed = known_installed scenario i past notice next c.install.new.self knows in
-    let exchanged = c.exchange-ended.ensures.history scenario i past exchanges in
-    let history = subst (IsHistoryOf scenario i read (station_of scenario i read).vector) (sym c.install.ensures.history) exchanged in
-    subst (IsSiteOf scenario i read) (sym c.sign.ensures.state)
-    (site_stands scenario i past notice next c.install.new.self installed history)
+    let other = unheard notice.kind (sym c.if-tells_of_site.ensures) in
+    let rests = c.wake.ensures.rests scenario i past h (omega (arith, next.next.slot)) (omega (arith, next.next.slot)) (omega (arith, next.next.slot, next.next.within)) in
+    site_unheard scenario i past notice.kind other _ rests.stands

@@ -1,0 +1,304 @@
+-- A notice that tells nothing of the site is to what a node keeps of it as an idle slot.
+use Rattle.std.specs.List.{flat_map, list_any}
+use Rattle.std.proofs.Common.{◌≡◌, ℕ, ◌+◌, ◌*◌, ◌/◌, ◌≤◌, ◌==◌, ◌&&◌, ◌||◌, Bool, true, false, nat_le, if◌then◌else◌, List, [], ◌∷◌, ◌++◌, length, Option, Some, None, IfSome, count_by, refl, ap, sym, ◌∙◌, subst}
+use Rattle.std.proofs.lemmas.Bool.{false_from_ne_true}
+use Rattle.cany_base.specs.declared.frame.Class.{Class}
+use Rattle.cany_base.specs.declared.frame.Class.TheVariants as class
+use Rattle.cany_base.specs.declared.frame.Format.{Format}
+use Rattle.cany_base.specs.declared.log_entry.LogEntry.TheVariants.{Failed}
+use Rattle.cany_base.specs.declared.notice.NoticeKind.{NoticeKind}
+use Rattle.cany_base.specs.declared.notice.NoticeKind.TheVariants.{Idle, Got, Sent, Bad}
+use Rattle.cany_base.specs.Frame.{FrameParts}
+use Rattle.cany_base.specs.Nodes.{AllBelow, Nodes}
+use Rattle.cany_base.specs.Params.{Parameters}
+use Rattle.cany_base.specs.Scenario.{ScenarioParts}
+use Rattle.cany_history.specs.History.{HistoryParts, IsExchangeOf, IsHistoryOf, vector_read}
+use Rattle.cany_history.proofs.PastFacts.{more_from_none}
+use Rattle.cany_life.specs.Life.{IsLifeOf, LifeParts}
+use Rattle.cany_model.specs.Bus.Frames.{same_class, same_identity}
+use Rattle.cany_model.specs.Bus.History.{copies, is_got}
+use Rattle.cany_model.specs.Rules.Effect.{Ask, Enter}
+use Rattle.cany_model.specs.Rules.Life.{failure_effects, failures_at, fda_copy_effects, is_own_sign, life_sign, sign_effects, signs_sent}
+use Rattle.cany_model.specs.Rules.Membership.{install_effects}
+use Rattle.cany_model.specs.Rules.Site.{after_notice, ended_in, having_asked, having_installed, met_in, start_in, station_of}
+use Rattle.cany_model.specs.Rules.Station.{Sign, Station, after_life, fda_frame, fda_of, found, found_in, having_found, having_learnt, shows_life, told, told_in, with_signs}
+use Rattle.cany_model.specs.Rules.Vectors.{brought, end_effects, ended, exchange_at, is_exchange, is_just, is_start, is_vector_got, is_vector_sent, met, start_effects, vector_effects, vector_in}
+use Rattle.cany_model.specs.Rules.Views.{after_ask, start_of, view_effects, with_ended}
+use Rattle.cany_model.proofs.Among.{count-no}
+use Rattle.cany_model.proofs.Bus.Identities.{same_class-true}
+use Rattle.cany_views.specs.Views.{IsViewsOf}
+use Rattle.cany_node.specs.Resting.{SiteRests}
+use Rattle.cany_node.specs.Site.{IsSiteOf, SiteParts, is_of_site, site_effects, tells_of_site}
+
+-- ---- the class of a frame
+
+-- a class of which a test is false is none of which it is true
+pub apart : (test : Class → Bool) (c d : Class) → test c ≡ false → test d ≡ true → same_class c d ≡ false
+apart test c d other one = false_from_ne_true (same_class c d) (λ same.
+    let e : true ≡ false = sym one ∙ ap test (sym (same_class-true c d same)) ∙ other in absurd (cc))
+
+-- nor the other way round
+pub apart_from : (test : Class → Bool) (c d : Class) → test c ≡ false → test d ≡ true → same_class d c ≡ false
+apart_from test c d other one = false_from_ne_true (same_class d c) (λ same.
+    let e : true ≡ false = sym one ∙ ap test (same_class-true d c same) ∙ other in absurd (cc))
+
+-- ---- what the steps of a turn find in the notice
+
+either : (A : Type 0) (b : Bool) (a : A) → (if b then a else a) ≡ a
+either A true a = refl
+either A false a = refl
+
+neither : (b : Bool) → (b && false) ≡ false
+neither true = refl
+neither false = refl
+
+-- nobody who shows life, no sign, no ask and no vector
+pub record IsUnheard (e : NoticeKind) : Type 0 where
+  pub life : (i slot : ℕ) (st : Station) → after_life i slot e st ≡ st
+  pub sign : (st : Station) → told e st ≡ []
+  pub copy : (omit : ℕ) (past : List NoticeKind) → fda_copy_effects omit e past ≡ []
+  pub counted : (sign : Sign) → is_got (fda_of sign) e ≡ false
+  pub own : (i : ℕ) → is_own_sign i e ≡ false
+  pub ask : (st : Station) → after_ask e st ≡ st
+  pub vector : (p : Parameters) (slot : ℕ) → brought p slot e ≡ None
+  pub read : (format : Format) (cycle i : ℕ) → vector_read format cycle i e ≡ None
+  pub got : (format : Format) (cycle : ℕ) (v : Nodes) → is_vector_got format cycle v e ≡ false
+  pub sent : (format : Format) (cycle i : ℕ) (v : Nodes) → is_vector_sent format cycle i v e ≡ false
+
+no_vector : (format : Format) (cycle : ℕ) (f : FrameParts) → is_of_site f.class ≡ false → vector_in format cycle f ≡ None
+no_vector format cycle f other = rw (apart is_of_site f.class class.Rha other refl) refl
+
+no_life : (f : FrameParts) → is_of_site f.class ≡ false → shows_life f ≡ false
+unfolding shows_life
+no_life f other =
+    rw (apart is_of_site f.class class.Els other refl, apart is_of_site f.class class.Rha other refl, apart is_of_site f.class class.Tot other refl) refl
+
+nothing_just : (v : Nodes) (x : Option Nodes) → x ≡ None → is_just v x ≡ false
+unfolding is_just
+nothing_just v x none = ap (is_just v) none
+
+unheard_got : (f : FrameParts) → is_of_site f.class ≡ false → IsUnheard (Got f)
+unfolding after_life told fda_copy_effects after_ask brought same_identity
+unheard_got f other = record {
+  life = λ i slot st. rw (no_life f other) refl;
+  sign = λ st. rw (apart is_of_site f.class class.Fda other refl) refl;
+  copy = λ omit past. rw (apart is_of_site f.class class.Fda other refl) refl;
+  counted = λ sign. rw (apart_from is_of_site f.class class.Fda other refl) refl;
+  own = λ i. refl;
+  ask = λ st. rw (apart is_of_site f.class class.Join other refl, apart is_of_site f.class class.Leave other refl) refl;
+  vector = λ p slot. rw (no_vector p.format (slot / p.cycle) f other) (either (Option Nodes) (is_exchange p slot) None);
+  read = λ format cycle i. no_vector format cycle f other;
+  got = λ format cycle v. nothing_just v (vector_in format cycle f) (no_vector format cycle f other);
+  sent = λ format cycle i v. refl;
+}
+
+unheard_sent : (f : FrameParts) → is_of_site f.class ≡ false → IsUnheard (Sent f)
+unfolding after_life told fda_copy_effects after_ask brought
+unheard_sent f other = record {
+  life = λ i slot st. rw (no_life f other) refl;
+  sign = λ st. refl;
+  copy = λ omit past. refl;
+  counted = λ sign. refl;
+  own = λ i. rw (apart is_of_site f.class class.Els other refl) refl;
+  ask = λ st. rw (apart is_of_site f.class class.Leave other refl) refl;
+  vector = λ p slot. refl;
+  read = λ format cycle i. ap (λ w. if f.node == i then w else None) (no_vector format cycle f other) ∙ either (Option Nodes) (f.node == i) None;
+  got = λ format cycle v. refl;
+  sent = λ format cycle i v.
+      ap (λ b. f.node == i && b) (nothing_just v (vector_in format cycle f) (no_vector format cycle f other)) ∙ neither (f.node == i);
+}
+
+pub unheard : (e : NoticeKind) → tells_of_site e ≡ false → IsUnheard e
+unfolding after_life told fda_copy_effects after_ask brought
+unheard (Got f) other = unheard_got f other
+unheard (Sent f) other = unheard_sent f other
+unheard Idle other = record {
+  life = λ i slot st. refl;
+  sign = λ st. refl;
+  copy = λ omit past. refl;
+  counted = λ sign. refl;
+  own = λ i. refl;
+  ask = λ st. refl;
+  vector = λ p slot. refl;
+  read = λ format cycle i. refl;
+  got = λ format cycle v. refl;
+  sent = λ format cycle i v. refl;
+}
+unheard Bad other = record {
+  life = λ i slot st. refl;
+  sign = λ st. refl;
+  copy = λ omit past. refl;
+  counted = λ sign. refl;
+  own = λ i. refl;
+  ask = λ st. refl;
+  vector = λ p slot. refl;
+  read = λ format cycle i. refl;
+  got = λ format cycle v. refl;
+  sent = λ format cycle i v. refl;
+}
+
+-- ---- what the node knows after each step
+
+module _ (p : Parameters) (i slot : ℕ) (e : NoticeKind) (u : IsUnheard e) (st : Station) where
+  learnt_same : having_learnt i slot e st ≡ having_learnt i slot Idle st
+  unfolding after_life told
+  learnt_same = λ j. with_signs (u.sign (after_life i slot e st) j) (u.life i slot st j)
+
+  pub told_same : told_in i slot e st ≡ told_in i slot Idle st
+  unfolding after_life told
+  told_same = u.sign (after_life i slot e st)
+
+  pub found_in_same : found_in p i slot e st ≡ found_in p i slot Idle st
+  found_in_same = ap (found p i slot) learnt_same
+
+  found_same : having_found p i slot e st ≡ having_found p i slot Idle st
+  found_same = λ j. with_signs (found p i slot (learnt_same j)) (learnt_same j)
+
+  asked_same : having_asked p i slot e st ≡ having_asked p i slot Idle st
+  unfolding after_ask
+  asked_same = u.ask (having_found p i slot e st) ∙ found_same
+
+  met_same : met_in p slot e st ≡ met_in p slot Idle st
+  unfolding brought
+  met_same = ap (met p st.vector) (u.vector p slot)
+
+  pub ended_same : ended_in p slot e st ≡ ended_in p slot Idle st
+  ended_same = ap (ended p slot) met_same
+
+  installed_same : having_installed p i slot e st ≡ having_installed p i slot Idle st
+  installed_same = λ j. with_ended i slot (ended_same j) (record (asked_same j) { vector = met_same j })
+
+  pub start_same : start_in p i slot e st ≡ start_in p i slot Idle st
+  start_same = ap (λ s. if is_start p slot then start_of i s else None) installed_same
+
+  pub notice_same : after_notice p i slot e st ≡ after_notice p i slot Idle st
+  unfolding after_notice
+  notice_same = ap (λ (s : Station). if is_start p slot then record s { vector = start_of i s } else s) installed_same
+
+module _ (scenario : ScenarioParts) (i : ℕ) (past : List NoticeKind) (e : NoticeKind) (u : IsUnheard e) where
+  abbrev p : Parameters
+  p = scenario.params
+
+  abbrev before : Station
+  before = station_of scenario i past
+
+  pub station_same : station_of scenario i (e ∷ past) ≡ station_of scenario i (Idle ∷ past)
+  unfolding station_of
+  station_same = notice_same p i (length past) e u before
+
+  -- ---- what is counted
+
+  copies_same : (sign : Sign) → copies (fda_of sign) (e ∷ past) ≡ copies (fda_of sign) (Idle ∷ past)
+  unfolding copies
+  copies_same sign = count-no (is_got (fda_of sign)) e past (u.counted sign) ∙ sym (count-no (is_got (fda_of sign)) Idle past refl)
+
+  signs_same : signs_sent i (e ∷ past) ≡ signs_sent i (Idle ∷ past)
+  unfolding signs_sent
+  signs_same = count-no (is_own_sign i) e past (u.own i) ∙ sym (count-no (is_own_sign i) Idle past refl)
+
+  -- ---- what is done
+
+  sign_same : (omit slot : ℕ) → sign_effects omit slot (e ∷ past) ≡ sign_effects omit slot (Idle ∷ past)
+  unfolding sign_effects
+  sign_same omit slot = λ j sign.
+      Enter (Failed slot sign.node sign.cycle) ∷ (if nat_le (omit + 1) (copies_same sign j) then [] else Ask (fda_frame sign) ∷ [])
+
+  pub failures_same : failure_effects scenario i (e ∷ past) ≡ failure_effects scenario i (Idle ∷ past)
+  unfolding failure_effects failures_at fda_copy_effects
+  failures_same = λ j.
+      flat_map (sign_same p.omit (length past) j) (told_same p i (length past) e u before j)
+      ++ u.copy p.omit (e ∷ past) j
+      ++ flat_map (sign_same p.omit (length past) j) (found_in_same p i (length past) e u before j)
+
+  no_vector_effects : (inc : ℕ) → vector_effects p inc i (length past) (e ∷ past) before.vector (brought p (length past) e) ≡ []
+  unfolding vector_effects
+  no_vector_effects inc = ap (vector_effects p inc i (length past) (e ∷ past) before.vector) (u.vector p (length past))
+
+  pub exchange_same : (inc : ℕ) → exchange_at p inc i e past before.vector (start_in p i (length past) e before)
+      ≡ exchange_at p inc i Idle past before.vector (start_in p i (length past) Idle before)
+  unfolding exchange_at vector_effects brought
+  exchange_same inc = λ j.
+      no_vector_effects inc j
+      ++ end_effects p i (length past) (ended p (length past) (met p before.vector (u.vector p (length past) j)))
+      ++ start_effects p inc i (length past) (start_same p i (length past) e u before j)
+
+  pub install_same : install_effects scenario i (e ∷ past) ≡ install_effects scenario i (Idle ∷ past)
+  unfolding install_effects
+  install_same = ap (view_effects p scenario.joins scenario.leaves i (length past)) (ended_same p i (length past) e u before)
+
+  pub sign_due_same : (inc : ℕ) → life_sign p.life inc i (length past) (station_of scenario i (e ∷ past)) (signs_sent i (e ∷ past))
+      ≡ life_sign p.life inc i (length past) (station_of scenario i (Idle ∷ past)) (signs_sent i (Idle ∷ past))
+  sign_due_same inc = λ j. life_sign p.life inc i (length past) (station_same j) (signs_same j)
+
+  pub site_same : site_effects scenario i (e ∷ past) ≡ site_effects scenario i (Idle ∷ past)
+  site_same = λ j. failures_same j ++ (exchange_same 0 j ++ (install_same j ++ sign_due_same 0 j))
+
+  -- ---- the value
+
+  life_same : (st : Station) (v : LifeParts) → IsLifeOf scenario i (Idle ∷ past) st v → IsLifeOf scenario i (e ∷ past) st v
+  life_same st v h = record {
+    legal = h.legal;
+    node = h.node;
+    params = h.params;
+    failed = h.failed;
+    cycles = h.cycles;
+    known = h.known;
+    copies = record {
+      omit = h.copies.omit;
+      room = h.copies.room;
+      copies = λ sign below. h.copies.copies sign below ∙ sym (copies_same sign);
+      signs = h.copies.signs;
+    };
+    nodes = h.nodes;
+    shown = h.shown;
+    last = h.last;
+    sent = h.sent ∙ sym signs_same;
+    few = subst (λ n. n * scenario.params.life ≤ length (e ∷ past)) (sym signs_same) h.few;
+  }
+
+  exchanged_same : (cycle : ℕ) (own : Option Nodes) (v : HistoryParts) → IsExchangeOf p cycle i (Idle ∷ past) own v → IsExchangeOf p cycle i (e ∷ past) own v
+  exchanged_same cycle own v h = record {
+    more = (more_from_none p.format cycle i own e (u.read p.format cycle i), h.more.1);
+    copies = by_copies own h.copies;
+    sent = by_sent own h.sent;
+  }
+    where
+      by_copies : (o : Option Nodes) → IfSome o (λ w. v.copies ≡ count_by (is_vector_got p.format cycle w) (Idle ∷ past))
+          → IfSome o (λ w. v.copies ≡ count_by (is_vector_got p.format cycle w) (e ∷ past))
+      by_copies None h = tt
+      by_copies (Some w) h =
+          h ∙ count-no (is_vector_got p.format cycle w) Idle past refl ∙ sym (count-no (is_vector_got p.format cycle w) e past (u.got p.format cycle w))
+
+      by_sent : (o : Option Nodes) → IfSome o (λ w. v.sent ≡ list_any (is_vector_sent p.format cycle i w) (Idle ∷ past))
+          → IfSome o (λ w. v.sent ≡ list_any (is_vector_sent p.format cycle i w) (e ∷ past))
+      by_sent None h = tt
+      by_sent (Some w) h = h ∙ sym (ap (λ b. b || list_any (is_vector_sent p.format cycle i w) past) (u.sent p.format cycle i w))
+
+  history_same : (own : Option Nodes) (v : HistoryParts) → IsHistoryOf scenario i (Idle ∷ past) own v → IsHistoryOf scenario i (e ∷ past) own v
+  history_same own v h = record {
+    legal = h.legal;
+    place = h.place;
+    node = h.node;
+    params = h.params;
+    vector = h.vector;
+    below = h.below;
+    few = h.few;
+    unread = λ cycle early. (u.read p.format cycle i, (h.unread cycle early).1);
+    exchange = λ exchanged. exchanged_same _ own v (h.exchange exchanged);
+  }
+
+  -- the value stands for the notice as for an idle slot
+  pub site_unheard : (v : SiteParts) → IsSiteOf scenario i (Idle ∷ past) v → IsSiteOf scenario i (e ∷ past) v
+  site_unheard v h =
+      let same : station_of scenario i (Idle ∷ past) ≡ station_of scenario i (e ∷ past) = sym station_same in
+      record {
+        params = h.params;
+        failed = subst (λ (st : Station). AllBelow p.nodes st.failed) same h.failed;
+        life = subst (λ st. IsLifeOf scenario i (e ∷ past) st v.life) same (life_same _ v.life h.life);
+        history = subst (λ (st : Station). IsHistoryOf scenario i (e ∷ past) st.vector v.history) same (history_same _ v.history h.history);
+        views = subst (λ st. IsViewsOf scenario i st v.views) same h.views;
+      }
+
+  -- where it rests at an idle slot, nothing is done
+  pub none_unheard : (v : SiteParts) → SiteRests scenario i past v → site_effects scenario i (e ∷ past) ≡ []
+  none_unheard v rests = site_same ∙ rests.effects
