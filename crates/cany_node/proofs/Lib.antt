@@ -7,6 +7,9 @@ pub mod AskedFacts
 pub mod BacklogFacts
 pub mod Beginning
 pub mod Doing
+pub mod EdcanFrames
+pub mod EdcanPlaces
+pub mod EdcanTurn
 pub mod Filled
 pub mod GiveFacts
 pub mod HeardTurn

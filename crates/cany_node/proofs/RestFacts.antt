@@ -55,14 +55,19 @@ rested_effects scenario past v wake slots rests is early within n less =
     let before = rested scenario past v wake n rests is (omega (arith, early, less)) (omega (arith, within, less)) in
     (rests_next scenario past v wake n rests is (omega (arith, early, less)) (omega (arith, within, less)) before).effects
 
--- ---- the turn of an idle slot before it wakes
+-- ---- a turn before it wakes
+
+-- the node would rest in the slot of the notice
+pub rests_in : (scenario : ScenarioParts) (past : List NoticeKind) (notice : Notice) (v : NodeParts) (wake : ℕ) → RestsUntil wake v → notice.slot < wake
+    → IsNodeOf scenario past v → IsNextOf scenario v.node past notice → Rests scenario past v
+rests_in scenario past notice v wake rests early is next =
+    rests scenario past (subst (λ n. IsNodeOf scenario past (record v { read = n })) is.read is)
+    (omega (arith, is.read)) (omega (arith, early, next.next.slot)) (omega (arith, next.next.slot, next.next.within))
 
 module _ (scenario : ScenarioParts) (past : List NoticeKind) (notice : Notice) (v : NodeParts) (wake : ℕ) (rests : RestsUntil wake v)
     (early : notice.slot < wake) (idle : notice.kind ≡ Idle) (is : IsNodeOf scenario past v) (next : IsNextOf scenario v.node past notice) where
   in_turn : Rests scenario past v
-  in_turn =
-      rests scenario past (subst (λ n. IsNodeOf scenario past (record v { read = n })) is.read is)
-      (omega (arith, is.read)) (omega (arith, early, next.next.slot)) (omega (arith, next.next.slot, next.next.within))
+  in_turn = rests_in scenario past notice v wake rests early is next
 
   pub idle_turn-effects : turn_effects scenario v.node (notice.kind ∷ past) ≡ []
   idle_turn-effects = ap (λ k. turn_effects scenario v.node (k ∷ past)) idle ∙ in_turn.effects

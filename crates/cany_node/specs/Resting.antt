@@ -1,8 +1,11 @@
--- The turns of idle slots in which a node has nothing to do: it stands for them as it is.
-use Rattle.std.specs.Prelude.{◌≡◌, ◌+◌, ◌<◌, ◌≤◌, ℕ, List, [], ◌∷◌, length}
+-- The turns of idle slots in which a node has nothing to do: it stands for them as it is. At a data frame of EDCAN it then has nothing
+-- to do but what EDCAN does.
+use Rattle.std.specs.Prelude.{◌≡◌, ◌+◌, ◌<◌, ◌≤◌, ℕ, Bool, false, List, [], ◌∷◌, length}
+use Rattle.cany_base.specs.declared.frame.Class.TheVariants as class
 use Rattle.cany_base.specs.declared.notice.NoticeKind.{NoticeKind}
-use Rattle.cany_base.specs.declared.notice.NoticeKind.TheVariants.{Idle}
+use Rattle.cany_base.specs.declared.notice.NoticeKind.TheVariants.{Idle, Got, Sent, Bad}
 use Rattle.cany_base.specs.Scenario.{ScenarioParts}
+use Rattle.cany_model.specs.Bus.Frames.{same_class}
 use Rattle.cany_model.specs.Rules.Site.{station_of}
 use Rattle.cany_model.specs.Rules.Turn.{turn_effects}
 use Rattle.cany_node.specs.Node.{NodeParts, IsNodeOf}
@@ -25,3 +28,10 @@ abbrev pub RestsUntil : ℕ → NodeParts → Type 0
 RestsUntil wake v =
     (scenario : ScenarioParts) (past : List NoticeKind) → IsNodeOf scenario past (record v { read = length past })
     → v.read ≤ length past → length past < wake → length past < scenario.params.slots → Rests scenario past v
+
+-- whether the notice brings a data frame of EDCAN, which nothing else hears
+abbrev pub is_of_edcan : NoticeKind → Bool
+is_of_edcan Idle = false
+is_of_edcan (Got f) = same_class f.class class.Ed
+is_of_edcan (Sent f) = same_class f.class class.Ed
+is_of_edcan Bad = false

@@ -1,4 +1,4 @@
-ghost use Rattle.std.specs.Prelude.{◌≡◌, ◌≢◌, ℕ, ◌+◌, ◌^◌, ◌<◌, ◌≤◌, ◌++◌, [], ◌∷◌, length, replicate, List, false, Contains, IfOk};
+ghost use Rattle.std.specs.Prelude.{◌≡◌, ◌≢◌, ℕ, ◌+◌, ◌^◌, ◌<◌, ◌≤◌, ◌++◌, [], ◌∷◌, length, replicate, List, true, false, Contains, IfOk};
 ghost use Rattle.cany_base.specs.declared.notice.Notice.{Notice};
 ghost use Rattle.cany_base.specs.declared.notice.NoticeKind.{NoticeKind};
 ghost use Rattle.cany_base.specs.declared.notice.NoticeKind.TheVariants.{Idle};
@@ -13,14 +13,14 @@ ghost use Rattle.cany_model.specs.Rules.Effect.{waiting_after};
 ghost use Rattle.cany_node.specs.Node.{IsNodeOf, IsWaiting, CanBegin, CanTurn, CanAct, Reads, IsTurnOf, IsRefused, heard_by, reply_of};
 ghost use Rattle.cany_node.specs.Asks.{AreAsksPassed, IsRisingFrom};
 ghost use Rattle.cany_node.specs.Agenda.{ArePassed, IsRising};
-ghost use Rattle.cany_node.specs.Resting.{RestsUntil};
+ghost use Rattle.cany_node.specs.Resting.{RestsUntil, is_of_edcan};
 ghost use Rattle.cany_node.specs.Site.{IsNextOf};
 ghost use Rattle.cany_node.specs.Turning.{CanHearNext, CanScript, HasHeard, HasScripted, heard_effects, heard_room, script_effects, script_room};
 
 use crate::agenda::Agenda;
 use crate::apply::apply_all;
 use crate::asks::{AskKind, AskPlan, ask_due};
-use crate::notices::{error_as_idle, is_early, is_idle};
+use crate::notices::{error_as_idle, is_early, is_idle, is_of_edcan};
 use crate::protocols::{Protocols, build_protocols};
 use crate::reply::TurnReply;
 use crate::rooms::log_room;
@@ -207,7 +207,8 @@ impl Node {
         }
     }
 
-    /// Does what the rules say of a notice, as it is heard. In an idle slot before `wake` that is nothing.
+    /// Does what the rules say of a notice, as it is heard. Before `wake` that is nothing in an idle slot, and at a data frame of EDCAN
+    /// only what EDCAN does.
     fn act(&mut self, notice: &Notice, ctl: &mut Controller, out: &mut Actions)
         requires { CanAct self.old notice.now ctl.old out.old }
         ensures controller { (scenario : ScenarioParts) (past : List NoticeKind) → IsNodeOf scenario past self.old → IsNextOf scenario self.old.node past notice.now →
@@ -221,12 +222,35 @@ impl Node {
     {
         if is_idle(&notice.kind) && notice.slot < self.wake() {
             self.read = notice.slot + 1;
+        } else if is_of_edcan(&notice.kind) && notice.slot < self.wake() {
+            self.relay(notice, ctl, out);
         } else {
             self.follow_rules(notice, ctl, out);
         }
     }
 
-    /// The same, rule by rule.
+    /// Does what EDCAN does with a data frame of its own, in a slot in which the node would rest: nothing else hears the frame, and
+    /// nothing is due.
+    fn relay(&mut self, notice: &Notice, ctl: &mut Controller, out: &mut Actions)
+        requires acts { CanAct self.old notice.now ctl.old out.old }
+        requires brings { is_of_edcan notice.now.kind ≡ true }
+        requires rests { RestsUntil (notice.now.slot + 1) self.old }
+        ensures controller { (scenario : ScenarioParts) (past : List NoticeKind) → IsNodeOf scenario past self.old → IsNextOf scenario self.old.node past notice.now →
+            ctl.new ≡ record ctl.old { waiting = waiting_after (turn_effects scenario self.old.node (notice.now.kind ∷ past)) ctl.old.waiting } }
+        ensures stands { (scenario : ScenarioParts) (past : List NoticeKind) → IsNodeOf scenario past self.old → IsNextOf scenario self.old.node past notice.now →
+            IsNodeOf scenario (notice.now.kind ∷ past) self.new }
+        ensures node { self.new.node ≡ self.old.node }
+        ensures inc { self.new.inc ≡ self.old.inc }
+        ensures cycle { self.new.cycle ≡ self.old.cycle }
+        ensures out { out.new ≡ out.old }
+    {
+        self.edcan.on(notice, out);
+        apply_all(out, self.inc, ctl, &mut self.log);
+        out.clear();
+        self.read = notice.slot + 1;
+    }
+
+    /// Does what the rules say of a notice, rule by rule.
     fn follow_rules(&mut self, notice: &Notice, ctl: &mut Controller, out: &mut Actions)
         requires { CanAct self.old notice.now ctl.old out.old }
         ensures controller { (scenario : ScenarioParts) (past : List NoticeKind) → IsNodeOf scenario past self.old → IsNextOf scenario self.old.node past notice.now →

@@ -3,6 +3,7 @@
 ghost use Rattle.std.specs.Prelude.{◌≡◌, ◌↔◌, true};
 ghost use Rattle.cany_base.specs.declared.notice.NoticeKind.TheVariants.{Idle};
 ghost use Rattle.cany_model.specs.Rules.Notices.{error_as_idle, is_early, is_early_frame};
+ghost use Rattle.cany_node.specs.Resting.{is_of_edcan};
 ghost use Rattle.cany_node.specs.Site.{is_of_site, tells_of_site};
 
 use cany_base::{Class, Frame, NoticeKind};
@@ -40,6 +41,16 @@ pub(crate) fn is_idle(kind: &NoticeKind) -> bool
     ensures { (result ≡ true) ↔ (kind.now ≡ Idle) }
 {
     matches!(kind, NoticeKind::Idle)
+}
+
+/// Whether a notice brings a data frame of EDCAN.
+pub(crate) fn is_of_edcan(kind: &NoticeKind) -> bool
+    ensures { result ≡ is_of_edcan kind.now }
+{
+    match kind {
+        NoticeKind::Got(frame) | NoticeKind::Sent(frame) => is_of_class(frame, Class::Ed),
+        NoticeKind::Idle | NoticeKind::Bad => false,
+    }
 }
 
 /// Whether frames of the class tell of the site. Those of the data of TOTCAN do: they show that their node lives.

@@ -76,7 +76,7 @@ impl Site {
         self.views.begin_outside();
     }
 
-    /// What a notice tells, up to the node's own life sign. Before `wake`, a notice that tells nothing of the site leads to nothing.
+    /// What a notice tells, up to the node's own life sign. Before `wake` that is nothing, where it tells nothing of the site.
     pub(crate) fn on(&mut self, notice: &Notice, out: &mut Actions)
         requires hears { CanHear self.old notice.now }
         requires room { length out.old.items + site_room self.old ≤ out.old.room }
@@ -93,7 +93,7 @@ impl Site {
     }
 
     /// The same, step by step: who asks to join or to leave, who shows life and who has failed, then the vectors, at the end of a cycle
-    /// the new view, and at the start of one what the node starts with.
+    /// the new view, at the start of one what the node starts with, and the node's own life sign.
     fn follow(&mut self, notice: &Notice, out: &mut Actions)
         requires hears { CanHear self.old notice.now }
         requires room { length out.old.items + site_room self.old ≤ out.old.room }

@@ -14,3 +14,7 @@ pub returns-then-notice-wake-clause-stands : goal.returns-then-notice-wake-claus
 returns-then-notice-wake-clause-stands c = λ scenario past stands next.
     let state = ap (λ (v : NodeParts). record v { read = c.args.notice.now.slot + 1 }) c.self.view_is in
     idle_turn-stands scenario past c.args.notice.now c.args.self.now c.wake.result c.wake.ensures.rests (omega arith) (c.if-is_idle.ensures.0 refl) stands next _ state
+
+pub relay-requires-clause-rests : goal.relay-requires-clause-rests
+relay-requires-clause-rests c = λ scenario past stands later early within.
+    c.wake-then-is_of_edcan.ensures.rests scenario past stands later (omega (arith, early)) within
