@@ -2,6 +2,7 @@ pub mod Agenda
 pub mod Apply
 pub mod Asks
 pub mod Node
+pub mod NodeFields
 pub mod Protocols
 pub mod Resting
 pub mod Script

@@ -6,8 +6,15 @@ use Rattle.cany_base.specs.declared.notice.NoticeKind.{NoticeKind}
 use Rattle.cany_base.specs.declared.notice.NoticeKind.TheVariants.{Idle, Got, Sent, Bad}
 use Rattle.cany_base.specs.Scenario.{ScenarioParts}
 use Rattle.cany_model.specs.Bus.Frames.{same_class}
+use Rattle.cany_model.specs.Rules.Messages.{Message}
 use Rattle.cany_model.specs.Rules.Site.{station_of}
 use Rattle.cany_model.specs.Rules.Turn.{turn_effects}
+use Rattle.cany_relcan.specs.Relcan as relcan
+use Rattle.cany_relcan.specs.Relcan.{IsRelcanOf}
+use Rattle.cany_totcan.specs.Rests as totcan
+use Rattle.cany_totcan.specs.Totcan.{IsTotcanOf}
+use Rattle.cany_node.specs.Agenda.{IsRising}
+use Rattle.cany_node.specs.Asks.{IsRisingFrom}
 use Rattle.cany_node.specs.Node.{NodeParts, IsNodeOf}
 use Rattle.cany_node.specs.Site.{IsSiteOf, SiteParts, site_effects}
 
@@ -35,3 +42,16 @@ is_of_edcan Idle = false
 is_of_edcan (Got f) = same_class f.class class.Ed
 is_of_edcan (Sent f) = same_class f.class class.Ed
 is_of_edcan Bad = false
+
+-- In an idle slot before this one, from which the node has read on, no part of it but EDCAN has anything to do; EDCAN has nothing to
+-- do in any.
+pub record IsQuietUntil (quiet : ℕ) (v : NodeParts) : Type 0 where
+  pub relcan : (scenario : ScenarioParts) (past : List NoticeKind) → IsRelcanOf scenario v.relcan.node past v.relcan → length past < quiet
+      → relcan.Rests scenario v.relcan.node past v.relcan
+  pub totcan : (scenario : ScenarioParts) (past : List NoticeKind) (messages : List Message) (count : ℕ)
+      → IsTotcanOf scenario v.totcan.node past messages count v.totcan → length past < quiet → totcan.Rests scenario v.totcan.node past messages count v.totcan
+  pub site : (scenario : ScenarioParts) (i : ℕ) (past : List NoticeKind) → IsSiteOf scenario i past v.site
+      → v.read ≤ length past → length past < quiet → length past < scenario.params.slots → SiteRests scenario i past v.site
+  pub sends : (n : ℕ) → n < quiet → IsRising n v.agenda.left → IsRising (n + 1) v.agenda.left
+  pub joins : (n : ℕ) → n < quiet → IsRisingFrom n v.joins → IsRisingFrom (n + 1) v.joins
+  pub leaves : (n : ℕ) → n < quiet → IsRisingFrom n v.leaves → IsRisingFrom (n + 1) v.leaves

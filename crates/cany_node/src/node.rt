@@ -13,7 +13,7 @@ ghost use Rattle.cany_model.specs.Rules.Effect.{waiting_after};
 ghost use Rattle.cany_node.specs.Node.{IsNodeOf, IsWaiting, CanBegin, CanTurn, CanAct, Reads, IsTurnOf, IsRefused, heard_by, reply_of};
 ghost use Rattle.cany_node.specs.Asks.{AreAsksPassed, IsRisingFrom};
 ghost use Rattle.cany_node.specs.Agenda.{ArePassed, IsRising};
-ghost use Rattle.cany_node.specs.Resting.{RestsUntil, is_of_edcan};
+ghost use Rattle.cany_node.specs.Resting.{IsQuietUntil, RestsUntil, is_of_edcan};
 ghost use Rattle.cany_node.specs.Site.{IsNextOf};
 ghost use Rattle.cany_node.specs.Turning.{CanHearNext, CanScript, HasHeard, HasScripted, heard_effects, heard_room, script_effects, script_room};
 
@@ -61,34 +61,19 @@ pub struct Node {
     joins: AskPlan,
     leaves: AskPlan,
     log: BoundedVec<LogEntry>,
+    /// A slot before which an idle notice leads to nothing. It is no part of what the value stands for.
+    quiet: Slot,
 }
 
 impl Model for Node {
-    ghost use Rattle.std.specs.Prelude.{◌≤◌};
-    ghost use Rattle.cany_base.specs.Limits.{most_restarts_of_node};
     ghost use Rattle.cany_node.specs.Node.{NodeParts};
+    ghost use Rattle.cany_node.specs.NodeFields.{parts_of, IsSound};
 
     ghost Value = { NodeParts };
 
-    ghost view = { λ n. record {
-      node = n.node;
-      inc = n.inc;
-      params = n.params;
-      from = n.from;
-      cycle = n.cycle;
-      log = n.log.items;
-      room = n.log.room;
-      read = n.read;
-      edcan = n.edcan;
-      relcan = n.relcan;
-      totcan = n.totcan;
-      site = n.site;
-      agenda = n.agenda;
-      joins = n.joins;
-      leaves = n.leaves;
-    } };
+    ghost view = { parts_of };
 
-    ghost invariant = { λ n. n.inc ≤ most_restarts_of_node };
+    ghost invariant = { IsSound };
 }
 
 impl Node {
@@ -131,6 +116,7 @@ impl Node {
             joins,
             leaves,
             log,
+            quiet: 0,
         })
     }
 
@@ -146,6 +132,7 @@ impl Node {
         ensures node { self.new.node ≡ self.old.node }
         ensures inc { self.new.inc ≡ self.old.inc }
     {
+        self.quiet = 0;
         self.read = restart + 1;
         self.from = self.read + (self.params.bound + Slot::from(self.params.lag));
         self.cycle = (self.from + (self.params.cycle - 1)) / self.params.cycle;
@@ -160,6 +147,7 @@ impl Node {
         ensures leaves { AreAsksPassed slot self.old.leaves self.new.leaves }
         ensures state { self.new ≡ record self.old { agenda = self.new.agenda; joins = self.new.joins; leaves = self.new.leaves } }
     {
+        self.quiet = 0;
         self.agenda.pass_before(slot);
         self.joins.pass_before(slot);
         self.leaves.pass_before(slot);
@@ -264,10 +252,12 @@ impl Node {
     {
         self.hear(notice, out);
         self.script(notice.slot, out);
+        self.quiet = 0;
         self.totcan.next(notice.slot, out);
         apply_all(out, self.inc, ctl, &mut self.log);
         out.clear();
         self.read = notice.slot + 1;
+        self.quiet = self.next_due();
     }
 
     /// What the protocols do at a notice.
@@ -282,6 +272,7 @@ impl Node {
         ensures few { length out.new.items ≤ length out.old.items + heard_room self.old }
         ensures room { out.new.room ≡ out.old.room }
     {
+        self.quiet = 0;
         self.edcan.on(notice, out);
         self.relcan.on(notice, out);
         self.totcan.on(notice, out);
@@ -300,6 +291,7 @@ impl Node {
         ensures few { length out.new.items ≤ length out.old.items + script_room self.old }
         ensures room { out.new.room ≡ out.old.room }
     {
+        self.quiet = 0;
         send_due(
             self.node,
             slot,
@@ -316,11 +308,19 @@ impl Node {
     /// The first slot, from the next one that it reads on, in whose turn an idle notice may lead to something. Before it the
     /// incarnation can rest.
     ///
-    /// It may be too early: a turn then does nothing. It does not look at the messages or the nodes one by one.
+    /// It may be too early: a turn then does nothing. It is found out in each turn that is not passed over.
     pub fn wake(&self) -> Slot
         ensures rests { RestsUntil result self.now }
     {
         rests(&self.edcan);
+        self.quiet
+    }
+
+    /// The first slot, from the next one that it reads on, for which the script says something or in whose turn an idle notice may
+    /// lead a protocol to something. It does not look at the messages or the nodes one by one.
+    fn next_due(&self) -> Slot
+        ensures { IsQuietUntil result self.now }
+    {
         let protocols = self.relcan.wake().min(self.totcan.wake());
         let site = self.site.wake(self.read);
         protocols.min(site).min(self.next_scripted())

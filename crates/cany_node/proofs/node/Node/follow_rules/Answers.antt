@@ -60,7 +60,7 @@ apply_all-requires c =
     c.requires.free (c.hear.ensures.actions scenario past c.requires.stands c.requires.next) sent
     (c.next.ensures.actions scenario (notice.kind ∷ past) _ _ (joined scenario past notice v _ c.requires.stands c.requires.next same scripted)
     (one_more_read scenario past notice v _ c.requires.stands c.requires.next same scripted)))
-    c.self.invariant c.requires.format c.requires.room c.requires.askable c.requires.told c.requires.signs
+    c.self.invariant.few c.requires.format c.requires.room c.requires.askable c.requires.told c.requires.signs
 
 pub returns-clause-controller : goal.returns-clause-controller
 returns-clause-controller c = λ scenario past stands next.

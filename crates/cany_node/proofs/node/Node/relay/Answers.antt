@@ -1,4 +1,4 @@
-use Rattle.std.proofs.Common.{◌≡◌, ◌+◌, ◌∷◌, ◌∙◌, sym, subst, arith}
+use Rattle.std.proofs.Common.{◌≡◌, ◌≤◌, ◌+◌, ◌∷◌, ◌∙◌, sym, subst, arith}
 use Rattle.cany_base.proofs.ParamsFacts.{few_slots}
 use Rattle.cany_model.specs.Rules.Effect.{waiting_after}
 use Rattle.cany_model.specs.Rules.Turn.{turn_effects}
@@ -8,8 +8,17 @@ use Rattle.cany_node.specs.Site.{IsNextOf}
 use Rattle.cany_node.proofs.ActSteps.{can_apply, done, stands_after}
 use Rattle.cany_node.proofs.EdcanTurn.{edcan_asked, edcan_listed, edcan_same, edcan_scripted}
 use Rattle.cany_node.proofs.HeardTurn.{edcan_stands}
+use Rattle.cany_node.proofs.QuietFacts.{quiet_later}
 use Rattle.cany_node.proofs.RestFacts.{rests_in}
 use Rattle.cany_node.proofs.node.Node.relay.Goals as goal
+
+pub invariant_of-self : goal.invariant_of-self
+invariant_of-self c =
+    let before = subst (λ (v : NodeParts). v.read ≤ c.args.notice.now.slot) (sym c.self.view_is) (omega (arith, c.requires.acts.stands.read, c.requires.acts.next.next.slot)) in
+    record {
+      few = c.self.invariant.few;
+      quiet = quiet_later c.self.inside.quiet (c.args.notice.now.slot + 1) _ _ _ _ c.self.invariant.quiet (omega (arith, before));
+    }
 
 pub apply_all-requires : goal.apply_all-requires
 apply_all-requires c =
@@ -24,7 +33,7 @@ apply_all-requires c =
     let scripted =
     edcan_scripted acts.scenario acts.past notice.kind c.requires.brings _ acts.stands rests c.on.new.self (c.on.ensures.stands acts.scenario acts.past ours acts.next.next) in
     can_apply acts.scenario acts.past notice _ _ acts.stands acts.next (edcan_same _ c.on.new.self) scripted c.on.new.out.items c.args.ctl.now listed
-    c.self.invariant acts.format acts.room acts.askable acts.told acts.signs
+    c.self.invariant.few acts.format acts.room acts.askable acts.told acts.signs
 
 pub overflow_add-self : goal.overflow_add-self
 overflow_add-self c =

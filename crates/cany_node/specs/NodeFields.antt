@@ -1,0 +1,30 @@
+-- The parts of a node as the program keeps them.
+use Rattle.std.specs.Prelude.{◌≤◌}
+use Rattle.cany_base.specs.Limits.{most_restarts_of_node}
+use Rattle.cany_node.specs.declared.node.Node.TheInside.{Inside}
+use Rattle.cany_node.specs.Node.{NodeParts}
+use Rattle.cany_node.specs.Resting.{IsQuietUntil}
+
+abbrev pub parts_of : Inside → NodeParts
+parts_of n = record {
+  node = n.node;
+  inc = n.inc;
+  params = n.params;
+  from = n.from;
+  cycle = n.cycle;
+  log = n.log.items;
+  room = n.log.room;
+  read = n.read;
+  edcan = n.edcan;
+  relcan = n.relcan;
+  totcan = n.totcan;
+  site = n.site;
+  agenda = n.agenda;
+  joins = n.joins;
+  leaves = n.leaves;
+}
+
+-- four bits can number the incarnation, and the node is quiet as it has noted
+pub record IsSound (n : Inside) : Type 0 where
+  pub few : n.inc ≤ most_restarts_of_node
+  pub quiet : IsQuietUntil n.quiet (parts_of n)
