@@ -20,7 +20,7 @@ ghost use Rattle.cany_node.specs.Turning.{CanHearNext, CanScript, HasHeard, HasS
 use crate::agenda::Agenda;
 use crate::apply::apply_all;
 use crate::asks::{AskKind, AskPlan, ask_due};
-use crate::notices::{error_as_idle, is_early, is_idle, is_of_edcan};
+use crate::notices::{is_early, is_error, is_idle, is_of_edcan};
 use crate::protocols::{Protocols, build_protocols};
 use crate::reply::TurnReply;
 use crate::rooms::log_room;
@@ -173,26 +173,23 @@ impl Node {
         let Some(given) = ctl.next_notice() else {
             return TurnReply::NothingYet { now: ctl.read() };
         };
-        let notice = self.heard(&given);
+        let slot = given.slot;
+        let notice = self.heard(given);
         self.act(&notice, ctl, out);
-        TurnReply::Turned { slot: given.slot }
+        TurnReply::Turned { slot }
     }
 
     /// The notice as the incarnation hears it.
-    fn heard(&self, notice: &Notice) -> Notice
-        ensures { result ≡ heard_by self.now notice.now }
+    fn heard(&self, notice: Notice) -> Notice
+        ensures { result ≡ heard_by self.now notice }
     {
         let is_hidden = self.inc != 0
             && (notice.slot < self.from || is_early(self.cycle, &notice.kind));
-        let kind = if is_hidden {
-            NoticeKind::Idle
-        } else {
-            error_as_idle(notice.kind)
-        };
-        Notice {
-            slot: notice.slot,
-            kind,
+        let mut heard = notice;
+        if is_hidden || is_error(&notice.kind) {
+            heard.kind = NoticeKind::Idle;
         }
+        heard
     }
 
     /// Does what the rules say of a notice, as it is heard. Before `wake` that is nothing in an idle slot, and at a data frame of EDCAN

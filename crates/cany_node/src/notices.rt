@@ -1,6 +1,6 @@
 //! What an incarnation hears of a notice.
 
-ghost use Rattle.std.specs.Prelude.{◌≡◌, ◌↔◌, true};
+ghost use Rattle.std.specs.Prelude.{◌≡◌, ◌↔◌, false, true};
 ghost use Rattle.cany_base.specs.declared.notice.NoticeKind.TheVariants.{Idle};
 ghost use Rattle.cany_model.specs.Rules.Notices.{error_as_idle, is_early, is_early_frame};
 ghost use Rattle.cany_node.specs.Resting.{is_of_edcan};
@@ -26,14 +26,13 @@ pub(crate) fn is_early(cycle: u64, kind: &NoticeKind) -> bool
     }
 }
 
-/// An error is heard as an idle slot: no rule tells the one from the other.
-pub(crate) fn error_as_idle(kind: NoticeKind) -> NoticeKind
-    ensures { result ≡ error_as_idle kind }
+/// Whether there was an error in the slot, which is heard as an idle slot: no rule tells the one from the other.
+#[tactic(auto, unfolding(cany_model::specs::Rules::Notices::error_as_idle))]
+pub(crate) fn is_error(kind: &NoticeKind) -> bool
+    ensures error { result ≡ true → error_as_idle kind.now ≡ Idle }
+    ensures other { result ≡ false → error_as_idle kind.now ≡ kind.now }
 {
-    match kind {
-        NoticeKind::Bad => NoticeKind::Idle,
-        NoticeKind::Idle | NoticeKind::Got(_) | NoticeKind::Sent(_) => kind,
-    }
+    matches!(kind, NoticeKind::Bad)
 }
 
 /// Whether nothing was heard in the slot.
