@@ -1,15 +1,20 @@
 ghost use Rattle.cany_model.specs.Texts.ReportLines.{entry_line};
-ghost use Rattle.cany_base.specs.declared.log_entry.LogEntry.TheVariants.{Deliver};
+ghost use Rattle.cany_base.specs.declared.log_entry.LogEntry.TheVariants.{Deliver, Failed as AsFailed, View};
 ghost use Rattle.cany_log.specs.Written.{IsWritten};
 
-use crate::field::Field;
-use crate::line::{SHORT_LINE_BYTES, write_short_line};
 use crate::row::Row;
-use cany_base::{LogEntry, MsgKey, Payload, Service, Slot};
+use cany_base::{LogEntry, MsgKey, NodeId, NodeSet, Payload, Service, Slot};
 use cany_io::{Failed, Sink, write_whole};
 use cany_model::names::service_name;
 
-/// Writes the line of a delivery. Most lines of a report are such, so it is put together without a list of its fields.
+/// How many bytes the line of a delivery or of a failure has at most, with numbers as long as their fields allow.
+const ENTRY_LINE_BYTES: usize = 96;
+
+/// How many bytes the line of a view has at most: it names all nodes.
+const VIEW_LINE_BYTES: usize = 256;
+
+/// Writes the line of a delivery. Nearly all lines of a report are those of entries, so they are put together without a list of
+/// their fields.
 #[tactic(auto, unfolding(cany_model::specs::Texts::ReportLines::entry_line, cany_model::specs::Texts::ReportLines::line_of))]
 fn write_delivery<K: Sink>(
     slot: Slot,
@@ -21,7 +26,7 @@ fn write_delivery<K: Sink>(
     ensures { IsWritten (entry_line (Deliver slot service msg payload.now)) result
         (K.taken sink.old) (K.taken sink.new) (K.faults sink.old) (K.faults sink.new) }
 {
-    let mut row: Row<SHORT_LINE_BYTES> = Row::new();
+    let mut row: Row<ENTRY_LINE_BYTES> = Row::new();
     row.put_bytes(b"\n");
     row.put_payload(payload);
     row.put_number(u64::from(msg.seq));
@@ -29,6 +34,41 @@ fn write_delivery<K: Sink>(
     row.put_text(service_name(service));
     row.put_number(slot);
     row.put_bytes(b"deliver");
+    write_whole(sink, row.as_slice())
+}
+
+/// Writes the line of a failure.
+#[tactic(auto, unfolding(cany_model::specs::Texts::ReportLines::entry_line, cany_model::specs::Texts::ReportLines::line_of))]
+fn write_failure<K: Sink>(slot: Slot, node: NodeId, cycle: u16, sink: &mut K) -> Result<(), Failed>
+    ensures { IsWritten (entry_line (AsFailed slot node cycle)) result
+        (K.taken sink.old) (K.taken sink.new) (K.faults sink.old) (K.faults sink.new) }
+{
+    let mut row: Row<ENTRY_LINE_BYTES> = Row::new();
+    row.put_bytes(b"\n");
+    row.put_number(u64::from(cycle));
+    row.put_number(u64::from(node.get()));
+    row.put_number(slot);
+    row.put_bytes(b"failed");
+    write_whole(sink, row.as_slice())
+}
+
+/// Writes the line of a view.
+#[tactic(auto, unfolding(cany_model::specs::Texts::ReportLines::entry_line, cany_model::specs::Texts::ReportLines::line_of))]
+fn write_view<K: Sink>(
+    slot: Slot,
+    number: u16,
+    members: NodeSet,
+    sink: &mut K,
+) -> Result<(), Failed>
+    ensures { IsWritten (entry_line (View slot number members)) result
+        (K.taken sink.old) (K.taken sink.new) (K.faults sink.old) (K.faults sink.new) }
+{
+    let mut row: Row<VIEW_LINE_BYTES> = Row::new();
+    row.put_bytes(b"\n");
+    row.put_set(members);
+    row.put_number(u64::from(number));
+    row.put_number(slot);
+    row.put_bytes(b"view");
     write_whole(sink, row.as_slice())
 }
 
@@ -45,27 +85,11 @@ pub fn write_entry<K: Sink>(entry: &LogEntry, sink: &mut K) -> Result<(), Failed
             msg,
             payload,
         } => write_delivery(slot, service, msg, &payload, sink),
-        LogEntry::Failed { slot, node, cycle } => write_short_line(
-            "failed",
-            &[
-                Field::Number(slot),
-                Field::Number(u64::from(node.get())),
-                Field::Number(u64::from(cycle)),
-            ],
-            sink,
-        ),
+        LogEntry::Failed { slot, node, cycle } => write_failure(slot, node, cycle, sink),
         LogEntry::View {
             slot,
             number,
             members,
-        } => write_short_line(
-            "view",
-            &[
-                Field::Number(slot),
-                Field::Number(u64::from(number)),
-                Field::Set(members),
-            ],
-            sink,
-        ),
+        } => write_view(slot, number, members, sink),
     }
 }

@@ -11,8 +11,8 @@ use cany_base::limits::MOST_LINE_BYTES;
 use cany_base::{NodeSet, Step};
 use cany_io::{Failed, Sink, write_whole};
 
-/// How many bytes a short line has at most: one of an entry of a log, with all nodes in a view.
-pub(crate) const SHORT_LINE_BYTES: usize = 256;
+/// How many bytes a short line has at most.
+const SHORT_LINE_BYTES: usize = 256;
 
 /// How many bytes a line of the journal has at most: its word, 64 letters and the line feed.
 const JOURNAL_LINE_BYTES: usize = 73;
