@@ -128,6 +128,8 @@ impl Controller {
 
     /// What the controller did in a slot: it gets the notice, its counters change, a frame sent with success waits no longer, and
     /// where a counter exceeds the limit it stops.
+    // A hint, since a run makes most of these calls in one place.
+    #[inline(always)]
     pub fn see(&mut self, slot: Slot, share: Share)
         requires running { self.old.stopped ≡ None }
         requires room { length self.old.unread < self.old.params.lag + 1 }

@@ -79,6 +79,8 @@ impl Edcan {
     /// What EDCAN does at a notice. The notices of the slots before the first that a value is given count as idle ones.
     ///
     /// At most two actions are appended.
+    // A hint, since a node makes most of these calls in one place.
+    #[inline(always)]
     pub fn on(&mut self, notice: &Notice, out: &mut Actions)
         requires reads { CanRead self.old notice.now }
         requires room { length out.old.items + 2 ≤ out.old.room }

@@ -90,6 +90,8 @@ impl<const ROOM: usize> Row<ROOM> {
     }
 
     /// Puts a number in decimal.
+    // A hint, since most lines of a report have three numbers.
+    #[inline(always)]
     pub(crate) fn put_number(&mut self, number: u64)
         requires { length self.old + 21 ≤ ROOM }
         ensures text { self.new ≡ (32 ∷ decimal number) ++ self.old }

@@ -135,6 +135,8 @@ impl Incarnations {
     }
 
     /// The present incarnation takes its turn, as `Node::turn` says.
+    // A hint, since a run makes most of these calls in one place.
+    #[inline(always)]
     pub(crate) fn turn(&mut self, ctl: &mut Controller, out: &mut Actions) -> TurnReply
         requires { CanTurnNow self.old ctl.old out.old }
         ensures reply { result ≡ reply_of ctl.old }
