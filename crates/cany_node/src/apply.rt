@@ -14,6 +14,8 @@ use can_controller::laws::{frames_ascend, frames_fit};
 use cany_base::{Action, Actions, BoundedVec, LogEntry};
 
 /// Does one action of an incarnation on the controller or the log.
+// A hint, as of `apply_all`.
+#[inline(always)]
 fn apply(action: &Action, inc: u8, ctl: &mut Controller, log: &mut BoundedVec<LogEntry>)
     requires number { inc ≤ most_restarts_of_node }
     requires can { CanDo inc action.now ctl.old log.old }

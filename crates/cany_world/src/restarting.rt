@@ -61,6 +61,10 @@ pub(crate) fn restart_all(
         AreControllersOf scenario s controllers.old → AreNodesOf scenario s nodes.old →
         AreControllersOf scenario (after_restarts scenario s) controllers.new × AreNodesOf scenario (after_restarts scenario s) nodes.new }
 {
+    // Most scenarios have no restart entry.
+    if restarts.is_empty() {
+        return;
+    }
     for i in 0..controllers.len() {
         restart_node(
             restarts,

@@ -1,10 +1,26 @@
-use Rattle.std.proofs.Common.{get_or, ap, sym, subst, ◌∙◌, arith}
+use Rattle.std.proofs.Common.{◌≡◌, [], length, get_or, ap, sym, subst, ◌∙◌, arith}
+use Rattle.std.proofs.lemmas.Bool.{eqb-true}
+use Rattle.std.proofs.lemmas.List.{nil_from_length}
 use Rattle.std.proofs.lemmas.Option.{slice_get-get_or}
+use Rattle.cany_model.specs.Bus.Run.{run}
+use Rattle.cany_model.specs.Bus.Slot.{after_slot, script}
+use Rattle.cany_model.specs.Bus.State.{RunState}
+use Rattle.cany_model.proofs.Timed.NoRestarts.{restarts_none}
 use Rattle.can_controller.specs.Controller.{ControllerState}
 use Rattle.cany_world.specs.Incarnations.{IncarnationsParts}
+use Rattle.cany_world.specs.Kept.{AreControllersOf, AreNodesOf}
 use Rattle.cany_world.specs.Restarting.{IsAfterEntries, starts}
 use Rattle.cany_world.proofs.RestartFacts.{may_start_here, restarted_more, restarted_none, restarted_whole}
 use Rattle.cany_world.proofs.restarting.restart_all.Goals as goal
+
+pub returns-then-is_empty : goal.returns-then-is_empty
+returns-then-is_empty c = λ scenario journal same now within row kept.
+    let none : c.args.restarts.now ≡ [] = nil_from_length c.args.restarts.now (eqb-true (length c.args.restarts.now) 0 (sym c.is_empty.ensures ∙ c.if-is_empty.true)) in
+    let s : RunState = after_slot (script scenario.rules) (run scenario journal) in
+    let ends = sym (restarts_none scenario (sym same ∙ none) s) in (
+      subst (λ (t : RunState). AreControllersOf scenario t c.args.controllers.now) ends row,
+      subst (λ (t : RunState). AreNodesOf scenario t c.args.nodes.now) ends kept,
+    )
 
 pub loop-i-init : goal.loop-i-init
 loop-i-init c = restarted_none c.args.restarts.now c.args.slot c.args.controllers.now c.args.nodes.now
