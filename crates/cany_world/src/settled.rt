@@ -57,10 +57,13 @@ fn awaits(format: Format, service: Service, key: &MsgKey, controller: &Controlle
     requires format { controller.now.params.format ≡ format }
     ensures { result ≡ awaits (frames_named service key.now) controller.now }
 {
-    controller.stopped().is_none()
-        && (waits(format, data_class(service), key, controller)
-            || waits(format, Class::Confirm, key, controller)
-            || waits(format, Class::Accept, key, controller))
+    // At the end of most runs nothing waits.
+    if controller.stopped().is_some() || controller.is_calm() {
+        return false;
+    }
+    waits(format, data_class(service), key, controller)
+        || waits(format, Class::Confirm, key, controller)
+        || waits(format, Class::Accept, key, controller)
 }
 
 /// Whether a running node waits with a frame of the message.
