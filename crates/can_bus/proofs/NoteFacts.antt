@@ -7,7 +7,7 @@ use Rattle.cany_base.specs.declared.slot_note.SlotNote.{SlotNote}
 use Rattle.cany_base.specs.Frame.{FrameParts}
 use Rattle.cany_base.specs.Nodes.{Nodes, has, those_where}
 use Rattle.cany_base.proofs.NodesFacts.{has-those_where, same_as_those_where}
-use Rattle.cany_model.specs.Bus.Slot.{Ruling, FaultScript, after_share, exceeds, exchange, lets_accept, nobody, note_by, sends, share_of, slot_note_of, stopping, winner, with_stops}
+use Rattle.cany_model.specs.Bus.Slot.{Ruling, FaultScript, after_share, exceeds, transmission, lets_accept, nobody, note_by, sends, share_of, slot_note_of, stopping, winner, with_stops}
 use Rattle.cany_model.specs.Bus.State.{NodeState, node_at, runs}
 use Rattle.can_arbiter.specs.declared.arbitration.Outcome.{Outcome}
 use Rattle.can_arbiter.specs.declared.arbitration.Outcome.TheVariants.{Won}
@@ -33,16 +33,16 @@ takers_are nodes f verdict running senders takers run sent step =
     ∙ ap (λ b. (nat_lt i most_nodes && runs (node_at nodes i)) && not b && lets_accept verdict i) (ap (λ s. has s i) sent ∙ has-those_where (λ k. sends f (node_at nodes k)) i)
     ∙ taking (nat_lt i most_nodes) (runs (node_at nodes i)) (sends f (node_at nodes i)) (lets_accept verdict i))
 
-pub exchanged : (slot : ℕ) (nodes : List NodeState) (outcome : Outcome) (f : FrameParts) (senders running takers none : Nodes) (verdict : Verdict) → outcome ≡ Won f senders
+pub transmitted : (slot : ℕ) (nodes : List NodeState) (outcome : Outcome) (f : FrameParts) (senders running takers none : Nodes) (verdict : Verdict) → outcome ≡ Won f senders
     → IsContestOf nodes outcome → running ≡ running_nodes nodes → ((i : ℕ) → has takers i ≡ (has running i && not (has senders i) && lets_accept verdict i)) → none ≡ nobody
-    → ◌≡◌ {A = SlotNote} (record { slot = slot; frame = Some f; senders = senders; takers = takers; verdict = verdict; stops = none }) (exchange slot nodes verdict (winner nodes))
-exchanged slot nodes outcome f senders running takers none verdict won contest run step no_stops =
+    → ◌≡◌ {A = SlotNote} (record { slot = slot; frame = Some f; senders = senders; takers = takers; verdict = verdict; stops = none }) (transmission slot nodes verdict (winner nodes))
+transmitted slot nodes outcome f senders running takers none verdict won contest run step no_stops =
     let P : Outcome → Type 0 = λ o. IsContestOf nodes o in
     let it : IsContestOf nodes (Won f senders) = subst P won contest in
     let take : takers ≡ those_where (λ i. runs (node_at nodes i) && not (sends f (node_at nodes i)) && lets_accept verdict i) =
     takers_are nodes f verdict running senders takers run it.senders step in
     (λ j. record { slot = slot; frame = Some f; senders = it.senders j; takers = take j; verdict = verdict; stops = no_stops j })
-    ∙ ap (exchange slot nodes verdict) it.frame
+    ∙ ap (transmission slot nodes verdict) it.frame
 
 -- ---- the stops
 
@@ -76,21 +76,21 @@ stops_are scripted controllers bare seen before after stops all ran runs_on step
 -- ---- the whole note
 
 pub noted : (rules : FaultScript) (trace : List SlotNote) (nodes : List NodeState) (slot : ℕ) (ruling : Ruling) (bare : SlotNote) (stops : Nodes) → slot ≡ length trace
-    → ruling ≡ rules trace (winner nodes) → bare ≡ exchange slot nodes ruling.verdict (winner nodes) → stops ≡ stopping ruling.stop nodes bare
+    → ruling ≡ rules trace (winner nodes) → bare ≡ transmission slot nodes ruling.verdict (winner nodes) → stops ≡ stopping ruling.stop nodes bare
     → record bare { stops = stops } ≡ slot_note_of rules (record { trace = trace; nodes = nodes })
 unfolding slot_note_of
-noted rules trace nodes slot ruling bare stops at ruled exchanged_ stopped =
+noted rules trace nodes slot ruling bare stops at ruled transmitted_ stopped =
     ap (λ (s : Nodes). record bare { stops = s }) stopped
-    ∙ ap (with_stops ruling.stop nodes) exchanged_
+    ∙ ap (with_stops ruling.stop nodes) transmitted_
     ∙ ap (note_by slot nodes (winner nodes)) ruled
     ∙ ap (λ n. note_by n nodes (winner nodes) (rules trace (winner nodes))) at
 
 -- the frame of a note that is not whole yet
-pub frame_noted : (slot : ℕ) (nodes : List NodeState) (verdict : Verdict) (o : Option FrameParts) → (exchange slot nodes verdict o).frame ≡ o
+pub frame_noted : (slot : ℕ) (nodes : List NodeState) (verdict : Verdict) (o : Option FrameParts) → (transmission slot nodes verdict o).frame ≡ o
 frame_noted slot nodes verdict None = refl
 frame_noted slot nodes verdict (Some f) = refl
 
-pub slot_noted : (slot : ℕ) (nodes : List NodeState) (verdict : Verdict) (o : Option FrameParts) → (exchange slot nodes verdict o).slot ≡ slot
+pub slot_noted : (slot : ℕ) (nodes : List NodeState) (verdict : Verdict) (o : Option FrameParts) → (transmission slot nodes verdict o).slot ≡ slot
 slot_noted slot nodes verdict None = refl
 slot_noted slot nodes verdict (Some f) = refl
 

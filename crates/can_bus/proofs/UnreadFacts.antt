@@ -8,7 +8,7 @@ use Rattle.cany_base.specs.Frame.{FrameParts}
 use Rattle.cany_base.specs.Nodes.{Nodes, has, those_where}
 use Rattle.cany_model.specs.declared.share.Share.{Share}
 use Rattle.cany_model.specs.declared.share.Share.TheVariants.{Idle, Took, Rejected, Confirmed, Errored}
-use Rattle.cany_model.specs.Bus.Slot.{Ruling, FaultScript, after_share, exceeds, exchange, lets_accept, least_frame, note_by, offered, sends, share_of, slot_note_of, stopping, winner, with_stops}
+use Rattle.cany_model.specs.Bus.Slot.{Ruling, FaultScript, after_share, exceeds, transmission, lets_accept, least_frame, note_by, offered, sends, share_of, slot_note_of, stopping, winner, with_stops}
 use Rattle.cany_model.specs.Bus.State.{NodeState, node_at, original, runs}
 use Rattle.can_controller.specs.Controller.{ControllerState, node_state}
 use Rattle.can_bus.specs.Row.{IsSameBut, StandFor, nodes_of}
@@ -39,9 +39,9 @@ exceeds_read Rejected node = refl
 exceeds_read (Confirmed f) node = refl
 exceeds_read Errored node = refl
 
-exchange_read : (slot : ℕ) (nodes : List NodeState) (verdict : Verdict) (o : Option FrameParts) → exchange slot (map all_read nodes) verdict o ≡ exchange slot nodes verdict o
-exchange_read slot nodes verdict None = refl
-exchange_read slot nodes verdict (Some f) = λ j. record {
+transmission_read : (slot : ℕ) (nodes : List NodeState) (verdict : Verdict) (o : Option FrameParts) → transmission slot (map all_read nodes) verdict o ≡ transmission slot nodes verdict o
+transmission_read slot nodes verdict None = refl
+transmission_read slot nodes verdict (Some f) = λ j. record {
   slot = slot;
   frame = Some f;
   senders = those_where (λ i. sends f (read_at nodes i j));
@@ -57,8 +57,8 @@ stopping_read scripted nodes note =
 
 note_read : (slot : ℕ) (nodes : List NodeState) (o : Option FrameParts) (ruling : Ruling) → note_by slot (map all_read nodes) o ruling ≡ note_by slot nodes o ruling
 note_read slot nodes o ruling =
-    ap (with_stops ruling.stop (map all_read nodes)) (exchange_read slot nodes ruling.verdict o)
-    ∙ ap (λ (s : Nodes). record (exchange slot nodes ruling.verdict o) { stops = s }) (stopping_read ruling.stop nodes (exchange slot nodes ruling.verdict o))
+    ap (with_stops ruling.stop (map all_read nodes)) (transmission_read slot nodes ruling.verdict o)
+    ∙ ap (λ (s : Nodes). record (transmission slot nodes ruling.verdict o) { stops = s }) (stopping_read ruling.stop nodes (transmission slot nodes ruling.verdict o))
 
 slot_read : (rules : FaultScript) (trace : List SlotNote) (nodes : List NodeState)
     → slot_note_of rules (record { trace = trace; nodes = map all_read nodes }) ≡ slot_note_of rules (record { trace = trace; nodes = nodes })

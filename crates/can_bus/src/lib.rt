@@ -4,7 +4,7 @@
 
 mod bus;
 mod contest;
-mod exchange;
+mod transmission;
 mod nodes;
 mod offers;
 mod ruling;

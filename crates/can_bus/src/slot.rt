@@ -8,7 +8,7 @@ ghost use Rattle.can_fault.specs.Attempts.{AreCountsOf};
 ghost use Rattle.can_bus.specs.Row.{AreAfter, HaveRoom, nodes_of};
 
 use crate::contest::contest;
-use crate::exchange::exchange;
+use crate::transmission::transmission;
 use crate::nodes::{running_and_offering, stopping};
 use crate::ruling::ruling;
 use crate::seeing::{see_all, stop_all};
@@ -36,7 +36,7 @@ pub(crate) fn run_slot(
     let (before, offering) = running_and_offering(controllers);
     let outcome = contest(params, controllers, offering);
     let (verdict, scripted) = ruling(slot, &outcome, attempts, script);
-    let note = exchange(slot, before, &outcome, &verdict);
+    let note = transmission(slot, before, &outcome, &verdict);
     let after = see_all(controllers, &note);
     let stops = stopping(before, after, scripted);
     stop_all(controllers, slot, stops);

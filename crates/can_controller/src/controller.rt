@@ -197,7 +197,7 @@ impl Controller {
 
     /// Whether the controller waits with nothing and its node has read every notice. If it runs too, a slot in which nobody offers a
     /// frame changes nothing of it but that one notice more is to be read.
-    pub fn is_calm(&self) -> bool
+    pub fn has_nothing_to_do(&self) -> bool
         ensures waiting { result ≡ true → self.now.waiting ≡ [] }
         ensures unread { result ≡ true → self.now.unread ≡ [] }
     {

@@ -1,4 +1,4 @@
 pub mod FinishFacts
 pub mod GateFacts
-pub mod PostFacts
+pub mod AssignmentFacts
 pub mod TopFacts

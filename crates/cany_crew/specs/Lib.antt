@@ -1,5 +1,5 @@
 pub mod Gates
 pub mod Held
-pub mod Post
-pub mod Posts
+pub mod Assignment
+pub mod Assignments
 pub mod Top

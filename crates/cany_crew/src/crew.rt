@@ -7,7 +7,7 @@ ghost use Rattle.cany_model.specs.Bus.Run.{IsLegal, IsWhole};
 use crate::finish::finish;
 use crate::gate::Gate;
 use crate::nodes::nodes_of;
-use crate::posting::Rooms;
+use crate::assigning::Rooms;
 use crate::shift::work_seats;
 use crate::signals::Signals;
 use crate::worker::Work;

@@ -5,7 +5,7 @@ ghost use Rattle.cany_crew.specs.Gates.{HasRefused, NoneFell};
 ghost use Rattle.cany_yard.specs.Seats.{AreFirstSeats};
 
 use crate::gate::Gate;
-use crate::posting::{Rooms, empty_posts, fill_posts, first_refused};
+use crate::assigning::{Rooms, empty_assignments, fill_assignments, first_refused};
 use crate::worker::Work;
 use crate::workers::work_all;
 use cany_base::{NodeId, Slot};
@@ -36,8 +36,8 @@ pub(crate) fn work_seats<
     seats: Vec<Seat<L, B>>,
     gates: &mut Vec<G>,
 ) -> Worked<L, B>
-    requires empty { (rooms.posts.items ≡ []) × (rooms.seats.items ≡ []) }
-    requires room { (vec_len seats + 1 ≤ vec_capacity rooms.posts) × (vec_len seats ≤ vec_capacity rooms.seats) }
+    requires empty { (rooms.assignments.items ≡ []) × (rooms.seats.items ≡ []) }
+    requires room { (vec_len seats + 1 ≤ vec_capacity rooms.assignments) × (vec_len seats ≤ vec_capacity rooms.seats) }
     requires seats { AreFirstSeats (vec_len seats) seats.items }
     requires nodes { vec_len seats ≤ most_nodes }
     requires gates { vec_len seats ≤ vec_len gates.old }
@@ -47,14 +47,14 @@ pub(crate) fn work_seats<
     ensures count { NoneFell (map G.refusals gates.old.items) (map G.refusals gates.new.items) }
 {
     let Rooms {
-        mut posts,
+        mut assignments,
         seats: mut back,
     } = rooms;
     let nodes = seats.len();
-    fill_posts(&mut posts, bus, seats, gates);
-    work_all(rt, work, &mut posts);
-    let held = first_refused(posts.as_slice());
-    let bus = empty_posts(posts, &mut back, gates);
+    fill_assignments(&mut assignments, bus, seats, gates);
+    work_all(rt, work, &mut assignments);
+    let held = first_refused(assignments.as_slice());
+    let bus = empty_assignments(assignments, &mut back, gates);
     gates.rotate_right(nodes);
     Worked {
         bus,

@@ -1,10 +1,10 @@
 //! What the workers do. Each makes a bounded number of calls, and waits for the lock or, for a bounded time, for a signal.
 ghost use Rattle.std.specs.Prelude.{◌≡◌};
 ghost use Rattle.cany_crew.specs.Gates.{CountsRefusal};
-ghost use Rattle.cany_crew.specs.Posts.{IsAfterWork, IsWorked};
+ghost use Rattle.cany_crew.specs.Assignments.{IsAfterWork, IsWorked};
 
 use crate::gate::Gate;
-use crate::post::{NodePost, Post};
+use crate::assignment::{NodeAssignment, Assignment};
 use crate::signals::Signals;
 use cany_base::{NodeId, Slot};
 use cany_yard::{BusSeat, Course, Seat, StepReply, TurnReply, Yard};
@@ -85,11 +85,11 @@ fn take_turns<L: Course, B: Ledger, G: Gate, R: Wait>(
 fn work_node<L: Course, B: Ledger, G: Gate, R: Wait>(
     rt: &R,
     work: &Work<'_, L, B>,
-    post: &mut NodePost<L, B, G>,
+    assignment: &mut NodeAssignment<L, B, G>,
 )
-    ensures { IsWorked post.old post.new }
+    ensures { IsWorked assignment.old assignment.new }
 {
-    post.refused = take_turns(rt, work, post.node, &mut post.seat, &mut post.gate);
+    assignment.refused = take_turns(rt, work, assignment.node, &mut assignment.seat, &mut assignment.gate);
 }
 
 /// Runs the next slot, and says whether it ran.
@@ -127,16 +127,16 @@ fn work_bus<L: Course, B: Ledger, R: Wait>(rt: &R, work: &Work<'_, L, B>, bus: &
     work.signals.end();
 }
 
-/// Works a post until all slots ran, or were read.
-pub(crate) fn work_post<L: Course, B: Ledger, G: Gate, R: Wait>(
+/// Works a assignment until all slots ran, or were read.
+pub(crate) fn work_assignment<L: Course, B: Ledger, G: Gate, R: Wait>(
     rt: &R,
     work: &Work<'_, L, B>,
-    post: &mut Post<L, B, G>,
+    assignment: &mut Assignment<L, B, G>,
 )
-    ensures { IsAfterWork post.old post.new }
+    ensures { IsAfterWork assignment.old assignment.new }
 {
-    match post {
-        Post::Bus(bus) => work_bus(rt, work, bus),
-        Post::Node(of_node) => work_node(rt, work, of_node),
+    match assignment {
+        Assignment::Bus(bus) => work_bus(rt, work, bus),
+        Assignment::Node(of_node) => work_node(rt, work, of_node),
     }
 }

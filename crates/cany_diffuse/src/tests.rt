@@ -8,12 +8,12 @@ use std::test::Fail;
 
 /// The failure sign of node 0 in a cycle.
 #[derive(Clone, Copy)]
-struct Sign {
+struct FailureSign {
     cycle: u16,
     node: NodeId,
 }
 
-impl Diffused for Sign {
+impl Diffused for FailureSign {
     ghost use Rattle.std.specs.Prelude.{◌≡◌, [], refl};
     ghost use Rattle.std.proofs.Common.{sym, ◌∙◌};
     ghost use Rattle.cany_base.specs.declared.frame.Class.TheVariants.{Fda};
@@ -41,10 +41,10 @@ impl Diffused for Sign {
     ghost one_name_one_key = { λ a b in_a in_b. (λ one. one.number, λ same. record { class = refl; number = same; node = in_a ∙ sym in_b }) };
 }
 
-fn sign_of(cycle: u16) -> Option<Sign>
+fn sign_of(cycle: u16) -> Option<FailureSign>
     ensures { IfSome result (λ s. s.node ≡ 0) }
 {
-    Some(Sign {
+    Some(FailureSign {
         cycle,
         node: NodeId::new(0)?,
     })

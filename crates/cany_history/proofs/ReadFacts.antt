@@ -11,7 +11,7 @@ use Rattle.cany_model.specs.Rules.Notices.{CarriesMore, IsPart, IsReadableVector
 use Rattle.cany_model.specs.Rules.Vectors.{brought, cycle_of, is_exchange, is_just, is_new, is_vector_got, is_vector_sent, met, met_with, vector_in}
 use Rattle.cany_model.proofs.Among.{count-cons, count-no}
 use Rattle.cany_history.specs.History.{HasMore, HistoryParts, IsExchangeOf, StandsIn}
-use Rattle.cany_history.specs.HistorySteps.{having_met, having_read, is_just_own, is_own_vector, met_by}
+use Rattle.cany_history.specs.HistorySteps.{after_meeting, having_read, is_just_own, is_own_vector, met_by}
 use Rattle.cany_history.proofs.PastFacts.{new_copies, new_own, smaller_more, vector_frame}
 use Rattle.cany_history.proofs.SetFacts.{met_part_got, met_part_own, same_bits}
 
@@ -29,8 +29,8 @@ one_more true false n = omega arith
 one_more false true n = omega arith
 one_more false false n = omega arith
 
-met_is : (brings : Option Nodes) (v : HistoryParts) → IsRead v.params v.vector brings v (having_met brings v)
-unfolding having_met met
+met_is : (brings : Option Nodes) (v : HistoryParts) → IsRead v.params v.vector brings v (after_meeting brings v)
+unfolding after_meeting met
 met_is None v = record { node = refl; params = refl; vector = refl; few = omega arith }
 met_is (Some got) v = record {
   node = refl;
@@ -144,11 +144,11 @@ module _ (p : Parameters) (i slot : ℕ) (past : List NoticeKind) (own : Option 
   module _ (exchanged : is_exchange p slot ≡ true) where
     pub after_got : (f : FrameParts)
         → IsExchangeOf p (cycle_of p slot) i (Got f ∷ past) (met p own (brought p slot (Got f))) (having_read slot (Got f) (value i p own copies sent))
-    unfolding having_read having_met brought met
+    unfolding having_read after_meeting brought met
     after_got f = rw exchanged (by_vector (vector_in p.format (cycle_of p slot) f) refl)
       where
         by_vector : (x : Option Nodes) → vector_in p.format (cycle_of p slot) f ≡ x
-            → IsExchangeOf p (cycle_of p slot) i (Got f ∷ past) (met p own x) (having_met x (value i p own copies sent))
+            → IsExchangeOf p (cycle_of p slot) i (Got f ∷ past) (met p own x) (after_meeting x (value i p own copies sent))
         by_vector None e = got_none f e
         by_vector (Some got) e = got_some f got e
 

@@ -14,7 +14,7 @@ use Rattle.cany_model.specs.Rules.Vectors.{after_exchange, brought, cycle_of, en
 use Rattle.cany_model.proofs.Rules.NumberFacts.{belongs_small}
 use Rattle.cany_history.specs.declared.ended.Ended.{Ended}
 use Rattle.cany_history.specs.History.{HasNoVector, HistoryParts, IsExchangeOf, IsHistoryOf, IsNextAt, StartsWith}
-use Rattle.cany_history.specs.HistorySteps.{IsInRun, having_ended, having_read, having_started}
+use Rattle.cany_history.specs.HistorySteps.{IsInRun, having_ended, having_read, after_starting}
 use Rattle.cany_history.proofs.CycleFacts.{exchanged_before, first_slot, has_cycles, no_end, same_cycle}
 use Rattle.cany_history.proofs.PastFacts.{early_notice, unread_copies, unread_more, unread_own}
 use Rattle.cany_history.proofs.ReadFacts.{IsRead, after_reading, read_is, value}
@@ -149,7 +149,7 @@ module _ (scenario : ScenarioParts) (i : ℕ) (past : List NoticeKind) (own : Op
 
       -- ---- after the start of one
 
-      module _ (start : Option Nodes) (with_start : StartsWith v.params notice.slot start) (after : HistoryParts) (starts : after ≡ having_started notice.slot start end) where
+      module _ (start : Option Nodes) (with_start : StartsWith v.params notice.slot start) (after : HistoryParts) (starts : after ≡ after_starting notice.slot start end) where
         after_is : after ≡ record end {
           vector = if is_start end.params notice.slot then start else end.vector;
           copies = if is_start end.params notice.slot then 0 else end.copies;

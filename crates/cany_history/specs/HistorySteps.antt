@@ -45,9 +45,9 @@ with_vector got own is_other v = record v {
 abbrev pub met_by : Nodes → HistoryParts → HistoryParts
 met_by got v = with_vector got (met_with v.params v.vector got) (is_new v.vector (met_with v.params v.vector got)) v
 
-unfoldable pub having_met : Option Nodes → HistoryParts → HistoryParts
-having_met None v = v
-having_met (Some got) v = met_by got v
+unfoldable pub after_meeting : Option Nodes → HistoryParts → HistoryParts
+after_meeting None v = v
+after_meeting (Some got) v = met_by got v
 
 -- whether the frame is the node's own, with just its present vector
 unfoldable pub is_just_own : Option Nodes → Option Nodes → Bool
@@ -62,7 +62,7 @@ having_sent slot f v = if is_own_vector slot f v then record v { sent = true } e
 
 unfoldable pub having_read : ℕ → NoticeKind → HistoryParts → HistoryParts
 having_read slot Idle v = v
-having_read slot (Got f) v = having_met (brought v.params slot (Got f)) v
+having_read slot (Got f) v = after_meeting (brought v.params slot (Got f)) v
 having_read slot (Sent f) v = having_sent slot f v
 having_read slot Bad v = v
 
@@ -95,8 +95,8 @@ end_actions slot v (Some own) = withdrawal_at slot v ∷ []
 
 -- ---- the start of a cycle
 
-abbrev pub having_started : ℕ → Option Nodes → HistoryParts → HistoryParts
-having_started slot start v = if is_start v.params slot then record v { vector = start; copies = 0; sent = false } else v
+abbrev pub after_starting : ℕ → Option Nodes → HistoryParts → HistoryParts
+after_starting slot start v = if is_start v.params slot then record v { vector = start; copies = 0; sent = false } else v
 
 unfoldable pub start_actions : ℕ → HistoryParts → Option Nodes → List Action
 start_actions slot v None = []

@@ -5,7 +5,7 @@ ghost use Rattle.cany_base.specs.Limits.{most_nodes, most_slots};
 ghost use Rattle.cany_base.specs.Nodes.{AllBelow, Nodes};
 ghost use Rattle.cany_base.specs.Scenario.{ScenarioParts};
 ghost use Rattle.cany_history.specs.History.{CanRead, IsHistoryOf, IsNextAt, Rests, StartsWith};
-ghost use Rattle.cany_history.specs.HistorySteps.{IsInRun, end_actions, frame_at, got_actions, having_ended, having_read, having_started, is_covered_by, is_own_vector, met_by, is_just_own, read_actions, start_actions, with_vector, withdrawal_at};
+ghost use Rattle.cany_history.specs.HistorySteps.{IsInRun, end_actions, frame_at, got_actions, having_ended, having_read, after_starting, is_covered_by, is_own_vector, met_by, is_just_own, read_actions, start_actions, with_vector, withdrawal_at};
 ghost use Rattle.cany_model.specs.Rules.Actions.{actions_of};
 ghost use Rattle.cany_model.specs.Rules.Vectors.{after_exchange, brought, cycle_of, ended, everybody, exchange_at, is_new, meet, met, met_with, vector_in};
 
@@ -117,7 +117,7 @@ impl History {
     }
 
     /// A vector of the cycle from another node, or the node's own transmission of its present one.
-    #[tactic(auto, unfolding(crate::specs::HistorySteps::having_read, crate::specs::HistorySteps::having_met, crate::specs::HistorySteps::brought_actions, cany_model::specs::Rules::Vectors::brought))]
+    #[tactic(auto, unfolding(crate::specs::HistorySteps::having_read, crate::specs::HistorySteps::after_meeting, crate::specs::HistorySteps::brought_actions, cany_model::specs::Rules::Vectors::brought))]
     fn read(&mut self, notice: &Notice, out: &mut Actions)
         requires run { IsInRun notice.now.slot self.old }
         requires below { IfSome self.old.vector (AllBelow self.old.params.nodes) }
@@ -177,7 +177,7 @@ impl History {
         requires run { IsInRun slot self.old }
         requires start { StartsWith self.old.params slot start }
         requires room { length out.old.items < out.old.room }
-        ensures state { self.new ≡ having_started slot start self.old }
+        ensures state { self.new ≡ after_starting slot start self.old }
         ensures actions { out.new.items ≡ out.old.items ++ start_actions slot self.old start }
         ensures few { length out.new.items ≤ length out.old.items + 1 }
         ensures room { out.new.room ≡ out.old.room }

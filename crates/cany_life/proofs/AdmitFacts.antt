@@ -7,16 +7,16 @@ use Rattle.cany_base.specs.Nodes.{Nodes, has}
 use Rattle.cany_base.specs.Scenario.{ScenarioParts}
 use Rattle.cany_base.proofs.NodesFacts.{has-those_where}
 use Rattle.cany_base.proofs.ParamsFacts.{few_nodes}
-use Rattle.cany_model.specs.Rules.Station.{Station, having_admitted}
+use Rattle.cany_model.specs.Rules.Knowledge.{Knowledge, after_admitting}
 use Rattle.cany_life.specs.Life.{IsLifeOf, LifeParts}
 use Rattle.cany_life.specs.LifeSteps.{without_nodes}
 
-module _ (scenario : ScenarioParts) (i : ℕ) (past : List NoticeKind) (station : Station) (v : LifeParts) (newly : Nodes) (slot : ℕ)
-    (h : IsLifeOf scenario i past station v) where
+module _ (scenario : ScenarioParts) (i : ℕ) (past : List NoticeKind) (knowledge : Knowledge) (v : LifeParts) (newly : Nodes) (slot : ℕ)
+    (h : IsLifeOf scenario i past knowledge v) where
   pub admitted : (failed : Nodes) (shown : List ℕ) (last : ℕ) → failed ≡ without_nodes newly v.failed → length shown ≡ most_nodes
       → ((r : ℕ) → r < most_nodes → get_or shown r 0 ≡ (if has newly r then slot else get_or v.shown r 0))
       → last ≡ (if has newly i then slot else v.last)
-      → IsLifeOf scenario i past (having_admitted i slot newly station) (record v { failed = failed; shown = shown; last = last })
+      → IsLifeOf scenario i past (after_admitting i slot newly knowledge) (record v { failed = failed; shown = shown; last = last })
   admitted failed shown last fewer nodes same latest = record {
     legal = h.legal;
     node = h.node;
@@ -25,7 +25,7 @@ module _ (scenario : ScenarioParts) (i : ℕ) (past : List NoticeKind) (station 
         ap (λ s. has s r) fewer
         ∙ has-those_where (λ q. has v.failed q && not (has newly q)) r
         ∙ ap (λ b. nat_lt r most_nodes && (b && not (has newly r))) (h.failed r)
-        ∙ sym (has-those_where (λ q. has station.failed q && not (has newly q)) r);
+        ∙ sym (has-those_where (λ q. has knowledge.failed q && not (has newly q)) r);
     cycles = h.cycles;
     known = h.known;
     copies = h.copies;

@@ -15,7 +15,7 @@ use Rattle.cany_message.proofs.NumberFacts.{same_number}
 use Rattle.cany_model.specs.Bus.Frames.{is_of, same_class}
 use Rattle.cany_model.specs.Bus.History.{copies, is_got}
 use Rattle.cany_model.specs.Rules.Rooms.{cycles}
-use Rattle.cany_model.specs.Rules.Station.{Sign, fda_of, sign_of}
+use Rattle.cany_model.specs.Rules.Knowledge.{FailureSign, fda_of, sign_of}
 use Rattle.cany_life.specs.Life.{AreCopies, IsSignNumber, IsSignOf, sign_number}
 
 -- ---- all signs that there can be
@@ -59,7 +59,7 @@ in_row cycle (suc n) r h = elim (cases_eq r n) [
   | inr other ↦ or_right (cycle * most_nodes + r == cycle * most_nodes + n) _ (in_row cycle n r (omega arith))
 ]
 
-in_rows : (n c : ℕ) (sign : Sign) → sign.node < n → sign.cycle < c → is_among (sign_number sign) (rows_below n c) ≡ true
+in_rows : (n c : ℕ) (sign : FailureSign) → sign.node < n → sign.cycle < c → is_among (sign_number sign) (rows_below n c) ≡ true
 unfolding rows_below
 in_rows n zero sign node cycle = absurd (omega arith)
 in_rows n (suc c) sign node cycle = elim (cases_eq sign.cycle c) [
@@ -70,13 +70,13 @@ in_rows n (suc c) sign node cycle = elim (cases_eq sign.cycle c) [
 ]
 
 module _ (scenario : ScenarioParts) where
-  sign_among : (sign : Sign) → IsSignOf scenario sign → is_among (sign_number sign) (rows_below scenario.params.nodes (cycles scenario + 1)) ≡ true
+  sign_among : (sign : FailureSign) → IsSignOf scenario sign → is_among (sign_number sign) (rows_below scenario.params.nodes (cycles scenario + 1)) ≡ true
   sign_among sign of = in_rows scenario.params.nodes (cycles scenario + 1) sign of.node (omega (arith, of.cycle))
 
   number_among : (number : ℕ) → IsSignNumber scenario number → is_among number (rows_below scenario.params.nodes (cycles scenario + 1)) ≡ true
   number_among number h = ap (λ n. is_among n (rows_below scenario.params.nodes (cycles scenario + 1))) (sym h.stands) ∙ sign_among h.sign h.of
 
-  pub can_take : (past : List NoticeKind) (table : EagerParts) (sign : Sign) → AreCopies scenario past table → IsSignOf scenario sign
+  pub can_take : (past : List NoticeKind) (table : EagerParts) (sign : FailureSign) → AreCopies scenario past table → IsSignOf scenario sign
       → CanTake (sign_number sign) table
   can_take past table sign h of = record {
     numbers = rows_below scenario.params.nodes (cycles scenario + 1);
@@ -98,7 +98,7 @@ module _ (scenario : ScenarioParts) where
 
   -- ---- one notice more
 
-  signs_put : (sign : Sign) (old new : EagerParts) → IsSignOf scenario sign → ((q : ℕ) → is_there new q ≡ (q == sign_number sign || is_there old q))
+  signs_put : (sign : FailureSign) (old new : EagerParts) → IsSignOf scenario sign → ((q : ℕ) → is_there new q ≡ (q == sign_number sign || is_there old q))
       → ((number : ℕ) → is_there old number ≡ true → IsSignNumber scenario number) → (number : ℕ) → is_there new number ≡ true → IsSignNumber scenario number
   signs_put sign old new of put before number h = elim (or_cases (number == sign_number sign) (is_there old number) (sym (put number) ∙ h)) [
     | inl this ↦ record { sign = sign; of = of; stands = sym (eqb-true number (sign_number sign) this) }
@@ -122,7 +122,7 @@ module _ (scenario : ScenarioParts) where
   }
 
   -- a notice that is no copy of such a frame
-  copies_same : (past : List NoticeKind) (notice : NoticeKind) (table : EagerParts) → ((sign : Sign) → is_got (fda_of sign) notice ≡ false)
+  copies_same : (past : List NoticeKind) (notice : NoticeKind) (table : EagerParts) → ((sign : FailureSign) → is_got (fda_of sign) notice ≡ false)
       → AreCopies scenario past table → AreCopies scenario (notice ∷ past) table
   copies_same past notice table none h = record {
     omit = h.omit;

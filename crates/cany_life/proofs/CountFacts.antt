@@ -7,7 +7,7 @@ use Rattle.cany_base.specs.Frame.{FrameParts}
 use Rattle.cany_diffuse.specs.declared.learnt.Learnt.TheVariants.{First, Again, Enough}
 use Rattle.cany_diffuse.specs.Eager.{learnt_of}
 use Rattle.cany_message.specs.Actions.{withdraw_actions}
-use Rattle.cany_model.specs.Rules.Station.{Sign}
+use Rattle.cany_model.specs.Rules.Knowledge.{FailureSign}
 use Rattle.cany_life.specs.Life.{LifeParts}
 use Rattle.cany_life.specs.LifeSteps.{all_marked, has_enough_of, is_enough, known_actions, unknown}
 use Rattle.cany_life.proofs.MarkFacts.{marks_rest}
@@ -21,7 +21,7 @@ enough_is omit c own = go (nat_le (omit + 1) c) (c == 1 && not own)
     go false false = refl
 
 -- the copy is counted, and then the sign becomes known
-module _ (sign : Sign) (v x w : LifeParts) (counted : x ≡ record v { copies = x.copies }) (state : w ≡ all_marked (unknown sign x) x) where
+module _ (sign : FailureSign) (v x w : LifeParts) (counted : x ≡ record v { copies = x.copies }) (state : w ≡ all_marked (unknown sign x) x) where
   rest : w ≡ record x { failed = w.failed; known = w.known }
   rest = rw state (marks_rest (unknown sign x) x)
 

@@ -12,7 +12,7 @@ use Rattle.cany_base.proofs.ParamsFacts.{few_nodes}
 use Rattle.cany_model.specs.Rules.Actions.{actions_of}
 use Rattle.cany_model.specs.Rules.Eager.{has_enough}
 use Rattle.cany_model.specs.Rules.Life.{sign_effects}
-use Rattle.cany_model.specs.Rules.Station.{Sign, Station, fda_of, found, is_silent, knows, sign_in, with_signs}
+use Rattle.cany_model.specs.Rules.Knowledge.{FailureSign, Knowledge, fda_of, found, has_timed_out, knows, sign_in, with_signs}
 use Rattle.cany_model.proofs.Among.{Each-weaker}
 use Rattle.cany_life.specs.Life.{IsSignOf, LifeParts}
 use Rattle.cany_life.specs.LifeSteps.{IsReading, all_marked, found_actions, found_at, found_below, has_enough_of, is_known, is_silent_at}
@@ -24,46 +24,46 @@ range_more : (n : ℕ) → range_with_len 0 (n + 1) ≡ range_with_len 0 n ++ n 
 range_more n =
     sym (map-id (range_with_len 0 (n + 1))) ∙ map-range_with_len_more (λ x. x) 0 n n (omega arith) ∙ ap (λ xs. xs ++ n ∷ []) (map-id (range_with_len 0 n))
 
-module _ (scenario : ScenarioParts) (i : ℕ) (counted past : List NoticeKind) (station : Station) (v : LifeParts) (slot : ℕ)
-    (h : IsReading scenario i counted past station v) (within : slot < scenario.params.slots) (members : Nodes) (same : station.members ≡ members) where
+module _ (scenario : ScenarioParts) (i : ℕ) (counted past : List NoticeKind) (knowledge : Knowledge) (v : LifeParts) (slot : ℕ)
+    (h : IsReading scenario i counted past knowledge v) (within : slot < scenario.params.slots) (members : Nodes) (same : knowledge.members ≡ members) where
   -- those of the nodes below n, as the node knows
-  abbrev signs_below : ℕ → List Sign
+  abbrev signs_below : ℕ → List FailureSign
   signs_below n =
-      filter (λ sign. not (knows sign station)) (map (sign_in scenario.params slot) (filter (is_silent scenario.params i slot station) (range_with_len 0 n)))
+      filter (λ sign. not (knows sign knowledge)) (map (sign_in scenario.params slot) (filter (has_timed_out scenario.params i slot knowledge) (range_with_len 0 n)))
 
-  one : (n : ℕ) (silent known : Bool) → knows (sign_in scenario.params slot n) station ≡ known
-      → filter (λ sign. not (knows sign station)) (map (sign_in scenario.params slot) (if silent then n ∷ [] else []))
+  one : (n : ℕ) (silent known : Bool) → knows (sign_in scenario.params slot n) knowledge ≡ known
+      → filter (λ sign. not (knows sign knowledge)) (map (sign_in scenario.params slot) (if silent then n ∷ [] else []))
       ≡ (if silent then (if known then [] else sign_in scenario.params slot n ∷ []) else [])
   one n true true is = rw is refl
   one n true false is = rw is refl
   one n false known is = refl
 
   signs_below-more : (n : ℕ) → signs_below (suc n)
-      ≡ signs_below n ++ (if is_silent scenario.params i slot station n then
-      (if knows (sign_in scenario.params slot n) station then [] else sign_in scenario.params slot n ∷ []) else [])
+      ≡ signs_below n ++ (if has_timed_out scenario.params i slot knowledge n then
+      (if knows (sign_in scenario.params slot n) knowledge then [] else sign_in scenario.params slot n ∷ []) else [])
   signs_below-more n =
       let p : Parameters = scenario.params in
-      let silent : ℕ → Bool = is_silent p i slot station in
-      let new : Sign → Bool = λ sign. not (knows sign station) in
+      let silent : ℕ → Bool = has_timed_out p i slot knowledge in
+      let new : FailureSign → Bool = λ sign. not (knows sign knowledge) in
       let more : range_with_len 0 (suc n) ≡ range_with_len 0 n ++ n ∷ [] = rw add-one at (range_more n) in
       ap (λ rs. filter new (map (sign_in p slot) (filter silent rs))) more
       ∙ ap (λ rs. filter new (map (sign_in p slot) rs)) (filter-append silent (range_with_len 0 n) (n ∷ []))
       ∙ ap (filter new) (map-append (sign_in p slot) (filter silent (range_with_len 0 n)) (filter silent (n ∷ [])))
       ∙ filter-append new (map (sign_in p slot) (filter silent (range_with_len 0 n))) (map (sign_in p slot) (filter silent (n ∷ [])))
-      ∙ ap (λ signs. signs_below n ++ signs) (one n (silent n) (knows (sign_in p slot n) station) refl)
+      ∙ ap (λ signs. signs_below n ++ signs) (one n (silent n) (knows (sign_in p slot n) knowledge) refl)
 
   sign_of_run : (n : ℕ) → n < scenario.params.nodes → IsSignOf scenario (sign_in scenario.params slot n)
   sign_of_run n below = record { node = below; cycle = cycle_of_run scenario slot (slot / scenario.params.cycle) h.legal within (omega arith) }
 
-  silent_is : (n : ℕ) → n < scenario.params.nodes → is_silent_at v members slot n ≡ is_silent scenario.params i slot station n
+  silent_is : (n : ℕ) → n < scenario.params.nodes → is_silent_at v members slot n ≡ has_timed_out scenario.params i slot knowledge n
   silent_is n below = rw (same, h.node, h.failed n, h.params, h.shown n below) refl
 
   found_at-is : (n : ℕ) → n < scenario.params.nodes → found_at v members slot n
-      ≡ (if is_silent scenario.params i slot station n then (if knows (sign_in scenario.params slot n) station then [] else sign_in scenario.params slot n ∷ []) else [])
+      ≡ (if has_timed_out scenario.params i slot knowledge n then (if knows (sign_in scenario.params slot n) knowledge then [] else sign_in scenario.params slot n ∷ []) else [])
   found_at-is n below =
       ap (λ b. if b then (if is_known (sign_in v.params slot n) v then [] else sign_in v.params slot n ∷ []) else []) (silent_is n below)
-      ∙ ap (λ (p : Parameters). if is_silent scenario.params i slot station n then (if is_known (sign_in p slot n) v then [] else sign_in p slot n ∷ []) else []) h.params
-      ∙ ap (λ b. if is_silent scenario.params i slot station n then (if b then [] else sign_in scenario.params slot n ∷ []) else [])
+      ∙ ap (λ (p : Parameters). if has_timed_out scenario.params i slot knowledge n then (if is_known (sign_in p slot n) v then [] else sign_in p slot n ∷ []) else []) h.params
+      ∙ ap (λ b. if has_timed_out scenario.params i slot knowledge n then (if b then [] else sign_in scenario.params slot n ∷ []) else [])
       (h.known (sign_in scenario.params slot n) (sign_of_run n below))
 
   below_is : (n : ℕ) → n ≤ scenario.params.nodes → found_below v members slot n ≡ signs_below n
@@ -74,7 +74,7 @@ module _ (scenario : ScenarioParts) (i : ℕ) (counted past : List NoticeKind) (
       ∙ ap (λ signs. signs_below n ++ signs) (found_at-is n (omega arith))
       ∙ sym (signs_below-more n)
 
-  pub found_is : found_below v members slot v.params.nodes ≡ found scenario.params i slot station
+  pub found_is : found_below v members slot v.params.nodes ≡ found scenario.params i slot knowledge
   unfolding found
   found_is = ap (λ (p : Parameters). found_below v members slot p.nodes) h.params ∙ below_is scenario.params.nodes (omega arith)
 
@@ -88,16 +88,16 @@ module _ (scenario : ScenarioParts) (i : ℕ) (counted past : List NoticeKind) (
       (found_below v members slot v.params.nodes) (found_below-below v members slot v.params.nodes)
 
   pub find_stands : (w : LifeParts) → w ≡ all_marked (found_below v members slot v.params.nodes) v
-      → IsReading scenario i counted past (with_signs (found scenario.params i slot station) station) w
+      → IsReading scenario i counted past (with_signs (found scenario.params i slot knowledge) knowledge) w
   find_stands w is =
-      rw (is, ← found_is) (stands_all scenario i counted past station v (found_below v members slot v.params.nodes) h each_found)
+      rw (is, ← found_is) (stands_all scenario i counted past knowledge v (found_below v members slot v.params.nodes) h each_found)
 
   pub find_acts : (at : ℕ) → slot ≡ at → found_actions v slot (found_below v members slot v.params.nodes)
-      ≡ actions_of scenario.params.format (flat_map (sign_effects scenario.params.omit at counted) (found scenario.params i slot station))
+      ≡ actions_of scenario.params.format (flat_map (sign_effects scenario.params.omit at counted) (found scenario.params i slot knowledge))
   find_acts at is =
-      let signs : List Sign = found_below v members slot v.params.nodes in
+      let signs : List FailureSign = found_below v members slot v.params.nodes in
       sym (ap (λ xs. actions_of scenario.params.format (flat_map (sign_effects scenario.params.omit at counted) xs)) (sym found_is)
       ∙ all_acts scenario.params.format scenario.params.omit at counted (has_enough_of v) signs
       (Each-weaker (IsSignOf scenario) (λ sign. has_enough_of v sign ≡ has_enough scenario.params.omit (fda_of sign) counted)
-      (λ sign of. enough_of scenario i counted past station v sign h (omega (arith, of.node, few_nodes scenario.params h.legal.in_range))) signs each_found)
+      (λ sign of. enough_of scenario i counted past knowledge v sign h (omega (arith, of.node, few_nodes scenario.params h.legal.in_range))) signs each_found)
       ∙ ap (λ n. found_actions v n signs) (sym is))

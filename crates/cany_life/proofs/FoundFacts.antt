@@ -9,14 +9,14 @@ use Rattle.cany_base.specs.Limits.{most_nodes}
 use Rattle.cany_base.specs.Nodes.{Nodes, has}
 use Rattle.cany_base.proofs.NodesFacts.{has-those_where}
 use Rattle.cany_model.specs.Bus.Slot.{nobody}
-use Rattle.cany_model.specs.Rules.Station.{Sign, sign_in}
+use Rattle.cany_model.specs.Rules.Knowledge.{FailureSign, sign_in}
 use Rattle.cany_model.proofs.Among.{Each-append, Each-weaker}
 use Rattle.cany_life.specs.Life.{LifeParts, known_in}
 use Rattle.cany_life.specs.LifeSteps.{all_marked, found_actions, found_at, found_below, has_enough_of, is_silent_at, marked, sign_actions, unknown, with_node}
 use Rattle.cany_life.proofs.MarkFacts.{all_marked-append, length-marked, marks_rest}
 
 -- the sign names a node below n, in this cycle
-abbrev pub IsBelow : ℕ → ℕ → Sign → Type 0
+abbrev pub IsBelow : ℕ → ℕ → FailureSign → Type 0
 IsBelow n cycle sign = (sign.node < n) × (sign.cycle ≡ cycle)
 
 -- of node n the two values know the same
@@ -31,7 +31,7 @@ with_other n r nodes near other = has-those_where (λ q. has nodes q || q == r) 
     go true = refl
     go false = refl
 
-marked_other : (n : ℕ) (sign : Sign) (v : LifeParts) → n < most_nodes → n ≢ sign.node → sign.cycle < length v.known → IsSameAt n v (marked sign v)
+marked_other : (n : ℕ) (sign : FailureSign) (v : LifeParts) → n < most_nodes → n ≢ sign.node → sign.cycle < length v.known → IsSameAt n v (marked sign v)
 unfolding marked
 marked_other n sign v near other within = record {
   failed = with_other n sign.node v.failed near other;
@@ -45,7 +45,7 @@ marked_other n sign v near other within = record {
   ];
 }
 
-all_other : (n cycle : ℕ) (signs : List Sign) (v : LifeParts) → n < most_nodes → cycle < length v.known → AllByRecursion (IsBelow n cycle) signs
+all_other : (n cycle : ℕ) (signs : List FailureSign) (v : LifeParts) → n < most_nodes → cycle < length v.known → AllByRecursion (IsBelow n cycle) signs
     → IsSameAt n v (all_marked signs v)
 unfolding all_marked
 all_other n cycle [] v near within each = record { failed = refl; known = λ c. refl }
@@ -113,8 +113,8 @@ module _ (v : LifeParts) (members : Nodes) (slot n : ℕ) (near : n < most_nodes
   pub actions_more : (before here after : List Action) → here ≡ before ++ found_actions v slot (found_below v members slot n)
       → after ≡ here ++ found_actions w slot (found_at w members slot n) → after ≡ before ++ found_actions v slot (found_below v members slot (n + 1))
   actions_more before here after so is =
-      let low : List Sign = found_below v members slot n in
-      let next : List Sign = found_at v members slot n in
+      let low : List FailureSign = found_below v members slot n in
+      let next : List FailureSign = found_at v members slot n in
       is
       ∙ ap (λ signs. here ++ found_actions w slot signs) found_next
       ∙ ap (λ x. here ++ found_actions x slot next) rest

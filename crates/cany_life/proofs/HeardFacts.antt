@@ -11,17 +11,17 @@ use Rattle.cany_base.specs.Nodes.{Nodes}
 use Rattle.cany_base.specs.Scenario.{ScenarioParts}
 use Rattle.cany_base.proofs.ParamsFacts.{few_nodes}
 use Rattle.cany_model.specs.Bus.Frames.{same_class}
-use Rattle.cany_model.specs.Rules.Life.{is_own_sign, signs_sent}
+use Rattle.cany_model.specs.Rules.Life.{is_own_sign, life_signs_sent}
 use Rattle.cany_model.specs.Rules.Notices.{HasFewSigns, IsReadable}
-use Rattle.cany_model.specs.Rules.Station.{Station, after_life, shows_life, with_members}
+use Rattle.cany_model.specs.Rules.Knowledge.{Knowledge, after_life, shows_life, with_members}
 use Rattle.cany_model.proofs.Among.{count-no, count-yes}
 use Rattle.cany_model.proofs.Rules.NumberFacts.{belongs_small}
 use Rattle.cany_life.specs.Life.{IsLifeOf, LifeParts}
 use Rattle.cany_life.specs.LifeSteps.{IsReading, heard}
 
-module _ (scenario : ScenarioParts) (i : ℕ) (past : List NoticeKind) (station : Station) (members : Nodes) (v : LifeParts) (h : IsLifeOf scenario i past station v) where
+module _ (scenario : ScenarioParts) (i : ℕ) (past : List NoticeKind) (knowledge : Knowledge) (members : Nodes) (v : LifeParts) (h : IsLifeOf scenario i past knowledge v) where
   -- after a notice by which no sign becomes known
-  abbrev Reads : NoticeKind → Station → LifeParts → Type 0
+  abbrev Reads : NoticeKind → Knowledge → LifeParts → Type 0
   Reads kind st w = IsReading scenario i past (kind ∷ past) st w
 
   few_more : (kind : NoticeKind) → HasFewSigns scenario i (kind ∷ past) (length past) → HasFewSigns scenario i (kind ∷ past) (length (kind ∷ past))
@@ -31,8 +31,8 @@ module _ (scenario : ScenarioParts) (i : ℕ) (past : List NoticeKind) (station 
 
   -- with what it has read of the nodes' lives, and how many signs it has sent
   reads : (kind : NoticeKind) (shown : List ℕ) (by : ℕ → ℕ) (last sent : ℕ) → length shown ≡ most_nodes
-      → ((r : ℕ) → r < scenario.params.nodes → get_or shown r 0 ≡ by r) → sent ≡ signs_sent i (kind ∷ past) → HasFewSigns scenario i (kind ∷ past) (length past)
-      → Reads kind (record (with_members members station) { shown = by; last = last }) (record v { shown = shown; last = last; sent = sent })
+      → ((r : ℕ) → r < scenario.params.nodes → get_or shown r 0 ≡ by r) → sent ≡ life_signs_sent i (kind ∷ past) → HasFewSigns scenario i (kind ∷ past) (length past)
+      → Reads kind (record (with_members members knowledge) { shown = by; last = last }) (record v { shown = shown; last = last; sent = sent })
   reads kind shown by last sent nodes same count few = record {
     legal = h.legal;
     node = h.node;
@@ -48,25 +48,25 @@ module _ (scenario : ScenarioParts) (i : ℕ) (past : List NoticeKind) (station 
     few = few_more kind few;
   }
 
-  sent_no : (kind : NoticeKind) → is_own_sign i kind ≡ false → v.sent ≡ signs_sent i (kind ∷ past)
-  unfolding signs_sent
+  sent_no : (kind : NoticeKind) → is_own_sign i kind ≡ false → v.sent ≡ life_signs_sent i (kind ∷ past)
+  unfolding life_signs_sent
   sent_no kind none = h.sent ∙ sym (count-no (is_own_sign i) kind past none)
 
-  sent_yes : (kind : NoticeKind) → is_own_sign i kind ≡ true → v.sent + 1 ≡ signs_sent i (kind ∷ past)
-  unfolding signs_sent
+  sent_yes : (kind : NoticeKind) → is_own_sign i kind ≡ true → v.sent + 1 ≡ life_signs_sent i (kind ∷ past)
+  unfolding life_signs_sent
   sent_yes kind own = omega (arith, h.sent, count-yes (is_own_sign i) kind past own)
 
-  same_last : record (with_members members station) { last = v.last } ≡ with_members members station
-  same_last = ap (λ n. record (with_members members station) { last = n }) h.last
+  same_last : record (with_members members knowledge) { last = v.last } ≡ with_members members knowledge
+  same_last = ap (λ n. record (with_members members knowledge) { last = n }) h.last
 
   -- nothing is heard
-  reads_none : (kind : NoticeKind) → is_own_sign i kind ≡ false → HasFewSigns scenario i (kind ∷ past) (length past) → Reads kind (with_members members station) v
+  reads_none : (kind : NoticeKind) → is_own_sign i kind ≡ false → HasFewSigns scenario i (kind ∷ past) (length past) → Reads kind (with_members members knowledge) v
   reads_none kind none few =
-      subst (λ st. Reads kind st v) same_last (reads kind v.shown station.shown v.last v.sent h.nodes h.shown (sent_no kind none) few)
+      subst (λ st. Reads kind st v) same_last (reads kind v.shown knowledge.shown v.last v.sent h.nodes h.shown (sent_no kind none) few)
 
   -- another node shows life
   shown_now : (f : FrameParts) (slot r : ℕ) → f.node < most_nodes → r < scenario.params.nodes
-      → get_or (set v.shown f.node slot) r 0 ≡ (if r == f.node then slot else station.shown r)
+      → get_or (set v.shown f.node slot) r 0 ≡ (if r == f.node then slot else knowledge.shown r)
   shown_now f slot r near below = elim (cases_eq r f.node) [
     | inl same ↦
         rw (eq-eqb r f.node same)
@@ -75,26 +75,26 @@ module _ (scenario : ScenarioParts) (i : ℕ) (past : List NoticeKind) (station 
   ]
 
   reads_got : (f : FrameParts) (slot : ℕ) → slot ≡ length past → f.node < most_nodes → HasFewSigns scenario i (Got f ∷ past) (length past)
-      → Reads (Got f) (after_life i (length past) (Got f) (with_members members station)) (heard slot (Got f) v)
+      → Reads (Got f) (after_life i (length past) (Got f) (with_members members knowledge)) (heard slot (Got f) v)
   unfolding after_life heard
   reads_got f slot at near few = elim (cases_Bool (shows_life f)) [
     | inl shows ↦
         rw (shows, at)
-        (subst (λ st. Reads (Got f) (record st { shown = λ q. if q == f.node then length past else station.shown q }) (record v { shown = set v.shown f.node (length past) })) same_last
-        (reads (Got f) (set v.shown f.node (length past)) (λ q. if q == f.node then length past else station.shown q) v.last v.sent
+        (subst (λ st. Reads (Got f) (record st { shown = λ q. if q == f.node then length past else knowledge.shown q }) (record v { shown = set v.shown f.node (length past) })) same_last
+        (reads (Got f) (set v.shown f.node (length past)) (λ q. if q == f.node then length past else knowledge.shown q) v.last v.sent
         (length-set v.shown f.node (length past) ∙ h.nodes) (λ r below. shown_now f (length past) r near below) (sent_no (Got f) refl) few))
     | inr not ↦ rw not (reads_none (Got f) refl few)
   ]
 
   -- the node reads its own transmission
-  sent_own : (f : FrameParts) → (f.node == i) ≡ true → v.sent + (if same_class f.class class.Els then 1 else 0) ≡ signs_sent i (Sent f ∷ past)
+  sent_own : (f : FrameParts) → (f.node == i) ≡ true → v.sent + (if same_class f.class class.Els then 1 else 0) ≡ life_signs_sent i (Sent f ∷ past)
   sent_own f own = elim (cases_Bool (same_class f.class class.Els)) [
     | inl sign ↦ rw sign (sent_yes (Sent f) (and_from (same_class f.class class.Els) (f.node == i) sign own))
     | inr none ↦ rw none (omega (arith, sent_no (Sent f) (rw none refl)))
   ]
 
   reads_own : (f : FrameParts) (slot : ℕ) → slot ≡ length past → (f.node == i) ≡ true → HasFewSigns scenario i (Sent f ∷ past) (length past)
-      → Reads (Sent f) (after_life i (length past) (Sent f) (with_members members station)) (record v {
+      → Reads (Sent f) (after_life i (length past) (Sent f) (with_members members knowledge)) (record v {
         last = if shows_life f then slot else v.last;
         sent = v.sent + (if same_class f.class class.Els then 1 else 0);
       })
@@ -102,11 +102,11 @@ module _ (scenario : ScenarioParts) (i : ℕ) (past : List NoticeKind) (station 
   reads_own f slot at own few = elim (cases_Bool (shows_life f)) [
     | inl shows ↦
         rw (shows, own, at)
-        (reads (Sent f) v.shown station.shown (length past) (v.sent + (if same_class f.class class.Els then 1 else 0)) h.nodes h.shown (sent_own f own) few)
+        (reads (Sent f) v.shown knowledge.shown (length past) (v.sent + (if same_class f.class class.Els then 1 else 0)) h.nodes h.shown (sent_own f own) few)
     | inr not ↦
         rw not
         (subst (λ st. Reads (Sent f) st (record v { sent = v.sent + (if same_class f.class class.Els then 1 else 0) })) same_last
-        (reads (Sent f) v.shown station.shown v.last (v.sent + (if same_class f.class class.Els then 1 else 0)) h.nodes h.shown (sent_own f own) few))
+        (reads (Sent f) v.shown knowledge.shown v.last (v.sent + (if same_class f.class class.Els then 1 else 0)) h.nodes h.shown (sent_own f own) few))
   ]
 
   not_own : (f : FrameParts) (shows own : Bool) → own ≡ false → (shows && own) ≡ false
@@ -114,7 +114,7 @@ module _ (scenario : ScenarioParts) (i : ℕ) (past : List NoticeKind) (station 
   not_own f false own none = refl
 
   reads_sent : (f : FrameParts) (slot : ℕ) → slot ≡ length past → HasFewSigns scenario i (Sent f ∷ past) (length past)
-      → Reads (Sent f) (after_life i (length past) (Sent f) (with_members members station)) (heard slot (Sent f) v)
+      → Reads (Sent f) (after_life i (length past) (Sent f) (with_members members knowledge)) (heard slot (Sent f) v)
   unfolding heard after_life
   reads_sent f slot at few = elim (cases_Bool (f.node == v.node)) [
     | inl own ↦
@@ -127,7 +127,7 @@ module _ (scenario : ScenarioParts) (i : ℕ) (past : List NoticeKind) (station 
 
   -- any notice
   pub heard_stands : (kind : NoticeKind) (slot : ℕ) → slot ≡ length past → slot < scenario.params.slots → IsReadable scenario slot kind
-      → HasFewSigns scenario i (kind ∷ past) slot → Reads kind (after_life i (length past) kind (with_members members station)) (heard slot kind v)
+      → HasFewSigns scenario i (kind ∷ past) slot → Reads kind (after_life i (length past) kind (with_members members knowledge)) (heard slot kind v)
   unfolding after_life heard
   heard_stands Idle slot at within readable few = reads_none Idle refl (rw (← at) few)
   heard_stands Bad slot at within readable few = reads_none Bad refl (rw (← at) few)

@@ -12,7 +12,7 @@ use Rattle.cany_base.proofs.NodesFacts.{has-those_where}
 use Rattle.cany_base.proofs.ParamsFacts.{few_nodes}
 use Rattle.cany_diffuse.specs.Eager.{EagerParts}
 use Rattle.cany_model.specs.Bus.Slot.{nobody}
-use Rattle.cany_model.specs.Rules.Station.{Sign, Station, knows, with_sign, with_signs}
+use Rattle.cany_model.specs.Rules.Knowledge.{FailureSign, Knowledge, knows, with_sign, with_signs}
 use Rattle.cany_life.specs.Life.{AreCopies, IsSignOf, LifeParts, known_in}
 use Rattle.cany_life.specs.LifeSteps.{IsReading, all_marked, marked, with_node}
 use Rattle.cany_life.proofs.MarkFacts.{length-marked}
@@ -28,10 +28,10 @@ same_failed a b node r same =
 
 module _ (scenario : ScenarioParts) (i : ℕ) (counted past : List NoticeKind) where
   -- which signs are known once one is marked
-  known_marked : (station : Station) (v : LifeParts) (sign : Sign) → IsReading scenario i counted past station v → IsSignOf scenario sign
-      → (q : Sign) → IsSignOf scenario q → has (known_in (marked sign v).known q.cycle) q.node ≡ knows q (with_sign sign station)
+  known_marked : (knowledge : Knowledge) (v : LifeParts) (sign : FailureSign) → IsReading scenario i counted past knowledge v → IsSignOf scenario sign
+      → (q : FailureSign) → IsSignOf scenario q → has (known_in (marked sign v).known q.cycle) q.node ≡ knows q (with_sign sign knowledge)
   unfolding marked
-  known_marked station v sign h of q of_q =
+  known_marked knowledge v sign h of q of_q =
       let near : q.node < most_nodes = omega (arith, of_q.node, few_nodes scenario.params h.legal.in_range) in
       let within : sign.cycle < length v.known = omega (arith, of.cycle, h.cycles) in
       let sets : List Nodes = set v.known sign.cycle (with_node sign.node (known_in v.known sign.cycle)) in
@@ -42,10 +42,10 @@ module _ (scenario : ScenarioParts) (i : ℕ) (counted past : List NoticeKind) w
             ∙ has-with_node q.node sign.node (known_in v.known sign.cycle) near
             ∙ ap (λ c. has (known_in v.known c) q.node || q.node == sign.node) (sym same)
             ∙ ap (λ b. b || q.node == sign.node) (h.known q of_q)
-            ∙ swapped (knows q station) (q.node == sign.node) (q.cycle == sign.cycle) (eq-eqb q.cycle sign.cycle same)
+            ∙ swapped (knows q knowledge) (q.node == sign.node) (q.cycle == sign.cycle) (eq-eqb q.cycle sign.cycle same)
         | inr apart ↦
             ap (λ s. has s q.node) (get_or-set_other v.known sign.cycle q.cycle (with_node sign.node (known_in v.known sign.cycle)) nobody apart)
-            ∙ h.known q of_q ∙ other (knows q station) (q.node == sign.node) (q.cycle == sign.cycle) (ne_eqb q.cycle sign.cycle apart)
+            ∙ h.known q of_q ∙ other (knows q knowledge) (q.node == sign.node) (q.cycle == sign.cycle) (ne_eqb q.cycle sign.cycle apart)
       ]
     where
       swapped : (known node cycle : Bool) → cycle ≡ true → (known || node) ≡ ((node && cycle) || known)
@@ -60,16 +60,16 @@ module _ (scenario : ScenarioParts) (i : ℕ) (counted past : List NoticeKind) w
       other known false false e = refl
       other known node true e = absurd (cc)
 
-  stands_marked : (station : Station) (v : LifeParts) (sign : Sign) → IsReading scenario i counted past station v → IsSignOf scenario sign
-      → IsReading scenario i counted past (with_sign sign station) (marked sign v)
+  stands_marked : (knowledge : Knowledge) (v : LifeParts) (sign : FailureSign) → IsReading scenario i counted past knowledge v → IsSignOf scenario sign
+      → IsReading scenario i counted past (with_sign sign knowledge) (marked sign v)
   unfolding marked all_marked
-  stands_marked station v sign h of = record {
+  stands_marked knowledge v sign h of = record {
     legal = h.legal;
     node = h.node;
     params = h.params;
-    failed = λ r. same_failed v.failed station.failed sign.node r (h.failed r);
+    failed = λ r. same_failed v.failed knowledge.failed sign.node r (h.failed r);
     cycles = length-marked (sign ∷ []) v ∙ h.cycles;
-    known = known_marked station v sign h of;
+    known = known_marked knowledge v sign h of;
     copies = h.copies;
     nodes = h.nodes;
     shown = h.shown;
@@ -79,16 +79,16 @@ module _ (scenario : ScenarioParts) (i : ℕ) (counted past : List NoticeKind) w
   }
 
   -- one sign after another
-  pub stands_all : (station : Station) (v : LifeParts) (signs : List Sign) → IsReading scenario i counted past station v → AllByRecursion (IsSignOf scenario) signs
-      → IsReading scenario i counted past (with_signs signs station) (all_marked signs v)
+  pub stands_all : (knowledge : Knowledge) (v : LifeParts) (signs : List FailureSign) → IsReading scenario i counted past knowledge v → AllByRecursion (IsSignOf scenario) signs
+      → IsReading scenario i counted past (with_signs signs knowledge) (all_marked signs v)
   unfolding with_signs all_marked
-  stands_all station v [] h each = h
-  stands_all station v (sign ∷ signs) h each = stands_all (with_sign sign station) (marked sign v) signs (stands_marked station v sign h each.0) each.1
+  stands_all knowledge v [] h each = h
+  stands_all knowledge v (sign ∷ signs) h each = stands_all (with_sign sign knowledge) (marked sign v) signs (stands_marked knowledge v sign h each.0) each.1
 
 -- with another table of copies
-pub stands_counted : (scenario : ScenarioParts) (i : ℕ) (counted more past : List NoticeKind) (station : Station) (v : LifeParts) (table : EagerParts)
-    → AreCopies scenario more table → IsReading scenario i counted past station v → IsReading scenario i more past station (record v { copies = table })
-stands_counted scenario i counted more past station v table copies h = record {
+pub stands_counted : (scenario : ScenarioParts) (i : ℕ) (counted more past : List NoticeKind) (knowledge : Knowledge) (v : LifeParts) (table : EagerParts)
+    → AreCopies scenario more table → IsReading scenario i counted past knowledge v → IsReading scenario i more past knowledge (record v { copies = table })
+stands_counted scenario i counted more past knowledge v table copies h = record {
   legal = h.legal;
   node = h.node;
   params = h.params;

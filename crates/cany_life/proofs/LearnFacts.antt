@@ -30,7 +30,7 @@ use Rattle.cany_model.specs.Rules.Effect.{Ask, Withdraw}
 use Rattle.cany_model.specs.Rules.Life.{fda_copy_effects, sign_effects}
 use Rattle.cany_model.specs.Rules.Notices.{BelongsTo, IsNextNotice, NamesNode}
 use Rattle.cany_model.specs.Rules.Rooms.{cycles}
-use Rattle.cany_model.specs.Rules.Station.{Sign, Station, fda_frame, fda_of, sign_of, told, with_signs}
+use Rattle.cany_model.specs.Rules.Knowledge.{FailureSign, Knowledge, fda_frame, fda_of, sign_of, told, with_signs}
 use Rattle.cany_model.proofs.Bus.Identities.{same_class-true}
 use Rattle.cany_life.specs.Life.{AreCopies, IsSignOf, LifeParts, sign_number}
 use Rattle.cany_life.specs.LifeSteps.{IsReading, all_marked, has_enough_of, is_known, known_actions, sign_actions, unknown}
@@ -60,14 +60,14 @@ asks_if format true f = refl
 asks_if format false f = refl
 
 -- what a sign calls for, with enough copies or not
-sign_acts : (format : Format) (omit slot : ℕ) (past : List NoticeKind) (sign : Sign) (e : Bool) → e ≡ has_enough omit (fda_of sign) past
+sign_acts : (format : Format) (omit slot : ℕ) (past : List NoticeKind) (sign : FailureSign) (e : Bool) → e ≡ has_enough omit (fda_of sign) past
     → actions_of format (sign_effects omit slot past sign) ≡ sign_actions slot e sign
 unfolding sign_effects
 sign_acts format omit slot past sign e is =
     ap (λ rest. action.Enter (Failed slot sign.node sign.cycle) ∷ rest)
     (asks_if format (has_enough omit (fda_of sign) past) (fda_frame sign) ∙ ap (λ b. if b then [] else action.Ask (fda_frame sign) ∷ []) (sym is))
 
-pub all_acts : (format : Format) (omit slot : ℕ) (past : List NoticeKind) (e : Sign → Bool) (signs : List Sign)
+pub all_acts : (format : Format) (omit slot : ℕ) (past : List NoticeKind) (e : FailureSign → Bool) (signs : List FailureSign)
     → AllByRecursion (λ sign. e sign ≡ has_enough omit (fda_of sign) past) signs
     → actions_of format (flat_map (sign_effects omit slot past) signs) ≡ flat_map (λ sign. sign_actions slot (e sign) sign) signs
 all_acts format omit slot past e [] each = refl
@@ -81,21 +81,21 @@ withdraws_if format true f = refl
 withdraws_if format false f = refl
 
 -- whether there are enough copies of the frame of a sign, by the table and by what was read
-pub enough_of : (scenario : ScenarioParts) (i : ℕ) (counted past : List NoticeKind) (station : Station) (v : LifeParts) (sign : Sign)
-    → IsReading scenario i counted past station v → sign.node < most_nodes → has_enough_of v sign ≡ has_enough scenario.params.omit (fda_of sign) counted
-enough_of scenario i counted past station v sign h near =
+pub enough_of : (scenario : ScenarioParts) (i : ℕ) (counted past : List NoticeKind) (knowledge : Knowledge) (v : LifeParts) (sign : FailureSign)
+    → IsReading scenario i counted past knowledge v → sign.node < most_nodes → has_enough_of v sign ≡ has_enough scenario.params.omit (fda_of sign) counted
+enough_of scenario i counted past knowledge v sign h near =
     ap (λ (p : Parameters). nat_le (p.omit + 1) (copies_of v.copies (sign_number sign))) h.params
     ∙ ap (nat_le (scenario.params.omit + 1)) (h.copies.copies sign near)
 
 -- ---- a copy of the frame of a sign
 
-told_if : (known : Bool) (sign : Sign) → (if true && not known then sign ∷ [] else []) ≡ (if known then [] else sign ∷ [])
+told_if : (known : Bool) (sign : FailureSign) → (if true && not known then sign ∷ [] else []) ≡ (if known then [] else sign ∷ [])
 told_if true sign = refl
 told_if false sign = refl
 
-module _ (scenario : ScenarioParts) (i : ℕ) (past : List NoticeKind) (station : Station) (v w : LifeParts) (f : FrameParts)
-    (h : IsReading scenario i past (Got f ∷ past) station v) (is : same_class f.class class.Fda ≡ true) (of : IsSignOf scenario (sign_of f)) where
-  told_is : told (Got f) station ≡ unknown (sign_of f) v
+module _ (scenario : ScenarioParts) (i : ℕ) (past : List NoticeKind) (knowledge : Knowledge) (v w : LifeParts) (f : FrameParts)
+    (h : IsReading scenario i past (Got f ∷ past) knowledge v) (is : same_class f.class class.Fda ≡ true) (of : IsSignOf scenario (sign_of f)) where
+  told_is : told (Got f) knowledge ≡ unknown (sign_of f) v
   unfolding told
   told_is = rw (is, ← h.known (sign_of f) of) (told_if (is_known (sign_of f) v) (sign_of f))
 
@@ -106,21 +106,21 @@ module _ (scenario : ScenarioParts) (i : ℕ) (past : List NoticeKind) (station 
   near = omega (arith, of.node, few_nodes scenario.params h.legal.in_range)
 
   pub copy_stands : length past < most_slots → IsLearnt (sign_number (sign_of f)) v.copies w.copies → w ≡ all_marked (unknown (sign_of f) v) (record v { copies = w.copies })
-      → IsReading scenario i (Got f ∷ past) (Got f ∷ past) (with_signs (told (Got f) station) station) w
+      → IsReading scenario i (Got f ∷ past) (Got f ∷ past) (with_signs (told (Got f) knowledge) knowledge) w
   copy_stands short learnt state =
       let counted : AreCopies scenario (Got f ∷ past) w.copies =
       copies_got scenario past f v.copies w.copies (same_class-true f.class class.Fda is) near of short h.copies learnt in
-      let more : IsReading scenario i (Got f ∷ past) (Got f ∷ past) station (record v { copies = w.copies }) =
-      stands_counted scenario i past (Got f ∷ past) (Got f ∷ past) station v w.copies counted h in
+      let more : IsReading scenario i (Got f ∷ past) (Got f ∷ past) knowledge (record v { copies = w.copies }) =
+      stands_counted scenario i past (Got f ∷ past) (Got f ∷ past) knowledge v w.copies counted h in
       rw told_is
-      (subst (IsReading scenario i (Got f ∷ past) (Got f ∷ past) (with_signs (unknown (sign_of f) v) station)) (sym state)
-      (stands_all scenario i (Got f ∷ past) (Got f ∷ past) station (record v { copies = w.copies }) (unknown (sign_of f) v) more each_told))
+      (subst (IsReading scenario i (Got f ∷ past) (Got f ∷ past) (with_signs (unknown (sign_of f) v) knowledge)) (sym state)
+      (stands_all scenario i (Got f ∷ past) (Got f ∷ past) knowledge (record v { copies = w.copies }) (unknown (sign_of f) v) more each_told))
 
   pub copy_acts : (slot : ℕ) (before after : List Action) → slot ≡ length past
-      → IsReading scenario i (Got f ∷ past) (Got f ∷ past) (with_signs (told (Got f) station) station) w
+      → IsReading scenario i (Got f ∷ past) (Got f ∷ past) (with_signs (told (Got f) knowledge) knowledge) w
       → after ≡ (before ++ known_actions slot (has_enough_of w (sign_of f)) (unknown (sign_of f) v)) ++ withdraw_actions v.params.format (has_enough_of w (sign_of f)) f
       → after ≡ before ++ actions_of scenario.params.format
-      (flat_map (sign_effects scenario.params.omit (length past) (Got f ∷ past)) (told (Got f) station) ++ fda_copy_effects scenario.params.omit (Got f) (Got f ∷ past))
+      (flat_map (sign_effects scenario.params.omit (length past) (Got f ∷ past)) (told (Got f) knowledge) ++ fda_copy_effects scenario.params.omit (Got f) (Got f ∷ past))
   unfolding fda_copy_effects
   copy_acts slot before after at stands acts =
       let format : Format = scenario.params.format in
@@ -129,7 +129,7 @@ module _ (scenario : ScenarioParts) (i : ℕ) (past : List NoticeKind) (station 
       let enough : e ≡ has_enough omit (fda_of (sign_of f)) (Got f ∷ past) = enough_of scenario i (Got f ∷ past) (Got f ∷ past) _ w (sign_of f) stands near in
       let each : AllByRecursion (λ sign. e ≡ has_enough omit (fda_of sign) (Got f ∷ past)) (unknown (sign_of f) v) =
       cond_both (is_known (sign_of f) v) [] (sign_of f ∷ []) (AllByRecursion (λ sign. e ≡ has_enough omit (fda_of sign) (Got f ∷ past))) (λ _. tt) (λ _. (enough, tt)) in
-      let known : actions_of format (flat_map (sign_effects omit (length past) (Got f ∷ past)) (told (Got f) station)) ≡ known_actions slot e (unknown (sign_of f) v) =
+      let known : actions_of format (flat_map (sign_effects omit (length past) (Got f ∷ past)) (told (Got f) knowledge)) ≡ known_actions slot e (unknown (sign_of f) v) =
       ap (λ signs. actions_of format (flat_map (sign_effects omit (length past) (Got f ∷ past)) signs)) told_is
       ∙ all_acts format omit (length past) (Got f ∷ past) (λ _. e) (unknown (sign_of f) v) each
       ∙ ap (λ n. known_actions n e (unknown (sign_of f) v)) (sym at) in
@@ -141,7 +141,7 @@ module _ (scenario : ScenarioParts) (i : ℕ) (past : List NoticeKind) (station 
       ∙ ap (λ b. withdraw_actions format b f) enough_now
       ∙ ap (λ (p : Parameters). withdraw_actions p.format e f) (sym h.params) in
       acts
-      ∙ both_actions format before (flat_map (sign_effects omit (length past) (Got f ∷ past)) (told (Got f) station)) (fda_copy_effects omit (Got f) (Got f ∷ past)) _ _ known withdrawn
+      ∙ both_actions format before (flat_map (sign_effects omit (length past) (Got f ∷ past)) (told (Got f) knowledge)) (fda_copy_effects omit (Got f) (Got f ∷ past)) _ _ known withdrawn
 
 -- ---- a notice that is no such copy
 
@@ -151,12 +151,12 @@ IsNoCopy Bad = Unit {0}
 IsNoCopy (Got f) = same_class f.class class.Fda ≡ false
 IsNoCopy (Sent f) = Unit {0}
 
-none_told : (kind : NoticeKind) (station : Station) → IsNoCopy kind → told kind station ≡ []
+none_told : (kind : NoticeKind) (knowledge : Knowledge) → IsNoCopy kind → told kind knowledge ≡ []
 unfolding told
-none_told Idle station none = refl
-none_told Bad station none = refl
-none_told (Sent f) station none = refl
-none_told (Got f) station none = rw none refl
+none_told Idle knowledge none = refl
+none_told Bad knowledge none = refl
+none_told (Sent f) knowledge none = refl
+none_told (Got f) knowledge none = rw none refl
 
 none_withdrawn : (omit : ℕ) (kind : NoticeKind) (past : List NoticeKind) → IsNoCopy kind → fda_copy_effects omit kind past ≡ []
 unfolding fda_copy_effects
@@ -172,23 +172,23 @@ none_counted scenario Bad past table none h = copies_bad scenario past table h
 none_counted scenario (Sent f) past table none h = copies_sent scenario past f table h
 none_counted scenario (Got f) past table none h = copies_other scenario past f table none h
 
-module _ (scenario : ScenarioParts) (i : ℕ) (past : List NoticeKind) (station : Station) (notice kind : NoticeKind) (is : notice ≡ kind) (none : IsNoCopy kind) where
-  no_signs : with_signs [] station ≡ station
+module _ (scenario : ScenarioParts) (i : ℕ) (past : List NoticeKind) (knowledge : Knowledge) (notice kind : NoticeKind) (is : notice ≡ kind) (none : IsNoCopy kind) where
+  no_signs : with_signs [] knowledge ≡ knowledge
   unfolding with_signs
   no_signs = refl
 
-  pub none_stands : (v : LifeParts) → IsReading scenario i past (notice ∷ past) station v
-      → IsReading scenario i (notice ∷ past) (notice ∷ past) (with_signs (told notice station) station) v
+  pub none_stands : (v : LifeParts) → IsReading scenario i past (notice ∷ past) knowledge v
+      → IsReading scenario i (notice ∷ past) (notice ∷ past) (with_signs (told notice knowledge) knowledge) v
   none_stands v h =
-      let same : with_signs (told notice station) station ≡ station =
-      ap (λ k. with_signs (told k station) station) is ∙ ap (λ signs. with_signs signs station) (none_told kind station none) ∙ no_signs in
+      let same : with_signs (told notice knowledge) knowledge ≡ knowledge =
+      ap (λ k. with_signs (told k knowledge) knowledge) is ∙ ap (λ signs. with_signs signs knowledge) (none_told kind knowledge none) ∙ no_signs in
       let counted : AreCopies scenario (notice ∷ past) v.copies = rw is (none_counted scenario kind past v.copies none h.copies) in
-      rw same (stands_counted scenario i past (notice ∷ past) (notice ∷ past) station v v.copies counted h)
+      rw same (stands_counted scenario i past (notice ∷ past) (notice ∷ past) knowledge v v.copies counted h)
 
   pub none_acts : (slot : ℕ) (before : List Action)
       → before ≡ before ++ actions_of scenario.params.format
-      (flat_map (sign_effects scenario.params.omit slot (notice ∷ past)) (told notice station) ++ fda_copy_effects scenario.params.omit notice (notice ∷ past))
+      (flat_map (sign_effects scenario.params.omit slot (notice ∷ past)) (told notice knowledge) ++ fda_copy_effects scenario.params.omit notice (notice ∷ past))
   none_acts slot before =
       no_actions scenario.params.format before
-      (flat_map (sign_effects scenario.params.omit slot (notice ∷ past)) (told notice station) ++ fda_copy_effects scenario.params.omit notice (notice ∷ past))
-      (rw (is, none_told kind station none, none_withdrawn scenario.params.omit kind (kind ∷ past) none) refl)
+      (flat_map (sign_effects scenario.params.omit slot (notice ∷ past)) (told notice knowledge) ++ fda_copy_effects scenario.params.omit notice (notice ∷ past))
+      (rw (is, none_told kind knowledge none, none_withdrawn scenario.params.omit kind (kind ∷ past) none) refl)

@@ -7,7 +7,7 @@ pub mod HeardFacts
 pub mod KnownFacts
 pub mod LearnFacts
 pub mod MarkFacts
-pub mod QuietFacts
+pub mod IdleFacts
 pub mod RestFacts
 pub mod SentFacts
 pub mod SetFacts

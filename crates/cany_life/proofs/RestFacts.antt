@@ -8,37 +8,37 @@ use Rattle.cany_base.specs.Scenario.{ScenarioParts}
 use Rattle.cany_base.proofs.ParamsFacts.{few_nodes}
 use Rattle.cany_model.specs.Rules.Life.{failures_at, fda_copy_effects}
 use Rattle.cany_model.specs.Rules.Notices.{HasFewSigns}
-use Rattle.cany_model.specs.Rules.Station.{Station, after_life, found, having_found, told, with_members, with_signs}
+use Rattle.cany_model.specs.Rules.Knowledge.{Knowledge, after_life, found, after_finding, told, with_members, with_signs}
 use Rattle.cany_life.specs.Life.{IsLifeOf, LifeParts, Rests}
-use Rattle.cany_life.specs.LifeSteps.{IsQuietUntil, IsReading, heard}
+use Rattle.cany_life.specs.LifeSteps.{IsIdleUntil, IsReading, heard}
 use Rattle.cany_life.proofs.FindFacts.{found_is}
 use Rattle.cany_life.proofs.HeardFacts.{heard_stands}
 use Rattle.cany_life.proofs.LearnFacts.{none_stands}
-use Rattle.cany_life.proofs.QuietFacts.{none_found}
+use Rattle.cany_life.proofs.IdleFacts.{none_found}
 use Rattle.cany_life.proofs.SentFacts.{few_other}
 use Rattle.cany_life.proofs.TurnFacts.{read_to_end}
 
-module _ (scenario : ScenarioParts) (i : ℕ) (past : List NoticeKind) (station : Station) (members : Nodes) (v : LifeParts) (h : IsLifeOf scenario i past station v)
+module _ (scenario : ScenarioParts) (i : ℕ) (past : List NoticeKind) (knowledge : Knowledge) (members : Nodes) (v : LifeParts) (h : IsLifeOf scenario i past knowledge v)
     (within : length past < scenario.params.slots) where
-  abbrev before : Station
-  before = with_members members station
+  abbrev before : Knowledge
+  before = with_members members knowledge
 
   few : HasFewSigns scenario i (Idle ∷ past) (length past)
   few = few_other scenario i Idle past (length past) refl h.few
 
   idle_heard : IsReading scenario i past (Idle ∷ past) before v
   unfolding after_life heard
-  idle_heard = heard_stands scenario i past station members v h Idle (length past) refl within tt few
+  idle_heard = heard_stands scenario i past knowledge members v h Idle (length past) refl within tt few
 
   idle_reads : IsReading scenario i (Idle ∷ past) (Idle ∷ past) before v
   unfolding told with_signs
   idle_reads = none_stands scenario i past before Idle Idle refl tt v idle_heard
 
-  module _ (quiet : IsQuietUntil (length past + 1) members v) where
+  module _ (idle_until : IsIdleUntil (length past + 1) members v) where
     nobody_found : found scenario.params i (length past) before ≡ []
     nobody_found =
         sym (found_is scenario i (Idle ∷ past) (Idle ∷ past) before v (length past) idle_reads within members refl)
-        ∙ none_found v members (length past) some quiet v.params.nodes
+        ∙ none_found v members (length past) some idle_until v.params.nodes
         (omega (arith, few_nodes scenario.params h.legal.in_range, ap (λ (p : Parameters). p.nodes) h.params))
       where
         some : 0 < v.params.silence
@@ -48,7 +48,7 @@ module _ (scenario : ScenarioParts) (i : ℕ) (past : List NoticeKind) (station 
     unfolding failures_at told with_signs after_life fda_copy_effects
     no_failures = rw nobody_found refl
 
-    as_before : having_found scenario.params i (length past) Idle before ≡ before
+    as_before : after_finding scenario.params i (length past) Idle before ≡ before
     unfolding told with_signs after_life
     as_before = rw nobody_found refl
 

@@ -15,43 +15,43 @@ use Rattle.cany_model.specs.Rules.Actions.{actions_of}
 use Rattle.cany_model.specs.Rules.Effect.{Effect}
 use Rattle.cany_model.specs.Rules.Life.{failures_at, fda_copy_effects, sign_effects}
 use Rattle.cany_model.specs.Rules.Notices.{IsNextNotice}
-use Rattle.cany_model.specs.Rules.Station.{Sign, Station, after_life, fda_frame, found, having_found, having_heard, having_learnt, shows_life, told, told_in, with_members, with_shown, with_signs}
+use Rattle.cany_model.specs.Rules.Knowledge.{FailureSign, Knowledge, after_life, fda_frame, found, after_finding, after_hearing, after_learning, shows_life, told, told_in, with_members, with_shown, with_signs}
 use Rattle.cany_model.proofs.Rules.NumberFacts.{belongs_small}
 use Rattle.cany_life.specs.Life.{IsLifeOf, IsNextAt, LifeParts}
 use Rattle.cany_life.specs.LifeSteps.{CanLearn, IsReading, all_marked, found_actions, found_below, heard}
 use Rattle.cany_life.proofs.FindFacts.{find_acts, find_stands}
 use Rattle.cany_life.proofs.HeardFacts.{heard_stands}
 use Rattle.cany_life.proofs.LearnFacts.{cycle_of_run}
-use Rattle.cany_life.proofs.SentFacts.{signs_sent-few}
+use Rattle.cany_life.proofs.SentFacts.{life_signs_sent-few}
 
 -- ---- the members are left alone
 
-life_keeps_members : (i slot : ℕ) (e : NoticeKind) (station : Station) → (after_life i slot e station).members ≡ station.members
+life_keeps_members : (i slot : ℕ) (e : NoticeKind) (knowledge : Knowledge) → (after_life i slot e knowledge).members ≡ knowledge.members
 unfolding after_life
-life_keeps_members i slot Idle station = refl
-life_keeps_members i slot Bad station = refl
-life_keeps_members i slot (Got f) station =
-    cond_both (shows_life f) (with_shown f.node slot station) station (λ s. s.members ≡ station.members) (λ _. refl) (λ _. refl)
-life_keeps_members i slot (Sent f) station =
-    cond_both (shows_life f && f.node == i) (record station { last = slot }) station (λ s. s.members ≡ station.members) (λ _. refl) (λ _. refl)
+life_keeps_members i slot Idle knowledge = refl
+life_keeps_members i slot Bad knowledge = refl
+life_keeps_members i slot (Got f) knowledge =
+    cond_both (shows_life f) (with_shown f.node slot knowledge) knowledge (λ s. s.members ≡ knowledge.members) (λ _. refl) (λ _. refl)
+life_keeps_members i slot (Sent f) knowledge =
+    cond_both (shows_life f && f.node == i) (record knowledge { last = slot }) knowledge (λ s. s.members ≡ knowledge.members) (λ _. refl) (λ _. refl)
 
-signs_keep_members : (signs : List Sign) (station : Station) → (with_signs signs station).members ≡ station.members
+signs_keep_members : (signs : List FailureSign) (knowledge : Knowledge) → (with_signs signs knowledge).members ≡ knowledge.members
 unfolding with_signs
-signs_keep_members [] station = refl
-signs_keep_members (sign ∷ signs) station = signs_keep_members signs _
+signs_keep_members [] knowledge = refl
+signs_keep_members (sign ∷ signs) knowledge = signs_keep_members signs _
 
-learnt_members : (i slot : ℕ) (e : NoticeKind) (station : Station) → (having_learnt i slot e station).members ≡ station.members
-learnt_members i slot e station = signs_keep_members (told_in i slot e station) (having_heard i slot e station) ∙ life_keeps_members i slot e station
+learnt_members : (i slot : ℕ) (e : NoticeKind) (knowledge : Knowledge) → (after_learning i slot e knowledge).members ≡ knowledge.members
+learnt_members i slot e knowledge = signs_keep_members (told_in i slot e knowledge) (after_hearing i slot e knowledge) ∙ life_keeps_members i slot e knowledge
 
 -- ---- what stands for a node stands for its own
 
-pub at_own_node : (scenario : ScenarioParts) (i : ℕ) (past : List NoticeKind) (station : Station) (v : LifeParts) → IsLifeOf scenario i past station v
-    → IsLifeOf scenario v.node past station v
-at_own_node scenario i past station v h = subst (λ n. IsLifeOf scenario n past station v) (sym h.node) h
+pub at_own_node : (scenario : ScenarioParts) (i : ℕ) (past : List NoticeKind) (knowledge : Knowledge) (v : LifeParts) → IsLifeOf scenario i past knowledge v
+    → IsLifeOf scenario v.node past knowledge v
+at_own_node scenario i past knowledge v h = subst (λ n. IsLifeOf scenario n past knowledge v) (sym h.node) h
 
-pub read_to_end : (scenario : ScenarioParts) (i : ℕ) (past : List NoticeKind) (station : Station) (v : LifeParts) → IsReading scenario i past past station v
-    → IsLifeOf scenario i past station v
-read_to_end scenario i past station v h = record {
+pub read_to_end : (scenario : ScenarioParts) (i : ℕ) (past : List NoticeKind) (knowledge : Knowledge) (v : LifeParts) → IsReading scenario i past past knowledge v
+    → IsLifeOf scenario i past knowledge v
+read_to_end scenario i past knowledge v h = record {
   legal = h.legal;
   node = h.node;
   params = h.params;
@@ -69,53 +69,53 @@ read_to_end scenario i past station v h = record {
 -- what learning ensures, at each history that the value stands for
 abbrev pub Learns : Notice → LifeParts → LifeParts → Type 0
 Learns notice w x =
-    (scenario : ScenarioParts) (past : List NoticeKind) (station : Station) → IsReading scenario w.node past (notice.kind ∷ past) station w
-    → IsNextNotice scenario past notice → IsReading scenario w.node (notice.kind ∷ past) (notice.kind ∷ past) (with_signs (told notice.kind station) station) x
+    (scenario : ScenarioParts) (past : List NoticeKind) (knowledge : Knowledge) → IsReading scenario w.node past (notice.kind ∷ past) knowledge w
+    → IsNextNotice scenario past notice → IsReading scenario w.node (notice.kind ∷ past) (notice.kind ∷ past) (with_signs (told notice.kind knowledge) knowledge) x
 
 -- the count of life signs has room for one more
-pub few_sent : (scenario : ScenarioParts) (i : ℕ) (past : List NoticeKind) (station : Station) (notice : Notice) (v : LifeParts)
-    → IsLifeOf scenario i past station v → IsNextNotice scenario past notice → v.sent < most_slots
-few_sent scenario i past station notice v h next =
-    omega (arith, h.sent, signs_sent-few i past, next.slot, next.within, few_slots scenario.params h.legal.in_range)
+pub few_sent : (scenario : ScenarioParts) (i : ℕ) (past : List NoticeKind) (knowledge : Knowledge) (notice : Notice) (v : LifeParts)
+    → IsLifeOf scenario i past knowledge v → IsNextNotice scenario past notice → v.sent < most_slots
+few_sent scenario i past knowledge notice v h next =
+    omega (arith, h.sent, life_signs_sent-few i past, next.slot, next.within, few_slots scenario.params h.legal.in_range)
 
-module _ (scenario : ScenarioParts) (i : ℕ) (past : List NoticeKind) (station : Station) (members : Nodes) (notice : Notice) (v w : LifeParts)
-    (h : IsLifeOf scenario i past station v) (next : IsNextAt scenario i past notice) (hears : w ≡ heard notice.slot notice.kind v) where
+module _ (scenario : ScenarioParts) (i : ℕ) (past : List NoticeKind) (knowledge : Knowledge) (members : Nodes) (notice : Notice) (v w : LifeParts)
+    (h : IsLifeOf scenario i past knowledge v) (next : IsNextAt scenario i past notice) (hears : w ≡ heard notice.slot notice.kind v) where
   -- what the node knew before the turn
-  abbrev before : Station
-  before = with_members members station
+  abbrev before : Knowledge
+  before = with_members members knowledge
 
-  heard_reads : IsReading scenario i past (notice.kind ∷ past) (having_heard i (length past) notice.kind before) w
+  heard_reads : IsReading scenario i past (notice.kind ∷ past) (after_hearing i (length past) notice.kind before) w
   heard_reads =
-      subst (IsReading scenario i past (notice.kind ∷ past) (having_heard i (length past) notice.kind before)) (sym hears)
-      (heard_stands scenario i past station members v h notice.kind notice.slot next.next.slot next.next.within next.next.readable next.few)
+      subst (IsReading scenario i past (notice.kind ∷ past) (after_hearing i (length past) notice.kind before)) (sym hears)
+      (heard_stands scenario i past knowledge members v h notice.kind notice.slot next.next.slot next.next.within next.next.readable next.few)
 
   pub heard_node : w.node ≡ i
   heard_node = heard_reads.node
 
-  pub heard_own : IsReading scenario w.node past (notice.kind ∷ past) (having_heard i (length past) notice.kind before) w
-  heard_own = subst (λ n. IsReading scenario n past (notice.kind ∷ past) (having_heard i (length past) notice.kind before) w) (sym heard_node) heard_reads
+  pub heard_own : IsReading scenario w.node past (notice.kind ∷ past) (after_hearing i (length past) notice.kind before) w
+  heard_own = subst (λ n. IsReading scenario n past (notice.kind ∷ past) (after_hearing i (length past) notice.kind before) w) (sym heard_node) heard_reads
 
   pub can_learn : CanLearn w notice
   can_learn = record {
     scenario = scenario;
     past = past;
-    station = having_heard i (length past) notice.kind before;
+    knowledge = after_hearing i (length past) notice.kind before;
     stands = heard_own;
     next = next.next;
   }
 
   -- it has learnt, as at each history that it stands for
   module _ (x : LifeParts) (learns : Learns notice w x) where
-    learnt_reads : IsReading scenario i (notice.kind ∷ past) (notice.kind ∷ past) (having_learnt i (length past) notice.kind before) x
+    learnt_reads : IsReading scenario i (notice.kind ∷ past) (notice.kind ∷ past) (after_learning i (length past) notice.kind before) x
     learnt_reads =
-        subst (λ n. IsReading scenario n (notice.kind ∷ past) (notice.kind ∷ past) (having_learnt i (length past) notice.kind before) x) heard_node
-        (learns scenario past (having_heard i (length past) notice.kind before) heard_own next.next)
+        subst (λ n. IsReading scenario n (notice.kind ∷ past) (notice.kind ∷ past) (after_learning i (length past) notice.kind before) x) heard_node
+        (learns scenario past (after_hearing i (length past) notice.kind before) heard_own next.next)
 
-    same_members : (having_learnt i (length past) notice.kind before).members ≡ members
+    same_members : (after_learning i (length past) notice.kind before).members ≡ members
     same_members = learnt_members i (length past) notice.kind before
 
-    abbrev learnt : Station
-    learnt = having_learnt i (length past) notice.kind before
+    abbrev learnt : Knowledge
+    learnt = after_learning i (length past) notice.kind before
 
     pub own_params : x.params ≡ v.params
     own_params = learnt_reads.params ∙ sym h.params
@@ -129,7 +129,7 @@ module _ (scenario : ScenarioParts) (i : ℕ) (past : List NoticeKind) (station 
 
     pub few_cycles : notice.slot / x.params.cycle < most_numbers
     few_cycles =
-        let sign : Sign = record { node = 0; cycle = notice.slot / scenario.params.cycle } in
+        let sign : FailureSign = record { node = 0; cycle = notice.slot / scenario.params.cycle } in
         let small = belongs_small scenario notice.slot (fda_frame sign) h.legal next.next.within (record {
           node = omega (arith, h.legal.in_range.nodes.0);
           number = omega arith;
@@ -146,9 +146,9 @@ module _ (scenario : ScenarioParts) (i : ℕ) (past : List NoticeKind) (station 
 
     -- and finds
     pub turn_stands : (y : LifeParts) → y ≡ all_marked (found_below x members notice.slot x.params.nodes) x
-        → IsLifeOf scenario i (notice.kind ∷ past) (having_found scenario.params i (length past) notice.kind before) y
+        → IsLifeOf scenario i (notice.kind ∷ past) (after_finding scenario.params i (length past) notice.kind before) y
     turn_stands y finds =
-        read_to_end scenario i (notice.kind ∷ past) (having_found scenario.params i (length past) notice.kind before) y
+        read_to_end scenario i (notice.kind ∷ past) (after_finding scenario.params i (length past) notice.kind before) y
         (subst (λ k. IsReading scenario i (notice.kind ∷ past) (notice.kind ∷ past) (with_signs (found scenario.params i k learnt) learnt) y) next.next.slot
         (find_stands scenario i (notice.kind ∷ past) (notice.kind ∷ past) learnt x notice.slot learnt_reads next.next.within members same_members y finds))
 
@@ -160,7 +160,7 @@ module _ (scenario : ScenarioParts) (i : ℕ) (past : List NoticeKind) (station 
         → end ≡ start ++ actions_of scenario.params.format (failures_at scenario.params i notice.kind past before)
     unfolding failures_at
     turn_acts start here end learns_acts finds_acts =
-        let effects : Sign → List Effect = sign_effects scenario.params.omit (length past) (notice.kind ∷ past) in
+        let effects : FailureSign → List Effect = sign_effects scenario.params.omit (length past) (notice.kind ∷ past) in
         let early : List Effect =
         flat_map effects (told_in i (length past) notice.kind before) ++ fda_copy_effects scenario.params.omit notice.kind (notice.kind ∷ past) in
         let late : found_actions x notice.slot (found_below x members notice.slot x.params.nodes)

@@ -10,10 +10,10 @@ use Rattle.cany_base.specs.Scenario.{ScenarioParts, IsLegalScenario}
 use Rattle.cany_diffuse.specs.Eager.{EagerParts, copies_of, is_there}
 use Rattle.cany_model.specs.Bus.History.{copies}
 use Rattle.cany_model.specs.Bus.Slot.{nobody}
-use Rattle.cany_model.specs.Rules.Life.{failures_at, life_sign, signs_sent}
+use Rattle.cany_model.specs.Rules.Life.{failures_at, life_sign, life_signs_sent}
 use Rattle.cany_model.specs.Rules.Notices.{HasFewSigns, IsNextNotice}
 use Rattle.cany_model.specs.Rules.Rooms.{cycles}
-use Rattle.cany_model.specs.Rules.Station.{Sign, Station, fda_of, having_found, knows}
+use Rattle.cany_model.specs.Rules.Knowledge.{FailureSign, Knowledge, fda_of, after_finding, knows}
 
 -- the node, the parameters, the nodes that have failed here, for each cycle the nodes whose sign of that cycle is known, the copies of
 -- the frames of signs, for each node the slot in which it last showed life, that of the node's own last life, and how many life signs
@@ -29,17 +29,17 @@ pub record LifeParts : Type 0 where
   pub sent : ℕ
 
 -- the number that stands for a sign
-abbrev pub sign_number : Sign → ℕ
+abbrev pub sign_number : FailureSign → ℕ
 sign_number sign = sign.cycle * most_nodes + sign.node
 
 -- the sign is that of a node of the bus, in a cycle of the run
-pub record IsSignOf (scenario : ScenarioParts) (sign : Sign) : Type 0 where
+pub record IsSignOf (scenario : ScenarioParts) (sign : FailureSign) : Type 0 where
   pub node : sign.node < scenario.params.nodes
   pub cycle : sign.cycle ≤ cycles scenario
 
 -- a number that stands for such a sign
 pub record IsSignNumber (scenario : ScenarioParts) (number : ℕ) : Type 0 where
-  pub sign : Sign
+  pub sign : FailureSign
   pub of : IsSignOf scenario sign
   pub stands : sign_number sign ≡ number
 
@@ -48,27 +48,27 @@ pub record IsSignNumber (scenario : ScenarioParts) (number : ℕ) : Type 0 where
 pub record AreCopies (scenario : ScenarioParts) (past : List NoticeKind) (table : EagerParts) : Type 0 where
   pub omit : table.omit ≡ scenario.params.omit
   pub room : table.room ≡ scenario.params.nodes * (cycles scenario + 1)
-  pub copies : (sign : Sign) → sign.node < most_nodes → copies_of table (sign_number sign) ≡ copies (fda_of sign) past
+  pub copies : (sign : FailureSign) → sign.node < most_nodes → copies_of table (sign_number sign) ≡ copies (fda_of sign) past
   pub signs : (number : ℕ) → is_there table number ≡ true → IsSignNumber scenario number
 
 -- those whose sign of a cycle is known
 abbrev pub known_in : List Nodes → ℕ → Nodes
 known_in known cycle = slice_index_or known cycle nobody
 
--- The value is that of node i after these notices, newest first, where it knows what this station knows, its members left aside: they
+-- The value is that of node i after these notices, newest first, where it knows what this knowledge knows, its members left aside: they
 -- are given to each call.
-pub record IsLifeOf (scenario : ScenarioParts) (i : ℕ) (past : List NoticeKind) (station : Station) (v : LifeParts) : Type 0 where
+pub record IsLifeOf (scenario : ScenarioParts) (i : ℕ) (past : List NoticeKind) (knowledge : Knowledge) (v : LifeParts) : Type 0 where
   pub legal : IsLegalScenario scenario
   pub node : v.node ≡ i
   pub params : v.params ≡ scenario.params
-  pub failed : (r : ℕ) → has v.failed r ≡ has station.failed r
+  pub failed : (r : ℕ) → has v.failed r ≡ has knowledge.failed r
   pub cycles : length v.known ≡ cycles scenario + 1
-  pub known : (sign : Sign) → IsSignOf scenario sign → has (known_in v.known sign.cycle) sign.node ≡ knows sign station
+  pub known : (sign : FailureSign) → IsSignOf scenario sign → has (known_in v.known sign.cycle) sign.node ≡ knows sign knowledge
   pub copies : AreCopies scenario past v.copies
   pub nodes : length v.shown ≡ most_nodes
-  pub shown : (r : ℕ) → r < scenario.params.nodes → slice_index_or v.shown r 0 ≡ station.shown r
-  pub last : v.last ≡ station.last
-  pub sent : v.sent ≡ signs_sent i past
+  pub shown : (r : ℕ) → r < scenario.params.nodes → slice_index_or v.shown r 0 ≡ knowledge.shown r
+  pub last : v.last ≡ knowledge.last
+  pub sent : v.sent ≡ life_signs_sent i past
   pub few : HasFewSigns scenario i past (length past)
 
 -- the notice can come next: of the node's own life signs there are not too many with it
@@ -80,16 +80,16 @@ pub record IsNextAt (scenario : ScenarioParts) (i : ℕ) (past : List NoticeKind
 pub record CanRead (v : LifeParts) (notice : Notice) : Type 0 where
   pub scenario : ScenarioParts
   pub past : List NoticeKind
-  pub station : Station
-  pub stands : IsLifeOf scenario v.node past station v
+  pub knowledge : Knowledge
+  pub stands : IsLifeOf scenario v.node past knowledge v
   pub next : IsNextAt scenario v.node past notice
 
 -- the value stands for notices the newest of which is that of the slot
 pub record HasReadSlot (v : LifeParts) (slot : ℕ) : Type 0 where
   pub scenario : ScenarioParts
   pub past : List NoticeKind
-  pub station : Station
-  pub stands : IsLifeOf scenario v.node past station v
+  pub knowledge : Knowledge
+  pub stands : IsLifeOf scenario v.node past knowledge v
   pub within : slot < scenario.params.slots
   pub newest : length past ≡ slot + 1
 
@@ -97,8 +97,8 @@ pub record HasReadSlot (v : LifeParts) (slot : ℕ) : Type 0 where
 
 -- The value stands for one idle notice more as it is, and for what the node knew before it, its members too. The node finds nobody by
 -- silence, and no life sign of its own is due.
-pub record Rests (scenario : ScenarioParts) (i : ℕ) (past : List NoticeKind) (station : Station) (v : LifeParts) : Type 0 where
-  pub stands : IsLifeOf scenario i (Idle ∷ past) station v
-  pub failures : failures_at scenario.params i Idle past station ≡ []
-  pub found : having_found scenario.params i (length past) Idle station ≡ station
-  pub sign : life_sign scenario.params.life 0 i (length past) station (signs_sent i (Idle ∷ past)) ≡ []
+pub record Rests (scenario : ScenarioParts) (i : ℕ) (past : List NoticeKind) (knowledge : Knowledge) (v : LifeParts) : Type 0 where
+  pub stands : IsLifeOf scenario i (Idle ∷ past) knowledge v
+  pub failures : failures_at scenario.params i Idle past knowledge ≡ []
+  pub found : after_finding scenario.params i (length past) Idle knowledge ≡ knowledge
+  pub sign : life_sign scenario.params.life 0 i (length past) knowledge (life_signs_sent i (Idle ∷ past)) ≡ []

@@ -15,10 +15,10 @@ use Rattle.cany_diffuse.specs.declared.learnt.Learnt.{Learnt}
 use Rattle.cany_diffuse.specs.declared.learnt.Learnt.TheVariants.{First, Again, Enough}
 use Rattle.cany_diffuse.specs.Eager.{copies_of}
 use Rattle.cany_model.specs.Bus.Frames.{same_class}
-use Rattle.cany_model.specs.Rules.Life.{signs_sent}
+use Rattle.cany_model.specs.Rules.Life.{life_signs_sent}
 use Rattle.cany_model.specs.Rules.Notices.{HasFewSigns, IsNextNotice}
 use Rattle.cany_model.specs.Rules.Rooms.{cycles}
-use Rattle.cany_model.specs.Rules.Station.{Sign, Station, fda_frame, knows, shows_life, sign_in}
+use Rattle.cany_model.specs.Rules.Knowledge.{FailureSign, Knowledge, fda_frame, knows, shows_life, sign_in}
 use Rattle.cany_life.specs.Life.{AreCopies, IsLifeOf, IsSignOf, LifeParts, known_in, sign_number}
 
 -- ---- who shows life
@@ -44,33 +44,33 @@ with_node node nodes = those_where (λ r. has nodes r || r == node)
 abbrev pub without_nodes : Nodes → Nodes → Nodes
 without_nodes others nodes = those_where (λ r. has nodes r && not (has others r))
 
-abbrev pub is_known : Sign → LifeParts → Bool
+abbrev pub is_known : FailureSign → LifeParts → Bool
 is_known sign v = has (known_in v.known sign.cycle) sign.node
 
-unfoldable pub marked : Sign → LifeParts → LifeParts
+unfoldable pub marked : FailureSign → LifeParts → LifeParts
 marked sign v = record v {
   failed = with_node sign.node v.failed;
   known = slice_set v.known sign.cycle (with_node sign.node (known_in v.known sign.cycle));
 }
 
 -- these, one after another
-unfoldable pub all_marked : List Sign → LifeParts → LifeParts
+unfoldable pub all_marked : List FailureSign → LifeParts → LifeParts
 all_marked [] v = v
 all_marked (sign ∷ signs) v = all_marked signs (marked sign v)
 
 -- the sign, where it is not known
-abbrev pub unknown : Sign → LifeParts → List Sign
+abbrev pub unknown : FailureSign → LifeParts → List FailureSign
 unknown sign v = if is_known sign v then [] else sign ∷ []
 
 -- whether more than omit copies of its frame were read
-abbrev pub has_enough_of : LifeParts → Sign → Bool
+abbrev pub has_enough_of : LifeParts → FailureSign → Bool
 has_enough_of v sign = nat_le (v.params.omit + 1) (copies_of v.copies (sign_number sign))
 
 -- what a sign that becomes known calls for, with enough copies or not
-abbrev pub sign_actions : ℕ → Bool → Sign → List Action
+abbrev pub sign_actions : ℕ → Bool → FailureSign → List Action
 sign_actions slot is_enough sign = Enter (Failed slot sign.node sign.cycle) ∷ (if is_enough then [] else Ask (fda_frame sign) ∷ [])
 
-abbrev pub known_actions : ℕ → Bool → List Sign → List Action
+abbrev pub known_actions : ℕ → Bool → List FailureSign → List Action
 known_actions slot is_enough signs = flat_map (sign_actions slot is_enough) signs
 
 abbrev pub is_enough : Learnt → Bool
@@ -89,50 +89,50 @@ abbrev pub is_silent_at : LifeParts → Nodes → ℕ → ℕ → Bool
 is_silent_at v members slot r = is_watched v members r && nat_le v.params.silence (slot - shown_by v r)
 
 -- before this slot it finds none of these members
-abbrev pub IsQuietUntil : ℕ → Nodes → LifeParts → Type 0
-IsQuietUntil quiet members v = (r : ℕ) → r < most_nodes → is_watched v members r ≡ true → quiet ≤ shown_by v r + v.params.silence
+abbrev pub IsIdleUntil : ℕ → Nodes → LifeParts → Type 0
+IsIdleUntil idle_until members v = (r : ℕ) → r < most_nodes → is_watched v members r ≡ true → idle_until ≤ shown_by v r + v.params.silence
 
 -- the sign of a node that is silent, where it is not known
-abbrev pub found_at : LifeParts → Nodes → ℕ → ℕ → List Sign
+abbrev pub found_at : LifeParts → Nodes → ℕ → ℕ → List FailureSign
 found_at v members slot r = if is_silent_at v members slot r then unknown (sign_in v.params slot r) v else []
 
 -- those of the nodes below n, ascending
-unfoldable pub found_below : LifeParts → Nodes → ℕ → ℕ → List Sign
+unfoldable pub found_below : LifeParts → Nodes → ℕ → ℕ → List FailureSign
 found_below v members slot zero = []
 found_below v members slot (suc n) = found_below v members slot n ++ found_at v members slot n
 
 -- what they call for
-abbrev pub found_actions : LifeParts → ℕ → List Sign → List Action
+abbrev pub found_actions : LifeParts → ℕ → List FailureSign → List Action
 found_actions v slot signs = flat_map (λ sign. sign_actions slot (has_enough_of v sign) sign) signs
 
 -- ---- in the middle of a turn
 
 -- As `IsLifeOf`, but the copies are those in other notices than the rest.
-pub record IsReading (scenario : ScenarioParts) (i : ℕ) (counted past : List NoticeKind) (station : Station) (v : LifeParts) : Type 0 where
+pub record IsReading (scenario : ScenarioParts) (i : ℕ) (counted past : List NoticeKind) (knowledge : Knowledge) (v : LifeParts) : Type 0 where
   pub legal : IsLegalScenario scenario
   pub node : v.node ≡ i
   pub params : v.params ≡ scenario.params
-  pub failed : (r : ℕ) → has v.failed r ≡ has station.failed r
+  pub failed : (r : ℕ) → has v.failed r ≡ has knowledge.failed r
   pub cycles : length v.known ≡ cycles scenario + 1
-  pub known : (sign : Sign) → IsSignOf scenario sign → has (known_in v.known sign.cycle) sign.node ≡ knows sign station
+  pub known : (sign : FailureSign) → IsSignOf scenario sign → has (known_in v.known sign.cycle) sign.node ≡ knows sign knowledge
   pub copies : AreCopies scenario counted v.copies
   pub nodes : length v.shown ≡ most_nodes
-  pub shown : (r : ℕ) → r < scenario.params.nodes → slice_index_or v.shown r 0 ≡ station.shown r
-  pub last : v.last ≡ station.last
-  pub sent : v.sent ≡ signs_sent i past
+  pub shown : (r : ℕ) → r < scenario.params.nodes → slice_index_or v.shown r 0 ≡ knowledge.shown r
+  pub last : v.last ≡ knowledge.last
+  pub sent : v.sent ≡ life_signs_sent i past
   pub few : HasFewSigns scenario i past (length past)
 
 -- it has read the notice, but counted no copy in it, and the notice came next
 pub record CanLearn (v : LifeParts) (notice : Notice) : Type 0 where
   pub scenario : ScenarioParts
   pub past : List NoticeKind
-  pub station : Station
-  pub stands : IsReading scenario v.node past (notice.kind ∷ past) station v
+  pub knowledge : Knowledge
+  pub stands : IsReading scenario v.node past (notice.kind ∷ past) knowledge v
   pub next : IsNextNotice scenario past notice
 
 -- the value stands for the notices of so many slots
 pub record HasReadSlots (scenario : ScenarioParts) (slots : ℕ) (v : LifeParts) : Type 0 where
   pub past : List NoticeKind
-  pub station : Station
-  pub stands : IsLifeOf scenario v.node past station v
+  pub knowledge : Knowledge
+  pub stands : IsLifeOf scenario v.node past knowledge v
   pub read : length past ≡ slots

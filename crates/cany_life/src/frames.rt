@@ -2,7 +2,7 @@ ghost use Rattle.std.specs.Prelude.{◌≡◌, ◌<◌};
 ghost use Rattle.cany_base.specs.declared.frame.Class.TheVariants as class;
 ghost use Rattle.cany_base.specs.Limits.{most_nodes};
 ghost use Rattle.cany_model.specs.Bus.Frames.{same_class};
-ghost use Rattle.cany_model.specs.Rules.Station.{shows_life, sign_of};
+ghost use Rattle.cany_model.specs.Rules.Knowledge.{shows_life, sign_of};
 
 use cany_base::{Class, Frame, NodeId, Payload};
 use cany_diffuse::Diffused;
@@ -11,42 +11,42 @@ use std::marker::Model;
 
 /// That a node has failed, as it was found out in a membership cycle. It is told of by a frame without payload.
 #[derive(Clone, Copy)]
-pub(crate) struct FailureSign {
+pub(crate) struct DiffusedSign {
     pub(crate) node: NodeId,
     /// The number of the cycle, counted from 0.
     pub(crate) cycle: u16,
 }
 
-impl Model for FailureSign {
-    ghost use Rattle.cany_model.specs.Rules.Station.{Sign};
+impl Model for DiffusedSign {
+    ghost use Rattle.cany_model.specs.Rules.Knowledge.{FailureSign};
 
-    ghost Value = { Sign };
+    ghost Value = { FailureSign };
 
     ghost view = { λ s. record { node = s.node; cycle = s.cycle } };
 
     ghost inverse = { λ s. record { node = s.node; cycle = s.cycle } };
 }
 
-impl FailureSign {
+impl DiffusedSign {
     /// The sign that a frame tells of. The frame's class is not looked at.
-    pub(crate) fn of(frame: &Frame) -> FailureSign
+    pub(crate) fn of(frame: &Frame) -> DiffusedSign
         ensures sign { result ≡ sign_of frame.now }
         ensures in_range { frame.now.node < most_nodes }
     {
         // Read for what it ensures: that the node is in range.
         let _number = frame.node.get();
-        FailureSign {
+        DiffusedSign {
             node: frame.node,
             cycle: frame.number,
         }
     }
 }
 
-impl Diffused for FailureSign {
+impl Diffused for DiffusedSign {
     ghost use Rattle.std.proofs.Common.{arith, refl};
     ghost use Rattle.cany_base.specs.Limits.{most_nodes};
     ghost use Rattle.cany_life.specs.Life.{sign_number};
-    ghost use Rattle.cany_model.specs.Rules.Station.{fda_frame};
+    ghost use Rattle.cany_model.specs.Rules.Knowledge.{fda_frame};
 
     ghost key = { sign_number };
 
@@ -86,7 +86,7 @@ pub(crate) fn is_life_sign(frame: &Frame) -> bool
 }
 
 /// Whether the frame shows that the node lives which it names.
-#[tactic(auto, unfolding(cany_model::specs::Rules::Station::shows_life))]
+#[tactic(auto, unfolding(cany_model::specs::Rules::Knowledge::shows_life))]
 pub(crate) fn shows_life(frame: &Frame) -> bool
     ensures { result ≡ shows_life frame.now }
 {

@@ -9,17 +9,17 @@ ghost use Rattle.cany_base.specs.Nodes.{AllBelow, Nodes, has};
 ghost use Rattle.cany_base.specs.Scenario.{ScenarioParts};
 ghost use Rattle.cany_diffuse.specs.Eager.{IsLearnt};
 ghost use Rattle.cany_life.specs.Life.{CanRead, HasReadSlot, IsLifeOf, IsNextAt, Rests, sign_number};
-ghost use Rattle.cany_life.specs.LifeSteps.{CanLearn, IsQuietUntil, IsReading, all_marked, found_actions, found_at, found_below, has_enough_of, heard, is_enough, is_known, is_silent_at, is_watched, known_actions, marked, unknown, with_node, without_nodes};
+ghost use Rattle.cany_life.specs.LifeSteps.{CanLearn, IsIdleUntil, IsReading, all_marked, found_actions, found_at, found_below, has_enough_of, heard, is_enough, is_known, is_silent_at, is_watched, known_actions, marked, unknown, with_node, without_nodes};
 ghost use Rattle.cany_message.specs.Actions.{withdraw_actions};
 ghost use Rattle.cany_message.specs.Table.{CanTake};
 ghost use Rattle.cany_model.specs.Bus.Frames.{same_class};
 ghost use Rattle.cany_model.specs.Bus.Slot.{nobody};
 ghost use Rattle.cany_model.specs.Rules.Actions.{actions_of};
-ghost use Rattle.cany_model.specs.Rules.Life.{els_frame, failures_at, fda_copy_effects, life_sign, sign_effects, signs_sent};
+ghost use Rattle.cany_model.specs.Rules.Life.{els_frame, failures_at, fda_copy_effects, life_sign, sign_effects, life_signs_sent};
 ghost use Rattle.cany_model.specs.Rules.Notices.{IsNextNotice};
-ghost use Rattle.cany_model.specs.Rules.Station.{Station, having_admitted, having_found, shows_life, sign_of, station_at_first, told, with_members, with_signs};
+ghost use Rattle.cany_model.specs.Rules.Knowledge.{Knowledge, after_admitting, after_finding, shows_life, sign_of, knowledge_at_first, told, with_members, with_signs};
 
-use crate::frames::{FailureSign, is_failure_sign, is_life_sign, shows_life};
+use crate::frames::{DiffusedSign, is_failure_sign, is_life_sign, shows_life};
 use cany_base::{
     Action, Actions, BoundedVec, Class, Format, Frame, LogEntry, Memory, NodeId, NodeSet, Notice,
     NoticeKind, Params, Payload, Scenario, Slot,
@@ -44,7 +44,7 @@ pub struct Life {
     /// For each membership cycle of the run, the nodes whose sign of that cycle is known.
     known: BoundedVec<NodeSet>,
     /// The copies of the frames of failure signs.
-    copies: Eager<FailureSign>,
+    copies: Eager<DiffusedSign>,
     /// For each node the slot in which it last showed life, 0 before it did.
     shown: [Slot; NodeId::COUNT as usize],
     /// The slot of the node's own last life, 0 before it showed any.
@@ -54,13 +54,13 @@ pub struct Life {
     /// The members among whom silence was last looked for.
     watched: NodeSet,
     /// A slot before which silence finds none of them. It is no part of what the value stands for.
-    quiet: Slot,
+    idle_until: Slot,
 }
 
 impl Model for Life {
     ghost use Rattle.cany_life.specs.Life.{LifeParts};
     ghost use Rattle.cany_life.specs.LifeFields.{parts_of};
-    ghost use Rattle.cany_life.specs.LifeSteps.{IsQuietUntil};
+    ghost use Rattle.cany_life.specs.LifeSteps.{IsIdleUntil};
 
     ghost Value = { LifeParts };
 
@@ -75,14 +75,14 @@ impl Model for Life {
       sent = l.sent;
     } };
 
-    ghost invariant = { λ l. IsQuietUntil l.quiet l.watched (parts_of l) };
+    ghost invariant = { λ l. IsIdleUntil l.idle_until l.watched (parts_of l) };
 }
 
 impl Life {
     /// That of a node that has read nothing, or only notices of idle slots, with room for the signs of all nodes in all cycles.
     pub fn build(alloc: Global, node: NodeId, scenario: &Scenario) -> Result<Life, Memory>
         requires { node < scenario.now.params.nodes }
-        ensures { IfOk result (λ life. (n : ℕ) (members : Nodes) → IsLifeOf scenario.now node (replicate n Idle) (station_at_first members) life) }
+        ensures { IfOk result (λ life. (n : ℕ) (members : Nodes) → IsLifeOf scenario.now node (replicate n Idle) (knowledge_at_first members) life) }
     {
         let params = *scenario.params();
         let cycles = (params.slots / params.cycle) as usize + 1;
@@ -98,7 +98,7 @@ impl Life {
             last: 0,
             sent: 0,
             watched: NodeSet::empty(),
-            quiet: 0,
+            idle_until: 0,
         })
     }
 
@@ -110,14 +110,14 @@ impl Life {
         requires reads { CanRead self.old notice.now }
         requires members { AllBelow self.old.params.nodes members }
         requires room { length out.old.items + 2 * self.old.params.nodes + 3 ≤ out.old.room }
-        ensures actions { (scenario : ScenarioParts) (past : List NoticeKind) (station : Station) → IsLifeOf scenario self.old.node past station self.old →
+        ensures actions { (scenario : ScenarioParts) (past : List NoticeKind) (knowledge : Knowledge) → IsLifeOf scenario self.old.node past knowledge self.old →
             IsNextAt scenario self.old.node past notice.now →
             out.new.items ≡ out.old.items
-            ++ actions_of scenario.params.format (failures_at scenario.params self.old.node notice.now.kind past (with_members members station)) }
-        ensures stands { (scenario : ScenarioParts) (past : List NoticeKind) (station : Station) → IsLifeOf scenario self.old.node past station self.old →
+            ++ actions_of scenario.params.format (failures_at scenario.params self.old.node notice.now.kind past (with_members members knowledge)) }
+        ensures stands { (scenario : ScenarioParts) (past : List NoticeKind) (knowledge : Knowledge) → IsLifeOf scenario self.old.node past knowledge self.old →
             IsNextAt scenario self.old.node past notice.now →
             IsLifeOf scenario self.old.node (notice.now.kind ∷ past)
-            (having_found scenario.params self.old.node (length past) notice.now.kind (with_members members station)) self.new }
+            (after_finding scenario.params self.old.node (length past) notice.now.kind (with_members members knowledge)) self.new }
         ensures node { self.new.node ≡ self.old.node }
         ensures params { self.new.params ≡ self.old.params }
         ensures few { length out.new.items ≤ length out.old.items + 2 * self.old.params.nodes + 3 }
@@ -132,13 +132,13 @@ impl Life {
     pub fn admit(&mut self, newly: NodeSet, now: Slot)
         requires newly { AllBelow self.old.params.nodes newly }
         requires now { HasReadSlot self.old now }
-        ensures stands { (scenario : ScenarioParts) (past : List NoticeKind) (station : Station) → IsLifeOf scenario self.old.node past station self.old →
-            IsLifeOf scenario self.old.node past (having_admitted self.old.node now newly station) self.new }
+        ensures stands { (scenario : ScenarioParts) (past : List NoticeKind) (knowledge : Knowledge) → IsLifeOf scenario self.old.node past knowledge self.old →
+            IsLifeOf scenario self.old.node past (after_admitting self.old.node now newly knowledge) self.new }
         ensures node { self.new.node ≡ self.old.node }
         ensures params { self.new.params ≡ self.old.params }
     {
         self.failed = without(self.failed, newly);
-        self.quiet = 0;
+        self.idle_until = 0;
         show(&mut self.shown, newly, now);
         if newly.has(self.node) {
             self.last = now;
@@ -152,9 +152,9 @@ impl Life {
         requires members { AllBelow self.old.params.nodes members }
         requires now { HasReadSlot self.old now }
         requires room { length out.old.items < out.old.room }
-        ensures actions { (scenario : ScenarioParts) (past : List NoticeKind) (station : Station) → IsLifeOf scenario self.old.node past station self.old →
+        ensures actions { (scenario : ScenarioParts) (past : List NoticeKind) (knowledge : Knowledge) → IsLifeOf scenario self.old.node past knowledge self.old →
             out.new.items ≡ out.old.items
-            ++ actions_of scenario.params.format (life_sign scenario.params.life 0 self.old.node now (with_members members station) (signs_sent self.old.node past)) }
+            ++ actions_of scenario.params.format (life_sign scenario.params.life 0 self.old.node now (with_members members knowledge) (life_signs_sent self.old.node past)) }
         ensures state { self.new ≡ self.old }
         ensures few { length out.new.items ≤ length out.old.items + 1 }
         ensures room { out.new.room ≡ out.old.room }
@@ -169,9 +169,9 @@ impl Life {
     ///
     /// It is `now` where silence was not looked for among just these members yet.
     pub fn wake(&self, members: NodeSet, now: Slot) -> Slot
-        ensures rests { (scenario : ScenarioParts) (past : List NoticeKind) (station : Station) → IsLifeOf scenario self.now.node past station self.now →
+        ensures rests { (scenario : ScenarioParts) (past : List NoticeKind) (knowledge : Knowledge) → IsLifeOf scenario self.now.node past knowledge self.now →
             now ≤ length past → length past < result → length past < scenario.params.slots →
-            Rests scenario self.now.node past (with_members members station) self.now }
+            Rests scenario self.now.node past (with_members members knowledge) self.now }
     {
         let silent = self.next_silent(members, now);
         let due = self.next_due(members, now);
@@ -181,8 +181,8 @@ impl Life {
     /// The nodes that have failed here.
     pub fn failed(&self) -> NodeSet
         ensures failed { result ≡ self.now.failed }
-        ensures exact { (scenario : ScenarioParts) (past : List NoticeKind) (station : Station) → IsLifeOf scenario self.now.node past station self.now →
-            (r : ℕ) → has result r ≡ has station.failed r }
+        ensures exact { (scenario : ScenarioParts) (past : List NoticeKind) (knowledge : Knowledge) → IsLifeOf scenario self.now.node past knowledge self.now →
+            (r : ℕ) → has result r ≡ has knowledge.failed r }
     {
         self.failed
     }
@@ -214,7 +214,7 @@ impl Life {
         ensures { self.new ≡ record self.old { shown = slice_set self.old.shown node slot } }
     {
         self.shown[usize::from(node.get())] = slot;
-        self.quiet = self.quiet.min(slot.saturating_add(self.params.silence));
+        self.idle_until = self.idle_until.min(slot.saturating_add(self.params.silence));
     }
 
     /// The node reads its own transmission of a frame of its own.
@@ -237,13 +237,13 @@ impl Life {
     fn learn(&mut self, notice: &Notice, out: &mut Actions)
         requires learns { CanLearn self.old notice.now }
         requires room { length out.old.items + 3 ≤ out.old.room }
-        ensures stands { (scenario : ScenarioParts) (past : List NoticeKind) (station : Station)
-            → IsReading scenario self.old.node past (notice.now.kind ∷ past) station self.old → IsNextNotice scenario past notice.now
-            → IsReading scenario self.old.node (notice.now.kind ∷ past) (notice.now.kind ∷ past) (with_signs (told notice.now.kind station) station) self.new }
-        ensures actions { (scenario : ScenarioParts) (past : List NoticeKind) (station : Station)
-            → IsReading scenario self.old.node past (notice.now.kind ∷ past) station self.old → IsNextNotice scenario past notice.now
+        ensures stands { (scenario : ScenarioParts) (past : List NoticeKind) (knowledge : Knowledge)
+            → IsReading scenario self.old.node past (notice.now.kind ∷ past) knowledge self.old → IsNextNotice scenario past notice.now
+            → IsReading scenario self.old.node (notice.now.kind ∷ past) (notice.now.kind ∷ past) (with_signs (told notice.now.kind knowledge) knowledge) self.new }
+        ensures actions { (scenario : ScenarioParts) (past : List NoticeKind) (knowledge : Knowledge)
+            → IsReading scenario self.old.node past (notice.now.kind ∷ past) knowledge self.old → IsNextNotice scenario past notice.now
             → out.new.items ≡ out.old.items ++ actions_of scenario.params.format
-            (flat_map (sign_effects scenario.params.omit (length past) (notice.now.kind ∷ past)) (told notice.now.kind station)
+            (flat_map (sign_effects scenario.params.omit (length past) (notice.now.kind ∷ past)) (told notice.now.kind knowledge)
             ++ fda_copy_effects scenario.params.omit notice.now.kind (notice.now.kind ∷ past)) }
         ensures node { self.new.node ≡ self.old.node }
         ensures params { self.new.params ≡ self.old.params }
@@ -277,14 +277,14 @@ impl Life {
         ensures room { out.new.room ≡ out.old.room }
     {
         let format = self.format();
-        let sign = FailureSign::of(frame);
+        let sign = DiffusedSign::of(frame);
         let is_enough = self.count(sign);
         self.know(slot, sign, is_enough, out);
         withdraw(format, frame, is_enough, out);
     }
 
     /// Counts a copy of the frame of a sign. Whether there are enough then.
-    fn count(&mut self, sign: FailureSign) -> bool
+    fn count(&mut self, sign: DiffusedSign) -> bool
         requires takes { CanTake (sign_number sign) self.old.copies }
         requires omit { self.old.copies.omit ≡ self.old.params.omit }
         ensures learnt { IsLearnt (sign_number sign) self.old.copies self.new.copies }
@@ -349,7 +349,7 @@ impl Life {
     {
         if self.is_silent(slot, node, members) {
             let cycle = (slot / self.params.cycle) as u16;
-            let sign = FailureSign { node, cycle };
+            let sign = DiffusedSign { node, cycle };
             let is_enough = self.has_enough(&sign);
             self.know(slot, sign, is_enough, out);
         }
@@ -374,31 +374,31 @@ impl Life {
     fn watch(&mut self, members: NodeSet)
         ensures { self.new ≡ self.old }
     {
-        let quiet = self.quiet_until(members);
+        let idle_until = self.until_silence(members);
         self.watched = members;
-        self.quiet = quiet;
+        self.idle_until = idle_until;
     }
 
     /// The first slot in which silence can find one of these members, `Slot::MAX` where it can find none.
-    fn quiet_until(&self, members: NodeSet) -> Slot
-        ensures { IsQuietUntil result members self.now }
+    fn until_silence(&self, members: NodeSet) -> Slot
+        ensures { IsIdleUntil result members self.now }
     {
-        let mut quiet = Slot::MAX;
+        let mut idle_until = Slot::MAX;
         for n in 0..usize::from(NodeId::COUNT) {
             let node = NodeId::of_index(n);
             if self.is_watched(node, members) {
-                quiet = quiet.min(self.shown[n].saturating_add(self.params.silence));
+                idle_until = idle_until.min(self.shown[n].saturating_add(self.params.silence));
             }
         }
-        quiet
+        idle_until
     }
 
     /// The first slot from `now` on in which silence may find one of these members: `now` where that is not known.
     fn next_silent(&self, members: NodeSet, now: Slot) -> Slot
-        ensures { (slot : ℕ) → now ≤ slot → slot < result → IsQuietUntil (slot + 1) members self.now }
+        ensures { (slot : ℕ) → now ≤ slot → slot < result → IsIdleUntil (slot + 1) members self.now }
     {
         if self.watched == members {
-            self.quiet
+            self.idle_until
         } else {
             now
         }
@@ -418,7 +418,7 @@ impl Life {
 
     /// A sign becomes known, unless it is: it is entered, and its frame is asked for, unless there are enough copies of it.
     #[tactic(auto, unfolding(crate::specs::LifeSteps::all_marked))]
-    fn know(&mut self, slot: Slot, sign: FailureSign, is_enough: bool, out: &mut Actions)
+    fn know(&mut self, slot: Slot, sign: DiffusedSign, is_enough: bool, out: &mut Actions)
         requires cycle { sign.cycle < length self.old.known }
         requires room { length out.old.items + 2 ≤ out.old.room }
         ensures state { self.new ≡ all_marked (unknown sign self.old) self.old }
@@ -442,7 +442,7 @@ impl Life {
 
     /// The sign is known from now on, and its node has failed here.
     #[tactic(auto, unfolding(crate::specs::LifeSteps::marked))]
-    fn mark(&mut self, sign: &FailureSign)
+    fn mark(&mut self, sign: &DiffusedSign)
         requires { sign.now.cycle < length self.old.known }
         ensures { self.new ≡ marked sign.now self.old }
     {
@@ -452,7 +452,7 @@ impl Life {
         self.failed = with(self.failed, sign.node);
     }
 
-    fn is_known(&self, sign: &FailureSign) -> bool
+    fn is_known(&self, sign: &DiffusedSign) -> bool
         requires { sign.now.cycle < length self.now.known }
         ensures { result ≡ is_known sign.now self.now }
     {
@@ -460,7 +460,7 @@ impl Life {
     }
 
     /// Whether there are more copies of the frame of a sign than there may be omissions.
-    fn has_enough(&self, sign: &FailureSign) -> bool
+    fn has_enough(&self, sign: &DiffusedSign) -> bool
         ensures { result ≡ has_enough_of self.now sign.now }
     {
         // Read for what it ensures: that the node is in range.

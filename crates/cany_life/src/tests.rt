@@ -5,9 +5,9 @@ ghost use Rattle.cany_base.specs.Limits.{greatest_omit};
 ghost use Rattle.cany_base.specs.Nodes.{AllBelow};
 ghost use Rattle.cany_base.specs.Params.{IsInRange, MeetsFormulas};
 ghost use Rattle.cany_life.specs.LifeSteps.{HasReadSlots};
-ghost use Rattle.cany_model.specs.Rules.Life.{els_frame, signs_sent};
+ghost use Rattle.cany_model.specs.Rules.Life.{els_frame, life_signs_sent};
 ghost use Rattle.cany_model.specs.Rules.Notices.{HasFewSigns, IsReadable};
-ghost use Rattle.cany_model.specs.Rules.Station.{fda_frame};
+ghost use Rattle.cany_model.specs.Rules.Knowledge.{fda_frame};
 
 use crate::life::Life;
 use cany_base::{
@@ -78,7 +78,7 @@ fn read(
     requires stands { HasReadSlots scenario.now notice.now.slot life.old }
     requires within { notice.now.slot < scenario.now.params.slots }
     requires readable { IsReadable scenario.now notice.now.slot notice.now.kind }
-    requires few { (past : List NoticeKind) → HasFewSigns scenario.now life.old.node past notice.now.slot → life.old.sent ≡ signs_sent life.old.node past
+    requires few { (past : List NoticeKind) → HasFewSigns scenario.now life.old.node past notice.now.slot → life.old.sent ≡ life_signs_sent life.old.node past
         → HasFewSigns scenario.now life.old.node (notice.now.kind ∷ past) notice.now.slot }
     requires bus { scenario.now.params.nodes ≡ 3 }
     requires members { AllBelow 3 members }

@@ -2,7 +2,7 @@ ghost use Rattle.cany_model.specs.Texts.ReportLines.{entry_line};
 ghost use Rattle.cany_base.specs.declared.log_entry.LogEntry.TheVariants.{Deliver, Failed as AsFailed, View};
 ghost use Rattle.cany_log.specs.Written.{IsWritten};
 
-use crate::row::Row;
+use crate::line_buffer::LineBuffer;
 use cany_base::{LogEntry, MsgKey, NodeId, NodeSet, Payload, Service, Slot};
 use cany_io::{Failed, Sink, write_whole};
 use cany_model::names::service_name;
@@ -26,15 +26,15 @@ fn write_delivery<K: Sink>(
     ensures { IsWritten (entry_line (Deliver slot service msg payload.now)) result
         (K.taken sink.old) (K.taken sink.new) (K.faults sink.old) (K.faults sink.new) }
 {
-    let mut row: Row<ENTRY_LINE_BYTES> = Row::new();
-    row.put_bytes(b"\n");
-    row.put_payload(payload);
-    row.put_number(u64::from(msg.seq));
-    row.put_number(u64::from(msg.origin.get()));
-    row.put_text(service_name(service));
-    row.put_number(slot);
-    row.put_bytes(b"deliver");
-    write_whole(sink, row.as_slice())
+    let mut line_buffer: LineBuffer<ENTRY_LINE_BYTES> = LineBuffer::new();
+    line_buffer.put_bytes(b"\n");
+    line_buffer.put_payload(payload);
+    line_buffer.put_number(u64::from(msg.seq));
+    line_buffer.put_number(u64::from(msg.origin.get()));
+    line_buffer.put_text(service_name(service));
+    line_buffer.put_number(slot);
+    line_buffer.put_bytes(b"deliver");
+    write_whole(sink, line_buffer.as_slice())
 }
 
 /// Writes the line of a failure.
@@ -43,13 +43,13 @@ fn write_failure<K: Sink>(slot: Slot, node: NodeId, cycle: u16, sink: &mut K) ->
     ensures { IsWritten (entry_line (AsFailed slot node cycle)) result
         (K.taken sink.old) (K.taken sink.new) (K.faults sink.old) (K.faults sink.new) }
 {
-    let mut row: Row<ENTRY_LINE_BYTES> = Row::new();
-    row.put_bytes(b"\n");
-    row.put_number(u64::from(cycle));
-    row.put_number(u64::from(node.get()));
-    row.put_number(slot);
-    row.put_bytes(b"failed");
-    write_whole(sink, row.as_slice())
+    let mut line_buffer: LineBuffer<ENTRY_LINE_BYTES> = LineBuffer::new();
+    line_buffer.put_bytes(b"\n");
+    line_buffer.put_number(u64::from(cycle));
+    line_buffer.put_number(u64::from(node.get()));
+    line_buffer.put_number(slot);
+    line_buffer.put_bytes(b"failed");
+    write_whole(sink, line_buffer.as_slice())
 }
 
 /// Writes the line of a view.
@@ -63,13 +63,13 @@ fn write_view<K: Sink>(
     ensures { IsWritten (entry_line (View slot number members)) result
         (K.taken sink.old) (K.taken sink.new) (K.faults sink.old) (K.faults sink.new) }
 {
-    let mut row: Row<VIEW_LINE_BYTES> = Row::new();
-    row.put_bytes(b"\n");
-    row.put_set(members);
-    row.put_number(u64::from(number));
-    row.put_number(slot);
-    row.put_bytes(b"view");
-    write_whole(sink, row.as_slice())
+    let mut line_buffer: LineBuffer<VIEW_LINE_BYTES> = LineBuffer::new();
+    line_buffer.put_bytes(b"\n");
+    line_buffer.put_set(members);
+    line_buffer.put_number(u64::from(number));
+    line_buffer.put_number(slot);
+    line_buffer.put_bytes(b"view");
+    write_whole(sink, line_buffer.as_slice())
 }
 
 /// Writes the line of an entry of a log. It takes no memory.

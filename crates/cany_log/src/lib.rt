@@ -14,7 +14,7 @@ mod messages;
 mod node_lines;
 mod refusal;
 mod report;
-mod row;
+mod line_buffer;
 mod scenario_refusal;
 mod summary;
 

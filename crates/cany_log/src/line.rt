@@ -6,7 +6,7 @@ ghost use Rattle.cany_log.specs.Fields.{most_bytes, number_if_any, room_of, set_
 ghost use Rattle.cany_log.specs.Written.{IsWritten};
 
 use crate::field::Field;
-use crate::row::Row;
+use crate::line_buffer::LineBuffer;
 use cany_base::limits::MOST_LINE_BYTES;
 use cany_base::{NodeSet, Step};
 use cany_io::{Failed, Sink, write_whole};
@@ -25,47 +25,47 @@ pub(crate) fn has_any(nodes: NodeSet) -> bool
 }
 
 fn put_number_if_any<const ROOM: usize>(
-    row: &mut Row<ROOM>,
+    line_buffer: &mut LineBuffer<ROOM>,
     word: &'static str,
     number: Option<u64>,
 )
-    requires { length row.old + (length word.now + 22) ≤ ROOM }
-    ensures text { row.new ≡ spaced (number_if_any word.now number) ++ row.old }
+    requires { length line_buffer.old + (length word.now + 22) ≤ ROOM }
+    ensures text { line_buffer.new ≡ spaced (number_if_any word.now number) ++ line_buffer.old }
     ensures short { length (spaced (number_if_any word.now number)) ≤ length word.now + 22 }
 {
     if let Some(number) = number {
-        row.put_number(number);
-        row.put_text(word);
+        line_buffer.put_number(number);
+        line_buffer.put_text(word);
     }
 }
 
-fn put_set_if_any<const ROOM: usize>(row: &mut Row<ROOM>, word: &'static str, nodes: NodeSet)
-    requires { length row.old + (length word.now + 183) ≤ ROOM }
-    ensures text { row.new ≡ spaced (set_if_any word.now nodes) ++ row.old }
+fn put_set_if_any<const ROOM: usize>(line_buffer: &mut LineBuffer<ROOM>, word: &'static str, nodes: NodeSet)
+    requires { length line_buffer.old + (length word.now + 183) ≤ ROOM }
+    ensures text { line_buffer.new ≡ spaced (set_if_any word.now nodes) ++ line_buffer.old }
     ensures short { length (spaced (set_if_any word.now nodes)) ≤ length word.now + 183 }
 {
     if has_any(nodes) {
-        row.put_set(nodes);
-        row.put_text(word);
+        line_buffer.put_set(nodes);
+        line_buffer.put_text(word);
     }
 }
 
 /// Puts a piece before the others, each of its fields with the space before it.
-fn put_field<const ROOM: usize>(row: &mut Row<ROOM>, field: &Field)
-    requires { length row.old + most_bytes field.now ≤ ROOM }
-    ensures text { row.new ≡ spaced (texts_of field.now) ++ row.old }
+fn put_field<const ROOM: usize>(line_buffer: &mut LineBuffer<ROOM>, field: &Field)
+    requires { length line_buffer.old + most_bytes field.now ≤ ROOM }
+    ensures text { line_buffer.new ≡ spaced (texts_of field.now) ++ line_buffer.old }
     ensures short { length (spaced (texts_of field.now)) ≤ most_bytes field.now }
 {
     match *field {
-        Field::Text(text) => row.put_text(text),
-        Field::Number(number) => row.put_number(number),
-        Field::Count(number) => row.put_count(number),
-        Field::Signed(number) => row.put_signed(number),
-        Field::Node(node, inc) => row.put_node(node, inc),
-        Field::Bytes(payload) => row.put_payload(&payload),
-        Field::Set(set) => row.put_set(set),
-        Field::NumberIfAny(word, number) => put_number_if_any(row, word, number),
-        Field::SetIfAny(word, set) => put_set_if_any(row, word, set),
+        Field::Text(text) => line_buffer.put_text(text),
+        Field::Number(number) => line_buffer.put_number(number),
+        Field::Count(number) => line_buffer.put_count(number),
+        Field::Signed(number) => line_buffer.put_signed(number),
+        Field::Node(node, inc) => line_buffer.put_node(node, inc),
+        Field::Bytes(payload) => line_buffer.put_payload(&payload),
+        Field::Set(set) => line_buffer.put_set(set),
+        Field::NumberIfAny(word, number) => put_number_if_any(line_buffer, word, number),
+        Field::SetIfAny(word, set) => put_set_if_any(line_buffer, word, set),
     }
 }
 
@@ -81,15 +81,15 @@ fn write_row<const ROOM: usize, K: Sink>(
     ensures { IsWritten (report.line_of (words.now ∷ flat_map texts_of fields.now)) result
         (K.taken sink.old) (K.taken sink.new) (K.faults sink.old) (K.faults sink.new) }
 {
-    let mut row: Row<ROOM> = Row::new();
-    row.put_bytes(b"\n");
+    let mut line_buffer: LineBuffer<ROOM> = LineBuffer::new();
+    line_buffer.put_bytes(b"\n");
     let mut left = fields.len();
     while left > 0 {
         left -= 1;
-        put_field(&mut row, &fields[left]);
+        put_field(&mut line_buffer, &fields[left]);
     }
-    row.put_bytes(words.as_bytes());
-    write_whole(sink, row.as_slice())
+    line_buffer.put_bytes(words.as_bytes());
+    write_whole(sink, line_buffer.as_slice())
 }
 
 /// Writes a line that begins with these words.
@@ -105,7 +105,7 @@ pub(crate) fn write_line<K: Sink>(
     write_row::<MOST_LINE_BYTES, K>(words, fields, sink)
 }
 
-/// Writes a short line that begins with these words. Lines that a report has many of are short: the bytes of a row are
+/// Writes a short line that begins with these words. Lines that a report has many of are short: the bytes of a line buffer are
 /// cleared before it is filled, which for a long one costs as much as filling it.
 pub(crate) fn write_short_line<K: Sink>(
     words: &'static str,
@@ -126,9 +126,9 @@ pub(crate) fn write_steps<K: Sink>(steps: &[Step], sink: &mut K) -> Result<(), F
     ensures { IsWritten (report.journal_line steps.now) result
         (K.taken sink.old) (K.taken sink.new) (K.faults sink.old) (K.faults sink.new) }
 {
-    let mut row: Row<JOURNAL_LINE_BYTES> = Row::new();
-    row.put_bytes(b"\n");
-    row.put_steps(steps);
-    row.put_bytes(b"journal ");
-    write_whole(sink, row.as_slice())
+    let mut line_buffer: LineBuffer<JOURNAL_LINE_BYTES> = LineBuffer::new();
+    line_buffer.put_bytes(b"\n");
+    line_buffer.put_steps(steps);
+    line_buffer.put_bytes(b"journal ");
+    write_whole(sink, line_buffer.as_slice())
 }

@@ -29,9 +29,9 @@ pub mod SendFacts
 pub mod SignFacts
 pub mod SignLog
 pub mod SignRooms
-pub mod StationFacts
-pub mod StationNodes
-pub mod StationSteps
+pub mod KnowledgeFacts
+pub mod KnowledgeNodes
+pub mod KnowledgeSteps
 pub mod Timers
 pub mod TotcanFacts
 pub mod TurnEntries

@@ -37,7 +37,7 @@ pub mod SignKept
 pub mod SignTops
 pub mod SignWords
 pub mod StartViews
-pub mod StationAges
+pub mod KnowledgeAges
 pub mod Staying
 pub mod Stopped
 pub mod TopFrames

@@ -15,7 +15,7 @@ pub mod Relcan
 pub mod Rooms
 pub mod Sends
 pub mod Site
-pub mod Station
+pub mod Knowledge
 pub mod Totcan
 pub mod Turn
 pub mod Vectors

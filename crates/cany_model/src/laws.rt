@@ -17,7 +17,7 @@ ghost use Rattle.cany_model.specs.Bus.RoundRobin.{round_robin};
 ghost use Rattle.cany_model.specs.Bus.Run.{IsLegal, IsWhole, run};
 ghost use Rattle.cany_model.specs.Bus.State.{node_at, runs};
 ghost use Rattle.cany_model.specs.Promises.Safe.{IsAgreedOn, IsIntegral, IsSafe, IsSignAgreedOn};
-ghost use Rattle.cany_model.specs.Rules.Station.{Sign};
+ghost use Rattle.cany_model.specs.Rules.Knowledge.{FailureSign};
 ghost use Rattle.cany_model.specs.Texts.Replayed.{GivesReportAgain, with_journal};
 ghost use Rattle.cany_model.specs.declared.breaks.Break.{Break};
 ghost use Rattle.cany_base.specs.declared.message.MsgKey.{MsgKey};
@@ -78,7 +78,7 @@ pub fn relcan_agreement()
 pub fn failure_sign_agreement()
     ensures { (scenario : ScenarioParts) (journal : List Step) → scenario.params.nodes ≤ most_nodes
         → IsWithin scenario.params (run scenario journal).trace
-        → (sign : Sign) → IsSignAgreedOn scenario (run scenario journal) sign }
+        → (sign : FailureSign) → IsSignAgreedOn scenario (run scenario journal) sign }
 {}
 
 /// The first break: a run has none exactly if it is within the fault hypothesis. A break stays the first as the run goes

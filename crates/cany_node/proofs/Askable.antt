@@ -19,13 +19,13 @@ use Rattle.cany_base.proofs.ParamsFacts.{few_slots}
 use Rattle.cany_model.specs.Bus.Frames.{Identity, bare, identity_of}
 use Rattle.cany_model.specs.Bus.History.{copies, is_got}
 use Rattle.cany_model.specs.Rules.Effect.{Effect, Ask, Withdraw, Enter}
-use Rattle.cany_model.specs.Rules.Life.{els_frame, signs_sent}
+use Rattle.cany_model.specs.Rules.Life.{els_frame, life_signs_sent}
 use Rattle.cany_model.specs.Rules.Messages.{IsOfMessage, Message, messages_of, data_frame, accept_of_key}
 use Rattle.cany_model.specs.Rules.Notices.{BelongsTo, HasFewSigns, IsDataOf, IsReadable}
 use Rattle.cany_model.specs.Rules.Protocol.{Protocol}
 use Rattle.cany_model.specs.Rules.Relcan.{confirm_frame}
 use Rattle.cany_model.specs.Rules.Rooms.{IsAskable, IsAskableAs, IsOfAsk, IsOfNode}
-use Rattle.cany_model.specs.Rules.Station.{Sign, fda_frame}
+use Rattle.cany_model.specs.Rules.Knowledge.{FailureSign, fda_frame}
 use Rattle.cany_model.specs.Rules.Totcan.{message_in}
 use Rattle.cany_model.specs.Rules.Turn.{protocols, turn_effects}
 use Rattle.cany_model.specs.Rules.Vectors.{cycle_of, rha_of}
@@ -181,15 +181,15 @@ module _ (scenario : ScenarioParts) (past : List NoticeKind) (legal : IsLegalSce
         record { message = m.message; stands = m.stands; sent_by = m.sent_by; number = m.number; origin = m.origin }
 
     -- a failure sign names a node of the bus, and a cycle that has come
-    signal_askable : (sign : Sign) (slot : ℕ) → length past ≡ suc slot → IsKnownBy scenario slot past sign
+    signal_askable : (sign : FailureSign) (slot : ℕ) → length past ≡ suc slot → IsKnownBy scenario slot past sign
         → IsAskable scenario i (identity_of (fda_frame sign))
     signal_askable sign slot now (inl told) =
         let f : FrameParts = told.frame in
         let read = read_in_time scenario past f readable (Among-weaker (λ n. n ≡ Got f) (Has f) (λ n e. inl e) past told.read) in
         let of : IsOfNode scenario scenario.params.cycle (identity_of f) =
         belongs_askable read.0 f class.Fda refl read.1 (subst (λ c. BelongsTo scenario read.0 c f) told.class read.2) in
-        let node : f.node ≡ sign.node = ap (λ (s : Sign). s.node) told.tells in
-        let cycle : f.number ≡ sign.cycle = ap (λ (s : Sign). s.cycle) told.tells in
+        let node : f.node ≡ sign.node = ap (λ (s : FailureSign). s.node) told.tells in
+        let cycle : f.number ≡ sign.cycle = ap (λ (s : FailureSign). s.cycle) told.tells in
         record { node = omega (arith, of.node, node); number = omega (arith, of.number, cycle) }
     signal_askable sign slot now (inr found) =
         record { node = found.node; number = omega (arith, found.cycle, cycle_within slot (omega (arith, now))) }
@@ -222,7 +222,7 @@ module _ (scenario : ScenarioParts) (past : List NoticeKind) (legal : IsLegalSce
     answered_askable c ask (inr leave) asker =
         subst (IsAskableAs scenario i (ask_id c (cycle_of scenario.params ask.slot) i)) (sym leave.0) (scripted_askable scenario.leaves ask c leave.1 asker)
 
-    asked_askable : (f : FrameParts) → signs_sent i past * scenario.params.life ≤ scenario.params.slots → MayAsk scenario i past f
+    asked_askable : (f : FrameParts) → life_signs_sent i past * scenario.params.life ≤ scenario.params.slots → MayAsk scenario i past f
         → IsAskable scenario i (identity_of f)
     asked_askable f few (relays relayed got) = got_askable f got relayed
     asked_askable f few (originates m is origin slot late frame) =
@@ -234,7 +234,7 @@ module _ (scenario : ScenarioParts) (past : List NoticeKind) (legal : IsLegalSce
     asked_askable f few (signals sign slot now known frame) =
         subst (λ g. IsAskable scenario i (identity_of g)) frame (signal_askable sign slot now known)
     asked_askable f few (lives slot now due frame) =
-        let own : IsAskable scenario i (identity_of (els_frame scenario.inc i (signs_sent i past))) = record { node = there; passed = few } in
+        let own : IsAskable scenario i (identity_of (els_frame scenario.inc i (life_signs_sent i past))) = record { node = there; passed = few } in
         subst (λ g. IsAskable scenario i (identity_of g)) frame own
     asked_askable f few (exchanges slot v sends frame) = subst (λ g. IsAskable scenario i (identity_of g)) frame (vector_askable slot sends.now)
     asked_askable f few (requests slot c request frame) = subst (λ g. IsAskable scenario i (identity_of g)) frame (requested_askable slot c request)

@@ -16,7 +16,7 @@ use Rattle.cany_model.specs.Bus.History.{copies, has_own, is_sent}
 use Rattle.cany_model.specs.Rules.Backlog.{is_free, is_past_last, next_after, next_of}
 use Rattle.cany_model.specs.Rules.Effect.{Withdraw}
 use Rattle.cany_model.specs.Rules.Messages.{Message, accept_of_key, data_id, message_key}
-use Rattle.cany_model.specs.Rules.Totcan.{accept_effects, after_place, closing_effects, closing_of, delivered, delivered_now, done, done_at, done_from, holds, is_accepted, is_among as is_one_of, is_clear, is_heard, is_open, is_pending, is_recent, message_in, new_among, tot_delivery, tot_in, tot_of_key, totcan_effects, with_new}
+use Rattle.cany_model.specs.Rules.Totcan.{accept_effects, after_place, closing_effects, closing_of, delivered, delivered_now, done, done_at, done_from, holds, is_accepted, is_among as is_one_of, is_clear, is_heard, can_be_accepted, is_pending, is_recent, message_in, new_among, tot_delivery, tot_in, tot_of_key, totcan_effects, with_new}
 use Rattle.cany_model.proofs.Among.{Each-weaker}
 use Rattle.cany_totcan.specs.declared.queue.Placed.{Placed}
 use Rattle.cany_totcan.specs.Queue.{placed_at, placed_from, placed_in}
@@ -59,7 +59,7 @@ module _ (e : NoticeKind) (only : IsEdcanOnly e) where
     heard_same : (bound : ℕ) (key : MsgKey) → is_heard bound key (e ∷ past) ≡ is_heard bound key (Idle ∷ past)
     unfolding is_heard same_class
     heard_same bound key = λ j.
-        not (no_place key j) && (is_heard bound key past || only.got (accept_of_key key) refl j && is_open bound key past)
+        not (no_place key j) && (is_heard bound key past || only.got (accept_of_key key) refl j && can_be_accepted bound key past)
 
     accepted_same : (bound i : ℕ) (key : MsgKey) → is_accepted bound i key (e ∷ past) ≡ is_accepted bound i key (Idle ∷ past)
     unfolding is_accepted

@@ -15,7 +15,7 @@ use Rattle.cany_model.specs.Rules.Membership.{asks_in}
 use Rattle.cany_model.specs.Rules.Messages.{Message}
 use Rattle.cany_model.specs.Rules.Relcan.{relcan_effects}
 use Rattle.cany_model.specs.Rules.Sends.{send_effects}
-use Rattle.cany_model.specs.Rules.Station.{Station}
+use Rattle.cany_model.specs.Rules.Knowledge.{Knowledge}
 use Rattle.cany_model.specs.Rules.Totcan.{totcan_effects}
 use Rattle.cany_model.specs.Rules.Views.{join_asked, leave_asked}
 use Rattle.cany_model.proofs.Bus.Identities.{same_class-true}
@@ -32,7 +32,7 @@ use Rattle.cany_node.proofs.EdcanFrames.{IsEdcanOnly, edcan_only, relcan_same, r
 use Rattle.cany_node.proofs.EdcanPlaces.{next_same, totcan_same, totcan_unheard}
 use Rattle.cany_node.proofs.SiteRest.{both_none}
 use Rattle.cany_node.proofs.ToldFacts.{turn_told}
-use Rattle.cany_node.proofs.Unheard.{IsUnheard, site_same, site_unheard, station_same, unheard}
+use Rattle.cany_node.proofs.Unheard.{IsUnheard, site_same, site_unheard, knowledge_same, unheard}
 
 -- ---- lists of effects
 
@@ -95,10 +95,10 @@ module _ (scenario : ScenarioParts) (past : List NoticeKind) (e : NoticeKind) (i
   -- ---- so that the frame leads to what EDCAN does
 
   asks_same : asks_plain scenario i read ≡ asks_plain scenario i idle
-  asks_same = ap (λ (st : Station).
+  asks_same = ap (λ (st : Knowledge).
       flat_map (λ ask. join_asked scenario.params 0 i (length past) st.members) (asks_in scenario i (length past) scenario.joins)
       ++ flat_map (λ ask. leave_asked scenario.params 0 i (length past) st.members) (asks_in scenario i (length past) scenario.leaves))
-      (station_same scenario i past e (untold e is))
+      (knowledge_same scenario i past e (untold e is))
 
   script_none : script_effects scenario i read ≡ []
   unfolding send_effects

@@ -16,7 +16,7 @@ use Rattle.cany_model.specs.Rules.Membership.{asks_in}
 use Rattle.cany_model.specs.Rules.Messages.{Message}
 use Rattle.cany_model.specs.Rules.Relcan.{relcan_effects}
 use Rattle.cany_model.specs.Rules.Sends.{send_effects, sendable}
-use Rattle.cany_model.specs.Rules.Site.{station_of}
+use Rattle.cany_model.specs.Rules.Site.{knowledge_of}
 use Rattle.cany_model.specs.Rules.Totcan.{totcan_effects}
 use Rattle.cany_model.specs.Rules.Turn.{turn_effects}
 use Rattle.cany_model.specs.Rules.Views.{join_asked, leave_asked}
@@ -136,7 +136,7 @@ module _ (scenario : ScenarioParts) (past : List NoticeKind) (v : NodeParts) (h 
 
     no_asks : asks_plain scenario i idle ≡ []
     no_asks =
-        let members : Nodes = (station_of scenario i idle).members in
+        let members : Nodes = (knowledge_of scenario i idle).members in
         let join : NodeAsk → List Effect = λ ask. join_asked scenario.params 0 i (length past) members in
         let leave : NodeAsk → List Effect = λ ask. leave_asked scenario.params 0 i (length past) members in
         both_none (flat_map join (asks_in scenario i (length past) scenario.joins)) (flat_map leave (asks_in scenario i (length past) scenario.leaves))

@@ -17,7 +17,7 @@ pub mod IdleTurn
 pub mod LimitFacts
 pub mod MessageLists
 pub mod PassFacts
-pub mod QuietFacts
+pub mod IdleFacts
 pub mod RestFacts
 pub mod ScriptSteps
 pub mod SendFacts

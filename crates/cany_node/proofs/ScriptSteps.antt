@@ -11,7 +11,7 @@ use Rattle.cany_model.specs.Rules.Backlog.{asked, backlog, joins_in}
 use Rattle.cany_model.specs.Rules.Effect.{Effect}
 use Rattle.cany_model.specs.Rules.Membership.{asks_in}
 use Rattle.cany_model.specs.Rules.Sends.{send_effects, sendable}
-use Rattle.cany_model.specs.Rules.Site.{station_of}
+use Rattle.cany_model.specs.Rules.Site.{knowledge_of}
 use Rattle.cany_model.specs.Rules.Views.{join_asked, leave_asked}
 use Rattle.cany_totcan.specs.Totcan.{IsTotcanOf, TotcanParts}
 use Rattle.cany_node.specs.Agenda.{AgendaParts, IsAgendaOf, sent_asks}
@@ -34,7 +34,7 @@ module _ (scenario : ScenarioParts) (past : List NoticeKind) (notice : NoticeKin
   read = notice ∷ past
 
   abbrev members : Nodes
-  members = (station_of scenario v.node (notice ∷ past)).members
+  members = (knowledge_of scenario v.node (notice ∷ past)).members
 
   pub agenda_now : IsAgendaOf scenario v.node slot v.agenda
   agenda_now = subst (λ n. IsAgendaOf scenario v.node n v.agenda) (sym now) heard.agenda

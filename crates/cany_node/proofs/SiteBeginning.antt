@@ -8,11 +8,11 @@ use Rattle.cany_base.specs.Scenario.{ScenarioParts, IsLegalScenario}
 use Rattle.cany_base.proofs.NodesFacts.{has_none}
 use Rattle.cany_model.specs.Bus.Slot.{nobody}
 use Rattle.cany_model.specs.Bus.State.{Incarnation}
-use Rattle.cany_model.specs.Rules.Site.{station_of}
-use Rattle.cany_model.specs.Rules.Station.{Station, station_at_first}
+use Rattle.cany_model.specs.Rules.Site.{knowledge_of}
+use Rattle.cany_model.specs.Rules.Knowledge.{Knowledge, knowledge_at_first}
 use Rattle.cany_model.specs.Rules.Turn.{scenario_for}
 use Rattle.cany_model.proofs.Rules.Begun.{IsBegun}
-use Rattle.cany_model.proofs.Rules.StationFacts.{begun_station}
+use Rattle.cany_model.proofs.Rules.KnowledgeFacts.{begun_knowledge}
 use Rattle.cany_history.specs.History.{HistoryParts, IsHistoryOf}
 use Rattle.cany_life.specs.Life.{IsLifeOf, LifeParts}
 use Rattle.cany_views.specs.Views.{IsViewsOf, ViewsParts}
@@ -23,7 +23,7 @@ nobody_below bound = λ node is. absurd (false≢true (sym (has_none node) ∙ i
 
 -- at the node of the opening nobody has failed, and it has the members of the scenario
 pub site_opens : (scenario : ScenarioParts) (i : ℕ) (v : SiteParts) → IsSiteAtRest scenario i v → IsSiteOf scenario i [] v
-unfolding station_of
+unfolding knowledge_of
 site_opens scenario i v rest = record {
   params = rest.params;
   failed = nobody_below scenario.params.nodes;
@@ -35,9 +35,9 @@ site_opens scenario i v rest = record {
 -- ---- in the scenario as an incarnation follows it
 
 -- a value of life signs and failure signs stands for the same
-life_for : (scenario : ScenarioParts) (inc : Incarnation) (i : ℕ) (past : List NoticeKind) (station : Station) (v : LifeParts)
-    → IsLegalScenario (scenario_for scenario inc) → IsLifeOf scenario i past station v → IsLifeOf (scenario_for scenario inc) i past station v
-life_for scenario inc i past station v legal h = record {
+life_for : (scenario : ScenarioParts) (inc : Incarnation) (i : ℕ) (past : List NoticeKind) (knowledge : Knowledge) (v : LifeParts)
+    → IsLegalScenario (scenario_for scenario inc) → IsLifeOf scenario i past knowledge v → IsLifeOf (scenario_for scenario inc) i past knowledge v
+life_for scenario inc i past knowledge v legal h = record {
   legal = legal;
   node = h.node;
   params = h.params;
@@ -75,9 +75,9 @@ history_for scenario inc i past v legal h = record {
 }
 
 -- and so does one of the view
-views_for : (scenario : ScenarioParts) (inc : Incarnation) (i : ℕ) (station : Station) (v : ViewsParts)
-    → IsLegalScenario (scenario_for scenario inc) → IsViewsOf scenario i station v → IsViewsOf (scenario_for scenario inc) i station v
-views_for scenario inc i station v legal h = record {
+views_for : (scenario : ScenarioParts) (inc : Incarnation) (i : ℕ) (knowledge : Knowledge) (v : ViewsParts)
+    → IsLegalScenario (scenario_for scenario inc) → IsViewsOf scenario i knowledge v → IsViewsOf (scenario_for scenario inc) i knowledge v
+views_for scenario inc i knowledge v legal h = record {
   legal = legal;
   node = h.node;
   params = h.params;
@@ -95,8 +95,8 @@ views_for scenario inc i station v legal h = record {
 pub record IsOutside (old new : SiteParts) : Type 0 where
   pub life : new.life ≡ old.life
   pub history : new.history ≡ old.history
-  pub views : (scenario : ScenarioParts) (station : Station) → IsViewsOf scenario old.views.node station old.views
-      → IsViewsOf scenario old.views.node (station_at_first nobody) new.views
+  pub views : (scenario : ScenarioParts) (knowledge : Knowledge) → IsViewsOf scenario old.views.node knowledge old.views
+      → IsViewsOf scenario old.views.node (knowledge_at_first nobody) new.views
   pub params : new.params ≡ old.params
 
 -- it knows nothing of the site
@@ -106,15 +106,15 @@ pub site_begins : (scenario : ScenarioParts) (inc : Incarnation) (i n : ℕ) (ol
     → IsSiteOf (scenario_for scenario inc) i (replicate n Idle) new
 site_begins scenario inc i n old new rest became legal outside begun = record {
   params = became.params ∙ rest.params;
-  failed = subst (λ (st : Station). AllBelow scenario.params.nodes st.failed) (sym known) (nobody_below scenario.params.nodes);
+  failed = subst (λ (st : Knowledge). AllBelow scenario.params.nodes st.failed) (sym known) (nobody_below scenario.params.nodes);
   life = subst (λ st. IsLifeOf followed i past st new.life) (sym known)
-      (subst (IsLifeOf followed i past (station_at_first nobody)) (sym became.life)
-      (life_for scenario inc i past (station_at_first nobody) old.life legal (rest.life n nobody)));
-  history = subst (λ (st : Station). IsHistoryOf followed i past st.vector new.history) (sym known)
+      (subst (IsLifeOf followed i past (knowledge_at_first nobody)) (sym became.life)
+      (life_for scenario inc i past (knowledge_at_first nobody) old.life legal (rest.life n nobody)));
+  history = subst (λ (st : Knowledge). IsHistoryOf followed i past st.vector new.history) (sym known)
       (subst (IsHistoryOf followed i past None) (sym became.history)
       (history_for scenario inc i past old.history legal (rest.history n)));
   views = subst (λ st. IsViewsOf followed i st new.views) (sym known)
-      (views_for scenario inc i (station_at_first nobody) new.views legal seen);
+      (views_for scenario inc i (knowledge_at_first nobody) new.views legal seen);
 }
   where
     followed : ScenarioParts
@@ -123,10 +123,10 @@ site_begins scenario inc i n old new rest became legal outside begun = record {
     past : List NoticeKind
     past = replicate n Idle
 
-    known : station_of followed i past ≡ station_at_first nobody
-    known = begun_station followed i past begun ∙ ap station_at_first outside
+    known : knowledge_of followed i past ≡ knowledge_at_first nobody
+    known = begun_knowledge followed i past begun ∙ ap knowledge_at_first outside
 
-    seen : IsViewsOf scenario i (station_at_first nobody) new.views
-    seen = subst (λ k. IsViewsOf scenario k (station_at_first nobody) new.views) rest.views.node
-        (became.views scenario (station_at_first scenario.members)
-        (subst (λ k. IsViewsOf scenario k (station_at_first scenario.members) old.views) (sym rest.views.node) rest.views))
+    seen : IsViewsOf scenario i (knowledge_at_first nobody) new.views
+    seen = subst (λ k. IsViewsOf scenario k (knowledge_at_first nobody) new.views) rest.views.node
+        (became.views scenario (knowledge_at_first scenario.members)
+        (subst (λ k. IsViewsOf scenario k (knowledge_at_first scenario.members) old.views) (sym rest.views.node) rest.views))

@@ -16,13 +16,13 @@ use Rattle.cany_life.specs.Life as life
 use Rattle.cany_life.specs.Life.{IsLifeOf, LifeParts}
 use Rattle.cany_model.specs.Rules.Actions.{action_of, actions_of}
 use Rattle.cany_model.specs.Rules.Effect.{Effect}
-use Rattle.cany_model.specs.Rules.Life.{failure_effects, failures_at, life_sign, signs_sent}
+use Rattle.cany_model.specs.Rules.Life.{failure_effects, failures_at, life_sign, life_signs_sent}
 use Rattle.cany_model.specs.Rules.Membership.{install_effects}
-use Rattle.cany_model.specs.Rules.Site.{after_notice, ended_in, having_installed, start_in, station_of}
-use Rattle.cany_model.specs.Rules.Station.{Station, having_admitted, having_found, with_members}
+use Rattle.cany_model.specs.Rules.Site.{after_notice, ended_in, after_installing, start_in, knowledge_of}
+use Rattle.cany_model.specs.Rules.Knowledge.{Knowledge, after_admitting, after_finding, with_members}
 use Rattle.cany_model.specs.Rules.Vectors.{after_exchange, exchange_at, is_start}
 use Rattle.cany_model.specs.Rules.Views.{after_ask, minus, start_of, view_effects, with_ended, with_view}
-use Rattle.cany_model.proofs.Rules.VectorFacts.{station_vector}
+use Rattle.cany_model.proofs.Rules.VectorFacts.{knowledge_vector}
 use Rattle.cany_views.specs.Views.{IsViewsOf, ViewsParts}
 use Rattle.cany_views.proofs.SetFacts.{below_minus}
 use Rattle.cany_node.specs.Site.{Exchanges, HasKnown, IsNextOf, IsSiteOf, KnowsOf, SiteParts, ended_as, exchange_plain, life_plain, met_by, site_effects}
@@ -32,10 +32,10 @@ use Rattle.cany_node.proofs.SiteFacts.{asked_members, ended_none, ended_vector, 
 
 module _ (scenario : ScenarioParts) (i : ℕ) (past : List NoticeKind) (notice : Notice) (v : SiteParts) (h : IsSiteOf scenario i past v)
     (next : IsNextOf scenario i past notice) where
-  abbrev before : Station
-  before = station_of scenario i past
+  abbrev before : Knowledge
+  before = knowledge_of scenario i past
 
-  pub life_stands : IsLifeOf scenario v.life.node past (station_of scenario i past) v.life
+  pub life_stands : IsLifeOf scenario v.life.node past (knowledge_of scenario i past) v.life
   life_stands = subst (λ n. IsLifeOf scenario n past before v.life) (sym h.life.node) h.life
 
   pub life_next : life.IsNextAt scenario v.life.node past notice
@@ -43,35 +43,35 @@ module _ (scenario : ScenarioParts) (i : ℕ) (past : List NoticeKind) (notice :
       let here : life.IsNextAt scenario i past notice = record { next = next.next; few = next.few } in
       subst (λ n. life.IsNextAt scenario n past notice) (sym h.life.node) here
 
-  pub views_stand : IsViewsOf scenario v.views.node (station_of scenario i past) v.views
+  pub views_stand : IsViewsOf scenario v.views.node (knowledge_of scenario i past) v.views
   views_stand = subst (λ n. IsViewsOf scenario n before v.views) (sym h.views.node) h.views
 
   -- the views have heard who asks, and these are the members
-  module _ (views : ViewsParts) (heard : IsViewsOf scenario v.views.node (after_ask notice.kind (station_of scenario i past)) views)
+  module _ (views : ViewsParts) (heard : IsViewsOf scenario v.views.node (after_ask notice.kind (knowledge_of scenario i past)) views)
       (members : Nodes) (are : members ≡ views.members) where
     own_members : with_members members before ≡ before
     own_members = ap (λ m. with_members m before) (are ∙ heard.members ∙ asked_members notice.kind before)
 
     pub failures_listed : (old new : List Action)
         → new ≡ old ++ actions_of scenario.params.format
-        (failures_at scenario.params v.life.node notice.kind past (with_members members (station_of scenario i past)))
+        (failures_at scenario.params v.life.node notice.kind past (with_members members (knowledge_of scenario i past)))
         → new ≡ old ++ actions_of scenario.params.format (failure_effects scenario i (notice.kind ∷ past))
     unfolding failure_effects
     failures_listed old new acts =
-        let listed : ℕ → Station → List Action =
+        let listed : ℕ → Knowledge → List Action =
         λ n st. old ++ actions_of scenario.params.format (failures_at scenario.params n notice.kind past st) in
         acts ∙ ap (λ n. listed n (with_members members before)) h.life.node ∙ ap (listed i) own_members
 
     -- life has heard the notice too, and so knows all that it tells but the vector
     pub all_heard : (heard_life : LifeParts)
         → IsLifeOf scenario v.life.node (notice.kind ∷ past)
-        (having_found scenario.params v.life.node (length past) notice.kind (with_members members (station_of scenario i past))) heard_life
+        (after_finding scenario.params v.life.node (length past) notice.kind (with_members members (knowledge_of scenario i past))) heard_life
         → Exchanges scenario i past notice (record { params = v.params; life = heard_life; history = v.history; views = views })
     all_heard heard_life found =
         let p : Parameters = scenario.params in
         let slot : ℕ = length past in
         let read : List NoticeKind = notice.kind ∷ past in
-        let stands : ℕ → Station → Type 0 = λ n st. IsLifeOf scenario n read (having_found p n slot notice.kind st) heard_life in
+        let stands : ℕ → Knowledge → Type 0 = λ n st. IsLifeOf scenario n read (after_finding p n slot notice.kind st) heard_life in
         let known = subst (stands i) own_members (subst (λ n. stands n (with_members members before)) h.life.node found) in
         let seen = subst (λ n. IsViewsOf scenario n (after_ask notice.kind before) views) h.views.node heard in
         record {
@@ -80,7 +80,7 @@ module _ (scenario : ScenarioParts) (i : ℕ) (past : List NoticeKind) (notice :
             failed =
                 subst (AllBelow p.nodes) (met_life p i slot notice.kind before).failed
                 (found_failed scenario i slot notice.kind before notice.slot next.next.readable h.failed);
-            life = life_moved scenario i (having_found p i slot notice.kind before) (met_by scenario i notice past) read heard_life
+            life = life_moved scenario i (after_finding p i slot notice.kind before) (met_by scenario i notice past) read heard_life
                 (met_life p i slot notice.kind before) known;
             views = views_moved scenario i (after_ask notice.kind before) (met_by scenario i notice past) views
                 (met_views p i slot notice.kind before) seen;
@@ -93,13 +93,13 @@ module _ (scenario : ScenarioParts) (i : ℕ) (past : List NoticeKind) (notice :
 
 module _ (scenario : ScenarioParts) (i : ℕ) (past : List NoticeKind) (notice : Notice) (v : SiteParts)
     (h : Exchanges scenario i past notice v) where
-  abbrev known : Station
-  known = station_of scenario i past
+  abbrev known : Knowledge
+  known = knowledge_of scenario i past
 
-  pub history_stands : IsHistoryOf scenario v.history.node past (station_of scenario i past).vector v.history
+  pub history_stands : IsHistoryOf scenario v.history.node past (knowledge_of scenario i past).vector v.history
   history_stands = subst (λ n. IsHistoryOf scenario n past known.vector v.history) (sym h.history.node) h.history
 
-  pub history_next : history.IsNextAt scenario v.history.node past (station_of scenario i past).vector notice
+  pub history_next : history.IsNextAt scenario v.history.node past (knowledge_of scenario i past).vector notice
   history_next =
       let here : history.IsNextAt scenario i past known.vector notice = record { next = h.next.next; vector = h.next.vector } in
       subst (λ n. history.IsNextAt scenario n past known.vector notice) (sym h.history.node) here
@@ -115,7 +115,7 @@ module _ (scenario : ScenarioParts) (i : ℕ) (past : List NoticeKind) (notice :
 
     pub exchange_listed : (old new : List Action)
         → new ≡ old ++ actions_of scenario.params.format
-        (exchange_at scenario.params 0 v.history.node notice.kind past (station_of scenario i past).vector start)
+        (exchange_at scenario.params 0 v.history.node notice.kind past (knowledge_of scenario i past).vector start)
         → new ≡ old ++ actions_of scenario.params.format (exchange_plain scenario i (notice.kind ∷ past))
     exchange_listed old new acts =
         let listed : ℕ → Option Nodes → List Action =
@@ -124,30 +124,30 @@ module _ (scenario : ScenarioParts) (i : ℕ) (past : List NoticeKind) (notice :
 
     pub exchanged : (new : HistoryParts)
         → IsHistoryOf scenario v.history.node (notice.kind ∷ past)
-        (after_exchange scenario.params (length past) notice.kind start (station_of scenario i past).vector) new
-        → IsHistoryOf scenario i (notice.kind ∷ past) (station_of scenario i (notice.kind ∷ past)).vector new
+        (after_exchange scenario.params (length past) notice.kind start (knowledge_of scenario i past).vector) new
+        → IsHistoryOf scenario i (notice.kind ∷ past) (knowledge_of scenario i (notice.kind ∷ past)).vector new
     exchanged new stands =
         let read : List NoticeKind = notice.kind ∷ past in
         let after : Option Nodes → Option Nodes = λ s. after_exchange scenario.params (length past) notice.kind s known.vector in
         let here = subst (λ n. IsHistoryOf scenario n read (after start) new) h.history.node stands in
-        subst (λ own. IsHistoryOf scenario i read own new) (ap after start_is ∙ sym (station_vector scenario i notice.kind past)) here
+        subst (λ own. IsHistoryOf scenario i read own new) (ap after start_is ∙ sym (knowledge_vector scenario i notice.kind past)) here
 
 -- ---- the end of a cycle
 
-module _ (scenario : ScenarioParts) (i : ℕ) (past : List NoticeKind) (station : Station) (v : SiteParts)
-    (h : KnowsOf scenario i past station v) where
-  pub known_life : IsLifeOf scenario v.life.node past station v.life
-  known_life = subst (λ n. IsLifeOf scenario n past station v.life) (sym h.life.node) h.life
+module _ (scenario : ScenarioParts) (i : ℕ) (past : List NoticeKind) (knowledge : Knowledge) (v : SiteParts)
+    (h : KnowsOf scenario i past knowledge v) where
+  pub known_life : IsLifeOf scenario v.life.node past knowledge v.life
+  known_life = subst (λ n. IsLifeOf scenario n past knowledge v.life) (sym h.life.node) h.life
 
-  pub known_views : IsViewsOf scenario v.views.node station v.views
-  known_views = subst (λ n. IsViewsOf scenario n station v.views) (sym h.views.node) h.views
+  pub known_views : IsViewsOf scenario v.views.node knowledge v.views
+  known_views = subst (λ n. IsViewsOf scenario n knowledge v.views) (sym h.views.node) h.views
 
   module _ (slot : ℕ) (vector : Option Nodes) where
     -- none ended
-    pub none_installed : None ≡ ended_as scenario.params slot vector → KnowsOf scenario i past (with_ended i slot vector station) v
+    pub none_installed : None ≡ ended_as scenario.params slot vector → KnowsOf scenario i past (with_ended i slot vector knowledge) v
     unfolding with_ended
     none_installed is =
-        subst (λ o. KnowsOf scenario i past (with_ended i slot o station) v) (sym (ended_none scenario.params slot vector is)) h
+        subst (λ o. KnowsOf scenario i past (with_ended i slot o knowledge) v) (sym (ended_none scenario.params slot vector is)) h
 
     pub none_listed : (old : List Action) → None ≡ ended_as scenario.params slot vector
         → old ≡ old ++ actions_of scenario.params.format (view_effects scenario.params scenario.joins scenario.leaves i slot vector)
@@ -159,24 +159,24 @@ module _ (scenario : ScenarioParts) (i : ℕ) (past : List NoticeKind) (station 
     -- one ended with this vector
     module _ (e : Ended) (is : Some e ≡ ended_as scenario.params slot vector) where
       pub view_installed : (newly : Nodes) (life : LifeParts) (views : ViewsParts) → newly ≡ minus e.vector v.views.members
-          → IsLifeOf scenario v.life.node past (having_admitted v.life.node slot newly station) life
-          → IsViewsOf scenario v.views.node (with_view v.views.node slot e.vector station) views
-          → KnowsOf scenario i past (with_ended i slot vector station)
+          → IsLifeOf scenario v.life.node past (after_admitting v.life.node slot newly knowledge) life
+          → IsViewsOf scenario v.views.node (with_view v.views.node slot e.vector knowledge) views
+          → KnowsOf scenario i past (with_ended i slot vector knowledge)
           (record { params = v.params; life = life; history = v.history; views = views })
       unfolding with_ended
       view_installed newly life views new admitted seen =
-          let admits : Nodes = minus e.vector station.members in
-          let stands : ℕ → Nodes → Type 0 = λ n nodes. IsLifeOf scenario n past (having_admitted n slot nodes station) life in
+          let admits : Nodes = minus e.vector knowledge.members in
+          let stands : ℕ → Nodes → Type 0 = λ n nodes. IsLifeOf scenario n past (after_admitting n slot nodes knowledge) life in
           let here = subst (λ n. stands n newly) h.life.node admitted in
           let lives = subst (stands i) (new ∙ ap (minus e.vector) h.views.members) here in
-          let sees = subst (λ n. IsViewsOf scenario n (with_view n slot e.vector station) views) h.views.node seen in
-          subst (λ o. KnowsOf scenario i past (with_ended i slot o station)
+          let sees = subst (λ n. IsViewsOf scenario n (with_view n slot e.vector knowledge) views) h.views.node seen in
+          subst (λ o. KnowsOf scenario i past (with_ended i slot o knowledge)
           (record { params = v.params; life = life; history = v.history; views = views }))
           (sym (ended_vector scenario.params slot vector e is))
           (record {
             params = h.params;
-            failed = below_minus scenario.params.nodes station.failed admits h.failed;
-            life = life_moved scenario i (having_admitted i slot admits station) (with_view i slot e.vector station) past life
+            failed = below_minus scenario.params.nodes knowledge.failed admits h.failed;
+            life = life_moved scenario i (after_admitting i slot admits knowledge) (with_view i slot e.vector knowledge) past life
                 (record { failed = refl; signs = refl; shown = λ r. refl; last = refl }) lives;
             views = sees;
           })
@@ -196,12 +196,12 @@ module _ (scenario : ScenarioParts) (i : ℕ) (past : List NoticeKind) (notice :
   abbrev heard : List NoticeKind
   heard = notice.kind ∷ past
 
-  pub has_known : (station : Station) (v : SiteParts) → KnowsOf scenario i (notice.kind ∷ past) station v → HasKnown v notice.slot
-  has_known station v knows = record {
+  pub has_known : (knowledge : Knowledge) (v : SiteParts) → KnowsOf scenario i (notice.kind ∷ past) knowledge v → HasKnown v notice.slot
+  has_known knowledge v knows = record {
     scenario = scenario;
     node = i;
     past = heard;
-    station = station;
+    knowledge = knowledge;
     knows = knows;
     within = next.next.within;
     newest = omega (arith, next.next.slot);
@@ -215,19 +215,19 @@ module _ (scenario : ScenarioParts) (i : ℕ) (past : List NoticeKind) (notice :
       (record { params = h.knows.params; failed = h.knows.failed; life = h.knows.life; views = h.knows.views })
 
   pub ended_now : (result : Option Ended)
-      → result ≡ ended_as scenario.params (length past) (ended_in scenario.params (length past) notice.kind (station_of scenario i past))
-      → result ≡ ended_as scenario.params notice.slot (ended_in scenario.params (length past) notice.kind (station_of scenario i past))
+      → result ≡ ended_as scenario.params (length past) (ended_in scenario.params (length past) notice.kind (knowledge_of scenario i past))
+      → result ≡ ended_as scenario.params notice.slot (ended_in scenario.params (length past) notice.kind (knowledge_of scenario i past))
   ended_now result is =
-      let ended : Option Nodes = ended_in scenario.params (length past) notice.kind (station_of scenario i past) in
+      let ended : Option Nodes = ended_in scenario.params (length past) notice.kind (knowledge_of scenario i past) in
       is ∙ ap (λ slot. ended_as scenario.params slot ended) (sym next.next.slot)
 
   -- what ended is installed, and what the node starts with is a matter of its vector alone
   known_started : (v : SiteParts)
-      → KnowsOf scenario i heard (having_installed scenario.params i (length past) notice.kind (station_of scenario i past)) v
-      → KnowsOf scenario i heard (station_of scenario i heard) v
-  unfolding station_of after_notice
+      → KnowsOf scenario i heard (after_installing scenario.params i (length past) notice.kind (knowledge_of scenario i past)) v
+      → KnowsOf scenario i heard (knowledge_of scenario i heard) v
+  unfolding knowledge_of after_notice
   known_started v h =
-      let st : Station = having_installed scenario.params i (length past) notice.kind (station_of scenario i past) in
+      let st : Knowledge = after_installing scenario.params i (length past) notice.kind (knowledge_of scenario i past) in
       cond_both (is_start scenario.params (length past)) (record st { vector = start_of i st }) st (λ s. KnowsOf scenario i heard s v)
       (λ _. knows_moved scenario i st (record st { vector = start_of i st }) heard v
       (record { failed = refl; signs = refl; shown = λ r. refl; last = refl })
@@ -236,11 +236,11 @@ module _ (scenario : ScenarioParts) (i : ℕ) (past : List NoticeKind) (notice :
 
   pub known_installed : (v : SiteParts)
       → KnowsOf scenario i (notice.kind ∷ past)
-      (with_ended i notice.slot (ended_in scenario.params (length past) notice.kind (station_of scenario i past))
+      (with_ended i notice.slot (ended_in scenario.params (length past) notice.kind (knowledge_of scenario i past))
       (met_by scenario i notice past)) v
-      → KnowsOf scenario i (notice.kind ∷ past) (station_of scenario i (notice.kind ∷ past)) v
+      → KnowsOf scenario i (notice.kind ∷ past) (knowledge_of scenario i (notice.kind ∷ past)) v
   known_installed v h =
-      let ended : Option Nodes = ended_in scenario.params (length past) notice.kind (station_of scenario i past) in
+      let ended : Option Nodes = ended_in scenario.params (length past) notice.kind (knowledge_of scenario i past) in
       known_started v
       (subst (λ slot. KnowsOf scenario i heard (with_ended i slot ended (met_by scenario i notice past)) v) next.next.slot h)
 
@@ -262,23 +262,23 @@ module _ (scenario : ScenarioParts) (i : ℕ) (past : List NoticeKind) (notice :
       → c ≡ b ++ actions_of scenario.params.format (exchange_plain scenario i (notice.kind ∷ past))
       → d ≡ c ++ actions_of scenario.params.format
       (view_effects scenario.params scenario.joins scenario.leaves i notice.slot
-      (ended_in scenario.params (length past) notice.kind (station_of scenario i past)))
+      (ended_in scenario.params (length past) notice.kind (knowledge_of scenario i past)))
       → e ≡ d ++ actions_of scenario.params.format
-      (life_sign scenario.params.life 0 i notice.slot (station_of scenario i (notice.kind ∷ past)) (signs_sent i (notice.kind ∷ past)))
+      (life_sign scenario.params.life 0 i notice.slot (knowledge_of scenario i (notice.kind ∷ past)) (life_signs_sent i (notice.kind ∷ past)))
       → e ≡ a ++ actions_of scenario.params.format (site_effects scenario i (notice.kind ∷ past))
   unfolding install_effects
   all_listed a b c d e is_b is_c is_d is_e =
       let format : Format = scenario.params.format in
-      let ended : Option Nodes = ended_in scenario.params (length past) notice.kind (station_of scenario i past) in
+      let ended : Option Nodes = ended_in scenario.params (length past) notice.kind (knowledge_of scenario i past) in
       let views : ℕ → List Effect = λ slot. view_effects scenario.params scenario.joins scenario.leaves i slot ended in
-      let sign : ℕ → List Effect = λ slot. life_sign scenario.params.life 0 i slot (station_of scenario i heard) (signs_sent i heard) in
+      let sign : ℕ → List Effect = λ slot. life_sign scenario.params.life 0 i slot (knowledge_of scenario i heard) (life_signs_sent i heard) in
       four_listed format a b c d e (failure_effects scenario i heard) (exchange_plain scenario i heard) (install_effects scenario i heard)
       (life_plain scenario i heard) is_b is_c (is_d ∙ ap (λ slot. c ++ actions_of format (views slot)) next.next.slot)
       (is_e ∙ ap (λ slot. d ++ actions_of format (sign slot)) next.next.slot)
 
   -- the value stands for the notice too
-  pub site_stands : (v : SiteParts) → KnowsOf scenario i (notice.kind ∷ past) (station_of scenario i (notice.kind ∷ past)) v
-      → IsHistoryOf scenario i (notice.kind ∷ past) (station_of scenario i (notice.kind ∷ past)).vector v.history
+  pub site_stands : (v : SiteParts) → KnowsOf scenario i (notice.kind ∷ past) (knowledge_of scenario i (notice.kind ∷ past)) v
+      → IsHistoryOf scenario i (notice.kind ∷ past) (knowledge_of scenario i (notice.kind ∷ past)).vector v.history
       → IsSiteOf scenario i (notice.kind ∷ past) v
   site_stands v knows history = record {
     params = knows.params;

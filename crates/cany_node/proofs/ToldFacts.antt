@@ -15,13 +15,13 @@ use Rattle.cany_base.specs.Scenario.{ScenarioParts}
 use Rattle.cany_model.specs.Rules.Backlog.{backlog_effects, tot_backlog}
 use Rattle.cany_model.specs.Rules.Edcan.{edcan, edcan_effects}
 use Rattle.cany_model.specs.Rules.Effect.{Effect, Ask, Withdraw, Enter, entered}
-use Rattle.cany_model.specs.Rules.Life.{els_frame, failure_effects, failure_signs, is_due, life_effects, life_sign, signs_sent}
+use Rattle.cany_model.specs.Rules.Life.{els_frame, failure_effects, failure_signs, is_due, life_effects, life_sign, life_signs_sent}
 use Rattle.cany_model.specs.Rules.Membership.{ask_effects, asks_in, exchange_effects, install_effects, views}
 use Rattle.cany_model.specs.Rules.Messages.{data_frame}
 use Rattle.cany_model.specs.Rules.Protocol.{Protocol}
 use Rattle.cany_model.specs.Rules.Relcan.{relcan, relcan_effects}
 use Rattle.cany_model.specs.Rules.Sends.{scripted_sends, send_effects}
-use Rattle.cany_model.specs.Rules.Site.{start_in, station_of}
+use Rattle.cany_model.specs.Rules.Site.{start_in, knowledge_of}
 use Rattle.cany_model.specs.Rules.Totcan.{totcan, totcan_effects}
 use Rattle.cany_model.specs.Rules.Turn.{turn_effects}
 use Rattle.cany_model.specs.Rules.Vectors.{brought, cycle_of, end_effects, ended, exchange_at, is_covered, is_new, is_start, met, met_with, rha_frame, rha_of, start_effects, vector_effects}
@@ -35,7 +35,7 @@ use Rattle.cany_model.proofs.Rules.SendFacts.{sends_are_lawful}
 use Rattle.cany_model.proofs.Rules.TotcanFacts.{totcan_is_lawful}
 use Rattle.cany_model.proofs.Rules.ViewFacts.{views_are_lawful}
 use Rattle.cany_model.proofs.Among.{count-cons}
-use Rattle.cany_model.specs.Rules.Station.{Station}
+use Rattle.cany_model.specs.Rules.Knowledge.{Knowledge}
 use Rattle.cany_node.specs.Apply.{NamesAskable, all_told, asks_sign}
 use Rattle.cany_node.specs.Site.{exchange_plain, life_plain, site_effects}
 use Rattle.cany_node.specs.Telling.{told_effect, with_incarnation}
@@ -143,7 +143,7 @@ exchange_told p inc i notice before old start =
     (end_told p inc i slot (ended p slot (met p old (brought p slot notice))))
     ∙ ap (λ es. (vector_effects p inc i slot (notice ∷ before) old (brought p slot notice) ++ b) ++ es) (start_told p inc i slot start)
 
-life_told : (inc life i slot : ℕ) (st : Station) (sent : ℕ) → all_told inc (life_sign life 0 i slot st sent) ≡ life_sign life inc i slot st sent
+life_told : (inc life i slot : ℕ) (st : Knowledge) (sent : ℕ) → all_told inc (life_sign life 0 i slot st sent) ≡ life_sign life inc i slot st sent
 life_told inc life i slot st sent = told_if inc (is_due life i slot st) (Ask (els_frame 0 i sent) ∷ []) []
 
 -- each ask of a slot asks for the same frame
@@ -172,18 +172,18 @@ module _ (scenario : ScenarioParts) (i : ℕ) (notice : NoticeKind) (before : Li
   vectors_told : told (exchange_plain scenario i past) ≡ exchange_effects scenario i past
   unfolding exchange_effects
   vectors_told =
-      exchange_told scenario.params scenario.inc i notice before (station_of scenario i before).vector
-      (start_in scenario.params i (length before) notice (station_of scenario i before))
+      exchange_told scenario.params scenario.inc i notice before (knowledge_of scenario i before).vector
+      (start_in scenario.params i (length before) notice (knowledge_of scenario i before))
 
   signs_told : told (life_plain scenario i past) ≡ life_effects scenario i past
   unfolding life_effects
-  signs_told = life_told scenario.inc scenario.params.life i (length before) (station_of scenario i past) (signs_sent i past)
+  signs_told = life_told scenario.inc scenario.params.life i (length before) (knowledge_of scenario i past) (life_signs_sent i past)
 
   asks_told : told (asks_plain scenario i past) ≡ ask_effects scenario i past
   unfolding ask_effects
   asks_told =
       let p : Parameters = scenario.params in
-      let members : Nodes = (station_of scenario i past).members in
+      let members : Nodes = (knowledge_of scenario i past).members in
       let joins : List NodeAsk = asks_in scenario i (length before) scenario.joins in
       let leaves : List NodeAsk = asks_in scenario i (length before) scenario.leaves in
       told_append scenario.inc (flat_map (λ ask. join_asked p 0 i (length before) members) joins) (flat_map (λ ask. leave_asked p 0 i (length before) members) leaves)

@@ -18,10 +18,10 @@ use Rattle.cany_life.specs.Life.{IsLifeOf, LifeParts}
 use Rattle.cany_model.specs.Bus.Frames.{same_class, same_identity}
 use Rattle.cany_model.specs.Bus.History.{copies, is_got}
 use Rattle.cany_model.specs.Rules.Effect.{Ask, Enter}
-use Rattle.cany_model.specs.Rules.Life.{failure_effects, failures_at, fda_copy_effects, is_own_sign, life_sign, sign_effects, signs_sent}
+use Rattle.cany_model.specs.Rules.Life.{failure_effects, failures_at, fda_copy_effects, is_own_sign, life_sign, sign_effects, life_signs_sent}
 use Rattle.cany_model.specs.Rules.Membership.{install_effects}
-use Rattle.cany_model.specs.Rules.Site.{after_notice, ended_in, having_asked, having_installed, met_in, start_in, station_of}
-use Rattle.cany_model.specs.Rules.Station.{Sign, Station, after_life, fda_frame, fda_of, found, found_in, having_found, having_learnt, shows_life, told, told_in, with_signs}
+use Rattle.cany_model.specs.Rules.Site.{after_notice, ended_in, after_asking, after_installing, met_in, start_in, knowledge_of}
+use Rattle.cany_model.specs.Rules.Knowledge.{FailureSign, Knowledge, after_life, fda_frame, fda_of, found, found_in, after_finding, after_learning, shows_life, told, told_in, with_signs}
 use Rattle.cany_model.specs.Rules.Vectors.{brought, end_effects, ended, exchange_at, is_exchange, is_just, is_start, is_vector_got, is_vector_sent, met, start_effects, vector_effects, vector_in}
 use Rattle.cany_model.specs.Rules.Views.{after_ask, start_of, view_effects, with_ended}
 use Rattle.cany_model.proofs.Among.{count-no}
@@ -54,12 +54,12 @@ neither false = refl
 
 -- nobody who shows life, no sign, no ask and no vector
 pub record IsUnheard (e : NoticeKind) : Type 0 where
-  pub life : (i slot : ℕ) (st : Station) → after_life i slot e st ≡ st
-  pub sign : (st : Station) → told e st ≡ []
+  pub life : (i slot : ℕ) (st : Knowledge) → after_life i slot e st ≡ st
+  pub sign : (st : Knowledge) → told e st ≡ []
   pub copy : (omit : ℕ) (past : List NoticeKind) → fda_copy_effects omit e past ≡ []
-  pub counted : (sign : Sign) → is_got (fda_of sign) e ≡ false
+  pub counted : (sign : FailureSign) → is_got (fda_of sign) e ≡ false
   pub own : (i : ℕ) → is_own_sign i e ≡ false
-  pub ask : (st : Station) → after_ask e st ≡ st
+  pub ask : (st : Knowledge) → after_ask e st ≡ st
   pub vector : (p : Parameters) (slot : ℕ) → brought p slot e ≡ None
   pub read : (format : Format) (cycle i : ℕ) → vector_read format cycle i e ≡ None
   pub got : (format : Format) (cycle : ℕ) (v : Nodes) → is_vector_got format cycle v e ≡ false
@@ -139,8 +139,8 @@ unheard Bad other = record {
 
 -- ---- what the node knows after each step
 
-module _ (p : Parameters) (i slot : ℕ) (e : NoticeKind) (u : IsUnheard e) (st : Station) where
-  learnt_same : having_learnt i slot e st ≡ having_learnt i slot Idle st
+module _ (p : Parameters) (i slot : ℕ) (e : NoticeKind) (u : IsUnheard e) (st : Knowledge) where
+  learnt_same : after_learning i slot e st ≡ after_learning i slot Idle st
   unfolding after_life told
   learnt_same = λ j. with_signs (u.sign (after_life i slot e st) j) (u.life i slot st j)
 
@@ -151,12 +151,12 @@ module _ (p : Parameters) (i slot : ℕ) (e : NoticeKind) (u : IsUnheard e) (st 
   pub found_in_same : found_in p i slot e st ≡ found_in p i slot Idle st
   found_in_same = ap (found p i slot) learnt_same
 
-  found_same : having_found p i slot e st ≡ having_found p i slot Idle st
+  found_same : after_finding p i slot e st ≡ after_finding p i slot Idle st
   found_same = λ j. with_signs (found p i slot (learnt_same j)) (learnt_same j)
 
-  asked_same : having_asked p i slot e st ≡ having_asked p i slot Idle st
+  asked_same : after_asking p i slot e st ≡ after_asking p i slot Idle st
   unfolding after_ask
-  asked_same = u.ask (having_found p i slot e st) ∙ found_same
+  asked_same = u.ask (after_finding p i slot e st) ∙ found_same
 
   met_same : met_in p slot e st ≡ met_in p slot Idle st
   unfolding brought
@@ -165,7 +165,7 @@ module _ (p : Parameters) (i slot : ℕ) (e : NoticeKind) (u : IsUnheard e) (st 
   pub ended_same : ended_in p slot e st ≡ ended_in p slot Idle st
   ended_same = ap (ended p slot) met_same
 
-  installed_same : having_installed p i slot e st ≡ having_installed p i slot Idle st
+  installed_same : after_installing p i slot e st ≡ after_installing p i slot Idle st
   installed_same = λ j. with_ended i slot (ended_same j) (record (asked_same j) { vector = met_same j })
 
   pub start_same : start_in p i slot e st ≡ start_in p i slot Idle st
@@ -173,27 +173,27 @@ module _ (p : Parameters) (i slot : ℕ) (e : NoticeKind) (u : IsUnheard e) (st 
 
   pub notice_same : after_notice p i slot e st ≡ after_notice p i slot Idle st
   unfolding after_notice
-  notice_same = ap (λ (s : Station). if is_start p slot then record s { vector = start_of i s } else s) installed_same
+  notice_same = ap (λ (s : Knowledge). if is_start p slot then record s { vector = start_of i s } else s) installed_same
 
 module _ (scenario : ScenarioParts) (i : ℕ) (past : List NoticeKind) (e : NoticeKind) (u : IsUnheard e) where
   abbrev p : Parameters
   p = scenario.params
 
-  abbrev before : Station
-  before = station_of scenario i past
+  abbrev before : Knowledge
+  before = knowledge_of scenario i past
 
-  pub station_same : station_of scenario i (e ∷ past) ≡ station_of scenario i (Idle ∷ past)
-  unfolding station_of
-  station_same = notice_same p i (length past) e u before
+  pub knowledge_same : knowledge_of scenario i (e ∷ past) ≡ knowledge_of scenario i (Idle ∷ past)
+  unfolding knowledge_of
+  knowledge_same = notice_same p i (length past) e u before
 
   -- ---- what is counted
 
-  copies_same : (sign : Sign) → copies (fda_of sign) (e ∷ past) ≡ copies (fda_of sign) (Idle ∷ past)
+  copies_same : (sign : FailureSign) → copies (fda_of sign) (e ∷ past) ≡ copies (fda_of sign) (Idle ∷ past)
   unfolding copies
   copies_same sign = count-no (is_got (fda_of sign)) e past (u.counted sign) ∙ sym (count-no (is_got (fda_of sign)) Idle past refl)
 
-  signs_same : signs_sent i (e ∷ past) ≡ signs_sent i (Idle ∷ past)
-  unfolding signs_sent
+  signs_same : life_signs_sent i (e ∷ past) ≡ life_signs_sent i (Idle ∷ past)
+  unfolding life_signs_sent
   signs_same = count-no (is_own_sign i) e past (u.own i) ∙ sym (count-no (is_own_sign i) Idle past refl)
 
   -- ---- what is done
@@ -226,16 +226,16 @@ module _ (scenario : ScenarioParts) (i : ℕ) (past : List NoticeKind) (e : Noti
   unfolding install_effects
   install_same = ap (view_effects p scenario.joins scenario.leaves i (length past)) (ended_same p i (length past) e u before)
 
-  pub sign_due_same : (inc : ℕ) → life_sign p.life inc i (length past) (station_of scenario i (e ∷ past)) (signs_sent i (e ∷ past))
-      ≡ life_sign p.life inc i (length past) (station_of scenario i (Idle ∷ past)) (signs_sent i (Idle ∷ past))
-  sign_due_same inc = λ j. life_sign p.life inc i (length past) (station_same j) (signs_same j)
+  pub sign_due_same : (inc : ℕ) → life_sign p.life inc i (length past) (knowledge_of scenario i (e ∷ past)) (life_signs_sent i (e ∷ past))
+      ≡ life_sign p.life inc i (length past) (knowledge_of scenario i (Idle ∷ past)) (life_signs_sent i (Idle ∷ past))
+  sign_due_same inc = λ j. life_sign p.life inc i (length past) (knowledge_same j) (signs_same j)
 
   pub site_same : site_effects scenario i (e ∷ past) ≡ site_effects scenario i (Idle ∷ past)
   site_same = λ j. failures_same j ++ (exchange_same 0 j ++ (install_same j ++ sign_due_same 0 j))
 
   -- ---- the value
 
-  life_same : (st : Station) (v : LifeParts) → IsLifeOf scenario i (Idle ∷ past) st v → IsLifeOf scenario i (e ∷ past) st v
+  life_same : (st : Knowledge) (v : LifeParts) → IsLifeOf scenario i (Idle ∷ past) st v → IsLifeOf scenario i (e ∷ past) st v
   life_same st v h = record {
     legal = h.legal;
     node = h.node;
@@ -290,12 +290,12 @@ module _ (scenario : ScenarioParts) (i : ℕ) (past : List NoticeKind) (e : Noti
   -- the value stands for the notice as for an idle slot
   pub site_unheard : (v : SiteParts) → IsSiteOf scenario i (Idle ∷ past) v → IsSiteOf scenario i (e ∷ past) v
   site_unheard v h =
-      let same : station_of scenario i (Idle ∷ past) ≡ station_of scenario i (e ∷ past) = sym station_same in
+      let same : knowledge_of scenario i (Idle ∷ past) ≡ knowledge_of scenario i (e ∷ past) = sym knowledge_same in
       record {
         params = h.params;
-        failed = subst (λ (st : Station). AllBelow p.nodes st.failed) same h.failed;
+        failed = subst (λ (st : Knowledge). AllBelow p.nodes st.failed) same h.failed;
         life = subst (λ st. IsLifeOf scenario i (e ∷ past) st v.life) same (life_same _ v.life h.life);
-        history = subst (λ (st : Station). IsHistoryOf scenario i (e ∷ past) st.vector v.history) same (history_same _ v.history h.history);
+        history = subst (λ (st : Knowledge). IsHistoryOf scenario i (e ∷ past) st.vector v.history) same (history_same _ v.history h.history);
         views = subst (λ st. IsViewsOf scenario i st v.views) same h.views;
       }
 

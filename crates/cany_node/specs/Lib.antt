@@ -5,7 +5,7 @@ pub mod Node
 pub mod NodeFields
 pub mod Protocols
 pub mod Resting
-pub mod Script
+pub mod Plan
 pub mod Site
 pub mod Telling
 pub mod Turning

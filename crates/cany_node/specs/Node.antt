@@ -13,7 +13,7 @@ use Rattle.cany_model.specs.Rules.Effect.{Effect, waiting_after}
 use Rattle.cany_model.specs.Rules.Log.{log_from}
 use Rattle.cany_model.specs.Rules.Notices.{HasFewSigns, IsNextNotice, IsReadable, IsReadableVector, error_as_idle, is_early}
 use Rattle.cany_model.specs.Rules.Rooms.{waiting_room, actions_room, log_room}
-use Rattle.cany_model.specs.Rules.Site.{station_of}
+use Rattle.cany_model.specs.Rules.Site.{knowledge_of}
 use Rattle.cany_model.specs.Rules.Turn.{turn_effects}
 use Rattle.can_controller.specs.Controller.{ControllerState}
 use Rattle.cany_edcan.specs.Edcan.{EdcanParts, IsEdcanOf}
@@ -118,7 +118,7 @@ pub record CanTurn (v : NodeParts) (ctl : ControllerState) (out : Bounded Action
   pub next : (notice : Notice) → slice_get ctl.unread 0 ≡ Some notice → IsNextNotice scenario past (heard_by v notice)
   pub few : ctl.stopped ≡ None → (notice : Notice) → slice_get ctl.unread 0 ≡ Some notice → HasFewSigns scenario v.node ((heard_by v notice).kind ∷ past) notice.slot
   pub vector : ctl.stopped ≡ None → (notice : Notice) → slice_get ctl.unread 0 ≡ Some notice
-      → IsReadableVector scenario.params v.node notice.slot (station_of scenario v.node past).vector (heard_by v notice).kind
+      → IsReadableVector scenario.params v.node notice.slot (knowledge_of scenario v.node past).vector (heard_by v notice).kind
   pub read : ctl.read ≡ length past
   pub free : out.items ≡ []
   pub actions : out.room ≡ actions_room scenario
@@ -152,7 +152,7 @@ pub record Reads (scenario : ScenarioParts) (past : List NoticeKind) (notice : N
   pub stands : IsNodeOf scenario past v
   pub next : IsNextNotice scenario past (heard_by v notice)
   pub few : HasFewSigns scenario v.node ((heard_by v notice).kind ∷ past) notice.slot
-  pub vector : IsReadableVector scenario.params v.node notice.slot (station_of scenario v.node past).vector (heard_by v notice).kind
+  pub vector : IsReadableVector scenario.params v.node notice.slot (knowledge_of scenario v.node past).vector (heard_by v notice).kind
   pub running : ctl.stopped ≡ None
   pub oldest : slice_get ctl.unread 0 ≡ Some notice
 

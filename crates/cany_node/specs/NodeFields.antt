@@ -3,7 +3,7 @@ use Rattle.std.specs.Prelude.{◌≤◌}
 use Rattle.cany_base.specs.Limits.{most_restarts_of_node}
 use Rattle.cany_node.specs.declared.node.Node.TheInside.{Inside}
 use Rattle.cany_node.specs.Node.{NodeParts}
-use Rattle.cany_node.specs.Resting.{IsQuietUntil}
+use Rattle.cany_node.specs.Resting.{IsIdleUntil}
 
 abbrev pub parts_of : Inside → NodeParts
 parts_of n = record {
@@ -24,7 +24,7 @@ parts_of n = record {
   leaves = n.leaves;
 }
 
--- four bits can number the incarnation, and the node is quiet as it has noted
+-- four bits can number the incarnation, and the node is idle as it has noted
 pub record IsSound (n : Inside) : Type 0 where
   pub few : n.inc ≤ most_restarts_of_node
-  pub quiet : IsQuietUntil n.quiet (parts_of n)
+  pub idle_until : IsIdleUntil n.idle_until (parts_of n)

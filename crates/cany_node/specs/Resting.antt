@@ -7,7 +7,7 @@ use Rattle.cany_base.specs.declared.notice.NoticeKind.TheVariants.{Idle, Got, Se
 use Rattle.cany_base.specs.Scenario.{ScenarioParts}
 use Rattle.cany_model.specs.Bus.Frames.{same_class}
 use Rattle.cany_model.specs.Rules.Messages.{Message}
-use Rattle.cany_model.specs.Rules.Site.{station_of}
+use Rattle.cany_model.specs.Rules.Site.{knowledge_of}
 use Rattle.cany_model.specs.Rules.Turn.{turn_effects}
 use Rattle.cany_relcan.specs.Relcan as relcan
 use Rattle.cany_relcan.specs.Relcan.{IsRelcanOf}
@@ -22,7 +22,7 @@ use Rattle.cany_node.specs.Site.{IsSiteOf, SiteParts, site_effects}
 pub record SiteRests (scenario : ScenarioParts) (i : ℕ) (past : List NoticeKind) (v : SiteParts) : Type 0 where
   pub stands : IsSiteOf scenario i (Idle ∷ past) v
   pub effects : site_effects scenario i (Idle ∷ past) ≡ []
-  pub station : station_of scenario i (Idle ∷ past) ≡ station_of scenario i past
+  pub knowledge : knowledge_of scenario i (Idle ∷ past) ≡ knowledge_of scenario i past
 
 -- after one more idle slot the node is as it was, but that it has read one more notice, and nothing is done in the turn
 pub record Rests (scenario : ScenarioParts) (past : List NoticeKind) (v : NodeParts) : Type 0 where
@@ -45,13 +45,13 @@ is_of_edcan Bad = false
 
 -- In an idle slot before this one, from which the node has read on, no part of it but EDCAN has anything to do; EDCAN has nothing to
 -- do in any.
-pub record IsQuietUntil (quiet : ℕ) (v : NodeParts) : Type 0 where
-  pub relcan : (scenario : ScenarioParts) (past : List NoticeKind) → IsRelcanOf scenario v.relcan.node past v.relcan → length past < quiet
+pub record IsIdleUntil (idle_until : ℕ) (v : NodeParts) : Type 0 where
+  pub relcan : (scenario : ScenarioParts) (past : List NoticeKind) → IsRelcanOf scenario v.relcan.node past v.relcan → length past < idle_until
       → relcan.Rests scenario v.relcan.node past v.relcan
   pub totcan : (scenario : ScenarioParts) (past : List NoticeKind) (messages : List Message) (count : ℕ)
-      → IsTotcanOf scenario v.totcan.node past messages count v.totcan → length past < quiet → totcan.Rests scenario v.totcan.node past messages count v.totcan
+      → IsTotcanOf scenario v.totcan.node past messages count v.totcan → length past < idle_until → totcan.Rests scenario v.totcan.node past messages count v.totcan
   pub site : (scenario : ScenarioParts) (i : ℕ) (past : List NoticeKind) → IsSiteOf scenario i past v.site
-      → v.read ≤ length past → length past < quiet → length past < scenario.params.slots → SiteRests scenario i past v.site
-  pub sends : (n : ℕ) → n < quiet → IsRising n v.agenda.left → IsRising (n + 1) v.agenda.left
-  pub joins : (n : ℕ) → n < quiet → IsRisingFrom n v.joins → IsRisingFrom (n + 1) v.joins
-  pub leaves : (n : ℕ) → n < quiet → IsRisingFrom n v.leaves → IsRisingFrom (n + 1) v.leaves
+      → v.read ≤ length past → length past < idle_until → length past < scenario.params.slots → SiteRests scenario i past v.site
+  pub sends : (n : ℕ) → n < idle_until → IsRising n v.agenda.left → IsRising (n + 1) v.agenda.left
+  pub joins : (n : ℕ) → n < idle_until → IsRisingFrom n v.joins → IsRisingFrom (n + 1) v.joins
+  pub leaves : (n : ℕ) → n < idle_until → IsRisingFrom n v.leaves → IsRisingFrom (n + 1) v.leaves

@@ -9,11 +9,11 @@ use Rattle.cany_base.specs.Nodes.{AllBelow, Nodes}
 use Rattle.cany_base.specs.Params.{Parameters}
 use Rattle.cany_base.specs.Scenario.{ScenarioParts}
 use Rattle.cany_model.specs.Rules.Effect.{TurnRule}
-use Rattle.cany_model.specs.Rules.Life.{failure_effects, life_sign, signs_sent}
+use Rattle.cany_model.specs.Rules.Life.{failure_effects, life_sign, life_signs_sent}
 use Rattle.cany_model.specs.Rules.Membership.{install_effects}
 use Rattle.cany_model.specs.Rules.Notices.{HasFewSigns, IsNextNotice, IsReadableVector}
-use Rattle.cany_model.specs.Rules.Site.{having_met, start_in, station_of}
-use Rattle.cany_model.specs.Rules.Station.{Station, station_at_first}
+use Rattle.cany_model.specs.Rules.Site.{after_meeting, start_in, knowledge_of}
+use Rattle.cany_model.specs.Rules.Knowledge.{Knowledge, knowledge_at_first}
 use Rattle.cany_model.specs.Rules.Vectors.{cycle_of, exchange_at}
 use Rattle.cany_history.specs.declared.ended.Ended.{Ended}
 use Rattle.cany_history.specs.History.{HistoryParts, IsHistoryOf}
@@ -29,24 +29,24 @@ pub record SiteParts : Type 0 where
 -- the value is that of node i after these notices, newest first: only nodes of the bus have failed
 pub record IsSiteOf (scenario : ScenarioParts) (i : ℕ) (past : List NoticeKind) (v : SiteParts) : Type 0 where
   pub params : v.params ≡ scenario.params
-  pub failed : AllBelow scenario.params.nodes (station_of scenario i past).failed
-  pub life : IsLifeOf scenario i past (station_of scenario i past) v.life
-  pub history : IsHistoryOf scenario i past (station_of scenario i past).vector v.history
-  pub views : IsViewsOf scenario i (station_of scenario i past) v.views
+  pub failed : AllBelow scenario.params.nodes (knowledge_of scenario i past).failed
+  pub life : IsLifeOf scenario i past (knowledge_of scenario i past) v.life
+  pub history : IsHistoryOf scenario i past (knowledge_of scenario i past).vector v.history
+  pub views : IsViewsOf scenario i (knowledge_of scenario i past) v.views
 
 -- that of a node which has read nothing, or only notices of idle slots, whoever its members are
 pub record IsSiteAtRest (scenario : ScenarioParts) (i : ℕ) (v : SiteParts) : Type 0 where
   pub params : v.params ≡ scenario.params
-  pub life : (n : ℕ) (members : Nodes) → IsLifeOf scenario i (replicate n Idle) (station_at_first members) v.life
+  pub life : (n : ℕ) (members : Nodes) → IsLifeOf scenario i (replicate n Idle) (knowledge_at_first members) v.life
   pub history : (n : ℕ) → IsHistoryOf scenario i (replicate n Idle) None v.history
-  pub views : IsViewsOf scenario i (station_at_first scenario.members) v.views
+  pub views : IsViewsOf scenario i (knowledge_at_first scenario.members) v.views
 
 -- The notice can be the next that node i hears after these: it comes next, of the node's own life signs there are not too many with it,
 -- and its vector can be read.
 pub record IsNextOf (scenario : ScenarioParts) (i : ℕ) (past : List NoticeKind) (notice : Notice) : Type 0 where
   pub next : IsNextNotice scenario past notice
   pub few : HasFewSigns scenario i (notice.kind ∷ past) notice.slot
-  pub vector : IsReadableVector scenario.params i notice.slot (station_of scenario i past).vector notice.kind
+  pub vector : IsReadableVector scenario.params i notice.slot (knowledge_of scenario i past).vector notice.kind
 
 -- ---- what tells of the site
 
@@ -81,24 +81,24 @@ pub record CanHear (v : SiteParts) (notice : Notice) : Type 0 where
   pub next : IsNextOf scenario node past notice
 
 -- parameters, life and views are those of node i where it knows this
-pub record KnowsOf (scenario : ScenarioParts) (i : ℕ) (past : List NoticeKind) (station : Station) (v : SiteParts) : Type 0 where
+pub record KnowsOf (scenario : ScenarioParts) (i : ℕ) (past : List NoticeKind) (knowledge : Knowledge) (v : SiteParts) : Type 0 where
   pub params : v.params ≡ scenario.params
-  pub failed : AllBelow scenario.params.nodes station.failed
-  pub life : IsLifeOf scenario i past station v.life
-  pub views : IsViewsOf scenario i station v.views
+  pub failed : AllBelow scenario.params.nodes knowledge.failed
+  pub life : IsLifeOf scenario i past knowledge v.life
+  pub views : IsViewsOf scenario i knowledge v.views
 
 -- the vector with which a cycle ends in the slot, as the code has it
 abbrev pub ended_as : Parameters → ℕ → Option Nodes → Option Ended
 ended_as p slot vector = option_map (λ v. record { cycle = cycle_of p slot; vector = v }) vector
 
 -- what the node knows once it has heard the notice, and met its vector with the one that the notice brings
-abbrev pub met_by : ScenarioParts → ℕ → Notice → List NoticeKind → Station
-met_by scenario i notice past = having_met scenario.params i (length past) notice.kind (station_of scenario i past)
+abbrev pub met_by : ScenarioParts → ℕ → Notice → List NoticeKind → Knowledge
+met_by scenario i notice past = after_meeting scenario.params i (length past) notice.kind (knowledge_of scenario i past)
 
 -- Life and views know what the notice tells, and nothing of its vector yet: that is exchanged next.
 pub record Exchanges (scenario : ScenarioParts) (i : ℕ) (past : List NoticeKind) (notice : Notice) (v : SiteParts) : Type 0 where
   pub knows : KnowsOf scenario i (notice.kind ∷ past) (met_by scenario i notice past) v
-  pub history : IsHistoryOf scenario i past (station_of scenario i past).vector v.history
+  pub history : IsHistoryOf scenario i past (knowledge_of scenario i past).vector v.history
   pub next : IsNextOf scenario i past notice
 
 pub record CanExchange (v : SiteParts) (notice : Notice) : Type 0 where
@@ -116,8 +116,8 @@ pub record HasKnown (v : SiteParts) (slot : ℕ) : Type 0 where
   pub scenario : ScenarioParts
   pub node : ℕ
   pub past : List NoticeKind
-  pub station : Station
-  pub knows : KnowsOf scenario node past station v
+  pub knowledge : Knowledge
+  pub knows : KnowsOf scenario node past knowledge v
   pub within : slot < scenario.params.slots
   pub newest : length past ≡ slot + 1
 
@@ -127,14 +127,14 @@ pub record HasKnown (v : SiteParts) (slot : ℕ) : Type 0 where
 abbrev pub exchange_plain : TurnRule
 exchange_plain scenario i [] = []
 exchange_plain scenario i (notice ∷ before) =
-    exchange_at scenario.params 0 i notice before (station_of scenario i before).vector
-    (start_in scenario.params i (length before) notice (station_of scenario i before))
+    exchange_at scenario.params 0 i notice before (knowledge_of scenario i before).vector
+    (start_in scenario.params i (length before) notice (knowledge_of scenario i before))
 
 -- the next life sign, likewise
 abbrev pub life_plain : TurnRule
 life_plain scenario i [] = []
 life_plain scenario i (notice ∷ before) =
-    life_sign scenario.params.life 0 i (length before) (station_of scenario i (notice ∷ before)) (signs_sent i (notice ∷ before))
+    life_sign scenario.params.life 0 i (length before) (knowledge_of scenario i (notice ∷ before)) (life_signs_sent i (notice ∷ before))
 
 -- all that is done for the site
 abbrev pub site_effects : TurnRule

@@ -10,7 +10,7 @@ use Rattle.cany_model.specs.Rules.Effect.{TurnRule}
 use Rattle.cany_model.specs.Rules.Membership.{asks_in}
 use Rattle.cany_model.specs.Rules.Relcan.{relcan_effects}
 use Rattle.cany_model.specs.Rules.Sends.{send_effects}
-use Rattle.cany_model.specs.Rules.Site.{station_of}
+use Rattle.cany_model.specs.Rules.Site.{knowledge_of}
 use Rattle.cany_model.specs.Rules.Totcan.{totcan_effects}
 use Rattle.cany_model.specs.Rules.Views.{join_asked, leave_asked}
 use Rattle.cany_edcan.specs.Edcan.{IsEdcanOf}
@@ -30,9 +30,9 @@ heard_effects scenario i past =
 abbrev pub asks_plain : TurnRule
 asks_plain scenario i [] = []
 asks_plain scenario i (notice ∷ before) =
-    flat_map (λ ask. join_asked scenario.params 0 i (length before) (station_of scenario i (notice ∷ before)).members)
+    flat_map (λ ask. join_asked scenario.params 0 i (length before) (knowledge_of scenario i (notice ∷ before)).members)
     (asks_in scenario i (length before) scenario.joins)
-    ++ flat_map (λ ask. leave_asked scenario.params 0 i (length before) (station_of scenario i (notice ∷ before)).members)
+    ++ flat_map (λ ask. leave_asked scenario.params 0 i (length before) (knowledge_of scenario i (notice ∷ before)).members)
     (asks_in scenario i (length before) scenario.leaves)
 
 -- what the script asks for

@@ -9,7 +9,7 @@ mod notices;
 mod protocols;
 mod reply;
 mod rooms;
-mod script;
+mod plan;
 mod sending;
 mod site;
 mod telling;

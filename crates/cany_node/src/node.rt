@@ -13,7 +13,7 @@ ghost use Rattle.cany_model.specs.Rules.Effect.{waiting_after};
 ghost use Rattle.cany_node.specs.Node.{IsNodeOf, IsWaiting, CanBegin, CanTurn, CanAct, Reads, IsTurnOf, IsRefused, heard_by, reply_of};
 ghost use Rattle.cany_node.specs.Asks.{AreAsksPassed, IsRisingFrom};
 ghost use Rattle.cany_node.specs.Agenda.{ArePassed, IsRising};
-ghost use Rattle.cany_node.specs.Resting.{IsQuietUntil, RestsUntil, is_of_edcan};
+ghost use Rattle.cany_node.specs.Resting.{IsIdleUntil, RestsUntil, is_of_edcan};
 ghost use Rattle.cany_node.specs.Site.{IsNextOf};
 ghost use Rattle.cany_node.specs.Turning.{CanHearNext, CanScript, HasHeard, HasScripted, heard_effects, heard_room, script_effects, script_room};
 
@@ -24,7 +24,7 @@ use crate::notices::{is_early, is_error, is_idle, is_of_edcan};
 use crate::protocols::{Protocols, build_protocols};
 use crate::reply::TurnReply;
 use crate::rooms::log_room;
-use crate::script::{Script, build_script};
+use crate::plan::{Plan, build_script};
 use crate::sending::send_due;
 use crate::site::Site;
 use can_controller::Controller;
@@ -62,7 +62,7 @@ pub struct Node {
     leaves: AskPlan,
     log: BoundedVec<LogEntry>,
     /// A slot before which an idle notice leads to nothing. It is no part of what the value stands for.
-    quiet: Slot,
+    idle_until: Slot,
 }
 
 impl Model for Node {
@@ -88,7 +88,7 @@ impl Node {
     {
         let params = *scenario.params();
         let protocols = build_protocols(alloc, node, scenario)?;
-        let script = build_script(alloc, node, scenario)?;
+        let plan = build_script(alloc, node, scenario)?;
         let log = BoundedVec::build(alloc, log_room(scenario))?;
         let Protocols {
             edcan,
@@ -96,11 +96,11 @@ impl Node {
             totcan,
             site,
         } = protocols;
-        let Script {
+        let Plan {
             agenda,
             joins,
             leaves,
-        } = script;
+        } = plan;
         Ok(Node {
             node,
             inc,
@@ -116,7 +116,7 @@ impl Node {
             joins,
             leaves,
             log,
-            quiet: 0,
+            idle_until: 0,
         })
     }
 
@@ -132,7 +132,7 @@ impl Node {
         ensures node { self.new.node ≡ self.old.node }
         ensures inc { self.new.inc ≡ self.old.inc }
     {
-        self.quiet = 0;
+        self.idle_until = 0;
         self.read = restart + 1;
         self.from = self.read + (self.params.bound + Slot::from(self.params.lag));
         self.cycle = (self.from + (self.params.cycle - 1)) / self.params.cycle;
@@ -147,7 +147,7 @@ impl Node {
         ensures leaves { AreAsksPassed slot self.old.leaves self.new.leaves }
         ensures state { self.new ≡ record self.old { agenda = self.new.agenda; joins = self.new.joins; leaves = self.new.leaves } }
     {
-        self.quiet = 0;
+        self.idle_until = 0;
         self.agenda.pass_before(slot);
         self.joins.pass_before(slot);
         self.leaves.pass_before(slot);
@@ -248,13 +248,13 @@ impl Node {
         ensures out { out.new ≡ out.old }
     {
         self.hear(notice, out);
-        self.script(notice.slot, out);
-        self.quiet = 0;
+        self.plan(notice.slot, out);
+        self.idle_until = 0;
         self.totcan.next(notice.slot, out);
         apply_all(out, self.inc, ctl, &mut self.log);
         out.clear();
         self.read = notice.slot + 1;
-        self.quiet = self.next_due();
+        self.idle_until = self.next_due();
     }
 
     /// What the protocols do at a notice.
@@ -269,7 +269,7 @@ impl Node {
         ensures few { length out.new.items ≤ length out.old.items + heard_room self.old }
         ensures room { out.new.room ≡ out.old.room }
     {
-        self.quiet = 0;
+        self.idle_until = 0;
         self.edcan.on(notice, out);
         self.relcan.on(notice, out);
         self.totcan.on(notice, out);
@@ -277,7 +277,7 @@ impl Node {
     }
 
     /// What the script asks of the node in a slot: its sends, its joins and then its leaves, each in file order.
-    fn script(&mut self, slot: Slot, out: &mut Actions)
+    fn plan(&mut self, slot: Slot, out: &mut Actions)
         requires scripts { CanScript self.old slot }
         requires room { length out.old.items + script_room self.old ≤ out.old.room }
         ensures actions { (scenario : ScenarioParts) (past : List NoticeKind) (notice : NoticeKind) → HasHeard scenario past notice self.old → slot ≡ length past →
@@ -288,7 +288,7 @@ impl Node {
         ensures few { length out.new.items ≤ length out.old.items + script_room self.old }
         ensures room { out.new.room ≡ out.old.room }
     {
-        self.quiet = 0;
+        self.idle_until = 0;
         send_due(
             self.node,
             slot,
@@ -310,13 +310,13 @@ impl Node {
         ensures rests { RestsUntil result self.now }
     {
         rests(&self.edcan);
-        self.quiet
+        self.idle_until
     }
 
     /// The first slot, from the next one that it reads on, for which the script says something or in whose turn an idle notice may
     /// lead a protocol to something. It does not look at the messages or the nodes one by one.
     fn next_due(&self) -> Slot
-        ensures { IsQuietUntil result self.now }
+        ensures { IsIdleUntil result self.now }
     {
         let protocols = self.relcan.wake().min(self.totcan.wake());
         let site = self.site.wake(self.read);

@@ -5,9 +5,9 @@ ghost use Rattle.cany_base.specs.Scenario.{ScenarioParts};
 ghost use Rattle.cany_history.specs.History.{IsHistoryOf};
 ghost use Rattle.cany_model.specs.Bus.Slot.{nobody};
 ghost use Rattle.cany_model.specs.Rules.Actions.{actions_of};
-ghost use Rattle.cany_model.specs.Rules.Life.{failure_effects, life_sign, signs_sent};
-ghost use Rattle.cany_model.specs.Rules.Site.{ended_in, station_of};
-ghost use Rattle.cany_model.specs.Rules.Station.{Station, station_at_first};
+ghost use Rattle.cany_model.specs.Rules.Life.{failure_effects, life_sign, life_signs_sent};
+ghost use Rattle.cany_model.specs.Rules.Site.{ended_in, knowledge_of};
+ghost use Rattle.cany_model.specs.Rules.Knowledge.{Knowledge, knowledge_at_first};
 ghost use Rattle.cany_model.specs.Rules.Vectors.{is_start};
 ghost use Rattle.cany_model.specs.Rules.Views.{start_of, view_effects, with_ended};
 ghost use Rattle.cany_views.specs.Views.{IsViewsOf};
@@ -69,8 +69,8 @@ impl Site {
     pub(crate) fn begin_outside(&mut self)
         ensures life { self.new.life ≡ self.old.life }
         ensures history { self.new.history ≡ self.old.history }
-        ensures views { (scenario : ScenarioParts) (station : Station) → IsViewsOf scenario self.old.views.node station self.old.views →
-            IsViewsOf scenario self.old.views.node (station_at_first nobody) self.new.views }
+        ensures views { (scenario : ScenarioParts) (knowledge : Knowledge) → IsViewsOf scenario self.old.views.node knowledge self.old.views →
+            IsViewsOf scenario self.old.views.node (knowledge_at_first nobody) self.new.views }
         ensures params { self.new.params ≡ self.old.params }
     {
         self.views.begin_outside();
@@ -155,8 +155,8 @@ impl Site {
     /// What the node starts a cycle with in the slot, if one starts and the node is a member.
     fn start(&self, slot: Slot) -> Option<NodeSet>
         requires failed { AllBelow self.now.views.params.nodes self.now.life.failed }
-        ensures exact { (scenario : ScenarioParts) (i : ℕ) (past : List NoticeKind) (station : Station) → KnowsOf scenario i past station self.now →
-            result ≡ (if is_start scenario.params slot then start_of i station else None) }
+        ensures exact { (scenario : ScenarioParts) (i : ℕ) (past : List NoticeKind) (knowledge : Knowledge) → KnowsOf scenario i past knowledge self.now →
+            result ≡ (if is_start scenario.params slot then start_of i knowledge else None) }
         ensures below { IfSome result (AllBelow self.now.views.params.nodes) }
         ensures none { is_start self.now.params slot ≡ false → result ≡ None }
     {
@@ -172,12 +172,12 @@ impl Site {
         requires exchanges { CanExchange self.old notice.now }
         requires room { length out.old.items + 3 ≤ out.old.room }
         ensures ended { (scenario : ScenarioParts) (i : ℕ) (past : List NoticeKind) → Exchanges scenario i past notice.now self.old →
-            result ≡ ended_as scenario.params (length past) (ended_in scenario.params (length past) notice.now.kind (station_of scenario i past)) }
+            result ≡ ended_as scenario.params (length past) (ended_in scenario.params (length past) notice.now.kind (knowledge_of scenario i past)) }
         ensures fits { FitsCycle self.old.params notice.now.slot result }
         ensures actions { (scenario : ScenarioParts) (i : ℕ) (past : List NoticeKind) → Exchanges scenario i past notice.now self.old →
             out.new.items ≡ out.old.items ++ actions_of scenario.params.format (exchange_plain scenario i (notice.now.kind ∷ past)) }
         ensures history { (scenario : ScenarioParts) (i : ℕ) (past : List NoticeKind) → Exchanges scenario i past notice.now self.old →
-            IsHistoryOf scenario i (notice.now.kind ∷ past) (station_of scenario i (notice.now.kind ∷ past)).vector self.new.history }
+            IsHistoryOf scenario i (notice.now.kind ∷ past) (knowledge_of scenario i (notice.now.kind ∷ past)).vector self.new.history }
         ensures state { self.new ≡ record self.old { history = self.new.history } }
         ensures few { length out.new.items ≤ length out.old.items + 3 }
         ensures room { out.new.room ≡ out.old.room }
@@ -191,9 +191,9 @@ impl Site {
         requires known { HasKnown self.old slot }
         requires fits { FitsCycle self.old.params slot ended }
         requires room { length out.old.items + 1 + length self.old.views.joins + length self.old.views.leaves ≤ out.old.room }
-        ensures knows { (scenario : ScenarioParts) (i : ℕ) (past : List NoticeKind) (station : Station) (vector : Option Nodes) → KnowsOf scenario i past station self.old →
-            ended ≡ ended_as scenario.params slot vector → KnowsOf scenario i past (with_ended i slot vector station) self.new }
-        ensures actions { (scenario : ScenarioParts) (i : ℕ) (past : List NoticeKind) (station : Station) (vector : Option Nodes) → KnowsOf scenario i past station self.old →
+        ensures knows { (scenario : ScenarioParts) (i : ℕ) (past : List NoticeKind) (knowledge : Knowledge) (vector : Option Nodes) → KnowsOf scenario i past knowledge self.old →
+            ended ≡ ended_as scenario.params slot vector → KnowsOf scenario i past (with_ended i slot vector knowledge) self.new }
+        ensures actions { (scenario : ScenarioParts) (i : ℕ) (past : List NoticeKind) (knowledge : Knowledge) (vector : Option Nodes) → KnowsOf scenario i past knowledge self.old →
             ended ≡ ended_as scenario.params slot vector →
             out.new.items ≡ out.old.items ++ actions_of scenario.params.format (view_effects scenario.params scenario.joins scenario.leaves i slot vector) }
         ensures history { self.new.history ≡ self.old.history }
@@ -210,9 +210,9 @@ impl Site {
     fn sign(&mut self, slot: Slot, out: &mut Actions)
         requires known { HasKnown self.old slot }
         requires room { length out.old.items < out.old.room }
-        ensures actions { (scenario : ScenarioParts) (i : ℕ) (past : List NoticeKind) (station : Station) → KnowsOf scenario i past station self.old →
+        ensures actions { (scenario : ScenarioParts) (i : ℕ) (past : List NoticeKind) (knowledge : Knowledge) → KnowsOf scenario i past knowledge self.old →
             out.new.items ≡ out.old.items
-            ++ actions_of scenario.params.format (life_sign scenario.params.life 0 i slot station (signs_sent i past)) }
+            ++ actions_of scenario.params.format (life_sign scenario.params.life 0 i slot knowledge (life_signs_sent i past)) }
         ensures state { self.new ≡ self.old }
         ensures few { length out.new.items ≤ length out.old.items + 1 }
         ensures room { out.new.room ≡ out.old.room }

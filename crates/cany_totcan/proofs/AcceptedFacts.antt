@@ -9,7 +9,7 @@ use Rattle.cany_message.proofs.HistoryFacts.{has_copy-counted, has_own-more}
 use Rattle.cany_model.specs.Bus.History.{copies, has_own, is_got, is_sent}
 use Rattle.cany_model.specs.Rules.Messages.{accept_of_key}
 use Rattle.cany_model.specs.Rules.Relcan.{has_copy}
-use Rattle.cany_model.specs.Rules.Totcan.{after_place, holds, is_accepted, is_heard, is_open, is_recent, tot_of_key}
+use Rattle.cany_model.specs.Rules.Totcan.{after_place, holds, is_accepted, is_heard, can_be_accepted, is_recent, tot_of_key}
 use Rattle.cany_totcan.proofs.PlaceFacts.{recent_more, recent_weaker, recent_whole}
 
 -- ---- the notices after the place
@@ -37,7 +37,7 @@ module _ (bound i : ℕ) (key : MsgKey) (notice : NoticeKind) (before : List Not
   heard_held held = rw held refl
 
   heard_more : holds key notice ≡ false
-      → is_heard bound key (notice ∷ before) ≡ (is_heard bound key before || is_got (accept_of_key key) notice && is_open bound key before)
+      → is_heard bound key (notice ∷ before) ≡ (is_heard bound key before || is_got (accept_of_key key) notice && can_be_accepted bound key before)
   unfolding is_heard
   heard_more other = rw other refl
 
@@ -52,32 +52,32 @@ module _ (bound i : ℕ) (key : MsgKey) (notice : NoticeKind) (before : List Not
   accepted_held held = ap (λ b. b || key.origin == i && has_own (tot_of_key key) (notice ∷ before)) (heard_held held)
 
   pub accepted_more : holds key notice ≡ false
-      → is_accepted bound i key (notice ∷ before) ≡ (is_accepted bound i key before || is_got (accept_of_key key) notice && is_open bound key before)
+      → is_accepted bound i key (notice ∷ before) ≡ (is_accepted bound i key before || is_got (accept_of_key key) notice && can_be_accepted bound key before)
   unfolding is_accepted
   accepted_more other =
       ap (λ b. b || key.origin == i && has_own (tot_of_key key) (notice ∷ before)) (heard_more other)
-      ∙ ap (λ b. (is_heard bound key before || is_got (accept_of_key key) notice && is_open bound key before) || key.origin == i && b) (own_more other)
-      ∙ or_last (is_heard bound key before) (is_got (accept_of_key key) notice && is_open bound key before) (key.origin == i && has_own (tot_of_key key) before)
+      ∙ ap (λ b. (is_heard bound key before || is_got (accept_of_key key) notice && can_be_accepted bound key before) || key.origin == i && b) (own_more other)
+      ∙ or_last (is_heard bound key before) (is_got (accept_of_key key) notice && can_be_accepted bound key before) (key.origin == i && has_own (tot_of_key key) before)
 
-  pub accepted_heard : holds key notice ≡ false → is_got (accept_of_key key) notice ≡ true → is_open bound key before ≡ true
+  pub accepted_heard : holds key notice ≡ false → is_got (accept_of_key key) notice ≡ true → can_be_accepted bound key before ≡ true
       → is_accepted bound i key (notice ∷ before) ≡ true
   accepted_heard other got in_time =
       accepted_more other
-      ∙ or_right (is_accepted bound i key before) (is_got (accept_of_key key) notice && is_open bound key before)
-      (and_from (is_got (accept_of_key key) notice) (is_open bound key before) got in_time)
+      ∙ or_right (is_accepted bound i key before) (is_got (accept_of_key key) notice && can_be_accepted bound key before)
+      (and_from (is_got (accept_of_key key) notice) (can_be_accepted bound key before) got in_time)
 
-  pub accepted_same : holds key notice ≡ false → (is_got (accept_of_key key) notice && is_open bound key before) ≡ false
+  pub accepted_same : holds key notice ≡ false → (is_got (accept_of_key key) notice && can_be_accepted bound key before) ≡ false
       → is_accepted bound i key (notice ∷ before) ≡ is_accepted bound i key before
   accepted_same other none = accepted_more other ∙ ap (λ b. is_accepted bound i key before || b) none ∙ or-false (is_accepted bound i key before)
 
   -- an accepted message stays so unless its place moves
   pub accepted_stays : holds key notice ≡ false → is_accepted bound i key before ≡ true → is_accepted bound i key (notice ∷ before) ≡ true
   accepted_stays other accepted =
-      accepted_more other ∙ or_left (is_accepted bound i key before) (is_got (accept_of_key key) notice && is_open bound key before) accepted
+      accepted_more other ∙ or_left (is_accepted bound i key before) (is_got (accept_of_key key) notice && can_be_accepted bound key before) accepted
 
   -- and one that was closed has become accepted by no notice
-  pub accepted_before : holds key notice ≡ false → is_open bound key before ≡ false → is_accepted bound i key (notice ∷ before) ≡ is_accepted bound i key before
-  accepted_before other closed = accepted_same other (and_right (is_got (accept_of_key key) notice) (is_open bound key before) closed)
+  pub accepted_before : holds key notice ≡ false → can_be_accepted bound key before ≡ false → is_accepted bound i key (notice ∷ before) ≡ is_accepted bound i key before
+  accepted_before other closed = accepted_same other (and_right (is_got (accept_of_key key) notice) (can_be_accepted bound key before) closed)
 
 -- ---- by what was counted since the place
 
@@ -127,9 +127,9 @@ accepted_placed bound i key (notice ∷ before) accepted = elim (cases_Bool (hol
   | inl held ↦ or_left (holds key notice) (is_recent (length before) key before) held
   | inr other ↦
       or_right (holds key notice) (is_recent (length before) key before)
-      (elim (or_cases (is_accepted bound i key before) (is_got (accept_of_key key) notice && is_open bound key before)
+      (elim (or_cases (is_accepted bound i key before) (is_got (accept_of_key key) notice && can_be_accepted bound key before)
       (sym (accepted_more bound i key notice before other) ∙ accepted)) [
         | inl was ↦ accepted_placed bound i key before was
-        | inr heard ↦ recent_whole bound key before (and_parts (is_got (accept_of_key key) notice) (is_open bound key before) heard).1
+        | inr heard ↦ recent_whole bound key before (and_parts (is_got (accept_of_key key) notice) (can_be_accepted bound key before) heard).1
       ])
 ]

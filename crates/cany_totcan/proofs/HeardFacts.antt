@@ -28,7 +28,7 @@ use Rattle.cany_model.specs.Rules.Eager.{eager_effects}
 use Rattle.cany_model.specs.Rules.Effect.{Ask, Withdraw}
 use Rattle.cany_model.specs.Rules.Messages.{Message}
 use Rattle.cany_model.specs.Rules.Notices.{BelongsTo, IsNextNotice, NamesMessage}
-use Rattle.cany_model.specs.Rules.Totcan.{accept_effects, accept_frame, after_place, delivered, holds, is_open, is_recent, message_in, tot_in}
+use Rattle.cany_model.specs.Rules.Totcan.{accept_effects, accept_frame, after_place, delivered, holds, can_be_accepted, is_recent, message_in, tot_in}
 use Rattle.cany_model.proofs.Among.{Each-weaker}
 use Rattle.cany_model.proofs.Bus.Identities.{same_class-true}
 use Rattle.cany_totcan.specs.declared.queue.Placed.{Placed}
@@ -54,7 +54,7 @@ open_is_recent scenario i past messages count v key h = ap (list_any (is_at key)
 -- whether a frame accepts an open message
 pub open_now : (scenario : ScenarioParts) (i : ℕ) (past : List NoticeKind) (messages : List Message) (count : ℕ) (v : TotcanParts) (f : FrameParts)
     → IsTotcanOf scenario i past messages count v
-    → (same_class f.class class.Accept && is_open scenario.params.bound (message_in f) past) ≡ (same_class f.class class.Accept && has_open v f)
+    → (same_class f.class class.Accept && can_be_accepted scenario.params.bound (message_in f) past) ≡ (same_class f.class class.Accept && has_open v f)
 open_now scenario i past messages count v f h = ap (λ b. same_class f.class class.Accept && b) (sym (open_is_recent scenario i past messages count v (message_in f) h))
 
 -- a value knows its node
@@ -222,7 +222,7 @@ module _ (scenario : ScenarioParts) (i : ℕ) (before : List NoticeKind) (messag
   -- any other frame
   module _ (other : same_class f.class class.Tot ≡ false) (none : (same_class f.class class.Accept && has_open v f) ≡ false) where
     -- the message that it names is not open, or it accepts none
-    pub not_open : (same_class f.class class.Accept && is_open scenario.params.bound (message_in f) before) ≡ false
+    pub not_open : (same_class f.class class.Accept && can_be_accepted scenario.params.bound (message_in f) before) ≡ false
     not_open = open_now scenario i before messages count v f h ∙ none
 
     closed_if : f.class ≡ class.Accept → same_class f.class class.Accept ≡ true → is_recent scenario.params.bound (message_in f) before ≡ false
@@ -284,14 +284,14 @@ sent_accepts scenario past notice f next kind is = acceptance_names scenario not
 
 -- a notice that is nothing to accept
 pub nothing_got : (scenario : ScenarioParts) (i : ℕ) (f : FrameParts) (before : List NoticeKind)
-    → (same_class f.class class.Accept && is_open scenario.params.bound (message_in f) before) ≡ false
+    → (same_class f.class class.Accept && can_be_accepted scenario.params.bound (message_in f) before) ≡ false
     → accept_effects scenario.params i (Got f) before ≡ []
 unfolding accept_effects
 nothing_got scenario i f before none = rw none refl
 
 pub nothing_data : (scenario : ScenarioParts) (i : ℕ) (f : FrameParts) (before : List NoticeKind) → f.class ≡ class.Tot
     → accept_effects scenario.params i (Got f) before ≡ []
-nothing_data scenario i f before is = nothing_got scenario i f before (ap (λ b. b && is_open scenario.params.bound (message_in f) before) (not_accepting f is))
+nothing_data scenario i f before is = nothing_got scenario i f before (ap (λ b. b && can_be_accepted scenario.params.bound (message_in f) before) (not_accepting f is))
 
 pub nothing_sent : (scenario : ScenarioParts) (i : ℕ) (f : FrameParts) (before : List NoticeKind) → same_class f.class class.Tot ≡ false
     → accept_effects scenario.params i (Sent f) before ≡ []
@@ -332,14 +332,14 @@ unfolding eager_effects
 eager_is format omit f past = relays format omit (copies (identity_of f) past) (has_own (identity_of f) past) f
 
 accepts : (scenario : ScenarioParts) (i : ℕ) (f : FrameParts) (before : List NoticeKind)
-    → (same_class f.class class.Accept && is_open scenario.params.bound (message_in f) before) ≡ true
+    → (same_class f.class class.Accept && can_be_accepted scenario.params.bound (message_in f) before) ≡ true
     → accept_effects scenario.params i (Got f) before ≡ eager_effects scenario.params.omit f (after_place (message_in f) (Got f ∷ before))
 unfolding accept_effects
 accepts scenario i f before is = rw is refl
 
 -- a frame that accepts an open message is relayed by the eager rule
 pub relay_is : (scenario : ScenarioParts) (i : ℕ) (f : FrameParts) (before : List NoticeKind) (old new : EagerParts) → f.class ≡ class.Accept → f.node < most_nodes
-    → (same_class f.class class.Accept && is_open scenario.params.bound (message_in f) before) ≡ true
+    → (same_class f.class class.Accept && can_be_accepted scenario.params.bound (message_in f) before) ≡ true
     → AreAcceptances scenario scenario.params.bound before old → AreAcceptances scenario (scenario.params.bound + 1) (Got f ∷ before) new
     → relay_actions scenario.params.format (learnt_of old.omit (copies_of new (frame_number f)) (is_owned old (frame_number f))) f
     ≡ actions_of scenario.params.format (accept_effects scenario.params i (Got f) before)

@@ -12,7 +12,7 @@ use Rattle.cany_base.specs.Scenario.{ScenarioParts}
 use Rattle.cany_model.specs.Bus.Frames.{same_class}
 use Rattle.cany_model.specs.Rules.Messages.{IsOfMessage, Message, is_service, message_key, messages_of}
 use Rattle.cany_model.specs.Rules.Notices.{NamesMessage}
-use Rattle.cany_model.specs.Rules.Totcan.{delivered, done, has_closing_ahead, is_open, is_recent, tot_in, tot_of_key, with_new}
+use Rattle.cany_model.specs.Rules.Totcan.{delivered, done, has_closing_ahead, can_be_accepted, is_recent, tot_in, tot_of_key, with_new}
 use Rattle.cany_model.proofs.Among.{Among-from_Contains}
 use Rattle.cany_model.proofs.Rules.MessageKeys.{same_message}
 use Rattle.cany_totcan.specs.declared.queue.Placed.{Placed}
@@ -59,16 +59,16 @@ module _ (scenario : ScenarioParts) (i : ℕ) (past : List NoticeKind) (messages
         (named.origin ∙ sym (ap (λ (k : MsgKey). k.origin) key)) (named.number ∙ sym (ap (λ (k : MsgKey). k.seq) key)) in
         ap (λ (k : Message). k.service) (sym same) ∙ named.sent_by
 
-    open_is_key : list_any (is_at msg) v.queue.items ≡ is_open scenario.params.bound (message_key m) past
+    open_is_key : list_any (is_at msg) v.queue.items ≡ can_be_accepted scenario.params.bound (message_key m) past
     open_is_key = open_is_recent scenario i past messages count v msg h ∙ ap (λ k. is_recent scenario.params.bound k past) (sym key)
 
     ahead_none : is_service m.service service.Tot ≡ false → (m.service ≡ service.Tot → ⊥) → list_any (is_at msg) v.queue.items ≡ has_closing_ahead scenario m i past
     ahead_none other apart =
         false_from_ne_true (list_any (is_at msg) v.queue.items) (λ there. apart (open_tot there))
-        ∙ sym (ap (λ b. b && is_open scenario.params.bound (message_key m) past) other)
+        ∙ sym (ap (λ b. b && can_be_accepted scenario.params.bound (message_key m) past) other)
 
     ahead_tot : is_service m.service service.Tot ≡ true → list_any (is_at msg) v.queue.items ≡ has_closing_ahead scenario m i past
-    ahead_tot is = open_is_key ∙ sym (ap (λ b. b && is_open scenario.params.bound (message_key m) past) is)
+    ahead_tot is = open_is_key ∙ sym (ap (λ b. b && can_be_accepted scenario.params.bound (message_key m) past) is)
 
     ahead_by : (by : Service) → m.service ≡ by → list_any (is_at msg) v.queue.items ≡ has_closing_ahead scenario m i past
     unfolding is_service same_class

@@ -13,7 +13,7 @@ use Rattle.cany_base.specs.Params.{Parameters}
 use Rattle.cany_base.specs.Scenario.{ScenarioParts}
 use Rattle.cany_model.specs.Rules.Actions.{actions_of, ident_of}
 use Rattle.cany_model.specs.Rules.Effect.{Withdraw}
-use Rattle.cany_model.specs.Rules.Station.{Station}
+use Rattle.cany_model.specs.Rules.Knowledge.{Knowledge}
 use Rattle.cany_model.specs.Rules.Vectors.{cycle_of}
 use Rattle.cany_model.specs.Rules.Views.{ask_of, view_effects, withdrawn_asks}
 use Rattle.cany_views.specs.Views.{IsViewsOf, ViewsParts, asked_cycles}
@@ -54,7 +54,7 @@ module _ (scenario : ScenarioParts) (i slot : ℕ) (vector : Nodes) (v : ViewsPa
     | inr outside ↦ rw outside (withdrawn_are scenario.params.format class.Leave scenario.params i scenario.leaves)
   ]
 
-  module _ (station : Station) (h : IsViewsOf scenario i station v) (cycle : ℕ) (at : cycle ≡ cycle_of v.params slot) where
+  module _ (knowledge : Knowledge) (h : IsViewsOf scenario i knowledge v) (cycle : ℕ) (at : cycle ≡ cycle_of v.params slot) where
     is_told : installed_actions slot cycle vector v ≡ installed_actions slot (cycle_of scenario.params slot) vector as_told
     is_told =
         let number : cycle ≡ cycle_of scenario.params slot = at ∙ ap (λ (p : Parameters). cycle_of p slot) h.params in

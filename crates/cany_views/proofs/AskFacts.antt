@@ -7,7 +7,7 @@ use Rattle.cany_base.specs.declared.message.NodeAsk.{NodeAsk}
 use Rattle.cany_base.specs.Limits.{most_numbers}
 use Rattle.cany_base.specs.Params.{Parameters}
 use Rattle.cany_base.specs.Scenario.{ScenarioParts, IsAskOf, IsLegalScenario}
-use Rattle.cany_model.specs.Rules.Station.{Sign, fda_frame}
+use Rattle.cany_model.specs.Rules.Knowledge.{FailureSign, fda_frame}
 use Rattle.cany_model.specs.Rules.Vectors.{cycle_of}
 use Rattle.cany_model.proofs.Rules.NumberFacts.{belongs_small}
 use Rattle.cany_views.specs.Views.{AreNumbers, asked_cycles}
@@ -23,7 +23,7 @@ few_asked p i asks =
 pub cycle_small : (scenario : ScenarioParts) → IsLegalScenario scenario → (slot : ℕ) → slot < scenario.params.slots
     → cycle_of scenario.params slot < most_numbers
 cycle_small scenario legal slot within =
-    let sign : Sign = record { node = 0; cycle = cycle_of scenario.params slot } in
+    let sign : FailureSign = record { node = 0; cycle = cycle_of scenario.params slot } in
     let small = belongs_small scenario slot (fda_frame sign) legal within (record {
       node = omega (arith, legal.in_range.nodes.0);
       number = omega arith;

@@ -10,7 +10,7 @@ use Rattle.cany_base.specs.Nodes.{has}
 use Rattle.cany_base.specs.Scenario.{ScenarioParts}
 use Rattle.cany_model.specs.Bus.Frames.{same_class}
 use Rattle.cany_model.specs.Rules.Notices.{BelongsTo}
-use Rattle.cany_model.specs.Rules.Station.{Station}
+use Rattle.cany_model.specs.Rules.Knowledge.{Knowledge}
 use Rattle.cany_model.specs.Rules.Views.{after_ask, with_joiner, with_leaver, with_node}
 use Rattle.cany_model.proofs.Bus.Identities.{same_class-true}
 use Rattle.cany_views.specs.Views.{IsViewsOf, ViewsParts}
@@ -23,19 +23,19 @@ asker_of_bus : (scenario : ScenarioParts) (slot : ℕ) (f : FrameParts) (class :
     → same_class f.class class ≡ true → (BelongsTo scenario slot class f → f.node < scenario.params.nodes) → f.node < scenario.params.nodes
 asker_of_bus scenario slot f class of is near = near (subst (λ c. BelongsTo scenario slot c f) (same_class-true f.class class is) of)
 
-module _ (scenario : ScenarioParts) (i : ℕ) (station : Station) (v : ViewsParts) (h : IsViewsOf scenario i station v) where
+module _ (scenario : ScenarioParts) (i : ℕ) (knowledge : Knowledge) (v : ViewsParts) (h : IsViewsOf scenario i knowledge v) where
   -- ---- node r asks
 
-  same_member : (r : ℕ) → has v.members r ≡ has station.members r
+  same_member : (r : ℕ) → has v.members r ≡ has knowledge.members r
   same_member r = ap (λ members. has members r) h.members
 
-  join_stands : (r : ℕ) → r < v.params.nodes → IsViewsOf scenario i (with_joiner r station) (heard_join r v)
-  join_stands r near = elim (cases_Bool (has station.members r)) [
+  join_stands : (r : ℕ) → r < v.params.nodes → IsViewsOf scenario i (with_joiner r knowledge) (heard_join r v)
+  join_stands r near = elim (cases_Bool (has knowledge.members r)) [
     | inl inside ↦ rw (same_member r ∙ inside, inside) h
     | inr outside ↦
-        let after : Station = record station { joiners = with_node r station.joiners } in
+        let after : Knowledge = record knowledge { joiners = with_node r knowledge.joiners } in
         rw (same_member r ∙ outside, outside)
-        (stands_with scenario i station after v v.members (with_node r v.joiners) v.leavers h
+        (stands_with scenario i knowledge after v v.members (with_node r v.joiners) v.leavers h
         (record {
           members = h.below.members;
           joiners = below_with v.params.nodes r v.joiners near h.below.joiners;
@@ -44,12 +44,12 @@ module _ (scenario : ScenarioParts) (i : ℕ) (station : Station) (v : ViewsPart
         h.members (ap (with_node r) h.joiners) h.leavers)
   ]
 
-  leave_stands : (r : ℕ) → r < v.params.nodes → IsViewsOf scenario i (with_leaver r station) (heard_leave r v)
-  leave_stands r near = elim (cases_Bool (has station.members r)) [
+  leave_stands : (r : ℕ) → r < v.params.nodes → IsViewsOf scenario i (with_leaver r knowledge) (heard_leave r v)
+  leave_stands r near = elim (cases_Bool (has knowledge.members r)) [
     | inl inside ↦
-        let after : Station = record station { leavers = with_node r station.leavers } in
+        let after : Knowledge = record knowledge { leavers = with_node r knowledge.leavers } in
         rw (same_member r ∙ inside, inside)
-        (stands_with scenario i station after v v.members v.joiners (with_node r v.leavers) h
+        (stands_with scenario i knowledge after v v.members v.joiners (with_node r v.leavers) h
         (record {
           members = h.below.members;
           joiners = h.below.joiners;
@@ -70,17 +70,17 @@ module _ (scenario : ScenarioParts) (i : ℕ) (station : Station) (v : ViewsPart
 
     module _ (kind : NoticeKind) (w : ViewsParts) where
       pub got_join : kind ≡ Got f → same_class f.class class.Join ≡ true → w ≡ heard_join f.node v
-          → IsViewsOf scenario i (after_ask kind station) w
+          → IsViewsOf scenario i (after_ask kind knowledge) w
       unfolding after_ask
       got_join at join hears = rw (at, hears, join) (join_stands f.node (joiner_near join))
 
       pub got_leave : kind ≡ Got f → same_class f.class class.Join ≡ false → same_class f.class class.Leave ≡ true
-          → w ≡ heard_leave f.node v → IsViewsOf scenario i (after_ask kind station) w
+          → w ≡ heard_leave f.node v → IsViewsOf scenario i (after_ask kind knowledge) w
       unfolding after_ask
       got_leave at other leave hears = rw (at, hears, other, leave) (leave_stands f.node (leaver_near leave))
 
       pub sent_leave : kind ≡ Sent f → same_class f.class class.Leave ≡ true → w ≡ heard_leave f.node v
-          → IsViewsOf scenario i (after_ask kind station) w
+          → IsViewsOf scenario i (after_ask kind knowledge) w
       unfolding after_ask
       sent_leave at leave hears = rw (at, hears, leave) (leave_stands f.node (leaver_near leave))
 
@@ -88,19 +88,19 @@ module _ (scenario : ScenarioParts) (i : ℕ) (station : Station) (v : ViewsPart
 
   module _ (kind : NoticeKind) where
     pub got_other : (f : FrameParts) → kind ≡ Got f → same_class f.class class.Join ≡ false → same_class f.class class.Leave ≡ false
-        → IsViewsOf scenario i (after_ask kind station) v
+        → IsViewsOf scenario i (after_ask kind knowledge) v
     unfolding after_ask
     got_other f at join leave = rw (at, join, leave) h
 
     pub sent_other : (f : FrameParts) → kind ≡ Sent f → same_class f.class class.Leave ≡ false
-        → IsViewsOf scenario i (after_ask kind station) v
+        → IsViewsOf scenario i (after_ask kind knowledge) v
     unfolding after_ask
     sent_other f at leave = rw (at, leave) h
 
-    pub idle_asks : kind ≡ Idle → IsViewsOf scenario i (after_ask kind station) v
+    pub idle_asks : kind ≡ Idle → IsViewsOf scenario i (after_ask kind knowledge) v
     unfolding after_ask
     idle_asks at = rw at h
 
-    pub bad_asks : kind ≡ Bad → IsViewsOf scenario i (after_ask kind station) v
+    pub bad_asks : kind ≡ Bad → IsViewsOf scenario i (after_ask kind knowledge) v
     unfolding after_ask
     bad_asks at = rw at h

@@ -5,7 +5,7 @@ use Rattle.cany_base.specs.Nodes.{AllBelow, Nodes}
 use Rattle.cany_base.specs.Scenario.{ScenarioParts, IsLegalScenario}
 use Rattle.cany_base.proofs.NodesFacts.{has_none}
 use Rattle.cany_model.specs.Bus.Slot.{nobody}
-use Rattle.cany_model.specs.Rules.Station.{Station, station_at_first}
+use Rattle.cany_model.specs.Rules.Knowledge.{Knowledge, knowledge_at_first}
 use Rattle.cany_model.specs.Rules.Vectors.{meet}
 use Rattle.cany_model.specs.Rules.Views.{minus, with_view}
 use Rattle.cany_views.specs.Views.{HasNodesOfBus, IsInBounds, IsViewsOf, ViewsParts, asked_cycles}
@@ -24,12 +24,12 @@ pub bounds_with : (v : ViewsParts) (members joiners leavers : Nodes) → IsInBou
 bounds_with v members joiners leavers h below =
     record { node = h.node; below = below; cycles = h.cycles; joins = h.joins; leaves = h.leaves }
 
--- and stands for a station that has these sets
-pub stands_with : (scenario : ScenarioParts) (i : ℕ) (station after : Station) (v : ViewsParts) (members joiners leavers : Nodes)
-    → IsViewsOf scenario i station v → HasNodesOfBus (with_sets members joiners leavers v)
+-- and stands for a knowledge that has these sets
+pub stands_with : (scenario : ScenarioParts) (i : ℕ) (knowledge after : Knowledge) (v : ViewsParts) (members joiners leavers : Nodes)
+    → IsViewsOf scenario i knowledge v → HasNodesOfBus (with_sets members joiners leavers v)
     → members ≡ after.members → joiners ≡ after.joiners → leavers ≡ after.leavers
     → IsViewsOf scenario i after (with_sets members joiners leavers v)
-stands_with scenario i station after v members joiners leavers h below is_members is_joiners is_leavers = record {
+stands_with scenario i knowledge after v members joiners leavers h below is_members is_joiners is_leavers = record {
   legal = h.legal;
   node = h.node;
   params = h.params;
@@ -54,10 +54,10 @@ outside_below v = record {
   leavers = nobody_below v.params.nodes;
 }
 
-pub outside_stands : (scenario : ScenarioParts) (i : ℕ) (station : Station) (v : ViewsParts) → IsViewsOf scenario i station v
-    → IsViewsOf scenario i (station_at_first nobody) (with_sets nobody nobody nobody v)
-outside_stands scenario i station v h =
-    stands_with scenario i station (station_at_first nobody) v nobody nobody nobody h (outside_below v) refl refl refl
+pub outside_stands : (scenario : ScenarioParts) (i : ℕ) (knowledge : Knowledge) (v : ViewsParts) → IsViewsOf scenario i knowledge v
+    → IsViewsOf scenario i (knowledge_at_first nobody) (with_sets nobody nobody nobody v)
+outside_stands scenario i knowledge v h =
+    stands_with scenario i knowledge (knowledge_at_first nobody) v nobody nobody nobody h (outside_below v) refl refl refl
 
 -- the value that is built
 abbrev pub first_views : ScenarioParts → ℕ → ViewsParts
@@ -72,7 +72,7 @@ first_views scenario i = record {
 }
 
 pub first_stands : (scenario : ScenarioParts) (i : ℕ) → IsLegalScenario scenario
-    → IsViewsOf scenario i (station_at_first scenario.members) (first_views scenario i)
+    → IsViewsOf scenario i (knowledge_at_first scenario.members) (first_views scenario i)
 first_stands scenario i legal = record {
   legal = legal;
   node = refl;
@@ -101,11 +101,11 @@ first_bounds scenario i legal near = record {
 
 -- ---- a vector becomes the view
 
-pub view_stands : (scenario : ScenarioParts) (i : ℕ) (station : Station) (v : ViewsParts) → IsViewsOf scenario i station v
+pub view_stands : (scenario : ScenarioParts) (i : ℕ) (knowledge : Knowledge) (v : ViewsParts) → IsViewsOf scenario i knowledge v
     → (slot : ℕ) (vector : Nodes) → AllBelow v.params.nodes vector
-    → IsViewsOf scenario i (with_view i slot vector station) (installed vector v)
-view_stands scenario i station v h slot vector below =
-    stands_with scenario i station (with_view i slot vector station) v vector (minus v.joiners vector) (meet v.leavers vector) h
+    → IsViewsOf scenario i (with_view i slot vector knowledge) (installed vector v)
+view_stands scenario i knowledge v h slot vector below =
+    stands_with scenario i knowledge (with_view i slot vector knowledge) v vector (minus v.joiners vector) (meet v.leavers vector) h
     (record {
       members = below;
       joiners = below_minus v.params.nodes v.joiners vector h.below.joiners;

@@ -1,7 +1,7 @@
 -- A small site, and a value that stands for what one of its nodes knows: the words of the tests.
 use Rattle.std.specs.Prelude.{◌≡◌, ◌≤◌, length}
 use Rattle.cany_base.specs.Scenario.{ScenarioParts}
-use Rattle.cany_model.specs.Rules.Station.{Station}
+use Rattle.cany_model.specs.Rules.Knowledge.{Knowledge}
 use Rattle.cany_views.specs.Views.{IsViewsOf, ViewsParts}
 
 -- three nodes with few scripted asks
@@ -14,5 +14,5 @@ pub record IsSmallSite (scenario : ScenarioParts) : Type 0 where
 
 -- there is something that a node knows in the scenario for which the value stands
 pub record StandsIn (scenario : ScenarioParts) (v : ViewsParts) : Type 0 where
-  pub station : Station
-  pub stands : IsViewsOf scenario v.node station v
+  pub knowledge : Knowledge
+  pub stands : IsViewsOf scenario v.node knowledge v

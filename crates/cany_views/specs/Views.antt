@@ -7,7 +7,7 @@ use Rattle.cany_base.specs.Nodes.{AllBelow, Nodes}
 use Rattle.cany_base.specs.Params.{Parameters}
 use Rattle.cany_base.specs.Scenario.{ScenarioParts, IsLegalScenario}
 use Rattle.cany_model.specs.Rules.Notices.{IsReadable}
-use Rattle.cany_model.specs.Rules.Station.{Station}
+use Rattle.cany_model.specs.Rules.Knowledge.{Knowledge}
 use Rattle.cany_model.specs.Rules.Vectors.{cycle_of}
 
 -- the node, the parameters, its view of the site, the nodes that have asked to join it and those that have asked to leave it, and the
@@ -43,14 +43,14 @@ pub record IsInBounds (v : ViewsParts) : Type 0 where
 abbrev pub asked_cycles : Parameters → ℕ → List NodeAsk → List ℕ
 asked_cycles p i asks = map (λ ask. cycle_of p ask.slot) (filter (λ ask. ask.node == i) asks)
 
--- The value is that of node i where it knows what this station knows of members, and of who has asked.
-pub record IsViewsOf (scenario : ScenarioParts) (i : ℕ) (station : Station) (v : ViewsParts) : Type 0 where
+-- The value is that of node i where it knows what this knowledge knows of members, and of who has asked.
+pub record IsViewsOf (scenario : ScenarioParts) (i : ℕ) (knowledge : Knowledge) (v : ViewsParts) : Type 0 where
   pub legal : IsLegalScenario scenario
   pub node : v.node ≡ i
   pub params : v.params ≡ scenario.params
-  pub members : v.members ≡ station.members
-  pub joiners : v.joiners ≡ station.joiners
-  pub leavers : v.leavers ≡ station.leavers
+  pub members : v.members ≡ knowledge.members
+  pub joiners : v.joiners ≡ knowledge.joiners
+  pub leavers : v.leavers ≡ knowledge.leavers
   pub below : HasNodesOfBus v
   pub joins : v.joins ≡ asked_cycles scenario.params i scenario.joins
   pub leaves : v.leaves ≡ asked_cycles scenario.params i scenario.leaves
@@ -58,6 +58,6 @@ pub record IsViewsOf (scenario : ScenarioParts) (i : ℕ) (station : Station) (v
 -- there is a scenario, and what is known in it, that the value stands for, and its nodes can read the notice
 pub record CanHear (v : ViewsParts) (notice : Notice) : Type 0 where
   pub scenario : ScenarioParts
-  pub station : Station
-  pub stands : IsViewsOf scenario v.node station v
+  pub knowledge : Knowledge
+  pub stands : IsViewsOf scenario v.node knowledge v
   pub readable : IsReadable scenario notice.slot notice.kind

@@ -5,7 +5,7 @@ ghost use Rattle.cany_base.specs.Scenario.{ScenarioParts};
 ghost use Rattle.cany_model.specs.Bus.Slot.{nobody};
 ghost use Rattle.cany_model.specs.Rules.Actions.{actions_of};
 ghost use Rattle.cany_model.specs.Rules.Notices.{IsReadable};
-ghost use Rattle.cany_model.specs.Rules.Station.{Station, station_at_first};
+ghost use Rattle.cany_model.specs.Rules.Knowledge.{Knowledge, knowledge_at_first};
 ghost use Rattle.cany_model.specs.Rules.Vectors.{cycle_of};
 ghost use Rattle.cany_model.specs.Rules.Views.{after_ask, join_asked, leave_asked, minus, plus, start_of, view_effects, with_view};
 ghost use Rattle.cany_views.specs.Views.{CanHear, IsViewsOf};
@@ -58,7 +58,7 @@ impl Views {
     /// That of a node that has read nothing. The members are those of the scenario, and nobody has asked.
     pub fn build(alloc: Global, node: NodeId, scenario: &Scenario) -> Result<Views, Memory>
         requires { node < scenario.now.params.nodes }
-        ensures { IfOk result (λ views. IsViewsOf scenario.now node (station_at_first scenario.now.members) views) }
+        ensures { IfOk result (λ views. IsViewsOf scenario.now node (knowledge_at_first scenario.now.members) views) }
     {
         let params = *scenario.params();
         let joins = asked_cycles(alloc, &params, node, scenario.joins())?;
@@ -76,8 +76,8 @@ impl Views {
 
     /// That of a node which is at first no member, as one that starts again: it knows no member, and of nobody that has asked.
     pub fn begin_outside(&mut self)
-        ensures stands { (scenario : ScenarioParts) (station : Station) → IsViewsOf scenario self.old.node station self.old →
-            IsViewsOf scenario self.old.node (station_at_first nobody) self.new }
+        ensures stands { (scenario : ScenarioParts) (knowledge : Knowledge) → IsViewsOf scenario self.old.node knowledge self.old →
+            IsViewsOf scenario self.old.node (knowledge_at_first nobody) self.new }
         ensures node { self.new.node ≡ self.old.node }
         ensures params { self.new.params ≡ self.old.params }
         ensures joins { self.new.joins ≡ self.old.joins }
@@ -91,9 +91,9 @@ impl Views {
     /// Who asks in a notice to join the view or to leave it. A join counts where it is got, a leave also where it is the node's own.
     pub fn hear(&mut self, notice: &Notice)
         requires { CanHear self.old notice.now }
-        ensures stands { (scenario : ScenarioParts) (station : Station) → IsViewsOf scenario self.old.node station self.old →
+        ensures stands { (scenario : ScenarioParts) (knowledge : Knowledge) → IsViewsOf scenario self.old.node knowledge self.old →
             IsReadable scenario notice.now.slot notice.now.kind →
-            IsViewsOf scenario self.old.node (after_ask notice.now.kind station) self.new }
+            IsViewsOf scenario self.old.node (after_ask notice.now.kind knowledge) self.new }
         ensures node { self.new.node ≡ self.old.node }
         ensures params { self.new.params ≡ self.old.params }
         ensures joins { self.new.joins ≡ self.old.joins }
@@ -129,8 +129,8 @@ impl Views {
     /// that join. A node that is no member starts with nothing.
     pub fn start(&self, failed: NodeSet) -> Option<NodeSet>
         requires failed { AllBelow self.now.params.nodes failed }
-        ensures exact { (scenario : ScenarioParts) (station : Station) → IsViewsOf scenario self.now.node station self.now →
-            ((r : ℕ) → has failed r ≡ has station.failed r) → result ≡ start_of self.now.node station }
+        ensures exact { (scenario : ScenarioParts) (knowledge : Knowledge) → IsViewsOf scenario self.now.node knowledge self.now →
+            ((r : ℕ) → has failed r ≡ has knowledge.failed r) → result ≡ start_of self.now.node knowledge }
         ensures below { IfSome result (AllBelow self.now.params.nodes) }
     {
         if self.members.has(self.node) {
@@ -150,9 +150,9 @@ impl Views {
         requires room { length out.old.items + 1 + length self.old.joins + length self.old.leaves ≤ out.old.room }
         ensures newly { result ≡ minus ended.vector self.old.members }
         ensures below { AllBelow self.old.params.nodes result }
-        ensures stands { (scenario : ScenarioParts) (station : Station) → IsViewsOf scenario self.old.node station self.old →
-            IsViewsOf scenario self.old.node (with_view self.old.node now ended.vector station) self.new }
-        ensures actions { (scenario : ScenarioParts) (station : Station) → IsViewsOf scenario self.old.node station self.old →
+        ensures stands { (scenario : ScenarioParts) (knowledge : Knowledge) → IsViewsOf scenario self.old.node knowledge self.old →
+            IsViewsOf scenario self.old.node (with_view self.old.node now ended.vector knowledge) self.new }
+        ensures actions { (scenario : ScenarioParts) (knowledge : Knowledge) → IsViewsOf scenario self.old.node knowledge self.old →
             out.new.items ≡ out.old.items ++ actions_of scenario.params.format
             (view_effects scenario.params scenario.joins scenario.leaves self.old.node now (Some ended.vector)) }
         ensures node { self.new.node ≡ self.old.node }

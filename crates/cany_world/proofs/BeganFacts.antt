@@ -10,12 +10,12 @@ use Rattle.cany_base.specs.Scenario.{ScenarioParts, is_ask_of_node}
 use Rattle.cany_base.proofs.NodesFacts.{same_as_those_where}
 use Rattle.cany_model.specs.Bus.Restart.{began_at, restarted_in}
 use Rattle.cany_model.specs.Bus.Run.{run}
-use Rattle.cany_model.specs.Bus.State.{Ended, Incarnation, NodeState, node_at}
+use Rattle.cany_model.specs.Bus.State.{EndedIncarnation, Incarnation, NodeState, node_at}
 use Rattle.cany_world.proofs.EntriesLeft.{all_left}
 use Rattle.cany_world.proofs.InOrder.{AreInOrder, in_order}
 
 -- of the first incarnation none ended before it
-none_ended : (inc : Incarnation) (ended : List Ended) → AreInOrder inc ended → inc.number ≡ 0 → ended ≡ []
+none_ended : (inc : Incarnation) (ended : List EndedIncarnation) → AreInOrder inc ended → inc.number ≡ 0 → ended ≡ []
 unfolding AreInOrder
 none_ended inc [] order first = refl
 none_ended inc (e ∷ ended) order first = absurd (omega (arith, order.0, first))
@@ -37,6 +37,6 @@ none_restarted scenario journal slot set none empty = same_as_those_where set _ 
 
     stays : (i : ℕ) → (began_at slot (node i).present || list_any (λ e. began_at slot e.incarnation) (node i).ended) ≡ false
     stays i =
-        ap (λ ended. began_at slot (node i).present || list_any (λ (e : Ended). began_at slot e.incarnation) ended)
+        ap (λ ended. began_at slot (node i).present || list_any (λ (e : EndedIncarnation). began_at slot e.incarnation) ended)
         (none_ended (node i).present (node i).ended (in_order scenario journal i).order (first i))
         ∙ ap (λ n. (not (n == 0) && (node i).present.since == slot + 1) || false) (first i)

@@ -8,7 +8,7 @@ use Rattle.cany_base.specs.declared.slot_note.SlotNote.{SlotNote}
 use Rattle.cany_base.specs.Params.{Parameters}
 use Rattle.cany_model.specs.Bus.History.{ended_history, given, seen}
 use Rattle.cany_model.specs.Bus.Restart.{ended_at, next_incarnation, restarted}
-use Rattle.cany_model.specs.Bus.State.{Ended, Incarnation, NodeState}
+use Rattle.cany_model.specs.Bus.State.{EndedIncarnation, Incarnation, NodeState}
 use Rattle.cany_model.proofs.Bus.Seen.{Numbered, early_hidden, seen_idle}
 use Rattle.cany_model.specs.Rules.Notices.{error_as_idle}
 use Rattle.cany_world.specs.Kept.{heard_of, past_of}
@@ -48,7 +48,7 @@ ended_past i slot trace node e short =
     ap (λ n. map (given i) (drop n (seen node.present trace))) left
 
 -- and this stays so
-pub ended_later : (i : ℕ) (note : SlotNote) (trace : List SlotNote) (e : Ended) → e.next ≤ length trace
+pub ended_later : (i : ℕ) (note : SlotNote) (trace : List SlotNote) (e : EndedIncarnation) → e.next ≤ length trace
     → ended_history i (note ∷ trace) e ≡ ended_history i trace e
 unfolding ended_history
 ended_later i note trace e within =
@@ -58,13 +58,13 @@ ended_later i note trace e within =
 -- ---- an incarnation by its number
 
 -- that of a number below the present one has ended
-pub record HasEnded (P : Ended → Type 0) (ended : List Ended) (number : ℕ) : Type 0 where
-  pub end : Ended
+pub record HasEnded (P : EndedIncarnation → Type 0) (ended : List EndedIncarnation) (number : ℕ) : Type 0 where
+  pub end : EndedIncarnation
   pub found : find (λ e. e.incarnation.number == number) ended ≡ Some end
   pub is : end.incarnation.number ≡ number
   pub has : P end
 
-pub has_ended : (P : Ended → Type 0) (inc : Incarnation) (ended : List Ended) (number : ℕ) → AreInOrder inc ended → AllByRecursion P ended → number < inc.number
+pub has_ended : (P : EndedIncarnation → Type 0) (inc : Incarnation) (ended : List EndedIncarnation) (number : ℕ) → AreInOrder inc ended → AllByRecursion P ended → number < inc.number
     → HasEnded P ended number
 unfolding AreInOrder
 has_ended P inc [] number order all below = absurd (omega (arith, below, ap (λ (x : Incarnation). x.number) order))
@@ -76,7 +76,7 @@ has_ended P inc (e ∷ ended) number order all below = elim (cases_eq e.incarnat
 ]
 
 -- each that ended has a lower number
-pub ended_below : (inc : Incarnation) (ended : List Ended) → AreInOrder inc ended → AllByRecursion (λ e. e.incarnation.number < inc.number) ended
+pub ended_below : (inc : Incarnation) (ended : List EndedIncarnation) → AreInOrder inc ended → AllByRecursion (λ e. e.incarnation.number < inc.number) ended
 unfolding AreInOrder
 ended_below inc [] order = tt
 ended_below inc (e ∷ ended) order = (

@@ -29,14 +29,14 @@ idle_rounds zero nodes = []
 idle_rounds (suc slots) nodes = idle_round nodes ++ idle_rounds slots nodes
 
 -- the node waits with nothing, has read every notice, and its counters do not stop it
-pub record IsCalm (node : NodeState) : Type 0 where
+pub record HasNothingToDo (node : NodeState) : Type 0 where
   pub waiting : node.waiting ≡ []
   pub unread : node.unread ≡ 0
   pub counters : exceeds node ≡ false
 
--- So many slots are left, of which the script says nothing. The running nodes are calm, and at none of the slots have they anything to do.
+-- So many slots are left, of which the script says nothing. The running nodes have nothing to do, and at none of the slots have they anything to do.
 pub record MayRest (scenario : ScenarioParts) (s : RunState) (slots : ℕ) : Type 0 where
   pub left : IsOpen scenario s slots
-  pub calm : (i : ℕ) → runs (node_at s.nodes i) ≡ true → IsCalm (node_at s.nodes i)
+  pub nothing_to_do : (i : ℕ) → runs (node_at s.nodes i) ≡ true → HasNothingToDo (node_at s.nodes i)
   pub nothing : (n i : ℕ) → n < slots → runs (node_at s.nodes i) ≡ true
       → effects_for (node_at s.nodes i).present.number scenario (node_at s.nodes i).present i (history i (after_rest (n + 1) s)) ≡ []

@@ -7,7 +7,7 @@ use Rattle.cany_base.specs.declared.notice.NoticeKind.TheVariants.{Idle}
 use Rattle.cany_base.specs.declared.slot_note.SlotNote.{SlotNote}
 use Rattle.cany_model.specs.Bus.History.{as_seen, ended_history, given, is_hidden, seen}
 use Rattle.cany_model.specs.Bus.Slot.{share_of}
-use Rattle.cany_model.specs.Bus.State.{Ended, Incarnation, NodeState}
+use Rattle.cany_model.specs.Bus.State.{EndedIncarnation, Incarnation, NodeState}
 use Rattle.cany_model.specs.Rules.Notices.{error_as_idle}
 use Rattle.can_bus.specs.Rest.{idle_note, idle_trace}
 use Rattle.can_bus.proofs.RestFacts.{length-idle_trace}
@@ -65,14 +65,14 @@ past_unread i slots trace node = ap (map (given i)) (seen_later slots node.unrea
 
 -- ---- what the incarnations had read that ended
 
-ended_rested : (i slots : ℕ) (trace : List SlotNote) (e : Ended) → e.next ≤ length trace → ended_history i (idle_trace slots trace) e ≡ ended_history i trace e
+ended_rested : (i slots : ℕ) (trace : List SlotNote) (e : EndedIncarnation) → e.next ≤ length trace → ended_history i (idle_trace slots trace) e ≡ ended_history i trace e
 unfolding idle_trace
 ended_rested i zero trace e within = refl
 ended_rested i (suc slots) trace e within =
     ended_later i (idle_note (length (idle_trace slots trace))) (idle_trace slots trace) e (omega (arith, within, length-idle_trace slots trace))
     ∙ ended_rested i slots trace e within
 
-pub all_ended_rested : (i slots : ℕ) (trace : List SlotNote) (ended : List Ended) → AllByRecursion (λ e. e.next ≤ length trace) ended
+pub all_ended_rested : (i slots : ℕ) (trace : List SlotNote) (ended : List EndedIncarnation) → AllByRecursion (λ e. e.next ≤ length trace) ended
     → AllByRecursion (λ e. ended_history i (idle_trace slots trace) e ≡ ended_history i trace e) ended
 all_ended_rested i slots trace ended =
     weaker (λ e. e.next ≤ length trace) (λ e. ended_history i (idle_trace slots trace) e ≡ ended_history i trace e) (λ e within. ended_rested i slots trace e within) ended

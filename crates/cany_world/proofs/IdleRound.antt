@@ -29,32 +29,32 @@ use Rattle.cany_model.proofs.Bus.Steps.{MayTurn, after_slot-length, after_slot-n
 use Rattle.cany_model.proofs.Rules.IncarnationFacts.{effects_for-is}
 use Rattle.can_bus.specs.Rest.{idle_note, idle_trace}
 use Rattle.cany_world.specs.Resting.{IsFree}
-use Rattle.cany_world.proofs.Idle.{IsCalm, MayRest, after_rest, idle_round, rested}
+use Rattle.cany_world.proofs.Idle.{HasNothingToDo, MayRest, after_rest, idle_round, rested}
 
 -- ---- the slot
 
--- every running node is calm
-abbrev AllCalm : RunState → Type 0
-AllCalm s = (i : ℕ) → runs (node_at s.nodes i) ≡ true → IsCalm (node_at s.nodes i)
+-- every running node has nothing to do
+abbrev AllHaveNothingToDo : RunState → Type 0
+AllHaveNothingToDo s = (i : ℕ) → runs (node_at s.nodes i) ≡ true → HasNothingToDo (node_at s.nodes i)
 
 -- nobody competes
 
-nothing_offered : (s : RunState) (f : FrameParts) → AllCalm s → IsOffered s.nodes f → ⊥
-nothing_offered s f calm o =
-    let c : Contains [] f = subst (λ waiting. Contains waiting f) (calm o.node o.running).waiting o.waits in
+nothing_offered : (s : RunState) (f : FrameParts) → AllHaveNothingToDo s → IsOffered s.nodes f → ⊥
+nothing_offered s f nothing_to_do o =
+    let c : Contains [] f = subst (λ waiting. Contains waiting f) (nothing_to_do o.node o.running).waiting o.waits in
     absurd (omega (arith, c.1))
 
-no_winner : (s : RunState) → AllCalm s → winner s.nodes ≡ None
-no_winner s calm = by_winner (winner s.nodes) refl
+no_winner : (s : RunState) → AllHaveNothingToDo s → winner s.nodes ≡ None
+no_winner s nothing_to_do = by_winner (winner s.nodes) refl
   where
     by_winner : (found : Option FrameParts) → winner s.nodes ≡ found → found ≡ None
     by_winner None e = refl
-    by_winner (Some f) e = absurd (nothing_offered s f calm (winner-offered s.nodes f e))
+    by_winner (Some f) e = absurd (nothing_offered s f nothing_to_do (winner-offered s.nodes f e))
 
 -- nobody stops, by the script or by its counters
-none_stops : (s : RunState) (slot : ℕ) → AllCalm s → stopping nobody s.nodes (idle_note slot) ≡ nobody
+none_stops : (s : RunState) (slot : ℕ) → AllHaveNothingToDo s → stopping nobody s.nodes (idle_note slot) ≡ nobody
 unfolding share_of after_share
-none_stops s slot calm = sym (same_as_those_where nobody _ (λ i. has_none i ∙ sym (outside (nat_lt i most_nodes) _ (goes_on i))))
+none_stops s slot nothing_to_do = sym (same_as_those_where nobody _ (λ i. has_none i ∙ sym (outside (nat_lt i most_nodes) _ (goes_on i))))
   where
     outside : (b c : Bool) → c ≡ false → (b && c) ≡ false
     outside true c e = e
@@ -62,18 +62,18 @@ none_stops s slot calm = sym (same_as_those_where nobody _ (λ i. has_none i ∙
 
     goes_on : (i : ℕ) → (runs (node_at s.nodes i) && (has nobody i || exceeds (node_at s.nodes i))) ≡ false
     goes_on i = elim (cases_Bool (runs (node_at s.nodes i))) [
-      | inl running ↦ rw (running, has_none i) (calm i running).counters
+      | inl running ↦ rw (running, has_none i) (nothing_to_do i running).counters
       | inr stopped ↦ rw stopped refl
     ]
 
 -- what happens in the slot
-idle_note-is : (scenario : ScenarioParts) (s : RunState) → AllCalm s → IsFree scenario (slots_run s)
+idle_note-is : (scenario : ScenarioParts) (s : RunState) → AllHaveNothingToDo s → IsFree scenario (slots_run s)
     → slot_note_of (script scenario.rules) s ≡ idle_note (length s.trace)
 unfolding slot_note_of script
-idle_note-is scenario s calm free =
-    ap (λ found. note_by (length s.trace) s.nodes found (script scenario.rules s.trace found)) (no_winner s calm)
+idle_note-is scenario s nothing_to_do free =
+    ap (λ found. note_by (length s.trace) s.nodes found (script scenario.rules s.trace found)) (no_winner s nothing_to_do)
     ∙ ap (λ rule. note_by (length s.trace) s.nodes None (ruling_of rule)) free.rules
-    ∙ ap (λ stops. record (idle_note (length s.trace)) { stops = stops }) (none_stops s (length s.trace) calm)
+    ∙ ap (λ stops. record (idle_note (length s.trace)) { stops = stops }) (none_stops s (length s.trace) nothing_to_do)
 
 -- the node with one notice more unread
 abbrev pub one_unread : NodeState → NodeState
@@ -108,14 +108,14 @@ unfolding node_at
 node_at-map f nodes i h = get_or-map f nodes i absent absent h
 
 -- no restart entry is of the slot, so that each node is as the slot left it
-slot_node : (scenario : ScenarioParts) (s : RunState) → AllCalm s → IsFree scenario (slots_run s) → (i : ℕ) → i < length s.nodes
+slot_node : (scenario : ScenarioParts) (s : RunState) → AllHaveNothingToDo s → IsFree scenario (slots_run s) → (i : ℕ) → i < length s.nodes
     → node_at (proceed scenario s Slot).nodes i ≡ one_unread (node_at s.nodes i)
 unfolding proceed
-slot_node scenario s calm free i below = elim (restarts_or_stays scenario t i) [
+slot_node scenario s nothing_to_do free i below = elim (restarts_or_stays scenario t i) [
   | inl new ↦ absurd (false≢true (sym (ap (λ slot. names_restart scenario.restarts slot i) last ∙ free.restarts i) ∙ new.named))
   | inr same ↦
       same ∙ after_slot-node (script scenario.rules) s i below
-      ∙ ap (λ note. node_after i note (node_at s.nodes i)) (idle_note-is scenario s calm free)
+      ∙ ap (λ note. node_after i note (node_at s.nodes i)) (idle_note-is scenario s nothing_to_do free)
       ∙ idle_node i (length s.trace) (node_at s.nodes i)
 ]
   where
@@ -129,21 +129,21 @@ slot_length : (scenario : ScenarioParts) (s : RunState) → length (proceed scen
 unfolding proceed
 slot_length scenario s = after_restarts-length scenario (after_slot (script scenario.rules) s) ∙ after_slot-length (script scenario.rules) s
 
-slot_trace : (scenario : ScenarioParts) (s : RunState) → AllCalm s → IsFree scenario (slots_run s) → (proceed scenario s Slot).trace ≡ idle_trace 1 s.trace
+slot_trace : (scenario : ScenarioParts) (s : RunState) → AllHaveNothingToDo s → IsFree scenario (slots_run s) → (proceed scenario s Slot).trace ≡ idle_trace 1 s.trace
 unfolding idle_trace
-slot_trace scenario s calm free = slot_step-trace scenario s ∙ ap (λ note. note ∷ s.trace) (idle_note-is scenario s calm free)
+slot_trace scenario s nothing_to_do free = slot_step-trace scenario s ∙ ap (λ note. note ∷ s.trace) (idle_note-is scenario s nothing_to_do free)
 
-idle_slot-is : (scenario : ScenarioParts) (s : RunState) → AllCalm s → IsFree scenario (slots_run s) → proceed scenario s Slot ≡ idle_slot s
-idle_slot-is scenario s calm free =
+idle_slot-is : (scenario : ScenarioParts) (s : RunState) → AllHaveNothingToDo s → IsFree scenario (slots_run s) → proceed scenario s Slot ≡ idle_slot s
+idle_slot-is scenario s nothing_to_do free =
     let nodes : (proceed scenario s Slot).nodes ≡ map one_unread s.nodes =
     same_nodes_at (proceed scenario s Slot).nodes (map one_unread s.nodes) (slot_length scenario s ∙ sym (length-map s.nodes one_unread))
     (λ i h. let below : i < length s.nodes = subst (λ n. i < n) (slot_length scenario s) h in
-    slot_node scenario s calm free i below ∙ sym (node_at-map one_unread s.nodes i below)) in
-    λ k. record { trace = (slot_trace scenario s calm free) k; nodes = nodes k }
+    slot_node scenario s nothing_to_do free i below ∙ sym (node_at-map one_unread s.nodes i below)) in
+    λ k. record { trace = (slot_trace scenario s nothing_to_do free) k; nodes = nodes k }
 
-slot_done : (scenario : ScenarioParts) (s : RunState) → AllCalm s → slots_run s < scenario.params.slots → is_done (reply scenario s Slot) ≡ true
-slot_done scenario s calm room =
-    slot_is_done scenario s (record { room = room; lag = λ i running. omega (arith, (calm i running).unread) })
+slot_done : (scenario : ScenarioParts) (s : RunState) → AllHaveNothingToDo s → slots_run s < scenario.params.slots → is_done (reply scenario s Slot) ≡ true
+slot_done scenario s nothing_to_do room =
+    slot_is_done scenario s (record { room = room; lag = λ i running. omega (arith, (nothing_to_do i running).unread) })
 
 -- ---- the turns
 
@@ -325,17 +325,17 @@ reads_after_slot s i = elim (cases_lt i (length s.nodes)) [
     some true n = lt-ltb 0 (n + 1) (omega arith)
     some false n = refl
 
--- a slot is left of which the script says nothing, and the running nodes are calm
+-- a slot is left of which the script says nothing, and the running nodes have nothing to do
 pub record IsIdleNext (scenario : ScenarioParts) (s : RunState) : Type 0 where
   pub room : slots_run s < scenario.params.slots
   pub free : IsFree scenario (slots_run s)
-  pub calm : (i : ℕ) → runs (node_at s.nodes i) ≡ true → IsCalm (node_at s.nodes i)
+  pub nothing_to_do : (i : ℕ) → runs (node_at s.nodes i) ≡ true → HasNothingToDo (node_at s.nodes i)
 
 pub idle_next : (scenario : ScenarioParts) (s : RunState) (slots : ℕ) → MayRest scenario s (suc slots) → IsIdleNext scenario s
 idle_next scenario s slots may = record {
   room = omega (arith, may.left.room);
   free = may.left.free (slots_run s) (omega arith) (omega arith);
-  calm = may.calm;
+  nothing_to_do = may.nothing_to_do;
 }
 
 -- the steps that round robin makes
@@ -343,7 +343,7 @@ pub round-is : (scenario : ScenarioParts) (s : RunState) → IsIdleNext scenario
 unfolding round
 round-is scenario s idle =
     let slot : after_step scenario s Slot ≡ idle_slot s =
-    step_is scenario s Slot (slot_done scenario s idle.calm idle.room) ∙ idle_slot-is scenario s idle.calm idle.free in
+    step_is scenario s Slot (slot_done scenario s idle.nothing_to_do idle.room) ∙ idle_slot-is scenario s idle.nothing_to_do idle.free in
     let tests : (λ i. is_to_read (node_at (idle_slot s).nodes i)) ≡ (λ i. runs (node_at s.nodes i)) = λ k i. (reads_after_slot s i) k in
     ap (λ (t : RunState). Slot ∷ map (λ i. Turn i) (reading_nodes t.nodes)) slot
     ∙ ap (λ test. Slot ∷ map (λ i. Turn i) (filter test (range_with_len 0 (length (idle_slot s).nodes)))) tests
@@ -365,11 +365,11 @@ pub record RoundLeads (scenario : ScenarioParts) (s : RunState) : Type 0 where
 pub slot_leads : (scenario : ScenarioParts) (s : RunState) → IsOrderly scenario.params.nodes s → IsIdleNext scenario s
     → LeadsTo scenario s (Slot ∷ []) (proceed scenario s Slot)
 slot_leads scenario s o idle =
-    leads_on scenario s (proceed scenario s Slot) (proceed scenario s Slot) Slot [] (slot_done scenario s idle.calm idle.room) refl
+    leads_on scenario s (proceed scenario s Slot) (proceed scenario s Slot) Slot [] (slot_done scenario s idle.nothing_to_do idle.room) refl
     (leads_nowhere scenario (proceed scenario s Slot) (proceed scenario s Slot) (orderly_slot_step scenario s o) refl)
 
 pub proceed_idle : (scenario : ScenarioParts) (s : RunState) → IsIdleNext scenario s → proceed scenario s Slot ≡ idle_slot s
-proceed_idle scenario s idle = idle_slot-is scenario s idle.calm idle.free
+proceed_idle scenario s idle = idle_slot-is scenario s idle.nothing_to_do idle.free
 
 orderly_idle : (scenario : ScenarioParts) (s : RunState) → IsOrderly scenario.params.nodes s → IsIdleNext scenario s
     → IsOrderly scenario.params.nodes (idle_slot s)
@@ -399,7 +399,7 @@ round_leads scenario s o idle =
     record {
       end = turns.end;
       leads = subst (λ (made : List Step). LeadsTo scenario s (Slot ∷ made) turns.end) steps
-          (leads_on scenario s u turns.end Slot _ (slot_done scenario s idle.calm idle.room) is turns.leads);
+          (leads_on scenario s u turns.end Slot _ (slot_done scenario s idle.nothing_to_do idle.room) is turns.leads);
       after = record {
         trace = turns.now.trace;
         count = turns.now.count ∙ length-map s.nodes one_unread;

@@ -20,7 +20,7 @@ use Rattle.cany_model.proofs.Bus.Runs.{IsOrderly, orderly}
 use Rattle.cany_model.proofs.Bus.States.{node_at_past, runs_within}
 use Rattle.can_bus.specs.Rest.{idle_note, idle_trace}
 use Rattle.can_bus.proofs.RestFacts.{length-idle_trace}
-use Rattle.cany_world.proofs.Idle.{IsCalm, MayRest, after_rest, idle_round, idle_rounds, rested}
+use Rattle.cany_world.proofs.Idle.{HasNothingToDo, MayRest, after_rest, idle_round, idle_rounds, rested}
 use Rattle.cany_world.proofs.IdleRound.{IsAfterRound, IsIdleNext, LeadsTo, RoundLeads, idle_next, idle_round_leads, leads_nowhere, leads_then, node_at-map, rested_running, rested_stopped, round-is, round_leads, slot_leads}
 
 -- ---- one slot, and then more
@@ -129,9 +129,9 @@ rest_goes_on scenario s slots may =
         room = omega (arith, longer, may.left.room);
         free = λ slot low high. may.left.free slot (omega (arith, longer, low)) (omega (arith, longer, high));
       };
-      calm = λ i runs_on.
+      nothing_to_do = λ i runs_on.
           let running : runs (node_at s.nodes i) ≡ true = sym (still_runs 1 s i) ∙ runs_on in
-          subst (λ (node : NodeState). IsCalm node) (sym (still_is 1 s i running)) (may.calm i running);
+          subst (λ (node : NodeState). HasNothingToDo node) (sym (still_is 1 s i running)) (may.nothing_to_do i running);
       nothing = λ n i below runs_on.
           let running : runs (node_at s.nodes i) ≡ true = sym (still_runs 1 s i) ∙ runs_on in
           let later : after_rest (n + 1) (after_rest 1 s) ≡ after_rest (n + 1 + 1) s =

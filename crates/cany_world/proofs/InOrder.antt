@@ -11,7 +11,7 @@ use Rattle.cany_base.specs.Scenario.{ScenarioParts}
 use Rattle.cany_model.specs.Bus.Restart.{after_restarts, ended_at}
 use Rattle.cany_model.specs.Bus.Run.{after_turn, run}
 use Rattle.cany_model.specs.Bus.Slot.{FaultScript, after_share, after_slot, node_after, script, share_of, slot_note_of}
-use Rattle.cany_model.specs.Bus.State.{Ended, Incarnation, NodeState, RunState, fresh, node_at, opening, original, runs, slots_run}
+use Rattle.cany_model.specs.Bus.State.{EndedIncarnation, Incarnation, NodeState, RunState, fresh, node_at, opening, original, runs, slots_run}
 use Rattle.cany_model.specs.declared.share.Share.{Share}
 use Rattle.cany_model.specs.declared.share.Share.TheVariants.{Idle, Took, Rejected, Confirmed, Errored}
 use Rattle.cany_model.proofs.Bus.Restarts.{after_restarts-trace, restarts_or_stays}
@@ -20,12 +20,12 @@ use Rattle.cany_model.proofs.Bus.States.{node_at-opening, node_at_past}
 use Rattle.cany_model.proofs.Bus.Steps.{MayTurn, after_slot-length, after_slot-node, after_slot-present, after_slot-trace, after_turn-node, after_turn-other, after_turn-trace}
 
 -- each incarnation has the number after that of the one before it; the first is that of the opening
-unfoldable pub AreInOrder : Incarnation → List Ended → Type 0
+unfoldable pub AreInOrder : Incarnation → List EndedIncarnation → Type 0
 AreInOrder inc [] = inc ≡ original
 AreInOrder inc (e ∷ ended) = (inc.number ≡ suc e.incarnation.number) × AreInOrder e.incarnation ended
 
 -- only that of the opening has the number 0
-pub first_is_original : (inc : Incarnation) (ended : List Ended) → AreInOrder inc ended → inc.number ≡ 0 → inc ≡ original
+pub first_is_original : (inc : Incarnation) (ended : List EndedIncarnation) → AreInOrder inc ended → inc.number ≡ 0 → inc ≡ original
 unfolding AreInOrder
 first_is_original inc [] order first = order
 first_is_original inc (e ∷ ended) order first = absurd (omega (arith, order.0, first))
@@ -86,7 +86,7 @@ turn_same scenario i s j may short = elim (cases_eq j i) [
 
 -- ---- every run
 
-pub weaker : (P Q : Ended → Type 0) → ((e : Ended) → P e → Q e) → (ended : List Ended) → AllByRecursion P ended → AllByRecursion Q ended
+pub weaker : (P Q : EndedIncarnation → Type 0) → ((e : EndedIncarnation) → P e → Q e) → (ended : List EndedIncarnation) → AllByRecursion P ended → AllByRecursion Q ended
 weaker P Q f [] h = tt
 weaker P Q f (e ∷ ended) h = (f e h.0, weaker P Q f ended h.1)
 

@@ -10,7 +10,7 @@ use Rattle.cany_base.specs.Scenario.{ScenarioParts}
 use Rattle.cany_model.specs.declared.span.Span.{Span}
 use Rattle.cany_model.specs.Bus.History.{ended_history}
 use Rattle.cany_model.specs.Bus.Restart.{ended_at, next_incarnation, restarted}
-use Rattle.cany_model.specs.Bus.State.{Ended, Incarnation, NodeState}
+use Rattle.cany_model.specs.Bus.State.{EndedIncarnation, Incarnation, NodeState}
 use Rattle.cany_model.specs.Rules.Log.{log_from}
 use Rattle.cany_model.specs.Rules.Notices.{error_as_idle}
 use Rattle.cany_model.specs.Rules.Turn.{scenario_for}
@@ -27,7 +27,7 @@ use Rattle.cany_world.proofs.PlaceFacts.{got_other, got_same}
 -- ---- of those that ended
 
 -- what was read stays
-ended_still : (scenario : ScenarioParts) (trace trace' : List SlotNote) (i : ℕ) (v : IncarnationsParts) (ended : List Ended)
+ended_still : (scenario : ScenarioParts) (trace trace' : List SlotNote) (i : ℕ) (v : IncarnationsParts) (ended : List EndedIncarnation)
     → AllByRecursion (λ e. ended_history i trace' e ≡ ended_history i trace e) ended → AllByRecursion (IsEndedAt scenario trace i v) ended
     → AllByRecursion (IsEndedAt scenario trace' i v) ended
 ended_still scenario trace trace' i v [] same h = tt
@@ -46,7 +46,7 @@ record AreSameBelow (count : ℕ) (v v' : IncarnationsParts) : Type 0 where
   nodes : (k : ℕ) → k < count → slice_get v'.nodes k ≡ slice_get v.nodes k
   spans : (k : ℕ) → k < count → slice_get v'.spans k ≡ slice_get v.spans k
 
-ended_below_stay : (scenario : ScenarioParts) (trace : List SlotNote) (i count : ℕ) (v v' : IncarnationsParts) (ended : List Ended) → AreSameBelow count v v'
+ended_below_stay : (scenario : ScenarioParts) (trace : List SlotNote) (i count : ℕ) (v v' : IncarnationsParts) (ended : List EndedIncarnation) → AreSameBelow count v v'
     → AllByRecursion (λ e. e.incarnation.number < count) ended → AllByRecursion (IsEndedAt scenario trace i v) ended → AllByRecursion (IsEndedAt scenario trace i v') ended
 ended_below_stay scenario trace i count v v' [] same below h = tt
 ended_below_stay scenario trace i count v v' (e ∷ ended) same below h = (

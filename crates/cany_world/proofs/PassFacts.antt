@@ -10,7 +10,7 @@ use Rattle.cany_base.specs.Nodes.{Nodes, has}
 use Rattle.can_controller.specs.Controller.{ControllerState}
 use Rattle.cany_node.specs.Node.{NodeParts}
 use Rattle.cany_world.specs.Incarnations.{IncarnationsParts}
-use Rattle.cany_world.specs.Resting.{CanAllGo, CanGo, CanPass, HaveAllPassed, HavePassed, HavePassedAt, IsCalmIfItRuns, IsIdleFor, passes}
+use Rattle.cany_world.specs.Resting.{CanAllGo, CanGo, CanPass, HaveAllPassed, HavePassed, HavePassedAt, HasNothingToDoIfItRuns, IsIdleFor, passes}
 use Rattle.cany_world.proofs.PlaceFacts.{got_other, got_same}
 
 -- what the call of the incarnations leaves, by its parts
@@ -93,17 +93,17 @@ all_passed next slots due k row row' kept kept' now all = record {
 
 -- ---- the stretch, as it is found
 
--- the controllers below k that run are calm
-abbrev pub CalmBelow : ℕ → List ControllerState → Type 0
-CalmBelow k row = (i : ℕ) (c : ControllerState) → i < k → slice_get row i ≡ Some c → IsCalmIfItRuns c
+-- the controllers below k that run have nothing to do
+abbrev pub HaveNothingToDoBelow : ℕ → List ControllerState → Type 0
+HaveNothingToDoBelow k row = (i : ℕ) (c : ControllerState) → i < k → slice_get row i ≡ Some c → HasNothingToDoIfItRuns c
 
-pub calm_below_next : (k : ℕ) (row : List ControllerState) (c : ControllerState) → CalmBelow k row → slice_get row k ≡ Some c → IsCalmIfItRuns c
-    → CalmBelow (k + 1) row
-calm_below_next k row c now at here i d h there = elim (cases_eq i k) [
+pub nothing_to_do_below_next : (k : ℕ) (row : List ControllerState) (c : ControllerState) → HaveNothingToDoBelow k row → slice_get row k ≡ Some c → HasNothingToDoIfItRuns c
+    → HaveNothingToDoBelow (k + 1) row
+nothing_to_do_below_next k row c now at here i d h there = elim (cases_eq i k) [
   | inl same ↦
       let is_c : Some c ≡ Some d = sym at ∙ subst (λ n. slice_get row n ≡ Some d) same there in
       let same_c : c ≡ d = cc in
-      subst (λ (x : ControllerState). IsCalmIfItRuns x) same_c here
+      subst (λ (x : ControllerState). HasNothingToDoIfItRuns x) same_c here
   | inr other ↦ now i d (omega arith) there
 ]
 

@@ -40,7 +40,7 @@ use Rattle.cany_world.specs.Incarnations.{IncarnationsParts}
 use Rattle.cany_world.specs.Kept.{IsKeptAs, IsKeptAt, IsPresentAt, AreControllersOf, AreNodesOf, StandFor, heard_of, newest_notices, past_of}
 use Rattle.cany_world.specs.Resting.{runs_at as controller_runs}
 use Rattle.cany_world.specs.Resting.{CanAllPass, CanCount, IncarnationRests, IsIdleFor, IsOpen, passes, round_of, rounds_of}
-use Rattle.cany_world.proofs.Idle.{IsCalm, MayRest, after_rest, idle_round, idle_rounds, rested}
+use Rattle.cany_world.proofs.Idle.{HasNothingToDo, MayRest, after_rest, idle_round, idle_rounds, rested}
 use Rattle.cany_world.proofs.ControllerFacts.{kept_slot, running_after, stopped_after, stopped_node}
 use Rattle.cany_world.proofs.IdleNotes.{all_ended_rested, heard_rested, past_rested, past_unread, plain_rested}
 use Rattle.cany_world.proofs.IdleRound.{IsIdleNext, idle_node, node_at-map, one_unread, rested_running}
@@ -71,9 +71,9 @@ running_stop : (stopped : Option ℕ) → is_none stopped ≡ true → stopped �
 running_stop None e = refl
 running_stop (Some slot) e = absurd (true≢false (sym e))
 
-calm_of : (scenario : ScenarioParts) (trace : List SlotNote) (i next slots : ℕ) (node : NodeState) (c : ControllerState) (v : IncarnationsParts)
-    → IsKeptAs scenario trace i node c → c.stopped ≡ None → IsIdleFor next slots c v → IsCalm node
-calm_of scenario trace i next slots node c v kept running idle = record {
+nothing_to_do_of : (scenario : ScenarioParts) (trace : List SlotNote) (i next slots : ℕ) (node : NodeState) (c : ControllerState) (v : IncarnationsParts)
+    → IsKeptAs scenario trace i node c → c.stopped ≡ None → IsIdleFor next slots c v → HasNothingToDo node
+nothing_to_do_of scenario trace i next slots node c v kept running idle = record {
   waiting = sym kept.waiting ∙ idle.waiting;
   unread = sym (kept.all running) ∙ ap (λ (l : List Notice). length l) idle.unread;
   counters = ap (λ n. nat_lt greatest_error_counter n || nat_lt greatest_error_counter node.receive) (sym kept.transmit)
@@ -106,7 +106,7 @@ module _ (scenario : ScenarioParts) (journal : List Step) (slots : ℕ) (due : N
     pub is : IsKeptAt scenario s.trace i (node i) at.v
     pub running : at.c.stopped ≡ None
     pub idle : IsIdleFor (slots_run s) (passes slots due i) at.c at.v
-    pub calm : IsCalm (node i)
+    pub nothing_to_do : HasNothingToDo (node i)
     pub heard : length (heard_of i s.trace (node i)) ≡ slots_run s
     pub rests : RestsUntil (slots_run s + passes slots due i) is.present.it
 
@@ -117,15 +117,15 @@ module _ (scenario : ScenarioParts) (journal : List Step) (slots : ℕ) (due : N
       let is : IsKeptAt scenario s.trace i (node i) at.v = stands.nodes.each i at.v at.node_at in
       let none : at.c.stopped ≡ None = ctl.stopped ∙ running_stop (node i).stopped running in
       let idle : IsIdleFor (slots_run s) (passes slots due i) at.c at.v = passes_on i at.c at.v at.at at.node_at none in
-      let calm : IsCalm (node i) = calm_of scenario s.trace i (slots_run s) (passes slots due i) (node i) at.c at.v ctl none idle in
-      let heard : length (heard_of i s.trace (node i)) ≡ slots_run s = omega (arith, past_length s i, calm.unread) in
+      let nothing_to_do : HasNothingToDo (node i) = nothing_to_do_of scenario s.trace i (slots_run s) (passes slots due i) (node i) at.c at.v ctl none idle in
+      let heard : length (heard_of i s.trace (node i)) ≡ slots_run s = omega (arith, past_length s i, nothing_to_do.unread) in
       record {
         at = at;
         ctl = ctl;
         is = is;
         running = none;
         idle = idle;
-        calm = calm;
+        nothing_to_do = nothing_to_do;
         heard = heard;
         rests = rests_on (slots_run s) (passes slots due i) at.v is.present.it idle.node is.present.at (is.present.stands.read ∙ heard);
       }
@@ -143,7 +143,7 @@ module _ (scenario : ScenarioParts) (journal : List Step) (slots : ℕ) (due : N
       node_at-map (rested (n + 1)) s.nodes i (runs_within s.nodes i running) ∙ rested_running (n + 1) (node i) running in
       let reads : history i (after_rest (n + 1) s) ≡ replicate (n + 1) Idle ++ past =
       history-is i (after_rest (n + 1) s) ∙ ap (λ (x : NodeState). past_of i (idle_trace (n + 1) s.trace) x) here
-      ∙ past_rested i (n + 1) s.trace (node i) r.calm.unread in
+      ∙ past_rested i (n + 1) s.trace (node i) r.nothing_to_do.unread in
       let more : replicate (n + 1) Idle ++ past ≡ Idle ∷ (replicate n Idle ++ past) = next_idle n past in
       let none : turn_effects follows i (Idle ∷ (replicate n Idle ++ heard)) ≡ [] =
       subst (λ k. turn_effects follows k (Idle ∷ (replicate n Idle ++ heard)) ≡ []) p.number
@@ -162,7 +162,7 @@ module _ (scenario : ScenarioParts) (journal : List Step) (slots : ℕ) (due : N
   pub may_rest : (fewer : ℕ) → fewer + 1 ≡ slots → MayRest scenario s fewer
   may_rest fewer e = record {
     left = record { room = omega (arith, open_on.room, e); free = λ slot from below. open_on.free slot from (omega (arith, below, e)) };
-    calm = λ i running. (runs_at i running).calm;
+    nothing_to_do = λ i running. (runs_at i running).nothing_to_do;
     nothing = λ n i less running. nothing_at n i (omega (arith, less, e, passes_most slots due i)) running;
   }
 
@@ -173,9 +173,9 @@ module _ (scenario : ScenarioParts) (journal : List Step) (slots : ℕ) (due : N
       record {
         room = omega (arith, open_on.room, e, long);
         free = open_on.free (slots_run (after_rest fewer s)) (omega (arith, long)) (omega (arith, long, e));
-        calm = λ i runs_on.
+        nothing_to_do = λ i runs_on.
             let running : runs (node i) ≡ true = sym (still_runs fewer s i) ∙ runs_on in
-            subst (λ (x : NodeState). IsCalm x) (sym (still_is fewer s i running)) (runs_at i running).calm;
+            subst (λ (x : NodeState). HasNothingToDo x) (sym (still_is fewer s i running)) (runs_at i running).nothing_to_do;
       }
 
 -- ---- controllers after it
@@ -258,14 +258,14 @@ pub idle_notice : (scenario : ScenarioParts) (trace : List SlotNote) (i slot : �
     → node.unread ≤ length trace → c.stopped ≡ None → exceeds (node_state c) ≡ false → slot ≡ length trace
     → IsKeptAs scenario (idle_trace 1 trace) i (one_unread node) (seen slot share.Idle c)
 unfolding idle_trace share_of after_share
-idle_notice scenario trace i slot node c kept short running calm e =
+idle_notice scenario trace i slot node c kept short running nothing_to_do e =
     let note : SlotNote = idle_note (length trace) in
     let sees : controller_after i note c ≡ seen (length trace) share.Idle c =
     running_after i note c running
     ∙ ap (λ b. if b then stopped_at (length trace) (seen (length trace) share.Idle c) else seen (length trace) share.Idle c) (has_none i) in
     let long : length (c.unread ++ record { slot = length trace; kind = Idle } ∷ []) ≡ length c.unread + 1 =
     length-append c.unread (record { slot = length trace; kind = Idle } ∷ []) in
-    let goes_on : (if exceeds (node_state c) then Some (length trace) else None) ≡ c.stopped = rw (calm, running) refl in
+    let goes_on : (if exceeds (node_state c) then Some (length trace) else None) ≡ c.stopped = rw (nothing_to_do, running) refl in
     let law : node_state (controller_after i note c) ≡ node_after i note (node_state c) =
     ap node_state sees ∙ (λ k. record (node_state c) { unread = long k; stopped = goes_on k }) ∙ sym (idle_node i (length trace) (node_state c)) in
     subst (λ n. IsKeptAs scenario (note ∷ trace) i (one_unread node) (seen n share.Idle c)) (sym e)

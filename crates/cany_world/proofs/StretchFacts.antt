@@ -161,9 +161,9 @@ module _ (scenario : ScenarioParts) (journal : List Step) (slots : ℕ) (due : N
   resting_both i r running early c' v' passed =
       both i (node i) c' v' (after_resting i running early)
       (subst (IsKeptAs scenario (idle_trace slots s.trace) i (node i)) (sym passed.controller)
-      (running_rests scenario s.trace i (node i) r.at.c slots r.ctl r.calm.unread r.idle.unread))
+      (running_rests scenario s.trace i (node i) r.at.c slots r.ctl r.nothing_to_do.unread r.idle.unread))
       (subst (IsKeptAt scenario (idle_trace slots s.trace) i (node i)) (sym (passed.node r.is.present.it r.is.present.at))
-      (node_rests scenario s.trace i slots (node i) r.at.v (in_order scenario journal i) r.is (slots_run s + passes slots due i) r.rests r.calm.unread
+      (node_rests scenario s.trace i slots (node i) r.at.v (in_order scenario journal i) r.is (slots_run s + passes slots due i) r.rests r.nothing_to_do.unread
       (omega (arith, r.heard, passes_all slots due i early)) (omega (arith, r.heard, open_on.room))))
 
   -- ---- the turn of a node that is due
@@ -191,15 +191,15 @@ module _ (scenario : ScenarioParts) (journal : List Step) (slots : ℕ) (due : N
       → IsNoticed i (noticed (slots_run s) fewer r.at.c) w
   noticed_both i r running within w passed =
       let c : ControllerState = record r.at.c { read = r.at.c.read + fewer } in
-      let ctl : IsKeptAs scenario before.trace i (node i) c = running_rests scenario s.trace i (node i) r.at.c fewer r.ctl r.calm.unread r.idle.unread in
+      let ctl : IsKeptAs scenario before.trace i (node i) c = running_rests scenario s.trace i (node i) r.at.c fewer r.ctl r.nothing_to_do.unread r.idle.unread in
       let at : IsKeptAt scenario before.trace i (node i) w =
       subst (IsKeptAt scenario before.trace i (node i)) (sym (passed r.is.present.it r.is.present.at))
-      (node_rests scenario s.trace i fewer (node i) r.at.v (in_order scenario journal i) r.is (slots_run s + passes slots due i) r.rests r.calm.unread
+      (node_rests scenario s.trace i fewer (node i) r.at.v (in_order scenario journal i) r.is (slots_run s + passes slots due i) r.rests r.nothing_to_do.unread
       (omega (arith, r.heard, passes_most slots due i)) (omega (arith, r.heard, open_on.room))) in
       record {
         ctl = subst (λ (t : List SlotNote). IsKeptAs scenario t i (node_at then.nodes i) (noticed (slots_run s) fewer r.at.c)) then_trace
             (subst (λ (x : NodeState). IsKeptAs scenario (idle_trace 1 before.trace) i x (noticed (slots_run s) fewer r.at.c)) (then_node i running within)
-            (idle_notice scenario before.trace i (slots_run s + fewer) (node i) c ctl (omega (arith, r.calm.unread)) r.running r.idle.counters
+            (idle_notice scenario before.trace i (slots_run s + fewer) (node i) c ctl (omega (arith, r.nothing_to_do.unread)) r.running r.idle.counters
             (sym before_long)));
         at = subst (λ (t : List SlotNote). IsKeptAt scenario t i (node_at then.nodes i) w) then_trace
             (subst (λ (x : NodeState). IsKeptAt scenario (idle_trace 1 before.trace) i x w) (then_node i running within)

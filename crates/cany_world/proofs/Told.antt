@@ -14,7 +14,7 @@ use Rattle.cany_model.specs.Bus.History.{ended_history}
 use Rattle.cany_model.specs.Bus.Incarnations.{incarnation_of, log_of, span_from, span_of}
 use Rattle.cany_model.specs.Bus.Restart.{began_at}
 use Rattle.cany_model.specs.Bus.Run.{run}
-use Rattle.cany_model.specs.Bus.State.{Ended, Incarnation, NodeState, RunState, node_at, reads}
+use Rattle.cany_model.specs.Bus.State.{EndedIncarnation, Incarnation, NodeState, RunState, node_at, reads}
 use Rattle.cany_model.specs.Rules.Log.{log, log_from}
 use Rattle.cany_model.specs.Rules.Turn.{scenario_for}
 use Rattle.cany_model.proofs.Bus.Runs.{orderly}
@@ -39,7 +39,7 @@ unfolding incarnation_of
 found_present s i number here = rw (eq-eqb (node_at s.nodes i).present.number number (sym here)) refl
 
 -- an earlier one among those that ended
-found_ended : (s : RunState) (i number : ℕ) (e : Ended) → number < (node_at s.nodes i).present.number
+found_ended : (s : RunState) (i number : ℕ) (e : EndedIncarnation) → number < (node_at s.nodes i).present.number
     → find (λ x. x.incarnation.number == number) (node_at s.nodes i).ended ≡ Some e → incarnation_of s i number ≡ Some e
 unfolding incarnation_of
 found_ended s i number e below found = rw (ne_eqb (node_at s.nodes i).present.number number (λ same. absurd (omega (arith, same, below)))) found
@@ -158,13 +158,13 @@ same_truth false true to from = from refl
 same_truth false false to from = refl
 
 -- an incarnation that began after a slot is not that of the opening
-began_from : (slot : ℕ) (inc : Incarnation) (ended : List Ended) → AreInOrder inc ended → inc.since ≡ slot + 1 → began_at slot inc ≡ true
+began_from : (slot : ℕ) (inc : Incarnation) (ended : List EndedIncarnation) → AreInOrder inc ended → inc.since ≡ slot + 1 → began_at slot inc ≡ true
 began_from slot inc ended order since =
     and_from (not (inc.number == 0)) (inc.since == slot + 1)
     (not_from_false (inc.number == 0) (ne_eqb inc.number 0 (λ first. absurd (omega (arith, since, ap (λ (x : Incarnation). x.since) (first_is_original inc ended order first))))))
     (eq-eqb inc.since (slot + 1) since)
 
-ended_began : (scenario : ScenarioParts) (trace : List SlotNote) (i slot : ℕ) (v : IncarnationsParts) (inc : Incarnation) (ended : List Ended) → AreInOrder inc ended
+ended_began : (scenario : ScenarioParts) (trace : List SlotNote) (i slot : ℕ) (v : IncarnationsParts) (inc : Incarnation) (ended : List EndedIncarnation) → AreInOrder inc ended
     → AllByRecursion (IsEndedAt scenario trace i v) ended → (k : ℕ) (span : Span) → k < inc.number → slice_get v.spans k ≡ Some span → span.since ≡ slot + 1
     → list_any (λ e. began_at slot e.incarnation) ended ≡ true
 unfolding AreInOrder
@@ -180,7 +180,7 @@ ended_began scenario trace i slot v inc (e ∷ ended) order all k span below at 
       (ended_began scenario trace i slot v e.incarnation ended order.1 all.1 k span (omega (arith, below, order.0, other)) at since)
 ]
 
-spans_began : (scenario : ScenarioParts) (trace : List SlotNote) (i slot : ℕ) (v : IncarnationsParts) (ended : List Ended)
+spans_began : (scenario : ScenarioParts) (trace : List SlotNote) (i slot : ℕ) (v : IncarnationsParts) (ended : List EndedIncarnation)
     → AllByRecursion (IsEndedAt scenario trace i v) ended → list_any (λ e. began_at slot e.incarnation) ended ≡ true → list_any (began_in slot) v.spans ≡ true
 spans_began scenario trace i slot v [] all h = absurd (cc)
 spans_began scenario trace i slot v (e ∷ ended) all h = elim (cases_Bool (began_at slot e.incarnation)) [

@@ -26,8 +26,8 @@ use Rattle.cany_model.specs.Bus.State.{Incarnation, NodeState, RunState, node_at
 use Rattle.cany_model.specs.Rules.Effect.{Effect}
 use Rattle.cany_model.specs.Rules.Notices.{HasFewSigns, IsNextNotice, IsReadable, IsReadableVector, error_as_idle}
 use Rattle.cany_model.specs.Rules.Rooms.{IsAskable, actions_room}
-use Rattle.cany_model.specs.Rules.Site.{station_of}
-use Rattle.cany_model.specs.Rules.Station.{Station}
+use Rattle.cany_model.specs.Rules.Site.{knowledge_of}
+use Rattle.cany_model.specs.Rules.Knowledge.{Knowledge}
 use Rattle.cany_model.specs.Rules.Turn.{scenario_at, turn_effects}
 use Rattle.cany_model.proofs.Among.{Each-weaker}
 use Rattle.cany_model.proofs.Bus.Journals.{trace_short}
@@ -42,7 +42,7 @@ use Rattle.cany_model.proofs.Promises.SpacedSigns.{own_signs_few}
 use Rattle.cany_model.proofs.Promises.VectorNotices.{readable_vector}
 use Rattle.cany_model.proofs.Rules.ErrorCounts.{plain, plain-length}
 use Rattle.cany_model.proofs.Rules.ErrorFacts.{error_turn}
-use Rattle.cany_model.proofs.Rules.ErrorSite.{plain_signs_sent, plain_station}
+use Rattle.cany_model.proofs.Rules.ErrorSite.{plain_signs_sent, plain_knowledge}
 use Rattle.can_controller.specs.Controller.{ControllerState}
 use Rattle.cany_node.specs.Apply.{AreAskable, is_sign}
 use Rattle.cany_node.specs.declared.reply.TurnReply.{TurnReply}
@@ -224,14 +224,14 @@ pub vector_with_next : (scenario : ScenarioParts) (journal : List Step) → IsLe
     → (kept : IsKeptAt scenario (run scenario journal).trace i (node_at (run scenario journal).nodes i) v)
     → IsKeptAs scenario (run scenario journal).trace i (node_at (run scenario journal).nodes i) c → c.stopped ≡ None → slice_get c.unread 0 ≡ Some notice
     → IsReadableVector scenario.params kept.present.it.node notice.slot
-    (station_of (scenario_at scenario (run scenario journal) i) kept.present.it.node (heard_of i (run scenario journal).trace (node_at (run scenario journal).nodes i))).vector
+    (knowledge_of (scenario_at scenario (run scenario journal) i) kept.present.it.node (heard_of i (run scenario journal).trace (node_at (run scenario journal).nodes i))).vector
     (heard_by kept.present.it notice).kind
 vector_with_next scenario journal legal i v c notice node kept running first =
-    subst (λ k. IsReadableVector scenario.params k notice.slot (station_of follows k past).vector (heard_by p.it notice).kind) (sym p.number)
-    (subst (IsReadableVector scenario.params i notice.slot (station_of follows i past).vector) (sym it.is)
-    (plain_vector scenario.params i notice.slot (station_of follows i past).vector (next_notice s i)
-    (subst (λ (st : Station). IsReadableVector scenario.params i notice.slot st.vector (next_notice s i)) (sym knows)
-    (subst (λ n. IsReadableVector scenario.params i n (station_of follows i (history i s)).vector (next_notice s i)) (sym slot)
+    subst (λ k. IsReadableVector scenario.params k notice.slot (knowledge_of follows k past).vector (heard_by p.it notice).kind) (sym p.number)
+    (subst (IsReadableVector scenario.params i notice.slot (knowledge_of follows i past).vector) (sym it.is)
+    (plain_vector scenario.params i notice.slot (knowledge_of follows i past).vector (next_notice s i)
+    (subst (λ (st : Knowledge). IsReadableVector scenario.params i notice.slot st.vector (next_notice s i)) (sym knows)
+    (subst (λ n. IsReadableVector scenario.params i n (knowledge_of follows i (history i s)).vector (next_notice s i)) (sym slot)
     (readable_vector scenario legal.in_range legal.members short journal i it.may)))))
   where
     few : scenario.params.nodes ≤ most_nodes
@@ -252,8 +252,8 @@ vector_with_next scenario journal legal i v c notice node kept running first =
     past : List NoticeKind
     past = heard_of i s.trace (node_at s.nodes i)
 
-    knows : station_of follows i past ≡ station_of follows i (history i s)
-    knows = ap (station_of follows i) (heard_history s i) ∙ plain_station follows i (history i s)
+    knows : knowledge_of follows i past ≡ knowledge_of follows i (history i s)
+    knows = ap (knowledge_of follows i) (heard_history s i) ∙ plain_knowledge follows i (history i s)
 
     o : IsOrderly scenario.params.nodes (run scenario journal)
     o = orderly scenario journal
@@ -365,7 +365,7 @@ turned_one scenario journal i v v' c c' notice legal within kept node running fi
     let next : IsNextNotice follows past (heard_by p.it notice) = next_notice_is scenario journal (few_nodes scenario.params p.stands.legal.in_range) i v c notice node kept first in
     let few : HasFewSigns follows p.it.node ((heard_by p.it notice).kind ∷ past) notice.slot =
     few_with_next scenario journal (few_nodes scenario.params p.stands.legal.in_range) i v c notice node kept running first in
-    let vector : IsReadableVector follows.params p.it.node notice.slot (station_of follows p.it.node past).vector (heard_by p.it notice).kind =
+    let vector : IsReadableVector follows.params p.it.node notice.slot (knowledge_of follows p.it.node past).vector (heard_by p.it notice).kind =
     vector_with_next scenario journal legal i v c notice node kept running first in
     let made : HasTurned follows past notice p.it v v' c c' =
     law p.it p.at follows past notice (record { stands = p.stands; next = next; few = few; vector = vector; running = running; oldest = first }) in

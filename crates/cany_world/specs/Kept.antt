@@ -16,7 +16,7 @@ use Rattle.cany_model.specs.Rules.Log.{log_from}
 use Rattle.cany_model.specs.Rules.Notices.{error_as_idle}
 use Rattle.cany_model.specs.Rules.Rooms.{waiting_room, actions_room}
 use Rattle.cany_model.specs.Bus.Run.{run}
-use Rattle.cany_model.specs.Bus.State.{Ended, NodeState, RunState, node_at}
+use Rattle.cany_model.specs.Bus.State.{EndedIncarnation, NodeState, RunState, node_at}
 use Rattle.cany_model.specs.Rules.Turn.{scenario_for}
 use Rattle.can_bus.specs.Bus.{BusParts, Follows}
 use Rattle.can_controller.specs.Controller.{ControllerState}
@@ -67,7 +67,7 @@ pub record IsPresentAt (scenario : ScenarioParts) (trace : List SlotNote) (i : �
   pub since : span.since ≡ node.present.since
 
 -- one that has ended keeps its log and its span
-pub record IsEndedAt (scenario : ScenarioParts) (trace : List SlotNote) (i : ℕ) (v : IncarnationsParts) (e : Ended) : Type 0 where
+pub record IsEndedAt (scenario : ScenarioParts) (trace : List SlotNote) (i : ℕ) (v : IncarnationsParts) (e : EndedIncarnation) : Type 0 where
   pub it : NodeParts
   pub at : slice_get v.nodes e.incarnation.number ≡ Some it
   pub log : it.log ≡ log_from (scenario_for scenario e.incarnation) i (ended_history i trace e)

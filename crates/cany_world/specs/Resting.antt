@@ -42,12 +42,12 @@ pub record IsAtRest (c : ControllerState) : Type 0 where
   pub waiting : c.waiting ≡ []
   pub unread : c.unread ≡ []
 
-abbrev pub IsCalmIfItRuns : ControllerState → Type 0
-IsCalmIfItRuns c = c.stopped ≡ None → IsAtRest c
+abbrev pub HasNothingToDoIfItRuns : ControllerState → Type 0
+HasNothingToDoIfItRuns c = c.stopped ≡ None → IsAtRest c
 
 -- so it is with all controllers
-abbrev pub AreCalm : List ControllerState → Type 0
-AreCalm controllers = (i : ℕ) (c : ControllerState) → slice_get controllers i ≡ Some c → IsCalmIfItRuns c
+abbrev pub HaveNothingToDo : List ControllerState → Type 0
+HaveNothingToDo controllers = (i : ℕ) (c : ControllerState) → slice_get controllers i ≡ Some c → HasNothingToDoIfItRuns c
 
 -- the present incarnation has nothing to do in the idle slots before this one
 abbrev pub IncarnationRests : ℕ → IncarnationsParts → Type 0

@@ -2,7 +2,7 @@
 ghost use Rattle.std.specs.Prelude.{◌≡◌, ◌+◌, ◌^◌, ◌<◌, ◌≤◌, ℕ, length, true};
 ghost use Rattle.cany_base.specs.Limits.{most_nodes};
 ghost use Rattle.cany_base.specs.Scenario.{ScenarioParts};
-ghost use Rattle.cany_world.specs.Resting.{AreCalm, CanAllPass, CanPass, IsCalmIfItRuns, IsFree, passes};
+ghost use Rattle.cany_world.specs.Resting.{HaveNothingToDo, CanAllPass, CanPass, HasNothingToDoIfItRuns, IsFree, passes};
 
 use crate::incarnations::Incarnations;
 use crate::script::free_slots;
@@ -20,12 +20,12 @@ pub(crate) struct Stretch {
 }
 
 /// Whether no controller that runs waits with a frame or has a notice that is unread.
-fn all_calm(controllers: &[Controller]) -> bool
-    ensures { result ≡ true → AreCalm controllers.now }
+fn none_has_anything_to_do(controllers: &[Controller]) -> bool
+    ensures { result ≡ true → HaveNothingToDo controllers.now }
 {
     for i in 0..controllers.len() {
         let controller = &controllers[i];
-        if controller.stopped().is_none() && !controller.is_calm() {
+        if controller.stopped().is_none() && !controller.has_nothing_to_do() {
             return false;
         }
     }
@@ -34,7 +34,7 @@ fn all_calm(controllers: &[Controller]) -> bool
 
 /// How many slots from the next one on the node can pass. One that has stopped can pass as many as are asked about.
 fn passed_by(next: Slot, most: u64, controller: &Controller, node: &Incarnations) -> u64
-    requires { IsCalmIfItRuns controller.now }
+    requires { HasNothingToDoIfItRuns controller.now }
     ensures { CanPass next result controller.now node.now }
 {
     if controller.stopped().is_some() {
@@ -74,7 +74,7 @@ fn passed_by_all(
 ) -> Stretch
     requires count { length controllers.now ≡ length nodes.now }
     requires few { length controllers.now ≤ most_nodes }
-    requires calm { AreCalm controllers.now }
+    requires nothing_to_do { HaveNothingToDo controllers.now }
     ensures few { result.slots ≤ most }
     ensures passes { CanAllPass next result.slots result.due controllers.now nodes.now }
 {
@@ -108,7 +108,7 @@ pub(crate) fn next_stretch(
     ensures free { (scenario : ScenarioParts) → script.now ≡ scenario.rules → restarts.now ≡ scenario.restarts →
         (slot : ℕ) → next ≤ slot → slot < next + result.slots → IsFree scenario slot }
 {
-    if !all_calm(controllers) {
+    if !none_has_anything_to_do(controllers) {
         return Stretch {
             slots: 0,
             due: NodeSet::empty(),

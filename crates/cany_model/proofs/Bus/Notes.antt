@@ -9,7 +9,7 @@ use Rattle.cany_base.specs.declared.slot_note.SlotNote.{SlotNote}
 use Rattle.cany_base.specs.Frame.{FrameParts}
 use Rattle.cany_base.specs.Nodes.{has, those_where}
 use Rattle.cany_base.proofs.NodesFacts.{has-those_where}
-use Rattle.cany_model.specs.Bus.Slot.{FaultScript, better, least_frame, offered, winner, lets_accept, is_success, sends, exchange, share_in, share_of, slot_note_of}
+use Rattle.cany_model.specs.Bus.Slot.{FaultScript, better, least_frame, offered, winner, lets_accept, is_success, sends, transmission, share_in, share_of, slot_note_of}
 use Rattle.cany_model.specs.Bus.State.{NodeState, RunState, node_at, runs}
 use Rattle.cany_model.specs.Bus.Frames.{same_frame, is_before}
 use Rattle.std.proofs.lemmas.List.Folds.{list_any_at}
@@ -94,12 +94,12 @@ unfolding slot_note_of
 note_of-slot rules s = exchange_slot (length s.trace) s.nodes (rules s.trace (winner s.nodes)).verdict (winner s.nodes)
   where
     exchange_slot : (slot : ℕ) (nodes : List NodeState) (verdict : Verdict) (frame : Option FrameParts)
-        → (exchange slot nodes verdict frame).slot ≡ slot
+        → (transmission slot nodes verdict frame).slot ≡ slot
     exchange_slot slot nodes verdict None = refl
     exchange_slot slot nodes verdict (Some f) = refl
 
 exchange_frame : (slot : ℕ) (nodes : List NodeState) (verdict : Verdict) (frame : Option FrameParts)
-    → (exchange slot nodes verdict frame).frame ≡ frame
+    → (transmission slot nodes verdict frame).frame ≡ frame
 exchange_frame slot nodes verdict None = refl
 exchange_frame slot nodes verdict (Some f) = refl
 
@@ -112,16 +112,16 @@ pub note_of-offered : (rules : FaultScript) (s : RunState) (f : FrameParts) → 
 note_of-offered rules s f h = winner-offered s.nodes f (sym (note_of-frame rules s) ∙ h)
 
 exchange_senders : (slot : ℕ) (nodes : List NodeState) (verdict : Verdict) (frame : Option FrameParts) (f : FrameParts)
-    → (exchange slot nodes verdict frame).frame ≡ Some f
-    → (exchange slot nodes verdict frame).senders ≡ those_where (λ i. sends f (node_at nodes i))
+    → (transmission slot nodes verdict frame).frame ≡ Some f
+    → (transmission slot nodes verdict frame).senders ≡ those_where (λ i. sends f (node_at nodes i))
 exchange_senders slot nodes verdict None f h = absurd (cc)
 exchange_senders slot nodes verdict (Some g) f h =
     let e : g ≡ f = cc in ap (λ x. those_where (λ i. sends x (node_at nodes i))) e
 
 exchange_takers : (slot : ℕ) (nodes : List NodeState) (verdict : Verdict) (frame : Option FrameParts) (f : FrameParts)
-    → (exchange slot nodes verdict frame).frame ≡ Some f
-    → (exchange slot nodes verdict frame).takers
-    ≡ those_where (λ i. runs (node_at nodes i) && not (sends f (node_at nodes i)) && lets_accept (exchange slot nodes verdict frame).verdict i)
+    → (transmission slot nodes verdict frame).frame ≡ Some f
+    → (transmission slot nodes verdict frame).takers
+    ≡ those_where (λ i. runs (node_at nodes i) && not (sends f (node_at nodes i)) && lets_accept (transmission slot nodes verdict frame).verdict i)
 exchange_takers slot nodes verdict None f h = absurd (cc)
 exchange_takers slot nodes verdict (Some g) f h =
     let e : g ≡ f = cc in

@@ -21,12 +21,12 @@ use Rattle.cany_model.specs.Bus.Frames.{Identity, identity_of}
 use Rattle.cany_model.specs.Bus.History.{as_seen, given, history, is_hidden}
 use Rattle.cany_model.specs.Bus.Run.{run}
 use Rattle.cany_model.specs.Bus.State.{Incarnation, RunState, node_at}
-use Rattle.cany_model.specs.Rules.Life.{els_frame, signs_sent}
+use Rattle.cany_model.specs.Rules.Life.{els_frame, life_signs_sent}
 use Rattle.cany_model.specs.Rules.Messages.{IsOfMessage, Message, messages_of, data_frame}
 use Rattle.cany_model.specs.Rules.Notices.{BelongsTo, IsDataOf, IsReadable, NamesNode}
 use Rattle.cany_model.specs.Rules.Relcan.{confirm_frame}
 use Rattle.cany_model.specs.Rules.Rooms.{IsAskable, IsAskableAs, IsOfAsk, IsOfNode, IsOfVector}
-use Rattle.cany_model.specs.Rules.Station.{Sign, fda_frame}
+use Rattle.cany_model.specs.Rules.Knowledge.{FailureSign, fda_frame}
 use Rattle.cany_model.specs.Rules.Totcan.{accept_frame}
 use Rattle.cany_model.specs.Rules.Turn.{scenario_at, scenario_for, turn_effects}
 use Rattle.cany_model.specs.Rules.Vectors.{cycle_of, rha_frame}
@@ -40,7 +40,7 @@ use Rattle.cany_model.proofs.Bus.Seen.{seen_idle, seen_plain}
 use Rattle.cany_model.proofs.Bus.Steps.{MayTurn, next_notice}
 use Rattle.cany_model.proofs.Bus.Waits.{AsksOnly}
 use Rattle.cany_model.proofs.Promises.EachNode.{EachRunning, nodes_at_first, nodes_kept}
-use Rattle.cany_model.proofs.Promises.Fair.{AllFair}
+use Rattle.cany_model.proofs.Promises.Fair.{AllWaitForOwnSlots}
 use Rattle.cany_model.proofs.Promises.SignCounts.{Counted, signs_counted, signs_spaced}
 use Rattle.cany_model.proofs.Rules.SignRooms.{div_grows}
 use Rattle.cany_model.proofs.Rules.ProtocolFacts.{IsScripted, MayAsk, MayRequest, accepts, confirms, exchanges, is_relayed, lives, originates, relays, request_now, requests, signals}
@@ -63,7 +63,7 @@ AllBelong scenario s = HoldsOfFrames (Waiting scenario) (WasCarried scenario) s
 
 -- the life signs of each running node are counted
 abbrev AreCounted : ScenarioParts → RunState → Type 0
-AreCounted scenario s = AllFair s × EachRunning (Counted scenario) s
+AreCounted scenario s = AllWaitForOwnSlots s × EachRunning (Counted scenario) s
 
 -- ---- in a later slot
 
@@ -175,7 +175,7 @@ pub fda_names : (scenario : ScenarioParts) (slot : ℕ) (f : FrameParts) → f.c
 fda_names scenario slot f fda h = subst (λ c. BelongsTo scenario slot c f) fda h
 
 -- the frame of a sign that does so belongs to it
-sign_belongs : (scenario : ScenarioParts) (i slot : ℕ) (sign : Sign) (f : FrameParts) → fda_frame sign ≡ f → sign.node < scenario.params.nodes
+sign_belongs : (scenario : ScenarioParts) (i slot : ℕ) (sign : FailureSign) (f : FrameParts) → fda_frame sign ≡ f → sign.node < scenario.params.nodes
     → sign.cycle ≤ slot / scenario.params.cycle → Belongs scenario i slot f
 sign_belongs scenario i slot sign f frame node cycle = subst (Belongs scenario i slot) frame (record {
   readable = record { node = node; number = cycle };
@@ -269,8 +269,8 @@ asked_belongs scenario s i o may counted h =
           let g : FrameParts = told.frame in
           let names = fda_names scenario (length s.trace) g told.class
           (read g (Among-weaker (λ n. n ≡ Got g) (Has g) (λ n e. inl e) (next_notice s i ∷ history i s) told.read)) in
-          let same : g.node ≡ sign.node = ap (λ (a : Sign). a.node) told.tells in
-          let cycle : g.number ≡ sign.cycle = ap (λ (a : Sign). a.cycle) told.tells in
+          let same : g.node ≡ sign.node = ap (λ (a : FailureSign). a.node) told.tells in
+          let cycle : g.number ≡ sign.cycle = ap (λ (a : FailureSign). a.cycle) told.tells in
           sign_belongs scenario i (length s.trace) sign f frame (omega (arith, same, names.node)) (omega (arith, cycle, names.number))
       | inr found ↦
           sign_belongs scenario i (length s.trace) sign f frame found.node
@@ -278,7 +278,7 @@ asked_belongs scenario s i o may counted h =
     ]
     by_reason f (lives slot now due frame) =
         let passed = signs_spaced scenario s i may (o.unread i) counted.1 in
-        life_belongs scenario i (length s.trace) (scenario_at scenario s i).inc (signs_sent i (next_notice s i ∷ history i s)) f frame node
+        life_belongs scenario i (length s.trace) (scenario_at scenario s i).inc (life_signs_sent i (next_notice s i ∷ history i s)) f frame node
         (omega (arith, passed, history-length i s))
     by_reason f (exchanges slot v sends frame) =
         vector_belongs scenario i (length s.trace) (scenario_at scenario s i).inc (cycle_of scenario.params slot) v f frame node

@@ -30,7 +30,7 @@ use Rattle.cany_model.proofs.Bus.States.{node_at-opening, runs_within}
 use Rattle.cany_model.proofs.Bus.Steps.{MayTurn, after_slot-present, after_slot-trace, after_slot-unread, after_slot-waiting, after_turn-history, after_turn-node, after_turn-other, after_turn-present, after_turn-runs, after_turn-trace, kept_at, next_notice, running_before_slot}
 use Rattle.cany_model.proofs.Bus.Waits.{Each-after, Each-kept, waits-from_with}
 use Rattle.cany_model.proofs.Promises.Diffusion.{Heard, Lived, Turned, past_of}
-use Rattle.cany_model.proofs.Promises.Fair.{AllFair, IsFair, fair_opening, fairly_kept, from_later, members_later, run_numbered, sent_plain}
+use Rattle.cany_model.proofs.Promises.Fair.{AllWaitForOwnSlots, WaitsForOwnSlots, own_slots_alone_opening, own_slots_alone_kept, from_later, members_later, run_numbered, sent_plain}
 use Rattle.cany_model.proofs.Rules.Begun.{IsBegun, begun_first}
 use Rattle.cany_model.proofs.Rules.MutedFacts.{begun_later}
 use Rattle.cany_model.proofs.Rules.ProtocolFacts.{MayAsk}
@@ -75,9 +75,9 @@ seen_heard rules s i running inc = elim (cases_Bool (is_hidden inc (slot_note_of
 ]
 
 -- what waits after a slot, told by what the incarnation sees of it
-seen_waiting : (rules : FaultScript) (s : RunState) (i : ℕ) → IsFair s.trace (node_at s.nodes i) → runs (node_at s.nodes i) ≡ true
+seen_waiting : (rules : FaultScript) (s : RunState) (i : ℕ) → WaitsForOwnSlots s.trace (node_at s.nodes i) → runs (node_at s.nodes i) ≡ true
     → (node_at (after_slot rules s).nodes i).waiting ≡ kept_at (given i (as_seen (node_at s.nodes i).present (slot_note_of rules s))) (node_at s.nodes i).waiting
-seen_waiting rules s i fair ran = after_slot-waiting rules s i ran ∙ elim (cases_Bool (is_hidden inc note)) [
+seen_waiting rules s i own_slots_alone ran = after_slot-waiting rules s i ran ∙ elim (cases_Bool (is_hidden inc note)) [
   | inl hidden ↦ unsent (given i note) refl hidden ∙ sym (ap (λ e. kept_at e w) (seen_idle i inc note hidden))
   | inr plain ↦ sym (ap (λ n. kept_at (given i n) w) (seen_plain inc note plain))
 ]
@@ -97,22 +97,22 @@ seen_waiting rules s i fair ran = after_slot-waiting rules s i ran ∙ elim (cas
     unsent (Got f) h hidden = refl
     unsent (Sent f) h hidden =
         let parts = given-Sent i note f h in
-        absurd (both_ways (is_hidden inc note) (sent_plain rules s i fair f parts.0 parts.1) hidden)
+        absurd (both_ways (is_hidden inc note) (sent_plain rules s i own_slots_alone f parts.0 parts.1) hidden)
 
 slot_past : (i : ℕ) (note : SlotNote) (trace : List SlotNote) (n k : ℕ) → n ≡ k + 1 → map (given i) (drop n (note ∷ trace)) ≡ map (given i) (drop k trace)
 slot_past i note trace n k e = ap (λ u. map (given i) (drop u (note ∷ trace))) (e ∙ add-one k)
 
-pub slot_lived : (rules : FaultScript) (s : RunState) (i : ℕ) → IsFair s.trace (node_at s.nodes i) → runs (node_at s.nodes i) ≡ true
+pub slot_lived : (rules : FaultScript) (s : RunState) (i : ℕ) → WaitsForOwnSlots s.trace (node_at s.nodes i) → runs (node_at s.nodes i) ≡ true
     → let inc = (node_at s.nodes i).present in
     Lived (as_seen inc (slot_note_of rules s)) (seen inc s.trace) i (node_at s.nodes i) (node_at (after_slot rules s).nodes i)
-slot_lived rules s i fair ran =
+slot_lived rules s i own_slots_alone ran =
     let inc = (node_at s.nodes i).present in
     let note = slot_note_of rules s in
     record {
       past = slot_past i (as_seen inc note) (seen inc s.trace) (node_at (after_slot rules s).nodes i).unread (node_at s.nodes i).unread
           (after_slot-unread rules s i (runs_within s.nodes i ran));
-      kept = seen_waiting rules s i fair ran;
-      waiting = kept_cases (given i (as_seen inc note)) (node_at s.nodes i).waiting (node_at (after_slot rules s).nodes i).waiting (seen_waiting rules s i fair ran);
+      kept = seen_waiting rules s i own_slots_alone ran;
+      waiting = kept_cases (given i (as_seen inc note)) (node_at s.nodes i).waiting (node_at (after_slot rules s).nodes i).waiting (seen_waiting rules s i own_slots_alone ran);
       heard = seen_heard rules s i ran inc;
       sender = λ f frame sent.
           let one = seen_one (λ n. (n.frame ≡ Some f) × (has n.senders i ≡ true)) (λ n none p. absurd_none n f none p.0) inc note (frame, sent) in
@@ -202,16 +202,16 @@ pub record IsNodes (scenario : ScenarioParts) (P : List SlotNote → ℕ → Nod
   pub turn : (trace : List SlotNote) (i : ℕ) (node after : NodeState) → after.present ≡ node.present
       → Turned (turn_effects (scenario_for scenario node.present)) trace i node after → P trace i node → P trace i after
 
-nodes_slot : (scenario : ScenarioParts) (P : List SlotNote → ℕ → NodeState → Type 0) → IsNodes scenario P → (rules : FaultScript) (s : RunState) → AllFair s
+nodes_slot : (scenario : ScenarioParts) (P : List SlotNote → ℕ → NodeState → Type 0) → IsNodes scenario P → (rules : FaultScript) (s : RunState) → AllWaitForOwnSlots s
     → EachRunning P s → EachRunning P (after_slot rules s)
-nodes_slot scenario P is rules s fair all i running =
+nodes_slot scenario P is rules s own_slots_alone all i running =
     let ran = (running_before_slot rules s i running).0 in
     let after : NodeState = node_at (after_slot rules s).nodes i in
     let inc = (node_at s.nodes i).present in
     let same : after.present ≡ inc = after_slot-present rules s i (runs_within s.nodes i ran) in
     subst (λ t. P (seen after.present t) i after) (sym (after_slot-trace rules s))
     (subst (λ (k : Incarnation). P (seen k (slot_note_of rules s ∷ s.trace)) i after) (sym same)
-    (is.slot (as_seen inc (slot_note_of rules s)) (seen inc s.trace) i (node_at s.nodes i) after same (slot_lived rules s i (fair i ran) ran) (all i ran)))
+    (is.slot (as_seen inc (slot_note_of rules s)) (seen inc s.trace) i (node_at s.nodes i) after same (slot_lived rules s i (own_slots_alone i ran) ran) (all i ran)))
 
 nodes_restarts : (scenario : ScenarioParts) (P : List SlotNote → ℕ → NodeState → Type 0) → IsNodes scenario P → (s : RunState)
     → IsOrderly scenario.params.nodes s → 0 < length s.trace → EachRunning P s → EachRunning P (after_restarts scenario s)
@@ -236,22 +236,22 @@ nodes_turn scenario P is s i may short all j running =
 
 -- what holds of a node that begins, and is kept by its slots and its turns, is kept of each running node by each step
 pub nodes_kept : (scenario : ScenarioParts) (P : List SlotNote → ℕ → NodeState → Type 0) → IsNodes scenario P
-    → IsKept scenario (λ s. AllFair s × EachRunning P s)
-nodes_kept scenario P is = fairly_kept scenario (EachRunning P) (record {
-  slot = λ s o fair all. nodes_slot scenario P is (script scenario.rules) s fair all;
+    → IsKept scenario (λ s. AllWaitForOwnSlots s × EachRunning P s)
+nodes_kept scenario P is = own_slots_alone_kept scenario (EachRunning P) (record {
+  slot = λ s o own_slots_alone all. nodes_slot scenario P is (script scenario.rules) s own_slots_alone all;
   restarts = λ s o some all. nodes_restarts scenario P is s o some all;
   turn = λ s i o may all. nodes_turn scenario P is s i may (o.unread i) all;
 })
 
 pub nodes_at_first : (scenario : ScenarioParts) (P : List SlotNote → ℕ → NodeState → Type 0) → IsNodes scenario P
-    → AllFair (opening scenario.params.nodes) × EachRunning P (opening scenario.params.nodes)
-nodes_at_first scenario P is = (fair_opening scenario.params.nodes, λ i running. is.new _ i _ (opening_new scenario i running))
+    → AllWaitForOwnSlots (opening scenario.params.nodes) × EachRunning P (opening scenario.params.nodes)
+nodes_at_first scenario P is = (own_slots_alone_opening scenario.params.nodes, λ i running. is.new _ i _ (opening_new scenario i running))
 
 -- so it holds of each running node of every run
 pub each_running : (scenario : ScenarioParts) (P : List SlotNote → ℕ → NodeState → Type 0) → IsNodes scenario P → (journal : List Step)
     → EachRunning P (run scenario journal)
 each_running scenario P is journal =
-    (along_run scenario (λ s. AllFair s × EachRunning P s) (nodes_at_first scenario P is) (nodes_kept scenario P is) journal).1
+    (along_run scenario (λ s. AllWaitForOwnSlots s × EachRunning P s) (nodes_at_first scenario P is) (nodes_kept scenario P is) journal).1
 
 -- ---- the frames that wait
 

@@ -33,15 +33,15 @@ use Rattle.cany_model.proofs.Rules.TurnFacts.{turn_only}
 abbrev pub IsTimely : Incarnation → FrameParts → Type 0
 IsTimely inc f = is_early_frame inc.cycle f ≡ false
 
-pub record IsFair (trace : List SlotNote) (node : NodeState) : Type 0 where
+pub record WaitsForOwnSlots (trace : List SlotNote) (node : NodeState) : Type 0 where
   pub quiet : 0 < node.present.number → length trace < node.present.from → node.waiting ≡ []
   pub timely : 0 < node.present.number → AllByRecursion (IsTimely node.present) node.waiting
 
-abbrev pub AllFair : RunState → Type 0
-AllFair s = (i : ℕ) → runs (node_at s.nodes i) ≡ true → IsFair s.trace (node_at s.nodes i)
+abbrev pub AllWaitForOwnSlots : RunState → Type 0
+AllWaitForOwnSlots s = (i : ℕ) → runs (node_at s.nodes i) ≡ true → WaitsForOwnSlots s.trace (node_at s.nodes i)
 
-pub fair_opening : (nodes : ℕ) → AllFair (opening nodes)
-fair_opening nodes i running =
+pub own_slots_alone_opening : (nodes : ℕ) → AllWaitForOwnSlots (opening nodes)
+own_slots_alone_opening nodes i running =
     rw (node_at-opening nodes i (opening_within nodes i running))
     (record { quiet = λ later. absurd (omega arith); timely = λ later. absurd (omega arith) })
 
@@ -53,8 +53,8 @@ kept_none (Got f) = refl
 kept_none (Sent f) = refl
 kept_none Bad = refl
 
-fair_slot : (rules : FaultScript) (s : RunState) → AllFair s → AllFair (after_slot rules s)
-fair_slot rules s all i running =
+own_slots_alone_slot : (rules : FaultScript) (s : RunState) → AllWaitForOwnSlots s → AllWaitForOwnSlots (after_slot rules s)
+own_slots_alone_slot rules s all i running =
     let ran = (running_before_slot rules s i running).0 in
     let h = all i ran in
     let after : NodeState = node_at (after_slot rules s).nodes i in
@@ -75,9 +75,9 @@ fair_slot rules s all i running =
           (Each-kept (IsTimely node.present) e node.waiting (h.timely (before later))));
     }
 
-fair_restarts : (scenario : ScenarioParts) (s : RunState) → AllFair s → AllFair (after_restarts scenario s)
-fair_restarts scenario s all i running =
-    subst (λ trace. IsFair trace (node_at (after_restarts scenario s).nodes i)) (sym (after_restarts-trace scenario s))
+own_slots_alone_restarts : (scenario : ScenarioParts) (s : RunState) → AllWaitForOwnSlots s → AllWaitForOwnSlots (after_restarts scenario s)
+own_slots_alone_restarts scenario s all i running =
+    subst (λ trace. WaitsForOwnSlots trace (node_at (after_restarts scenario s).nodes i)) (sym (after_restarts-trace scenario s))
     (elim (restarts_or_stays scenario s i) [
       | inl new ↦ rw new.is (record { quiet = λ later early. refl; timely = λ later. tt })
       | inr same ↦ rw same (all i (sym (ap (λ node. runs node) same) ∙ running))
@@ -129,10 +129,10 @@ after_turn-hears scenario nodes i s may o =
     (subst (λ (inc : Incarnation). HearsNoEarly inc (history i t)) (after_turn-present scenario i s i may (o.unread i))
     (subst (HearsNoEarly node.present) (sym (history-is i t)) (hears_no_early_of i node.unread node.present t.trace)))
 
-fair_turn : (scenario : ScenarioParts) (i : ℕ) (s : RunState) → MayTurn s i → IsOrderly scenario.params.nodes s → AllFair s
-    → IsFair s.trace (node_at (after_turn scenario i s).nodes i)
+own_slots_alone_turn : (scenario : ScenarioParts) (i : ℕ) (s : RunState) → MayTurn s i → IsOrderly scenario.params.nodes s → AllWaitForOwnSlots s
+    → WaitsForOwnSlots s.trace (node_at (after_turn scenario i s).nodes i)
 unfolding waiting_after
-fair_turn scenario i s may_turn o all =
+own_slots_alone_turn scenario i s may_turn o all =
     let node = node_at s.nodes i in
     let h = all i may_turn.running in
     rw (after_turn-node scenario i s may_turn (o.unread i)) (record {
@@ -161,34 +161,34 @@ fair_turn scenario i s may_turn o all =
         (λ f may. asks_late sc inc.cycle i (next_notice s i ∷ history i s) f (members_later scenario inc later)
         (after_turn-hears scenario scenario.params.nodes i s may_turn o later) may)
 
-fair_turns : (scenario : ScenarioParts) (i : ℕ) (s : RunState) → MayTurn s i → IsOrderly scenario.params.nodes s → AllFair s
-    → AllFair (after_turn scenario i s)
-fair_turns scenario i s may o all j running =
-    subst (λ trace. IsFair trace (node_at (after_turn scenario i s).nodes j)) (sym (after_turn-trace scenario i s)) (elim (cases_eq j i) [
-      | inl same ↦ subst (λ k. IsFair s.trace (node_at (after_turn scenario i s).nodes k)) (sym same) (fair_turn scenario i s may o all)
+own_slots_alone_turns : (scenario : ScenarioParts) (i : ℕ) (s : RunState) → MayTurn s i → IsOrderly scenario.params.nodes s → AllWaitForOwnSlots s
+    → AllWaitForOwnSlots (after_turn scenario i s)
+own_slots_alone_turns scenario i s may o all j running =
+    subst (λ trace. WaitsForOwnSlots trace (node_at (after_turn scenario i s).nodes j)) (sym (after_turn-trace scenario i s)) (elim (cases_eq j i) [
+      | inl same ↦ subst (λ k. WaitsForOwnSlots s.trace (node_at (after_turn scenario i s).nodes k)) (sym same) (own_slots_alone_turn scenario i s may o all)
       | inr other ↦ rw (after_turn-other scenario i s j other) (all j (sym (after_turn-runs scenario i s j may (o.unread i)) ∙ running))
     ])
 
 -- ---- every run
 
--- what a done step keeps, where each running node is fair
+-- what a done step keeps, where each running node is own_slots_alone
 pub record IsKeptFairly (scenario : ScenarioParts) (P : RunState → Type 0) : Type 0 where
-  pub slot : (s : RunState) → IsOrderly scenario.params.nodes s → AllFair s → P s → P (after_slot (script scenario.rules) s)
+  pub slot : (s : RunState) → IsOrderly scenario.params.nodes s → AllWaitForOwnSlots s → P s → P (after_slot (script scenario.rules) s)
   pub restarts : (s : RunState) → IsOrderly scenario.params.nodes s → 0 < length s.trace → P s → P (after_restarts scenario s)
   pub turn : (s : RunState) (i : ℕ) → IsOrderly scenario.params.nodes s → MayTurn s i → P s → P (after_turn scenario i s)
 
-pub fairly_kept : (scenario : ScenarioParts) (P : RunState → Type 0) → IsKeptFairly scenario P → IsKept scenario (λ s. AllFair s × P s)
-fairly_kept scenario P keeps = record {
-  slot = λ s o may h. (fair_slot (script scenario.rules) s h.0, keeps.slot s o h.0 h.1);
-  restarts = λ s o some h. (fair_restarts scenario s h.0, keeps.restarts s o some h.1);
-  turn = λ s i o may h. (fair_turns scenario i s may o h.0, keeps.turn s i o may h.1);
+pub own_slots_alone_kept : (scenario : ScenarioParts) (P : RunState → Type 0) → IsKeptFairly scenario P → IsKept scenario (λ s. AllWaitForOwnSlots s × P s)
+own_slots_alone_kept scenario P keeps = record {
+  slot = λ s o may h. (own_slots_alone_slot (script scenario.rules) s h.0, keeps.slot s o h.0 h.1);
+  restarts = λ s o some h. (own_slots_alone_restarts scenario s h.0, keeps.restarts s o some h.1);
+  turn = λ s i o may h. (own_slots_alone_turns scenario i s may o h.0, keeps.turn s i o may h.1);
 }
 
 -- what a running node sends, its incarnation sees
-pub sent_plain : (rules : FaultScript) (s : RunState) (i : ℕ) → IsFair s.trace (node_at s.nodes i) → (f : FrameParts)
+pub sent_plain : (rules : FaultScript) (s : RunState) (i : ℕ) → WaitsForOwnSlots s.trace (node_at s.nodes i) → (f : FrameParts)
     → (slot_note_of rules s).frame ≡ Some f → has (slot_note_of rules s).senders i ≡ true
     → is_hidden (node_at s.nodes i).present (slot_note_of rules s) ≡ false
-sent_plain rules s i fair f frame sent =
+sent_plain rules s i own_slots_alone f frame sent =
     let inc = (node_at s.nodes i).present in
     let note = slot_note_of rules s in
     let there = (sender_waits rules s f i frame sent).1 in
@@ -196,9 +196,9 @@ sent_plain rules s i fair f frame sent =
     let why = hidden_why inc note h in
     elim why.1 [
       | inl early ↦
-          Contains-none f (subst (λ w. Contains w f) (fair.quiet why.0 (omega (arith, early, note_of-slot rules s))) there)
+          Contains-none f (subst (λ w. Contains w f) (own_slots_alone.quiet why.0 (omega (arith, early, note_of-slot rules s))) there)
       | inr vector ↦
           let waiting = (node_at s.nodes i).waiting in
-          let timely = Each-of (IsTimely inc) f waiting (fair.timely why.0) (Among-from_Contains waiting f there) in
+          let timely = Each-of (IsTimely inc) f waiting (own_slots_alone.timely why.0) (Among-from_Contains waiting f there) in
           both_ways (carries_early inc.cycle note) (carries_frame inc.cycle note f frame ∙ timely) vector
     ])

@@ -18,8 +18,8 @@ use Rattle.cany_model.specs.Bus.Run.{run}
 use Rattle.cany_model.specs.Bus.State.{Incarnation, NodeState, node_at, runs}
 use Rattle.cany_model.specs.Bus.Waiting.{waits}
 use Rattle.cany_model.specs.Rules.Effect.{Effect, waiting_after}
-use Rattle.cany_model.specs.Rules.Life.{is_own_sign, signs_sent}
-use Rattle.cany_model.specs.Rules.Site.{station_of}
+use Rattle.cany_model.specs.Rules.Life.{is_own_sign, life_signs_sent}
+use Rattle.cany_model.specs.Rules.Site.{knowledge_of}
 use Rattle.cany_model.specs.Rules.Turn.{scenario_for, turn_effects}
 use Rattle.cany_model.proofs.Among.{count-cons, count-drop, count-grows}
 use Rattle.cany_model.proofs.Bus.Waits.{Each-kept, waits-without}
@@ -34,10 +34,10 @@ use Rattle.cany_model.proofs.Rules.RoomFacts.{is_in}
 
 -- those of these slots
 abbrev signs_in : ℕ → List SlotNote → ℕ
-signs_in i trace = signs_sent i (map (given i) trace)
+signs_in i trace = life_signs_sent i (map (given i) trace)
 
 fewer_sent : (i n : ℕ) (trace : List SlotNote) → signs_in i (drop n trace) ≤ signs_in i trace
-unfolding signs_sent
+unfolding life_signs_sent
 fewer_sent i n trace =
     omega (arith, ap (count_by (is_own_sign i)) (drop-map (given i) n trace), count-drop (is_own_sign i) n (map (given i) trace))
 
@@ -61,7 +61,7 @@ record AreTwo (i number : ℕ) (trace : List SlotNote) (node : NodeState) : Type
 
 -- the slot of the node's own last life
 abbrev last_life : ScenarioParts → Incarnation → ℕ → List NoticeKind → ℕ
-last_life scenario inc i past = (station_of (scenario_for scenario inc) i past).last
+last_life scenario inc i past = (knowledge_of (scenario_for scenario inc) i past).last
 
 -- What holds since the last ask. It was made in the turn of this slot, when no more slots than the lag has had run past it, and so many ran
 -- since.
@@ -78,7 +78,7 @@ record SinceAsk (scenario : ScenarioParts) (trace : List SlotNote) (i : ℕ) (no
 
 -- its waiting signs are its own, of numbers up to that of the signs that it has read as sent
 record FewSigns (scenario : ScenarioParts) (trace : List SlotNote) (i : ℕ) (node : NodeState) : Type 0 where
-  pub numbers : AllByRecursion (IsOwnSign i (signs_sent i (past_of i trace node))) node.waiting
+  pub numbers : AllByRecursion (IsOwnSign i (life_signs_sent i (past_of i trace node))) node.waiting
   pub few : (waiting_signs node ≡ 0) ⊎ SinceAsk scenario trace i node
 
 at_most_two : (scenario : ScenarioParts) (trace : List SlotNote) (i : ℕ) (node : NodeState) → FewSigns scenario trace i node → waiting_signs node ≤ 2
@@ -96,7 +96,7 @@ module _ (scenario : ScenarioParts) (note : SlotNote) (trace : List SlotNote) (i
     (l : Lived note trace i node after) (first : SendsFirst note i node) where
   -- one that is sent waits no longer
   slot_counts : waiting_signs after + signs_in i (note ∷ trace) ≤ waiting_signs node + signs_in i trace
-  unfolding signs_sent
+  unfolding life_signs_sent
   slot_counts = omega (arith, sent_one note trace i node after l, count-cons (is_own_sign i) (given i note) (map (given i) trace))
 
   slot_fewer : waiting_signs after ≤ waiting_signs node
@@ -140,7 +140,7 @@ module _ (scenario : ScenarioParts) (note : SlotNote) (trace : List SlotNote) (i
 
   few_slot : FewSigns scenario trace i node → FewSigns scenario (note ∷ trace) i after
   few_slot h = record {
-    numbers = rw (l.past, l.kept) (Each-kept (IsOwnSign i (signs_sent i (past_of i trace node))) (given i note) node.waiting h.numbers);
+    numbers = rw (l.past, l.kept) (Each-kept (IsOwnSign i (life_signs_sent i (past_of i trace node))) (given i note) node.waiting h.numbers);
     few = elim h.few [ inl none ↦ inl (omega (arith, none, slot_fewer)) | inr since ↦ slot_keeps since ];
   }
 
@@ -172,14 +172,14 @@ module _ (scenario : ScenarioParts) (trace : List SlotNote) (i : ℕ) (node afte
 
   -- what it has sent, it has read up to here
   turn_sent : number ≤ signs_in i trace
-  turn_sent = omega (arith, ap (signs_sent i) t.past, fewer_sent i after.unread trace)
+  turn_sent = omega (arith, ap (life_signs_sent i) t.past, fewer_sent i after.unread trace)
 
-  number_grows : signs_sent i past ≤ signs_sent i (t.notice ∷ past)
-  unfolding signs_sent
+  number_grows : life_signs_sent i past ≤ life_signs_sent i (t.notice ∷ past)
+  unfolding life_signs_sent
   number_grows = count-grows (is_own_sign i) t.notice past
 
-  turn_all : AllByRecursion (IsOwnSign i (signs_sent i past)) node.waiting → AllByRecursion (IsOwnSign i number) after.waiting
-  turn_all h = rw turn_left (turn_numbers followed i t.notice past node.waiting (signs_sent i past) number_grows h)
+  turn_all : AllByRecursion (IsOwnSign i (life_signs_sent i past)) node.waiting → AllByRecursion (IsOwnSign i number) after.waiting
+  turn_all h = rw turn_left (turn_numbers followed i t.notice past node.waiting (life_signs_sent i past) number_grows h)
 
   -- none is due
 
@@ -224,7 +224,7 @@ module _ (scenario : ScenarioParts) (trace : List SlotNote) (i : ℕ) (node afte
         | inr set ↦ absurd (omega (arith, set, at, long))
       ] in
       let newer : after.unread ≤ since.age = omega (arith, turn_read, since.ran, apart, long) in
-      omega (arith, ap (signs_sent i) t.past, fewer_before i after.unread since.age trace newer)
+      omega (arith, ap (life_signs_sent i) t.past, fewer_before i after.unread since.age trace newer)
 
   -- so one waits at most, or two where nothing is unread
   due_few : due_in followed i t.notice past ≡ true → (waiting_signs node ≡ 0) ⊎ SinceAsk scenario trace i node

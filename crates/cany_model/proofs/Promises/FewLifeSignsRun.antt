@@ -22,7 +22,7 @@ use Rattle.cany_model.proofs.Bus.States.{runs_within}
 use Rattle.cany_model.proofs.Bus.Steps.{MayTurn, after_slot-present, after_slot-trace, after_turn-node, after_turn-other, after_turn-present, after_turn-runs, after_turn-trace, running_before_slot}
 use Rattle.cany_model.proofs.Promises.Diffusion.{Lived, Turned}
 use Rattle.cany_model.proofs.Promises.EachNode.{EachRunning, IsNew, opening_new, restarted_new, slot_lived, turn_turned}
-use Rattle.cany_model.proofs.Promises.Fair.{AllFair, fair_opening, fairly_kept}
+use Rattle.cany_model.proofs.Promises.Fair.{AllWaitForOwnSlots, own_slots_alone_opening, own_slots_alone_kept}
 use Rattle.cany_model.proofs.Promises.FewLifeSignsOrder.{NoneBefore, carried_first}
 
 -- what a slot gave the node as sent was the first of the frames that it waited with
@@ -47,15 +47,15 @@ sends_first rules s i running inc f sent =
     idle n a b = cc
 
 module _ (scenario : ScenarioParts) (P : List SlotNote → ℕ → NodeState → Type 0) (is : IsNodesWithin scenario P) where
-  within_slot : (rules : FaultScript) (s : RunState) → AllFair s → EachRunning P s → EachRunning P (after_slot rules s)
-  within_slot rules s fair all i running =
+  within_slot : (rules : FaultScript) (s : RunState) → AllWaitForOwnSlots s → EachRunning P s → EachRunning P (after_slot rules s)
+  within_slot rules s own_slots_alone all i running =
       let ran = (running_before_slot rules s i running).0 in
       let after : NodeState = node_at (after_slot rules s).nodes i in
       let inc = (node_at s.nodes i).present in
       let same : after.present ≡ inc = after_slot-present rules s i (runs_within s.nodes i ran) in
       subst (λ t. P (seen after.present t) i after) (sym (after_slot-trace rules s))
       (subst (λ (k : Incarnation). P (seen k (slot_note_of rules s ∷ s.trace)) i after) (sym same)
-      (is.slot (as_seen inc (slot_note_of rules s)) (seen inc s.trace) i (node_at s.nodes i) after same (slot_lived rules s i (fair i ran) ran)
+      (is.slot (as_seen inc (slot_note_of rules s)) (seen inc s.trace) i (node_at s.nodes i) after same (slot_lived rules s i (own_slots_alone i ran) ran)
       (sends_first rules s i ran inc) (all i ran)))
 
   within_restarts : (s : RunState) → IsOrderly scenario.params.nodes s → 0 < length s.trace → EachRunning P s
@@ -81,27 +81,27 @@ module _ (scenario : ScenarioParts) (P : List SlotNote → ℕ → NodeState →
         | inr other ↦ rw (after_turn-other scenario i s j other) (all j (sym (after_turn-runs scenario i s j may (o.unread i)) ∙ running))
       ])
 
-  -- each node is fair
-  abbrev fair : IsKept scenario (λ s. AllFair s × Unit {0})
-  fair = fairly_kept scenario (λ s. Unit {0}) (record { slot = λ s o all p. tt; restarts = λ s o some p. tt; turn = λ s i o may p. tt })
+  -- each node is own_slots_alone
+  abbrev own_slots_alone : IsKept scenario (λ s. AllWaitForOwnSlots s × Unit {0})
+  own_slots_alone = own_slots_alone_kept scenario (λ s. Unit {0}) (record { slot = λ s o all p. tt; restarts = λ s o some p. tt; turn = λ s i o may p. tt })
 
   abbrev Known : RunState → Type 0
-  Known s = (AllFair s × Unit {0}) × (FewUnread scenario s × EachRunning P s)
+  Known s = (AllWaitForOwnSlots s × Unit {0}) × (FewUnread scenario s × EachRunning P s)
 
   -- so it holds of each running node of every run
   pub each_within : (journal : List Step) → EachRunning P (run scenario journal)
   each_within journal =
       (along_run scenario Known
-      ((fair_opening scenario.params.nodes, tt), (unread_at_first scenario, λ i running. is.new _ i _ (opening_new scenario i running)))
+      ((own_slots_alone_opening scenario.params.nodes, tt), (unread_at_first scenario, λ i running. is.new _ i _ (opening_new scenario i running)))
       (record {
         slot = λ s o may h. (
-          fair.slot s o may h.0,
+          own_slots_alone.slot s o may h.0,
           ((unread_kept scenario).slot s o may h.1.0, within_slot (script scenario.rules) s h.0.0 h.1.1),
         );
         restarts = λ s o some h. (
-          fair.restarts s o some h.0,
+          own_slots_alone.restarts s o some h.0,
           ((unread_kept scenario).restarts s o some h.1.0, within_restarts s o some h.1.1),
         );
-        turn = λ s i o may h. (fair.turn s i o may h.0, ((unread_kept scenario).turn s i o may h.1.0, within_turn s i may o h.1.0 h.1.1));
+        turn = λ s i o may h. (own_slots_alone.turn s i o may h.0, ((unread_kept scenario).turn s i o may h.1.0, within_turn s i may o h.1.0 h.1.1));
       })
       journal).1.1

@@ -12,9 +12,9 @@ use Rattle.cany_base.specs.Scenario.{ScenarioParts}
 use Rattle.cany_model.specs.Bus.Frames.{Identity, identity_of, is_before, is_of, same_class}
 use Rattle.cany_model.specs.Bus.Waiting.{waits, with_frame, without}
 use Rattle.cany_model.specs.Rules.Effect.{Effect, Ask, Withdraw, Enter, waiting_after}
-use Rattle.cany_model.specs.Rules.Life.{els_frame, is_due, life_effects, life_signs, signs_sent}
+use Rattle.cany_model.specs.Rules.Life.{els_frame, is_due, life_effects, life_signs, life_signs_sent}
 use Rattle.cany_model.specs.Rules.Protocol.{Protocol}
-use Rattle.cany_model.specs.Rules.Site.{station_of}
+use Rattle.cany_model.specs.Rules.Site.{knowledge_of}
 use Rattle.cany_model.specs.Rules.Turn.{turn_effects}
 use Rattle.cany_model.proofs.Among.{Among, Each-weaker, count-no, one_if}
 use Rattle.cany_model.proofs.Bus.Identities.{same_class-true, same_class_self, same_identity-from}
@@ -81,10 +81,10 @@ greatest_last i number f w same first own = none_left (identity_of f) w (each w 
 
 -- a life sign that is asked for is the next one, and is due
 pub record IsDueSign (scenario : ScenarioParts) (i : ℕ) (past : List NoticeKind) (f : FrameParts) : Type 0 where
-  pub is : own_sign i (signs_sent i past) ≡ identity_of f
+  pub is : own_sign i (life_signs_sent i past) ≡ identity_of f
   pub slot : ℕ
   pub now : length past ≡ suc slot
-  pub due : is_due scenario.params.life i slot (station_of scenario i past) ≡ true
+  pub due : is_due scenario.params.life i slot (knowledge_of scenario i past) ≡ true
 
 -- neither a join nor a leave is one
 requests_none : (c : Class) → (c ≡ class.Join) ⊎ (c ≡ class.Leave) → same_class c class.Els ≡ false
@@ -174,7 +174,7 @@ replaced x (Enter entry ∷ effects) only kept w h = replaced x effects only.1 (
 module _ (scenario : ScenarioParts) (i : ℕ) (e : NoticeKind) (past : List NoticeKind) (w : List FrameParts) where
   -- the number of the one that is asked for where it is due
   abbrev pub next_number : ℕ
-  next_number = signs_sent i (e ∷ past)
+  next_number = life_signs_sent i (e ∷ past)
 
   abbrev pub left : List FrameParts
   left = waiting_after (turn_effects scenario i (e ∷ past)) w
@@ -246,6 +246,6 @@ module _ (scenario : ScenarioParts) (i : ℕ) (e : NoticeKind) (past : List Noti
       let sign = ask_is_due scenario i (e ∷ past) f may els in
       let now : length past ≡ sign.slot = omega (arith, sign.now) in
       let due : due_in scenario i e past ≡ true =
-      ap (λ slot. is_due scenario.params.life i slot (station_of scenario i (e ∷ past))) now ∙ sign.due in
+      ap (λ slot. is_due scenario.params.life i slot (knowledge_of scenario i (e ∷ past))) now ∙ sign.due in
       absurd (both_ways (due_in scenario i e past) idle due)))
       h

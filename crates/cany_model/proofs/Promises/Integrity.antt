@@ -24,7 +24,7 @@ use Rattle.cany_model.specs.Rules.Log.{log}
 use Rattle.cany_model.specs.Rules.Messages.{data_of}
 use Rattle.cany_model.specs.Rules.Notices.{BelongsTo}
 use Rattle.cany_model.specs.Rules.Protocol.{Protocol}
-use Rattle.cany_model.specs.Rules.Station.{Sign}
+use Rattle.cany_model.specs.Rules.Knowledge.{FailureSign}
 use Rattle.cany_model.specs.Rules.Turn.{scenario_at}
 use Rattle.cany_model.proofs.Among.{Among, Among-from_Contains, Among-from_count, Among-get_or, Among-place, Among-weaker}
 use Rattle.cany_model.proofs.Bus.Carried.{Carries, Has, frame_of_notice}
@@ -88,7 +88,7 @@ carried_belongs scenario s all f slot w =
     readable_later scenario (note_at s.trace w.age).slot slot f f.class w.by_then
     (all.carried (note_at s.trace w.age) f (Contains-get_or s.trace w.age no_note w.below) w.frame)
 
-signal_sound : (scenario : ScenarioParts) (s : RunState) (i : ℕ) → IsOrderly scenario.params.nodes s → AllBelong scenario s → (place slot : ℕ) (sign : Sign)
+signal_sound : (scenario : ScenarioParts) (s : RunState) (i : ℕ) → IsOrderly scenario.params.nodes s → AllBelong scenario s → (place slot : ℕ) (sign : FailureSign)
     → IsSignal (scenario_at scenario s i) i (drop place (history i s)) slot sign
     → (sign.node < scenario.params.nodes) × (sign.cycle ≤ slot / scenario.params.cycle)
 signal_sound scenario s i o all place slot sign r = elim r.because [
@@ -98,8 +98,8 @@ signal_sound scenario s i o all place slot sign r = elim r.because [
       let read : Among (Has f) (drop place (history i s)) = Among-weaker (λ n. n ≡ Got f) (Has f) (λ n e. inl e) (drop place (history i s)) told.read in
       let names = fda_names scenario slot f told.class
       (carried_belongs scenario s all f slot (read_carried scenario.params.nodes s i o f place slot r.now read)) in
-      let node : f.node ≡ sign.node = ap (λ (a : Sign). a.node) told.tells in
-      let cycle : f.number ≡ sign.cycle = ap (λ (a : Sign). a.cycle) told.tells in
+      let node : f.node ≡ sign.node = ap (λ (a : FailureSign). a.node) told.tells in
+      let cycle : f.number ≡ sign.cycle = ap (λ (a : FailureSign). a.cycle) told.tells in
       (omega (arith, node, names.node), omega (arith, cycle, names.number))
 ]
 

@@ -17,7 +17,7 @@ use Rattle.cany_model.specs.Bus.History.{given}
 use Rattle.cany_model.specs.Bus.Run.{run}
 use Rattle.cany_model.specs.Bus.State.{Incarnation, NodeState}
 use Rattle.cany_model.specs.Rules.Notices.{IsPart, IsReadAfterStart}
-use Rattle.cany_model.specs.Rules.Site.{station_of}
+use Rattle.cany_model.specs.Rules.Site.{knowledge_of}
 use Rattle.cany_model.specs.Rules.Turn.{scenario_for, turn_effects}
 use Rattle.cany_model.specs.Rules.Vectors.{brought, is_end, is_start, met}
 use Rattle.cany_model.proofs.Among.{Each-of, Each-weaker, Among-from_Contains}
@@ -34,7 +34,7 @@ use Rattle.cany_model.proofs.Rules.VectorFacts.{vector_met}
 -- ---- what is said of a frame
 
 abbrev pub vector_at : ScenarioParts → ℕ → List NoticeKind → Option Nodes
-vector_at scenario i past = (station_of scenario i past).vector
+vector_at scenario i past = (knowledge_of scenario i past).vector
 
 -- the frame carries a vector that the node had once, and that has all of this one
 pub record CarriesAll (scenario : ScenarioParts) (i : ℕ) (past : List NoticeKind) (v : Nodes) (f : FrameParts) : Type 0 where

@@ -15,7 +15,7 @@ use Rattle.cany_model.specs.Bus.Run.{after_turn}
 use Rattle.cany_model.specs.Bus.State.{Incarnation, NodeState, RunState, node_at}
 use Rattle.cany_model.specs.Bus.Waiting.{put_in_order, waits, with_frame, without}
 use Rattle.cany_model.specs.Rules.Effect.{Effect, Ask, Withdraw, Enter, waiting_after}
-use Rattle.cany_model.specs.Rules.Life.{els_frame, is_own_sign, life_effects, signs_sent}
+use Rattle.cany_model.specs.Rules.Life.{els_frame, is_own_sign, life_effects, life_signs_sent}
 use Rattle.cany_model.specs.Rules.Notices.{HasFewSigns}
 use Rattle.cany_model.specs.Rules.Protocol.{Protocol}
 use Rattle.cany_model.specs.Rules.Turn.{protocols, scenario_at, scenario_for, turn_effects}
@@ -132,7 +132,7 @@ life_asks : (scenario : ScenarioParts) (i : ℕ) (e : NoticeKind) (past : List N
 unfolding life_effects same_class
 life_asks scenario i e past = by_due (due_in scenario i e past)
   where
-    by_due : (b : Bool) → els_asks (cond b (Ask (els_frame scenario.inc i (signs_sent i (e ∷ past))) ∷ []) []) ≡ one_if b
+    by_due : (b : Bool) → els_asks (cond b (Ask (els_frame scenario.inc i (life_signs_sent i (e ∷ past))) ∷ []) []) ≡ one_if b
     by_due true = refl
     by_due false = refl
 
@@ -147,10 +147,10 @@ turn_asks scenario i e past =
 -- those that the node has sent, read or not, and those that wait are no more than were asked for
 abbrev pub Counted : ScenarioParts → List SlotNote → ℕ → NodeState → Type 0
 Counted scenario trace i node =
-    signs_sent i (map (given i) trace) + count_by (is_in class.Els) node.waiting ≤ signs_asked (scenario_for scenario node.present) i (past_of i trace node)
+    life_signs_sent i (map (given i) trace) + count_by (is_in class.Els) node.waiting ≤ signs_asked (scenario_for scenario node.present) i (past_of i trace node)
 
-pub blank_none : (i : ℕ) (trace : List SlotNote) → AllByRecursion (λ note. note.frame ≡ None) trace → signs_sent i (map (given i) trace) ≡ 0
-unfolding signs_sent
+pub blank_none : (i : ℕ) (trace : List SlotNote) → AllByRecursion (λ note. note.frame ≡ None) trace → life_signs_sent i (map (given i) trace) ≡ 0
+unfolding life_signs_sent
 blank_none i [] h = refl
 blank_none i (note ∷ trace) h =
     count-no (is_own_sign i) (given i note) (map (given i) trace) (ap (is_own_sign i) (given_idle i note h.0)) ∙ blank_none i trace h.1
@@ -179,7 +179,7 @@ sent_one note trace i node after l = by_notice (given i note) refl
         ]
 
 pub signs_counted : (scenario : ScenarioParts) → IsNodes scenario (Counted scenario)
-unfolding signs_sent
+unfolding life_signs_sent
 signs_counted scenario = record {
   new = λ trace i node new. omega (arith, blank_none i trace new.blank, ap (count_by is_els) new.waiting);
   slot = λ note trace i node after same l h.
@@ -207,7 +207,7 @@ signs_counted scenario = record {
 -- so a running node that may take a turn has sent so few, with the notice of that turn, that a life interval passed before each
 pub signs_spaced : (scenario : ScenarioParts) (s : RunState) (i : ℕ) → MayTurn s i → (node_at s.nodes i).unread ≤ length s.trace
     → EachRunning (Counted scenario) s → HasFewSigns (scenario_at scenario s i) i (next_notice s i ∷ history i s) (length (history i s))
-unfolding signs_sent
+unfolding life_signs_sent
 signs_spaced scenario s i may short all =
     let node : NodeState = node_at s.nodes i in
     let trace : List SlotNote = seen node.present s.trace in

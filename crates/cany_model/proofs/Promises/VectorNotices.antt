@@ -38,7 +38,7 @@ use Rattle.cany_model.proofs.Promises.Fair.{run_numbered}
 use Rattle.cany_model.proofs.Promises.KeptVectors.{CarriesVector, CoversVector, IsSentWith, kept_vectors, vector_at}
 use Rattle.cany_model.proofs.Promises.LateVectors.{IsReadLate, notice_late}
 use Rattle.cany_model.proofs.Rules.CycleFacts.{IsExchangeOf, exchange_slot}
-use Rattle.cany_model.proofs.Rules.StationNodes.{IsVectorOfBus, station_of_bus}
+use Rattle.cany_model.proofs.Rules.KnowledgeNodes.{IsVectorOfBus, knowledge_of_bus}
 
 -- ---- the vector that a frame carries
 
@@ -92,7 +92,7 @@ carries_more scenario i past few first read k f None h = h
 carries_more scenario i past few first read k f (Some v) h = λ w is.
     let format = scenario.params.format in
     let before : List NoticeKind = drop h.place past in
-    let known = station_of_bus scenario i first before (each_dropped (IsReadable scenario) h.place past read) in
+    let known = knowledge_of_bus scenario i first before (each_dropped (IsReadable scenario) h.place past read) in
     let below : AllBelow (layout format).nodes h.what =
     λ r there. let small = had_below h.what h.had known.vector r there in omega (arith, small, few) in
     let same : h.what ≡ w =

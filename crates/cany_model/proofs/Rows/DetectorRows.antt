@@ -21,7 +21,7 @@ use Rattle.cany_model.specs.Promises.Detector.{AsksNoLeave, HasNotFailed, IsRemo
 use Rattle.cany_model.specs.Promises.Hypothesis.{IsWithin}
 use Rattle.cany_model.specs.Promises.Settled.{IsCorrect}
 use Rattle.cany_model.specs.Rules.Log.{log}
-use Rattle.cany_model.specs.Rules.Site.{station_of}
+use Rattle.cany_model.specs.Rules.Site.{knowledge_of}
 use Rattle.cany_model.specs.Rules.Turn.{scenario_at}
 use Rattle.cany_model.proofs.Promises.BreakFacts.{first_break_exact}
 use Rattle.cany_model.proofs.Rows.DetectorWords.{OfView, detector_row, each_correct, of_views, run_of, two, two_is_legal}
@@ -139,7 +139,7 @@ it_stays =
     it_runs_no_more
 
 -- of node 0 nobody thinks that it has failed, and of node 1 it does
-failed_at_node_0 : (station_of (scenario_at node_1_stops stopped_run 0) 0 (history 0 stopped_run)).failed ≡ set 2
+failed_at_node_0 : (knowledge_of (scenario_at node_1_stops stopped_run 0) 0 (history 0 stopped_run)).failed ≡ set 2
 unfolding detector_row
 failed_at_node_0 = refl
 
@@ -150,7 +150,7 @@ it_alone_has_failed = (refl, refl)
 node_0_has_not_failed : HasNotFailed node_1_stops stopped_run 0
 node_0_has_not_failed =
     each_correct node_1_stops stopped_run
-    (λ i. has (station_of (scenario_at node_1_stops stopped_run i) i (history i stopped_run)).failed 0 ≡ false) refl
+    (λ i. has (knowledge_of (scenario_at node_1_stops stopped_run i) i (history i stopped_run)).failed 0 ≡ false) refl
     (λ correct. ap (λ (failed : Nodes). has failed 0) failed_at_node_0 ∙ it_alone_has_failed.0) it_runs_no_more
 
 -- ---- a silence that is too short

@@ -22,12 +22,12 @@ use Rattle.cany_model.specs.Bus.State.{Incarnation, original}
 use Rattle.cany_model.specs.Promises.Hypothesis.{IsWithin}
 use Rattle.cany_model.specs.Promises.Entries.{HasSigned}
 use Rattle.cany_model.specs.Promises.FirstSlots.{first_carried}
-use Rattle.cany_model.specs.Promises.Settled.{IsCorrectFrom, is_sign_quiet}
+use Rattle.cany_model.specs.Promises.Settled.{IsCorrectFrom, nobody_waits_with_sign}
 use Rattle.cany_model.specs.Rules.Effect.{Effect, Ask, Withdraw, Enter}
 use Rattle.cany_model.specs.Rules.Life.{failure_effects, life_effects}
 use Rattle.cany_model.specs.Rules.Log.{log}
-use Rattle.cany_model.specs.Rules.Site.{station_of}
-use Rattle.cany_model.specs.Rules.Station.{Sign, Station, after_life, fda_of, found as found_by_silence, having_admitted, station_at_first, told}
+use Rattle.cany_model.specs.Rules.Site.{knowledge_of}
+use Rattle.cany_model.specs.Rules.Knowledge.{FailureSign, Knowledge, after_life, fda_of, found as found_by_silence, after_admitting, knowledge_at_first, told}
 use Rattle.cany_model.specs.Rules.Turn.{effects_for, scenario_for, turn_effects}
 use Rattle.cany_model.proofs.Promises.BreakFacts.{first_break_exact}
 use Rattle.cany_model.proofs.Rows.RowWords.{accept, carries, delivers, delivers_rel, delivers_tot, confirm, ed, first_accept, first_tot, idle, one_tot, rel, report, row, scenario, send, send_rel, send_tot, set, slot_rule, steps, three, tot}
@@ -48,7 +48,7 @@ named c node = record { class = c; number = 0; node = node; inc = 0; payload = [
 unfoldable classes : List Class
 classes = class.Accept ∷ class.Rha ∷ class.Els ∷ class.Fda ∷ class.Join ∷ class.Leave ∷ class.Confirm ∷ class.Tot ∷ class.Rel ∷ class.Ed ∷ []
 
-unfoldable sign : ℕ → ℕ → Sign
+unfoldable sign : ℕ → ℕ → FailureSign
 sign node cycle = record { node = node; cycle = cycle }
 
 -- a scenario in which a node starts again at the end of a slot
@@ -320,7 +320,7 @@ simulated_with_a_restart = refl
 -- the premises of agreement are met: by nodes that found the node by silence
 premises_are_met :
     (let s = run silence_at_lag_1 (steps one_reads_late) in
-    IsWithin silence_at_lag_1.params s.trace × ((is_sign_quiet s (sign 1 0) && all_read s) ≡ true)
+    IsWithin silence_at_lag_1.params s.trace × ((nobody_waits_with_sign s (sign 1 0) && all_read s) ≡ true)
     × (first_carried (fda_of (sign 1 0)) s.trace ≡ Some 7) × IsCorrectFrom silence_at_lag_1 s 7 0
     × HasSigned silence_at_lag_1 s 0 (sign 1 0) × IsCorrectFrom silence_at_lag_1 s 7 2)
 unfolding life_run silence_at_lag_1 one_reads_late first_carried
@@ -336,7 +336,7 @@ premises_are_met = (
 -- and by one that started again
 premises_are_met_after_a_restart :
     (let s = run (two_stop 0) (round_robin (two_stop 0)) in
-    IsWithin (two_stop 0).params s.trace × ((is_sign_quiet s (sign 0 0) && all_read s) ≡ true)
+    IsWithin (two_stop 0).params s.trace × ((nobody_waits_with_sign s (sign 0 0) && all_read s) ≡ true)
     × (first_carried (fda_of (sign 0 0)) s.trace ≡ Some 7) × IsCorrectFrom (two_stop 0) s 7 0
     × HasSigned (two_stop 0) s 0 (sign 0 0) × IsCorrectFrom (two_stop 0) s 7 2)
 unfolding life_run two_stop first_carried
@@ -355,7 +355,7 @@ nine-is-above-7 below = omega (arith, below)
 -- one that takes part only later need not know the sign, and does not
 not_met_of_an_earlier_sign :
     (let s = run (two_stop 6) (round_robin (two_stop 6)) in
-    ((is_sign_quiet s (sign 0 0) && all_read s) ≡ true) × (first_carried (fda_of (sign 0 0)) s.trace ≡ Some 7)
+    ((nobody_waits_with_sign s (sign 0 0) && all_read s) ≡ true) × (first_carried (fda_of (sign 0 0)) s.trace ≡ Some 7)
     × (IsCorrectFrom (two_stop 6) s 7 0 → ⊥) × (log (two_stop 6) s 0 ≡ []) × (log (two_stop 6) s 2 ≡ Failed 6 0 0 ∷ Failed 6 1 0 ∷ []))
 unfolding life_run two_stop first_carried
 not_met_of_an_earlier_sign = (refl, refl, λ correct. nine-is-above-7 correct.took_part, refl, refl)
@@ -366,14 +366,14 @@ one_knows = rounds_of 6 (codes ".02") ++ codes ".2"
 
 while_a_frame_waits :
     (let s = run silence_at_lag_1 (steps one_knows) in
-    (first_carried (fda_of (sign 1 0)) s.trace ≡ None) × (is_sign_quiet s (sign 1 0) ≡ false)
+    (first_carried (fda_of (sign 1 0)) s.trace ≡ None) × (nobody_waits_with_sign s (sign 1 0) ≡ false)
     × (log silence_at_lag_1 s 0 ≡ []) × (log silence_at_lag_1 s 2 ≡ Failed 6 1 0 ∷ []))
 unfolding life_run silence_at_lag_1 one_knows first_carried
 while_a_frame_waits = (refl, refl, refl, refl)
 
 while_a_copy_is_not_read :
     (let s = run silence_at_lag_1 (steps (one_knows ++ codes ".")) in
-    (first_carried (fda_of (sign 1 0)) s.trace ≡ Some 7) × (is_sign_quiet s (sign 1 0) ≡ true) × (all_read s ≡ false)
+    (first_carried (fda_of (sign 1 0)) s.trace ≡ Some 7) × (nobody_waits_with_sign s (sign 1 0) ≡ true) × (all_read s ≡ false)
     × (log silence_at_lag_1 s 0 ≡ []))
 unfolding life_run silence_at_lag_1 one_knows first_carried
 while_a_copy_is_not_read = (refl, refl, refl, refl)
@@ -395,28 +395,28 @@ idle_slots n = replicate n Idle
 unfoldable found : ℕ → ℕ → ℕ → List Effect
 found slot node cycle = Enter (Failed slot node cycle) ∷ Ask (fda node cycle) ∷ []
 
-unfoldable start : Station
-start = station_at_first (set 7)
+unfoldable start : Knowledge
+start = knowledge_at_first (set 7)
 
 -- the slot of the node's own last life, and those in which nodes 0, 1 and 2 last showed life
-unfoldable lives : Station → List ℕ
+unfoldable lives : Knowledge → List ℕ
 lives st = st.last ∷ map st.shown (0 ∷ 1 ∷ 2 ∷ [])
 
 pub record Known : Type 0 where
   pub members : Nodes
   pub failed : Nodes
-  pub signs : List Sign
+  pub signs : List FailureSign
   pub lives : List ℕ
 
-unfoldable known : Station → Known
+unfoldable known : Knowledge → Known
 known st = record { members = st.members; failed = st.failed; signs = st.signs; lives = lives st }
 
-unfoldable before_admission : Station
+unfoldable before_admission : Knowledge
 before_admission = record { members = set 5; failed = set 6; signs = sign 2 1 ∷ sign 1 1 ∷ []; shown = λ r. r; last = 3; joiners = set 0; leavers = set 0; vector = None }
 
 -- node 1 was found in slot 6, and is admitted in slot 7: cycles have 15 slots
-unfoldable after_failure : Station
-after_failure = having_admitted 0 7 (set 2) (station_of (of_members 2 (scenario (record (soon 1) { cycle = 15 }) [] [])) 0 (replicate 7 Idle))
+unfoldable after_failure : Knowledge
+after_failure = after_admitting 0 7 (set 2) (knowledge_of (of_members 2 (scenario (record (soon 1) { cycle = 15 }) [] [])) 0 (replicate 7 Idle))
 
 -- opens all that a turn here is written with
 unfoldable life_turn : Unit {0}
@@ -509,7 +509,7 @@ no_life_shown = refl
 -- It has not failed then, and shows life; of the node itself it is the last life too. What is known stays known, and the members are
 -- not changed yet.
 admitted_node_lives :
-    map (λ newly. known (having_admitted 0 9 (set newly) before_admission)) (2 ∷ 3 ∷ 0 ∷ [])
+    map (λ newly. known (after_admitting 0 9 (set newly) before_admission)) (2 ∷ 3 ∷ 0 ∷ [])
     ≡ record { members = set 5; failed = set 4; signs = sign 2 1 ∷ sign 1 1 ∷ []; lives = 3 ∷ 0 ∷ 9 ∷ 2 ∷ [] }
     ∷ record { members = set 5; failed = set 4; signs = sign 2 1 ∷ sign 1 1 ∷ []; lives = 9 ∷ 9 ∷ 9 ∷ 2 ∷ [] }
     ∷ record { members = set 5; failed = set 6; signs = sign 2 1 ∷ sign 1 1 ∷ []; lives = 3 ∷ 0 ∷ 1 ∷ 2 ∷ [] } ∷ []
@@ -641,7 +641,7 @@ notice_before_silence = refl
 
 -- it stands before the other among the signs that are known
 known_after_both :
-    known (station_of (of_members 7 (scenario (soon 1) [] [])) 0 (Got (fda 2 3) ∷ idle_slots 6))
+    known (knowledge_of (of_members 7 (scenario (soon 1) [] [])) 0 (Got (fda 2 3) ∷ idle_slots 6))
     ≡ record { members = set 7; failed = set 6; signs = sign 1 0 ∷ sign 2 3 ∷ []; lives = replicate 4 0 }
 unfolding life_turn
 known_after_both = refl

@@ -20,9 +20,9 @@ use Rattle.cany_model.specs.Promises.OneView.{HasOneView, HasReadEnd, installed,
 use Rattle.cany_model.specs.Promises.Order.{HasOneOrder}
 use Rattle.cany_model.specs.Promises.FirstSlots.{first_carried}
 use Rattle.cany_model.specs.Promises.Safe.{IsAgreedOn, IsSignAgreedOn}
-use Rattle.cany_model.specs.Promises.Settled.{is_sign_quiet}
+use Rattle.cany_model.specs.Promises.Settled.{nobody_waits_with_sign}
 use Rattle.cany_model.specs.Rules.Messages.{Message}
-use Rattle.cany_model.specs.Rules.Station.{fda_of}
+use Rattle.cany_model.specs.Rules.Knowledge.{fda_of}
 use Rattle.cany_model.proofs.Promises.BreakFacts.{first_break_exact}
 use Rattle.cany_model.proofs.Rows.OrderRows.{content, first_origin, order_report, order_row, silent_to_node_2, two_is_not_one}
 use Rattle.cany_model.proofs.Rows.RowWords.{NodeReport, carries, delivers, delivers_rel, delivers_tot, ed, accept, confirm, idle, rel, report, scenario, send, send_rel, send_tot, set, slot_rule, three, tot}
@@ -93,7 +93,7 @@ one_vector_is_installed = refl
 premises_are_met :
     (let s = run whole (round_robin whole) in
     IsWithin whole.params s.trace × HasReadEnd whole s 1 0 × HasReadEnd whole s 1 2
-    × ((is_sign_quiet s (sign 1 1) && all_read s) ≡ true) × (first_carried (fda_of (sign 1 1)) s.trace ≡ Some 73))
+    × ((nobody_waits_with_sign s (sign 1 1) && all_read s) ≡ true) × (first_carried (fda_of (sign 1 1)) s.trace ≡ Some 73))
 unfolding promise_row first_carried whole
 premises_are_met = (
   (first_break_exact whole.params (run whole (round_robin whole)).trace).0 refl,

@@ -29,7 +29,7 @@ use Rattle.cany_model.specs.Rules.Effect.{waiting_after, entered}
 use Rattle.cany_model.specs.Bus.Frames.{same_class, same_identity, same_frame, is_before}
 use Rattle.cany_model.specs.Bus.History.{is_hidden, as_seen, history, copies, has_own}
 use Rattle.cany_model.specs.Promises.Hypothesis.{break_at, first_break, count_together}
-use Rattle.cany_model.specs.Rules.Life.{sign_effects, fda_copy_effects, failure_effects, failures_at, signs_sent, life_effects}
+use Rattle.cany_model.specs.Rules.Life.{sign_effects, fda_copy_effects, failure_effects, failures_at, life_signs_sent, life_effects}
 use Rattle.cany_model.specs.Rules.Log.{log, log_from}
 use Rattle.cany_model.specs.Rules.Membership.{exchange_effects, install_effects, ask_effects}
 use Rattle.cany_model.specs.Rules.Messages.{messages_after, messages_of, is_service}
@@ -41,8 +41,8 @@ use Rattle.cany_model.specs.Promises.Settled.{is_settled}
 use Rattle.cany_model.specs.Bus.Slot.{least_frame, winner, script, share_of, after_share, slot_note_of, node_after, nodes_after, after_slot}
 use Rattle.cany_model.specs.Bus.State.{RunState, node_at, opening, reads}
 use Rattle.cany_model.specs.Rules.Sends.{send_effects}
-use Rattle.cany_model.specs.Rules.Site.{after_notice, station_of}
-use Rattle.cany_model.specs.Rules.Station.{shows_life, after_life, with_signs, told, found}
+use Rattle.cany_model.specs.Rules.Site.{after_notice, knowledge_of}
+use Rattle.cany_model.specs.Rules.Knowledge.{shows_life, after_life, with_signs, told, found}
 use Rattle.cany_model.specs.Rules.Totcan.{tot_in, is_recent, after_place, is_heard, is_accepted, accept_effects, closing_effects, is_clear, done_from, delivered as delivered_tot, delivered_now, totcan_effects}
 use Rattle.cany_model.specs.Rules.Turn.{has_asked, turn_effects}
 use Rattle.cany_model.specs.Rules.Vectors.{brought, met, is_just, is_covered, is_new, vector_effects, end_effects, start_effects, exchange_at}
@@ -140,7 +140,7 @@ node_report sc s i = record { stopped = (node_at s.nodes i).stopped; read = read
 
 -- that of a scenario by a journal; what computes it is opened here, once for all rows
 unfoldable pub report : ScenarioParts → List Step → RunReport
-unfolding shown has bits_where those_where same_class same_identity same_frame is_before messages_after node_at put_in_order least_frame winner script share_of after_share slot_note_of node_after nodes_after after_slot names_restart after_entries nodes_after_entries after_restarts is_hidden as_seen history copies has_own waiting_after entered eager_effects delivery_effects edcan_at edcan_effects fell_back relcan_at timer_effects relcan_effects send_effects tot_in is_recent after_place is_heard is_accepted accept_effects closing_effects is_clear done_from delivered_tot delivered_now totcan_effects shows_life after_life with_signs told found after_notice station_of sign_effects fda_copy_effects failure_effects failures_at signs_sent life_effects brought met is_just is_covered is_new vector_effects end_effects start_effects exchange_at exchange_effects after_ask with_ended view_effects install_effects ask_effects backlog asked backlog_effects is_service turn_effects has_asked log_from first_lagging reply is_legal_from after_turn proceed after_step run_from round rounds break_at first_break count_together is_settled
+unfolding shown has bits_where those_where same_class same_identity same_frame is_before messages_after node_at put_in_order least_frame winner script share_of after_share slot_note_of node_after nodes_after after_slot names_restart after_entries nodes_after_entries after_restarts is_hidden as_seen history copies has_own waiting_after entered eager_effects delivery_effects edcan_at edcan_effects fell_back relcan_at timer_effects relcan_effects send_effects tot_in is_recent after_place is_heard is_accepted accept_effects closing_effects is_clear done_from delivered_tot delivered_now totcan_effects shows_life after_life with_signs told found after_notice knowledge_of sign_effects fda_copy_effects failure_effects failures_at life_signs_sent life_effects brought met is_just is_covered is_new vector_effects end_effects start_effects exchange_at exchange_effects after_ask with_ended view_effects install_effects ask_effects backlog asked backlog_effects is_service turn_effects has_asked log_from first_lagging reply is_legal_from after_turn proceed after_step run_from round rounds break_at first_break count_together is_settled
 report sc journal =
     let s = run sc journal in
     record {

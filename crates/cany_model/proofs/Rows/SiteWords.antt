@@ -11,7 +11,7 @@ use Rattle.cany_base.specs.Frame.{FrameParts}
 use Rattle.cany_base.specs.Params.{Parameters}
 use Rattle.cany_base.specs.Payload.{vector_bytes}
 use Rattle.cany_base.specs.Scenario.{ScenarioParts}
-use Rattle.cany_model.specs.Rules.Station.{Sign}
+use Rattle.cany_model.specs.Rules.Knowledge.{FailureSign}
 use Rattle.cany_model.proofs.Rows.RowWords.{row, set, three}
 
 -- ---- frames
@@ -66,7 +66,7 @@ idle_slots n = replicate n Idle
 unfoldable pub read : ℕ → List NoticeKind → List NoticeKind
 read slots notices = reverse notices ++ replicate slots Idle
 
-unfoldable pub sign : ℕ → ℕ → Sign
+unfoldable pub sign : ℕ → ℕ → FailureSign
 sign node cycle = record { node = node; cycle = cycle }
 
 -- of a run: three nodes with cycles of 8 slots, which end in their slots 3; life signs and silence lie far off

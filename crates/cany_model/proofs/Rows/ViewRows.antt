@@ -9,8 +9,8 @@ use Rattle.cany_base.specs.Scenario.{ScenarioParts}
 use Rattle.cany_model.specs.Bus.Frames.{identity_of}
 use Rattle.cany_model.specs.Rules.Effect.{Effect, Ask, Withdraw, Enter, waiting_after}
 use Rattle.cany_model.specs.Rules.Membership.{ask_effects, exchange_effects, install_effects}
-use Rattle.cany_model.specs.Rules.Site.{station_of}
-use Rattle.cany_model.specs.Rules.Station.{Station, station_at_first}
+use Rattle.cany_model.specs.Rules.Site.{knowledge_of}
+use Rattle.cany_model.specs.Rules.Knowledge.{Knowledge, knowledge_at_first}
 use Rattle.cany_model.specs.Rules.Turn.{turn_effects}
 use Rattle.cany_model.specs.Rules.Views.{after_ask, start_of, with_ended}
 use Rattle.cany_model.proofs.Rows.RowWords.{ed, report, scenario, send, send_tot, set, tot}
@@ -31,27 +31,27 @@ pub record Known : Type 0 where
 unfoldable known : ℕ → ℕ → ℕ → ℕ → Known
 known members failed joiners leavers = record { members = members; failed = failed; joiners = joiners; leavers = leavers }
 
-unfoldable of_station : Station → Known
-of_station st = record { members = st.members.bits; failed = st.failed.bits; joiners = st.joiners.bits; leavers = st.leavers.bits }
+unfoldable of_knowledge : Knowledge → Known
+of_knowledge st = record { members = st.members.bits; failed = st.failed.bits; joiners = st.joiners.bits; leavers = st.leavers.bits }
 
 -- what node 0 knows after these notices, read from slot 8 on
 unfoldable knows : ℕ → List NoticeKind → Known
 unfolding report
-knows members notices = of_station (station_of (site members) 0 (read 8 notices))
+knows members notices = of_knowledge (knowledge_of (site members) 0 (read 8 notices))
 
-unfoldable station : ℕ → ℕ → ℕ → ℕ → Station
-station members failed joiners leavers =
-    record (station_at_first (set members)) { failed = set failed; joiners = set joiners; leavers = set leavers }
+unfoldable knowledge : ℕ → ℕ → ℕ → ℕ → Knowledge
+knowledge members failed joiners leavers =
+    record (knowledge_at_first (set members)) { failed = set failed; joiners = set joiners; leavers = set leavers }
 
 unfoldable view_row : Unit {0}
-unfolding site_row site known of_station knows station
+unfolding site_row site known of_knowledge knows knowledge
 view_row = tt
 
 -- ---- asks that are heard
 
 -- Node 0 hears a frame of each class of another member, and of a node that is none. A node that is no member joins, and a member leaves.
 asks_by_class :
-    map (λ node. map (λ c. let st = after_ask (Got (plain c node 0)) (station 3 0 0 0) in st.joiners.bits ∷ st.leavers.bits ∷ []) classes) (1 ∷ 2 ∷ [])
+    map (λ node. map (λ c. let st = after_ask (Got (plain c node 0)) (knowledge 3 0 0 0) in st.joiners.bits ∷ st.leavers.bits ∷ []) classes) (1 ∷ 2 ∷ [])
     ≡ (let none : List ℕ = 0 ∷ 0 ∷ [] in
     (none ∷ none ∷ none ∷ none ∷ none ∷ (0 ∷ 2 ∷ []) ∷ none ∷ none ∷ none ∷ none ∷ [])
     ∷ (none ∷ none ∷ none ∷ none ∷ (4 ∷ 0 ∷ []) ∷ none ∷ none ∷ none ∷ none ∷ none ∷ []) ∷ [])
@@ -60,7 +60,7 @@ asks_by_class = refl
 
 -- of its own asks, as it reads that it has sent them, that to leave counts where it is a member, and that to join does not
 own_asks :
-    map (λ members. map (λ f. of_station (after_ask (Sent f) (station members 0 0 0))) (join 0 0 ∷ leave 0 0 ∷ els 0 0 ∷ [])) (3 ∷ 2 ∷ [])
+    map (λ members. map (λ f. of_knowledge (after_ask (Sent f) (knowledge members 0 0 0))) (join 0 0 ∷ leave 0 0 ∷ els 0 0 ∷ [])) (3 ∷ 2 ∷ [])
     ≡ (known 3 0 0 0 ∷ known 3 0 0 1 ∷ known 3 0 0 0 ∷ []) ∷ replicate 3 (known 2 0 0 0) ∷ []
 unfolding view_row
 own_asks = refl
@@ -81,12 +81,12 @@ non_member_hears_asks = refl
 
 -- what node 0 starts with: its members that have not failed and do not leave, and those that join, be they failed or not
 starts_with :
-    map (start_of 0) (station 7 0 0 0 ∷ station 7 2 0 0 ∷ station 7 0 0 2 ∷ station 7 0 8 0 ∷ station 7 10 8 4 ∷ station 7 1 0 0 ∷ station 7 0 0 1 ∷ station 7 7 0 0 ∷ [])
+    map (start_of 0) (knowledge 7 0 0 0 ∷ knowledge 7 2 0 0 ∷ knowledge 7 0 0 2 ∷ knowledge 7 0 8 0 ∷ knowledge 7 10 8 4 ∷ knowledge 7 1 0 0 ∷ knowledge 7 0 0 1 ∷ knowledge 7 7 0 0 ∷ [])
     ≡ map (λ bits. Some (set bits)) (7 ∷ 5 ∷ 5 ∷ 15 ∷ 9 ∷ 6 ∷ 6 ∷ 0 ∷ [])
 unfolding view_row
 starts_with = refl
 
-non_member_starts_with_nothing : map (start_of 0) (station 6 0 0 0 ∷ station 0 0 7 0 ∷ station 6 0 1 0 ∷ []) ≡ None ∷ None ∷ None ∷ []
+non_member_starts_with_nothing : map (start_of 0) (knowledge 6 0 0 0 ∷ knowledge 0 0 7 0 ∷ knowledge 6 0 1 0 ∷ []) ≡ None ∷ None ∷ None ∷ []
 unfolding view_row
 non_member_starts_with_nothing = refl
 
@@ -100,7 +100,7 @@ notice_of_the_start = refl
 
 -- one of a later slot does not change the vector any more, and counts in the next cycle, which starts in slot 16
 notice_after_the_start :
-    map (λ notice. let past = read 8 (Idle ∷ notice ∷ []) in ((station_of (site 7) 0 past).vector ∷ start_of 0 (station_of (site 7) 0 (idle_slots 6 ++ past)) ∷ []))
+    map (λ notice. let past = read 8 (Idle ∷ notice ∷ []) in ((knowledge_of (site 7) 0 past).vector ∷ start_of 0 (knowledge_of (site 7) 0 (idle_slots 6 ++ past)) ∷ []))
     (Got (join 3 1) ∷ Got (leave 1 1) ∷ Got (fda 2 1) ∷ [])
     ≡ map (λ bits. Some (set 7) ∷ Some (set bits) ∷ []) (15 ∷ 5 ∷ 3 ∷ [])
 unfolding view_row
@@ -110,23 +110,23 @@ notice_after_the_start = refl
 
 -- The vector becomes the members. Those of it join no more, and of those that leave the ones in it stay. The newly admitted have not failed.
 vector_becomes_the_view :
-    map (λ bits. of_station (with_ended 0 11 (Some (set bits)) (station 7 10 24 6))) (7 ∷ 11 ∷ 5 ∷ 24 ∷ 0 ∷ [])
-    ∷ map (λ v. of_station (with_ended 0 11 v (station 7 10 24 6))) (None ∷ []) ∷ []
+    map (λ bits. of_knowledge (with_ended 0 11 (Some (set bits)) (knowledge 7 10 24 6))) (7 ∷ 11 ∷ 5 ∷ 24 ∷ 0 ∷ [])
+    ∷ map (λ v. of_knowledge (with_ended 0 11 v (knowledge 7 10 24 6))) (None ∷ []) ∷ []
     ≡ (known 7 10 24 6 ∷ known 11 2 16 2 ∷ known 5 10 24 4 ∷ known 24 2 0 0 ∷ known 0 10 24 0 ∷ []) ∷ (known 7 10 24 6 ∷ []) ∷ []
 unfolding view_row
 vector_becomes_the_view = refl
 
 -- The vector is given up. The newly admitted show life in the slot of the end, and so does the node itself if it is one of them.
-unfoldable lives : Station → List ℕ
+unfoldable lives : Knowledge → List ℕ
 lives st = st.last ∷ map st.shown (0 ∷ 1 ∷ 2 ∷ [])
 
 newly_admitted_show_life :
-    map (λ members. lives (with_ended 0 11 (Some (set 7)) (record (station members 0 0 0) { shown = λ r. 5; last = 4 }))) (7 ∷ 5 ∷ 6 ∷ 0 ∷ [])
+    map (λ members. lives (with_ended 0 11 (Some (set 7)) (record (knowledge members 0 0 0) { shown = λ r. 5; last = 4 }))) (7 ∷ 5 ∷ 6 ∷ 0 ∷ [])
     ≡ (4 ∷ 5 ∷ 5 ∷ 5 ∷ []) ∷ (4 ∷ 5 ∷ 11 ∷ 5 ∷ []) ∷ (11 ∷ 11 ∷ 5 ∷ 5 ∷ []) ∷ (11 ∷ 11 ∷ 11 ∷ 11 ∷ []) ∷ []
 unfolding view_row lives
 newly_admitted_show_life = refl
 
-vector_is_given_up : (with_ended 0 11 (Some (set 7)) (record (station 7 0 0 0) { vector = Some (set 7) })).vector ≡ None
+vector_is_given_up : (with_ended 0 11 (Some (set 7)) (record (knowledge 7 0 0 0) { vector = Some (set 7) })).vector ≡ None
 unfolding view_row
 vector_is_given_up = refl
 

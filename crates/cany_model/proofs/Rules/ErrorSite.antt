@@ -8,11 +8,11 @@ use Rattle.cany_base.specs.Nodes.{Nodes}
 use Rattle.cany_base.specs.Params.{Parameters}
 use Rattle.cany_base.specs.Scenario.{ScenarioParts}
 use Rattle.cany_model.specs.Bus.Frames.{identity_of}
-use Rattle.cany_model.specs.Rules.Life.{failure_effects, failures_at, fda_copy_effects, is_own_sign, life_effects, sign_effects, signs_sent}
+use Rattle.cany_model.specs.Rules.Life.{failure_effects, failures_at, fda_copy_effects, is_own_sign, life_effects, sign_effects, life_signs_sent}
 use Rattle.cany_model.specs.Rules.Membership.{ask_effects, exchange_effects, install_effects}
 use Rattle.cany_model.specs.Rules.Notices.{error_as_idle}
-use Rattle.cany_model.specs.Rules.Site.{after_notice, ended_in, start_in, station_of}
-use Rattle.cany_model.specs.Rules.Station.{Sign, Station, after_life, fda_of, found_in, told, told_in}
+use Rattle.cany_model.specs.Rules.Site.{after_notice, ended_in, start_in, knowledge_of}
+use Rattle.cany_model.specs.Rules.Knowledge.{FailureSign, Knowledge, after_life, fda_of, found_in, told, told_in}
 use Rattle.cany_model.specs.Rules.Vectors.{brought, exchange_at, is_covered, is_vector_got, is_vector_sent, vector_effects}
 use Rattle.cany_model.specs.Rules.Views.{after_ask}
 use Rattle.cany_model.proofs.Rules.ErrorCounts.{IsBlind, plain, plain-any, plain-copies, plain-count, plain-length}
@@ -20,28 +20,28 @@ use Rattle.cany_model.proofs.Rules.ErrorCounts.{IsBlind, plain, plain-any, plain
 -- ---- what a node knows
 
 -- an error changes nothing that an idle slot would not
-plain_notice : (p : Parameters) (i slot : ℕ) (e : NoticeKind) (st : Station) → after_notice p i slot (error_as_idle e) st ≡ after_notice p i slot e st
+plain_notice : (p : Parameters) (i slot : ℕ) (e : NoticeKind) (st : Knowledge) → after_notice p i slot (error_as_idle e) st ≡ after_notice p i slot e st
 unfolding after_notice after_life told after_ask brought
 plain_notice p i slot Idle st = refl
 plain_notice p i slot Bad st = refl
 plain_notice p i slot (Got f) st = refl
 plain_notice p i slot (Sent f) st = refl
 
-pub plain_station : (scenario : ScenarioParts) (i : ℕ) (past : List NoticeKind) → station_of scenario i (plain past) ≡ station_of scenario i past
-unfolding station_of
-plain_station scenario i [] = refl
-plain_station scenario i (e ∷ past) =
-    ap (λ n. after_notice scenario.params i n (error_as_idle e) (station_of scenario i (plain past))) (plain-length past)
-    ∙ ap (after_notice scenario.params i (length past) (error_as_idle e)) (plain_station scenario i past)
-    ∙ plain_notice scenario.params i (length past) e (station_of scenario i past)
+pub plain_knowledge : (scenario : ScenarioParts) (i : ℕ) (past : List NoticeKind) → knowledge_of scenario i (plain past) ≡ knowledge_of scenario i past
+unfolding knowledge_of
+plain_knowledge scenario i [] = refl
+plain_knowledge scenario i (e ∷ past) =
+    ap (λ n. after_notice scenario.params i n (error_as_idle e) (knowledge_of scenario i (plain past))) (plain-length past)
+    ∙ ap (after_notice scenario.params i (length past) (error_as_idle e)) (plain_knowledge scenario i past)
+    ∙ plain_notice scenario.params i (length past) e (knowledge_of scenario i past)
 
 -- ---- failure signs
 
-plain_sign : (omit slot : ℕ) (past : List NoticeKind) (sign : Sign) → sign_effects omit slot (plain past) sign ≡ sign_effects omit slot past sign
+plain_sign : (omit slot : ℕ) (past : List NoticeKind) (sign : FailureSign) → sign_effects omit slot (plain past) sign ≡ sign_effects omit slot past sign
 unfolding sign_effects
 plain_sign omit slot past sign = rw (plain-copies (fda_of sign) past) refl
 
-plain_signs : (omit slot : ℕ) (past : List NoticeKind) (signs : List Sign)
+plain_signs : (omit slot : ℕ) (past : List NoticeKind) (signs : List FailureSign)
     → flat_map (sign_effects omit slot (plain past)) signs ≡ flat_map (sign_effects omit slot past) signs
 plain_signs omit slot past [] = refl
 plain_signs omit slot past (sign ∷ signs) = rw (plain_sign omit slot past sign, plain_signs omit slot past signs) refl
@@ -53,21 +53,21 @@ plain_fda_copy omit Bad past = refl
 plain_fda_copy omit (Sent f) past = refl
 plain_fda_copy omit (Got f) past = rw (plain-copies (identity_of f) past) refl
 
-plain_told : (i slot : ℕ) (e : NoticeKind) (st : Station) → told_in i slot (error_as_idle e) st ≡ told_in i slot e st
+plain_told : (i slot : ℕ) (e : NoticeKind) (st : Knowledge) → told_in i slot (error_as_idle e) st ≡ told_in i slot e st
 unfolding told after_life
 plain_told i slot Idle st = refl
 plain_told i slot Bad st = refl
 plain_told i slot (Got f) st = refl
 plain_told i slot (Sent f) st = refl
 
-plain_found : (p : Parameters) (i slot : ℕ) (e : NoticeKind) (st : Station) → found_in p i slot (error_as_idle e) st ≡ found_in p i slot e st
+plain_found : (p : Parameters) (i slot : ℕ) (e : NoticeKind) (st : Knowledge) → found_in p i slot (error_as_idle e) st ≡ found_in p i slot e st
 unfolding told after_life
 plain_found p i slot Idle st = refl
 plain_found p i slot Bad st = refl
 plain_found p i slot (Got f) st = refl
 plain_found p i slot (Sent f) st = refl
 
-plain_failures_at : (p : Parameters) (i : ℕ) (e : NoticeKind) (past : List NoticeKind) (st : Station)
+plain_failures_at : (p : Parameters) (i : ℕ) (e : NoticeKind) (past : List NoticeKind) (st : Knowledge)
     → failures_at p i (error_as_idle e) (plain past) st ≡ failures_at p i e past st
 unfolding failures_at
 plain_failures_at p i e past st =
@@ -84,8 +84,8 @@ pub plain_failures : (scenario : ScenarioParts) (i : ℕ) (past : List NoticeKin
 unfolding failure_effects
 plain_failures scenario i [] = refl
 plain_failures scenario i (e ∷ past) =
-    ap (failures_at scenario.params i (error_as_idle e) (plain past)) (plain_station scenario i past)
-    ∙ plain_failures_at scenario.params i e past (station_of scenario i past)
+    ap (failures_at scenario.params i (error_as_idle e) (plain past)) (plain_knowledge scenario i past)
+    ∙ plain_failures_at scenario.params i e past (knowledge_of scenario i past)
 
 -- ---- life signs
 
@@ -95,14 +95,14 @@ blind_own_sign i Bad = refl
 blind_own_sign i (Got f) = refl
 blind_own_sign i (Sent f) = refl
 
-pub plain_signs_sent : (i : ℕ) (past : List NoticeKind) → signs_sent i (plain past) ≡ signs_sent i past
-unfolding signs_sent
+pub plain_signs_sent : (i : ℕ) (past : List NoticeKind) → life_signs_sent i (plain past) ≡ life_signs_sent i past
+unfolding life_signs_sent
 plain_signs_sent i past = plain-count (is_own_sign i) (blind_own_sign i) past
 
 pub plain_life : (scenario : ScenarioParts) (i : ℕ) (past : List NoticeKind) → life_effects scenario i (plain past) ≡ life_effects scenario i past
 unfolding life_effects
 plain_life scenario i [] = refl
-plain_life scenario i (e ∷ past) = rw (plain-length past, plain_station scenario i (e ∷ past), plain_signs_sent i (e ∷ past)) refl
+plain_life scenario i (e ∷ past) = rw (plain-length past, plain_knowledge scenario i (e ∷ past), plain_signs_sent i (e ∷ past)) refl
 
 -- ---- vectors and views
 
@@ -145,31 +145,31 @@ unfolding exchange_at
 plain_exchange_at p inc i e past old start =
     rw (plain-length past, plain_brought p (length past) e, plain_vector p inc i (length past) (e ∷ past) old (brought p (length past) e)) refl
 
-plain_start : (p : Parameters) (i slot : ℕ) (e : NoticeKind) (st : Station) → start_in p i slot (error_as_idle e) st ≡ start_in p i slot e st
+plain_start : (p : Parameters) (i slot : ℕ) (e : NoticeKind) (st : Knowledge) → start_in p i slot (error_as_idle e) st ≡ start_in p i slot e st
 unfolding after_life told after_ask brought
 plain_start p i slot Idle st = refl
 plain_start p i slot Bad st = refl
 plain_start p i slot (Got f) st = refl
 plain_start p i slot (Sent f) st = refl
 
-plain_ended : (p : Parameters) (slot : ℕ) (e : NoticeKind) (st : Station) → ended_in p slot (error_as_idle e) st ≡ ended_in p slot e st
+plain_ended : (p : Parameters) (slot : ℕ) (e : NoticeKind) (st : Knowledge) → ended_in p slot (error_as_idle e) st ≡ ended_in p slot e st
 plain_ended p slot e st = rw (plain_brought p slot e) refl
 
 pub plain_exchange : (scenario : ScenarioParts) (i : ℕ) (past : List NoticeKind) → exchange_effects scenario i (plain past) ≡ exchange_effects scenario i past
 unfolding exchange_effects
 plain_exchange scenario i [] = refl
 plain_exchange scenario i (e ∷ past) =
-    let st : Station = station_of scenario i past in
-    rw (plain_station scenario i past, plain-length past, plain_start scenario.params i (length past) e st)
+    let st : Knowledge = knowledge_of scenario i past in
+    rw (plain_knowledge scenario i past, plain-length past, plain_start scenario.params i (length past) e st)
     (plain_exchange_at scenario.params scenario.inc i e past st.vector (start_in scenario.params i (length past) e st))
 
 pub plain_install : (scenario : ScenarioParts) (i : ℕ) (past : List NoticeKind) → install_effects scenario i (plain past) ≡ install_effects scenario i past
 unfolding install_effects
 plain_install scenario i [] = refl
 plain_install scenario i (e ∷ past) =
-    rw (plain_station scenario i past, plain-length past, plain_brought scenario.params (length past) e) refl
+    rw (plain_knowledge scenario i past, plain-length past, plain_brought scenario.params (length past) e) refl
 
 pub plain_asks : (scenario : ScenarioParts) (i : ℕ) (past : List NoticeKind) → ask_effects scenario i (plain past) ≡ ask_effects scenario i past
 unfolding ask_effects
 plain_asks scenario i [] = refl
-plain_asks scenario i (e ∷ past) = rw (plain-length past, plain_station scenario i (e ∷ past)) refl
+plain_asks scenario i (e ∷ past) = rw (plain-length past, plain_knowledge scenario i (e ∷ past)) refl

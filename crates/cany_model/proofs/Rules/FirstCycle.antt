@@ -13,15 +13,15 @@ use Rattle.cany_base.proofs.NodesFacts.{has_none}
 use Rattle.cany_model.specs.Bus.Frames.{same_class}
 use Rattle.cany_model.specs.Bus.Slot.{nobody}
 use Rattle.cany_model.specs.Rules.Notices.{is_early, is_early_frame}
-use Rattle.cany_model.specs.Rules.Site.{after_notice, ended_in, having_installed, met_in, start_in, station_of}
-use Rattle.cany_model.specs.Rules.Station.{Station}
+use Rattle.cany_model.specs.Rules.Site.{after_notice, ended_in, after_installing, met_in, start_in, knowledge_of}
+use Rattle.cany_model.specs.Rules.Knowledge.{Knowledge}
 use Rattle.cany_model.specs.Rules.Vectors.{brought, cycle_of, is_end, is_exchange, is_start, met, vector_in}
 use Rattle.cany_model.specs.Rules.Views.{start_of, start_vector}
 use Rattle.cany_model.proofs.Among.{Each-of}
 use Rattle.cany_model.proofs.Bus.Identities.{same_class-true, same_class_self}
 use Rattle.cany_model.proofs.Rules.ProtocolFacts.{IsExchanged, MayAsk, accepts, confirms, data_exchanges_none, exchanges, is_relayed, lives, originates, relays, request_class, requests, signals}
 use Rattle.cany_model.proofs.Rules.SignRooms.{div_grows}
-use Rattle.cany_model.proofs.Rules.StationSteps.{members_after, members_by, start_keeps, vector_after}
+use Rattle.cany_model.proofs.Rules.KnowledgeSteps.{members_after, members_by, start_keeps, vector_after}
 use Rattle.cany_model.proofs.Rules.VectorFacts.{carries_vector}
 
 -- among what was read there is no vector of a cycle before this one
@@ -55,32 +55,32 @@ no_brought p cycle slot (Got f) plain early =
 
 -- Where a node that is at first no member has read slots of earlier cycles alone, it is none, and has no vector.
 record IsOutside (scenario : ScenarioParts) (i : ℕ) (past : List NoticeKind) : Type 0 where
-  members : (station_of scenario i past).members ≡ nobody
-  vector : (station_of scenario i past).vector ≡ None
+  members : (knowledge_of scenario i past).members ≡ nobody
+  vector : (knowledge_of scenario i past).vector ≡ None
 
-meets_none : (p : Parameters) (slot : ℕ) (e : NoticeKind) (st : Station) → st.vector ≡ None → brought p slot e ≡ None
+meets_none : (p : Parameters) (slot : ℕ) (e : NoticeKind) (st : Knowledge) → st.vector ≡ None → brought p slot e ≡ None
     → met_in p slot e st ≡ None
 unfolding met
 meets_none p slot e st none plain = ap (λ o. met p o (brought p slot e)) none ∙ ap (met p None) plain
 
-ends_none : (p : Parameters) (slot : ℕ) (e : NoticeKind) (st : Station) → met_in p slot e st ≡ None → ended_in p slot e st ≡ None
+ends_none : (p : Parameters) (slot : ℕ) (e : NoticeKind) (st : Knowledge) → met_in p slot e st ≡ None → ended_in p slot e st ≡ None
 ends_none p slot e st none = cond_both (is_end p slot) (met_in p slot e st) None (λ o. o ≡ None) (λ _. none) (λ _. refl)
 
-outside_after : (p : Parameters) (i slot : ℕ) (e : NoticeKind) (st : Station) → st.members ≡ nobody → met_in p slot e st ≡ None
+outside_after : (p : Parameters) (i slot : ℕ) (e : NoticeKind) (st : Knowledge) → st.members ≡ nobody → met_in p slot e st ≡ None
     → (after_notice p i slot e st).members ≡ nobody
 outside_after p i slot e st outside none =
     members_after p i slot e st ∙ ap (λ o. members_by o st.members) (ends_none p slot e st none) ∙ outside
 
-starts_none : (p : Parameters) (i slot : ℕ) (e : NoticeKind) (st : Station) → (after_notice p i slot e st).members ≡ nobody
+starts_none : (p : Parameters) (i slot : ℕ) (e : NoticeKind) (st : Knowledge) → (after_notice p i slot e st).members ≡ nobody
     → start_in p i slot e st ≡ None
 unfolding after_notice
 starts_none p i slot e st outside =
-    let now : Station = having_installed p i slot e st in
+    let now : Knowledge = after_installing p i slot e st in
     let view : now.members ≡ nobody = sym (start_keeps Nodes (λ s. s.members) (λ v s. refl) p i slot e st) ∙ outside in
     cond_both (is_start p slot) (start_of i now) None (λ o. o ≡ None)
     (λ _. cond-false (has now.members i) (Some (start_vector now)) None (ap (λ (nodes : Nodes). has nodes i) view ∙ has_none i)) (λ _. refl)
 
-no_vector : (p : Parameters) (i slot : ℕ) (e : NoticeKind) (st : Station) → start_in p i slot e st ≡ None → met_in p slot e st ≡ None
+no_vector : (p : Parameters) (i slot : ℕ) (e : NoticeKind) (st : Knowledge) → start_in p i slot e st ≡ None → met_in p slot e st ≡ None
     → (after_notice p i slot e st).vector ≡ None
 no_vector p i slot e st start none =
     vector_after p i slot e st
@@ -89,12 +89,12 @@ no_vector p i slot e st start none =
 
 outside_before : (scenario : ScenarioParts) (cycle i : ℕ) (past : List NoticeKind) → scenario.members ≡ nobody → HasNoEarly cycle past
     → ((slot : ℕ) → slot < length past → cycle_of scenario.params slot < cycle) → IsOutside scenario i past
-unfolding station_of
+unfolding knowledge_of
 outside_before scenario cycle i [] outside plain early = record { members = outside; vector = refl }
 outside_before scenario cycle i (e ∷ past) outside plain early =
     let p : Parameters = scenario.params in
     let slot : ℕ = length past in
-    let st : Station = station_of scenario i past in
+    let st : Knowledge = knowledge_of scenario i past in
     let before : IsOutside scenario i past =
     outside_before scenario cycle i past outside plain.1 (λ k less. early k (omega (arith, less))) in
     let none : met_in p slot e st ≡ None =
@@ -116,7 +116,7 @@ sends_late scenario cycle i past slot v outside plain sends = elim sends.during 
         let none = outside_before scenario cycle i past outside plain
         (λ k less. omega (arith, early, div_grows k slot scenario.params.cycle (omega (arith, less, sends.now)))) in
         let some = sends.vector (inl start) in
-        let has_none : (station_of scenario i past).vector ≡ None = none.vector in
+        let has_none : (knowledge_of scenario i past).vector ≡ None = none.vector in
         absurd (cc)
   ]
 ]

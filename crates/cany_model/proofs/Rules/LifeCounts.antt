@@ -6,13 +6,13 @@ use Rattle.cany_base.specs.declared.notice.NoticeKind.TheVariants.{Idle, Got, Se
 use Rattle.cany_base.specs.Nodes.{has}
 use Rattle.cany_base.specs.Scenario.{ScenarioParts}
 use Rattle.cany_model.specs.Rules.Life.{is_due}
-use Rattle.cany_model.specs.Rules.Site.{ended_in, station_of}
-use Rattle.cany_model.specs.Rules.Station.{Station, after_life, having_heard, shows_life, with_shown}
-use Rattle.cany_model.proofs.Rules.StationSteps.{is_admitted, last_after}
+use Rattle.cany_model.specs.Rules.Site.{ended_in, knowledge_of}
+use Rattle.cany_model.specs.Rules.Knowledge.{Knowledge, after_life, after_hearing, shows_life, with_shown}
+use Rattle.cany_model.proofs.Rules.KnowledgeSteps.{is_admitted, last_after}
 
 -- ---- the slot of the node's own last life
 
-last_heard : (i slot : ℕ) (e : NoticeKind) (st : Station) → ((having_heard i slot e st).last ≡ st.last) ⊎ ((having_heard i slot e st).last ≡ slot)
+last_heard : (i slot : ℕ) (e : NoticeKind) (st : Knowledge) → ((after_hearing i slot e st).last ≡ st.last) ⊎ ((after_hearing i slot e st).last ≡ slot)
 unfolding after_life
 last_heard i slot Idle st = inl refl
 last_heard i slot Bad st = inl refl
@@ -23,23 +23,23 @@ last_heard i slot (Sent f) st =
 
 -- A turn leaves it, or it is that of the turn: where the node reads that it was heard, or is newly admitted in it.
 pub last_cases : (scenario : ScenarioParts) (i : ℕ) (e : NoticeKind) (past : List NoticeKind)
-    → ((station_of scenario i (e ∷ past)).last ≡ (station_of scenario i past).last) ⊎ ((station_of scenario i (e ∷ past)).last ≡ length past)
-unfolding station_of
+    → ((knowledge_of scenario i (e ∷ past)).last ≡ (knowledge_of scenario i past).last) ⊎ ((knowledge_of scenario i (e ∷ past)).last ≡ length past)
+unfolding knowledge_of
 last_cases scenario i e past =
     let slot : ℕ = length past in
-    let st : Station = station_of scenario i past in
-    let heard : Station = having_heard i slot e st in
-    let after : (station_of scenario i (e ∷ past)).last
+    let st : Knowledge = knowledge_of scenario i past in
+    let heard : Knowledge = after_hearing i slot e st in
+    let after : (knowledge_of scenario i (e ∷ past)).last
     ≡ (if is_admitted (ended_in scenario.params slot e st) st.members i then slot else heard.last) = last_after scenario.params i slot e st in
-    let cases : (n : ℕ) → (n ≡ st.last) ⊎ (n ≡ slot) → (station_of scenario i (e ∷ past)).last ≡ n
-    → ((station_of scenario i (e ∷ past)).last ≡ st.last) ⊎ ((station_of scenario i (e ∷ past)).last ≡ slot) =
+    let cases : (n : ℕ) → (n ≡ st.last) ⊎ (n ≡ slot) → (knowledge_of scenario i (e ∷ past)).last ≡ n
+    → ((knowledge_of scenario i (e ∷ past)).last ≡ st.last) ⊎ ((knowledge_of scenario i (e ∷ past)).last ≡ slot) =
     λ n is same. elim is [ inl kept ↦ inl (same ∙ kept) | inr now ↦ inr (same ∙ now) ] in
     cases (if is_admitted (ended_in scenario.params slot e st) st.members i then slot else heard.last)
     (cond_both (is_admitted (ended_in scenario.params slot e st) st.members i) slot heard.last (λ n. (n ≡ st.last) ⊎ (n ≡ slot))
     (λ _. inr refl) (λ _. last_heard i slot e st)) after
 
-last_read : (scenario : ScenarioParts) (i : ℕ) (past : List NoticeKind) → (station_of scenario i past).last ≤ length past
-unfolding station_of
+last_read : (scenario : ScenarioParts) (i : ℕ) (past : List NoticeKind) → (knowledge_of scenario i past).last ≤ length past
+unfolding knowledge_of
 last_read scenario i [] = omega arith
 last_read scenario i (e ∷ past) = elim (last_cases scenario i e past) [
   | inl same ↦ omega (arith, same, last_read scenario i past)
@@ -49,7 +49,7 @@ last_read scenario i (e ∷ past) = elim (last_cases scenario i e past) [
 -- ---- how many were asked for
 
 abbrev pub due_in : ScenarioParts → ℕ → NoticeKind → List NoticeKind → Bool
-due_in scenario i e past = is_due scenario.params.life i (length past) (station_of scenario i (e ∷ past))
+due_in scenario i e past = is_due scenario.params.life i (length past) (knowledge_of scenario i (e ∷ past))
 
 abbrev pub signs_asked : ScenarioParts → ℕ → List NoticeKind → ℕ
 signs_asked scenario i [] = 0
@@ -57,21 +57,21 @@ signs_asked scenario i (e ∷ past) = cond (due_in scenario i e past) 1 0 + sign
 
 -- a life sign that is due lies an interval after the last life
 pub due_at : (scenario : ScenarioParts) (i : ℕ) (e : NoticeKind) (past : List NoticeKind) → due_in scenario i e past ≡ true
-    → length past ≡ (station_of scenario i (e ∷ past)).last + scenario.params.life
+    → length past ≡ (knowledge_of scenario i (e ∷ past)).last + scenario.params.life
 due_at scenario i e past due =
-    let st : Station = station_of scenario i (e ∷ past) in
+    let st : Knowledge = knowledge_of scenario i (e ∷ past) in
     eqb-true (length past) (st.last + scenario.params.life) (and_parts (has st.members i) (length past == st.last + scenario.params.life) due).1
 
 -- Those that were asked for so far take as many intervals up to the last life, or up to one interval after it, which has passed.
 abbrev IsSpaced : ScenarioParts → ℕ → List NoticeKind → Type 0
 IsSpaced scenario i past =
-    let last = (station_of scenario i past).last in
+    let last = (knowledge_of scenario i past).last in
     (signs_asked scenario i past * scenario.params.life ≤ last)
     ⊎ ((last + scenario.params.life < length past) × (signs_asked scenario i past * scenario.params.life ≤ last + scenario.params.life))
 
 -- where one is due, those before it take the intervals up to the last life
 spaced_before : (scenario : ScenarioParts) (i : ℕ) (e : NoticeKind) (past : List NoticeKind) → IsSpaced scenario i past → due_in scenario i e past ≡ true
-    → signs_asked scenario i past * scenario.params.life ≤ (station_of scenario i (e ∷ past)).last
+    → signs_asked scenario i past * scenario.params.life ≤ (knowledge_of scenario i (e ∷ past)).last
 spaced_before scenario i e past h due =
     let at = due_at scenario i e past due in
     elim (last_cases scenario i e past) [
@@ -80,7 +80,7 @@ spaced_before scenario i e past h due =
     ]
 
 spaced : (scenario : ScenarioParts) (i : ℕ) (past : List NoticeKind) → IsSpaced scenario i past
-unfolding station_of
+unfolding knowledge_of
 spaced scenario i [] = inl (omega arith)
 spaced scenario i (e ∷ past) =
     let h : IsSpaced scenario i past = spaced scenario i past in

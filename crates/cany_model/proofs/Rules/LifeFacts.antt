@@ -19,15 +19,15 @@ use Rattle.cany_model.specs.Bus.Slot.{nobody}
 use Rattle.cany_model.specs.Promises.Entries.{delivers_key}
 use Rattle.cany_model.specs.Rules.Eager.{has_enough}
 use Rattle.cany_model.specs.Rules.Effect.{Effect, Ask, Withdraw, Enter, entered}
-use Rattle.cany_model.specs.Rules.Life.{els_frame, failure_effects, failures_at, failure_signs, fda_copy_effects, is_due, life_effects, life_signs, sign_effects, signs_sent}
+use Rattle.cany_model.specs.Rules.Life.{els_frame, failure_effects, failures_at, failure_signs, fda_copy_effects, is_due, life_effects, life_signs, sign_effects, life_signs_sent}
 use Rattle.cany_model.specs.Rules.Protocol.{Protocol}
-use Rattle.cany_model.specs.Rules.Site.{station_of}
-use Rattle.cany_model.specs.Rules.Station.{Sign, Station, after_life, fda_frame, fda_of, found, found_in, having_heard, having_learnt, is_silent, knows, sign_in, sign_of, told, told_in, with_signs}
+use Rattle.cany_model.specs.Rules.Site.{knowledge_of}
+use Rattle.cany_model.specs.Rules.Knowledge.{FailureSign, Knowledge, after_life, fda_frame, fda_of, found, found_in, after_hearing, after_learning, has_timed_out, knows, sign_in, sign_of, told, told_in, with_signs}
 use Rattle.cany_model.proofs.Among.{Each-append, Each-filter, Each-flat_map, Each-map, Each-weaker, count-no}
 use Rattle.cany_model.proofs.Bus.Identities.{same_class-true}
 use Rattle.cany_model.proofs.Rules.Begun.{IsBegun, begun_before}
 use Rattle.cany_model.proofs.Rules.ProtocolFacts.{IsFounded, IsFoundedEntry, IsKnownBy, IsLawful, enough, is_diffused, lives, log_by, signals}
-use Rattle.cany_model.proofs.Rules.StationFacts.{found_none, newly_known, begun_members}
+use Rattle.cany_model.proofs.Rules.KnowledgeFacts.{found_none, newly_known, begun_members}
 
 -- ---- lists
 
@@ -39,19 +39,19 @@ numbers_below a (suc n) =
 -- ---- why a sign becomes known
 
 -- the signs that silence brings name nodes of the bus, in the cycle of the slot
-found_known : (scenario : ScenarioParts) (i slot : ℕ) (past : List NoticeKind) (st : Station)
+found_known : (scenario : ScenarioParts) (i slot : ℕ) (past : List NoticeKind) (st : Knowledge)
     → AllByRecursion (IsKnownBy scenario slot past) (found scenario.params i slot st)
 unfolding found
 found_known scenario i slot past st =
     let p : Parameters = scenario.params in
-    Each-filter (IsKnownBy scenario slot past) (λ sign. not (knows sign st)) (map (sign_in p slot) (filter (is_silent p i slot st) (range_with_len 0 p.nodes)))
-    (Each-map (sign_in p slot) (IsKnownBy scenario slot past) (filter (is_silent p i slot st) (range_with_len 0 p.nodes))
-    (Each-filter (λ r. IsKnownBy scenario slot past (sign_in p slot r)) (is_silent p i slot st) (range_with_len 0 p.nodes)
+    Each-filter (IsKnownBy scenario slot past) (λ sign. not (knows sign st)) (map (sign_in p slot) (filter (has_timed_out p i slot st) (range_with_len 0 p.nodes)))
+    (Each-map (sign_in p slot) (IsKnownBy scenario slot past) (filter (has_timed_out p i slot st) (range_with_len 0 p.nodes))
+    (Each-filter (λ r. IsKnownBy scenario slot past (sign_in p slot r)) (has_timed_out p i slot st) (range_with_len 0 p.nodes)
     (Each-weaker (λ r. r < 0 + p.nodes) (λ r. IsKnownBy scenario slot past (sign_in p slot r))
     (λ r below. inr (record { node = omega (arith, below); cycle = refl })) (range_with_len 0 p.nodes) (numbers_below 0 p.nodes))))
 
 -- and a sign that is told of has a copy
-told_known : (scenario : ScenarioParts) (slot : ℕ) (e : NoticeKind) (past : List NoticeKind) (st : Station)
+told_known : (scenario : ScenarioParts) (slot : ℕ) (e : NoticeKind) (past : List NoticeKind) (st : Knowledge)
     → AllByRecursion (IsKnownBy scenario slot (e ∷ past)) (told e st)
 unfolding told
 told_known scenario slot Idle past st = tt
@@ -74,10 +74,10 @@ names_els : life_signs.names class.Els ≡ true
 unfolding same_class
 names_els = refl
 
-abbrev IsNew : ScenarioParts → ℕ → NoticeKind → List NoticeKind → Sign → Type 0
-IsNew scenario i e past sign = IsKnownBy scenario (length past) (e ∷ past) sign × (knows sign (station_of scenario i (e ∷ past)) ≡ true)
+abbrev IsNew : ScenarioParts → ℕ → NoticeKind → List NoticeKind → FailureSign → Type 0
+IsNew scenario i e past sign = IsKnownBy scenario (length past) (e ∷ past) sign × (knows sign (knowledge_of scenario i (e ∷ past)) ≡ true)
 
-sign_founded : (scenario : ScenarioParts) (i : ℕ) (e : NoticeKind) (past : List NoticeKind) (sign : Sign) → IsNew scenario i e past sign
+sign_founded : (scenario : ScenarioParts) (i : ℕ) (e : NoticeKind) (past : List NoticeKind) (sign : FailureSign) → IsNew scenario i e past sign
     → AllByRecursion (IsFounded scenario failure_signs i (e ∷ past)) (sign_effects scenario.params.omit (length past) (e ∷ past) sign)
 unfolding sign_effects
 sign_founded scenario i e past sign new = (
@@ -87,7 +87,7 @@ sign_founded scenario i e past sign new = (
       (λ _. ((signals sign (length past) refl new.0 refl, names_fda), tt)),
 )
 
-signs_founded : (scenario : ScenarioParts) (i : ℕ) (e : NoticeKind) (past : List NoticeKind) (signs : List Sign)
+signs_founded : (scenario : ScenarioParts) (i : ℕ) (e : NoticeKind) (past : List NoticeKind) (signs : List FailureSign)
     → AllByRecursion (IsNew scenario i e past) signs
     → AllByRecursion (IsFounded scenario failure_signs i (e ∷ past)) (flat_map (sign_effects scenario.params.omit (length past) (e ∷ past)) signs)
 signs_founded scenario i e past signs new =
@@ -166,26 +166,26 @@ unfolding failure_effects failures_at
 failures_founded scenario i [] = tt
 failures_founded scenario i (e ∷ past) =
     let p : Parameters = scenario.params in
-    let st : Station = station_of scenario i past in
-    let each : Sign → List Effect = sign_effects p.omit (length past) (e ∷ past) in
-    let signs : List Sign = told_in i (length past) e st in
-    let more : List Sign = found_in p i (length past) e st in
+    let st : Knowledge = knowledge_of scenario i past in
+    let each : FailureSign → List Effect = sign_effects p.omit (length past) (e ∷ past) in
+    let signs : List FailureSign = told_in i (length past) e st in
+    let more : List FailureSign = found_in p i (length past) e st in
     let P : Effect → Type 0 = IsFounded scenario failure_signs i (e ∷ past) in
-    let K : Sign → Type 0 = λ sign. knows sign (station_of scenario i (e ∷ past)) ≡ true in
+    let K : FailureSign → Type 0 = λ sign. knows sign (knowledge_of scenario i (e ∷ past)) ≡ true in
     Each-append P (flat_map each signs ++ fda_copy_effects p.omit e (e ∷ past)) (flat_map each more)
     (Each-append P (flat_map each signs) (fda_copy_effects p.omit e (e ∷ past))
     (signs_founded scenario i e past signs
-    (Each-both (IsKnownBy scenario (length past) (e ∷ past)) K signs (told_known scenario (length past) e past (having_heard i (length past) e st))
+    (Each-both (IsKnownBy scenario (length past) (e ∷ past)) K signs (told_known scenario (length past) e past (after_hearing i (length past) e st))
     (Each-first K signs more (newly_known scenario i e past))))
     (copy_founded scenario i e (e ∷ past)))
     (signs_founded scenario i e past more
-    (Each-both (IsKnownBy scenario (length past) (e ∷ past)) K more (found_known scenario i (length past) (e ∷ past) (having_learnt i (length past) e st))
+    (Each-both (IsKnownBy scenario (length past) (e ∷ past)) K more (found_known scenario i (length past) (e ∷ past) (after_learning i (length past) e st))
     (Each-second K signs more (newly_known scenario i e past))))
 
 -- at an idle notice only silence brings signs
 idle_failures : (scenario : ScenarioParts) (i : ℕ) (past : List NoticeKind)
     → failure_effects scenario i (Idle ∷ past)
-    ≡ flat_map (sign_effects scenario.params.omit (length past) (Idle ∷ past)) (found scenario.params i (length past) (station_of scenario i past))
+    ≡ flat_map (sign_effects scenario.params.omit (length past) (Idle ∷ past)) (found scenario.params i (length past) (knowledge_of scenario i past))
 unfolding failure_effects failures_at told fda_copy_effects with_signs after_life
 idle_failures scenario i past = refl
 
@@ -201,11 +201,11 @@ failures_are_lawful = record {
     mute : (scenario : ScenarioParts) (i : ℕ) (past : List NoticeKind) → IsBegun scenario past → failure_effects scenario i past ≡ []
     mute scenario i [] begun = refl
     mute scenario i (e ∷ past) begun =
-        let none : (station_of scenario i past).members ≡ nobody =
+        let none : (knowledge_of scenario i past).members ≡ nobody =
         begun_members scenario i past (begun_before scenario e past begun) ∙ begun.outside (omega arith) in
         ap (λ n. failure_effects scenario i (n ∷ past)) begun.idle.0 ∙ idle_failures scenario i past
         ∙ ap (flat_map (sign_effects scenario.params.omit (length past) (Idle ∷ past)))
-        (found_none scenario.params i (length past) (station_of scenario i past) none)
+        (found_none scenario.params i (length past) (knowledge_of scenario i past) none)
 
 -- ---- life signs
 
@@ -213,7 +213,7 @@ life_founded : (scenario : ScenarioParts) (i : ℕ) (past : List NoticeKind) →
 unfolding life_effects
 life_founded scenario i [] = tt
 life_founded scenario i (e ∷ past) =
-    cond_both (is_due scenario.params.life i (length past) (station_of scenario i (e ∷ past))) (Ask (els_frame scenario.inc i (signs_sent i (e ∷ past))) ∷ []) []
+    cond_both (is_due scenario.params.life i (length past) (knowledge_of scenario i (e ∷ past))) (Ask (els_frame scenario.inc i (life_signs_sent i (e ∷ past))) ∷ []) []
     (AllByRecursion (IsFounded scenario life_signs i (e ∷ past)))
     (λ due. ((lives (length past) refl due refl, names_els), tt)) (λ _. tt)
 
@@ -229,5 +229,5 @@ life_is_lawful = record {
     mute : (scenario : ScenarioParts) (i : ℕ) (past : List NoticeKind) → IsBegun scenario past → life_effects scenario i past ≡ []
     mute scenario i [] begun = refl
     mute scenario i (e ∷ past) begun =
-        let none : (station_of scenario i (e ∷ past)).members ≡ nobody = begun_members scenario i (e ∷ past) begun ∙ begun.outside (omega arith) in
+        let none : (knowledge_of scenario i (e ∷ past)).members ≡ nobody = begun_members scenario i (e ∷ past) begun ∙ begun.outside (omega arith) in
         rw (none, has_none i) refl

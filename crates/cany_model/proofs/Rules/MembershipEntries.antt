@@ -13,7 +13,7 @@ use Rattle.cany_base.specs.Params.{Parameters}
 use Rattle.cany_base.specs.Scenario.{ScenarioParts}
 use Rattle.cany_model.specs.Rules.Effect.{Effect, Ask, Withdraw, Enter, entered}
 use Rattle.cany_model.specs.Rules.Membership.{ask_effects, asks_in, exchange_effects, install_effects, scripted_asks, vectors, views}
-use Rattle.cany_model.specs.Rules.Site.{ended_in, start_in, station_of}
+use Rattle.cany_model.specs.Rules.Site.{ended_in, start_in, knowledge_of}
 use Rattle.cany_model.specs.Rules.Vectors.{brought, cycle_of, end_effects, ended, exchange_at, is_covered, is_new, is_start, met, met_with, rha_frame, rha_of, start_effects, vector_effects}
 use Rattle.cany_model.specs.Rules.Views.{ask_frame, ask_of, join_asked, leave_asked, view_effects, withdrawn_asks}
 use Rattle.cany_model.proofs.Among.{Each-append, Each-flat_map, Each-map}
@@ -64,8 +64,8 @@ pub vectors_enter_none : (scenario : ScenarioParts) (i : ℕ) (past : List Notic
 unfolding exchange_effects entered
 vectors_enter_none scenario i [] = refl
 vectors_enter_none scenario i (e ∷ past) =
-    let old : Option Nodes = (station_of scenario i past).vector in
-    let start : Option Nodes = start_in scenario.params i (length past) e (station_of scenario i past) in
+    let old : Option Nodes = (knowledge_of scenario i past).vector in
+    let start : Option Nodes = start_in scenario.params i (length past) e (knowledge_of scenario i past) in
     entered-none (exchange_at scenario.params scenario.inc i e past old start) (exchange_enters scenario.params scenario.inc i e past old start)
 
 -- ---- scripted asks
@@ -83,7 +83,7 @@ unfolding ask_effects entered
 asks_enter_none scenario i [] = refl
 asks_enter_none scenario i (e ∷ past) =
     let p : Parameters = scenario.params in
-    let members : Nodes = (station_of scenario i (e ∷ past)).members in
+    let members : Nodes = (knowledge_of scenario i (e ∷ past)).members in
     let joins : NodeAsk → List Effect = λ ask. join_asked p scenario.inc i (length past) members in
     let leaves : NodeAsk → List Effect = λ ask. leave_asked p scenario.inc i (length past) members in
     let joining : List NodeAsk = asks_in scenario i (length past) scenario.joins in
@@ -123,4 +123,4 @@ unfolding install_effects entered
 views_enter scenario i [] = tt
 views_enter scenario i (e ∷ past) =
     view_enters scenario.params scenario.joins scenario.leaves i (length past)
-    (ended_in scenario.params (length past) e (station_of scenario i past))
+    (ended_in scenario.params (length past) e (knowledge_of scenario i past))

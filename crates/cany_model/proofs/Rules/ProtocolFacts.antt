@@ -19,13 +19,13 @@ use Rattle.cany_model.specs.Bus.Frames.{Identity, identity_of}
 use Rattle.cany_model.specs.Bus.History.{copies, is_got}
 use Rattle.cany_model.specs.Promises.Entries.{delivers_key}
 use Rattle.cany_model.specs.Rules.Effect.{Effect, Ask, Withdraw, Enter, entered}
-use Rattle.cany_model.specs.Rules.Life.{els_frame, is_due, signs_sent}
+use Rattle.cany_model.specs.Rules.Life.{els_frame, is_due, life_signs_sent}
 use Rattle.cany_model.specs.Rules.Messages.{Message, messages_of, accept_of_key, data_frame, data_id}
 use Rattle.cany_model.specs.Rules.Protocol.{Protocol}
 use Rattle.cany_model.specs.Rules.Relcan.{confirm_frame}
-use Rattle.cany_model.specs.Rules.Site.{station_of}
-use Rattle.cany_model.specs.Rules.Station.{Sign, fda_frame, knows, sign_of}
-use Rattle.cany_model.specs.Rules.Totcan.{accept_frame, after_place, is_open, message_in}
+use Rattle.cany_model.specs.Rules.Site.{knowledge_of}
+use Rattle.cany_model.specs.Rules.Knowledge.{FailureSign, fda_frame, knows, sign_of}
+use Rattle.cany_model.specs.Rules.Totcan.{accept_frame, after_place, can_be_accepted, message_in}
 use Rattle.cany_model.specs.Rules.Vectors.{cycle_of, is_end, is_exchange, is_start, rha_frame, rha_of}
 use Rattle.cany_model.specs.Rules.Views.{ask_frame, ask_of as ask_id}
 use Rattle.cany_model.proofs.Among.{Among, Among-gives, Among-weaker, Among-with, count-from_Among}
@@ -50,19 +50,19 @@ is_relayed class.Rel = true
 is_relayed class.Ed = true
 
 -- a copy of its frame tells of the sign
-pub record IsTold (past : List NoticeKind) (sign : Sign) : Type 0 where
+pub record IsTold (past : List NoticeKind) (sign : FailureSign) : Type 0 where
   pub frame : FrameParts
   pub read : Among (λ n. n ≡ Got frame) past
   pub class : frame.class ≡ class.Fda
   pub tells : sign_of frame ≡ sign
 
 -- silence can bring the sign in the slot: it names a node of the bus, and the cycle of the slot
-pub record IsFound (scenario : ScenarioParts) (slot : ℕ) (sign : Sign) : Type 0 where
+pub record IsFound (scenario : ScenarioParts) (slot : ℕ) (sign : FailureSign) : Type 0 where
   pub node : sign.node < scenario.params.nodes
   pub cycle : sign.cycle ≡ slot / scenario.params.cycle
 
 -- why a sign is known in the turn of the slot
-abbrev pub IsKnownBy : ScenarioParts → ℕ → List NoticeKind → Sign → Type 0
+abbrev pub IsKnownBy : ScenarioParts → ℕ → List NoticeKind → FailureSign → Type 0
 IsKnownBy scenario slot past sign = IsTold past sign ⊎ IsFound scenario slot sign
 
 -- vectors are exchanged in the slot, and the node has got one of its cycle
@@ -79,7 +79,7 @@ pub record IsExchanged (scenario : ScenarioParts) (i : ℕ) (past : List NoticeK
   pub now : length past ≡ suc slot
   pub cycle : 0 < cycle_of scenario.params slot
   pub during : (is_start scenario.params slot ≡ true) ⊎ IsTaken scenario past slot
-  pub vector : (is_start scenario.params slot ≡ true) ⊎ (is_end scenario.params slot ≡ false) → (station_of scenario i past).vector ≡ Some v
+  pub vector : (is_start scenario.params slot ≡ true) ⊎ (is_end scenario.params slot ≡ false) → (knowledge_of scenario i past).vector ≡ Some v
 
 -- one of these scripted asks is that of node i in the slot, which is that of the newest notice, and one whose scripted asks are made
 pub record IsScripted (scenario : ScenarioParts) (asks : List NodeAsk) (i : ℕ) (past : List NoticeKind) (slot : ℕ) : Type 0 where
@@ -93,8 +93,8 @@ pub record IsScripted (scenario : ScenarioParts) (asks : List NodeAsk) (i : ℕ)
 -- a node that is no member asks to join, and a member to leave
 abbrev pub MayRequest : ScenarioParts → ℕ → List NoticeKind → ℕ → Class → Type 0
 MayRequest scenario i past slot c =
-    ((c ≡ class.Join) × IsScripted scenario scenario.joins i past slot × (has (station_of scenario i past).members i ≡ false))
-    ⊎ ((c ≡ class.Leave) × IsScripted scenario scenario.leaves i past slot × (has (station_of scenario i past).members i ≡ true))
+    ((c ≡ class.Join) × IsScripted scenario scenario.joins i past slot × (has (knowledge_of scenario i past).members i ≡ false))
+    ⊎ ((c ≡ class.Leave) × IsScripted scenario scenario.leaves i past slot × (has (knowledge_of scenario i past).members i ≡ true))
 
 -- why a node may ask for a frame, by what it has read
 pub data MayAsk (scenario : ScenarioParts) (i : ℕ) (past : List NoticeKind) (f : FrameParts) : Type 0 where
@@ -110,9 +110,9 @@ pub data MayAsk (scenario : ScenarioParts) (i : ℕ) (past : List NoticeKind) (f
   accepts : (g : FrameParts) → Among (λ n. n ≡ Sent g) past → g.class ≡ class.Tot → g.node ≡ i → accept_frame g ≡ f
       → MayAsk scenario i past f
   -- the frame is that of a failure sign: a copy told of it, or silence brought it in the slot of the newest notice
-  signals : (sign : Sign) (slot : ℕ) → length past ≡ suc slot → IsKnownBy scenario slot past sign → fda_frame sign ≡ f → MayAsk scenario i past f
+  signals : (sign : FailureSign) (slot : ℕ) → length past ≡ suc slot → IsKnownBy scenario slot past sign → fda_frame sign ≡ f → MayAsk scenario i past f
   -- the frame is the node's own life sign, which is due in the slot of the newest notice
-  lives : (slot : ℕ) → length past ≡ suc slot → is_due scenario.params.life i slot (station_of scenario i past) ≡ true → els_frame scenario.inc i (signs_sent i past) ≡ f
+  lives : (slot : ℕ) → length past ≡ suc slot → is_due scenario.params.life i slot (knowledge_of scenario i past) ≡ true → els_frame scenario.inc i (life_signs_sent i past) ≡ f
       → MayAsk scenario i past f
   -- the frame carries the node's own vector, of the cycle of the slot of the newest notice
   exchanges : (slot : ℕ) (v : Nodes) → IsExchanged scenario i past slot v
@@ -132,17 +132,17 @@ pub record IsRead (p : Protocol) (past : List NoticeKind) (slot : ℕ) (by : Ser
   pub serves : p.delivers by ≡ true
 
 -- the sign that is entered in the turn of the newest notice was told of, or silence brought it, and is known then
-pub record IsSignal (scenario : ScenarioParts) (i : ℕ) (past : List NoticeKind) (slot : ℕ) (sign : Sign) : Type 0 where
+pub record IsSignal (scenario : ScenarioParts) (i : ℕ) (past : List NoticeKind) (slot : ℕ) (sign : FailureSign) : Type 0 where
   pub now : length past ≡ suc slot
   pub because : IsKnownBy scenario slot past sign
-  pub known : knows sign (station_of scenario i past) ≡ true
+  pub known : knows sign (knowledge_of scenario i past) ≡ true
 
 -- the view is that of a member, which comes to it at the end of a cycle, in the turn of the newest notice
 pub record IsInstalled (scenario : ScenarioParts) (i : ℕ) (past : List NoticeKind) (slot cycle : ℕ) (view : Nodes) : Type 0 where
   pub now : length past ≡ suc slot
   pub number : cycle ≡ cycle_of scenario.params slot
   pub ends : is_end scenario.params slot ≡ true
-  pub members : (station_of scenario i past).members ≡ view
+  pub members : (knowledge_of scenario i past).members ≡ view
   pub member : has view i ≡ true
 
 -- an entry that a protocol makes
@@ -185,7 +185,7 @@ pub data MayWithdraw (scenario : ScenarioParts) (i : ℕ) (past : List NoticeKin
       → scenario.params.omit < copies x (after_place (message_in f) past) → MayWithdraw scenario i past x
   -- it accepts a message that is closed, whose data frame was read
   closes : (f : FrameParts) → Among (Has f) past → f.class ≡ class.Tot → accept_of_key (message_in f) ≡ x
-      → is_open scenario.params.bound (message_in f) past ≡ false → MayWithdraw scenario i past x
+      → can_be_accepted scenario.params.bound (message_in f) past ≡ false → MayWithdraw scenario i past x
   -- it carries the node's own vector, of the cycle of the slot of the newest notice
   settles : (slot : ℕ) → MaySettle scenario past slot → rha_of (cycle_of scenario.params slot) i ≡ x → MayWithdraw scenario i past x
   -- it is that of a scripted ask of the node, and a cycle ends in the slot of the newest notice

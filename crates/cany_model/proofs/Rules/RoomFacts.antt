@@ -15,7 +15,7 @@ use Rattle.cany_base.specs.Scenario.{ScenarioParts}
 use Rattle.cany_model.specs.Bus.Frames.{Identity, identity_of, is_of, same_class}
 use Rattle.cany_model.specs.Rules.Messages.{IsOfMessage, Message, is_service, message_of, messages_after, messages_of}
 use Rattle.cany_model.specs.Rules.Rooms.{IsAskable, IsAskableAs, IsOfAsk, IsOfNode, IsOfVector, class_room, cycles, sends_by, waiting_room}
-use Rattle.cany_model.specs.Rules.Station.{Sign, fda_of, sign_of}
+use Rattle.cany_model.specs.Rules.Knowledge.{FailureSign, fda_of, sign_of}
 use Rattle.cany_model.specs.Rules.Vectors.{cycle_of, rha_of}
 use Rattle.cany_model.specs.Rules.Views.{ask_of}
 use Rattle.cany_model.proofs.Among.{Among, Among-append_left, Among-append_right, Among-from_Contains, Among-weaker, Each-weaker, count-cons, count-from_Among, count-no, count-yes, one_if}
@@ -79,11 +79,11 @@ still_below : (j k : ℕ) → j < suc k → (k ≡ j → ⊥) → j < k
 still_below j k h other = elim (cases_lt j k) [ inl less ↦ less | inr past ↦ absurd (other (omega (arith, h, past))) ]
 
 -- those of one node in so many cycles, and of so many nodes
-signs_of : ℕ → ℕ → List Sign
+signs_of : ℕ → ℕ → List FailureSign
 signs_of r zero = []
 signs_of r (suc k) = record { node = r; cycle = k } ∷ signs_of r k
 
-pub signs_below : ℕ → ℕ → List Sign
+pub signs_below : ℕ → ℕ → List FailureSign
 signs_below zero k = []
 signs_below (suc n) k = signs_of n k ++ signs_below n k
 
@@ -113,7 +113,7 @@ count_of r (suc k) = omega (arith, count-cons (λ sign. true) (record { node = r
 pub count_below : (n k : ℕ) → count_by (λ sign. true) (signs_below n k) ≡ n * k
 unfolding signs_below
 count_below zero k = omega arith
-count_below (suc n) k = omega (arith, sum_by-append {X = Sign} (λ sign. cond true 1 0) (signs_of n k) (signs_below n k), count_of n k, count_below n k, suc-mul n k)
+count_below (suc n) k = omega (arith, sum_by-append {X = FailureSign} (λ sign. cond true 1 0) (signs_of n k) (signs_below n k), count_of n k, count_below n k, suc-mul n k)
 
 -- ---- cycles
 

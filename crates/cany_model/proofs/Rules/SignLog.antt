@@ -15,17 +15,17 @@ use Rattle.cany_model.specs.Rules.Effect.{Effect, entered}
 use Rattle.cany_model.specs.Rules.Life.{failure_effects, failures_at, fda_copy_effects, sign_effects}
 use Rattle.cany_model.specs.Rules.Log.{log_from}
 use Rattle.cany_model.specs.Rules.Membership.{views}
-use Rattle.cany_model.specs.Rules.Site.{station_of}
-use Rattle.cany_model.specs.Rules.Station.{Sign, Station, found, found_in, having_found, having_heard, having_learnt, is_silent, knows, same_sign, sign_in, sign_of, told, told_in, with_signs}
+use Rattle.cany_model.specs.Rules.Site.{knowledge_of}
+use Rattle.cany_model.specs.Rules.Knowledge.{FailureSign, Knowledge, found, found_in, after_finding, after_hearing, after_learning, has_timed_out, knows, same_sign, sign_in, sign_of, told, told_in, with_signs}
 use Rattle.cany_model.specs.Rules.Turn.{turn_effects}
 use Rattle.cany_model.proofs.Among.{Among-from_count, Among-weaker, any-from_Among, count-cons, count-no, count-yes}
 use Rattle.cany_model.proofs.Rules.DeliveryFacts.{entered-append, entered-none}
 use Rattle.cany_model.proofs.Rules.MembershipEntries.{IsOfView, views_enter}
-use Rattle.cany_model.proofs.Rules.StationFacts.{knows_found, knows_heard, knows_with, same_sign-from, tells}
+use Rattle.cany_model.proofs.Rules.KnowledgeFacts.{knows_found, knows_heard, knows_with, same_sign-from, tells}
 use Rattle.cany_model.proofs.Rules.TurnEntries.{copy_enters, sign_enters, turn_enters}
 
 -- the entry is that of the sign
-abbrev pub is_entry_of : Sign → LogEntry → Bool
+abbrev pub is_entry_of : FailureSign → LogEntry → Bool
 is_entry_of sign (Deliver slot by msg payload) = false
 is_entry_of sign (Failed slot node cycle) = node == sign.node && cycle == sign.cycle
 is_entry_of sign (View slot number members) = false
@@ -70,7 +70,7 @@ range_once n a (suc k) = elim (cases_Bool (a == n)) [
   | inr other ↦ omega (arith, count-no (λ r. r == n) a (range_with_len (a + 1) k) other, range_once n (a + 1) k)
 ]
 
-module _ (sign : Sign) where
+module _ (sign : FailureSign) where
   abbrev count : List LogEntry → ℕ
   count entries = count_by (is_entry_of sign) entries
 
@@ -98,17 +98,17 @@ module _ (sign : Sign) where
 
   -- ---- each sign that becomes known is entered
 
-  abbrev is_it : Sign → Bool
+  abbrev is_it : FailureSign → Bool
   is_it s = is_entry_of sign (Failed 0 s.node s.cycle)
 
-  is_it-true : (s : Sign) → is_it s ≡ true → sign ≡ s
+  is_it-true : (s : FailureSign) → is_it s ≡ true → sign ≡ s
   is_it-true s h =
       let parts = and_parts (s.node == sign.node) (s.cycle == sign.cycle) h in
       let node : s.node ≡ sign.node = eqb-true s.node sign.node parts.0 in
       let cycle : s.cycle ≡ sign.cycle = eqb-true s.cycle sign.cycle parts.1 in
       λ k. record { node = (sym node) k; cycle = (sym cycle) k }
 
-  signs_enter : (omit slot : ℕ) (past : List NoticeKind) (signs : List Sign)
+  signs_enter : (omit slot : ℕ) (past : List NoticeKind) (signs : List FailureSign)
       → count (entered (flat_map (sign_effects omit slot past) signs)) ≡ count_by is_it signs
   unfolding entered
   signs_enter omit slot past [] = refl
@@ -124,14 +124,14 @@ module _ (sign : Sign) where
 
   failures_enter : (scenario : ScenarioParts) (i : ℕ) (e : NoticeKind) (past : List NoticeKind)
       → count (entered (failure_effects scenario i (e ∷ past)))
-      ≡ count_by is_it (told_in i (length past) e (station_of scenario i past))
-      + count_by is_it (found_in scenario.params i (length past) e (station_of scenario i past))
+      ≡ count_by is_it (told_in i (length past) e (knowledge_of scenario i past))
+      + count_by is_it (found_in scenario.params i (length past) e (knowledge_of scenario i past))
   unfolding failure_effects failures_at
   failures_enter scenario i e past =
-      let each : Sign → List Effect = sign_effects scenario.params.omit (length past) (e ∷ past) in
+      let each : FailureSign → List Effect = sign_effects scenario.params.omit (length past) (e ∷ past) in
       let copied : List Effect = fda_copy_effects scenario.params.omit e (e ∷ past) in
-      let told_now : List Sign = told_in i (length past) e (station_of scenario i past) in
-      let found_now : List Sign = found_in scenario.params i (length past) e (station_of scenario i past) in
+      let told_now : List FailureSign = told_in i (length past) e (knowledge_of scenario i past) in
+      let found_now : List FailureSign = found_in scenario.params i (length past) e (knowledge_of scenario i past) in
       let halves : count (entered ((flat_map each told_now ++ copied) ++ flat_map each found_now))
       ≡ count (entered (flat_map each told_now ++ copied)) + count (entered (flat_map each found_now)) =
       ap count (entered-append (flat_map each told_now ++ copied) (flat_map each found_now))
@@ -151,7 +151,7 @@ module _ (sign : Sign) where
   -- ---- a sign becomes known once
 
   -- a sign that a notice tells of is told of once, and was not known
-  told_once : (e : NoticeKind) (st : Station) → count_by is_it (told e st) + one_if (knows sign st) ≤ 1
+  told_once : (e : NoticeKind) (st : Knowledge) → count_by is_it (told e st) + one_if (knows sign st) ≤ 1
   unfolding told
   told_once Idle st = omega (arith, one_at_most (knows sign st))
   told_once Bad st = omega (arith, one_at_most (knows sign st))
@@ -170,7 +170,7 @@ module _ (sign : Sign) where
       (λ _. omega (arith, one_at_most (knows sign st)))
 
   -- a sign that is known is none of those that are not
-  unknown_none : (st : Station) → knows sign st ≡ true → (signs : List Sign) → count_by is_it (filter (λ s. not (knows s st)) signs) ≡ 0
+  unknown_none : (st : Knowledge) → knows sign st ≡ true → (signs : List FailureSign) → count_by is_it (filter (λ s. not (knows s st)) signs) ≡ 0
   unknown_none st known [] = refl
   unknown_none st known (s ∷ signs) =
       cond_both (not (knows s st)) (s ∷ filter (λ x. not (knows x st)) signs) (filter (λ x. not (knows x st)) signs) (λ kept. count_by is_it kept ≡ 0)
@@ -192,11 +192,11 @@ module _ (sign : Sign) where
       )
 
   -- so is one that silence brings: each node is looked at once
-  found_once : (p : Parameters) (i slot : ℕ) (st : Station) → count_by is_it (found p i slot st) + one_if (knows sign st) ≤ 1
+  found_once : (p : Parameters) (i slot : ℕ) (st : Knowledge) → count_by is_it (found p i slot st) + one_if (knows sign st) ≤ 1
   unfolding found
   found_once p i slot st =
-      let silent : List ℕ = filter (is_silent p i slot st) (range_with_len 0 p.nodes) in
-      let all : List Sign = map (sign_in p slot) silent in
+      let silent : List ℕ = filter (has_timed_out p i slot st) (range_with_len 0 p.nodes) in
+      let all : List FailureSign = map (sign_in p slot) silent in
       elim (cases_Bool (knows sign st)) [
         | inl known ↦ omega (arith, unknown_none st known all, one_at_most (knows sign st))
         | inr unknown ↦
@@ -206,13 +206,13 @@ module _ (sign : Sign) where
               none,
               filter_fewer is_it (λ s. not (knows s st)) all,
               silent_fewer p slot silent,
-              filter_fewer (λ r. r == sign.node) (is_silent p i slot st) (range_with_len 0 p.nodes),
+              filter_fewer (λ r. r == sign.node) (has_timed_out p i slot st) (range_with_len 0 p.nodes),
               range_once sign.node 0 p.nodes,
             )
       ]
 
   -- and it is known from then on
-  then_known : (signs : List Sign) (st : Station) → count_by is_it signs + one_if (knows sign st) ≤ 1
+  then_known : (signs : List FailureSign) (st : Knowledge) → count_by is_it signs + one_if (knows sign st) ≤ 1
       → count_by is_it signs + one_if (knows sign st) ≤ one_if (knows sign (with_signs signs st))
   then_known signs st few = elim (cases_lt 0 (count_by is_it signs)) [
     | inl some ↦
@@ -232,18 +232,18 @@ module _ (sign : Sign) where
 
   -- its entry stands there only once it is known, and at most once
   signs_known : (scenario : ScenarioParts) (i : ℕ) (past : List NoticeKind)
-      → count (log_from scenario i past) ≤ one_if (knows sign (station_of scenario i past))
-  unfolding log_from station_of
+      → count (log_from scenario i past) ≤ one_if (knows sign (knowledge_of scenario i past))
+  unfolding log_from knowledge_of
   signs_known scenario i [] = omega arith
   signs_known scenario i (e ∷ past) =
-      let st : Station = station_of scenario i past in
-      let heard : Station = having_heard i (length past) e st in
-      let learnt : Station = having_learnt i (length past) e st in
-      let told_now : List Sign = told_in i (length past) e st in
-      let found_now : List Sign = found_in scenario.params i (length past) e st in
+      let st : Knowledge = knowledge_of scenario i past in
+      let heard : Knowledge = after_hearing i (length past) e st in
+      let learnt : Knowledge = after_learning i (length past) e st in
+      let told_now : List FailureSign = told_in i (length past) e st in
+      let found_now : List FailureSign = found_in scenario.params i (length past) e st in
       let same : one_if (knows sign heard) ≡ one_if (knows sign st) = ap one_if (knows_heard sign i (length past) e st) in
-      let stays : one_if (knows sign (station_of scenario i (e ∷ past)))
-      ≡ one_if (knows sign (having_found scenario.params i (length past) e st)) = ap one_if (knows_found scenario.params i (length past) e st sign) in
+      let stays : one_if (knows sign (knowledge_of scenario i (e ∷ past)))
+      ≡ one_if (knows sign (after_finding scenario.params i (length past) e st)) = ap one_if (knows_found scenario.params i (length past) e st sign) in
       omega (
         arith,
         count-append (log_from scenario i past) (entered (turn_effects scenario i (e ∷ past))),
@@ -257,6 +257,6 @@ module _ (sign : Sign) where
       )
 
 -- of each sign at most one entry stands in the log of a node
-pub signs_once : (scenario : ScenarioParts) (i : ℕ) (past : List NoticeKind) (sign : Sign)
+pub signs_once : (scenario : ScenarioParts) (i : ℕ) (past : List NoticeKind) (sign : FailureSign)
     → count_by (is_entry_of sign) (log_from scenario i past) ≤ 1
-signs_once scenario i past sign = omega (arith, signs_known sign scenario i past, one_at_most (knows sign (station_of scenario i past)))
+signs_once scenario i past sign = omega (arith, signs_known sign scenario i past, one_at_most (knows sign (knowledge_of scenario i past)))

@@ -16,7 +16,7 @@ use Rattle.cany_model.specs.Rules.Log.{log_from}
 use Rattle.cany_model.specs.Rules.Notices.{BelongsTo, IsReadable, NamesNode}
 use Rattle.cany_model.specs.Rules.Protocol.{Protocol}
 use Rattle.cany_model.specs.Rules.Rooms.{cycles}
-use Rattle.cany_model.specs.Rules.Station.{Sign}
+use Rattle.cany_model.specs.Rules.Knowledge.{FailureSign}
 use Rattle.cany_model.proofs.Among.{Among, Among-drop, Among-weaker, Each-weaker, count-cons, one_if}
 use Rattle.cany_model.proofs.Rules.LogFacts.{log_split, made_by}
 use Rattle.cany_model.proofs.Rules.ProtocolFacts.{IsFoundedEntry, IsSignal}
@@ -72,7 +72,7 @@ copy_names scenario (kind ∷ past) f read within fda (inl got) =
     (names.node, omega (arith, names.number, div_grows (length past) scenario.params.slots scenario.params.cycle (omega (arith, within))))
 
 -- and so does a sign that was entered
-signal_names : (scenario : ScenarioParts) (i : ℕ) (past : List NoticeKind) (place slot : ℕ) (sign : Sign) → AreRead scenario past
+signal_names : (scenario : ScenarioParts) (i : ℕ) (past : List NoticeKind) (place slot : ℕ) (sign : FailureSign) → AreRead scenario past
     → length past ≤ scenario.params.slots → IsSignal scenario i (drop place past) slot sign
     → (sign.node < scenario.params.nodes) × (sign.cycle ≤ cycles scenario)
 signal_names scenario i past place slot sign read within r = elim r.because [
@@ -82,8 +82,8 @@ signal_names scenario i past place slot sign read within r = elim r.because [
       (found.node, omega (arith, found.cycle, div_grows slot scenario.params.slots scenario.params.cycle early))
   | inl told ↦
       let names = copy_names scenario past told.frame read within told.class (Among-drop (λ n. n ≡ Got told.frame) place past told.read) in
-      let node : told.frame.node ≡ sign.node = ap (λ (s : Sign). s.node) told.tells in
-      let cycle : told.frame.number ≡ sign.cycle = ap (λ (s : Sign). s.cycle) told.tells in
+      let node : told.frame.node ≡ sign.node = ap (λ (s : FailureSign). s.node) told.tells in
+      let cycle : told.frame.number ≡ sign.cycle = ap (λ (s : FailureSign). s.cycle) told.tells in
       (omega (arith, node, names.0), omega (arith, cycle, names.1))
 ]
 
@@ -107,7 +107,7 @@ is_failed (Failed slot node cycle) = true
 is_failed (View slot number members) = false
 
 -- those of so many nodes, in so many cycles
-abbrev signs_in : ScenarioParts → List Sign
+abbrev signs_in : ScenarioParts → List FailureSign
 signs_in scenario = signs_below scenario.params.nodes (cycles scenario + 1)
 
 sign_listed : (scenario : ScenarioParts) (entry : LogEntry) → IsOfRun scenario entry → is_failed entry ≡ true

@@ -20,7 +20,7 @@ use Rattle.cany_model.specs.Rules.Delivery.{delivery}
 use Rattle.cany_model.specs.Rules.Eager.{eager_effects, has_enough, is_first_copy}
 use Rattle.cany_model.specs.Rules.Effect.{Effect, Ask, Withdraw, entered}
 use Rattle.cany_model.specs.Rules.Messages.{Message, accept_of_key, is_service, message_key}
-use Rattle.cany_model.specs.Rules.Totcan.{accept_effects, accept_frame, after_place, closing_effects, closing_of, delivered, delivered_now, done, done_at, done_from, has_closing_ahead, holds, is_accepted, is_among, is_clear, is_open, is_place, is_recent, message_in, new_among, tot_delivery, tot_in, totcan, totcan_effects}
+use Rattle.cany_model.specs.Rules.Totcan.{accept_effects, accept_frame, after_place, closing_effects, closing_of, delivered, delivered_now, done, done_at, done_from, has_closing_ahead, holds, is_accepted, is_among, is_clear, can_be_accepted, is_place, is_recent, message_in, new_among, tot_delivery, tot_in, totcan, totcan_effects}
 use Rattle.cany_model.proofs.Among.{Among, Among-from_count, Among-get_or, Among-gives, Among-weaker, Among-with, Each-append, Each-filter, Each-weaker, any-from_Among, count-cons, count-no, count-yes}
 use Rattle.cany_model.proofs.Bus.Carried.{Has}
 use Rattle.cany_model.proofs.Bus.Identities.{same_class-true, same_identity-from}
@@ -62,9 +62,9 @@ unfolding accept_effects
 accept_founded scenario i Idle past = tt
 accept_founded scenario i Bad past = tt
 accept_founded scenario i (Got f) past =
-    cond_both (same_class f.class class.Accept && is_open scenario.params.bound (message_in f) past) _ []
+    cond_both (same_class f.class class.Accept && can_be_accepted scenario.params.bound (message_in f) past) _ []
     (AllByRecursion (IsFounded scenario totcan i (Got f ∷ past)))
-    (λ h. eager_accept scenario i f past (and_parts (same_class f.class class.Accept) (is_open scenario.params.bound (message_in f) past) h).0)
+    (λ h. eager_accept scenario i f past (and_parts (same_class f.class class.Accept) (can_be_accepted scenario.params.bound (message_in f) past) h).0)
     (λ _. tt)
 accept_founded scenario i (Sent f) past =
     cond_both (same_class f.class class.Tot && f.node == i) (Ask (accept_frame f) ∷ []) [] (AllByRecursion (IsFounded scenario totcan i (Sent f ∷ past)))
@@ -78,7 +78,7 @@ unfolding accept_effects
 accept_enters p i Idle past = tt
 accept_enters p i Bad past = tt
 accept_enters p i (Got f) past =
-    cond_both (same_class f.class class.Accept && is_open p.bound (message_in f) past) _ [] (AllByRecursion EntersNone)
+    cond_both (same_class f.class class.Accept && can_be_accepted p.bound (message_in f) past) _ [] (AllByRecursion EntersNone)
     (λ _. eager_enters p.omit f (after_place (message_in f) (Got f ∷ past))) (λ _. tt)
 accept_enters p i (Sent f) past =
     cond_both (same_class f.class class.Tot && f.node == i) (Ask (accept_frame f) ∷ []) [] (AllByRecursion EntersNone) (λ _. (tt, tt)) (λ _. tt)
@@ -104,7 +104,7 @@ close_founded : (scenario : ScenarioParts) (i : ℕ) (past : List NoticeKind) (o
     → AllByRecursion (IsFounded scenario totcan i past) (closing_of scenario.params.bound past o)
 close_founded scenario i past None brought = tt
 close_founded scenario i past (Some f) brought =
-    cond_both (is_open scenario.params.bound (message_in f) past) [] (Withdraw (accept_of_key (message_in f)) ∷ [])
+    cond_both (can_be_accepted scenario.params.bound (message_in f) past) [] (Withdraw (accept_of_key (message_in f)) ∷ [])
     (AllByRecursion (IsFounded scenario totcan i past)) (λ _. tt)
     (λ closed.
     let read = brought f refl in
@@ -119,7 +119,7 @@ closing_founded scenario i past =
 close_enters : (bound : ℕ) (past : List NoticeKind) (o : Option FrameParts) → AllByRecursion EntersNone (closing_of bound past o)
 close_enters bound past None = tt
 close_enters bound past (Some f) =
-    cond_both (is_open bound (message_in f) past) [] (Withdraw (accept_of_key (message_in f)) ∷ []) (AllByRecursion EntersNone) (λ _. tt) (λ _. (tt, tt))
+    cond_both (can_be_accepted bound (message_in f) past) [] (Withdraw (accept_of_key (message_in f)) ∷ []) (AllByRecursion EntersNone) (λ _. tt) (λ _. (tt, tt))
 
 closing_enters : (bound : ℕ) (past : List NoticeKind) → AllByRecursion EntersNone (closing_effects bound past)
 unfolding closing_effects
@@ -387,4 +387,4 @@ totcan_is_lawful = record {
 
     serves_open : (scenario : ScenarioParts) (m : Message) (i : ℕ) (past : List NoticeKind) → has_closing_ahead scenario m i past ≡ true
         → totcan.delivers m.service ≡ true
-    serves_open scenario m i past h = (and_parts (is_service m.service Tot) (is_open scenario.params.bound (message_key m) past) h).0
+    serves_open scenario m i past h = (and_parts (is_service m.service Tot) (can_be_accepted scenario.params.bound (message_key m) past) h).0

@@ -19,13 +19,13 @@ use Rattle.cany_model.specs.Rules.Delivery.{delivery, is_delivery}
 use Rattle.cany_model.specs.Rules.Eager.{has_enough}
 use Rattle.cany_model.specs.Rules.Edcan.{edcan}
 use Rattle.cany_model.specs.Rules.Effect.{Effect, Ask, Withdraw, entered}
-use Rattle.cany_model.specs.Rules.Life.{els_frame, failure_effects, failures_at, failure_signs, fda_copy_effects, is_due, life_effects, life_signs, sign_effects, signs_sent}
+use Rattle.cany_model.specs.Rules.Life.{els_frame, failure_effects, failures_at, failure_signs, fda_copy_effects, is_due, life_effects, life_signs, sign_effects, life_signs_sent}
 use Rattle.cany_model.specs.Rules.Membership.{scripted_asks, vectors, views}
 use Rattle.cany_model.specs.Rules.Protocol.{Protocol}
 use Rattle.cany_model.specs.Rules.Relcan.{relcan}
 use Rattle.cany_model.specs.Rules.Sends.{is_sent_in, scripted_sends, send_effects, sendable}
-use Rattle.cany_model.specs.Rules.Site.{station_of}
-use Rattle.cany_model.specs.Rules.Station.{Sign, fda_frame, fda_of, found_in, told_in}
+use Rattle.cany_model.specs.Rules.Site.{knowledge_of}
+use Rattle.cany_model.specs.Rules.Knowledge.{FailureSign, fda_frame, fda_of, found_in, told_in}
 use Rattle.cany_model.specs.Rules.Totcan.{delivered_now, totcan}
 use Rattle.cany_model.specs.Rules.Turn.{turn_effects}
 use Rattle.cany_model.proofs.Among.{Each-append, count-no}
@@ -72,7 +72,7 @@ copy_enters omit (Got f) past =
     cond_both (same_class f.class class.Fda && has_enough omit (identity_of f) past) (Withdraw (identity_of f) ∷ []) [] (AllByRecursion EntersNone)
     (λ _. (tt, tt)) (λ _. tt)
 
-pub sign_enters : (omit slot : ℕ) (past : List NoticeKind) (s : Sign)
+pub sign_enters : (omit slot : ℕ) (past : List NoticeKind) (s : FailureSign)
     → entered (sign_effects omit slot past s) ≡ Failed slot s.node s.cycle ∷ []
 unfolding sign_effects entered
 sign_enters omit slot past s =
@@ -85,7 +85,7 @@ IsOfSign (Deliver slot by msg payload) = ⊥
 IsOfSign (Failed slot node cycle) = Unit {0}
 IsOfSign (View slot number members) = ⊥
 
-signs_enter : (omit slot : ℕ) (past : List NoticeKind) (signs : List Sign)
+signs_enter : (omit slot : ℕ) (past : List NoticeKind) (signs : List FailureSign)
     → AllByRecursion IsOfSign (entered (flat_map (sign_effects omit slot past) signs))
 unfolding entered
 signs_enter omit slot past [] = tt
@@ -98,16 +98,16 @@ pub failures_enter : (scenario : ScenarioParts) (i : ℕ) (past : List NoticeKin
 unfolding failure_effects failures_at entered
 failures_enter scenario i [] = tt
 failures_enter scenario i (e ∷ past) =
-    let each : Sign → List Effect = sign_effects scenario.params.omit (length past) (e ∷ past) in
+    let each : FailureSign → List Effect = sign_effects scenario.params.omit (length past) (e ∷ past) in
     let copied : List Effect = fda_copy_effects scenario.params.omit e (e ∷ past) in
-    let told_now : List Effect = flat_map each (told_in i (length past) e (station_of scenario i past)) in
-    let found_now : List Effect = flat_map each (found_in scenario.params i (length past) e (station_of scenario i past)) in
+    let told_now : List Effect = flat_map each (told_in i (length past) e (knowledge_of scenario i past)) in
+    let found_now : List Effect = flat_map each (found_in scenario.params i (length past) e (knowledge_of scenario i past)) in
     let none : entered copied ≡ [] = entered-none copied (copy_enters scenario.params.omit e (e ∷ past)) in
     rw (entered-append (told_now ++ copied) found_now, entered-append told_now copied, none)
     (Each-append IsOfSign (entered told_now ++ []) (entered found_now)
     (Each-append IsOfSign (entered told_now) []
-    (signs_enter scenario.params.omit (length past) (e ∷ past) (told_in i (length past) e (station_of scenario i past))) tt)
-    (signs_enter scenario.params.omit (length past) (e ∷ past) (found_in scenario.params i (length past) e (station_of scenario i past))))
+    (signs_enter scenario.params.omit (length past) (e ∷ past) (told_in i (length past) e (knowledge_of scenario i past))) tt)
+    (signs_enter scenario.params.omit (length past) (e ∷ past) (found_in scenario.params i (length past) e (knowledge_of scenario i past))))
 
 -- ---- how many of a kind
 
@@ -144,8 +144,8 @@ module _ (is : LogEntry → Bool)
     unfolding life_effects
     life_none =
         ap (count_by is) (entered-none (life_effects scenario i (e ∷ before))
-        (cond_both (is_due scenario.params.life i (length before) (station_of scenario i (e ∷ before)))
-        (Ask (els_frame scenario.inc i (signs_sent i (e ∷ before))) ∷ []) [] (AllByRecursion EntersNone) (λ _. (tt, tt)) (λ _. tt)))
+        (cond_both (is_due scenario.params.life i (length before) (knowledge_of scenario i (e ∷ before)))
+        (Ask (els_frame scenario.inc i (life_signs_sent i (e ∷ before))) ∷ []) [] (AllByRecursion EntersNone) (λ _. (tt, tt)) (λ _. tt)))
 
     sends_none : count_of scripted_sends ≡ 0
     unfolding send_effects

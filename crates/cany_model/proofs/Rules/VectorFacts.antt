@@ -15,8 +15,8 @@ use Rattle.cany_base.proofs.NodesFacts.{has_none}
 use Rattle.cany_model.specs.Bus.Frames.{same_class}
 use Rattle.cany_model.specs.Rules.Effect.{Effect, Ask, Withdraw}
 use Rattle.cany_model.specs.Rules.Membership.{exchange_effects, vectors}
-use Rattle.cany_model.specs.Rules.Site.{having_installed, start_in, station_of}
-use Rattle.cany_model.specs.Rules.Station.{Station, station_at_first}
+use Rattle.cany_model.specs.Rules.Site.{after_installing, start_in, knowledge_of}
+use Rattle.cany_model.specs.Rules.Knowledge.{Knowledge, knowledge_at_first}
 use Rattle.cany_model.specs.Rules.Vectors.{after_exchange, brought, cycle_of, end_effects, ended, exchange_at, is_covered, is_end, is_exchange, is_new, is_start, met, met_with, rha_frame, rha_of, start_effects, vector_effects, vector_in}
 use Rattle.cany_model.specs.Rules.Views.{start_of, start_vector}
 use Rattle.cany_model.proofs.Among.{Each-append}
@@ -24,8 +24,8 @@ use Rattle.cany_model.proofs.Bus.Identities.{same_class-true}
 use Rattle.cany_model.proofs.Rules.Begun.{IsBegun, begun_before}
 use Rattle.cany_model.proofs.Rules.LifeFacts.{delivers_none}
 use Rattle.cany_model.proofs.Rules.ProtocolFacts.{IsExchanged, IsFounded, IsLawful, IsTaken, exchanges, settles}
-use Rattle.cany_model.proofs.Rules.StationFacts.{begun_station, outside, outside_installs}
-use Rattle.cany_model.proofs.Rules.StationSteps.{vector_after}
+use Rattle.cany_model.proofs.Rules.KnowledgeFacts.{begun_knowledge, outside, outside_installs}
+use Rattle.cany_model.proofs.Rules.KnowledgeSteps.{vector_after}
 
 -- ---- a membership cycle
 
@@ -86,35 +86,35 @@ taken scenario slot (Got f) past w h =
 -- ---- the vector after a turn
 
 -- the vector of a node comes to be what the exchange makes of it, and by nothing else
-pub station_vector : (scenario : ScenarioParts) (i : ℕ) (e : NoticeKind) (past : List NoticeKind)
-    → (station_of scenario i (e ∷ past)).vector
-    ≡ after_exchange scenario.params (length past) e (start_in scenario.params i (length past) e (station_of scenario i past))
-    (station_of scenario i past).vector
-unfolding station_of
-station_vector scenario i e past = vector_after scenario.params i (length past) e (station_of scenario i past)
+pub knowledge_vector : (scenario : ScenarioParts) (i : ℕ) (e : NoticeKind) (past : List NoticeKind)
+    → (knowledge_of scenario i (e ∷ past)).vector
+    ≡ after_exchange scenario.params (length past) e (start_in scenario.params i (length past) e (knowledge_of scenario i past))
+    (knowledge_of scenario i past).vector
+unfolding knowledge_of
+knowledge_vector scenario i e past = vector_after scenario.params i (length past) e (knowledge_of scenario i past)
 
 -- while vectors are exchanged, before the end, it is met with the one that the notice brings
 pub vector_met : (scenario : ScenarioParts) (i : ℕ) (e : NoticeKind) (past : List NoticeKind)
     → is_start scenario.params (length past) ≡ false → is_end scenario.params (length past) ≡ false
-    → (station_of scenario i (e ∷ past)).vector
-    ≡ met scenario.params (station_of scenario i past).vector (brought scenario.params (length past) e)
+    → (knowledge_of scenario i (e ∷ past)).vector
+    ≡ met scenario.params (knowledge_of scenario i past).vector (brought scenario.params (length past) e)
 vector_met scenario i e past start last =
     let p : Parameters = scenario.params in
     let slot : ℕ = length past in
-    let st : Station = station_of scenario i past in
-    station_vector scenario i e past
+    let st : Knowledge = knowledge_of scenario i past in
+    knowledge_vector scenario i e past
     ∙ cond-false (is_start p slot) (start_in p i slot e st) (if is_end p slot then None else met p st.vector (brought p slot e)) start
     ∙ cond-false (is_end p slot) None (met p st.vector (brought p slot e)) last
 
 -- and at the start it is what the node starts with
 pub vector_starts : (scenario : ScenarioParts) (i : ℕ) (e : NoticeKind) (past : List NoticeKind)
     → is_start scenario.params (length past) ≡ true
-    → (station_of scenario i (e ∷ past)).vector ≡ start_in scenario.params i (length past) e (station_of scenario i past)
+    → (knowledge_of scenario i (e ∷ past)).vector ≡ start_in scenario.params i (length past) e (knowledge_of scenario i past)
 vector_starts scenario i e past start =
     let p : Parameters = scenario.params in
     let slot : ℕ = length past in
-    let st : Station = station_of scenario i past in
-    station_vector scenario i e past
+    let st : Knowledge = knowledge_of scenario i past in
+    knowledge_vector scenario i e past
     ∙ cond-true (is_start p slot) (start_in p i slot e st) (if is_end p slot then None else met p st.vector (brought p slot e)) start
 
 -- ---- each effect is founded
@@ -131,7 +131,7 @@ met_now p old o w is = ap (met p old) is
 -- at a vector that was brought the node may send the one that it has met
 met_exchanged : (scenario : ScenarioParts) (i : ℕ) (e : NoticeKind) (past : List NoticeKind) (w : Nodes)
     → brought scenario.params (length past) e ≡ Some w
-    → IsExchanged scenario i (e ∷ past) (length past) (met_with scenario.params (station_of scenario i past).vector w)
+    → IsExchanged scenario i (e ∷ past) (length past) (met_with scenario.params (knowledge_of scenario i past).vector w)
 met_exchanged scenario i e past w is =
     let p : Parameters = scenario.params in
     let during = brought_exchanged p (length past) e w is in
@@ -143,13 +143,13 @@ met_exchanged scenario i e past w is =
         | inl start ↦ absurd (both_ways (is_start p (length past)) (exchange_no_start p (length past) during) start)
         | inr before_end ↦
             vector_met scenario i e past (exchange_no_start p (length past) during) before_end
-            ∙ met_now p (station_of scenario i past).vector (brought p (length past) e) w is
+            ∙ met_now p (knowledge_of scenario i past).vector (brought p (length past) e) w is
       ];
     }
 
 -- at the start of a cycle it may send what it starts with
 start_exchanged : (scenario : ScenarioParts) (i : ℕ) (e : NoticeKind) (past : List NoticeKind) (v : Nodes)
-    → is_start scenario.params (length past) ≡ true → start_in scenario.params i (length past) e (station_of scenario i past) ≡ Some v
+    → is_start scenario.params (length past) ≡ true → start_in scenario.params i (length past) e (knowledge_of scenario i past) ≡ Some v
     → IsExchanged scenario i (e ∷ past) (length past) v
 start_exchanged scenario i e past v start is = record {
   now = refl;
@@ -161,13 +161,13 @@ start_exchanged scenario i e past v start is = record {
 brought_founded : (scenario : ScenarioParts) (i : ℕ) (e : NoticeKind) (past : List NoticeKind) (o : Option Nodes)
     → brought scenario.params (length past) e ≡ o
     → AllByRecursion (IsFounded scenario vectors i (e ∷ past))
-    (vector_effects scenario.params scenario.inc i (length past) (e ∷ past) (station_of scenario i past).vector o)
+    (vector_effects scenario.params scenario.inc i (length past) (e ∷ past) (knowledge_of scenario i past).vector o)
 unfolding vector_effects
 brought_founded scenario i e past None is = tt
 brought_founded scenario i e past (Some w) is =
     let p : Parameters = scenario.params in
     let slot : ℕ = length past in
-    let old : Option Nodes = (station_of scenario i past).vector in
+    let old : Option Nodes = (knowledge_of scenario i past).vector in
     let v : Nodes = met_with p old w in
     let P : List Effect → Type 0 = AllByRecursion (IsFounded scenario vectors i (e ∷ past)) in
     cond_both (is_covered p (cycle_of p slot) i v (e ∷ past)) (Withdraw (rha_of (cycle_of p slot) i) ∷ [])
@@ -193,7 +193,7 @@ end_founded scenario i e past m =
     (given_up_founded scenario i e past m) (λ _. tt)
 
 start_founded : (scenario : ScenarioParts) (i : ℕ) (e : NoticeKind) (past : List NoticeKind) (o : Option Nodes)
-    → start_in scenario.params i (length past) e (station_of scenario i past) ≡ o
+    → start_in scenario.params i (length past) e (knowledge_of scenario i past) ≡ o
     → AllByRecursion (IsFounded scenario vectors i (e ∷ past)) (start_effects scenario.params scenario.inc i (length past) o)
 unfolding start_effects
 start_founded scenario i e past None is = tt
@@ -211,7 +211,7 @@ vectors_founded scenario i [] = tt
 vectors_founded scenario i (e ∷ past) =
     let p : Parameters = scenario.params in
     let slot : ℕ = length past in
-    let st : Station = station_of scenario i past in
+    let st : Knowledge = knowledge_of scenario i past in
     let P : Effect → Type 0 = IsFounded scenario vectors i (e ∷ past) in
     let m : Option Nodes = met p st.vector (brought p slot e) in
     let a : List Effect = vector_effects p scenario.inc i slot (e ∷ past) st.vector (brought p slot e) in
@@ -226,8 +226,8 @@ vectors_founded scenario i (e ∷ past) =
 -- it starts no cycle with a vector, since it is no member
 start_none : (p : Parameters) (i slot : ℕ) → start_in p i slot Idle outside ≡ None
 start_none p i slot =
-    let now : Station = having_installed p i slot Idle outside in
-    let view : has now.members i ≡ false = ap (λ (st : Station). has st.members i) (outside_installs p i slot) ∙ has_none i in
+    let now : Knowledge = after_installing p i slot Idle outside in
+    let view : has now.members i ≡ false = ap (λ (st : Knowledge). has st.members i) (outside_installs p i slot) ∙ has_none i in
     cond_both (is_start p slot) (start_of i now) None (λ o. o ≡ None)
     (λ _. cond-false (has now.members i) (Some (start_vector now)) None view) (λ _. refl)
 
@@ -252,6 +252,6 @@ vectors_are_lawful = record {
         let p : Parameters = scenario.params in
         ap (λ n. exchange_effects scenario i (n ∷ past)) begun.idle.0
         ∙ ap (λ st. exchange_at p scenario.inc i Idle past st.vector (start_in p i (length past) Idle st))
-        (begun_station scenario i past (begun_before scenario e past begun) ∙ ap station_at_first (begun.outside (omega arith)))
+        (begun_knowledge scenario i past (begun_before scenario e past begun) ∙ ap knowledge_at_first (begun.outside (omega arith)))
         ∙ ap (exchange_at p scenario.inc i Idle past None) (start_none p i (length past))
         ∙ idle_exchange p scenario.inc i past

@@ -14,16 +14,16 @@ use Rattle.cany_base.specs.Scenario.{ScenarioParts}
 use Rattle.cany_model.specs.Bus.Frames.{same_class}
 use Rattle.cany_model.specs.Rules.Effect.{Effect, Ask, Withdraw, Enter}
 use Rattle.cany_model.specs.Rules.Membership.{ask_effects, asks_in, install_effects, is_ask_in, scripted_asks, views}
-use Rattle.cany_model.specs.Rules.Site.{ended_in, met_in, station_of}
-use Rattle.cany_model.specs.Rules.Station.{Station, station_at_first}
+use Rattle.cany_model.specs.Rules.Site.{ended_in, met_in, knowledge_of}
+use Rattle.cany_model.specs.Rules.Knowledge.{Knowledge, knowledge_at_first}
 use Rattle.cany_model.specs.Rules.Vectors.{brought, cycle_of, ended, is_end, met}
 use Rattle.cany_model.specs.Rules.Views.{ask_frame, ask_of, join_asked, leave_asked, view_effects, withdrawn_asks}
 use Rattle.cany_model.proofs.Among.{Among, Contains-from_Among, Each-append, Each-flat_map, Each-map, Each-weaker}
 use Rattle.cany_model.proofs.Rules.Begun.{IsBegun, begun_before}
 use Rattle.cany_model.proofs.Rules.LifeFacts.{delivers_none}
 use Rattle.cany_model.proofs.Rules.ProtocolFacts.{IsAskOf, IsFounded, IsLawful, IsScripted, answered, requests}
-use Rattle.cany_model.proofs.Rules.StationFacts.{begun_station}
-use Rattle.cany_model.proofs.Rules.StationSteps.{members_after, members_by}
+use Rattle.cany_model.proofs.Rules.KnowledgeFacts.{begun_knowledge}
+use Rattle.cany_model.proofs.Rules.KnowledgeSteps.{members_after, members_by}
 
 -- ---- lists
 
@@ -44,10 +44,10 @@ each_kept P p (x ∷ xs) h =
 
 -- the vector that ends a cycle becomes the view
 pub installed_members : (scenario : ScenarioParts) (i : ℕ) (e : NoticeKind) (past : List NoticeKind) (v : Nodes)
-    → ended_in scenario.params (length past) e (station_of scenario i past) ≡ Some v → (station_of scenario i (e ∷ past)).members ≡ v
-unfolding station_of
+    → ended_in scenario.params (length past) e (knowledge_of scenario i past) ≡ Some v → (knowledge_of scenario i (e ∷ past)).members ≡ v
+unfolding knowledge_of
 installed_members scenario i e past v is =
-    let st : Station = station_of scenario i past in
+    let st : Knowledge = knowledge_of scenario i past in
     members_after scenario.params i (length past) e st ∙ ap (λ w. members_by w st.members) is
 
 -- ---- views
@@ -78,14 +78,14 @@ withdrawals_founded scenario i e past c asks ends named is =
     (each_kept P own asks (each_stands asks)))
 
 view_founded : (scenario : ScenarioParts) (i : ℕ) (e : NoticeKind) (past : List NoticeKind) (o : Option Nodes)
-    → ended_in scenario.params (length past) e (station_of scenario i past) ≡ o
+    → ended_in scenario.params (length past) e (knowledge_of scenario i past) ≡ o
     → AllByRecursion (IsFounded scenario views i (e ∷ past)) (view_effects scenario.params scenario.joins scenario.leaves i (length past) o)
 unfolding view_effects
 view_founded scenario i e past None is = tt
 view_founded scenario i e past (Some v) is =
     let p : Parameters = scenario.params in
     let slot : ℕ = length past in
-    let ends = ended_ends p slot (met_in p slot e (station_of scenario i past)) v is in
+    let ends = ended_ends p slot (met_in p slot e (knowledge_of scenario i past)) v is in
     let joined : List Effect = withdrawn_asks class.Join p i scenario.joins in
     let left : List Effect = withdrawn_asks class.Leave p i scenario.leaves in
     cond_both (has v i) (Enter (View slot (cycle_of p slot) v) ∷ joined) left (AllByRecursion (IsFounded scenario views i (e ∷ past)))
@@ -102,12 +102,12 @@ views_founded : (scenario : ScenarioParts) (i : ℕ) (past : List NoticeKind)
 unfolding install_effects
 views_founded scenario i [] = tt
 views_founded scenario i (e ∷ past) =
-    view_founded scenario i e past (ended_in scenario.params (length past) e (station_of scenario i past)) refl
+    view_founded scenario i e past (ended_in scenario.params (length past) e (knowledge_of scenario i past)) refl
 
 -- a node that has no vector comes to no view at an idle notice
 idle_view : (scenario : ScenarioParts) (i : ℕ) (past : List NoticeKind)
     → view_effects scenario.params scenario.joins scenario.leaves i (length past)
-    (ended_in scenario.params (length past) Idle (station_at_first scenario.members)) ≡ []
+    (ended_in scenario.params (length past) Idle (knowledge_at_first scenario.members)) ≡ []
 unfolding view_effects brought met
 idle_view scenario i past =
     cond_both (is_end scenario.params (length past)) None None
@@ -128,7 +128,7 @@ views_are_lawful = record {
         ap (λ n. install_effects scenario i (n ∷ past)) begun.idle.0
         ∙ ap (λ st. view_effects scenario.params scenario.joins scenario.leaves i (length past)
         (ended_in scenario.params (length past) Idle st))
-        (begun_station scenario i past (begun_before scenario e past begun))
+        (begun_knowledge scenario i past (begun_before scenario e past begun))
         ∙ idle_view scenario i past
 
 -- ---- scripted asks
@@ -157,9 +157,9 @@ asks_stand scenario i e past asks =
 joins_founded : (scenario : ScenarioParts) (i : ℕ) (e : NoticeKind) (past : List NoticeKind)
     → IsScripted scenario scenario.joins i (e ∷ past) (length past)
     → AllByRecursion (IsFounded scenario scripted_asks i (e ∷ past))
-    (join_asked scenario.params scenario.inc i (length past) (station_of scenario i (e ∷ past)).members)
+    (join_asked scenario.params scenario.inc i (length past) (knowledge_of scenario i (e ∷ past)).members)
 joins_founded scenario i e past scripted =
-    cond_both (has (station_of scenario i (e ∷ past)).members i) []
+    cond_both (has (knowledge_of scenario i (e ∷ past)).members i) []
     (Ask (ask_frame class.Join scenario.inc (cycle_of scenario.params (length past)) i) ∷ [])
     (AllByRecursion (IsFounded scenario scripted_asks i (e ∷ past))) (λ _. tt)
     (λ outside. ((requests (length past) class.Join (inl (refl, scripted, outside)) refl, names_join.1), tt))
@@ -167,9 +167,9 @@ joins_founded scenario i e past scripted =
 leaves_founded : (scenario : ScenarioParts) (i : ℕ) (e : NoticeKind) (past : List NoticeKind)
     → IsScripted scenario scenario.leaves i (e ∷ past) (length past)
     → AllByRecursion (IsFounded scenario scripted_asks i (e ∷ past))
-    (leave_asked scenario.params scenario.inc i (length past) (station_of scenario i (e ∷ past)).members)
+    (leave_asked scenario.params scenario.inc i (length past) (knowledge_of scenario i (e ∷ past)).members)
 leaves_founded scenario i e past scripted =
-    cond_both (has (station_of scenario i (e ∷ past)).members i)
+    cond_both (has (knowledge_of scenario i (e ∷ past)).members i)
     (Ask (ask_frame class.Leave scenario.inc (cycle_of scenario.params (length past)) i) ∷ []) []
     (AllByRecursion (IsFounded scenario scripted_asks i (e ∷ past)))
     (λ member. ((requests (length past) class.Leave (inr (refl, scripted, member)) refl, names_leave.1), tt)) (λ _. tt)
@@ -181,7 +181,7 @@ asks_founded scenario i [] = tt
 asks_founded scenario i (e ∷ past) =
     let p : Parameters = scenario.params in
     let slot : ℕ = length past in
-    let members : Nodes = (station_of scenario i (e ∷ past)).members in
+    let members : Nodes = (knowledge_of scenario i (e ∷ past)).members in
     let P : Effect → Type 0 = IsFounded scenario scripted_asks i (e ∷ past) in
     let join : NodeAsk → List Effect = λ ask. join_asked p scenario.inc i slot members in
     let leave : NodeAsk → List Effect = λ ask. leave_asked p scenario.inc i slot members in

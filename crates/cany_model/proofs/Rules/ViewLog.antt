@@ -17,8 +17,8 @@ use Rattle.cany_model.specs.Rules.Life.{failure_signs}
 use Rattle.cany_model.specs.Rules.Log.{log_from}
 use Rattle.cany_model.specs.Rules.Membership.{install_effects, views}
 use Rattle.cany_model.specs.Rules.Rooms.{cycles}
-use Rattle.cany_model.specs.Rules.Site.{met_in, station_of}
-use Rattle.cany_model.specs.Rules.Station.{Station}
+use Rattle.cany_model.specs.Rules.Site.{met_in, knowledge_of}
+use Rattle.cany_model.specs.Rules.Knowledge.{Knowledge}
 use Rattle.cany_model.specs.Rules.Turn.{turn_effects}
 use Rattle.cany_model.specs.Rules.Vectors.{cycle_of, is_end}
 use Rattle.cany_model.specs.Rules.Views.{view_effects, withdrawn_asks}
@@ -57,7 +57,7 @@ unfolding install_effects
 turn_views scenario i e past =
     let p : Parameters = scenario.params in
     let slot : ℕ = length past in
-    let st : Station = station_of scenario i past in
+    let st : Knowledge = knowledge_of scenario i past in
     let viewed : count (entered (views.effects scenario i (e ∷ past))) ≤ cond (is_end p slot) 1 0 =
     by_end (is_end p slot) (met_in p slot e st) in
     omega (

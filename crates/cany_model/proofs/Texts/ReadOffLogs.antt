@@ -11,7 +11,7 @@ use Rattle.cany_base.specs.Scenario.{ScenarioParts}
 use Rattle.cany_model.specs.declared.span.Span.{Span}
 use Rattle.cany_model.specs.Bus.History.{ended_history}
 use Rattle.cany_model.specs.Bus.Incarnations.{incarnation_of, log_of, span_from}
-use Rattle.cany_model.specs.Bus.State.{Ended, RunState, node_at, reads}
+use Rattle.cany_model.specs.Bus.State.{EndedIncarnation, RunState, node_at, reads}
 use Rattle.cany_model.specs.Rules.Log.{log_from}
 use Rattle.cany_model.specs.Rules.Turn.{scenario_for}
 use Rattle.cany_model.specs.Texts.Report.{incarnation_lines, node_lines}
@@ -29,13 +29,13 @@ Group = List ℕ × List (List ℕ)
 abbrev lines_of_group : Group → List (List ℕ)
 lines_of_group g = g.0 ∷ g.1
 
-abbrev pub ended_log : ScenarioParts → RunState → ℕ → Ended → List LogEntry
+abbrev pub ended_log : ScenarioParts → RunState → ℕ → EndedIncarnation → List LogEntry
 ended_log scenario s i e = log_from (scenario_for scenario e.incarnation) i (ended_history i s.trace e)
 
-abbrev group_of : ScenarioParts → RunState → ℕ → ℕ → Ended → Group
+abbrev group_of : ScenarioParts → RunState → ℕ → ℕ → EndedIncarnation → Group
 group_of scenario s i inc e = (node_line i inc (span_from e), map entry_line (ended_log scenario s i e))
 
-abbrev groups_from : ScenarioParts → RunState → ℕ → ℕ → Option Ended → List Group
+abbrev groups_from : ScenarioParts → RunState → ℕ → ℕ → Option EndedIncarnation → List Group
 groups_from scenario s i inc None = []
 groups_from scenario s i inc (Some e) = group_of scenario s i inc e ∷ []
 
@@ -51,7 +51,7 @@ groups_at scenario s i = flat_map (groups_of scenario s i) (numbers_at s i)
 abbrev groups : ScenarioParts → RunState → List Group
 groups scenario s = flat_map (groups_at scenario s) (range_with_len 0 scenario.params.nodes)
 
-grouped_from : (scenario : ScenarioParts) (s : RunState) (i inc : ℕ) (o : Option Ended)
+grouped_from : (scenario : ScenarioParts) (s : RunState) (i inc : ℕ) (o : Option EndedIncarnation)
     → option_map_or (λ span. node_line i inc span ∷ []) (option_map span_from o) []
     ++ map entry_line (option_map_or (ended_log scenario s i) o [])
     ≡ flat_map lines_of_group (groups_from scenario s i inc o)
@@ -83,7 +83,7 @@ site_grouped scenario s =
 abbrev IsGroup : Group → Type 0
 IsGroup g = (is_entry g.0 ≡ false) × Pass is_entry g.1
 
-from_are_groups : (scenario : ScenarioParts) (s : RunState) (i inc : ℕ) (o : Option Ended)
+from_are_groups : (scenario : ScenarioParts) (s : RunState) (i inc : ℕ) (o : Option EndedIncarnation)
     → AllByRecursion IsGroup (groups_from scenario s i inc o)
 from_are_groups scenario s i inc None = tt
 from_are_groups scenario s i inc (Some e) = (
@@ -222,7 +222,7 @@ which i inc span j num told i_below j_below inc_below num_below e =
 record Listed (P : Group → Type 0) (scenario : ScenarioParts) (s : RunState) : Type 0 where
   node : ℕ
   number : ℕ
-  ended : Ended
+  ended : EndedIncarnation
   below : node < scenario.params.nodes
   within : number ≤ (node_at s.nodes node).present.number
   is : incarnation_of s node number ≡ Some ended
@@ -236,7 +236,7 @@ listed P scenario s h =
     (Among-from_flat_map (groups_of scenario s at.at) P (numbers_at s at.at) at.has) in
     by_option at.at num.at (omega (arith, at.high)) (omega (arith, num.high)) (incarnation_of s at.at num.at) refl num.has
   where
-    by_option : (i inc : ℕ) → i < scenario.params.nodes → inc ≤ (node_at s.nodes i).present.number → (o : Option Ended)
+    by_option : (i inc : ℕ) → i < scenario.params.nodes → inc ≤ (node_at s.nodes i).present.number → (o : Option EndedIncarnation)
         → incarnation_of s i inc ≡ o
         → Among P (groups_from scenario s i inc o) → Listed P scenario s
     by_option i inc below within None e none = absurd none
@@ -244,7 +244,7 @@ listed P scenario s h =
         record { node = i; number = inc; ended = ended; below = below; within = within; is = e; has = p }
     by_option i inc below within (Some ended) e (inr none) = absurd none
 
-lists : (P : Group → Type 0) (scenario : ScenarioParts) (s : RunState) (i inc : ℕ) (e : Ended) → i < scenario.params.nodes
+lists : (P : Group → Type 0) (scenario : ScenarioParts) (s : RunState) (i inc : ℕ) (e : EndedIncarnation) → i < scenario.params.nodes
     → inc ≤ (node_at s.nodes i).present.number → incarnation_of s i inc ≡ Some e → P (group_of scenario s i inc e)
     → Among P (groups scenario s)
 lists P scenario s i inc e below within is p =
@@ -263,15 +263,15 @@ pub record HasShortNumbers (scenario : ScenarioParts) (s : RunState) : Type 0 wh
   pub incarnations : (i : ℕ) → i < scenario.params.nodes → (node_at s.nodes i).present.number < 2 ^ 64
 
 -- an incarnation of the other run with the same lines
-record Found (a : ScenarioParts) (s : RunState) (i inc : ℕ) (e : Ended) (b : ScenarioParts) (t : RunState) : Type 0 where
-  ended : Ended
+record Found (a : ScenarioParts) (s : RunState) (i inc : ℕ) (e : EndedIncarnation) (b : ScenarioParts) (t : RunState) : Type 0 where
+  ended : EndedIncarnation
   is : incarnation_of t i inc ≡ Some ended
   within : inc ≤ (node_at t.nodes i).present.number
   lines : map entry_line (ended_log a s i e) ≡ map entry_line (ended_log b t i ended)
 
 found : (a : ScenarioParts) (s : RunState) (b : ScenarioParts) (t : RunState) → HasShortNumbers a s → HasShortNumbers b t
     → groups a s ≡ groups b t
-    → (i inc : ℕ) (e : Ended) → i < a.params.nodes → inc ≤ (node_at s.nodes i).present.number → incarnation_of s i inc ≡ Some e
+    → (i inc : ℕ) (e : EndedIncarnation) → i < a.params.nodes → inc ≤ (node_at s.nodes i).present.number → incarnation_of s i inc ≡ Some e
     → Found a s i inc e b t
 found a s b t short brief same i inc e below within is =
     let own : Group = group_of a s i inc e in
@@ -282,7 +282,7 @@ found a s b t short brief same i inc e below within is =
     (ap (λ (g : Group). g.0) w.has) in
     moved w.node w.number (sym there.0) (sym there.1) w.ended w.is w.within (ap (λ (g : Group). g.1) w.has)
   where
-    moved : (j num : ℕ) → j ≡ i → num ≡ inc → (f : Ended) → incarnation_of t j num ≡ Some f → num ≤ (node_at t.nodes j).present.number
+    moved : (j num : ℕ) → j ≡ i → num ≡ inc → (f : EndedIncarnation) → incarnation_of t j num ≡ Some f → num ≤ (node_at t.nodes j).present.number
         → map entry_line (ended_log a s i e) ≡ map entry_line (ended_log b t j f) → Found a s i inc e b t
     moved j num node number f h k lines =
         record {
@@ -295,7 +295,7 @@ found a s b t short brief same i inc e below within is =
 
 -- ---- the lines of each log
 
-present_is : (s : RunState) (i : ℕ) → (e : Ended) × (incarnation_of s i (node_at s.nodes i).present.number ≡ Some e)
+present_is : (s : RunState) (i : ℕ) → (e : EndedIncarnation) × (incarnation_of s i (node_at s.nodes i).present.number ≡ Some e)
 unfolding incarnation_of
 present_is s i =
     let node = node_at s.nodes i in (
@@ -309,7 +309,7 @@ present_below : (a : ScenarioParts) (s : RunState) (b : ScenarioParts) (t : RunS
 present_below a s b t short brief same i below =
     (found a s b t short brief same i (node_at s.nodes i).present.number (present_is s i).0 below (omega arith) (present_is s i).1).within
 
-abbrev log_text : ScenarioParts → RunState → ℕ → Option Ended → List (List ℕ)
+abbrev log_text : ScenarioParts → RunState → ℕ → Option EndedIncarnation → List (List ℕ)
 log_text scenario s i o = map entry_line (option_map_or (ended_log scenario s i) o [])
 
 log_text_same : (a : ScenarioParts) (s : RunState) (b : ScenarioParts) (t : RunState) → HasShortNumbers a s → HasShortNumbers b t
@@ -320,7 +320,7 @@ log_text_same : (a : ScenarioParts) (s : RunState) (b : ScenarioParts) (t : RunS
 log_text_same a s b t short brief same i inc below under within there = by_options (incarnation_of s i inc)
     (incarnation_of t i inc) refl refl
   where
-    by_options : (o p : Option Ended) → incarnation_of s i inc ≡ o → incarnation_of t i inc ≡ p → log_text a s i o ≡ log_text b t i p
+    by_options : (o p : Option EndedIncarnation) → incarnation_of s i inc ≡ o → incarnation_of t i inc ≡ p → log_text a s i o ≡ log_text b t i p
     by_options None None e f = refl
     by_options None (Some ended) e f =
         let w = found b t a s brief short (sym same) i inc ended under there f in

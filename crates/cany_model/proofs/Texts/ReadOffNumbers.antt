@@ -28,11 +28,11 @@ use Rattle.cany_model.specs.Bus.Incarnations.{incarnation_of, log_of}
 use Rattle.cany_model.specs.Bus.Restart.{after_restarts}
 use Rattle.cany_model.specs.Bus.Run.{after_turn, run}
 use Rattle.cany_model.specs.Bus.Slot.{FaultScript, after_slot, nobody, script}
-use Rattle.cany_model.specs.Bus.State.{Ended, Incarnation, NodeState, RunState, fresh, node_at, opening, runs}
+use Rattle.cany_model.specs.Bus.State.{EndedIncarnation, Incarnation, NodeState, RunState, fresh, node_at, opening, runs}
 use Rattle.cany_model.specs.Rules.Messages.{Message, messages_after, messages_of}
 use Rattle.cany_model.specs.Rules.Notices.{BelongsTo, IsDataOf, IsReadable}
 use Rattle.cany_model.specs.Rules.Protocol.{Protocol}
-use Rattle.cany_model.specs.Rules.Station.{Sign}
+use Rattle.cany_model.specs.Rules.Knowledge.{FailureSign}
 use Rattle.cany_model.specs.Rules.Turn.{scenario_for}
 use Rattle.cany_model.specs.Texts.ReadOff.{SendsBytes}
 use Rattle.cany_model.proofs.Among.{Among, Among-drop, Among-from_Contains, Among-weaker, Contains-cons, Contains-head}
@@ -48,7 +48,7 @@ use Rattle.cany_model.proofs.Promises.Fair.{run_numbered}
 use Rattle.cany_model.proofs.Rules.NumberFacts.{IsSmall, belongs_small}
 use Rattle.cany_model.proofs.Rules.ProtocolFacts.{IsFoundedEntry}
 use Rattle.cany_model.proofs.Rules.SignRooms.{AreRead, each_made}
-use Rattle.cany_model.proofs.Rules.StationNodes.{station_of_bus}
+use Rattle.cany_model.proofs.Rules.KnowledgeNodes.{knowledge_of_bus}
 use Rattle.cany_model.proofs.Texts.ReadOffEntries.{AreBytes, IsWritable}
 use Rattle.cany_model.proofs.Texts.ReadOffLogs.{HasShortNumbers, ended_log}
 
@@ -151,7 +151,7 @@ record HasReadWithin (scenario : ScenarioParts) (past : List NoticeKind) : Type 
   read : AreRead scenario past
   within : length past ≤ scenario.params.slots
 
-ended_read : (scenario : ScenarioParts) (journal : List Step) → IsLegalScenario scenario → (i : ℕ) (e : Ended)
+ended_read : (scenario : ScenarioParts) (journal : List Step) → IsLegalScenario scenario → (i : ℕ) (e : EndedIncarnation)
     → HasReadWithin scenario (ended_history i (run scenario journal).trace e)
 unfolding ended_history
 ended_read scenario journal legal i e =
@@ -260,16 +260,16 @@ writable scenario legal bytes inc i past h p place (Failed slot node cycle) r =
           let w = was_read scenario past f h.read h.within
           (Among-drop (Has f) place past (Among-weaker (λ n. n ≡ Got f) (Has f) (λ n e. inl e) (drop place past) told.read)) in
           let small : IsSmall scenario (identity_of f) = belongs_small scenario w.slot f legal w.within w.belongs in
-          let names : f.node ≡ node = ap (λ (a : Sign). a.node) told.tells in
-          let of : f.number ≡ cycle = ap (λ (a : Sign). a.cycle) told.tells in
+          let names : f.node ≡ node = ap (λ (a : FailureSign). a.node) told.tells in
+          let of : f.number ≡ cycle = ap (λ (a : FailureSign). a.cycle) told.tells in
           (early, omega (arith, small.node, names, few_nodes scenario.params legal.in_range), omega (arith, small.number, of))
     ]
 writable scenario legal bytes inc i past h p place (View slot number members) r =
     let early : slot < 2 ^ 64 = short_slot scenario legal past place slot h.within r.now in
     let quotient : slot / scenario.params.cycle ≤ slot = quotient_below slot scenario.params.cycle legal.in_range.cycle.0 in
-    let station = station_of_bus (scenario_for scenario inc) i (members_below scenario legal inc) (drop place past)
+    let knowledge = knowledge_of_bus (scenario_for scenario inc) i (members_below scenario legal inc) (drop place past)
     (read_later (scenario_for scenario inc) place past (read_by scenario inc past h.read)) in
-    let below : AllBelow scenario.params.nodes members = subst (AllBelow scenario.params.nodes) r.members station.members in (
+    let below : AllBelow scenario.params.nodes members = subst (AllBelow scenario.params.nodes) r.members knowledge.members in (
       early,
       omega (arith, r.number, quotient, early),
       λ node has_it. let near = below node has_it in omega
@@ -280,7 +280,7 @@ pub log_writable : (scenario : ScenarioParts) (journal : List Step) → IsLegalS
     → AllByRecursion IsWritable (log_of scenario (run scenario journal) i number)
 log_writable scenario journal legal bytes i number = by_option (incarnation_of (run scenario journal) i number)
   where
-    by_option : (o : Option Ended) → AllByRecursion IsWritable (option_map_or (ended_log scenario (run scenario journal) i) o [])
+    by_option : (o : Option EndedIncarnation) → AllByRecursion IsWritable (option_map_or (ended_log scenario (run scenario journal) i) o [])
     by_option None = tt
     by_option (Some e) =
         each_made IsWritable (scenario_for scenario e.incarnation) i (ended_history i (run scenario journal).trace e)

@@ -11,14 +11,14 @@ use Rattle.cany_model.specs.Rules.Life.{failure_effects, life_effects}
 use Rattle.cany_model.specs.Rules.Membership.{ask_effects, exchange_effects, install_effects}
 use Rattle.cany_model.specs.Rules.Relcan.{relcan_effects}
 use Rattle.cany_model.specs.Rules.Sends.{send_effects}
-use Rattle.cany_model.specs.Rules.Site.{station_of}
+use Rattle.cany_model.specs.Rules.Site.{knowledge_of}
 use Rattle.cany_model.specs.Rules.Totcan.{totcan_effects}
 use Rattle.cany_model.specs.Rules.Turn.{effects_for, turn_effects}
 use Rattle.cany_model.specs.Texts.Replayed.{with_journal}
 
 -- a turn with all its rules open, to be named where they are to compute
 unfoldable pub open_turn : TurnRule
-unfolding asked ask_effects backlog backlog_effects edcan_effects exchange_effects failure_effects install_effects life_effects relcan_effects send_effects station_of totcan_effects turn_effects
+unfolding asked ask_effects backlog backlog_effects edcan_effects exchange_effects failure_effects install_effects life_effects relcan_effects send_effects knowledge_of totcan_effects turn_effects
 open_turn scenario i past = turn_effects scenario i past
 
 -- what an incarnation does in a turn

@@ -26,7 +26,7 @@ use Rattle.cany_model.specs.Promises.Quiet.{HasQuietSlots, IsQuiet}
 use Rattle.cany_model.specs.Promises.Settled.{IsCorrect}
 use Rattle.cany_model.specs.Promises.Windows.{is_clean}
 use Rattle.cany_model.specs.Rules.Messages.{accept_of_key}
-use Rattle.cany_model.specs.Rules.Totcan.{is_accepted, is_heard, is_open, tot_of_key}
+use Rattle.cany_model.specs.Rules.Totcan.{is_accepted, is_heard, can_be_accepted, tot_of_key}
 use Rattle.cany_model.specs.Rules.Turn.{scenario_for, turn_effects}
 use Rattle.cany_model.proofs.Among.{Among, Among-from_Contains, Among-place, count-grows, count-no, count-yes}
 use Rattle.cany_model.proofs.Bus.Journals.{run_then}
@@ -116,7 +116,7 @@ module _ (scenario : ScenarioParts) (i : ℕ) (T : List SlotNote) (u : ℕ) (W :
   by_answer (inr (inr (inr late))) = absurd (omega (arith, late, near))
 
   -- the message is open at each notice since its data frame
-  open_at : (v : ℕ) → v ≤ q → is_open scenario.params.bound m (past i T v) ≡ true
+  open_at : (v : ℕ) → v ≤ q → can_be_accepted scenario.params.bound m (past i T v) ≡ true
   open_at v from = open_from scenario.params.bound i v q m T from (omega (arith, near)) (heard_holds i T hears m q d)
 
   -- at a notice that it has not read
@@ -131,8 +131,8 @@ module _ (scenario : ScenarioParts) (i : ℕ) (T : List SlotNote) (u : ℕ) (W :
               absurd (asks c below (subst (λ (l : List NoticeKind). Among (Asks (accept_of_key m)) (turn_effects scenario i l)) (sym next) asked))
         ]
         | inr (inr (inl closes)) ↦
-            absurd (both_ways (is_open scenario.params.bound m (gave i T c ∷ past i T (suc c))) closes.1
-            (subst (λ (l : List NoticeKind). is_open scenario.params.bound m l ≡ true) next (open_at c from)))
+            absurd (both_ways (can_be_accepted scenario.params.bound m (gave i T c ∷ past i T (suc c))) closes.1
+            (subst (λ (l : List NoticeKind). can_be_accepted scenario.params.bound m l ≡ true) next (open_at c from)))
         | inr (inr (inr many)) ↦
             let more = many_copies scenario.params m (gave i T c) (past i T (suc c)) many in
             many_clean c (omega (arith, more, ap (copies (accept_of_key m)) next))
@@ -331,7 +331,7 @@ module _ (scenario : ScenarioParts) (s base : RunState) (m : MsgKey) (q : ℕ) (
         let old = copy_old r c in
         let older = accepts_later scenario s.trace k.tot.trace m r q c k.done in
         let held = heard_holds j S (k.tot.nodes j running).heard m q sees in
-        let in_time : is_open scenario.params.bound m (past j S (suc r)) ≡ true =
+        let in_time : can_be_accepted scenario.params.bound m (past j S (suc r)) ≡ true =
         open_from scenario.params.bound j (suc r) q m S (omega (arith, older)) (omega (arith, k.ages, k.near, old)) held in
         let no_place : NoPlace j v r m S =
         λ p _ below place.

@@ -27,8 +27,8 @@ use Rattle.cany_model.specs.Promises.Quiet.{HasQuietSlots}
 use Rattle.cany_model.specs.Promises.Settled.{IsCorrect}
 use Rattle.cany_model.specs.Rules.Effect.{Effect, Ask, Withdraw, Enter}
 use Rattle.cany_model.specs.Rules.Life.{failure_effects}
-use Rattle.cany_model.specs.Rules.Site.{ended_in, station_of}
-use Rattle.cany_model.specs.Rules.Station.{Sign, Station, fda_of, found, found_in, having_found, having_heard, having_learnt, is_silent, knows, same_sign, sign_in, sign_of, told, told_in, with_sign, with_signs}
+use Rattle.cany_model.specs.Rules.Site.{ended_in, knowledge_of}
+use Rattle.cany_model.specs.Rules.Knowledge.{FailureSign, Knowledge, fda_of, found, found_in, after_finding, after_hearing, after_learning, has_timed_out, knows, same_sign, sign_in, sign_of, told, told_in, with_sign, with_signs}
 use Rattle.cany_model.specs.Rules.Turn.{scenario_at, turn_effects}
 use Rattle.cany_model.specs.Rules.Views.{minus}
 use Rattle.cany_model.proofs.Among.{Among, Each-append, Each-drop, Each-filter, Each-map, Each-weaker}
@@ -41,18 +41,18 @@ use Rattle.cany_model.proofs.Bus.Waits.{Asks, AsksOnly, Each-after, Each-kept}
 use Rattle.cany_model.proofs.Promises.Diffusion.{Turned, past_of}
 use Rattle.cany_model.proofs.Promises.EachNode.{turn_turned}
 use Rattle.cany_model.proofs.Rules.SignFacts.{asked_is_known}
-use Rattle.cany_model.proofs.Rules.StationFacts.{known_after, newly, same_sign-true, tells}
-use Rattle.cany_model.proofs.Rules.StationSteps.{failed_after, failed_by, life_keeps}
+use Rattle.cany_model.proofs.Rules.KnowledgeFacts.{known_after, newly, same_sign-true, tells}
+use Rattle.cany_model.proofs.Rules.KnowledgeSteps.{failed_after, failed_by, life_keeps}
 use Rattle.cany_model.proofs.Rules.TurnFacts.{fda_cause}
 use Rattle.cany_model.proofs.Timed.FrontSteps.{along_fronts}
 use Rattle.cany_model.proofs.Timed.Gap.{heard_in_time, later_state}
 use Rattle.cany_model.proofs.Timed.NoRestarts.{AllOriginal, all_original, follows, history_all, sees_all}
 use Rattle.cany_model.proofs.Timed.QuietSlots.{front_trace, within_dropped}
-use Rattle.cany_model.proofs.Timed.StationAges.{learnt_members, learnt_shown}
+use Rattle.cany_model.proofs.Timed.KnowledgeAges.{learnt_members, learnt_shown}
 
 -- ---- a sign of a node comes by its frame or by silence
 
-abbrev pub NotOf : ℕ → Sign → Type 0
+abbrev pub NotOf : ℕ → FailureSign → Type 0
 NotOf r sign = sign.node ≡ r → ⊥
 
 -- the frame tells of no failure of node r
@@ -65,7 +65,7 @@ NoFrameIn r note = (f : FrameParts) → note.frame ≡ Some f → NoFrame r f
 abbrev pub HearsNone : ℕ → NoticeKind → Type 0
 HearsNone r e = (f : FrameParts) → e ≡ Got f → NoFrame r f
 
-pub told_other : (r : ℕ) (e : NoticeKind) (st : Station) → HearsNone r e → AllByRecursion (NotOf r) (told e st)
+pub told_other : (r : ℕ) (e : NoticeKind) (st : Knowledge) → HearsNone r e → AllByRecursion (NotOf r) (told e st)
 unfolding told
 told_other r Idle st none = tt
 told_other r Bad st none = tt
@@ -83,30 +83,30 @@ passed P test h [] = tt
 passed P test h (q ∷ qs) =
     cond_both (test q) (q ∷ filter test qs) (filter test qs) (AllByRecursion P) (λ is. (h q is, passed P test h qs)) (λ _. passed P test h qs)
 
-pub found_other : (r : ℕ) (p : Parameters) (i slot : ℕ) (st : Station) → is_silent p i slot st r ≡ false
+pub found_other : (r : ℕ) (p : Parameters) (i slot : ℕ) (st : Knowledge) → has_timed_out p i slot st r ≡ false
     → AllByRecursion (NotOf r) (found p i slot st)
 unfolding found
 found_other r p i slot st heard =
-    let quiet : List ℕ = filter (is_silent p i slot st) (range_with_len 0 p.nodes) in
+    let quiet : List ℕ = filter (has_timed_out p i slot st) (range_with_len 0 p.nodes) in
     Each-filter (NotOf r) (λ sign. not (knows sign st)) (map (sign_in p slot) quiet)
     (Each-map (sign_in p slot) (NotOf r) quiet
-    (passed (λ q. q ≡ r → ⊥) (is_silent p i slot st)
-    (λ q is same. both_ways (is_silent p i slot st r) heard (subst (λ x. is_silent p i slot st x ≡ true) same is)) (range_with_len 0 p.nodes)))
+    (passed (λ q. q ≡ r → ⊥) (has_timed_out p i slot st)
+    (λ q is same. both_ways (has_timed_out p i slot st r) heard (subst (λ x. has_timed_out p i slot st x ≡ true) same is)) (range_with_len 0 p.nodes)))
 
 -- ---- no sign of the node is known, and it has not failed
 
-pub record IsUnsigned (r : ℕ) (st : Station) : Type 0 where
+pub record IsUnsigned (r : ℕ) (st : Knowledge) : Type 0 where
   pub failed : has st.failed r ≡ false
-  pub unknown : (sign : Sign) → sign.node ≡ r → knows sign st ≡ false
+  pub unknown : (sign : FailureSign) → sign.node ≡ r → knows sign st ≡ false
 
-none_told : (r : ℕ) (sign : Sign) → sign.node ≡ r → (signs : List Sign) → AllByRecursion (NotOf r) signs → tells sign signs ≡ false
+none_told : (r : ℕ) (sign : FailureSign) → sign.node ≡ r → (signs : List FailureSign) → AllByRecursion (NotOf r) signs → tells sign signs ≡ false
 none_told r sign of [] h = refl
 none_told r sign of (other ∷ signs) h =
     or_from (same_sign sign other) (tells sign signs)
-    (false_from_ne_true (same_sign sign other) (λ same. h.0 (ap (λ (s : Sign). s.node) (sym (same_sign-true sign other same)) ∙ of)))
+    (false_from_ne_true (same_sign sign other) (λ same. h.0 (ap (λ (s : FailureSign). s.node) (sym (same_sign-true sign other same)) ∙ of)))
     (none_told r sign of signs h.1)
 
-with_failed : (r : ℕ) (signs : List Sign) (st : Station) → AllByRecursion (NotOf r) signs → has st.failed r ≡ false
+with_failed : (r : ℕ) (signs : List FailureSign) (st : Knowledge) → AllByRecursion (NotOf r) signs → has st.failed r ≡ false
     → has (with_signs signs st).failed r ≡ false
 unfolding with_signs
 with_failed r [] st none before = before
@@ -126,26 +126,26 @@ ended_failed r (Some v) old failed before =
     (and_parts (has failed r) (not (has (minus v old) r)) (those_where_pass (λ q. has failed q && not (has (minus v old) q)) r now)).0)
 
 -- after the turn that learns and finds these signs
-pub found_failed : (p : Parameters) (i slot : ℕ) (e : NoticeKind) (st : Station) (r : ℕ) → AllByRecursion (NotOf r) (told_in i slot e st)
-    → AllByRecursion (NotOf r) (found_in p i slot e st) → has st.failed r ≡ false → has (having_found p i slot e st).failed r ≡ false
+pub found_failed : (p : Parameters) (i slot : ℕ) (e : NoticeKind) (st : Knowledge) (r : ℕ) → AllByRecursion (NotOf r) (told_in i slot e st)
+    → AllByRecursion (NotOf r) (found_in p i slot e st) → has st.failed r ≡ false → has (after_finding p i slot e st).failed r ≡ false
 found_failed p i slot e st r learns finds before =
-    let heard : (having_heard i slot e st).failed ≡ st.failed =
+    let heard : (after_hearing i slot e st).failed ≡ st.failed =
     life_keeps Nodes (λ s. s.failed) (record { shown = λ f s. refl; last = λ n s. refl }) i slot e st in
-    with_failed r (found_in p i slot e st) (having_learnt i slot e st) finds
-    (with_failed r (told_in i slot e st) (having_heard i slot e st) learns (ap (λ f. has f r) heard ∙ before))
+    with_failed r (found_in p i slot e st) (after_learning i slot e st) finds
+    (with_failed r (told_in i slot e st) (after_hearing i slot e st) learns (ap (λ f. has f r) heard ∙ before))
 
 next_unsigned : (scenario : ScenarioParts) (i r : ℕ) (e : NoticeKind) (past : List NoticeKind)
-    → AllByRecursion (NotOf r) (told_in i (length past) e (station_of scenario i past))
-    → AllByRecursion (NotOf r) (found_in scenario.params i (length past) e (station_of scenario i past))
-    → IsUnsigned r (station_of scenario i past) → IsUnsigned r (station_of scenario i (e ∷ past))
-unfolding station_of
+    → AllByRecursion (NotOf r) (told_in i (length past) e (knowledge_of scenario i past))
+    → AllByRecursion (NotOf r) (found_in scenario.params i (length past) e (knowledge_of scenario i past))
+    → IsUnsigned r (knowledge_of scenario i past) → IsUnsigned r (knowledge_of scenario i (e ∷ past))
+unfolding knowledge_of
 next_unsigned scenario i r e past learns finds before =
     let p : Parameters = scenario.params in
     let slot : ℕ = length past in
-    let st : Station = station_of scenario i past in
+    let st : Knowledge = knowledge_of scenario i past in
     record {
       failed = ap (λ f. has f r) (failed_after p i slot e st)
-          ∙ ended_failed r (ended_in p slot e st) st.members (having_found p i slot e st).failed
+          ∙ ended_failed r (ended_in p slot e st) st.members (after_finding p i slot e st).failed
           (found_failed p i slot e st r learns finds before.failed);
       unknown = λ sign of. known_after scenario i e past sign
           ∙ or_from (tells sign (newly p i slot e st)) (knows sign st)
@@ -162,12 +162,12 @@ not_asked r (Ask f ∷ effects) none = (λ fda of. none (identity_of f) fda of (
 not_asked r (Withdraw y ∷ effects) none = (tt, not_asked r effects (λ x fda of h. none x fda of (inr h)))
 not_asked r (Enter entry ∷ effects) none = (tt, not_asked r effects (λ x fda of h. none x fda of (inr h)))
 
-turn_asks_none : (scenario : ScenarioParts) (i r : ℕ) (past : List NoticeKind) → IsUnsigned r (station_of scenario i past)
+turn_asks_none : (scenario : ScenarioParts) (i r : ℕ) (past : List NoticeKind) → IsUnsigned r (knowledge_of scenario i past)
     → AllByRecursion (AsksOnly (NoFrame r)) (turn_effects scenario i past)
 turn_asks_none scenario i r past unsigned = not_asked r (turn_effects scenario i past) (λ x fda of asked.
-    let sign : Sign = record { node = x.node; cycle = x.number } in
+    let sign : FailureSign = record { node = x.node; cycle = x.number } in
     let is : x ≡ fda_of sign = λ k. record { class = fda k; number = x.number; node = x.node } in
-    both_ways (knows sign (station_of scenario i past)) (unsigned.unknown sign of)
+    both_ways (knows sign (knowledge_of scenario i past)) (unsigned.unknown sign of)
     (asked_is_known scenario i past sign
     (subst (λ y. Among (Asks y) (failure_effects scenario i past)) is (fda_cause scenario i x past fda asked))))
 
@@ -176,10 +176,10 @@ turn_asks_none scenario i r past unsigned = not_asked r (turn_effects scenario i
 pub record NoSign (scenario : ScenarioParts) (r : ℕ) (s : RunState) : Type 0 where
   pub carried : AllByRecursion (NoFrameIn r) s.trace
   pub waits : (i : ℕ) → runs (node_at s.nodes i) ≡ true → AllByRecursion (NoFrame r) (node_at s.nodes i).waiting
-  pub unsigned : (i : ℕ) → runs (node_at s.nodes i) ≡ true → IsUnsigned r (station_of scenario i (past_of i s.trace (node_at s.nodes i)))
+  pub unsigned : (i : ℕ) → runs (node_at s.nodes i) ≡ true → IsUnsigned r (knowledge_of scenario i (past_of i s.trace (node_at s.nodes i)))
 
-unsigned_first : (scenario : ScenarioParts) (i r : ℕ) → IsUnsigned r (station_of scenario i [])
-unfolding station_of
+unsigned_first : (scenario : ScenarioParts) (i r : ℕ) → IsUnsigned r (knowledge_of scenario i [])
+unfolding knowledge_of
 unsigned_first scenario i r = record { failed = has_none r; unknown = λ sign of. refl }
 
 no_sign_opening : (scenario : ScenarioParts) (r : ℕ) → NoSign scenario r (opening scenario.params.nodes)
@@ -210,7 +210,7 @@ no_sign_slot scenario r rules s h = record {
       rw (after_slot-waiting rules s i ran) (Each-kept (NoFrame r) (given i (slot_note_of rules s)) (node_at s.nodes i).waiting (h.waits i ran));
   unsigned = λ i running.
       let ran = (running_before_slot rules s i running).0 in
-      subst (λ past. IsUnsigned r (station_of scenario i past)) (sym (slot_past rules s i (runs_within s.nodes i ran))) (h.unsigned i ran);
+      subst (λ past. IsUnsigned r (knowledge_of scenario i past)) (sym (slot_past rules s i (runs_within s.nodes i ran))) (h.unsigned i ran);
 }
 
 -- what a turn makes of the node, where its incarnation is that of the opening
@@ -234,7 +234,7 @@ hears_none_now r i n trace e past read h = (subst (AllByRecursion (HearsNone r))
 
 no_sign_turn : (scenario : ScenarioParts) (r : ℕ) (s : RunState) → IsOrderly scenario.params.nodes s → AllOriginal s → (i : ℕ) → MayTurn s i
     → ((e : NoticeKind) → let past = past_of i s.trace (node_at s.nodes i) in
-    is_silent scenario.params i (length past) (having_learnt i (length past) e (station_of scenario i past)) r ≡ false)
+    has_timed_out scenario.params i (length past) (after_learning i (length past) e (knowledge_of scenario i past)) r ≡ false)
     → NoSign scenario r s → NoSign scenario r (after_turn scenario i s)
 no_sign_turn scenario r s o all i may heard h =
     let node : NodeState = node_at s.nodes i in
@@ -242,11 +242,11 @@ no_sign_turn scenario r s o all i may heard h =
     let t = turned_all scenario s o all i may in
     let after : NodeState = node_at (after_turn scenario i s).nodes i in
     let e : NoticeKind = t.notice in
-    let st : Station = station_of scenario i past in
-    let learns = told_other r e (having_heard i (length past) e st) (hears_none_now r i after.unread s.trace e past t.past h.carried) in
-    let finds = found_other r scenario.params i (length past) (having_learnt i (length past) e st) (heard e) in
-    let now : IsUnsigned r (station_of scenario i (past_of i s.trace after)) =
-    subst (λ p. IsUnsigned r (station_of scenario i p)) (sym t.past) (next_unsigned scenario i r e past learns finds (h.unsigned i may.running)) in
+    let st : Knowledge = knowledge_of scenario i past in
+    let learns = told_other r e (after_hearing i (length past) e st) (hears_none_now r i after.unread s.trace e past t.past h.carried) in
+    let finds = found_other r scenario.params i (length past) (after_learning i (length past) e st) (heard e) in
+    let now : IsUnsigned r (knowledge_of scenario i (past_of i s.trace after)) =
+    subst (λ p. IsUnsigned r (knowledge_of scenario i p)) (sym t.past) (next_unsigned scenario i r e past learns finds (h.unsigned i may.running)) in
     let waits : AllByRecursion (NoFrame r) after.waiting =
     rw t.waiting (Each-after (NoFrame r) (turn_effects scenario i (past_of i s.trace after)) node.waiting
     (turn_asks_none scenario i r (past_of i s.trace after) now) (h.waits i may.running)) in
@@ -257,11 +257,11 @@ no_sign_turn scenario r s o all i may heard h =
         | inr other ↦ rw (after_turn-other scenario i s j other) (h.waits j (sym (after_turn-runs scenario i s j may (o.unread i)) ∙ running))
       ];
       unsigned = λ j running.
-          subst (λ trace. IsUnsigned r (station_of scenario j (past_of j trace (node_at (after_turn scenario i s).nodes j))))
+          subst (λ trace. IsUnsigned r (knowledge_of scenario j (past_of j trace (node_at (after_turn scenario i s).nodes j))))
           (sym (after_turn-trace scenario i s))
           (elim (cases_eq j i) [
             | inl same ↦
-                subst (λ m. IsUnsigned r (station_of scenario m (past_of m s.trace (node_at (after_turn scenario i s).nodes m)))) (sym same) now
+                subst (λ m. IsUnsigned r (knowledge_of scenario m (past_of m s.trace (node_at (after_turn scenario i s).nodes m)))) (sym same) now
             | inr other ↦ rw (after_turn-other scenario i s j other) (h.unsigned j (sym (after_turn-runs scenario i s j may (o.unread i)) ∙ running))
           ]);
     }
@@ -278,17 +278,17 @@ pub not_silent : (scenario : ScenarioParts) → scenario.restarts ≡ [] → sce
     → (journal : List Step) → IsTimely scenario journal → (r i : ℕ) → runs (node_at (run scenario journal).nodes r) ≡ true
     → runs (node_at (run scenario journal).nodes i) ≡ true
     → (e : NoticeKind) → let past = past_of i (run scenario journal).trace (node_at (run scenario journal).nodes i) in
-    is_silent scenario.params i (length past) (having_learnt i (length past) e (station_of scenario i past)) r ≡ false
+    has_timed_out scenario.params i (length past) (after_learning i (length past) e (knowledge_of scenario i past)) r ≡ false
 not_silent scenario none few formulas journal known r i running_r running_i e =
-    false_from_ne_true (is_silent scenario.params i (length past) st r) (λ silent. silence (parts silent) (cases_eq r i))
+    false_from_ne_true (has_timed_out scenario.params i (length past) st r) (λ silent. silence (parts silent) (cases_eq r i))
   where
     past : List NoticeKind
     past = past_of i (run scenario journal).trace (node_at (run scenario journal).nodes i)
 
-    st : Station
-    st = having_learnt i (length past) e (station_of scenario i past)
+    st : Knowledge
+    st = after_learning i (length past) e (knowledge_of scenario i past)
 
-    parts : is_silent scenario.params i (length past) st r ≡ true
+    parts : has_timed_out scenario.params i (length past) st r ≡ true
         → (has st.members r ≡ true) × ((r == i) ≡ false) × (scenario.params.silence ≤ length past - st.shown r)
     parts h =
         let member : Bool = has st.members r in
@@ -302,7 +302,7 @@ not_silent scenario none few formulas journal known r i running_r running_i e =
     silence : (has st.members r ≡ true) × ((r == i) ≡ false) × (scenario.params.silence ≤ length past - st.shown r) → (r ≡ i) ⊎ (r ≢ i) → ⊥
     silence h (inl same) = both_ways (r == i) h.1 (eq-eqb r i same)
     silence h (inr other) =
-        let member : has (station_of scenario i past).members r ≡ true = ap (λ m. has m r) (sym (learnt_members scenario i e past)) ∙ h.0 in
+        let member : has (knowledge_of scenario i past).members r ≡ true = ap (λ m. has m r) (sym (learnt_members scenario i e past)) ∙ h.0 in
         let heard = heard_in_time scenario none few (omega (arith, formulas.bound, formulas.life)) journal known.within known.quiet known.one
         r i other running_r running_i member in
         elim (learnt_shown scenario i e past r) [
@@ -348,6 +348,6 @@ not_failed scenario none few formulas journal within quiet one r correct i corre
     let s : RunState = run scenario journal in
     let all = all_original scenario none journal in
     let h = no_sign scenario none few formulas journal (timely_front scenario journal within quiet one) r correct.running in
-    ap (λ (sc : ScenarioParts). has (station_of sc i (history i s)).failed r) (follows scenario s all i)
-    ∙ ap (λ past. has (station_of scenario i past).failed r) (history_all scenario s all i)
+    ap (λ (sc : ScenarioParts). has (knowledge_of sc i (history i s)).failed r) (follows scenario s all i)
+    ∙ ap (λ past. has (knowledge_of scenario i past).failed r) (history_all scenario s all i)
     ∙ (h.unsigned i correct_i.running).failed

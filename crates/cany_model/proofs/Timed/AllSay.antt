@@ -50,7 +50,7 @@ use Rattle.cany_model.proofs.Promises.KeptVectors.{vector_at}
 use Rattle.cany_model.proofs.Rules.CycleFacts.{exchange_slot, start_slot}
 use Rattle.cany_model.proofs.Rules.ProtocolFacts.{IsFounded, IsLawful}
 use Rattle.cany_model.proofs.Rules.Protocols.{are_lawful}
-use Rattle.cany_model.proofs.Rules.StationNodes.{IsVectorOfBus, station_of_bus}
+use Rattle.cany_model.proofs.Rules.KnowledgeNodes.{IsVectorOfBus, knowledge_of_bus}
 use Rattle.cany_model.proofs.Rules.VectorFacts.{brought_exchanged, carries_vector, vector_starts}
 use Rattle.cany_model.proofs.Timed.FrontSteps.{along_fronts}
 use Rattle.cany_model.proofs.Timed.NoRestarts.{AllOriginal, all_original, follows, sees_all}
@@ -168,7 +168,7 @@ module _ (scenario : ScenarioParts) (fits : scenario.params.nodes ≤ (layout sc
         let brings_w : brings p.format k e ≡ Some w = sym (brought_in p k slot e same during) ∙ is in
         meet_says r b (unwrap_or old (everybody p)) w few (own_says p r b old few below own_now) (got w brings_w) in
         let bus : AllBelow p.nodes v =
-        meet_below p.nodes (unwrap_or old (everybody p)) w (own_below p old (station_of_bus scenario i first past read.1).vector) in
+        meet_below p.nodes (unwrap_or old (everybody p)) w (own_below p old (knowledge_of_bus scenario i first past read.1).vector) in
         cond_both (is_covered p (cycle_of p slot) i v (e ∷ past)) (Withdraw (rha_of (cycle_of p slot) i) ∷ [])
         (if is_new old v then Ask (rha_frame p.format scenario.inc (cycle_of p slot) i v) ∷ [] else []) (AllByRecursion Only)
         (λ _. (tt, tt))
@@ -187,7 +187,7 @@ module _ (scenario : ScenarioParts) (fits : scenario.params.nodes ≤ (layout sc
         cond_both (is_start p slot) (Ask (rha_frame p.format scenario.inc (cycle_of p slot) i v) ∷ []) [] (AllByRecursion Only)
         (λ starts.
         let bus : AllBelow p.nodes v =
-        subst (IsVectorOfBus p) (vector_starts scenario i e past starts ∙ is) (station_of_bus scenario i first (e ∷ past) read).vector in (
+        subst (IsVectorOfBus p) (vector_starts scenario i e past starts ∙ is) (knowledge_of_bus scenario i first (e ∷ past) read).vector in (
           rha_says p fits k r b scenario.inc (cycle_of p slot) i v bus
               (λ same. start (start_slot p slot starts ∙ ap (λ n. n * p.cycle) same) v is),
           tt,

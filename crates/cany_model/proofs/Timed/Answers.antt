@@ -14,7 +14,7 @@ use Rattle.cany_model.specs.Bus.State.{Incarnation}
 use Rattle.cany_model.specs.Bus.Waiting.{waits}
 use Rattle.cany_model.specs.Rules.Effect.{waiting_after}
 use Rattle.cany_model.specs.Rules.Messages.{accept_of_key}
-use Rattle.cany_model.specs.Rules.Totcan.{holds, is_open, tot_of_key}
+use Rattle.cany_model.specs.Rules.Totcan.{holds, can_be_accepted, tot_of_key}
 use Rattle.cany_model.specs.Rules.Turn.{turn_effects}
 use Rattle.cany_model.proofs.Among.{count-grows}
 use Rattle.cany_model.proofs.Bus.States.{note_at}
@@ -116,12 +116,12 @@ module _ (scenario : ScenarioParts) (i : ℕ) (T : List SlotNote) (u : ℕ) (W :
   abbrev Answered : MsgKey → ℕ → Type 0
   Answered m q = Answer scenario.params i T u after m q
 
-  late_closing : (m : MsgKey) (q : ℕ) → Done T q m → u ≤ q → is_open scenario.params.bound m (gave i T u ∷ past i T (suc u)) ≡ false
+  late_closing : (m : MsgKey) (q : ℕ) → Done T q m → u ≤ q → can_be_accepted scenario.params.bound m (gave i T u ∷ past i T (suc u)) ≡ false
       → u + scenario.params.bound ≤ q
   late_closing m q d from shut = elim (cases_lt q (u + scenario.params.bound)) [
     | inr late ↦ late
-    | inl near ↦ absurd (both_ways (is_open scenario.params.bound m (gave i T u ∷ past i T (suc u))) shut
-        (subst (λ (l : List NoticeKind). is_open scenario.params.bound m l ≡ true) step
+    | inl near ↦ absurd (both_ways (can_be_accepted scenario.params.bound m (gave i T u ∷ past i T (suc u))) shut
+        (subst (λ (l : List NoticeKind). can_be_accepted scenario.params.bound m l ≡ true) step
         (open_from scenario.params.bound i u q m T from near (heard_holds i T hears m q d))))
   ]
 
@@ -146,7 +146,7 @@ module _ (scenario : ScenarioParts) (i : ℕ) (T : List SlotNote) (u : ℕ) (W :
       elim (cases_eq c u) [
         | inr other ↦ still m q d (omega (arith, older, from)) (a.to_copy m c q (omega (arith, from, other)) got d near)
         | inl same ↦
-            let in_time : is_open scenario.params.bound m (past i T (suc u)) ≡ true =
+            let in_time : can_be_accepted scenario.params.bound m (past i T (suc u)) ≡ true =
             open_from scenario.params.bound i (suc u) q m T (omega (arith, older, same)) (omega (arith, near, same)) (heard_holds i T hears m q d) in
             elim (now_cases scenario i (gave i T u) (past i T (suc u)) W m) [
               | inr now ↦ outcome m q d (omega (arith, older, from)) now

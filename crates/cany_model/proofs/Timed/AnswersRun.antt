@@ -23,7 +23,7 @@ use Rattle.cany_model.proofs.Bus.Seen.{history-is, length-seen}
 use Rattle.cany_model.proofs.Bus.States.{note_at, runs_within}
 use Rattle.cany_model.proofs.Bus.Steps.{MayTurn, after_slot-present, after_slot-trace, after_slot-unread, after_turn-node, after_turn-other, after_turn-runs, after_turn-trace, next_notice, node_after_turn, running_before_slot}
 use Rattle.cany_model.proofs.Promises.EachNode.{EachRunning, IsNew, opening_new, restarted_new, slot_lived}
-use Rattle.cany_model.proofs.Promises.Fair.{AllFair, fair_opening, fairly_kept}
+use Rattle.cany_model.proofs.Promises.Fair.{AllWaitForOwnSlots, own_slots_alone_opening, own_slots_alone_kept}
 use Rattle.cany_model.proofs.Timed.Ages.{Carried, clean_carried, gave, past}
 use Rattle.cany_model.proofs.Timed.Answers.{AcceptsLater, Answers, Hears, accepts_later, answers_slot, answers_turn, later_before, later_seen}
 use Rattle.cany_model.proofs.Timed.TotKept.{NoSilent, TotKept}
@@ -54,10 +54,10 @@ answers_opening scenario plain later i running =
 
 -- ---- a slot
 
-fair_run : (scenario : ScenarioParts) (journal : List Step) → AllFair (run scenario journal)
-fair_run scenario journal =
-    (along_run scenario (λ s. AllFair s × Unit {0}) (fair_opening scenario.params.nodes, tt)
-    (fairly_kept scenario (λ s. Unit {0}) (record { slot = λ s o fair h. tt; restarts = λ s o some h. tt; turn = λ s i o may h. tt })) journal).0
+own_slots_alone_run : (scenario : ScenarioParts) (journal : List Step) → AllWaitForOwnSlots (run scenario journal)
+own_slots_alone_run scenario journal =
+    (along_run scenario (λ s. AllWaitForOwnSlots s × Unit {0}) (own_slots_alone_opening scenario.params.nodes, tt)
+    (own_slots_alone_kept scenario (λ s. Unit {0}) (record { slot = λ s o own_slots_alone h. tt; restarts = λ s o some h. tt; turn = λ s i o may h. tt })) journal).0
 
 answers_after_slot : (scenario : ScenarioParts) (s : RunState) → IsOfRun scenario s → KeptAnswers scenario s
     → KeptAnswers scenario (after_slot (script scenario.rules) s)
@@ -69,8 +69,8 @@ answers_after_slot scenario s of h plain later i running =
     let later' : AcceptsLater (note ∷ s.trace) = subst AcceptsLater (after_slot-trace rules s) later in
     let ran : runs (node_at s.nodes i) ≡ true = (running_before_slot rules s i running).0 in
     let within = runs_within s.nodes i ran in
-    let fair = subst AllFair of.1 (fair_run scenario of.0) in
-    let lived = slot_lived rules s i (fair i ran) ran in
+    let own_slots_alone = subst AllWaitForOwnSlots of.1 (own_slots_alone_run scenario of.0) in
+    let lived = slot_lived rules s i (own_slots_alone i ran) ran in
     let next : (node_at (after_slot (script scenario.rules) s).nodes i).unread ≡ suc (node_at s.nodes i).unread =
     let more = after_slot-unread rules s i within in omega (arith, more) in
     rw (next, lived.kept, after_slot-present rules s i within, after_slot-trace rules s)

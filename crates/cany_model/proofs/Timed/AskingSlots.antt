@@ -35,9 +35,9 @@ use Rattle.cany_model.specs.Rules.Membership.{exchange_effects, scripted_asks, v
 use Rattle.cany_model.specs.Rules.Protocol.{Protocol}
 use Rattle.cany_model.specs.Rules.Relcan.{relcan}
 use Rattle.cany_model.specs.Rules.Sends.{scripted_sends}
-use Rattle.cany_model.specs.Rules.Site.{start_in, station_of}
-use Rattle.cany_model.specs.Rules.Station.{Station}
-use Rattle.cany_model.specs.Rules.Totcan.{accept_effects, accept_frame, closing_effects, closing_of, delivered_now, is_open, message_in, tot_delivery, tot_in, totcan_effects}
+use Rattle.cany_model.specs.Rules.Site.{start_in, knowledge_of}
+use Rattle.cany_model.specs.Rules.Knowledge.{Knowledge}
+use Rattle.cany_model.specs.Rules.Totcan.{accept_effects, accept_frame, closing_effects, closing_of, delivered_now, can_be_accepted, message_in, tot_delivery, tot_in, totcan_effects}
 use Rattle.cany_model.specs.Rules.Turn.{protocols, scenario_for, turn_effects}
 use Rattle.cany_model.specs.Rules.Vectors.{brought, cycle_of, end_effects, ended, exchange_at, is_exchange, is_start, met, start_effects, vector_effects, vector_in}
 use Rattle.cany_model.proofs.Among.{Among-from_any, Among-gives, Each-append, Each-flat_map, Each-weaker}
@@ -128,9 +128,9 @@ unfolding accept_effects
 accept_cause p i Idle past = tt
 accept_cause p i Bad past = tt
 accept_cause p i (Got f) past =
-    cond_both (same_class f.class class.Accept && is_open p.bound (message_in f) past) _ [] (FirstFor (is_first f ≡ true))
+    cond_both (same_class f.class class.Accept && can_be_accepted p.bound (message_in f) past) _ [] (FirstFor (is_first f ≡ true))
     (λ h.
-    let accept = (and_parts (same_class f.class class.Accept) (is_open p.bound (message_in f) past) h).0 in
+    let accept = (and_parts (same_class f.class class.Accept) (can_be_accepted p.bound (message_in f) past) h).0 in
     given_reason (is_first f ≡ true) (or_left (same_class f.class class.Accept) (same_class f.class class.Rha) accept) _)
     (λ _. tt)
 accept_cause p i (Sent f) past =
@@ -143,7 +143,7 @@ closing_asks R bound past = by_frame (tot_in (slice_index_or past bound Idle))
   where
     by_frame : (o : Option FrameParts) → FirstFor R (closing_of bound past o)
     by_frame None = tt
-    by_frame (Some f) = cond_both (is_open bound (message_in f) past) [] _ (FirstFor R) (λ _. tt) (λ _. (tt, tt))
+    by_frame (Some f) = cond_both (can_be_accepted bound (message_in f) past) [] _ (FirstFor R) (λ _. tt) (λ _. (tt, tt))
 
 deliveries_ask : (R : Type 0) (slot : ℕ) (frames : List FrameParts) → FirstFor R (map (tot_delivery slot) frames)
 deliveries_ask R slot [] = tt
@@ -212,7 +212,7 @@ unfolding exchange_effects exchange_at
 exchange_cause scenario i e past =
     let p : Parameters = scenario.params in
     let slot : ℕ = length past in
-    let st : Station = station_of scenario i past in
+    let st : Knowledge = knowledge_of scenario i past in
     let R : Type 0 = MayAskFirst p e past in
     let start : Option Nodes = start_in p i slot e st in
     let end : Option Nodes = ended p slot (met p st.vector (brought p slot e)) in

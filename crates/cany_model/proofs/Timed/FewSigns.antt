@@ -25,8 +25,8 @@ use Rattle.cany_model.specs.Bus.State.{Incarnation, NodeState, RunState, node_at
 use Rattle.cany_model.specs.Promises.Hypothesis.{IsWithin, is_partial_slot_of, is_silent_slot}
 use Rattle.cany_model.specs.Promises.Windows.{HasFewAccepts, HasFewLifeSigns, HasFewVectors, is_clean, is_clean_of}
 use Rattle.cany_model.specs.Rules.Effect.{waiting_after}
-use Rattle.cany_model.specs.Rules.Life.{is_own_sign, signs_sent}
-use Rattle.cany_model.specs.Rules.Site.{station_of}
+use Rattle.cany_model.specs.Rules.Life.{is_own_sign, life_signs_sent}
+use Rattle.cany_model.specs.Rules.Site.{knowledge_of}
 use Rattle.cany_model.specs.Rules.Turn.{scenario_for, turn_effects}
 use Rattle.cany_model.proofs.Among.{Among-from_Contains, Among-weaker, count-from_Among, count-grows}
 use Rattle.cany_model.proofs.Bus.Carried.{is_sent-from}
@@ -40,7 +40,7 @@ use Rattle.cany_model.proofs.Bus.Steps.{MayTurn, after_slot-present, after_slot-
 use Rattle.cany_model.proofs.Bus.Waits.{Each-kept}
 use Rattle.cany_model.proofs.Promises.Diffusion.{Lived, Turned, past_of}
 use Rattle.cany_model.proofs.Promises.EachNode.{EachRunning, IsNodes, each_running, slot_lived, turn_turned}
-use Rattle.cany_model.proofs.Promises.Fair.{AllFair, fair_opening, fairly_kept, sent_plain}
+use Rattle.cany_model.proofs.Promises.Fair.{AllWaitForOwnSlots, own_slots_alone_opening, own_slots_alone_kept, sent_plain}
 use Rattle.cany_model.proofs.Promises.FewLifeSignsWaiting.{IsOwnSign, turn_idle, turn_more, turn_numbers}
 use Rattle.cany_model.proofs.Promises.SignCounts.{is_els, sent_one}
 use Rattle.cany_model.proofs.Rules.LifeCounts.{due_at, due_in, last_cases}
@@ -56,21 +56,21 @@ use Rattle.cany_model.proofs.Timed.TopFrames.{carried_frame, is_top_slot}
 -- ---- the life signs that wait name the node
 
 abbrev OwnSigns : ScenarioParts → List SlotNote → ℕ → NodeState → Type 0
-OwnSigns scenario trace i node = AllByRecursion (IsOwnSign i (signs_sent i (past_of i trace node))) node.waiting
+OwnSigns scenario trace i node = AllByRecursion (IsOwnSign i (life_signs_sent i (past_of i trace node))) node.waiting
 
 own_signs : (scenario : ScenarioParts) → IsNodes scenario (OwnSigns scenario)
-unfolding signs_sent
+unfolding life_signs_sent
 own_signs scenario = record {
   new = λ trace i node new. rw new.waiting tt;
   slot = λ note trace i node after same l h.
-      rw (l.past, l.kept) (Each-kept (IsOwnSign i (signs_sent i (past_of i trace node))) (given i note) node.waiting h);
+      rw (l.past, l.kept) (Each-kept (IsOwnSign i (life_signs_sent i (past_of i trace node))) (given i note) node.waiting h);
   turn = λ trace i node after same t h.
       let before = past_of i trace node in
       let sc : ScenarioParts = scenario_for scenario node.present in
       let waiting : after.waiting ≡ waiting_after (turn_effects sc i (t.notice ∷ before)) node.waiting =
       t.waiting ∙ ap (λ read. waiting_after (turn_effects sc i read) node.waiting) t.past in
       rw (t.past, waiting)
-      (turn_numbers sc i t.notice before node.waiting (signs_sent i before) (count-grows (is_own_sign i) t.notice before) h);
+      (turn_numbers sc i t.notice before node.waiting (life_signs_sent i before) (count-grows (is_own_sign i) t.notice before) h);
 }
 
 -- so a node that waits with one, sends one of its own
@@ -78,7 +78,7 @@ own_node : (scenario : ScenarioParts) (s : RunState) → EachRunning (OwnSigns s
     → (f : FrameParts) → Contains (node_at s.nodes i).waiting f → is_els f ≡ true → f.node ≡ i
 own_node scenario s all i running f there els =
     let node = node_at s.nodes i in
-    let P : FrameParts → Type 0 = IsOwnSign i (signs_sent i (past_of i (seen node.present s.trace) node)) in
+    let P : FrameParts → Type 0 = IsOwnSign i (life_signs_sent i (past_of i (seen node.present s.trace) node)) in
     (All-contains P node.waiting f (All-from_recursion P node.waiting (all i running)) there els).0
 
 -- ---- who sent a life sign
@@ -140,7 +140,7 @@ few_here p trace signers apart newest =
 
 -- the slot of the last life of node i, where its incarnation has read this
 abbrev last_of : ScenarioParts → Incarnation → ℕ → List NoticeKind → ℕ
-last_of scenario inc i read = (station_of (scenario_for scenario inc) i read).last
+last_of scenario inc i read = (knowledge_of (scenario_for scenario inc) i read).last
 
 -- of a running node, by the whole trace
 abbrev SignNode : ScenarioParts → List SlotNote → ℕ → NodeState → Type 0
@@ -222,8 +222,8 @@ record SignSent (rules : FaultScript) (s : RunState) (i : ℕ) : Type 0 where
   pub waited : 0 < count_by is_els (node_at s.nodes i).waiting
   pub plain : is_hidden (node_at s.nodes i).present (slot_note_of rules s) ≡ false
 
-sign_sent : (rules : FaultScript) (s : RunState) (i : ℕ) → AllFair s → is_own_sign i (given i (slot_note_of rules s)) ≡ true → SignSent rules s i
-sign_sent rules s i fair h = by_notice (given i (slot_note_of rules s)) refl h
+sign_sent : (rules : FaultScript) (s : RunState) (i : ℕ) → AllWaitForOwnSlots s → is_own_sign i (given i (slot_note_of rules s)) ≡ true → SignSent rules s i
+sign_sent rules s i own_slots_alone h = by_notice (given i (slot_note_of rules s)) refl h
   where
     by_notice : (e : NoticeKind) → given i (slot_note_of rules s) ≡ e → is_own_sign i e ≡ true → SignSent rules s i
     by_notice Idle is own = absurd (false≢true own)
@@ -238,7 +238,7 @@ sign_sent rules s i fair h = by_notice (given i (slot_note_of rules s)) refl h
           running = sender.0;
           waited = count-from_Among is_els waiting
               (Among-weaker (λ g. g ≡ f) (λ g. is_els g ≡ true) (λ g e. rw e els) waiting (Among-from_Contains waiting f sender.1));
-          plain = sent_plain rules s i (fair i sender.0) f parts.0 parts.1;
+          plain = sent_plain rules s i (own_slots_alone i sender.0) f parts.0 parts.1;
         }
 
 -- an older one is one that the node's incarnation sees, or was sent by an earlier one long before
@@ -259,11 +259,11 @@ older_sign p nodes s i inc o own age h = by_notice (gave i s.trace age) refl h
         ]
 
 slot_far : (scenario : ScenarioParts) → MeetsFormulas scenario.params → (rules : FaultScript) (s : RunState) → IsOrderly scenario.params.nodes s
-    → AllFair s → OwnSlots scenario s → SignsKept scenario s → (i : ℕ) → is_own_sign i (given i (slot_note_of rules s)) ≡ true
+    → AllWaitForOwnSlots s → OwnSlots scenario s → SignsKept scenario s → (i : ℕ) → is_own_sign i (given i (slot_note_of rules s)) ≡ true
     → (age : ℕ) → SendsSign i s.trace age → scenario.params.bound + scenario.params.lag ≤ suc age
-slot_far scenario formulas rules s o fair own h i now age before =
+slot_far scenario formulas rules s o own_slots_alone own h i now age before =
     let inc = (node_at s.nodes i).present in
-    let sent = sign_sent rules s i fair now in
+    let sent = sign_sent rules s i own_slots_alone now in
     let since = (h.nodes i sent.running).waits sent.waited in
     elim (older_sign scenario.params scenario.params.nodes s i inc o (own i sent.running) age before) [
       | inl seen ↦ let far = since.far age seen in let life = formulas.life in omega (arith, far, life)
@@ -299,15 +299,15 @@ signs_opening scenario = record {
 -- what is known of each state of a run
 record IsKnown (scenario : ScenarioParts) (s : RunState) : Type 0 where
   pub orderly : IsOrderly scenario.params.nodes s
-  pub fair : AllFair s
+  pub own_slots_alone : AllWaitForOwnSlots s
   pub slots : OwnSlots scenario s
   pub signs : EachRunning (OwnSigns scenario) s
 
 known : (scenario : ScenarioParts) (journal : List Step) → IsKnown scenario (run scenario journal)
 known scenario journal = record {
   orderly = orderly scenario journal;
-  fair = (along_run scenario (λ s. AllFair s × Unit {0}) (fair_opening scenario.params.nodes, tt)
-      (fairly_kept scenario (λ s. Unit {0}) (record { slot = λ s o p q. tt; restarts = λ s o some p. tt; turn = λ s i o may p. tt })) journal).0;
+  own_slots_alone = (along_run scenario (λ s. AllWaitForOwnSlots s × Unit {0}) (own_slots_alone_opening scenario.params.nodes, tt)
+      (own_slots_alone_kept scenario (λ s. Unit {0}) (record { slot = λ s o p q. tt; restarts = λ s o some p. tt; turn = λ s i o may p. tt })) journal).0;
   slots = own_slots scenario journal;
   signs = each_running scenario (OwnSigns scenario) (own_signs scenario) journal;
 }
@@ -318,13 +318,13 @@ signs_slot scenario few formulas rules s may k h = record {
   signers = subst (AllByRecursion (HasSigner scenario.params.nodes)) (sym (after_slot-trace rules s))
       (slot_signer scenario rules s few k.orderly k.signs, h.signers);
   apart = subst (Apart scenario.params) (sym (after_slot-trace rules s))
-      (apart_more scenario.params (slot_note_of rules s) s.trace (slot_far scenario formulas rules s k.orderly k.fair k.slots h) h.apart);
+      (apart_more scenario.params (slot_note_of rules s) s.trace (slot_far scenario formulas rules s k.orderly k.own_slots_alone k.slots h) h.apart);
   nodes = λ i running.
       let ran = (running_before_slot rules s i running).0 in
       let below = runs_within s.nodes i ran in
       subst (λ trace. SignNode scenario trace i (node_at (after_slot rules s).nodes i)) (sym (after_slot-trace rules s))
       (sign_slot scenario (slot_note_of rules s) s.trace i (node_at s.nodes i) (node_at (after_slot rules s).nodes i)
-      (after_slot-present rules s i below) (omega (arith, after_slot-unread rules s i below)) (slot_lived rules s i (k.fair i ran) ran)
+      (after_slot-present rules s i below) (omega (arith, after_slot-unread rules s i below)) (slot_lived rules s i (k.own_slots_alone i ran) ran)
       (topped rules s i ran) (may.lag i ran) (h.nodes i ran));
 }
 

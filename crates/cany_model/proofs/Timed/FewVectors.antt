@@ -31,7 +31,7 @@ use Rattle.cany_model.proofs.Bus.Seen.{early_hidden, seen_plain}
 use Rattle.cany_model.proofs.Bus.States.{no_note, note_at}
 use Rattle.cany_model.proofs.Promises.Diffusion.{past_of}
 use Rattle.cany_model.proofs.Promises.EachNode.{slot_lived}
-use Rattle.cany_model.proofs.Promises.Fair.{AllFair, fair_opening, fairly_kept, sent_plain}
+use Rattle.cany_model.proofs.Promises.Fair.{AllWaitForOwnSlots, own_slots_alone_opening, own_slots_alone_kept, sent_plain}
 use Rattle.cany_model.proofs.Timed.Counting.{Passes, cover, total_most, window_at, window_back}
 use Rattle.cany_model.proofs.Timed.OwnSlots.{HasOwnSlots, own_slots, sent_there, sent_when}
 use Rattle.cany_model.proofs.Timed.SeenAges.{Sees}
@@ -83,10 +83,10 @@ one_name t by L named same = elim (newest t L) [
 
 -- ---- what a node sends of a cycle, by all its incarnations
 
-run_fair : (scenario : ScenarioParts) (journal : List Step) → AllFair (run scenario journal)
-run_fair scenario journal =
-    (along_run scenario (λ s. AllFair s × Unit {0}) (fair_opening scenario.params.nodes, tt)
-    (fairly_kept scenario (λ s. Unit {0}) (record { slot = λ s o all h. tt; restarts = λ s o some h. tt; turn = λ s i o may h. tt })) journal).0
+run_own_slots_alone : (scenario : ScenarioParts) (journal : List Step) → AllWaitForOwnSlots (run scenario journal)
+run_own_slots_alone scenario journal =
+    (along_run scenario (λ s. AllWaitForOwnSlots s × Unit {0}) (own_slots_alone_opening scenario.params.nodes, tt)
+    (own_slots_alone_kept scenario (λ s. Unit {0}) (record { slot = λ s o all h. tt; restarts = λ s o some h. tt; turn = λ s i o may h. tt })) journal).0
 
 spent_few : (scenario : ScenarioParts) (k i : ℕ) (trace : List SlotNote) (past : List NoticeKind) (w : List FrameParts)
     → BudgetKept scenario k i trace past w → spent k i trace w ≤ scenario.params.nodes + 1
@@ -159,8 +159,8 @@ module _ (scenario : ScenarioParts) (few : scenario.params.nodes ≤ most_nodes)
         let running = (sender_waits rules s g.what i parts.0 parts.1).0 in
         let node : NodeState = node_at s.nodes i in
         let inc : Incarnation = node.present in
-        let fair = run_fair scenario at.before i running in
-        let plain : is_hidden inc note ≡ false = sent_plain rules s i fair g.what parts.0 parts.1 in
+        let own_slots_alone = run_own_slots_alone scenario at.before i running in
+        let plain : is_hidden inc note ≡ false = sent_plain rules s i own_slots_alone g.what parts.0 parts.1 in
         let number : g.what.number ≡ k = ap (λ (x : Identity). x.number) (sym g.identity) in
         let c = carried_in scenario at.before few formulas first at.may g.what parts.0 (ap (λ (x : Identity). x.class) (sym g.identity)) in
         let cycle : g.what.number * p.cycle ≡ k * p.cycle = ap (λ n. n * p.cycle) number in
@@ -171,7 +171,7 @@ module _ (scenario : ScenarioParts) (few : scenario.params.nodes ≤ most_nodes)
         let trace : List SlotNote = seen inc s.trace in
         let kept = budget_kept scenario at.before few k (cycle_of_formulas p formulas k (omega (arith, c.some, number))) first i running in
         let most = spent_few (scenario_for scenario inc) k i trace (past_of i trace node) node.waiting kept in
-        let less = spent_slot k i (as_seen inc note) trace node.waiting (slot_lived rules s i fair running).sends in
+        let less = spent_slot k i (as_seen inc note) trace node.waiting (slot_lived rules s i own_slots_alone running).sends in
         let there : is_sent_note k i (as_seen inc note) ≡ true = subst (λ n. is_sent_note k i n ≡ true) (sym (seen_plain inc note plain)) now in
         let older = count_seen (is_sent_note k i) inc s.trace
         (sees_own at.before k i inc refl running (omega (arith, c.to, cycle)) from) in

@@ -21,7 +21,7 @@ use Rattle.cany_model.specs.Bus.State.{NodeState, RunState, node_at, opening, re
 use Rattle.cany_model.specs.Promises.Hypothesis.{IsWithin, is_silent, is_silent_slot}
 use Rattle.cany_model.specs.Promises.OneView.{InstallsOneVector}
 use Rattle.cany_model.specs.Promises.Quiet.{HasQuietSlots, IsQuiet, WasQuiet}
-use Rattle.cany_model.specs.Rules.Site.{station_of}
+use Rattle.cany_model.specs.Rules.Site.{knowledge_of}
 use Rattle.cany_model.specs.Rules.Turn.{scenario_for}
 use Rattle.cany_model.proofs.Bus.Carried.{Carries}
 use Rattle.cany_model.proofs.Bus.Counting.{verdict_not_silent}
@@ -37,7 +37,7 @@ use Rattle.cany_model.proofs.Timed.FrontSteps.{KeepsFrom, from_front}
 use Rattle.cany_model.proofs.Timed.NoRestarts.{all_original, follows, sees_all}
 use Rattle.cany_model.proofs.Timed.SameView.{end_of_rest, same_view}
 use Rattle.cany_model.proofs.Timed.ShowsInTime.{SentOwn, ShowsInTime, ShownSince, quiet_shows, sent_own, shows_life_in_time}
-use Rattle.cany_model.proofs.Timed.StationAges.{IsLifeOf, IsOwnLife, full, last_read, last_why, shown_comes, shown_either, shown_got}
+use Rattle.cany_model.proofs.Timed.KnowledgeAges.{IsLifeOf, IsOwnLife, full, last_read, last_why, shown_comes, shown_either, shown_got}
 
 -- ---- a later state
 
@@ -111,7 +111,7 @@ life_heard r j other few note quiet heard own (f, sent, life, mine) =
 -- ---- what another node knows of its life
 
 shown_within : (scenario : ScenarioParts) (j r : ℕ) (trace : List SlotNote) → (full scenario j trace).shown r ≤ length trace
-unfolding station_of
+unfolding knowledge_of
 shown_within scenario j r [] = omega arith
 shown_within scenario j r (note ∷ trace) =
     let size = length-map trace (given j) in
@@ -168,7 +168,7 @@ module _ (scenario : ScenarioParts) (r j : ℕ) (other : r ≢ j) (few_r : r < m
   shown_kept : (base : List SlotNote)
       → ((newer older : List SlotNote) → base ≡ newer ++ older → (full scenario r older).members ≡ (full scenario j older).members)
       → (newer older : List SlotNote) → base ≡ newer ++ older → Plain older → (full scenario r older).last ≤ (full scenario j older).shown r
-  unfolding station_of
+  unfolding knowledge_of
   shown_kept base views newer [] split plain = omega arith
   shown_kept base views newer (note ∷ older) split plain =
       let split' : base ≡ (newer ++ (note ∷ [])) ++ older = split ∙ sym (append_assoc newer (note ∷ []) older) in
@@ -298,9 +298,9 @@ pub heard_in_time : (scenario : ScenarioParts) → scenario.restarts ≡ [] → 
     → IsWithin scenario.params (run scenario journal).trace → HasQuietSlots scenario journal
     → ((k : ℕ) → InstallsOneVector scenario (run scenario journal) k) → (r j : ℕ) → r ≢ j
     → runs (node_at (run scenario journal).nodes r) ≡ true → runs (node_at (run scenario journal).nodes j) ≡ true
-    → has (station_of scenario j (past_of j (run scenario journal).trace (node_at (run scenario journal).nodes j))).members r ≡ true
+    → has (knowledge_of scenario j (past_of j (run scenario journal).trace (node_at (run scenario journal).nodes j))).members r ≡ true
     → length (past_of j (run scenario journal).trace (node_at (run scenario journal).nodes j))
-    ≤ (station_of scenario j (past_of j (run scenario journal).trace (node_at (run scenario journal).nodes j))).shown r
+    ≤ (knowledge_of scenario j (past_of j (run scenario journal).trace (node_at (run scenario journal).nodes j))).shown r
     + scenario.params.life + scenario.params.lag + scenario.params.bound
 heard_in_time scenario none few some journal within quiet one r j other running_r running_j there =
     let s : RunState = run scenario journal in

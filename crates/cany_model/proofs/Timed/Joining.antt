@@ -23,8 +23,8 @@ use Rattle.cany_model.specs.Bus.Run.{run}
 use Rattle.cany_model.specs.Bus.State.{RunState, node_at, reads, runs}
 use Rattle.cany_model.specs.Promises.Detector.{IsAdmitted, JoinWasCarried}
 use Rattle.cany_model.specs.Promises.OneView.{InstallsOneVector, installed, installed_of}
-use Rattle.cany_model.specs.Rules.Site.{having_asked, start_in, station_of}
-use Rattle.cany_model.specs.Rules.Station.{Sign, Station, fda_of, having_found}
+use Rattle.cany_model.specs.Rules.Site.{after_asking, start_in, knowledge_of}
+use Rattle.cany_model.specs.Rules.Knowledge.{FailureSign, Knowledge, fda_of, after_finding}
 use Rattle.cany_model.specs.Rules.Turn.{scenario_for}
 use Rattle.cany_model.specs.Rules.Vectors.{is_end}
 use Rattle.cany_model.specs.Rules.Views.{after_ask, minus, with_joiner, with_leaver, with_node}
@@ -39,7 +39,7 @@ use Rattle.cany_model.proofs.Promises.Diffusion.{Heard}
 use Rattle.cany_model.proofs.Promises.DiffusionRun.{run_diffuses}
 use Rattle.cany_model.proofs.Promises.Fair.{run_numbered}
 use Rattle.cany_model.proofs.Promises.SignAgrees.{sign_duty, sign_is_diffused}
-use Rattle.cany_model.proofs.Rules.StationSteps.{joiners_after, joiners_by, members_by}
+use Rattle.cany_model.proofs.Rules.KnowledgeSteps.{joiners_after, joiners_by, members_by}
 use Rattle.cany_model.proofs.Timed.AllSay.{Says, all_say, few_of, most}
 use Rattle.cany_model.proofs.Timed.Fading.{found_joiners, found_members, start_says}
 use Rattle.cany_model.proofs.Timed.Gap.{later_state}
@@ -47,7 +47,7 @@ use Rattle.cany_model.proofs.Timed.LoggedViews.{installed_read}
 use Rattle.cany_model.proofs.Timed.NoRestarts.{all_original, follows, history_all, sees_all}
 use Rattle.cany_model.proofs.Timed.SameView.{end_of}
 use Rattle.cany_model.proofs.Timed.StartViews.{each_left, end_says, front_split, members_then, next_note, read_by, start_at, start_no_end, view_at}
-use Rattle.cany_model.proofs.Timed.StationAges.{ended_at, full, members_next}
+use Rattle.cany_model.proofs.Timed.KnowledgeAges.{ended_at, full, members_next}
 use Rattle.cany_model.proofs.Timed.Stopped.{SentItself, sent_itself}
 use Rattle.cany_model.proofs.Timed.VectorSlots.{cycle_of_formulas}
 use Rattle.cany_model.proofs.Timed.VectorTurns.{starts_with}
@@ -56,7 +56,7 @@ use Rattle.cany_model.proofs.Timed.VectorWords.{IsCycle}
 -- ---- who asks to join
 
 -- a joiner stays one
-asks_keep_joiner : (r : ℕ) (e : NoticeKind) (st : Station) → r < most_nodes → has st.joiners r ≡ true → has (after_ask e st).joiners r ≡ true
+asks_keep_joiner : (r : ℕ) (e : NoticeKind) (st : Knowledge) → r < most_nodes → has st.joiners r ≡ true → has (after_ask e st).joiners r ≡ true
 unfolding after_ask
 asks_keep_joiner r Idle st few h = h
 asks_keep_joiner r Bad st few h = h
@@ -74,7 +74,7 @@ asks_keep_joiner r (Got f) st few h =
     (λ _. h))
 
 -- and one that is outside becomes one by its JOIN
-joins : (r : ℕ) (f : FrameParts) (st : Station) → r < most_nodes → f.class ≡ class.Join → f.node ≡ r → has st.members r ≡ false
+joins : (r : ℕ) (f : FrameParts) (st : Knowledge) → r < most_nodes → f.class ≡ class.Join → f.node ≡ r → has st.members r ≡ false
     → has (after_ask (Got f) st).joiners r ≡ true
 unfolding after_ask
 joins r f st few c n out =
@@ -83,21 +83,21 @@ joins r f st few c n out =
     rw (join, outside)
     (has_where (λ q. has st.joiners q || q == f.node) r few ∙ or_right (has st.joiners r) (r == f.node) (eq-eqb r f.node (sym n)))
 
-module _ (p : Parameters) (i r slot : ℕ) (e : NoticeKind) (st : Station) (few : r < most_nodes) where
-  asked_joiner : has st.joiners r ≡ true → has (having_asked p i slot e st).joiners r ≡ true
-  asked_joiner h = asks_keep_joiner r e (having_found p i slot e st) few (ap (λ m. has m r) (found_joiners p i slot e st) ∙ h)
+module _ (p : Parameters) (i r slot : ℕ) (e : NoticeKind) (st : Knowledge) (few : r < most_nodes) where
+  asked_joiner : has st.joiners r ≡ true → has (after_asking p i slot e st).joiners r ≡ true
+  asked_joiner h = asks_keep_joiner r e (after_finding p i slot e st) few (ap (λ m. has m r) (found_joiners p i slot e st) ∙ h)
 
   asked_joins : (f : FrameParts) → e ≡ Got f → f.class ≡ class.Join → f.node ≡ r → has st.members r ≡ false
-      → has (having_asked p i slot e st).joiners r ≡ true
+      → has (after_asking p i slot e st).joiners r ≡ true
   asked_joins f got c n out =
-      subst (λ x. has (after_ask x (having_found p i slot e st)).joiners r ≡ true) (sym got)
-      (joins r f (having_found p i slot e st) few c n (ap (λ m. has m r) (found_members p i slot e st) ∙ out))
+      subst (λ x. has (after_ask x (after_finding p i slot e st)).joiners r ≡ true) (sym got)
+      (joins r f (after_finding p i slot e st) few c n (ap (λ m. has m r) (found_members p i slot e st) ∙ out))
 
   -- a cycle starts with each joiner
-  joiner_says : is_end p slot ≡ false → (has st.members i ≡ true → has (having_asked p i slot e st).joiners r ≡ true)
+  joiner_says : is_end p slot ≡ false → (has st.members i ≡ true → has (after_asking p i slot e st).joiners r ≡ true)
       → Says r true (start_in p i slot e st)
   joiner_says no_end h = start_says p i slot e st r true no_end (λ member.
-      let now : Station = having_asked p i slot e st in
+      let now : Knowledge = after_asking p i slot e st in
       let stays : Nodes = minus (minus now.members now.failed) now.leavers in
       has_where (λ q. has stays q || has now.joiners q) r few ∙ or_right (has stays r) (has now.joiners r) (h member))
 
@@ -110,13 +110,13 @@ joiners_left (Some v) joiners r few says h =
 -- a joiner that does not come into the view is one after the turn
 joiner_next : (scenario : ScenarioParts) (i r : ℕ) (e : NoticeKind) (past : List NoticeKind) → r < most_nodes
     → Says r false (ended_at scenario i e past)
-    → has (having_asked scenario.params i (length past) e (station_of scenario i past)).joiners r ≡ true
-    → has (station_of scenario i (e ∷ past)).joiners r ≡ true
-unfolding station_of
+    → has (after_asking scenario.params i (length past) e (knowledge_of scenario i past)).joiners r ≡ true
+    → has (knowledge_of scenario i (e ∷ past)).joiners r ≡ true
+unfolding knowledge_of
 joiner_next scenario i r e past few says h =
-    let st : Station = station_of scenario i past in
+    let st : Knowledge = knowledge_of scenario i past in
     ap (λ m. has m r) (joiners_after scenario.params i (length past) e st)
-    ∙ joiners_left (ended_at scenario i e past) (having_asked scenario.params i (length past) e st).joiners r few says h
+    ∙ joiners_left (ended_at scenario i e past) (after_asking scenario.params i (length past) e st).joiners r few says h
 
 -- ---- the slot of the JOIN
 
@@ -234,7 +234,7 @@ module _ (scenario : ScenarioParts) (f : MeetsFormulas scenario.params) (none : 
     few_a : a < most_nodes
     few_a = omega (arith, may.there, (orderly scenario front).count, small)
 
-    sign : Sign
+    sign : FailureSign
     sign = record { node = 0; cycle = 0 }
 
     got : (newer : List SlotNote) → all ≡ newer ++ (join.note ∷ join.older) → r ≢ a → given a join.note ≡ Got join.what

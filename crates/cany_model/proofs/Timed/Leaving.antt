@@ -23,8 +23,8 @@ use Rattle.cany_model.specs.Bus.Run.{run}
 use Rattle.cany_model.specs.Bus.Slot.{FaultScript, script, slot_note_of}
 use Rattle.cany_model.specs.Bus.State.{NodeState, RunState, node_at}
 use Rattle.cany_model.specs.Promises.Detector.{AsksNoLeave}
-use Rattle.cany_model.specs.Rules.Site.{ended_in, having_asked, having_installed, having_met, start_in, station_of}
-use Rattle.cany_model.specs.Rules.Station.{Station, having_found}
+use Rattle.cany_model.specs.Rules.Site.{ended_in, after_asking, after_installing, after_meeting, start_in, knowledge_of}
+use Rattle.cany_model.specs.Rules.Knowledge.{Knowledge, after_finding}
 use Rattle.cany_model.specs.Rules.Turn.{scenario_for}
 use Rattle.cany_model.specs.Rules.Vectors.{is_end, is_start, meet}
 use Rattle.cany_model.specs.Rules.Views.{after_ask, minus, start_of, start_vector, with_ended, with_joiner, with_leaver, with_node}
@@ -34,9 +34,9 @@ use Rattle.cany_model.proofs.Bus.Restarts.{after_restarts-trace}
 use Rattle.cany_model.proofs.Bus.Runs.{along_run}
 use Rattle.cany_model.proofs.Bus.Steps.{after_slot-trace, after_turn-trace}
 use Rattle.cany_model.proofs.Promises.EachNode.{EachRunning, IsNodes, nodes_at_first, nodes_kept, waiting_has}
-use Rattle.cany_model.proofs.Promises.Fair.{AllFair}
+use Rattle.cany_model.proofs.Promises.Fair.{AllWaitForOwnSlots}
 use Rattle.cany_model.proofs.Rules.ProtocolFacts.{MayAsk, MayRequest, accepts, confirms, exchanges, is_relayed, lives, originates, relays, requests, signals}
-use Rattle.cany_model.proofs.Rules.StationSteps.{found_keeps, leavers_after, leavers_by, life_keeps, met_keeps}
+use Rattle.cany_model.proofs.Rules.KnowledgeSteps.{found_keeps, leavers_after, leavers_by, life_keeps, met_keeps}
 
 -- ---- no frame asks for it to leave
 
@@ -93,7 +93,7 @@ pub no_leave : (scenario : ScenarioParts) (r : ℕ) → AsksNoLeave scenario r �
 no_leave scenario r none journal =
     let is : IsNodes scenario (LeavesNone r) = leaves_none scenario r none in
     let kept = nodes_kept scenario (LeavesNone r) is in
-    (along_run scenario (λ s. (AllFair s × EachRunning (LeavesNone r) s) × AllByRecursion (NoLeaveIn r) s.trace)
+    (along_run scenario (λ s. (AllWaitForOwnSlots s × EachRunning (LeavesNone r) s) × AllByRecursion (NoLeaveIn r) s.trace)
     (nodes_at_first scenario (LeavesNone r) is, tt)
     (record {
       slot = λ s o may h. (
@@ -119,7 +119,7 @@ heeds_none r i (note ∷ trace) h = (heeds, heeds_none r i trace h.1)
     heeds f (inl got) = h.0 f (given-Got i note f got).0
     heeds f (inr sent) = h.0 f (given-Sent i note f sent).0
 
-leaver_other : (r q : ℕ) (st : Station) → (q ≡ r → ⊥) → has st.leavers r ≡ false → has (with_leaver q st).leavers r ≡ false
+leaver_other : (r q : ℕ) (st : Knowledge) → (q ≡ r → ⊥) → has st.leavers r ≡ false → has (with_leaver q st).leavers r ≡ false
 leaver_other r q st other h =
     cond_both (has st.members q) (record st { leavers = with_node q st.leavers }) st (λ s. has s.leavers r ≡ false)
     (λ _. false_from_ne_true (has (with_node q st.leavers) r) (λ now.
@@ -129,11 +129,11 @@ leaver_other r q st other h =
     ]))
     (λ _. h)
 
-joiner_leavers : (r q : ℕ) (st : Station) → has st.leavers r ≡ false → has (with_joiner q st).leavers r ≡ false
+joiner_leavers : (r q : ℕ) (st : Knowledge) → has st.leavers r ≡ false → has (with_joiner q st).leavers r ≡ false
 joiner_leavers r q st h =
     cond_both (has st.members q) st (record st { joiners = with_node q st.joiners }) (λ s. has s.leavers r ≡ false) (λ _. h) (λ _. h)
 
-ask_leavers : (r : ℕ) (e : NoticeKind) (st : Station) → HeedsNone r e → has st.leavers r ≡ false → has (after_ask e st).leavers r ≡ false
+ask_leavers : (r : ℕ) (e : NoticeKind) (st : Knowledge) → HeedsNone r e → has st.leavers r ≡ false → has (after_ask e st).leavers r ≡ false
 unfolding after_ask
 ask_leavers r Idle st none h = h
 ask_leavers r Bad st none h = h
@@ -146,13 +146,13 @@ ask_leavers r (Got f) st none h =
     (λ _. cond_both (same_class f.class class.Leave) (with_leaver f.node st) st (λ s. has s.leavers r ≡ false)
     (λ is. leaver_other r f.node st (none f (inl refl) (same_class-true f.class class.Leave is)) h) (λ _. h))
 
-pub asked_leavers : (p : Parameters) (i slot : ℕ) (e : NoticeKind) (st : Station) (r : ℕ) → HeedsNone r e → has st.leavers r ≡ false
-    → has (having_asked p i slot e st).leavers r ≡ false
+pub asked_leavers : (p : Parameters) (i slot : ℕ) (e : NoticeKind) (st : Knowledge) (r : ℕ) → HeedsNone r e → has st.leavers r ≡ false
+    → has (after_asking p i slot e st).leavers r ≡ false
 asked_leavers p i slot e st r none before =
-    let found : (having_found p i slot e st).leavers ≡ st.leavers =
+    let found : (after_finding p i slot e st).leavers ≡ st.leavers =
     found_keeps Nodes (λ s. s.leavers) (λ sign s. refl) p i slot e st
     ∙ life_keeps Nodes (λ s. s.leavers) (record { shown = λ f s. refl; last = λ n s. refl }) i slot e st in
-    ask_leavers r e (having_found p i slot e st) none (ap (λ nodes. has nodes r) found ∙ before)
+    ask_leavers r e (after_finding p i slot e st) none (ap (λ nodes. has nodes r) found ∙ before)
 
 ended_leavers : (r : ℕ) (o : Option Nodes) (leavers : Nodes) → has leavers r ≡ false → has (leavers_by o leavers) r ≡ false
 ended_leavers r None leavers h = h
@@ -161,31 +161,31 @@ ended_leavers r (Some v) leavers h =
     both_ways (has leavers r) h (and_parts (has leavers r) (has v r) (those_where_pass (λ x. has leavers x && has v x) r now)).0)
 
 pub no_leaver : (scenario : ScenarioParts) (i r : ℕ) (past : List NoticeKind) → AllByRecursion (HeedsNone r) past
-    → has (station_of scenario i past).leavers r ≡ false
-unfolding station_of
+    → has (knowledge_of scenario i past).leavers r ≡ false
+unfolding knowledge_of
 no_leaver scenario i r [] none = has_none r
 no_leaver scenario i r (e ∷ past) none =
     let p : Parameters = scenario.params in
     let slot : ℕ = length past in
-    let st : Station = station_of scenario i past in
+    let st : Knowledge = knowledge_of scenario i past in
     ap (λ nodes. has nodes r) (leavers_after p i slot e st)
-    ∙ ended_leavers r (ended_in p slot e st) (having_asked p i slot e st).leavers
+    ∙ ended_leavers r (ended_in p slot e st) (after_asking p i slot e st).leavers
     (asked_leavers p i slot e st r none.0 (no_leaver scenario i r past none.1))
 
 -- ---- the start of a cycle
 
-module _ (p : Parameters) (i r slot : ℕ) (e : NoticeKind) (st : Station) (few : r < most_nodes) (no_end : is_end p slot ≡ false)
-    (member : has st.members r ≡ true) (lives : has (having_found p i slot e st).failed r ≡ false)
-    (stays : has (having_asked p i slot e st).leavers r ≡ false)
+module _ (p : Parameters) (i r slot : ℕ) (e : NoticeKind) (st : Knowledge) (few : r < most_nodes) (no_end : is_end p slot ≡ false)
+    (member : has st.members r ≡ true) (lives : has (after_finding p i slot e st).failed r ≡ false)
+    (stays : has (after_asking p i slot e st).leavers r ≡ false)
   where
-    met : Station
-    met = having_met p i slot e st
+    met : Knowledge
+    met = after_meeting p i slot e st
 
-    not_ended : having_installed p i slot e st ≡ having_met p i slot e st
+    not_ended : after_installing p i slot e st ≡ after_meeting p i slot e st
     unfolding with_ended
     not_ended = rw no_end refl
 
-    member_met : has (having_met p i slot e st).members r ≡ true
+    member_met : has (after_meeting p i slot e st).members r ≡ true
     member_met =
         ap (λ nodes. has nodes r)
         (met_keeps Nodes (λ s. s.members) (record { joiners = λ n s. refl; leavers = λ n s. refl }) (λ v s. refl) p i slot e st
@@ -193,13 +193,13 @@ module _ (p : Parameters) (i r slot : ℕ) (e : NoticeKind) (st : Station) (few 
         ∙ life_keeps Nodes (λ s. s.members) (record { shown = λ f s. refl; last = λ n s. refl }) i slot e st)
         ∙ member
 
-    lives_met : has (having_met p i slot e st).failed r ≡ false
+    lives_met : has (after_meeting p i slot e st).failed r ≡ false
     lives_met =
         ap (λ nodes. has nodes r)
         (met_keeps Nodes (λ s. s.failed) (record { joiners = λ n s. refl; leavers = λ n s. refl }) (λ v s. refl) p i slot e st)
         ∙ lives
 
-    starts : (now : Station) → has now.members r ≡ true → has now.failed r ≡ false → has now.leavers r ≡ false → has (start_vector now) r ≡ true
+    starts : (now : Knowledge) → has now.members r ≡ true → has now.failed r ≡ false → has now.leavers r ≡ false → has (start_vector now) r ≡ true
     starts now a b c =
         has_where (λ x. has (minus (minus now.members now.failed) now.leavers) x || has now.joiners x) r few
         ∙ or_left (has (minus (minus now.members now.failed) now.leavers) r) (has now.joiners r)
@@ -212,12 +212,12 @@ module _ (p : Parameters) (i r slot : ℕ) (e : NoticeKind) (st : Station) (few 
     -- a member that has not failed and does not leave stands in what a node starts a cycle with, in a slot at which no cycle ends
     pub start_stays : (v : Nodes) → start_in p i slot e st ≡ Some v → has v r ≡ true
     start_stays v is =
-        cond_both (is_start p slot) (start_of i (having_installed p i slot e st)) None (λ o. o ≡ Some v → has v r ≡ true)
-        (λ _ here. by_member (has (having_installed p i slot e st).members i) here) (λ _ none. absurd (cc)) is
+        cond_both (is_start p slot) (start_of i (after_installing p i slot e st)) None (λ o. o ≡ Some v → has v r ≡ true)
+        (λ _ here. by_member (has (after_installing p i slot e st).members i) here) (λ _ none. absurd (cc)) is
       where
-        by_member : (b : Bool) → (if b then Some (start_vector (having_installed p i slot e st)) else None) ≡ Some v → has v r ≡ true
+        by_member : (b : Bool) → (if b then Some (start_vector (after_installing p i slot e st)) else None) ≡ Some v → has v r ≡ true
         by_member true here =
-            let same : start_vector (having_installed p i slot e st) ≡ v = cc in
-            ap (λ nodes. has nodes r) (sym same) ∙ ap (λ (now : Station). has (start_vector now) r) not_ended
-            ∙ starts (having_met p i slot e st) member_met lives_met stays
+            let same : start_vector (after_installing p i slot e st) ≡ v = cc in
+            ap (λ nodes. has nodes r) (sym same) ∙ ap (λ (now : Knowledge). has (start_vector now) r) not_ended
+            ∙ starts (after_meeting p i slot e st) member_met lives_met stays
         by_member false none = absurd (cc)

@@ -15,7 +15,7 @@ use Rattle.cany_model.specs.Rules.Effect.{Effect, Enter, entered}
 use Rattle.cany_model.specs.Rules.Life.{failure_signs}
 use Rattle.cany_model.specs.Rules.Log.{log_from}
 use Rattle.cany_model.specs.Rules.Membership.{install_effects, views}
-use Rattle.cany_model.specs.Rules.Site.{met_in, station_of}
+use Rattle.cany_model.specs.Rules.Site.{met_in, knowledge_of}
 use Rattle.cany_model.specs.Rules.Turn.{turn_effects}
 use Rattle.cany_model.specs.Rules.Vectors.{cycle_of, is_end}
 use Rattle.cany_model.specs.Rules.Views.{view_effects, withdrawn_asks}
@@ -24,7 +24,7 @@ use Rattle.cany_model.proofs.Rules.MembershipEntries.{withdrawn_enter}
 use Rattle.cany_model.proofs.Rules.TurnEntries.{IsOfSign, failures_enter, turn_enters}
 use Rattle.cany_model.proofs.Timed.OneVector.{installed_before, installed_here}
 use Rattle.cany_model.proofs.Timed.SameView.{end_place}
-use Rattle.cany_model.proofs.Timed.StationAges.{ended_at}
+use Rattle.cany_model.proofs.Timed.KnowledgeAges.{ended_at}
 use Rattle.cany_model.proofs.Timed.VectorSets.{same_bits}
 
 -- the entry is a view of this number with these members
@@ -82,7 +82,7 @@ no_view number members (View slot k v ∷ entries) h = absurd h.0
 ended_ends : (scenario : ScenarioParts) (i : ℕ) (e : NoticeKind) (past : List NoticeKind) (v : Nodes) → ended_at scenario i e past ≡ Some v
     → is_end scenario.params (length past) ≡ true
 ended_ends scenario i e past v h =
-    cond_both (is_end scenario.params (length past)) (met_in scenario.params (length past) e (station_of scenario i past)) None
+    cond_both (is_end scenario.params (length past)) (met_in scenario.params (length past) e (knowledge_of scenario i past)) None
     (λ o. o ≡ Some v → is_end scenario.params (length past) ≡ true) (λ end _. end) (λ _ never. absurd (cc)) h
 
 record Logged (scenario : ScenarioParts) (i number : ℕ) (members : Nodes) (past : List NoticeKind) : Type 0 where

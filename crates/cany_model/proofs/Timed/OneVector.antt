@@ -26,8 +26,8 @@ use Rattle.cany_model.specs.Promises.OneView.{HasReadEnd, InstallsOneVector, ins
 use Rattle.cany_model.specs.Promises.Quiet.{HasQuietSlots, IsQuiet}
 use Rattle.cany_model.specs.Promises.Settled.{IsCorrect}
 use Rattle.cany_model.specs.Rules.Notices.{IsReadable, is_early, is_early_frame}
-use Rattle.cany_model.specs.Rules.Site.{ended_in, station_of}
-use Rattle.cany_model.specs.Rules.Station.{Station}
+use Rattle.cany_model.specs.Rules.Site.{ended_in, knowledge_of}
+use Rattle.cany_model.specs.Rules.Knowledge.{Knowledge}
 use Rattle.cany_model.specs.Rules.Turn.{scenario_at, scenario_for}
 use Rattle.cany_model.specs.Rules.Vectors.{cycle_of, is_end, met, rha_of, vector_in}
 use Rattle.cany_model.proofs.Among.{Contains-cons, Contains-head, Each-drop, Each-weaker}
@@ -43,8 +43,8 @@ use Rattle.cany_model.proofs.Promises.EachNode.{EachRunning, blank_heard, each_r
 use Rattle.cany_model.proofs.Promises.Fair.{from_later, history-seen, members_later, run_numbered}
 use Rattle.cany_model.proofs.Promises.KeptVectors.{vector_at}
 use Rattle.cany_model.proofs.Rules.MutedFacts.{begun_later}
-use Rattle.cany_model.proofs.Rules.StationFacts.{begun_station}
-use Rattle.cany_model.proofs.Rules.StationNodes.{IsVectorOfBus, station_of_bus}
+use Rattle.cany_model.proofs.Rules.KnowledgeFacts.{begun_knowledge}
+use Rattle.cany_model.proofs.Rules.KnowledgeNodes.{IsVectorOfBus, knowledge_of_bus}
 use Rattle.cany_model.proofs.Rules.VectorFacts.{carries_vector}
 use Rattle.cany_model.proofs.Timed.Ages.{past}
 use Rattle.cany_model.proofs.Timed.QuietSlots.{front_trace, within_dropped}
@@ -60,7 +60,7 @@ use Rattle.cany_model.proofs.Timed.VectorWords.{IsCycle, at_place, brings}
 
 pub installed_here : (scenario : ScenarioParts) (i k : ℕ) (e : NoticeKind) (before : List NoticeKind)
     → length before ≡ k * scenario.params.cycle + scenario.params.bound
-    → installed_of scenario i k (e ∷ before) ≡ ended_in scenario.params (length before) e (station_of scenario i before)
+    → installed_of scenario i k (e ∷ before) ≡ ended_in scenario.params (length before) e (knowledge_of scenario i before)
 unfolding installed_of
 installed_here scenario i k e before at = rw (eq-eqb (length before) (k * scenario.params.cycle + scenario.params.bound) at) refl
 
@@ -139,7 +139,7 @@ module _ (scenario : ScenarioParts) (inc : Incarnation) (k i : ℕ) (c : IsCycle
 
     begun_vector : (read : List NoticeKind) → IsSeenPast inc read → length read ≤ inc.from → vector_at scenario i read ≡ None
     begun_vector read seen short =
-        ap (λ (st : Station). st.vector) (begun_station scenario i read (begun_later inc scenario same outside read after.later seen short))
+        ap (λ (st : Knowledge). st.vector) (begun_knowledge scenario i read (begun_later inc scenario same outside read after.later seen short))
 
     -- until the end of the cycle it has none
     late_vector : (before : List NoticeKind) → IsSeenPast inc before → AllByRecursion (λ e. is_early inc.cycle e ≡ false) before
@@ -205,7 +205,7 @@ vectors_of_bus scenario journal few first i inc age =
     let read : EachRead (IsReadable sc) (past i (seen inc s.trace) age) =
     subst (EachRead (IsReadable sc)) (drop-map (given i) age (seen inc s.trace))
     (each_dropped (IsReadable sc) age (map (given i) (seen inc s.trace)) all) in
-    (station_of_bus sc i (first_members scenario inc first) (past i (seen inc s.trace) age) read).vector
+    (knowledge_of_bus sc i (first_members scenario inc first) (past i (seen inc s.trace) age) read).vector
 
 -- of all slots that it sees a running node has heard
 all_heard : (scenario : ScenarioParts) (journal : List Step) → EachRunning (λ trace i node. AllByRecursion (Heard i) trace) (run scenario journal)

@@ -26,7 +26,7 @@ use Rattle.cany_model.specs.Rules.Effect.{Enter, entered}
 use Rattle.cany_model.specs.Rules.Life.{failure_signs}
 use Rattle.cany_model.specs.Rules.Log.{log, log_from}
 use Rattle.cany_model.specs.Rules.Membership.{install_effects, views}
-use Rattle.cany_model.specs.Rules.Site.{ended_in, station_of}
+use Rattle.cany_model.specs.Rules.Site.{ended_in, knowledge_of}
 use Rattle.cany_model.specs.Rules.Turn.{scenario_at, turn_effects}
 use Rattle.cany_model.specs.Rules.Vectors.{cycle_of, is_end}
 use Rattle.cany_model.specs.Rules.Views.{view_effects, withdrawn_asks}
@@ -89,14 +89,14 @@ module _ (number : ℕ) (members : Nodes) where
   -- what a turn that logs it installs
   turn_viewed : (scenario : ScenarioParts) (i : ℕ) (e : NoticeKind) (before : List NoticeKind)
       → 0 < count_by is_this (entered (turn_effects scenario i (e ∷ before)))
-      → IsViewed scenario.params (length before) (ended_in scenario.params (length before) e (station_of scenario i before))
+      → IsViewed scenario.params (length before) (ended_in scenario.params (length before) e (knowledge_of scenario i before))
   unfolding install_effects is_this
   turn_viewed scenario i e before h =
       let counted = turn_enters is_this (λ slot by msg payload. refl) scenario i e before in
       let signs = no_sign (entered (failure_signs.effects scenario i (e ∷ before))) (failures_enter scenario i (e ∷ before)) in
       let some : 0 < count_by is_this (entered (views.effects scenario i (e ∷ before))) = omega (arith, h, counted, signs) in
       viewed scenario.params scenario.joins scenario.leaves i (length before)
-      (ended_in scenario.params (length before) e (station_of scenario i before)) some
+      (ended_in scenario.params (length before) e (knowledge_of scenario i before)) some
 
   -- ---- a view in a log
 
@@ -127,7 +127,7 @@ module _ (number : ℕ) (members : Nodes) where
       none_some e = cc
 
       ends_there : (scenario : ScenarioParts) (i : ℕ) (e : NoticeKind) (before : List NoticeKind)
-          → IsViewed scenario.params (length before) (ended_in scenario.params (length before) e (station_of scenario i before))
+          → IsViewed scenario.params (length before) (ended_in scenario.params (length before) e (knowledge_of scenario i before))
           → length before ≡ number * scenario.params.cycle + scenario.params.bound
       ends_there scenario i e before v = elim (cases_Bool (is_end scenario.params (length before))) [
         | inl end ↦

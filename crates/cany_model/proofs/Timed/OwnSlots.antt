@@ -19,7 +19,7 @@ use Rattle.cany_model.proofs.Bus.Runs.{IsOrderly, along_run, opening_within}
 use Rattle.cany_model.proofs.Bus.Seen.{early_hidden, hidden_why}
 use Rattle.cany_model.proofs.Bus.States.{node_at-opening, note_at, runs_within}
 use Rattle.cany_model.proofs.Bus.Steps.{MayTurn, after_slot-present, after_slot-trace, after_turn-present, after_turn-runs, after_turn-trace, running_before_slot}
-use Rattle.cany_model.proofs.Promises.Fair.{AllFair, fair_opening, fairly_kept, sent_plain}
+use Rattle.cany_model.proofs.Promises.Fair.{AllWaitForOwnSlots, own_slots_alone_opening, own_slots_alone_kept, sent_plain}
 use Rattle.cany_model.proofs.Timed.Ages.{Sends, gave_none}
 use Rattle.cany_model.proofs.Timed.SeenAges.{Sees}
 
@@ -56,8 +56,8 @@ own_more p note trace i inc plain h = record { starts = h.starts; begun = omega 
     sent zero x now = inl (plain x now)
     sent (suc age) x before = h.sent age x before
 
-own_slot : (scenario : ScenarioParts) (rules : FaultScript) (s : RunState) → AllFair s → OwnSlots scenario s → OwnSlots scenario (after_slot rules s)
-own_slot scenario rules s fair all i running =
+own_slot : (scenario : ScenarioParts) (rules : FaultScript) (s : RunState) → AllWaitForOwnSlots s → OwnSlots scenario s → OwnSlots scenario (after_slot rules s)
+own_slot scenario rules s own_slots_alone all i running =
     let ran = (running_before_slot rules s i running).0 in
     let inc = (node_at s.nodes i).present in
     let note = slot_note_of rules s in
@@ -67,7 +67,7 @@ own_slot scenario rules s fair all i running =
     (own_more scenario.params note s.trace i inc (λ x h.
     let g = is_sent-true x (given i note) h in
     let parts = given-Sent i note g.what g.was in
-    sent_plain rules s i (fair i ran) g.what parts.0 parts.1) (all i ran)))
+    sent_plain rules s i (own_slots_alone i ran) g.what parts.0 parts.1) (all i ran)))
 
 -- all slots that ran come before the first one of an incarnation that begins
 own_new : (p : Parameters) (nodes : ℕ) (s : RunState) (i : ℕ) (inc : Incarnation) → IsOrderly nodes s → 0 < length s.trace
@@ -99,9 +99,9 @@ own_turn scenario s i o may all j running =
 
 pub own_slots : (scenario : ScenarioParts) (journal : List Step) → OwnSlots scenario (run scenario journal)
 own_slots scenario journal =
-    (along_run scenario (λ s. AllFair s × OwnSlots scenario s) (fair_opening scenario.params.nodes, own_opening scenario)
-    (fairly_kept scenario (OwnSlots scenario) (record {
-      slot = λ s o fair h. own_slot scenario (script scenario.rules) s fair h;
+    (along_run scenario (λ s. AllWaitForOwnSlots s × OwnSlots scenario s) (own_slots_alone_opening scenario.params.nodes, own_opening scenario)
+    (own_slots_alone_kept scenario (OwnSlots scenario) (record {
+      slot = λ s o own_slots_alone h. own_slot scenario (script scenario.rules) s own_slots_alone h;
       restarts = λ s o some h. own_restarts scenario s o some h;
       turn = λ s i o may h. own_turn scenario s i o may h;
     })) journal).1

@@ -24,8 +24,8 @@ use Rattle.cany_model.specs.Promises.Detector.{IsRemoved, StandsAfter}
 use Rattle.cany_model.specs.Promises.OneView.{InstallsOneVector, installed_of}
 use Rattle.cany_model.specs.Rules.Log.{log_from}
 use Rattle.cany_model.specs.Rules.Notices.{IsReadable}
-use Rattle.cany_model.specs.Rules.Site.{having_asked, station_of}
-use Rattle.cany_model.specs.Rules.Station.{Station, having_found, knows, sign_in}
+use Rattle.cany_model.specs.Rules.Site.{after_asking, knowledge_of}
+use Rattle.cany_model.specs.Rules.Knowledge.{Knowledge, after_finding, knows, sign_in}
 use Rattle.cany_model.specs.Rules.Vectors.{cycle_of, is_end}
 use Rattle.cany_model.specs.Rules.Views.{after_ask, minus, with_joiner, with_leaver, with_node}
 use Rattle.cany_model.proofs.Bus.EachRead.{EachRead}
@@ -34,7 +34,7 @@ use Rattle.cany_model.proofs.Bus.Notes.{those_where_pass}
 use Rattle.cany_model.proofs.Bus.Runs.{history-length, orderly}
 use Rattle.cany_model.proofs.Bus.States.{note_at, runs_within}
 use Rattle.cany_model.proofs.Bus.Steps.{MayTurn}
-use Rattle.cany_model.proofs.Rules.StationSteps.{joiners_after, joiners_by, members_by}
+use Rattle.cany_model.proofs.Rules.KnowledgeSteps.{joiners_after, joiners_by, members_by}
 use Rattle.cany_model.proofs.Timed.AllSay.{Says, all_say, few_of, read_next}
 use Rattle.cany_model.proofs.Timed.Fading.{Fading, NothingOf, faded_fails, fading, found_joiners, found_members, known_begun, lacks_says, shown_by}
 use Rattle.cany_model.proofs.Timed.Gap.{later_state}
@@ -42,7 +42,7 @@ use Rattle.cany_model.proofs.Timed.LoggedViews.{installed_read, view_installed}
 use Rattle.cany_model.proofs.Timed.NoRestarts.{all_original, follows, history_all}
 use Rattle.cany_model.proofs.Timed.SameView.{end_of}
 use Rattle.cany_model.proofs.Timed.StartViews.{each_left, end_says, front_split, next_note, members_then, no_end_within, read_by, start_at, start_no_end, view_at}
-use Rattle.cany_model.proofs.Timed.StationAges.{ended_at, full, members_next}
+use Rattle.cany_model.proofs.Timed.KnowledgeAges.{ended_at, full, members_next}
 use Rattle.cany_model.proofs.Timed.Staying.{members_stay}
 use Rattle.cany_model.proofs.Timed.Stopped.{NotFrom, not_heard, silent_since, stop_of, stopped_since}
 use Rattle.cany_model.proofs.Timed.VectorSlots.{cycle_of_formulas}
@@ -51,12 +51,12 @@ use Rattle.cany_model.proofs.Timed.VectorWords.{IsCycle, at_place}
 
 -- ---- who does not ask to join
 
-leaver_joiners : (r q : ℕ) (st : Station) → has st.joiners r ≡ false → has (with_leaver q st).joiners r ≡ false
+leaver_joiners : (r q : ℕ) (st : Knowledge) → has st.joiners r ≡ false → has (with_leaver q st).joiners r ≡ false
 leaver_joiners r q st h =
     cond_both (has st.members q) (record st { leavers = with_node q st.leavers }) st (λ s. has s.joiners r ≡ false) (λ _. h) (λ _. h)
 
 -- a member that asks to join becomes no joiner, and no other node does without a frame of its own
-asks_none : (r : ℕ) (e : NoticeKind) (st : Station) → (has st.members r ≡ true) ⊎ NothingOf r e → has st.joiners r ≡ false
+asks_none : (r : ℕ) (e : NoticeKind) (st : Knowledge) → (has st.members r ≡ true) ⊎ NothingOf r e → has st.joiners r ≡ false
     → has (after_ask e st).joiners r ≡ false
 unfolding after_ask
 asks_none r Idle st why h = h
@@ -80,10 +80,10 @@ asks_none r (Got f) st why h =
     (λ _. cond_both (same_class f.class class.Leave) (with_leaver f.node st) st (λ s. has s.joiners r ≡ false)
     (λ _. leaver_joiners r f.node st h) (λ _. h))
 
-asked_none : (p : Parameters) (i r slot : ℕ) (e : NoticeKind) (st : Station) → (has st.members r ≡ true) ⊎ NothingOf r e → has st.joiners r ≡ false
-    → has (having_asked p i slot e st).joiners r ≡ false
+asked_none : (p : Parameters) (i r slot : ℕ) (e : NoticeKind) (st : Knowledge) → (has st.members r ≡ true) ⊎ NothingOf r e → has st.joiners r ≡ false
+    → has (after_asking p i slot e st).joiners r ≡ false
 asked_none p i r slot e st why h =
-    asks_none r e (having_found p i slot e st)
+    asks_none r e (after_finding p i slot e st)
     (elim why [ inl member ↦ inl (ap (λ m. has m r) (found_members p i slot e st) ∙ member) | inr nothing ↦ inr nothing ])
     (ap (λ m. has m r) (found_joiners p i slot e st) ∙ h)
 
@@ -100,30 +100,30 @@ joiners_less (Some v) joiners r why = false_from_ne_true (has (minus joiners v) 
     ])
 
 none_next : (scenario : ScenarioParts) (i r : ℕ) (e : NoticeKind) (past : List NoticeKind)
-    → (has (having_asked scenario.params i (length past) e (station_of scenario i past)).joiners r ≡ false)
+    → (has (after_asking scenario.params i (length past) e (knowledge_of scenario i past)).joiners r ≡ false)
     ⊎ ((w : Nodes) × (ended_at scenario i e past ≡ Some w) × (has w r ≡ true))
-    → has (station_of scenario i (e ∷ past)).joiners r ≡ false
-unfolding station_of
+    → has (knowledge_of scenario i (e ∷ past)).joiners r ≡ false
+unfolding knowledge_of
 none_next scenario i r e past why =
-    let st : Station = station_of scenario i past in
+    let st : Knowledge = knowledge_of scenario i past in
     ap (λ m. has m r) (joiners_after scenario.params i (length past) e st)
-    ∙ joiners_less (ended_at scenario i e past) (having_asked scenario.params i (length past) e st).joiners r why
+    ∙ joiners_less (ended_at scenario i e past) (after_asking scenario.params i (length past) e st).joiners r why
 
-joiners_first : (scenario : ScenarioParts) (i r : ℕ) → has (station_of scenario i []).joiners r ≡ false
-unfolding station_of
+joiners_first : (scenario : ScenarioParts) (i r : ℕ) → has (knowledge_of scenario i []).joiners r ≡ false
+unfolding knowledge_of
 joiners_first scenario i r = has_none r
 
 -- a member is no joiner
-member_no_joiner : (scenario : ScenarioParts) (i r : ℕ) (past : List NoticeKind) → has (station_of scenario i past).members r ≡ true
-    → has (station_of scenario i past).joiners r ≡ false
+member_no_joiner : (scenario : ScenarioParts) (i r : ℕ) (past : List NoticeKind) → has (knowledge_of scenario i past).members r ≡ true
+    → has (knowledge_of scenario i past).joiners r ≡ false
 member_no_joiner scenario i r [] member = joiners_first scenario i r
 member_no_joiner scenario i r (e ∷ past) member = by_ended (member_no_joiner scenario i r past) (ended_at scenario i e past) refl
   where
-    st : Station
-    st = station_of scenario i past
+    st : Knowledge
+    st = knowledge_of scenario i past
 
-    by_ended : (has (station_of scenario i past).members r ≡ true → has (station_of scenario i past).joiners r ≡ false)
-        → (v : Option Nodes) → ended_at scenario i e past ≡ v → has (station_of scenario i (e ∷ past)).joiners r ≡ false
+    by_ended : (has (knowledge_of scenario i past).members r ≡ true → has (knowledge_of scenario i past).joiners r ≡ false)
+        → (v : Option Nodes) → ended_at scenario i e past ≡ v → has (knowledge_of scenario i (e ∷ past)).joiners r ≡ false
     by_ended before None is =
         let old : has st.members r ≡ true =
         ap (λ m. has m r) (sym (members_next scenario i e past ∙ ap (λ v. members_by v st.members) is)) ∙ member in
@@ -258,7 +258,7 @@ module _ (scenario : ScenarioParts) (fits : scenario.params.nodes ≤ (layout sc
           (still_no_joiner scenario a r h.mid base (each_left (NotFrom r) (take unread all) h.mid h.silent)
           (member_no_joiner scenario a r (map (given a) base) member))
 
-      asked : has (having_asked scenario.params a (length (map (given a) now)) (given a note) (full scenario a now)).joiners r ≡ false
+      asked : has (after_asking scenario.params a (length (map (given a) now)) (given a note) (full scenario a now)).joiners r ≡ false
       asked = asked_none scenario.params a r (length (map (given a) now)) (given a note) (full scenario a now) (inr (nothing have)) no_joiner
 
       -- a cycle that starts with the stopped node outside

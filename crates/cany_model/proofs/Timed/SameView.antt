@@ -11,14 +11,14 @@ use Rattle.cany_model.specs.Bus.History.{given}
 use Rattle.cany_model.specs.Bus.State.{RunState, node_at, reads, runs}
 use Rattle.cany_model.specs.Promises.OneView.{HasReadEnd, InstallsOneVector, installed, installed_of}
 use Rattle.cany_model.specs.Promises.Settled.{IsCorrect}
-use Rattle.cany_model.specs.Rules.Site.{station_of}
+use Rattle.cany_model.specs.Rules.Site.{knowledge_of}
 use Rattle.cany_model.specs.Rules.Vectors.{cycle_of, is_end}
 use Rattle.cany_model.proofs.Bus.Runs.{IsOrderly}
 use Rattle.cany_model.proofs.Bus.States.{runs_within}
-use Rattle.cany_model.proofs.Rules.StationSteps.{members_by}
+use Rattle.cany_model.proofs.Rules.KnowledgeSteps.{members_by}
 use Rattle.cany_model.proofs.Timed.AllSay.{installed_before, installed_now}
 use Rattle.cany_model.proofs.Timed.NoRestarts.{AllOriginal, from_original, installed_all}
-use Rattle.cany_model.proofs.Timed.StationAges.{ended_at, full, members_next}
+use Rattle.cany_model.proofs.Timed.KnowledgeAges.{ended_at, full, members_next}
 
 -- ---- ends of one list
 
@@ -106,7 +106,7 @@ module _ (scenario : ScenarioParts) (s : RunState) (o : IsOrderly scenario.param
     pub same_view : (i j : ℕ) → runs (node_at s.nodes i) ≡ true → runs (node_at s.nodes j) ≡ true → (newer base : List SlotNote)
         → s.trace ≡ newer ++ base
         → length base ≤ reads s i → length base ≤ reads s j → (full scenario i base).members ≡ (full scenario j base).members
-    unfolding station_of
+    unfolding knowledge_of
     same_view i j ri rj newer [] split read_i read_j = refl
     same_view i j ri rj newer (note ∷ older) split read_i read_j =
         let before : (full scenario i older).members ≡ (full scenario j older).members =

@@ -23,10 +23,10 @@ use Rattle.cany_model.specs.Bus.State.{Incarnation, NodeState, RunState, node_at
 use Rattle.cany_model.specs.Bus.Waiting.{waits}
 use Rattle.cany_model.specs.Promises.Quiet.{is_top}
 use Rattle.cany_model.specs.Rules.Effect.{Effect, Ask, Withdraw, Enter, waiting_after}
-use Rattle.cany_model.specs.Rules.Life.{els_frame, is_due, life_effects, life_signs, signs_sent}
+use Rattle.cany_model.specs.Rules.Life.{els_frame, is_due, life_effects, life_signs, life_signs_sent}
 use Rattle.cany_model.specs.Rules.Protocol.{Protocol}
-use Rattle.cany_model.specs.Rules.Site.{station_of}
-use Rattle.cany_model.specs.Rules.Station.{Station, shows_life}
+use Rattle.cany_model.specs.Rules.Site.{knowledge_of}
+use Rattle.cany_model.specs.Rules.Knowledge.{Knowledge, shows_life}
 use Rattle.cany_model.specs.Rules.Turn.{scenario_for, turn_effects}
 use Rattle.cany_model.proofs.Among.{Among}
 use Rattle.cany_model.proofs.Bus.Identities.{same_class_self, same_identity-true}
@@ -37,12 +37,12 @@ use Rattle.cany_model.proofs.Bus.Steps.{after_slot-trace, after_turn-trace}
 use Rattle.cany_model.proofs.Bus.Waits.{Asks, Withdraws, waits-without, waits_after}
 use Rattle.cany_model.proofs.Promises.Diffusion.{Lived, past_of}
 use Rattle.cany_model.proofs.Promises.EachNode.{EachRunning, IsNew, IsNodes, each_running, nodes_at_first, nodes_kept, waiting_has}
-use Rattle.cany_model.proofs.Promises.Fair.{AllFair}
+use Rattle.cany_model.proofs.Promises.Fair.{AllWaitForOwnSlots}
 use Rattle.cany_model.proofs.Rules.ProtocolFacts.{IsFounded, MayAsk, MayWithdraw, accepts, answered, closes, confirms, enough, enough_accept, exchanges, is_diffused, is_relayed, lives, originates, relays, requests, settles, signals}
 use Rattle.cany_model.proofs.Rules.Protocols.{life_is_one}
-use Rattle.cany_model.proofs.Rules.StationFacts.{begun_station}
+use Rattle.cany_model.proofs.Rules.KnowledgeFacts.{begun_knowledge}
 use Rattle.cany_model.proofs.Rules.TurnFacts.{turn_effect, turn_has}
-use Rattle.cany_model.proofs.Timed.StationAges.{IsOwnLife, last_by_own, last_comes, last_why}
+use Rattle.cany_model.proofs.Timed.KnowledgeAges.{IsOwnLife, last_by_own, last_comes, last_why}
 
 -- ---- a node shows its own life alone
 
@@ -102,7 +102,7 @@ own_slot rules s all i f frame sender =
 pub sent_own : (scenario : ScenarioParts) (journal : List Step) → AllByRecursion SentOwn (run scenario journal).trace
 sent_own scenario journal =
     let kept = nodes_kept scenario WaitsOwn (waits_own scenario) in
-    (along_run scenario (λ s. (AllFair s × EachRunning WaitsOwn s) × AllByRecursion SentOwn s.trace)
+    (along_run scenario (λ s. (AllWaitForOwnSlots s × EachRunning WaitsOwn s) × AllByRecursion SentOwn s.trace)
     (nodes_at_first scenario WaitsOwn (waits_own scenario), tt)
     (record {
       slot = λ s o may h. (
@@ -155,13 +155,13 @@ sign_kept scenario i past w h = elim (waits_after h.sign (turn_effects scenario 
 ]
 
 -- a member asks for it when it is due
-sign_due : (scenario : ScenarioParts) (i : ℕ) (e : NoticeKind) (past : List NoticeKind) → has (station_of scenario i (e ∷ past)).members i ≡ true
-    → length past ≡ (station_of scenario i (e ∷ past)).last + scenario.params.life
-    → Among (Asks (identity_of (els_frame scenario.inc i (signs_sent i (e ∷ past))))) (turn_effects scenario i (e ∷ past))
+sign_due : (scenario : ScenarioParts) (i : ℕ) (e : NoticeKind) (past : List NoticeKind) → has (knowledge_of scenario i (e ∷ past)).members i ≡ true
+    → length past ≡ (knowledge_of scenario i (e ∷ past)).last + scenario.params.life
+    → Among (Asks (identity_of (els_frame scenario.inc i (life_signs_sent i (e ∷ past))))) (turn_effects scenario i (e ∷ past))
 unfolding life_effects
 sign_due scenario i e past member due =
-    let st : Station = station_of scenario i (e ∷ past) in
-    let f : FrameParts = els_frame scenario.inc i (signs_sent i (e ∷ past)) in
+    let st : Knowledge = knowledge_of scenario i (e ∷ past) in
+    let f : FrameParts = els_frame scenario.inc i (life_signs_sent i (e ∷ past)) in
     let now : is_due scenario.params.life i (length past) st ≡ true =
     and_from (has st.members i) (length past == st.last + scenario.params.life) member (eq-eqb (length past) (st.last + scenario.params.life) due) in
     turn_has (Asks (identity_of f)) scenario i (e ∷ past) life_signs life_is_one
@@ -169,10 +169,10 @@ sign_due scenario i e past member due =
     (λ _. inl refl) (λ none. absurd (both_ways (is_due scenario.params.life i (length past) st) none now)))
 
 sign_asked : (scenario : ScenarioParts) (i : ℕ) (e : NoticeKind) (past : List NoticeKind) (w : List FrameParts)
-    → has (station_of scenario i (e ∷ past)).members i ≡ true → length past ≡ (station_of scenario i (e ∷ past)).last + scenario.params.life
+    → has (knowledge_of scenario i (e ∷ past)).members i ≡ true → length past ≡ (knowledge_of scenario i (e ∷ past)).last + scenario.params.life
     → HasSign (waiting_after (turn_effects scenario i (e ∷ past)) w)
 sign_asked scenario i e past w member due =
-    let x : Identity = identity_of (els_frame scenario.inc i (signs_sent i (e ∷ past))) in
+    let x : Identity = identity_of (els_frame scenario.inc i (life_signs_sent i (e ∷ past))) in
     elim (waits_after x (turn_effects scenario i (e ∷ past)) w (inr (sign_due scenario i e past member due))) [
       | inl gone ↦ absurd (turn_keeps_sign scenario i (e ∷ past) x refl gone)
       | inr waits ↦ record { sign = x; class = refl; waits = waits }
@@ -231,8 +231,8 @@ since_read i n (suc unread) (note ∷ trace) e past read at (inr before) = elim 
 -- it has not read, or it is no member
 abbrev pub ShowsInTime : ScenarioParts → ℕ → List SlotNote → List NoticeKind → List FrameParts → Type 0
 ShowsInTime scenario i trace past waiting =
-    (length past ≤ (station_of scenario i past).last + scenario.params.life)
-    ⊎ (HasSign waiting ⊎ (ShownSince i (length past) trace ⊎ (has (station_of scenario i past).members i ≡ false)))
+    (length past ≤ (knowledge_of scenario i past).last + scenario.params.life)
+    ⊎ (HasSign waiting ⊎ (ShownSince i (length past) trace ⊎ (has (knowledge_of scenario i past).members i ≡ false)))
 
 pub record ShowsLife (scenario : ScenarioParts) (trace : List SlotNote) (i : ℕ) (node : NodeState) : Type 0 where
   pub own : AllByRecursion (ShowsOwn i) node.waiting
@@ -250,8 +250,8 @@ shows_new scenario trace i node new = by_past (past_of i trace node) refl
     by_past (notice ∷ past) e =
         let none = new.past.outside (omega (arith, ap length e)) in
         inr (inr (inr (
-        ap (λ p. has (station_of sc i p).members i) (sym e)
-        ∙ ap (λ (st : Station). has st.members i) (begun_station sc i (past_of i trace node) new.past)
+        ap (λ p. has (knowledge_of sc i p).members i) (sym e)
+        ∙ ap (λ (st : Knowledge). has st.members i) (begun_knowledge sc i (past_of i trace node) new.past)
         ∙ ap (λ m. has m i) none ∙ has_none i)))
 
 shows_slot : (scenario : ScenarioParts) (note : SlotNote) (trace : List SlotNote) (i : ℕ) (node after : NodeState) → Lived note trace i node after
@@ -271,9 +271,9 @@ shows_turn : (scenario : ScenarioParts) (trace : List SlotNote) (i unread : ℕ)
 shows_turn scenario trace i unread e past w some few read h = elim (last_why scenario i e past) [
   | inl set ↦ near set.0
   | inr same ↦ elim h [
-    | inl before ↦ elim (cases_eq (length past) ((station_of scenario i past).last + scenario.params.life)) [
+    | inl before ↦ elim (cases_eq (length past) ((knowledge_of scenario i past).last + scenario.params.life)) [
       | inr other ↦ inl (omega (arith, before, other, same))
-      | inl due ↦ elim (cases_Bool (has (station_of scenario i (e ∷ past)).members i)) [
+      | inl due ↦ elim (cases_Bool (has (knowledge_of scenario i (e ∷ past)).members i)) [
         | inl member ↦ inr (inl (sign_asked scenario i e past w member (omega (arith, due, same))))
         | inr outside ↦ inr (inr (inr outside))
       ]
@@ -283,14 +283,14 @@ shows_turn scenario trace i unread e past w some few read h = elim (last_why sce
       | inl later ↦ inr (inr (inl later))
       | inr now ↦ near (last_by_own scenario i e past now)
     ]
-    | inr (inr (inr outside)) ↦ elim (cases_Bool (has (station_of scenario i (e ∷ past)).members i)) [
+    | inr (inr (inr outside)) ↦ elim (cases_Bool (has (knowledge_of scenario i (e ∷ past)).members i)) [
       | inl member ↦ near (last_comes scenario i e past few (outside, member))
       | inr still ↦ inr (inr (inr still))
     ]
   ]
 ]
   where
-    near : (station_of scenario i (e ∷ past)).last ≡ length past
+    near : (knowledge_of scenario i (e ∷ past)).last ≡ length past
         → ShowsInTime scenario i trace (e ∷ past) (waiting_after (turn_effects scenario i (e ∷ past)) w)
     near now = inl (omega (arith, now, some))
 
@@ -345,12 +345,12 @@ no_sign (f ∷ w) none x els h = elim (or_cases (is_of x f) (waits x w) h) [
 -- there a member that has read all but the lag slots has read its last life within the life interval and the lag, or has shown it since
 pub quiet_shows : (scenario : ScenarioParts) (i : ℕ) (trace : List SlotNote) (node : NodeState)
     → ShowsInTime scenario i trace (past_of i trace node) node.waiting → list_any (λ f. is_top f.class) node.waiting ≡ false
-    → node.unread ≤ scenario.params.lag → has (station_of scenario i (past_of i trace node)).members i ≡ true
-    → (length trace ≤ (station_of scenario i (past_of i trace node)).last + scenario.params.life + scenario.params.lag)
+    → node.unread ≤ scenario.params.lag → has (knowledge_of scenario i (past_of i trace node)).members i ≡ true
+    → (length trace ≤ (knowledge_of scenario i (past_of i trace node)).last + scenario.params.life + scenario.params.lag)
     ⊎ ShownSince i (length (past_of i trace node)) trace
 quiet_shows scenario i trace node (inl near) quiet lag member =
     inl (omega (arith, near, lag, length-map (drop node.unread trace) (given i), length-drop node.unread trace))
 quiet_shows scenario i trace node (inr (inl waiting)) quiet lag member = absurd (no_sign node.waiting quiet waiting.sign waiting.class waiting.waits)
 quiet_shows scenario i trace node (inr (inr (inl since))) quiet lag member = inr since
 quiet_shows scenario i trace node (inr (inr (inr outside))) quiet lag member =
-    absurd (both_ways (has (station_of scenario i (past_of i trace node)).members i) outside member)
+    absurd (both_ways (has (knowledge_of scenario i (past_of i trace node)).members i) outside member)

@@ -10,10 +10,10 @@ use Rattle.cany_base.specs.Scenario.{ScenarioParts}
 use Rattle.cany_model.specs.Bus.Frames.{same_class}
 use Rattle.cany_model.specs.Bus.History.{given}
 use Rattle.cany_model.specs.Rules.Life.{is_own_sign}
-use Rattle.cany_model.specs.Rules.Site.{ended_in, station_of}
-use Rattle.cany_model.specs.Rules.Station.{Station, after_life, having_heard, shows_life}
+use Rattle.cany_model.specs.Rules.Site.{ended_in, knowledge_of}
+use Rattle.cany_model.specs.Rules.Knowledge.{Knowledge, after_life, after_hearing, shows_life}
 use Rattle.cany_model.proofs.Rules.LifeCounts.{last_cases}
-use Rattle.cany_model.proofs.Rules.StationSteps.{is_admitted, last_after}
+use Rattle.cany_model.proofs.Rules.KnowledgeSteps.{is_admitted, last_after}
 use Rattle.cany_model.proofs.Timed.Ages.{gave, gave_none, past}
 
 -- at this age node i sent its life sign
@@ -27,7 +27,7 @@ sign_there i (note ∷ trace) (suc age) h = omega (arith, sign_there i trace age
 
 -- ---- the slot of the last life
 
-own_heard : (i slot : ℕ) (e : NoticeKind) (st : Station) → is_own_sign i e ≡ true → (having_heard i slot e st).last ≡ slot
+own_heard : (i slot : ℕ) (e : NoticeKind) (st : Knowledge) → is_own_sign i e ≡ true → (after_hearing i slot e st).last ≡ slot
 unfolding after_life shows_life
 own_heard i slot Idle st h = absurd (false≢true h)
 own_heard i slot Bad st h = absurd (false≢true h)
@@ -41,17 +41,17 @@ own_heard i slot (Sent f) st h =
 
 -- a life sign of its own is in the slot of the turn that reads it
 pub last_own : (scenario : ScenarioParts) (i : ℕ) (e : NoticeKind) (before : List NoticeKind) → is_own_sign i e ≡ true
-    → (station_of scenario i (e ∷ before)).last ≡ length before
-unfolding station_of
+    → (knowledge_of scenario i (e ∷ before)).last ≡ length before
+unfolding knowledge_of
 last_own scenario i e before own =
     let slot : ℕ = length before in
-    let st : Station = station_of scenario i before in
+    let st : Knowledge = knowledge_of scenario i before in
     last_after scenario.params i slot e st
-    ∙ cond_both (is_admitted (ended_in scenario.params slot e st) st.members i) slot (having_heard i slot e st).last (λ n. n ≡ slot)
+    ∙ cond_both (is_admitted (ended_in scenario.params slot e st) st.members i) slot (after_hearing i slot e st).last (λ n. n ≡ slot)
     (λ _. refl) (λ _. own_heard i slot e st own)
 
-last_within : (scenario : ScenarioParts) (i : ℕ) (before : List NoticeKind) → (station_of scenario i before).last ≤ length before
-unfolding station_of
+last_within : (scenario : ScenarioParts) (i : ℕ) (before : List NoticeKind) → (knowledge_of scenario i before).last ≤ length before
+unfolding knowledge_of
 last_within scenario i [] = omega arith
 last_within scenario i (e ∷ before) = elim (last_cases scenario i e before) [
   | inl same ↦ omega (arith, same, last_within scenario i before)
@@ -59,7 +59,7 @@ last_within scenario i (e ∷ before) = elim (last_cases scenario i e before) [
 ]
 
 pub last_grows : (scenario : ScenarioParts) (i : ℕ) (e : NoticeKind) (before : List NoticeKind)
-    → (station_of scenario i before).last ≤ (station_of scenario i (e ∷ before)).last
+    → (knowledge_of scenario i before).last ≤ (knowledge_of scenario i (e ∷ before)).last
 last_grows scenario i e before = elim (last_cases scenario i e before) [
   | inl same ↦ omega (arith, same)
   | inr now ↦ omega (arith, now, last_within scenario i before)
@@ -67,7 +67,7 @@ last_grows scenario i e before = elim (last_cases scenario i e before) [
 
 -- so the last life is no older than any life sign that was read
 pub last_since : (scenario : ScenarioParts) (i : ℕ) (trace : List SlotNote) (unread age : ℕ) → unread ≤ age → SendsSign i trace age
-    → length trace ≤ (station_of scenario i (past i trace unread)).last + suc age
+    → length trace ≤ (knowledge_of scenario i (past i trace unread)).last + suc age
 last_since scenario i [] unread age from h = omega arith
 last_since scenario i (note ∷ trace) zero zero from h =
     omega (arith, last_own scenario i (given i note) (map (given i) trace) h, length-map trace (given i))

@@ -16,18 +16,18 @@ use Rattle.cany_model.specs.Bus.State.{RunState, node_at, opening, reads, runs, 
 use Rattle.cany_model.specs.Promises.Detector.{members_before}
 use Rattle.cany_model.specs.Promises.OneView.{InstallsOneVector, installed_of}
 use Rattle.cany_model.specs.Promises.Quiet.{history_but}
-use Rattle.cany_model.specs.Rules.Site.{station_of}
+use Rattle.cany_model.specs.Rules.Site.{knowledge_of}
 use Rattle.cany_model.specs.Rules.Vectors.{cycle_of, is_end}
 use Rattle.cany_model.proofs.Bus.Journals.{run_then, unread_within}
 use Rattle.cany_model.proofs.Bus.Runs.{orderly}
 use Rattle.cany_model.proofs.Bus.SlotStates.{trace_grows}
 use Rattle.cany_model.proofs.Bus.States.{note_at}
 use Rattle.cany_model.proofs.Bus.Steps.{MayTurn, next_age, next_notice}
-use Rattle.cany_model.proofs.Rules.StationSteps.{members_by}
+use Rattle.cany_model.proofs.Rules.KnowledgeSteps.{members_by}
 use Rattle.cany_model.proofs.Timed.AllSay.{Says, StartSays}
 use Rattle.cany_model.proofs.Timed.NoRestarts.{AllOriginal, all_original, follows, history_all, history_but_all, sees_all}
 use Rattle.cany_model.proofs.Timed.SameView.{end_of_rest, end_place, installed_there, no_ended, same_view}
-use Rattle.cany_model.proofs.Timed.StationAges.{ended_at, full, members_next}
+use Rattle.cany_model.proofs.Timed.KnowledgeAges.{ended_at, full, members_next}
 use Rattle.cany_model.proofs.Timed.VectorTurns.{starts_with}
 use Rattle.cany_model.proofs.Timed.VectorWords.{IsCycle, at_place, no_end}
 
@@ -143,7 +143,7 @@ module _ (scenario : ScenarioParts) (none : scenario.restarts ≡ []) (front : L
       -- so they have its view
       pub view_at : (newer base : List SlotNote) → (run scenario front).trace ≡ newer ++ base → length base ≤ k * scenario.params.cycle
           → (full scenario a base).members ≡ (full scenario j base).members
-      unfolding station_of
+      unfolding knowledge_of
       view_at newer [] split short = refl
       view_at newer (note ∷ older) split short = elim (cases_lt (reads s j) (length (note ∷ older))) [
         | inr read ↦ same_view scenario s (orderly scenario front) (all_original scenario none front) one a j may.running rj newer
@@ -170,8 +170,8 @@ members_then scenario none journal i t newer base split size =
     let s : RunState = run scenario journal in
     let all : AllOriginal s = all_original scenario none journal in
     let left : length s.trace - t ≡ length newer = omega (arith, ap length split, length-append newer base, size) in
-    ap (λ (sc : ScenarioParts). (station_of sc i (history_but (slots_run s - t) i s)).members) (follows scenario s all i)
-    ∙ ap (λ past. (station_of scenario i past).members) (history_but_all scenario s all i (slots_run s - t))
+    ap (λ (sc : ScenarioParts). (knowledge_of sc i (history_but (slots_run s - t) i s)).members) (follows scenario s all i)
+    ∙ ap (λ past. (knowledge_of scenario i past).members) (history_but_all scenario s all i (slots_run s - t))
     ∙ ap (λ n. (full scenario i (drop n s.trace)).members) left
     ∙ ap (λ trace. (full scenario i (drop (length newer) trace)).members) split
     ∙ ap (λ trace. (full scenario i trace).members) (drop-append_seam newer base)

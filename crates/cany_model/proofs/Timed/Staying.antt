@@ -25,8 +25,8 @@ use Rattle.cany_model.specs.Promises.OneView.{InstallsOneVector, installed, inst
 use Rattle.cany_model.specs.Promises.Quiet.{HasQuietSlots, history_but}
 use Rattle.cany_model.specs.Promises.Settled.{IsCorrect}
 use Rattle.cany_model.specs.Rules.Log.{log, log_from}
-use Rattle.cany_model.specs.Rules.Site.{station_of}
-use Rattle.cany_model.specs.Rules.Station.{Station, having_heard, having_learnt}
+use Rattle.cany_model.specs.Rules.Site.{knowledge_of}
+use Rattle.cany_model.specs.Rules.Knowledge.{Knowledge, after_hearing, after_learning}
 use Rattle.cany_model.specs.Rules.Vectors.{cycle_of, is_end}
 use Rattle.cany_model.proofs.Among.{Among, Among-from_Contains, Each-drop}
 use Rattle.cany_model.proofs.Bus.Journals.{run_then, unread_within}
@@ -38,14 +38,14 @@ use Rattle.cany_model.proofs.Bus.Steps.{MayTurn, next_age, next_notice}
 use Rattle.cany_model.proofs.Promises.Diffusion.{past_of}
 use Rattle.cany_model.proofs.Rules.LogFacts.{log_split, made_by}
 use Rattle.cany_model.proofs.Rules.ProtocolFacts.{IsFoundedEntry, IsInstalled}
-use Rattle.cany_model.proofs.Rules.StationSteps.{members_by}
+use Rattle.cany_model.proofs.Rules.KnowledgeSteps.{members_by}
 use Rattle.cany_model.proofs.Timed.Accuracy.{IsTimely, NoFrameIn, found_failed, found_other, no_sign, not_silent, timely_front, told_other}
 use Rattle.cany_model.proofs.Timed.AllSay.{Says, StartSays, all_say, each_at, next_given, next_there, none_says}
 use Rattle.cany_model.proofs.Timed.Gap.{IsLater, later_state}
 use Rattle.cany_model.proofs.Timed.Leaving.{HeedsNone, NoLeaveIn, asked_leavers, heeds_none, no_leave, no_leaver, start_stays}
 use Rattle.cany_model.proofs.Timed.NoRestarts.{AllOriginal, all_original, follows, history_all, history_but_all}
 use Rattle.cany_model.proofs.Timed.SameView.{end_of, end_place, no_ended, read_installed, same_view}
-use Rattle.cany_model.proofs.Timed.StationAges.{ended_at, full, members_next}
+use Rattle.cany_model.proofs.Timed.KnowledgeAges.{ended_at, full, members_next}
 use Rattle.cany_model.proofs.Timed.VectorSlots.{cycle_of_formulas}
 use Rattle.cany_model.proofs.Timed.VectorWords.{IsCycle}
 
@@ -265,16 +265,16 @@ module _ (scenario : ScenarioParts) (none : scenario.restarts ≡ []) (fits : sc
             let past : List NoticeKind = past_of a b.trace (node_at b.nodes a) in
             let notice : NoticeKind = next_notice b a in
             let n : ℕ = length past in
-            let st : Station = station_of scenario a past in
+            let st : Knowledge = knowledge_of scenario a past in
             let note : SlotNote = note_at b.trace (next_age b a) in
             let there : next_age b a < length b.trace = next_there p.nodes b (orderly scenario front) a may in
             let given_now : notice ≡ given a note = next_given scenario fits first none front a in
             let sign = no_sign scenario none few formulas front (λ front' rest' e'. known front' (rest' ++ rest)
             (e ∙ ap (λ l. l ++ rest) e' ∙ append_assoc front' rest' rest)) r ran in
             let leave = no_leave scenario r asks front in
-            let hears = told_other r notice (having_heard a n notice st) (λ f got.
+            let hears = told_other r notice (after_hearing a n notice st) (λ f got.
             each_at (NoFrameIn r) b.trace (next_age b a) no_note sign.carried there f (given-Got a note f (sym given_now ∙ got)).0) in
-            let finds = found_other r p a n (having_learnt a n notice st)
+            let finds = found_other r p a n (after_learning a n notice st)
             (not_silent scenario none few formulas front (known front rest e) r a ran may.running notice) in
             let lives = found_failed p a n notice st r hears finds (sign.unsigned a may.running).failed in
             let heeds : HeedsNone r notice = λ f by. each_at (NoLeaveIn r) b.trace (next_age b a) no_note leave there f (elim by [
@@ -347,7 +347,7 @@ was_entered scenario s all i slot number members logged =
           ∙ sym (append_assoc (take unread s.trace) (take made.place rest) old);
       read = omega (arith, length-drop unread s.trace, length-drop made.place rest);
       size = size ∙ ap suc (place.1 ∙ ap (λ n. n * scenario.params.cycle + scenario.params.bound) (sym is.number));
-      view = ap (λ p. (station_of scenario i p).members) (sym notices) ∙ is.members;
+      view = ap (λ p. (knowledge_of scenario i p).members) (sym notices) ∙ is.members;
     }
 
 -- a running member that asks for no leave stands in each view of a correct node of a cycle that ends later
@@ -365,8 +365,8 @@ stays scenario none fits formulas first journal within quiet one r t correct ask
     let base : List SlotNote = drop newest s.trace in
     let place : s.trace ≡ take newest s.trace ++ base = sym (take-append-drop newest s.trace) in
     let member : (j : ℕ) → IsCorrect scenario s j → has (full scenario j base).members r ≡ true = λ j correct_j.
-    ap (λ past. has (station_of scenario j past).members r) (sym (history_but_all scenario s all j newest))
-    ∙ ap (λ sc. has (station_of sc j (history_but newest j s)).members r) (sym (follows scenario s all j))
+    ap (λ past. has (knowledge_of scenario j past).members r) (sym (history_but_all scenario s all j newest))
+    ∙ ap (λ sc. has (knowledge_of sc j (history_but newest j s)).members r) (sym (follows scenario s all j))
     ∙ stands.member j correct_j in
     let w = was_entered scenario s all i slot number members logged in
     ap (λ nodes. has nodes r) (sym w.view)

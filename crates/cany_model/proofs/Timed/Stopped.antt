@@ -15,7 +15,7 @@ use Rattle.cany_model.specs.Bus.History.{given}
 use Rattle.cany_model.specs.Bus.Run.{after_turn, run}
 use Rattle.cany_model.specs.Bus.Slot.{FaultScript, after_slot, node_after, script, slot_note_of}
 use Rattle.cany_model.specs.Bus.State.{NodeState, RunState, node_at, fresh, opening, runs}
-use Rattle.cany_model.specs.Rules.Station.{shows_life}
+use Rattle.cany_model.specs.Rules.Knowledge.{shows_life}
 use Rattle.cany_model.specs.Rules.Turn.{scenario_for}
 use Rattle.cany_model.proofs.Among.{Among-from_Contains, Each-of}
 use Rattle.cany_model.proofs.Bus.Notes.{given-Got, note_of-offered, note_of-slot, sender_waits}

@@ -24,7 +24,7 @@ use Rattle.cany_model.proofs.Bus.Seen.{history-is, length-seen}
 use Rattle.cany_model.proofs.Bus.States.{note_at, runs_within}
 use Rattle.cany_model.proofs.Bus.Steps.{MayTurn, after_slot-present, after_slot-trace, after_slot-unread, after_slot-waiting, after_turn-node, after_turn-other, after_turn-runs, after_turn-trace, next_notice, node_after_turn, running_before_slot}
 use Rattle.cany_model.proofs.Promises.EachNode.{IsNew, opening_new, restarted_new}
-use Rattle.cany_model.proofs.Promises.Fair.{AllFair, fair_opening, fairly_kept}
+use Rattle.cany_model.proofs.Promises.Fair.{AllWaitForOwnSlots, own_slots_alone_opening, own_slots_alone_kept}
 use Rattle.cany_model.proofs.Timed.Ages.{Carried, Gets, Sends, clean_carried, gave, past}
 use Rattle.cany_model.proofs.Timed.OwnSlots.{own_slots}
 use Rattle.cany_model.proofs.Timed.TotFrames.{late_run, sound_run}
@@ -88,10 +88,10 @@ along_states scenario P first keeps journal = kept_on scenario P keeps (opening 
 
 -- ---- what is known of the state before a slot
 
-all_fair : (scenario : ScenarioParts) (journal : List Step) → AllFair (run scenario journal)
-all_fair scenario journal =
-    (along_run scenario (λ s. AllFair s × Unit {0}) (fair_opening scenario.params.nodes, tt)
-    (fairly_kept scenario (λ s. Unit {0}) (record { slot = λ s o fair h. tt; restarts = λ s o some h. tt; turn = λ s i o may h. tt })) journal).0
+all_own_slots_alone : (scenario : ScenarioParts) (journal : List Step) → AllWaitForOwnSlots (run scenario journal)
+all_own_slots_alone scenario journal =
+    (along_run scenario (λ s. AllWaitForOwnSlots s × Unit {0}) (own_slots_alone_opening scenario.params.nodes, tt)
+    (own_slots_alone_kept scenario (λ s. Unit {0}) (record { slot = λ s o own_slots_alone h. tt; restarts = λ s o some h. tt; turn = λ s i o may h. tt })) journal).0
 
 ready_run : (scenario : ScenarioParts) → scenario.params.nodes ≤ most_nodes → (journal : List Step) → MaySlot scenario (run scenario journal)
     → IsReady scenario (run scenario journal)
@@ -99,7 +99,7 @@ ready_run scenario few journal may = record {
   few = subst (λ n. n ≤ most_nodes) (sym (orderly scenario journal).count) few;
   o = orderly scenario journal;
   lag = may.lag;
-  fair = all_fair scenario journal;
+  own_slots_alone = all_own_slots_alone scenario journal;
   own = own_slots scenario journal;
   sound = sound_run scenario journal few;
   late = late_run scenario journal;

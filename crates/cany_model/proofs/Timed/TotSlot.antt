@@ -25,7 +25,7 @@ use Rattle.cany_model.proofs.Bus.Seen.{carries_other, hidden_why}
 use Rattle.cany_model.proofs.Bus.States.{note_at, runs_within}
 use Rattle.cany_model.proofs.Bus.Steps.{kept_at}
 use Rattle.cany_model.proofs.Promises.EachNode.{EachRunning}
-use Rattle.cany_model.proofs.Promises.Fair.{AllFair, sent_plain}
+use Rattle.cany_model.proofs.Promises.Fair.{AllWaitForOwnSlots, sent_plain}
 use Rattle.cany_model.proofs.Timed.Ages.{Carried, Clean, Done, Gets, Sends, carried_there, carries, carries_clean, clean_carried, past}
 use Rattle.cany_model.proofs.Timed.OwnSlots.{IsLongBefore, OwnSlots, sees_from, sent_when}
 use Rattle.cany_model.proofs.Timed.SeenAges.{Sees, carried_from, clean_from, done_from, done_to, gets_from, gets_to, sends_from, sends_to, carried_to}
@@ -38,7 +38,7 @@ pub record IsReady (scenario : ScenarioParts) (s : RunState) : Type 0 where
   pub few : length s.nodes ≤ most_nodes
   pub o : IsOrderly scenario.params.nodes s
   pub lag : (i : ℕ) → runs (node_at s.nodes i) ≡ true → (node_at s.nodes i).unread ≤ scenario.params.lag
-  pub fair : AllFair s
+  pub own_slots_alone : AllWaitForOwnSlots s
   pub own : OwnSlots scenario s
   pub sound : HasSoundFrames scenario s
   pub late : EachRunning (HasLateFrames scenario) s
@@ -93,7 +93,7 @@ module _ (scenario : ScenarioParts) (rules : FaultScript) (s : RunState) (r : Is
   takes_part : (i : ℕ) (x : Identity) → runs (node_at s.nodes i) ≡ true → waits x (held i) ≡ true → 0 < (present i).number
       → (present i).from ≤ length s.trace
   takes_part i x running waiting later = elim (cases_lt (length s.trace) (present i).from) [
-    | inl early ↦ absurd (nothing_waits x (held i) ((r.fair i running).quiet later early) waiting)
+    | inl early ↦ absurd (nothing_waits x (held i) ((r.own_slots_alone i running).quiet later early) waiting)
     | inr here ↦ here
   ]
 
@@ -114,7 +114,7 @@ module _ (scenario : ScenarioParts) (rules : FaultScript) (s : RunState) (r : Is
   offer_seen : (i : ℕ) (x : Identity) → Offers s note x i → carries x note ≡ true → Sees (present i) after 0
   offer_seen i x o h =
       let c = carries-true x note h in
-      sent_plain rules s i (r.fair i o.running) c.what c.frame o.sender
+      sent_plain rules s i (r.own_slots_alone i o.running) c.what c.frame o.sender
 
   -- ---- this slot
 

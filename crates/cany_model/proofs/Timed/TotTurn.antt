@@ -16,7 +16,7 @@ use Rattle.cany_model.specs.Bus.Waiting.{waits}
 use Rattle.cany_model.specs.Rules.Backlog.{asked, backlog, next_after}
 use Rattle.cany_model.specs.Rules.Effect.{waiting_after}
 use Rattle.cany_model.specs.Rules.Messages.{Message, accept_of_key, data_id}
-use Rattle.cany_model.specs.Rules.Totcan.{after_place, holds, is_open, tot_of_key}
+use Rattle.cany_model.specs.Rules.Totcan.{after_place, holds, can_be_accepted, tot_of_key}
 use Rattle.cany_model.specs.Rules.Turn.{turn_effects}
 use Rattle.cany_model.proofs.Bus.Seen.{carries_other, hidden_why}
 use Rattle.cany_model.proofs.Bus.States.{note_at}
@@ -109,7 +109,7 @@ module _ (scenario : ScenarioParts) (i : ℕ) (inc : Incarnation) (T : List Slot
       at_past i scenario.params.bound u S ∙ ap (λ a. gave i S a) (sym at) in
       subst (λ (l : List NoticeKind). IsClosing scenario.params.bound m l) step (
         ap (holds m) is ∙ held,
-        elim (cases_Bool (is_open scenario.params.bound m (past i S u))) [
+        elim (cases_Bool (can_be_accepted scenario.params.bound m (past i S u))) [
           | inr shut ↦ shut
           | inl in_time ↦
               let p = open_place scenario.params.bound i u m S in_time in
@@ -131,7 +131,7 @@ module _ (scenario : ScenarioParts) (i : ℕ) (inc : Incarnation) (T : List Slot
       ∙ ap (λ (l : List NoticeKind). holds m (slice_index_or l scenario.params.bound Idle)) step ∙ c.0)
 
   -- an origin does not ask for it at a copy
-  origin_got : (m : MsgKey) → m.origin ≡ i → Gets i S u (accept_of_key m) → is_open scenario.params.bound m before ≡ true
+  origin_got : (m : MsgKey) → m.origin ≡ i → Gets i S u (accept_of_key m) → can_be_accepted scenario.params.bound m before ≡ true
       → has_own (accept_of_key m) (after_place m before) ≡ false → ⊥
   origin_got m mine got in_time none = elim (n.origin_sends m u mine got) [
     | inl sent ↦

@@ -17,7 +17,7 @@ use Rattle.cany_model.specs.Rules.Backlog.{ask_for, asked, backlog, backlog_effe
 use Rattle.cany_model.specs.Rules.Eager.{eager_effects, has_enough, is_first_copy}
 use Rattle.cany_model.specs.Rules.Effect.{Effect, Ask, Withdraw, waiting_after}
 use Rattle.cany_model.specs.Rules.Messages.{Message, accept_of_key, data_frame, data_id}
-use Rattle.cany_model.specs.Rules.Totcan.{accept_effects, accept_frame, after_place, closing_effects, closing_of, delivered_now, holds, is_open, message_in, tot_delivery, tot_in, tot_of_key, totcan, totcan_effects}
+use Rattle.cany_model.specs.Rules.Totcan.{accept_effects, accept_frame, after_place, closing_effects, closing_of, delivered_now, holds, can_be_accepted, message_in, tot_delivery, tot_in, tot_of_key, totcan, totcan_effects}
 use Rattle.cany_model.specs.Rules.Turn.{turn_effects}
 use Rattle.cany_model.proofs.Among.{count-no, count-yes}
 use Rattle.cany_model.proofs.Bus.Identities.{same_class-true, same_class_self, same_identity-from, same_identity-true}
@@ -61,27 +61,27 @@ accept_word m scenario i e before =
 
 -- the newest notice closes the message: its place came `bound` notices before
 abbrev pub IsClosing : ℕ → MsgKey → List NoticeKind → Type 0
-IsClosing bound m past = (holds m (slice_index_or past bound Idle) ≡ true) × (is_open bound m past ≡ false)
+IsClosing bound m past = (holds m (slice_index_or past bound Idle) ≡ true) × (can_be_accepted bound m past ≡ false)
 
 -- the data frame whose message closes is that of the message
 record ClosesIt (bound : ℕ) (m : MsgKey) (past : List NoticeKind) (o : Option FrameParts) : Type 0 where
   frame : FrameParts
   brought : o ≡ Some frame
   names : message_in frame ≡ m
-  closed : is_open bound m past ≡ false
+  closed : can_be_accepted bound m past ≡ false
 
 closing_one : (bound : ℕ) (m : MsgKey) (past : List NoticeKind) (o : Option FrameParts)
     → (word (accept_of_key m) (closing_of bound past o) ≡ Silence)
     ⊎ ((word (accept_of_key m) (closing_of bound past o) ≡ Withdrawn) × ClosesIt bound m past o)
 closing_one bound m past None = inl refl
 closing_one bound m past (Some f) =
-    by_open (is_open bound (message_in f) past) refl (same_identity (accept_of_key m) (accept_of_key (message_in f))) refl
+    by_open (can_be_accepted bound (message_in f) past) refl (same_identity (accept_of_key m) (accept_of_key (message_in f))) refl
   where
     R : Type 0
     R = (word (accept_of_key m) (closing_of bound past (Some f)) ≡ Silence)
         ⊎ ((word (accept_of_key m) (closing_of bound past (Some f)) ≡ Withdrawn) × ClosesIt bound m past (Some f))
 
-    by_open : (b : Bool) → is_open bound (message_in f) past ≡ b → (d : Bool) → same_identity (accept_of_key m) (accept_of_key (message_in f)) ≡ d → R
+    by_open : (b : Bool) → can_be_accepted bound (message_in f) past ≡ b → (d : Bool) → same_identity (accept_of_key m) (accept_of_key (message_in f)) ≡ d → R
     by_open true e d q = inl (rw e refl)
     by_open false e false q = inl (rw (e, q) refl)
     by_open false e true q =
@@ -93,7 +93,7 @@ closing_one bound m past (Some f) =
             frame = f;
             brought = refl;
             names = same;
-            closed = subst (λ (k : MsgKey). is_open bound k past ≡ false) same e;
+            closed = subst (λ (k : MsgKey). can_be_accepted bound k past ≡ false) same e;
           },
         )
 
@@ -120,7 +120,7 @@ closing_word bound m past = elim (closing_one bound m past (tot_in (slice_index_
         let h = holds-place m (slice_index_or past bound Idle) c.0 in
         let same : same_identity (accept_of_key m) (accept_of_key (message_in h.frame)) ≡ true =
         same_identity-from (accept_of_key m) (accept_of_key (message_in h.frame)) (ap accept_of_key (sym h.names)) in
-        let shut : is_open bound (message_in h.frame) past ≡ false = ap (λ (k : MsgKey). is_open bound k past) h.names ∙ c.1 in
+        let shut : can_be_accepted bound (message_in h.frame) past ≡ false = ap (λ (k : MsgKey). can_be_accepted bound k past) h.names ∙ c.1 in
         let is : word (accept_of_key m) (closing_of bound past (tot_in (slice_index_or past bound Idle))) ≡ Withdrawn =
         ap (λ o. word (accept_of_key m) (closing_of bound past o)) h.brought ∙ rw (shut, same) refl in
         never (sym is ∙ silent)
@@ -135,19 +135,19 @@ closing_word bound m past = elim (closing_one bound m past (tot_in (slice_index_
 abbrev pub AskCause : Parameters → ℕ → MsgKey → NoticeKind → List NoticeKind → Type 0
 AskCause p i m e before =
     ((is_sent (tot_of_key m) e ≡ true) × (m.origin ≡ i))
-    ⊎ ((is_got (accept_of_key m) e ≡ true) × (is_open p.bound m before ≡ true) × (copies (accept_of_key m) (after_place m before) ≡ 0)
+    ⊎ ((is_got (accept_of_key m) e ≡ true) × (can_be_accepted p.bound m before ≡ true) × (copies (accept_of_key m) (after_place m before) ≡ 0)
     × (has_own (accept_of_key m) (after_place m before) ≡ false))
 
 -- and what there was where it is not
 pub record NoAsk (p : Parameters) (i : ℕ) (m : MsgKey) (e : NoticeKind) (before : List NoticeKind) : Type 0 where
   pub sent : is_sent (tot_of_key m) e ≡ true → m.origin ≡ i → ⊥
-  pub got : is_got (accept_of_key m) e ≡ true → is_open p.bound m before ≡ true
+  pub got : is_got (accept_of_key m) e ≡ true → can_be_accepted p.bound m before ≡ true
       → (0 < copies (accept_of_key m) (after_place m before)) ⊎ (has_own (accept_of_key m) (after_place m before) ≡ true)
 
 -- with this copy there are more than omit after the place
 pub record TooMany (p : Parameters) (m : MsgKey) (e : NoticeKind) (before : List NoticeKind) : Type 0 where
   pub got : is_got (accept_of_key m) e ≡ true
-  pub opened : is_open p.bound m before ≡ true
+  pub opened : can_be_accepted p.bound m before ≡ true
   pub many : p.omit ≤ copies (accept_of_key m) (after_place m before)
 
 abbrev pub AcceptCases : Parameters → ℕ → MsgKey → NoticeKind → List NoticeKind → Word → Type 0
@@ -188,7 +188,7 @@ unfolding has_own
 own_same x f before = refl
 
 eager_word : (p : Parameters) (i : ℕ) (m : MsgKey) (f : FrameParts) (before : List NoticeKind) → is_of (accept_of_key m) f ≡ true
-    → is_open p.bound m before ≡ true
+    → can_be_accepted p.bound m before ≡ true
     → AcceptCases p i m (Got f) before (word (accept_of_key m) (eager_effects p.omit f (after_place m (Got f ∷ before))))
 unfolding eager_effects
 eager_word p i m f before mine in_time = by_enough (has_enough p.omit (identity_of f) now) refl (is_first_copy (identity_of f) now) refl
@@ -236,7 +236,7 @@ eager_word p i m f before mine in_time = by_enough (has_enough p.omit (identity_
     )
 
 silent_got : (p : Parameters) (i : ℕ) (m : MsgKey) (f : FrameParts) (before : List NoticeKind)
-    → (is_of (accept_of_key m) f ≡ true → is_open p.bound m before ≡ true → ⊥) → NoAsk p i m (Got f) before
+    → (is_of (accept_of_key m) f ≡ true → can_be_accepted p.bound m before ≡ true → ⊥) → NoAsk p i m (Got f) before
 silent_got p i m f before never = record { sent = λ s o. false≢true s; got = λ g o. absurd (never g o) }
 
 eager_silent : (m : MsgKey) (f : FrameParts) → is_of (accept_of_key m) f ≡ false → (omit : ℕ) (now : List NoticeKind)
@@ -292,7 +292,7 @@ sent_cases p i m f before = by_own (same_class f.class class.Tot && f.node == i)
 
 -- whether the frame accepts an open message
 abbrev is_in_time : Parameters → FrameParts → List NoticeKind → Bool
-is_in_time p f before = same_class f.class class.Accept && is_open p.bound (message_in f) before
+is_in_time p f before = same_class f.class class.Accept && can_be_accepted p.bound (message_in f) before
 
 abbrev got_asks : Parameters → FrameParts → List NoticeKind → List Effect
 got_asks p f before = if is_in_time p f before then eager_effects p.omit f (after_place (message_in f) (Got f ∷ before)) else []
@@ -313,13 +313,13 @@ got_cases p i m f before = by_test (is_in_time p f before) refl (is_of (accept_o
       silent_got p i m f before (λ mine in_time.
           let a = accept_class m f mine in
           both_ways (is_in_time p f before) e
-          (and_from (same_class f.class class.Accept) (is_open p.bound (message_in f) before) a.0
-          (ap (λ (k : MsgKey). is_open p.bound k before) a.1 ∙ in_time))),
+          (and_from (same_class f.class class.Accept) (can_be_accepted p.bound (message_in f) before) a.0
+          (ap (λ (k : MsgKey). can_be_accepted p.bound k before) a.1 ∙ in_time))),
     )
     by_test true e true q =
         let a = accept_class m f q in
-        let parts = and_parts (same_class f.class class.Accept) (is_open p.bound (message_in f) before) e in
-        let in_time : is_open p.bound m before ≡ true = ap (λ (k : MsgKey). is_open p.bound k before) (sym a.1) ∙ parts.1 in
+        let parts = and_parts (same_class f.class class.Accept) (can_be_accepted p.bound (message_in f) before) e in
+        let in_time : can_be_accepted p.bound m before ≡ true = ap (λ (k : MsgKey). can_be_accepted p.bound k before) (sym a.1) ∙ parts.1 in
         let now : got_asks p f before ≡ effects = rw e refl in
         let same : effects ≡ eager_effects p.omit f (after_place m (Got f ∷ before)) =
         ap (λ (k : MsgKey). eager_effects p.omit f (after_place k (Got f ∷ before))) a.1 in

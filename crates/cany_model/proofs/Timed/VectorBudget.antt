@@ -17,7 +17,7 @@ use Rattle.cany_base.proofs.NodesFacts.{has_none}
 use Rattle.cany_model.specs.Bus.Run.{run}
 use Rattle.cany_model.specs.Bus.Slot.{nobody}
 use Rattle.cany_model.specs.Bus.State.{Incarnation, NodeState, RunState, node_at}
-use Rattle.cany_model.specs.Rules.Station.{Station}
+use Rattle.cany_model.specs.Rules.Knowledge.{Knowledge}
 use Rattle.cany_model.proofs.Bus.EachRead.{EachRead, each_of_history}
 use Rattle.cany_model.proofs.Bus.Notes.{given_idle}
 use Rattle.cany_model.proofs.Bus.Runs.{orderly}
@@ -26,7 +26,7 @@ use Rattle.cany_model.proofs.Promises.Belonging.{AllBelong, all_belong, readable
 use Rattle.cany_model.proofs.Promises.Diffusion.{Lived, Turned, past_of}
 use Rattle.cany_model.proofs.Promises.EachNode.{EachRunning, IsNew, IsNodes, each_running}
 use Rattle.cany_model.proofs.Promises.Fair.{run_numbered}
-use Rattle.cany_model.proofs.Rules.StationFacts.{begun_station}
+use Rattle.cany_model.proofs.Rules.KnowledgeFacts.{begun_knowledge}
 use Rattle.cany_model.specs.Bus.Frames.{Identity, identity_of}
 use Rattle.cany_model.specs.Bus.History.{given, is_sent, seen}
 use Rattle.cany_model.specs.Rules.Effect.{waiting_after}
@@ -37,7 +37,7 @@ use Rattle.cany_model.proofs.Among.{count-no, count-yes}
 use Rattle.cany_model.proofs.Bus.Carried.{is_sent-from, is_sent-true}
 use Rattle.cany_model.proofs.Bus.Steps.{kept_at}
 use Rattle.cany_model.proofs.Promises.KeptVectors.{vector_at}
-use Rattle.cany_model.proofs.Rules.StationNodes.{IsVectorOfBus, station_of_bus}
+use Rattle.cany_model.proofs.Rules.KnowledgeNodes.{IsVectorOfBus, knowledge_of_bus}
 use Rattle.cany_model.proofs.Timed.VectorHeld.{WaitedWith, held_none, held_slot, held_some}
 use Rattle.cany_model.proofs.Timed.VectorSets.{meet_left, size, size_le, size_less, size_most}
 use Rattle.cany_model.proofs.Timed.VectorTurns.{starts_with, turn_ends, turn_exchanges, turn_outside, turn_starts}
@@ -243,7 +243,7 @@ budget_new scenario k trace i node new =
     let past : List NoticeKind = past_of i trace node in
     let none : spent k i trace node.waiting ≡ 0 = omega (arith, blank_none k i trace new.blank, ap (λ w. length (held (rha_of k i) w)) new.waiting) in
     let full : credit sc.params.nodes (vector_at sc i past) ≡ sc.params.nodes + 1 =
-    ap (λ (st : Station). credit sc.params.nodes st.vector) (begun_station sc i past new.past) ∙ all_left sc.params.nodes in
+    ap (λ (st : Knowledge). credit sc.params.nodes st.vector) (begun_knowledge sc i past new.past) ∙ all_left sc.params.nodes in
     record {
       early = λ n. none;
       during = λ from to. omega (arith, none, full);
@@ -281,8 +281,8 @@ module _ (scenario : ScenarioParts) (k : ℕ) (c : IsCycle scenario.params k) (f
       let read' : EachRead (IsReadable sc) (t.notice ∷ past) = subst (EachRead (IsReadable sc)) t.past read in
       let members = first_members scenario node.present first in
       rw (t.waiting, t.past)
-      (budget_turn sc k i c trace t.notice past node.waiting (station_of_bus sc i members past read'.1).vector
-      (station_of_bus sc i members (t.notice ∷ past) read').vector (h read'.1))
+      (budget_turn sc k i c trace t.notice past node.waiting (knowledge_of_bus sc i members past read'.1).vector
+      (knowledge_of_bus sc i members (t.notice ∷ past) read').vector (h read'.1))
 
   budget_nodes : IsNodes scenario (λ trace i node. HasBudget node.present trace i node)
   budget_nodes = record {

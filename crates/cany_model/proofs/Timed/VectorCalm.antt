@@ -37,7 +37,7 @@ use Rattle.cany_model.proofs.Bus.Runs.{IsOrderly, along_run, orderly, turn_done}
 use Rattle.cany_model.proofs.Bus.Seen.{Numbered, history-is, length-seen, seen_one, trace_for-is}
 use Rattle.cany_model.proofs.Bus.States.{node_at-opening, node_at_past, note_at, runs_within}
 use Rattle.cany_model.proofs.Bus.Steps.{MayTurn, after_slot-length, after_slot-present, after_slot-trace, after_slot-unread, after_slot-waiting, after_turn-node, after_turn-other, after_turn-present, after_turn-runs, after_turn-trace, next_notice, running_before_slot}
-use Rattle.cany_model.proofs.Promises.Fair.{AllFair, IsTimely, fair_opening, fairly_kept, run_numbered}
+use Rattle.cany_model.proofs.Promises.Fair.{AllWaitForOwnSlots, IsTimely, own_slots_alone_opening, own_slots_alone_kept, run_numbered}
 use Rattle.cany_model.proofs.Promises.FirstCycles.{has_first_cycle}
 use Rattle.cany_model.proofs.Promises.KeptVectors.{vector_at}
 use Rattle.cany_model.proofs.Promises.LateVectors.{late_vectors}
@@ -172,10 +172,10 @@ kept_after scenario P keeps front (next ∷ rest) h =
     by_reply true done = subst P (sym (step_is scenario (run scenario front) next done)) (keeps front next done h)
     by_reply false refused = subst P (sym (step_refused scenario (run scenario front) next refused)) h
 
-front_fair : (scenario : ScenarioParts) (front : List Step) → AllFair (run scenario front)
-front_fair scenario front =
-    (along_run scenario (λ s. AllFair s × Unit {0}) (fair_opening scenario.params.nodes, tt)
-    (fairly_kept scenario (λ s. Unit {0}) (record { slot = λ s o fair h. tt; restarts = λ s o some h. tt; turn = λ s i o may h. tt })) front).0
+front_own_slots_alone : (scenario : ScenarioParts) (front : List Step) → AllWaitForOwnSlots (run scenario front)
+front_own_slots_alone scenario front =
+    (along_run scenario (λ s. AllWaitForOwnSlots s × Unit {0}) (own_slots_alone_opening scenario.params.nodes, tt)
+    (own_slots_alone_kept scenario (λ s. Unit {0}) (record { slot = λ s o own_slots_alone h. tt; restarts = λ s o some h. tt; turn = λ s i o may h. tt })) front).0
 
 -- ---- nothing of the cycle
 
@@ -376,16 +376,16 @@ module _ (scenario : ScenarioParts) (k : ℕ) (c : IsCycle scenario.params k) (b
     abbrev after : RunState
     after = after_turn scenario i s
 
-    turn_none : AllFair after → (start < inc.from → IsAfterCycle k inc) → CalmCycle scenario.params k base s → (r : ℕ)
+    turn_none : AllWaitForOwnSlots after → (start < inc.from → IsAfterCycle k inc) → CalmCycle scenario.params k base s → (r : ℕ)
         → held (rha_of k r) (node_at after.nodes i).waiting ≡ []
-    turn_none fair late h r = elim (cases_lt start inc.from) [
+    turn_none own_slots_alone late h r = elim (cases_lt start inc.from) [
       | inl l ↦
           let same : (node_at after.nodes i).present ≡ inc = after_turn-present scenario i s i may (o.unread i) in
           let is = late l in
           let number = ap (λ (n : Incarnation). n.number) same in
           let cycle = ap (λ (n : Incarnation). n.cycle) same in
           none_early k r (node_at after.nodes i).present (omega (arith, cycle, is.cycle)) (node_at after.nodes i).waiting
-          ((fair i (after_turn-runs scenario i s i may (o.unread i) ∙ may.running)).timely (omega (arith, number, is.later)))
+          ((own_slots_alone i (after_turn-runs scenario i s i may (o.unread i) ∙ may.running)).timely (omega (arith, number, is.later)))
       | inr early ↦
           let was = h.there i may.running early in
           let u : ℕ = (node_at s.nodes i).unread in
@@ -409,8 +409,8 @@ module _ (scenario : ScenarioParts) (k : ℕ) (c : IsCycle scenario.params k) (b
           (omega (arith, was.unread, length-seen inc h.newer)) unasked w r (h.none i may.running r)
     ]
 
-    calm_turn : AllFair after → (start < inc.from → IsAfterCycle k inc) → CalmCycle scenario.params k base s → CalmCycle scenario.params k base after
-    calm_turn fair late h =
+    calm_turn : AllWaitForOwnSlots after → (start < inc.from → IsAfterCycle k inc) → CalmCycle scenario.params k base s → CalmCycle scenario.params k base after
+    calm_turn own_slots_alone late h =
         let short = o.unread i in
         let ran : (j : ℕ) → runs (node_at after.nodes j) ≡ true → runs (node_at s.nodes j) ≡ true =
         λ j running. sym (after_turn-runs scenario i s j may short) ∙ running in
@@ -435,7 +435,7 @@ module _ (scenario : ScenarioParts) (k : ℕ) (c : IsCycle scenario.params k) (b
                 ];
               };
           none = λ j running r. elim (cases_eq j i) [
-            | inl mine ↦ subst (λ m. held (rha_of k r) (node_at after.nodes m).waiting ≡ []) (sym mine) (turn_none fair late h r)
+            | inl mine ↦ subst (λ m. held (rha_of k r) (node_at after.nodes m).waiting ≡ []) (sym mine) (turn_none own_slots_alone late h r)
             | inr other ↦
                 ap (λ (node : NodeState). held (rha_of k r) node.waiting) (after_turn-other scenario i s j other) ∙ h.none j (ran j running) r
           ];
@@ -454,14 +454,14 @@ calm_step scenario k c base quiet from front (step.Turn i) done h =
     let s : RunState = run scenario front in
     let o = orderly scenario front in
     let may = turn_done scenario s i o.count done in
-    calm_turn scenario k c base s quiet from i may o (turn_fair scenario i s may o (front_fair scenario front))
+    calm_turn scenario k c base s quiet from i may o (turn_own_slots_alone scenario i s may o (front_own_slots_alone scenario front))
     (after_cycle scenario front k i (omega (arith, c.long))) h
   where
-    turn_fair : (scenario : ScenarioParts) (i : ℕ) (s : RunState) → MayTurn s i → IsOrderly scenario.params.nodes s → AllFair s
-        → AllFair (after_turn scenario i s)
-    turn_fair scenario i s may o fair =
-        ((fairly_kept scenario (λ r. Unit {0}) (record { slot = λ r o fair h. tt; restarts = λ r o some h. tt; turn = λ r i o may h. tt })).turn
-        s i o may (fair, tt)).0
+    turn_own_slots_alone : (scenario : ScenarioParts) (i : ℕ) (s : RunState) → MayTurn s i → IsOrderly scenario.params.nodes s → AllWaitForOwnSlots s
+        → AllWaitForOwnSlots (after_turn scenario i s)
+    turn_own_slots_alone scenario i s may o own_slots_alone =
+        ((own_slots_alone_kept scenario (λ r. Unit {0}) (record { slot = λ r o own_slots_alone h. tt; restarts = λ r o some h. tt; turn = λ r i o may h. tt })).turn
+        s i o may (own_slots_alone, tt)).0
 
 -- so the run of a journal is calm after a quiet slot of it
 pub calm_cycle : (scenario : ScenarioParts) (k : ℕ) → IsCycle scenario.params k → (front rest : List Step) → IsQuiet scenario (run scenario front)

@@ -35,7 +35,7 @@ use Rattle.cany_model.proofs.Bus.Notes.{given-Got, given-Sent}
 use Rattle.cany_model.proofs.Bus.Seen.{Among-seen, Numbered, carries_frame, hidden_why, seen_plain}
 use Rattle.cany_model.proofs.Promises.Diffusion.{Heard}
 use Rattle.cany_model.proofs.Promises.KeptVectors.{vector_at}
-use Rattle.cany_model.proofs.Rules.StationNodes.{IsVectorOfBus}
+use Rattle.cany_model.proofs.Rules.KnowledgeNodes.{IsVectorOfBus}
 use Rattle.cany_model.proofs.Rules.VectorFacts.{carries_vector}
 use Rattle.cany_model.proofs.Timed.Ages.{gave, past}
 use Rattle.cany_model.proofs.Timed.TotRun.{past_next}

@@ -20,7 +20,7 @@ use Rattle.cany_model.specs.Bus.Run.{run}
 use Rattle.cany_model.specs.Bus.State.{Incarnation, NodeState}
 use Rattle.cany_model.specs.Rules.Effect.{waiting_after}
 use Rattle.cany_model.specs.Rules.Notices.{IsPart, IsReadable}
-use Rattle.cany_model.specs.Rules.Station.{Station}
+use Rattle.cany_model.specs.Rules.Knowledge.{Knowledge}
 use Rattle.cany_model.specs.Rules.Turn.{scenario_for, turn_effects}
 use Rattle.cany_model.specs.Rules.Vectors.{is_covered, is_just, is_new, is_vector_got, is_vector_sent, met, met_with, rha_of, vector_in}
 use Rattle.cany_model.proofs.Among.{Among, Among-drop, Among-from_any, Among-from_map, Among-weaker, Among-with, Each-weaker, count-grows}
@@ -30,8 +30,8 @@ use Rattle.cany_model.proofs.Bus.Steps.{kept_at}
 use Rattle.cany_model.proofs.Promises.Diffusion.{Lived, Turned, past_of}
 use Rattle.cany_model.proofs.Promises.EachNode.{EachRunning, IsNew, IsNodes, each_running}
 use Rattle.cany_model.proofs.Promises.KeptVectors.{vector_at}
-use Rattle.cany_model.proofs.Rules.StationFacts.{begun_station}
-use Rattle.cany_model.proofs.Rules.StationNodes.{IsVectorOfBus, station_of_bus}
+use Rattle.cany_model.proofs.Rules.KnowledgeFacts.{begun_knowledge}
+use Rattle.cany_model.proofs.Rules.KnowledgeNodes.{IsVectorOfBus, knowledge_of_bus}
 use Rattle.cany_model.proofs.Rules.VectorFacts.{carries_vector}
 use Rattle.cany_model.proofs.Timed.VectorBudget.{first_members, run_readable}
 use Rattle.cany_model.proofs.Timed.VectorHeld.{WaitedWith, held_none, held_slot, sent_held}
@@ -348,7 +348,7 @@ vector_new scenario k trace i node new =
     let sc : ScenarioParts = scenario_for scenario node.present in
     let none : (y : Identity) → Untouched i y trace node.waiting = λ y. (ap (held y) new.waiting, never_sent i y trace new.blank) in
     let vector : vector_at sc i (past_of i trace node) ≡ None =
-    ap (λ (st : Station). st.vector) (begun_station sc i (past_of i trace node) new.past) in
+    ap (λ (st : Knowledge). st.vector) (begun_knowledge sc i (past_of i trace node) new.past) in
     record {
       other = λ r differs. none (rha_of k r);
       early = λ n. none (rha_of k i);
@@ -384,7 +384,7 @@ module _ (scenario : ScenarioParts) (fits : scenario.params.nodes ≤ (layout sc
         let sc : ScenarioParts = scenario_for scenario node.present in
         let past : List NoticeKind = past_of i trace node in
         let read' : EachRead (IsReadable sc) (t.notice ∷ past) = subst (EachRead (IsReadable sc)) t.past read in
-        let known = station_of_bus sc i (first_members scenario node.present first) (t.notice ∷ past) read' in
+        let known = knowledge_of_bus sc i (first_members scenario node.present first) (t.notice ∷ past) read' in
         rw (t.waiting, t.past)
         (vector_turn sc fits k i trace c t.notice past (subst (HasRead i trace) t.past (past_read i trace after)) known.vector node.waiting (h read'.1))
 

@@ -10,7 +10,7 @@ use Rattle.cany_base.specs.Params.{Parameters}
 use Rattle.cany_base.specs.Scenario.{ScenarioParts}
 use Rattle.cany_model.specs.Bus.Frames.{Identity, same_class}
 use Rattle.cany_model.specs.Rules.Membership.{exchange_effects, vectors}
-use Rattle.cany_model.specs.Rules.Site.{ended_in, start_in, station_of}
+use Rattle.cany_model.specs.Rules.Site.{ended_in, start_in, knowledge_of}
 use Rattle.cany_model.specs.Rules.Turn.{protocols, turn_effects}
 use Rattle.cany_model.specs.Rules.Vectors.{brought, cycle_of, end_effects, ended, exchange_at, is_end, is_exchange, is_start, met, rha_of, start_effects, vector_effects}
 use Rattle.cany_model.proofs.Promises.KeptVectors.{vector_at}
@@ -25,7 +25,7 @@ rha_alone = inr (refl, inr (refl, inr (refl, inr (refl, inl (refl, (refl, (refl,
 
 -- the vector with which a cycle starts in the turn
 abbrev pub starts_with : ScenarioParts → ℕ → NoticeKind → List NoticeKind → Option Nodes
-starts_with scenario i e past = start_in scenario.params i (length past) e (station_of scenario i past)
+starts_with scenario i e past = start_in scenario.params i (length past) e (knowledge_of scenario i past)
 
 turn_exchange : (scenario : ScenarioParts) (i : ℕ) (e : NoticeKind) (past : List NoticeKind) (k r : ℕ)
     → word (rha_of k r) (turn_effects scenario i (e ∷ past))
@@ -134,7 +134,7 @@ module _ (scenario : ScenarioParts) (k i : ℕ) (c : IsCycle scenario.params k) 
 
   -- and at the end, where the vector is given up
   pub record Ends : Type 0 where
-    pub installs : ended_in p slot e (station_of scenario i past) ≡ met p old (brings p.format k e)
+    pub installs : ended_in p slot e (knowledge_of scenario i past) ≡ met p old (brings p.format k e)
     pub word : (own_word ≡ Withdrawn) ⊎ ((own_word ≡ Silence) × (old ≡ None))
 
   pub turn_ends : slot ≡ k * p.cycle + p.bound → Ends

@@ -10,7 +10,7 @@ use Rattle.cany_model.specs.declared.share.Share.{Share}
 use Rattle.cany_model.specs.declared.share.Share.TheVariants as share
 use Rattle.cany_model.specs.Bus.Frames.{Identity, is_of, same_class}
 use Rattle.cany_model.specs.Bus.Slot.{carried, share_of}
-use Rattle.cany_model.specs.Bus.State.{Incarnation, Ended, RunState, node_at}
+use Rattle.cany_model.specs.Bus.State.{Incarnation, EndedIncarnation, RunState, node_at}
 
 -- the notice that a share in a slot leads to
 abbrev pub notice_of : Share → NoticeKind
@@ -54,7 +54,7 @@ history i s =
     map (given i) (drop node.unread (trace_for node.present.number node.present s.trace))
 
 -- the history that an incarnation of node i had when the next one began
-unfoldable pub ended_history : ℕ → List SlotNote → Ended → List NoticeKind
+unfoldable pub ended_history : ℕ → List SlotNote → EndedIncarnation → List NoticeKind
 ended_history i trace ended = map (given i) (drop (length trace - ended.next) (seen ended.incarnation trace))
 
 abbrev pub is_got : Identity → NoticeKind → Bool

@@ -5,7 +5,7 @@ use Rattle.cany_base.specs.declared.message.NodeAsk.{NodeAsk}
 use Rattle.cany_base.specs.Nodes.{Nodes, those_where}
 use Rattle.cany_base.specs.Params.{Parameters}
 use Rattle.cany_base.specs.Scenario.{ScenarioParts}
-use Rattle.cany_model.specs.Bus.State.{Incarnation, Ended, NodeState, RunState, fresh, node_at, runs, slots_run}
+use Rattle.cany_model.specs.Bus.State.{Incarnation, EndedIncarnation, NodeState, RunState, fresh, node_at, runs, slots_run}
 
 abbrev pub is_restart : ℕ → ℕ → NodeAsk → Bool
 is_restart slot i ask = ask.slot == slot && ask.node == i
@@ -29,7 +29,7 @@ next_incarnation p slot inc = record {
 }
 
 -- the incarnation of a node that ends when the slot does
-abbrev pub ended_at : ℕ → NodeState → Ended
+abbrev pub ended_at : ℕ → NodeState → EndedIncarnation
 ended_at slot node = record { incarnation = node.present; next = slot + 1 - node.unread; stopped = node.stopped }
 
 -- the node after its restart at the end of a slot: nothing waits, nothing is unread, its counters are zero, and it runs

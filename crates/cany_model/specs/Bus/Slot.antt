@@ -97,10 +97,10 @@ abbrev pub sends : FrameParts → NodeState → Bool
 sends f node = runs node && waits_with f node.waiting
 
 -- the note of a slot but for its stops
-abbrev pub exchange : ℕ → List NodeState → Verdict → Option FrameParts → SlotNote
-exchange slot nodes verdict None =
+abbrev pub transmission : ℕ → List NodeState → Verdict → Option FrameParts → SlotNote
+transmission slot nodes verdict None =
     record { slot = slot; frame = None; senders = nobody; takers = nobody; verdict = Clean; stops = nobody }
-exchange slot nodes verdict (Some f) = record {
+transmission slot nodes verdict (Some f) = record {
   slot = slot;
   frame = Some f;
   senders = those_where (λ i. sends f (node_at nodes i));
@@ -141,7 +141,7 @@ abbrev pub with_stops : Nodes → List NodeState → SlotNote → SlotNote
 with_stops scripted nodes note = record note { stops = stopping scripted nodes note }
 
 abbrev pub note_by : ℕ → List NodeState → Option FrameParts → Ruling → SlotNote
-note_by slot nodes frame ruling = with_stops ruling.stop nodes (exchange slot nodes ruling.verdict frame)
+note_by slot nodes frame ruling = with_stops ruling.stop nodes (transmission slot nodes ruling.verdict frame)
 
 -- what happens in the next slot
 unfoldable pub slot_note_of : FaultScript → RunState → SlotNote

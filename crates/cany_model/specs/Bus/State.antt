@@ -13,7 +13,7 @@ pub record Incarnation : Type 0 where
   pub cycle : ℕ
 
 -- an incarnation as it is when it ends: the next slot that it would have read, and the slot of its stop
-pub record Ended : Type 0 where
+pub record EndedIncarnation : Type 0 where
   pub incarnation : Incarnation
   pub next : ℕ
   pub stopped : Option ℕ
@@ -22,7 +22,7 @@ pub record Ended : Type 0 where
 -- frames that its controller waits with, in the order in which they win, its error counters, and the slot of its stop
 pub record NodeState : Type 0 where
   pub present : Incarnation
-  pub ended : List Ended
+  pub ended : List EndedIncarnation
   pub unread : ℕ
   pub waiting : List FrameParts
   pub transmit : ℕ

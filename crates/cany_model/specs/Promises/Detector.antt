@@ -14,12 +14,12 @@ use Rattle.cany_model.specs.Promises.OneView.{installed}
 use Rattle.cany_model.specs.Promises.Quiet.{history_but}
 use Rattle.cany_model.specs.Promises.Settled.{IsCorrect}
 use Rattle.cany_model.specs.Rules.Log.{log}
-use Rattle.cany_model.specs.Rules.Site.{station_of}
+use Rattle.cany_model.specs.Rules.Site.{knowledge_of}
 use Rattle.cany_model.specs.Rules.Turn.{scenario_at}
 
 -- the view that node i has, or will have, before its turn of slot t
 abbrev pub members_before : ScenarioParts → RunState → (t i : ℕ) → Nodes
-members_before scenario s t i = (station_of (scenario_at scenario s i) i (history_but (slots_run s - t) i s)).members
+members_before scenario s t i = (knowledge_of (scenario_at scenario s i) i (history_but (slots_run s - t) i s)).members
 
 -- after its turn of slot t, which ran, each correct node has node r in its view
 pub record StandsAfter (scenario : ScenarioParts) (s : RunState) (r t : ℕ) : Type 0 where
@@ -30,7 +30,7 @@ pub record StandsAfter (scenario : ScenarioParts) (s : RunState) (r t : ℕ) : T
 
 -- node r has failed at no correct node
 abbrev pub HasNotFailed : ScenarioParts → RunState → ℕ → Type 0
-HasNotFailed scenario s r = (i : ℕ) → IsCorrect scenario s i → has (station_of (scenario_at scenario s i) i (history i s)).failed r ≡ false
+HasNotFailed scenario s r = (i : ℕ) → IsCorrect scenario s i → has (knowledge_of (scenario_at scenario s i) i (history i s)).failed r ≡ false
 
 -- it has no scripted leave
 abbrev pub AsksNoLeave : ScenarioParts → ℕ → Type 0

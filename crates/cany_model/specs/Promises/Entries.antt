@@ -7,7 +7,7 @@ use Rattle.cany_base.specs.Scenario.{ScenarioParts}
 use Rattle.cany_model.specs.Bus.State.{RunState}
 use Rattle.cany_model.specs.Rules.Log.{log}
 use Rattle.cany_model.specs.Rules.Messages.{Message, message_key}
-use Rattle.cany_model.specs.Rules.Station.{Sign}
+use Rattle.cany_model.specs.Rules.Knowledge.{FailureSign}
 
 abbrev pub delivers_key : MsgKey → LogEntry → Bool
 delivers_key key (Deliver slot service msg payload) = msg.origin == key.origin && msg.seq == key.seq
@@ -27,12 +27,12 @@ pub record HasDelivered (scenario : ScenarioParts) (s : RunState) (i : ℕ) (m :
   pub delivers : is_delivery_of m entry
 
 -- the entry is that of the sign
-abbrev pub tells_of : Sign → LogEntry → Type 0
+abbrev pub tells_of : FailureSign → LogEntry → Type 0
 tells_of sign (Deliver slot service msg payload) = ⊥
 tells_of sign (Failed slot node cycle) = (node ≡ sign.node) × (cycle ≡ sign.cycle)
 tells_of sign (View slot number members) = ⊥
 
-pub record HasSigned (scenario : ScenarioParts) (s : RunState) (i : ℕ) (sign : Sign) : Type 0 where
+pub record HasSigned (scenario : ScenarioParts) (s : RunState) (i : ℕ) (sign : FailureSign) : Type 0 where
   pub entry : LogEntry
   pub stands : Contains (log scenario s i) entry
   pub tells : tells_of sign entry

@@ -5,7 +5,7 @@ use Rattle.cany_base.specs.declared.slot_note.SlotNote.{SlotNote}
 use Rattle.cany_model.specs.Bus.Frames.{Identity, is_of}
 use Rattle.cany_model.specs.Bus.Slot.{carried}
 use Rattle.cany_model.specs.Rules.Messages.{Message, data_id}
-use Rattle.cany_model.specs.Rules.Station.{Sign, fda_of}
+use Rattle.cany_model.specs.Rules.Knowledge.{FailureSign, fda_of}
 
 -- the slot, if it carried a frame of this identity
 abbrev pub slot_of : Identity → SlotNote → Option ℕ
@@ -21,5 +21,5 @@ abbrev pub first_of_message : Message → List SlotNote → Option ℕ
 first_of_message m trace = first_carried (data_id m) trace
 
 -- the first slot that carried the frame of the sign
-abbrev pub first_of_sign : Sign → List SlotNote → Option ℕ
+abbrev pub first_of_sign : FailureSign → List SlotNote → Option ℕ
 first_of_sign sign trace = first_carried (fda_of sign) trace

@@ -8,7 +8,7 @@ use Rattle.cany_model.specs.Bus.History.{history}
 use Rattle.cany_model.specs.Bus.State.{RunState, node_at, reads}
 use Rattle.cany_model.specs.Promises.Settled.{IsCorrect, IsCorrectFrom}
 use Rattle.cany_model.specs.Rules.Log.{log}
-use Rattle.cany_model.specs.Rules.Site.{ended_in, station_of}
+use Rattle.cany_model.specs.Rules.Site.{ended_in, knowledge_of}
 use Rattle.cany_model.specs.Rules.Turn.{scenario_at}
 
 -- the vector that node i installs at the end of cycle k, if it has one there
@@ -16,7 +16,7 @@ unfoldable pub installed_of : ScenarioParts → (i k : ℕ) → List NoticeKind 
 installed_of scenario i k [] = None
 installed_of scenario i k (notice ∷ before) =
     if length before == k * scenario.params.cycle + scenario.params.bound
-    then ended_in scenario.params (length before) notice (station_of scenario i before)
+    then ended_in scenario.params (length before) notice (knowledge_of scenario i before)
     else installed_of scenario i k before
 
 abbrev pub installed : ScenarioParts → RunState → (i k : ℕ) → Option Nodes

@@ -14,10 +14,10 @@ use Rattle.cany_model.specs.Promises.Entries.{delivers_key, HasDelivered, HasSig
 use Rattle.cany_model.specs.Promises.FirstSlots.{first_of_message, first_of_sign}
 use Rattle.cany_model.specs.Promises.OneView.{HasOneView}
 use Rattle.cany_model.specs.Promises.Order.{HasOneOrder}
-use Rattle.cany_model.specs.Promises.Settled.{IsCorrect, IsCorrectFrom, is_settled, is_sign_quiet}
+use Rattle.cany_model.specs.Promises.Settled.{IsCorrect, IsCorrectFrom, is_settled, nobody_waits_with_sign}
 use Rattle.cany_model.specs.Rules.Log.{log}
 use Rattle.cany_model.specs.Rules.Messages.{Message, messages_of, message_key, data_frame}
-use Rattle.cany_model.specs.Rules.Station.{Sign}
+use Rattle.cany_model.specs.Rules.Knowledge.{FailureSign}
 
 -- ---- no message twice or unsent
 
@@ -65,15 +65,15 @@ IsAgreedOn scenario s m = IsAgreedFrom scenario s m (first_of_message m s.trace)
 -- Of a sign whose frame nobody waits with, where every running node has read every notice: it stands in the logs of all nodes that take
 -- part since the first slot that carried the frame, or of none. One whose frame was never carried, and that nobody waits with, stands in
 -- the log of no correct node.
-abbrev pub IsSignAgreedFrom : ScenarioParts → RunState → Sign → Option ℕ → Type 0
+abbrev pub IsSignAgreedFrom : ScenarioParts → RunState → FailureSign → Option ℕ → Type 0
 IsSignAgreedFrom scenario s sign (Some first) =
-    (is_sign_quiet s sign && all_read s) ≡ true
+    (nobody_waits_with_sign s sign && all_read s) ≡ true
     → (i : ℕ) → IsCorrectFrom scenario s first i → HasSigned scenario s i sign
     → (j : ℕ) → IsCorrectFrom scenario s first j → HasSigned scenario s j sign
 IsSignAgreedFrom scenario s sign None =
-    is_sign_quiet s sign ≡ true → (i : ℕ) → IsCorrect scenario s i → HasSigned scenario s i sign → ⊥
+    nobody_waits_with_sign s sign ≡ true → (i : ℕ) → IsCorrect scenario s i → HasSigned scenario s i sign → ⊥
 
-abbrev pub IsSignAgreedOn : ScenarioParts → RunState → Sign → Type 0
+abbrev pub IsSignAgreedOn : ScenarioParts → RunState → FailureSign → Type 0
 IsSignAgreedOn scenario s sign = IsSignAgreedFrom scenario s sign (first_of_sign sign s.trace)
 
 -- ---- the promise
@@ -88,4 +88,4 @@ pub record IsSafe (scenario : ScenarioParts) (s : RunState) : Type 0 where
   -- correct nodes that hold a view of one number hold the same members
   pub views : HasOneView scenario s
   -- a sign that a node failed stands in the logs of all correct nodes or of none
-  pub signs : (sign : Sign) → IsSignAgreedOn scenario s sign
+  pub signs : (sign : FailureSign) → IsSignAgreedOn scenario s sign

@@ -5,7 +5,7 @@ use Rattle.cany_base.specs.Scenario.{ScenarioParts}
 use Rattle.cany_model.specs.Bus.Frames.{Identity}
 use Rattle.cany_model.specs.Bus.History.{history}
 use Rattle.cany_model.specs.Rules.Messages.{Message, frames_of}
-use Rattle.cany_model.specs.Rules.Station.{Sign, fda_of}
+use Rattle.cany_model.specs.Rules.Knowledge.{FailureSign, fda_of}
 use Rattle.cany_model.specs.Rules.Turn.{has_asked, is_ahead_at, scenario_at}
 use Rattle.cany_model.specs.Bus.Run.{all_read}
 use Rattle.cany_model.specs.Bus.State.{RunState, node_at, runs}
@@ -48,5 +48,5 @@ is_settled scenario s m =
     && not (is_ahead scenario s m)
 
 -- nobody waits with the frame of the sign
-abbrev pub is_sign_quiet : RunState → Sign → Bool
-is_sign_quiet s sign = not (is_awaited (fda_of sign ∷ []) s)
+abbrev pub nobody_waits_with_sign : RunState → FailureSign → Bool
+nobody_waits_with_sign s sign = not (is_awaited (fda_of sign ∷ []) s)

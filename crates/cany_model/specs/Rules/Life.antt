@@ -12,14 +12,14 @@ use Rattle.cany_model.specs.Bus.Frames.{identity_of, same_class}
 use Rattle.cany_model.specs.Rules.Eager.{has_enough}
 use Rattle.cany_model.specs.Rules.Effect.{Effect, Ask, Withdraw, Enter, TurnRule}
 use Rattle.cany_model.specs.Rules.Protocol.{Protocol, nothing_ahead}
-use Rattle.cany_model.specs.Rules.Site.{station_of}
-use Rattle.cany_model.specs.Rules.Station.{Sign, Station, fda_frame, fda_of, found_in, told_in}
+use Rattle.cany_model.specs.Rules.Site.{knowledge_of}
+use Rattle.cany_model.specs.Rules.Knowledge.{FailureSign, Knowledge, fda_frame, fda_of, found_in, told_in}
 
 -- ---- failure signs
 
 -- A sign that becomes known is entered, and its frame is asked for, unless more than omit copies of it were read. So one that silence
 -- brought is asked for once, and not again at a copy.
-unfoldable pub sign_effects : ℕ → ℕ → List NoticeKind → Sign → List Effect
+unfoldable pub sign_effects : ℕ → ℕ → List NoticeKind → FailureSign → List Effect
 sign_effects omit slot past sign =
     Enter (Failed slot sign.node sign.cycle) ∷ (if has_enough omit (fda_of sign) past then [] else Ask (fda_frame sign) ∷ [])
 
@@ -32,7 +32,7 @@ fda_copy_effects omit (Sent f) past = []
 fda_copy_effects omit Bad past = []
 
 -- the sign in the notice, and then those of silence: what was read before it is given, and what the node knew then
-unfoldable pub failures_at : Parameters → ℕ → NoticeKind → List NoticeKind → Station → List Effect
+unfoldable pub failures_at : Parameters → ℕ → NoticeKind → List NoticeKind → Knowledge → List Effect
 failures_at p i notice before known =
     flat_map (sign_effects p.omit (length before) (notice ∷ before)) (told_in i (length before) notice known)
     ++ fda_copy_effects p.omit notice (notice ∷ before)
@@ -40,7 +40,7 @@ failures_at p i notice before known =
 
 unfoldable pub failure_effects : TurnRule
 failure_effects scenario i [] = []
-failure_effects scenario i (notice ∷ before) = failures_at scenario.params i notice before (station_of scenario i before)
+failure_effects scenario i (notice ∷ before) = failures_at scenario.params i notice before (knowledge_of scenario i before)
 
 abbrev pub failure_signs : Protocol
 failure_signs = record {
@@ -64,22 +64,22 @@ is_own_sign i (Sent f) = same_class f.class class.Els && f.node == i
 is_own_sign i Bad = false
 
 -- how many life signs of its own the node has sent, as it has read
-unfoldable pub signs_sent : ℕ → List NoticeKind → ℕ
-signs_sent i past = count_by (is_own_sign i) past
+unfoldable pub life_signs_sent : ℕ → List NoticeKind → ℕ
+life_signs_sent i past = count_by (is_own_sign i) past
 
 -- whether a life sign is due in the slot: the node is a member, and its own last life lies just the life interval back
-abbrev pub is_due : ℕ → ℕ → ℕ → Station → Bool
-is_due life i slot station = has station.members i && slot == station.last + life
+abbrev pub is_due : ℕ → ℕ → ℕ → Knowledge → Bool
+is_due life i slot knowledge = has knowledge.members i && slot == knowledge.last + life
 
 -- A member asks for its next life sign in the very slot in which it is due. A node that is no member then misses it, until its last
 -- life is another one.
-abbrev pub life_sign : ℕ → ℕ → ℕ → ℕ → Station → ℕ → List Effect
-life_sign life inc i slot station sent = if is_due life i slot station then Ask (els_frame inc i sent) ∷ [] else []
+abbrev pub life_sign : ℕ → ℕ → ℕ → ℕ → Knowledge → ℕ → List Effect
+life_sign life inc i slot knowledge sent = if is_due life i slot knowledge then Ask (els_frame inc i sent) ∷ [] else []
 
 unfoldable pub life_effects : TurnRule
 life_effects scenario i [] = []
 life_effects scenario i (notice ∷ before) =
-    life_sign scenario.params.life scenario.inc i (length before) (station_of scenario i (notice ∷ before)) (signs_sent i (notice ∷ before))
+    life_sign scenario.params.life scenario.inc i (length before) (knowledge_of scenario i (notice ∷ before)) (life_signs_sent i (notice ∷ before))
 
 abbrev pub life_signs : Protocol
 life_signs = record {

@@ -7,7 +7,7 @@ use Rattle.cany_base.specs.Scenario.{ScenarioParts}
 use Rattle.cany_model.specs.Bus.Frames.{same_class}
 use Rattle.cany_model.specs.Rules.Effect.{TurnRule}
 use Rattle.cany_model.specs.Rules.Protocol.{Protocol, nothing_ahead}
-use Rattle.cany_model.specs.Rules.Site.{ended_in, start_in, station_of}
+use Rattle.cany_model.specs.Rules.Site.{ended_in, start_in, knowledge_of}
 use Rattle.cany_model.specs.Rules.Vectors.{exchange_at}
 use Rattle.cany_model.specs.Rules.Views.{join_asked, leave_asked, view_effects}
 
@@ -16,8 +16,8 @@ use Rattle.cany_model.specs.Rules.Views.{join_asked, leave_asked, view_effects}
 unfoldable pub exchange_effects : TurnRule
 exchange_effects scenario i [] = []
 exchange_effects scenario i (notice ∷ before) =
-    exchange_at scenario.params scenario.inc i notice before (station_of scenario i before).vector
-    (start_in scenario.params i (length before) notice (station_of scenario i before))
+    exchange_at scenario.params scenario.inc i notice before (knowledge_of scenario i before).vector
+    (start_in scenario.params i (length before) notice (knowledge_of scenario i before))
 
 abbrev pub vectors : Protocol
 vectors = record {
@@ -34,7 +34,7 @@ unfoldable pub install_effects : TurnRule
 install_effects scenario i [] = []
 install_effects scenario i (notice ∷ before) =
     view_effects scenario.params scenario.joins scenario.leaves i (length before)
-    (ended_in scenario.params (length before) notice (station_of scenario i before))
+    (ended_in scenario.params (length before) notice (knowledge_of scenario i before))
 
 abbrev pub views : Protocol
 views = record {
@@ -58,9 +58,9 @@ asks_in scenario i slot asks = if nat_lt slot scenario.from then [] else filter 
 unfoldable pub ask_effects : TurnRule
 ask_effects scenario i [] = []
 ask_effects scenario i (notice ∷ before) =
-    flat_map (λ ask. join_asked scenario.params scenario.inc i (length before) (station_of scenario i (notice ∷ before)).members)
+    flat_map (λ ask. join_asked scenario.params scenario.inc i (length before) (knowledge_of scenario i (notice ∷ before)).members)
     (asks_in scenario i (length before) scenario.joins)
-    ++ flat_map (λ ask. leave_asked scenario.params scenario.inc i (length before) (station_of scenario i (notice ∷ before)).members)
+    ++ flat_map (λ ask. leave_asked scenario.params scenario.inc i (length before) (knowledge_of scenario i (notice ∷ before)).members)
     (asks_in scenario i (length before) scenario.leaves)
 
 abbrev pub scripted_asks : Protocol

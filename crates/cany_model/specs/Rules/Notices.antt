@@ -12,7 +12,7 @@ use Rattle.cany_base.specs.Nodes.{Nodes, has}
 use Rattle.cany_base.specs.Params.{Parameters}
 use Rattle.cany_base.specs.Scenario.{ScenarioParts}
 use Rattle.cany_model.specs.Bus.Frames.{identity_of, same_class}
-use Rattle.cany_model.specs.Rules.Life.{signs_sent}
+use Rattle.cany_model.specs.Rules.Life.{life_signs_sent}
 use Rattle.cany_model.specs.Rules.Messages.{IsOfMessage, Message, messages_of, data_frame}
 use Rattle.cany_model.specs.Rules.Vectors.{cycle_of, is_exchange, vector_in}
 
@@ -58,7 +58,7 @@ IsReadable scenario slot (Sent f) = BelongsTo scenario slot f.class f
 
 -- of the node's own life signs there are so few in these notices that a life interval can have passed before each by this slot
 abbrev pub HasFewSigns : ScenarioParts → ℕ → List NoticeKind → ℕ → Type 0
-HasFewSigns scenario i past slot = signs_sent i past * scenario.params.life ≤ slot
+HasFewSigns scenario i past slot = life_signs_sent i past * scenario.params.life ≤ slot
 
 -- the notice that comes after these, newest first: its slot is the next, and is one of the run; a frame in it belongs to the
 -- scenario

@@ -63,14 +63,14 @@ after_place key (notice ∷ before) = if holds key notice then [] else notice �
 
 -- A message is open so long as its place is one of the newest `bound` notices: a frame that accepts it, got next, is in time.
 -- Once its place is older it is closed.
-abbrev pub is_open : ℕ → MsgKey → List NoticeKind → Bool
-is_open bound key past = is_recent bound key past
+abbrev pub can_be_accepted : ℕ → MsgKey → List NoticeKind → Bool
+can_be_accepted bound key past = is_recent bound key past
 
 -- whether a frame that accepts the message was got after its place, and in time
 unfoldable pub is_heard : ℕ → MsgKey → List NoticeKind → Bool
 is_heard bound key [] = false
 is_heard bound key (notice ∷ before) =
-    not (holds key notice) && (is_heard bound key before || is_got (accept_of_key key) notice && is_open bound key before)
+    not (holds key notice) && (is_heard bound key before || is_got (accept_of_key key) notice && can_be_accepted bound key before)
 
 -- whether the message is accepted at node i: that was heard, or the node is the origin and has read its own transmission
 unfoldable pub is_accepted : ℕ → ℕ → MsgKey → List NoticeKind → Bool
@@ -82,7 +82,7 @@ unfoldable pub accept_effects : Parameters → ℕ → NoticeKind → List Notic
 accept_effects p i Idle before = []
 accept_effects p i Bad before = []
 accept_effects p i (Got f) before =
-    if same_class f.class class.Accept && is_open p.bound (message_in f) before
+    if same_class f.class class.Accept && can_be_accepted p.bound (message_in f) before
     then eager_effects p.omit f (after_place (message_in f) (Got f ∷ before))
     else []
 accept_effects p i (Sent f) before = if same_class f.class class.Tot && f.node == i then Ask (accept_frame f) ∷ [] else []
@@ -90,7 +90,7 @@ accept_effects p i (Sent f) before = if same_class f.class class.Tot && f.node =
 -- the message of this data frame closes if its place is older than the newest `bound` notices: no frame that accepts it waits then
 abbrev pub closing_of : ℕ → List NoticeKind → Option FrameParts → List Effect
 closing_of bound past None = []
-closing_of bound past (Some f) = if is_open bound (message_in f) past then [] else Withdraw (accept_of_key (message_in f)) ∷ []
+closing_of bound past (Some f) = if can_be_accepted bound (message_in f) past then [] else Withdraw (accept_of_key (message_in f)) ∷ []
 
 -- what closes in the turn of the newest notice: the message whose place came `bound` notices before, if there is one
 unfoldable pub closing_effects : ℕ → List NoticeKind → List Effect
@@ -167,7 +167,7 @@ totcan_effects scenario i (notice ∷ before) =
 
 -- whether the message has a closing ahead: it is open
 abbrev pub has_closing_ahead : ScenarioParts → Message → ℕ → List NoticeKind → Bool
-has_closing_ahead scenario m i past = is_service m.service service.Tot && is_open scenario.params.bound (message_key m) past
+has_closing_ahead scenario m i past = is_service m.service service.Tot && can_be_accepted scenario.params.bound (message_key m) past
 
 abbrev pub totcan : Protocol
 totcan = record {

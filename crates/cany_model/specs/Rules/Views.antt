@@ -11,7 +11,7 @@ use Rattle.cany_base.specs.Nodes.{Nodes, has, those_where}
 use Rattle.cany_base.specs.Params.{Parameters}
 use Rattle.cany_model.specs.Bus.Frames.{Identity, same_class}
 use Rattle.cany_model.specs.Rules.Effect.{Effect, Ask, Withdraw, Enter}
-use Rattle.cany_model.specs.Rules.Station.{Station, having_admitted}
+use Rattle.cany_model.specs.Rules.Knowledge.{Knowledge, after_admitting}
 use Rattle.cany_model.specs.Rules.Vectors.{cycle_of, meet}
 
 -- ---- sets of nodes
@@ -28,47 +28,47 @@ minus a b = those_where (λ r. has a r && not (has b r))
 -- ---- asks that are heard
 
 -- a node outside the view asks to join it
-abbrev pub with_joiner : ℕ → Station → Station
-with_joiner r station = if has station.members r then station else record station { joiners = with_node r station.joiners }
+abbrev pub with_joiner : ℕ → Knowledge → Knowledge
+with_joiner r knowledge = if has knowledge.members r then knowledge else record knowledge { joiners = with_node r knowledge.joiners }
 
 -- a member asks to leave
-abbrev pub with_leaver : ℕ → Station → Station
-with_leaver r station = if has station.members r then record station { leavers = with_node r station.leavers } else station
+abbrev pub with_leaver : ℕ → Knowledge → Knowledge
+with_leaver r knowledge = if has knowledge.members r then record knowledge { leavers = with_node r knowledge.leavers } else knowledge
 
 -- A join counts where it is got, a leave also where it is the node's own.
-unfoldable pub after_ask : NoticeKind → Station → Station
-after_ask Idle station = station
-after_ask (Got f) station =
-    if same_class f.class class.Join then with_joiner f.node station
-    else if same_class f.class class.Leave then with_leaver f.node station
-    else station
-after_ask (Sent f) station = if same_class f.class class.Leave then with_leaver f.node station else station
-after_ask Bad station = station
+unfoldable pub after_ask : NoticeKind → Knowledge → Knowledge
+after_ask Idle knowledge = knowledge
+after_ask (Got f) knowledge =
+    if same_class f.class class.Join then with_joiner f.node knowledge
+    else if same_class f.class class.Leave then with_leaver f.node knowledge
+    else knowledge
+after_ask (Sent f) knowledge = if same_class f.class class.Leave then with_leaver f.node knowledge else knowledge
+after_ask Bad knowledge = knowledge
 
 -- ---- the start of a cycle
 
 -- a member starts with the members that have not failed and do not leave, and with those that join
-abbrev pub start_vector : Station → Nodes
-start_vector station = plus (minus (minus station.members station.failed) station.leavers) station.joiners
+abbrev pub start_vector : Knowledge → Nodes
+start_vector knowledge = plus (minus (minus knowledge.members knowledge.failed) knowledge.leavers) knowledge.joiners
 
-abbrev pub start_of : ℕ → Station → Option Nodes
-start_of i station = if has station.members i then Some (start_vector station) else None
+abbrev pub start_of : ℕ → Knowledge → Option Nodes
+start_of i knowledge = if has knowledge.members i then Some (start_vector knowledge) else None
 
 -- ---- the end of a cycle
 
 -- The vector becomes the view. Those that were not in the view before are newly admitted. Who is in it asks no longer to join, and who
 -- is not in it no longer to leave.
-abbrev pub with_view : ℕ → ℕ → Nodes → Station → Station
-with_view i slot v station = record (having_admitted i slot (minus v station.members) station) {
+abbrev pub with_view : ℕ → ℕ → Nodes → Knowledge → Knowledge
+with_view i slot v knowledge = record (after_admitting i slot (minus v knowledge.members) knowledge) {
   members = v;
-  joiners = minus station.joiners v;
-  leavers = meet station.leavers v;
+  joiners = minus knowledge.joiners v;
+  leavers = meet knowledge.leavers v;
   vector = None;
 }
 
-unfoldable pub with_ended : ℕ → ℕ → Option Nodes → Station → Station
-with_ended i slot None station = station
-with_ended i slot (Some v) station = with_view i slot v station
+unfoldable pub with_ended : ℕ → ℕ → Option Nodes → Knowledge → Knowledge
+with_ended i slot None knowledge = knowledge
+with_ended i slot (Some v) knowledge = with_view i slot v knowledge
 
 -- a frame by which an incarnation of node i asks to join or to leave
 abbrev pub ask_frame : Class → ℕ → ℕ → ℕ → FrameParts

@@ -5,7 +5,7 @@ use Rattle.cany_life.proofs.tests.due.Goals as goal
 pub sign-requires-clause-now : goal.sign-requires-clause-now
 sign-requires-clause-now c =
     let s = c.requires.stands in
-    record { scenario = c.args.scenario.now; past = s.past; station = s.station; stands = s.stands; within = c.requires.within; newest = s.read }
+    record { scenario = c.args.scenario.now; past = s.past; knowledge = s.knowledge; stands = s.stands; within = c.requires.within; newest = s.read }
 
 pub sign-requires-clause-members : goal.sign-requires-clause-members
 sign-requires-clause-members c = λ node h.

@@ -1,7 +1,7 @@
 -- The notice can come next.
 use Rattle.std.proofs.Common.{◌∷◌, length, sym, arith}
 use Rattle.cany_model.specs.Rules.Notices.{HasFewSigns}
-use Rattle.cany_model.specs.Rules.Station.{having_found, with_members}
+use Rattle.cany_model.specs.Rules.Knowledge.{after_finding, with_members}
 use Rattle.cany_life.specs.Life.{IsNextAt}
 use Rattle.cany_life.proofs.TurnFacts.{at_own_node}
 use Rattle.cany_life.proofs.tests.read.Goals as goal
@@ -13,7 +13,7 @@ on-requires-clause-reads c =
     record {
       scenario = c.args.scenario.now;
       past = s.past;
-      station = s.station;
+      knowledge = s.knowledge;
       stands = s.stands;
       next = record {
         next = record { slot = sym s.read; within = c.requires.within; readable = c.requires.readable };
@@ -31,9 +31,9 @@ returns c =
     } in
     record {
       past = c.args.notice.now.kind ∷ s.past;
-      station = having_found c.args.scenario.now.params c.args.life.now.node (length s.past) c.args.notice.now.kind (with_members c.args.members s.station);
+      knowledge = after_finding c.args.scenario.now.params c.args.life.now.node (length s.past) c.args.notice.now.kind (with_members c.args.members s.knowledge);
       stands =
           at_own_node c.args.scenario.now c.args.life.now.node (c.args.notice.now.kind ∷ s.past) _ c.on.new.self
-          (c.on.ensures.stands c.args.scenario.now s.past s.station s.stands next);
+          (c.on.ensures.stands c.args.scenario.now s.past s.knowledge s.stands next);
       read = omega (arith, s.read);
     }

@@ -23,5 +23,5 @@ install-requires-clause-room c =
 pub returns : goal.returns
 returns c =
     let s = c.requires.stands in
-    stands_in c.args.scenario.now c.args.views.now.node (with_view c.args.views.now.node 108 c.args.vector s.station) c.install.new.self
-    (c.install.ensures.stands c.args.scenario.now s.station s.stands)
+    stands_in c.args.scenario.now c.args.views.now.node (with_view c.args.views.now.node 108 c.args.vector s.knowledge) c.install.new.self
+    (c.install.ensures.stands c.args.scenario.now s.knowledge s.stands)

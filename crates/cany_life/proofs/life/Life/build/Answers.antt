@@ -10,7 +10,7 @@ use Rattle.cany_model.specs.Bus.Slot.{nobody}
 use Rattle.cany_model.specs.Rules.Rooms.{cycles}
 use Rattle.cany_life.specs.Life.{known_in}
 use Rattle.cany_life.proofs.CopyFacts.{copies_fresh}
-use Rattle.cany_life.proofs.SentFacts.{few-idle, signs_sent-idle}
+use Rattle.cany_life.proofs.SentFacts.{few-idle, life_signs_sent-idle}
 use Rattle.cany_life.proofs.life.Life.build.Goals as goal
 
 pub returns : goal.returns
@@ -35,6 +35,6 @@ returns c = λ n members.
       nodes = refl;
       shown = λ r below. get_or-replicate most_nodes r 0 0 (omega (arith, below, few_nodes c.args.scenario.now.params c.params-params.ensures.legal.in_range));
       last = refl;
-      sent = sym (signs_sent-idle c.args.node n);
+      sent = sym (life_signs_sent-idle c.args.node n);
       few = few-idle c.args.scenario.now c.args.node n;
     }

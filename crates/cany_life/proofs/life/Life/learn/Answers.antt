@@ -6,7 +6,7 @@ use Rattle.cany_base.specs.Params.{Parameters}
 use Rattle.cany_base.proofs.ParamsFacts.{few_slots}
 use Rattle.cany_message.proofs.NoticeFacts.{got_small}
 use Rattle.cany_model.specs.Bus.Frames.{same_class}
-use Rattle.cany_model.specs.Rules.Station.{sign_of, told, with_signs}
+use Rattle.cany_model.specs.Rules.Knowledge.{sign_of, told, with_signs}
 use Rattle.cany_life.specs.LifeSteps.{IsReading, unknown}
 use Rattle.cany_life.proofs.CopyFacts.{can_take}
 use Rattle.cany_life.proofs.LearnFacts.{copy_acts, copy_stands, none_acts, none_stands, told_of_run}
@@ -36,24 +36,24 @@ on_copy-requires-clause-cycle c =
     omega (arith, of.cycle, learns.stands.cycles)
 
 pub returns-then-is_failure_sign-clause-stands : goal.returns-then-is_failure_sign-clause-stands
-returns-then-is_failure_sign-clause-stands c = λ scenario past station h next.
+returns-then-is_failure_sign-clause-stands c = λ scenario past knowledge h next.
     let is : same_class c.in-Got.frame.class class.Fda ≡ true = sym c.is_failure_sign.ensures ∙ c.if-is_failure_sign.true in
-    let got : IsReading scenario c.args.self.now.node past (Got c.in-Got.frame ∷ past) station c.args.self.now = rw c.in-Got.is at h in
+    let got : IsReading scenario c.args.self.now.node past (Got c.in-Got.frame ∷ past) knowledge c.args.self.now = rw c.in-Got.is at h in
     rw c.in-Got.is
-    (copy_stands scenario c.args.self.now.node past station c.args.self.now c.on_copy.new.self c.in-Got.frame got is
+    (copy_stands scenario c.args.self.now.node past knowledge c.args.self.now c.on_copy.new.self c.in-Got.frame got is
     (told_of_run scenario past c.args.notice.now c.in-Got.frame h.legal next c.in-Got.is is)
     (omega (arith, next.slot, next.within, few_slots scenario.params h.legal.in_range)) c.on_copy.ensures.learnt c.on_copy.ensures.state)
 
 pub returns-then-is_failure_sign-clause-actions : goal.returns-then-is_failure_sign-clause-actions
-returns-then-is_failure_sign-clause-actions c = λ scenario past station h next.
+returns-then-is_failure_sign-clause-actions c = λ scenario past knowledge h next.
     let is : same_class c.in-Got.frame.class class.Fda ≡ true = sym c.is_failure_sign.ensures ∙ c.if-is_failure_sign.true in
-    let got : IsReading scenario c.args.self.now.node past (Got c.in-Got.frame ∷ past) station c.args.self.now = rw c.in-Got.is at h in
+    let got : IsReading scenario c.args.self.now.node past (Got c.in-Got.frame ∷ past) knowledge c.args.self.now = rw c.in-Got.is at h in
     let stands : IsReading scenario c.args.self.now.node (Got c.in-Got.frame ∷ past) (Got c.in-Got.frame ∷ past)
-    (with_signs (told (Got c.in-Got.frame) station) station) c.on_copy.new.self =
-    subst (λ kind. IsReading scenario c.args.self.now.node (kind ∷ past) (kind ∷ past) (with_signs (told kind station) station) c.on_copy.new.self)
-    c.in-Got.is (returns-then-is_failure_sign-clause-stands c scenario past station h next) in
+    (with_signs (told (Got c.in-Got.frame) knowledge) knowledge) c.on_copy.new.self =
+    subst (λ kind. IsReading scenario c.args.self.now.node (kind ∷ past) (kind ∷ past) (with_signs (told kind knowledge) knowledge) c.on_copy.new.self)
+    c.in-Got.is (returns-then-is_failure_sign-clause-stands c scenario past knowledge h next) in
     rw c.in-Got.is
-    (copy_acts scenario c.args.self.now.node past station c.args.self.now c.on_copy.new.self c.in-Got.frame got is
+    (copy_acts scenario c.args.self.now.node past knowledge c.args.self.now c.on_copy.new.self c.in-Got.frame got is
     (told_of_run scenario past c.args.notice.now c.in-Got.frame h.legal next c.in-Got.is is) c.args.notice.now.slot
     c.args.out.now.items c.on_copy.new.out.items next.slot stands c.on_copy.ensures.actions)
 
@@ -66,35 +66,35 @@ returns-then-is_failure_sign-clause-params c =
     marked-params (unknown (sign_of c.in-Got.frame) c.args.self.now) (record c.args.self.now { copies = c.on_copy.new.self.copies }) c.on_copy.new.self c.on_copy.ensures.state
 
 pub returns-else-is_failure_sign-clause-stands : goal.returns-else-is_failure_sign-clause-stands
-returns-else-is_failure_sign-clause-stands c = λ scenario past station h next.
-    none_stands scenario c.args.self.now.node past station c.args.notice.now.kind (Got c.in-Got.frame) c.in-Got.is
+returns-else-is_failure_sign-clause-stands c = λ scenario past knowledge h next.
+    none_stands scenario c.args.self.now.node past knowledge c.args.notice.now.kind (Got c.in-Got.frame) c.in-Got.is
     (sym c.is_failure_sign.ensures ∙ c.if-is_failure_sign.false) c.args.self.now h
 
 pub returns-else-is_failure_sign-clause-actions : goal.returns-else-is_failure_sign-clause-actions
-returns-else-is_failure_sign-clause-actions c = λ scenario past station h next.
-    none_acts scenario c.args.self.now.node past station c.args.notice.now.kind (Got c.in-Got.frame) c.in-Got.is
+returns-else-is_failure_sign-clause-actions c = λ scenario past knowledge h next.
+    none_acts scenario c.args.self.now.node past knowledge c.args.notice.now.kind (Got c.in-Got.frame) c.in-Got.is
     (sym c.is_failure_sign.ensures ∙ c.if-is_failure_sign.false) (length past) c.args.out.now.items
 
 pub returns-in-Sent-clause-stands : goal.returns-in-Sent-clause-stands
-returns-in-Sent-clause-stands c = λ scenario past station h next.
-    none_stands scenario c.args.self.now.node past station c.args.notice.now.kind (Sent c.in-Sent.field-0) c.in-Sent.is tt c.args.self.now h
+returns-in-Sent-clause-stands c = λ scenario past knowledge h next.
+    none_stands scenario c.args.self.now.node past knowledge c.args.notice.now.kind (Sent c.in-Sent.field-0) c.in-Sent.is tt c.args.self.now h
 
 pub returns-in-Sent-clause-actions : goal.returns-in-Sent-clause-actions
-returns-in-Sent-clause-actions c = λ scenario past station h next.
-    none_acts scenario c.args.self.now.node past station c.args.notice.now.kind (Sent c.in-Sent.field-0) c.in-Sent.is tt (length past) c.args.out.now.items
+returns-in-Sent-clause-actions c = λ scenario past knowledge h next.
+    none_acts scenario c.args.self.now.node past knowledge c.args.notice.now.kind (Sent c.in-Sent.field-0) c.in-Sent.is tt (length past) c.args.out.now.items
 
 pub returns-in-Idle-clause-stands : goal.returns-in-Idle-clause-stands
-returns-in-Idle-clause-stands c = λ scenario past station h next.
-    none_stands scenario c.args.self.now.node past station c.args.notice.now.kind Idle c.in-Idle.is tt c.args.self.now h
+returns-in-Idle-clause-stands c = λ scenario past knowledge h next.
+    none_stands scenario c.args.self.now.node past knowledge c.args.notice.now.kind Idle c.in-Idle.is tt c.args.self.now h
 
 pub returns-in-Idle-clause-actions : goal.returns-in-Idle-clause-actions
-returns-in-Idle-clause-actions c = λ scenario past station h next.
-    none_acts scenario c.args.self.now.node past station c.args.notice.now.kind Idle c.in-Idle.is tt (length past) c.args.out.now.items
+returns-in-Idle-clause-actions c = λ scenario past knowledge h next.
+    none_acts scenario c.args.self.now.node past knowledge c.args.notice.now.kind Idle c.in-Idle.is tt (length past) c.args.out.now.items
 
 pub returns-in-Bad-clause-stands : goal.returns-in-Bad-clause-stands
-returns-in-Bad-clause-stands c = λ scenario past station h next.
-    none_stands scenario c.args.self.now.node past station c.args.notice.now.kind Bad c.in-Bad.is tt c.args.self.now h
+returns-in-Bad-clause-stands c = λ scenario past knowledge h next.
+    none_stands scenario c.args.self.now.node past knowledge c.args.notice.now.kind Bad c.in-Bad.is tt c.args.self.now h
 
 pub returns-in-Bad-clause-actions : goal.returns-in-Bad-clause-actions
-returns-in-Bad-clause-actions c = λ scenario past station h next.
-    none_acts scenario c.args.self.now.node past station c.args.notice.now.kind Bad c.in-Bad.is tt (length past) c.args.out.now.items
+returns-in-Bad-clause-actions c = λ scenario past knowledge h next.
+    none_acts scenario c.args.self.now.node past knowledge c.args.notice.now.kind Bad c.in-Bad.is tt (length past) c.args.out.now.items

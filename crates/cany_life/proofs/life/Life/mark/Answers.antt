@@ -1,4 +1,4 @@
-use Rattle.cany_life.proofs.QuietFacts.{failed_more}
+use Rattle.cany_life.proofs.IdleFacts.{failed_more}
 use Rattle.cany_life.proofs.life.Life.mark.Goals as goal
 
 pub invariant_of-self : goal.invariant_of-self

@@ -1,6 +1,6 @@
 use Rattle.std.proofs.Common.{◌≡◌, subst, sym}
 use Rattle.cany_diffuse.specs.Eager.{EagerParts, IsLearnt}
-use Rattle.cany_model.specs.Rules.Station.{Sign, sign_of}
+use Rattle.cany_model.specs.Rules.Knowledge.{FailureSign, sign_of}
 use Rattle.cany_life.specs.Life.{sign_number}
 use Rattle.cany_life.specs.LifeSteps.{all_marked, unknown}
 use Rattle.cany_life.proofs.CountFacts.{copy_actions, copy_state, same_copies}
@@ -8,7 +8,7 @@ use Rattle.cany_life.proofs.life.Life.on_copy.Goals as goal
 
 pub returns-clause-learnt : goal.returns-clause-learnt
 returns-clause-learnt c =
-    let sign : Sign = sign_of c.args.frame.now in
+    let sign : FailureSign = sign_of c.args.frame.now in
     let state : c.know.new.self ≡ all_marked (unknown sign c.count-is_enough.new.self) c.count-is_enough.new.self = rw c.of-sign.ensures.sign at c.know.ensures.state in
     let learnt : IsLearnt (sign_number sign) c.args.self.now.copies c.count-is_enough.new.self.copies = rw c.of-sign.ensures.sign at c.count-is_enough.ensures.learnt in
     subst (λ (table : EagerParts). IsLearnt (sign_number sign) c.args.self.now.copies table)

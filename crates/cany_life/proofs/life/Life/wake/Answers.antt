@@ -5,8 +5,8 @@ use Rattle.cany_life.proofs.life.Life.wake.Goals as goal
 
 pub returns : goal.returns
 returns c = record {
-  rests = λ scenario past station h after before within.
-      rests scenario c.args.self.now.node past station c.args.members c.args.self.now h within
+  rests = λ scenario past knowledge h after before within.
+      rests scenario c.args.self.now.node past knowledge c.args.members c.args.self.now h within
       (c.next_silent-silent.ensures (length past) after (omega (arith, before, c.min.ensures)))
       (c.next_due-due.ensures (length past) after (omega (arith, before, c.min.ensures)));
 }

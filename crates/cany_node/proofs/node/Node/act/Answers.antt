@@ -1,7 +1,7 @@
 use Rattle.std.proofs.Common.{◌≤◌, ◌+◌, refl, ap, sym, subst, arith}
 use Rattle.cany_model.specs.Rules.Effect.{waiting_after}
 use Rattle.cany_node.specs.Node.{NodeParts}
-use Rattle.cany_node.proofs.QuietFacts.{quiet_later}
+use Rattle.cany_node.proofs.IdleFacts.{idle_later}
 use Rattle.cany_node.proofs.RestFacts.{idle_turn-effects, idle_turn-stands}
 use Rattle.cany_node.proofs.node.Node.act.Goals as goal
 
@@ -10,7 +10,7 @@ invariant_of-self c =
     let before = subst (λ (v : NodeParts). v.read ≤ c.args.notice.now.slot) (sym c.self.view_is) (omega (arith, c.requires.stands.read, c.requires.next.next.slot)) in
     record {
       few = c.self.invariant.few;
-      quiet = quiet_later c.self.inside.quiet (c.args.notice.now.slot + 1) _ _ _ _ c.self.invariant.quiet (omega (arith, before));
+      idle_until = idle_later c.self.inside.idle_until (c.args.notice.now.slot + 1) _ _ _ _ c.self.invariant.idle_until (omega (arith, before));
     }
 
 pub returns-then-notice-wake-clause-controller : goal.returns-then-notice-wake-clause-controller

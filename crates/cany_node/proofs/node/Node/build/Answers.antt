@@ -15,13 +15,13 @@ returns-clause-waits c = record {
   relcan = c.in_ok-protocols.ensures.relcan;
   totcan = c.in_ok-protocols.ensures.totcan;
   site = c.in_ok-protocols.ensures.site;
-  agenda = c.in_ok-script.ensures.agenda;
-  joins = c.in_ok-script.ensures.joins;
-  leaves = c.in_ok-script.ensures.leaves;
+  agenda = c.in_ok-plan.ensures.agenda;
+  joins = c.in_ok-plan.ensures.joins;
+  leaves = c.in_ok-plan.ensures.leaves;
   room_to_give =
       let tot = (c.in_ok-protocols.ensures.totcan 0).backlog in
-      let plan = c.in_ok-script.ensures.agenda in
-      let count = planned_count c.args.node c.args.scenario.now.sends c.in_ok-script.script.agenda.planned plan.planned in
+      let plan = c.in_ok-plan.ensures.agenda in
+      let count = planned_count c.args.node c.args.scenario.now.sends c.in_ok-plan.plan.agenda.planned plan.planned in
       omega (arith, ap length tot.given, tot.room, plan.own, count);
 }
 

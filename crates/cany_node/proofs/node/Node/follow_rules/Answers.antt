@@ -10,13 +10,13 @@ pub hear-requires-clause-room : goal.hear-requires-clause-room
 hear-requires-clause-room c =
     omega (arith, actions_within c.requires.scenario c.requires.past c.args.self.now c.requires.stands, ap length c.requires.free, c.requires.actions)
 
-pub script-requires-clause-scripts : goal.script-requires-clause-scripts
-script-requires-clause-scripts c =
+pub plan-requires-clause-scripts : goal.plan-requires-clause-scripts
+plan-requires-clause-scripts c =
     can_script c.requires.scenario c.requires.past c.args.notice.now c.args.self.now.node c.hear.new.self c.requires.next
     (c.hear.ensures.stands c.requires.scenario c.requires.past c.requires.stands c.requires.next)
 
-pub script-requires-clause-room : goal.script-requires-clause-room
-script-requires-clause-room c =
+pub plan-requires-clause-room : goal.plan-requires-clause-room
+plan-requires-clause-room c =
     omega (
       arith,
       actions_within c.requires.scenario c.requires.past c.args.self.now c.requires.stands,
@@ -37,8 +37,8 @@ next-requires c = record {
     c.hear.ensures.few,
     c.hear.ensures.room,
     ap script_room c.hear.ensures.state,
-    c.script.ensures.few,
-    c.script.ensures.room,
+    c.plan.ensures.few,
+    c.plan.ensures.room,
   );
 }
 
@@ -49,14 +49,14 @@ apply_all-requires c =
     let v = c.args.self.now in
     let notice = c.args.notice.now in
     let heard = c.hear.ensures.stands scenario past c.requires.stands c.requires.next in
-    let done_script = c.script.ensures.stands scenario past notice.kind heard c.requires.next.next.slot in
-    let same = subst (IsSame v) (sym c.self.view_is) (same_after v c.hear.new.self c.script.new.self c.hear.ensures.state c.script.ensures.state) in
+    let done_script = c.plan.ensures.stands scenario past notice.kind heard c.requires.next.next.slot in
+    let same = subst (IsSame v) (sym c.self.view_is) (same_after v c.hear.new.self c.plan.new.self c.hear.ensures.state c.plan.ensures.state) in
     let scripted = subst (HasScripted scenario past notice.kind) (sym c.self.view_is) done_script in
     let sent =
-    c.script.ensures.actions scenario past notice.kind heard c.requires.next.next.slot
+    c.plan.ensures.actions scenario past notice.kind heard c.requires.next.next.slot
     ∙ ap (λ (x : NodeParts). c.hear.new.out.items ++ actions_of scenario.params.format (script_effects scenario x.node (notice.kind ∷ past))) c.hear.ensures.state in
     can_apply scenario past notice v _ c.requires.stands c.requires.next same scripted c.next.new.out.items c.args.ctl.now
-    (listed scenario past notice v _ c.requires.stands c.requires.next same scripted c.args.out.now.items c.hear.new.out.items c.script.new.out.items c.next.new.out.items
+    (listed scenario past notice v _ c.requires.stands c.requires.next same scripted c.args.out.now.items c.hear.new.out.items c.plan.new.out.items c.next.new.out.items
     c.requires.free (c.hear.ensures.actions scenario past c.requires.stands c.requires.next) sent
     (c.next.ensures.actions scenario (notice.kind ∷ past) _ _ (joined scenario past notice v _ c.requires.stands c.requires.next same scripted)
     (one_more_read scenario past notice v _ c.requires.stands c.requires.next same scripted)))
@@ -68,15 +68,15 @@ returns-clause-controller c = λ scenario past stands next.
     let notice = c.args.notice.now in
     let format = c.requires.format ∙ sym c.requires.stands.edcan.format ∙ stands.edcan.format in
     let heard = c.hear.ensures.stands scenario past stands next in
-    let done_script = c.script.ensures.stands scenario past notice.kind heard next.next.slot in
-    let same = subst (IsSame v) (sym c.self.view_is) (same_after v c.hear.new.self c.script.new.self c.hear.ensures.state c.script.ensures.state) in
+    let done_script = c.plan.ensures.stands scenario past notice.kind heard next.next.slot in
+    let same = subst (IsSame v) (sym c.self.view_is) (same_after v c.hear.new.self c.plan.new.self c.hear.ensures.state c.plan.ensures.state) in
     let scripted = subst (HasScripted scenario past notice.kind) (sym c.self.view_is) done_script in
     let sent =
-    c.script.ensures.actions scenario past notice.kind heard next.next.slot
+    c.plan.ensures.actions scenario past notice.kind heard next.next.slot
     ∙ ap (λ (x : NodeParts). c.hear.new.out.items ++ actions_of scenario.params.format (script_effects scenario x.node (notice.kind ∷ past))) c.hear.ensures.state in
     let all =
     done scenario past notice v _ stands next same scripted c.next.new.out.items c.args.ctl.now c.apply_all.new.ctl c.self.inside.log c.apply_all.new.log c.apply_all.ensures format
-    (listed scenario past notice v _ stands next same scripted c.args.out.now.items c.hear.new.out.items c.script.new.out.items c.next.new.out.items
+    (listed scenario past notice v _ stands next same scripted c.args.out.now.items c.hear.new.out.items c.plan.new.out.items c.next.new.out.items
     c.requires.free (c.hear.ensures.actions scenario past stands next) sent
     (c.next.ensures.actions scenario (notice.kind ∷ past) _ _ (joined scenario past notice v _ stands next same scripted)
     (one_more_read scenario past notice v _ stands next same scripted)))
@@ -89,17 +89,17 @@ returns-clause-stands c = λ scenario past stands next.
     let notice = c.args.notice.now in
     let format = c.requires.format ∙ sym c.requires.stands.edcan.format ∙ stands.edcan.format in
     let heard = c.hear.ensures.stands scenario past stands next in
-    let done_script = c.script.ensures.stands scenario past notice.kind heard next.next.slot in
-    let same = subst (IsSame v) (sym c.self.view_is) (same_after v c.hear.new.self c.script.new.self c.hear.ensures.state c.script.ensures.state) in
+    let done_script = c.plan.ensures.stands scenario past notice.kind heard next.next.slot in
+    let same = subst (IsSame v) (sym c.self.view_is) (same_after v c.hear.new.self c.plan.new.self c.hear.ensures.state c.plan.ensures.state) in
     let scripted = subst (HasScripted scenario past notice.kind) (sym c.self.view_is) done_script in
     let sent =
-    c.script.ensures.actions scenario past notice.kind heard next.next.slot
+    c.plan.ensures.actions scenario past notice.kind heard next.next.slot
     ∙ ap (λ (x : NodeParts). c.hear.new.out.items ++ actions_of scenario.params.format (script_effects scenario x.node (notice.kind ∷ past))) c.hear.ensures.state in
     let ours = joined scenario past notice v _ stands next same scripted in
     let one_more = one_more_read scenario past notice v _ stands next same scripted in
     let all =
     done scenario past notice v _ stands next same scripted c.next.new.out.items c.args.ctl.now c.apply_all.new.ctl c.self.inside.log c.apply_all.new.log c.apply_all.ensures format
-    (listed scenario past notice v _ stands next same scripted c.args.out.now.items c.hear.new.out.items c.script.new.out.items c.next.new.out.items
+    (listed scenario past notice v _ stands next same scripted c.args.out.now.items c.hear.new.out.items c.plan.new.out.items c.next.new.out.items
     c.requires.free (c.hear.ensures.actions scenario past stands next) sent (c.next.ensures.actions scenario (notice.kind ∷ past) _ _ ours one_more))
     c.requires.told in
     stands_after scenario past notice v _ stands next same scripted c.next.new.self c.apply_all.new.log all.entries all.room

@@ -2,13 +2,13 @@ use Rattle.std.proofs.Common.{◌+◌, subst, sym, arith}
 use Rattle.cany_node.specs.Agenda.{IsRising}
 use Rattle.cany_node.specs.Asks.{IsRisingFrom}
 use Rattle.cany_node.specs.Node.{NodeParts}
-use Rattle.cany_node.specs.Resting.{IsQuietUntil}
+use Rattle.cany_node.specs.Resting.{IsIdleUntil}
 use Rattle.cany_node.proofs.node.Node.next_due.Goals as goal
 
 pub returns : goal.returns
 returns c =
     let same = sym c.self.view_is in
-    subst (IsQuietUntil _) c.self.view_is (record {
+    subst (IsIdleUntil _) c.self.view_is (record {
       relcan = λ scenario past is early. c.wake.ensures.rests scenario past is (omega (arith, early));
       totcan = λ scenario past messages count is early. c.wake-2.ensures.rests scenario past messages count is (omega (arith, early));
       site = λ scenario i past is later early within. c.wake-site.ensures.rests scenario i past is later (omega (arith, early)) within;

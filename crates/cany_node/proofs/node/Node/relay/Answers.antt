@@ -8,7 +8,7 @@ use Rattle.cany_node.specs.Site.{IsNextOf}
 use Rattle.cany_node.proofs.ActSteps.{can_apply, done, stands_after}
 use Rattle.cany_node.proofs.EdcanTurn.{edcan_asked, edcan_listed, edcan_same, edcan_scripted}
 use Rattle.cany_node.proofs.HeardTurn.{edcan_stands}
-use Rattle.cany_node.proofs.QuietFacts.{quiet_later}
+use Rattle.cany_node.proofs.IdleFacts.{idle_later}
 use Rattle.cany_node.proofs.RestFacts.{rests_in}
 use Rattle.cany_node.proofs.node.Node.relay.Goals as goal
 
@@ -17,7 +17,7 @@ invariant_of-self c =
     let before = subst (λ (v : NodeParts). v.read ≤ c.args.notice.now.slot) (sym c.self.view_is) (omega (arith, c.requires.acts.stands.read, c.requires.acts.next.next.slot)) in
     record {
       few = c.self.invariant.few;
-      quiet = quiet_later c.self.inside.quiet (c.args.notice.now.slot + 1) _ _ _ _ c.self.invariant.quiet (omega (arith, before));
+      idle_until = idle_later c.self.inside.idle_until (c.args.notice.now.slot + 1) _ _ _ _ c.self.invariant.idle_until (omega (arith, before));
     }
 
 pub apply_all-requires : goal.apply_all-requires

@@ -1,5 +1,5 @@
 use Rattle.std.proofs.Common.{◌∷◌, subst, sym}
-use Rattle.cany_model.specs.Rules.Site.{station_of}
+use Rattle.cany_model.specs.Rules.Site.{knowledge_of}
 use Rattle.cany_node.specs.Site.{Exchanges, met_by}
 use Rattle.cany_node.proofs.SiteSteps.{exchange_listed, exchanged, history_next, history_stands}
 use Rattle.cany_node.proofs.site.Site.exchange.Goals as goal
@@ -10,7 +10,7 @@ returns-clause-actions c = λ scenario i past h.
     let stands = subst (Exchanges scenario i past notice) (sym c.self.view_is) h in
     let starts = c.start-start.ensures.exact scenario i (notice.kind ∷ past) (met_by scenario i notice past) h.knows in
     exchange_listed scenario i past notice _ stands _ starts c.args.out.now.items c.on.new.out.items
-    (c.on.ensures.actions scenario past (station_of scenario i past).vector (history_stands scenario i past notice _ stands)
+    (c.on.ensures.actions scenario past (knowledge_of scenario i past).vector (history_stands scenario i past notice _ stands)
     (history_next scenario i past notice _ stands))
 
 pub returns-clause-history : goal.returns-clause-history
@@ -19,5 +19,5 @@ returns-clause-history c = λ scenario i past h.
     let stands = subst (Exchanges scenario i past notice) (sym c.self.view_is) h in
     let starts = c.start-start.ensures.exact scenario i (notice.kind ∷ past) (met_by scenario i notice past) h.knows in
     exchanged scenario i past notice _ stands _ starts c.on.new.self
-    (c.on.ensures.stands scenario past (station_of scenario i past).vector (history_stands scenario i past notice _ stands)
+    (c.on.ensures.stands scenario past (knowledge_of scenario i past).vector (history_stands scenario i past notice _ stands)
     (history_next scenario i past notice _ stands))

@@ -1,6 +1,6 @@
 use Rattle.std.proofs.Common.{◌∷◌, length, subst, sym}
 use Rattle.cany_history.specs.History.{IsHistoryOf}
-use Rattle.cany_model.specs.Rules.Site.{ended_in, station_of}
+use Rattle.cany_model.specs.Rules.Site.{ended_in, knowledge_of}
 use Rattle.cany_node.specs.Site.{IsSiteOf, met_by}
 use Rattle.cany_node.proofs.SiteSteps.{all_listed, ended_now, has_known, known_exchanged, known_installed, site_stands}
 use Rattle.cany_node.proofs.site.Site.follow.Goals as goal
@@ -24,7 +24,7 @@ sign-requires-clause-known c =
     let exchanges = c.hear.ensures.exchanges scenario i past c.requires.hears.stands next in
     let state = c.exchange-ended.ensures.state in
     let known = known_exchanged scenario i past notice next c.hear.new.self c.exchange-ended.new.self _ exchanges state in
-    let ended = ended_in scenario.params (length past) notice.kind (station_of scenario i past) in
+    let ended = ended_in scenario.params (length past) notice.kind (knowledge_of scenario i past) in
     let result = ended_now scenario i past notice next _ (c.exchange-ended.ensures.ended scenario i past exchanges) in
     has_known scenario i past notice next _ c.install.new.self
     (c.install.ensures.knows scenario i (notice.kind ∷ past) (met_by scenario i notice past) ended known result)
@@ -36,7 +36,7 @@ returns-clause-actions c = λ scenario i past h next.
     let exchanges = c.hear.ensures.exchanges scenario i past h next in
     let state = c.exchange-ended.ensures.state in
     let known = known_exchanged scenario i past notice next c.hear.new.self c.exchange-ended.new.self _ exchanges state in
-    let ended = ended_in scenario.params (length past) notice.kind (station_of scenario i past) in
+    let ended = ended_in scenario.params (length past) notice.kind (knowledge_of scenario i past) in
     let result = ended_now scenario i past notice next _ (c.exchange-ended.ensures.ended scenario i past exchanges) in
     let met = met_by scenario i notice past in
     let knows = c.install.ensures.knows scenario i read met ended known result in
@@ -46,7 +46,7 @@ returns-clause-actions c = λ scenario i past h next.
     (c.hear.ensures.actions scenario i past h next)
     (c.exchange-ended.ensures.actions scenario i past exchanges)
     (c.install.ensures.actions scenario i read met ended known result)
-    (c.sign.ensures.actions scenario i read (station_of scenario i read) installed)
+    (c.sign.ensures.actions scenario i read (knowledge_of scenario i read) installed)
 
 pub returns-clause-stands : goal.returns-clause-stands
 returns-clause-stands c = λ scenario i past h next.
@@ -55,11 +55,11 @@ returns-clause-stands c = λ scenario i past h next.
     let exchanges = c.hear.ensures.exchanges scenario i past h next in
     let state = c.exchange-ended.ensures.state in
     let known = known_exchanged scenario i past notice next c.hear.new.self c.exchange-ended.new.self _ exchanges state in
-    let ended = ended_in scenario.params (length past) notice.kind (station_of scenario i past) in
+    let ended = ended_in scenario.params (length past) notice.kind (knowledge_of scenario i past) in
     let result = ended_now scenario i past notice next _ (c.exchange-ended.ensures.ended scenario i past exchanges) in
     let knows = c.install.ensures.knows scenario i read (met_by scenario i notice past) ended known result in
     let installed = known_installed scenario i past notice next c.install.new.self knows in
     let exchanged = c.exchange-ended.ensures.history scenario i past exchanges in
-    let history = subst (IsHistoryOf scenario i read (station_of scenario i read).vector) (sym c.install.ensures.history) exchanged in
+    let history = subst (IsHistoryOf scenario i read (knowledge_of scenario i read).vector) (sym c.install.ensures.history) exchanged in
     subst (IsSiteOf scenario i read) (sym c.sign.ensures.state)
     (site_stands scenario i past notice next c.install.new.self installed history)

@@ -1,5 +1,5 @@
 use Rattle.std.proofs.Common.{subst, sym}
-use Rattle.cany_model.specs.Rules.Site.{station_of}
+use Rattle.cany_model.specs.Rules.Site.{knowledge_of}
 use Rattle.cany_node.specs.Site.{IsSiteOf}
 use Rattle.cany_node.proofs.SiteSteps.{all_heard, failures_listed, life_next, life_stands, views_stand}
 use Rattle.cany_node.proofs.site.Site.hear.Goals as goal
@@ -8,7 +8,7 @@ pub returns-clause-actions : goal.returns-clause-actions
 returns-clause-actions c = λ scenario i past h next.
     let stands = subst (IsSiteOf scenario i past) (sym c.self.view_is) h in
     let notice = c.args.notice.now in
-    let known = station_of scenario i past in
+    let known = knowledge_of scenario i past in
     let heard = c.hear.ensures.stands scenario known (views_stand scenario i past notice _ stands next) next.next.readable in
     let lives = life_stands scenario i past notice _ stands next in
     failures_listed scenario i past notice _ stands next c.hear.new.self heard _ c.members-members.ensures.members
@@ -19,7 +19,7 @@ pub returns-clause-exchanges : goal.returns-clause-exchanges
 returns-clause-exchanges c = λ scenario i past h next.
     let stands = subst (IsSiteOf scenario i past) (sym c.self.view_is) h in
     let notice = c.args.notice.now in
-    let known = station_of scenario i past in
+    let known = knowledge_of scenario i past in
     let heard = c.hear.ensures.stands scenario known (views_stand scenario i past notice _ stands next) next.next.readable in
     let lives = life_stands scenario i past notice _ stands next in
     all_heard scenario i past notice _ stands next c.hear.new.self heard _ c.members-members.ensures.members c.on.new.self

@@ -12,7 +12,7 @@ invariant_of-self c =
     (bounds_with v nobody nobody nobody c.self.invariant (outside_below v))
 
 pub returns-clause-stands : goal.returns-clause-stands
-returns-clause-stands c = λ scenario station h.
+returns-clause-stands c = λ scenario knowledge h.
     rw (c.nobody-self-inside.ensures, c.nobody-self-inside-2.ensures, c.nobody-self-inside-3.ensures)
-    (outside_stands scenario c.args.self.now.node station (parts_of c.self.inside)
-    (subst (λ v. IsViewsOf scenario c.args.self.now.node station v) (sym c.self.view_is) h))
+    (outside_stands scenario c.args.self.now.node knowledge (parts_of c.self.inside)
+    (subst (λ v. IsViewsOf scenario c.args.self.now.node knowledge v) (sym c.self.view_is) h))

@@ -1,6 +1,6 @@
 -- The value that is built has the parts that the scenario tells.
 use Rattle.std.proofs.Common.{◌≡◌, ◌∙◌, subst, sym}
-use Rattle.cany_model.specs.Rules.Station.{station_at_first}
+use Rattle.cany_model.specs.Rules.Knowledge.{knowledge_at_first}
 use Rattle.cany_views.specs.Views.{IsInBounds, IsViewsOf, ViewsParts, asked_cycles}
 use Rattle.cany_views.proofs.ViewFacts.{first_bounds, first_stands, first_views}
 use Rattle.cany_views.proofs.views.Views.build.Goals as goal
@@ -39,5 +39,5 @@ invariant_of-result c =
 
 pub returns : goal.returns
 returns c =
-    subst (IsViewsOf c.args.scenario.now c.args.node (station_at_first c.args.scenario.now.members)) (sym (same c))
+    subst (IsViewsOf c.args.scenario.now c.args.node (knowledge_at_first c.args.scenario.now.members)) (sym (same c))
     (first_stands c.args.scenario.now c.args.node c.params.ensures.legal)

@@ -10,7 +10,7 @@ pub hear_join-requires : goal.hear_join-requires
 hear_join-requires c =
     let can = c.requires in
     let slot = c.args.notice.now.slot in
-    joiner_near can.scenario c.args.self.now.node can.station c.args.self.now can.stands slot c.in-Got.frame
+    joiner_near can.scenario c.args.self.now.node can.knowledge c.args.self.now can.stands slot c.in-Got.frame
     (subst (IsReadable can.scenario slot) c.in-Got.is can.readable)
     (sym c.is_of_class.ensures ∙ c.if-is_of_class.true)
 
@@ -18,7 +18,7 @@ pub hear_leave-requires : goal.hear_leave-requires
 hear_leave-requires c =
     let can = c.requires in
     let slot = c.args.notice.now.slot in
-    leaver_near can.scenario c.args.self.now.node can.station c.args.self.now can.stands slot c.in-Got.frame
+    leaver_near can.scenario c.args.self.now.node can.knowledge c.args.self.now can.stands slot c.in-Got.frame
     (subst (IsReadable can.scenario slot) c.in-Got.is can.readable)
     (sym c.is_of_class-else-is_of_class.ensures ∙ c.if-is_of_class-2.true)
 
@@ -26,53 +26,53 @@ pub hear_leave-requires-then-is_of_class-3 : goal.hear_leave-requires-then-is_of
 hear_leave-requires-then-is_of_class-3 c =
     let can = c.requires in
     let slot = c.args.notice.now.slot in
-    leaver_near can.scenario c.args.self.now.node can.station c.args.self.now can.stands slot c.in-Sent.frame
+    leaver_near can.scenario c.args.self.now.node can.knowledge c.args.self.now can.stands slot c.in-Sent.frame
     (subst (IsReadable can.scenario slot) c.in-Sent.is can.readable)
     (sym c.is_of_class-in-Sent.ensures ∙ c.if-is_of_class-3.true)
 
 -- ---- what is got
 
 pub returns-then-is_of_class-clause-stands : goal.returns-then-is_of_class-clause-stands
-returns-then-is_of_class-clause-stands c = λ scenario station h readable.
+returns-then-is_of_class-clause-stands c = λ scenario knowledge h readable.
     let notice = c.args.notice.now in
-    got_join scenario c.args.self.now.node station c.args.self.now h notice.slot c.in-Got.frame
+    got_join scenario c.args.self.now.node knowledge c.args.self.now h notice.slot c.in-Got.frame
     (subst (IsReadable scenario notice.slot) c.in-Got.is readable) notice.kind c.hear_join.new.self c.in-Got.is
     (sym c.is_of_class.ensures ∙ c.if-is_of_class.true) c.hear_join.ensures
 
 pub returns-then-is_of_class-2-clause-stands : goal.returns-then-is_of_class-2-clause-stands
-returns-then-is_of_class-2-clause-stands c = λ scenario station h readable.
+returns-then-is_of_class-2-clause-stands c = λ scenario knowledge h readable.
     let notice = c.args.notice.now in
-    got_leave scenario c.args.self.now.node station c.args.self.now h notice.slot c.in-Got.frame
+    got_leave scenario c.args.self.now.node knowledge c.args.self.now h notice.slot c.in-Got.frame
     (subst (IsReadable scenario notice.slot) c.in-Got.is readable) notice.kind c.hear_leave.new.self c.in-Got.is
     (sym c.is_of_class.ensures ∙ c.if-is_of_class.false)
     (sym c.is_of_class-else-is_of_class.ensures ∙ c.if-is_of_class-2.true) c.hear_leave.ensures
 
 pub returns-else-is_of_class-2-clause-stands : goal.returns-else-is_of_class-2-clause-stands
-returns-else-is_of_class-2-clause-stands c = λ scenario station h readable.
-    got_other scenario c.args.self.now.node station c.args.self.now h c.args.notice.now.kind c.in-Got.frame c.in-Got.is
+returns-else-is_of_class-2-clause-stands c = λ scenario knowledge h readable.
+    got_other scenario c.args.self.now.node knowledge c.args.self.now h c.args.notice.now.kind c.in-Got.frame c.in-Got.is
     (sym c.is_of_class.ensures ∙ c.if-is_of_class.false)
     (sym c.is_of_class-else-is_of_class.ensures ∙ c.if-is_of_class-2.false)
 
 -- ---- what is sent
 
 pub returns-then-is_of_class-3-clause-stands : goal.returns-then-is_of_class-3-clause-stands
-returns-then-is_of_class-3-clause-stands c = λ scenario station h readable.
+returns-then-is_of_class-3-clause-stands c = λ scenario knowledge h readable.
     let notice = c.args.notice.now in
-    sent_leave scenario c.args.self.now.node station c.args.self.now h notice.slot c.in-Sent.frame
+    sent_leave scenario c.args.self.now.node knowledge c.args.self.now h notice.slot c.in-Sent.frame
     (subst (IsReadable scenario notice.slot) c.in-Sent.is readable) notice.kind c.hear_leave-then-is_of_class-3.new.self c.in-Sent.is
     (sym c.is_of_class-in-Sent.ensures ∙ c.if-is_of_class-3.true) c.hear_leave-then-is_of_class-3.ensures
 
 pub returns-else-is_of_class-3-clause-stands : goal.returns-else-is_of_class-3-clause-stands
-returns-else-is_of_class-3-clause-stands c = λ scenario station h readable.
-    sent_other scenario c.args.self.now.node station c.args.self.now h c.args.notice.now.kind c.in-Sent.frame c.in-Sent.is
+returns-else-is_of_class-3-clause-stands c = λ scenario knowledge h readable.
+    sent_other scenario c.args.self.now.node knowledge c.args.self.now h c.args.notice.now.kind c.in-Sent.frame c.in-Sent.is
     (sym c.is_of_class-in-Sent.ensures ∙ c.if-is_of_class-3.false)
 
 -- ---- no frame
 
 pub returns-in-Idle-clause-stands : goal.returns-in-Idle-clause-stands
-returns-in-Idle-clause-stands c = λ scenario station h readable.
-    idle_asks scenario c.args.self.now.node station c.args.self.now h c.args.notice.now.kind c.in-Idle.is
+returns-in-Idle-clause-stands c = λ scenario knowledge h readable.
+    idle_asks scenario c.args.self.now.node knowledge c.args.self.now h c.args.notice.now.kind c.in-Idle.is
 
 pub returns-in-Bad-clause-stands : goal.returns-in-Bad-clause-stands
-returns-in-Bad-clause-stands c = λ scenario station h readable.
-    bad_asks scenario c.args.self.now.node station c.args.self.now h c.args.notice.now.kind c.in-Bad.is
+returns-in-Bad-clause-stands c = λ scenario knowledge h readable.
+    bad_asks scenario c.args.self.now.node knowledge c.args.self.now h c.args.notice.now.kind c.in-Bad.is

@@ -11,11 +11,11 @@ returns-clause-below c =
     (below_minus c.args.self.now.params.nodes c.args.ended.vector c.self.inside.members c.requires.vector)
 
 pub returns-clause-stands : goal.returns-clause-stands
-returns-clause-stands c = λ scenario station h.
+returns-clause-stands c = λ scenario knowledge h.
     rw c.become_view.ensures
-    (view_stands scenario c.args.self.now.node station c.args.self.now h c.args.now c.args.ended.vector c.requires.vector)
+    (view_stands scenario c.args.self.now.node knowledge c.args.self.now h c.args.now c.args.ended.vector c.requires.vector)
 
 pub returns-clause-actions : goal.returns-clause-actions
-returns-clause-actions c = λ scenario station h.
-    view_acts scenario c.args.self.now.node c.args.now c.args.ended.vector c.args.self.now station h c.args.ended.cycle c.requires.cycle
+returns-clause-actions c = λ scenario knowledge h.
+    view_acts scenario c.args.self.now.node c.args.now c.args.ended.vector c.args.self.now knowledge h c.args.ended.cycle c.requires.cycle
     c.args.out.now.items c.act_on_view.new.out.items (rw c.become_view.ensures at c.act_on_view.ensures.actions)

@@ -1,7 +1,0 @@
-use Rattle.can_bus.proofs.NoteFacts.{exchanged}
-use Rattle.can_bus.proofs.exchange.exchange.Goals as goal
-
-pub returns-in-Won : goal.returns-in-Won
-returns-in-Won c nodes contest run =
-    exchanged c.args.slot nodes c.args.outcome.now c.in-Won.frame c.in-Won.senders c.args.running c.takers.result c.nobody.result c.args.verdict.now c.in-Won.is contest run
-    c.takers.ensures c.nobody.ensures

@@ -1,0 +1,25 @@
+use Rattle.std.proofs.Common.{◌≡◌, ap, ◌∙◌, arith}
+use Rattle.cany_crew.specs.Assignment.{AssignmentParts}
+use Rattle.cany_crew.proofs.AssignmentFacts.{filled_next}
+use Rattle.cany_crew.proofs.assigning.fill_assignments.Goals as goal
+
+pub loop-i-preserved : goal.loop-i-preserved
+loop-i-preserved g c =
+    let i = c.loop-i.invariant in
+    let of_seat = c.remove-seat.ensures in
+    let of_gate = c.remove-gate.ensures in
+    let pushed = c.push_reserved-in-loop-i.ensures in
+    let seat_len = of_seat.len in
+    let gate_len = of_gate.len in
+    let below = c.loop-i-test.true in
+    let node : c.new.result.node ≡ c.loop-i.i = ap (λ (p : AssignmentParts). p.node) c.new.ensures ∙ c.of_index.ensures in (
+      (let e = i.0 in omega arith),
+      (let e = i.1 in omega arith),
+      (let e = i.2 in let l = pushed.len in omega arith),
+      pushed.capacity ∙ i.3,
+      of_gate.capacity ∙ i.4,
+      filled_next g.G.Gate.refusals c.loop-i.i c.loop-i.assignments.items c.push_reserved-in-loop-i.new.self.items c.loop-i.gates.items c.remove-gate.new.self.items
+          c.args.gates.now.items c.loop-i.seats.items c.remove-seat.new.self.items c.remove-gate.result c.remove-seat.result c.new.result i.5
+          (omega arith) of_seat.value of_seat.items (omega arith) of_gate.value of_gate.items
+          node (ap (λ (p : AssignmentParts). p.refusals) c.new.ensures) pushed.items,
+    )

@@ -1,9 +1,0 @@
-use Rattle.std.proofs.Common.{◌≡◌, length, map, take}
-use Rattle.cany_model.specs.Texts.ReportLines.{step_letter}
-use Rattle.cany_log.proofs.row.Row.put_steps.Given as goal
-
-abbrev pub invariant-loop-i : goal.invariant-loop-i
-invariant-loop-i g l = record {
-  text : take l.i l.letters ≡ map step_letter (take l.i l.steps);
-  len : length l.letters ≡ 64;
-}

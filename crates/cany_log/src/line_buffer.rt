@@ -1,0 +1,230 @@
+//! The bytes of a line, from the last one to the first: so the digits of a number, of which the last is known first, are written
+//! where they stay. A field is put before the others together with the space before it.
+ghost use Rattle.std.specs.Prelude.{◌≡◌, ◌+◌, ◌≤◌, ◌∷◌, ◌++◌, ◌==◌, [], if◌then◌else◌, codes, length, map, decimal};
+ghost use Rattle.cany_base.specs.Limits.{most_line_bytes};
+ghost use Rattle.cany_model.specs.Texts.RefusalLines.{signed_decimal};
+ghost use Rattle.cany_model.specs.Texts.ReportLines.{byte_text, node_text, payload_text, set_text, step_letter};
+
+use cany_base::{NodeId, NodeSet, Payload, Step};
+use itoa::{Buffer, write_digits};
+use std::marker::Model;
+
+/// The letters of a journal: those of the turns of the nodes, from node 0 on, and then that of a slot.
+const LETTERS: &[u8; SLOT_PLACE + 1] =
+    b"0123456789abcdefghijklmnopqrstuvwxyzABCDEFGHIJKLMNOPQRSTUVWXYZ+-.";
+
+const SLOT_PLACE: usize = NodeId::COUNT as usize;
+
+/// The bytes of the end of a line, as many as there are so far, with room for so many in all.
+#[derive(Drop)]
+pub(crate) struct LineBuffer<const ROOM: usize> {
+    bytes: [u8; ROOM],
+    start: usize,
+}
+
+impl<const ROOM: usize> Model for LineBuffer<ROOM> {
+    ghost use Rattle.std.specs.Prelude.{◌≡◌, ◌≤◌, ℕ, List, length, drop};
+
+    ghost Value = { List ℕ };
+
+    ghost view = { λ r. drop r.start r.bytes };
+
+    ghost invariant = { λ r. (r.start ≤ ROOM) × (length r.bytes ≡ ROOM) };
+}
+
+impl<const ROOM: usize> LineBuffer<ROOM> {
+    /// No bytes yet.
+    pub(crate) fn new() -> LineBuffer<ROOM>
+        requires { ROOM ≤ most_line_bytes }
+        ensures { result ≡ [] }
+    {
+        LineBuffer {
+            bytes: [0; ROOM],
+            start: ROOM,
+        }
+    }
+
+    /// The bytes.
+    pub(crate) fn as_slice(&self) -> &[u8]
+        ensures { result.now ≡ self.now }
+    {
+        let whole = &self.bytes[..];
+        &whole[self.start..]
+    }
+
+    /// Puts a byte before the others.
+    fn put_byte(&mut self, byte: u8)
+        requires { length self.old + 1 ≤ ROOM }
+        ensures { self.new ≡ byte ∷ self.old }
+    {
+        self.start -= 1;
+        self.bytes[self.start] = byte;
+    }
+
+    /// Puts bytes before the others.
+    pub(crate) fn put_bytes(&mut self, bytes: &[u8])
+        requires { length self.old + length bytes.now ≤ ROOM }
+        ensures { self.new ≡ bytes.now ++ self.old }
+    {
+        let end = self.start;
+        self.start -= bytes.len();
+        let whole = &mut self.bytes[..];
+        whole[self.start..end].copy_from_slice(bytes);
+    }
+
+    /// Puts the decimal digits of a number, for which there is room.
+    fn put_digits(&mut self, number: u64)
+        requires { length self.old + length (decimal number) ≤ ROOM }
+        ensures { self.new ≡ decimal number ++ self.old }
+    {
+        self.start = write_digits(number, &mut self.bytes, self.start);
+    }
+
+    /// Puts fixed words.
+    pub(crate) fn put_text(&mut self, text: &'static str)
+        requires { length self.old + (1 + length text.now) ≤ ROOM }
+        ensures { self.new ≡ (32 ∷ text.now) ++ self.old }
+    {
+        self.put_bytes(text.as_bytes());
+        self.put_byte(b' ');
+    }
+
+    /// Puts a number in decimal.
+    // A hint, since most lines of a report have three numbers.
+    #[inline(always)]
+    pub(crate) fn put_number(&mut self, number: u64)
+        requires { length self.old + 21 ≤ ROOM }
+        ensures text { self.new ≡ (32 ∷ decimal number) ++ self.old }
+        ensures short { length (decimal number) ≤ 20 }
+    {
+        self.put_digits(number);
+        self.put_byte(b' ');
+    }
+
+    /// Puts a number of up to 128 bits in decimal.
+    pub(crate) fn put_count(&mut self, number: u128)
+        requires { length self.old + 40 ≤ ROOM }
+        ensures text { self.new ≡ (32 ∷ decimal number) ++ self.old }
+        ensures short { length (decimal number) ≤ 39 }
+    {
+        let mut buffer = Buffer::new();
+        self.put_bytes(buffer.format(number).as_bytes());
+        self.put_byte(b' ');
+    }
+
+    /// Puts a number that may be below zero, in decimal.
+    pub(crate) fn put_signed(&mut self, number: i64)
+        requires { length self.old + 21 ≤ ROOM }
+        ensures text { self.new ≡ (32 ∷ signed_decimal number) ++ self.old }
+        ensures short { length (signed_decimal number) ≤ 20 }
+    {
+        let mut buffer = Buffer::new();
+        self.put_bytes(buffer.format(number).as_bytes());
+        self.put_byte(b' ');
+    }
+
+    /// Puts the number of an incarnation, where it is not the first.
+    fn put_incarnation(&mut self, inc: u8)
+        requires { length self.old + 4 ≤ ROOM }
+        ensures { self.new ≡ (if inc == 0 then [] else codes "/" ++ decimal inc) ++ self.old }
+    {
+        if inc > 0 {
+            self.put_digits(u64::from(inc));
+            self.put_byte(b'/');
+        }
+    }
+
+    /// Puts the number of a node, with that of its incarnation where it is not the first.
+    pub(crate) fn put_node(&mut self, node: NodeId, inc: u8)
+        requires { length self.old + 7 ≤ ROOM }
+        ensures text { self.new ≡ (32 ∷ node_text node inc) ++ self.old }
+        ensures short { length (node_text node inc) ≤ 6 }
+    {
+        self.put_incarnation(inc);
+        self.put_digits(u64::from(node.get()));
+        self.put_byte(b' ');
+    }
+
+    /// Puts a byte as two hexadecimal digits.
+    #[tactic(auto, unfolding(hex::specs::Hex::encode_with))]
+    fn put_hexadecimal(&mut self, byte: u8)
+        requires { length self.old + 2 ≤ ROOM }
+        ensures { self.new ≡ byte_text byte ++ self.old }
+    {
+        let mut digits = [0u8; 2];
+        hex::encode_to_slice([byte], &mut digits).unwrap();
+        self.put_bytes(&digits);
+    }
+
+    /// Puts the bytes of a payload in hexadecimal.
+    pub(crate) fn put_payload(&mut self, payload: &Payload)
+        requires { length self.old + 18 ≤ ROOM }
+        ensures text { self.new ≡ (32 ∷ payload_text payload.now) ++ self.old }
+        ensures short { length (payload_text payload.now) ≤ 17 }
+    {
+        let mut left = payload.len();
+        while left > 0 {
+            left -= 1;
+            self.put_hexadecimal(payload.byte(left));
+        }
+        self.put_bytes(b" x");
+    }
+
+    /// Puts the numbers of the nodes of a set.
+    pub(crate) fn put_set(&mut self, set: NodeSet)
+        requires { length self.old + 182 ≤ ROOM }
+        ensures text { self.new ≡ (32 ∷ set_text set) ++ self.old }
+        ensures short { length (set_text set) ≤ 181 }
+    {
+        self.put_numbers(set);
+        self.put_byte(b' ');
+    }
+
+    fn put_numbers(&mut self, set: NodeSet)
+        requires { length self.old + 181 ≤ ROOM }
+        ensures text { self.new ≡ set_text set ++ self.old }
+        ensures short { length (set_text set) ≤ 181 }
+    {
+        let mut is_last = true;
+        // No number is greater than that of the highest bit.
+        let mut number = (64 - set.bits().leading_zeros()) as u8;
+        while number > 0 {
+            number -= 1;
+            if set.has(NodeId::new(number).unwrap()) {
+                if !is_last {
+                    self.put_byte(b',');
+                }
+                self.put_digits(u64::from(number));
+                is_last = false;
+            }
+        }
+        if is_last {
+            self.put_byte(b'-');
+        }
+    }
+
+    /// Puts the letters of some steps, of which there are at most 64.
+    pub(crate) fn put_steps(&mut self, steps: &[Step])
+        requires few { length steps.now ≤ 64 }
+        requires room { length self.old + length steps.now ≤ ROOM }
+        ensures { self.new ≡ map step_letter steps.now ++ self.old }
+    {
+        let mut letters = [b'.'; 64];
+        for i in 0..steps.len() {
+            letters[i] = letter(steps[i]);
+        }
+        self.put_bytes(&letters[..steps.len()]);
+    }
+}
+
+/// The letter of a step in a journal.
+#[tactic(auto, unfolding(cany_model::specs::Texts::ReportLines::step_letter))]
+fn letter(step: Step) -> u8
+    ensures { result ≡ step_letter step }
+{
+    let place = match step {
+        Step::Slot => SLOT_PLACE,
+        Step::Turn(node) => usize::from(node.get()),
+    };
+    LETTERS[place]
+}

@@ -1,0 +1,12 @@
+-- The scripted sends and asks of a node before its first turn.
+use Rattle.std.specs.Prelude.{ℕ}
+use Rattle.cany_base.specs.Scenario.{ScenarioParts}
+use Rattle.cany_node.specs.Agenda.{IsPlanOf}
+use Rattle.cany_node.specs.Asks.{IsAskPlanOf}
+use Rattle.cany_node.specs.declared.plan.Plan.{Plan}
+
+-- they are those of node i, all of them still to come
+pub record IsScriptOf (scenario : ScenarioParts) (i : ℕ) (s : Plan) : Type 0 where
+  pub agenda : IsPlanOf scenario i s.agenda
+  pub joins : IsAskPlanOf i scenario.joins s.joins
+  pub leaves : IsAskPlanOf i scenario.leaves s.leaves
