@@ -1,7 +1,7 @@
 -- The levels that a frame sends in arbitration, and which of two frames wins by them.
 use Rattle.std.specs.Prelude.{◌≡◌, ℕ, ◌+◌, ◌*◌, ◌/◌, ◌%◌, ◌^◌, ◌<◌, Bool, if◌then◌else◌}
 use Rattle.std.specs.Int.{bit_at}
-use Rattle.cany_base.specs.declared.frame.Format.{Format}
+use Rattle.cany_base.specs.declared.format.Format.{Format}
 use Rattle.cany_base.specs.Frame.{FrameParts, identifier_of, is_remote}
 
 -- bit 31 goes first: 11 base identifier bits, SRR, IDE, 18 further identifier bits, RTR.

@@ -5,9 +5,9 @@ use Rattle.cany_base.specs.Limits.{most_nodes}
 use Rattle.cany_base.specs.declared.rule.Verdict.{Verdict}
 use Rattle.cany_base.specs.declared.slot_note.SlotNote.{SlotNote}
 use Rattle.cany_base.specs.Frame.{FrameParts}
-use Rattle.cany_base.specs.Nodes.{Nodes, has, those_where}
+use Rattle.cany_base.specs.Nodes.{Nodes, has, those_where, nobody}
 use Rattle.cany_base.proofs.NodesFacts.{has-those_where, same_as_those_where}
-use Rattle.cany_model.specs.Bus.Slot.{Ruling, FaultScript, after_share, exceeds, transmission, lets_accept, nobody, note_by, sends, share_of, slot_note_of, stopping, winner, with_stops}
+use Rattle.cany_model.specs.Bus.Slot.{Ruling, FaultScript, after_share, exceeds, transmission, lets_accept, note_by, sends, share_of, slot_note_of, stopping, winner, with_stops}
 use Rattle.cany_model.specs.Bus.State.{NodeState, node_at, runs}
 use Rattle.can_arbiter.specs.declared.arbitration.Outcome.{Outcome}
 use Rattle.can_arbiter.specs.declared.arbitration.Outcome.TheVariants.{Won}

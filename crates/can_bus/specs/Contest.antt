@@ -1,6 +1,6 @@
 -- What arbitration gives, and what is offered to it, in the words of a run.
 use Rattle.std.specs.Prelude.{◌≡◌, ℕ, ◌<◌, ◌⊎◌, if◌then◌else◌, is_none, is_some, Option, Some, None, IfSome, List, All, slice_get}
-use Rattle.cany_base.specs.declared.frame.Format.{Format}
+use Rattle.cany_base.specs.declared.format.Format.{Format}
 use Rattle.cany_base.specs.declared.slot_note.SlotNote.{SlotNote}
 use Rattle.cany_base.specs.Frame.{FrameParts, key_of}
 use Rattle.cany_base.specs.Nodes.{Nodes, has, those_where}

@@ -1,6 +1,6 @@
 ghost use Rattle.std.specs.Prelude.{◌≡◌, ◌<◌, ℕ, length, IfOk, All};
 ghost use Rattle.cany_base.specs.Scenario.{IsRuleOf};
-ghost use Rattle.cany_base.specs.declared.frame.Format.TheVariants.{Two};
+ghost use Rattle.cany_base.specs.declared.format.Format.TheVariants.{Two};
 ghost use Rattle.cany_base.specs.Limits.{most_nodes};
 ghost use Rattle.cany_base.specs.Params.{IsInRange, MeetsFormulas, Parameters, default_parameters, default_parameters_of};
 ghost use Rattle.can_frame.specs.Identifier.{FitsFormat};

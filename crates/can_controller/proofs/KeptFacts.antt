@@ -4,7 +4,7 @@ use Rattle.std.specs.Prelude.{All, insert, remove, Result, Ok, Err, IsOk, is_ok,
 use Rattle.std.proofs.lemmas.List.Edits.{length-insert, length-remove}
 use Rattle.std.proofs.lemmas.List.{length-set}
 use Rattle.std.proofs.lemmas.List.Elements.{All-cons, All-append, All-set, All-take, All-drop, All-filter}
-use Rattle.cany_base.specs.declared.frame.Format.{Format}
+use Rattle.cany_base.specs.declared.format.Format.{Format}
 use Rattle.cany_base.specs.Frame.{FrameParts, identifier_of}
 use Rattle.cany_model.specs.Bus.Frames.{Identity, identity_of, is_of}
 use Rattle.cany_model.specs.Bus.Waiting.{waits, without}

@@ -4,7 +4,7 @@ use Rattle.std.specs.Prelude.{All, insert, Some, slice_get, IfSome}
 use Rattle.std.specs.List.{HoldsAt, list_any}
 use Rattle.std.proofs.lemmas.Bool.Decides.{nat_tests}
 use Rattle.std.proofs.lemmas.List.Elements.{All-cons, All-head, All-tail}
-use Rattle.cany_base.specs.declared.frame.Format.{Format}
+use Rattle.cany_base.specs.declared.format.Format.{Format}
 use Rattle.cany_base.specs.Frame.{FrameParts, has_incarnation, identifier_of, key_of}
 use Rattle.cany_model.specs.Bus.Frames.{identity_of, same_identity, is_before}
 use Rattle.cany_model.specs.Bus.Slot.{better, least_frame}

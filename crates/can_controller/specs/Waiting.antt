@@ -1,7 +1,7 @@
 -- The waiting frames as the program keeps them.
 use Rattle.std.specs.Prelude.{◌≡◌, ℕ, ◌<◌, ◌≤◌, ◌⊎◌, List, [], ◌∷◌, length, take, drop, nat_lt, All, IsTrue}
 use Rattle.std.specs.List.{HoldsAt}
-use Rattle.cany_base.specs.declared.frame.Format.{Format}
+use Rattle.cany_base.specs.declared.format.Format.{Format}
 use Rattle.cany_base.specs.Frame.{FrameParts, identifier_of, key_of}
 use Rattle.cany_model.specs.Bus.Frames.{bare, identity_of, is_before}
 use Rattle.cany_model.specs.Bus.Waiting.{waits}

@@ -3,7 +3,7 @@ use Rattle.std.proofs.Common.{◌≡◌, ◌≢◌, ℕ, ◌==◌, true, false, 
 use Rattle.std.proofs.lemmas.Grind.{common_steps}
 use Rattle.std.proofs.lemmas.Bool.{and_parts, and_from, cases_Bool}
 use Rattle.std.specs.Cmp.{both_ways}
-use Rattle.cany_base.specs.declared.frame.Class.TheVariants.{Rha}
+use Rattle.cany_base.specs.declared.class.Class.TheVariants.{Rha}
 use Rattle.cany_base.specs.Frame.{FrameParts}
 use Rattle.cany_model.specs.Bus.Frames.{Identity, identity_of, same_class, same_identity}
 use Rattle.cany_model.specs.Promises.Hypothesis.{count_together}

@@ -1,6 +1,6 @@
 -- What Partial slots count for, as a key.
 use Rattle.std.specs.Prelude.{Bool, if◌then◌else◌}
-use Rattle.cany_base.specs.declared.frame.Class.TheVariants.{Rha}
+use Rattle.cany_base.specs.declared.class.Class.TheVariants.{Rha}
 use Rattle.cany_model.specs.Bus.Frames.{Identity, same_class}
 use Rattle.can_fault.specs.declared.counts.Counted.{Counted}
 use Rattle.can_fault.specs.declared.counts.Counted.TheVariants.{Vectors, Frame}

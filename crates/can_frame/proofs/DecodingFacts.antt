@@ -1,7 +1,7 @@
 -- The frame that is made of an identifier's fields is the one frame that it stands for.
 use Rattle.std.proofs.Common.{◌≡◌, ℕ, ◌%◌, ◌^◌, Bool, List, refl, sym, ◌∙◌, arith}
-use Rattle.cany_base.specs.declared.frame.Format.{Format}
-use Rattle.cany_base.specs.declared.frame.Format.TheVariants.{One, Two}
+use Rattle.cany_base.specs.declared.format.Format.{Format}
+use Rattle.cany_base.specs.declared.format.Format.TheVariants.{One, Two}
 use Rattle.cany_base.specs.Frame.{FrameParts, FitsIncarnation, identifier_of, is_remote}
 use Rattle.cany_base.specs.Layout.{layout}
 use Rattle.can_frame.specs.Decoding.{Carries, IsFrameOf, IsClassOf}

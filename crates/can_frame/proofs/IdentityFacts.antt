@@ -1,9 +1,9 @@
 -- Identifiers and keys tell class, number, node and incarnation, and order frames by them, if these fit their fields.
 use Rattle.std.proofs.Common.{◌≡◌, ℕ, ◌+◌, ◌*◌, ◌^◌, ◌<◌, ◌↔◌, Bool, true, false, if◌then◌else◌, ap, sym, arith, inl, inr, ◌⊎◌}
 use Rattle.std.proofs.lemmas.Bool.{cases_order}
-use Rattle.cany_base.specs.declared.frame.Class.{Class}
-use Rattle.cany_base.specs.declared.frame.Format.{Format}
-use Rattle.cany_base.specs.declared.frame.Format.TheVariants.{One, Two}
+use Rattle.cany_base.specs.declared.class.Class.{Class}
+use Rattle.cany_base.specs.declared.format.Format.{Format}
+use Rattle.cany_base.specs.declared.format.Format.TheVariants.{One, Two}
 use Rattle.cany_base.specs.Frame.{FrameParts, FitsIncarnation, class_number, has_incarnation, identifier_of, is_remote, key_of, SameIdentity}
 use Rattle.cany_base.specs.Layout.{layout}
 use Rattle.can_frame.specs.Identifier.{AgreeInIdentifier, FitsFormat, FitsIdentifier, HasSmallNumbers, IsOrderedBefore}

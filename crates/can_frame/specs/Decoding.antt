@@ -1,8 +1,8 @@
 -- The frame that an identifier, a kind and a payload stand for, and why they stand for none.
 use Rattle.std.specs.Prelude.{◌≡◌, ◌≢◌, ℕ, ◌<◌, ◌/◌, ◌%◌, ◌^◌, Bool, false, List, length}
-use Rattle.cany_base.specs.declared.frame.Class.{Class}
-use Rattle.cany_base.specs.declared.frame.Class.TheVariants.{Rha}
-use Rattle.cany_base.specs.declared.frame.Format.{Format}
+use Rattle.cany_base.specs.declared.class.Class.{Class}
+use Rattle.cany_base.specs.declared.class.Class.TheVariants.{Rha}
+use Rattle.cany_base.specs.declared.format.Format.{Format}
 use Rattle.cany_base.specs.Frame.{FrameParts, class_number, identifier_of, is_remote, FitsClass, has_incarnation, FitsIncarnation}
 use Rattle.cany_base.specs.Layout.{layout}
 use Rattle.can_frame.specs.declared.decoding.FrameFault.{FrameFault}

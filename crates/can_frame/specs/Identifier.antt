@@ -1,6 +1,6 @@
 -- What fits an identifier, and how identifiers and keys order frames.
 use Rattle.std.specs.Prelude.{ℕ, ◌≡◌, ◌<◌, ◌^◌, ◌⊎◌}
-use Rattle.cany_base.specs.declared.frame.Format.{Format}
+use Rattle.cany_base.specs.declared.format.Format.{Format}
 use Rattle.cany_base.specs.Frame.{FrameParts, class_number, FitsIncarnation, SameIdentity}
 use Rattle.cany_base.specs.Layout.{layout}
 use Rattle.cany_base.specs.Limits.{most_numbers}

@@ -1,7 +1,7 @@
 -- What the ranges of every format have in common.
 use Rattle.std.proofs.Common.{◌≤◌, arith}
-use Rattle.cany_base.specs.declared.frame.Format.{Format}
-use Rattle.cany_base.specs.declared.frame.Format.TheVariants.{One, Two}
+use Rattle.cany_base.specs.declared.format.Format.{Format}
+use Rattle.cany_base.specs.declared.format.Format.TheVariants.{One, Two}
 use Rattle.cany_base.specs.Layout.{layout}
 use Rattle.cany_base.specs.Limits.{most_nodes, most_slots, greatest_slots}
 use Rattle.cany_base.specs.Params.{Parameters, IsInRange}

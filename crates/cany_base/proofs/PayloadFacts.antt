@@ -6,8 +6,8 @@ use Rattle.std.proofs.lemmas.List.{get_or-take, ext_get_or}
 use Rattle.std.proofs.lemmas.Option.{slice_get-get_or}
 use Rattle.std.proofs.lemmas.Bool.Decides.{same_from_decides, Decides-like}
 use Rattle.std.specs.Cmp.Lexicographic.{pointwise, bytes_decides}
-use Rattle.cany_base.specs.declared.frame.Format.{Format}
-use Rattle.cany_base.specs.declared.frame.Format.TheVariants.{One, Two}
+use Rattle.cany_base.specs.declared.format.Format.{Format}
+use Rattle.cany_base.specs.declared.format.Format.TheVariants.{One, Two}
 use Rattle.cany_base.specs.declared.payload.Payload.TheInside.{Inside}
 use Rattle.cany_base.specs.Layout.{layout}
 use Rattle.cany_base.specs.Payload.{vector_width}

@@ -1,9 +1,9 @@
 -- A frame, the class table, and where its fields lie in the identifier.
 use Rattle.std.specs.Prelude.{◌≡◌, ◌<◌, ◌⊎◌, ℕ, ◌+◌, ◌*◌, ◌^◌, Bool, true, false, if◌then◌else◌, List, [], length}
-use Rattle.cany_base.specs.declared.frame.Class.{Class}
-use Rattle.cany_base.specs.declared.frame.Class.TheVariants.{Accept, Rha, Els, Fda, Join, Leave, Confirm, Tot, Rel, Ed}
-use Rattle.cany_base.specs.declared.frame.Format.{Format}
-use Rattle.cany_base.specs.declared.frame.Format.TheVariants.{One, Two}
+use Rattle.cany_base.specs.declared.class.Class.{Class}
+use Rattle.cany_base.specs.declared.class.Class.TheVariants.{Accept, Rha, Els, Fda, Join, Leave, Confirm, Tot, Rel, Ed}
+use Rattle.cany_base.specs.declared.format.Format.{Format}
+use Rattle.cany_base.specs.declared.format.Format.TheVariants.{One, Two}
 use Rattle.cany_base.specs.declared.message.Service.{Service}
 use Rattle.cany_base.specs.declared.message.Service.TheVariants as service
 use Rattle.cany_base.specs.Layout.{layout}

@@ -1,7 +1,7 @@
 -- The formats of a scenario: how many nodes there can be, and where number and node lie in an identifier.
 use Rattle.std.specs.Prelude.{ℕ}
-use Rattle.cany_base.specs.declared.frame.Format.{Format}
-use Rattle.cany_base.specs.declared.frame.Format.TheVariants.{One, Two}
+use Rattle.cany_base.specs.declared.format.Format.{Format}
+use Rattle.cany_base.specs.declared.format.Format.TheVariants.{One, Two}
 use Rattle.cany_base.specs.Limits.{most_nodes}
 
 -- a field's shift is the place of its least significant bit, its width the count of its bits

@@ -1,7 +1,7 @@
 -- The limits of scenarios, texts and reports, each with its unit.
 use Rattle.std.specs.Prelude.{ℕ}
-use Rattle.cany_base.specs.declared.frame.Format.{Format}
-use Rattle.cany_base.specs.declared.frame.Format.TheVariants.{One, Two}
+use Rattle.cany_base.specs.declared.format.Format.{Format}
+use Rattle.cany_base.specs.declared.format.Format.TheVariants.{One, Two}
 
 -- nodes of the bus, in any format
 abbrev pub most_nodes : ℕ

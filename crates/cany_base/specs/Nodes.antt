@@ -1,5 +1,5 @@
--- A set of nodes. Above this crate two words speak of one: whether it has a node, and the set of those where a test holds.
-use Rattle.std.specs.Prelude.{ℕ, zero, suc, ◌+◌, ◌^◌, ◌<◌, ◌==◌, Bool, List, count_by, IsTrue, if◌then◌else◌}
+-- A set of nodes: whether it has a node, the set of those where a test holds, and what sets make together.
+use Rattle.std.specs.Prelude.{ℕ, zero, suc, ◌+◌, ◌^◌, ◌<◌, ◌==◌, ◌&&◌, ◌||◌, not, Bool, List, count_by, IsTrue, if◌then◌else◌}
 use Rattle.std.specs.Int.{bit_at}
 use Rattle.std.specs.List.{range_with_len}
 use Rattle.cany_base.specs.Limits.{most_nodes}
@@ -19,6 +19,25 @@ bits_where test (suc n) = bits_where test n + (if test n then 2 ^ n else 0)
 -- the set of the nodes, of those that there can be, at which the test holds
 unfoldable pub those_where : (ℕ → Bool) → Nodes
 those_where test = record { bits = bits_where test most_nodes }
+
+abbrev pub nobody : Nodes
+nobody = record { bits = 0 }
+
+-- the nodes of both
+abbrev pub meet : Nodes → Nodes → Nodes
+meet a b = those_where (λ r. has a r && has b r)
+
+-- the nodes of either
+abbrev pub plus : Nodes → Nodes → Nodes
+plus a b = those_where (λ r. has a r || has b r)
+
+-- the nodes of the first that are not of the second
+abbrev pub minus : Nodes → Nodes → Nodes
+minus a b = those_where (λ r. has a r && not (has b r))
+
+-- one node more
+abbrev pub with_node : ℕ → Nodes → Nodes
+with_node q nodes = those_where (λ r. has nodes r || r == q)
 
 -- the numbers of the nodes that there can be, ascending
 abbrev pub node_numbers : List ℕ

@@ -1,7 +1,7 @@
 -- The parameters of a scenario, their ranges and the formulas that they have to meet.
 use Rattle.std.specs.Prelude.{ℕ, ◌+◌, ◌*◌, ◌≤◌, nat_lt, if◌then◌else◌, Result, Ok, Err}
-use Rattle.cany_base.specs.declared.frame.Format.{Format}
-use Rattle.cany_base.specs.declared.frame.Format.TheVariants.{One}
+use Rattle.cany_base.specs.declared.format.Format.{Format}
+use Rattle.cany_base.specs.declared.format.Format.TheVariants.{One}
 use Rattle.cany_base.specs.declared.params.ParamName.{ParamName}
 use Rattle.cany_base.specs.declared.params.ParamName.TheVariants.{Bound, Cycle, Life, Silence, Confirm}
 use Rattle.cany_base.specs.declared.params.ParamFault.{ParamFault}

@@ -1,8 +1,8 @@
 -- The bytes of a payload, and a set of nodes as such bytes.
 use Rattle.std.specs.Prelude.{ℕ, ◌==◌, if◌then◌else◌, List, length, Option, Some, None}
 use Rattle.std.specs.Int.{Width, w32, w64, to_be_bytes, from_be_bytes}
-use Rattle.cany_base.specs.declared.frame.Format.{Format}
-use Rattle.cany_base.specs.declared.frame.Format.TheVariants.{One, Two}
+use Rattle.cany_base.specs.declared.format.Format.{Format}
+use Rattle.cany_base.specs.declared.format.Format.TheVariants.{One, Two}
 use Rattle.cany_base.specs.Layout.{layout}
 use Rattle.cany_base.specs.Nodes.{Nodes}
 

@@ -65,7 +65,7 @@ pub struct ParamFault {
 
 impl Params {
     ghost use Rattle.cany_base.specs.Limits as limit;
-    ghost use Rattle.cany_base.specs.declared.frame.Format.TheVariants.{One};
+    ghost use Rattle.cany_base.specs.declared.format.Format.TheVariants.{One};
     ghost use Rattle.cany_base.specs.Layout.{layout};
     ghost use Rattle.cany_base.specs.Params.{IsInRange, MeetsFormulas, default_parameters, default_parameters_of, first_fault};
 

@@ -16,7 +16,7 @@ struct FailureSign {
 impl Diffused for FailureSign {
     ghost use Rattle.std.specs.Prelude.{◌≡◌, [], refl};
     ghost use Rattle.std.proofs.Common.{sym, ◌∙◌};
-    ghost use Rattle.cany_base.specs.declared.frame.Class.TheVariants.{Fda};
+    ghost use Rattle.cany_base.specs.declared.class.Class.TheVariants.{Fda};
 
     ghost key = { λ s. s.cycle };
 

@@ -1,5 +1,5 @@
 ghost use Rattle.std.specs.Prelude.{◌≡◌};
-ghost use Rattle.cany_base.specs.declared.frame.Class.TheVariants as class;
+ghost use Rattle.cany_base.specs.declared.class.Class.TheVariants as class;
 ghost use Rattle.cany_model.specs.Bus.Frames.{same_class};
 
 use cany_base::{Class, Frame};

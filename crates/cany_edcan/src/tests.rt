@@ -1,5 +1,5 @@
 ghost use Rattle.std.specs.Prelude.{◌≡◌, ◌+◌, ◌<◌, ◌≤◌, All, length, IfOk};
-ghost use Rattle.cany_base.specs.declared.frame.Class.TheVariants as class;
+ghost use Rattle.cany_base.specs.declared.class.Class.TheVariants as class;
 ghost use Rattle.cany_base.specs.declared.message.Service.TheVariants.{Ed};
 ghost use Rattle.cany_base.specs.Params.{IsInRange, MeetsFormulas};
 ghost use Rattle.cany_base.specs.Scenario.{IsSendOf};

@@ -2,7 +2,7 @@
 use Rattle.std.proofs.Common.{◌≡◌, ℕ, inl, inr, Bool, true, false, if◌then◌else◌, List, [], ◌∷◌, ◌++◌, length, Option, Some, None, refl, ap, sym, ◌∙◌, subst}
 use Rattle.std.proofs.lemmas.Bool.{cases_Bool}
 use Rattle.cany_base.specs.declared.actions.Action.{Action}
-use Rattle.cany_base.specs.declared.frame.Format.{Format}
+use Rattle.cany_base.specs.declared.format.Format.{Format}
 use Rattle.cany_base.specs.declared.notice.Notice.{Notice}
 use Rattle.cany_base.specs.declared.notice.NoticeKind.{NoticeKind}
 use Rattle.cany_base.specs.declared.notice.NoticeKind.TheVariants.{Idle, Got, Sent, Bad}

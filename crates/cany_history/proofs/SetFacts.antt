@@ -4,11 +4,11 @@ use Rattle.std.proofs.Common.{◌≡◌, ℕ, ◌≤◌, inl, inr, ◌&&◌, Boo
 use Rattle.std.specs.Cmp.{both_ways}
 use Rattle.std.proofs.lemmas.Bool.{and_parts, cases_Bool, eq-eqb, eqb-true, lt-ltb, ltb-true}
 use Rattle.cany_base.specs.Limits.{most_nodes}
-use Rattle.cany_base.specs.Nodes.{Nodes, AllBelow, has, those_where}
+use Rattle.cany_base.specs.Nodes.{Nodes, AllBelow, has, those_where, meet}
 use Rattle.cany_base.specs.Params.{Parameters}
 use Rattle.cany_base.proofs.NodesFacts.{has-those_where, same_as_those_where, same_nodes}
 use Rattle.cany_model.specs.Rules.Notices.{IsPart}
-use Rattle.cany_model.specs.Rules.Vectors.{everybody, meet, met_with}
+use Rattle.cany_model.specs.Rules.Vectors.{everybody, met_with}
 
 -- a set whose nodes all have places is that of those where the test holds that it meets
 pub set_where : (nodes : Nodes) (test : ℕ → Bool) → AllBelow most_nodes nodes → ((i : ℕ) → has nodes i ≡ test i)

@@ -1,5 +1,5 @@
 ghost use Rattle.std.specs.Prelude.{◌≡◌, ◌+◌, ◌*◌, ◌<◌, ◌≤◌, Some, IfOk, OnOk};
-ghost use Rattle.cany_base.specs.declared.frame.Format.TheVariants.{One};
+ghost use Rattle.cany_base.specs.declared.format.Format.TheVariants.{One};
 ghost use Rattle.cany_base.specs.Nodes.{AllBelow};
 ghost use Rattle.cany_base.specs.Params.{IsInRange, MeetsFormulas};
 ghost use Rattle.cany_base.specs.Payload.{vector_of};

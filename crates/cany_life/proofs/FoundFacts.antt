@@ -6,9 +6,8 @@ use Rattle.std.proofs.lemmas.List.{get_or-set_other, get_or-set_same}
 use Rattle.std.proofs.lemmas.List.Concat.{flat_map-append}
 use Rattle.cany_base.specs.declared.actions.Action.{Action}
 use Rattle.cany_base.specs.Limits.{most_nodes}
-use Rattle.cany_base.specs.Nodes.{Nodes, has}
+use Rattle.cany_base.specs.Nodes.{Nodes, has, nobody}
 use Rattle.cany_base.proofs.NodesFacts.{has-those_where}
-use Rattle.cany_model.specs.Bus.Slot.{nobody}
 use Rattle.cany_model.specs.Rules.Knowledge.{FailureSign, sign_in}
 use Rattle.cany_model.proofs.Among.{Each-append, Each-weaker}
 use Rattle.cany_life.specs.Life.{LifeParts, known_in}

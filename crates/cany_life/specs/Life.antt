@@ -4,12 +4,11 @@ use Rattle.cany_base.specs.declared.notice.Notice.{Notice}
 use Rattle.cany_base.specs.declared.notice.NoticeKind.{NoticeKind}
 use Rattle.cany_base.specs.declared.notice.NoticeKind.TheVariants.{Idle}
 use Rattle.cany_base.specs.Limits.{most_nodes}
-use Rattle.cany_base.specs.Nodes.{Nodes, has}
+use Rattle.cany_base.specs.Nodes.{Nodes, has, nobody}
 use Rattle.cany_base.specs.Params.{Parameters}
 use Rattle.cany_base.specs.Scenario.{ScenarioParts, IsLegalScenario}
 use Rattle.cany_diffuse.specs.Eager.{EagerParts, copies_of, is_there}
 use Rattle.cany_model.specs.Bus.History.{copies}
-use Rattle.cany_model.specs.Bus.Slot.{nobody}
 use Rattle.cany_model.specs.Rules.Life.{failures_at, life_sign, life_signs_sent}
 use Rattle.cany_model.specs.Rules.Notices.{HasFewSigns, IsNextNotice}
 use Rattle.cany_model.specs.Rules.Rooms.{cycles}

@@ -1,11 +1,11 @@
 ghost use Rattle.std.specs.Prelude.{◌≡◌, ℕ, ◌+◌, ◌*◌, ◌/◌, ◌<◌, ◌≤◌, ◌==◌, ◌&&◌, ◌++◌, ◌∷◌, if◌then◌else◌, length, List, false, replicate, slice_index, slice_set, EachIndex, IfOk};
 ghost use Rattle.std.specs.List.{flat_map};
 ghost use Rattle.can_frame.specs.Identifier.{HasSmallNumbers};
-ghost use Rattle.cany_base.specs.declared.frame.Class.TheVariants as class;
+ghost use Rattle.cany_base.specs.declared.class.Class.TheVariants as class;
 ghost use Rattle.cany_base.specs.declared.notice.NoticeKind.{NoticeKind};
 ghost use Rattle.cany_base.specs.declared.notice.NoticeKind.TheVariants.{Idle};
 ghost use Rattle.cany_base.specs.Limits.{most_nodes, most_numbers, most_slots};
-ghost use Rattle.cany_base.specs.Nodes.{AllBelow, Nodes, has};
+ghost use Rattle.cany_base.specs.Nodes.{AllBelow, Nodes, has, nobody};
 ghost use Rattle.cany_base.specs.Scenario.{ScenarioParts};
 ghost use Rattle.cany_diffuse.specs.Eager.{IsLearnt};
 ghost use Rattle.cany_life.specs.Life.{CanRead, HasReadSlot, IsLifeOf, IsNextAt, Rests, sign_number};
@@ -13,7 +13,6 @@ ghost use Rattle.cany_life.specs.LifeSteps.{CanLearn, IsIdleUntil, IsReading, al
 ghost use Rattle.cany_message.specs.Actions.{withdraw_actions};
 ghost use Rattle.cany_message.specs.Table.{CanTake};
 ghost use Rattle.cany_model.specs.Bus.Frames.{same_class};
-ghost use Rattle.cany_model.specs.Bus.Slot.{nobody};
 ghost use Rattle.cany_model.specs.Rules.Actions.{actions_of};
 ghost use Rattle.cany_model.specs.Rules.Life.{els_frame, failures_at, fda_copy_effects, life_sign, sign_effects, life_signs_sent};
 ghost use Rattle.cany_model.specs.Rules.Notices.{IsNextNotice};

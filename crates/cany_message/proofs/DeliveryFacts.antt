@@ -3,7 +3,7 @@ use Rattle.std.proofs.Common.{◌≡◌, ℕ, ◌==◌, ◌&&◌, Bool, true, fa
 use Rattle.std.specs.List.{list_any}
 use Rattle.std.proofs.lemmas.List.{map-append, append-nil}
 use Rattle.cany_base.specs.declared.actions.Action.{Action}
-use Rattle.cany_base.specs.declared.frame.Format.{Format}
+use Rattle.cany_base.specs.declared.format.Format.{Format}
 use Rattle.cany_base.specs.declared.message.Service.{Service}
 use Rattle.cany_base.specs.declared.notice.NoticeKind.{NoticeKind}
 use Rattle.cany_base.specs.declared.notice.NoticeKind.TheVariants.{Got, Sent}

@@ -1,6 +1,6 @@
 -- The messages of a scenario of one send, or of two equal ones, and the notices of their data frames.
 use Rattle.std.proofs.Common.{◌≡◌, ◌<◌, ℕ, List, [], ◌∷◌, Contains, count_by, length, refl, ap, arith, eq-eqb}
-use Rattle.cany_base.specs.declared.frame.Class.{Class}
+use Rattle.cany_base.specs.declared.class.Class.{Class}
 use Rattle.cany_base.specs.declared.message.SendAsk.{SendAsk}
 use Rattle.cany_base.specs.declared.message.Service.{Service}
 use Rattle.cany_base.specs.declared.message.Service.TheVariants.{Ed, Rel, Tot}

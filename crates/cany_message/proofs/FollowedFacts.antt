@@ -1,15 +1,14 @@
 -- The scenario that an incarnation follows is as legal as the whole one, and has the same tables.
 use Rattle.std.proofs.Common.{ℕ, ◌==◌, Bool, true, false, if◌then◌else◌, List, sym, ◌∙◌}
 use Rattle.std.proofs.lemmas.Bool.{false≢true}
-use Rattle.cany_base.specs.declared.frame.Class.{Class}
+use Rattle.cany_base.specs.declared.class.Class.{Class}
 use Rattle.cany_base.specs.declared.message.Service.{Service}
 use Rattle.cany_base.specs.declared.notice.NoticeKind.{NoticeKind}
-use Rattle.cany_base.specs.Nodes.{Nodes, AllBelow}
+use Rattle.cany_base.specs.Nodes.{Nodes, AllBelow, nobody}
 use Rattle.cany_base.specs.Scenario.{ScenarioParts, IsLegalScenario}
 use Rattle.cany_base.proofs.NodesFacts.{has_none}
 use Rattle.cany_diffuse.specs.Eager.{EagerParts}
 use Rattle.cany_message.specs.Table.{IsTableOf}
-use Rattle.cany_model.specs.Bus.Slot.{nobody}
 use Rattle.cany_model.specs.Bus.State.{Incarnation}
 use Rattle.cany_model.specs.Rules.Turn.{scenario_for}
 

@@ -1,5 +1,5 @@
 ghost use Rattle.std.specs.Prelude.{◌≡◌, ◌<◌};
-ghost use Rattle.cany_base.specs.declared.frame.Class.{Class};
+ghost use Rattle.cany_base.specs.declared.class.Class.{Class};
 ghost use Rattle.cany_base.specs.Limits.{most_nodes};
 ghost use Rattle.cany_model.specs.Bus.Frames.{same_class};
 

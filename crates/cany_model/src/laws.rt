@@ -1,7 +1,7 @@
 //! What holds of every run: each law is the contract of a function that does nothing.
 ghost use Rattle.std.specs.Prelude.{◌≡◌, ◌<◌, ◌≤◌, ◌+◌, ◌↔◌, ℕ, true, List, ◌∷◌, Option, Some, None, Contains, count_by, []};
 ghost use Rattle.cany_base.specs.Limits.{most_nodes};
-ghost use Rattle.cany_base.specs.declared.frame.Class.TheVariants as class;
+ghost use Rattle.cany_base.specs.declared.class.Class.TheVariants as class;
 ghost use Rattle.cany_base.specs.declared.message.Service.TheVariants as service;
 ghost use Rattle.cany_base.specs.declared.slot_note.SlotNote.{SlotNote};
 ghost use Rattle.cany_base.specs.declared.step.Step.{Step};

@@ -8,7 +8,7 @@ use Rattle.std.proofs.lemmas.Bool.Decides.{nat_tests}
 use Rattle.std.proofs.lemmas.List.{drop_all, length-append, map-append, take_more}
 use Rattle.std.proofs.lemmas.List.Elements.{filter-append, filter_agree}
 use Rattle.cany_base.specs.declared.actions.Action.{Action}
-use Rattle.cany_base.specs.declared.frame.Format.{Format}
+use Rattle.cany_base.specs.declared.format.Format.{Format}
 use Rattle.cany_base.specs.declared.message.NodeAsk.{NodeAsk}
 use Rattle.cany_base.specs.Scenario.{ScenarioParts}
 use Rattle.cany_model.specs.Rules.Actions.{action_of, actions_of}

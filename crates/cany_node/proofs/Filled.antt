@@ -5,7 +5,7 @@ use Rattle.std.proofs.lemmas.Bool.{and_from, and_parts, cases_Bool, false≢true
 use Rattle.std.proofs.lemmas.List.{length-map}
 use Rattle.std.proofs.lemmas.List.Elements.{All-head, All-tail}
 use Rattle.std.proofs.lemmas.List.Sums.{count_by-le-length, length-filter}
-use Rattle.cany_base.specs.declared.frame.Format.{Format}
+use Rattle.cany_base.specs.declared.format.Format.{Format}
 use Rattle.cany_base.specs.declared.log_entry.LogEntry.{LogEntry}
 use Rattle.cany_base.specs.declared.log_entry.LogEntry.TheVariants.{Deliver, Failed, View}
 use Rattle.cany_base.specs.declared.message.MsgKey.{MsgKey}

@@ -2,10 +2,10 @@
 use Rattle.std.proofs.Common.{◌≡◌, ℕ, zero, suc, inl, inr, ◌+◌, ◌%◌, ◌<◌, ◌==◌, ◌&&◌, Bool, true, false, not, nat_lt, if◌then◌else◌, List, [], ◌∷◌, filter, map, Option, Some, None, option_map, refl, ap, sym, ◌∙◌, subst, arith}
 use Rattle.std.specs.List.{AllByRecursion, list_any, range_with_len}
 use Rattle.std.proofs.lemmas.Bool.{and_parts, cases_Bool, cond-false, cond_both, eqb-true, false_from_ne_true}
-use Rattle.cany_base.specs.declared.frame.Class.TheVariants as class
+use Rattle.cany_base.specs.declared.class.Class.TheVariants as class
 use Rattle.cany_base.specs.declared.notice.NoticeKind.{NoticeKind}
 use Rattle.cany_base.specs.declared.notice.NoticeKind.TheVariants.{Idle, Got, Sent, Bad}
-use Rattle.cany_base.specs.Nodes.{AllBelow, Nodes, has}
+use Rattle.cany_base.specs.Nodes.{AllBelow, Nodes, has, with_node}
 use Rattle.cany_base.specs.Params.{Parameters}
 use Rattle.cany_base.specs.Scenario.{ScenarioParts}
 use Rattle.cany_history.specs.declared.ended.Ended.{Ended}
@@ -15,7 +15,7 @@ use Rattle.cany_model.specs.Rules.Notices.{BelongsTo, IsReadable}
 use Rattle.cany_model.specs.Rules.Site.{ended_in, after_installing, after_meeting, met_in, start_in}
 use Rattle.cany_model.specs.Rules.Knowledge.{FailureSign, Knowledge, found, found_in, after_finding, after_hearing, after_learning, has_timed_out, knows, same_sign, sign_in, sign_of, told, told_in, with_sign, with_signs}
 use Rattle.cany_model.specs.Rules.Vectors.{cycle_of, is_end, is_start}
-use Rattle.cany_model.specs.Rules.Views.{after_ask, start_of, with_ended, with_joiner, with_leaver, with_node}
+use Rattle.cany_model.specs.Rules.Views.{after_ask, start_of, with_ended, with_joiner, with_leaver}
 use Rattle.cany_model.proofs.Among.{Each-filter, Each-map, Each-weaker}
 use Rattle.cany_model.proofs.Bus.Identities.{same_class-true}
 use Rattle.cany_model.proofs.Rules.KnowledgeSteps.{IgnoresAsks, IgnoresLife, IgnoresSigns, IgnoresVector, asks_keep, found_keeps, life_keeps, met_keeps}

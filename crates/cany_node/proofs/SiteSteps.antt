@@ -3,10 +3,10 @@ use Rattle.std.proofs.Common.{◌≡◌, ℕ, if◌then◌else◌, List, ◌∷�
 use Rattle.std.proofs.lemmas.Bool.{cond_both}
 use Rattle.std.proofs.lemmas.List.{map-append}
 use Rattle.cany_base.specs.declared.actions.Action.{Action}
-use Rattle.cany_base.specs.declared.frame.Format.{Format}
+use Rattle.cany_base.specs.declared.format.Format.{Format}
 use Rattle.cany_base.specs.declared.notice.Notice.{Notice}
 use Rattle.cany_base.specs.declared.notice.NoticeKind.{NoticeKind}
-use Rattle.cany_base.specs.Nodes.{AllBelow, Nodes}
+use Rattle.cany_base.specs.Nodes.{AllBelow, Nodes, minus}
 use Rattle.cany_base.specs.Params.{Parameters}
 use Rattle.cany_base.specs.Scenario.{ScenarioParts}
 use Rattle.cany_history.specs.declared.ended.Ended.{Ended}
@@ -21,7 +21,7 @@ use Rattle.cany_model.specs.Rules.Membership.{install_effects}
 use Rattle.cany_model.specs.Rules.Site.{after_notice, ended_in, after_installing, start_in, knowledge_of}
 use Rattle.cany_model.specs.Rules.Knowledge.{Knowledge, after_admitting, after_finding, with_members}
 use Rattle.cany_model.specs.Rules.Vectors.{after_exchange, exchange_at, is_start}
-use Rattle.cany_model.specs.Rules.Views.{after_ask, minus, start_of, view_effects, with_ended, with_view}
+use Rattle.cany_model.specs.Rules.Views.{after_ask, start_of, view_effects, with_ended, with_view}
 use Rattle.cany_model.proofs.Rules.VectorFacts.{knowledge_vector}
 use Rattle.cany_views.specs.Views.{IsViewsOf, ViewsParts}
 use Rattle.cany_views.proofs.SetFacts.{below_minus}

@@ -1,6 +1,6 @@
 ghost use Rattle.std.specs.Prelude.{◌≡◌, ◌<◌, ◌≤◌, ◌+◌, ◌++◌, ℕ, length, filter, List, Contains};
 ghost use Rattle.std.specs.List.{AllByRecursion};
-ghost use Rattle.cany_base.specs.declared.frame.Format.{Format};
+ghost use Rattle.cany_base.specs.declared.format.Format.{Format};
 ghost use Rattle.cany_base.specs.declared.notice.NoticeKind.{NoticeKind};
 ghost use Rattle.cany_base.specs.Scenario.{ScenarioParts};
 ghost use Rattle.cany_model.specs.Rules.Actions.{actions_of};

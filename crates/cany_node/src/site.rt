@@ -1,9 +1,8 @@
 ghost use Rattle.std.specs.Prelude.{◌≡◌, ℕ, ◌+◌, ◌*◌, ◌<◌, ◌≤◌, ◌∷◌, ◌++◌, false, if◌then◌else◌, length, List, Option, None, IfOk, IfSome};
 ghost use Rattle.cany_base.specs.declared.notice.NoticeKind.{NoticeKind};
-ghost use Rattle.cany_base.specs.Nodes.{AllBelow, Nodes};
+ghost use Rattle.cany_base.specs.Nodes.{AllBelow, Nodes, nobody};
 ghost use Rattle.cany_base.specs.Scenario.{ScenarioParts};
 ghost use Rattle.cany_history.specs.History.{IsHistoryOf};
-ghost use Rattle.cany_model.specs.Bus.Slot.{nobody};
 ghost use Rattle.cany_model.specs.Rules.Actions.{actions_of};
 ghost use Rattle.cany_model.specs.Rules.Life.{failure_effects, life_sign, life_signs_sent};
 ghost use Rattle.cany_model.specs.Rules.Site.{ended_in, knowledge_of};

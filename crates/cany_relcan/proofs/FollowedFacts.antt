@@ -1,6 +1,6 @@
 -- A value stands for the same as an incarnation follows the scenario.
 use Rattle.std.proofs.Common.{ℕ, List}
-use Rattle.cany_base.specs.declared.frame.Class.TheVariants as class
+use Rattle.cany_base.specs.declared.class.Class.TheVariants as class
 use Rattle.cany_base.specs.declared.message.Service.TheVariants as service
 use Rattle.cany_base.specs.declared.notice.NoticeKind.{NoticeKind}
 use Rattle.cany_base.specs.Frame.{FrameParts}

@@ -1,6 +1,6 @@
 ghost use Rattle.std.specs.Prelude.{◌≡◌, ◌≢◌, ℕ, ◌+◌, ◌-◌, ◌<◌, ◌≤◌, ◌==◌, ◌&&◌, false, [], ◌∷◌, ◌++◌, min, not, length, IsTrue, List, replicate, Contains, Some, IfSome, IfOk};
 ghost use Rattle.cany_base.specs.declared.actions.Action.TheVariants as action;
-ghost use Rattle.cany_base.specs.declared.frame.Class.TheVariants as class;
+ghost use Rattle.cany_base.specs.declared.class.Class.TheVariants as class;
 ghost use Rattle.cany_base.specs.declared.message.Service.TheVariants as service;
 ghost use Rattle.cany_base.specs.declared.notice.NoticeKind.{NoticeKind};
 ghost use Rattle.cany_base.specs.declared.notice.NoticeKind.TheVariants.{Idle};

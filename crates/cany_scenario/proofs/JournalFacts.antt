@@ -10,7 +10,7 @@ use Rattle.toml.specs.Data.{Data, as_array, as_str, item}
 use Rattle.toml.specs.View.{view, items_view}
 use Rattle.toml.specs.declared.value.Value.{Value}
 use Rattle.toml.proofs.Views.{items_view-drop}
-use Rattle.cany_base.specs.declared.frame.Format.{Format}
+use Rattle.cany_base.specs.declared.format.Format.{Format}
 use Rattle.cany_base.specs.declared.step.Step.{Step}
 use Rattle.cany_model.specs.declared.scenario_fault.Position.{Position}
 use Rattle.cany_model.specs.declared.scenario_fault.ScenarioFault.{ScenarioFault}

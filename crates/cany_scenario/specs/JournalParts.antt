@@ -4,7 +4,7 @@ use Rattle.std.specs.List.{list_all}
 use Rattle.toml.specs.Data.{as_str, Items, no_items, item}
 use Rattle.toml.specs.View.{view}
 use Rattle.toml.specs.declared.value.Value.{Value}
-use Rattle.cany_base.specs.declared.frame.Format.{Format}
+use Rattle.cany_base.specs.declared.format.Format.{Format}
 use Rattle.cany_base.specs.declared.step.Step.{Step}
 use Rattle.cany_model.specs.declared.scenario_fault.Position.{Position}
 use Rattle.cany_model.specs.Texts.JournalText.{steps_from}

@@ -3,7 +3,7 @@ use Rattle.std.proofs.Common.{◌≡◌, ◌≢◌, ℕ, zero, suc, ◌+◌, ◌
 use Rattle.std.proofs.lemmas.Bool.{cases_eq, eq-eqb, or_right}
 use Rattle.std.proofs.lemmas.Bool.Decides.{nat_tests}
 use Rattle.std.proofs.lemmas.List.{get_or-set_same, get_or-set_other, length-set, length-replicate}
-use Rattle.cany_base.specs.declared.frame.Class.TheVariants as class
+use Rattle.cany_base.specs.declared.class.Class.TheVariants as class
 use Rattle.cany_base.specs.declared.message.MsgKey.{MsgKey}
 use Rattle.cany_base.specs.declared.message.SendAsk.{SendAsk}
 use Rattle.cany_base.specs.declared.message.Service.TheVariants as service

@@ -1,7 +1,7 @@
 -- What a TOTCAN value stands for.
 use Rattle.std.specs.Prelude.{◌≡◌, ℕ, ◌+◌, ◌-◌, ◌<◌, ◌≤◌, ◌==◌, Bool, true, false, if◌then◌else◌, List, [], ◌∷◌, Option, Some, None, Contains, count_by, length, map, slice_get, take}
 use Rattle.std.specs.List.{AllByRecursion, list_any}
-use Rattle.cany_base.specs.declared.frame.Format.{Format}
+use Rattle.cany_base.specs.declared.format.Format.{Format}
 use Rattle.cany_base.specs.declared.message.MsgKey.{MsgKey}
 use Rattle.cany_base.specs.declared.message.Service.TheVariants as service
 use Rattle.cany_base.specs.declared.notice.Notice.{Notice}

@@ -1,6 +1,6 @@
 ghost use Rattle.std.specs.Prelude.{◌≡◌, ℕ, ◌+◌, ◌*◌, ◌≤◌, [], All, List, length, IfOk};
 ghost use Rattle.std.specs.List.{AllByRecursion};
-ghost use Rattle.cany_base.specs.declared.frame.Class.TheVariants as class;
+ghost use Rattle.cany_base.specs.declared.class.Class.TheVariants as class;
 ghost use Rattle.cany_base.specs.declared.message.Service.TheVariants.{Tot};
 ghost use Rattle.cany_base.specs.declared.notice.NoticeKind.{NoticeKind};
 ghost use Rattle.cany_base.specs.Params.{IsInRange, MeetsFormulas, Parameters};

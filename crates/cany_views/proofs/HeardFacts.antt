@@ -1,17 +1,17 @@
 -- What a value of views stands for after an ask to join or to leave is heard.
 use Rattle.std.proofs.Common.{◌≡◌, ℕ, ◌<◌, inl, inr, true, false, ap, subst, ◌∙◌}
 use Rattle.std.proofs.lemmas.Bool.{cases_Bool}
-use Rattle.cany_base.specs.declared.frame.Class.{Class}
-use Rattle.cany_base.specs.declared.frame.Class.TheVariants as class
+use Rattle.cany_base.specs.declared.class.Class.{Class}
+use Rattle.cany_base.specs.declared.class.Class.TheVariants as class
 use Rattle.cany_base.specs.declared.notice.NoticeKind.{NoticeKind}
 use Rattle.cany_base.specs.declared.notice.NoticeKind.TheVariants.{Idle, Got, Sent, Bad}
 use Rattle.cany_base.specs.Frame.{FrameParts}
-use Rattle.cany_base.specs.Nodes.{has}
+use Rattle.cany_base.specs.Nodes.{has, with_node}
 use Rattle.cany_base.specs.Scenario.{ScenarioParts}
 use Rattle.cany_model.specs.Bus.Frames.{same_class}
 use Rattle.cany_model.specs.Rules.Notices.{BelongsTo}
 use Rattle.cany_model.specs.Rules.Knowledge.{Knowledge}
-use Rattle.cany_model.specs.Rules.Views.{after_ask, with_joiner, with_leaver, with_node}
+use Rattle.cany_model.specs.Rules.Views.{after_ask, with_joiner, with_leaver}
 use Rattle.cany_model.proofs.Bus.Identities.{same_class-true}
 use Rattle.cany_views.specs.Views.{IsViewsOf, ViewsParts}
 use Rattle.cany_views.specs.ViewsSteps.{heard_join, heard_leave}

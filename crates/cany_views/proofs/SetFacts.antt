@@ -3,10 +3,8 @@ use Rattle.std.specs.Prelude.{nat_lt}
 use Rattle.std.proofs.Common.{◌≡◌, ℕ, ◌<◌, ◌⊎◌, inl, inr, ◌==◌, ◌&&◌, ◌||◌, Bool, true, false, not, refl, sym, ◌∙◌, subst}
 use Rattle.std.proofs.lemmas.Bool.{cases_Bool, false≢true, lt-ltb, eqb-true}
 use Rattle.cany_base.specs.Limits.{most_nodes}
-use Rattle.cany_base.specs.Nodes.{Nodes, AllBelow, has, those_where}
+use Rattle.cany_base.specs.Nodes.{Nodes, AllBelow, has, those_where, meet, minus, plus, with_node}
 use Rattle.cany_base.proofs.NodesFacts.{has-those_where, same_as_those_where}
-use Rattle.cany_model.specs.Rules.Vectors.{meet}
-use Rattle.cany_model.specs.Rules.Views.{minus, plus, with_node}
 
 -- a set whose nodes all have places is that of those where the test holds that it meets
 pub set_where : (nodes : Nodes) (test : ℕ → Bool) → AllBelow most_nodes nodes → ((i : ℕ) → has nodes i ≡ test i) → nodes ≡ those_where test

@@ -1,13 +1,11 @@
 -- What a value of views stands for with other sets: before anything is heard, outside, and with a vector that becomes the view.
 use Rattle.std.proofs.Common.{◌≡◌, ℕ, ◌<◌, refl, ap, sym, ◌∙◌}
 use Rattle.std.proofs.lemmas.Bool.{false≢true}
-use Rattle.cany_base.specs.Nodes.{AllBelow, Nodes}
+use Rattle.cany_base.specs.Nodes.{AllBelow, Nodes, nobody, meet, minus}
 use Rattle.cany_base.specs.Scenario.{ScenarioParts, IsLegalScenario}
 use Rattle.cany_base.proofs.NodesFacts.{has_none}
-use Rattle.cany_model.specs.Bus.Slot.{nobody}
 use Rattle.cany_model.specs.Rules.Knowledge.{Knowledge, knowledge_at_first}
-use Rattle.cany_model.specs.Rules.Vectors.{meet}
-use Rattle.cany_model.specs.Rules.Views.{minus, with_view}
+use Rattle.cany_model.specs.Rules.Views.{with_view}
 use Rattle.cany_views.specs.Views.{HasNodesOfBus, IsInBounds, IsViewsOf, ViewsParts, asked_cycles}
 use Rattle.cany_views.specs.ViewsSteps.{installed}
 use Rattle.cany_views.proofs.AskFacts.{asked_small, cycle_small}

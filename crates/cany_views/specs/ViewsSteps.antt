@@ -2,14 +2,13 @@
 use Rattle.std.specs.Prelude.{ℕ, if◌then◌else◌, List, ◌∷◌, map}
 use Rattle.cany_base.specs.declared.actions.Action.{Action}
 use Rattle.cany_base.specs.declared.actions.Action.TheVariants.{Enter, Withdraw}
-use Rattle.cany_base.specs.declared.frame.Class.{Class}
-use Rattle.cany_base.specs.declared.frame.Class.TheVariants as class
-use Rattle.cany_base.specs.declared.frame.Format.{Format}
+use Rattle.cany_base.specs.declared.class.Class.{Class}
+use Rattle.cany_base.specs.declared.class.Class.TheVariants as class
+use Rattle.cany_base.specs.declared.format.Format.{Format}
 use Rattle.cany_base.specs.declared.log_entry.LogEntry.TheVariants.{View}
-use Rattle.cany_base.specs.Nodes.{Nodes, has}
+use Rattle.cany_base.specs.Nodes.{Nodes, has, meet, minus, with_node}
 use Rattle.cany_model.specs.Rules.Actions.{ident_of}
-use Rattle.cany_model.specs.Rules.Vectors.{meet}
-use Rattle.cany_model.specs.Rules.Views.{ask_of, minus, with_node}
+use Rattle.cany_model.specs.Rules.Views.{ask_of}
 use Rattle.cany_views.specs.Views.{ViewsParts}
 
 -- ---- asks that are heard

@@ -1,9 +1,7 @@
 //! Sets of nodes that are made of others, as the definitions name them.
 
 ghost use Rattle.std.specs.Prelude.{◌≡◌};
-ghost use Rattle.cany_model.specs.Bus.Slot.{nobody};
-ghost use Rattle.cany_model.specs.Rules.Vectors.{meet};
-ghost use Rattle.cany_model.specs.Rules.Views.{minus, plus, with_node};
+ghost use Rattle.cany_base.specs.Nodes.{nobody, meet, minus, plus, with_node};
 
 use cany_base::{NodeId, NodeSet};
 

@@ -1,5 +1,5 @@
 ghost use Rattle.std.specs.Prelude.{◌≡◌, ◌+◌, ◌<◌, ◌≤◌, length, IfOk, OnOk};
-ghost use Rattle.cany_base.specs.declared.frame.Class.TheVariants as class;
+ghost use Rattle.cany_base.specs.declared.class.Class.TheVariants as class;
 ghost use Rattle.cany_base.specs.Nodes.{AllBelow};
 ghost use Rattle.cany_model.specs.Rules.Notices.{IsReadable};
 ghost use Rattle.cany_model.specs.Rules.Views.{ask_frame};

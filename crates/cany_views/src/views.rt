@@ -1,13 +1,12 @@
 ghost use Rattle.std.specs.Prelude.{◌≡◌, ℕ, ◌+◌, ◌<◌, ◌≤◌, ◌++◌, length, Some, IfOk, IfSome};
-ghost use Rattle.cany_base.specs.declared.frame.Class.TheVariants as class;
-ghost use Rattle.cany_base.specs.Nodes.{AllBelow, has};
+ghost use Rattle.cany_base.specs.declared.class.Class.TheVariants as class;
+ghost use Rattle.cany_base.specs.Nodes.{AllBelow, has, nobody, minus, plus};
 ghost use Rattle.cany_base.specs.Scenario.{ScenarioParts};
-ghost use Rattle.cany_model.specs.Bus.Slot.{nobody};
 ghost use Rattle.cany_model.specs.Rules.Actions.{actions_of};
 ghost use Rattle.cany_model.specs.Rules.Notices.{IsReadable};
 ghost use Rattle.cany_model.specs.Rules.Knowledge.{Knowledge, knowledge_at_first};
 ghost use Rattle.cany_model.specs.Rules.Vectors.{cycle_of};
-ghost use Rattle.cany_model.specs.Rules.Views.{after_ask, join_asked, leave_asked, minus, plus, start_of, view_effects, with_view};
+ghost use Rattle.cany_model.specs.Rules.Views.{after_ask, join_asked, leave_asked, start_of, view_effects, with_view};
 ghost use Rattle.cany_views.specs.Views.{CanHear, IsViewsOf};
 ghost use Rattle.cany_views.specs.ViewsSteps.{heard_join, heard_leave, installed, installed_actions, withdrawals};
 

@@ -9,14 +9,14 @@ use Rattle.cany_base.specs.declared.step.Step.{Step}
 use Rattle.cany_base.specs.declared.step.Step.TheVariants.{Slot, Turn}
 use Rattle.cany_base.specs.Frame.{FrameParts}
 use Rattle.cany_base.specs.Limits.{most_nodes}
-use Rattle.cany_base.specs.Nodes.{has}
+use Rattle.cany_base.specs.Nodes.{has, nobody}
 use Rattle.cany_base.specs.Scenario.{ScenarioParts}
 use Rattle.cany_base.proofs.NodesFacts.{has_none, same_as_those_where}
 use Rattle.cany_model.specs.Bus.History.{given, history, seen, trace_for}
 use Rattle.cany_model.specs.Bus.Restart.{names_restart}
 use Rattle.cany_model.specs.Bus.RoundRobin.{is_to_read, reading_nodes, round}
 use Rattle.cany_model.specs.Bus.Run.{after_step, after_turn, is_done, is_legal_from, proceed, reply, run_from}
-use Rattle.cany_model.specs.Bus.Slot.{after_share, after_slot, exceeds, nobody, node_after, note_by, ruling_of, script, share_of, slot_note_of, stopping, winner}
+use Rattle.cany_model.specs.Bus.Slot.{after_share, after_slot, exceeds, node_after, note_by, ruling_of, script, share_of, slot_note_of, stopping, winner}
 use Rattle.cany_model.specs.Bus.State.{NodeState, RunState, absent, node_at, runs, slots_run}
 use Rattle.cany_model.specs.Rules.Effect.{waiting_after}
 use Rattle.cany_model.specs.Rules.Turn.{effects_for}

@@ -4,8 +4,8 @@ use Rattle.std.specs.Str.{bytes_eq}
 use Rattle.std.proofs.Common.{sym, ap, ◌∙◌, eqb-true, eq-eqb, ◌≡◌, ◌==◌, ◌&&◌, true, refl}
 use Rattle.std.proofs.lemmas.Bool.{and_parts, and_from, eq-eqb, cond_both}
 use Rattle.std.proofs.lemmas.Slice.Eq.{bytes_eq-Decides}
-use Rattle.cany_base.specs.declared.frame.Class.{Class}
-use Rattle.cany_base.specs.declared.frame.Class.TheVariants.{Accept, Rha, Els, Fda, Join, Leave, Confirm, Tot, Rel, Ed}
+use Rattle.cany_base.specs.declared.class.Class.{Class}
+use Rattle.cany_base.specs.declared.class.Class.TheVariants.{Accept, Rha, Els, Fda, Join, Leave, Confirm, Tot, Rel, Ed}
 use Rattle.cany_base.specs.Frame.{FrameParts, class_number}
 use Rattle.cany_model.specs.Bus.Frames.{Identity, identity_of, same_class, same_identity, same_frame}
 use Rattle.cany_model.specs.Promises.Hypothesis.{count_together}

@@ -5,7 +5,8 @@ use Rattle.std.proofs.lemmas.Bool.{false≢true, cases_lt}
 use Rattle.std.proofs.lemmas.List.{get_or-set_same, get_or-set_other, get_or_past, get_or-replicate}
 use Rattle.cany_base.specs.declared.rule.Verdict.TheVariants.{Clean}
 use Rattle.cany_base.specs.declared.slot_note.SlotNote.{SlotNote}
-use Rattle.cany_model.specs.Bus.Slot.{nobody, node_after, nodes_after}
+use Rattle.cany_model.specs.Bus.Slot.{node_after, nodes_after}
+use Rattle.cany_base.specs.Nodes.{nobody}
 use Rattle.cany_model.specs.Bus.State.{NodeState, fresh, absent, opening, node_at, runs}
 
 -- what stands past the last note

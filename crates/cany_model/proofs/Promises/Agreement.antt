@@ -2,7 +2,7 @@
 -- and a frame that was asked for and no longer waits was carried Clean, or was withdrawn for that reason. So where a node was to
 -- send it, a slot carried it Clean, and every node that runs and took part since then got or sent it there.
 use Rattle.std.proofs.Common.{◌≡◌, ℕ, ◌≤◌, ◌⊎◌, inr, true, false, List, Some, None, ap, subst, sym, ◌∙◌, arith}
-use Rattle.cany_base.specs.declared.frame.Class.TheVariants as class
+use Rattle.cany_base.specs.declared.class.Class.TheVariants as class
 use Rattle.cany_base.specs.Limits.{most_nodes}
 use Rattle.cany_base.specs.declared.slot_note.SlotNote.{SlotNote}
 use Rattle.cany_base.specs.Scenario.{ScenarioParts}

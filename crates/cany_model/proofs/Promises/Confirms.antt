@@ -3,7 +3,7 @@ use Rattle.std.specs.Prelude.{◌≡◌, ℕ, ◌≤◌, List, ◌∷◌, None, 
 use Rattle.cany_base.specs.Limits.{most_nodes}
 use Rattle.std.specs.List.{AllByRecursion}
 use Rattle.std.proofs.Common.{sym, ap, ◌∙◌, subst, inl, inr}
-use Rattle.cany_base.specs.declared.frame.Class.TheVariants.{Confirm, Rel}
+use Rattle.cany_base.specs.declared.class.Class.TheVariants.{Confirm, Rel}
 use Rattle.cany_base.specs.declared.notice.NoticeKind.TheVariants.{Got, Sent}
 use Rattle.cany_base.specs.declared.slot_note.SlotNote.{SlotNote}
 use Rattle.cany_base.specs.declared.step.Step.{Step}

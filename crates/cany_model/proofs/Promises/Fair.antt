@@ -7,12 +7,12 @@ use Rattle.cany_base.specs.declared.notice.NoticeKind.{NoticeKind}
 use Rattle.cany_base.specs.declared.notice.NoticeKind.TheVariants.{Idle, Got, Sent, Bad}
 use Rattle.cany_base.specs.declared.slot_note.SlotNote.{SlotNote}
 use Rattle.cany_base.specs.Frame.{FrameParts}
-use Rattle.cany_base.specs.Nodes.{has}
+use Rattle.cany_base.specs.Nodes.{has, nobody}
 use Rattle.cany_base.specs.Scenario.{ScenarioParts}
 use Rattle.cany_model.specs.Bus.History.{carries_early, given, history, is_hidden}
 use Rattle.cany_model.specs.Bus.Restart.{after_restarts}
 use Rattle.cany_model.specs.Bus.Run.{after_turn}
-use Rattle.cany_model.specs.Bus.Slot.{nobody, FaultScript, after_slot, script, slot_note_of}
+use Rattle.cany_model.specs.Bus.Slot.{FaultScript, after_slot, script, slot_note_of}
 use Rattle.cany_model.specs.Bus.State.{Incarnation, NodeState, RunState, node_at, opening, runs}
 use Rattle.cany_model.specs.Rules.Effect.{waiting_after}
 use Rattle.cany_model.specs.Rules.Notices.{is_early_frame}

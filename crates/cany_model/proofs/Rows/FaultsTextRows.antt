@@ -1,9 +1,9 @@
 -- Worked rows of the fault rules that a text gives.
 use Rattle.std.specs.Prelude.{◌≡◌, ℕ, pos, negsuc, List, [], ◌∷◌, map, replicate, Ok, Err, refl, codes}
 use Rattle.toml.specs.Data.{Data, string, integer, table, Members, no_members, member}
-use Rattle.cany_base.specs.declared.frame.Class.{Class}
-use Rattle.cany_base.specs.declared.frame.Class.TheVariants as class
-use Rattle.cany_base.specs.declared.frame.Format.TheVariants.{Two}
+use Rattle.cany_base.specs.declared.class.Class.{Class}
+use Rattle.cany_base.specs.declared.class.Class.TheVariants as class
+use Rattle.cany_base.specs.declared.format.Format.TheVariants.{Two}
 use Rattle.cany_base.specs.declared.rule.Rule.{Rule}
 use Rattle.cany_base.specs.declared.rule.Verdict.TheVariants.{Clean, Lost, Partial, Silent}
 use Rattle.cany_base.specs.Nodes.{bits_where, those_where}

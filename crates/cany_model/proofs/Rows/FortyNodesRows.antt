@@ -2,7 +2,7 @@
 use Rattle.std.specs.Prelude.{ℕ, ◌≡◌, ◌++◌, List, [], ◌∷◌, None, codes, decimal, refl}
 use Rattle.std.specs.List.{concat, flat_map, range_with_len}
 use Rattle.std.specs.Fmt.{digits}
-use Rattle.cany_base.specs.declared.frame.Format.TheVariants.{Two}
+use Rattle.cany_base.specs.declared.format.Format.TheVariants.{Two}
 use Rattle.cany_base.specs.Params.{default_parameters_of}
 use Rattle.cany_base.specs.Scenario.{ScenarioParts}
 use Rattle.cany_model.proofs.Rows.ReportRows.{text_of}

@@ -1,8 +1,8 @@
 -- Worked rows of the journal that a text gives.
 use Rattle.std.specs.Prelude.{◌≡◌, pos, List, [], ◌∷◌, map, Option, Some, None, Ok, Err, refl, codes}
 use Rattle.toml.specs.Data.{Data, string, integer, array, no_members}
-use Rattle.cany_base.specs.declared.frame.Format.{Format}
-use Rattle.cany_base.specs.declared.frame.Format.TheVariants.{One, Two}
+use Rattle.cany_base.specs.declared.format.Format.{Format}
+use Rattle.cany_base.specs.declared.format.Format.TheVariants.{One, Two}
 use Rattle.cany_base.specs.declared.step.Step.{Step}
 use Rattle.cany_base.specs.declared.step.Step.TheVariants.{Slot, Turn}
 use Rattle.cany_model.specs.declared.scenario_fault.KeyName.TheVariants as key

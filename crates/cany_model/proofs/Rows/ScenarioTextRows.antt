@@ -2,7 +2,7 @@
 use Rattle.std.specs.Prelude.{◌≡◌, ℕ, pos, List, [], ◌∷◌, None, Ok, Err, refl, codes}
 use Rattle.std.specs.Str.{chars, is_utf8}
 use Rattle.toml.specs.Data.{Members, no_members}
-use Rattle.cany_base.specs.declared.frame.Format.TheVariants.{One, Two}
+use Rattle.cany_base.specs.declared.format.Format.TheVariants.{One, Two}
 use Rattle.cany_base.specs.Nodes.{Nodes}
 use Rattle.cany_model.specs.declared.scenario_fault.KeyName.TheVariants as key
 use Rattle.cany_model.specs.declared.scenario_fault.ScenarioFault.TheVariants.{NotText, WrongKind, OutOfRange}

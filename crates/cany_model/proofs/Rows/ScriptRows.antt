@@ -1,6 +1,6 @@
 -- Worked rows of a fault script, and of arbitration between two origins.
 use Rattle.std.specs.Prelude.{◌≡◌, true, [], ◌∷◌, Some, None, refl, codes}
-use Rattle.cany_base.specs.declared.frame.Class.TheVariants as class
+use Rattle.cany_base.specs.declared.class.Class.TheVariants as class
 use Rattle.cany_base.specs.declared.rule.Verdict.TheVariants.{Clean, Lost, Partial}
 use Rattle.cany_model.specs.Bus.RoundRobin.{round_robin}
 use Rattle.cany_model.proofs.Rows.RowWords.{carries, delivered, delivers, ed, first_frame, frame_rule, insides, one_message, report, row, scenario, send, set, slot_rule, steps, three}

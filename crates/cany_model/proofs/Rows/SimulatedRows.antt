@@ -1,6 +1,6 @@
 -- Runs that an independent simulator computed.
 use Rattle.std.specs.Prelude.{ℕ, ◌≡◌, true, false, List, [], ◌∷◌, Some, None, refl, codes}
-use Rattle.cany_base.specs.declared.frame.Format.TheVariants.{One}
+use Rattle.cany_base.specs.declared.format.Format.TheVariants.{One}
 use Rattle.cany_base.specs.declared.log_entry.LogEntry.{LogEntry}
 use Rattle.cany_base.specs.declared.rule.Verdict.TheVariants.{Clean, Lost, Partial, Silent}
 use Rattle.cany_model.specs.declared.breaks.BreakKind.TheVariants as kind

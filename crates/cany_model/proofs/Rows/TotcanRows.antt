@@ -1,7 +1,7 @@
 -- Worked rows of TOTCAN.
 use Rattle.std.specs.Prelude.{ℕ, ◌≡◌, ◌++◌, true, false, List, [], ◌∷◌, Some, None, map, replicate, refl, codes}
 use Rattle.std.specs.List.{concat}
-use Rattle.cany_base.specs.declared.frame.Format.TheVariants.{One}
+use Rattle.cany_base.specs.declared.format.Format.TheVariants.{One}
 use Rattle.cany_base.specs.declared.log_entry.LogEntry.{LogEntry}
 use Rattle.cany_base.specs.declared.rule.Verdict.TheVariants.{Clean, Partial, Silent}
 use Rattle.cany_base.specs.Params.{Parameters}

@@ -1,7 +1,7 @@
 -- Worked rows of reception history vectors: what a node sends and withdraws in a turn, and its vector after it. Cycles have 8 slots and end
 -- in their slots 3, so cycle 1 starts in slot 8 and ends in slot 11.
 use Rattle.std.specs.Prelude.{ℕ, ◌≡◌, true, false, List, [], ◌∷◌, ◌++◌, Option, Some, None, map, replicate, refl}
-use Rattle.cany_base.specs.declared.frame.Format.TheVariants.{One, Two}
+use Rattle.cany_base.specs.declared.format.Format.TheVariants.{One, Two}
 use Rattle.cany_base.specs.declared.notice.NoticeKind.{NoticeKind}
 use Rattle.cany_base.specs.declared.notice.NoticeKind.TheVariants.{Idle, Got, Sent, Bad}
 use Rattle.cany_base.specs.Nodes.{Nodes}

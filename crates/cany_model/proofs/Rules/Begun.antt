@@ -7,7 +7,7 @@ use Rattle.cany_base.specs.declared.notice.NoticeKind.TheVariants.{Idle}
 use Rattle.cany_base.specs.Scenario.{ScenarioParts}
 use Rattle.cany_model.specs.Bus.Frames.{Identity}
 use Rattle.cany_model.specs.Bus.History.{copies, has_own, is_got, is_sent}
-use Rattle.cany_model.specs.Bus.Slot.{nobody}
+use Rattle.cany_base.specs.Nodes.{nobody}
 use Rattle.cany_model.specs.Rules.Relcan.{falls_back, fell_back, has_confirm, has_copy, is_first_got, is_timed}
 use Rattle.cany_model.proofs.Among.{Each-drop, count-no}
 

@@ -1,10 +1,10 @@
 -- What a node knows of members, of those that ask to join and of its vector names nodes of the bus alone.
 use Rattle.std.proofs.Common.{◌≡◌, ℕ, ◌<◌, ◌==◌, ◌&&◌, ◌||◌, inl, inr, Bool, true, not, nat_lt, if◌then◌else◌, List, [], ◌∷◌, length, Option, Some, None, refl, sym, ◌∙◌, subst, arith}
 use Rattle.std.proofs.lemmas.Bool.{and_parts, cond_both, eqb-true, false≢true, ltb-true, or_cases}
-use Rattle.cany_base.specs.declared.frame.Class.TheVariants as class
+use Rattle.cany_base.specs.declared.class.Class.TheVariants as class
 use Rattle.cany_base.specs.declared.notice.NoticeKind.{NoticeKind}
 use Rattle.cany_base.specs.declared.notice.NoticeKind.TheVariants.{Idle, Got, Sent, Bad}
-use Rattle.cany_base.specs.Nodes.{Nodes, AllBelow, has, those_where}
+use Rattle.cany_base.specs.Nodes.{Nodes, AllBelow, has, those_where, meet, minus, plus, with_node}
 use Rattle.cany_base.specs.Params.{Parameters}
 use Rattle.cany_base.specs.Scenario.{ScenarioParts}
 use Rattle.cany_base.proofs.NodesFacts.{has_none}
@@ -12,8 +12,8 @@ use Rattle.cany_model.specs.Bus.Frames.{same_class}
 use Rattle.cany_model.specs.Rules.Notices.{BelongsTo, IsReadable, NamesNode}
 use Rattle.cany_model.specs.Rules.Site.{after_notice, ended_in, after_asking, after_installing, met_in, start_in, knowledge_of}
 use Rattle.cany_model.specs.Rules.Knowledge.{Knowledge, after_finding}
-use Rattle.cany_model.specs.Rules.Vectors.{brought, everybody, is_end, is_start, meet, met}
-use Rattle.cany_model.specs.Rules.Views.{after_ask, minus, plus, start_of, start_vector, with_joiner, with_leaver, with_node}
+use Rattle.cany_model.specs.Rules.Vectors.{brought, everybody, is_end, is_start, met}
+use Rattle.cany_model.specs.Rules.Views.{after_ask, start_of, start_vector, with_joiner, with_leaver}
 use Rattle.cany_model.proofs.Bus.Identities.{same_class-true}
 use Rattle.cany_model.proofs.Bus.Notes.{those_where_pass}
 use Rattle.cany_model.proofs.Rules.SignRooms.{AreRead}

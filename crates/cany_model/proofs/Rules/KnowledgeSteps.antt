@@ -1,16 +1,16 @@
 -- What the steps of a turn make of what a node knows: which fields each step leaves, and what each field is after the turn.
 use Rattle.std.proofs.Common.{◌≡◌, ℕ, ◌==◌, ◌&&◌, Bool, true, false, not, if◌then◌else◌, List, [], ◌∷◌, Option, Some, None, refl, ap, ◌∙◌}
 use Rattle.std.proofs.lemmas.Bool.{cond_both}
-use Rattle.cany_base.specs.declared.frame.Class.TheVariants as class
+use Rattle.cany_base.specs.declared.class.Class.TheVariants as class
 use Rattle.cany_base.specs.declared.notice.NoticeKind.{NoticeKind}
 use Rattle.cany_base.specs.declared.notice.NoticeKind.TheVariants.{Idle, Got, Sent, Bad}
-use Rattle.cany_base.specs.Nodes.{Nodes, has, those_where}
+use Rattle.cany_base.specs.Nodes.{Nodes, has, those_where, meet, minus, with_node}
 use Rattle.cany_base.specs.Params.{Parameters}
 use Rattle.cany_model.specs.Bus.Frames.{same_class}
 use Rattle.cany_model.specs.Rules.Site.{after_notice, ended_in, after_asking, after_installing, after_meeting, after_starting, met_in, start_in}
 use Rattle.cany_model.specs.Rules.Knowledge.{FailureSign, Knowledge, after_life, found_in, after_finding, after_hearing, after_learning, shows_life, told_in, with_shown, with_sign, with_signs}
-use Rattle.cany_model.specs.Rules.Vectors.{after_exchange, is_end, is_start, meet}
-use Rattle.cany_model.specs.Rules.Views.{after_ask, minus, start_of, with_ended, with_joiner, with_leaver, with_node}
+use Rattle.cany_model.specs.Rules.Vectors.{after_exchange, is_end, is_start}
+use Rattle.cany_model.specs.Rules.Views.{after_ask, start_of, with_ended, with_joiner, with_leaver}
 
 -- ---- what a step leaves
 

@@ -3,7 +3,7 @@ use Rattle.std.proofs.Common.{◌≡◌, ℕ, zero, suc, ◌+◌, ◌<◌, ◌&&
 use Rattle.std.specs.List.{AllByRecursion, flat_map, range_with_len}
 use Rattle.std.proofs.lemmas.Bool.{false≢true, and_parts, cond_both, leb-true}
 use Rattle.std.proofs.lemmas.List.Sums.{sum_by-append}
-use Rattle.cany_base.specs.declared.frame.Class.TheVariants as class
+use Rattle.cany_base.specs.declared.class.Class.TheVariants as class
 use Rattle.cany_base.specs.declared.log_entry.LogEntry.{LogEntry}
 use Rattle.cany_base.specs.declared.log_entry.LogEntry.TheVariants.{Deliver, Failed, View}
 use Rattle.cany_base.specs.declared.message.MsgKey.{MsgKey}
@@ -15,7 +15,7 @@ use Rattle.cany_base.specs.Scenario.{ScenarioParts}
 use Rattle.cany_base.proofs.NodesFacts.{has_none}
 use Rattle.cany_model.specs.Bus.Frames.{identity_of, same_class}
 use Rattle.cany_model.specs.Bus.History.{copies}
-use Rattle.cany_model.specs.Bus.Slot.{nobody}
+use Rattle.cany_base.specs.Nodes.{nobody}
 use Rattle.cany_model.specs.Promises.Entries.{delivers_key}
 use Rattle.cany_model.specs.Rules.Eager.{has_enough}
 use Rattle.cany_model.specs.Rules.Effect.{Effect, Ask, Withdraw, Enter, entered}

@@ -5,7 +5,7 @@ use Rattle.std.specs.List.{AllByRecursion}
 use Rattle.std.proofs.lemmas.Bool.{false≢true, and_parts, cases_Bool, cases_lt, cond_both, eqb-true, leb-true, not-true}
 use Rattle.std.proofs.lemmas.List.{get_or_past}
 use Rattle.std.proofs.lemmas.List.Sums.{sum_by-append}
-use Rattle.cany_base.specs.declared.frame.Class.TheVariants as class
+use Rattle.cany_base.specs.declared.class.Class.TheVariants as class
 use Rattle.cany_base.specs.declared.message.MsgKey.{MsgKey}
 use Rattle.cany_base.specs.declared.message.Service.TheVariants.{Tot}
 use Rattle.cany_base.specs.declared.notice.NoticeKind.{NoticeKind}

@@ -2,7 +2,7 @@
 use Rattle.std.proofs.Common.{◌≡◌, ℕ, ◌<◌, ◌≤◌, ◌⊎◌, inl, inr, true, false, List, ◌∷◌, length, ap, sym, ◌∙◌}
 use Rattle.std.specs.List.{AllByRecursion}
 use Rattle.std.proofs.lemmas.Bool.{false≢true}
-use Rattle.cany_base.specs.declared.frame.Class.TheVariants as class
+use Rattle.cany_base.specs.declared.class.Class.TheVariants as class
 use Rattle.cany_base.specs.declared.message.Service.TheVariants.{Rel}
 use Rattle.cany_base.specs.declared.notice.NoticeKind.{NoticeKind}
 use Rattle.cany_base.specs.Frame.{FrameParts, data_class}

@@ -18,7 +18,7 @@ use Rattle.cany_base.specs.declared.notice.NoticeKind.TheVariants.{Got}
 use Rattle.cany_base.specs.declared.slot_note.SlotNote.{SlotNote}
 use Rattle.cany_base.specs.declared.step.Step.{Step}
 use Rattle.cany_base.specs.Frame.{FrameParts, data_class}
-use Rattle.cany_base.specs.Nodes.{AllBelow}
+use Rattle.cany_base.specs.Nodes.{AllBelow, nobody}
 use Rattle.cany_base.specs.Scenario.{ScenarioParts, IsLegalScenario}
 use Rattle.cany_base.proofs.NodesFacts.{has_none}
 use Rattle.cany_base.proofs.ParamsFacts.{few_nodes, few_slots}
@@ -27,7 +27,7 @@ use Rattle.cany_model.specs.Bus.History.{as_seen, ended_history, given, seen}
 use Rattle.cany_model.specs.Bus.Incarnations.{incarnation_of, log_of}
 use Rattle.cany_model.specs.Bus.Restart.{after_restarts}
 use Rattle.cany_model.specs.Bus.Run.{after_turn, run}
-use Rattle.cany_model.specs.Bus.Slot.{FaultScript, after_slot, nobody, script}
+use Rattle.cany_model.specs.Bus.Slot.{FaultScript, after_slot, script}
 use Rattle.cany_model.specs.Bus.State.{EndedIncarnation, Incarnation, NodeState, RunState, fresh, node_at, opening, runs}
 use Rattle.cany_model.specs.Rules.Messages.{Message, messages_after, messages_of}
 use Rattle.cany_model.specs.Rules.Notices.{BelongsTo, IsDataOf, IsReadable}

@@ -6,8 +6,8 @@ use Rattle.std.specs.Option.{option_map_or}
 use Rattle.std.proofs.lemmas.Bool.Decides.{nat_tests}
 use Rattle.toml.specs.Data.{Data, get_member}
 use Rattle.cany_base.specs.declared.message.SendAsk.{SendAsk}
-use Rattle.cany_base.specs.declared.frame.Format.{Format}
-use Rattle.cany_base.specs.declared.frame.Format.TheVariants.{One, Two}
+use Rattle.cany_base.specs.declared.format.Format.{Format}
+use Rattle.cany_base.specs.declared.format.Format.TheVariants.{One, Two}
 use Rattle.cany_base.specs.declared.params.ParamFault.{ParamFault}
 use Rattle.cany_base.specs.Limits.{greatest_errors, greatest_given, greatest_lag, greatest_omit, greatest_slots, most_nodes, most_sends}
 use Rattle.cany_base.specs.Params.{Parameters, IsInRange, MeetsFormulas, least_bound, least_cycle, least_life, least_silence, first_fault}

@@ -4,16 +4,16 @@ use Rattle.std.proofs.Common.{◌≡◌, ℕ, zero, suc, ◌+◌, ◌*◌, ◌<�
 use Rattle.std.specs.List.{AllByRecursion}
 use Rattle.std.proofs.lemmas.Bool.{and_from, and_right, both_ways, cases_eq, cond-true, cond_both, eq-eqb, lt-ltb, ltb-true}
 use Rattle.cany_base.specs.Limits.{most_nodes}
-use Rattle.cany_base.specs.declared.frame.Class.TheVariants as class
-use Rattle.cany_base.specs.declared.frame.Format.{Format}
-use Rattle.cany_base.specs.declared.frame.Format.TheVariants.{One, Two}
+use Rattle.cany_base.specs.declared.class.Class.TheVariants as class
+use Rattle.cany_base.specs.declared.format.Format.{Format}
+use Rattle.cany_base.specs.declared.format.Format.TheVariants.{One, Two}
 use Rattle.cany_base.specs.declared.notice.NoticeKind.{NoticeKind}
 use Rattle.cany_base.specs.declared.notice.NoticeKind.TheVariants.{Idle, Got, Sent, Bad}
 use Rattle.cany_base.specs.declared.slot_note.SlotNote.{SlotNote}
 use Rattle.cany_base.specs.declared.step.Step.{Step}
 use Rattle.cany_base.specs.Frame.{FrameParts}
 use Rattle.cany_base.specs.Layout.{layout}
-use Rattle.cany_base.specs.Nodes.{AllBelow, Nodes, has}
+use Rattle.cany_base.specs.Nodes.{AllBelow, Nodes, has, meet}
 use Rattle.cany_base.specs.Params.{Parameters}
 use Rattle.cany_base.specs.Payload.{vector_bytes, vector_of}
 use Rattle.cany_base.specs.Scenario.{ScenarioParts}
@@ -34,7 +34,7 @@ use Rattle.cany_model.specs.Rules.Relcan.{relcan}
 use Rattle.cany_model.specs.Rules.Sends.{scripted_sends}
 use Rattle.cany_model.specs.Rules.Totcan.{totcan}
 use Rattle.cany_model.specs.Rules.Turn.{protocols, turn_effects}
-use Rattle.cany_model.specs.Rules.Vectors.{brought, cycle_of, end_effects, ended, everybody, exchange_at, is_covered, is_new, is_start, meet, met, met_with, rha_frame, rha_of, start_effects, vector_effects, vector_in}
+use Rattle.cany_model.specs.Rules.Vectors.{brought, cycle_of, end_effects, ended, everybody, exchange_at, is_covered, is_new, is_start, met, met_with, rha_frame, rha_of, start_effects, vector_effects, vector_in}
 use Rattle.cany_model.proofs.Among.{Each-append, Each-flat_map, Each-of, Each-weaker, Among-from_Contains, Among-get_or, Contains-from_Among}
 use Rattle.cany_model.proofs.Bus.EachRead.{EachRead}
 use Rattle.cany_model.proofs.Bus.Identities.{same_class_self}

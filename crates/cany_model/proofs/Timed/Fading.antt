@@ -6,12 +6,12 @@ use Rattle.std.proofs.Math.Nat.{mul-le-mul_right}
 use Rattle.std.proofs.lemmas.Bool.{and_from, and_parts, both_ways, cases_Bool, cond-false, cond_both, eq-eqb, false_from_ne_true, false≢true, le-leb, ne_eqb, not-true, not_from_false, or_cases, or_left, or_right}
 use Rattle.std.proofs.lemmas.List.FromFn.{get_or-range_with_len, length-range_with_len}
 use Rattle.cany_base.specs.Limits.{most_nodes}
-use Rattle.cany_base.specs.declared.frame.Class.TheVariants as class
+use Rattle.cany_base.specs.declared.class.Class.TheVariants as class
 use Rattle.cany_base.specs.declared.notice.NoticeKind.{NoticeKind}
 use Rattle.cany_base.specs.declared.notice.NoticeKind.TheVariants.{Idle, Got, Sent, Bad}
 use Rattle.cany_base.specs.declared.slot_note.SlotNote.{SlotNote}
 use Rattle.cany_base.specs.Frame.{FrameParts}
-use Rattle.cany_base.specs.Nodes.{Nodes, has}
+use Rattle.cany_base.specs.Nodes.{Nodes, has, minus}
 use Rattle.cany_base.specs.Params.{Parameters}
 use Rattle.cany_base.specs.Scenario.{ScenarioParts}
 use Rattle.cany_model.specs.Bus.Frames.{same_class}
@@ -20,7 +20,7 @@ use Rattle.cany_model.specs.Rules.Notices.{IsReadable}
 use Rattle.cany_model.specs.Rules.Site.{after_asking, after_installing, after_meeting, met_in, start_in, knowledge_of}
 use Rattle.cany_model.specs.Rules.Knowledge.{FailureSign, Knowledge, after_life, found, found_in, after_finding, after_hearing, after_learning, has_timed_out, knows, same_sign, shows_life, sign_in, sign_of, told, told_in, with_shown, with_sign, with_signs}
 use Rattle.cany_model.specs.Rules.Vectors.{is_end, is_start}
-use Rattle.cany_model.specs.Rules.Views.{minus, start_of, start_vector, with_ended}
+use Rattle.cany_model.specs.Rules.Views.{start_of, start_vector, with_ended}
 use Rattle.cany_model.proofs.Among.{Among, Among-from_any, Among-get_or, Among-map, Among-weaker, Each-append, Each-filter, Each-map}
 use Rattle.cany_model.proofs.Bus.EachRead.{EachRead}
 use Rattle.cany_model.proofs.Bus.Identities.{same_class-true}

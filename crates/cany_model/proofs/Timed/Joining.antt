@@ -6,7 +6,7 @@ use Rattle.std.proofs.Math.Nat.{mul-le-mul_right}
 use Rattle.std.proofs.lemmas.Bool.{and_from, both_ways, cases_Bool, cases_eq, cases_lt, cond_both, eq-eqb, not_from_false, or_left, or_right}
 use Rattle.std.proofs.lemmas.List.{drop_more, length-map, take-append-drop}
 use Rattle.cany_base.specs.Limits.{most_nodes}
-use Rattle.cany_base.specs.declared.frame.Class.TheVariants as class
+use Rattle.cany_base.specs.declared.class.Class.TheVariants as class
 use Rattle.cany_base.specs.declared.notice.NoticeKind.{NoticeKind}
 use Rattle.cany_base.specs.declared.notice.NoticeKind.TheVariants.{Idle, Got, Sent, Bad}
 use Rattle.cany_base.specs.declared.rule.Verdict.TheVariants.{Clean}
@@ -14,7 +14,7 @@ use Rattle.cany_base.specs.declared.slot_note.SlotNote.{SlotNote}
 use Rattle.cany_base.specs.declared.step.Step.{Step}
 use Rattle.cany_base.specs.Frame.{FrameParts}
 use Rattle.cany_base.specs.Layout.{layout}
-use Rattle.cany_base.specs.Nodes.{AllBelow, Nodes, has}
+use Rattle.cany_base.specs.Nodes.{AllBelow, Nodes, has, minus, with_node}
 use Rattle.cany_base.specs.Params.{MeetsFormulas, Parameters}
 use Rattle.cany_base.specs.Scenario.{ScenarioParts}
 use Rattle.cany_model.specs.Bus.Frames.{same_class}
@@ -27,7 +27,7 @@ use Rattle.cany_model.specs.Rules.Site.{after_asking, start_in, knowledge_of}
 use Rattle.cany_model.specs.Rules.Knowledge.{FailureSign, Knowledge, fda_of, after_finding}
 use Rattle.cany_model.specs.Rules.Turn.{scenario_for}
 use Rattle.cany_model.specs.Rules.Vectors.{is_end}
-use Rattle.cany_model.specs.Rules.Views.{after_ask, minus, with_joiner, with_leaver, with_node}
+use Rattle.cany_model.specs.Rules.Views.{after_ask, with_joiner, with_leaver}
 use Rattle.cany_model.proofs.Among.{Among, Among-from_Contains}
 use Rattle.cany_model.proofs.Bus.Identities.{same_class_self}
 use Rattle.cany_model.proofs.Bus.Notes.{given-Sent, has_where}

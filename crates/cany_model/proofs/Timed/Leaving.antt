@@ -3,8 +3,8 @@ use Rattle.std.proofs.Common.{◌≡◌, ◌≢◌, ℕ, ◌<◌, ◌⊎◌, ◌
 use Rattle.std.specs.List.{AllByRecursion}
 use Rattle.std.proofs.lemmas.Bool.{and_from, and_parts, both_ways, cond_both, eqb-true, false_from_ne_true, false≢true, not_from_false, or_cases, or_left}
 use Rattle.std.proofs.lemmas.List.Elements.{All-contains, All-from_recursion}
-use Rattle.cany_base.specs.declared.frame.Class.{Class}
-use Rattle.cany_base.specs.declared.frame.Class.TheVariants as class
+use Rattle.cany_base.specs.declared.class.Class.{Class}
+use Rattle.cany_base.specs.declared.class.Class.TheVariants as class
 use Rattle.cany_base.specs.declared.message.Service.{Service}
 use Rattle.cany_base.specs.declared.message.Service.TheVariants.{Ed, Rel, Tot}
 use Rattle.cany_base.specs.declared.notice.NoticeKind.{NoticeKind}
@@ -13,7 +13,7 @@ use Rattle.cany_base.specs.declared.slot_note.SlotNote.{SlotNote}
 use Rattle.cany_base.specs.declared.step.Step.{Step}
 use Rattle.cany_base.specs.Frame.{FrameParts, data_class}
 use Rattle.cany_base.specs.Limits.{most_nodes}
-use Rattle.cany_base.specs.Nodes.{Nodes, has}
+use Rattle.cany_base.specs.Nodes.{Nodes, has, meet, minus, with_node}
 use Rattle.cany_base.specs.Params.{Parameters}
 use Rattle.cany_base.specs.Scenario.{ScenarioParts}
 use Rattle.cany_base.proofs.NodesFacts.{has_none}
@@ -26,8 +26,8 @@ use Rattle.cany_model.specs.Promises.Detector.{AsksNoLeave}
 use Rattle.cany_model.specs.Rules.Site.{ended_in, after_asking, after_installing, after_meeting, start_in, knowledge_of}
 use Rattle.cany_model.specs.Rules.Knowledge.{Knowledge, after_finding}
 use Rattle.cany_model.specs.Rules.Turn.{scenario_for}
-use Rattle.cany_model.specs.Rules.Vectors.{is_end, is_start, meet}
-use Rattle.cany_model.specs.Rules.Views.{after_ask, minus, start_of, start_vector, with_ended, with_joiner, with_leaver, with_node}
+use Rattle.cany_model.specs.Rules.Vectors.{is_end, is_start}
+use Rattle.cany_model.specs.Rules.Views.{after_ask, start_of, start_vector, with_ended, with_joiner, with_leaver}
 use Rattle.cany_model.proofs.Bus.Identities.{same_class-true}
 use Rattle.cany_model.proofs.Bus.Notes.{given-Got, given-Sent, has_where, note_of-offered, those_where_pass}
 use Rattle.cany_model.proofs.Bus.Restarts.{after_restarts-trace}

@@ -6,20 +6,19 @@ use Rattle.std.proofs.lemmas.Bool.{and_from, and_right, both_ways, cases_eq, cas
 use Rattle.std.proofs.lemmas.List.{drop-append-le, drop-map, length-map, map-append}
 use Rattle.std.proofs.lemmas.List.Elements.{recursion_from_All}
 use Rattle.cany_base.specs.Limits.{most_nodes}
-use Rattle.cany_base.specs.declared.frame.Class.TheVariants as class
+use Rattle.cany_base.specs.declared.class.Class.TheVariants as class
 use Rattle.cany_base.specs.declared.notice.NoticeKind.{NoticeKind}
 use Rattle.cany_base.specs.declared.notice.NoticeKind.TheVariants.{Idle, Got, Sent, Bad}
 use Rattle.cany_base.specs.declared.slot_note.SlotNote.{SlotNote}
 use Rattle.cany_base.specs.declared.step.Step.{Step}
 use Rattle.cany_base.specs.declared.step.Step.TheVariants as step
 use Rattle.cany_base.specs.Layout.{layout}
-use Rattle.cany_base.specs.Nodes.{AllBelow, Nodes}
+use Rattle.cany_base.specs.Nodes.{AllBelow, Nodes, nobody}
 use Rattle.cany_base.specs.Params.{MeetsFormulas, Parameters}
 use Rattle.cany_base.specs.Scenario.{ScenarioParts}
 use Rattle.cany_model.specs.Bus.Frames.{same_class}
 use Rattle.cany_model.specs.Bus.History.{as_seen, given, history, seen}
 use Rattle.cany_model.specs.Bus.Run.{run}
-use Rattle.cany_model.specs.Bus.Slot.{nobody}
 use Rattle.cany_model.specs.Bus.State.{Incarnation, NodeState, RunState, node_at, reads, runs, slots_run}
 use Rattle.cany_model.specs.Promises.Hypothesis.{IsWithin, is_silent_slot}
 use Rattle.cany_model.specs.Promises.OneView.{HasReadEnd, InstallsOneVector, installed, installed_of}

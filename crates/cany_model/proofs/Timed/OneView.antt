@@ -5,7 +5,7 @@ use Rattle.std.specs.List.{AllByRecursion}
 use Rattle.std.proofs.lemmas.Bool.{and_from, and_parts, cases_Bool, cases_lt, cond-false, cond_both, eq-eqb, eqb-true}
 use Rattle.std.proofs.lemmas.Nat.{div-add-mod'}
 use Rattle.cany_base.specs.Limits.{most_nodes}
-use Rattle.cany_base.specs.declared.frame.Class.TheVariants as class
+use Rattle.cany_base.specs.declared.class.Class.TheVariants as class
 use Rattle.cany_base.specs.declared.log_entry.LogEntry.{LogEntry}
 use Rattle.cany_base.specs.declared.log_entry.LogEntry.TheVariants.{Deliver, Failed, View}
 use Rattle.cany_base.specs.declared.message.NodeAsk.{NodeAsk}

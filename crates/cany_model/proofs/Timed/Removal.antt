@@ -5,14 +5,14 @@ use Rattle.std.specs.List.{AllByRecursion}
 use Rattle.std.proofs.lemmas.Bool.{and_parts, both_ways, cases_lt, cond_both, eqb-true, false_from_ne_true, not-true, or_cases}
 use Rattle.std.proofs.lemmas.List.{length-map, take-append-drop}
 use Rattle.cany_base.specs.Limits.{most_nodes}
-use Rattle.cany_base.specs.declared.frame.Class.TheVariants as class
+use Rattle.cany_base.specs.declared.class.Class.TheVariants as class
 use Rattle.cany_base.specs.declared.log_entry.LogEntry.TheVariants.{View}
 use Rattle.cany_base.specs.declared.notice.NoticeKind.{NoticeKind}
 use Rattle.cany_base.specs.declared.notice.NoticeKind.TheVariants.{Idle, Got, Sent, Bad}
 use Rattle.cany_base.specs.declared.slot_note.SlotNote.{SlotNote}
 use Rattle.cany_base.specs.declared.step.Step.{Step}
 use Rattle.cany_base.specs.Layout.{layout}
-use Rattle.cany_base.specs.Nodes.{AllBelow, Nodes, has}
+use Rattle.cany_base.specs.Nodes.{AllBelow, Nodes, has, minus, with_node}
 use Rattle.cany_base.specs.Params.{MeetsFormulas, Parameters}
 use Rattle.cany_base.specs.Scenario.{ScenarioParts}
 use Rattle.cany_base.proofs.NodesFacts.{has_none}
@@ -27,7 +27,7 @@ use Rattle.cany_model.specs.Rules.Notices.{IsReadable}
 use Rattle.cany_model.specs.Rules.Site.{after_asking, knowledge_of}
 use Rattle.cany_model.specs.Rules.Knowledge.{Knowledge, after_finding, knows, sign_in}
 use Rattle.cany_model.specs.Rules.Vectors.{cycle_of, is_end}
-use Rattle.cany_model.specs.Rules.Views.{after_ask, minus, with_joiner, with_leaver, with_node}
+use Rattle.cany_model.specs.Rules.Views.{after_ask, with_joiner, with_leaver}
 use Rattle.cany_model.proofs.Bus.EachRead.{EachRead}
 use Rattle.cany_model.proofs.Bus.Identities.{same_class-true}
 use Rattle.cany_model.proofs.Bus.Notes.{those_where_pass}

@@ -3,7 +3,7 @@
 use Rattle.std.proofs.Common.{◌≡◌, ℕ, zero, suc, ◌+◌, ◌<◌, ◌≤◌, ◌||◌, inl, inr, Bool, true, false, List, [], ◌∷◌, count_by, drop, take, refl, arith}
 use Rattle.std.specs.List.{list_any}
 use Rattle.std.proofs.lemmas.Bool.{both_ways, cases_Bool, or_right}
-use Rattle.cany_base.specs.declared.frame.Class.TheVariants as class
+use Rattle.cany_base.specs.declared.class.Class.TheVariants as class
 use Rattle.cany_base.specs.declared.slot_note.SlotNote.{SlotNote}
 use Rattle.cany_base.specs.Frame.{FrameParts}
 use Rattle.cany_base.specs.Params.{MeetsFormulas, Parameters}

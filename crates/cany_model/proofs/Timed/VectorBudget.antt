@@ -8,14 +8,13 @@ use Rattle.cany_base.specs.declared.notice.NoticeKind.{NoticeKind}
 use Rattle.cany_base.specs.declared.notice.NoticeKind.TheVariants.{Sent}
 use Rattle.cany_base.specs.declared.slot_note.SlotNote.{SlotNote}
 use Rattle.cany_base.specs.Frame.{FrameParts}
-use Rattle.cany_base.specs.Nodes.{Nodes, AllBelow}
+use Rattle.cany_base.specs.Nodes.{Nodes, AllBelow, nobody}
 use Rattle.cany_base.specs.Params.{Parameters}
 use Rattle.cany_base.specs.Scenario.{ScenarioParts}
 use Rattle.cany_base.specs.Limits.{most_nodes}
 use Rattle.cany_base.specs.declared.step.Step.{Step}
 use Rattle.cany_base.proofs.NodesFacts.{has_none}
 use Rattle.cany_model.specs.Bus.Run.{run}
-use Rattle.cany_model.specs.Bus.Slot.{nobody}
 use Rattle.cany_model.specs.Bus.State.{Incarnation, NodeState, RunState, node_at}
 use Rattle.cany_model.specs.Rules.Knowledge.{Knowledge}
 use Rattle.cany_model.proofs.Bus.EachRead.{EachRead, each_of_history}

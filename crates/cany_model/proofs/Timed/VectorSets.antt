@@ -2,15 +2,15 @@
 use Rattle.std.proofs.Common.{◌≡◌, ◌≢◌, ℕ, zero, suc, ◌+◌, ◌<◌, ◌≤◌, ◌&&◌, ◌⊎◌, inl, inr, if◌then◌else◌, Bool, true, false, Option, Some, None, refl, ap, sym, ◌∙◌, subst, arith}
 use Rattle.std.proofs.lemmas.Bool.{and_parts, both_ways, cases_Bool, cases_eq, cases_lt, eqb-true, false≢true}
 use Rattle.cany_base.specs.Limits.{most_nodes}
-use Rattle.cany_base.specs.declared.frame.Format.{Format}
-use Rattle.cany_base.specs.declared.frame.Format.TheVariants.{One, Two}
+use Rattle.cany_base.specs.declared.format.Format.{Format}
+use Rattle.cany_base.specs.declared.format.Format.TheVariants.{One, Two}
 use Rattle.cany_base.specs.Layout.{layout}
-use Rattle.cany_base.specs.Nodes.{Nodes, AllBelow, has}
+use Rattle.cany_base.specs.Nodes.{Nodes, AllBelow, has, meet}
 use Rattle.cany_base.specs.Payload.{vector_bytes, vector_of}
 use Rattle.cany_base.proofs.NodesFacts.{bits-lt, same_nodes}
 use Rattle.cany_base.proofs.PayloadFacts.{bits-back}
 use Rattle.cany_model.specs.Rules.Notices.{IsPart}
-use Rattle.cany_model.specs.Rules.Vectors.{is_just, meet}
+use Rattle.cany_model.specs.Rules.Vectors.{is_just}
 use Rattle.cany_model.proofs.Bus.Notes.{those_where_pass}
 
 -- ---- parts

@@ -1,7 +1,7 @@
 -- Identities of frames, and the order in which frames win arbitration.
 use Rattle.std.specs.Prelude.{ℕ, Bool, not, ◌==◌, ◌&&◌, nat_lt, if◌then◌else◌, []}
 use Rattle.std.specs.Str.{bytes_eq}
-use Rattle.cany_base.specs.declared.frame.Class.{Class}
+use Rattle.cany_base.specs.declared.class.Class.{Class}
 use Rattle.cany_base.specs.Frame.{FrameParts, class_number}
 
 -- what names a frame

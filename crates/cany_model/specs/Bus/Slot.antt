@@ -10,7 +10,7 @@ use Rattle.cany_base.specs.declared.rule.Verdict.TheVariants.{Clean, Lost, Parti
 use Rattle.cany_base.specs.declared.slot_note.SlotNote.{SlotNote}
 use Rattle.cany_base.specs.Frame.{FrameParts}
 use Rattle.cany_base.specs.Limits.{greatest_error_counter}
-use Rattle.cany_base.specs.Nodes.{Nodes, has, those_where}
+use Rattle.cany_base.specs.Nodes.{Nodes, has, those_where, nobody}
 use Rattle.cany_base.specs.Scenario.{same_place}
 use Rattle.cany_model.specs.Bus.Frames.{Identity, identity_of, is_of, is_before}
 use Rattle.cany_model.specs.declared.share.Share.{Share}
@@ -52,9 +52,6 @@ carried test note = option_map_or test note.frame false
 -- how many slots carried a frame of this identity
 abbrev pub attempts : Identity → List SlotNote → ℕ
 attempts x trace = count_by (carried (is_of x)) trace
-
-abbrev pub nobody : Nodes
-nobody = record { bits = 0 }
 
 -- the first rule that has the place
 abbrev pub rule_at : List Rule → Place → Option Rule

@@ -1,7 +1,7 @@
 -- The fault hypothesis: the omissions that a run may have, and the first slot at which it has more.
 use Rattle.std.specs.Prelude.{ℕ, ◌+◌, ◌≤◌, ◌≡◌, ◌==◌, ◌&&◌, Bool, true, false, nat_lt, if◌then◌else◌, List, [], ◌∷◌, Option, Some, None, All, count_by, take, drop}
 use Rattle.std.specs.Option.{option_or}
-use Rattle.cany_base.specs.declared.frame.Class.TheVariants as class
+use Rattle.cany_base.specs.declared.class.Class.TheVariants as class
 use Rattle.cany_base.specs.declared.rule.Verdict.{Verdict}
 use Rattle.cany_base.specs.declared.rule.Verdict.TheVariants.{Clean, Lost, Partial, Silent}
 use Rattle.cany_base.specs.declared.slot_note.SlotNote.{SlotNote}

@@ -1,7 +1,7 @@
 -- The one order of TOTCAN.
 use Rattle.std.specs.Prelude.{◌≡◌, ℕ, ◌++◌, ◌&&◌, Bool, true, nat_le, if◌then◌else◌, List, [], ◌∷◌, Option, Some, None, Contains}
 use Rattle.std.specs.List.{flat_map, list_any, range_with_len}
-use Rattle.cany_base.specs.declared.frame.Class.TheVariants as class
+use Rattle.cany_base.specs.declared.class.Class.TheVariants as class
 use Rattle.cany_base.specs.declared.log_entry.LogEntry.{LogEntry}
 use Rattle.cany_base.specs.declared.log_entry.LogEntry.TheVariants.{Deliver, Failed, View}
 use Rattle.cany_base.specs.declared.message.MsgKey.{MsgKey}

@@ -1,7 +1,7 @@
 -- The effects of rules as the actions that the code lists: a withdrawal names the identifier.
 use Rattle.std.specs.Prelude.{ℕ, List, map}
 use Rattle.cany_base.specs.declared.actions.Action.{Action}
-use Rattle.cany_base.specs.declared.frame.Format.{Format}
+use Rattle.cany_base.specs.declared.format.Format.{Format}
 use Rattle.cany_base.specs.declared.actions.Action.TheVariants as action
 use Rattle.cany_base.specs.Frame.{identifier_of}
 use Rattle.cany_model.specs.Rules.Effect.{Effect, Ask, Withdraw, Enter}

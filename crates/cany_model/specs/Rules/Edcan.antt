@@ -1,6 +1,6 @@
 -- EDCAN: every node that got the data frame of a message relays it by the eager rule.
 use Rattle.std.specs.Prelude.{ℕ, ◌++◌, false, if◌then◌else◌, List, [], ◌∷◌}
-use Rattle.cany_base.specs.declared.frame.Class.TheVariants as class
+use Rattle.cany_base.specs.declared.class.Class.TheVariants as class
 use Rattle.cany_base.specs.declared.message.Service.TheVariants as service
 use Rattle.cany_base.specs.declared.notice.NoticeKind.{NoticeKind}
 use Rattle.cany_base.specs.declared.notice.NoticeKind.TheVariants.{Idle, Got, Sent, Bad}

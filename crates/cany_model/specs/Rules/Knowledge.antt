@@ -1,14 +1,13 @@
 -- What a node knows of the site from what it has read: who the members are, which nodes have failed, and when each last showed life.
 use Rattle.std.specs.Prelude.{ℕ, ◌-◌, ◌/◌, ◌==◌, ◌&&◌, ◌||◌, Bool, not, nat_le, if◌then◌else◌, List, [], ◌∷◌, filter, map, Option, None}
 use Rattle.std.specs.List.{list_any, range_with_len}
-use Rattle.cany_base.specs.declared.frame.Class.TheVariants as class
+use Rattle.cany_base.specs.declared.class.Class.TheVariants as class
 use Rattle.cany_base.specs.declared.notice.NoticeKind.{NoticeKind}
 use Rattle.cany_base.specs.declared.notice.NoticeKind.TheVariants.{Idle, Got, Sent, Bad}
 use Rattle.cany_base.specs.Frame.{FrameParts}
-use Rattle.cany_base.specs.Nodes.{Nodes, has, those_where}
+use Rattle.cany_base.specs.Nodes.{Nodes, has, those_where, nobody}
 use Rattle.cany_base.specs.Params.{Parameters}
 use Rattle.cany_model.specs.Bus.Frames.{Identity, identity_of, same_class}
-use Rattle.cany_model.specs.Bus.Slot.{nobody}
 
 -- ---- failure signs
 

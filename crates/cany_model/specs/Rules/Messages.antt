@@ -1,6 +1,6 @@
 -- The messages of a scenario: one for each scripted send, and the frames of a message.
 use Rattle.std.specs.Prelude.{◌≡◌, ℕ, Bool, ◌==◌, List, [], ◌∷◌, count_by, Contains}
-use Rattle.cany_base.specs.declared.frame.Class.TheVariants.{Accept, Confirm}
+use Rattle.cany_base.specs.declared.class.Class.TheVariants.{Accept, Confirm}
 use Rattle.cany_base.specs.declared.message.SendAsk.{SendAsk}
 use Rattle.cany_base.specs.declared.message.Service.{Service}
 use Rattle.cany_base.specs.declared.message.MsgKey.{MsgKey}

@@ -1,7 +1,7 @@
 -- When the notices of a node are those of a run of the scenario, as far as its protocols rest on it.
 use Rattle.std.specs.Prelude.{◌≡◌, ◌<◌, ◌≤◌, ◌*◌, ◌/◌, ◌&&◌, ℕ, Bool, true, false, nat_lt, List, length, Contains, Option, Some, None}
-use Rattle.cany_base.specs.declared.frame.Class.{Class}
-use Rattle.cany_base.specs.declared.frame.Class.TheVariants.{Accept, Rha, Els, Fda, Join, Leave, Confirm, Tot, Rel, Ed}
+use Rattle.cany_base.specs.declared.class.Class.{Class}
+use Rattle.cany_base.specs.declared.class.Class.TheVariants.{Accept, Rha, Els, Fda, Join, Leave, Confirm, Tot, Rel, Ed}
 use Rattle.cany_base.specs.declared.message.Service.{Service}
 use Rattle.cany_base.specs.declared.message.Service.TheVariants as service
 use Rattle.cany_base.specs.declared.notice.Notice.{Notice}

@@ -1,6 +1,6 @@
 -- A protocol as one value: what a turn and a settled message ask of it, and what it names and delivers.
 use Rattle.std.specs.Prelude.{ℕ, Bool, false, List}
-use Rattle.cany_base.specs.declared.frame.Class.{Class}
+use Rattle.cany_base.specs.declared.class.Class.{Class}
 use Rattle.cany_base.specs.declared.message.Service.{Service}
 use Rattle.cany_base.specs.declared.notice.NoticeKind.{NoticeKind}
 use Rattle.cany_base.specs.Scenario.{ScenarioParts}

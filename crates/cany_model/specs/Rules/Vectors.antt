@@ -1,21 +1,16 @@
 -- Reception history vectors: in each membership cycle the nodes come to one set of nodes by exchanging it.
 use Rattle.std.specs.Prelude.{ℕ, ◌/◌, ◌%◌, ◌==◌, ◌&&◌, ◌||◌, ◌++◌, Bool, false, true, not, nat_lt, nat_le, if◌then◌else◌, List, [], ◌∷◌, length, Option, Some, None, count_by, unwrap_or}
 use Rattle.std.specs.List.{list_any}
-use Rattle.cany_base.specs.declared.frame.Class.TheVariants as class
-use Rattle.cany_base.specs.declared.frame.Format.{Format}
+use Rattle.cany_base.specs.declared.class.Class.TheVariants as class
+use Rattle.cany_base.specs.declared.format.Format.{Format}
 use Rattle.cany_base.specs.declared.notice.NoticeKind.{NoticeKind}
 use Rattle.cany_base.specs.declared.notice.NoticeKind.TheVariants.{Idle, Got, Sent, Bad}
 use Rattle.cany_base.specs.Frame.{FrameParts}
-use Rattle.cany_base.specs.Nodes.{Nodes, has, those_where}
+use Rattle.cany_base.specs.Nodes.{Nodes, has, those_where, meet}
 use Rattle.cany_base.specs.Params.{Parameters}
 use Rattle.cany_base.specs.Payload.{vector_bytes, vector_of}
 use Rattle.cany_model.specs.Bus.Frames.{Identity, same_class}
 use Rattle.cany_model.specs.Rules.Effect.{Effect, Ask, Withdraw}
-
--- ---- sets of nodes
-
-abbrev pub meet : Nodes → Nodes → Nodes
-meet a b = those_where (λ r. has a r && has b r)
 
 -- the nodes of the bus
 abbrev pub everybody : Parameters → Nodes

@@ -1,29 +1,18 @@
 -- Views of the site: who asks to join and to leave, what a member starts a cycle with, and how a vector becomes the view.
 use Rattle.std.specs.Prelude.{ℕ, ◌==◌, ◌&&◌, ◌||◌, not, if◌then◌else◌, List, [], ◌∷◌, filter, map, Option, Some, None}
-use Rattle.cany_base.specs.declared.frame.Class.{Class}
-use Rattle.cany_base.specs.declared.frame.Class.TheVariants as class
+use Rattle.cany_base.specs.declared.class.Class.{Class}
+use Rattle.cany_base.specs.declared.class.Class.TheVariants as class
 use Rattle.cany_base.specs.declared.log_entry.LogEntry.TheVariants.{View}
 use Rattle.cany_base.specs.declared.message.NodeAsk.{NodeAsk}
 use Rattle.cany_base.specs.declared.notice.NoticeKind.{NoticeKind}
 use Rattle.cany_base.specs.declared.notice.NoticeKind.TheVariants.{Idle, Got, Sent, Bad}
 use Rattle.cany_base.specs.Frame.{FrameParts}
-use Rattle.cany_base.specs.Nodes.{Nodes, has, those_where}
+use Rattle.cany_base.specs.Nodes.{Nodes, has, those_where, meet, plus, minus, with_node}
 use Rattle.cany_base.specs.Params.{Parameters}
 use Rattle.cany_model.specs.Bus.Frames.{Identity, same_class}
 use Rattle.cany_model.specs.Rules.Effect.{Effect, Ask, Withdraw, Enter}
 use Rattle.cany_model.specs.Rules.Knowledge.{Knowledge, after_admitting}
-use Rattle.cany_model.specs.Rules.Vectors.{cycle_of, meet}
-
--- ---- sets of nodes
-
-abbrev pub with_node : ℕ → Nodes → Nodes
-with_node q nodes = those_where (λ r. has nodes r || r == q)
-
-abbrev pub plus : Nodes → Nodes → Nodes
-plus a b = those_where (λ r. has a r || has b r)
-
-abbrev pub minus : Nodes → Nodes → Nodes
-minus a b = those_where (λ r. has a r && not (has b r))
+use Rattle.cany_model.specs.Rules.Vectors.{cycle_of}
 
 -- ---- asks that are heard
 

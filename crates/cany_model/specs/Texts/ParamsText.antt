@@ -1,8 +1,8 @@
 -- The parameters that the top keys of a scenario text give.
 use Rattle.std.specs.Prelude.{◌==◌, if◌then◌else◌, Result, Ok, Err}
 use Rattle.toml.specs.Data.{Data}
-use Rattle.cany_base.specs.declared.frame.Format.{Format}
-use Rattle.cany_base.specs.declared.frame.Format.TheVariants.{One, Two}
+use Rattle.cany_base.specs.declared.format.Format.{Format}
+use Rattle.cany_base.specs.declared.format.Format.TheVariants.{One, Two}
 use Rattle.cany_base.specs.declared.params.ParamFault.{ParamFault}
 use Rattle.cany_base.specs.Layout.{layout}
 use Rattle.cany_base.specs.Limits.{greatest_errors, greatest_given, greatest_lag, greatest_omit, greatest_slots}

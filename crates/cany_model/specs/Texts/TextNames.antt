@@ -1,8 +1,8 @@
 -- The words that the texts share: what classes, services, verdicts, parameters, tables and keys are called in them.
 use Rattle.std.specs.Prelude.{ℕ, List, Option, find, codes}
 use Rattle.std.specs.Str.{bytes_eq}
-use Rattle.cany_base.specs.declared.frame.Class.{Class}
-use Rattle.cany_base.specs.declared.frame.Class.TheVariants.{Accept, Rha, Els, Fda, Join, Leave, Confirm, Tot, Rel, Ed}
+use Rattle.cany_base.specs.declared.class.Class.{Class}
+use Rattle.cany_base.specs.declared.class.Class.TheVariants.{Accept, Rha, Els, Fda, Join, Leave, Confirm, Tot, Rel, Ed}
 use Rattle.cany_base.specs.declared.message.Service.{Service}
 use Rattle.cany_base.specs.declared.message.Service.TheVariants as service
 use Rattle.cany_base.specs.declared.params.ParamName.{ParamName}

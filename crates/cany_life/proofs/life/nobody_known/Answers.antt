@@ -2,9 +2,8 @@
 use Rattle.std.proofs.Common.{◌≡◌, [], ◌∷◌, ◌++◌, replicate, ap, sym, ◌∙◌}
 use Rattle.std.proofs.lemmas.List.{replicate_more}
 use Rattle.cany_base.specs.Bounded.{Bounded}
-use Rattle.cany_base.specs.Nodes.{Nodes}
+use Rattle.cany_base.specs.Nodes.{Nodes, nobody}
 use Rattle.cany_base.proofs.NodesFacts.{has_none, same_nodes}
-use Rattle.cany_model.specs.Bus.Slot.{nobody}
 use Rattle.cany_life.proofs.life.nobody_known.Goals as goal
 
 pub loop-preserved : goal.loop-preserved

@@ -1,6 +1,6 @@
 -- So many empty sets were pushed.
 use Rattle.std.proofs.Common.{◌≡◌, replicate}
-use Rattle.cany_model.specs.Bus.Slot.{nobody}
+use Rattle.cany_base.specs.Nodes.{nobody}
 use Rattle.cany_life.proofs.life.nobody_known.Given as goal
 
 abbrev pub invariant-loop : goal.invariant-loop

@@ -2,7 +2,7 @@
 use Rattle.std.proofs.Common.{replicate, ◌∙◌}
 use Rattle.std.proofs.lemmas.List.{length-replicate}
 use Rattle.cany_base.specs.declared.notice.NoticeKind.TheVariants.{Idle}
-use Rattle.cany_model.specs.Bus.Slot.{nobody}
+use Rattle.cany_base.specs.Nodes.{nobody}
 use Rattle.cany_model.specs.Rules.Knowledge.{knowledge_at_first}
 use Rattle.cany_life.proofs.SentFacts.{life_signs_sent-idle}
 use Rattle.cany_life.proofs.TurnFacts.{at_own_node}

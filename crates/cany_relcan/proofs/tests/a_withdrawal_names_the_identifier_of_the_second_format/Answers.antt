@@ -1,5 +1,5 @@
 use Rattle.std.proofs.Common.{[], ◌∷◌, replicate, refl, ap, ◌∙◌, arith}
-use Rattle.cany_base.specs.declared.frame.Class.TheVariants as class
+use Rattle.cany_base.specs.declared.class.Class.TheVariants as class
 use Rattle.cany_base.specs.declared.message.SendAsk.{SendAsk}
 use Rattle.cany_base.specs.declared.message.Service.TheVariants.{Rel}
 use Rattle.cany_base.specs.declared.notice.NoticeKind.TheVariants.{Idle, Got}

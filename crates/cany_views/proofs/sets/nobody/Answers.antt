@@ -1,6 +1,6 @@
 use Rattle.std.proofs.Common.{sym, ◌∙◌}
 use Rattle.cany_base.proofs.NodesFacts.{has_none, same_nodes}
-use Rattle.cany_model.specs.Bus.Slot.{nobody}
+use Rattle.cany_base.specs.Nodes.{nobody}
 use Rattle.cany_views.proofs.sets.nobody.Goals as goal
 
 pub returns : goal.returns

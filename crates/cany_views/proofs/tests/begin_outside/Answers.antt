@@ -1,4 +1,4 @@
-use Rattle.cany_model.specs.Bus.Slot.{nobody}
+use Rattle.cany_base.specs.Nodes.{nobody}
 use Rattle.cany_model.specs.Rules.Knowledge.{knowledge_at_first}
 use Rattle.cany_views.proofs.SmallFacts.{stands_in}
 use Rattle.cany_views.proofs.tests.begin_outside.Goals as goal

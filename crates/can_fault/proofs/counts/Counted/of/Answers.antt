@@ -1,7 +1,7 @@
 -- Vectors of one cycle count together.
 use Rattle.std.proofs.Common.{◌≡◌, ap, ◌∙◌, sym}
 use Rattle.cany_base.specs.Frame.{FrameParts}
-use Rattle.cany_base.specs.declared.frame.Class.TheVariants.{Rha}
+use Rattle.cany_base.specs.declared.class.Class.TheVariants.{Rha}
 use Rattle.can_fault.specs.declared.counts.Counted.TheVariants.{Vectors, Frame}
 use Rattle.can_fault.proofs.CountedFacts.{counted_vectors, counted_frame}
 use Rattle.can_fault.proofs.counts.Counted.of.Goals as goal

@@ -2,7 +2,8 @@
 use Rattle.std.proofs.Common.{◌≡◌, ap, sym, ◌∙◌}
 use Rattle.cany_base.specs.declared.rule.Verdict.TheVariants.{Clean}
 use Rattle.cany_base.proofs.NodesFacts.{has_none, same_nodes}
-use Rattle.cany_model.specs.Bus.Slot.{Ruling, nobody, ruling_of}
+use Rattle.cany_model.specs.Bus.Slot.{Ruling, ruling_of}
+use Rattle.cany_base.specs.Nodes.{nobody}
 use Rattle.can_fault.proofs.TableFacts.{script_from}
 use Rattle.can_fault.proofs.script.Script.verdict.Goals as goal
 

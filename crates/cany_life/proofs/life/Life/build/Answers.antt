@@ -2,11 +2,10 @@
 use Rattle.std.proofs.Common.{◌≡◌, ◌+◌, ◌*◌, ◌/◌, length, replicate, refl, ap, sym, ◌∙◌, arith}
 use Rattle.std.proofs.lemmas.List.{get_or-replicate, length-replicate}
 use Rattle.cany_base.specs.Limits.{most_nodes}
-use Rattle.cany_base.specs.Nodes.{has}
+use Rattle.cany_base.specs.Nodes.{has, nobody}
 use Rattle.cany_base.specs.Params.{Parameters}
 use Rattle.cany_base.proofs.NodesFacts.{has_none}
 use Rattle.cany_base.proofs.ParamsFacts.{few_nodes}
-use Rattle.cany_model.specs.Bus.Slot.{nobody}
 use Rattle.cany_model.specs.Rules.Rooms.{cycles}
 use Rattle.cany_life.specs.Life.{known_in}
 use Rattle.cany_life.proofs.CopyFacts.{copies_fresh}

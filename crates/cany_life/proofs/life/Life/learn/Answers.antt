@@ -1,6 +1,6 @@
 -- A copy of the frame of a sign, and the notices that are none.
 use Rattle.std.proofs.Common.{◌≡◌, true, ◌∷◌, length, ap, subst, sym, ◌∙◌, arith}
-use Rattle.cany_base.specs.declared.frame.Class.TheVariants as class
+use Rattle.cany_base.specs.declared.class.Class.TheVariants as class
 use Rattle.cany_base.specs.declared.notice.NoticeKind.TheVariants.{Idle, Got, Sent, Bad}
 use Rattle.cany_base.specs.Params.{Parameters}
 use Rattle.cany_base.proofs.ParamsFacts.{few_slots}

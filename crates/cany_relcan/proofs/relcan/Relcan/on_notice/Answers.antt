@@ -1,7 +1,7 @@
 -- A notice, before the timer that ends in its turn.
 use Rattle.std.proofs.Common.{◌≡◌, ◌==◌, ◌&&◌, true, ap, subst, sym, ◌∙◌, arith}
 use Rattle.std.proofs.lemmas.Bool.{and_parts, eqb-true}
-use Rattle.cany_base.specs.declared.frame.Class.TheVariants as class
+use Rattle.cany_base.specs.declared.class.Class.TheVariants as class
 use Rattle.cany_base.specs.declared.message.Service.TheVariants as service
 use Rattle.cany_base.specs.declared.notice.NoticeKind.TheVariants.{Idle, Got, Sent, Bad}
 use Rattle.cany_message.proofs.DeliveryFacts.{no_actions}

@@ -1,7 +1,7 @@
 -- A notice, before what closes and what is delivered in its turn.
 use Rattle.std.proofs.Common.{◌≡◌, ◌++◌, ◌&&◌, true, ap, sym, ◌∙◌, arith}
 use Rattle.std.proofs.lemmas.Bool.{and_parts}
-use Rattle.cany_base.specs.declared.frame.Class.TheVariants as class
+use Rattle.cany_base.specs.declared.class.Class.TheVariants as class
 use Rattle.cany_base.specs.declared.message.Service.TheVariants as service
 use Rattle.cany_base.specs.declared.notice.NoticeKind.TheVariants.{Got}
 use Rattle.cany_diffuse.specs.declared.learnt.Learnt.{Learnt}

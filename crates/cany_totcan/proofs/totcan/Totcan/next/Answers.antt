@@ -2,7 +2,7 @@
 use Rattle.std.proofs.Common.{◌≡◌, ◌++◌, ◌∷◌, [], ap, sym, ◌∙◌, subst}
 use Rattle.std.proofs.lemmas.List.{append-nil}
 use Rattle.cany_base.specs.declared.actions.Action.TheVariants as action
-use Rattle.cany_base.specs.declared.frame.Class.TheVariants as class
+use Rattle.cany_base.specs.declared.class.Class.TheVariants as class
 use Rattle.cany_model.specs.Rules.Actions.{actions_of}
 use Rattle.cany_model.specs.Rules.Backlog.{ask_for, asked_after, next_after}
 use Rattle.cany_totcan.specs.Backlog.{after_next, next_given}

@@ -1,5 +1,5 @@
 use Rattle.std.proofs.Common.{subst, sym}
-use Rattle.cany_model.specs.Bus.Slot.{nobody}
+use Rattle.cany_base.specs.Nodes.{nobody}
 use Rattle.cany_views.specs.Views.{IsViewsOf}
 use Rattle.cany_views.specs.ViewsFields.{parts_of}
 use Rattle.cany_views.proofs.ViewFacts.{bounds_with, outside_below, outside_stands}
