@@ -3,6 +3,8 @@
 
 mod actions;
 mod bounded;
+mod class;
+mod format;
 mod formulas;
 mod frame;
 pub mod limits;
@@ -24,7 +26,9 @@ mod threads;
 
 pub use actions::{Action, Actions};
 pub use bounded::BoundedVec;
-pub use frame::{Class, Format, Frame};
+pub use class::Class;
+pub use format::Format;
+pub use frame::Frame;
 pub use log_entry::LogEntry;
 pub use memory::Memory;
 pub use message::{MsgKey, NodeAsk, SendAsk, Service};

@@ -3,7 +3,7 @@
 ghost use Rattle.std.specs.Prelude.{◌≡◌};
 ghost use Rattle.cany_base.specs.Limits as limit;
 
-use crate::frame::Format;
+use crate::format::Format;
 
 /// The most nodes of a bus, in any format.
 pub const MOST_NODES: u8 = 64;

@@ -1,6 +1,6 @@
 ghost use Rattle.std.specs.Prelude.{◌≡◌, ◌<◌, ◌≤◌, ◌↔◌, IsOk, IfErr};
 
-use crate::frame::Format;
+use crate::format::Format;
 use std::marker::Model;
 use thiserror::Error;
 

@@ -5,7 +5,7 @@ ghost use Rattle.cany_base.specs.Layout.{layout};
 ghost use Rattle.cany_base.specs.Nodes.{AllBelow};
 ghost use Rattle.cany_base.specs.Payload.{vector_bytes, vector_of};
 
-use crate::frame::Format;
+use crate::format::Format;
 use crate::node_set::NodeSet;
 use std::marker::Model;
 

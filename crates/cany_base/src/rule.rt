@@ -1,4 +1,4 @@
-use crate::frame::Class;
+use crate::class::Class;
 use crate::node::NodeId;
 use crate::node_set::NodeSet;
 use crate::notice::Slot;

@@ -2,7 +2,9 @@ ghost use Rattle.std.specs.Prelude.{◌≡◌, ◌⊎◌};
 ghost use Rattle.cany_base.specs.Params.{default_parameters};
 
 use crate::actions::{Action, Actions};
-use crate::frame::{Class, Format, Frame};
+use crate::class::Class;
+use crate::format::Format;
+use crate::frame::Frame;
 use crate::limits::{MOST_RESTARTS, MOST_RESTARTS_OF_NODE};
 use crate::memory::Memory;
 use crate::message::NodeAsk;

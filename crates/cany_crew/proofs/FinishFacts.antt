@@ -9,12 +9,12 @@ use Rattle.cany_base.specs.declared.step.Step.{Step}
 use Rattle.cany_base.specs.declared.step.Step.TheVariants.{Slot, Turn}
 use Rattle.cany_base.specs.Scenario.{ScenarioParts}
 use Rattle.cany_model.specs.declared.reply.StepReply.{StepReply}
-use Rattle.cany_model.specs.Bus.RoundRobin.{is_to_read}
-use Rattle.cany_model.specs.Bus.Run.{IsLegal, all_read, has_ended, is_done, reply, run}
+use Rattle.cany_model.specs.Runs.RoundRobin.{is_to_read}
+use Rattle.cany_model.specs.Runs.Run.{IsLegal, all_read, has_ended, is_done, reply, run}
 use Rattle.cany_model.specs.Bus.State.{NodeState, RunState, absent, node_at, reads, runs, slots_run}
-use Rattle.cany_model.proofs.Bus.Journals.{legal_push, legal_short}
-use Rattle.cany_model.proofs.Bus.Rounds.{may_read}
-use Rattle.cany_model.proofs.Bus.Runs.{orderly, slot_is_done, turn_done, turn_is_done}
+use Rattle.cany_model.proofs.Runs.Journals.{legal_push, legal_short}
+use Rattle.cany_model.proofs.Runs.Rounds.{may_read}
+use Rattle.cany_model.proofs.Runs.Runs.{orderly, slot_is_done, turn_done, turn_is_done}
 use Rattle.cany_model.proofs.Bus.States.{runs_within}
 use Rattle.cany_world.specs.World.{WorldParts, state_of}
 

@@ -2,7 +2,7 @@
 ghost use Rattle.std.specs.Prelude.{◌≡◌, ◌≤◌, [], map, IfOk, IfErr, vec_len};
 ghost use Rattle.cany_crew.specs.Gates.{HasRefused, NoneFell};
 ghost use Rattle.cany_crew.specs.Held.{IfHeld, IfMemory, world_of};
-ghost use Rattle.cany_model.specs.Bus.Run.{IsLegal, IsWhole};
+ghost use Rattle.cany_model.specs.Runs.Run.{IsLegal, IsWhole};
 
 use crate::finish::finish;
 use crate::gate::Gate;

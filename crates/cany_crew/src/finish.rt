@@ -1,8 +1,8 @@
 //! The steps that the workers have left, made by the caller.
 ghost use Rattle.std.specs.Prelude.{◌≡◌, ◌<◌, ◌≤◌, ◌∷◌, ◌++◌, ℕ, [], true, false, map, vec_len, IfSome, IfNone};
 ghost use Rattle.cany_crew.specs.Gates.{HasRefused, NoneFell};
-ghost use Rattle.cany_model.specs.Bus.RoundRobin.{is_to_read};
-ghost use Rattle.cany_model.specs.Bus.Run.{IsLegal, IsWhole, is_done, reply};
+ghost use Rattle.cany_model.specs.Runs.RoundRobin.{is_to_read};
+ghost use Rattle.cany_model.specs.Runs.Run.{IsLegal, IsWhole, is_done, reply};
 ghost use Rattle.cany_model.specs.Bus.State.{node_at};
 ghost use Rattle.cany_world.specs.World.{state_of};
 

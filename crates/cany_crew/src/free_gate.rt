@@ -2,7 +2,7 @@
 ghost use Rattle.std.specs.Prelude.{◌≡◌, ◌≤◌, [], true, IfOk, IfErr, vec_len};
 ghost use Rattle.cany_base.specs.Limits.{most_nodes};
 ghost use Rattle.cany_crew.specs.Held.{IsMemory, world_of};
-ghost use Rattle.cany_model.specs.Bus.Run.{IsLegal, IsWhole};
+ghost use Rattle.cany_model.specs.Runs.Run.{IsLegal, IsWhole};
 
 use crate::crew::{CrewFault, crew_run};
 use crate::gate::Gate;

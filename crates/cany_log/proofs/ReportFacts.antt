@@ -17,9 +17,9 @@ use Rattle.cany_base.specs.Params.{Parameters}
 use Rattle.cany_base.specs.Scenario.{ScenarioParts}
 use Rattle.cany_model.specs.declared.breaks.Break.{Break}
 use Rattle.cany_model.specs.declared.span.Span.{Span}
-use Rattle.cany_model.specs.Bus.Incarnations.{log_of, span_of}
+use Rattle.cany_model.specs.Runs.Incarnations.{log_of, span_of}
 use Rattle.cany_model.specs.Bus.Restart.{restarted_in}
-use Rattle.cany_model.specs.Bus.Run.{run}
+use Rattle.cany_model.specs.Runs.Run.{run}
 use Rattle.cany_model.specs.Bus.State.{RunState, node_at}
 use Rattle.cany_model.specs.Promises.Hypothesis.{first_break}
 use Rattle.cany_model.specs.Promises.Settled.{is_settled}

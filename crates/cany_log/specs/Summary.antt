@@ -8,8 +8,8 @@ use Rattle.cany_base.specs.declared.rule.Verdict.TheVariants.{Clean, Lost, Parti
 use Rattle.cany_base.specs.declared.slot_note.SlotNote.{SlotNote}
 use Rattle.cany_base.specs.declared.step.Step.{Step}
 use Rattle.cany_base.specs.Scenario.{ScenarioParts}
-use Rattle.cany_model.specs.Bus.Incarnations.{log_of}
-use Rattle.cany_model.specs.Bus.Run.{run}
+use Rattle.cany_model.specs.Runs.Incarnations.{log_of}
+use Rattle.cany_model.specs.Runs.Run.{run}
 use Rattle.cany_model.specs.Bus.Slot.{carried}
 use Rattle.cany_model.specs.Bus.State.{RunState, node_at}
 use Rattle.cany_model.specs.Promises.Hypothesis.{any_frame, first_break, is_partial, is_silent}

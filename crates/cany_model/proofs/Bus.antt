@@ -1,19 +1,9 @@
--- What holds of slots, turns and runs, whatever the rules of a node are.
+-- The bus: slots, what waits, and what a node has read.
 pub mod Carried
 pub mod Counting
 pub mod EachRead
-pub mod FollowFacts
-pub mod Following
-pub mod FrameInvariants
 pub mod Identities
-pub mod Journals
 pub mod Notes
-pub mod RoundRobinEnds
-pub mod Rounds
 pub mod Restarts
-pub mod Runs
 pub mod Seen
-pub mod SlotStates
 pub mod States
-pub mod Steps
-pub mod Waits

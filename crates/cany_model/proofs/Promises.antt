@@ -1,14 +1,12 @@
 -- What is promised of a run, proved.
 pub mod Agreement
 pub mod Agrees
-pub mod Belonging
 pub mod BreakFacts
 pub mod Confirms
 pub mod Diffusion
 pub mod DiffusionRun
 pub mod EachNode
 pub mod EdcanAgrees
-pub mod Fair
 pub mod FewLifeSigns
 pub mod FewLifeSignsOrder
 pub mod FewLifeSignsRun
@@ -20,6 +18,7 @@ pub mod KeptVectors
 pub mod LateVectors
 pub mod OneFrame
 pub mod OwnIncarnation
+pub mod OwnSlotsAlone
 pub mod RelcanAgrees
 pub mod Safety
 pub mod SettledFacts
@@ -28,3 +27,4 @@ pub mod SignCounts
 pub mod Sources
 pub mod SpacedSigns
 pub mod VectorNotices
+pub mod WaitingIsAskable

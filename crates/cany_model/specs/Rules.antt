@@ -5,6 +5,8 @@ pub mod Delivery
 pub mod Eager
 pub mod Edcan
 pub mod Effect
+pub mod Knowledge
+pub mod KnowledgeOf
 pub mod Life
 pub mod Log
 pub mod Membership
@@ -14,8 +16,6 @@ pub mod Protocol
 pub mod Relcan
 pub mod Rooms
 pub mod Sends
-pub mod Site
-pub mod Knowledge
 pub mod Totcan
 pub mod Turn
 pub mod Vectors

@@ -14,7 +14,7 @@ use Rattle.cany_model.specs.Rules.Log.{log_from}
 use Rattle.cany_model.specs.Rules.Messages.{messages_of}
 use Rattle.cany_model.specs.Rules.Sends.{sendable}
 use Rattle.cany_model.specs.Rules.Turn.{scenario_for}
-use Rattle.cany_model.proofs.Promises.Fair.{from_later, members_later}
+use Rattle.cany_model.proofs.Promises.OwnSlotsAlone.{from_later, members_later}
 use Rattle.cany_model.proofs.Rules.Begun.{AreIdle, IsBegun, begun_before}
 use Rattle.cany_model.proofs.Rules.MutedFacts.{turn_muted}
 use Rattle.cany_edcan.specs.Edcan.{IsEdcanOf}

@@ -11,7 +11,7 @@ use Rattle.cany_model.specs.Rules.Backlog.{asked, backlog, joins_in}
 use Rattle.cany_model.specs.Rules.Effect.{Effect}
 use Rattle.cany_model.specs.Rules.Membership.{asks_in}
 use Rattle.cany_model.specs.Rules.Sends.{send_effects, sendable}
-use Rattle.cany_model.specs.Rules.Site.{knowledge_of}
+use Rattle.cany_model.specs.Rules.KnowledgeOf.{knowledge_of}
 use Rattle.cany_model.specs.Rules.Views.{join_asked, leave_asked}
 use Rattle.cany_totcan.specs.Totcan.{IsTotcanOf, TotcanParts}
 use Rattle.cany_node.specs.Agenda.{AgendaParts, IsAgendaOf, sent_asks}

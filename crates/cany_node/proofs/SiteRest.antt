@@ -13,7 +13,7 @@ use Rattle.cany_life.specs.Life.{IsLifeOf}
 use Rattle.cany_model.specs.Rules.Effect.{Effect}
 use Rattle.cany_model.specs.Rules.Life.{failure_effects, life_sign, life_signs_sent}
 use Rattle.cany_model.specs.Rules.Membership.{install_effects}
-use Rattle.cany_model.specs.Rules.Site.{after_notice, after_installing, after_meeting, met_in, knowledge_of}
+use Rattle.cany_model.specs.Rules.KnowledgeOf.{after_notice, after_installing, after_meeting, met_in, knowledge_of}
 use Rattle.cany_model.specs.Rules.Knowledge.{Knowledge, after_finding, with_members}
 use Rattle.cany_model.specs.Rules.Vectors.{exchange_at, is_start}
 use Rattle.cany_model.specs.Rules.Views.{after_ask, start_of, view_effects, with_ended}

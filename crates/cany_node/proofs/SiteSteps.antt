@@ -18,7 +18,7 @@ use Rattle.cany_model.specs.Rules.Actions.{action_of, actions_of}
 use Rattle.cany_model.specs.Rules.Effect.{Effect}
 use Rattle.cany_model.specs.Rules.Life.{failure_effects, failures_at, life_sign, life_signs_sent}
 use Rattle.cany_model.specs.Rules.Membership.{install_effects}
-use Rattle.cany_model.specs.Rules.Site.{after_notice, ended_in, after_installing, start_in, knowledge_of}
+use Rattle.cany_model.specs.Rules.KnowledgeOf.{after_notice, ended_in, after_installing, start_in, knowledge_of}
 use Rattle.cany_model.specs.Rules.Knowledge.{Knowledge, after_admitting, after_finding, with_members}
 use Rattle.cany_model.specs.Rules.Vectors.{after_exchange, exchange_at, is_start}
 use Rattle.cany_model.specs.Rules.Views.{after_ask, start_of, view_effects, with_ended, with_view}

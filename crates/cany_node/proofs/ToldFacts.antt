@@ -21,7 +21,7 @@ use Rattle.cany_model.specs.Rules.Messages.{data_frame}
 use Rattle.cany_model.specs.Rules.Protocol.{Protocol}
 use Rattle.cany_model.specs.Rules.Relcan.{relcan, relcan_effects}
 use Rattle.cany_model.specs.Rules.Sends.{scripted_sends, send_effects}
-use Rattle.cany_model.specs.Rules.Site.{start_in, knowledge_of}
+use Rattle.cany_model.specs.Rules.KnowledgeOf.{start_in, knowledge_of}
 use Rattle.cany_model.specs.Rules.Totcan.{totcan, totcan_effects}
 use Rattle.cany_model.specs.Rules.Turn.{turn_effects}
 use Rattle.cany_model.specs.Rules.Vectors.{brought, cycle_of, end_effects, ended, exchange_at, is_covered, is_new, is_start, met, met_with, rha_frame, rha_of, start_effects, vector_effects}

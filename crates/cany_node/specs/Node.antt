@@ -13,7 +13,7 @@ use Rattle.cany_model.specs.Rules.Effect.{Effect, waiting_after}
 use Rattle.cany_model.specs.Rules.Log.{log_from}
 use Rattle.cany_model.specs.Rules.Notices.{HasFewSigns, IsNextNotice, IsReadable, IsReadableVector, error_as_idle, is_early}
 use Rattle.cany_model.specs.Rules.Rooms.{waiting_room, actions_room, log_room}
-use Rattle.cany_model.specs.Rules.Site.{knowledge_of}
+use Rattle.cany_model.specs.Rules.KnowledgeOf.{knowledge_of}
 use Rattle.cany_model.specs.Rules.Turn.{turn_effects}
 use Rattle.can_controller.specs.Controller.{ControllerState}
 use Rattle.cany_edcan.specs.Edcan.{EdcanParts, IsEdcanOf}

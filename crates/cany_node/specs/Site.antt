@@ -12,7 +12,7 @@ use Rattle.cany_model.specs.Rules.Effect.{TurnRule}
 use Rattle.cany_model.specs.Rules.Life.{failure_effects, life_sign, life_signs_sent}
 use Rattle.cany_model.specs.Rules.Membership.{install_effects}
 use Rattle.cany_model.specs.Rules.Notices.{HasFewSigns, IsNextNotice, IsReadableVector}
-use Rattle.cany_model.specs.Rules.Site.{after_meeting, start_in, knowledge_of}
+use Rattle.cany_model.specs.Rules.KnowledgeOf.{after_meeting, start_in, knowledge_of}
 use Rattle.cany_model.specs.Rules.Knowledge.{Knowledge, knowledge_at_first}
 use Rattle.cany_model.specs.Rules.Vectors.{cycle_of, exchange_at}
 use Rattle.cany_history.specs.declared.ended.Ended.{Ended}

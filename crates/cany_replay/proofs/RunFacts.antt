@@ -2,9 +2,9 @@
 use Rattle.std.proofs.Common.{◌≡◌, ◌↔◌, List, Option, Some, None, option_and_then, unwrap_or, subst}
 use Rattle.cany_base.specs.declared.step.Step.{Step}
 use Rattle.cany_base.specs.Scenario.{ScenarioParts}
-use Rattle.cany_model.specs.Bus.Follow.{journal_fault, journal_of}
-use Rattle.cany_model.specs.Bus.RoundRobin.{round_robin}
-use Rattle.cany_model.specs.Bus.Run.{IsLegal, IsWhole}
+use Rattle.cany_model.specs.Runs.Follow.{journal_fault, journal_of}
+use Rattle.cany_model.specs.Runs.RoundRobin.{round_robin}
+use Rattle.cany_model.specs.Runs.Run.{IsLegal, IsWhole}
 use Rattle.cany_model.specs.Promises.Hypothesis.{IsWithin}
 use Rattle.cany_model.specs.Promises.Safe.{IsIntegral, IsSafe}
 use Rattle.cany_replay.specs.Top.{KeepsPromises, own_fault}

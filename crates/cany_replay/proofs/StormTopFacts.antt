@@ -4,8 +4,8 @@ use Rattle.cany_base.specs.Scenario.{ScenarioParts}
 use Rattle.cany_io.specs.Sink.{Takes, TakesPrefix}
 use Rattle.cany_log.specs.Summary.{summary}
 use Rattle.cany_model.specs.declared.follow.FollowFault.{FollowFault}
-use Rattle.cany_model.specs.Bus.Follow.{journal_fault, journal_of}
-use Rattle.cany_model.specs.Bus.RoundRobin.{round_robin}
+use Rattle.cany_model.specs.Runs.Follow.{journal_fault, journal_of}
+use Rattle.cany_model.specs.Runs.RoundRobin.{round_robin}
 use Rattle.cany_replay.specs.declared.status.TheConstants.{DONE, NO_MEMORY, WRITE_FAULT}
 use Rattle.cany_replay.specs.declared.run.RunFault.{RunFault}
 use Rattle.cany_replay.specs.declared.run.RunFault.TheVariants.{Journal}

@@ -8,7 +8,7 @@ use Rattle.cany_base.specs.Scenario.{ScenarioParts}
 use Rattle.cany_io.specs.Sink.{Takes, TakesPrefix}
 use Rattle.cany_model.specs.declared.follow.FollowFault.{FollowFault}
 use Rattle.cany_model.specs.declared.scenario_fault.ScenarioFault.{ScenarioFault}
-use Rattle.cany_model.specs.Bus.Follow.{journal_of}
+use Rattle.cany_model.specs.Runs.Follow.{journal_of}
 use Rattle.cany_model.specs.Texts.RefusalLines.{journal_refusal_line, scenario_refusal_line}
 use Rattle.cany_model.specs.Texts.Report.{report}
 use Rattle.cany_model.specs.Texts.ScenarioText.{scenario_of}

@@ -2,7 +2,7 @@
 use Rattle.std.specs.Prelude.{ℕ, List, Option}
 use Rattle.cany_io.specs.Sink.{Takes}
 use Rattle.cany_log.specs.Summary.{summary}
-use Rattle.cany_model.specs.Bus.RoundRobin.{round_robin}
+use Rattle.cany_model.specs.Runs.RoundRobin.{round_robin}
 use Rattle.cany_replay.specs.Storm.{storm_scenario}
 use Rattle.cany_replay.specs.Top.{KeepsPromises}
 

@@ -5,11 +5,11 @@ use Rattle.cany_base.specs.declared.step.Step.{Step}
 use Rattle.cany_base.specs.Scenario.{ScenarioParts}
 use Rattle.cany_io.specs.Sink.{Takes}
 use Rattle.cany_model.specs.declared.follow.FollowFault.{FollowFault}
-use Rattle.cany_model.specs.Bus.Follow.{journal_fault, journal_of}
+use Rattle.cany_model.specs.Runs.Follow.{journal_fault, journal_of}
 use Rattle.cany_model.specs.Promises.Hypothesis.{IsWithin}
 use Rattle.cany_model.specs.Texts.RefusalLines.{journal_refusal_line, scenario_refusal_line}
 use Rattle.cany_model.specs.Texts.Report.{report}
-use Rattle.cany_model.specs.Bus.Run.{IsLegal, IsWhole, run}
+use Rattle.cany_model.specs.Runs.Run.{IsLegal, IsWhole, run}
 use Rattle.cany_model.specs.Promises.Safe.{IsIntegral, IsSafe}
 use Rattle.cany_model.specs.Texts.ScenarioText.{scenario_of}
 use Rattle.cany_model.specs.Texts.TomlKeys.{Read}

@@ -1,6 +1,6 @@
 //! Runs a scenario.
 ghost use Rattle.std.specs.Prelude.{◌≡◌, IfOk, IfErr, Some, None};
-ghost use Rattle.cany_model.specs.Bus.Follow.{journal_of};
+ghost use Rattle.cany_model.specs.Runs.Follow.{journal_of};
 ghost use Rattle.cany_replay.specs.RunFaults.{IfJournal};
 ghost use Rattle.cany_replay.specs.Top.{KeepsPromises, own_fault};
 

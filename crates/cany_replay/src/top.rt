@@ -4,7 +4,7 @@ ghost use Rattle.cany_base.specs.Limits.{most_text_bytes};
 ghost use Rattle.cany_io.specs.Faults.{HasRisen, StandsStill};
 ghost use Rattle.cany_io.specs.Sink.{Takes, TakesPrefix};
 ghost use Rattle.cany_io.specs.Source.{IsAtEnd};
-ghost use Rattle.cany_model.specs.Bus.Follow.{journal_of};
+ghost use Rattle.cany_model.specs.Runs.Follow.{journal_of};
 ghost use Rattle.cany_log.specs.Refusals.{refusal_line};
 ghost use Rattle.cany_model.specs.declared.scenario_fault.ScenarioFault.TheVariants.{Memory};
 ghost use Rattle.cany_model.specs.Texts.RefusalLines.{journal_refusal_line};

@@ -8,11 +8,11 @@ use Rattle.cany_base.specs.declared.step.Step.{Step}
 use Rattle.cany_base.specs.Frame.{FrameParts}
 use Rattle.cany_base.specs.Scenario.{ScenarioParts}
 use Rattle.cany_model.specs.Bus.Frames.{Identity}
-use Rattle.cany_model.specs.Bus.Run.{all_read, first_lagging, run}
+use Rattle.cany_model.specs.Runs.Run.{all_read, first_lagging, run}
 use Rattle.cany_model.specs.Bus.State.{NodeState, RunState, absent, node_at, runs}
 use Rattle.cany_model.specs.Bus.Waiting.{waits}
 use Rattle.cany_model.specs.Promises.Settled.{is_awaited}
-use Rattle.cany_model.proofs.Bus.Runs.{orderly}
+use Rattle.cany_model.proofs.Runs.Runs.{orderly}
 use Rattle.can_controller.specs.Controller.{ControllerState}
 use Rattle.cany_world.specs.Controllers.{awaits, has_read, lags}
 use Rattle.cany_world.specs.Kept.{AreControllersOf, IsKeptAs}

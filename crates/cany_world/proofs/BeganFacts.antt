@@ -9,7 +9,7 @@ use Rattle.cany_base.specs.Nodes.{Nodes, has}
 use Rattle.cany_base.specs.Scenario.{ScenarioParts, is_ask_of_node}
 use Rattle.cany_base.proofs.NodesFacts.{same_as_those_where}
 use Rattle.cany_model.specs.Bus.Restart.{began_at, restarted_in}
-use Rattle.cany_model.specs.Bus.Run.{run}
+use Rattle.cany_model.specs.Runs.Run.{run}
 use Rattle.cany_model.specs.Bus.State.{EndedIncarnation, Incarnation, NodeState, node_at}
 use Rattle.cany_world.proofs.EntriesLeft.{all_left}
 use Rattle.cany_world.proofs.InOrder.{AreInOrder, in_order}

@@ -9,15 +9,15 @@ use Rattle.cany_base.specs.declared.step.Step.{Step}
 use Rattle.cany_base.specs.Nodes.{has}
 use Rattle.cany_base.specs.Scenario.{ScenarioParts, is_ask_of_node}
 use Rattle.cany_model.specs.Bus.Restart.{after_restarts, is_restart, names_restart}
-use Rattle.cany_model.specs.Bus.Run.{after_turn, run}
+use Rattle.cany_model.specs.Runs.Run.{after_turn, run}
 use Rattle.cany_model.specs.Bus.Slot.{FaultScript, after_slot, node_after, script, slot_note_of}
 use Rattle.cany_model.specs.Bus.State.{Incarnation, NodeState, RunState, fresh, node_at, opening, runs, slots_run}
 use Rattle.cany_model.proofs.Among.{count-grows, count-no, count-yes}
 use Rattle.cany_model.proofs.Bus.Notes.{note_of-slot}
 use Rattle.cany_model.proofs.Bus.Restarts.{after_restarts-length, after_restarts-trace, restarts_or_stays}
-use Rattle.cany_model.proofs.Bus.Runs.{IsOrderly, along_run}
+use Rattle.cany_model.proofs.Runs.Runs.{IsOrderly, along_run}
 use Rattle.cany_model.proofs.Bus.States.{node_at-opening, node_at_past}
-use Rattle.cany_model.proofs.Bus.Steps.{MayTurn, after_slot-length, after_slot-node, after_slot-trace, after_turn-node, after_turn-length, after_turn-other, after_turn-runs, after_turn-trace}
+use Rattle.cany_model.proofs.Runs.Steps.{MayTurn, after_slot-length, after_slot-node, after_slot-trace, after_turn-node, after_turn-length, after_turn-other, after_turn-runs, after_turn-trace}
 use Rattle.cany_world.proofs.InOrder.{HaveSame, slot_same, turn_same}
 
 -- an entry of node i in slot t or a later one

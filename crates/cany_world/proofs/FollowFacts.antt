@@ -7,10 +7,10 @@ use Rattle.cany_model.specs.declared.follow.FollowFault.{FollowFault}
 use Rattle.cany_model.specs.declared.follow.FollowFault.TheVariants.{Refused, Unfinished}
 use Rattle.cany_model.specs.declared.reply.StepReply.{StepReply}
 use Rattle.cany_model.specs.declared.reply.StepReply.TheVariants.{Done}
-use Rattle.cany_model.specs.Bus.Follow.{first_unread, journal_fault, steps_made}
-use Rattle.cany_model.specs.Bus.Run.{has_ended, is_done, reply, run}
+use Rattle.cany_model.specs.Runs.Follow.{first_unread, journal_fault, steps_made}
+use Rattle.cany_model.specs.Runs.Run.{has_ended, is_done, reply, run}
 use Rattle.cany_model.specs.Bus.State.{slots_run}
-use Rattle.cany_model.proofs.Bus.Following.{IsFollowed, IsFaultOf, followed_more, followed_refused, followed_whole, followed_part}
+use Rattle.cany_model.proofs.Runs.Following.{IsFollowed, IsFaultOf, followed_more, followed_refused, followed_whole, followed_part}
 use Rattle.cany_world.specs.World.{WorldParts, state_of}
 use Rattle.cany_world.proofs.JournalFacts.{made, refused}
 

@@ -13,7 +13,7 @@ use Rattle.cany_model.specs.Bus.State.{Incarnation}
 use Rattle.cany_model.specs.Rules.Notices.{error_as_idle, is_early}
 use Rattle.cany_model.specs.Rules.Turn.{scenario_for}
 use Rattle.cany_model.proofs.Bus.Seen.{seen_idle, seen_plain}
-use Rattle.cany_model.proofs.Promises.Fair.{from_later}
+use Rattle.cany_model.proofs.Promises.OwnSlotsAlone.{from_later}
 use Rattle.cany_node.specs.Node.{heard}
 
 -- a notice of no frame, or one that shows whether the slot carried an early vector

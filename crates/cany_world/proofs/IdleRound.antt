@@ -14,18 +14,18 @@ use Rattle.cany_base.specs.Scenario.{ScenarioParts}
 use Rattle.cany_base.proofs.NodesFacts.{has_none, same_as_those_where}
 use Rattle.cany_model.specs.Bus.History.{given, history, seen, trace_for}
 use Rattle.cany_model.specs.Bus.Restart.{names_restart}
-use Rattle.cany_model.specs.Bus.RoundRobin.{is_to_read, reading_nodes, round}
-use Rattle.cany_model.specs.Bus.Run.{after_step, after_turn, is_done, is_legal_from, proceed, reply, run_from}
+use Rattle.cany_model.specs.Runs.RoundRobin.{is_to_read, reading_nodes, round}
+use Rattle.cany_model.specs.Runs.Run.{after_step, after_turn, is_done, is_legal_from, proceed, reply, run_from}
 use Rattle.cany_model.specs.Bus.Slot.{after_share, after_slot, exceeds, node_after, note_by, ruling_of, script, share_of, slot_note_of, stopping, winner}
 use Rattle.cany_model.specs.Bus.State.{NodeState, RunState, absent, node_at, runs, slots_run}
 use Rattle.cany_model.specs.Rules.Effect.{waiting_after}
 use Rattle.cany_model.specs.Rules.Turn.{effects_for}
-use Rattle.cany_model.proofs.Bus.Journals.{legal_none, legal_then, orderly_slot_step, run_none, run_then, slot_step-trace, step_is}
+use Rattle.cany_model.proofs.Runs.Journals.{legal_none, legal_then, orderly_slot_step, run_none, run_then, slot_step-trace, step_is}
 use Rattle.cany_model.proofs.Bus.Notes.{IsOffered, winner-offered}
 use Rattle.cany_model.proofs.Bus.Restarts.{after_restarts-length, restarts_or_stays}
-use Rattle.cany_model.proofs.Bus.Runs.{IsOrderly, orderly_turn, slot_is_done, turn_is_done}
+use Rattle.cany_model.proofs.Runs.Runs.{IsOrderly, orderly_turn, slot_is_done, turn_is_done}
 use Rattle.cany_model.proofs.Bus.States.{node_at_past, note_at, runs_within}
-use Rattle.cany_model.proofs.Bus.Steps.{MayTurn, after_slot-length, after_slot-node, after_slot-trace, after_turn-history, after_turn-length, after_turn-node, after_turn-other, after_turn-trace, next_notice, node_after_turn}
+use Rattle.cany_model.proofs.Runs.Steps.{MayTurn, after_slot-length, after_slot-node, after_slot-trace, after_turn-history, after_turn-length, after_turn-node, after_turn-other, after_turn-trace, next_notice, node_after_turn}
 use Rattle.cany_model.proofs.Rules.IncarnationFacts.{effects_for-is}
 use Rattle.can_bus.specs.Rest.{idle_note, idle_trace}
 use Rattle.cany_world.specs.Resting.{IsFree}

@@ -10,13 +10,13 @@ use Rattle.cany_base.specs.declared.step.Step.{Step}
 use Rattle.cany_base.specs.declared.step.Step.TheVariants.{Slot, Turn}
 use Rattle.cany_base.specs.Scenario.{ScenarioParts}
 use Rattle.cany_model.specs.Bus.History.{history}
-use Rattle.cany_model.specs.Bus.RoundRobin.{round, rounds}
-use Rattle.cany_model.specs.Bus.Run.{IsLegal, proceed, run, run_from}
+use Rattle.cany_model.specs.Runs.RoundRobin.{round, rounds}
+use Rattle.cany_model.specs.Runs.Run.{IsLegal, proceed, run, run_from}
 use Rattle.cany_model.specs.Bus.State.{NodeState, RunState, node_at, opening, runs, slots_run}
 use Rattle.cany_model.specs.Rules.Effect.{Effect}
 use Rattle.cany_model.specs.Rules.Turn.{effects_for}
-use Rattle.cany_model.proofs.Bus.Journals.{legal_then, run_then}
-use Rattle.cany_model.proofs.Bus.Runs.{IsOrderly, orderly}
+use Rattle.cany_model.proofs.Runs.Journals.{legal_then, run_then}
+use Rattle.cany_model.proofs.Runs.Runs.{IsOrderly, orderly}
 use Rattle.cany_model.proofs.Bus.States.{node_at_past, runs_within}
 use Rattle.can_bus.specs.Rest.{idle_note, idle_trace}
 use Rattle.can_bus.proofs.RestFacts.{length-idle_trace}

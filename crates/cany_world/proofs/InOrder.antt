@@ -9,15 +9,15 @@ use Rattle.cany_base.specs.declared.step.Step.{Step}
 use Rattle.cany_base.specs.Nodes.{has}
 use Rattle.cany_base.specs.Scenario.{ScenarioParts}
 use Rattle.cany_model.specs.Bus.Restart.{after_restarts, ended_at}
-use Rattle.cany_model.specs.Bus.Run.{after_turn, run}
+use Rattle.cany_model.specs.Runs.Run.{after_turn, run}
 use Rattle.cany_model.specs.Bus.Slot.{FaultScript, after_share, after_slot, node_after, script, share_of, slot_note_of}
 use Rattle.cany_model.specs.Bus.State.{EndedIncarnation, Incarnation, NodeState, RunState, fresh, node_at, opening, original, runs, slots_run}
 use Rattle.cany_model.specs.declared.share.Share.{Share}
 use Rattle.cany_model.specs.declared.share.Share.TheVariants.{Idle, Took, Rejected, Confirmed, Errored}
 use Rattle.cany_model.proofs.Bus.Restarts.{after_restarts-trace, restarts_or_stays}
-use Rattle.cany_model.proofs.Bus.Runs.{along_run}
+use Rattle.cany_model.proofs.Runs.Runs.{along_run}
 use Rattle.cany_model.proofs.Bus.States.{node_at-opening, node_at_past}
-use Rattle.cany_model.proofs.Bus.Steps.{MayTurn, after_slot-length, after_slot-node, after_slot-present, after_slot-trace, after_turn-node, after_turn-other, after_turn-trace}
+use Rattle.cany_model.proofs.Runs.Steps.{MayTurn, after_slot-length, after_slot-node, after_slot-present, after_slot-trace, after_turn-node, after_turn-other, after_turn-trace}
 
 -- each incarnation has the number after that of the one before it; the first is that of the opening
 unfoldable pub AreInOrder : Incarnation → List EndedIncarnation → Type 0

@@ -4,7 +4,7 @@ use Rattle.std.specs.Prelude.{if◌then◌else◌}
 use Rattle.cany_base.specs.declared.step.Step.{Step}
 use Rattle.cany_model.specs.declared.reply.StepReply.{StepReply}
 use Rattle.cany_model.specs.declared.reply.StepReply.TheVariants.{Done, Lagging, Over, NothingYet, Stopped, NoNode}
-use Rattle.cany_model.specs.Bus.Run.{is_done}
+use Rattle.cany_model.specs.Runs.Run.{is_done}
 use Rattle.cany_world.specs.World.{WorldParts}
 
 pub refused : (r : StepReply) → (r ≡ Done → ⊥) → is_done r ≡ false

@@ -19,11 +19,11 @@ use Rattle.cany_base.proofs.NodesFacts.{has_none}
 use Rattle.cany_base.proofs.ParamsFacts.{few_slots}
 use Rattle.cany_model.specs.declared.share.Share.TheVariants as share
 use Rattle.cany_model.specs.Bus.History.{history}
-use Rattle.cany_model.specs.Bus.Run.{run}
+use Rattle.cany_model.specs.Runs.Run.{run}
 use Rattle.cany_model.specs.Bus.Slot.{after_share, exceeds, node_after, share_of}
 use Rattle.cany_model.specs.Bus.State.{NodeState, RunState, node_at, runs, slots_run}
 use Rattle.cany_model.specs.Rules.Turn.{effects_for, scenario_for, turn_effects}
-use Rattle.cany_model.proofs.Bus.Runs.{IsOrderly, orderly}
+use Rattle.cany_model.proofs.Runs.Runs.{IsOrderly, orderly}
 use Rattle.cany_model.proofs.Bus.Seen.{history-is}
 use Rattle.cany_model.proofs.Bus.States.{node_at_past, runs_within}
 use Rattle.cany_model.proofs.Rules.ErrorFacts.{error_turn}

@@ -9,12 +9,12 @@ use Rattle.cany_base.specs.declared.step.Step.{Step}
 use Rattle.cany_base.specs.Bounded.{Bounded}
 use Rattle.cany_base.specs.Nodes.{Nodes}
 use Rattle.cany_base.specs.Scenario.{ScenarioParts, IsLegalScenario}
-use Rattle.cany_model.specs.Bus.RoundRobin.{rounds}
-use Rattle.cany_model.specs.Bus.Run.{IsLegal, run}
+use Rattle.cany_model.specs.Runs.RoundRobin.{rounds}
+use Rattle.cany_model.specs.Runs.Run.{IsLegal, run}
 use Rattle.cany_model.specs.Bus.State.{slots_run}
 use Rattle.cany_model.specs.Rules.Rooms.{actions_room}
-use Rattle.cany_model.proofs.Bus.Journals.{legal_short}
-use Rattle.cany_model.proofs.Bus.Runs.{orderly}
+use Rattle.cany_model.proofs.Runs.Journals.{legal_short}
+use Rattle.cany_model.proofs.Runs.Runs.{orderly}
 use Rattle.can_bus.specs.Bus.{BusParts}
 use Rattle.can_controller.specs.Controller.{ControllerState}
 use Rattle.cany_world.specs.Incarnations.{IncarnationsParts}

@@ -9,12 +9,12 @@ use Rattle.cany_base.specs.declared.slot_note.SlotNote.{SlotNote}
 use Rattle.cany_base.specs.declared.step.Step.{Step}
 use Rattle.cany_base.specs.Scenario.{ScenarioParts}
 use Rattle.cany_model.specs.Bus.Restart.{after_entries, after_restarts, names_restart, restarted}
-use Rattle.cany_model.specs.Bus.Run.{run}
+use Rattle.cany_model.specs.Runs.Run.{run}
 use Rattle.cany_model.specs.Bus.Slot.{after_slot, script}
 use Rattle.cany_model.specs.Bus.State.{NodeState, RunState, node_at, runs, slots_run}
-use Rattle.cany_model.proofs.Bus.Runs.{IsOrderly, orderly, orderly_slot}
-use Rattle.cany_model.proofs.Bus.Steps.{after_slot-trace}
-use Rattle.cany_model.proofs.Promises.Fair.{run_numbered}
+use Rattle.cany_model.proofs.Runs.Runs.{IsOrderly, orderly, orderly_slot}
+use Rattle.cany_model.proofs.Runs.Steps.{after_slot-trace}
+use Rattle.cany_model.proofs.Promises.OwnSlotsAlone.{run_numbered}
 use Rattle.can_controller.specs.Controller.{ControllerState, restarted_at}
 use Rattle.cany_world.specs.Incarnations.{IncarnationsParts, IsRestarted}
 use Rattle.cany_world.specs.Kept.{AreControllersOf, AreNodesOf, IsKeptAs, IsKeptAt, IsWaitingAt}

@@ -6,13 +6,13 @@ use Rattle.cany_base.specs.declared.step.Step.TheVariants.{Slot, Turn}
 use Rattle.cany_base.specs.Scenario.{ScenarioParts}
 use Rattle.cany_model.specs.declared.reply.StepReply.{StepReply}
 use Rattle.cany_base.specs.declared.slot_note.SlotNote.{SlotNote}
-use Rattle.cany_model.specs.Bus.RoundRobin.{reading_nodes, round, rounds, round_robin}
-use Rattle.cany_model.specs.Bus.Run.{IsLegal, after_step, after_turn, has_ended, is_done, proceed, reply, run, run_from}
+use Rattle.cany_model.specs.Runs.RoundRobin.{reading_nodes, round, rounds, round_robin}
+use Rattle.cany_model.specs.Runs.Run.{IsLegal, after_step, after_turn, has_ended, is_done, proceed, reply, run, run_from}
 use Rattle.cany_model.specs.Bus.State.{RunState, opening, slots_run}
-use Rattle.cany_model.proofs.Bus.Journals.{run_then, slot_step-trace, step_is}
-use Rattle.cany_model.proofs.Bus.Steps.{after_turn-trace}
-use Rattle.cany_model.proofs.Bus.RoundRobinEnds.{round_robin_ends}
-use Rattle.cany_model.proofs.Bus.Rounds.{RoundSoFar, round_begins, round_turn, round_skips, round_ends, round_slot_done, to_read, turn_exactly, rounds_next, rounds_none, rounds_opening, next_round_legal}
+use Rattle.cany_model.proofs.Runs.Journals.{run_then, slot_step-trace, step_is}
+use Rattle.cany_model.proofs.Runs.Steps.{after_turn-trace}
+use Rattle.cany_model.proofs.Runs.RoundRobinEnds.{round_robin_ends}
+use Rattle.cany_model.proofs.Runs.Rounds.{RoundSoFar, round_begins, round_turn, round_skips, round_ends, round_slot_done, to_read, turn_exactly, rounds_next, rounds_none, rounds_opening, next_round_legal}
 use Rattle.cany_world.specs.World.{WorldParts, state_of}
 use Rattle.cany_world.proofs.IdleRounds.{rounds_split}
 use Rattle.cany_world.proofs.JournalFacts.{made}

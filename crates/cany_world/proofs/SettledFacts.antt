@@ -13,7 +13,7 @@ use Rattle.cany_base.specs.Limits.{most_sends}
 use Rattle.cany_base.specs.Scenario.{ScenarioParts, IsLegalScenario}
 use Rattle.cany_base.specs.declared.notice.NoticeKind.{NoticeKind}
 use Rattle.cany_model.specs.Bus.History.{history}
-use Rattle.cany_model.specs.Bus.Run.{all_read, run}
+use Rattle.cany_model.specs.Runs.Run.{all_read, run}
 use Rattle.cany_model.specs.Bus.State.{RunState, node_at, runs}
 use Rattle.cany_model.specs.Rules.Turn.{has_asked, is_ahead_at, scenario_at}
 use Rattle.cany_model.proofs.Bus.Seen.{history-is}

@@ -12,13 +12,13 @@ use Rattle.cany_model.specs.declared.reply.StepReply.{StepReply}
 use Rattle.cany_model.specs.declared.reply.StepReply.TheVariants.{Done}
 use Rattle.cany_model.specs.Bus.History.{ended_history}
 use Rattle.cany_model.specs.Bus.Restart.{after_restarts}
-use Rattle.cany_model.specs.Bus.Run.{is_done, reply, run, slot_reply}
+use Rattle.cany_model.specs.Runs.Run.{is_done, reply, run, slot_reply}
 use Rattle.cany_model.specs.Bus.Slot.{FaultScript, script, slot_note_of, after_slot, node_after}
 use Rattle.cany_model.specs.Bus.State.{NodeState, RunState, node_at, slots_run}
 use Rattle.cany_model.proofs.Bus.Restarts.{after_restarts-trace}
-use Rattle.cany_model.proofs.Bus.Runs.{IsOrderly, MaySlot, orderly, slot_done}
+use Rattle.cany_model.proofs.Runs.Runs.{IsOrderly, MaySlot, orderly, slot_done}
 use Rattle.cany_model.proofs.Bus.Seen.{history-is}
-use Rattle.cany_model.proofs.Bus.Steps.{after_slot-node, after_slot-trace, after_slot-history}
+use Rattle.cany_model.proofs.Runs.Steps.{after_slot-node, after_slot-trace, after_slot-history}
 use Rattle.can_bus.specs.Bus.{BusParts, Follows}
 use Rattle.can_bus.specs.Row.{AreAfter, IsRowFor, NoneLags, StandFor, controller_after}
 use Rattle.can_controller.specs.Controller.{ControllerState, node_state}

@@ -8,11 +8,11 @@ use Rattle.cany_base.specs.Scenario.{ScenarioParts}
 use Rattle.cany_model.specs.declared.reply.StepReply.{StepReply}
 use Rattle.cany_model.specs.declared.reply.StepReply.TheVariants.{Done}
 use Rattle.cany_model.specs.Bus.Restart.{after_restarts}
-use Rattle.cany_model.specs.Bus.Run.{run, reply, slot_reply, turn_reply, is_done, proceed, after_turn, IsLegal}
+use Rattle.cany_model.specs.Runs.Run.{run, reply, slot_reply, turn_reply, is_done, proceed, after_turn, IsLegal}
 use Rattle.cany_model.specs.Bus.Slot.{after_slot, script}
 use Rattle.cany_model.specs.Bus.State.{RunState, opening}
-use Rattle.cany_model.proofs.Bus.Journals.{run_push, step_is, legal_push, legal_short}
-use Rattle.cany_model.proofs.Bus.Steps.{after_turn-trace}
+use Rattle.cany_model.proofs.Runs.Journals.{run_push, step_is, legal_push, legal_short}
+use Rattle.cany_model.proofs.Runs.Steps.{after_turn-trace}
 use Rattle.can_bus.specs.Bus.{BusParts}
 use Rattle.can_controller.specs.Controller.{ControllerState}
 use Rattle.cany_world.specs.Incarnations.{IncarnationsParts}

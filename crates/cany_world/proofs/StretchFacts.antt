@@ -15,14 +15,14 @@ use Rattle.cany_base.specs.Nodes.{Nodes, has}
 use Rattle.cany_base.specs.Scenario.{ScenarioParts, IsLegalScenario}
 use Rattle.cany_base.proofs.ParamsFacts.{few_nodes, few_slots}
 use Rattle.cany_model.specs.Bus.History.{history}
-use Rattle.cany_model.specs.Bus.RoundRobin.{rounds}
-use Rattle.cany_model.specs.Bus.Run.{after_turn, proceed, run}
+use Rattle.cany_model.specs.Runs.RoundRobin.{rounds}
+use Rattle.cany_model.specs.Runs.Run.{after_turn, proceed, run}
 use Rattle.cany_model.specs.Bus.State.{NodeState, RunState, node_at, runs, slots_run}
 use Rattle.cany_model.specs.Rules.Effect.{Effect}
 use Rattle.cany_model.specs.Rules.Rooms.{actions_room}
 use Rattle.cany_model.specs.Rules.Turn.{effects_for}
-use Rattle.cany_model.proofs.Bus.Runs.{IsOrderly, orderly}
-use Rattle.cany_model.proofs.Bus.Steps.{after_turn-trace}
+use Rattle.cany_model.proofs.Runs.Runs.{IsOrderly, orderly}
+use Rattle.cany_model.proofs.Runs.Steps.{after_turn-trace}
 use Rattle.can_bus.specs.Bus.{BusParts, Follows}
 use Rattle.can_bus.specs.Rest.{idle_trace}
 use Rattle.can_bus.proofs.RestFacts.{length-idle_trace}

@@ -11,16 +11,16 @@ use Rattle.cany_base.specs.declared.step.Step.{Step}
 use Rattle.cany_base.specs.Scenario.{ScenarioParts}
 use Rattle.cany_model.specs.declared.span.Span.{Span}
 use Rattle.cany_model.specs.Bus.History.{ended_history}
-use Rattle.cany_model.specs.Bus.Incarnations.{incarnation_of, log_of, span_from, span_of}
+use Rattle.cany_model.specs.Runs.Incarnations.{incarnation_of, log_of, span_from, span_of}
 use Rattle.cany_model.specs.Bus.Restart.{began_at}
-use Rattle.cany_model.specs.Bus.Run.{run}
+use Rattle.cany_model.specs.Runs.Run.{run}
 use Rattle.cany_model.specs.Bus.State.{EndedIncarnation, Incarnation, NodeState, RunState, node_at, reads}
 use Rattle.cany_model.specs.Rules.Log.{log, log_from}
 use Rattle.cany_model.specs.Rules.Turn.{scenario_for}
-use Rattle.cany_model.proofs.Bus.Runs.{orderly}
+use Rattle.cany_model.proofs.Runs.Runs.{orderly}
 use Rattle.cany_model.proofs.Bus.Seen.{ended_history-present, history-is}
 use Rattle.cany_model.proofs.Bus.States.{node_at_past}
-use Rattle.cany_model.proofs.Promises.Fair.{from_later}
+use Rattle.cany_model.proofs.Promises.OwnSlotsAlone.{from_later}
 use Rattle.cany_model.proofs.Rules.ErrorFacts.{error_log}
 use Rattle.can_controller.specs.Controller.{ControllerState}
 use Rattle.cany_node.specs.Node.{NodeParts}

@@ -21,21 +21,21 @@ use Rattle.cany_base.specs.declared.notice.NoticeKind.TheVariants as notice
 use Rattle.cany_base.specs.Nodes.{Nodes}
 use Rattle.cany_base.specs.Params.{Parameters}
 use Rattle.cany_model.specs.Bus.History.{as_seen, given, history, seen}
-use Rattle.cany_model.specs.Bus.Run.{run, after_turn, turn_reply}
+use Rattle.cany_model.specs.Runs.Run.{run, after_turn, turn_reply}
 use Rattle.cany_model.specs.Bus.State.{Incarnation, NodeState, RunState, node_at, reads}
 use Rattle.cany_model.specs.Rules.Effect.{Effect}
 use Rattle.cany_model.specs.Rules.Notices.{HasFewSigns, IsNextNotice, IsReadable, IsReadableVector, error_as_idle}
 use Rattle.cany_model.specs.Rules.Rooms.{IsAskable, actions_room}
-use Rattle.cany_model.specs.Rules.Site.{knowledge_of}
+use Rattle.cany_model.specs.Rules.KnowledgeOf.{knowledge_of}
 use Rattle.cany_model.specs.Rules.Knowledge.{Knowledge}
 use Rattle.cany_model.specs.Rules.Turn.{scenario_at, turn_effects}
 use Rattle.cany_model.proofs.Among.{Each-weaker}
-use Rattle.cany_model.proofs.Bus.Journals.{trace_short}
-use Rattle.cany_model.proofs.Bus.Runs.{IsOrderly, orderly, history-length}
+use Rattle.cany_model.proofs.Runs.Journals.{trace_short}
+use Rattle.cany_model.proofs.Runs.Runs.{IsOrderly, orderly, history-length}
 use Rattle.cany_model.proofs.Bus.Seen.{history-is}
 use Rattle.cany_model.proofs.Bus.States.{no_note, note_at, runs_within}
-use Rattle.cany_model.proofs.Bus.Steps.{MayTurn, next_age, next_notice, after_turn-node, after_turn-other, after_turn-trace, after_turn-history}
-use Rattle.cany_model.proofs.Promises.Belonging.{Waiting, all_belong, askable_for, readable_for, seen_readable}
+use Rattle.cany_model.proofs.Runs.Steps.{MayTurn, next_age, next_notice, after_turn-node, after_turn-other, after_turn-trace, after_turn-history}
+use Rattle.cany_model.proofs.Promises.WaitingIsAskable.{Waiting, all_belong, askable_for, readable_for, seen_readable}
 use Rattle.cany_model.proofs.Promises.FewLifeSigns.{few_life_signs}
 use Rattle.cany_model.proofs.Promises.OwnIncarnation.{tells_incarnation}
 use Rattle.cany_model.proofs.Promises.SpacedSigns.{own_signs_few}

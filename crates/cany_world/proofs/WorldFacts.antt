@@ -5,15 +5,15 @@ use Rattle.cany_base.specs.declared.slot_note.SlotNote.{SlotNote}
 use Rattle.cany_base.specs.declared.step.Step.{Step}
 use Rattle.cany_base.proofs.ParamsFacts.{few_nodes}
 use Rattle.cany_base.specs.Scenario.{ScenarioParts, IsLegalScenario}
-use Rattle.cany_model.specs.Bus.Run.{run, has_ended}
+use Rattle.cany_model.specs.Runs.Run.{run, has_ended}
 use Rattle.cany_model.specs.Bus.State.{RunState, opening, slots_run}
 use Rattle.cany_model.specs.Promises.Detector.{KeepsMembers}
 use Rattle.cany_model.specs.Promises.Hypothesis.{IsWithin}
 use Rattle.cany_model.specs.Promises.Safe.{IsIntegral, IsSafe}
-use Rattle.cany_model.proofs.Bus.Journals.{run_none}
+use Rattle.cany_model.proofs.Runs.Journals.{run_none}
 use Rattle.cany_model.proofs.Promises.Integrity.{integral}
 use Rattle.cany_model.proofs.Promises.Safety.{safe}
-use Rattle.cany_model.proofs.Timed.DetectorLaws.{keeps_members}
+use Rattle.cany_model.proofs.Timed.Detector.DetectorLaws.{keeps_members}
 use Rattle.can_bus.specs.Bus.{BusParts, Follows}
 use Rattle.can_controller.specs.Controller.{ControllerState}
 use Rattle.cany_world.specs.Incarnations.{IncarnationsParts}

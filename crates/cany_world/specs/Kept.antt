@@ -11,11 +11,11 @@ use Rattle.cany_base.specs.Bounded.{Bounded}
 use Rattle.cany_base.specs.Scenario.{ScenarioParts, IsLegalScenario, is_ask_of_node}
 use Rattle.cany_model.specs.declared.span.Span.{Span}
 use Rattle.cany_model.specs.Bus.History.{ended_history, given, seen}
-use Rattle.cany_model.specs.Bus.Incarnations.{span_from}
+use Rattle.cany_model.specs.Runs.Incarnations.{span_from}
 use Rattle.cany_model.specs.Rules.Log.{log_from}
 use Rattle.cany_model.specs.Rules.Notices.{error_as_idle}
 use Rattle.cany_model.specs.Rules.Rooms.{waiting_room, actions_room}
-use Rattle.cany_model.specs.Bus.Run.{run}
+use Rattle.cany_model.specs.Runs.Run.{run}
 use Rattle.cany_model.specs.Bus.State.{EndedIncarnation, NodeState, RunState, node_at}
 use Rattle.cany_model.specs.Rules.Turn.{scenario_for}
 use Rattle.can_bus.specs.Bus.{BusParts, Follows}

@@ -2,7 +2,7 @@
 use Rattle.std.specs.Prelude.{MatchBool}
 use Rattle.cany_model.specs.declared.reply.StepReply.{StepReply}
 use Rattle.cany_model.specs.declared.reply.StepReply.TheVariants.{Done, NothingYet, Stopped}
-use Rattle.cany_model.specs.Bus.Run.{is_done}
+use Rattle.cany_model.specs.Runs.Run.{is_done}
 use Rattle.cany_node.specs.declared.reply.TurnReply.{TurnReply}
 use Rattle.cany_node.specs.declared.reply.TurnReply.TheVariants as turn
 

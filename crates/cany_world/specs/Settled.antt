@@ -4,7 +4,7 @@ use Rattle.cany_base.specs.declared.message.MsgKey.{MsgKey}
 use Rattle.cany_base.specs.declared.step.Step.{Step}
 use Rattle.cany_base.specs.Scenario.{ScenarioParts}
 use Rattle.cany_model.specs.Bus.History.{history}
-use Rattle.cany_model.specs.Bus.Run.{run}
+use Rattle.cany_model.specs.Runs.Run.{run}
 use Rattle.cany_model.specs.Bus.State.{RunState, node_at, runs}
 use Rattle.cany_model.specs.Promises.Settled.{came_too_late, origin_has_asked}
 use Rattle.cany_model.specs.Rules.Messages.{Message, message_key, messages_of}

@@ -3,7 +3,7 @@ use Rattle.std.specs.Prelude.{◌≡◌, ◌+◌, ◌*◌, [], map}
 use Rattle.cany_base.specs.Scenario.{IsLegalScenario}
 use Rattle.cany_model.specs.Rules.Messages.{message_key, messages_of}
 use Rattle.cany_model.specs.Rules.Rooms.{actions_room}
-use Rattle.cany_model.specs.Bus.Run.{IsLegal}
+use Rattle.cany_model.specs.Runs.Run.{IsLegal}
 use Rattle.cany_world.specs.declared.world.World.TheInside.{Inside}
 use Rattle.cany_world.specs.Kept.{StandFor}
 use Rattle.cany_world.specs.World.{WorldParts, state_of}

@@ -6,7 +6,7 @@ ghost use Rattle.cany_base.specs.Limits.{most_nodes};
 ghost use Rattle.cany_base.specs.Nodes.{has};
 ghost use Rattle.cany_base.specs.Scenario.{ScenarioParts};
 ghost use Rattle.cany_model.specs.Bus.Restart.{restarted_in};
-ghost use Rattle.cany_model.specs.Bus.Run.{run};
+ghost use Rattle.cany_model.specs.Runs.Run.{run};
 ghost use Rattle.cany_world.specs.Incarnations.{began_in};
 ghost use Rattle.cany_world.specs.Kept.{AreNodesOf};
 

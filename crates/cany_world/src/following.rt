@@ -1,6 +1,6 @@
 //! Following a given journal.
 ghost use Rattle.std.specs.Prelude.{◌≡◌, [], Some, None, MatchResult};
-ghost use Rattle.cany_model.specs.Bus.Follow.{journal_fault, steps_made};
+ghost use Rattle.cany_model.specs.Runs.Follow.{journal_fault, steps_made};
 ghost use Rattle.cany_world.specs.World.{WorldParts, state_of};
 
 use crate::world::World;

@@ -4,7 +4,7 @@ ghost use Rattle.cany_base.specs.declared.step.Step.{Step};
 ghost use Rattle.cany_base.specs.Limits.{most_nodes};
 ghost use Rattle.cany_base.specs.Scenario.{ScenarioParts};
 ghost use Rattle.cany_model.specs.Bus.Restart.{after_restarts, names_restart};
-ghost use Rattle.cany_model.specs.Bus.Run.{run};
+ghost use Rattle.cany_model.specs.Runs.Run.{run};
 ghost use Rattle.cany_model.specs.Bus.Slot.{after_slot, script as script_of};
 ghost use Rattle.cany_model.specs.Bus.State.{slots_run};
 ghost use Rattle.cany_world.specs.Kept.{AreControllersOf, AreNodesOf};

@@ -3,8 +3,8 @@ ghost use Rattle.std.specs.Prelude.{◌≡◌, ◌+◌, ◌^◌, ◌<◌, ◌≤
 ghost use Rattle.cany_base.specs.declared.step.Step.{Step};
 ghost use Rattle.cany_base.specs.Limits.{most_nodes};
 ghost use Rattle.cany_base.specs.Scenario.{ScenarioParts, IsLegalScenario};
-ghost use Rattle.cany_model.specs.Bus.RoundRobin.{rounds};
-ghost use Rattle.cany_model.specs.Bus.Run.{run};
+ghost use Rattle.cany_model.specs.Runs.RoundRobin.{rounds};
+ghost use Rattle.cany_model.specs.Runs.Run.{run};
 ghost use Rattle.cany_model.specs.Bus.State.{slots_run};
 ghost use Rattle.cany_world.specs.Kept.{StandFor};
 ghost use Rattle.cany_world.specs.Resting.{CanAllGo, CanAllPass, CanGo, CanRest, CanTakeTurn, CanCount, HasTakenTurn, HaveAllPassed, HavePassed, HaveRested, IsOpen};

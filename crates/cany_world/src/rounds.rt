@@ -1,7 +1,7 @@
 //! The round robin journal.
 ghost use Rattle.std.specs.Prelude.{◌≡◌, ◌+◌, ◌<◌, ◌≤◌, ◌++◌, [], IsTrue};
-ghost use Rattle.cany_model.specs.Bus.RoundRobin.{round, round_robin, rounds};
-ghost use Rattle.cany_model.specs.Bus.Run.{IsLegal, has_ended};
+ghost use Rattle.cany_model.specs.Runs.RoundRobin.{round, round_robin, rounds};
+ghost use Rattle.cany_model.specs.Runs.Run.{IsLegal, has_ended};
 ghost use Rattle.cany_model.specs.Bus.State.{slots_run};
 ghost use Rattle.cany_world.specs.World.{WorldParts, state_of};
 

@@ -4,7 +4,7 @@ ghost use Rattle.std.specs.List.{list_all, list_any};
 ghost use Rattle.cany_base.specs.declared.step.Step.{Step};
 ghost use Rattle.cany_base.specs.Frame.{data_class, FitsClass, has_incarnation};
 ghost use Rattle.cany_base.specs.Scenario.{ScenarioParts};
-ghost use Rattle.cany_model.specs.Bus.Run.{run};
+ghost use Rattle.cany_model.specs.Runs.Run.{run};
 ghost use Rattle.cany_model.specs.Bus.State.{RunState, node_at};
 ghost use Rattle.cany_model.specs.Bus.Waiting.{waits};
 ghost use Rattle.cany_model.specs.Promises.Settled.{is_ahead, is_settled};

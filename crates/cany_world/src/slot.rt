@@ -4,7 +4,7 @@ ghost use Rattle.cany_base.specs.declared.step.Step.{Step};
 ghost use Rattle.cany_base.specs.Limits.{most_nodes};
 ghost use Rattle.cany_base.specs.Scenario.{ScenarioParts};
 ghost use Rattle.cany_model.specs.Bus.Restart.{after_restarts};
-ghost use Rattle.cany_model.specs.Bus.Run.{run, slot_reply};
+ghost use Rattle.cany_model.specs.Runs.Run.{run, slot_reply};
 ghost use Rattle.cany_model.specs.Bus.Slot.{after_slot, script as script_of};
 ghost use Rattle.cany_world.specs.Kept.{AreControllersOf, CanRunSlot, StandFor};
 ghost use Rattle.cany_world.specs.Replies.{IfDone};

@@ -1,7 +1,7 @@
 //! One step of a run.
 ghost use Rattle.std.specs.Prelude.{◌≡◌, List};
 ghost use Rattle.cany_base.specs.declared.step.Step.{Step as AnyStep};
-ghost use Rattle.cany_model.specs.Bus.Run.{proceed, reply, run};
+ghost use Rattle.cany_model.specs.Runs.Run.{proceed, reply, run};
 ghost use Rattle.cany_world.specs.Kept.{CanStep, StandFor};
 ghost use Rattle.cany_world.specs.Replies.{IfDone};
 

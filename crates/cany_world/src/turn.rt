@@ -2,7 +2,7 @@
 ghost use Rattle.std.specs.Prelude.{◌≡◌, List, Some, length, slice_get};
 ghost use Rattle.cany_base.specs.declared.step.Step.{Step};
 ghost use Rattle.cany_base.specs.Scenario.{IsLegalScenario, ScenarioParts};
-ghost use Rattle.cany_model.specs.Bus.Run.{after_turn, run, turn_reply};
+ghost use Rattle.cany_model.specs.Runs.Run.{after_turn, run, turn_reply};
 ghost use Rattle.can_controller.specs.Controller.{ControllerState};
 ghost use Rattle.cany_world.specs.Incarnations.{CanTurnNow, IncarnationsParts};
 ghost use Rattle.cany_world.specs.Kept.{AreControllersOf, AreNodesOf};

@@ -4,7 +4,7 @@ ghost use Rattle.std.specs.List.{list_all};
 ghost use Rattle.cany_base.specs.declared.step.Step.{Step};
 ghost use Rattle.cany_base.specs.Limits.{most_nodes};
 ghost use Rattle.cany_base.specs.Scenario.{ScenarioParts};
-ghost use Rattle.cany_model.specs.Bus.Run.{first_lagging, run};
+ghost use Rattle.cany_model.specs.Runs.Run.{first_lagging, run};
 ghost use Rattle.cany_world.specs.Controllers.{has_read, lags};
 ghost use Rattle.cany_world.specs.Kept.{AreControllersOf};
 

@@ -1,14 +1,14 @@
 ghost use Rattle.std.specs.Prelude.{◌≡◌, ◌+◌, ◌<◌, ◌≤◌, ◌↔◌, [], ◌∷◌, ◌++◌, None, Some, if◌then◌else◌, length, reverse, slice_get, IfOk, IsSomeAnd};
 ghost use Rattle.cany_base.specs.declared.step.Step.TheVariants.{Turn};
-ghost use Rattle.cany_model.specs.Bus.Follow as following;
-ghost use Rattle.cany_model.specs.Bus.Incarnations.{log_of, span_of};
+ghost use Rattle.cany_model.specs.Runs.Follow as following;
+ghost use Rattle.cany_model.specs.Runs.Incarnations.{log_of, span_of};
 ghost use Rattle.cany_model.specs.Bus.Restart.{restarted_in};
 ghost use Rattle.cany_model.specs.Promises.Detector.{KeepsMembers};
 ghost use Rattle.cany_model.specs.Promises.Hypothesis.{IsWithin, first_break};
 ghost use Rattle.cany_model.specs.Rules.Log as model;
 ghost use Rattle.cany_model.specs.Rules.Messages.{message_key, messages_of};
-ghost use Rattle.cany_model.specs.Bus.RoundRobin.{rounds};
-ghost use Rattle.cany_model.specs.Bus.Run.{IsLegal, after_step, has_ended, is_done, reply};
+ghost use Rattle.cany_model.specs.Runs.RoundRobin.{rounds};
+ghost use Rattle.cany_model.specs.Runs.Run.{IsLegal, after_step, has_ended, is_done, reply};
 ghost use Rattle.cany_model.specs.Promises.Safe.{IsIntegral, IsSafe};
 ghost use Rattle.cany_model.specs.Promises.Settled.{is_settled};
 ghost use Rattle.cany_model.specs.Bus.State.{node_at, reads, slots_run};

@@ -6,7 +6,7 @@ use Rattle.cany_base.specs.declared.step.Step.TheVariants.{Turn}
 use Rattle.cany_base.specs.Scenario.{ScenarioParts}
 use Rattle.cany_model.specs.declared.reply.StepReply.{StepReply}
 use Rattle.cany_model.specs.declared.reply.StepReply.TheVariants.{Done, Lagging, Over, NothingYet, Stopped, NoNode}
-use Rattle.cany_model.specs.Bus.Run.{reply, stop_reply}
+use Rattle.cany_model.specs.Runs.Run.{reply, stop_reply}
 use Rattle.cany_model.specs.Bus.State.{RunState, node_at, reads}
 use Rattle.cany_yard.specs.Steps.{IsTurnReply}
 

@@ -1,5 +1,5 @@
 ghost use Rattle.std.specs.Prelude.{◌≡◌, ◌≤◌, ℕ, [], true};
-ghost use Rattle.cany_model.specs.Bus.Run.{is_done};
+ghost use Rattle.cany_model.specs.Runs.Run.{is_done};
 ghost use Rattle.cany_model.specs.Bus.State.{reads};
 ghost use Rattle.cany_world.specs.Replies.{step_reply};
 ghost use Rattle.cany_world.specs.World.{state_of};

@@ -15,7 +15,7 @@ use Rattle.cany_base.specs.Frame.{FrameParts, data_class}
 use Rattle.cany_base.specs.Scenario.{ScenarioParts}
 use Rattle.cany_model.specs.Bus.Frames.{Identity, identity_of, same_class}
 use Rattle.cany_model.specs.Bus.History.{history, copies, has_own, is_got, is_sent}
-use Rattle.cany_model.specs.Bus.Run.{run}
+use Rattle.cany_model.specs.Runs.Run.{run}
 use Rattle.cany_model.specs.Bus.State.{Incarnation, RunState}
 use Rattle.cany_base.specs.Nodes.{has}
 use Rattle.cany_model.specs.Promises.Hypothesis.{IsWithin}
@@ -34,7 +34,7 @@ use Rattle.cany_model.proofs.Bus.Carried.{Carries, CarriesClean, Has, SentBy, is
 use Rattle.cany_model.proofs.Promises.Agreement.{IsAtRest, carried_read, owed_carried, own_clean, sent_carried}
 use Rattle.cany_model.proofs.Promises.Diffusion.{Duty, IsDiffused}
 use Rattle.cany_model.proofs.Promises.DiffusionRun.{run_diffuses}
-use Rattle.cany_model.proofs.Promises.Fair.{run_numbered}
+use Rattle.cany_model.proofs.Promises.OwnSlotsAlone.{run_numbered}
 use Rattle.cany_model.proofs.Promises.Firsts.{carried_has_first, first_some}
 use Rattle.cany_model.proofs.Promises.OneFrame.{data_carries, only_frame}
 use Rattle.cany_model.proofs.Promises.SettledFacts.{settled_asked_or_late, settled_read, settled_waits}
@@ -43,8 +43,8 @@ use Rattle.cany_model.proofs.Rules.AskedFacts.{asked_at_once}
 use Rattle.cany_model.proofs.Rules.DeliveryFacts.{DeliversAtOnce, entry_from_brought}
 use Rattle.cany_model.proofs.Rules.LogFacts.{log_has, log_split, made_by}
 use Rattle.cany_model.proofs.Rules.MessageKeys.{IsOneOf}
-use Rattle.cany_model.proofs.Bus.FrameInvariants.{history_note}
-use Rattle.cany_model.proofs.Bus.Runs.{orderly}
+use Rattle.cany_model.proofs.Runs.FrameInvariants.{history_note}
+use Rattle.cany_model.proofs.Runs.Runs.{orderly}
 use Rattle.cany_model.proofs.Rules.Begun.{IsBegun}
 use Rattle.cany_model.proofs.Rules.ProtocolFacts.{IsFoundedEntry, MayStart}
 use Rattle.cany_model.proofs.Rules.Protocols.{IsProtocol}

@@ -12,17 +12,17 @@ use Rattle.cany_base.specs.Scenario.{ScenarioParts}
 use Rattle.cany_model.specs.Bus.Frames.{Identity, identity_of}
 use Rattle.cany_model.specs.Bus.History.{given, history}
 use Rattle.cany_model.specs.Rules.Relcan.{confirm_frame, confirm_of}
-use Rattle.cany_model.specs.Bus.Run.{after_turn, run}
+use Rattle.cany_model.specs.Runs.Run.{after_turn, run}
 use Rattle.cany_model.specs.Bus.State.{RunState, node_at}
 use Rattle.cany_model.specs.Rules.Turn.{scenario_at, turn_effects}
 use Rattle.cany_model.proofs.Among.{Among, Among-weaker, Among-which}
 use Rattle.cany_model.proofs.Bus.Carried.{Carries, Has, Succeeds, Succeeds-from_sent, is_sent-from}
-use Rattle.cany_model.proofs.Bus.FrameInvariants.{history_among, HoldsOfFrames, IsKeptByFrames, frames_alone, nothing_known, turn_note}
-use Rattle.cany_model.proofs.Bus.Runs.{IsOrderly}
-use Rattle.cany_model.proofs.Bus.Steps.{MayTurn, next_notice, after_turn-history, after_turn-trace}
+use Rattle.cany_model.proofs.Runs.FrameInvariants.{history_among, HoldsOfFrames, IsKeptByFrames, frames_alone, nothing_known, turn_note}
+use Rattle.cany_model.proofs.Runs.Runs.{IsOrderly}
+use Rattle.cany_model.proofs.Runs.Steps.{MayTurn, next_notice, after_turn-history, after_turn-trace}
 use Rattle.cany_model.proofs.Rules.ProtocolFacts.{MayAsk, accepts, confirms, data_confirms_none, exchanges, lives, originates, relays, request_class, requests, signals}
 use Rattle.cany_model.proofs.Rules.TurnFacts.{turn_only}
-use Rattle.cany_model.proofs.Bus.Waits.{AsksOnly}
+use Rattle.cany_model.proofs.Runs.Waits.{AsksOnly}
 
 -- the data frame whose message a frame confirms
 abbrev confirmed_by : FrameParts → Identity

@@ -21,8 +21,8 @@ use Rattle.cany_model.proofs.Among.{Among, Among-weaker, Among-with, Among-drop,
 use Rattle.cany_model.proofs.Bus.Carried.{Succeeds, CarriesClean, SentBy, Succeeds-from_own, Succeeds-from_sent, is_got-from, is_sent-from}
 use Rattle.cany_model.proofs.Bus.Counting.{Accepts, clean_from_copies, clean_from_success}
 use Rattle.cany_model.proofs.Bus.Notes.{given-Sent}
-use Rattle.cany_model.proofs.Bus.Steps.{kept_at}
-use Rattle.cany_model.proofs.Bus.Waits.{Asks, Withdraws, waits_after, waits-from_after, waits-without, waits-from_without}
+use Rattle.cany_model.proofs.Runs.Steps.{kept_at}
+use Rattle.cany_model.proofs.Runs.Waits.{Asks, Withdraws, waits_after, waits-from_after, waits-without, waits-from_without}
 
 -- what the node has read
 abbrev pub past_of : ℕ → List SlotNote → NodeState → List NoticeKind

@@ -16,7 +16,7 @@ use Rattle.cany_base.specs.Scenario.{ScenarioParts}
 use Rattle.cany_model.specs.Bus.Frames.{identity_of}
 use Rattle.cany_model.specs.Bus.History.{as_seen, given, is_hidden, seen}
 use Rattle.cany_model.specs.Bus.Restart.{after_restarts, restarted}
-use Rattle.cany_model.specs.Bus.Run.{after_turn, run}
+use Rattle.cany_model.specs.Runs.Run.{after_turn, run}
 use Rattle.cany_model.specs.Bus.Slot.{FaultScript, after_slot, is_success, lets_accept, script, slot_note_of}
 use Rattle.cany_model.specs.Bus.State.{Incarnation, NodeState, RunState, node_at, opening, runs, slots_run}
 use Rattle.cany_model.specs.Bus.Waiting.{without}
@@ -24,13 +24,13 @@ use Rattle.cany_model.specs.Rules.Effect.{waiting_after}
 use Rattle.cany_model.specs.Rules.Turn.{scenario_for, turn_effects}
 use Rattle.cany_model.proofs.Bus.Notes.{given-Got, given-Sent, given_sender, given_taker, running_takes, sender_waits, taker_accepts, waits_with-from_Contains}
 use Rattle.cany_model.proofs.Bus.Restarts.{Restarts, after_restarts-trace, restarts_or_stays}
-use Rattle.cany_model.proofs.Bus.Runs.{IsKept, IsOrderly, along_run, opening_within}
+use Rattle.cany_model.proofs.Runs.Runs.{IsKept, IsOrderly, along_run, opening_within}
 use Rattle.cany_model.proofs.Bus.Seen.{Numbered, early_hidden, history-is, length-seen, seen_hidden, seen_idle, seen_one, seen_past, seen_plain}
 use Rattle.cany_model.proofs.Bus.States.{node_at-opening, runs_within}
-use Rattle.cany_model.proofs.Bus.Steps.{MayTurn, after_slot-present, after_slot-trace, after_slot-unread, after_slot-waiting, after_turn-history, after_turn-node, after_turn-other, after_turn-present, after_turn-runs, after_turn-trace, kept_at, next_notice, running_before_slot}
-use Rattle.cany_model.proofs.Bus.Waits.{Each-after, Each-kept, waits-from_with}
+use Rattle.cany_model.proofs.Runs.Steps.{MayTurn, after_slot-present, after_slot-trace, after_slot-unread, after_slot-waiting, after_turn-history, after_turn-node, after_turn-other, after_turn-present, after_turn-runs, after_turn-trace, kept_at, next_notice, running_before_slot}
+use Rattle.cany_model.proofs.Runs.Waits.{Each-after, Each-kept, waits-from_with}
 use Rattle.cany_model.proofs.Promises.Diffusion.{Heard, Lived, Turned, past_of}
-use Rattle.cany_model.proofs.Promises.Fair.{AllWaitForOwnSlots, WaitsForOwnSlots, own_slots_alone_opening, own_slots_alone_kept, from_later, members_later, run_numbered, sent_plain}
+use Rattle.cany_model.proofs.Promises.OwnSlotsAlone.{AllWaitForOwnSlots, WaitsForOwnSlots, own_slots_alone_opening, own_slots_alone_kept, from_later, members_later, run_numbered, sent_plain}
 use Rattle.cany_model.proofs.Rules.Begun.{IsBegun, begun_first}
 use Rattle.cany_model.proofs.Rules.MutedFacts.{begun_later}
 use Rattle.cany_model.proofs.Rules.ProtocolFacts.{MayAsk}

@@ -12,7 +12,7 @@ use Rattle.cany_model.specs.Bus.Frames.{Identity}
 use Rattle.cany_model.specs.Bus.History.{copies, has_own, is_got}
 use Rattle.cany_model.specs.Promises.Hypothesis.{IsWithin}
 use Rattle.cany_model.specs.Rules.Messages.{Message, messages_of, data_id}
-use Rattle.cany_model.specs.Bus.Run.{run}
+use Rattle.cany_model.specs.Runs.Run.{run}
 use Rattle.cany_model.specs.Rules.Edcan.{edcan}
 use Rattle.cany_model.specs.Promises.Safe.{IsAgreedOn}
 use Rattle.cany_model.specs.Bus.State.{RunState}
@@ -24,7 +24,7 @@ use Rattle.cany_model.proofs.Among.{Among, count-yes, count-no}
 use Rattle.cany_model.proofs.Promises.Diffusion.{IsDiffused, copies_grow}
 use Rattle.cany_model.proofs.Rules.MessageKeys.{IsOneOf}
 use Rattle.cany_model.proofs.Rules.TurnFacts.{turn_withdraws, turn_cause_data, turn_relays, turn_sends}
-use Rattle.cany_model.proofs.Bus.Waits.{Asks}
+use Rattle.cany_model.proofs.Runs.Waits.{Asks}
 use Rattle.cany_model.proofs.Rules.DeliveryFacts.{DeliversAtOnce}
 use Rattle.cany_model.proofs.Rules.EdcanFacts.{edcan_delivers}
 use Rattle.cany_model.proofs.Rules.Begun.{begun_copies, begun_short}

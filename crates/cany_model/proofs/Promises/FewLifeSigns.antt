@@ -14,15 +14,15 @@ use Rattle.cany_base.specs.declared.step.Step.{Step}
 use Rattle.cany_base.specs.Scenario.{ScenarioParts}
 use Rattle.cany_model.specs.Bus.Frames.{identity_of}
 use Rattle.cany_model.specs.Bus.History.{given, seen}
-use Rattle.cany_model.specs.Bus.Run.{run}
+use Rattle.cany_model.specs.Runs.Run.{run}
 use Rattle.cany_model.specs.Bus.State.{Incarnation, NodeState, node_at, runs}
 use Rattle.cany_model.specs.Bus.Waiting.{waits}
 use Rattle.cany_model.specs.Rules.Effect.{Effect, waiting_after}
 use Rattle.cany_model.specs.Rules.Life.{is_own_sign, life_signs_sent}
-use Rattle.cany_model.specs.Rules.Site.{knowledge_of}
+use Rattle.cany_model.specs.Rules.KnowledgeOf.{knowledge_of}
 use Rattle.cany_model.specs.Rules.Turn.{scenario_for, turn_effects}
 use Rattle.cany_model.proofs.Among.{count-cons, count-drop, count-grows}
-use Rattle.cany_model.proofs.Bus.Waits.{Each-kept, waits-without}
+use Rattle.cany_model.proofs.Runs.Waits.{Each-kept, waits-without}
 use Rattle.cany_model.proofs.Promises.Diffusion.{Lived, Turned, past_of}
 use Rattle.cany_model.proofs.Promises.FewLifeSignsRun.{IsNodesWithin, SendsFirst, each_within}
 use Rattle.cany_model.proofs.Promises.FewLifeSignsWaiting.{IsOwnSign, greatest_last, left, next_number, own_sign, turn_asks_due, turn_idle, turn_idle_numbers, turn_keeps, turn_more, turn_numbers, turn_partly, turn_replaces}

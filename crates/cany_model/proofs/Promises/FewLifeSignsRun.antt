@@ -9,20 +9,20 @@ use Rattle.cany_base.specs.Frame.{FrameParts}
 use Rattle.cany_base.specs.Scenario.{ScenarioParts}
 use Rattle.cany_model.specs.Bus.History.{as_seen, given, seen}
 use Rattle.cany_model.specs.Bus.Restart.{after_restarts}
-use Rattle.cany_model.specs.Bus.Run.{after_turn, run}
+use Rattle.cany_model.specs.Runs.Run.{after_turn, run}
 use Rattle.cany_model.specs.Bus.Slot.{FaultScript, after_slot, script, slot_note_of}
 use Rattle.cany_model.specs.Bus.State.{Incarnation, NodeState, RunState, node_at, runs}
 use Rattle.cany_model.specs.Rules.Turn.{scenario_for, turn_effects}
-use Rattle.cany_model.proofs.Bus.Journals.{FewUnread, unread_at_first, unread_kept}
+use Rattle.cany_model.proofs.Runs.Journals.{FewUnread, unread_at_first, unread_kept}
 use Rattle.cany_model.proofs.Bus.Notes.{given-Sent}
 use Rattle.cany_model.proofs.Bus.Restarts.{after_restarts-trace, restarts_or_stays}
-use Rattle.cany_model.proofs.Bus.Runs.{IsKept, IsOrderly, along_run}
+use Rattle.cany_model.proofs.Runs.Runs.{IsKept, IsOrderly, along_run}
 use Rattle.cany_model.proofs.Bus.Seen.{seen_one}
 use Rattle.cany_model.proofs.Bus.States.{runs_within}
-use Rattle.cany_model.proofs.Bus.Steps.{MayTurn, after_slot-present, after_slot-trace, after_turn-node, after_turn-other, after_turn-present, after_turn-runs, after_turn-trace, running_before_slot}
+use Rattle.cany_model.proofs.Runs.Steps.{MayTurn, after_slot-present, after_slot-trace, after_turn-node, after_turn-other, after_turn-present, after_turn-runs, after_turn-trace, running_before_slot}
 use Rattle.cany_model.proofs.Promises.Diffusion.{Lived, Turned}
 use Rattle.cany_model.proofs.Promises.EachNode.{EachRunning, IsNew, opening_new, restarted_new, slot_lived, turn_turned}
-use Rattle.cany_model.proofs.Promises.Fair.{AllWaitForOwnSlots, own_slots_alone_opening, own_slots_alone_kept}
+use Rattle.cany_model.proofs.Promises.OwnSlotsAlone.{AllWaitForOwnSlots, own_slots_alone_opening, own_slots_alone_kept}
 use Rattle.cany_model.proofs.Promises.FewLifeSignsOrder.{NoneBefore, carried_first}
 
 -- what a slot gave the node as sent was the first of the frames that it waited with

@@ -6,13 +6,13 @@ use Rattle.cany_base.specs.declared.step.Step.{Step}
 use Rattle.cany_base.specs.Params.{Parameters}
 use Rattle.cany_base.specs.Scenario.{ScenarioParts}
 use Rattle.cany_model.specs.Bus.Restart.{after_restarts, first_cycle}
-use Rattle.cany_model.specs.Bus.Run.{run}
+use Rattle.cany_model.specs.Runs.Run.{run}
 use Rattle.cany_model.specs.Bus.Slot.{FaultScript, after_slot, script}
 use Rattle.cany_model.specs.Bus.State.{Incarnation, NodeState, RunState, fresh, node_at, opening}
 use Rattle.cany_model.proofs.Bus.Restarts.{restarts_or_stays}
-use Rattle.cany_model.proofs.Bus.Runs.{along_run}
+use Rattle.cany_model.proofs.Runs.Runs.{along_run}
 use Rattle.cany_model.proofs.Bus.States.{node_at-opening, node_at_past}
-use Rattle.cany_model.proofs.Bus.Steps.{after_slot-length, after_slot-present, after_turn-present}
+use Rattle.cany_model.proofs.Runs.Steps.{after_slot-length, after_slot-present, after_turn-present}
 
 abbrev pub HasFirstCycle : Parameters → Incarnation → Type 0
 HasFirstCycle p inc = 0 < inc.number → inc.cycle ≡ first_cycle p inc.from

@@ -16,7 +16,7 @@ use Rattle.cany_base.specs.Frame.{FrameParts, data_class}
 use Rattle.cany_base.specs.Scenario.{ScenarioParts}
 use Rattle.cany_model.specs.Bus.Frames.{identity_of}
 use Rattle.cany_model.specs.Bus.History.{as_seen, given, history}
-use Rattle.cany_model.specs.Bus.Run.{run}
+use Rattle.cany_model.specs.Runs.Run.{run}
 use Rattle.cany_model.specs.Bus.State.{Incarnation, RunState, node_at}
 use Rattle.cany_model.specs.Promises.Entries.{delivers_key}
 use Rattle.cany_model.specs.Promises.Safe.{IsSound, IsIntegral}
@@ -28,10 +28,10 @@ use Rattle.cany_model.specs.Rules.Knowledge.{FailureSign}
 use Rattle.cany_model.specs.Rules.Turn.{scenario_at}
 use Rattle.cany_model.proofs.Among.{Among, Among-from_Contains, Among-from_count, Among-get_or, Among-place, Among-weaker}
 use Rattle.cany_model.proofs.Bus.Carried.{Carries, Has, frame_of_notice}
-use Rattle.cany_model.proofs.Bus.Runs.{IsOrderly, orderly, history-length, history-at}
+use Rattle.cany_model.proofs.Runs.Runs.{IsOrderly, orderly, history-length, history-at}
 use Rattle.cany_model.proofs.Bus.Seen.{seen_one}
 use Rattle.cany_model.proofs.Bus.States.{no_note, note_at}
-use Rattle.cany_model.proofs.Promises.Belonging.{AllBelong, all_belong, fda_names, readable_later}
+use Rattle.cany_model.proofs.Promises.WaitingIsAskable.{AllBelong, all_belong, fda_names, readable_later}
 use Rattle.cany_model.proofs.Promises.OneFrame.{data_carries, one_service}
 use Rattle.cany_model.proofs.Promises.Sources.{carries_data, IsSent, IsSourced, sourced}
 use Rattle.cany_model.proofs.Rules.LogFacts.{log_once, log_split, made_by}

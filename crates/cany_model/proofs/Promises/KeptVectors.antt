@@ -14,15 +14,15 @@ use Rattle.cany_base.specs.Params.{Parameters}
 use Rattle.cany_base.specs.Payload.{vector_bytes}
 use Rattle.cany_base.specs.Scenario.{ScenarioParts}
 use Rattle.cany_model.specs.Bus.History.{given}
-use Rattle.cany_model.specs.Bus.Run.{run}
+use Rattle.cany_model.specs.Runs.Run.{run}
 use Rattle.cany_model.specs.Bus.State.{Incarnation, NodeState}
 use Rattle.cany_model.specs.Rules.Notices.{IsPart, IsReadAfterStart}
-use Rattle.cany_model.specs.Rules.Site.{knowledge_of}
+use Rattle.cany_model.specs.Rules.KnowledgeOf.{knowledge_of}
 use Rattle.cany_model.specs.Rules.Turn.{scenario_for, turn_effects}
 use Rattle.cany_model.specs.Rules.Vectors.{brought, is_end, is_start, met}
 use Rattle.cany_model.proofs.Among.{Each-of, Each-weaker, Among-from_Contains}
 use Rattle.cany_model.proofs.Bus.Notes.{given-Sent, those_where_pass}
-use Rattle.cany_model.proofs.Bus.Waits.{Each-after, Each-kept}
+use Rattle.cany_model.proofs.Runs.Waits.{Each-after, Each-kept}
 use Rattle.cany_model.proofs.Promises.Diffusion.{Lived, Turned, past_of}
 use Rattle.cany_model.proofs.Promises.EachNode.{EachRunning, IsNew, IsNodes, each_running}
 use Rattle.cany_model.proofs.Promises.LateVectors.{asks_in_cycle}

@@ -11,18 +11,18 @@ use Rattle.cany_base.specs.Frame.{FrameParts}
 use Rattle.cany_base.specs.Params.{Parameters}
 use Rattle.cany_base.specs.Scenario.{ScenarioParts}
 use Rattle.cany_model.specs.Bus.History.{as_seen, given, history, is_hidden}
-use Rattle.cany_model.specs.Bus.Run.{after_turn, run}
+use Rattle.cany_model.specs.Runs.Run.{after_turn, run}
 use Rattle.cany_model.specs.Bus.State.{Incarnation, RunState, node_at}
 use Rattle.cany_model.specs.Rules.Notices.{IsReadAfterStart}
 use Rattle.cany_model.specs.Rules.Turn.{scenario_for}
 use Rattle.cany_model.specs.Rules.Vectors.{cycle_of}
 use Rattle.cany_model.proofs.Bus.EachRead.{EachRead, each_of_history}
-use Rattle.cany_model.proofs.Bus.FrameInvariants.{HoldsOfFrames, IsKeptByFrames, OfCarried, OfWaiting, frames_alone, nothing_known}
+use Rattle.cany_model.proofs.Runs.FrameInvariants.{HoldsOfFrames, IsKeptByFrames, OfCarried, OfWaiting, frames_alone, nothing_known}
 use Rattle.cany_model.proofs.Bus.Notes.{given-Got, given-Sent}
-use Rattle.cany_model.proofs.Bus.Runs.{IsOrderly, history-length, orderly}
+use Rattle.cany_model.proofs.Runs.Runs.{IsOrderly, history-length, orderly}
 use Rattle.cany_model.proofs.Bus.Seen.{Numbered, seen_idle, seen_plain}
-use Rattle.cany_model.proofs.Bus.Steps.{MayTurn, after_turn-history, after_turn-trace, next_notice}
-use Rattle.cany_model.proofs.Promises.Fair.{run_numbered}
+use Rattle.cany_model.proofs.Runs.Steps.{MayTurn, after_turn-history, after_turn-trace, next_notice}
+use Rattle.cany_model.proofs.Promises.OwnSlotsAlone.{run_numbered}
 use Rattle.cany_model.proofs.Rules.CycleFacts.{cycle_before}
 use Rattle.cany_model.proofs.Rules.ProtocolFacts.{MayAsk, accepts, confirms, data_exchanges_none, exchanges, is_relayed, lives, originates, relays, request_class, requests, signals}
 use Rattle.cany_model.proofs.Rules.TurnFacts.{turn_only}

@@ -14,7 +14,7 @@ use Rattle.cany_model.specs.Bus.History.{copies, has_own, history, is_got}
 use Rattle.cany_model.specs.Promises.Hypothesis.{IsWithin}
 use Rattle.cany_model.specs.Rules.Messages.{Message, messages_of, data_id}
 use Rattle.cany_model.specs.Rules.Relcan.{confirm_of, falls_back, fell_back, has_confirm, has_copy, has_timer_ahead, is_timed, relcan}
-use Rattle.cany_model.specs.Bus.Run.{run}
+use Rattle.cany_model.specs.Runs.Run.{run}
 use Rattle.cany_model.specs.Promises.Safe.{IsAgreedOn}
 use Rattle.cany_model.specs.Promises.Settled.{IsCorrect}
 use Rattle.cany_model.specs.Bus.State.{RunState}
@@ -24,7 +24,7 @@ use Rattle.cany_model.proofs.Promises.Agreement.{idle_carries, owed_carried}
 use Rattle.cany_model.proofs.Promises.Agrees.{Ground, Owes, duty_of, run_agrees}
 use Rattle.cany_model.proofs.Among.{Among, Among-from_any, Among-from_count, any-from_Among}
 use Rattle.cany_model.proofs.Bus.Carried.{Carries, CarriesClean, Carries-from_got}
-use Rattle.cany_model.proofs.Bus.FrameInvariants.{history_among}
+use Rattle.cany_model.proofs.Runs.FrameInvariants.{history_among}
 use Rattle.cany_model.proofs.Promises.Confirms.{IsConfirmed, confirm_carried, confirmed}
 use Rattle.cany_model.proofs.Bus.Counting.{clean_from_success}
 use Rattle.cany_model.proofs.Promises.Diffusion.{IsDiffused}
@@ -33,7 +33,7 @@ use Rattle.cany_model.proofs.Rules.MessageKeys.{IsOneOf}
 use Rattle.cany_model.proofs.Promises.SettledFacts.{settled_none_ahead}
 use Rattle.cany_model.proofs.Rules.Timers.{overdue_falls_back}
 use Rattle.cany_model.proofs.Rules.TurnFacts.{rel_cause, turn_withdraws, turn_falls_back, turn_sends}
-use Rattle.cany_model.proofs.Bus.Waits.{Asks}
+use Rattle.cany_model.proofs.Runs.Waits.{Asks}
 use Rattle.cany_model.proofs.Rules.DeliveryFacts.{DeliversAtOnce}
 use Rattle.cany_model.proofs.Rules.Begun.{begun_fell_back, begun_short}
 use Rattle.cany_model.proofs.Rules.ProtocolFacts.{MayStart, is_diffused}

@@ -11,7 +11,7 @@ use Rattle.cany_model.specs.Bus.History.{history}
 use Rattle.cany_model.specs.Rules.Messages.{Message, accept_of_key, confirm_of_key, data_frame, data_id, frames_of, message_key}
 use Rattle.cany_model.specs.Rules.Protocol.{Protocol}
 use Rattle.cany_model.specs.Rules.Turn.{is_ahead_at, protocols, scenario_at}
-use Rattle.cany_model.specs.Bus.Run.{all_read}
+use Rattle.cany_model.specs.Runs.Run.{all_read}
 use Rattle.cany_model.specs.Promises.Settled.{IsCorrect, came_too_late, is_settled, is_awaited, is_ahead, origin_has_asked}
 use Rattle.cany_model.specs.Bus.State.{NodeState, RunState, absent, node_at, runs}
 use Rattle.cany_model.specs.Bus.Waiting.{waits}

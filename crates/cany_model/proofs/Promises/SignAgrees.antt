@@ -10,7 +10,7 @@ use Rattle.cany_base.specs.Scenario.{ScenarioParts}
 use Rattle.cany_base.specs.declared.class.Class.TheVariants as class
 use Rattle.cany_model.specs.Bus.Frames.{same_class}
 use Rattle.cany_model.specs.Bus.History.{history, seen}
-use Rattle.cany_model.specs.Bus.Run.{all_read, run}
+use Rattle.cany_model.specs.Runs.Run.{all_read, run}
 use Rattle.cany_model.specs.Bus.State.{RunState, node_at, runs}
 use Rattle.cany_model.specs.Bus.Waiting.{waits}
 use Rattle.cany_model.specs.Promises.Hypothesis.{IsWithin}
@@ -21,19 +21,19 @@ use Rattle.cany_model.specs.Promises.Settled.{IsCorrect, IsCorrectFrom, is_await
 use Rattle.cany_model.specs.Rules.Life.{failure_signs}
 use Rattle.cany_model.specs.Rules.Log.{log}
 use Rattle.cany_model.specs.Rules.Protocol.{Protocol}
-use Rattle.cany_model.specs.Rules.Site.{knowledge_of}
+use Rattle.cany_model.specs.Rules.KnowledgeOf.{knowledge_of}
 use Rattle.cany_model.specs.Rules.Knowledge.{FailureSign, fda_of, knows}
 use Rattle.cany_model.specs.Rules.Turn.{scenario_at, scenario_for, turn_effects}
 use Rattle.cany_model.proofs.Among.{Among, Among-from_Contains, Among-weaker, Among-which}
 use Rattle.cany_model.proofs.Bus.Carried.{Carries, CarriesClean}
-use Rattle.cany_model.proofs.Bus.Runs.{orderly}
+use Rattle.cany_model.proofs.Runs.Runs.{orderly}
 use Rattle.cany_model.proofs.Bus.Seen.{history-is, within_seen}
-use Rattle.cany_model.proofs.Bus.Waits.{Asks}
+use Rattle.cany_model.proofs.Runs.Waits.{Asks}
 use Rattle.cany_model.proofs.Promises.Agreement.{IsAtRest, carried_read, seen_clean}
 use Rattle.cany_model.proofs.Promises.Diffusion.{Duty, IsDiffused, owed_is_carried}
 use Rattle.cany_model.proofs.Promises.DiffusionRun.{NodeDiffuses, run_diffuses}
 use Rattle.cany_model.proofs.Promises.EachNode.{EachRunning}
-use Rattle.cany_model.proofs.Promises.Fair.{run_numbered}
+use Rattle.cany_model.proofs.Promises.OwnSlotsAlone.{run_numbered}
 use Rattle.cany_model.proofs.Promises.Firsts.{carried_has_first}
 use Rattle.cany_model.proofs.Promises.SettledFacts.{each_has_read, none_waits}
 use Rattle.cany_model.proofs.Rules.Begun.{IsBegun}

@@ -11,7 +11,7 @@ use Rattle.cany_base.specs.Frame.{FrameParts}
 use Rattle.cany_base.specs.Scenario.{ScenarioParts}
 use Rattle.cany_model.specs.Bus.Frames.{Identity, identity_of, is_before, is_of, same_class}
 use Rattle.cany_model.specs.Bus.History.{given, history, seen}
-use Rattle.cany_model.specs.Bus.Run.{after_turn}
+use Rattle.cany_model.specs.Runs.Run.{after_turn}
 use Rattle.cany_model.specs.Bus.State.{Incarnation, NodeState, RunState, node_at}
 use Rattle.cany_model.specs.Bus.Waiting.{put_in_order, waits, with_frame, without}
 use Rattle.cany_model.specs.Rules.Effect.{Effect, Ask, Withdraw, Enter, waiting_after}
@@ -22,7 +22,7 @@ use Rattle.cany_model.specs.Rules.Turn.{protocols, scenario_at, scenario_for, tu
 use Rattle.cany_model.proofs.Among.{count-cons, count-drop, count-grows, count-no, count-yes, one_if}
 use Rattle.cany_model.proofs.Bus.Identities.{same_class-true, same_class_self, same_identity-true}
 use Rattle.cany_model.proofs.Bus.Notes.{given-Sent, given_idle}
-use Rattle.cany_model.proofs.Bus.Steps.{MayTurn, after_turn-history, after_turn-present, after_turn-trace, kept_at, next_notice}
+use Rattle.cany_model.proofs.Runs.Steps.{MayTurn, after_turn-history, after_turn-present, after_turn-trace, kept_at, next_notice}
 use Rattle.cany_model.proofs.Promises.Diffusion.{Lived, past_of}
 use Rattle.cany_model.proofs.Promises.EachNode.{EachRunning, IsNodes}
 use Rattle.cany_model.proofs.Bus.Seen.{history-is}

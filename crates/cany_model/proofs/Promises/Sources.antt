@@ -15,17 +15,17 @@ use Rattle.cany_base.specs.Scenario.{ScenarioParts}
 use Rattle.cany_model.specs.Bus.History.{history}
 use Rattle.cany_model.specs.Promises.Safe.{WasSent}
 use Rattle.cany_model.specs.Rules.Messages.{Message, messages_of, data_frame}
-use Rattle.cany_model.specs.Bus.Run.{run}
+use Rattle.cany_model.specs.Runs.Run.{run}
 use Rattle.cany_model.specs.Bus.State.{RunState}
 use Rattle.cany_model.specs.Rules.Turn.{scenario_at, turn_effects}
 use Rattle.cany_model.proofs.Among.{Among, Among-weaker, Contains-cons, Contains-head, Contains-from_Among}
 use Rattle.cany_model.proofs.Bus.Carried.{Has}
-use Rattle.cany_model.proofs.Bus.FrameInvariants.{HoldsOfFrames, IsKeptByFrames, frames_alone, nothing_known, slot_of_note, turn_note}
-use Rattle.cany_model.proofs.Bus.Runs.{IsOrderly}
-use Rattle.cany_model.proofs.Bus.Steps.{MayTurn, next_notice}
+use Rattle.cany_model.proofs.Runs.FrameInvariants.{HoldsOfFrames, IsKeptByFrames, frames_alone, nothing_known, slot_of_note, turn_note}
+use Rattle.cany_model.proofs.Runs.Runs.{IsOrderly}
+use Rattle.cany_model.proofs.Runs.Steps.{MayTurn, next_notice}
 use Rattle.cany_model.proofs.Rules.ProtocolFacts.{MayAsk, MayRequest, accepts, confirms, exchanges, lives, originates, relays, request_class, requests, signals}
 use Rattle.cany_model.proofs.Rules.TurnFacts.{turn_only}
-use Rattle.cany_model.proofs.Bus.Waits.{AsksOnly}
+use Rattle.cany_model.proofs.Runs.Waits.{AsksOnly}
 
 -- whether the frames of a class carry messages
 abbrev pub carries_data : Class → Bool

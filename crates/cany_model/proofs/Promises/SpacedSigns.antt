@@ -3,11 +3,11 @@ use Rattle.std.specs.Prelude.{ℕ, List, ◌∷◌, length}
 use Rattle.cany_base.specs.declared.step.Step.{Step}
 use Rattle.cany_base.specs.Scenario.{ScenarioParts}
 use Rattle.cany_model.specs.Bus.History.{history}
-use Rattle.cany_model.specs.Bus.Run.{run}
+use Rattle.cany_model.specs.Runs.Run.{run}
 use Rattle.cany_model.specs.Rules.Notices.{HasFewSigns}
 use Rattle.cany_model.specs.Rules.Turn.{scenario_at}
-use Rattle.cany_model.proofs.Bus.Runs.{orderly}
-use Rattle.cany_model.proofs.Bus.Steps.{MayTurn, next_notice}
+use Rattle.cany_model.proofs.Runs.Runs.{orderly}
+use Rattle.cany_model.proofs.Runs.Steps.{MayTurn, next_notice}
 use Rattle.cany_model.proofs.Promises.EachNode.{each_running}
 use Rattle.cany_model.proofs.Promises.SignCounts.{Counted, signs_counted, signs_spaced}
 

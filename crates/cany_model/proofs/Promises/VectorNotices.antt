@@ -21,20 +21,20 @@ use Rattle.cany_base.proofs.ParamsFacts.{few_nodes}
 use Rattle.cany_base.proofs.PayloadFacts.{bits-back}
 use Rattle.cany_model.specs.Bus.Frames.{same_class}
 use Rattle.cany_model.specs.Bus.History.{history, seen}
-use Rattle.cany_model.specs.Bus.Run.{run}
+use Rattle.cany_model.specs.Runs.Run.{run}
 use Rattle.cany_model.specs.Bus.State.{Incarnation, NodeState, RunState, node_at}
 use Rattle.cany_model.specs.Rules.Notices.{CarriesMore, IsPart, IsReadable, IsReadableVector, IsSentWithMore}
 use Rattle.cany_model.specs.Rules.Turn.{scenario_at, scenario_for}
 use Rattle.cany_model.specs.Rules.Vectors.{cycle_of, vector_in}
 use Rattle.cany_model.proofs.Among.{Among-get_or, Each-of}
 use Rattle.cany_model.proofs.Bus.EachRead.{EachRead, each_dropped, each_of_history}
-use Rattle.cany_model.proofs.Bus.Runs.{orderly}
+use Rattle.cany_model.proofs.Runs.Runs.{orderly}
 use Rattle.cany_model.proofs.Bus.Seen.{history-is, length-seen}
 use Rattle.cany_model.proofs.Bus.States.{no_note, note_at}
-use Rattle.cany_model.proofs.Bus.Steps.{MayTurn, next_age, next_notice}
-use Rattle.cany_model.proofs.Promises.Belonging.{AllBelong, all_belong, readable_for, seen_readable}
+use Rattle.cany_model.proofs.Runs.Steps.{MayTurn, next_age, next_notice}
+use Rattle.cany_model.proofs.Promises.WaitingIsAskable.{AllBelong, all_belong, readable_for, seen_readable}
 use Rattle.cany_model.proofs.Promises.Diffusion.{past_of}
-use Rattle.cany_model.proofs.Promises.Fair.{run_numbered}
+use Rattle.cany_model.proofs.Promises.OwnSlotsAlone.{run_numbered}
 use Rattle.cany_model.proofs.Promises.KeptVectors.{CarriesVector, CoversVector, IsSentWith, kept_vectors, vector_at}
 use Rattle.cany_model.proofs.Promises.LateVectors.{IsReadLate, notice_late}
 use Rattle.cany_model.proofs.Rules.CycleFacts.{IsExchangeOf, exchange_slot}

@@ -21,7 +21,7 @@ use Rattle.cany_model.specs.Promises.Detector.{AsksNoLeave, HasNotFailed, IsRemo
 use Rattle.cany_model.specs.Promises.Hypothesis.{IsWithin}
 use Rattle.cany_model.specs.Promises.Settled.{IsCorrect}
 use Rattle.cany_model.specs.Rules.Log.{log}
-use Rattle.cany_model.specs.Rules.Site.{knowledge_of}
+use Rattle.cany_model.specs.Rules.KnowledgeOf.{knowledge_of}
 use Rattle.cany_model.specs.Rules.Turn.{scenario_at}
 use Rattle.cany_model.proofs.Promises.BreakFacts.{first_break_exact}
 use Rattle.cany_model.proofs.Rows.DetectorWords.{OfView, detector_row, each_correct, of_views, run_of, two, two_is_legal}

@@ -12,8 +12,8 @@ use Rattle.cany_base.specs.Nodes.{Nodes}
 use Rattle.cany_base.specs.Params.{default_parameters}
 use Rattle.cany_base.specs.Scenario.{IsAskOf, IsLegalScenario, IsRuleOf, IsSendOf, ScenarioParts}
 use Rattle.cany_base.proofs.NodesFacts.{AllBelow-bits}
-use Rattle.cany_model.specs.Bus.RoundRobin.{round_robin}
-use Rattle.cany_model.specs.Bus.Run.{run}
+use Rattle.cany_model.specs.Runs.RoundRobin.{round_robin}
+use Rattle.cany_model.specs.Runs.Run.{run}
 use Rattle.cany_model.specs.Bus.State.{RunState}
 use Rattle.cany_model.specs.Promises.OneView.{installed_of}
 use Rattle.cany_model.specs.Promises.Quiet.{history_but}

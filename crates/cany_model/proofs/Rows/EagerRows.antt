@@ -11,7 +11,7 @@ use Rattle.cany_model.specs.Rules.Edcan.{edcan_at, edcan_effects}
 use Rattle.cany_model.specs.Rules.Effect.{Effect, Ask, Withdraw, Enter}
 use Rattle.cany_model.specs.Bus.Frames.{identity_of, same_class, same_identity}
 use Rattle.cany_model.specs.Bus.History.{copies, has_own}
-use Rattle.cany_model.specs.Bus.RoundRobin.{round_robin}
+use Rattle.cany_model.specs.Runs.RoundRobin.{round_robin}
 use Rattle.cany_model.proofs.Rows.RowWords.{lag_1, carries, delivered, delivers, ed, first_frame, one_message, report, row, scenario, set, slot_rule, steps, three}
 
 -- with omit 0 the first copy is already enough: nobody relays

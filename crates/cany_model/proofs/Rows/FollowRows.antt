@@ -4,7 +4,7 @@ use Rattle.std.specs.Fmt.{digits}
 use Rattle.cany_base.specs.declared.rule.Rule.{Rule}
 use Rattle.cany_base.specs.declared.rule.Verdict.TheVariants.{Clean}
 use Rattle.cany_base.specs.Scenario.{ScenarioParts}
-use Rattle.cany_model.specs.Bus.Follow.{first_refused_from, journal_fault}
+use Rattle.cany_model.specs.Runs.Follow.{first_refused_from, journal_fault}
 use Rattle.cany_model.specs.Texts.RefusalLines.{journal_refusal_line}
 use Rattle.cany_model.specs.Texts.ReportLines.{line_of}
 use Rattle.cany_model.proofs.Rows.RowWords.{report, row, scenario, slot_rule, steps, three}

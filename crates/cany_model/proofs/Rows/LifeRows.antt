@@ -16,8 +16,8 @@ use Rattle.cany_base.specs.Params.{Parameters}
 use Rattle.cany_base.specs.Scenario.{ScenarioParts}
 use Rattle.cany_model.specs.declared.breaks.BreakKind.TheVariants as kind
 use Rattle.cany_model.specs.Bus.Frames.{identity_of}
-use Rattle.cany_model.specs.Bus.RoundRobin.{round_robin}
-use Rattle.cany_model.specs.Bus.Run.{all_read, run}
+use Rattle.cany_model.specs.Runs.RoundRobin.{round_robin}
+use Rattle.cany_model.specs.Runs.Run.{all_read, run}
 use Rattle.cany_model.specs.Bus.State.{Incarnation, original}
 use Rattle.cany_model.specs.Promises.Hypothesis.{IsWithin}
 use Rattle.cany_model.specs.Promises.Entries.{HasSigned}
@@ -26,7 +26,7 @@ use Rattle.cany_model.specs.Promises.Settled.{IsCorrectFrom, nobody_waits_with_s
 use Rattle.cany_model.specs.Rules.Effect.{Effect, Ask, Withdraw, Enter}
 use Rattle.cany_model.specs.Rules.Life.{failure_effects, life_effects}
 use Rattle.cany_model.specs.Rules.Log.{log}
-use Rattle.cany_model.specs.Rules.Site.{knowledge_of}
+use Rattle.cany_model.specs.Rules.KnowledgeOf.{knowledge_of}
 use Rattle.cany_model.specs.Rules.Knowledge.{FailureSign, Knowledge, after_life, fda_of, found as found_by_silence, after_admitting, knowledge_at_first, told}
 use Rattle.cany_model.specs.Rules.Turn.{effects_for, scenario_for, turn_effects}
 use Rattle.cany_model.proofs.Promises.BreakFacts.{first_break_exact}

@@ -4,7 +4,7 @@ use Rattle.cany_base.specs.declared.log_entry.LogEntry.{LogEntry}
 use Rattle.cany_base.specs.declared.log_entry.LogEntry.TheVariants.{Failed, View}
 use Rattle.cany_base.specs.declared.rule.Verdict.TheVariants.{Clean, Partial}
 use Rattle.cany_base.specs.Scenario.{ScenarioParts}
-use Rattle.cany_model.specs.Bus.RoundRobin.{round_robin}
+use Rattle.cany_model.specs.Runs.RoundRobin.{round_robin}
 use Rattle.cany_model.proofs.Rows.RowWords.{RunReport, carries, idle, report, scenario, set, slot_rule, steps, three}
 use Rattle.cany_model.proofs.Rows.SiteWords.{asks_at, els, fda, join, leave, of_members, rha, rounds_of, site_row, with_asks}
 

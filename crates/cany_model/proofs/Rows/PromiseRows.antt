@@ -12,8 +12,8 @@ use Rattle.cany_base.specs.Params.{first_fault}
 use Rattle.cany_base.specs.Scenario.{ScenarioParts}
 use Rattle.cany_model.specs.declared.breaks.Break.{Break}
 use Rattle.cany_model.specs.declared.breaks.BreakKind.TheVariants as kind
-use Rattle.cany_model.specs.Bus.RoundRobin.{round_robin}
-use Rattle.cany_model.specs.Bus.Run.{all_read, run}
+use Rattle.cany_model.specs.Runs.RoundRobin.{round_robin}
+use Rattle.cany_model.specs.Runs.Run.{all_read, run}
 use Rattle.cany_model.specs.Bus.State.{RunState}
 use Rattle.cany_model.specs.Promises.Hypothesis.{IsWithin}
 use Rattle.cany_model.specs.Promises.OneView.{HasOneView, HasReadEnd, installed, installed_of}

@@ -13,8 +13,8 @@ use Rattle.cany_base.specs.Scenario.{ScenarioParts}
 use Rattle.cany_model.specs.declared.span.Span.{Span}
 use Rattle.cany_model.specs.Bus.History.{is_hidden, seen}
 use Rattle.cany_model.specs.Bus.Restart.{first_cycle, next_incarnation, restarted_in}
-use Rattle.cany_model.specs.Bus.RoundRobin.{round_robin}
-use Rattle.cany_model.specs.Bus.Run.{run}
+use Rattle.cany_model.specs.Runs.RoundRobin.{round_robin}
+use Rattle.cany_model.specs.Runs.Run.{run}
 use Rattle.cany_model.specs.Bus.State.{original}
 use Rattle.cany_model.proofs.Rows.RestartRows.{incarnation, lives, restart_row, span, with_restarts}
 use Rattle.cany_model.proofs.Rows.RowWords.{carries, ed, idle, report, scenario, set, slot_rule, steps, three}

@@ -8,8 +8,8 @@ use Rattle.cany_base.specs.declared.rule.Verdict.TheVariants.{Clean, Partial}
 use Rattle.cany_base.specs.Scenario.{ScenarioParts}
 use Rattle.cany_model.specs.Promises.Hypothesis.{IsWithin}
 use Rattle.cany_model.specs.Rules.Messages.{Message, messages_of}
-use Rattle.cany_model.specs.Bus.RoundRobin.{round_robin}
-use Rattle.cany_model.specs.Bus.Run.{run}
+use Rattle.cany_model.specs.Runs.RoundRobin.{round_robin}
+use Rattle.cany_model.specs.Runs.Run.{run}
 use Rattle.cany_model.specs.Promises.Entries.{HasDelivered}
 use Rattle.cany_model.specs.Promises.Settled.{IsCorrect, is_settled}
 use Rattle.cany_model.proofs.Promises.BreakFacts.{first_break_exact}

@@ -4,8 +4,8 @@ use Rattle.cany_base.specs.declared.rule.Rule.{Rule}
 use Rattle.cany_base.specs.declared.rule.Verdict.TheVariants.{Clean}
 use Rattle.cany_base.specs.Scenario.{ScenarioParts}
 use Rattle.cany_model.specs.declared.reply.StepReply.TheVariants.{Lagging, Over, NothingYet, Stopped, NoNode}
-use Rattle.cany_model.specs.Bus.RoundRobin.{round_robin}
-use Rattle.cany_model.specs.Bus.Run.{run}
+use Rattle.cany_model.specs.Runs.RoundRobin.{round_robin}
+use Rattle.cany_model.specs.Runs.Run.{run}
 use Rattle.cany_model.proofs.Rows.RowWords.{lag_1, Followed-all, Refused, Unfinished, follow, one_message, report, row, scenario, send, slot_rule, steps, three}
 
 unfoldable quiet : ℕ → List Rule → ScenarioParts

@@ -21,9 +21,9 @@ use Rattle.cany_model.specs.Texts.Report.{bus_lines, incarnation_lines, node_lin
 use Rattle.cany_model.specs.Texts.ReportLines.{line_of, break_name, payload_text, set_text, step_letter, first_line, params_line, journal_line, journal_lines, node_text, has_any, bus_line, is_shown, hypothesis_line, node_line, entry_line, message_line}
 use Rattle.cany_model.specs.Texts.TextNames.{class_name, service_name, verdict_name}
 use Rattle.cany_model.specs.Bus.History.{ended_history}
-use Rattle.cany_model.specs.Bus.Incarnations.{incarnation_of}
+use Rattle.cany_model.specs.Runs.Incarnations.{incarnation_of}
 use Rattle.cany_model.specs.Bus.Restart.{restarted_in}
-use Rattle.cany_model.specs.Bus.RoundRobin.{round_robin}
+use Rattle.cany_model.specs.Runs.RoundRobin.{round_robin}
 use Rattle.cany_model.proofs.Rows.RowWords.{report as run_report}
 
 -- the parameters of three nodes, with everything else by default, at lag 0

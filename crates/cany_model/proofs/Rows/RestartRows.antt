@@ -20,10 +20,10 @@ use Rattle.cany_model.specs.declared.reply.StepReply.TheVariants.{NothingYet}
 use Rattle.cany_model.specs.declared.span.Span.{Span}
 use Rattle.cany_model.specs.Bus.Frames.{identity_of, is_before, is_of, same_frame}
 use Rattle.cany_model.specs.Bus.History.{ended_history, history, is_hidden}
-use Rattle.cany_model.specs.Bus.Incarnations.{incarnation_of, span_of, log_of}
+use Rattle.cany_model.specs.Runs.Incarnations.{incarnation_of, span_of, log_of}
 use Rattle.cany_model.specs.Bus.Restart.{next_incarnation, restarted_in}
-use Rattle.cany_model.specs.Bus.RoundRobin.{round_robin}
-use Rattle.cany_model.specs.Bus.Run.{run}
+use Rattle.cany_model.specs.Runs.RoundRobin.{round_robin}
+use Rattle.cany_model.specs.Runs.Run.{run}
 use Rattle.cany_model.specs.Bus.Slot.{attempts}
 use Rattle.cany_model.specs.Bus.State.{Incarnation, RunState, node_at, original}
 use Rattle.cany_model.specs.Promises.Hypothesis.{IsWithin}

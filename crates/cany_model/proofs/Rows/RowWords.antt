@@ -35,13 +35,13 @@ use Rattle.cany_model.specs.Rules.Membership.{exchange_effects, install_effects,
 use Rattle.cany_model.specs.Rules.Messages.{messages_after, messages_of, is_service}
 use Rattle.cany_model.specs.Rules.Relcan.{fell_back, relcan_at, timer_effects, relcan_effects}
 use Rattle.cany_model.specs.Bus.Restart.{names_restart, after_entries, nodes_after_entries, after_restarts}
-use Rattle.cany_model.specs.Bus.RoundRobin.{round, rounds}
-use Rattle.cany_model.specs.Bus.Run.{first_lagging, reply, is_done, is_legal_from, has_ended, after_turn, proceed, after_step, run_from, run}
+use Rattle.cany_model.specs.Runs.RoundRobin.{round, rounds}
+use Rattle.cany_model.specs.Runs.Run.{first_lagging, reply, is_done, is_legal_from, has_ended, after_turn, proceed, after_step, run_from, run}
 use Rattle.cany_model.specs.Promises.Settled.{is_settled}
 use Rattle.cany_model.specs.Bus.Slot.{least_frame, winner, script, share_of, after_share, slot_note_of, node_after, nodes_after, after_slot}
 use Rattle.cany_model.specs.Bus.State.{RunState, node_at, opening, reads}
 use Rattle.cany_model.specs.Rules.Sends.{send_effects}
-use Rattle.cany_model.specs.Rules.Site.{after_notice, knowledge_of}
+use Rattle.cany_model.specs.Rules.KnowledgeOf.{after_notice, knowledge_of}
 use Rattle.cany_model.specs.Rules.Knowledge.{shows_life, after_life, with_signs, told, found}
 use Rattle.cany_model.specs.Rules.Totcan.{tot_in, is_recent, after_place, is_heard, is_accepted, accept_effects, closing_effects, is_clear, done_from, delivered as delivered_tot, delivered_now, totcan_effects}
 use Rattle.cany_model.specs.Rules.Turn.{has_asked, turn_effects}

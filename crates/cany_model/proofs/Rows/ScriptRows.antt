@@ -2,7 +2,7 @@
 use Rattle.std.specs.Prelude.{◌≡◌, true, [], ◌∷◌, Some, None, refl, codes}
 use Rattle.cany_base.specs.declared.class.Class.TheVariants as class
 use Rattle.cany_base.specs.declared.rule.Verdict.TheVariants.{Clean, Lost, Partial}
-use Rattle.cany_model.specs.Bus.RoundRobin.{round_robin}
+use Rattle.cany_model.specs.Runs.RoundRobin.{round_robin}
 use Rattle.cany_model.proofs.Rows.RowWords.{carries, delivered, delivers, ed, first_frame, frame_rule, insides, one_message, report, row, scenario, send, set, slot_rule, steps, three}
 
 -- the rule for the second attempt: that is the relay of nodes 1 and 2, in which node 2 stops; it keeps its waiting frame

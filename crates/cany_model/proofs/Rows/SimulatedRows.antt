@@ -5,7 +5,7 @@ use Rattle.cany_base.specs.declared.log_entry.LogEntry.{LogEntry}
 use Rattle.cany_base.specs.declared.rule.Verdict.TheVariants.{Clean, Lost, Partial, Silent}
 use Rattle.cany_model.specs.declared.breaks.BreakKind.TheVariants as kind
 use Rattle.cany_model.specs.declared.reply.StepReply.TheVariants.{Lagging}
-use Rattle.cany_model.specs.Bus.RoundRobin.{round_robin}
+use Rattle.cany_model.specs.Runs.RoundRobin.{round_robin}
 use Rattle.cany_model.proofs.Rows.RowWords.{Refused, carries, delivers, ed, follow, idle, report, row, scenario, send, set, slot_rule, steps, three}
 
 -- round robin at errors 1: slot 1 stops a receiver, later rules name it again or fall on idle slots and do nothing, and slot 7 is

@@ -7,7 +7,7 @@ use Rattle.cany_base.specs.declared.rule.Verdict.TheVariants.{Clean, Partial, Si
 use Rattle.cany_base.specs.Params.{Parameters}
 use Rattle.cany_base.specs.Scenario.{ScenarioParts}
 use Rattle.cany_model.specs.declared.breaks.BreakKind.TheVariants as kind
-use Rattle.cany_model.specs.Bus.RoundRobin.{round_robin}
+use Rattle.cany_model.specs.Runs.RoundRobin.{round_robin}
 use Rattle.cany_model.proofs.Rows.RowWords.{accept, carries, confirm, delivers, delivers_rel, delivers_tot, ed, first_accept, first_tot, one_tot, rel, report, row, scenario, send, send_rel, send_tot, set, slot_rule, steps, three, tot}
 
 unfoldable delivered : ℕ → List LogEntry

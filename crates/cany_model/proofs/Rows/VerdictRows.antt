@@ -10,8 +10,8 @@ use Rattle.cany_base.specs.declared.rule.Verdict.TheVariants.{Clean, Lost, Parti
 use Rattle.cany_base.specs.Frame.{FrameParts}
 use Rattle.cany_model.specs.declared.breaks.BreakKind.TheVariants as kind
 use Rattle.cany_model.specs.Rules.Messages.{Message}
-use Rattle.cany_model.specs.Bus.RoundRobin.{round_robin}
-use Rattle.cany_model.specs.Bus.Run.{run}
+use Rattle.cany_model.specs.Runs.RoundRobin.{round_robin}
+use Rattle.cany_model.specs.Runs.Run.{run}
 use Rattle.cany_model.specs.Promises.FirstSlots.{first_carried}
 use Rattle.cany_model.specs.Promises.Safe.{IsAgreedOn}
 use Rattle.cany_model.specs.Bus.Slot.{script, after_slot}

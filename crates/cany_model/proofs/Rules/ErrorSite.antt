@@ -11,7 +11,7 @@ use Rattle.cany_model.specs.Bus.Frames.{identity_of}
 use Rattle.cany_model.specs.Rules.Life.{failure_effects, failures_at, fda_copy_effects, is_own_sign, life_effects, sign_effects, life_signs_sent}
 use Rattle.cany_model.specs.Rules.Membership.{ask_effects, exchange_effects, install_effects}
 use Rattle.cany_model.specs.Rules.Notices.{error_as_idle}
-use Rattle.cany_model.specs.Rules.Site.{after_notice, ended_in, start_in, knowledge_of}
+use Rattle.cany_model.specs.Rules.KnowledgeOf.{after_notice, ended_in, start_in, knowledge_of}
 use Rattle.cany_model.specs.Rules.Knowledge.{FailureSign, Knowledge, after_life, fda_of, found_in, told, told_in}
 use Rattle.cany_model.specs.Rules.Vectors.{brought, exchange_at, is_covered, is_vector_got, is_vector_sent, vector_effects}
 use Rattle.cany_model.specs.Rules.Views.{after_ask}

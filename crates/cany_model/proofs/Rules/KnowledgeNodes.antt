@@ -10,7 +10,7 @@ use Rattle.cany_base.specs.Scenario.{ScenarioParts}
 use Rattle.cany_base.proofs.NodesFacts.{has_none}
 use Rattle.cany_model.specs.Bus.Frames.{same_class}
 use Rattle.cany_model.specs.Rules.Notices.{BelongsTo, IsReadable, NamesNode}
-use Rattle.cany_model.specs.Rules.Site.{after_notice, ended_in, after_asking, after_installing, met_in, start_in, knowledge_of}
+use Rattle.cany_model.specs.Rules.KnowledgeOf.{after_notice, ended_in, after_asking, after_installing, met_in, start_in, knowledge_of}
 use Rattle.cany_model.specs.Rules.Knowledge.{Knowledge, after_finding}
 use Rattle.cany_model.specs.Rules.Vectors.{brought, everybody, is_end, is_start, met}
 use Rattle.cany_model.specs.Rules.Views.{after_ask, start_of, start_vector, with_joiner, with_leaver}

@@ -6,7 +6,7 @@ use Rattle.cany_base.specs.declared.notice.NoticeKind.TheVariants.{Idle, Got, Se
 use Rattle.cany_base.specs.Nodes.{has}
 use Rattle.cany_base.specs.Scenario.{ScenarioParts}
 use Rattle.cany_model.specs.Rules.Life.{is_due}
-use Rattle.cany_model.specs.Rules.Site.{ended_in, knowledge_of}
+use Rattle.cany_model.specs.Rules.KnowledgeOf.{ended_in, knowledge_of}
 use Rattle.cany_model.specs.Rules.Knowledge.{Knowledge, after_life, after_hearing, shows_life, with_shown}
 use Rattle.cany_model.proofs.Rules.KnowledgeSteps.{is_admitted, last_after}
 

@@ -21,7 +21,7 @@ use Rattle.cany_model.specs.Rules.Eager.{has_enough}
 use Rattle.cany_model.specs.Rules.Effect.{Effect, Ask, Withdraw, Enter, entered}
 use Rattle.cany_model.specs.Rules.Life.{els_frame, failure_effects, failures_at, failure_signs, fda_copy_effects, is_due, life_effects, life_signs, sign_effects, life_signs_sent}
 use Rattle.cany_model.specs.Rules.Protocol.{Protocol}
-use Rattle.cany_model.specs.Rules.Site.{knowledge_of}
+use Rattle.cany_model.specs.Rules.KnowledgeOf.{knowledge_of}
 use Rattle.cany_model.specs.Rules.Knowledge.{FailureSign, Knowledge, after_life, fda_frame, fda_of, found, found_in, after_hearing, after_learning, has_timed_out, knows, sign_in, sign_of, told, told_in, with_signs}
 use Rattle.cany_model.proofs.Among.{Each-append, Each-filter, Each-flat_map, Each-map, Each-weaker, count-no}
 use Rattle.cany_model.proofs.Bus.Identities.{same_class-true}

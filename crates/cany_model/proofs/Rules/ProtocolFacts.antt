@@ -23,14 +23,14 @@ use Rattle.cany_model.specs.Rules.Life.{els_frame, is_due, life_signs_sent}
 use Rattle.cany_model.specs.Rules.Messages.{Message, messages_of, accept_of_key, data_frame, data_id}
 use Rattle.cany_model.specs.Rules.Protocol.{Protocol}
 use Rattle.cany_model.specs.Rules.Relcan.{confirm_frame}
-use Rattle.cany_model.specs.Rules.Site.{knowledge_of}
+use Rattle.cany_model.specs.Rules.KnowledgeOf.{knowledge_of}
 use Rattle.cany_model.specs.Rules.Knowledge.{FailureSign, fda_frame, knows, sign_of}
 use Rattle.cany_model.specs.Rules.Totcan.{accept_frame, after_place, can_be_accepted, message_in}
 use Rattle.cany_model.specs.Rules.Vectors.{cycle_of, is_end, is_exchange, is_start, rha_frame, rha_of}
 use Rattle.cany_model.specs.Rules.Views.{ask_frame, ask_of as ask_id}
 use Rattle.cany_model.proofs.Among.{Among, Among-gives, Among-weaker, Among-with, count-from_Among}
 use Rattle.cany_model.proofs.Bus.Carried.{Has, is_got-from}
-use Rattle.cany_model.proofs.Bus.Waits.{Asks, Withdraws, AsksOnly}
+use Rattle.cany_model.proofs.Runs.Waits.{Asks, Withdraws, AsksOnly}
 use Rattle.cany_model.proofs.Rules.Begun.{IsBegun}
 use Rattle.cany_model.proofs.Rules.MessageKeys.{IsOneOf, same_message}
 

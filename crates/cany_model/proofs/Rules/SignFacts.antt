@@ -12,10 +12,10 @@ use Rattle.cany_model.specs.Promises.Entries.{tells_of}
 use Rattle.cany_model.specs.Rules.Eager.{has_enough}
 use Rattle.cany_model.specs.Rules.Effect.{Effect, Ask, Withdraw, entered}
 use Rattle.cany_model.specs.Rules.Life.{failure_effects, failures_at, failure_signs, fda_copy_effects, sign_effects}
-use Rattle.cany_model.specs.Rules.Site.{knowledge_of}
+use Rattle.cany_model.specs.Rules.KnowledgeOf.{knowledge_of}
 use Rattle.cany_model.specs.Rules.Knowledge.{FailureSign, Knowledge, fda_frame, fda_of, found_in, knows, same_sign, told_in}
 use Rattle.cany_model.proofs.Among.{Among, Among-append_cases, Among-append_left, Among-append_right, Among-flat_map, Among-from_flat_map}
-use Rattle.cany_model.proofs.Bus.Waits.{Asks}
+use Rattle.cany_model.proofs.Runs.Waits.{Asks}
 use Rattle.cany_model.proofs.Rules.LogFacts.{EntersSome, entered-to}
 use Rattle.cany_model.proofs.Rules.ProtocolFacts.{log_by}
 use Rattle.cany_model.proofs.Rules.KnowledgeFacts.{fda_one, known_after, newly, same_sign-from, same_sign-true, tells}

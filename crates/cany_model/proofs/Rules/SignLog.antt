@@ -15,7 +15,7 @@ use Rattle.cany_model.specs.Rules.Effect.{Effect, entered}
 use Rattle.cany_model.specs.Rules.Life.{failure_effects, failures_at, fda_copy_effects, sign_effects}
 use Rattle.cany_model.specs.Rules.Log.{log_from}
 use Rattle.cany_model.specs.Rules.Membership.{views}
-use Rattle.cany_model.specs.Rules.Site.{knowledge_of}
+use Rattle.cany_model.specs.Rules.KnowledgeOf.{knowledge_of}
 use Rattle.cany_model.specs.Rules.Knowledge.{FailureSign, Knowledge, found, found_in, after_finding, after_hearing, after_learning, has_timed_out, knows, same_sign, sign_in, sign_of, told, told_in, with_signs}
 use Rattle.cany_model.specs.Rules.Turn.{turn_effects}
 use Rattle.cany_model.proofs.Among.{Among-from_count, Among-weaker, any-from_Among, count-cons, count-no, count-yes}

@@ -24,7 +24,7 @@ use Rattle.cany_model.specs.Rules.Membership.{scripted_asks, vectors, views}
 use Rattle.cany_model.specs.Rules.Protocol.{Protocol}
 use Rattle.cany_model.specs.Rules.Relcan.{relcan}
 use Rattle.cany_model.specs.Rules.Sends.{is_sent_in, scripted_sends, send_effects, sendable}
-use Rattle.cany_model.specs.Rules.Site.{knowledge_of}
+use Rattle.cany_model.specs.Rules.KnowledgeOf.{knowledge_of}
 use Rattle.cany_model.specs.Rules.Knowledge.{FailureSign, fda_frame, fda_of, found_in, told_in}
 use Rattle.cany_model.specs.Rules.Totcan.{delivered_now, totcan}
 use Rattle.cany_model.specs.Rules.Turn.{turn_effects}

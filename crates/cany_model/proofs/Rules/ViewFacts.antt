@@ -14,7 +14,7 @@ use Rattle.cany_base.specs.Scenario.{ScenarioParts}
 use Rattle.cany_model.specs.Bus.Frames.{same_class}
 use Rattle.cany_model.specs.Rules.Effect.{Effect, Ask, Withdraw, Enter}
 use Rattle.cany_model.specs.Rules.Membership.{ask_effects, asks_in, install_effects, is_ask_in, scripted_asks, views}
-use Rattle.cany_model.specs.Rules.Site.{ended_in, met_in, knowledge_of}
+use Rattle.cany_model.specs.Rules.KnowledgeOf.{ended_in, met_in, knowledge_of}
 use Rattle.cany_model.specs.Rules.Knowledge.{Knowledge, knowledge_at_first}
 use Rattle.cany_model.specs.Rules.Vectors.{brought, cycle_of, ended, is_end, met}
 use Rattle.cany_model.specs.Rules.Views.{ask_frame, ask_of, join_asked, leave_asked, view_effects, withdrawn_asks}

@@ -17,7 +17,7 @@ use Rattle.cany_model.specs.Rules.Life.{failure_signs}
 use Rattle.cany_model.specs.Rules.Log.{log_from}
 use Rattle.cany_model.specs.Rules.Membership.{install_effects, views}
 use Rattle.cany_model.specs.Rules.Rooms.{cycles}
-use Rattle.cany_model.specs.Rules.Site.{met_in, knowledge_of}
+use Rattle.cany_model.specs.Rules.KnowledgeOf.{met_in, knowledge_of}
 use Rattle.cany_model.specs.Rules.Knowledge.{Knowledge}
 use Rattle.cany_model.specs.Rules.Turn.{turn_effects}
 use Rattle.cany_model.specs.Rules.Vectors.{cycle_of, is_end}

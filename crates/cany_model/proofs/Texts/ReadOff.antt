@@ -4,8 +4,8 @@ use Rattle.cany_base.specs.declared.step.Step.{Step}
 use Rattle.cany_base.specs.Params.{Parameters}
 use Rattle.cany_base.specs.Scenario.{ScenarioParts, IsLegalScenario}
 use Rattle.cany_base.proofs.ParamsFacts.{few_nodes}
-use Rattle.cany_model.specs.Bus.Incarnations.{log_of}
-use Rattle.cany_model.specs.Bus.Run.{IsLegal, run}
+use Rattle.cany_model.specs.Runs.Incarnations.{log_of}
+use Rattle.cany_model.specs.Runs.Run.{IsLegal, run}
 use Rattle.cany_model.specs.Bus.State.{opening}
 use Rattle.cany_model.specs.Texts.ReadOff.{AgreeOnWhatIsTold}
 use Rattle.cany_model.specs.Texts.Report.{report}

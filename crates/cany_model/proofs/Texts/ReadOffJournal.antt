@@ -19,7 +19,7 @@ use Rattle.cany_base.specs.Scenario.{ScenarioParts}
 use Rattle.cany_base.proofs.ParamsFacts.{few_nodes, few_slots}
 use Rattle.cany_model.specs.declared.reply.StepReply.{StepReply}
 use Rattle.cany_model.specs.declared.reply.StepReply.TheVariants.{NoNode}
-use Rattle.cany_model.specs.Bus.Run.{is_legal_from, is_done, reply, after_step}
+use Rattle.cany_model.specs.Runs.Run.{is_legal_from, is_done, reply, after_step}
 use Rattle.cany_model.specs.Bus.State.{RunState}
 use Rattle.cany_model.specs.Texts.JournalText.{step_of}
 use Rattle.cany_model.specs.Texts.ReportLines.{line_of, first_line, params_line, journal_line, journal_lines, step_letter}

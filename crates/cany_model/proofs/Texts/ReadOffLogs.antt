@@ -10,7 +10,7 @@ use Rattle.cany_base.specs.declared.log_entry.LogEntry.{LogEntry}
 use Rattle.cany_base.specs.Scenario.{ScenarioParts}
 use Rattle.cany_model.specs.declared.span.Span.{Span}
 use Rattle.cany_model.specs.Bus.History.{ended_history}
-use Rattle.cany_model.specs.Bus.Incarnations.{incarnation_of, log_of, span_from}
+use Rattle.cany_model.specs.Runs.Incarnations.{incarnation_of, log_of, span_from}
 use Rattle.cany_model.specs.Bus.State.{EndedIncarnation, RunState, node_at, reads}
 use Rattle.cany_model.specs.Rules.Log.{log_from}
 use Rattle.cany_model.specs.Rules.Turn.{scenario_for}

@@ -24,9 +24,9 @@ use Rattle.cany_base.proofs.NodesFacts.{has_none}
 use Rattle.cany_base.proofs.ParamsFacts.{few_nodes, few_slots}
 use Rattle.cany_model.specs.Bus.Frames.{identity_of}
 use Rattle.cany_model.specs.Bus.History.{as_seen, ended_history, given, seen}
-use Rattle.cany_model.specs.Bus.Incarnations.{incarnation_of, log_of}
+use Rattle.cany_model.specs.Runs.Incarnations.{incarnation_of, log_of}
 use Rattle.cany_model.specs.Bus.Restart.{after_restarts}
-use Rattle.cany_model.specs.Bus.Run.{after_turn, run}
+use Rattle.cany_model.specs.Runs.Run.{after_turn, run}
 use Rattle.cany_model.specs.Bus.Slot.{FaultScript, after_slot, script}
 use Rattle.cany_model.specs.Bus.State.{EndedIncarnation, Incarnation, NodeState, RunState, fresh, node_at, opening, runs}
 use Rattle.cany_model.specs.Rules.Messages.{Message, messages_after, messages_of}
@@ -37,14 +37,14 @@ use Rattle.cany_model.specs.Rules.Turn.{scenario_for}
 use Rattle.cany_model.specs.Texts.ReadOff.{SendsBytes}
 use Rattle.cany_model.proofs.Among.{Among, Among-drop, Among-from_Contains, Among-weaker, Contains-cons, Contains-head}
 use Rattle.cany_model.proofs.Bus.Carried.{Has}
-use Rattle.cany_model.proofs.Bus.Journals.{trace_short}
+use Rattle.cany_model.proofs.Runs.Journals.{trace_short}
 use Rattle.cany_model.proofs.Bus.Restarts.{after_restarts-length, after_restarts-trace, restarts_or_stays}
-use Rattle.cany_model.proofs.Bus.Runs.{IsOrderly, along_run, orderly}
+use Rattle.cany_model.proofs.Runs.Runs.{IsOrderly, along_run, orderly}
 use Rattle.cany_model.proofs.Bus.Seen.{Numbered, length-seen}
 use Rattle.cany_model.proofs.Bus.States.{node_at-opening}
-use Rattle.cany_model.proofs.Bus.Steps.{MayTurn, after_slot-length, after_slot-present, after_slot-trace, after_turn-length, after_turn-present, after_turn-runs, after_turn-trace}
-use Rattle.cany_model.proofs.Promises.Belonging.{all_belong, readable_for, seen_readable}
-use Rattle.cany_model.proofs.Promises.Fair.{run_numbered}
+use Rattle.cany_model.proofs.Runs.Steps.{MayTurn, after_slot-length, after_slot-present, after_slot-trace, after_turn-length, after_turn-present, after_turn-runs, after_turn-trace}
+use Rattle.cany_model.proofs.Promises.WaitingIsAskable.{all_belong, readable_for, seen_readable}
+use Rattle.cany_model.proofs.Promises.OwnSlotsAlone.{run_numbered}
 use Rattle.cany_model.proofs.Rules.NumberFacts.{IsSmall, belongs_small}
 use Rattle.cany_model.proofs.Rules.ProtocolFacts.{IsFoundedEntry}
 use Rattle.cany_model.proofs.Rules.SignRooms.{AreRead, each_made}

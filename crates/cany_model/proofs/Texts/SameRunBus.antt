@@ -5,10 +5,10 @@ use Rattle.cany_base.specs.declared.step.Step.{Step}
 use Rattle.cany_base.specs.declared.step.Step.TheVariants.{Slot, Turn}
 use Rattle.cany_base.specs.Scenario.{ScenarioParts}
 use Rattle.cany_model.specs.declared.follow.FollowFault.{FollowFault}
-use Rattle.cany_model.specs.Bus.Follow.{first_refused_from, first_refused, undone, or_undone, journal_fault}
+use Rattle.cany_model.specs.Runs.Follow.{first_refused_from, first_refused, undone, or_undone, journal_fault}
 use Rattle.cany_model.specs.Bus.History.{history}
 use Rattle.cany_model.specs.Bus.Restart.{after_entries, nodes_after_entries, after_restarts}
-use Rattle.cany_model.specs.Bus.Run.{after_step, after_turn, having_read, proceed, reply, run, run_from, with_waiting}
+use Rattle.cany_model.specs.Runs.Run.{after_step, after_turn, having_read, proceed, reply, run, run_from, with_waiting}
 use Rattle.cany_model.specs.Bus.State.{NodeState, RunState, node_at, opening}
 use Rattle.cany_model.specs.Rules.Effect.{Effect, waiting_after}
 use Rattle.cany_model.specs.Texts.Replayed.{with_journal}

@@ -4,14 +4,14 @@ use Rattle.std.specs.List.{concat}
 use Rattle.std.proofs.Common.{ap, ◌∙◌}
 use Rattle.cany_base.specs.declared.step.Step.{Step}
 use Rattle.cany_base.specs.Scenario.{IsLegalScenario, ScenarioParts}
-use Rattle.cany_model.specs.Bus.Run.{IsLegal, IsWhole, run}
+use Rattle.cany_model.specs.Runs.Run.{IsLegal, IsWhole, run}
 use Rattle.cany_model.specs.Bus.State.{RunState}
 use Rattle.cany_model.specs.Promises.Settled.{is_settled}
 use Rattle.cany_model.specs.Rules.Log.{log_from}
 use Rattle.cany_model.specs.Rules.Turn.{has_asked}
 use Rattle.cany_model.specs.Texts.Replayed.{GivesReportAgain, with_journal}
 use Rattle.cany_model.specs.Texts.Report.{incarnation_lines, message_lines, node_lines, report, report_lines}
-use Rattle.cany_model.proofs.Bus.FollowFacts.{no_fault_exactly}
+use Rattle.cany_model.proofs.Runs.FollowFacts.{no_fault_exactly}
 use Rattle.cany_model.proofs.Texts.SameRunBus.{same_fault, same_run}
 use Rattle.cany_model.proofs.Texts.SameRunRules.{open_turn}
 

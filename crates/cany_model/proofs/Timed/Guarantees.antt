@@ -8,7 +8,7 @@ use Rattle.cany_base.specs.Nodes.{AllBelow}
 use Rattle.cany_base.specs.Params.{MeetsFormulas}
 use Rattle.cany_base.specs.Scenario.{IsLegalScenario, ScenarioParts}
 use Rattle.cany_base.proofs.ParamsFacts.{few_nodes}
-use Rattle.cany_model.specs.Bus.Run.{run}
+use Rattle.cany_model.specs.Runs.Run.{run}
 use Rattle.cany_model.specs.Promises.Acceptance.{IsAcceptedByAllOrNone, WasCarriedClean}
 use Rattle.cany_model.specs.Promises.Hypothesis.{IsWithin}
 use Rattle.cany_model.specs.Promises.OneView.{HasOneView, InstallsOneVector}
@@ -17,18 +17,18 @@ use Rattle.cany_model.specs.Promises.Quiet.{HasFewAskingSlots, HasQuietSlots}
 use Rattle.cany_model.specs.Promises.Safe.{IsAgreedOn}
 use Rattle.cany_model.specs.Promises.Windows.{HasFewAccepts, HasFewLifeSigns, HasFewTotFrames}
 use Rattle.cany_model.specs.Rules.Messages.{Message, messages_of}
-use Rattle.cany_model.proofs.Timed.Accepts.{AcceptedAt, acceptance, acceptance_at}
-use Rattle.cany_model.proofs.Timed.AskingSlots.{few_asking_slots}
-use Rattle.cany_model.proofs.Timed.FewSigns.{few_signs_of}
-use Rattle.cany_model.proofs.Timed.FewVectors.{few_vectors}
-use Rattle.cany_model.proofs.Timed.OneOrder.{one_order}
-use Rattle.cany_model.proofs.Timed.OneVector.{one_vector}
-use Rattle.cany_model.proofs.Timed.OneView.{one_view}
-use Rattle.cany_model.proofs.Timed.QuietSlots.{quiet_slots}
-use Rattle.cany_model.proofs.Timed.TotCount.{few_accepts, few_tot_frames, within_silent}
-use Rattle.cany_model.proofs.Timed.TotKept.{TotKept}
-use Rattle.cany_model.proofs.Timed.TotRun.{tot_kept}
-use Rattle.cany_model.proofs.Timed.TotSettled.{totcan_agrees}
+use Rattle.cany_model.proofs.Timed.Order.Accepts.{AcceptedAt, acceptance, acceptance_at}
+use Rattle.cany_model.proofs.Timed.Windows.AskingSlots.{few_asking_slots}
+use Rattle.cany_model.proofs.Timed.Windows.FewSigns.{few_signs_of}
+use Rattle.cany_model.proofs.Timed.Windows.FewVectors.{few_vectors}
+use Rattle.cany_model.proofs.Timed.Order.OneOrder.{one_order}
+use Rattle.cany_model.proofs.Timed.Views.OneVector.{one_vector}
+use Rattle.cany_model.proofs.Timed.Views.OneView.{one_view}
+use Rattle.cany_model.proofs.Timed.Windows.QuietSlots.{quiet_slots}
+use Rattle.cany_model.proofs.Timed.Order.TotCount.{few_accepts, few_tot_frames, within_silent}
+use Rattle.cany_model.proofs.Timed.Order.TotKept.{TotKept}
+use Rattle.cany_model.proofs.Timed.Order.TotRun.{tot_kept}
+use Rattle.cany_model.proofs.Timed.Order.TotSettled.{totcan_agrees}
 
 -- ---- of a scenario that need not meet the formulas
 

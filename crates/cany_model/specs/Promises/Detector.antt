@@ -14,7 +14,7 @@ use Rattle.cany_model.specs.Promises.OneView.{installed}
 use Rattle.cany_model.specs.Promises.Quiet.{history_but}
 use Rattle.cany_model.specs.Promises.Settled.{IsCorrect}
 use Rattle.cany_model.specs.Rules.Log.{log}
-use Rattle.cany_model.specs.Rules.Site.{knowledge_of}
+use Rattle.cany_model.specs.Rules.KnowledgeOf.{knowledge_of}
 use Rattle.cany_model.specs.Rules.Turn.{scenario_at}
 
 -- the view that node i has, or will have, before its turn of slot t

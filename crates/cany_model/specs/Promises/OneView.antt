@@ -8,7 +8,7 @@ use Rattle.cany_model.specs.Bus.History.{history}
 use Rattle.cany_model.specs.Bus.State.{RunState, node_at, reads}
 use Rattle.cany_model.specs.Promises.Settled.{IsCorrect, IsCorrectFrom}
 use Rattle.cany_model.specs.Rules.Log.{log}
-use Rattle.cany_model.specs.Rules.Site.{ended_in, knowledge_of}
+use Rattle.cany_model.specs.Rules.KnowledgeOf.{ended_in, knowledge_of}
 use Rattle.cany_model.specs.Rules.Turn.{scenario_at}
 
 -- the vector that node i installs at the end of cycle k, if it has one there

@@ -10,7 +10,7 @@ use Rattle.cany_base.specs.Params.{Parameters, top_frames}
 use Rattle.cany_base.specs.Scenario.{ScenarioParts}
 use Rattle.cany_model.specs.Bus.Frames.{same_class}
 use Rattle.cany_model.specs.Bus.History.{given, trace_for}
-use Rattle.cany_model.specs.Bus.Run.{run, slot_state}
+use Rattle.cany_model.specs.Runs.Run.{run, slot_state}
 use Rattle.cany_model.specs.Bus.State.{RunState, node_at, runs, slots_run}
 use Rattle.cany_model.specs.Rules.Effect.{Effect, Ask, Withdraw, Enter}
 use Rattle.cany_model.specs.Rules.Turn.{effects_for}

@@ -8,7 +8,7 @@ use Rattle.cany_base.specs.declared.message.MsgKey.{MsgKey}
 use Rattle.cany_base.specs.declared.slot_note.SlotNote.{SlotNote}
 use Rattle.cany_base.specs.Nodes.{has}
 use Rattle.cany_base.specs.Scenario.{ScenarioParts}
-use Rattle.cany_model.specs.Bus.Run.{all_read}
+use Rattle.cany_model.specs.Runs.Run.{all_read}
 use Rattle.cany_model.specs.Bus.State.{RunState}
 use Rattle.cany_model.specs.Promises.Entries.{delivers_key, HasDelivered, HasSigned}
 use Rattle.cany_model.specs.Promises.FirstSlots.{first_of_message, first_of_sign}

@@ -7,7 +7,7 @@ use Rattle.cany_model.specs.Bus.History.{history}
 use Rattle.cany_model.specs.Rules.Messages.{Message, frames_of}
 use Rattle.cany_model.specs.Rules.Knowledge.{FailureSign, fda_of}
 use Rattle.cany_model.specs.Rules.Turn.{has_asked, is_ahead_at, scenario_at}
-use Rattle.cany_model.specs.Bus.Run.{all_read}
+use Rattle.cany_model.specs.Runs.Run.{all_read}
 use Rattle.cany_model.specs.Bus.State.{RunState, node_at, runs}
 use Rattle.cany_model.specs.Bus.Waiting.{waits}
 

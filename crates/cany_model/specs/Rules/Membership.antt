@@ -7,7 +7,7 @@ use Rattle.cany_base.specs.Scenario.{ScenarioParts}
 use Rattle.cany_model.specs.Bus.Frames.{same_class}
 use Rattle.cany_model.specs.Rules.Effect.{TurnRule}
 use Rattle.cany_model.specs.Rules.Protocol.{Protocol, nothing_ahead}
-use Rattle.cany_model.specs.Rules.Site.{ended_in, start_in, knowledge_of}
+use Rattle.cany_model.specs.Rules.KnowledgeOf.{ended_in, start_in, knowledge_of}
 use Rattle.cany_model.specs.Rules.Vectors.{exchange_at}
 use Rattle.cany_model.specs.Rules.Views.{join_asked, leave_asked, view_effects}
 

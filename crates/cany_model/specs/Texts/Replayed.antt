@@ -2,7 +2,7 @@
 use Rattle.std.specs.Prelude.{◌≡◌, List, Option, Some, None}
 use Rattle.cany_base.specs.declared.step.Step.{Step}
 use Rattle.cany_base.specs.Scenario.{IsLegalScenario, ScenarioParts}
-use Rattle.cany_model.specs.Bus.Follow.{journal_fault, journal_of}
+use Rattle.cany_model.specs.Runs.Follow.{journal_fault, journal_of}
 use Rattle.cany_model.specs.Texts.Report.{report}
 
 -- the scenario with this journal, or with none, in place of what it has

@@ -7,9 +7,9 @@ use Rattle.cany_base.specs.Scenario.{ScenarioParts}
 use Rattle.cany_model.specs.Promises.Hypothesis.{first_break}
 use Rattle.cany_model.specs.Rules.Messages.{messages_of}
 use Rattle.cany_model.specs.Texts.ReportLines.{line_of, first_line, params_line, journal_lines, bus_line, is_shown, hypothesis_line, node_line, entry_line, message_line}
-use Rattle.cany_model.specs.Bus.Incarnations.{log_of, span_of}
+use Rattle.cany_model.specs.Runs.Incarnations.{log_of, span_of}
 use Rattle.cany_model.specs.Bus.Restart.{restarted_in}
-use Rattle.cany_model.specs.Bus.Run.{run}
+use Rattle.cany_model.specs.Runs.Run.{run}
 use Rattle.cany_model.specs.Promises.Settled.{is_settled}
 use Rattle.cany_model.specs.Bus.State.{RunState, node_at}
 

@@ -1,7 +1,7 @@
 use Rattle.std.proofs.Common.{◌≡◌, ◌<◌, true, sym, ap, ◌∙◌, subst, arith}
 use Rattle.cany_base.specs.declared.step.Step.{Step}
 use Rattle.cany_base.specs.Scenario.{ScenarioParts}
-use Rattle.cany_model.specs.Bus.Run.{is_done, reply}
+use Rattle.cany_model.specs.Runs.Run.{is_done, reply}
 use Rattle.cany_world.specs.World.{state_of}
 use Rattle.cany_crew.proofs.FinishFacts.{made_leaves_fewer, turn_within}
 use Rattle.cany_crew.proofs.finish.finish.Given as given

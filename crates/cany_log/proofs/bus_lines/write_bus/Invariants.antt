@@ -1,6 +1,6 @@
 use Rattle.std.proofs.Common.{take, Ok}
 use Rattle.std.specs.List.{flat_map}
-use Rattle.cany_model.specs.Bus.Run.{run}
+use Rattle.cany_model.specs.Runs.Run.{run}
 use Rattle.cany_log.proofs.ReportFacts.{shown_line}
 use Rattle.cany_log.specs.Written.{IsWritten}
 use Rattle.cany_log.proofs.bus_lines.write_bus.Given as goal

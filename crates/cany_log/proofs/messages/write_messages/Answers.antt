@@ -1,6 +1,6 @@
 use Rattle.std.proofs.Common.{◌<◌, get_or, length, sym, ◌∙◌, ap, arith}
 use Rattle.std.proofs.lemmas.Result.{err_from_is_err_and}
-use Rattle.cany_model.specs.Bus.Run.{run}
+use Rattle.cany_model.specs.Runs.Run.{run}
 -- a send has one message: of the model's own words
 use Rattle.cany_model.proofs.Rules.MessageKeys.{length-messages_of}
 use Rattle.cany_log.proofs.ReportFacts.{message_text, message_lines_text, message_is}

@@ -1,7 +1,7 @@
 use Rattle.std.proofs.Common.{take, Ok}
 use Rattle.std.specs.List.{flat_map}
 use Rattle.cany_model.specs.Rules.Messages.{messages_of}
-use Rattle.cany_model.specs.Bus.Run.{run}
+use Rattle.cany_model.specs.Runs.Run.{run}
 use Rattle.cany_log.proofs.ReportFacts.{message_text}
 use Rattle.cany_log.specs.Written.{IsWritten}
 use Rattle.cany_log.proofs.messages.write_messages.Given as goal

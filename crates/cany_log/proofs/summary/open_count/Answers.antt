@@ -1,5 +1,5 @@
 use Rattle.std.proofs.Common.{◌∙◌, ap, length, arith}
-use Rattle.cany_model.specs.Bus.Run.{run}
+use Rattle.cany_model.specs.Runs.Run.{run}
 use Rattle.cany_log.proofs.SummaryFacts.{settled_or_open}
 use Rattle.cany_log.proofs.summary.open_count.Goals as goal
 

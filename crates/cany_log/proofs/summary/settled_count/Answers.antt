@@ -1,5 +1,5 @@
 use Rattle.std.proofs.Common.{◌<◌, ◌≤◌, ◌∙◌, ap, length, refl, arith}
-use Rattle.cany_model.specs.Bus.Run.{run}
+use Rattle.cany_model.specs.Runs.Run.{run}
 use Rattle.cany_log.proofs.SummaryFacts.{one_at_most, settled_all, settled_next}
 use Rattle.cany_log.proofs.summary.settled_count.Goals as goal
 

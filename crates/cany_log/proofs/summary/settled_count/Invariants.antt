@@ -1,6 +1,6 @@
 use Rattle.std.proofs.Common.{◌≡◌, ◌≤◌, take}
 use Rattle.std.specs.Prelude.{count_by}
-use Rattle.cany_model.specs.Bus.Run.{run}
+use Rattle.cany_model.specs.Runs.Run.{run}
 use Rattle.cany_model.specs.Promises.Settled.{is_settled}
 use Rattle.cany_model.specs.Rules.Messages.{messages_of}
 use Rattle.cany_log.proofs.summary.settled_count.Given as goal

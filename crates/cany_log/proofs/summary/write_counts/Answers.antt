@@ -1,5 +1,5 @@
 use Rattle.std.proofs.lemmas.Result.{err_from_is_err_and}
-use Rattle.cany_model.specs.Bus.Run.{run}
+use Rattle.cany_model.specs.Runs.Run.{run}
 use Rattle.cany_log.proofs.SummaryFacts.{counts-is}
 use Rattle.cany_log.proofs.WrittenFacts.{IsWritten-then, IsWritten-short}
 use Rattle.cany_log.proofs.summary.write_counts.Goals as goal

@@ -1,4 +1,4 @@
-use Rattle.cany_model.specs.Bus.Run.{run}
+use Rattle.cany_model.specs.Runs.Run.{run}
 use Rattle.cany_log.specs.Summary.{all_entries}
 use Rattle.cany_log.proofs.CountFacts.{entries_line-is}
 use Rattle.cany_log.proofs.summary.write_entry_counts.Goals as goal

@@ -1,4 +1,4 @@
-use Rattle.cany_model.proofs.Timed.DetectorLaws.{joiners_are_admitted}
+use Rattle.cany_model.proofs.Timed.Detector.DetectorLaws.{joiners_are_admitted}
 use Rattle.cany_model.proofs.laws.admission.Goals as goal
 
 pub returns : goal.returns

@@ -1,4 +1,4 @@
-use Rattle.cany_model.proofs.Timed.DetectorLaws.{none_is_thrown_out}
+use Rattle.cany_model.proofs.Timed.Detector.DetectorLaws.{none_is_thrown_out}
 use Rattle.cany_model.proofs.laws.detector_accuracy.Goals as goal
 
 pub returns : goal.returns

@@ -1,4 +1,4 @@
-use Rattle.cany_model.proofs.Timed.FewVectors.{few_vectors}
+use Rattle.cany_model.proofs.Timed.Windows.FewVectors.{few_vectors}
 use Rattle.cany_model.proofs.laws.few_vector_frames.Goals as goal
 
 pub returns : goal.returns

@@ -1,5 +1,5 @@
 -- The law is a lemma on every journal.
-use Rattle.cany_model.proofs.Bus.FollowFacts.{no_fault_exactly}
+use Rattle.cany_model.proofs.Runs.FollowFacts.{no_fault_exactly}
 use Rattle.cany_model.proofs.laws.followed_journals.Goals as goal
 
 pub returns : goal.returns

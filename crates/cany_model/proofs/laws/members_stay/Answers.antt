@@ -1,4 +1,4 @@
-use Rattle.cany_model.proofs.Timed.DetectorLaws.{members_remain}
+use Rattle.cany_model.proofs.Timed.Detector.DetectorLaws.{members_remain}
 use Rattle.cany_model.proofs.laws.members_stay.Goals as goal
 
 pub returns : goal.returns

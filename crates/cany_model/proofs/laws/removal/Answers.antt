@@ -1,4 +1,4 @@
-use Rattle.cany_model.proofs.Timed.DetectorLaws.{stopped_are_removed}
+use Rattle.cany_model.proofs.Timed.Detector.DetectorLaws.{stopped_are_removed}
 use Rattle.cany_model.proofs.laws.removal.Goals as goal
 
 pub returns : goal.returns

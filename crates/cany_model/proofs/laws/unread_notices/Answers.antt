@@ -1,4 +1,4 @@
-use Rattle.cany_model.proofs.Bus.Journals.{unread_within}
+use Rattle.cany_model.proofs.Runs.Journals.{unread_within}
 use Rattle.cany_model.proofs.laws.unread_notices.Goals as goal
 
 pub returns : goal.returns

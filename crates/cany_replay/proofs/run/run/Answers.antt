@@ -1,5 +1,5 @@
 use Rattle.std.proofs.Common.{◌≡◌, None, rules}
-use Rattle.cany_model.specs.Bus.Follow.{journal_of}
+use Rattle.cany_model.specs.Runs.Follow.{journal_of}
 use Rattle.cany_world.specs.World.{WorldParts}
 use Rattle.cany_replay.specs.Top.{own_fault}
 use Rattle.cany_replay.proofs.RunFacts.{kept_promises}

@@ -2,9 +2,9 @@ use Rattle.std.proofs.Common.{◌≡◌, refl, arith}
 use Rattle.std.specs.Prelude.{slice_get, Some}
 use Rattle.std.proofs.lemmas.Option.{slice_get_read}
 use Rattle.cany_model.specs.Bus.Restart.{restarted_in}
-use Rattle.cany_model.specs.Bus.Run.{run}
+use Rattle.cany_model.specs.Runs.Run.{run}
 use Rattle.cany_model.specs.Bus.State.{node_at}
-use Rattle.cany_model.proofs.Bus.Runs.{orderly}
+use Rattle.cany_model.proofs.Runs.Runs.{orderly}
 use Rattle.can_bus.proofs.SetFacts.{so_far_all, so_far_more, so_far_none}
 use Rattle.cany_world.proofs.InOrder.{in_order}
 use Rattle.cany_world.proofs.Told.{began_is, none_began}

@@ -3,7 +3,7 @@ use Rattle.std.specs.List.{list_any}
 use Rattle.cany_base.specs.declared.step.Step.{Step}
 use Rattle.cany_base.specs.Scenario.{ScenarioParts}
 use Rattle.cany_model.specs.Bus.Restart.{began_at}
-use Rattle.cany_model.specs.Bus.Run.{run}
+use Rattle.cany_model.specs.Runs.Run.{run}
 use Rattle.cany_model.specs.Bus.State.{node_at}
 use Rattle.can_bus.proofs.SetFacts.{SetSoFar}
 use Rattle.cany_world.specs.Kept.{AreNodesOf}

@@ -1,5 +1,5 @@
 use Rattle.std.proofs.Common.{refl, arith}
-use Rattle.cany_model.proofs.Bus.Following.{followed_none}
+use Rattle.cany_model.proofs.Runs.Following.{followed_none}
 use Rattle.cany_world.proofs.FollowFacts.{along_more, along_refused, along_whole, along_part}
 use Rattle.cany_world.proofs.following.follow.Goals as goal
 

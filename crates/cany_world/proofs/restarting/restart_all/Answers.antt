@@ -2,10 +2,10 @@ use Rattle.std.proofs.Common.{◌≡◌, [], length, get_or, ap, sym, subst, ◌
 use Rattle.std.proofs.lemmas.Bool.{eqb-true}
 use Rattle.std.proofs.lemmas.List.{nil_from_length}
 use Rattle.std.proofs.lemmas.Option.{slice_get-get_or}
-use Rattle.cany_model.specs.Bus.Run.{run}
+use Rattle.cany_model.specs.Runs.Run.{run}
 use Rattle.cany_model.specs.Bus.Slot.{after_slot, script}
 use Rattle.cany_model.specs.Bus.State.{RunState}
-use Rattle.cany_model.proofs.Timed.NoRestarts.{restarts_none}
+use Rattle.cany_model.proofs.Timed.Detector.NoRestarts.{restarts_none}
 use Rattle.can_controller.specs.Controller.{ControllerState}
 use Rattle.cany_world.specs.Incarnations.{IncarnationsParts}
 use Rattle.cany_world.specs.Kept.{AreControllersOf, AreNodesOf}

@@ -1,6 +1,6 @@
 use Rattle.std.proofs.Common.{◌∙◌, length, ap, subst}
 use Rattle.std.proofs.lemmas.List.{length-reverse}
-use Rattle.cany_model.specs.Bus.Run.{run}
+use Rattle.cany_model.specs.Runs.Run.{run}
 use Rattle.cany_model.specs.Bus.State.{slots_run}
 use Rattle.cany_world.specs.Resting.{HaveAllPassed}
 use Rattle.cany_world.proofs.StretchFacts.{stand_after_rest}

@@ -1,7 +1,7 @@
 use Rattle.std.proofs.Common.{◌≡◌, refl, sym, arith, ◌∙◌}
 use Rattle.std.specs.Prelude.{slice_get, Some}
 use Rattle.std.proofs.lemmas.Option.{slice_get_read}
-use Rattle.cany_model.specs.Bus.Run.{run}
+use Rattle.cany_model.specs.Runs.Run.{run}
 use Rattle.cany_world.specs.Settled.{has_ahead}
 use Rattle.cany_world.proofs.SettledFacts.{left_to_all, left_to_next, none_ahead, one_ahead}
 use Rattle.cany_world.proofs.settled.is_ahead.Goals as goal

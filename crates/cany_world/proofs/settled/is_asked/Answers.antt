@@ -1,7 +1,7 @@
 use Rattle.std.proofs.Common.{◌≡◌, refl, ap, sym, subst, ◌∙◌}
 use Rattle.std.specs.Prelude.{slice_get, Some}
 use Rattle.cany_base.specs.declared.message.MsgKey.{MsgKey}
-use Rattle.cany_model.specs.Bus.Run.{run}
+use Rattle.cany_model.specs.Runs.Run.{run}
 use Rattle.cany_model.specs.Bus.State.{node_at}
 use Rattle.cany_world.specs.Kept.{IsKeptAs, IsKeptAt}
 use Rattle.cany_world.proofs.PlaceFacts.{found}

@@ -3,7 +3,7 @@ use Rattle.std.proofs.lemmas.List.{length-reverse}
 use Rattle.cany_base.specs.declared.slot_note.SlotNote.{SlotNote}
 use Rattle.cany_base.specs.Params.{Parameters}
 use Rattle.cany_base.specs.Scenario.{ScenarioParts}
-use Rattle.cany_model.specs.Bus.Run.{run}
+use Rattle.cany_model.specs.Runs.Run.{run}
 use Rattle.can_bus.specs.Row.{IsRowFor, NoneLags}
 use Rattle.cany_world.proofs.SlotFacts.{can_restart, may_slot, none_lags, row_for, slot_stands_after}
 use Rattle.cany_world.proofs.slot.run_slot.Goals as goal

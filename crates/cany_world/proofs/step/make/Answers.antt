@@ -1,6 +1,6 @@
 use Rattle.cany_world.proofs.StepFacts.{slot_replies, slot_stands, turn_replies, turn_stands}
 use Rattle.cany_world.proofs.TurnFacts.{can_turn}
-use Rattle.cany_model.specs.Bus.Run.{run}
+use Rattle.cany_model.specs.Runs.Run.{run}
 use Rattle.cany_world.proofs.step.make.Goals as goal
 
 pub run_slot-requires : goal.run_slot-requires

@@ -2,7 +2,7 @@ use Rattle.std.proofs.Common.{◌≡◌, get_or, sym, ap, subst, ◌∙◌, arit
 use Rattle.std.specs.Prelude.{slice_get, slice_set, Some}
 use Rattle.std.proofs.lemmas.Option.{slice_get-get_or}
 use Rattle.can_controller.specs.Controller.{ControllerState}
-use Rattle.cany_model.specs.Bus.Run.{run, after_turn}
+use Rattle.cany_model.specs.Runs.Run.{run, after_turn}
 use Rattle.cany_world.specs.Incarnations.{IncarnationsParts}
 use Rattle.cany_world.specs.Replies.{IfDone, step_reply}
 use Rattle.cany_world.specs.Kept.{AreControllersOf, AreNodesOf}

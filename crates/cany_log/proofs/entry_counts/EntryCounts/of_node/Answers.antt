@@ -1,7 +1,7 @@
 use Rattle.std.proofs.Common.{◌+◌, ◌∙◌, ap, arith}
 use Rattle.std.specs.List.{range_with_len}
-use Rattle.cany_model.specs.Bus.Incarnations.{log_of}
-use Rattle.cany_model.specs.Bus.Run.{run}
+use Rattle.cany_model.specs.Runs.Incarnations.{log_of}
+use Rattle.cany_model.specs.Runs.Run.{run}
 use Rattle.cany_log.specs.Counted.{counts_of}
 use Rattle.cany_log.proofs.CountFacts.{AreCounted-all, AreCounted-next, node_entries}
 use Rattle.cany_log.proofs.ReportFacts.{at_number, below_length, past_length}

@@ -1,7 +1,7 @@
 use Rattle.std.proofs.Common.{◌+◌}
 use Rattle.std.specs.List.{range_with_len}
-use Rattle.cany_model.specs.Bus.Incarnations.{log_of}
-use Rattle.cany_model.specs.Bus.Run.{run}
+use Rattle.cany_model.specs.Runs.Incarnations.{log_of}
+use Rattle.cany_model.specs.Runs.Run.{run}
 use Rattle.cany_log.proofs.CountFacts.{AreCounted}
 use Rattle.cany_log.proofs.entry_counts.EntryCounts.of_node.Given as goal
 

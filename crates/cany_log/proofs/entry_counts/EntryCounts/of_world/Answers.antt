@@ -1,6 +1,6 @@
 use Rattle.std.proofs.Common.{◌∙◌, ap, arith}
 use Rattle.std.specs.List.{range_with_len}
-use Rattle.cany_model.specs.Bus.Run.{run}
+use Rattle.cany_model.specs.Runs.Run.{run}
 use Rattle.cany_log.specs.Counted.{counts_of}
 use Rattle.cany_log.specs.Summary.{entries_of_node}
 use Rattle.cany_log.proofs.CountFacts.{AreCounted-all, AreCounted-next, world_entries}

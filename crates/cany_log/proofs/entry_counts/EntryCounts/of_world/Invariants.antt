@@ -1,5 +1,5 @@
 use Rattle.std.specs.List.{range_with_len}
-use Rattle.cany_model.specs.Bus.Run.{run}
+use Rattle.cany_model.specs.Runs.Run.{run}
 use Rattle.cany_log.specs.Summary.{entries_of_node}
 use Rattle.cany_log.proofs.CountFacts.{AreCounted}
 use Rattle.cany_log.proofs.entry_counts.EntryCounts.of_world.Given as goal

@@ -1,5 +1,5 @@
 use Rattle.std.proofs.Common.{◌∷◌, subst, sym}
-use Rattle.cany_model.specs.Rules.Site.{knowledge_of}
+use Rattle.cany_model.specs.Rules.KnowledgeOf.{knowledge_of}
 use Rattle.cany_node.specs.Site.{Exchanges, met_by}
 use Rattle.cany_node.proofs.SiteSteps.{exchange_listed, exchanged, history_next, history_stands}
 use Rattle.cany_node.proofs.site.Site.exchange.Goals as goal

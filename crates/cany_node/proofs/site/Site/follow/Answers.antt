@@ -1,6 +1,6 @@
 use Rattle.std.proofs.Common.{◌∷◌, length, subst, sym}
 use Rattle.cany_history.specs.History.{IsHistoryOf}
-use Rattle.cany_model.specs.Rules.Site.{ended_in, knowledge_of}
+use Rattle.cany_model.specs.Rules.KnowledgeOf.{ended_in, knowledge_of}
 use Rattle.cany_node.specs.Site.{IsSiteOf, met_by}
 use Rattle.cany_node.proofs.SiteSteps.{all_listed, ended_now, has_known, known_exchanged, known_installed, site_stands}
 use Rattle.cany_node.proofs.site.Site.follow.Goals as goal

@@ -1,5 +1,5 @@
 use Rattle.std.proofs.Common.{subst, sym}
-use Rattle.cany_model.specs.Rules.Site.{knowledge_of}
+use Rattle.cany_model.specs.Rules.KnowledgeOf.{knowledge_of}
 use Rattle.cany_node.specs.Site.{IsSiteOf}
 use Rattle.cany_node.proofs.SiteSteps.{all_heard, failures_listed, life_next, life_stands, views_stand}
 use Rattle.cany_node.proofs.site.Site.hear.Goals as goal

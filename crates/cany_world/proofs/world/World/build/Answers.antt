@@ -6,9 +6,9 @@ use Rattle.cany_base.specs.Params.{Parameters}
 use Rattle.cany_base.specs.Scenario.{ScenarioParts, IsLegalScenario}
 use Rattle.cany_model.specs.Rules.Messages.{message_key, messages_of}
 use Rattle.cany_model.specs.Rules.Rooms.{actions_room}
-use Rattle.cany_model.specs.Bus.Run.{IsLegal, run}
+use Rattle.cany_model.specs.Runs.Run.{IsLegal, run}
 use Rattle.cany_model.specs.Bus.State.{opening}
-use Rattle.cany_model.proofs.Bus.Journals.{legal_none}
+use Rattle.cany_model.proofs.Runs.Journals.{legal_none}
 use Rattle.cany_world.specs.Kept.{StandFor}
 use Rattle.cany_world.proofs.WorldFacts.{opening_stands}
 use Rattle.cany_world.proofs.world.World.build.Goals as goal

@@ -3,9 +3,9 @@ use Rattle.cany_base.specs.declared.step.Step.{Step}
 use Rattle.cany_base.specs.declared.step.Step.TheVariants.{Turn}
 use Rattle.cany_base.specs.Bounded.{Bounded}
 use Rattle.cany_base.specs.Scenario.{ScenarioParts}
-use Rattle.cany_model.specs.Bus.Run.{IsLegal, is_done, reply, run}
+use Rattle.cany_model.specs.Runs.Run.{IsLegal, is_done, reply, run}
 use Rattle.cany_model.specs.Bus.State.{RunState}
-use Rattle.cany_model.proofs.Bus.Journals.{legal_push}
+use Rattle.cany_model.proofs.Runs.Journals.{legal_push}
 use Rattle.cany_world.specs.Kept.{StandFor}
 use Rattle.cany_world.specs.World.{WorldParts}
 use Rattle.cany_world.proofs.JournalFacts.{refused}

@@ -3,10 +3,10 @@ use Rattle.cany_base.specs.declared.step.Step.{Step}
 use Rattle.cany_base.specs.Bounded.{Bounded}
 use Rattle.cany_base.specs.Nodes.{Nodes}
 use Rattle.cany_base.specs.Scenario.{ScenarioParts}
-use Rattle.cany_model.specs.Bus.RoundRobin.{rounds}
-use Rattle.cany_model.specs.Bus.Run.{IsLegal, run}
+use Rattle.cany_model.specs.Runs.RoundRobin.{rounds}
+use Rattle.cany_model.specs.Runs.Run.{IsLegal, run}
 use Rattle.cany_model.specs.Bus.State.{RunState, slots_run}
-use Rattle.cany_model.proofs.Bus.Rounds.{rounds_none}
+use Rattle.cany_model.proofs.Runs.Rounds.{rounds_none}
 use Rattle.can_controller.specs.Controller.{ControllerState}
 use Rattle.cany_world.specs.Incarnations.{IncarnationsParts}
 use Rattle.cany_world.specs.Kept.{StandFor}

@@ -2,9 +2,9 @@ use Rattle.std.proofs.Common.{◌≡◌, ◌∷◌, ◌++◌, [], List, length, 
 use Rattle.cany_base.specs.declared.step.Step.{Step}
 use Rattle.cany_base.specs.Bounded.{Bounded}
 use Rattle.cany_base.specs.Scenario.{ScenarioParts}
-use Rattle.cany_model.specs.Bus.Run.{IsLegal, after_step, is_done, reply, run}
+use Rattle.cany_model.specs.Runs.Run.{IsLegal, after_step, is_done, reply, run}
 use Rattle.cany_model.specs.Bus.State.{RunState, opening}
-use Rattle.cany_model.proofs.Bus.Journals.{run_push, legal_push}
+use Rattle.cany_model.proofs.Runs.Journals.{run_push, legal_push}
 use Rattle.cany_world.specs.Kept.{StandFor}
 use Rattle.cany_world.specs.World.{WorldParts, state_of}
 use Rattle.cany_world.proofs.JournalFacts.{refused}

@@ -1,0 +1,20 @@
+-- Acceptance of TOTCAN messages, and their one order.
+pub mod AcceptanceRelays
+pub mod AcceptanceRelaysRun
+pub mod Accepted
+pub mod Accepts
+pub mod DeliveredPrefix
+pub mod NoLateAcceptances
+pub mod OneOrder
+pub mod OrderAt
+pub mod OrderLog
+pub mod TotBacklog
+pub mod TotCount
+pub mod TotEffects
+pub mod TotFrames
+pub mod TotKept
+pub mod TotRun
+pub mod TotSettled
+pub mod TotSlot
+pub mod TotSlots
+pub mod TotTurn
