@@ -5,11 +5,11 @@ use Rattle.std.proofs.lemmas.Bool.{false≢true}
 use Rattle.cany_base.specs.declared.step.Step.{Step}
 use Rattle.cany_base.specs.Scenario.{ScenarioParts}
 use Rattle.cany_io.specs.Sink.{Takes, TakesPrefix}
-use Rattle.cany_model.specs.declared.scenario_fault.ScenarioFault.{ScenarioFault}
-use Rattle.cany_model.specs.Texts.RefusalLines.{journal_given_line, scenario_refusal_line}
-use Rattle.cany_model.specs.Texts.Report.{report}
-use Rattle.cany_model.specs.Texts.ScenarioText.{scenario_of}
-use Rattle.cany_model.specs.Texts.TomlKeys.{Read}
+use Rattle.cany_text.specs.declared.scenario_fault.ScenarioFault.{ScenarioFault}
+use Rattle.cany_text.specs.RefusalLines.{journal_given_line, scenario_refusal_line}
+use Rattle.cany_text.specs.Report.{report}
+use Rattle.cany_text.specs.ScenarioText.{scenario_of}
+use Rattle.cany_text.specs.TomlKeys.{Read}
 use Rattle.cany_crew.specs.Top.{IsReportOf, TakesReportStart, TakesStart, run_refusal, run_refusal_for}
 
 -- ---- the line of the refusal

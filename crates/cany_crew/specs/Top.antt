@@ -4,10 +4,10 @@ use Rattle.cany_base.specs.declared.step.Step.{Step}
 use Rattle.cany_base.specs.Scenario.{ScenarioParts}
 use Rattle.cany_crew.specs.declared.status.TheConstants.{HELD}
 use Rattle.cany_io.specs.Sink.{Takes, TakesPrefix}
-use Rattle.cany_model.specs.Texts.RefusalLines.{journal_given_line, scenario_refusal_line}
-use Rattle.cany_model.specs.Texts.Report.{report}
-use Rattle.cany_model.specs.Texts.ScenarioText.{scenario_of}
-use Rattle.cany_model.specs.Texts.TomlKeys.{Read}
+use Rattle.cany_text.specs.RefusalLines.{journal_given_line, scenario_refusal_line}
+use Rattle.cany_text.specs.Report.{report}
+use Rattle.cany_text.specs.ScenarioText.{scenario_of}
+use Rattle.cany_text.specs.TomlKeys.{Read}
 use Rattle.cany_replay.specs.Status as replay
 use Rattle.cany_replay.specs.Top.{PromisesHold}
 

@@ -6,7 +6,7 @@ ghost use Rattle.cany_crew.specs.Top.{AreRun, HasNoAnswer, IsCrewRun, TakesRepor
 ghost use Rattle.cany_io.specs.Faults.{HasRisen, StandsStill};
 ghost use Rattle.cany_io.specs.Sink.{Takes, TakesPrefix};
 ghost use Rattle.cany_io.specs.Source.{IsAtEnd};
-ghost use Rattle.cany_model.specs.Texts.ScenarioText.{scenario_of};
+ghost use Rattle.cany_text.specs.ScenarioText.{scenario_of};
 ghost use Rattle.cany_replay.specs.Status.{HasAnswered};
 
 use crate::crew::{CrewFault, crew_run};

@@ -7,7 +7,7 @@ use Rattle.std.specs.List.{range_with_len}
 use Rattle.cany_base.specs.Limits.{most_nodes}
 use Rattle.cany_base.specs.Nodes.{AllBelow, Nodes, has, node_count}
 use Rattle.cany_base.proofs.NodesFacts.{count_more}
-use Rattle.cany_model.specs.Texts.ReportLines.{has_any}
+use Rattle.cany_text.specs.ReportLines.{has_any}
 
 none_counted : (test : ℕ → Bool) → ((i : ℕ) → test i ≡ false) → (n : ℕ) → count_by test (range_with_len 0 n) ≡ 0
 none_counted test none zero = refl

@@ -11,7 +11,7 @@ use Rattle.cany_log.specs.Counted.{AreAtMost, counts_of}
 use Rattle.cany_base.specs.Scenario.{ScenarioParts}
 use Rattle.cany_model.specs.Runs.Incarnations.{log_of}
 use Rattle.cany_model.specs.Bus.State.{RunState, node_at}
-use Rattle.cany_model.specs.Texts.ReportLines.{line_of}
+use Rattle.cany_text.specs.ReportLines.{line_of}
 use Rattle.cany_log.specs.Summary.{all_entries, entries_line, entries_of_node, is_delivery, is_failure, is_view}
 
 abbrev pub plus : EntryCounts → EntryCounts → EntryCounts

@@ -6,7 +6,7 @@ use Rattle.std.proofs.lemmas.List.Concat.{flat_map-append}
 use Rattle.std.proofs.Math.Seq.{drop-cons, drop-length}
 use Rattle.cany_log.specs.declared.field.Field.{Field}
 use Rattle.cany_log.specs.Fields.{most_bytes, room_of, spaced, texts_of}
-use Rattle.cany_model.specs.Texts.ReportLines.{line_of}
+use Rattle.cany_text.specs.ReportLines.{line_of}
 
 room_of-append : (xs ys : List Field) → room_of (xs ++ ys) ≡ room_of xs + room_of ys
 room_of-append [] ys = omega arith

@@ -3,7 +3,7 @@ use Rattle.std.proofs.Common.{◌≡◌, ℕ, ◌==◌, Bool, true, false, List,
 use Rattle.std.specs.Prelude.{if◌then◌else◌, codes, decimal}
 use Rattle.cany_log.specs.Fields.{number_if_any}
 use Rattle.cany_model.specs.declared.span.Span.{Span}
-use Rattle.cany_model.specs.Texts.ReportLines.{line_of, node_line}
+use Rattle.cany_text.specs.ReportLines.{line_of, node_line}
 
 -- nothing of the first incarnation, and two fields of a later one
 later_fields : (b : Bool) (inc since : ℕ) (stop rest : List (List ℕ))

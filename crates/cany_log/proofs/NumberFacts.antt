@@ -2,7 +2,7 @@
 use Rattle.std.proofs.Common.{◌≡◌, ℕ, ◌<◌, ◌≤◌, ◌==◌, Bool, true, false, List, [], ◌++◌, length, length-append, append_assoc, sym, arith}
 use Rattle.std.specs.Prelude.{if◌then◌else◌, codes, decimal}
 use Rattle.std.proofs.lemmas.Fmt.{length-decimal-le}
-use Rattle.cany_model.specs.Texts.ReportLines.{node_text}
+use Rattle.cany_text.specs.ReportLines.{node_text}
 
 pub node_digits : (node : ℕ) → node < 64 → length (decimal node) ≤ 2
 node_digits node small = length-decimal-le 2 node (omega arith) (omega arith) (omega arith)

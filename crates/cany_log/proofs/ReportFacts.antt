@@ -24,8 +24,8 @@ use Rattle.cany_model.specs.Bus.State.{RunState, node_at}
 use Rattle.cany_model.specs.Promises.Hypothesis.{first_break}
 use Rattle.cany_model.specs.Promises.Settled.{is_settled}
 use Rattle.cany_model.specs.Rules.Messages.{Message, message_key, message_of, messages_of}
-use Rattle.cany_model.specs.Texts.Report.{bus_lines, incarnation_lines, node_lines, message_lines, report_lines, report}
-use Rattle.cany_model.specs.Texts.ReportLines.{line_of, first_line, params_line, hypothesis_line, bus_line, is_shown, journal_line, journal_lines, node_line, entry_line, message_line}
+use Rattle.cany_text.specs.Report.{bus_lines, incarnation_lines, node_lines, message_lines, report_lines, report}
+use Rattle.cany_text.specs.ReportLines.{line_of, first_line, params_line, hypothesis_line, bus_line, is_shown, journal_line, journal_lines, node_line, entry_line, message_line}
 -- a send has one message: of the model's own words
 use Rattle.cany_model.proofs.Rules.MessageKeys.{message_at}
 use Rattle.cany_log.specs.ReportParts.{heading_text, bus_text, nodes_and_messages_text}

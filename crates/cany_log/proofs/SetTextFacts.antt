@@ -9,7 +9,7 @@ use Rattle.std.specs.Int.Count.{count_leading_zeros}
 use Rattle.std.proofs.lemmas.Nat.{leading_length}
 use Rattle.cany_base.proofs.NodesFacts.{AllBelow-bits, bits-lt}
 use Rattle.cany_base.specs.Nodes.{AllBelow, Nodes, has}
-use Rattle.cany_model.specs.Texts.ReportLines.{set_text, numbers_text}
+use Rattle.cany_text.specs.ReportLines.{set_text, numbers_text}
 
 abbrev with_comma : ℕ → List ℕ
 with_comma n = 44 ∷ decimal n

@@ -1,7 +1,7 @@
 -- The bytes of a payload as text.
 use Rattle.std.proofs.Common.{◌≡◌, ℕ, List, ◌∷◌, ◌++◌, drop, ◌∙◌, ap}
 use Rattle.std.specs.List.{flat_map}
-use Rattle.cany_model.specs.Texts.ReportLines.{byte_text, payload_text}
+use Rattle.cany_text.specs.ReportLines.{byte_text, payload_text}
 
 -- all bytes of a payload are there, from byte i = 0 on, and then the mark before them
 pub payload_text_done : (payload after row row' : List ℕ) (i : ℕ) → row ≡ flat_map byte_text (drop i payload) ++ after → i ≡ 0 → row' ≡ 32 ∷ 120 ∷ row

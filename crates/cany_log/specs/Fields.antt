@@ -4,8 +4,8 @@ use Rattle.std.specs.List.{flat_map}
 use Rattle.cany_base.specs.Nodes.{Nodes}
 use Rattle.cany_log.specs.declared.field.Field.{Field}
 use Rattle.cany_log.specs.declared.field.Field.TheVariants.{Text, Number, Count, Signed, Node, Bytes, Set, NumberIfAny, SetIfAny}
-use Rattle.cany_model.specs.Texts.RefusalLines.{signed_decimal}
-use Rattle.cany_model.specs.Texts.ReportLines.{has_any, node_text, payload_text, set_text}
+use Rattle.cany_text.specs.RefusalLines.{signed_decimal}
+use Rattle.cany_text.specs.ReportLines.{has_any, node_text, payload_text, set_text}
 
 -- the word and the number, where there is one
 abbrev pub number_if_any : List ℕ → Option ℕ → List (List ℕ)

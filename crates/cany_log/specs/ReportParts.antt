@@ -4,8 +4,8 @@ use Rattle.std.specs.List.{concat, flat_map, range_with_len}
 use Rattle.cany_base.specs.declared.step.Step.{Step}
 use Rattle.cany_base.specs.Scenario.{ScenarioParts}
 use Rattle.cany_model.specs.Promises.Hypothesis.{first_break}
-use Rattle.cany_model.specs.Texts.Report.{bus_lines, node_lines, message_lines}
-use Rattle.cany_model.specs.Texts.ReportLines.{line_of, first_line, params_line, journal_lines, hypothesis_line}
+use Rattle.cany_text.specs.Report.{bus_lines, node_lines, message_lines}
+use Rattle.cany_text.specs.ReportLines.{line_of, first_line, params_line, journal_lines, hypothesis_line}
 use Rattle.cany_model.specs.Bus.State.{RunState}
 
 -- what was run

@@ -15,7 +15,7 @@ use Rattle.cany_model.specs.Bus.State.{RunState, node_at}
 use Rattle.cany_model.specs.Promises.Hypothesis.{any_frame, first_break, is_partial, is_silent}
 use Rattle.cany_model.specs.Promises.Settled.{is_settled}
 use Rattle.cany_model.specs.Rules.Messages.{messages_of}
-use Rattle.cany_model.specs.Texts.ReportLines.{line_of, hypothesis_line}
+use Rattle.cany_text.specs.ReportLines.{line_of, hypothesis_line}
 
 -- ---- slots
 

@@ -4,7 +4,7 @@ use Rattle.cany_base.specs.Scenario.{ScenarioParts}
 use Rattle.cany_log.specs.Summary.{all_entries, entries_line, frames_line, settled_line}
 use Rattle.cany_model.specs.Bus.State.{RunState}
 use Rattle.cany_model.specs.Promises.Hypothesis.{first_break}
-use Rattle.cany_model.specs.Texts.ReportLines.{hypothesis_line, line_of}
+use Rattle.cany_text.specs.ReportLines.{hypothesis_line, line_of}
 
 -- how many there are of each kind
 unfoldable pub counts_text : ScenarioParts → RunState → List ℕ

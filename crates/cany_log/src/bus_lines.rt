@@ -1,8 +1,8 @@
 //! What happened on the bus, slot by slot.
 ghost use Rattle.std.specs.Prelude.{◌≡◌, ◌≤◌, ◌∷◌, []};
 ghost use Rattle.std.specs.List.{concat};
-ghost use Rattle.cany_model.specs.Texts.Report.{bus_lines};
-ghost use Rattle.cany_model.specs.Texts.ReportLines as report;
+ghost use Rattle.cany_text.specs.Report.{bus_lines};
+ghost use Rattle.cany_text.specs.ReportLines as report;
 ghost use Rattle.cany_log.specs.Fields.{most_bytes, texts_of};
 ghost use Rattle.cany_log.specs.Written.{IsWritten};
 ghost use Rattle.cany_world.specs.World.{state_of};
@@ -11,7 +11,7 @@ use crate::field::Field;
 use crate::line::{has_any, write_line};
 use cany_base::{Class, Frame, NodeSet, SlotNote};
 use cany_io::{Failed, Sink};
-use cany_model::names::{class_name, verdict_name};
+use cany_text::names::{class_name, verdict_name};
 use cany_world::World;
 
 /// The bytes of a data frame. A remote frame has none to show.
@@ -27,7 +27,7 @@ fn frame_payload(frame: &Frame) -> Field
 }
 
 /// Writes the line of a slot, at whose end these nodes started again.
-#[tactic(auto, unfolding(cany_model::specs::Texts::ReportLines::bus_line))]
+#[tactic(auto, unfolding(cany_text::specs::ReportLines::bus_line))]
 pub(crate) fn write_bus_line<K: Sink>(
     note: &SlotNote,
     again: NodeSet,
@@ -63,7 +63,7 @@ pub(crate) fn write_bus_line<K: Sink>(
 }
 
 /// Whether a slot has a line: it carried a frame, or a node stopped or started again in it.
-#[tactic(auto, unfolding(cany_model::specs::Texts::ReportLines::is_shown))]
+#[tactic(auto, unfolding(cany_text::specs::ReportLines::is_shown))]
 fn is_shown(note: &SlotNote, again: NodeSet) -> bool
     ensures { result ≡ report.is_shown note.now again }
 {

@@ -1,11 +1,11 @@
-ghost use Rattle.cany_model.specs.Texts.ReportLines.{entry_line};
+ghost use Rattle.cany_text.specs.ReportLines.{entry_line};
 ghost use Rattle.cany_base.specs.declared.log_entry.LogEntry.TheVariants.{Deliver, Failed as AsFailed, View};
 ghost use Rattle.cany_log.specs.Written.{IsWritten};
 
 use crate::line_buffer::LineBuffer;
 use cany_base::{LogEntry, MsgKey, NodeId, NodeSet, Payload, Service, Slot};
 use cany_io::{Failed, Sink, write_whole};
-use cany_model::names::service_name;
+use cany_text::names::service_name;
 
 /// How many bytes the line of a delivery or of a failure has at most, with numbers as long as their fields allow.
 const ENTRY_LINE_BYTES: usize = 96;
@@ -15,7 +15,7 @@ const VIEW_LINE_BYTES: usize = 256;
 
 /// Writes the line of a delivery. Nearly all lines of a report are those of entries, so they are put together without a list of
 /// their fields.
-#[tactic(auto, unfolding(cany_model::specs::Texts::ReportLines::entry_line, cany_model::specs::Texts::ReportLines::line_of))]
+#[tactic(auto, unfolding(cany_text::specs::ReportLines::entry_line, cany_text::specs::ReportLines::line_of))]
 fn write_delivery<K: Sink>(
     slot: Slot,
     service: Service,
@@ -38,7 +38,7 @@ fn write_delivery<K: Sink>(
 }
 
 /// Writes the line of a failure.
-#[tactic(auto, unfolding(cany_model::specs::Texts::ReportLines::entry_line, cany_model::specs::Texts::ReportLines::line_of))]
+#[tactic(auto, unfolding(cany_text::specs::ReportLines::entry_line, cany_text::specs::ReportLines::line_of))]
 fn write_failure<K: Sink>(slot: Slot, node: NodeId, cycle: u16, sink: &mut K) -> Result<(), Failed>
     ensures { IsWritten (entry_line (AsFailed slot node cycle)) result
         (K.taken sink.old) (K.taken sink.new) (K.faults sink.old) (K.faults sink.new) }
@@ -53,7 +53,7 @@ fn write_failure<K: Sink>(slot: Slot, node: NodeId, cycle: u16, sink: &mut K) ->
 }
 
 /// Writes the line of a view.
-#[tactic(auto, unfolding(cany_model::specs::Texts::ReportLines::entry_line, cany_model::specs::Texts::ReportLines::line_of))]
+#[tactic(auto, unfolding(cany_text::specs::ReportLines::entry_line, cany_text::specs::ReportLines::line_of))]
 fn write_view<K: Sink>(
     slot: Slot,
     number: u16,
@@ -73,7 +73,7 @@ fn write_view<K: Sink>(
 }
 
 /// Writes the line of an entry of a log. It takes no memory.
-#[tactic(auto, unfolding(cany_model::specs::Texts::ReportLines::entry_line))]
+#[tactic(auto, unfolding(cany_text::specs::ReportLines::entry_line))]
 pub fn write_entry<K: Sink>(entry: &LogEntry, sink: &mut K) -> Result<(), Failed>
     ensures { IsWritten (entry_line entry.now) result
         (K.taken sink.old) (K.taken sink.new) (K.faults sink.old) (K.faults sink.new) }

@@ -1,7 +1,7 @@
 //! What was run: the lines before those of the bus.
 ghost use Rattle.std.specs.Prelude.{◌≤◌, length};
 ghost use Rattle.std.specs.List.{concat};
-ghost use Rattle.cany_model.specs.Texts.ReportLines as report;
+ghost use Rattle.cany_text.specs.ReportLines as report;
 ghost use Rattle.cany_log.specs.Written.{IsWritten};
 
 use crate::field::Field;
@@ -13,7 +13,7 @@ use cany_io::{Failed, Sink};
 const STEPS: usize = 64;
 
 /// Writes the line that begins a report.
-#[tactic(auto, unfolding(cany_model::specs::Texts::ReportLines::first_line))]
+#[tactic(auto, unfolding(cany_text::specs::ReportLines::first_line))]
 pub(crate) fn write_first_line<K: Sink>(format: Format, sink: &mut K) -> Result<(), Failed>
     ensures { IsWritten (report.first_line format) result
         (K.taken sink.old) (K.taken sink.new) (K.faults sink.old) (K.faults sink.new) }
@@ -26,7 +26,7 @@ pub(crate) fn write_first_line<K: Sink>(format: Format, sink: &mut K) -> Result<
 }
 
 /// Writes the line of the parameters.
-#[tactic(auto, unfolding(cany_model::specs::Texts::ReportLines::params_line))]
+#[tactic(auto, unfolding(cany_text::specs::ReportLines::params_line))]
 pub(crate) fn write_params<K: Sink>(params: &Params, sink: &mut K) -> Result<(), Failed>
     ensures { IsWritten (report.params_line params.now) result
         (K.taken sink.old) (K.taken sink.new) (K.faults sink.old) (K.faults sink.new) }

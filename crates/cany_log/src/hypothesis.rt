@@ -1,5 +1,5 @@
 ghost use Rattle.std.specs.Prelude.{◌≡◌, ◌≤◌, length};
-ghost use Rattle.cany_model.specs.Texts.ReportLines as report;
+ghost use Rattle.cany_text.specs.ReportLines as report;
 ghost use Rattle.cany_log.specs.Written.{IsWritten};
 
 use crate::field::Field;
@@ -7,7 +7,7 @@ use crate::line::write_line;
 use cany_io::{Failed, Sink};
 use cany_model::{Break, BreakKind};
 
-#[tactic(auto, unfolding(cany_model::specs::Texts::ReportLines::break_name))]
+#[tactic(auto, unfolding(cany_text::specs::ReportLines::break_name))]
 fn break_name(kind: BreakKind) -> &'static str
     ensures name { result.now ≡ report.break_name kind }
     ensures short { length result.now ≤ 6 }
@@ -20,7 +20,7 @@ fn break_name(kind: BreakKind) -> &'static str
 }
 
 /// Writes the line of the fault hypothesis: that a run is within it, or where it leaves it first. It takes no memory.
-#[tactic(auto, unfolding(cany_model::specs::Texts::ReportLines::hypothesis_line))]
+#[tactic(auto, unfolding(cany_text::specs::ReportLines::hypothesis_line))]
 pub fn write_hypothesis<K: Sink>(found: Option<Break>, sink: &mut K) -> Result<(), Failed>
     ensures { IsWritten (report.hypothesis_line found) result
         (K.taken sink.old) (K.taken sink.new) (K.faults sink.old) (K.faults sink.new) }

@@ -1,8 +1,8 @@
 //! The lines of journals that are refused.
 ghost use Rattle.std.specs.Prelude.{◌≡◌, ◌≤◌, [], ◌∷◌, length, codes, decimal};
 ghost use Rattle.cany_model.specs.declared.follow.FollowFault.TheVariants.{Refused, Unfinished};
-ghost use Rattle.cany_model.specs.Texts.RefusalLines.{journal_refusal_line};
-ghost use Rattle.cany_model.specs.Texts.ReportLines.{line_of};
+ghost use Rattle.cany_text.specs.RefusalLines.{journal_refusal_line};
+ghost use Rattle.cany_text.specs.ReportLines.{line_of};
 ghost use Rattle.cany_log.specs.Written.{IsWritten};
 
 use crate::field::Field;

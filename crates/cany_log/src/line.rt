@@ -1,7 +1,7 @@
 ghost use Rattle.std.specs.Prelude.{◌+◌, ◌≤◌, ◌≡◌, ◌∷◌, ◌++◌, length};
 ghost use Rattle.std.specs.List.{flat_map};
 ghost use Rattle.cany_base.specs.Limits.{most_line_bytes};
-ghost use Rattle.cany_model.specs.Texts.ReportLines as report;
+ghost use Rattle.cany_text.specs.ReportLines as report;
 ghost use Rattle.cany_log.specs.Fields.{most_bytes, number_if_any, room_of, set_if_any, spaced, texts_of};
 ghost use Rattle.cany_log.specs.Written.{IsWritten};
 
@@ -120,7 +120,7 @@ pub(crate) fn write_short_line<K: Sink>(
 }
 
 /// Writes the line of some steps of a journal, of which there are at most 64.
-#[tactic(auto, unfolding(cany_model::specs::Texts::ReportLines::journal_line, cany_model::specs::Texts::ReportLines::line_of))]
+#[tactic(auto, unfolding(cany_text::specs::ReportLines::journal_line, cany_text::specs::ReportLines::line_of))]
 pub(crate) fn write_steps<K: Sink>(steps: &[Step], sink: &mut K) -> Result<(), Failed>
     requires { length steps.now ≤ 64 }
     ensures { IsWritten (report.journal_line steps.now) result

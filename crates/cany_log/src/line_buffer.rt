@@ -2,8 +2,8 @@
 //! where they stay. A field is put before the others together with the space before it.
 ghost use Rattle.std.specs.Prelude.{◌≡◌, ◌+◌, ◌≤◌, ◌∷◌, ◌++◌, ◌==◌, [], if◌then◌else◌, codes, length, map, decimal};
 ghost use Rattle.cany_base.specs.Limits.{most_line_bytes};
-ghost use Rattle.cany_model.specs.Texts.RefusalLines.{signed_decimal};
-ghost use Rattle.cany_model.specs.Texts.ReportLines.{byte_text, node_text, payload_text, set_text, step_letter};
+ghost use Rattle.cany_text.specs.RefusalLines.{signed_decimal};
+ghost use Rattle.cany_text.specs.ReportLines.{byte_text, node_text, payload_text, set_text, step_letter};
 
 use cany_base::{NodeId, NodeSet, Payload, Step};
 use itoa::{Buffer, write_digits};
@@ -218,7 +218,7 @@ impl<const ROOM: usize> LineBuffer<ROOM> {
 }
 
 /// The letter of a step in a journal.
-#[tactic(auto, unfolding(cany_model::specs::Texts::ReportLines::step_letter))]
+#[tactic(auto, unfolding(cany_text::specs::ReportLines::step_letter))]
 fn letter(step: Step) -> u8
     ensures { result ≡ step_letter step }
 {

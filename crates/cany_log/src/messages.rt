@@ -1,7 +1,7 @@
 //! The messages, in the order of their sends.
 ghost use Rattle.std.specs.List.{concat};
-ghost use Rattle.cany_model.specs.Texts.Report.{message_lines};
-ghost use Rattle.cany_model.specs.Texts.ReportLines.{message_line};
+ghost use Rattle.cany_text.specs.Report.{message_lines};
+ghost use Rattle.cany_text.specs.ReportLines.{message_line};
 ghost use Rattle.cany_log.specs.Written.{IsWritten};
 ghost use Rattle.cany_world.specs.World.{state_of};
 
@@ -9,11 +9,11 @@ use crate::field::Field;
 use crate::line::write_short_line;
 use cany_base::SendAsk;
 use cany_io::{Failed, Sink};
-use cany_model::names::service_name;
+use cany_text::names::service_name;
 use cany_world::World;
 
 /// Writes the line of the message of a send, which has this sequence number.
-#[tactic(auto, unfolding(cany_model::specs::Texts::ReportLines::message_line))]
+#[tactic(auto, unfolding(cany_text::specs::ReportLines::message_line))]
 pub(crate) fn write_message<K: Sink>(
     send: &SendAsk,
     seq: u64,

@@ -2,8 +2,8 @@
 ghost use Rattle.std.specs.Prelude.{◌≡◌, ◌==◌, ◌<◌, ◌≤◌, if◌then◌else◌, Some, None};
 ghost use Rattle.std.specs.List.{concat, flat_map, range_with_len};
 ghost use Rattle.cany_model.specs.Bus.State.{node_at};
-ghost use Rattle.cany_model.specs.Texts.Report.{incarnation_lines, node_lines};
-ghost use Rattle.cany_model.specs.Texts.ReportLines.{node_line};
+ghost use Rattle.cany_text.specs.Report.{incarnation_lines, node_lines};
+ghost use Rattle.cany_text.specs.ReportLines.{node_line};
 ghost use Rattle.cany_log.specs.Written.{IsWritten};
 ghost use Rattle.cany_world.specs.World.{state_of};
 

@@ -1,4 +1,4 @@
-ghost use Rattle.cany_model.specs.Texts.RefusalLines.{journal_given_line};
+ghost use Rattle.cany_text.specs.RefusalLines.{journal_given_line};
 ghost use Rattle.cany_log.specs.Refusals.{refusal_line};
 ghost use Rattle.cany_log.specs.Written.{IsWritten};
 
@@ -6,7 +6,8 @@ use crate::journal_refusal::write_journal_refusal;
 use crate::line::write_line;
 use crate::scenario_refusal::write_scenario_refusal;
 use cany_io::{Failed, Sink};
-use cany_model::{FollowFault, ScenarioFault};
+use cany_model::FollowFault;
+use cany_text::ScenarioFault;
 
 /// Why there is no report of a text.
 #[derive(Clone, Copy, Debug, PartialEq, Eq)]
@@ -19,7 +20,7 @@ pub enum Refusal {
     JournalGiven,
 }
 
-#[tactic(auto, unfolding(cany_model::specs::Texts::RefusalLines::journal_given_line))]
+#[tactic(auto, unfolding(cany_text::specs::RefusalLines::journal_given_line))]
 fn write_journal_given<K: Sink>(sink: &mut K) -> Result<(), Failed>
     ensures { IsWritten journal_given_line result
         (K.taken sink.old) (K.taken sink.new) (K.faults sink.old) (K.faults sink.new) }

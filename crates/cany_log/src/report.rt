@@ -1,4 +1,4 @@
-ghost use Rattle.cany_model.specs.Texts.Report.{report};
+ghost use Rattle.cany_text.specs.Report.{report};
 ghost use Rattle.cany_log.specs.ReportParts.{bus_text, heading_text, nodes_and_messages_text};
 ghost use Rattle.cany_log.specs.Written.{IsWritten};
 ghost use Rattle.cany_world.specs.World.{state_of};

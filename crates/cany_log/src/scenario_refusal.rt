@@ -1,19 +1,19 @@
 //! The lines of texts that are no scenarios.
 ghost use Rattle.std.specs.Prelude.{◌≤◌, [], ◌∷◌, length, codes, decimal};
-ghost use Rattle.cany_model.specs.declared.scenario_fault.ScenarioFault.TheVariants.{OutOfRange};
-ghost use Rattle.cany_model.specs.Texts.RefusalLines.{scenario_refusal_line};
-ghost use Rattle.cany_model.specs.Texts.ReportLines.{line_of};
-ghost use Rattle.cany_model.specs.Texts.TextNames as names;
+ghost use Rattle.cany_text.specs.declared.scenario_fault.ScenarioFault.TheVariants.{OutOfRange};
+ghost use Rattle.cany_text.specs.RefusalLines.{scenario_refusal_line};
+ghost use Rattle.cany_text.specs.ReportLines.{line_of};
+ghost use Rattle.cany_text.specs.TextNames as names;
 ghost use Rattle.cany_log.specs.Written.{IsWritten};
 
 use crate::field::Field;
 use crate::line::write_line;
 use cany_io::{Failed, Sink};
-use cany_model::names::{key_name, param_name, table_name};
-use cany_model::{KeyName, ScenarioFault, TableName};
+use cany_text::names::{key_name, param_name, table_name};
+use cany_text::{KeyName, ScenarioFault, TableName};
 
 /// Writes the line of a text that is no scenario, by its first fault. Want of memory has no line.
-#[tactic(auto, unfolding(cany_model::specs::Texts::RefusalLines::scenario_refusal_line))]
+#[tactic(auto, unfolding(cany_text::specs::RefusalLines::scenario_refusal_line))]
 pub(crate) fn write_scenario_refusal<K: Sink>(
     fault: &ScenarioFault,
     sink: &mut K,
@@ -105,7 +105,7 @@ fn write_of_key<K: Sink>(
     write_line(words, &fields, sink)
 }
 
-#[tactic(auto, unfolding(cany_model::specs::Texts::RefusalLines::scenario_refusal_line))]
+#[tactic(auto, unfolding(cany_text::specs::RefusalLines::scenario_refusal_line))]
 fn write_out_of_range<K: Sink>(
     table: TableName,
     place: usize,

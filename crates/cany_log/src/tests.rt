@@ -5,7 +5,7 @@ ghost use Rattle.std.specs.Prelude.{◌≡◌, ◌⊎◌, ◌<◌, ◌≤◌, le
 ghost use Rattle.cany_base.specs.Limits.{most_nodes};
 ghost use Rattle.cany_io.specs.Faults.{HasRisen, StandsStill};
 ghost use Rattle.cany_io.specs.Sink.{Takes, TakesPrefix};
-ghost use Rattle.cany_model.specs.Texts.Report.{report};
+ghost use Rattle.cany_text.specs.Report.{report};
 
 use crate::write_report;
 use cany_base::{NodeId, NodeSet, Payload};

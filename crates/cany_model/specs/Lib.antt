@@ -1,4 +1,4 @@
 pub mod Bus
 pub mod Promises
 pub mod Rules
-pub mod Texts
+pub mod Runs

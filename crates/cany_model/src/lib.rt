@@ -4,9 +4,7 @@
 mod breaks;
 mod follow;
 pub mod laws;
-pub mod names;
 mod reply;
-mod scenario_fault;
 mod share;
 mod span;
 mod threads;
@@ -14,6 +12,5 @@ mod threads;
 pub use breaks::{Break, BreakKind};
 pub use follow::FollowFault;
 pub use reply::StepReply;
-pub use scenario_fault::{KeyName, Position, ScenarioFault, TableName};
 pub use share::Share;
 pub use span::Span;

@@ -3,7 +3,6 @@
 use crate::breaks::Break;
 use crate::follow::FollowFault;
 use crate::reply::StepReply;
-use crate::scenario_fault::ScenarioFault;
 use crate::share::Share;
 
 fn is_thread_safe<T: Send + Sync>() {}
@@ -11,7 +10,6 @@ fn is_thread_safe<T: Send + Sync>() {}
 fn all_cross_threads() {
     is_thread_safe::<Break>();
     is_thread_safe::<FollowFault>();
-    is_thread_safe::<ScenarioFault>();
     is_thread_safe::<Share>();
     is_thread_safe::<StepReply>();
 }

@@ -13,8 +13,8 @@ use Rattle.cany_base.specs.Params.{Parameters}
 use Rattle.cany_base.specs.Scenario.{IsLegalScenario, IsRuleOf, IsSendOf, IsVerdictOf}
 use Rattle.cany_base.proofs.NodesFacts.{AllBelow-bits}
 use Rattle.cany_model.specs.Rules.Messages.{Message, messages_of}
-use Rattle.cany_model.specs.Texts.NodesText.{all_nodes}
-use Rattle.cany_model.proofs.Texts.NodesTextLegal.{all_nodes-below}
+use Rattle.cany_text.specs.NodesText.{all_nodes}
+use Rattle.cany_text.proofs.NodesTextLegal.{all_nodes-below}
 use Rattle.cany_replay.specs.Storm.{fifth_rule_drawn, next_word, no_message, rule_drawn, send_drawn, stop_rule, storm_of, storm_params}
 use Rattle.cany_replay.proofs.DrawFacts.{HaveDrawn, all_drawn, length-drawn, pairs_drawn, pairs_more}
 use Rattle.cany_replay.proofs.MessagePlaces.{origins_below, seq_grows}

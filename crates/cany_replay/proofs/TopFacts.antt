@@ -7,12 +7,12 @@ use Rattle.std.specs.Option.{option_map_or}
 use Rattle.cany_base.specs.Scenario.{ScenarioParts}
 use Rattle.cany_io.specs.Sink.{Takes, TakesPrefix}
 use Rattle.cany_model.specs.declared.follow.FollowFault.{FollowFault}
-use Rattle.cany_model.specs.declared.scenario_fault.ScenarioFault.{ScenarioFault}
+use Rattle.cany_text.specs.declared.scenario_fault.ScenarioFault.{ScenarioFault}
 use Rattle.cany_model.specs.Runs.Follow.{journal_of}
-use Rattle.cany_model.specs.Texts.RefusalLines.{journal_refusal_line, scenario_refusal_line}
-use Rattle.cany_model.specs.Texts.Report.{report}
-use Rattle.cany_model.specs.Texts.ScenarioText.{scenario_of}
-use Rattle.cany_model.specs.Texts.TomlKeys.{Read}
+use Rattle.cany_text.specs.RefusalLines.{journal_refusal_line, scenario_refusal_line}
+use Rattle.cany_text.specs.Report.{report}
+use Rattle.cany_text.specs.ScenarioText.{scenario_of}
+use Rattle.cany_text.specs.TomlKeys.{Read}
 use Rattle.cany_replay.specs.Top.{IsReplay, KeepsPromises, own_fault, refusal_for, refusal_of, answer_for, answer_to, answer_of}
 use Rattle.cany_world.specs.World.{WorldParts}
 

@@ -13,7 +13,7 @@ use Rattle.cany_base.specs.Params.{Parameters}
 use Rattle.cany_base.specs.Scenario.{ScenarioParts}
 use Rattle.cany_base.specs.Nodes.{nobody}
 use Rattle.cany_model.specs.Rules.Messages.{Message, messages_of}
-use Rattle.cany_model.specs.Texts.NodesText.{all_nodes, set_of}
+use Rattle.cany_text.specs.NodesText.{all_nodes, set_of}
 use Rattle.rand_pcg.specs.Lcg.{Lcg, increment_of, started}
 use Rattle.rand_pcg.specs.Pcg.{multiplier_64, pcg32}
 

@@ -7,12 +7,12 @@ use Rattle.cany_io.specs.Sink.{Takes}
 use Rattle.cany_model.specs.declared.follow.FollowFault.{FollowFault}
 use Rattle.cany_model.specs.Runs.Follow.{journal_fault, journal_of}
 use Rattle.cany_model.specs.Promises.Hypothesis.{IsWithin}
-use Rattle.cany_model.specs.Texts.RefusalLines.{journal_refusal_line, scenario_refusal_line}
-use Rattle.cany_model.specs.Texts.Report.{report}
+use Rattle.cany_text.specs.RefusalLines.{journal_refusal_line, scenario_refusal_line}
+use Rattle.cany_text.specs.Report.{report}
 use Rattle.cany_model.specs.Runs.Run.{IsLegal, IsWhole, run}
 use Rattle.cany_model.specs.Promises.Safe.{IsIntegral, IsSafe}
-use Rattle.cany_model.specs.Texts.ScenarioText.{scenario_of}
-use Rattle.cany_model.specs.Texts.TomlKeys.{Read}
+use Rattle.cany_text.specs.ScenarioText.{scenario_of}
+use Rattle.cany_text.specs.TomlKeys.{Read}
 
 -- the words are the one word of the command
 abbrev pub AreReplay : List (List ℕ) → Type 0

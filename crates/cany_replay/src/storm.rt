@@ -2,7 +2,7 @@
 ghost use Rattle.std.specs.Prelude.{◌≡◌, ◌<◌, ◌≤◌, IfOk, length};
 ghost use Rattle.cany_base.specs.Frame.{data_class};
 ghost use Rattle.cany_model.specs.Rules.Messages.{messages_of};
-ghost use Rattle.cany_model.specs.Texts.NodesText.{all_nodes};
+ghost use Rattle.cany_text.specs.NodesText.{all_nodes};
 ghost use Rattle.cany_replay.specs.Storm as storm;
 
 use arrayvec::ArrayVec;

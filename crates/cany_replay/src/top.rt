@@ -6,10 +6,10 @@ ghost use Rattle.cany_io.specs.Sink.{Takes, TakesPrefix};
 ghost use Rattle.cany_io.specs.Source.{IsAtEnd};
 ghost use Rattle.cany_model.specs.Runs.Follow.{journal_of};
 ghost use Rattle.cany_log.specs.Refusals.{refusal_line};
-ghost use Rattle.cany_model.specs.declared.scenario_fault.ScenarioFault.TheVariants.{Memory};
-ghost use Rattle.cany_model.specs.Texts.RefusalLines.{journal_refusal_line};
-ghost use Rattle.cany_model.specs.Texts.Report.{report};
-ghost use Rattle.cany_model.specs.Texts.ScenarioText.{scenario_of};
+ghost use Rattle.cany_text.specs.declared.scenario_fault.ScenarioFault.TheVariants.{Memory};
+ghost use Rattle.cany_text.specs.RefusalLines.{journal_refusal_line};
+ghost use Rattle.cany_text.specs.Report.{report};
+ghost use Rattle.cany_text.specs.ScenarioText.{scenario_of};
 ghost use Rattle.cany_replay.specs.Status.{HasAnswered, HasNoAnswer};
 ghost use Rattle.cany_replay.specs.Top.{AreReplay, IsReplay, KeepsPromises, own_fault, refusal_of, answer_for, answer_of};
 

@@ -5,11 +5,11 @@ use Rattle.std.proofs.lemmas.Bool.Decides.{nat_tests}
 use Rattle.toml.specs.Data.{Data, as_array}
 use Rattle.toml.specs.View.{items_view}
 use Rattle.toml.specs.declared.value.Value.{Value}
-use Rattle.cany_model.specs.declared.scenario_fault.KeyName.{KeyName}
-use Rattle.cany_model.specs.declared.scenario_fault.Position.{Position}
-use Rattle.cany_model.specs.declared.scenario_fault.ScenarioFault.TheVariants.{TooMany}
-use Rattle.cany_model.specs.declared.scenario_fault.TableName.{TableName}
-use Rattle.cany_model.specs.Texts.TomlKeys.{Read, Entry, each_entry, item_count}
+use Rattle.cany_text.specs.declared.scenario_fault.KeyName.{KeyName}
+use Rattle.cany_text.specs.declared.scenario_fault.Position.{Position}
+use Rattle.cany_text.specs.declared.scenario_fault.ScenarioFault.TheVariants.{TooMany}
+use Rattle.cany_text.specs.declared.scenario_fault.TableName.{TableName}
+use Rattle.cany_text.specs.TomlKeys.{Read, Entry, each_entry, item_count}
 use Rattle.cany_scenario.specs.Arrays.{few_items}
 
 -- there are as many items as there are values

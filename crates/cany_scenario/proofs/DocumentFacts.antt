@@ -5,9 +5,9 @@ use Rattle.std.specs.Str.{IsUtf8, is_utf8}
 use Rattle.std.proofs.lemmas.Bool.{cases_Bool}
 use Rattle.std.proofs.lemmas.Str.{is_utf8-from_IsUtf8, IsUtf8-from_is_utf8}
 use Rattle.toml.specs.Parse.{parse_document}
-use Rattle.cany_model.specs.declared.scenario_fault.ScenarioFault.TheVariants.{NotText, NotToml}
-use Rattle.cany_model.specs.Texts.ScenarioText.{document_of}
-use Rattle.cany_model.specs.Texts.TomlKeys.{or_fault}
+use Rattle.cany_text.specs.declared.scenario_fault.ScenarioFault.TheVariants.{NotText, NotToml}
+use Rattle.cany_text.specs.ScenarioText.{document_of}
+use Rattle.cany_text.specs.TomlKeys.{or_fault}
 
 -- of a text the document is that of `toml`
 pub document_of-text : (bytes : List ℕ) → IsUtf8 bytes → document_of bytes ≡ or_fault NotToml (parse_document bytes)

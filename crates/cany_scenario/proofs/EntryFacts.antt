@@ -4,8 +4,8 @@ use Rattle.std.specs.List.{list_all}
 use Rattle.std.specs.Map.{keys_of}
 use Rattle.toml.specs.declared.value.Value.{Value}
 use Rattle.toml.specs.View.{members_view}
-use Rattle.cany_model.specs.declared.scenario_fault.KeyName.{KeyName}
-use Rattle.cany_model.specs.Texts.TomlKeys.{has_only}
+use Rattle.cany_text.specs.declared.scenario_fault.KeyName.{KeyName}
+use Rattle.cany_text.specs.TomlKeys.{has_only}
 use Rattle.cany_scenario.specs.Entries.{is_one_of}
 
 -- each key is one of these

@@ -12,11 +12,11 @@ use Rattle.toml.specs.declared.value.Value.{Value}
 use Rattle.toml.proofs.Views.{items_view-drop}
 use Rattle.cany_base.specs.declared.format.Format.{Format}
 use Rattle.cany_base.specs.declared.step.Step.{Step}
-use Rattle.cany_model.specs.declared.scenario_fault.Position.{Position}
-use Rattle.cany_model.specs.declared.scenario_fault.ScenarioFault.{ScenarioFault}
-use Rattle.cany_model.specs.declared.scenario_fault.ScenarioFault.TheVariants.{BadJournal, WrongKind}
-use Rattle.cany_model.specs.Texts.JournalText.{step_of, steps_from, journal_from}
-use Rattle.cany_model.specs.Texts.TomlKeys.{Read, ◌>>=◌, or_fault, of_kind, each_of}
+use Rattle.cany_text.specs.declared.scenario_fault.Position.{Position}
+use Rattle.cany_text.specs.declared.scenario_fault.ScenarioFault.{ScenarioFault}
+use Rattle.cany_text.specs.declared.scenario_fault.ScenarioFault.TheVariants.{BadJournal, WrongKind}
+use Rattle.cany_text.specs.JournalText.{step_of, steps_from, journal_from}
+use Rattle.cany_text.specs.TomlKeys.{Read, ◌>>=◌, or_fault, of_kind, each_of}
 use Rattle.cany_scenario.specs.JournalParts.{after, are_texts, texts_in_order}
 use Rattle.cany_scenario.proofs.KindsFacts.{each_of-is_some, each_of-none}
 

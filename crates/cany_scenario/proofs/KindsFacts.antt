@@ -8,8 +8,8 @@ use Rattle.toml.specs.Data.{Data, as_integer}
 use Rattle.toml.specs.View.{view, items_view}
 use Rattle.toml.specs.declared.value.Value.{Value}
 use Rattle.toml.proofs.Views.{items_view-drop}
-use Rattle.cany_model.specs.declared.scenario_fault.Position.{Position}
-use Rattle.cany_model.specs.Texts.TomlKeys.{Read, ◌>>=◌, of_kind, number_from, within, all_within, each_of}
+use Rattle.cany_text.specs.declared.scenario_fault.Position.{Position}
+use Rattle.cany_text.specs.TomlKeys.{Read, ◌>>=◌, of_kind, number_from, within, all_within, each_of}
 use Rattle.cany_scenario.specs.NodesParts.{are_integers, in_order}
 
 -- ---- the kinds of all items

@@ -13,10 +13,10 @@ use Rattle.cany_base.specs.Nodes.{Nodes, has, those_where, AllBelow}
 use Rattle.cany_base.specs.Params.{Parameters}
 -- no contract speaks of the words on sets alone, which the definition of a text uses
 use Rattle.cany_base.proofs.NodesFacts.{those_where-ext, same_as_those_where}
-use Rattle.cany_model.specs.declared.scenario_fault.Position.{Position}
-use Rattle.cany_model.specs.declared.scenario_fault.ScenarioFault.TheVariants.{WrongKind}
-use Rattle.cany_model.specs.Texts.NodesText.{set_of, all_nodes, nodes_from}
-use Rattle.cany_model.specs.Texts.TomlKeys.{Read, ◌>>=◌}
+use Rattle.cany_text.specs.declared.scenario_fault.Position.{Position}
+use Rattle.cany_text.specs.declared.scenario_fault.ScenarioFault.TheVariants.{WrongKind}
+use Rattle.cany_text.specs.NodesText.{set_of, all_nodes, nodes_from}
+use Rattle.cany_text.specs.TomlKeys.{Read, ◌>>=◌}
 use Rattle.cany_scenario.specs.NodesParts.{are_integers, each_node}
 use Rattle.cany_scenario.proofs.KindsFacts.{each_of-none, integers_in_order, from_index, from_index-next}
 

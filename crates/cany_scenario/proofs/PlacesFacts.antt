@@ -12,9 +12,9 @@ use Rattle.cany_base.specs.declared.rule.Place.{Place}
 use Rattle.cany_base.specs.declared.rule.Rule.{Rule}
 use Rattle.cany_base.specs.Scenario.{same_place}
 use Rattle.cany_base.proofs.PlaceFacts.{same_place-true, same_place_self}
-use Rattle.cany_model.specs.Texts.FaultsText.{repeats}
-use Rattle.cany_model.proofs.Texts.FaultsTextLegal.{repeats_at}
-use Rattle.cany_model.proofs.Texts.FirstAfter.{holds_at}
+use Rattle.cany_text.specs.FaultsText.{repeats}
+use Rattle.cany_text.proofs.FaultsTextLegal.{repeats_at}
+use Rattle.cany_text.proofs.FirstAfter.{holds_at}
 
 abbrev pub is_equal : Place → Place → Bool
 is_equal = place_eq.eq-value.it

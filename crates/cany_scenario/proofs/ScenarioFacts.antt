@@ -7,15 +7,15 @@ use Rattle.cany_base.specs.declared.message.NodeAsk.{NodeAsk}
 use Rattle.cany_base.specs.declared.message.SendAsk.{SendAsk}
 use Rattle.cany_base.specs.declared.rule.Rule.{Rule}
 use Rattle.cany_base.specs.declared.step.Step.{Step}
-use Rattle.cany_model.specs.declared.scenario_fault.KeyName.TheVariants as key
-use Rattle.cany_model.specs.Texts.AsksText.{joins_of, leaves_of, restarts_of}
-use Rattle.cany_model.specs.Texts.FaultsText.{rules_of}
-use Rattle.cany_model.specs.Texts.JournalText.{journal_of_text}
-use Rattle.cany_model.specs.Texts.NodesText.{all_nodes, nodes_from}
-use Rattle.cany_model.specs.Texts.ParamsText.{params_of}
-use Rattle.cany_model.specs.Texts.ScenarioText.{top_keys, scenario_from}
-use Rattle.cany_model.specs.Texts.SendsText.{sends_of}
-use Rattle.cany_model.specs.Texts.TomlKeys.{Entry, only_keys, optional}
+use Rattle.cany_text.specs.declared.scenario_fault.KeyName.TheVariants as key
+use Rattle.cany_text.specs.AsksText.{joins_of, leaves_of, restarts_of}
+use Rattle.cany_text.specs.FaultsText.{rules_of}
+use Rattle.cany_text.specs.JournalText.{journal_of_text}
+use Rattle.cany_text.specs.NodesText.{all_nodes, nodes_from}
+use Rattle.cany_text.specs.ParamsText.{params_of}
+use Rattle.cany_text.specs.ScenarioText.{top_keys, scenario_from}
+use Rattle.cany_text.specs.SendsText.{sends_of}
+use Rattle.cany_text.specs.TomlKeys.{Entry, only_keys, optional}
 
 -- the parts that were read
 pub scenario_from-parts : (top : Entry) (params : Parameters) (members : Nodes) (sends : List SendAsk) (rules : List Rule) (joins leaves restarts : List NodeAsk)

@@ -1,11 +1,11 @@
 -- An array of tables of the text, part by part.
 use Rattle.std.specs.Prelude.{ℕ, nat_le, List, ◌++◌, Ok}
 use Rattle.toml.specs.Data.{Data, as_array, as_table, Items, no_items}
-use Rattle.cany_model.specs.declared.scenario_fault.KeyName.{KeyName}
-use Rattle.cany_model.specs.declared.scenario_fault.Position.{Position}
-use Rattle.cany_model.specs.declared.scenario_fault.ScenarioFault.TheVariants.{TooMany}
-use Rattle.cany_model.specs.declared.scenario_fault.TableName.{TableName}
-use Rattle.cany_model.specs.Texts.TomlKeys.{Read, ◌>>=◌, Entry, fault_unless, optional, of_kind, item_count}
+use Rattle.cany_text.specs.declared.scenario_fault.KeyName.{KeyName}
+use Rattle.cany_text.specs.declared.scenario_fault.Position.{Position}
+use Rattle.cany_text.specs.declared.scenario_fault.ScenarioFault.TheVariants.{TooMany}
+use Rattle.cany_text.specs.declared.scenario_fault.TableName.{TableName}
+use Rattle.cany_text.specs.TomlKeys.{Read, ◌>>=◌, Entry, fault_unless, optional, of_kind, item_count}
 
 -- an array of so many items at most
 abbrev pub few_items : TableName → ℕ → Position → Data → Read Items

@@ -3,9 +3,9 @@ use Rattle.std.specs.Prelude.{ℕ, Bool, List}
 use Rattle.std.specs.List.{list_any}
 use Rattle.std.specs.Str.{bytes_eq}
 use Rattle.toml.specs.View.{table_view}
-use Rattle.cany_model.specs.declared.scenario_fault.KeyName.{KeyName}
-use Rattle.cany_model.specs.Texts.TextNames.{key_name}
-use Rattle.cany_model.specs.Texts.TomlKeys as toml
+use Rattle.cany_text.specs.declared.scenario_fault.KeyName.{KeyName}
+use Rattle.cany_text.specs.TextNames.{key_name}
+use Rattle.cany_text.specs.TomlKeys as toml
 use Rattle.cany_scenario.specs.declared.entry.Entry.{Entry}
 
 -- the table that it stands for

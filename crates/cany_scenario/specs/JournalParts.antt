@@ -6,9 +6,9 @@ use Rattle.toml.specs.View.{view}
 use Rattle.toml.specs.declared.value.Value.{Value}
 use Rattle.cany_base.specs.declared.format.Format.{Format}
 use Rattle.cany_base.specs.declared.step.Step.{Step}
-use Rattle.cany_model.specs.declared.scenario_fault.Position.{Position}
-use Rattle.cany_model.specs.Texts.JournalText.{steps_from}
-use Rattle.cany_model.specs.Texts.TomlKeys.{Read, ◌>>=◌, of_kind}
+use Rattle.cany_text.specs.declared.scenario_fault.Position.{Position}
+use Rattle.cany_text.specs.JournalText.{steps_from}
+use Rattle.cany_text.specs.TomlKeys.{Read, ◌>>=◌, of_kind}
 
 -- each value is a text
 abbrev pub are_texts : List Value → Bool

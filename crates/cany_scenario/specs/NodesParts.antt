@@ -6,9 +6,9 @@ use Rattle.toml.specs.View.{view}
 use Rattle.toml.specs.declared.value.Value.{Value}
 use Rattle.cany_base.specs.Nodes.{Nodes}
 use Rattle.cany_base.specs.Params.{Parameters}
-use Rattle.cany_model.specs.declared.scenario_fault.Position.{Position}
-use Rattle.cany_model.specs.Texts.NodesText.{set_of}
-use Rattle.cany_model.specs.Texts.TomlKeys.{Read, ◌>>=◌, number_from}
+use Rattle.cany_text.specs.declared.scenario_fault.Position.{Position}
+use Rattle.cany_text.specs.NodesText.{set_of}
+use Rattle.cany_text.specs.TomlKeys.{Read, ◌>>=◌, number_from}
 
 -- each value is an integer
 abbrev pub are_integers : List Value → Bool

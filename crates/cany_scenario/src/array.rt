@@ -6,7 +6,7 @@ ghost use Rattle.cany_scenario.specs.Arrays.{entry_at, items_at};
 ghost use Rattle.cany_scenario.specs.Entries.{entry_of};
 
 use crate::entry::{Entry, wrong_kind};
-use cany_model::{KeyName, Position, ScenarioFault, TableName};
+use cany_text::{KeyName, Position, ScenarioFault, TableName};
 use toml::Value;
 
 /// The items of the array of tables at a key of the top table, at most so many: none where the key is absent.

@@ -2,17 +2,17 @@
 ghost use Rattle.std.specs.Prelude.{◌≡◌, ◌≢◌, ◌-◌, [], count_by, IfOk, IfErr, Ok, Err};
 ghost use Rattle.toml.specs.View.{items_view};
 ghost use Rattle.cany_base.specs.Scenario.{is_ask_of_node};
-ghost use Rattle.cany_model.specs.declared.scenario_fault.KeyName.TheVariants as key;
-ghost use Rattle.cany_model.specs.declared.scenario_fault.ScenarioFault.TheVariants.{Memory};
-ghost use Rattle.cany_model.specs.Texts.AsksText.{ask_from, joins_of, leaves_of, restarts_of, is_one_too_many};
-ghost use Rattle.cany_model.specs.Texts.TomlKeys.{required, number_from, each_entry, entries_of, first_after};
+ghost use Rattle.cany_text.specs.declared.scenario_fault.KeyName.TheVariants as key;
+ghost use Rattle.cany_text.specs.declared.scenario_fault.ScenarioFault.TheVariants.{Memory};
+ghost use Rattle.cany_text.specs.AsksText.{ask_from, joins_of, leaves_of, restarts_of, is_one_too_many};
+ghost use Rattle.cany_text.specs.TomlKeys.{required, number_from, each_entry, entries_of, first_after};
 ghost use Rattle.cany_scenario.specs.Entries.{entry_of};
 
 use crate::array::{entry_at, items_at};
 use crate::entry::Entry;
 use cany_base::limits::{MOST_JOINS, MOST_LEAVES, MOST_RESTARTS, MOST_RESTARTS_OF_NODE};
 use cany_base::{NodeAsk, NodeId, Params};
-use cany_model::{KeyName, ScenarioFault, TableName};
+use cany_text::{KeyName, ScenarioFault, TableName};
 use std::alloc::Global;
 use toml::Value;
 
@@ -58,7 +58,7 @@ pub(crate) fn read_leaves(
 }
 
 /// The restarts that the text lists, in file order, of which no node has too many.
-#[tactic(auto, unfolding(cany_model::specs::Texts::AsksText::restarts_of))]
+#[tactic(auto, unfolding(cany_text::specs::AsksText::restarts_of))]
 pub(crate) fn read_restarts(
     alloc: Global,
     params: &Params,
@@ -115,7 +115,7 @@ fn each_ask(
     Ok(asks)
 }
 
-#[tactic(auto, unfolding(cany_model::specs::Texts::AsksText::ask_from))]
+#[tactic(auto, unfolding(cany_text::specs::AsksText::ask_from))]
 fn ask_from(params: &Params, entry: &Entry) -> Result<NodeAsk, ScenarioFault>
     ensures { result ≡ ask_from params.now (entry_of entry.now) }
 {

@@ -1,10 +1,10 @@
 //! The TOML document of a scenario text.
 ghost use Rattle.std.specs.Prelude.{◌≡◌, ◌≢◌, Ok, Err, IfOk, IfErr};
 ghost use Rattle.toml.specs.View.{table_view};
-ghost use Rattle.cany_model.specs.declared.scenario_fault.ScenarioFault.TheVariants.{Memory};
-ghost use Rattle.cany_model.specs.Texts.ScenarioText.{document_of};
+ghost use Rattle.cany_text.specs.declared.scenario_fault.ScenarioFault.TheVariants.{Memory};
+ghost use Rattle.cany_text.specs.ScenarioText.{document_of};
 
-use cany_model::ScenarioFault;
+use cany_text::ScenarioFault;
 use std::alloc::Global;
 use toml::Table;
 

@@ -3,14 +3,14 @@ ghost use Rattle.std.specs.Prelude.{◌≡◌, ◌≤◌, option_map, Ok, IfOk, 
 ghost use Rattle.std.specs.Result.{result_map_both};
 ghost use Rattle.toml.specs.Data.{get_member};
 ghost use Rattle.toml.specs.View.{view, table_view};
-ghost use Rattle.cany_model.specs.declared.scenario_fault.ScenarioFault.TheVariants.{WrongKind};
-ghost use Rattle.cany_model.specs.Texts.ScenarioText.{top_table};
-ghost use Rattle.cany_model.specs.Texts.TextNames.{key_name};
-ghost use Rattle.cany_model.specs.Texts.TomlKeys.{has_only, only_keys, position_of, required, optional, number_from, within};
+ghost use Rattle.cany_text.specs.declared.scenario_fault.ScenarioFault.TheVariants.{WrongKind};
+ghost use Rattle.cany_text.specs.ScenarioText.{top_table};
+ghost use Rattle.cany_text.specs.TextNames.{key_name};
+ghost use Rattle.cany_text.specs.TomlKeys.{has_only, only_keys, position_of, required, optional, number_from, within};
 ghost use Rattle.cany_scenario.specs.Entries.{entry_of, is_one_of};
 
-use cany_model::names::key_name;
-use cany_model::{KeyName, Position, ScenarioFault, TableName};
+use cany_text::names::key_name;
+use cany_text::{KeyName, Position, ScenarioFault, TableName};
 use toml::{Table, Value};
 
 /// One table of the text: the top table, or an entry of an array of tables at its place, counted from 0.

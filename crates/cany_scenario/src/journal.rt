@@ -1,14 +1,14 @@
 //! The journal of a scenario text.
 ghost use Rattle.std.specs.Prelude.{◌≡◌, ◌≢◌, length, option_map, Ok, Err, IfOk, IfErr};
 ghost use Rattle.toml.specs.View.{view, items_view};
-ghost use Rattle.cany_model.specs.declared.scenario_fault.ScenarioFault.TheVariants.{Memory};
-ghost use Rattle.cany_model.specs.Texts.JournalText.{journal_from, journal_of_text, node_of, step_of, steps_from, turn_in};
+ghost use Rattle.cany_text.specs.declared.scenario_fault.ScenarioFault.TheVariants.{Memory};
+ghost use Rattle.cany_text.specs.JournalText.{journal_from, journal_of_text, node_of, step_of, steps_from, turn_in};
 ghost use Rattle.cany_scenario.specs.Entries.{entry_of};
 ghost use Rattle.cany_scenario.specs.JournalParts.{after, are_texts, texts_in_order};
 
 use crate::entry::{Entry, wrong_kind};
 use cany_base::{Format, NodeId, Step};
-use cany_model::{KeyName, Position, ScenarioFault};
+use cany_text::{KeyName, Position, ScenarioFault};
 use std::alloc::Global;
 use toml::Value;
 
@@ -89,7 +89,7 @@ fn push_steps(format: Format, steps: &mut Vec<Step>, bytes: &[u8]) -> Result<(),
 }
 
 /// The step that a byte writes.
-#[tactic(auto, unfolding(cany_model::specs::Texts::JournalText::step_of))]
+#[tactic(auto, unfolding(cany_text::specs::JournalText::step_of))]
 fn step_of(format: Format, byte: u8) -> Option<Step>
     ensures { result ≡ step_of format byte }
 {

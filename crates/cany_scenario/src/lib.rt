@@ -17,5 +17,5 @@ mod sends;
 #[cfg(test)]
 mod tests;
 
-pub use cany_model::{KeyName, ScenarioFault, TableName};
+pub use cany_text::{KeyName, ScenarioFault, TableName};
 pub use scenario::read_scenario;

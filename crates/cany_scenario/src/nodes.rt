@@ -1,15 +1,15 @@
 //! Sets of nodes in a scenario text.
 ghost use Rattle.std.specs.Prelude.{◌≡◌, []};
 ghost use Rattle.toml.specs.View.{view, items_view};
-ghost use Rattle.cany_model.specs.declared.scenario_fault.KeyName.TheVariants as key;
-ghost use Rattle.cany_model.specs.Texts.NodesText.{all_nodes, nodes_from, set_of};
-ghost use Rattle.cany_model.specs.Texts.TomlKeys.{optional};
+ghost use Rattle.cany_text.specs.declared.scenario_fault.KeyName.TheVariants as key;
+ghost use Rattle.cany_text.specs.NodesText.{all_nodes, nodes_from, set_of};
+ghost use Rattle.cany_text.specs.TomlKeys.{optional};
 ghost use Rattle.cany_scenario.specs.Entries.{entry_of};
 ghost use Rattle.cany_scenario.specs.NodesParts.{are_integers, each_node};
 
 use crate::entry::{Entry, number_from, wrong_kind};
 use cany_base::{NodeId, NodeSet, Params};
-use cany_model::{KeyName, Position, ScenarioFault};
+use cany_text::{KeyName, Position, ScenarioFault};
 use toml::Value;
 
 /// The members of view 0, which the top key `members` lists: every node where the key is absent.
@@ -51,7 +51,7 @@ pub(crate) fn nobody() -> NodeSet
 }
 
 /// The nodes whose numbers an array has. A number may stand twice.
-#[tactic(auto, unfolding(cany_model::specs::Texts::NodesText::nodes_from))]
+#[tactic(auto, unfolding(cany_text::specs::NodesText::nodes_from))]
 fn nodes_from(params: &Params, at: Position, value: &Value) -> Result<NodeSet, ScenarioFault>
     ensures { result ≡ nodes_from params.now at (view value.now) }
 {

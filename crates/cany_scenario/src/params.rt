@@ -3,9 +3,9 @@ ghost use Rattle.std.specs.Prelude.{◌≡◌, ◌≤◌, IfOk};
 ghost use Rattle.toml.specs.View.{view};
 ghost use Rattle.cany_base.specs.Layout.{layout};
 ghost use Rattle.cany_base.specs.Limits.{most_nodes};
-ghost use Rattle.cany_model.specs.declared.scenario_fault.KeyName.TheVariants as key;
-ghost use Rattle.cany_model.specs.Texts.ParamsText.{format_from, given_params, params_of};
-ghost use Rattle.cany_model.specs.Texts.TomlKeys.{number_from, required};
+ghost use Rattle.cany_text.specs.declared.scenario_fault.KeyName.TheVariants as key;
+ghost use Rattle.cany_text.specs.ParamsText.{format_from, given_params, params_of};
+ghost use Rattle.cany_text.specs.TomlKeys.{number_from, required};
 ghost use Rattle.cany_scenario.specs.Entries.{entry_of};
 
 use crate::entry::{Entry, number_from};
@@ -13,11 +13,11 @@ use cany_base::limits::{
     GREATEST_ERRORS, GREATEST_GIVEN, GREATEST_LAG, GREATEST_OMIT, greatest_slots,
 };
 use cany_base::{Format, Params};
-use cany_model::{KeyName, Position, ScenarioFault};
+use cany_text::{KeyName, Position, ScenarioFault};
 use toml::Value;
 
 /// The parameters that the top keys give, which meet the formulas.
-#[tactic(auto, unfolding(cany_model::specs::Texts::ParamsText::params_of))]
+#[tactic(auto, unfolding(cany_text::specs::ParamsText::params_of))]
 pub(crate) fn read_params(top: &Entry) -> Result<Params, ScenarioFault>
     ensures { result ≡ params_of (entry_of top.now) }
 {
@@ -26,7 +26,7 @@ pub(crate) fn read_params(top: &Entry) -> Result<Params, ScenarioFault>
     Ok(params)
 }
 
-#[tactic(auto, unfolding(cany_model::specs::Texts::ParamsText::given_params))]
+#[tactic(auto, unfolding(cany_text::specs::ParamsText::given_params))]
 fn given_params(top: &Entry) -> Result<Params, ScenarioFault>
     ensures { result ≡ given_params (entry_of top.now) }
 {

@@ -2,22 +2,22 @@
 ghost use Rattle.std.specs.Prelude.{◌≡◌};
 ghost use Rattle.toml.specs.View.{view};
 ghost use Rattle.cany_base.specs.declared.rule.Verdict.TheVariants.{Clean};
-ghost use Rattle.cany_model.specs.declared.scenario_fault.KeyName.TheVariants as key;
-ghost use Rattle.cany_model.specs.Texts.FaultsText.{rejected_by, rule_from, verdict_from, verdicts};
-ghost use Rattle.cany_model.specs.Texts.TextNames.{named, verdict_name};
-ghost use Rattle.cany_model.specs.Texts.TomlKeys.{optional};
+ghost use Rattle.cany_text.specs.declared.scenario_fault.KeyName.TheVariants as key;
+ghost use Rattle.cany_text.specs.FaultsText.{rejected_by, rule_from, verdict_from, verdicts};
+ghost use Rattle.cany_text.specs.TextNames.{named, verdict_name};
+ghost use Rattle.cany_text.specs.TomlKeys.{optional};
 ghost use Rattle.cany_scenario.specs.Entries.{entry_of};
 
 use crate::entry::{Entry, wrong_kind};
 use crate::nodes::{nobody, nodes_at};
 use crate::rule_place::place_from;
 use cany_base::{NodeSet, Params, Rule, Verdict};
-use cany_model::names::verdict_name;
-use cany_model::{KeyName, Position, ScenarioFault};
+use cany_text::names::verdict_name;
+use cany_text::{KeyName, Position, ScenarioFault};
 use toml::Value;
 
 /// The rule of an entry.
-#[tactic(auto, unfolding(cany_model::specs::Texts::FaultsText::rule_from))]
+#[tactic(auto, unfolding(cany_text::specs::FaultsText::rule_from))]
 pub(crate) fn rule_from(params: &Params, entry: &Entry) -> Result<Rule, ScenarioFault>
     ensures { result ≡ rule_from params.now (entry_of entry.now) }
 {
@@ -42,7 +42,7 @@ fn read_verdict(entry: &Entry) -> Result<Verdict, ScenarioFault>
     }
 }
 
-#[tactic(auto, unfolding(cany_model::specs::Texts::FaultsText::verdict_from))]
+#[tactic(auto, unfolding(cany_text::specs::FaultsText::verdict_from))]
 fn verdict_from(at: Position, value: &Value) -> Result<Verdict, ScenarioFault>
     ensures { result ≡ verdict_from at (view value.now) }
 {

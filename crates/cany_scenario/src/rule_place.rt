@@ -2,17 +2,17 @@
 ghost use Rattle.std.specs.Prelude.{◌≡◌, ◌-◌};
 ghost use Rattle.toml.specs.View.{view};
 ghost use Rattle.cany_base.specs.Limits.{greatest_attempt, greatest_number};
-ghost use Rattle.cany_model.specs.declared.scenario_fault.KeyName.TheVariants as key;
-ghost use Rattle.cany_model.specs.Texts.FaultsText.{classes, class_from, slot_place_from, frame_place_from, place_from};
-ghost use Rattle.cany_model.specs.Texts.TextNames.{class_name, named};
-ghost use Rattle.cany_model.specs.Texts.TomlKeys.{number_from, required};
+ghost use Rattle.cany_text.specs.declared.scenario_fault.KeyName.TheVariants as key;
+ghost use Rattle.cany_text.specs.FaultsText.{classes, class_from, slot_place_from, frame_place_from, place_from};
+ghost use Rattle.cany_text.specs.TextNames.{class_name, named};
+ghost use Rattle.cany_text.specs.TomlKeys.{number_from, required};
 ghost use Rattle.cany_scenario.specs.Entries.{entry_of};
 
 use crate::entry::{Entry, wrong_kind};
 use cany_base::limits::{greatest_attempt, greatest_number};
 use cany_base::{Class, NodeId, Params, Place};
-use cany_model::names::class_name;
-use cany_model::{KeyName, Position, ScenarioFault};
+use cany_text::names::class_name;
+use cany_text::{KeyName, Position, ScenarioFault};
 use toml::Value;
 
 /// The keys that a rule for a slot can have.
@@ -50,7 +50,7 @@ const CLASSES: [Class; 10] = [
 
 /// Where the rule of an entry acts: at a frame where the entry has the key `class`, whatever that holds, and at a slot
 /// elsewhere.
-#[tactic(auto, unfolding(cany_model::specs::Texts::FaultsText::place_from))]
+#[tactic(auto, unfolding(cany_text::specs::FaultsText::place_from))]
 pub(crate) fn place_from(params: &Params, entry: &Entry) -> Result<Place, ScenarioFault>
     ensures { result ≡ place_from params.now (entry_of entry.now) }
 {
@@ -61,7 +61,7 @@ pub(crate) fn place_from(params: &Params, entry: &Entry) -> Result<Place, Scenar
     }
 }
 
-#[tactic(auto, unfolding(cany_model::specs::Texts::FaultsText::slot_place_from))]
+#[tactic(auto, unfolding(cany_text::specs::FaultsText::slot_place_from))]
 fn slot_place_from(params: &Params, entry: &Entry) -> Result<Place, ScenarioFault>
     ensures { result ≡ slot_place_from params.now (entry_of entry.now) }
 {
@@ -70,7 +70,7 @@ fn slot_place_from(params: &Params, entry: &Entry) -> Result<Place, ScenarioFaul
     Ok(Place::At { slot })
 }
 
-#[tactic(auto, unfolding(cany_model::specs::Texts::FaultsText::frame_place_from))]
+#[tactic(auto, unfolding(cany_text::specs::FaultsText::frame_place_from))]
 fn frame_place_from(params: &Params, entry: &Entry) -> Result<Place, ScenarioFault>
     ensures { result ≡ frame_place_from params.now (entry_of entry.now) }
 {
@@ -123,7 +123,7 @@ fn read_class(entry: &Entry) -> Result<Class, ScenarioFault>
     )
 }
 
-#[tactic(auto, unfolding(cany_model::specs::Texts::FaultsText::class_from))]
+#[tactic(auto, unfolding(cany_text::specs::FaultsText::class_from))]
 fn class_from(at: Position, value: &Value) -> Result<Class, ScenarioFault>
     ensures { result ≡ class_from at (view value.now) }
 {

@@ -1,11 +1,11 @@
 //! The fault rules of a scenario text.
 ghost use Rattle.std.specs.Prelude.{◌≡◌, ◌≢◌, [], IfOk, IfErr, Ok, Err};
 ghost use Rattle.toml.specs.View.{items_view};
-ghost use Rattle.cany_model.specs.declared.scenario_fault.KeyName.TheVariants as key;
-ghost use Rattle.cany_model.specs.declared.scenario_fault.ScenarioFault.TheVariants.{Memory};
-ghost use Rattle.cany_model.specs.declared.scenario_fault.TableName.TheVariants as table;
-ghost use Rattle.cany_model.specs.Texts.FaultsText.{repeats, rule_from, rules_of};
-ghost use Rattle.cany_model.specs.Texts.TomlKeys.{each_entry, first_after};
+ghost use Rattle.cany_text.specs.declared.scenario_fault.KeyName.TheVariants as key;
+ghost use Rattle.cany_text.specs.declared.scenario_fault.ScenarioFault.TheVariants.{Memory};
+ghost use Rattle.cany_text.specs.declared.scenario_fault.TableName.TheVariants as table;
+ghost use Rattle.cany_text.specs.FaultsText.{repeats, rule_from, rules_of};
+ghost use Rattle.cany_text.specs.TomlKeys.{each_entry, first_after};
 ghost use Rattle.cany_scenario.specs.Entries.{entry_of};
 
 use crate::array::{entry_at, items_at};
@@ -13,13 +13,13 @@ use crate::entry::Entry;
 use crate::rule::rule_from;
 use cany_base::limits::MOST_RULES;
 use cany_base::{Params, Place, Rule};
-use cany_model::{KeyName, ScenarioFault, TableName};
+use cany_text::{KeyName, ScenarioFault, TableName};
 use std::alloc::Global;
 use std::collections::HashSet;
 use toml::Value;
 
 /// The rules that the text lists, in file order, of which no two are for one place.
-#[tactic(auto, unfolding(cany_model::specs::Texts::FaultsText::rules_of))]
+#[tactic(auto, unfolding(cany_text::specs::FaultsText::rules_of))]
 pub(crate) fn read_rules(
     alloc: Global,
     params: &Params,

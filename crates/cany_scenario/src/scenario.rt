@@ -1,7 +1,7 @@
 //! The scenario of a whole text.
 ghost use Rattle.std.specs.Prelude.{◌≡◌, ◌≢◌, IfOk, IfErr, Ok, Err};
-ghost use Rattle.cany_model.specs.declared.scenario_fault.ScenarioFault.TheVariants.{Memory};
-ghost use Rattle.cany_model.specs.Texts.ScenarioText.{scenario_from, scenario_of};
+ghost use Rattle.cany_text.specs.declared.scenario_fault.ScenarioFault.TheVariants.{Memory};
+ghost use Rattle.cany_text.specs.ScenarioText.{scenario_from, scenario_of};
 ghost use Rattle.cany_scenario.specs.Entries.{entry_of};
 
 use crate::asks::{read_joins, read_leaves, read_restarts};
@@ -13,7 +13,7 @@ use crate::params::read_params;
 use crate::rules::read_rules;
 use crate::sends::read_sends;
 use cany_base::Scenario;
-use cany_model::{KeyName, ScenarioFault};
+use cany_text::{KeyName, ScenarioFault};
 use std::alloc::Global;
 
 /// The keys that the top table can have.
@@ -43,7 +43,7 @@ const TOP_KEYS: [KeyName; 18] = [
 /// # Errors
 ///
 /// The first fault of the text, or `Memory` for want of memory before that was found.
-#[tactic(auto, unfolding(cany_model::specs::Texts::ScenarioText::scenario_of))]
+#[tactic(auto, unfolding(cany_text::specs::ScenarioText::scenario_of))]
 pub fn read_scenario(alloc: Global, bytes: &[u8]) -> Result<Scenario, ScenarioFault>
     ensures ok { IfOk result (λ scenario. scenario_of bytes.now ≡ Ok scenario) }
     ensures fault { IfErr result (λ fault. fault ≢ Memory → scenario_of bytes.now ≡ Err fault) }
@@ -52,7 +52,7 @@ pub fn read_scenario(alloc: Global, bytes: &[u8]) -> Result<Scenario, ScenarioFa
     scenario_from(alloc, &Entry::top(&members))
 }
 
-#[tactic(auto, unfolding(cany_model::specs::Texts::ScenarioText::scenario_from))]
+#[tactic(auto, unfolding(cany_text::specs::ScenarioText::scenario_from))]
 fn scenario_from(alloc: Global, top: &Entry) -> Result<Scenario, ScenarioFault>
     ensures ok { IfOk result (λ scenario. scenario_from (entry_of top.now) ≡ Ok scenario) }
     ensures fault { IfErr result (λ fault. fault ≢ Memory → scenario_from (entry_of top.now) ≡ Err fault) }

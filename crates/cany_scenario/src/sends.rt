@@ -1,12 +1,12 @@
 //! The scripted sends of a scenario text.
 ghost use Rattle.std.specs.Prelude.{◌≡◌, ◌≢◌, [], IfOk, IfErr, Ok, Err};
 ghost use Rattle.toml.specs.View.{view, items_view};
-ghost use Rattle.cany_model.specs.declared.scenario_fault.KeyName.TheVariants as key;
-ghost use Rattle.cany_model.specs.declared.scenario_fault.ScenarioFault.TheVariants.{Memory};
-ghost use Rattle.cany_model.specs.declared.scenario_fault.TableName.TheVariants as table;
-ghost use Rattle.cany_model.specs.Texts.SendsText.{bytes_of, payload_from, services, service_from, send_from, sends_of};
-ghost use Rattle.cany_model.specs.Texts.TextNames.{named, service_name};
-ghost use Rattle.cany_model.specs.Texts.TomlKeys.{each_entry, optional, required};
+ghost use Rattle.cany_text.specs.declared.scenario_fault.KeyName.TheVariants as key;
+ghost use Rattle.cany_text.specs.declared.scenario_fault.ScenarioFault.TheVariants.{Memory};
+ghost use Rattle.cany_text.specs.declared.scenario_fault.TableName.TheVariants as table;
+ghost use Rattle.cany_text.specs.SendsText.{bytes_of, payload_from, services, service_from, send_from, sends_of};
+ghost use Rattle.cany_text.specs.TextNames.{named, service_name};
+ghost use Rattle.cany_text.specs.TomlKeys.{each_entry, optional, required};
 ghost use Rattle.cany_scenario.specs.Entries.{entry_of};
 
 use crate::array::{entry_at, items_at};
@@ -14,8 +14,8 @@ use crate::asks::node_at;
 use crate::entry::{Entry, wrong_kind};
 use cany_base::limits::MOST_SENDS;
 use cany_base::{Params, Payload, SendAsk, Service};
-use cany_model::names::service_name;
-use cany_model::{KeyName, Position, ScenarioFault, TableName};
+use cany_text::names::service_name;
+use cany_text::{KeyName, Position, ScenarioFault, TableName};
 use std::alloc::Global;
 use toml::Value;
 
@@ -58,7 +58,7 @@ fn each_send(alloc: Global, params: &Params, items: &[Value]) -> Result<Vec<Send
     Ok(sends)
 }
 
-#[tactic(auto, unfolding(cany_model::specs::Texts::SendsText::send_from))]
+#[tactic(auto, unfolding(cany_text::specs::SendsText::send_from))]
 fn send_from(params: &Params, entry: &Entry) -> Result<SendAsk, ScenarioFault>
     ensures { result ≡ send_from params.now (entry_of entry.now) }
 {
@@ -83,7 +83,7 @@ fn service_at(entry: &Entry) -> Result<Service, ScenarioFault>
     service_from(entry.position(KeyName::Service), value)
 }
 
-#[tactic(auto, unfolding(cany_model::specs::Texts::SendsText::service_from))]
+#[tactic(auto, unfolding(cany_text::specs::SendsText::service_from))]
 fn service_from(at: Position, value: &Value) -> Result<Service, ScenarioFault>
     ensures { result ≡ service_from at (view value.now) }
 {
@@ -111,7 +111,7 @@ fn payload_at(entry: &Entry) -> Result<Payload, ScenarioFault>
     }
 }
 
-#[tactic(auto, unfolding(cany_model::specs::Texts::SendsText::payload_from))]
+#[tactic(auto, unfolding(cany_text::specs::SendsText::payload_from))]
 fn payload_from(at: Position, value: &Value) -> Result<Payload, ScenarioFault>
     ensures { result ≡ payload_from at (view value.now) }
 {

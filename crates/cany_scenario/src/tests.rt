@@ -9,7 +9,7 @@ use cany_base::{
     Class, Format, NodeAsk, NodeId, NodeSet, Params, Payload, Place, Rule, Scenario, SendAsk,
     Service, Step, Verdict,
 };
-use cany_model::{KeyName, ScenarioFault, TableName};
+use cany_text::{KeyName, ScenarioFault, TableName};
 use std::alloc::{AllocError, Global};
 
 /// The fault of the text.

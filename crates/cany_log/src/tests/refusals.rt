@@ -2,7 +2,8 @@ use super::{node, sink};
 use crate::{Refusal, write_refusal};
 use cany_base::ParamName;
 use cany_io::{Failed, Sink};
-use cany_model::{FollowFault, KeyName, ScenarioFault, StepReply, TableName};
+use cany_model::{FollowFault, StepReply};
+use cany_text::{KeyName, ScenarioFault, TableName};
 use std::process::Abort;
 use std::test::Fail;
 

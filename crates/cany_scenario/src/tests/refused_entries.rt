@@ -1,5 +1,5 @@
 use crate::tests::{fault_of_many, fault_with, kind, missing, range, unknown};
-use cany_model::{KeyName, ScenarioFault, TableName};
+use cany_text::{KeyName, ScenarioFault, TableName};
 
 /// The keys of an entry of `send` in their order.
 #[test]

@@ -1,6 +1,6 @@
 use crate::tests::{fault_of, fault_with, kind, missing, range, unknown};
 use cany_base::ParamName;
-use cany_model::{KeyName, ScenarioFault, TableName};
+use cany_text::{KeyName, ScenarioFault, TableName};
 
 /// The keys without which there is no text, in their order, each at both ends of its range.
 #[test]

@@ -1,6 +1,6 @@
 use Rattle.std.proofs.Common.{◌≢◌, false, sym, ◌∙◌}
 use Rattle.std.proofs.lemmas.Bool.{false≢true}
-use Rattle.cany_model.specs.declared.scenario_fault.ScenarioFault.TheVariants.{Memory}
+use Rattle.cany_text.specs.declared.scenario_fault.ScenarioFault.TheVariants.{Memory}
 use Rattle.cany_crew.proofs.TopFacts.{no_refusal, refusal_of_fault, refusal_of_journal, refused_by, started_line, started_report}
 use Rattle.cany_crew.proofs.top.run_text.Goals as goal
 

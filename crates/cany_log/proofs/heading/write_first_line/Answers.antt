@@ -1,5 +1,5 @@
 use Rattle.std.proofs.Common.{sym}
-use Rattle.cany_model.specs.Texts.ReportLines.{first_line}
+use Rattle.cany_text.specs.ReportLines.{first_line}
 use Rattle.cany_log.proofs.heading.write_first_line.Goals as goal
 
 pub returns : goal.returns

@@ -1,4 +1,4 @@
-use Rattle.cany_model.specs.Texts.ReportLines.{params_line}
+use Rattle.cany_text.specs.ReportLines.{params_line}
 use Rattle.cany_log.proofs.heading.write_params.Goals as goal
 
 pub returns : goal.returns

@@ -1,4 +1,4 @@
-use Rattle.cany_model.specs.Texts.RefusalLines.{journal_refusal_line}
+use Rattle.cany_text.specs.RefusalLines.{journal_refusal_line}
 use Rattle.cany_log.proofs.journal_refusal.write_refused_step.Goals as goal
 
 pub returns-in-Done : goal.returns-in-Done

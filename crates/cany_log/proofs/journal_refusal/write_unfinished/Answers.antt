@@ -1,8 +1,8 @@
 use Rattle.std.proofs.Common.{◌≡◌, ℕ, [], ◌∷◌, ◌++◌, Option, Some, None, refl}
 use Rattle.std.specs.Prelude.{codes, decimal}
 use Rattle.cany_model.specs.declared.follow.FollowFault.TheVariants.{Unfinished}
-use Rattle.cany_model.specs.Texts.RefusalLines.{journal_refusal_line}
-use Rattle.cany_model.specs.Texts.ReportLines.{line_of}
+use Rattle.cany_text.specs.RefusalLines.{journal_refusal_line}
+use Rattle.cany_text.specs.ReportLines.{line_of}
 use Rattle.cany_log.specs.Fields.{number_if_any}
 use Rattle.cany_log.proofs.journal_refusal.write_unfinished.Goals as goal
 

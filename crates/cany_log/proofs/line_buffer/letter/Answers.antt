@@ -1,6 +1,6 @@
 use Rattle.std.proofs.Common.{ap, ◌∙◌, sym}
 use Rattle.std.specs.Prelude.{slice_index, slice_index_or}
-use Rattle.cany_model.specs.Texts.ReportLines.{step_letter}
+use Rattle.cany_text.specs.ReportLines.{step_letter}
 use Rattle.cany_log.proofs.TableFacts.{letters, turn_letter, turns}
 use Rattle.cany_log.proofs.line_buffer.letter.Goals as goal
 use Rattle.cany_log.proofs.line_buffer.letter.Goals.{in-Slot, in-Turn}

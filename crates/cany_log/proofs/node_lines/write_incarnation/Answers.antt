@@ -2,7 +2,7 @@ use Rattle.std.proofs.Common.{refl}
 use Rattle.std.proofs.lemmas.Result.{err_from_is_err_and}
 use Rattle.cany_model.specs.Runs.Incarnations.{log_of}
 use Rattle.cany_model.specs.Runs.Run.{run}
-use Rattle.cany_model.specs.Texts.ReportLines.{entry_line}
+use Rattle.cany_text.specs.ReportLines.{entry_line}
 use Rattle.cany_log.proofs.ReportFacts.{incarnation_text}
 use Rattle.cany_log.proofs.WrittenFacts.{IsWritten-nothing, IsWritten-then, IsWritten-short, IsWritten-next, IsWritten-cut, IsWritten-all}
 use Rattle.cany_log.proofs.node_lines.write_incarnation.Goals as goal

@@ -1,6 +1,6 @@
 use Rattle.std.proofs.Common.{take, Ok}
 use Rattle.std.specs.List.{flat_map}
-use Rattle.cany_model.specs.Texts.ReportLines.{entry_line}
+use Rattle.cany_text.specs.ReportLines.{entry_line}
 use Rattle.cany_log.specs.Written.{IsWritten}
 use Rattle.cany_log.proofs.node_lines.write_incarnation.Given as goal
 

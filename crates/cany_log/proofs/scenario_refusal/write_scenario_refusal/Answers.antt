@@ -1,4 +1,4 @@
-use Rattle.cany_model.specs.Texts.RefusalLines.{scenario_refusal_line}
+use Rattle.cany_text.specs.RefusalLines.{scenario_refusal_line}
 use Rattle.cany_log.proofs.scenario_refusal.write_scenario_refusal.Goals as goal
 
 pub returns-in-NotText : goal.returns-in-NotText

@@ -1,6 +1,6 @@
 use Rattle.std.proofs.Common.{◌≡◌, ◌≢◌, ◌∙◌, true, sym}
 use Rattle.std.proofs.lemmas.Bool.{false≢true}
-use Rattle.cany_model.specs.declared.scenario_fault.ScenarioFault.TheVariants.{Memory}
+use Rattle.cany_text.specs.declared.scenario_fault.ScenarioFault.TheVariants.{Memory}
 use Rattle.cany_replay.proofs.TopFacts.{reported, not_refused, refused_journal, refused_text, answer_of_scenario, answer_of_other}
 use Rattle.cany_replay.proofs.top.replay_text.Goals as goal
 

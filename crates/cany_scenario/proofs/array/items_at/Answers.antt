@@ -1,7 +1,7 @@
 use Rattle.std.proofs.Common.{◌≡◌, Some, sym, arith, rules}
 use Rattle.toml.specs.Data.{as_array, get_member}
 use Rattle.toml.specs.View.{view, items_view}
-use Rattle.cany_model.specs.Texts.TextNames.{key_name}
+use Rattle.cany_text.specs.TextNames.{key_name}
 use Rattle.cany_scenario.specs.Entries.{entry_of}
 use Rattle.cany_scenario.proofs.ArraysFacts.{few_items-many, few_items-few}
 use Rattle.cany_scenario.proofs.array.items_at.Goals as goal

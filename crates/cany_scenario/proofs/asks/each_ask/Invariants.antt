@@ -1,7 +1,7 @@
 use Rattle.std.proofs.Common.{◌≡◌}
 use Rattle.toml.specs.View.{items_view}
-use Rattle.cany_model.specs.Texts.AsksText.{ask_from}
-use Rattle.cany_model.specs.Texts.TomlKeys.{each_entry}
+use Rattle.cany_text.specs.AsksText.{ask_from}
+use Rattle.cany_text.specs.TomlKeys.{each_entry}
 use Rattle.cany_scenario.specs.Arrays.{after}
 use Rattle.cany_scenario.proofs.ArraysFacts.{from_place}
 use Rattle.cany_scenario.proofs.asks.each_ask.Given as goal

@@ -2,8 +2,8 @@ use Rattle.std.proofs.Common.{◌≡◌, ◌<◌, ℕ, true, false, nat_le, leng
 use Rattle.std.proofs.lemmas.Bool.Decides.{nat_tests}
 use Rattle.cany_base.specs.declared.message.NodeAsk.{NodeAsk}
 use Rattle.cany_base.specs.Limits.{most_restarts_of_node}
-use Rattle.cany_model.specs.Texts.AsksText.{is_one_too_many}
-use Rattle.cany_model.proofs.Texts.FirstAfter.{holds_at, first_after-none, first_after-some}
+use Rattle.cany_text.specs.AsksText.{is_one_too_many}
+use Rattle.cany_text.proofs.FirstAfter.{holds_at, first_after-none, first_after-some}
 use Rattle.cany_scenario.proofs.AsksFacts.{too_many_by_count}
 use Rattle.cany_scenario.proofs.asks.first_too_often.Goals as goal
 

@@ -2,8 +2,8 @@ use Rattle.std.proofs.Common.{◌≡◌, ◌∙◌, Some, None, ap, sym}
 use Rattle.std.proofs.lemmas.Bool.{false≢true}
 use Rattle.toml.specs.Parse.{parse_document}
 use Rattle.toml.specs.View.{table_view}
-use Rattle.cany_model.specs.declared.scenario_fault.ScenarioFault.TheVariants.{NotToml}
-use Rattle.cany_model.specs.Texts.TomlKeys.{or_fault}
+use Rattle.cany_text.specs.declared.scenario_fault.ScenarioFault.TheVariants.{NotToml}
+use Rattle.cany_text.specs.TomlKeys.{or_fault}
 use Rattle.cany_scenario.proofs.DocumentFacts.{document_of-text, document_of-other}
 use Rattle.cany_scenario.proofs.document.read_document.Goals as goal
 

@@ -1,6 +1,6 @@
 use Rattle.std.proofs.Common.{◌≡◌}
 use Rattle.toml.specs.View.{table_view}
-use Rattle.cany_model.specs.Texts.TomlKeys.{has_only}
+use Rattle.cany_text.specs.TomlKeys.{has_only}
 use Rattle.cany_scenario.proofs.EntryFacts.{all_are_among}
 use Rattle.cany_scenario.proofs.entry.has_only.Given as goal
 

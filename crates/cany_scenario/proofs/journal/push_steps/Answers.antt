@@ -1,6 +1,6 @@
 use Rattle.std.proofs.Common.{◌≡◌, ◌∙◌, sym, ap, drop, length, arith}
-use Rattle.cany_model.specs.declared.scenario_fault.ScenarioFault.TheVariants.{BadJournal}
-use Rattle.cany_model.specs.Texts.JournalText.{steps_from}
+use Rattle.cany_text.specs.declared.scenario_fault.ScenarioFault.TheVariants.{BadJournal}
+use Rattle.cany_text.specs.JournalText.{steps_from}
 use Rattle.cany_scenario.specs.JournalParts.{after}
 use Rattle.cany_scenario.proofs.JournalFacts.{failed, bytes_next, bytes_done}
 use Rattle.cany_scenario.proofs.journal.push_steps.Goals as goal

@@ -1,5 +1,5 @@
 use Rattle.std.proofs.Common.{◌≡◌, drop, length}
-use Rattle.cany_model.specs.Texts.JournalText.{steps_from}
+use Rattle.cany_text.specs.JournalText.{steps_from}
 use Rattle.cany_scenario.specs.JournalParts.{after}
 use Rattle.cany_scenario.proofs.journal.push_steps.Given as goal
 

@@ -7,7 +7,7 @@ use Rattle.cany_base.specs.Params.{Parameters}
 use Rattle.cany_base.specs.ParamsFields.{parameters_of}
 -- no law says how many nodes parameters have in any format
 use Rattle.cany_base.proofs.ParamsFacts.{few_nodes}
-use Rattle.cany_model.specs.Texts.TomlKeys.{number_from}
+use Rattle.cany_text.specs.TomlKeys.{number_from}
 use Rattle.cany_scenario.proofs.KindsFacts.{from_index}
 use Rattle.cany_scenario.proofs.NodesFacts.{joined, joined-none, joined-good, joined-all, AllBelow-insert, AllBelow-none}
 use Rattle.cany_scenario.proofs.nodes.each_node.Goals as goal

@@ -2,7 +2,7 @@ use Rattle.std.proofs.Common.{◌≡◌, ◌-◌}
 use Rattle.toml.specs.View.{items_view}
 use Rattle.cany_base.specs.Limits.{most_nodes}
 use Rattle.cany_base.specs.Nodes.{AllBelow}
-use Rattle.cany_model.specs.Texts.TomlKeys.{number_from}
+use Rattle.cany_text.specs.TomlKeys.{number_from}
 use Rattle.cany_scenario.specs.NodesParts.{each_node}
 use Rattle.cany_scenario.proofs.KindsFacts.{from_index}
 use Rattle.cany_scenario.proofs.NodesFacts.{joined}

@@ -1,9 +1,9 @@
 use Rattle.std.proofs.Common.{◌≡◌}
 use Rattle.toml.specs.View.{items_view}
-use Rattle.cany_model.specs.declared.scenario_fault.KeyName.TheVariants as key
-use Rattle.cany_model.specs.declared.scenario_fault.TableName.TheVariants as table
-use Rattle.cany_model.specs.Texts.FaultsText.{rule_from}
-use Rattle.cany_model.specs.Texts.TomlKeys.{each_entry}
+use Rattle.cany_text.specs.declared.scenario_fault.KeyName.TheVariants as key
+use Rattle.cany_text.specs.declared.scenario_fault.TableName.TheVariants as table
+use Rattle.cany_text.specs.FaultsText.{rule_from}
+use Rattle.cany_text.specs.TomlKeys.{each_entry}
 use Rattle.cany_scenario.specs.Arrays.{after}
 use Rattle.cany_scenario.proofs.ArraysFacts.{from_place}
 use Rattle.cany_scenario.proofs.rules.each_rule.Given as goal

@@ -1,8 +1,8 @@
 use Rattle.std.proofs.Common.{◌≡◌, ◌<◌, ℕ, true, false, cond, length, ap, sym, ◌∙◌, below_more, arith}
 use Rattle.std.specs.HashSet.{contains}
 use Rattle.cany_base.specs.declared.rule.Rule.{Rule}
-use Rattle.cany_model.specs.Texts.FaultsText.{repeats}
-use Rattle.cany_model.proofs.Texts.FirstAfter.{holds_at, first_after-none, first_after-some}
+use Rattle.cany_text.specs.FaultsText.{repeats}
+use Rattle.cany_text.proofs.FirstAfter.{holds_at, first_after-none, first_after-some}
 use Rattle.cany_scenario.proofs.PlacesFacts.{is_equal, repeats_by_place, has_place-more, held_before, new_before}
 use Rattle.cany_scenario.proofs.rules.first_repeated.Goals as goal
 

@@ -2,8 +2,8 @@ use Rattle.std.proofs.Common.{◌≡◌, ◌<◌, ℕ, false, take}
 use Rattle.std.specs.HashSet.{contains}
 use Rattle.cany_base.specs.declared.rule.Place.{Place}
 use Rattle.cany_base.specs.declared.rule.Rule.{Rule}
-use Rattle.cany_model.specs.Texts.FaultsText.{repeats}
-use Rattle.cany_model.proofs.Texts.FirstAfter.{holds_at}
+use Rattle.cany_text.specs.FaultsText.{repeats}
+use Rattle.cany_text.proofs.FirstAfter.{holds_at}
 use Rattle.cany_scenario.proofs.PlacesFacts.{is_equal, has_place}
 use Rattle.cany_scenario.proofs.rules.first_repeated.Given as goal
 

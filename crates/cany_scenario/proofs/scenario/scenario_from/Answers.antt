@@ -1,14 +1,14 @@
 use Rattle.std.proofs.Common.{◌≡◌, Global, Vec, rules}
 use Rattle.std.specs.Prelude.{option_map, Ok}
 use Rattle.cany_base.specs.declared.step.Step.{Step}
-use Rattle.cany_model.specs.declared.scenario_fault.KeyName.TheVariants as key
-use Rattle.cany_model.specs.Texts.JournalText.{journal_of_text}
-use Rattle.cany_model.specs.Texts.NodesText.{all_nodes, nodes_from}
-use Rattle.cany_model.specs.Texts.ParamsText.{params_of}
-use Rattle.cany_model.specs.Texts.ScenarioText.{top_keys}
-use Rattle.cany_model.specs.Texts.TomlKeys.{only_keys, optional}
+use Rattle.cany_text.specs.declared.scenario_fault.KeyName.TheVariants as key
+use Rattle.cany_text.specs.JournalText.{journal_of_text}
+use Rattle.cany_text.specs.NodesText.{all_nodes, nodes_from}
+use Rattle.cany_text.specs.ParamsText.{params_of}
+use Rattle.cany_text.specs.ScenarioText.{top_keys}
+use Rattle.cany_text.specs.TomlKeys.{only_keys, optional}
 -- no law says that a text stands for a legal scenario alone
-use Rattle.cany_model.proofs.Texts.ScenarioTextLegal.{scenario_from-legal}
+use Rattle.cany_text.proofs.ScenarioTextLegal.{scenario_from-legal}
 use Rattle.cany_scenario.specs.Entries.{entry_of}
 use Rattle.cany_scenario.proofs.ScenarioFacts.{scenario_from-parts}
 use Rattle.cany_scenario.proofs.scenario.scenario_from.Goals as goal

@@ -1,5 +1,5 @@
 use Rattle.std.proofs.Common.{ap, arith, length, length-append}
-use Rattle.cany_model.specs.Texts.ReportLines.{payload_text}
+use Rattle.cany_text.specs.ReportLines.{payload_text}
 use Rattle.cany_log.proofs.TextFacts.{payload_text_done}
 use Rattle.cany_log.proofs.line_buffer.LineBuffer.put_payload.Goals as goal
 

@@ -1,6 +1,6 @@
 use Rattle.std.proofs.Common.{◌≡◌, ◌+◌, ◌*◌, ◌≤◌, ◌++◌, length, drop}
 use Rattle.std.specs.List.{flat_map}
-use Rattle.cany_model.specs.Texts.ReportLines.{byte_text}
+use Rattle.cany_text.specs.ReportLines.{byte_text}
 use Rattle.cany_log.proofs.line_buffer.LineBuffer.put_payload.Given as goal
 
 abbrev pub invariant-loop-left : goal.invariant-loop-left

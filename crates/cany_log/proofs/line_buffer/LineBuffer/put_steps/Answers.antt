@@ -1,6 +1,6 @@
 use Rattle.std.proofs.Common.{◌∷◌, [], ◌++◌, map, take, ap, ◌∙◌, sym, arith, length-set}
 use Rattle.std.proofs.lemmas.List.{take_more_set, map_more}
-use Rattle.cany_model.specs.Texts.ReportLines.{step_letter}
+use Rattle.cany_text.specs.ReportLines.{step_letter}
 use Rattle.cany_log.proofs.line_buffer.LineBuffer.put_steps.Goals as goal
 
 pub loop-i-preserved : goal.loop-i-preserved

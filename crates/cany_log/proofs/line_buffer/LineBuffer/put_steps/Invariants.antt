@@ -1,5 +1,5 @@
 use Rattle.std.proofs.Common.{◌≡◌, length, map, take}
-use Rattle.cany_model.specs.Texts.ReportLines.{step_letter}
+use Rattle.cany_text.specs.ReportLines.{step_letter}
 use Rattle.cany_log.proofs.line_buffer.LineBuffer.put_steps.Given as goal
 
 abbrev pub invariant-loop-i : goal.invariant-loop-i

@@ -1,0 +1,259 @@
+-- Worked rows of the failure detector, and of members that stop, stay or leave: runs in which what is promised holds, and runs that lack a
+-- premise of it, and in which it does not. What a run comes to is computed in rows of its own: what is promised for every node then
+-- follows without it.
+use Rattle.std.specs.Prelude.{ℕ, ◌+◌, ◌*◌, ◌<◌, ◌≡◌, ◌≢◌, true, false, List, [], ◌∷◌, Some, Err, Contains, refl}
+use Rattle.std.specs.List.{AllByRecursion}
+use Rattle.std.proofs.Common.{ap, arith, ◌∙◌, lit<, lit≤, sym}
+use Rattle.std.proofs.lemmas.Bool.{false≢true}
+use Rattle.std.proofs.lemmas.List.Elements.{All-nil}
+use Rattle.cany_base.specs.declared.log_entry.LogEntry.{LogEntry}
+use Rattle.cany_base.specs.declared.log_entry.LogEntry.TheVariants.{Failed, View}
+use Rattle.cany_base.specs.declared.message.NodeAsk.{NodeAsk}
+use Rattle.cany_base.specs.declared.params.ParamName.TheVariants.{Silence}
+use Rattle.cany_base.specs.declared.rule.Verdict.TheVariants.{Clean}
+use Rattle.cany_base.specs.Nodes.{Nodes, has}
+use Rattle.cany_base.specs.Params.{first_fault}
+use Rattle.cany_base.specs.Scenario.{IsLegalScenario, ScenarioParts}
+use Rattle.cany_base.proofs.NodesFacts.{AllBelow-bits}
+use Rattle.cany_model.specs.Bus.History.{history}
+use Rattle.cany_model.specs.Bus.State.{RunState, node_at, slots_run}
+use Rattle.cany_model.specs.Promises.Detector.{AsksNoLeave, HasNotFailed, IsRemoved, StandsAfter, StaysInViews, members_before}
+use Rattle.cany_model.specs.Promises.Hypothesis.{IsWithin}
+use Rattle.cany_model.specs.Promises.Settled.{IsCorrect}
+use Rattle.cany_model.specs.Rules.Log.{log}
+use Rattle.cany_model.specs.Rules.KnowledgeOf.{knowledge_of}
+use Rattle.cany_model.specs.Rules.Turn.{scenario_at}
+use Rattle.cany_model.proofs.Promises.BreakFacts.{first_break_exact}
+use Rattle.cany_rows.proofs.DetectorWords.{OfView, detector_row, each_correct, of_views, run_of, two, two_is_legal}
+use Rattle.cany_rows.proofs.RowWords.{scenario, set, slot_rule, three}
+use Rattle.cany_rows.proofs.SiteWords.{asks_at, of_members}
+
+-- ---- a member that stops
+
+-- Node 1 stops in slot 1.
+abbrev node_1_stops : ScenarioParts
+node_1_stops = two 96 3 (slot_rule 1 Clean 2 ∷ []) [] []
+
+abbrev stopped_run : RunState
+stopped_run = run_of node_1_stops
+
+stopped_is_legal : IsLegalScenario node_1_stops
+unfolding detector_row
+stopped_is_legal = two_is_legal 96 3 (slot_rule 1 Clean 2 ∷ []) [] [] (lit≤ tt) (lit≤ tt) (lit< tt) (record {
+  rules = (record { place = lit< tt; verdict = tt; stop = AllBelow-bits 2 (set 2) (lit< tt) }, tt);
+  one_rule = lit≤ tt;
+  joins = tt;
+  few_joins = lit≤ tt;
+  leaves = tt;
+  few_leaves = lit≤ tt;
+})
+
+stopped_is_within : IsWithin node_1_stops.params stopped_run.trace
+unfolding detector_row
+stopped_is_within = (first_break_exact node_1_stops.params stopped_run.trace).0 refl
+
+it_stops : (node_at stopped_run.nodes 1).stopped ≡ Some 1
+unfolding detector_row
+it_stops = refl
+
+it_runs_no_more : {P : Type 0} → IsCorrect node_1_stops stopped_run 1 → P
+unfolding detector_row
+it_runs_no_more correct = absurd (false≢true correct.running)
+
+-- Node 0 finds out in the first cycle, after it has started. So node 1 stands in the view of this cycle, and not in that of the next.
+abbrev stopped_entries : List LogEntry
+stopped_entries = Failed 39 1 1 ∷ View 57 1 (set 3) ∷ View 95 2 (set 1) ∷ []
+
+stopped_log : log node_1_stops stopped_run 0 ≡ stopped_entries
+unfolding detector_row
+stopped_log = refl
+
+-- after the turn of slot 1 both are members
+members_after_the_stop :
+    (1 < slots_run stopped_run) × (has (members_before node_1_stops stopped_run (1 + 1) 0) 0 ≡ true)
+    × (has (members_before node_1_stops stopped_run (1 + 1) 0) 1 ≡ true)
+unfolding detector_row
+members_after_the_stop = (lit< tt, refl, refl)
+
+-- so the premise of a removal is met
+it_stops_as_a_member : StandsAfter node_1_stops stopped_run 1 1
+it_stops_as_a_member = record {
+  ran = members_after_the_stop.0;
+  member = each_correct node_1_stops stopped_run (λ i. has (members_before node_1_stops stopped_run (1 + 1) i) 1 ≡ true) refl
+      (λ correct. members_after_the_stop.2) it_runs_no_more;
+}
+
+-- A view of a cycle that starts more than the silence of 39 slots after slot 1 has not node 1: the first cycle starts too early, and the
+-- view of the second has it not.
+abbrev HasNotNode1 : ℕ → Nodes → Type 0
+HasNotNode1 number members = 1 + node_1_stops.params.silence < number * node_1_stops.params.cycle → has members 1 ≡ false
+
+starts_too_early : {P : Type 0} → 40 < 38 → P
+starts_too_early early = absurd (omega (arith, early))
+
+views_after_the_stop : AllByRecursion (OfView HasNotNode1) stopped_entries
+unfolding detector_row
+views_after_the_stop = (tt, (starts_too_early, ((λ late. refl), tt)))
+
+it_is_removed : IsRemoved node_1_stops stopped_run 1 1
+it_is_removed =
+    each_correct node_1_stops stopped_run
+    (λ i. (slot number : ℕ) (members : Nodes) → Contains (log node_1_stops stopped_run i) (View slot number members)
+    → HasNotNode1 number members) refl
+    (λ correct. of_views HasNotNode1 (log node_1_stops stopped_run 0) stopped_entries stopped_log views_after_the_stop)
+    it_runs_no_more
+
+-- and there is such a view
+view_without_it :
+    Contains (log node_1_stops stopped_run 0) (View 95 2 (set 1))
+    × (1 + node_1_stops.params.silence < 2 * node_1_stops.params.cycle) × (has (set 1) 1 ≡ false)
+unfolding detector_row
+view_without_it = ((2, lit< tt, refl), lit< tt, refl)
+
+-- ---- a member that stays: node 0 of that run
+
+abbrev HasNode0 : ℕ → Nodes → Type 0
+HasNode0 number members = 1 < number * node_1_stops.params.cycle + node_1_stops.params.bound → has members 0 ≡ true
+
+views_of_the_other : AllByRecursion (OfView HasNode0) stopped_entries
+unfolding detector_row
+views_of_the_other = (tt, ((λ ends. refl), ((λ ends. refl), tt)))
+
+it_asks_no_leave : AsksNoLeave node_1_stops 0
+unfolding detector_row
+it_asks_no_leave = All-nil (λ (ask : NodeAsk). ask.node ≢ 0)
+
+it_stands_in_the_view : StandsAfter node_1_stops stopped_run 0 1
+it_stands_in_the_view = record {
+  ran = members_after_the_stop.0;
+  member = each_correct node_1_stops stopped_run (λ i. has (members_before node_1_stops stopped_run (1 + 1) i) 0 ≡ true) refl
+      (λ correct. members_after_the_stop.1) it_runs_no_more;
+}
+
+it_stays : StaysInViews node_1_stops stopped_run 0 1
+it_stays =
+    each_correct node_1_stops stopped_run
+    (λ i. (slot number : ℕ) (members : Nodes) → Contains (log node_1_stops stopped_run i) (View slot number members)
+    → HasNode0 number members) refl
+    (λ correct. of_views HasNode0 (log node_1_stops stopped_run 0) stopped_entries stopped_log views_of_the_other)
+    it_runs_no_more
+
+-- of node 0 nobody thinks that it has failed, and of node 1 it does
+failed_at_node_0 : (knowledge_of (scenario_at node_1_stops stopped_run 0) 0 (history 0 stopped_run)).failed ≡ set 2
+unfolding detector_row
+failed_at_node_0 = refl
+
+it_alone_has_failed : (has (set 2) 0 ≡ false) × (has (set 2) 1 ≡ true)
+unfolding detector_row
+it_alone_has_failed = (refl, refl)
+
+node_0_has_not_failed : HasNotFailed node_1_stops stopped_run 0
+node_0_has_not_failed =
+    each_correct node_1_stops stopped_run
+    (λ i. has (knowledge_of (scenario_at node_1_stops stopped_run i) i (history i stopped_run)).failed 0 ≡ false) refl
+    (λ correct. ap (λ (failed : Nodes). has failed 0) failed_at_node_0 ∙ it_alone_has_failed.0) it_runs_no_more
+
+-- ---- a silence that is too short
+
+-- A silence of one slot more than the life: the life signs of three nodes are due in one slot, so that two of them come too late.
+unfoldable hasty : ScenarioParts
+hasty = of_members 7 (scenario (record (three 39 1 2) { silence = 37 }) [] [])
+
+hasty_is_within_but_for_silence :
+    (first_fault hasty.params ≡ Err (record { which = Silence; needed = 73 })) × IsWithin hasty.params (run_of hasty).trace
+unfolding detector_row hasty
+hasty_is_within_but_for_silence = (refl, (first_break_exact hasty.params (run_of hasty).trace).0 refl)
+
+-- node 1 runs
+hasty_node_runs : IsCorrect hasty (run_of hasty) 1
+unfolding detector_row hasty
+hasty_node_runs = record { there = lit< tt; running = refl }
+
+accuracy_needs_the_silence : HasNotFailed hasty (run_of hasty) 1 → ⊥
+unfolding detector_row hasty
+accuracy_needs_the_silence says = false≢true (sym (says 0 (record { there = lit< tt; running = refl })))
+
+-- ---- a node that stops as a joiner
+
+-- Node 1 asks to join, and stops in the slot after that which carries its ask. So cycle 1 admits it, and it counts as alive from the end
+-- of this on: it stands in the view of cycle 2, which starts in slot 76, more than the silence of 39 slots after slot 36.
+abbrev joiner_stops : ScenarioParts
+joiner_stops = two 96 1 (slot_rule 36 Clean 2 ∷ []) (asks_at 34 1 ∷ []) []
+
+joiner_is_legal : IsLegalScenario joiner_stops
+unfolding detector_row
+joiner_is_legal = two_is_legal 96 1 (slot_rule 36 Clean 2 ∷ []) (asks_at 34 1 ∷ []) [] (lit≤ tt) (lit≤ tt) (lit< tt) (record {
+  rules = (record { place = lit< tt; verdict = tt; stop = AllBelow-bits 2 (set 2) (lit< tt) }, tt);
+  one_rule = lit≤ tt;
+  joins = ((lit< tt, lit< tt), tt);
+  few_joins = lit≤ tt;
+  leaves = tt;
+  few_leaves = lit≤ tt;
+})
+
+joiner_is_within : IsWithin joiner_stops.params (run_of joiner_stops).trace
+unfolding detector_row
+joiner_is_within = (first_break_exact joiner_stops.params (run_of joiner_stops).trace).0 refl
+
+joiner_stops_in_slot_36 : (node_at (run_of joiner_stops).nodes 1).stopped ≡ Some 36
+unfolding detector_row
+joiner_stops_in_slot_36 = refl
+
+joiner_is_no_member : StandsAfter joiner_stops (run_of joiner_stops) 1 36 → ⊥
+unfolding detector_row
+joiner_is_no_member stands = false≢true (stands.member 0 (record { there = lit< tt; running = refl }))
+
+joiner_log : log joiner_stops (run_of joiner_stops) 0 ≡ View 57 1 (set 3) ∷ View 95 2 (set 3) ∷ []
+unfolding detector_row
+joiner_log = refl
+
+removal_needs_a_member : IsRemoved joiner_stops (run_of joiner_stops) 1 36 → ⊥
+unfolding detector_row
+removal_needs_a_member removed =
+    false≢true (sym (removed 0 (record { there = lit< tt; running = refl }) 95 2 (set 3) (1, lit< tt, refl) (lit< tt)))
+
+-- ---- a member that leaves
+
+-- Node 1 asks in slot 10 to leave, and runs on. It stands in the view until the end of cycle 1 in slot 57, and not in that of this cycle.
+abbrev node_1_leaves : ScenarioParts
+node_1_leaves = two 58 3 [] [] (asks_at 10 1 ∷ [])
+
+abbrev left_run : RunState
+left_run = run_of node_1_leaves
+
+leaver_is_legal : IsLegalScenario node_1_leaves
+unfolding detector_row
+leaver_is_legal = two_is_legal 58 3 [] [] (asks_at 10 1 ∷ []) (lit≤ tt) (lit≤ tt) (lit< tt) (record {
+  rules = tt;
+  one_rule = lit≤ tt;
+  joins = tt;
+  few_joins = lit≤ tt;
+  leaves = ((lit< tt, lit< tt), tt);
+  few_leaves = lit≤ tt;
+})
+
+leaver_is_within : IsWithin node_1_leaves.params left_run.trace
+unfolding detector_row
+leaver_is_within = (first_break_exact node_1_leaves.params left_run.trace).0 refl
+
+leaver_runs : IsCorrect node_1_leaves left_run 1
+unfolding detector_row
+leaver_runs = record { there = lit< tt; running = refl }
+
+members_before_the_end :
+    (56 < slots_run left_run) × (has (members_before node_1_leaves left_run (56 + 1) 0) 1 ≡ true)
+    × (has (members_before node_1_leaves left_run (56 + 1) 1) 1 ≡ true)
+unfolding detector_row
+members_before_the_end = (lit< tt, refl, refl)
+
+leaver_stands_in_the_view : StandsAfter node_1_leaves left_run 1 56
+leaver_stands_in_the_view = record {
+  ran = members_before_the_end.0;
+  member = each_correct node_1_leaves left_run (λ i. has (members_before node_1_leaves left_run (56 + 1) i) 1 ≡ true) refl
+      (λ correct. members_before_the_end.1) (λ correct. members_before_the_end.2);
+}
+
+staying_needs_no_leave : StaysInViews node_1_leaves left_run 1 56 → ⊥
+unfolding detector_row
+staying_needs_no_leave stays =
+    false≢true (stays 0 (record { there = lit< tt; running = refl }) 57 1 (set 1) (0, lit< tt, refl) (lit< tt))
