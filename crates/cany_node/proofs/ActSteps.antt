@@ -25,7 +25,7 @@ use Rattle.cany_node.specs.Agenda.{IsAgendaOf}
 use Rattle.cany_node.specs.Apply.{AreAskable, AreDone, CanApply, NamesAskable, all_told, asks_sign, is_sign}
 use Rattle.cany_node.specs.Asks.{AreAsksOf}
 use Rattle.cany_node.specs.Node.{NodeParts, IsNodeOf}
-use Rattle.cany_node.specs.Site.{IsNextOf}
+use Rattle.cany_node.specs.Membership.{IsNextOf}
 use Rattle.cany_node.specs.Telling.{AreTold}
 use Rattle.cany_node.specs.Turning.{CanScript, HasHeard, HasScripted, heard_effects, plain_effects, script_effects}
 use Rattle.cany_node.proofs.Askable.{turn_names}
@@ -42,7 +42,7 @@ pub record IsSame (v w : NodeParts) : Type 0 where
   pub log : w.log ≡ v.log
   pub room : w.room ≡ v.room
 
-pub same_after : (v u w : NodeParts) → u ≡ record v { edcan = u.edcan; relcan = u.relcan; totcan = u.totcan; site = u.site }
+pub same_after : (v u w : NodeParts) → u ≡ record v { edcan = u.edcan; relcan = u.relcan; totcan = u.totcan; membership = u.membership }
     → w ≡ record u { edcan = w.edcan; relcan = w.relcan; totcan = w.totcan; agenda = w.agenda; joins = w.joins; leaves = w.leaves } → IsSame v w
 same_after v u w one two = record {
   node = ap (λ (x : NodeParts). x.node) two ∙ ap (λ (x : NodeParts). x.node) one;
@@ -113,7 +113,7 @@ module _ (scenario : ScenarioParts) (past : List NoticeKind) (notice : Notice) (
 
   names : AllByRecursion (NamesAskable scenario v.node) effects
   names =
-      turn_names scenario read stands.legal (readable, stands.readable) (omega (arith, next.next.slot, next.next.within)) v.node stands.site.history.place
+      turn_names scenario read stands.legal (readable, stands.readable) (omega (arith, next.next.slot, next.next.within)) v.node stands.membership.history.place
       (omega (arith, next.few, next.next.within))
 
   plain_names : AllByRecursion (NamesAskable scenario v.node) plain
@@ -206,7 +206,7 @@ module _ (scenario : ScenarioParts) (past : List NoticeKind) (notice : Notice) (
         edcan = scripted.edcan;
         relcan = scripted.relcan;
         totcan = subst (λ i. IsTotcanOf scenario i read (backlog scenario w.node read) (asked scenario w.node read) t) scripted.totcan.limits.node asks;
-        site = scripted.site;
+        membership = scripted.membership;
         agenda = subst (λ n. IsAgendaOf scenario w.node n w.agenda) more scripted.agenda;
         joins = subst (λ n. AreAsksOf scenario w.node n scenario.joins w.joins) more scripted.joins;
         leaves = subst (λ n. AreAsksOf scenario w.node n scenario.leaves w.leaves) more scripted.leaves;

@@ -25,11 +25,11 @@ use Rattle.cany_totcan.proofs.FollowedFacts.{totcan_for}
 use Rattle.cany_node.specs.Agenda.{AgendaParts, ArePassed, IsAgendaOf, IsPlanOf, IsRising, is_due, message_from}
 use Rattle.cany_node.specs.Asks.{AreAsksPassed}
 use Rattle.cany_node.specs.Node.{AreReadable, IsNodeOf, IsWaiting, NodeParts}
-use Rattle.cany_node.specs.Site.{SiteParts}
+use Rattle.cany_node.specs.Membership.{MembershipParts}
 use Rattle.cany_node.proofs.AgendaFacts.{rising-earlier}
 use Rattle.cany_node.proofs.AskFacts.{passed_asks, whole_asks}
 use Rattle.cany_node.proofs.SendFacts.{none_for}
-use Rattle.cany_node.proofs.SiteBeginning.{IsOutside, site_begins, site_opens}
+use Rattle.cany_node.proofs.MembershipBeginning.{IsOutside, site_begins, site_opens}
 
 -- from the first slot on whose scripted asks are made, all are
 all_sendable : (scenario : ScenarioParts) (s : ℕ) → scenario.from ≤ s → sendable scenario s ≡ messages_of scenario.sends
@@ -60,7 +60,7 @@ opens scenario v waits first original inc from read = record {
   edcan = waits.edcan 0;
   relcan = waits.relcan 0;
   totcan = waits.totcan 0;
-  site = site_opens scenario v.node v.site waits.site;
+  membership = site_opens scenario v.node v.membership waits.membership;
   agenda = whole_agenda scenario v.node v.agenda first waits.agenda;
   joins = whole_asks scenario v.node scenario.joins v.joins first waits.joins;
   leaves = whole_asks scenario v.node scenario.leaves v.leaves first waits.leaves;
@@ -139,9 +139,9 @@ inc_later scenario inc later = rw (ne_eqb inc.number 0 (λ e. omega (arith, e, l
 
 -- It takes part from this slot and this cycle on, as a node that is at first no member, and what its script has of earlier slots is
 -- passed over.
-pub record Begins (restart from cycle : ℕ) (site : SiteParts) (old new : NodeParts) : Type 0 where
+pub record Begins (restart from cycle : ℕ) (membership : MembershipParts) (old new : NodeParts) : Type 0 where
   pub first : from ≡ restart + 1 + (old.params.bound + old.params.lag)
-  pub outside : IsOutside old.site site
+  pub outside : IsOutside old.membership membership
   pub passed : ℕ
   pub before : passed ≡ from
   pub agenda : ArePassed passed old.agenda new.agenda
@@ -151,18 +151,18 @@ pub record Begins (restart from cycle : ℕ) (site : SiteParts) (old new : NodeP
     from = from;
     cycle = cycle;
     read = restart + 1;
-    site = site;
+    membership = membership;
     agenda = new.agenda;
     joins = new.joins;
     leaves = new.leaves;
   }
 
 -- it has heard nothing in the slots so far
-pub begins : (scenario : ScenarioParts) (inc : Incarnation) (restart from cycle : ℕ) (site : SiteParts) (old new : NodeParts)
+pub begins : (scenario : ScenarioParts) (inc : Incarnation) (restart from cycle : ℕ) (membership : MembershipParts) (old new : NodeParts)
     → IsWaiting scenario old → 0 < inc.number → inc.number ≡ old.inc
-    → inc.from ≡ restart + 1 + (scenario.params.bound + scenario.params.lag) → Begins restart from cycle site old new
+    → inc.from ≡ restart + 1 + (scenario.params.bound + scenario.params.lag) → Begins restart from cycle membership old new
     → IsNodeOf (scenario_for scenario inc) (replicate (restart + 1) Idle) new
-begins scenario inc restart from cycle site old new waits later number starts does =
+begins scenario inc restart from cycle membership old new waits later number starts does =
     subst (IsNodeOf followed past) (sym does.state) (record {
       legal = edcan.legal;
       inc = sym number ∙ sym (inc_later scenario inc later);
@@ -177,7 +177,7 @@ begins scenario inc restart from cycle site old new waits later number starts do
           (sym (backlog_muted followed old.node past begun))
           (subst (λ n. IsTotcanOf followed old.node past [] n old.totcan) (sym (asked_muted followed old.node past begun))
           (totcan_for scenario inc old.node past [] 0 old.totcan (waits.totcan (restart + 1))));
-      site = site_begins scenario inc old.node (restart + 1) old.site site waits.site does.outside edcan.legal outside begun;
+      membership = site_begins scenario inc old.node (restart + 1) old.membership membership waits.membership does.outside edcan.legal outside begun;
       agenda = passed_agenda followed old.node (length past) old.agenda new.agenda (plan_for scenario inc old.node old.agenda waits.agenda)
           (subst (λ n. ArePassed n old.agenda new.agenda) (does.before ∙ at) does.agenda) begun.early;
       joins = passed_asks followed old.node (length past) scenario.joins old.joins new.joins waits.joins

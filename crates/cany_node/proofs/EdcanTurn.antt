@@ -25,12 +25,12 @@ use Rattle.cany_node.specs.Apply.{all_told}
 use Rattle.cany_node.specs.Asks.{AreAsksOf}
 use Rattle.cany_node.specs.Node.{IsNodeOf, NodeParts}
 use Rattle.cany_node.specs.Resting.{Rests, is_of_edcan}
-use Rattle.cany_node.specs.Site.{is_of_site, site_effects}
+use Rattle.cany_node.specs.Membership.{is_of_site, membership_effects}
 use Rattle.cany_node.specs.Turning.{HasScripted, asks_plain, heard_effects, plain_effects, script_effects}
 use Rattle.cany_node.proofs.ActSteps.{IsSame}
 use Rattle.cany_node.proofs.EdcanFrames.{IsEdcanOnly, edcan_only, relcan_same, relcan_unheard}
 use Rattle.cany_node.proofs.EdcanPlaces.{next_same, totcan_same, totcan_unheard}
-use Rattle.cany_node.proofs.SiteRest.{both_none}
+use Rattle.cany_node.proofs.MembershipRest.{both_none}
 use Rattle.cany_node.proofs.ToldFacts.{turn_told}
 use Rattle.cany_node.proofs.Unheard.{IsUnheard, site_same, site_unheard, knowledge_same, unheard}
 
@@ -80,10 +80,10 @@ module _ (scenario : ScenarioParts) (past : List NoticeKind) (e : NoticeKind) (i
   idle_plain : plain_effects scenario i idle ≡ []
   idle_plain = none_told scenario.inc (plain_effects scenario i idle) (turn_told scenario i Idle past ∙ rests.effects)
 
-  idle_heard : relcan_effects scenario i idle ++ (totcan_effects scenario i idle ++ site_effects scenario i idle) ≡ []
+  idle_heard : relcan_effects scenario i idle ++ (totcan_effects scenario i idle ++ membership_effects scenario i idle) ≡ []
   idle_heard = none_right (edcan_effects scenario i idle) _ (none_left (heard_effects scenario i idle) _ idle_plain)
 
-  idle_later : totcan_effects scenario i idle ++ site_effects scenario i idle ≡ []
+  idle_later : totcan_effects scenario i idle ++ membership_effects scenario i idle ≡ []
   idle_later = none_right (relcan_effects scenario i idle) _ idle_heard
 
   idle_after : script_effects scenario i idle ++ backlog_effects scenario i idle ≡ []
@@ -116,11 +116,11 @@ module _ (scenario : ScenarioParts) (past : List NoticeKind) (e : NoticeKind) (i
   unfolding backlog_effects
   backlog_none = ap ask_for none_next
 
-  others_none : relcan_effects scenario i read ++ (totcan_effects scenario i read ++ site_effects scenario i read) ≡ []
+  others_none : relcan_effects scenario i read ++ (totcan_effects scenario i read ++ membership_effects scenario i read) ≡ []
   others_none =
       both_none (relcan_effects scenario i read) _
       (relcan_same e only past scenario i ∙ none_left (relcan_effects scenario i idle) _ idle_heard)
-      (both_none (totcan_effects scenario i read) (site_effects scenario i read)
+      (both_none (totcan_effects scenario i read) (membership_effects scenario i read)
       (totcan_same e only past scenario i ∙ none_left (totcan_effects scenario i idle) _ idle_later)
       (site_same scenario i past e (untold e is) ∙ none_right (totcan_effects scenario i idle) _ idle_later))
 
@@ -167,7 +167,7 @@ module _ (scenario : ScenarioParts) (past : List NoticeKind) (e : NoticeKind) (i
     edcan = subst (λ n. IsEdcanOf scenario n read edcan) stands.edcan.node heard;
     relcan = relcan_unheard e only past scenario i v.relcan rests.stands.relcan;
     totcan = totcan_stands;
-    site = site_unheard scenario i past e (untold e is) v.site rests.stands.site;
+    membership = site_unheard scenario i past e (untold e is) v.membership rests.stands.membership;
     agenda = subst (λ n. IsAgendaOf scenario i n v.agenda) one_more_read rests.stands.agenda;
     joins = subst (λ n. AreAsksOf scenario i n scenario.joins v.joins) one_more_read rests.stands.joins;
     leaves = subst (λ n. AreAsksOf scenario i n scenario.leaves v.leaves) one_more_read rests.stands.leaves;

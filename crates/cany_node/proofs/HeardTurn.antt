@@ -16,7 +16,7 @@ use Rattle.cany_edcan.specs.Edcan.{EdcanParts, IsEdcanOf}
 use Rattle.cany_relcan.specs.Relcan.{IsRelcanOf, RelcanParts}
 use Rattle.cany_totcan.specs.Totcan.{IsTotcanOf, TotcanParts}
 use Rattle.cany_node.specs.Node.{IsNodeOf, NodeParts}
-use Rattle.cany_node.specs.Site.{IsSiteOf, SiteParts, site_effects}
+use Rattle.cany_node.specs.Membership.{IsMembershipOf, MembershipParts, membership_effects}
 use Rattle.cany_node.specs.Turning.{HasHeard, heard_effects}
 
 -- what is listed after this
@@ -56,17 +56,17 @@ module _ (scenario : ScenarioParts) (past : List NoticeKind) (notice : Notice) (
   pub totcan_stands : IsTotcanOf scenario v.totcan.node past messages count v.totcan
   totcan_stands = subst (λ i. IsTotcanOf scenario i past messages count v.totcan) (sym stands.totcan.limits.node) stands.totcan
 
-  pub heard_listed : (out ed rel tot site : List Action)
+  pub heard_listed : (out ed rel tot membership : List Action)
       → ed ≡ out ++ actions_of scenario.params.format (edcan_effects scenario v.edcan.node heard)
       → rel ≡ ed ++ actions_of scenario.params.format (relcan_effects scenario v.relcan.node heard)
       → tot ≡ rel ++ actions_of scenario.params.format (totcan_effects scenario v.totcan.node heard)
-      → site ≡ tot ++ actions_of scenario.params.format (site_effects scenario v.node heard)
-      → site ≡ out ++ actions_of scenario.params.format (heard_effects scenario v.node heard)
-  heard_listed out ed rel tot site one two three four =
+      → membership ≡ tot ++ actions_of scenario.params.format (membership_effects scenario v.node heard)
+      → membership ≡ out ++ actions_of scenario.params.format (heard_effects scenario v.node heard)
+  heard_listed out ed rel tot membership one two three four =
       let a : List Effect = edcan_effects scenario v.node heard in
       let b : List Effect = relcan_effects scenario v.node heard in
       let c : List Effect = totcan_effects scenario v.node heard in
-      let d : List Effect = site_effects scenario v.node heard in
+      let d : List Effect = membership_effects scenario v.node heard in
       let ed_is : ed ≡ out ++ actions_of scenario.params.format a =
       one ∙ ap (λ i. out ++ actions_of scenario.params.format (edcan_effects scenario i heard)) stands.edcan.node in
       let rel_is : rel ≡ ed ++ actions_of scenario.params.format b =
@@ -75,17 +75,17 @@ module _ (scenario : ScenarioParts) (past : List NoticeKind) (notice : Notice) (
       three ∙ ap (λ i. rel ++ actions_of scenario.params.format (totcan_effects scenario i heard)) stands.totcan.limits.node in
       four ∙ listed_more scenario rel tot c d tot_is ∙ listed_more scenario ed rel b (c ++ d) rel_is ∙ listed_more scenario out ed a (b ++ (c ++ d)) ed_is
 
-  pub has_heard : (edcan : EdcanParts) (relcan : RelcanParts) (totcan : TotcanParts) (site : SiteParts)
+  pub has_heard : (edcan : EdcanParts) (relcan : RelcanParts) (totcan : TotcanParts) (membership : MembershipParts)
       → IsEdcanOf scenario v.edcan.node heard edcan → IsRelcanOf scenario v.relcan.node heard relcan
-      → IsTotcanOf scenario v.totcan.node heard messages count totcan → IsSiteOf scenario v.node heard site
-      → HasHeard scenario past notice.kind (record v { edcan = edcan; relcan = relcan; totcan = totcan; site = site })
-  has_heard edcan relcan totcan site ed rel tot knows =
+      → IsTotcanOf scenario v.totcan.node heard messages count totcan → IsMembershipOf scenario v.node heard membership
+      → HasHeard scenario past notice.kind (record v { edcan = edcan; relcan = relcan; totcan = totcan; membership = membership })
+  has_heard edcan relcan totcan membership ed rel tot knows =
       let same = same_room scenario v.totcan.node v.totcan.node past heard messages count count v.totcan totcan refl totcan_stands tot in
       record {
         edcan = subst (λ i. IsEdcanOf scenario i heard edcan) stands.edcan.node ed;
         relcan = subst (λ i. IsRelcanOf scenario i heard relcan) stands.relcan.limits.node rel;
         totcan = subst (λ i. IsTotcanOf scenario i heard messages count totcan) stands.totcan.limits.node tot;
-        site = knows;
+        membership = knows;
         agenda = stands.agenda;
         joins = stands.joins;
         leaves = stands.leaves;

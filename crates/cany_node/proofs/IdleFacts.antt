@@ -13,7 +13,7 @@ pub idle_never : (v : NodeParts) → IsIdleUntil 0 v
 idle_never v = record {
   relcan = λ scenario past is before. absurd (omega (arith, before));
   totcan = λ scenario past messages count is before. absurd (omega (arith, before));
-  site = λ scenario i past is later before within. absurd (omega (arith, before));
+  membership = λ scenario i past is later before within. absurd (omega (arith, before));
   sends = λ n before. absurd (omega (arith, before));
   joins = λ n before. absurd (omega (arith, before));
   leaves = λ n before. absurd (omega (arith, before));
@@ -31,7 +31,7 @@ idle_rests idle_until v is ed = λ scenario past h later early within.
     (ed scenario past (edcan_now scenario past _ kept))
     (is.relcan scenario past (relcan_now scenario past _ kept) early)
     (is.totcan scenario past _ _ (totcan_now scenario past _ kept) early)
-    (is.site scenario _ past kept.site later early within)
+    (is.membership scenario _ past kept.membership later early within)
     (is.sends (length past) early h.agenda.rising)
     (is.joins (length past) early h.joins.rising)
     (is.leaves (length past) early h.leaves.rising) in
@@ -43,7 +43,7 @@ pub idle_later : (idle_until read room : ℕ) (e : EdcanParts) (log : List LogEn
 idle_later idle_until read room e log v is more = record {
   relcan = is.relcan;
   totcan = is.totcan;
-  site = λ scenario i past h later early within. is.site scenario i past h (omega (arith, more, later)) early within;
+  membership = λ scenario i past h later early within. is.membership scenario i past h (omega (arith, more, later)) early within;
   sends = is.sends;
   joins = is.joins;
   leaves = is.leaves;

@@ -28,13 +28,13 @@ use Rattle.cany_node.specs.Agenda.{AgendaParts, IsAgendaOf, IsRising, is_for, me
 use Rattle.cany_node.specs.Apply.{all_told}
 use Rattle.cany_node.specs.Asks.{AreAsksOf, IsRisingFrom, slot_of}
 use Rattle.cany_node.specs.Node.{NodeParts, IsNodeOf}
-use Rattle.cany_node.specs.Resting.{Rests, SiteRests}
-use Rattle.cany_node.specs.Site.{site_effects}
+use Rattle.cany_node.specs.Resting.{Rests, MembershipRests}
+use Rattle.cany_node.specs.Membership.{membership_effects}
 use Rattle.cany_node.specs.Turning.{asks_plain, heard_effects, plain_effects, script_effects}
 use Rattle.cany_node.proofs.AskFacts.{none_at}
 use Rattle.cany_node.proofs.GiveFacts.{none_joined}
 use Rattle.cany_node.proofs.SendFacts.{asks-from_slot, none_asked, none_for}
-use Rattle.cany_node.proofs.SiteRest.{both_none}
+use Rattle.cany_node.proofs.MembershipRest.{both_none}
 use Rattle.cany_node.proofs.ToldFacts.{turn_told}
 
 -- ---- a slot for which nothing is scripted
@@ -100,7 +100,7 @@ module _ (scenario : ScenarioParts) (past : List NoticeKind) (v : NodeParts) (h 
   module _ (ed : edcan.Rests scenario v.edcan.node past v.edcan)
       (rel : relcan.Rests scenario v.relcan.node past v.relcan)
       (tot : totcan.Rests scenario v.totcan.node past (backlog scenario v.node past) (asked scenario v.node past) v.totcan)
-      (site : SiteRests scenario v.node past v.site) (sends : IsRising (length past + 1) v.agenda.left)
+      (membership : MembershipRests scenario v.node past v.membership) (sends : IsRising (length past + 1) v.agenda.left)
       (joins : IsRisingFrom (length past + 1) v.joins) (leaves : IsRisingFrom (length past + 1) v.leaves) where
     tot_rests : totcan.Rests scenario i past messages count v.totcan
     tot_rests = subst (λ n. totcan.Rests scenario n past messages count v.totcan) h.totcan.limits.node tot
@@ -128,7 +128,7 @@ module _ (scenario : ScenarioParts) (past : List NoticeKind) (v : NodeParts) (h 
     no_heard =
         both_none (edcan_effects scenario i idle) _ (subst (λ n. edcan_effects scenario n idle ≡ []) h.edcan.node ed.effects)
         (both_none (relcan_effects scenario i idle) _ (subst (λ n. relcan_effects scenario n idle ≡ []) h.relcan.limits.node rel.effects)
-        (both_none (totcan_effects scenario i idle) (site_effects scenario i idle) tot_rests.effects site.effects))
+        (both_none (totcan_effects scenario i idle) (membership_effects scenario i idle) tot_rests.effects membership.effects))
 
     no_sends : send_effects scenario i idle ≡ []
     unfolding send_effects
@@ -177,7 +177,7 @@ module _ (scenario : ScenarioParts) (past : List NoticeKind) (v : NodeParts) (h 
       edcan = subst (λ n. IsEdcanOf scenario n idle v.edcan) h.edcan.node ed.stands;
       relcan = subst (λ n. IsRelcanOf scenario n idle v.relcan) h.relcan.limits.node rel.stands;
       totcan = still_totcan;
-      site = site.stands;
+      membership = membership.stands;
       agenda = subst (λ n. IsAgendaOf scenario i n v.agenda) one_more_read (agenda_later scenario i (length past) v.agenda h.agenda sends);
       joins = subst (λ n. AreAsksOf scenario i n scenario.joins v.joins) one_more_read
           (asks_later scenario i (length past) scenario.joins v.joins h.joins joins);

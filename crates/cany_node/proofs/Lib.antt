@@ -21,10 +21,10 @@ pub mod IdleFacts
 pub mod RestFacts
 pub mod ScriptSteps
 pub mod SendFacts
-pub mod SiteBeginning
-pub mod SiteFacts
-pub mod SiteRest
-pub mod SiteSteps
+pub mod MembershipBeginning
+pub mod MembershipFacts
+pub mod MembershipRest
+pub mod MembershipSteps
 pub mod TellingFacts
 pub mod ToldFacts
 pub mod Unheard

@@ -8,7 +8,7 @@ use Rattle.cany_base.specs.Scenario.{ScenarioParts}
 use Rattle.cany_model.specs.Rules.Turn.{turn_effects}
 use Rattle.cany_node.specs.Node.{NodeParts, IsNodeOf}
 use Rattle.cany_node.specs.Resting.{Rests, RestsUntil}
-use Rattle.cany_node.specs.Site.{IsNextOf}
+use Rattle.cany_node.specs.Membership.{IsNextOf}
 
 -- what was heard, and then as many idle slots
 abbrev pub rested_past : ℕ → List NoticeKind → List NoticeKind

@@ -39,40 +39,40 @@ module _ (scenario : ScenarioParts) (past : List NoticeKind) (notice : NoticeKin
   pub agenda_now : IsAgendaOf scenario v.node slot v.agenda
   agenda_now = subst (λ n. IsAgendaOf scenario v.node n v.agenda) (sym now) heard.agenda
 
-  pub joins_now : AreAsksOf scenario v.site.views.node slot (asks_of Join scenario) v.joins
+  pub joins_now : AreAsksOf scenario v.membership.views.node slot (asks_of Join scenario) v.joins
   joins_now =
-      subst (λ i. AreAsksOf scenario i slot scenario.joins v.joins) (sym heard.site.views.node)
+      subst (λ i. AreAsksOf scenario i slot scenario.joins v.joins) (sym heard.membership.views.node)
       (subst (λ n. AreAsksOf scenario v.node n scenario.joins v.joins) (sym now) heard.joins)
 
-  pub leaves_now : AreAsksOf scenario v.site.views.node slot (asks_of Leave scenario) v.leaves
+  pub leaves_now : AreAsksOf scenario v.membership.views.node slot (asks_of Leave scenario) v.leaves
   leaves_now =
-      subst (λ i. AreAsksOf scenario i slot scenario.leaves v.leaves) (sym heard.site.views.node)
+      subst (λ i. AreAsksOf scenario i slot scenario.leaves v.leaves) (sym heard.membership.views.node)
       (subst (λ n. AreAsksOf scenario v.node n scenario.leaves v.leaves) (sym now) heard.leaves)
 
   sends_are : actions_of scenario.params.format (sent_asks v.node slot (sendable scenario slot)) ≡ actions_of scenario.params.format (send_effects scenario v.node read)
   unfolding send_effects
   sends_are = ap (λ n. actions_of scenario.params.format (sent_asks v.node n (sendable scenario n))) now
 
-  joins_are : join_actions scenario v.site.views.params v.site.views.node slot v.site.views.members ≡ join_actions scenario scenario.params v.node (length past) members
+  joins_are : join_actions scenario v.membership.views.params v.membership.views.node slot v.membership.views.members ≡ join_actions scenario scenario.params v.node (length past) members
   joins_are =
-      ap (λ p. join_actions scenario p v.site.views.node slot v.site.views.members) heard.site.views.params
-      ∙ ap (λ i. join_actions scenario scenario.params i slot v.site.views.members) heard.site.views.node
-      ∙ ap (λ n. join_actions scenario scenario.params v.node n v.site.views.members) now
-      ∙ ap (λ m. join_actions scenario scenario.params v.node (length past) m) heard.site.views.members
+      ap (λ p. join_actions scenario p v.membership.views.node slot v.membership.views.members) heard.membership.views.params
+      ∙ ap (λ i. join_actions scenario scenario.params i slot v.membership.views.members) heard.membership.views.node
+      ∙ ap (λ n. join_actions scenario scenario.params v.node n v.membership.views.members) now
+      ∙ ap (λ m. join_actions scenario scenario.params v.node (length past) m) heard.membership.views.members
 
-  leaves_are : leave_actions scenario v.site.views.params v.site.views.node slot v.site.views.members ≡ leave_actions scenario scenario.params v.node (length past) members
+  leaves_are : leave_actions scenario v.membership.views.params v.membership.views.node slot v.membership.views.members ≡ leave_actions scenario scenario.params v.node (length past) members
   leaves_are =
-      ap (λ p. leave_actions scenario p v.site.views.node slot v.site.views.members) heard.site.views.params
-      ∙ ap (λ i. leave_actions scenario scenario.params i slot v.site.views.members) heard.site.views.node
-      ∙ ap (λ n. leave_actions scenario scenario.params v.node n v.site.views.members) now
-      ∙ ap (λ m. leave_actions scenario scenario.params v.node (length past) m) heard.site.views.members
+      ap (λ p. leave_actions scenario p v.membership.views.node slot v.membership.views.members) heard.membership.views.params
+      ∙ ap (λ i. leave_actions scenario scenario.params i slot v.membership.views.members) heard.membership.views.node
+      ∙ ap (λ n. leave_actions scenario scenario.params v.node n v.membership.views.members) now
+      ∙ ap (λ m. leave_actions scenario scenario.params v.node (length past) m) heard.membership.views.members
 
   pub script_listed : (out sent joined left : List Action)
       → sent ≡ out ++ actions_of scenario.params.format (sent_asks v.node slot (sendable scenario slot))
-      → joined ≡ sent ++ actions_of v.site.views.params.format
-      (flat_map (λ ask. asked_as Join v.site.views.params 0 v.site.views.node slot v.site.views.members) (asks_in scenario v.site.views.node slot (asks_of Join scenario)))
-      → left ≡ joined ++ actions_of v.site.views.params.format
-      (flat_map (λ ask. asked_as Leave v.site.views.params 0 v.site.views.node slot v.site.views.members) (asks_in scenario v.site.views.node slot (asks_of Leave scenario)))
+      → joined ≡ sent ++ actions_of v.membership.views.params.format
+      (flat_map (λ ask. asked_as Join v.membership.views.params 0 v.membership.views.node slot v.membership.views.members) (asks_in scenario v.membership.views.node slot (asks_of Join scenario)))
+      → left ≡ joined ++ actions_of v.membership.views.params.format
+      (flat_map (λ ask. asked_as Leave v.membership.views.params 0 v.membership.views.node slot v.membership.views.members) (asks_in scenario v.membership.views.node slot (asks_of Leave scenario)))
       → left ≡ out ++ actions_of scenario.params.format (script_effects scenario v.node (notice ∷ past))
   script_listed out sent joined left one two three =
       let joins : List Effect = flat_map (λ ask. join_asked scenario.params 0 v.node (length past) members) (asks_in scenario v.node (length past) scenario.joins) in
@@ -92,19 +92,19 @@ module _ (scenario : ScenarioParts) (past : List NoticeKind) (notice : NoticeKin
   pub has_scripted : (t : TotcanParts) (agenda : AgendaParts) (joins leaves : List ℕ)
       → IsTotcanOf scenario v.node (notice ∷ past) (backlog scenario v.node past ++ filter (joins_in v.node slot) (sendable scenario slot)) (asked scenario v.node past) t
       → IsAgendaOf scenario v.node (slot + 1) agenda
-      → AreAsksOf scenario v.site.views.node (slot + 1) (asks_of Join scenario) joins
-      → AreAsksOf scenario v.site.views.node (slot + 1) (asks_of Leave scenario) leaves
+      → AreAsksOf scenario v.membership.views.node (slot + 1) (asks_of Join scenario) joins
+      → AreAsksOf scenario v.membership.views.node (slot + 1) (asks_of Leave scenario) leaves
       → length t.backlog.given + length agenda.left ≤ t.backlog.room
       → HasScripted scenario past notice (record v { totcan = t; agenda = agenda; joins = joins; leaves = leaves })
   has_scripted t agenda joins leaves tot plan joining leaving room = record {
     edcan = heard.edcan;
     relcan = heard.relcan;
     totcan = scripted_totcan t tot;
-    site = heard.site;
+    membership = heard.membership;
     agenda = subst (λ n. IsAgendaOf scenario v.node (n + 1) agenda) now plan;
-    joins = subst (λ i. AreAsksOf scenario i (length past + 1) scenario.joins joins) heard.site.views.node
-        (subst (λ n. AreAsksOf scenario v.site.views.node (n + 1) scenario.joins joins) now joining);
-    leaves = subst (λ i. AreAsksOf scenario i (length past + 1) scenario.leaves leaves) heard.site.views.node
-        (subst (λ n. AreAsksOf scenario v.site.views.node (n + 1) scenario.leaves leaves) now leaving);
+    joins = subst (λ i. AreAsksOf scenario i (length past + 1) scenario.joins joins) heard.membership.views.node
+        (subst (λ n. AreAsksOf scenario v.membership.views.node (n + 1) scenario.joins joins) now joining);
+    leaves = subst (λ i. AreAsksOf scenario i (length past + 1) scenario.leaves leaves) heard.membership.views.node
+        (subst (λ n. AreAsksOf scenario v.membership.views.node (n + 1) scenario.leaves leaves) now leaving);
     room_to_give = room;
   }

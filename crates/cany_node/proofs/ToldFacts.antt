@@ -37,7 +37,7 @@ use Rattle.cany_model.proofs.Rules.ViewFacts.{views_are_lawful}
 use Rattle.cany_model.proofs.Among.{count-cons}
 use Rattle.cany_model.specs.Rules.Knowledge.{Knowledge}
 use Rattle.cany_node.specs.Apply.{NamesAskable, all_told, asks_sign}
-use Rattle.cany_node.specs.Site.{exchange_plain, life_plain, site_effects}
+use Rattle.cany_node.specs.Membership.{exchange_plain, life_plain, membership_effects}
 use Rattle.cany_node.specs.Telling.{told_effect, with_incarnation}
 use Rattle.cany_node.specs.Turning.{asks_plain, heard_effects, plain_effects, script_effects}
 
@@ -200,7 +200,7 @@ module _ (scenario : ScenarioParts) (i : ℕ) (notice : NoticeKind) (before : Li
   two : (xs ys xs' ys' : List Effect) → told xs ≡ xs' → told ys ≡ ys' → told (xs ++ ys) ≡ xs' ++ ys'
   two xs ys xs' ys' first second = told_append scenario.inc xs ys ∙ ap (λ es. es ++ told ys) first ∙ ap (λ es. xs' ++ es) second
 
-  site_told : told (site_effects scenario i past)
+  site_told : told (membership_effects scenario i past)
       ≡ failure_effects scenario i past ++ (exchange_effects scenario i past ++ (install_effects scenario i past ++ life_effects scenario i past))
   site_told =
       two (failure_effects scenario i past) _ (failure_effects scenario i past) _ (same failure_signs failures_are_lawful)
@@ -213,7 +213,7 @@ module _ (scenario : ScenarioParts) (i : ℕ) (notice : NoticeKind) (before : Li
   heard_told =
       two (edcan_effects scenario i past) _ (edcan_effects scenario i past) _ (same edcan edcan_is_lawful)
       (two (relcan_effects scenario i past) _ (relcan_effects scenario i past) _ (same relcan relcan_is_lawful)
-      (two (totcan_effects scenario i past) (site_effects scenario i past) (totcan_effects scenario i past) _ (same totcan totcan_is_lawful) site_told))
+      (two (totcan_effects scenario i past) (membership_effects scenario i past) (totcan_effects scenario i past) _ (same totcan totcan_is_lawful) site_told))
 
   script_told : told (script_effects scenario i past) ≡ send_effects scenario i past ++ ask_effects scenario i past
   script_told =

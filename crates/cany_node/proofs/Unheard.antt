@@ -27,8 +27,8 @@ use Rattle.cany_model.specs.Rules.Views.{after_ask, start_of, view_effects, with
 use Rattle.cany_model.proofs.Among.{count-no}
 use Rattle.cany_model.proofs.Bus.Identities.{same_class-true}
 use Rattle.cany_views.specs.Views.{IsViewsOf}
-use Rattle.cany_node.specs.Resting.{SiteRests}
-use Rattle.cany_node.specs.Site.{IsSiteOf, SiteParts, is_of_site, site_effects, tells_of_site}
+use Rattle.cany_node.specs.Resting.{MembershipRests}
+use Rattle.cany_node.specs.Membership.{IsMembershipOf, MembershipParts, is_of_site, membership_effects, tells_of_site}
 
 -- ---- the class of a frame
 
@@ -230,7 +230,7 @@ module _ (scenario : ScenarioParts) (i : ℕ) (past : List NoticeKind) (e : Noti
       ≡ life_sign p.life inc i (length past) (knowledge_of scenario i (Idle ∷ past)) (life_signs_sent i (Idle ∷ past))
   sign_due_same inc = λ j. life_sign p.life inc i (length past) (knowledge_same j) (signs_same j)
 
-  pub site_same : site_effects scenario i (e ∷ past) ≡ site_effects scenario i (Idle ∷ past)
+  pub site_same : membership_effects scenario i (e ∷ past) ≡ membership_effects scenario i (Idle ∷ past)
   site_same = λ j. failures_same j ++ (exchange_same 0 j ++ (install_same j ++ sign_due_same 0 j))
 
   -- ---- the value
@@ -288,7 +288,7 @@ module _ (scenario : ScenarioParts) (i : ℕ) (past : List NoticeKind) (e : Noti
   }
 
   -- the value stands for the notice as for an idle slot
-  pub site_unheard : (v : SiteParts) → IsSiteOf scenario i (Idle ∷ past) v → IsSiteOf scenario i (e ∷ past) v
+  pub site_unheard : (v : MembershipParts) → IsMembershipOf scenario i (Idle ∷ past) v → IsMembershipOf scenario i (e ∷ past) v
   site_unheard v h =
       let same : knowledge_of scenario i (Idle ∷ past) ≡ knowledge_of scenario i (e ∷ past) = sym knowledge_same in
       record {
@@ -300,5 +300,5 @@ module _ (scenario : ScenarioParts) (i : ℕ) (past : List NoticeKind) (e : Noti
       }
 
   -- where it rests at an idle slot, nothing is done
-  pub none_unheard : (v : SiteParts) → SiteRests scenario i past v → site_effects scenario i (e ∷ past) ≡ []
+  pub none_unheard : (v : MembershipParts) → MembershipRests scenario i past v → membership_effects scenario i (e ∷ past) ≡ []
   none_unheard v rests = site_same ∙ rests.effects

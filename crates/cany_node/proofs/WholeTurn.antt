@@ -8,7 +8,7 @@ use Rattle.cany_model.specs.Rules.Effect.{waiting_after}
 use Rattle.cany_model.specs.Rules.Turn.{turn_effects}
 use Rattle.can_controller.specs.Controller.{ControllerState}
 use Rattle.cany_node.specs.Node.{NodeParts, IsNodeOf, Reads, IsTurnOf, heard_by, turned}
-use Rattle.cany_node.specs.Site.{IsNextOf}
+use Rattle.cany_node.specs.Membership.{IsNextOf}
 
 -- the controller once the notice is read
 abbrev pub notice_read : ℕ → ControllerState → ControllerState

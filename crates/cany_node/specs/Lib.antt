@@ -6,6 +6,6 @@ pub mod NodeFields
 pub mod Protocols
 pub mod Resting
 pub mod Plan
-pub mod Site
+pub mod Membership
 pub mod Telling
 pub mod Turning

@@ -24,7 +24,7 @@ use Rattle.cany_node.specs.declared.reply.TurnReply.TheVariants.{Turned, Nothing
 use Rattle.cany_node.specs.Agenda.{AgendaParts, IsAgendaOf, IsPlanOf}
 use Rattle.cany_node.specs.Apply.{AreAskable, is_sign}
 use Rattle.cany_node.specs.Asks.{AreAsksOf, IsAskPlanOf}
-use Rattle.cany_node.specs.Site.{IsNextOf, IsSiteAtRest, IsSiteOf, SiteParts}
+use Rattle.cany_node.specs.Membership.{IsNextOf, IsMembershipAtRest, IsMembershipOf, MembershipParts}
 use Rattle.cany_node.specs.Telling.{AreTold}
 
 -- its number, the number of its incarnation, the parameters, and the first slot and the first membership cycle in which this one takes
@@ -42,7 +42,7 @@ pub record NodeParts : Type 0 where
   pub edcan : EdcanParts
   pub relcan : RelcanParts
   pub totcan : TotcanParts
-  pub site : SiteParts
+  pub membership : MembershipParts
   pub agenda : AgendaParts
   pub joins : List ℕ
   pub leaves : List ℕ
@@ -74,7 +74,7 @@ pub record IsNodeOf (scenario : ScenarioParts) (past : List NoticeKind) (v : Nod
   pub edcan : IsEdcanOf scenario v.node past v.edcan
   pub relcan : IsRelcanOf scenario v.node past v.relcan
   pub totcan : IsTotcanOf scenario v.node past (backlog scenario v.node past) (asked scenario v.node past) v.totcan
-  pub site : IsSiteOf scenario v.node past v.site
+  pub membership : IsMembershipOf scenario v.node past v.membership
   pub agenda : IsAgendaOf scenario v.node (length past) v.agenda
   pub joins : AreAsksOf scenario v.node (length past) scenario.joins v.joins
   pub leaves : AreAsksOf scenario v.node (length past) scenario.leaves v.leaves
@@ -90,7 +90,7 @@ pub record IsWaiting (scenario : ScenarioParts) (v : NodeParts) : Type 0 where
   pub edcan : (n : ℕ) → IsEdcanOf scenario v.node (replicate n Idle) v.edcan
   pub relcan : (n : ℕ) → IsRelcanOf scenario v.node (replicate n Idle) v.relcan
   pub totcan : (n : ℕ) → IsTotcanOf scenario v.node (replicate n Idle) [] 0 v.totcan
-  pub site : IsSiteAtRest scenario v.node v.site
+  pub membership : IsMembershipAtRest scenario v.node v.membership
   pub agenda : IsPlanOf scenario v.node v.agenda
   pub joins : IsAskPlanOf v.node scenario.joins v.joins
   pub leaves : IsAskPlanOf v.node scenario.leaves v.leaves

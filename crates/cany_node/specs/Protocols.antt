@@ -5,7 +5,7 @@ use Rattle.cany_base.specs.Scenario.{ScenarioParts}
 use Rattle.cany_edcan.specs.Edcan.{IsEdcanOf}
 use Rattle.cany_relcan.specs.Relcan.{IsRelcanOf}
 use Rattle.cany_totcan.specs.Totcan.{IsTotcanOf}
-use Rattle.cany_node.specs.Site.{IsSiteAtRest}
+use Rattle.cany_node.specs.Membership.{IsMembershipAtRest}
 use Rattle.cany_node.specs.declared.protocols.Protocols.{Protocols}
 
 -- they are those of node i after any number of idle slots, whoever its members are
@@ -13,4 +13,4 @@ pub record AreAtRest (scenario : ScenarioParts) (i : ℕ) (p : Protocols) : Type
   pub edcan : (n : ℕ) → IsEdcanOf scenario i (replicate n Idle) p.edcan
   pub relcan : (n : ℕ) → IsRelcanOf scenario i (replicate n Idle) p.relcan
   pub totcan : (n : ℕ) → IsTotcanOf scenario i (replicate n Idle) [] 0 p.totcan
-  pub site : IsSiteAtRest scenario i p.site
+  pub membership : IsMembershipAtRest scenario i p.membership

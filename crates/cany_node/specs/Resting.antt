@@ -16,12 +16,12 @@ use Rattle.cany_totcan.specs.Totcan.{IsTotcanOf}
 use Rattle.cany_node.specs.Agenda.{IsRising}
 use Rattle.cany_node.specs.Asks.{IsRisingFrom}
 use Rattle.cany_node.specs.Node.{NodeParts, IsNodeOf}
-use Rattle.cany_node.specs.Site.{IsSiteOf, SiteParts, site_effects}
+use Rattle.cany_node.specs.Membership.{IsMembershipOf, MembershipParts, membership_effects}
 
 -- after one more idle slot node i knows of the site what it knew, and nothing is done for it
-pub record SiteRests (scenario : ScenarioParts) (i : ℕ) (past : List NoticeKind) (v : SiteParts) : Type 0 where
-  pub stands : IsSiteOf scenario i (Idle ∷ past) v
-  pub effects : site_effects scenario i (Idle ∷ past) ≡ []
+pub record MembershipRests (scenario : ScenarioParts) (i : ℕ) (past : List NoticeKind) (v : MembershipParts) : Type 0 where
+  pub stands : IsMembershipOf scenario i (Idle ∷ past) v
+  pub effects : membership_effects scenario i (Idle ∷ past) ≡ []
   pub knowledge : knowledge_of scenario i (Idle ∷ past) ≡ knowledge_of scenario i past
 
 -- after one more idle slot the node is as it was, but that it has read one more notice, and nothing is done in the turn
@@ -50,8 +50,8 @@ pub record IsIdleUntil (idle_until : ℕ) (v : NodeParts) : Type 0 where
       → relcan.Rests scenario v.relcan.node past v.relcan
   pub totcan : (scenario : ScenarioParts) (past : List NoticeKind) (messages : List Message) (count : ℕ)
       → IsTotcanOf scenario v.totcan.node past messages count v.totcan → length past < idle_until → totcan.Rests scenario v.totcan.node past messages count v.totcan
-  pub site : (scenario : ScenarioParts) (i : ℕ) (past : List NoticeKind) → IsSiteOf scenario i past v.site
-      → v.read ≤ length past → length past < idle_until → length past < scenario.params.slots → SiteRests scenario i past v.site
+  pub membership : (scenario : ScenarioParts) (i : ℕ) (past : List NoticeKind) → IsMembershipOf scenario i past v.membership
+      → v.read ≤ length past → length past < idle_until → length past < scenario.params.slots → MembershipRests scenario i past v.membership
   pub sends : (n : ℕ) → n < idle_until → IsRising n v.agenda.left → IsRising (n + 1) v.agenda.left
   pub joins : (n : ℕ) → n < idle_until → IsRisingFrom n v.joins → IsRisingFrom (n + 1) v.joins
   pub leaves : (n : ℕ) → n < idle_until → IsRisingFrom n v.leaves → IsRisingFrom (n + 1) v.leaves

@@ -19,12 +19,12 @@ use Rattle.cany_totcan.specs.Totcan.{IsTotcanOf}
 use Rattle.cany_node.specs.Agenda.{IsAgendaOf}
 use Rattle.cany_node.specs.Asks.{AreAsksOf}
 use Rattle.cany_node.specs.Node.{NodeParts, IsNodeOf}
-use Rattle.cany_node.specs.Site.{IsNextOf, IsSiteOf, site_effects, site_room}
+use Rattle.cany_node.specs.Membership.{IsNextOf, IsMembershipOf, membership_effects, membership_room}
 
 -- what the protocols do at the notice
 abbrev pub heard_effects : TurnRule
 heard_effects scenario i past =
-    edcan_effects scenario i past ++ (relcan_effects scenario i past ++ (totcan_effects scenario i past ++ site_effects scenario i past))
+    edcan_effects scenario i past ++ (relcan_effects scenario i past ++ (totcan_effects scenario i past ++ membership_effects scenario i past))
 
 -- the scripted asks: the joins, and then the leaves
 abbrev pub asks_plain : TurnRule
@@ -45,7 +45,7 @@ plain_effects scenario i past = heard_effects scenario i past ++ (script_effects
 
 -- the most actions at the notice, and by the script
 abbrev pub heard_room : NodeParts → ℕ
-heard_room v = v.totcan.queue.room + site_room v.site + 8
+heard_room v = v.totcan.queue.room + membership_room v.membership + 8
 
 abbrev pub script_room : NodeParts → ℕ
 script_room v = length v.agenda.left + length v.joins + length v.leaves
@@ -62,7 +62,7 @@ pub record HasHeard (scenario : ScenarioParts) (past : List NoticeKind) (notice 
   pub edcan : IsEdcanOf scenario v.node (notice ∷ past) v.edcan
   pub relcan : IsRelcanOf scenario v.node (notice ∷ past) v.relcan
   pub totcan : IsTotcanOf scenario v.node (notice ∷ past) (backlog scenario v.node past) (asked scenario v.node past) v.totcan
-  pub site : IsSiteOf scenario v.node (notice ∷ past) v.site
+  pub membership : IsMembershipOf scenario v.node (notice ∷ past) v.membership
   pub agenda : IsAgendaOf scenario v.node (length past) v.agenda
   pub joins : AreAsksOf scenario v.node (length past) scenario.joins v.joins
   pub leaves : AreAsksOf scenario v.node (length past) scenario.leaves v.leaves
@@ -82,7 +82,7 @@ pub record HasScripted (scenario : ScenarioParts) (past : List NoticeKind) (noti
   pub edcan : IsEdcanOf scenario v.node (notice ∷ past) v.edcan
   pub relcan : IsRelcanOf scenario v.node (notice ∷ past) v.relcan
   pub totcan : IsTotcanOf scenario v.node (notice ∷ past) (backlog scenario v.node (notice ∷ past)) (asked scenario v.node past) v.totcan
-  pub site : IsSiteOf scenario v.node (notice ∷ past) v.site
+  pub membership : IsMembershipOf scenario v.node (notice ∷ past) v.membership
   pub agenda : IsAgendaOf scenario v.node (length past + 1) v.agenda
   pub joins : AreAsksOf scenario v.node (length past + 1) scenario.joins v.joins
   pub leaves : AreAsksOf scenario v.node (length past + 1) scenario.leaves v.leaves

@@ -5,7 +5,7 @@ ghost use Rattle.cany_model.specs.Rules.Actions.{actions_of};
 ghost use Rattle.cany_model.specs.Rules.Membership.{asks_in};
 ghost use Rattle.cany_node.specs.Asks.{AreAsksOf, AreAsksPassed, IsAskPlanOf, IsNextBefore, IsRisingFrom, asked_as, asks_of, is_at, is_of_node, slot_of};
 
-use crate::site::Site;
+use crate::membership::Membership;
 use cany_base::{Actions, Memory, NodeAsk, NodeId, Slot};
 use std::alloc::Global;
 use std::marker::Model;
@@ -109,18 +109,18 @@ impl AskPlan {
 }
 
 /// Makes the scripted asks of a slot.
-pub(crate) fn ask_due(kind: AskKind, slot: Slot, plan: &mut AskPlan, site: &Site, out: &mut Actions)
-    requires slot { slot < site.now.views.params.slots }
+pub(crate) fn ask_due(kind: AskKind, slot: Slot, plan: &mut AskPlan, membership: &Membership, out: &mut Actions)
+    requires slot { slot < membership.now.views.params.slots }
     requires room { length out.old.items + length plan.old ≤ out.old.room }
-    ensures actions { (scenario : ScenarioParts) → AreAsksOf scenario site.now.views.node slot (asks_of kind scenario) plan.old →
-        out.new.items ≡ out.old.items ++ actions_of site.now.views.params.format
-        (flat_map (λ ask. asked_as kind site.now.views.params 0 site.now.views.node slot site.now.views.members) (asks_in scenario site.now.views.node slot (asks_of kind scenario))) }
-    ensures plan { (scenario : ScenarioParts) → AreAsksOf scenario site.now.views.node slot (asks_of kind scenario) plan.old →
-        AreAsksOf scenario site.now.views.node (slot + 1) (asks_of kind scenario) plan.new }
+    ensures actions { (scenario : ScenarioParts) → AreAsksOf scenario membership.now.views.node slot (asks_of kind scenario) plan.old →
+        out.new.items ≡ out.old.items ++ actions_of membership.now.views.params.format
+        (flat_map (λ ask. asked_as kind membership.now.views.params 0 membership.now.views.node slot membership.now.views.members) (asks_in scenario membership.now.views.node slot (asks_of kind scenario))) }
+    ensures plan { (scenario : ScenarioParts) → AreAsksOf scenario membership.now.views.node slot (asks_of kind scenario) plan.old →
+        AreAsksOf scenario membership.now.views.node (slot + 1) (asks_of kind scenario) plan.new }
     ensures few { length out.new.items + length plan.new ≤ length out.old.items + length plan.old }
     ensures room { out.new.room ≡ out.old.room }
 {
     while plan.take_due(slot) {
-        site.ask(kind, slot, out);
+        membership.ask(kind, slot, out);
     }
 }

@@ -11,7 +11,7 @@ mod reply;
 mod rooms;
 mod plan;
 mod sending;
-mod site;
+mod membership;
 mod telling;
 mod threads;
 

@@ -14,7 +14,7 @@ ghost use Rattle.cany_node.specs.Node.{IsNodeOf, IsWaiting, CanBegin, CanTurn, C
 ghost use Rattle.cany_node.specs.Asks.{AreAsksPassed, IsRisingFrom};
 ghost use Rattle.cany_node.specs.Agenda.{ArePassed, IsRising};
 ghost use Rattle.cany_node.specs.Resting.{IsIdleUntil, RestsUntil, is_of_edcan};
-ghost use Rattle.cany_node.specs.Site.{IsNextOf};
+ghost use Rattle.cany_node.specs.Membership.{IsNextOf};
 ghost use Rattle.cany_node.specs.Turning.{CanHearNext, CanScript, HasHeard, HasScripted, heard_effects, heard_room, script_effects, script_room};
 
 use crate::agenda::Agenda;
@@ -26,7 +26,7 @@ use crate::reply::TurnReply;
 use crate::rooms::log_room;
 use crate::plan::{Plan, build_script};
 use crate::sending::send_due;
-use crate::site::Site;
+use crate::membership::Membership;
 use can_controller::Controller;
 use cany_base::{
     Actions, BoundedVec, LogEntry, Memory, MsgKey, NodeId, Notice, NoticeKind, Params, Scenario,
@@ -56,7 +56,7 @@ pub struct Node {
     edcan: Edcan,
     relcan: Relcan,
     totcan: Totcan,
-    site: Site,
+    membership: Membership,
     agenda: Agenda,
     joins: AskPlan,
     leaves: AskPlan,
@@ -94,7 +94,7 @@ impl Node {
             edcan,
             relcan,
             totcan,
-            site,
+            membership,
         } = protocols;
         let Plan {
             agenda,
@@ -111,7 +111,7 @@ impl Node {
             edcan,
             relcan,
             totcan,
-            site,
+            membership,
             agenda,
             joins,
             leaves,
@@ -136,7 +136,7 @@ impl Node {
         self.read = restart + 1;
         self.from = self.read + (self.params.bound + Slot::from(self.params.lag));
         self.cycle = (self.from + (self.params.cycle - 1)) / self.params.cycle;
-        self.site.begin_outside();
+        self.membership.begin_outside();
         self.pass_before(self.from);
     }
 
@@ -265,7 +265,7 @@ impl Node {
             out.new.items ≡ out.old.items ++ actions_of scenario.params.format (heard_effects scenario self.old.node (notice.now.kind ∷ past)) }
         ensures stands { (scenario : ScenarioParts) (past : List NoticeKind) → IsNodeOf scenario past self.old → IsNextOf scenario self.old.node past notice.now →
             HasHeard scenario past notice.now.kind self.new }
-        ensures state { let v = self.new in self.new ≡ record self.old { edcan = v.edcan; relcan = v.relcan; totcan = v.totcan; site = v.site } }
+        ensures state { let v = self.new in self.new ≡ record self.old { edcan = v.edcan; relcan = v.relcan; totcan = v.totcan; membership = v.membership } }
         ensures few { length out.new.items ≤ length out.old.items + heard_room self.old }
         ensures room { out.new.room ≡ out.old.room }
     {
@@ -273,7 +273,7 @@ impl Node {
         self.edcan.on(notice, out);
         self.relcan.on(notice, out);
         self.totcan.on(notice, out);
-        self.site.on(notice, out);
+        self.membership.on(notice, out);
     }
 
     /// What the script asks of the node in a slot: its sends, its joins and then its leaves, each in file order.
@@ -298,8 +298,8 @@ impl Node {
             &mut self.totcan,
             out,
         );
-        ask_due(AskKind::Join, slot, &mut self.joins, &self.site, out);
-        ask_due(AskKind::Leave, slot, &mut self.leaves, &self.site, out);
+        ask_due(AskKind::Join, slot, &mut self.joins, &self.membership, out);
+        ask_due(AskKind::Leave, slot, &mut self.leaves, &self.membership, out);
     }
 
     /// The first slot, from the next one that it reads on, in whose turn an idle notice may lead to something. Before it the
@@ -319,8 +319,8 @@ impl Node {
         ensures { IsIdleUntil result self.now }
     {
         let protocols = self.relcan.wake().min(self.totcan.wake());
-        let site = self.site.wake(self.read);
-        protocols.min(site).min(self.next_scripted())
+        let membership = self.membership.wake(self.read);
+        protocols.min(membership).min(self.next_scripted())
     }
 
     /// The first slot for which something of the script is still to come.

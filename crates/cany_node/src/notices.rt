@@ -4,7 +4,7 @@ ghost use Rattle.std.specs.Prelude.{◌≡◌, ◌↔◌, false, true};
 ghost use Rattle.cany_base.specs.declared.notice.NoticeKind.TheVariants.{Idle};
 ghost use Rattle.cany_model.specs.Rules.Notices.{error_as_idle, is_early, is_early_frame};
 ghost use Rattle.cany_node.specs.Resting.{is_of_edcan};
-ghost use Rattle.cany_node.specs.Site.{is_of_site, tells_of_site};
+ghost use Rattle.cany_node.specs.Membership.{is_of_site, tells_of_site};
 
 use cany_base::{Class, Frame, NoticeKind};
 use cany_message::is_of_class;

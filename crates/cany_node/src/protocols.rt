@@ -1,7 +1,7 @@
 ghost use Rattle.std.specs.Prelude.{◌<◌, IfOk};
 ghost use Rattle.cany_node.specs.Protocols.{AreAtRest};
 
-use crate::site::Site;
+use crate::membership::Membership;
 use cany_base::{Memory, NodeId, Scenario};
 use cany_edcan::Edcan;
 use cany_relcan::Relcan;
@@ -14,7 +14,7 @@ pub(crate) struct Protocols {
     pub(crate) edcan: Edcan,
     pub(crate) relcan: Relcan,
     pub(crate) totcan: Totcan,
-    pub(crate) site: Site,
+    pub(crate) membership: Membership,
 }
 
 /// Those of a node that has read nothing, or only notices of idle slots.
@@ -29,11 +29,11 @@ pub(crate) fn build_protocols(
     let edcan = Edcan::build(alloc, node, scenario)?;
     let relcan = Relcan::build(alloc, node, scenario)?;
     let totcan = Totcan::build(alloc, node, scenario)?;
-    let site = Site::build(alloc, node, scenario)?;
+    let membership = Membership::build(alloc, node, scenario)?;
     Ok(Protocols {
         edcan,
         relcan,
         totcan,
-        site,
+        membership,
     })
 }

@@ -16,7 +16,7 @@ use Rattle.cany_model.specs.Runs.RoundRobin.{round_robin}
 use Rattle.cany_model.specs.Runs.Run.{run}
 use Rattle.cany_model.specs.Bus.State.{RunState}
 use Rattle.cany_model.specs.Promises.OneView.{installed_of}
-use Rattle.cany_model.specs.Promises.Quiet.{history_but}
+use Rattle.cany_model.specs.Bus.History.{history_but}
 use Rattle.cany_model.specs.Promises.Settled.{IsCorrect}
 use Rattle.cany_model.proofs.Among.{Among-from_Contains, Each-of}
 use Rattle.cany_rows.proofs.RowWords.{set}

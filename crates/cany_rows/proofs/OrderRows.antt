@@ -17,9 +17,9 @@ use Rattle.cany_model.specs.declared.breaks.BreakKind.TheVariants as kind
 use Rattle.cany_model.specs.Runs.RoundRobin.{round_robin}
 use Rattle.cany_model.specs.Runs.Run.{run}
 use Rattle.cany_model.specs.Bus.State.{RunState, node_at}
-use Rattle.cany_model.specs.Promises.Acceptance.{HasReadClosing, IsAcceptedByAllOrNone, WasCarriedClean, accepted_in_time, has_accepted, history_to}
+use Rattle.cany_model.specs.Promises.Acceptance.{HasReadClosing, IsAcceptedByAllOrNone, WasCarriedClean, accepted_in_time, history_to}
 use Rattle.cany_model.specs.Promises.Hypothesis.{IsWithin, first_break}
-use Rattle.cany_model.specs.Promises.Order.{Content, FollowsOrder, HasOneOrder, content_of, is_accepted_by_some, order, order_by, tot_deliveries}
+use Rattle.cany_model.specs.Promises.Order.{Content, FollowsOrder, HasOneOrder, content_of, is_accepted_by_some, order, order_by, tot_deliveries, has_accepted}
 use Rattle.cany_model.specs.Promises.Entries.{HasDelivered}
 use Rattle.cany_model.specs.Promises.FirstSlots.{first_carried}
 use Rattle.cany_model.specs.Promises.Settled.{is_settled}

@@ -17,7 +17,8 @@ use Rattle.cany_model.specs.Bus.Frames.{identity_of}
 use Rattle.cany_model.specs.Runs.RoundRobin.{round_robin}
 use Rattle.cany_model.specs.Runs.Run.{run, slot_state, slot_state_from}
 use Rattle.cany_model.specs.Bus.State.{RunState, node_at, runs}
-use Rattle.cany_model.specs.Promises.Quiet.{HasFewAskingSlots, HasQuietSlots, IsQuiet, WasQuiet, asks_at, asks_first, history_but, is_top, makes_ask, most_asking}
+use Rattle.cany_model.specs.Promises.Quiet.{HasFewAskingSlots, HasQuietSlots, IsQuiet, WasQuiet, asks_at, asks_first, is_top, makes_ask, most_asking}
+use Rattle.cany_model.specs.Bus.History.{history_but}
 use Rattle.cany_model.specs.Promises.Windows.{HasFew, HasFewAccepts, HasFewLifeSigns, HasFewTotFrames, HasFewVectors, is_clean_of}
 use Rattle.cany_model.specs.Rules.Effect.{Ask, Withdraw}
 use Rattle.cany_rows.proofs.OrderRows.{early_row, late_reader, order_row, starved, starved_journal}

@@ -76,3 +76,9 @@ copies x past = count_by (is_got x) past
 -- whether the node's own transmission of a frame was read
 unfoldable pub has_own : Identity → List NoticeKind → Bool
 has_own x past = list_any (is_sent x) past
+
+-- what node i has read, or will have read, when all but so many of the newest slots are read
+unfoldable pub history_but : ℕ → ℕ → RunState → List NoticeKind
+history_but newest i s =
+    let node = node_at s.nodes i in
+    map (given i) (drop newest (trace_for node.present.number node.present s.trace))

@@ -89,6 +89,13 @@ is_success Lost = false
 is_success (Partial reject) = false
 is_success (Silent reject) = true
 
+-- whether no receiver rejected the frame
+abbrev pub is_clean : Verdict → Bool
+is_clean Clean = true
+is_clean Lost = false
+is_clean (Partial reject) = false
+is_clean (Silent reject) = false
+
 -- whether the node waits with this frame, and runs
 abbrev pub sends : FrameParts → NodeState → Bool
 sends f node = runs node && waits_with f node.waiting

@@ -9,6 +9,7 @@ use Rattle.cany_model.specs.Bus.Frames.{is_of}
 use Rattle.cany_model.specs.Bus.History.{history}
 use Rattle.cany_model.specs.Bus.Slot.{carried}
 use Rattle.cany_model.specs.Bus.State.{RunState, reads}
+use Rattle.cany_model.specs.Promises.Order.{has_accepted}
 use Rattle.cany_model.specs.Promises.Settled.{IsCorrect, IsCorrectFrom}
 use Rattle.cany_model.specs.Rules.Totcan.{is_accepted, tot_of_key}
 
@@ -28,10 +29,6 @@ pub record HasReadClosing (scenario : ScenarioParts) (s : RunState) (c i : ℕ) 
 -- what node i had read after its turn of this slot
 abbrev pub history_to : ℕ → ℕ → RunState → List NoticeKind
 history_to slot i s = drop (reads s i - (slot + 1)) (history i s)
-
--- whether node i has accepted the message by now, in its present incarnation
-abbrev pub has_accepted : ScenarioParts → RunState → MsgKey → ℕ → Bool
-has_accepted scenario s key i = is_accepted scenario.params.bound i key (history i s)
 
 -- whether it had accepted it by its turn of slot c + bound
 abbrev pub accepted_in_time : ScenarioParts → RunState → MsgKey → (c i : ℕ) → Bool

@@ -8,10 +8,9 @@ use Rattle.cany_base.specs.declared.slot_note.SlotNote.{SlotNote}
 use Rattle.cany_base.specs.Frame.{FrameParts}
 use Rattle.cany_base.specs.Nodes.{Nodes, has}
 use Rattle.cany_base.specs.Scenario.{ScenarioParts}
-use Rattle.cany_model.specs.Bus.History.{history}
+use Rattle.cany_model.specs.Bus.History.{history, history_but}
 use Rattle.cany_model.specs.Bus.State.{RunState, node_at, slots_run}
 use Rattle.cany_model.specs.Promises.OneView.{installed}
-use Rattle.cany_model.specs.Promises.Quiet.{history_but}
 use Rattle.cany_model.specs.Promises.Settled.{IsCorrect}
 use Rattle.cany_model.specs.Rules.Log.{log}
 use Rattle.cany_model.specs.Rules.KnowledgeOf.{knowledge_of}

@@ -11,18 +11,22 @@ use Rattle.cany_base.specs.Frame.{FrameParts}
 use Rattle.cany_base.specs.Scenario.{ScenarioParts}
 use Rattle.cany_model.specs.Bus.Frames.{same_class}
 use Rattle.cany_model.specs.Bus.State.{RunState, node_at, runs}
-use Rattle.cany_model.specs.Promises.Acceptance.{has_accepted}
+use Rattle.cany_model.specs.Bus.History.{history}
 use Rattle.cany_model.specs.Promises.Entries.{HasDelivered}
 use Rattle.cany_model.specs.Promises.Settled.{IsCorrect, is_settled}
-use Rattle.cany_model.specs.Promises.Windows.{is_clean}
+use Rattle.cany_model.specs.Bus.Slot.{is_clean}
 use Rattle.cany_model.specs.Rules.Log.{log}
 use Rattle.cany_model.specs.Rules.Messages.{Message, is_service, message_key, messages_of}
-use Rattle.cany_model.specs.Rules.Totcan.{message_in}
+use Rattle.cany_model.specs.Rules.Totcan.{message_in, is_accepted}
 
 -- a message with its payload, as it is delivered
 pub record Content : Type 0 where
   pub msg : MsgKey
   pub payload : List ℕ
+
+-- whether node i has accepted the message by now, in its present incarnation
+abbrev pub has_accepted : ScenarioParts → RunState → MsgKey → ℕ → Bool
+has_accepted scenario s key i = is_accepted scenario.params.bound i key (history i s)
 
 -- whether a running node has accepted the message
 abbrev pub is_accepted_by_some : ScenarioParts → RunState → MsgKey → Bool

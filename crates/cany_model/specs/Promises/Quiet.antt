@@ -1,15 +1,14 @@
 -- A quiet slot: no frame that accepts a message, no vector and no life sign is to be sent, nor will an unread notice make a node ask for
 -- one of the first two. So whatever was to be agreed on by such frames was sent before it.
-use Rattle.std.specs.Prelude.{◌≡◌, ℕ, ◌+◌, ◌<◌, ◌≤◌, ◌&&◌, ◌||◌, Bool, true, false, List, Some, count_by, drop, map}
+use Rattle.std.specs.Prelude.{◌≡◌, ℕ, ◌+◌, ◌<◌, ◌≤◌, ◌&&◌, ◌||◌, Bool, true, false, List, Some, count_by}
 use Rattle.std.specs.List.{list_any, range_with_len}
 use Rattle.cany_base.specs.declared.class.Class.{Class}
 use Rattle.cany_base.specs.declared.class.Class.TheVariants as class
-use Rattle.cany_base.specs.declared.notice.NoticeKind.{NoticeKind}
 use Rattle.cany_base.specs.declared.step.Step.{Step}
 use Rattle.cany_base.specs.Params.{Parameters, top_frames}
 use Rattle.cany_base.specs.Scenario.{ScenarioParts}
 use Rattle.cany_model.specs.Bus.Frames.{same_class}
-use Rattle.cany_model.specs.Bus.History.{given, trace_for}
+use Rattle.cany_model.specs.Bus.History.{history_but}
 use Rattle.cany_model.specs.Runs.Run.{run, slot_state}
 use Rattle.cany_model.specs.Bus.State.{RunState, node_at, runs, slots_run}
 use Rattle.cany_model.specs.Rules.Effect.{Effect, Ask, Withdraw, Enter}
@@ -24,12 +23,6 @@ abbrev pub asks_first : Effect → Bool
 asks_first (Ask f) = same_class f.class class.Accept || same_class f.class class.Rha
 asks_first (Withdraw x) = false
 asks_first (Enter entry) = false
-
--- what node i has read, or will have read, when all but so many of the newest slots are read
-unfoldable pub history_but : ℕ → ℕ → RunState → List NoticeKind
-history_but newest i s =
-    let node = node_at s.nodes i in
-    map (given i) (drop newest (trace_for node.present.number node.present s.trace))
 
 -- whether node i asks for such a frame in its turn of the slot that so many newer ones follow, also where the same turn withdraws it
 unfoldable pub asks_at : ScenarioParts → RunState → ℕ → ℕ → Bool

@@ -1,19 +1,12 @@
 -- How many Clean frames of some classes a window of slots can carry.
-use Rattle.std.specs.Prelude.{ℕ, ◌+◌, ◌*◌, ◌≤◌, ◌&&◌, Bool, true, false, List, count_by, drop, take}
+use Rattle.std.specs.Prelude.{ℕ, ◌+◌, ◌*◌, ◌≤◌, ◌&&◌, Bool, List, count_by, drop, take}
 use Rattle.cany_base.specs.declared.class.Class.{Class}
 use Rattle.cany_base.specs.declared.class.Class.TheVariants as class
-use Rattle.cany_base.specs.declared.rule.Verdict.{Verdict}
-use Rattle.cany_base.specs.declared.rule.Verdict.TheVariants.{Clean, Lost, Partial, Silent}
+use Rattle.cany_base.specs.declared.rule.Verdict.TheVariants.{Clean}
 use Rattle.cany_base.specs.declared.slot_note.SlotNote.{SlotNote}
 use Rattle.cany_base.specs.Params.{Parameters}
 use Rattle.cany_model.specs.Bus.Frames.{same_class}
-use Rattle.cany_model.specs.Bus.Slot.{carried}
-
-abbrev pub is_clean : Verdict → Bool
-is_clean Clean = true
-is_clean Lost = false
-is_clean (Partial reject) = false
-is_clean (Silent reject) = false
+use Rattle.cany_model.specs.Bus.Slot.{carried, is_clean}
 
 -- whether the slot carried a frame of this class Clean
 abbrev pub is_clean_of : Class → SlotNote → Bool

@@ -6,10 +6,9 @@ use Rattle.cany_base.specs.declared.message.MsgKey.{MsgKey}
 use Rattle.cany_base.specs.declared.notice.NoticeKind.{NoticeKind}
 use Rattle.cany_base.specs.declared.notice.NoticeKind.TheVariants.{Idle}
 use Rattle.cany_base.specs.declared.slot_note.SlotNote.{SlotNote}
-use Rattle.cany_model.specs.Promises.Windows.{is_clean}
 use Rattle.cany_model.specs.Bus.Frames.{Identity, is_of}
 use Rattle.cany_model.specs.Bus.History.{given, is_got, is_sent, copies, has_own}
-use Rattle.cany_model.specs.Bus.Slot.{carried}
+use Rattle.cany_model.specs.Bus.Slot.{carried, is_clean}
 use Rattle.cany_model.specs.Rules.Totcan.{after_place, holds, is_recent, tot_of_key}
 use Rattle.cany_model.proofs.Among.{count-yes, count-grows}
 use Rattle.cany_model.proofs.Bus.Notes.{given_idle}

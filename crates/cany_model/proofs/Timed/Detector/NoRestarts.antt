@@ -6,13 +6,12 @@ use Rattle.cany_base.specs.declared.message.NodeAsk.{NodeAsk}
 use Rattle.cany_base.specs.declared.slot_note.SlotNote.{SlotNote}
 use Rattle.cany_base.specs.declared.step.Step.{Step}
 use Rattle.cany_base.specs.Scenario.{ScenarioParts}
-use Rattle.cany_model.specs.Bus.History.{given, history, seen}
+use Rattle.cany_model.specs.Bus.History.{given, history, seen, history_but}
 use Rattle.cany_model.specs.Bus.Restart.{after_entries, after_restarts, names_restart, nodes_after_entries, restarted}
 use Rattle.cany_model.specs.Runs.Run.{run}
 use Rattle.cany_model.specs.Bus.Slot.{FaultScript, after_slot, script}
 use Rattle.cany_model.specs.Bus.State.{Incarnation, NodeState, RunState, fresh, node_at, opening, original, runs, slots_run}
 use Rattle.cany_model.specs.Promises.OneView.{installed, installed_of}
-use Rattle.cany_model.specs.Promises.Quiet.{history_but}
 use Rattle.cany_model.specs.Rules.Turn.{scenario_at}
 use Rattle.cany_model.proofs.Bus.Restarts.{Restarts}
 use Rattle.cany_model.proofs.Runs.Runs.{along_run}

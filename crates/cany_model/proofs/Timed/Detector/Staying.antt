@@ -16,13 +16,13 @@ use Rattle.cany_base.specs.Limits.{most_nodes}
 use Rattle.cany_base.specs.Nodes.{AllBelow, Nodes, has}
 use Rattle.cany_base.specs.Params.{MeetsFormulas, Parameters}
 use Rattle.cany_base.specs.Scenario.{ScenarioParts}
-use Rattle.cany_model.specs.Bus.History.{given, history}
+use Rattle.cany_model.specs.Bus.History.{given, history, history_but}
 use Rattle.cany_model.specs.Runs.Run.{run, run_from}
 use Rattle.cany_model.specs.Bus.State.{RunState, node_at, opening, reads, runs, slots_run}
 use Rattle.cany_model.specs.Promises.Detector.{AsksNoLeave, StandsAfter, StaysInViews}
 use Rattle.cany_model.specs.Promises.Hypothesis.{IsWithin}
 use Rattle.cany_model.specs.Promises.OneView.{InstallsOneVector, installed, installed_of}
-use Rattle.cany_model.specs.Promises.Quiet.{HasQuietSlots, history_but}
+use Rattle.cany_model.specs.Promises.Quiet.{HasQuietSlots}
 use Rattle.cany_model.specs.Promises.Settled.{IsCorrect}
 use Rattle.cany_model.specs.Rules.Log.{log, log_from}
 use Rattle.cany_model.specs.Rules.KnowledgeOf.{knowledge_of}

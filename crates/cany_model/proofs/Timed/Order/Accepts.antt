@@ -19,12 +19,12 @@ use Rattle.cany_model.specs.Bus.History.{copies, given, has_own, is_got, is_hidd
 use Rattle.cany_model.specs.Runs.Run.{run, run_from}
 use Rattle.cany_model.specs.Bus.State.{Incarnation, RunState, node_at, opening, reads, runs, slots_run}
 use Rattle.cany_model.specs.Bus.Waiting.{waits}
-use Rattle.cany_model.specs.Promises.Acceptance.{HasReadClosing, IsAcceptedByAllOrNone, WasCarriedClean, accepted_in_time, has_accepted, history_to}
+use Rattle.cany_model.specs.Promises.Acceptance.{HasReadClosing, IsAcceptedByAllOrNone, WasCarriedClean, accepted_in_time, history_to}
 use Rattle.cany_model.specs.Promises.Hypothesis.{IsWithin, is_partial_slot_of, is_silent_slot, partial_slots}
-use Rattle.cany_model.specs.Promises.Order.{is_accepted_by_some}
+use Rattle.cany_model.specs.Promises.Order.{is_accepted_by_some, has_accepted}
 use Rattle.cany_model.specs.Promises.Quiet.{HasQuietSlots, IsQuiet}
 use Rattle.cany_model.specs.Promises.Settled.{IsCorrect}
-use Rattle.cany_model.specs.Promises.Windows.{is_clean}
+use Rattle.cany_model.specs.Bus.Slot.{is_clean}
 use Rattle.cany_model.specs.Rules.Messages.{accept_of_key}
 use Rattle.cany_model.specs.Rules.Totcan.{is_accepted, is_heard, can_be_accepted, tot_of_key}
 use Rattle.cany_model.specs.Rules.Turn.{scenario_for, turn_effects}

@@ -10,7 +10,7 @@ use Rattle.cany_base.specs.Frame.{FrameParts}
 use Rattle.cany_base.specs.Params.{Parameters}
 use Rattle.cany_model.specs.Bus.Frames.{same_class}
 use Rattle.cany_model.specs.Bus.History.{given}
-use Rattle.cany_model.specs.Promises.Windows.{is_clean}
+use Rattle.cany_model.specs.Bus.Slot.{is_clean}
 use Rattle.cany_model.specs.Rules.Totcan.{delivered, done, done_at, done_from, holds, is_accepted, is_clear, is_pending, is_place, is_recent, message_in, tot_in, tot_of_key, with_new}
 use Rattle.cany_model.proofs.Bus.Carried.{frame_of_notice}
 use Rattle.cany_model.proofs.Bus.Identities.{same_class_self}

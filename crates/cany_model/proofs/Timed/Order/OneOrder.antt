@@ -21,9 +21,8 @@ use Rattle.cany_model.specs.Bus.Restart.{after_restarts}
 use Rattle.cany_model.specs.Runs.Run.{after_turn, run}
 use Rattle.cany_model.specs.Bus.Slot.{after_slot, script}
 use Rattle.cany_model.specs.Bus.State.{Incarnation, NodeState, RunState, node_at, runs}
-use Rattle.cany_model.specs.Promises.Acceptance.{has_accepted}
 use Rattle.cany_model.specs.Promises.Hypothesis.{IsWithin, is_silent_slot}
-use Rattle.cany_model.specs.Promises.Order.{Content, FollowsOrder, HasOneOrder, content_of, is_accepted_by_some, order, tot_deliveries}
+use Rattle.cany_model.specs.Promises.Order.{Content, FollowsOrder, HasOneOrder, content_of, is_accepted_by_some, order, tot_deliveries, has_accepted}
 use Rattle.cany_model.specs.Promises.Settled.{IsCorrect, is_settled}
 use Rattle.cany_model.specs.Rules.Log.{log}
 use Rattle.cany_model.specs.Rules.Messages.{Message, data_id, is_service, message_key}

@@ -11,7 +11,7 @@ use Rattle.cany_model.specs.Bus.Frames.{Identity, identity_of, same_class, same_
 use Rattle.cany_model.specs.Bus.History.{as_seen, carries_early, is_hidden, seen}
 use Rattle.cany_model.specs.Bus.State.{Incarnation}
 use Rattle.cany_model.specs.Promises.Order.{Content, order_by, ordered_in}
-use Rattle.cany_model.specs.Promises.Windows.{is_clean}
+use Rattle.cany_model.specs.Bus.Slot.{is_clean}
 use Rattle.cany_model.specs.Rules.Totcan.{is_among, message_in, new_among, tot_of_key, with_new}
 use Rattle.cany_model.proofs.Among.{Among, Among-append_cases, Among-append_left, Among-append_right, Among-from_map, Each-append, Each-weaker}
 use Rattle.cany_model.proofs.Bus.Carried.{Carries}

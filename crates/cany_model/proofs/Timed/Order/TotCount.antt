@@ -16,9 +16,9 @@ use Rattle.cany_base.specs.Scenario.{ScenarioParts}
 use Rattle.cany_model.specs.Bus.Frames.{Identity, identity_of, same_class}
 use Rattle.cany_model.specs.Bus.History.{given}
 use Rattle.cany_model.specs.Runs.Run.{run}
-use Rattle.cany_model.specs.Bus.Slot.{carried}
+use Rattle.cany_model.specs.Bus.Slot.{carried, is_clean}
 use Rattle.cany_model.specs.Promises.Hypothesis.{IsWithin, is_silent_slot}
-use Rattle.cany_model.specs.Promises.Windows.{HasFewAccepts, HasFewTotFrames, is_clean, is_clean_of}
+use Rattle.cany_model.specs.Promises.Windows.{HasFewAccepts, HasFewTotFrames, is_clean_of}
 use Rattle.cany_model.specs.Rules.Messages.{accept_of_key}
 use Rattle.cany_model.specs.Rules.Totcan.{tot_of_key}
 use Rattle.cany_model.proofs.Bus.Carried.{is_sent-from, is_sent-true}

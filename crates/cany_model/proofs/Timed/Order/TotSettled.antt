@@ -23,7 +23,7 @@ use Rattle.cany_model.specs.Promises.Entries.{HasDelivered}
 use Rattle.cany_model.specs.Promises.FirstSlots.{first_carried}
 use Rattle.cany_model.specs.Promises.Safe.{IsAgreedFrom, IsAgreedOn}
 use Rattle.cany_model.specs.Promises.Settled.{IsCorrectFrom, is_settled, origin_has_asked}
-use Rattle.cany_model.specs.Promises.Windows.{is_clean}
+use Rattle.cany_model.specs.Bus.Slot.{is_clean}
 use Rattle.cany_model.specs.Rules.Backlog.{backlog_effects}
 use Rattle.cany_model.specs.Rules.Effect.{Effect, Ask, Withdraw, Enter}
 use Rattle.cany_model.specs.Rules.Log.{log}

@@ -12,11 +12,10 @@ use Rattle.cany_base.specs.Limits.{most_nodes}
 use Rattle.cany_base.specs.Nodes.{has}
 use Rattle.cany_model.specs.Bus.Frames.{Identity, identity_of, is_of}
 use Rattle.cany_model.specs.Bus.History.{given, is_got, is_sent}
-use Rattle.cany_model.specs.Bus.Slot.{FaultScript, is_success, lets_accept, slot_note_of}
+use Rattle.cany_model.specs.Bus.Slot.{FaultScript, is_success, lets_accept, slot_note_of, is_clean}
 use Rattle.cany_model.specs.Bus.State.{RunState, node_at, runs}
 use Rattle.cany_model.specs.Bus.Waiting.{waits, without}
 use Rattle.cany_model.specs.Promises.Hypothesis.{count_together, is_partial, is_partial_slot_of, is_silent, is_silent_slot}
-use Rattle.cany_model.specs.Promises.Windows.{is_clean}
 use Rattle.cany_model.specs.Rules.Totcan.{holds, tot_of_key}
 use Rattle.cany_model.proofs.Among.{Contains-cons, Contains-head}
 use Rattle.cany_model.proofs.Bus.Carried.{Carries, is_got-from, is_got-true, is_sent-from, is_sent-true}

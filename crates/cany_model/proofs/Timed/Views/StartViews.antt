@@ -10,12 +10,11 @@ use Rattle.cany_base.specs.declared.slot_note.SlotNote.{SlotNote}
 use Rattle.cany_base.specs.declared.step.Step.{Step}
 use Rattle.cany_base.specs.Params.{MeetsFormulas, Parameters}
 use Rattle.cany_base.specs.Scenario.{ScenarioParts}
-use Rattle.cany_model.specs.Bus.History.{given, history}
+use Rattle.cany_model.specs.Bus.History.{given, history, history_but}
 use Rattle.cany_model.specs.Runs.Run.{run}
 use Rattle.cany_model.specs.Bus.State.{RunState, node_at, opening, reads, runs, slots_run}
 use Rattle.cany_model.specs.Promises.Detector.{members_before}
 use Rattle.cany_model.specs.Promises.OneView.{InstallsOneVector, installed_of}
-use Rattle.cany_model.specs.Promises.Quiet.{history_but}
 use Rattle.cany_model.specs.Rules.KnowledgeOf.{knowledge_of}
 use Rattle.cany_model.specs.Rules.Vectors.{cycle_of, is_end}
 use Rattle.cany_model.proofs.Runs.Journals.{run_then, unread_within}

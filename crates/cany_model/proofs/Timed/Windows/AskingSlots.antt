@@ -20,12 +20,12 @@ use Rattle.cany_base.specs.Nodes.{Nodes}
 use Rattle.cany_base.specs.Params.{MeetsFormulas, Parameters, top_frames}
 use Rattle.cany_base.specs.Scenario.{ScenarioParts}
 use Rattle.cany_model.specs.Bus.Frames.{same_class}
-use Rattle.cany_model.specs.Bus.History.{given, seen, trace_for}
+use Rattle.cany_model.specs.Bus.History.{given, seen, trace_for, history_but}
 use Rattle.cany_model.specs.Runs.Run.{run}
 use Rattle.cany_model.specs.Bus.Slot.{carried, is_success}
 use Rattle.cany_model.specs.Bus.State.{Incarnation, RunState, node_at, runs}
 use Rattle.cany_model.specs.Promises.Hypothesis.{IsWithin, any_frame, error_slots, is_error, is_error_slot, is_silent_slot}
-use Rattle.cany_model.specs.Promises.Quiet.{HasFewAskingSlots, asks_at, asks_first, history_but, makes_ask, most_asking}
+use Rattle.cany_model.specs.Promises.Quiet.{HasFewAskingSlots, asks_at, asks_first, makes_ask, most_asking}
 use Rattle.cany_model.specs.Promises.Windows.{HasFew, HasFewAccepts, HasFewTotFrames, HasFewVectors, is_clean_of}
 use Rattle.cany_model.specs.Rules.Backlog.{tot_backlog}
 use Rattle.cany_model.specs.Rules.Edcan.{edcan}

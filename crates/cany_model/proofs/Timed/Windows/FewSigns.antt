@@ -20,10 +20,10 @@ use Rattle.cany_model.specs.Bus.Frames.{Identity, identity_of, same_class}
 use Rattle.cany_model.specs.Bus.History.{as_seen, given, is_hidden, seen}
 use Rattle.cany_model.specs.Bus.Restart.{after_restarts}
 use Rattle.cany_model.specs.Runs.Run.{after_step, after_turn, is_done, proceed, reply, run}
-use Rattle.cany_model.specs.Bus.Slot.{FaultScript, after_slot, is_success, script, slot_note_of}
+use Rattle.cany_model.specs.Bus.Slot.{FaultScript, after_slot, is_success, script, slot_note_of, is_clean}
 use Rattle.cany_model.specs.Bus.State.{Incarnation, NodeState, RunState, node_at, opening, runs}
 use Rattle.cany_model.specs.Promises.Hypothesis.{IsWithin, is_partial_slot_of, is_silent_slot}
-use Rattle.cany_model.specs.Promises.Windows.{HasFewAccepts, HasFewLifeSigns, HasFewVectors, is_clean, is_clean_of}
+use Rattle.cany_model.specs.Promises.Windows.{HasFewAccepts, HasFewLifeSigns, HasFewVectors, is_clean_of}
 use Rattle.cany_model.specs.Rules.Effect.{waiting_after}
 use Rattle.cany_model.specs.Rules.Life.{is_own_sign, life_signs_sent}
 use Rattle.cany_model.specs.Rules.KnowledgeOf.{knowledge_of}

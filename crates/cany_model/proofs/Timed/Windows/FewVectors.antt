@@ -17,9 +17,9 @@ use Rattle.cany_base.specs.Scenario.{ScenarioParts}
 use Rattle.cany_model.specs.Bus.Frames.{Identity, same_class}
 use Rattle.cany_model.specs.Bus.History.{as_seen, given, is_hidden, seen}
 use Rattle.cany_model.specs.Runs.Run.{run}
-use Rattle.cany_model.specs.Bus.Slot.{FaultScript, carried, script, slot_note_of}
+use Rattle.cany_model.specs.Bus.Slot.{FaultScript, carried, script, slot_note_of, is_clean}
 use Rattle.cany_model.specs.Bus.State.{Incarnation, NodeState, RunState, node_at, runs}
-use Rattle.cany_model.specs.Promises.Windows.{HasFewVectors, is_clean, is_clean_of}
+use Rattle.cany_model.specs.Promises.Windows.{HasFewVectors, is_clean_of}
 use Rattle.cany_model.specs.Rules.Turn.{scenario_for}
 use Rattle.cany_model.specs.Rules.Vectors.{rha_of}
 use Rattle.cany_model.proofs.Among.{count-drop, count-grows, count-no, count-yes}

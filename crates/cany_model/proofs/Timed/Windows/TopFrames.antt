@@ -14,11 +14,11 @@ use Rattle.cany_base.specs.declared.slot_note.SlotNote.{SlotNote}
 use Rattle.cany_base.specs.Frame.{FrameParts, class_number}
 use Rattle.cany_base.specs.Params.{Parameters, top_frames}
 use Rattle.cany_model.specs.Bus.Frames.{is_before, same_class}
-use Rattle.cany_model.specs.Bus.Slot.{FaultScript, better, carried, least_frame, offered, slot_note_of, winner}
+use Rattle.cany_model.specs.Bus.Slot.{FaultScript, better, carried, least_frame, offered, slot_note_of, winner, is_clean}
 use Rattle.cany_model.specs.Bus.State.{NodeState, RunState, absent, node_at, runs}
 use Rattle.cany_model.specs.Promises.Hypothesis.{IsWithin, any_frame, error_slots, is_error, is_error_slot, is_silent, is_silent_slot}
 use Rattle.cany_model.specs.Promises.Quiet.{is_top}
-use Rattle.cany_model.specs.Promises.Windows.{HasFew, HasFewAccepts, HasFewLifeSigns, HasFewVectors, is_clean, is_clean_of}
+use Rattle.cany_model.specs.Promises.Windows.{HasFew, HasFewAccepts, HasFewLifeSigns, HasFewVectors, is_clean_of}
 use Rattle.cany_model.proofs.Among.{Among, Among-flat_map, Among-from_any, Among-get_or}
 use Rattle.cany_model.proofs.Bus.Notes.{note_of-frame}
 use Rattle.cany_model.proofs.Bus.States.{no_note, note_at, runs_within}

@@ -20,6 +20,6 @@ loop-kind-preserved c = record {
 
 pub returns-clause-actions : goal.returns-clause-actions
 returns-clause-actions c scenario is =
-    let v = c.args.site.now.views in
+    let v = c.args.membership.now.views in
     asks_made scenario v.node c.args.slot (asks_of c.args.kind scenario) v.params.format (asked_as c.args.kind v.params 0 v.node c.args.slot v.members)
     c.args.plan.now c.loop-kind.plan c.args.out.now.items c.loop-kind.out.items c.loop-kind.invariant.keeps (c.take_due.ensures.later c.loop-kind-test.false) is

@@ -6,7 +6,7 @@ use Rattle.cany_node.proofs.asks.ask_due.Given as goal
 
 abbrev pub invariant-loop-kind : goal.invariant-loop-kind
 invariant-loop-kind l = record {
-  keeps : KeepsAsking l.slot (actions_of l.site.views.params.format (asked_as l.kind l.site.views.params 0 l.site.views.node l.slot l.site.views.members))
+  keeps : KeepsAsking l.slot (actions_of l.membership.views.params.format (asked_as l.kind l.membership.views.params 0 l.membership.views.node l.slot l.membership.views.members))
       l.fn.plan l.plan l.fn.out.items l.out.items;
   spare : length l.out.items + length l.plan ≤ length l.fn.out.items + length l.fn.plan;
   room : l.out.room ≡ l.fn.out.room;

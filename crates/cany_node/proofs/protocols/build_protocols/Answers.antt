@@ -5,5 +5,5 @@ returns c = record {
   edcan = c.in_ok-edcan.ensures;
   relcan = c.in_ok-relcan.ensures;
   totcan = c.in_ok-totcan.ensures;
-  site = c.in_ok-site.ensures;
+  membership = c.in_ok-membership.ensures;
 }

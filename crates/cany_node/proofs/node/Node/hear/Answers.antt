@@ -1,7 +1,7 @@
 use Rattle.std.proofs.Common.{ap, sym, subst, ◌∙◌, ◌++◌, ◌∷◌}
 use Rattle.cany_model.specs.Rules.Actions.{actions_of}
 use Rattle.cany_node.specs.Node.{IsNodeOf, NodeParts}
-use Rattle.cany_node.specs.Site.{IsNextOf}
+use Rattle.cany_node.specs.Membership.{IsNextOf}
 use Rattle.cany_node.specs.Turning.{heard_effects}
 use Rattle.cany_node.proofs.HeardTurn.{edcan_stands, has_heard, heard_listed, relcan_stands, totcan_stands}
 use Rattle.cany_node.proofs.node.Node.hear.Goals as goal
@@ -15,7 +15,7 @@ returns-clause-actions c = λ scenario past stands next.
     (c.on.ensures.actions scenario past (edcan_stands scenario past notice _ kept) next.next)
     (c.on-2.ensures.actions scenario past (relcan_stands scenario past notice _ kept) next.next)
     (c.on-3.ensures.actions scenario past _ _ (totcan_stands scenario past notice _ kept) next.next)
-    (c.on-4.ensures.actions scenario c.self.inside.node past kept.site reading)
+    (c.on-4.ensures.actions scenario c.self.inside.node past kept.membership reading)
     ∙ ap (λ (v : NodeParts). c.args.out.now.items ++ actions_of scenario.params.format (heard_effects scenario v.node (notice.kind ∷ past))) c.self.view_is
 
 pub returns-clause-stands : goal.returns-clause-stands
@@ -27,4 +27,4 @@ returns-clause-stands c = λ scenario past stands next.
     (c.on.ensures.stands scenario past (edcan_stands scenario past notice _ kept) next.next)
     (c.on-2.ensures.stands scenario past (relcan_stands scenario past notice _ kept) next.next)
     (c.on-3.ensures.stands scenario past _ _ (totcan_stands scenario past notice _ kept) next.next)
-    (c.on-4.ensures.stands scenario c.self.inside.node past kept.site reading)
+    (c.on-4.ensures.stands scenario c.self.inside.node past kept.membership reading)

@@ -11,7 +11,7 @@ returns c =
     subst (IsIdleUntil _) c.self.view_is (record {
       relcan = λ scenario past is early. c.wake.ensures.rests scenario past is (omega (arith, early));
       totcan = λ scenario past messages count is early. c.wake-2.ensures.rests scenario past messages count is (omega (arith, early));
-      site = λ scenario i past is later early within. c.wake-site.ensures.rests scenario i past is later (omega (arith, early)) within;
+      membership = λ scenario i past is later early within. c.wake-membership.ensures.rests scenario i past is later (omega (arith, early)) within;
       sends = λ n early.
           subst (λ (v : NodeParts). IsRising n v.agenda.left → IsRising (n + 1) v.agenda.left) same (c.next_scripted.ensures.sends n (omega (arith, early)));
       joins = λ n early.

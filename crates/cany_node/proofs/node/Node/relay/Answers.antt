@@ -4,7 +4,7 @@ use Rattle.cany_model.specs.Rules.Effect.{waiting_after}
 use Rattle.cany_model.specs.Rules.Turn.{turn_effects}
 use Rattle.cany_node.specs.Node.{CanAct, IsNodeOf, NodeParts}
 use Rattle.cany_node.specs.Resting.{RestsUntil}
-use Rattle.cany_node.specs.Site.{IsNextOf}
+use Rattle.cany_node.specs.Membership.{IsNextOf}
 use Rattle.cany_node.proofs.ActSteps.{can_apply, done, stands_after}
 use Rattle.cany_node.proofs.EdcanTurn.{edcan_asked, edcan_listed, edcan_same, edcan_scripted}
 use Rattle.cany_node.proofs.HeardTurn.{edcan_stands}

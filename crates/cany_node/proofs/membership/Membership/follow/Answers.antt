@@ -1,9 +1,9 @@
 use Rattle.std.proofs.Common.{◌∷◌, length, subst, sym}
 use Rattle.cany_history.specs.History.{IsHistoryOf}
 use Rattle.cany_model.specs.Rules.KnowledgeOf.{ended_in, knowledge_of}
-use Rattle.cany_node.specs.Site.{IsSiteOf, met_by}
-use Rattle.cany_node.proofs.SiteSteps.{all_listed, ended_now, has_known, known_exchanged, known_installed, site_stands}
-use Rattle.cany_node.proofs.site.Site.follow.Goals as goal
+use Rattle.cany_node.specs.Membership.{IsMembershipOf, met_by}
+use Rattle.cany_node.proofs.MembershipSteps.{all_listed, ended_now, has_known, known_exchanged, known_installed, site_stands}
+use Rattle.cany_node.proofs.membership.Membership.follow.Goals as goal
 
 pub install-requires-clause-known : goal.install-requires-clause-known
 install-requires-clause-known c =
@@ -61,5 +61,5 @@ returns-clause-stands c = λ scenario i past h next.
     let installed = known_installed scenario i past notice next c.install.new.self knows in
     let exchanged = c.exchange-ended.ensures.history scenario i past exchanges in
     let history = subst (IsHistoryOf scenario i read (knowledge_of scenario i read).vector) (sym c.install.ensures.history) exchanged in
-    subst (IsSiteOf scenario i read) (sym c.sign.ensures.state)
+    subst (IsMembershipOf scenario i read) (sym c.sign.ensures.state)
     (site_stands scenario i past notice next c.install.new.self installed history)

@@ -15,13 +15,13 @@ use Rattle.cany_model.proofs.Rules.KnowledgeFacts.{begun_knowledge}
 use Rattle.cany_history.specs.History.{HistoryParts, IsHistoryOf}
 use Rattle.cany_life.specs.Life.{IsLifeOf, LifeParts}
 use Rattle.cany_views.specs.Views.{IsViewsOf, ViewsParts}
-use Rattle.cany_node.specs.Site.{IsSiteAtRest, IsSiteOf, SiteParts}
+use Rattle.cany_node.specs.Membership.{IsMembershipAtRest, IsMembershipOf, MembershipParts}
 
 nobody_below : (bound : ℕ) → AllBelow bound nobody
 nobody_below bound = λ node is. absurd (false≢true (sym (has_none node) ∙ is))
 
 -- at the node of the opening nobody has failed, and it has the members of the scenario
-pub site_opens : (scenario : ScenarioParts) (i : ℕ) (v : SiteParts) → IsSiteAtRest scenario i v → IsSiteOf scenario i [] v
+pub site_opens : (scenario : ScenarioParts) (i : ℕ) (v : MembershipParts) → IsMembershipAtRest scenario i v → IsMembershipOf scenario i [] v
 unfolding knowledge_of
 site_opens scenario i v rest = record {
   params = rest.params;
@@ -91,7 +91,7 @@ views_for scenario inc i knowledge v legal h = record {
 -- ---- a node that is at first no member
 
 -- what becomes of its site
-pub record IsOutside (old new : SiteParts) : Type 0 where
+pub record IsOutside (old new : MembershipParts) : Type 0 where
   pub life : new.life ≡ old.life
   pub history : new.history ≡ old.history
   pub views : (scenario : ScenarioParts) (knowledge : Knowledge) → IsViewsOf scenario old.views.node knowledge old.views
@@ -99,10 +99,10 @@ pub record IsOutside (old new : SiteParts) : Type 0 where
   pub params : new.params ≡ old.params
 
 -- it knows nothing of the site
-pub site_begins : (scenario : ScenarioParts) (inc : Incarnation) (i n : ℕ) (old new : SiteParts) → IsSiteAtRest scenario i old
+pub site_begins : (scenario : ScenarioParts) (inc : Incarnation) (i n : ℕ) (old new : MembershipParts) → IsMembershipAtRest scenario i old
     → IsOutside old new → IsLegalScenario (scenario_for scenario inc) → (scenario_for scenario inc).members ≡ nobody
     → IsBegun (scenario_for scenario inc) (replicate n Idle)
-    → IsSiteOf (scenario_for scenario inc) i (replicate n Idle) new
+    → IsMembershipOf (scenario_for scenario inc) i (replicate n Idle) new
 site_begins scenario inc i n old new rest became legal outside begun = record {
   params = became.params ∙ rest.params;
   failed = subst (λ (st : Knowledge). AllBelow scenario.params.nodes st.failed) (sym known) (nobody_below scenario.params.nodes);

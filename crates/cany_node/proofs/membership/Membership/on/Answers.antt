@@ -1,7 +1,7 @@
 use Rattle.std.proofs.Common.{◌∙◌, ◌++◌, ap, sym, arith, append-nil}
 use Rattle.cany_model.specs.Rules.Actions.{actions_of}
 use Rattle.cany_node.proofs.Unheard.{none_unheard, site_unheard, unheard}
-use Rattle.cany_node.proofs.site.Site.on.Goals as goal
+use Rattle.cany_node.proofs.membership.Membership.on.Goals as goal
 
 pub returns-else-notice-wake-clause-actions : goal.returns-else-notice-wake-clause-actions
 returns-else-notice-wake-clause-actions c = λ scenario i past h next.

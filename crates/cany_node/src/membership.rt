@@ -11,8 +11,8 @@ ghost use Rattle.cany_model.specs.Rules.Vectors.{is_start};
 ghost use Rattle.cany_model.specs.Rules.Views.{start_of, view_effects, with_ended};
 ghost use Rattle.cany_views.specs.Views.{IsViewsOf};
 ghost use Rattle.cany_node.specs.Asks.{asked_as};
-ghost use Rattle.cany_node.specs.Site.{CanExchange, CanHear, Exchanges, FitsCycle, HasKnown, IsNextOf, IsSiteAtRest, IsSiteOf, KnowsOf, ended_as, exchange_plain, site_effects, site_room};
-ghost use Rattle.cany_node.specs.Resting.{SiteRests};
+ghost use Rattle.cany_node.specs.Membership.{CanExchange, CanHear, Exchanges, FitsCycle, HasKnown, IsNextOf, IsMembershipAtRest, IsMembershipOf, KnowsOf, ended_as, exchange_plain, membership_effects, membership_room};
+ghost use Rattle.cany_node.specs.Resting.{MembershipRests};
 
 use crate::asks::AskKind;
 use crate::notices::tells_of_site;
@@ -25,17 +25,17 @@ use std::marker::Model;
 
 /// What a node keeps of the site: who shows life and who has failed, the exchange of vectors, and the view.
 #[derive(Drop)]
-pub(crate) struct Site {
+pub(crate) struct Membership {
     params: Params,
     life: Life,
     history: History,
     views: Views,
 }
 
-impl Model for Site {
-    ghost use Rattle.cany_node.specs.Site.{SiteParts};
+impl Model for Membership {
+    ghost use Rattle.cany_node.specs.Membership.{MembershipParts};
 
-    ghost Value = { SiteParts };
+    ghost Value = { MembershipParts };
 
     ghost view = { λ s. record { params = s.params; life = s.life; history = s.history; views = s.views } };
 }
@@ -47,16 +47,16 @@ fn is_start(params: &Params, slot: Slot) -> bool
     slot % params.cycle == 0 && slot / params.cycle > 0
 }
 
-impl Site {
+impl Membership {
     /// That of a node which has read nothing, or only notices of idle slots.
-    pub(crate) fn build(alloc: Global, node: NodeId, scenario: &Scenario) -> Result<Site, Memory>
+    pub(crate) fn build(alloc: Global, node: NodeId, scenario: &Scenario) -> Result<Membership, Memory>
         requires { node < scenario.now.params.nodes }
-        ensures { IfOk result (IsSiteAtRest scenario.now node) }
+        ensures { IfOk result (IsMembershipAtRest scenario.now node) }
     {
         let life = Life::build(alloc, node, scenario)?;
         let history = History::build(node, scenario);
         let views = Views::build(alloc, node, scenario)?;
-        Ok(Site {
+        Ok(Membership {
             params: *scenario.params(),
             life,
             history,
@@ -78,12 +78,12 @@ impl Site {
     /// What a notice tells, up to the node's own life sign. Before `wake` that is nothing, where it tells nothing of the site.
     pub(crate) fn on(&mut self, notice: &Notice, out: &mut Actions)
         requires hears { CanHear self.old notice.now }
-        requires room { length out.old.items + site_room self.old ≤ out.old.room }
-        ensures actions { (scenario : ScenarioParts) (i : ℕ) (past : List NoticeKind) → IsSiteOf scenario i past self.old → IsNextOf scenario i past notice.now →
-            out.new.items ≡ out.old.items ++ actions_of scenario.params.format (site_effects scenario i (notice.now.kind ∷ past)) }
-        ensures stands { (scenario : ScenarioParts) (i : ℕ) (past : List NoticeKind) → IsSiteOf scenario i past self.old → IsNextOf scenario i past notice.now →
-            IsSiteOf scenario i (notice.now.kind ∷ past) self.new }
-        ensures few { length out.new.items ≤ length out.old.items + site_room self.old }
+        requires room { length out.old.items + membership_room self.old ≤ out.old.room }
+        ensures actions { (scenario : ScenarioParts) (i : ℕ) (past : List NoticeKind) → IsMembershipOf scenario i past self.old → IsNextOf scenario i past notice.now →
+            out.new.items ≡ out.old.items ++ actions_of scenario.params.format (membership_effects scenario i (notice.now.kind ∷ past)) }
+        ensures stands { (scenario : ScenarioParts) (i : ℕ) (past : List NoticeKind) → IsMembershipOf scenario i past self.old → IsNextOf scenario i past notice.now →
+            IsMembershipOf scenario i (notice.now.kind ∷ past) self.new }
+        ensures few { length out.new.items ≤ length out.old.items + membership_room self.old }
         ensures room { out.new.room ≡ out.old.room }
     {
         if tells_of_site(&notice.kind) || notice.slot >= self.wake(notice.slot) {
@@ -95,12 +95,12 @@ impl Site {
     /// the new view, at the start of one what the node starts with, and the node's own life sign.
     fn follow(&mut self, notice: &Notice, out: &mut Actions)
         requires hears { CanHear self.old notice.now }
-        requires room { length out.old.items + site_room self.old ≤ out.old.room }
-        ensures actions { (scenario : ScenarioParts) (i : ℕ) (past : List NoticeKind) → IsSiteOf scenario i past self.old → IsNextOf scenario i past notice.now →
-            out.new.items ≡ out.old.items ++ actions_of scenario.params.format (site_effects scenario i (notice.now.kind ∷ past)) }
-        ensures stands { (scenario : ScenarioParts) (i : ℕ) (past : List NoticeKind) → IsSiteOf scenario i past self.old → IsNextOf scenario i past notice.now →
-            IsSiteOf scenario i (notice.now.kind ∷ past) self.new }
-        ensures few { length out.new.items ≤ length out.old.items + site_room self.old }
+        requires room { length out.old.items + membership_room self.old ≤ out.old.room }
+        ensures actions { (scenario : ScenarioParts) (i : ℕ) (past : List NoticeKind) → IsMembershipOf scenario i past self.old → IsNextOf scenario i past notice.now →
+            out.new.items ≡ out.old.items ++ actions_of scenario.params.format (membership_effects scenario i (notice.now.kind ∷ past)) }
+        ensures stands { (scenario : ScenarioParts) (i : ℕ) (past : List NoticeKind) → IsMembershipOf scenario i past self.old → IsNextOf scenario i past notice.now →
+            IsMembershipOf scenario i (notice.now.kind ∷ past) self.new }
+        ensures few { length out.new.items ≤ length out.old.items + membership_room self.old }
         ensures room { out.new.room ≡ out.old.room }
     {
         self.hear(notice, out);
@@ -111,8 +111,8 @@ impl Site {
 
     /// The first slot, from `now` on, in whose turn an idle notice may lead to something.
     pub(crate) fn wake(&self, now: Slot) -> Slot
-        ensures rests { (scenario : ScenarioParts) (i : ℕ) (past : List NoticeKind) → IsSiteOf scenario i past self.now →
-            now ≤ length past → length past < result → length past < scenario.params.slots → SiteRests scenario i past self.now }
+        ensures rests { (scenario : ScenarioParts) (i : ℕ) (past : List NoticeKind) → IsMembershipOf scenario i past self.now →
+            now ≤ length past → length past < result → length past < scenario.params.slots → MembershipRests scenario i past self.now }
     {
         let life = self.life.wake(self.views.members(), now);
         life.min(self.history.wake(now))
@@ -137,9 +137,9 @@ impl Site {
     fn hear(&mut self, notice: &Notice, out: &mut Actions)
         requires hears { CanHear self.old notice.now }
         requires room { length out.old.items + 2 * self.old.life.params.nodes + 3 ≤ out.old.room }
-        ensures actions { (scenario : ScenarioParts) (i : ℕ) (past : List NoticeKind) → IsSiteOf scenario i past self.old → IsNextOf scenario i past notice.now →
+        ensures actions { (scenario : ScenarioParts) (i : ℕ) (past : List NoticeKind) → IsMembershipOf scenario i past self.old → IsNextOf scenario i past notice.now →
             out.new.items ≡ out.old.items ++ actions_of scenario.params.format (failure_effects scenario i (notice.now.kind ∷ past)) }
-        ensures exchanges { (scenario : ScenarioParts) (i : ℕ) (past : List NoticeKind) → IsSiteOf scenario i past self.old → IsNextOf scenario i past notice.now →
+        ensures exchanges { (scenario : ScenarioParts) (i : ℕ) (past : List NoticeKind) → IsMembershipOf scenario i past self.old → IsNextOf scenario i past notice.now →
             Exchanges scenario i past notice.now self.new }
         ensures few { length out.new.items ≤ length out.old.items + 2 * self.old.life.params.nodes + 3 }
         ensures room { out.new.room ≡ out.old.room }

@@ -21,7 +21,7 @@ use Rattle.cany_model.proofs.Bus.Identities.{same_class-true}
 use Rattle.cany_model.proofs.Rules.KnowledgeSteps.{IgnoresAsks, IgnoresLife, IgnoresSigns, IgnoresVector, asks_keep, found_keeps, life_keeps, met_keeps}
 use Rattle.cany_views.specs.Views.{IsViewsOf, ViewsParts}
 use Rattle.cany_views.proofs.SetFacts.{below_with}
-use Rattle.cany_node.specs.Site.{KnowsOf, SiteParts, ended_as}
+use Rattle.cany_node.specs.Membership.{KnowsOf, MembershipParts, ended_as}
 
 -- ---- what the parts rest on
 
@@ -68,7 +68,7 @@ module _ (scenario : ScenarioParts) (i : ℕ) (a b : Knowledge) where
     leaves = h.leaves;
   }
 
-  pub knows_moved : (past : List NoticeKind) (v : SiteParts) → SameLife a b → SameViews a b → KnowsOf scenario i past a v
+  pub knows_moved : (past : List NoticeKind) (v : MembershipParts) → SameLife a b → SameViews a b → KnowsOf scenario i past a v
       → KnowsOf scenario i past b v
   knows_moved past v life views h = record {
     params = h.params;

@@ -1,8 +1,8 @@
 use Rattle.std.proofs.Common.{◌∷◌, subst, sym}
 use Rattle.cany_model.specs.Rules.KnowledgeOf.{knowledge_of}
-use Rattle.cany_node.specs.Site.{Exchanges, met_by}
-use Rattle.cany_node.proofs.SiteSteps.{exchange_listed, exchanged, history_next, history_stands}
-use Rattle.cany_node.proofs.site.Site.exchange.Goals as goal
+use Rattle.cany_node.specs.Membership.{Exchanges, met_by}
+use Rattle.cany_node.proofs.MembershipSteps.{exchange_listed, exchanged, history_next, history_stands}
+use Rattle.cany_node.proofs.membership.Membership.exchange.Goals as goal
 
 pub returns-clause-actions : goal.returns-clause-actions
 returns-clause-actions c = λ scenario i past h.

@@ -20,14 +20,14 @@ use Rattle.cany_history.specs.History.{HistoryParts, IsHistoryOf}
 use Rattle.cany_life.specs.Life.{IsLifeOf, LifeParts}
 use Rattle.cany_views.specs.Views.{IsViewsOf, ViewsParts}
 
-pub record SiteParts : Type 0 where
+pub record MembershipParts : Type 0 where
   pub params : Parameters
   pub life : LifeParts
   pub history : HistoryParts
   pub views : ViewsParts
 
 -- the value is that of node i after these notices, newest first: only nodes of the bus have failed
-pub record IsSiteOf (scenario : ScenarioParts) (i : ℕ) (past : List NoticeKind) (v : SiteParts) : Type 0 where
+pub record IsMembershipOf (scenario : ScenarioParts) (i : ℕ) (past : List NoticeKind) (v : MembershipParts) : Type 0 where
   pub params : v.params ≡ scenario.params
   pub failed : AllBelow scenario.params.nodes (knowledge_of scenario i past).failed
   pub life : IsLifeOf scenario i past (knowledge_of scenario i past) v.life
@@ -35,7 +35,7 @@ pub record IsSiteOf (scenario : ScenarioParts) (i : ℕ) (past : List NoticeKind
   pub views : IsViewsOf scenario i (knowledge_of scenario i past) v.views
 
 -- that of a node which has read nothing, or only notices of idle slots, whoever its members are
-pub record IsSiteAtRest (scenario : ScenarioParts) (i : ℕ) (v : SiteParts) : Type 0 where
+pub record IsMembershipAtRest (scenario : ScenarioParts) (i : ℕ) (v : MembershipParts) : Type 0 where
   pub params : v.params ≡ scenario.params
   pub life : (n : ℕ) (members : Nodes) → IsLifeOf scenario i (replicate n Idle) (knowledge_at_first members) v.life
   pub history : (n : ℕ) → IsHistoryOf scenario i (replicate n Idle) None v.history
@@ -73,15 +73,15 @@ tells_of_site Bad = false
 -- ---- in the middle of a turn
 
 -- there is a scenario, and what node i has heard in it, that the value stands for, and this notice can come next
-pub record CanHear (v : SiteParts) (notice : Notice) : Type 0 where
+pub record CanHear (v : MembershipParts) (notice : Notice) : Type 0 where
   pub scenario : ScenarioParts
   pub node : ℕ
   pub past : List NoticeKind
-  pub stands : IsSiteOf scenario node past v
+  pub stands : IsMembershipOf scenario node past v
   pub next : IsNextOf scenario node past notice
 
 -- parameters, life and views are those of node i where it knows this
-pub record KnowsOf (scenario : ScenarioParts) (i : ℕ) (past : List NoticeKind) (knowledge : Knowledge) (v : SiteParts) : Type 0 where
+pub record KnowsOf (scenario : ScenarioParts) (i : ℕ) (past : List NoticeKind) (knowledge : Knowledge) (v : MembershipParts) : Type 0 where
   pub params : v.params ≡ scenario.params
   pub failed : AllBelow scenario.params.nodes knowledge.failed
   pub life : IsLifeOf scenario i past knowledge v.life
@@ -96,12 +96,12 @@ abbrev pub met_by : ScenarioParts → ℕ → Notice → List NoticeKind → Kno
 met_by scenario i notice past = after_meeting scenario.params i (length past) notice.kind (knowledge_of scenario i past)
 
 -- Life and views know what the notice tells, and nothing of its vector yet: that is exchanged next.
-pub record Exchanges (scenario : ScenarioParts) (i : ℕ) (past : List NoticeKind) (notice : Notice) (v : SiteParts) : Type 0 where
+pub record Exchanges (scenario : ScenarioParts) (i : ℕ) (past : List NoticeKind) (notice : Notice) (v : MembershipParts) : Type 0 where
   pub knows : KnowsOf scenario i (notice.kind ∷ past) (met_by scenario i notice past) v
   pub history : IsHistoryOf scenario i past (knowledge_of scenario i past).vector v.history
   pub next : IsNextOf scenario i past notice
 
-pub record CanExchange (v : SiteParts) (notice : Notice) : Type 0 where
+pub record CanExchange (v : MembershipParts) (notice : Notice) : Type 0 where
   pub scenario : ScenarioParts
   pub node : ℕ
   pub past : List NoticeKind
@@ -112,7 +112,7 @@ abbrev pub FitsCycle : Parameters → ℕ → Option Ended → Type 0
 FitsCycle p slot ended = IfSome ended (λ e. (e.cycle ≡ cycle_of p slot) × AllBelow p.nodes e.vector)
 
 -- the value stands for what a node knows after the turn of the slot has begun
-pub record HasKnown (v : SiteParts) (slot : ℕ) : Type 0 where
+pub record HasKnown (v : MembershipParts) (slot : ℕ) : Type 0 where
   pub scenario : ScenarioParts
   pub node : ℕ
   pub past : List NoticeKind
@@ -137,10 +137,10 @@ life_plain scenario i (notice ∷ before) =
     life_sign scenario.params.life 0 i (length before) (knowledge_of scenario i (notice ∷ before)) (life_signs_sent i (notice ∷ before))
 
 -- all that is done for the site
-abbrev pub site_effects : TurnRule
-site_effects scenario i past =
+abbrev pub membership_effects : TurnRule
+membership_effects scenario i past =
     failure_effects scenario i past ++ (exchange_plain scenario i past ++ (install_effects scenario i past ++ life_plain scenario i past))
 
 -- the most actions of it
-abbrev pub site_room : SiteParts → ℕ
-site_room v = 2 * v.life.params.nodes + length v.views.joins + length v.views.leaves + 8
+abbrev pub membership_room : MembershipParts → ℕ
+membership_room v = 2 * v.life.params.nodes + length v.views.joins + length v.views.leaves + 8

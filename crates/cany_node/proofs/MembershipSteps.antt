@@ -25,12 +25,12 @@ use Rattle.cany_model.specs.Rules.Views.{after_ask, start_of, view_effects, with
 use Rattle.cany_model.proofs.Rules.VectorFacts.{knowledge_vector}
 use Rattle.cany_views.specs.Views.{IsViewsOf, ViewsParts}
 use Rattle.cany_views.proofs.SetFacts.{below_minus}
-use Rattle.cany_node.specs.Site.{Exchanges, HasKnown, IsNextOf, IsSiteOf, KnowsOf, SiteParts, ended_as, exchange_plain, life_plain, met_by, site_effects}
-use Rattle.cany_node.proofs.SiteFacts.{asked_members, ended_none, ended_vector, found_failed, knows_moved, life_moved, met_life, met_views, starts_as_met, views_moved}
+use Rattle.cany_node.specs.Membership.{Exchanges, HasKnown, IsNextOf, IsMembershipOf, KnowsOf, MembershipParts, ended_as, exchange_plain, life_plain, met_by, membership_effects}
+use Rattle.cany_node.proofs.MembershipFacts.{asked_members, ended_none, ended_vector, found_failed, knows_moved, life_moved, met_life, met_views, starts_as_met, views_moved}
 
 -- ---- who asks, who lives and who has failed
 
-module _ (scenario : ScenarioParts) (i : ℕ) (past : List NoticeKind) (notice : Notice) (v : SiteParts) (h : IsSiteOf scenario i past v)
+module _ (scenario : ScenarioParts) (i : ℕ) (past : List NoticeKind) (notice : Notice) (v : MembershipParts) (h : IsMembershipOf scenario i past v)
     (next : IsNextOf scenario i past notice) where
   abbrev before : Knowledge
   before = knowledge_of scenario i past
@@ -91,7 +91,7 @@ module _ (scenario : ScenarioParts) (i : ℕ) (past : List NoticeKind) (notice :
 
 -- ---- the exchange of vectors
 
-module _ (scenario : ScenarioParts) (i : ℕ) (past : List NoticeKind) (notice : Notice) (v : SiteParts)
+module _ (scenario : ScenarioParts) (i : ℕ) (past : List NoticeKind) (notice : Notice) (v : MembershipParts)
     (h : Exchanges scenario i past notice v) where
   abbrev known : Knowledge
   known = knowledge_of scenario i past
@@ -134,7 +134,7 @@ module _ (scenario : ScenarioParts) (i : ℕ) (past : List NoticeKind) (notice :
 
 -- ---- the end of a cycle
 
-module _ (scenario : ScenarioParts) (i : ℕ) (past : List NoticeKind) (knowledge : Knowledge) (v : SiteParts)
+module _ (scenario : ScenarioParts) (i : ℕ) (past : List NoticeKind) (knowledge : Knowledge) (v : MembershipParts)
     (h : KnowsOf scenario i past knowledge v) where
   pub known_life : IsLifeOf scenario v.life.node past knowledge v.life
   known_life = subst (λ n. IsLifeOf scenario n past knowledge v.life) (sym h.life.node) h.life
@@ -196,7 +196,7 @@ module _ (scenario : ScenarioParts) (i : ℕ) (past : List NoticeKind) (notice :
   abbrev heard : List NoticeKind
   heard = notice.kind ∷ past
 
-  pub has_known : (knowledge : Knowledge) (v : SiteParts) → KnowsOf scenario i (notice.kind ∷ past) knowledge v → HasKnown v notice.slot
+  pub has_known : (knowledge : Knowledge) (v : MembershipParts) → KnowsOf scenario i (notice.kind ∷ past) knowledge v → HasKnown v notice.slot
   has_known knowledge v knows = record {
     scenario = scenario;
     node = i;
@@ -208,7 +208,7 @@ module _ (scenario : ScenarioParts) (i : ℕ) (past : List NoticeKind) (notice :
   }
 
   -- the vectors are exchanged: what is known besides stays
-  pub known_exchanged : (old new : SiteParts) (history : HistoryParts) → Exchanges scenario i past notice old
+  pub known_exchanged : (old new : MembershipParts) (history : HistoryParts) → Exchanges scenario i past notice old
       → new ≡ record old { history = history } → KnowsOf scenario i (notice.kind ∷ past) (met_by scenario i notice past) new
   known_exchanged old new history h state =
       subst (KnowsOf scenario i heard (met_by scenario i notice past)) (sym state)
@@ -222,7 +222,7 @@ module _ (scenario : ScenarioParts) (i : ℕ) (past : List NoticeKind) (notice :
       is ∙ ap (λ slot. ended_as scenario.params slot ended) (sym next.next.slot)
 
   -- what ended is installed, and what the node starts with is a matter of its vector alone
-  known_started : (v : SiteParts)
+  known_started : (v : MembershipParts)
       → KnowsOf scenario i heard (after_installing scenario.params i (length past) notice.kind (knowledge_of scenario i past)) v
       → KnowsOf scenario i heard (knowledge_of scenario i heard) v
   unfolding knowledge_of after_notice
@@ -234,7 +234,7 @@ module _ (scenario : ScenarioParts) (i : ℕ) (past : List NoticeKind) (notice :
       (record { members = refl; joiners = refl; leavers = refl }) h)
       (λ _. h)
 
-  pub known_installed : (v : SiteParts)
+  pub known_installed : (v : MembershipParts)
       → KnowsOf scenario i (notice.kind ∷ past)
       (with_ended i notice.slot (ended_in scenario.params (length past) notice.kind (knowledge_of scenario i past))
       (met_by scenario i notice past)) v
@@ -265,7 +265,7 @@ module _ (scenario : ScenarioParts) (i : ℕ) (past : List NoticeKind) (notice :
       (ended_in scenario.params (length past) notice.kind (knowledge_of scenario i past)))
       → e ≡ d ++ actions_of scenario.params.format
       (life_sign scenario.params.life 0 i notice.slot (knowledge_of scenario i (notice.kind ∷ past)) (life_signs_sent i (notice.kind ∷ past)))
-      → e ≡ a ++ actions_of scenario.params.format (site_effects scenario i (notice.kind ∷ past))
+      → e ≡ a ++ actions_of scenario.params.format (membership_effects scenario i (notice.kind ∷ past))
   unfolding install_effects
   all_listed a b c d e is_b is_c is_d is_e =
       let format : Format = scenario.params.format in
@@ -277,9 +277,9 @@ module _ (scenario : ScenarioParts) (i : ℕ) (past : List NoticeKind) (notice :
       (is_e ∙ ap (λ slot. d ++ actions_of format (sign slot)) next.next.slot)
 
   -- the value stands for the notice too
-  pub site_stands : (v : SiteParts) → KnowsOf scenario i (notice.kind ∷ past) (knowledge_of scenario i (notice.kind ∷ past)) v
+  pub site_stands : (v : MembershipParts) → KnowsOf scenario i (notice.kind ∷ past) (knowledge_of scenario i (notice.kind ∷ past)) v
       → IsHistoryOf scenario i (notice.kind ∷ past) (knowledge_of scenario i (notice.kind ∷ past)).vector v.history
-      → IsSiteOf scenario i (notice.kind ∷ past) v
+      → IsMembershipOf scenario i (notice.kind ∷ past) v
   site_stands v knows history = record {
     params = knows.params;
     failed = knows.failed;

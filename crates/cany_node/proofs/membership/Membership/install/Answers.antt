@@ -1,7 +1,7 @@
 use Rattle.std.proofs.Common.{subst, sym, ◌∙◌}
-use Rattle.cany_node.specs.Site.{KnowsOf}
-use Rattle.cany_node.proofs.SiteSteps.{known_life, known_views, none_installed, none_listed, view_installed, view_listed}
-use Rattle.cany_node.proofs.site.Site.install.Goals as goal
+use Rattle.cany_node.specs.Membership.{KnowsOf}
+use Rattle.cany_node.proofs.MembershipSteps.{known_life, known_views, none_installed, none_listed, view_installed, view_listed}
+use Rattle.cany_node.proofs.membership.Membership.install.Goals as goal
 
 pub returns-in-Some-clause-knows : goal.returns-in-Some-clause-knows
 returns-in-Some-clause-knows c = λ scenario i past knowledge vector h is.

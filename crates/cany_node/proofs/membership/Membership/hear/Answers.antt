@@ -1,12 +1,12 @@
 use Rattle.std.proofs.Common.{subst, sym}
 use Rattle.cany_model.specs.Rules.KnowledgeOf.{knowledge_of}
-use Rattle.cany_node.specs.Site.{IsSiteOf}
-use Rattle.cany_node.proofs.SiteSteps.{all_heard, failures_listed, life_next, life_stands, views_stand}
-use Rattle.cany_node.proofs.site.Site.hear.Goals as goal
+use Rattle.cany_node.specs.Membership.{IsMembershipOf}
+use Rattle.cany_node.proofs.MembershipSteps.{all_heard, failures_listed, life_next, life_stands, views_stand}
+use Rattle.cany_node.proofs.membership.Membership.hear.Goals as goal
 
 pub returns-clause-actions : goal.returns-clause-actions
 returns-clause-actions c = λ scenario i past h next.
-    let stands = subst (IsSiteOf scenario i past) (sym c.self.view_is) h in
+    let stands = subst (IsMembershipOf scenario i past) (sym c.self.view_is) h in
     let notice = c.args.notice.now in
     let known = knowledge_of scenario i past in
     let heard = c.hear.ensures.stands scenario known (views_stand scenario i past notice _ stands next) next.next.readable in
@@ -17,7 +17,7 @@ returns-clause-actions c = λ scenario i past h next.
 
 pub returns-clause-exchanges : goal.returns-clause-exchanges
 returns-clause-exchanges c = λ scenario i past h next.
-    let stands = subst (IsSiteOf scenario i past) (sym c.self.view_is) h in
+    let stands = subst (IsMembershipOf scenario i past) (sym c.self.view_is) h in
     let notice = c.args.notice.now in
     let known = knowledge_of scenario i past in
     let heard = c.hear.ensures.stands scenario known (views_stand scenario i past notice _ stands next) next.next.readable in

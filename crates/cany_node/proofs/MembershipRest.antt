@@ -18,13 +18,13 @@ use Rattle.cany_model.specs.Rules.Knowledge.{Knowledge, after_finding, with_memb
 use Rattle.cany_model.specs.Rules.Vectors.{exchange_at, is_start}
 use Rattle.cany_model.specs.Rules.Views.{after_ask, start_of, view_effects, with_ended}
 use Rattle.cany_views.specs.Views.{IsViewsOf}
-use Rattle.cany_node.specs.Resting.{SiteRests}
-use Rattle.cany_node.specs.Site.{IsSiteOf, SiteParts, exchange_plain, life_plain, site_effects}
+use Rattle.cany_node.specs.Resting.{MembershipRests}
+use Rattle.cany_node.specs.Membership.{IsMembershipOf, MembershipParts, exchange_plain, life_plain, membership_effects}
 
 pub both_none : (xs ys : List Effect) → xs ≡ [] → ys ≡ [] → xs ++ ys ≡ []
 both_none xs ys first second = ap (λ es. es ++ ys) first ∙ second
 
-module _ (scenario : ScenarioParts) (i : ℕ) (past : List NoticeKind) (v : SiteParts) (h : IsSiteOf scenario i past v) where
+module _ (scenario : ScenarioParts) (i : ℕ) (past : List NoticeKind) (v : MembershipParts) (h : IsMembershipOf scenario i past v) where
   abbrev known : Knowledge
   known = knowledge_of scenario i past
 
@@ -95,7 +95,7 @@ module _ (scenario : ScenarioParts) (i : ℕ) (past : List NoticeKind) (v : Site
     no_sign : life_plain scenario i idle ≡ []
     no_sign = ap (λ st. life_sign p.life 0 i (length past) st (life_signs_sent i idle)) knowledge_same ∙ life_rests.sign
 
-    none_done : site_effects scenario i idle ≡ []
+    none_done : membership_effects scenario i idle ≡ []
     none_done =
         both_none (failure_effects scenario i idle) _ no_failures
         (both_none (exchange_plain scenario i idle) _ no_exchange
@@ -103,7 +103,7 @@ module _ (scenario : ScenarioParts) (i : ℕ) (past : List NoticeKind) (v : Site
 
     -- ---- the value
 
-    still : IsSiteOf scenario i idle v
+    still : IsMembershipOf scenario i idle v
     still =
         let same : known ≡ knowledge_of scenario i idle = sym knowledge_same in
         record {
@@ -114,5 +114,5 @@ module _ (scenario : ScenarioParts) (i : ℕ) (past : List NoticeKind) (v : Site
           views = subst (λ st. IsViewsOf scenario i st v.views) same h.views;
         }
 
-    pub site_rests : SiteRests scenario i past v
+    pub site_rests : MembershipRests scenario i past v
     site_rests = record { stands = still; effects = none_done; knowledge = knowledge_same }
