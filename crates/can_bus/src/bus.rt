@@ -7,8 +7,8 @@ ghost use Rattle.can_bus.specs.Bus.{Follows};
 ghost use Rattle.can_bus.specs.Rest.{idle_note, idle_trace};
 ghost use Rattle.can_bus.specs.Row.{AreAfter, IsRowFor, NoneLags, StandFor};
 
-use crate::transmission::idle_note;
 use crate::slot::run_slot;
+use crate::transmission::idle_note;
 use can_controller::Controller;
 use can_fault::laws::partial_slots_are_fewer_than_rules;
 use can_fault::{Attempts, Break, Script, Tally};

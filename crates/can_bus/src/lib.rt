@@ -4,7 +4,6 @@
 
 mod bus;
 mod contest;
-mod transmission;
 mod nodes;
 mod offers;
 mod ruling;
@@ -13,5 +12,6 @@ mod slot;
 #[cfg(test)]
 mod tests;
 mod threads;
+mod transmission;
 
 pub use bus::Bus;

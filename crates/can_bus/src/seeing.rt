@@ -5,8 +5,8 @@ ghost use Rattle.can_bus.specs.Contest.{running_nodes, seen_by, stopped_by};
 ghost use Rattle.can_bus.specs.Each.{each};
 ghost use Rattle.can_bus.specs.Row.{HaveRoom, nodes_of};
 
-use crate::transmission::share_of;
 use crate::nodes::{insert_running, nobody};
+use crate::transmission::share_of;
 use can_controller::Controller;
 use cany_base::{NodeId, NodeSet, Slot, SlotNote};
 

@@ -8,10 +8,10 @@ ghost use Rattle.can_fault.specs.Attempts.{AreCountsOf};
 ghost use Rattle.can_bus.specs.Row.{AreAfter, HaveRoom, nodes_of};
 
 use crate::contest::contest;
-use crate::transmission::transmission;
 use crate::nodes::{running_and_offering, stopping};
 use crate::ruling::ruling;
 use crate::seeing::{see_all, stop_all};
+use crate::transmission::transmission;
 use can_controller::Controller;
 use can_controller::laws::seen_is_node_after;
 use can_fault::{Attempts, Script};

@@ -4,8 +4,8 @@ ghost use Rattle.cany_base.specs.Limits.{most_nodes};
 ghost use Rattle.cany_crew.specs.Assignments.{AreFrom, counts_of, first_refused, has_bus};
 ghost use Rattle.cany_yard.specs.Seats.{AreFirstSeats};
 
+use crate::assignment::{Assignment, NodeAssignment};
 use crate::gate::Gate;
-use crate::assignment::{NodeAssignment, Assignment};
 use cany_base::{Memory, NodeId, Slot};
 use cany_yard::{BusSeat, Course, Seat};
 use std::alloc::Global;
@@ -55,7 +55,11 @@ pub(crate) fn fill_assignments<L: Course, B: Ledger, G: Gate>(
         // There are few, so that it is cheap to take the first.
         let seat = seats.remove(0);
         let gate = gates.remove(0);
-        assignments.push_reserved(Assignment::Node(NodeAssignment::new(NodeId::of_index(i), seat, gate)));
+        assignments.push_reserved(Assignment::Node(NodeAssignment::new(
+            NodeId::of_index(i),
+            seat,
+            gate,
+        )));
     }
 }
 

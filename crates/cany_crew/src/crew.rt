@@ -4,10 +4,10 @@ ghost use Rattle.cany_crew.specs.Gates.{HasRefused, NoneFell};
 ghost use Rattle.cany_crew.specs.Held.{IfHeld, IfMemory, world_of};
 ghost use Rattle.cany_model.specs.Runs.Run.{IsLegal, IsWhole};
 
+use crate::assigning::Rooms;
 use crate::finish::finish;
 use crate::gate::Gate;
 use crate::nodes::nodes_of;
-use crate::assigning::Rooms;
 use crate::shift::work_seats;
 use crate::signals::Signals;
 use crate::worker::Work;

@@ -4,13 +4,13 @@
 //! the lock is relied on: when all have ended the world is taken out of the lock, and the caller makes the steps that are left.
 #![tactic(auto)]
 
+mod assigning;
+mod assignment;
 mod crew;
 mod finish;
 mod free_gate;
 mod gate;
 mod nodes;
-mod assignment;
-mod assigning;
 mod shift;
 mod signals;
 pub mod status;

@@ -4,8 +4,8 @@ ghost use Rattle.cany_base.specs.Limits.{most_nodes};
 ghost use Rattle.cany_crew.specs.Gates.{HasRefused, NoneFell};
 ghost use Rattle.cany_yard.specs.Seats.{AreFirstSeats};
 
-use crate::gate::Gate;
 use crate::assigning::{Rooms, empty_assignments, fill_assignments, first_refused};
+use crate::gate::Gate;
 use crate::worker::Work;
 use crate::workers::work_all;
 use cany_base::{NodeId, Slot};

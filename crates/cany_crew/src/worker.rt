@@ -3,8 +3,8 @@ ghost use Rattle.std.specs.Prelude.{◌≡◌};
 ghost use Rattle.cany_crew.specs.Gates.{CountsRefusal};
 ghost use Rattle.cany_crew.specs.Assignments.{IsAfterWork, IsWorked};
 
+use crate::assignment::{Assignment, NodeAssignment};
 use crate::gate::Gate;
-use crate::assignment::{NodeAssignment, Assignment};
 use crate::signals::Signals;
 use cany_base::{NodeId, Slot};
 use cany_yard::{BusSeat, Course, Seat, StepReply, TurnReply, Yard};
@@ -89,7 +89,13 @@ fn work_node<L: Course, B: Ledger, G: Gate, R: Wait>(
 )
     ensures { IsWorked assignment.old assignment.new }
 {
-    assignment.refused = take_turns(rt, work, assignment.node, &mut assignment.seat, &mut assignment.gate);
+    assignment.refused = take_turns(
+        rt,
+        work,
+        assignment.node,
+        &mut assignment.seat,
+        &mut assignment.gate,
+    );
 }
 
 /// Runs the next slot, and says whether it ran.

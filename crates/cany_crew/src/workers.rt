@@ -2,8 +2,8 @@
 ghost use Rattle.std.specs.Prelude.{◌<◌, vec_len};
 ghost use Rattle.cany_crew.specs.Assignments.{AreAfterWork};
 
-use crate::gate::Gate;
 use crate::assignment::Assignment;
+use crate::gate::Gate;
 use crate::worker::{Work, work_assignment};
 use cany_yard::Course;
 use std::sync::Wait;
@@ -23,5 +23,10 @@ pub(crate) fn work_all<
 {
     let threads = assignments.len();
     let each = assignments.as_mut_slice();
-    thread::for_each_mut(rt, each, threads, &|_, assignment| work_assignment(rt, work, assignment));
+    thread::for_each_mut(
+        rt,
+        each,
+        threads,
+        &|_, assignment| work_assignment(rt, work, assignment),
+    );
 }

@@ -213,7 +213,9 @@ impl Life {
         ensures { self.new ≡ record self.old { shown = slice_set self.old.shown node slot } }
     {
         self.shown[usize::from(node.get())] = slot;
-        self.idle_until = self.idle_until.min(slot.saturating_add(self.params.silence));
+        self.idle_until = self
+            .idle_until
+            .min(slot.saturating_add(self.params.silence));
     }
 
     /// The node reads its own transmission of a frame of its own.

@@ -10,11 +10,11 @@ mod heading;
 mod hypothesis;
 mod journal_refusal;
 mod line;
+mod line_buffer;
 mod messages;
 mod node_lines;
 mod refusal;
 mod report;
-mod line_buffer;
 mod scenario_refusal;
 mod summary;
 

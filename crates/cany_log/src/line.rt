@@ -39,7 +39,11 @@ fn put_number_if_any<const ROOM: usize>(
     }
 }
 
-fn put_set_if_any<const ROOM: usize>(line_buffer: &mut LineBuffer<ROOM>, word: &'static str, nodes: NodeSet)
+fn put_set_if_any<const ROOM: usize>(
+    line_buffer: &mut LineBuffer<ROOM>,
+    word: &'static str,
+    nodes: NodeSet,
+)
     requires { length line_buffer.old + (length word.now + 183) ≤ ROOM }
     ensures text { line_buffer.new ≡ spaced (set_if_any word.now nodes) ++ line_buffer.old }
     ensures short { length (spaced (set_if_any word.now nodes)) ≤ length word.now + 183 }

@@ -109,7 +109,13 @@ impl AskPlan {
 }
 
 /// Makes the scripted asks of a slot.
-pub(crate) fn ask_due(kind: AskKind, slot: Slot, plan: &mut AskPlan, membership: &Membership, out: &mut Actions)
+pub(crate) fn ask_due(
+    kind: AskKind,
+    slot: Slot,
+    plan: &mut AskPlan,
+    membership: &Membership,
+    out: &mut Actions,
+)
     requires slot { slot < membership.now.views.params.slots }
     requires room { length out.old.items + length plan.old ≤ out.old.room }
     ensures actions { (scenario : ScenarioParts) → AreAsksOf scenario membership.now.views.node slot (asks_of kind scenario) plan.old →

@@ -4,14 +4,14 @@
 mod agenda;
 mod apply;
 mod asks;
+mod membership;
 mod node;
 mod notices;
+mod plan;
 mod protocols;
 mod reply;
 mod rooms;
-mod plan;
 mod sending;
-mod membership;
 mod telling;
 mod threads;
 

@@ -49,7 +49,11 @@ fn is_start(params: &Params, slot: Slot) -> bool
 
 impl Membership {
     /// That of a node which has read nothing, or only notices of idle slots.
-    pub(crate) fn build(alloc: Global, node: NodeId, scenario: &Scenario) -> Result<Membership, Memory>
+    pub(crate) fn build(
+        alloc: Global,
+        node: NodeId,
+        scenario: &Scenario,
+    ) -> Result<Membership, Memory>
         requires { node < scenario.now.params.nodes }
         ensures { IfOk result (IsMembershipAtRest scenario.now node) }
     {

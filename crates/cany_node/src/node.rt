@@ -20,13 +20,13 @@ ghost use Rattle.cany_node.specs.Turning.{CanHearNext, CanScript, HasHeard, HasS
 use crate::agenda::Agenda;
 use crate::apply::apply_all;
 use crate::asks::{AskKind, AskPlan, ask_due};
+use crate::membership::Membership;
 use crate::notices::{is_early, is_error, is_idle, is_of_edcan};
+use crate::plan::{Plan, build_script};
 use crate::protocols::{Protocols, build_protocols};
 use crate::reply::TurnReply;
 use crate::rooms::log_room;
-use crate::plan::{Plan, build_script};
 use crate::sending::send_due;
-use crate::membership::Membership;
 use can_controller::Controller;
 use cany_base::{
     Actions, BoundedVec, LogEntry, Memory, MsgKey, NodeId, Notice, NoticeKind, Params, Scenario,
@@ -299,7 +299,13 @@ impl Node {
             out,
         );
         ask_due(AskKind::Join, slot, &mut self.joins, &self.membership, out);
-        ask_due(AskKind::Leave, slot, &mut self.leaves, &self.membership, out);
+        ask_due(
+            AskKind::Leave,
+            slot,
+            &mut self.leaves,
+            &self.membership,
+            out,
+        );
     }
 
     /// The first slot, from the next one that it reads on, in whose turn an idle notice may lead to something. Before it the

@@ -15,11 +15,7 @@ pub(crate) struct Plan {
 }
 
 /// The sends and asks of a node, all still to come.
-pub(crate) fn build_script(
-    alloc: Global,
-    node: NodeId,
-    scenario: &Scenario,
-) -> Result<Plan, Memory>
+pub(crate) fn build_script(alloc: Global, node: NodeId, scenario: &Scenario) -> Result<Plan, Memory>
     ensures { IfOk result (IsScriptOf scenario.now node) }
 {
     let agenda = Agenda::build(alloc, node, scenario)?;

@@ -81,7 +81,12 @@ fn is_awaited(format: Format, service: Service, key: &MsgKey, controllers: &[Con
 }
 
 /// Whether no running node waits with a frame of the message or has an unread notice.
-fn nobody_waits_and_all_read(format: Format, service: Service, key: &MsgKey, controllers: &[Controller]) -> bool
+fn nobody_waits_and_all_read(
+    format: Format,
+    service: Service,
+    key: &MsgKey,
+    controllers: &[Controller],
+) -> bool
     requires key { IsSmallKey format key.now }
     requires format { HaveFormat format controllers.now }
     ensures { result ≡ (not (list_any (awaits (frames_named service key.now)) controllers.now) && list_all has_read controllers.now) }
@@ -154,5 +159,6 @@ pub(crate) fn is_settled(
     if !is_asked(key, send.slot, controllers, nodes) {
         return false;
     }
-    nobody_waits_and_all_read(format, send.service, key, controllers) && !is_ahead(key, controllers, nodes)
+    nobody_waits_and_all_read(format, send.service, key, controllers)
+        && !is_ahead(key, controllers, nodes)
 }
