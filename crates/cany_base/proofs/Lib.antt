@@ -2,3 +2,4 @@ pub mod NodesFacts
 pub mod ParamsFacts
 pub mod PayloadFacts
 pub mod PlaceFacts
+pub mod SetFacts

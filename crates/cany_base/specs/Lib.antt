@@ -1,4 +1,5 @@
 pub mod Bounded
+pub mod Cycles
 pub mod Frame
 pub mod Layout
 pub mod Limits

@@ -49,6 +49,13 @@ impl Actions {
         self.list.len()
     }
 
+    /// How many actions there may be.
+    pub fn room(&self) -> usize
+        ensures { result ≡ self.now.room }
+    {
+        self.list.room()
+    }
+
     pub fn as_slice(&self) -> &[Action]
         ensures items { result.now ≡ self.now.items }
         ensures fits { length result.now ≤ self.now.room }

@@ -42,6 +42,13 @@ impl<T> BoundedVec<T> {
         self.items.len()
     }
 
+    /// How many items there may be.
+    pub fn room(&self) -> usize
+        ensures { result ≡ self.now.room }
+    {
+        self.room
+    }
+
     /// How many items may still be pushed.
     pub fn spare(&self) -> usize
         ensures { result + length self.now.items ≡ self.now.room }

@@ -4,6 +4,7 @@
 mod actions;
 mod bounded;
 mod class;
+pub mod cycle;
 mod format;
 mod formulas;
 mod frame;

@@ -1,3 +1,7 @@
+ghost use Rattle.std.specs.Prelude.{◌≡◌};
+ghost use Rattle.cany_base.specs.Frame.{data_class};
+
+use crate::class::Class;
 use crate::node::NodeId;
 use crate::notice::Slot;
 use crate::payload::Payload;
@@ -8,6 +12,19 @@ pub enum Service {
     Ed,
     Rel,
     Tot,
+}
+
+impl Service {
+    /// The class of the frames that carry the data of its messages.
+    pub fn class(self) -> Class
+        ensures { result ≡ data_class self }
+    {
+        match self {
+            Service::Ed => Class::Ed,
+            Service::Rel => Class::Rel,
+            Service::Tot => Class::Tot,
+        }
+    }
 }
 
 /// Names a message: its origin, and its place among the messages of that origin, counted from 0 over all services.

@@ -1,6 +1,6 @@
 ghost use Rattle.std.specs.Prelude.{◌≡◌, ◌<◌, ◌≤◌, ◌↔◌, ◌==◌, ◌&&◌, ◌||◌, ℕ, not, nat_lt, false, IsTrue, IsSome, IfSome, IfNone};
 ghost use Rattle.cany_base.specs.Limits.{most_nodes};
-ghost use Rattle.cany_base.specs.Nodes.{has, node_count, AllBelow};
+ghost use Rattle.cany_base.specs.Nodes.{has, meet, minus, nobody, node_count, plus, with_node, AllBelow};
 
 use crate::node::NodeId;
 use std::marker::Model;
@@ -26,8 +26,10 @@ impl Model for NodeSet {
 }
 
 impl NodeSet {
+    /// The set without nodes.
     pub fn empty() -> NodeSet
-        ensures { (i : ℕ) → has result i ≡ false }
+        ensures has { (i : ℕ) → has result i ≡ false }
+        ensures set { result ≡ nobody }
     {
         NodeSet { bits: 0 }
     }
@@ -63,7 +65,8 @@ impl NodeSet {
     }
 
     pub fn insert(&mut self, n: NodeId)
-        ensures { (i : ℕ) → has self.new i ≡ (has self.old i || i == n) }
+        ensures has { (i : ℕ) → has self.new i ≡ (has self.old i || i == n) }
+        ensures set { self.new ≡ with_node n self.old }
     {
         self.bits |= 1u64 << n.get();
     }
@@ -82,7 +85,8 @@ impl NodeSet {
 
     /// The nodes that stand in both sets.
     pub fn meet(self, o: NodeSet) -> NodeSet
-        ensures { (i : ℕ) → has result i ≡ (has self i && has o i) }
+        ensures has { (i : ℕ) → has result i ≡ (has self i && has o i) }
+        ensures set { result ≡ meet self o }
     {
         NodeSet {
             bits: self.bits & o.bits,
@@ -91,7 +95,8 @@ impl NodeSet {
 
     /// The nodes that stand in one of the sets, or in both.
     pub fn plus(self, o: NodeSet) -> NodeSet
-        ensures { (i : ℕ) → has result i ≡ (has self i || has o i) }
+        ensures has { (i : ℕ) → has result i ≡ (has self i || has o i) }
+        ensures set { result ≡ plus self o }
     {
         NodeSet {
             bits: self.bits | o.bits,
@@ -100,7 +105,8 @@ impl NodeSet {
 
     /// The nodes of this set that do not stand in the other.
     pub fn minus(self, o: NodeSet) -> NodeSet
-        ensures { (i : ℕ) → has result i ≡ (has self i && not (has o i)) }
+        ensures has { (i : ℕ) → has result i ≡ (has self i && not (has o i)) }
+        ensures set { result ≡ minus self o }
     {
         NodeSet {
             bits: self.bits & !o.bits,

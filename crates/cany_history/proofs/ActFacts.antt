@@ -13,7 +13,8 @@ use Rattle.cany_base.specs.Scenario.{ScenarioParts}
 use Rattle.cany_message.proofs.DeliveryFacts.{both_actions}
 use Rattle.cany_model.specs.Rules.Actions.{actions_of}
 use Rattle.cany_model.specs.Rules.Effect.{Effect}
-use Rattle.cany_model.specs.Rules.Vectors.{brought, cycle_of, end_effects, ended, exchange_at, is_covered, is_exchange, is_new, is_start, met, met_with, start_effects, vector_effects, vector_effects_of, vector_in}
+use Rattle.cany_model.specs.Rules.Vectors.{brought, end_effects, ended, exchange_at, is_covered, is_new, met, met_with, start_effects, vector_effects, vector_effects_of, vector_in}
+use Rattle.cany_base.specs.Cycles.{cycle_of, is_exchange, is_start}
 use Rattle.cany_history.specs.History.{HistoryParts, IsExchangeOf, IsHistoryOf, IsNextAt, StartsWith}
 use Rattle.cany_history.specs.HistorySteps.{brought_actions, end_actions, got_actions, having_ended, having_read, is_covered_by, met_by, read_actions, start_actions}
 use Rattle.cany_history.proofs.ReadFacts.{got_some, value}

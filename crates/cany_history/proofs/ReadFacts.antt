@@ -8,7 +8,8 @@ use Rattle.cany_base.specs.Frame.{FrameParts}
 use Rattle.cany_base.specs.Nodes.{Nodes}
 use Rattle.cany_base.specs.Params.{Parameters}
 use Rattle.cany_model.specs.Rules.Notices.{CarriesMore, IsPart, IsReadableVector, IsSentWithMore}
-use Rattle.cany_model.specs.Rules.Vectors.{brought, cycle_of, is_exchange, is_just, is_new, is_vector_got, is_vector_sent, met, met_with, vector_in}
+use Rattle.cany_model.specs.Rules.Vectors.{brought, is_just, is_new, is_vector_got, is_vector_sent, met, met_with, vector_in}
+use Rattle.cany_base.specs.Cycles.{cycle_of, is_exchange}
 use Rattle.cany_model.proofs.Among.{count-cons, count-no}
 use Rattle.cany_history.specs.History.{HasMore, HistoryParts, IsExchangeOf, StandsIn}
 use Rattle.cany_history.specs.HistorySteps.{after_meeting, having_read, is_just_own, is_own_vector, met_by}

@@ -8,7 +8,8 @@ use Rattle.cany_base.specs.declared.notice.NoticeKind.TheVariants.{Idle}
 use Rattle.cany_base.specs.Nodes.{Nodes}
 use Rattle.cany_base.specs.Params.{Parameters}
 use Rattle.cany_base.specs.Scenario.{ScenarioParts}
-use Rattle.cany_model.specs.Rules.Vectors.{brought, cycle_of, end_effects, exchange_at, is_end, is_exchange, is_start, is_vector_got, met, start_effects, vector_effects}
+use Rattle.cany_model.specs.Rules.Vectors.{brought, end_effects, exchange_at, is_vector_got, met, start_effects, vector_effects}
+use Rattle.cany_base.specs.Cycles.{cycle_of, is_end, is_exchange, is_start}
 use Rattle.cany_model.proofs.Among.{count-no}
 use Rattle.cany_history.specs.History.{HistoryParts, IsExchangeOf, IsHistoryOf, Rests}
 use Rattle.cany_history.specs.HistorySteps.{IsPlain}

@@ -10,7 +10,8 @@ use Rattle.cany_base.specs.Params.{Parameters}
 use Rattle.cany_base.specs.Scenario.{ScenarioParts}
 use Rattle.cany_base.proofs.ParamsFacts.{few_slots}
 use Rattle.cany_model.specs.Rules.Notices.{IsReadableVector}
-use Rattle.cany_model.specs.Rules.Vectors.{after_exchange, brought, cycle_of, ended, is_end, is_exchange, is_start, is_vector_got, is_vector_sent, met, rha_frame}
+use Rattle.cany_model.specs.Rules.Vectors.{after_exchange, brought, ended, is_vector_got, is_vector_sent, met, rha_frame}
+use Rattle.cany_base.specs.Cycles.{cycle_of, is_end, is_exchange, is_start}
 use Rattle.cany_model.proofs.Rules.NumberFacts.{belongs_small}
 use Rattle.cany_history.specs.declared.ended.Ended.{Ended}
 use Rattle.cany_history.specs.History.{HasNoVector, HistoryParts, IsExchangeOf, IsHistoryOf, IsNextAt, StartsWith}

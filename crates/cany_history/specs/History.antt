@@ -9,7 +9,8 @@ use Rattle.cany_base.specs.Nodes.{Nodes, AllBelow}
 use Rattle.cany_base.specs.Params.{Parameters}
 use Rattle.cany_base.specs.Scenario.{ScenarioParts, IsLegalScenario}
 use Rattle.cany_model.specs.Rules.Notices.{IsNextNotice, IsPart, IsReadableVector}
-use Rattle.cany_model.specs.Rules.Vectors.{brought, cycle_of, ended, exchange_at, is_end, is_exchange, is_start, is_vector_got, is_vector_sent, met, vector_in}
+use Rattle.cany_model.specs.Rules.Vectors.{brought, ended, exchange_at, is_vector_got, is_vector_sent, met, vector_in}
+use Rattle.cany_base.specs.Cycles.{cycle_of, is_end, is_exchange, is_start}
 
 -- the node, the parameters, its vector of the present cycle if it has one, how many copies of just this vector it got, and whether it has
 -- sent it

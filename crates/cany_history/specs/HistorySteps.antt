@@ -11,7 +11,8 @@ use Rattle.cany_base.specs.Nodes.{Nodes}
 use Rattle.cany_base.specs.Params.{Parameters}
 use Rattle.cany_base.specs.Scenario.{ScenarioParts}
 use Rattle.cany_model.specs.Rules.Actions.{ident_of}
-use Rattle.cany_model.specs.Rules.Vectors.{brought, cycle_of, is_end, is_just, is_new, is_start, met_with, rha_frame, rha_of, vector_in}
+use Rattle.cany_model.specs.Rules.Vectors.{brought, is_just, is_new, met_with, rha_frame, rha_of, vector_in}
+use Rattle.cany_base.specs.Cycles.{cycle_of, is_end, is_start}
 use Rattle.cany_history.specs.History.{HistoryParts, IsHistoryOf}
 
 -- The node is one of the bus, which has not too many for the format, and the cycle of the slot has a number that frames have room for.

@@ -3,7 +3,7 @@
 ghost use Rattle.std.specs.Prelude.{◌≡◌, ℕ, ◌<◌, ◌≤◌};
 ghost use Rattle.cany_base.specs.Limits.{most_numbers};
 ghost use Rattle.cany_history.specs.HistorySteps.{IsPlain};
-ghost use Rattle.cany_model.specs.Rules.Vectors.{cycle_of, is_end, is_exchange, is_start};
+ghost use Rattle.cany_base.specs.Cycles.{cycle_of, is_end, is_exchange, is_start};
 
 use cany_base::{Params, Slot};
 

@@ -7,7 +7,8 @@ ghost use Rattle.cany_base.specs.Scenario.{ScenarioParts};
 ghost use Rattle.cany_history.specs.History.{CanRead, IsHistoryOf, IsNextAt, Rests, StartsWith};
 ghost use Rattle.cany_history.specs.HistorySteps.{IsInRun, end_actions, frame_at, got_actions, having_ended, having_read, after_starting, is_covered_by, is_own_vector, met_by, is_just_own, read_actions, start_actions, with_vector, withdrawal_at};
 ghost use Rattle.cany_model.specs.Rules.Actions.{actions_of};
-ghost use Rattle.cany_model.specs.Rules.Vectors.{after_exchange, brought, cycle_of, ended, everybody, exchange_at, is_new, met, met_with, vector_in};
+ghost use Rattle.cany_model.specs.Rules.Vectors.{after_exchange, brought, ended, everybody, exchange_at, is_new, met, met_with, vector_in};
+ghost use Rattle.cany_base.specs.Cycles.{cycle_of};
 
 use crate::cycle::{cycle_of, is_end, is_exchange, is_start, next_start_or_end};
 use crate::ended::Ended;

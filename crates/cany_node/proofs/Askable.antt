@@ -28,7 +28,8 @@ use Rattle.cany_model.specs.Rules.Rooms.{IsAskable, IsAskableAs, IsOfAsk, IsOfNo
 use Rattle.cany_model.specs.Rules.Knowledge.{FailureSign, fda_frame}
 use Rattle.cany_model.specs.Rules.Totcan.{message_in}
 use Rattle.cany_model.specs.Rules.Turn.{protocols, turn_effects}
-use Rattle.cany_model.specs.Rules.Vectors.{cycle_of, rha_of}
+use Rattle.cany_model.specs.Rules.Vectors.{rha_of}
+use Rattle.cany_base.specs.Cycles.{cycle_of}
 use Rattle.cany_model.specs.Rules.Views.{ask_of as ask_id}
 use Rattle.cany_model.proofs.Among.{Among, Among-from_Contains, Among-from_count, Among-weaker, Among-which, Contains-from_Among, Each-flat_map, Each-weaker}
 use Rattle.cany_model.proofs.Bus.Carried.{Has, is_got-true}

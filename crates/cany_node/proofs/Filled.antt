@@ -23,7 +23,7 @@ use Rattle.cany_model.specs.Rules.Messages.{Message, messages_of, message_key}
 use Rattle.cany_model.specs.Rules.Notices.{BelongsTo, IsDataOf}
 use Rattle.cany_model.specs.Rules.Protocol.{Protocol}
 use Rattle.cany_model.specs.Rules.Rooms.{actions_room, cycles, log_room, waiting_room}
-use Rattle.cany_model.specs.Rules.Vectors.{cycle_of}
+use Rattle.cany_base.specs.Cycles.{cycle_of}
 use Rattle.cany_model.proofs.Among.{Among, Among-drop, Among-from_Contains, Among-from_count, Among-weaker, count-no, count-yes}
 use Rattle.cany_model.proofs.Bus.Carried.{Has}
 use Rattle.cany_model.proofs.Bus.Identities.{same_identity-true}

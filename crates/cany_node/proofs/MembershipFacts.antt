@@ -14,7 +14,7 @@ use Rattle.cany_model.specs.Bus.Frames.{same_class}
 use Rattle.cany_model.specs.Rules.Notices.{BelongsTo, IsReadable}
 use Rattle.cany_model.specs.Rules.KnowledgeOf.{ended_in, after_installing, after_meeting, met_in, start_in}
 use Rattle.cany_model.specs.Rules.Knowledge.{FailureSign, Knowledge, found, found_in, after_finding, after_hearing, after_learning, has_timed_out, knows, same_sign, sign_in, sign_of, told, told_in, with_sign, with_signs}
-use Rattle.cany_model.specs.Rules.Vectors.{cycle_of, is_end, is_start}
+use Rattle.cany_base.specs.Cycles.{cycle_of, is_end, is_start}
 use Rattle.cany_model.specs.Rules.Views.{after_ask, start_of, with_ended, with_joiner, with_leaver}
 use Rattle.cany_model.proofs.Among.{Each-filter, Each-map, Each-weaker}
 use Rattle.cany_model.proofs.Bus.Identities.{same_class-true}

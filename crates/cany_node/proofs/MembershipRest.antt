@@ -15,7 +15,8 @@ use Rattle.cany_model.specs.Rules.Life.{failure_effects, life_sign, life_signs_s
 use Rattle.cany_model.specs.Rules.Membership.{install_effects}
 use Rattle.cany_model.specs.Rules.KnowledgeOf.{after_notice, after_installing, after_meeting, met_in, knowledge_of}
 use Rattle.cany_model.specs.Rules.Knowledge.{Knowledge, after_finding, with_members}
-use Rattle.cany_model.specs.Rules.Vectors.{exchange_at, is_start}
+use Rattle.cany_model.specs.Rules.Vectors.{exchange_at}
+use Rattle.cany_base.specs.Cycles.{is_start}
 use Rattle.cany_model.specs.Rules.Views.{after_ask, start_of, view_effects, with_ended}
 use Rattle.cany_views.specs.Views.{IsViewsOf}
 use Rattle.cany_node.specs.Resting.{MembershipRests}

@@ -20,7 +20,8 @@ use Rattle.cany_model.specs.Rules.Life.{failure_effects, failures_at, life_sign,
 use Rattle.cany_model.specs.Rules.Membership.{install_effects}
 use Rattle.cany_model.specs.Rules.KnowledgeOf.{after_notice, ended_in, after_installing, start_in, knowledge_of}
 use Rattle.cany_model.specs.Rules.Knowledge.{Knowledge, after_admitting, after_finding, with_members}
-use Rattle.cany_model.specs.Rules.Vectors.{after_exchange, exchange_at, is_start}
+use Rattle.cany_model.specs.Rules.Vectors.{after_exchange, exchange_at}
+use Rattle.cany_base.specs.Cycles.{is_start}
 use Rattle.cany_model.specs.Rules.Views.{after_ask, start_of, view_effects, with_ended, with_view}
 use Rattle.cany_model.proofs.Rules.VectorFacts.{knowledge_vector}
 use Rattle.cany_views.specs.Views.{IsViewsOf, ViewsParts}

@@ -24,7 +24,8 @@ use Rattle.cany_model.specs.Rules.Sends.{scripted_sends, send_effects}
 use Rattle.cany_model.specs.Rules.KnowledgeOf.{start_in, knowledge_of}
 use Rattle.cany_model.specs.Rules.Totcan.{totcan, totcan_effects}
 use Rattle.cany_model.specs.Rules.Turn.{turn_effects}
-use Rattle.cany_model.specs.Rules.Vectors.{brought, cycle_of, end_effects, ended, exchange_at, is_covered, is_new, is_start, met, met_with, rha_frame, rha_of, start_effects, vector_effects}
+use Rattle.cany_model.specs.Rules.Vectors.{brought, end_effects, ended, exchange_at, is_covered, is_new, met, met_with, rha_frame, rha_of, start_effects, vector_effects}
+use Rattle.cany_base.specs.Cycles.{cycle_of, is_start}
 use Rattle.cany_model.specs.Rules.Views.{ask_frame, join_asked, leave_asked}
 use Rattle.cany_model.proofs.Rules.ProtocolFacts.{IsFounded, IsLawful, MayAsk, accepts, confirms, exchanges, is_relayed, lives, originates, relays, requests, signals}
 use Rattle.cany_model.proofs.Rules.BacklogFacts.{backlog_is_lawful}

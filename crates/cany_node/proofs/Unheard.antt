@@ -22,7 +22,8 @@ use Rattle.cany_model.specs.Rules.Life.{failure_effects, failures_at, fda_copy_e
 use Rattle.cany_model.specs.Rules.Membership.{install_effects}
 use Rattle.cany_model.specs.Rules.KnowledgeOf.{after_notice, ended_in, after_asking, after_installing, met_in, start_in, knowledge_of}
 use Rattle.cany_model.specs.Rules.Knowledge.{FailureSign, Knowledge, after_life, fda_frame, fda_of, found, found_in, after_finding, after_learning, shows_life, told, told_in, with_signs}
-use Rattle.cany_model.specs.Rules.Vectors.{brought, end_effects, ended, exchange_at, is_exchange, is_just, is_start, is_vector_got, is_vector_sent, met, start_effects, vector_effects, vector_in}
+use Rattle.cany_model.specs.Rules.Vectors.{brought, end_effects, ended, exchange_at, is_just, is_vector_got, is_vector_sent, met, start_effects, vector_effects, vector_in}
+use Rattle.cany_base.specs.Cycles.{is_exchange, is_start}
 use Rattle.cany_model.specs.Rules.Views.{after_ask, start_of, view_effects, with_ended}
 use Rattle.cany_model.proofs.Among.{count-no}
 use Rattle.cany_model.proofs.Bus.Identities.{same_class-true}

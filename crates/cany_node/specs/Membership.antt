@@ -14,7 +14,8 @@ use Rattle.cany_model.specs.Rules.Membership.{install_effects}
 use Rattle.cany_model.specs.Rules.Notices.{HasFewSigns, IsNextNotice, IsReadableVector}
 use Rattle.cany_model.specs.Rules.KnowledgeOf.{after_meeting, start_in, knowledge_of}
 use Rattle.cany_model.specs.Rules.Knowledge.{Knowledge, knowledge_at_first}
-use Rattle.cany_model.specs.Rules.Vectors.{cycle_of, exchange_at}
+use Rattle.cany_model.specs.Rules.Vectors.{exchange_at}
+use Rattle.cany_base.specs.Cycles.{cycle_of}
 use Rattle.cany_history.specs.declared.ended.Ended.{Ended}
 use Rattle.cany_history.specs.History.{HistoryParts, IsHistoryOf}
 use Rattle.cany_life.specs.Life.{IsLifeOf, LifeParts}

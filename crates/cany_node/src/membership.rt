@@ -7,7 +7,7 @@ ghost use Rattle.cany_model.specs.Rules.Actions.{actions_of};
 ghost use Rattle.cany_model.specs.Rules.Life.{failure_effects, life_sign, life_signs_sent};
 ghost use Rattle.cany_model.specs.Rules.KnowledgeOf.{ended_in, knowledge_of};
 ghost use Rattle.cany_model.specs.Rules.Knowledge.{Knowledge, knowledge_at_first};
-ghost use Rattle.cany_model.specs.Rules.Vectors.{is_start};
+ghost use Rattle.cany_base.specs.Cycles.{is_start};
 ghost use Rattle.cany_model.specs.Rules.Views.{start_of, view_effects, with_ended};
 ghost use Rattle.cany_views.specs.Views.{IsViewsOf};
 ghost use Rattle.cany_node.specs.Asks.{asked_as};

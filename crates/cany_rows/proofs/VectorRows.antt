@@ -10,7 +10,8 @@ use Rattle.cany_model.specs.Bus.Frames.{identity_of}
 use Rattle.cany_model.specs.Rules.Effect.{Effect, Ask, Withdraw, waiting_after}
 use Rattle.cany_model.specs.Rules.Membership.{exchange_effects}
 use Rattle.cany_model.specs.Rules.KnowledgeOf.{knowledge_of}
-use Rattle.cany_model.specs.Rules.Vectors.{cycle_of, is_end, is_exchange, is_start, rha_frame, vector_in}
+use Rattle.cany_model.specs.Rules.Vectors.{rha_frame, vector_in}
+use Rattle.cany_base.specs.Cycles.{cycle_of, is_end, is_exchange, is_start}
 use Rattle.cany_rows.proofs.RowWords.{report, scenario, set}
 use Rattle.cany_rows.proofs.SiteWords.{classes, els, idle_slots, of_members, plain, read, rha, short_cycles, site_row}
 

@@ -14,7 +14,7 @@ use Rattle.cany_base.specs.Scenario.{ScenarioParts}
 use Rattle.cany_model.specs.Rules.Actions.{actions_of, ident_of}
 use Rattle.cany_model.specs.Rules.Effect.{Withdraw}
 use Rattle.cany_model.specs.Rules.Knowledge.{Knowledge}
-use Rattle.cany_model.specs.Rules.Vectors.{cycle_of}
+use Rattle.cany_base.specs.Cycles.{cycle_of}
 use Rattle.cany_model.specs.Rules.Views.{ask_of, view_effects, withdrawn_asks}
 use Rattle.cany_views.specs.Views.{IsViewsOf, ViewsParts, asked_cycles}
 use Rattle.cany_views.specs.ViewsSteps.{installed, installed_actions, withdrawals}

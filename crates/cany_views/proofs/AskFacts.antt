@@ -8,7 +8,7 @@ use Rattle.cany_base.specs.Limits.{most_numbers}
 use Rattle.cany_base.specs.Params.{Parameters}
 use Rattle.cany_base.specs.Scenario.{ScenarioParts, IsAskOf, IsLegalScenario}
 use Rattle.cany_model.specs.Rules.Knowledge.{FailureSign, fda_frame}
-use Rattle.cany_model.specs.Rules.Vectors.{cycle_of}
+use Rattle.cany_base.specs.Cycles.{cycle_of}
 use Rattle.cany_model.proofs.Rules.NumberFacts.{belongs_small}
 use Rattle.cany_views.specs.Views.{AreNumbers, asked_cycles}
 

@@ -8,7 +8,7 @@ use Rattle.cany_base.specs.Params.{Parameters}
 use Rattle.cany_base.specs.Scenario.{ScenarioParts, IsLegalScenario}
 use Rattle.cany_model.specs.Rules.Notices.{IsReadable}
 use Rattle.cany_model.specs.Rules.Knowledge.{Knowledge}
-use Rattle.cany_model.specs.Rules.Vectors.{cycle_of}
+use Rattle.cany_base.specs.Cycles.{cycle_of}
 
 -- the node, the parameters, its view of the site, the nodes that have asked to join it and those that have asked to leave it, and the
 -- cycles in which the node's own script asks to join and to leave

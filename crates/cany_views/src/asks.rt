@@ -4,7 +4,7 @@ ghost use Rattle.std.specs.Prelude.{◌≡◌, ◌+◌, ◌<◌, ◌≤◌, [], 
 ghost use Rattle.cany_base.specs.Frame.{FitsClass};
 ghost use Rattle.cany_base.specs.Layout.{layout};
 ghost use Rattle.cany_base.specs.Limits.{most_numbers};
-ghost use Rattle.cany_model.specs.Rules.Vectors.{cycle_of};
+ghost use Rattle.cany_base.specs.Cycles.{cycle_of};
 ghost use Rattle.cany_model.specs.Rules.Views.{ask_frame};
 ghost use Rattle.cany_views.specs.Views.{asked_cycles};
 ghost use Rattle.cany_views.specs.ViewsSteps.{withdrawals};

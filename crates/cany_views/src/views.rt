@@ -5,7 +5,7 @@ ghost use Rattle.cany_base.specs.Scenario.{ScenarioParts};
 ghost use Rattle.cany_model.specs.Rules.Actions.{actions_of};
 ghost use Rattle.cany_model.specs.Rules.Notices.{IsReadable};
 ghost use Rattle.cany_model.specs.Rules.Knowledge.{Knowledge, knowledge_at_first};
-ghost use Rattle.cany_model.specs.Rules.Vectors.{cycle_of};
+ghost use Rattle.cany_base.specs.Cycles.{cycle_of};
 ghost use Rattle.cany_model.specs.Rules.Views.{after_ask, join_asked, leave_asked, start_of, view_effects, with_view};
 ghost use Rattle.cany_views.specs.Views.{CanHear, IsViewsOf};
 ghost use Rattle.cany_views.specs.ViewsSteps.{heard_join, heard_leave, installed, installed_actions, withdrawals};

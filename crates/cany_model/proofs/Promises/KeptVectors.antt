@@ -19,7 +19,8 @@ use Rattle.cany_model.specs.Bus.State.{Incarnation, NodeState}
 use Rattle.cany_model.specs.Rules.Notices.{IsPart, IsReadAfterStart}
 use Rattle.cany_model.specs.Rules.KnowledgeOf.{knowledge_of}
 use Rattle.cany_model.specs.Rules.Turn.{scenario_for, turn_effects}
-use Rattle.cany_model.specs.Rules.Vectors.{brought, is_end, is_start, met}
+use Rattle.cany_model.specs.Rules.Vectors.{brought, met}
+use Rattle.cany_base.specs.Cycles.{is_end, is_start}
 use Rattle.cany_model.proofs.Among.{Each-of, Each-weaker, Among-from_Contains}
 use Rattle.cany_model.proofs.Bus.Notes.{given-Sent, those_where_pass}
 use Rattle.cany_model.proofs.Runs.Waits.{Each-after, Each-kept}

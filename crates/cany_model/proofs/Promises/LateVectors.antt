@@ -15,7 +15,7 @@ use Rattle.cany_model.specs.Runs.Run.{after_turn, run}
 use Rattle.cany_model.specs.Bus.State.{Incarnation, RunState, node_at}
 use Rattle.cany_model.specs.Rules.Notices.{IsReadAfterStart}
 use Rattle.cany_model.specs.Rules.Turn.{scenario_for}
-use Rattle.cany_model.specs.Rules.Vectors.{cycle_of}
+use Rattle.cany_base.specs.Cycles.{cycle_of}
 use Rattle.cany_model.proofs.Bus.EachRead.{EachRead, each_of_history}
 use Rattle.cany_model.proofs.Runs.FrameInvariants.{HoldsOfFrames, IsKeptByFrames, OfCarried, OfWaiting, frames_alone, nothing_known}
 use Rattle.cany_model.proofs.Bus.Notes.{given-Got, given-Sent}

@@ -25,7 +25,8 @@ use Rattle.cany_model.specs.Runs.Run.{run}
 use Rattle.cany_model.specs.Bus.State.{Incarnation, NodeState, RunState, node_at}
 use Rattle.cany_model.specs.Rules.Notices.{CarriesMore, IsPart, IsReadable, IsReadableVector, IsSentWithMore}
 use Rattle.cany_model.specs.Rules.Turn.{scenario_at, scenario_for}
-use Rattle.cany_model.specs.Rules.Vectors.{cycle_of, vector_in}
+use Rattle.cany_model.specs.Rules.Vectors.{vector_in}
+use Rattle.cany_base.specs.Cycles.{cycle_of}
 use Rattle.cany_model.proofs.Among.{Among-get_or, Each-of}
 use Rattle.cany_model.proofs.Bus.EachRead.{EachRead, each_dropped, each_of_history}
 use Rattle.cany_model.proofs.Runs.Runs.{orderly}

@@ -29,7 +29,8 @@ use Rattle.cany_model.specs.Rules.Rooms.{IsAskable, IsAskableAs, IsOfAsk, IsOfNo
 use Rattle.cany_model.specs.Rules.Knowledge.{FailureSign, fda_frame}
 use Rattle.cany_model.specs.Rules.Totcan.{accept_frame}
 use Rattle.cany_model.specs.Rules.Turn.{scenario_at, scenario_for, turn_effects}
-use Rattle.cany_model.specs.Rules.Vectors.{cycle_of, rha_frame}
+use Rattle.cany_model.specs.Rules.Vectors.{rha_frame}
+use Rattle.cany_base.specs.Cycles.{cycle_of}
 use Rattle.cany_model.specs.Rules.Views.{ask_frame}
 use Rattle.cany_model.proofs.Among.{Among, Among-weaker, Contains-from_Among}
 use Rattle.cany_model.proofs.Bus.Carried.{Has}

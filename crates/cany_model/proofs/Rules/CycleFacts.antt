@@ -4,7 +4,7 @@ use Rattle.std.proofs.Math.Nat.{div-lt_iff_lt-mul}
 use Rattle.std.proofs.lemmas.Bool.{and_from, and_parts, eq-eqb, eqb-true, leb-true, lt-ltb, ltb-true, ne_eqb}
 use Rattle.std.proofs.lemmas.Nat.{div-add-mod', le-div}
 use Rattle.cany_base.specs.Params.{Parameters}
-use Rattle.cany_model.specs.Rules.Vectors.{cycle_of, is_end, is_exchange, is_start}
+use Rattle.cany_base.specs.Cycles.{cycle_of, is_end, is_exchange, is_start}
 
 -- a slot comes not before the start of its cycle
 pub cycle_before : (p : Parameters) (slot : ℕ) → cycle_of p slot * p.cycle ≤ slot

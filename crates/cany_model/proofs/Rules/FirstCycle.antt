@@ -14,7 +14,8 @@ use Rattle.cany_model.specs.Bus.Frames.{same_class}
 use Rattle.cany_model.specs.Rules.Notices.{is_early, is_early_frame}
 use Rattle.cany_model.specs.Rules.KnowledgeOf.{after_notice, ended_in, after_installing, met_in, start_in, knowledge_of}
 use Rattle.cany_model.specs.Rules.Knowledge.{Knowledge}
-use Rattle.cany_model.specs.Rules.Vectors.{brought, cycle_of, is_end, is_exchange, is_start, met, vector_in}
+use Rattle.cany_model.specs.Rules.Vectors.{brought, met, vector_in}
+use Rattle.cany_base.specs.Cycles.{cycle_of, is_end, is_exchange, is_start}
 use Rattle.cany_model.specs.Rules.Views.{start_of, start_vector}
 use Rattle.cany_model.proofs.Among.{Each-of}
 use Rattle.cany_model.proofs.Bus.Identities.{same_class-true, same_class_self}

@@ -13,7 +13,8 @@ use Rattle.cany_model.specs.Bus.History.{is_got}
 use Rattle.cany_base.specs.Nodes.{nobody}
 use Rattle.cany_model.specs.Rules.KnowledgeOf.{after_notice, after_installing, after_meeting, knowledge_of}
 use Rattle.cany_model.specs.Rules.Knowledge.{FailureSign, Knowledge, after_life, fda_of, found, found_in, after_finding, after_hearing, after_learning, has_timed_out, knows, same_sign, shows_life, sign_in, sign_of, knowledge_at_first, told, told_in, with_shown, with_sign, with_signs}
-use Rattle.cany_model.specs.Rules.Vectors.{brought, is_end, is_start, met}
+use Rattle.cany_model.specs.Rules.Vectors.{brought, met}
+use Rattle.cany_base.specs.Cycles.{is_end, is_start}
 use Rattle.cany_model.specs.Rules.Views.{after_ask, start_of, with_ended}
 use Rattle.cany_model.proofs.Among.{Among, Each-weaker}
 use Rattle.cany_model.proofs.Bus.Carried.{is_got-true}

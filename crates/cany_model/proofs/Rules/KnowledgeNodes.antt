@@ -12,7 +12,8 @@ use Rattle.cany_model.specs.Bus.Frames.{same_class}
 use Rattle.cany_model.specs.Rules.Notices.{BelongsTo, IsReadable, NamesNode}
 use Rattle.cany_model.specs.Rules.KnowledgeOf.{after_notice, ended_in, after_asking, after_installing, met_in, start_in, knowledge_of}
 use Rattle.cany_model.specs.Rules.Knowledge.{Knowledge, after_finding}
-use Rattle.cany_model.specs.Rules.Vectors.{brought, everybody, is_end, is_start, met}
+use Rattle.cany_model.specs.Rules.Vectors.{brought, everybody, met}
+use Rattle.cany_base.specs.Cycles.{is_end, is_start}
 use Rattle.cany_model.specs.Rules.Views.{after_ask, start_of, start_vector, with_joiner, with_leaver}
 use Rattle.cany_model.proofs.Bus.Identities.{same_class-true}
 use Rattle.cany_model.proofs.Bus.Notes.{those_where_pass}

@@ -9,7 +9,8 @@ use Rattle.cany_base.specs.Params.{Parameters}
 use Rattle.cany_model.specs.Bus.Frames.{same_class}
 use Rattle.cany_model.specs.Rules.KnowledgeOf.{after_notice, ended_in, after_asking, after_installing, after_meeting, after_starting, met_in, start_in}
 use Rattle.cany_model.specs.Rules.Knowledge.{FailureSign, Knowledge, after_life, found_in, after_finding, after_hearing, after_learning, shows_life, told_in, with_shown, with_sign, with_signs}
-use Rattle.cany_model.specs.Rules.Vectors.{after_exchange, is_end, is_start}
+use Rattle.cany_model.specs.Rules.Vectors.{after_exchange}
+use Rattle.cany_base.specs.Cycles.{is_end, is_start}
 use Rattle.cany_model.specs.Rules.Views.{after_ask, start_of, with_ended, with_joiner, with_leaver}
 
 -- ---- what a step leaves

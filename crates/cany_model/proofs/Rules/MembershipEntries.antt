@@ -14,7 +14,8 @@ use Rattle.cany_base.specs.Scenario.{ScenarioParts}
 use Rattle.cany_model.specs.Rules.Effect.{Effect, Ask, Withdraw, Enter, entered}
 use Rattle.cany_model.specs.Rules.Membership.{ask_effects, asks_in, exchange_effects, install_effects, scripted_asks, vectors, views}
 use Rattle.cany_model.specs.Rules.KnowledgeOf.{ended_in, start_in, knowledge_of}
-use Rattle.cany_model.specs.Rules.Vectors.{brought, cycle_of, end_effects, ended, exchange_at, is_covered, is_new, is_start, met, met_with, rha_frame, rha_of, start_effects, vector_effects}
+use Rattle.cany_model.specs.Rules.Vectors.{brought, end_effects, ended, exchange_at, is_covered, is_new, met, met_with, rha_frame, rha_of, start_effects, vector_effects}
+use Rattle.cany_base.specs.Cycles.{cycle_of, is_start}
 use Rattle.cany_model.specs.Rules.Views.{ask_frame, ask_of, join_asked, leave_asked, view_effects, withdrawn_asks}
 use Rattle.cany_model.proofs.Among.{Each-append, Each-flat_map, Each-map}
 use Rattle.cany_model.proofs.Rules.DeliveryFacts.{EntersNone, entered-none}

@@ -26,7 +26,8 @@ use Rattle.cany_model.specs.Rules.Relcan.{confirm_frame}
 use Rattle.cany_model.specs.Rules.KnowledgeOf.{knowledge_of}
 use Rattle.cany_model.specs.Rules.Knowledge.{FailureSign, fda_frame, knows, sign_of}
 use Rattle.cany_model.specs.Rules.Totcan.{accept_frame, after_place, can_be_accepted, message_in}
-use Rattle.cany_model.specs.Rules.Vectors.{cycle_of, is_end, is_exchange, is_start, rha_frame, rha_of}
+use Rattle.cany_model.specs.Rules.Vectors.{rha_frame, rha_of}
+use Rattle.cany_base.specs.Cycles.{cycle_of, is_end, is_exchange, is_start}
 use Rattle.cany_model.specs.Rules.Views.{ask_frame, ask_of as ask_id}
 use Rattle.cany_model.proofs.Among.{Among, Among-gives, Among-weaker, Among-with, count-from_Among}
 use Rattle.cany_model.proofs.Bus.Carried.{Has, is_got-from}

@@ -16,7 +16,8 @@ use Rattle.cany_model.specs.Bus.Frames.{Identity, identity_of, is_of, same_class
 use Rattle.cany_model.specs.Rules.Messages.{IsOfMessage, Message, is_service, message_of, messages_after, messages_of}
 use Rattle.cany_model.specs.Rules.Rooms.{IsAskable, IsAskableAs, IsOfAsk, IsOfNode, IsOfVector, class_room, cycles, sends_by, waiting_room}
 use Rattle.cany_model.specs.Rules.Knowledge.{FailureSign, fda_of, sign_of}
-use Rattle.cany_model.specs.Rules.Vectors.{cycle_of, rha_of}
+use Rattle.cany_model.specs.Rules.Vectors.{rha_of}
+use Rattle.cany_base.specs.Cycles.{cycle_of}
 use Rattle.cany_model.specs.Rules.Views.{ask_of}
 use Rattle.cany_model.proofs.Among.{Among, Among-append_left, Among-append_right, Among-from_Contains, Among-weaker, Each-weaker, count-cons, count-from_Among, count-no, count-yes, one_if}
 use Rattle.cany_model.proofs.Bus.Identities.{same_class-true, same_identity-from}

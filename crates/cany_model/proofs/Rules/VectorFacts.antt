@@ -17,7 +17,8 @@ use Rattle.cany_model.specs.Rules.Effect.{Effect, Ask, Withdraw}
 use Rattle.cany_model.specs.Rules.Membership.{exchange_effects, vectors}
 use Rattle.cany_model.specs.Rules.KnowledgeOf.{after_installing, start_in, knowledge_of}
 use Rattle.cany_model.specs.Rules.Knowledge.{Knowledge, knowledge_at_first}
-use Rattle.cany_model.specs.Rules.Vectors.{after_exchange, brought, cycle_of, end_effects, ended, exchange_at, is_covered, is_end, is_exchange, is_new, is_start, met, met_with, rha_frame, rha_of, start_effects, vector_effects, vector_in}
+use Rattle.cany_model.specs.Rules.Vectors.{after_exchange, brought, end_effects, ended, exchange_at, is_covered, is_new, met, met_with, rha_frame, rha_of, start_effects, vector_effects, vector_in}
+use Rattle.cany_base.specs.Cycles.{cycle_of, is_end, is_exchange, is_start}
 use Rattle.cany_model.specs.Rules.Views.{start_of, start_vector}
 use Rattle.cany_model.proofs.Among.{Each-append}
 use Rattle.cany_model.proofs.Bus.Identities.{same_class-true}

@@ -16,7 +16,8 @@ use Rattle.cany_model.specs.Rules.Effect.{Effect, Ask, Withdraw, Enter}
 use Rattle.cany_model.specs.Rules.Membership.{ask_effects, asks_in, install_effects, is_ask_in, scripted_asks, views}
 use Rattle.cany_model.specs.Rules.KnowledgeOf.{ended_in, met_in, knowledge_of}
 use Rattle.cany_model.specs.Rules.Knowledge.{Knowledge, knowledge_at_first}
-use Rattle.cany_model.specs.Rules.Vectors.{brought, cycle_of, ended, is_end, met}
+use Rattle.cany_model.specs.Rules.Vectors.{brought, ended, met}
+use Rattle.cany_base.specs.Cycles.{cycle_of, is_end}
 use Rattle.cany_model.specs.Rules.Views.{ask_frame, ask_of, join_asked, leave_asked, view_effects, withdrawn_asks}
 use Rattle.cany_model.proofs.Among.{Among, Contains-from_Among, Each-append, Each-flat_map, Each-map, Each-weaker}
 use Rattle.cany_model.proofs.Rules.Begun.{IsBegun, begun_before}

@@ -20,7 +20,7 @@ use Rattle.cany_model.specs.Rules.Rooms.{cycles}
 use Rattle.cany_model.specs.Rules.KnowledgeOf.{met_in, knowledge_of}
 use Rattle.cany_model.specs.Rules.Knowledge.{Knowledge}
 use Rattle.cany_model.specs.Rules.Turn.{turn_effects}
-use Rattle.cany_model.specs.Rules.Vectors.{cycle_of, is_end}
+use Rattle.cany_base.specs.Cycles.{cycle_of, is_end}
 use Rattle.cany_model.specs.Rules.Views.{view_effects, withdrawn_asks}
 use Rattle.cany_model.proofs.Among.{count-no}
 use Rattle.cany_model.proofs.Rules.MembershipEntries.{withdrawn_enter}

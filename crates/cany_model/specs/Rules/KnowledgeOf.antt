@@ -5,7 +5,8 @@ use Rattle.cany_base.specs.Nodes.{Nodes}
 use Rattle.cany_base.specs.Params.{Parameters}
 use Rattle.cany_base.specs.Scenario.{ScenarioParts}
 use Rattle.cany_model.specs.Rules.Knowledge.{Knowledge, after_finding, knowledge_at_first}
-use Rattle.cany_model.specs.Rules.Vectors.{brought, ended, is_start, met}
+use Rattle.cany_model.specs.Rules.Vectors.{brought, ended, met}
+use Rattle.cany_base.specs.Cycles.{is_start}
 use Rattle.cany_model.specs.Rules.Views.{after_ask, start_of, with_ended}
 
 -- After it has heard who lives and learnt who failed, it hears who asks to join and to leave.

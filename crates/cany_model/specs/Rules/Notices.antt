@@ -14,7 +14,8 @@ use Rattle.cany_base.specs.Scenario.{ScenarioParts}
 use Rattle.cany_model.specs.Bus.Frames.{identity_of, same_class}
 use Rattle.cany_model.specs.Rules.Life.{life_signs_sent}
 use Rattle.cany_model.specs.Rules.Messages.{IsOfMessage, Message, messages_of, data_frame}
-use Rattle.cany_model.specs.Rules.Vectors.{cycle_of, is_exchange, vector_in}
+use Rattle.cany_model.specs.Rules.Vectors.{vector_in}
+use Rattle.cany_base.specs.Cycles.{cycle_of, is_exchange}
 
 -- the frame carries the data of a message of the scenario, by this service
 pub record IsDataOf (scenario : ScenarioParts) (kind : Service) (f : FrameParts) : Type 0 where

@@ -1,5 +1,5 @@
 -- Reception history vectors: in each membership cycle the nodes come to one set of nodes by exchanging it.
-use Rattle.std.specs.Prelude.{ℕ, ◌/◌, ◌%◌, ◌==◌, ◌&&◌, ◌||◌, ◌++◌, Bool, false, true, not, nat_lt, nat_le, if◌then◌else◌, List, [], ◌∷◌, length, Option, Some, None, count_by, unwrap_or}
+use Rattle.std.specs.Prelude.{ℕ, ◌/◌, ◌%◌, ◌==◌, ◌&&◌, ◌||◌, ◌++◌, Bool, false, true, not, nat_lt, if◌then◌else◌, List, [], ◌∷◌, length, Option, Some, None, count_by, unwrap_or}
 use Rattle.std.specs.List.{list_any}
 use Rattle.cany_base.specs.declared.class.Class.TheVariants as class
 use Rattle.cany_base.specs.declared.format.Format.{Format}
@@ -7,6 +7,7 @@ use Rattle.cany_base.specs.declared.notice.NoticeKind.{NoticeKind}
 use Rattle.cany_base.specs.declared.notice.NoticeKind.TheVariants.{Idle, Got, Sent, Bad}
 use Rattle.cany_base.specs.Frame.{FrameParts}
 use Rattle.cany_base.specs.Nodes.{Nodes, has, those_where, meet}
+use Rattle.cany_base.specs.Cycles.{cycle_of, is_end, is_exchange, is_start}
 use Rattle.cany_base.specs.Params.{Parameters}
 use Rattle.cany_base.specs.Payload.{vector_bytes, vector_of}
 use Rattle.cany_model.specs.Bus.Frames.{Identity, same_class}
@@ -15,23 +16,6 @@ use Rattle.cany_model.specs.Rules.Effect.{Effect, Ask, Withdraw}
 -- the nodes of the bus
 abbrev pub everybody : Parameters → Nodes
 everybody p = those_where (λ r. nat_lt r p.nodes)
-
--- ---- a membership cycle
-
--- Cycle k starts at k times the length of a cycle. It has a start for k ≥ 1 alone: there is none at slot 0.
-abbrev pub cycle_of : Parameters → ℕ → ℕ
-cycle_of p slot = slot / p.cycle
-
-abbrev pub is_start : Parameters → ℕ → Bool
-is_start p slot = slot % p.cycle == 0 && nat_lt 0 (cycle_of p slot)
-
--- vectors are exchanged in as many slots after the start as the bound has
-abbrev pub is_exchange : Parameters → ℕ → Bool
-is_exchange p slot = nat_lt 0 (slot % p.cycle) && nat_le (slot % p.cycle) p.bound && nat_lt 0 (cycle_of p slot)
-
--- and the last of these ends the cycle
-abbrev pub is_end : Parameters → ℕ → Bool
-is_end p slot = slot % p.cycle == p.bound && nat_lt 0 (cycle_of p slot)
 
 -- ---- frames
 

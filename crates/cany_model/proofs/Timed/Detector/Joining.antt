@@ -26,7 +26,7 @@ use Rattle.cany_model.specs.Promises.OneView.{InstallsOneVector, installed, inst
 use Rattle.cany_model.specs.Rules.KnowledgeOf.{after_asking, start_in, knowledge_of}
 use Rattle.cany_model.specs.Rules.Knowledge.{FailureSign, Knowledge, fda_of, after_finding}
 use Rattle.cany_model.specs.Rules.Turn.{scenario_for}
-use Rattle.cany_model.specs.Rules.Vectors.{is_end}
+use Rattle.cany_base.specs.Cycles.{is_end}
 use Rattle.cany_model.specs.Rules.Views.{after_ask, with_joiner, with_leaver}
 use Rattle.cany_model.proofs.Among.{Among, Among-from_Contains}
 use Rattle.cany_model.proofs.Bus.Identities.{same_class_self}

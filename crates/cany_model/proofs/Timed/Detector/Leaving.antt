@@ -26,7 +26,7 @@ use Rattle.cany_model.specs.Promises.Detector.{AsksNoLeave}
 use Rattle.cany_model.specs.Rules.KnowledgeOf.{ended_in, after_asking, after_installing, after_meeting, start_in, knowledge_of}
 use Rattle.cany_model.specs.Rules.Knowledge.{Knowledge, after_finding}
 use Rattle.cany_model.specs.Rules.Turn.{scenario_for}
-use Rattle.cany_model.specs.Rules.Vectors.{is_end, is_start}
+use Rattle.cany_base.specs.Cycles.{is_end, is_start}
 use Rattle.cany_model.specs.Rules.Views.{after_ask, start_of, start_vector, with_ended, with_joiner, with_leaver}
 use Rattle.cany_model.proofs.Bus.Identities.{same_class-true}
 use Rattle.cany_model.proofs.Bus.Notes.{given-Got, given-Sent, has_where, note_of-offered, those_where_pass}

@@ -19,7 +19,7 @@ use Rattle.cany_model.specs.Bus.History.{given}
 use Rattle.cany_model.specs.Rules.Notices.{IsReadable}
 use Rattle.cany_model.specs.Rules.KnowledgeOf.{after_asking, after_installing, after_meeting, met_in, start_in, knowledge_of}
 use Rattle.cany_model.specs.Rules.Knowledge.{FailureSign, Knowledge, after_life, found, found_in, after_finding, after_hearing, after_learning, has_timed_out, knows, same_sign, shows_life, sign_in, sign_of, told, told_in, with_shown, with_sign, with_signs}
-use Rattle.cany_model.specs.Rules.Vectors.{is_end, is_start}
+use Rattle.cany_base.specs.Cycles.{is_end, is_start}
 use Rattle.cany_model.specs.Rules.Views.{start_of, start_vector, with_ended}
 use Rattle.cany_model.proofs.Among.{Among, Among-from_any, Among-get_or, Among-map, Among-weaker, Each-append, Each-filter, Each-map}
 use Rattle.cany_model.proofs.Bus.EachRead.{EachRead}

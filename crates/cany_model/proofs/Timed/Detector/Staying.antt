@@ -27,7 +27,7 @@ use Rattle.cany_model.specs.Promises.Settled.{IsCorrect}
 use Rattle.cany_model.specs.Rules.Log.{log, log_from}
 use Rattle.cany_model.specs.Rules.KnowledgeOf.{knowledge_of}
 use Rattle.cany_model.specs.Rules.Knowledge.{Knowledge, after_hearing, after_learning}
-use Rattle.cany_model.specs.Rules.Vectors.{cycle_of, is_end}
+use Rattle.cany_base.specs.Cycles.{cycle_of, is_end}
 use Rattle.cany_model.proofs.Among.{Among, Among-from_Contains, Each-drop}
 use Rattle.cany_model.proofs.Runs.Journals.{run_then, unread_within}
 use Rattle.cany_model.proofs.Bus.Notes.{given-Got, given-Sent}

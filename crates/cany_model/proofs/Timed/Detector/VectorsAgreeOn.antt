@@ -34,7 +34,8 @@ use Rattle.cany_model.specs.Rules.Relcan.{relcan}
 use Rattle.cany_model.specs.Rules.Sends.{scripted_sends}
 use Rattle.cany_model.specs.Rules.Totcan.{totcan}
 use Rattle.cany_model.specs.Rules.Turn.{protocols, turn_effects}
-use Rattle.cany_model.specs.Rules.Vectors.{brought, cycle_of, end_effects, ended, everybody, exchange_at, is_covered, is_new, is_start, met, met_with, rha_frame, rha_of, start_effects, vector_effects, vector_in}
+use Rattle.cany_model.specs.Rules.Vectors.{brought, end_effects, ended, everybody, exchange_at, is_covered, is_new, met, met_with, rha_frame, rha_of, start_effects, vector_effects, vector_in}
+use Rattle.cany_base.specs.Cycles.{cycle_of, is_start}
 use Rattle.cany_model.proofs.Among.{Each-append, Each-flat_map, Each-of, Each-weaker, Among-from_Contains, Among-get_or, Contains-from_Among}
 use Rattle.cany_model.proofs.Bus.EachRead.{EachRead}
 use Rattle.cany_model.proofs.Bus.Identities.{same_class_self}

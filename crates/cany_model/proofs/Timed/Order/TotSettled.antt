@@ -32,7 +32,7 @@ use Rattle.cany_model.specs.Rules.Protocol.{Protocol}
 use Rattle.cany_model.specs.Rules.Sends.{send_effects}
 use Rattle.cany_model.specs.Rules.Totcan.{is_accepted, is_heard, tot_of_key}
 use Rattle.cany_model.specs.Rules.Turn.{asks_for, has_asked, origin_effects, protocols, scenario_for, turn_effects}
-use Rattle.cany_model.specs.Rules.Vectors.{cycle_of}
+use Rattle.cany_base.specs.Cycles.{cycle_of}
 use Rattle.cany_model.specs.Rules.Views.{ask_of as ask_id}
 use Rattle.cany_model.proofs.Among.{Among, Among-append_left, Among-flat_map, Among-from_Contains, Among-from_flat_map, Among-weaker, Among-which, Among-with, Contains-from_Among, any-from_Among}
 use Rattle.cany_model.proofs.Bus.Carried.{Carries, CarriesClean, SentBy}

@@ -17,7 +17,7 @@ use Rattle.cany_model.specs.Rules.Log.{log_from}
 use Rattle.cany_model.specs.Rules.Membership.{install_effects, views}
 use Rattle.cany_model.specs.Rules.KnowledgeOf.{met_in, knowledge_of}
 use Rattle.cany_model.specs.Rules.Turn.{turn_effects}
-use Rattle.cany_model.specs.Rules.Vectors.{cycle_of, is_end}
+use Rattle.cany_base.specs.Cycles.{cycle_of, is_end}
 use Rattle.cany_model.specs.Rules.Views.{view_effects, withdrawn_asks}
 use Rattle.cany_model.proofs.Among.{Among, Among-append_cases, Among-from_Contains, Among-from_count, Among-weaker, count-from_Among, count-no}
 use Rattle.cany_model.proofs.Rules.MembershipEntries.{withdrawn_enter}

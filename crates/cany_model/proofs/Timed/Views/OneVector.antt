@@ -28,7 +28,8 @@ use Rattle.cany_model.specs.Rules.Notices.{IsReadable, is_early, is_early_frame}
 use Rattle.cany_model.specs.Rules.KnowledgeOf.{ended_in, knowledge_of}
 use Rattle.cany_model.specs.Rules.Knowledge.{Knowledge}
 use Rattle.cany_model.specs.Rules.Turn.{scenario_at, scenario_for}
-use Rattle.cany_model.specs.Rules.Vectors.{cycle_of, is_end, met, rha_of, vector_in}
+use Rattle.cany_model.specs.Rules.Vectors.{met, rha_of, vector_in}
+use Rattle.cany_base.specs.Cycles.{cycle_of, is_end}
 use Rattle.cany_model.proofs.Among.{Contains-cons, Contains-head, Each-drop, Each-weaker}
 use Rattle.cany_model.proofs.Bus.EachRead.{EachRead, each_dropped}
 use Rattle.cany_model.proofs.Bus.Identities.{same_class_self}

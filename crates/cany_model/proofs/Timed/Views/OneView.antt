@@ -28,7 +28,7 @@ use Rattle.cany_model.specs.Rules.Log.{log, log_from}
 use Rattle.cany_model.specs.Rules.Membership.{install_effects, views}
 use Rattle.cany_model.specs.Rules.KnowledgeOf.{ended_in, knowledge_of}
 use Rattle.cany_model.specs.Rules.Turn.{scenario_at, turn_effects}
-use Rattle.cany_model.specs.Rules.Vectors.{cycle_of, is_end}
+use Rattle.cany_base.specs.Cycles.{cycle_of, is_end}
 use Rattle.cany_model.specs.Rules.Views.{view_effects, withdrawn_asks}
 use Rattle.cany_model.proofs.Among.{Among, Among-append_cases, Among-from_Contains, Among-from_count, Among-weaker, count-from_Among, count-no}
 use Rattle.cany_model.proofs.Runs.Runs.{history-length}

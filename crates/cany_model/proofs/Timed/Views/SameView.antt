@@ -12,7 +12,7 @@ use Rattle.cany_model.specs.Bus.State.{RunState, node_at, reads, runs}
 use Rattle.cany_model.specs.Promises.OneView.{HasReadEnd, InstallsOneVector, installed, installed_of}
 use Rattle.cany_model.specs.Promises.Settled.{IsCorrect}
 use Rattle.cany_model.specs.Rules.KnowledgeOf.{knowledge_of}
-use Rattle.cany_model.specs.Rules.Vectors.{cycle_of, is_end}
+use Rattle.cany_base.specs.Cycles.{cycle_of, is_end}
 use Rattle.cany_model.proofs.Runs.Runs.{IsOrderly}
 use Rattle.cany_model.proofs.Bus.States.{runs_within}
 use Rattle.cany_model.proofs.Rules.KnowledgeSteps.{members_by}

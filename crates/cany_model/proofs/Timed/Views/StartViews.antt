@@ -16,7 +16,7 @@ use Rattle.cany_model.specs.Bus.State.{RunState, node_at, opening, reads, runs, 
 use Rattle.cany_model.specs.Promises.Detector.{members_before}
 use Rattle.cany_model.specs.Promises.OneView.{InstallsOneVector, installed_of}
 use Rattle.cany_model.specs.Rules.KnowledgeOf.{knowledge_of}
-use Rattle.cany_model.specs.Rules.Vectors.{cycle_of, is_end}
+use Rattle.cany_base.specs.Cycles.{cycle_of, is_end}
 use Rattle.cany_model.proofs.Runs.Journals.{run_then, unread_within}
 use Rattle.cany_model.proofs.Runs.Runs.{orderly}
 use Rattle.cany_model.proofs.Runs.SlotStates.{trace_grows}

@@ -9,7 +9,8 @@ use Rattle.cany_base.specs.Nodes.{Nodes}
 use Rattle.cany_base.specs.Params.{Parameters}
 use Rattle.cany_model.specs.Bus.Frames.{Identity}
 use Rattle.cany_model.specs.Rules.Effect.{Effect, Ask, Withdraw}
-use Rattle.cany_model.specs.Rules.Vectors.{brought, cycle_of, end_effects, ended, exchange_at, is_covered, is_end, is_exchange, is_new, is_start, met, met_with, rha_frame, rha_of, start_effects, vector_effects, vector_in}
+use Rattle.cany_model.specs.Rules.Vectors.{brought, end_effects, ended, exchange_at, is_covered, is_new, met, met_with, rha_frame, rha_of, start_effects, vector_effects, vector_in}
+use Rattle.cany_base.specs.Cycles.{cycle_of, is_end, is_exchange, is_start}
 use Rattle.cany_model.proofs.Bus.Identities.{same_identity_self}
 use Rattle.cany_model.proofs.Timed.Views.VectorHeld.{other_identity}
 use Rattle.cany_model.proofs.Timed.Common.LastEffect.{Word, Silence, Asked, Withdrawn, later, word, word-append}

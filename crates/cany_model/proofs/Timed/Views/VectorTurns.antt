@@ -12,7 +12,8 @@ use Rattle.cany_model.specs.Bus.Frames.{Identity, same_class}
 use Rattle.cany_model.specs.Rules.Membership.{exchange_effects, vectors}
 use Rattle.cany_model.specs.Rules.KnowledgeOf.{ended_in, start_in, knowledge_of}
 use Rattle.cany_model.specs.Rules.Turn.{protocols, turn_effects}
-use Rattle.cany_model.specs.Rules.Vectors.{brought, cycle_of, end_effects, ended, exchange_at, is_end, is_exchange, is_start, met, rha_of, start_effects, vector_effects}
+use Rattle.cany_model.specs.Rules.Vectors.{brought, end_effects, ended, exchange_at, met, rha_of, start_effects, vector_effects}
+use Rattle.cany_base.specs.Cycles.{cycle_of, is_end, is_exchange, is_start}
 use Rattle.cany_model.proofs.Promises.KeptVectors.{vector_at}
 use Rattle.cany_model.proofs.Rules.VectorFacts.{vector_met, vector_starts}
 use Rattle.cany_model.proofs.Timed.Views.VectorLastEffect.{IsAt, IsCycle, at_end, at_exchange, at_place, at_start, brings, brought_in, brought_out, brought_word, end_idle, end_own, end_word, exchange_in, exchange_other, exchange_word, no_end, no_start, start_idle, start_own, start_word, vector_idle, vector_own}

@@ -39,7 +39,8 @@ use Rattle.cany_model.specs.Rules.KnowledgeOf.{start_in, knowledge_of}
 use Rattle.cany_model.specs.Rules.Knowledge.{Knowledge}
 use Rattle.cany_model.specs.Rules.Totcan.{accept_effects, accept_frame, closing_effects, closing_of, delivered_now, can_be_accepted, message_in, tot_delivery, tot_in, totcan_effects}
 use Rattle.cany_model.specs.Rules.Turn.{protocols, scenario_for, turn_effects}
-use Rattle.cany_model.specs.Rules.Vectors.{brought, cycle_of, end_effects, ended, exchange_at, is_exchange, is_start, met, start_effects, vector_effects, vector_in}
+use Rattle.cany_model.specs.Rules.Vectors.{brought, end_effects, ended, exchange_at, met, start_effects, vector_effects, vector_in}
+use Rattle.cany_base.specs.Cycles.{cycle_of, is_exchange, is_start}
 use Rattle.cany_model.proofs.Among.{Among-from_any, Among-gives, Each-append, Each-flat_map, Each-weaker}
 use Rattle.cany_model.proofs.Bus.Identities.{same_class-true, same_class_self}
 use Rattle.cany_model.proofs.Bus.Notes.{given-Got, given-Sent, given_idle}

@@ -1,0 +1,42 @@
+//! The slots of a membership cycle. It starts at a multiple of its length, and there is none that starts at slot 0.
+
+ghost use Rattle.std.specs.Prelude.{◌≡◌, ◌<◌};
+ghost use Rattle.cany_base.specs.Cycles.{cycle_of, is_end, is_exchange, is_start};
+ghost use Rattle.cany_base.specs.Limits.{most_numbers};
+
+use crate::notice::Slot;
+use crate::params::Params;
+
+/// The number of the cycle of a slot. In a legal scenario each slot of the run has one.
+pub fn cycle_of(params: &Params, slot: Slot) -> u16
+    requires some { 0 < params.now.cycle }
+    requires number { cycle_of params.now slot < most_numbers }
+    ensures { result ≡ cycle_of params.now slot }
+{
+    (slot / params.cycle) as u16
+}
+
+/// Whether a cycle starts in the slot.
+pub fn is_start(params: &Params, slot: Slot) -> bool
+    requires { 0 < params.now.cycle }
+    ensures { result ≡ is_start params.now slot }
+{
+    slot % params.cycle == 0 && 0 < slot / params.cycle
+}
+
+/// Whether vectors are exchanged in the slot: it is one of as many after the start of a cycle as the bound has.
+pub fn is_exchange(params: &Params, slot: Slot) -> bool
+    requires { 0 < params.now.cycle }
+    ensures { result ≡ is_exchange params.now slot }
+{
+    let after_start = slot % params.cycle;
+    0 < after_start && after_start <= params.bound && 0 < slot / params.cycle
+}
+
+/// Whether the slot is the last in which vectors of its cycle are exchanged.
+pub fn is_end(params: &Params, slot: Slot) -> bool
+    requires { 0 < params.now.cycle }
+    ensures { result ≡ is_end params.now slot }
+{
+    slot % params.cycle == params.bound && 0 < slot / params.cycle
+}
