@@ -14,6 +14,6 @@ loop-slot-preserved c =
     record {
       rules = rw c.in_ok-push.ensures.items
           (All-push (IsRuleOf (default_parameters 2 100)) c.loop-slot.rules.items rule c.loop-slot.invariant.rules
-          (record { place = omega arith; verdict = tt; stop = λ i h. absurd (false≢true (sym (c.empty.ensures i) ∙ h)) }));
+          (record { place = omega arith; verdict = tt; stop = λ i h. absurd (false≢true (sym (c.empty.ensures.has i) ∙ h)) }));
       count = omega (arith, ap (λ (rs : List Rule). length rs) c.in_ok-push.ensures.items, length-append c.loop-slot.rules.items (rule ∷ []), c.loop-slot.invariant.count);
     }

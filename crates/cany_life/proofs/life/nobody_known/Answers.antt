@@ -8,7 +8,7 @@ use Rattle.cany_life.proofs.life.nobody_known.Goals as goal
 
 pub loop-preserved : goal.loop-preserved
 loop-preserved c =
-    let empty : c.empty.result ≡ nobody = same_nodes c.empty.result nobody (λ i. c.empty.ensures i ∙ sym (has_none i)) in (
+    let empty : c.empty.result ≡ nobody = same_nodes c.empty.result nobody (λ i. c.empty.ensures.has i ∙ sym (has_none i)) in (
       ap (λ (list : Bounded Nodes). list.items) c.push.ensures
           ∙ ap (λ items. items ++ c.empty.result ∷ []) c.loop.invariant.0
           ∙ ap (λ nodes. replicate c.loop.counter nobody ++ nodes ∷ []) empty

@@ -21,7 +21,7 @@ loop-item-init c = record {
 pub loop-item-preserved : goal.loop-item-preserved
 loop-item-preserved c =
     let good : number_from 0 (c.args.params.now.nodes - 1) c.args.at (view c.item-item.result) ≡ Ok c.in_ok-number.number = search rules in
-    let more : (i : ℕ) → has c.insert.new.self i ≡ (has c.loop-item.nodes i || i == c.in_ok-number.number) = rw c.of_index.ensures at c.insert.ensures in
+    let more : (i : ℕ) → has c.insert.new.self i ≡ (has c.loop-item.nodes i || i == c.in_ok-number.number) = rw c.of_index.ensures at c.insert.ensures.has in
     let few = few_nodes (parameters_of c.params.inside) c.params.invariant in
     let same = ap (λ (p : Parameters). p.nodes) c.params.view_is in
     let small : c.in_ok-number.number < most_nodes = omega (arith, few, same, c.in_ok-number.ensures.in_range.1) in

@@ -6,7 +6,7 @@ pub invariant_of-result : goal.invariant_of-result
 invariant_of-result c = record {
   whole = refl;
   fit = all_fit c.args.format;
-  known = λ node. c.empty.ensures node ∙ sym (ap is_some (no_offer node));
+  known = λ node. c.empty.ensures.has node ∙ sym (ap is_some (no_offer node));
 }
 
 pub returns-clause-none : goal.returns-clause-none

@@ -12,7 +12,7 @@ clean_with c = record { verdict = Clean; stop = c.empty.result }
 
 nobody_stops : (c : goal.After-empty) → clean_with c ≡ record { verdict = Clean; stop = nobody }
 nobody_stops c =
-    ap (λ s. record { verdict = Clean; stop = s }) (same_nodes c.empty.result nobody (λ i. c.empty.ensures i ∙ sym (has_none i)))
+    ap (λ s. record { verdict = Clean; stop = s }) (same_nodes c.empty.result nobody (λ i. c.empty.ensures.has i ∙ sym (has_none i)))
 
 pub returns-in-Some-clause-script : goal.returns-in-Some-clause-script
 returns-in-Some-clause-script c =

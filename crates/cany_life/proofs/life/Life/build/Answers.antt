@@ -22,7 +22,7 @@ returns c = λ n members.
       legal = c.params-params.ensures.legal;
       node = refl;
       params = c.params-params.ensures.params;
-      failed = λ r. c.empty.ensures r ∙ sym (has_none r);
+      failed = λ r. c.empty.ensures.has r ∙ sym (has_none r);
       cycles = ap length known ∙ length-replicate (cycles c.args.scenario.now + 1) nobody;
       known = λ sign of.
           ap (λ sets. has (known_in sets sign.cycle) sign.node) known
