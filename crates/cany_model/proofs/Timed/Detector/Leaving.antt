@@ -221,21 +221,26 @@ no_leave scenario none r below journal asks =
     (nodes_at_first scenario P is, inr tt)
     (record {
       slot = λ s o may h.
-          let there : r < length s.nodes = omega (arith, below, o.count) in
-          (kept.slot s o may h.0, elim (slot_leave scenario r rules s h.0.1) [
-            | inl asked ↦ inl (slot_asked scenario r rules s there asked)
-            | inr now ↦ elim h.1 [
+          let there : r < length s.nodes = omega (arith, below, o.count) in (
+            kept.slot s o may h.0,
+            elim (slot_leave scenario r rules s h.0.1) [
               | inl asked ↦ inl (slot_asked scenario r rules s there asked)
-              | inr before ↦ inr (subst (AllByRecursion (NoLeaveIn r)) (sym (after_slot-trace rules s)) (now, before))
-            ]
-          ]);
+              | inr now ↦ elim h.1 [
+                | inl asked ↦ inl (slot_asked scenario r rules s there asked)
+                | inr before ↦ inr (subst (AllByRecursion (NoLeaveIn r)) (sym (after_slot-trace rules s)) (now, before))
+              ]
+            ],
+          );
       restarts = λ s o some h.
           subst (λ t. (AllWaitForOwnSlots t × EachRunning P t) × (HasAsked scenario r t ⊎ AllByRecursion (NoLeaveIn r) t.trace))
           (sym (restarts_none scenario none s)) h;
-      turn = λ s i o may h. (kept.turn s i o may h.0, elim h.1 [
-        | inl asked ↦ inl (turn_asked scenario r i s may (o.unread i) asked)
-        | inr before ↦ inr (subst (AllByRecursion (NoLeaveIn r)) (sym (after_turn-trace scenario i s)) before)
-      ]);
+      turn = λ s i o may h. (
+        kept.turn s i o may h.0,
+        elim h.1 [
+          | inl asked ↦ inl (turn_asked scenario r i s may (o.unread i) asked)
+          | inr before ↦ inr (subst (AllByRecursion (NoLeaveIn r)) (sym (after_turn-trace scenario i s)) before)
+        ],
+      );
     })
     journal).1 in
     elim either [

@@ -18,7 +18,7 @@ use Rattle.cany_base.specs.Nodes.{Nodes}
 use Rattle.cany_base.specs.Params.{Parameters}
 use Rattle.cany_base.specs.Scenario.{ScenarioParts}
 use Rattle.cany_model.specs.Bus.Frames.{Identity, identity_of, is_of, same_class}
-use Rattle.cany_model.specs.Bus.History.{as_seen, given, history, seen, trace_for, history_but}
+use Rattle.cany_model.specs.Bus.History.{as_seen, given, history, seen, trace_for}
 use Rattle.cany_model.specs.Bus.Restart.{after_restarts, first_cycle, next_incarnation}
 use Rattle.cany_model.specs.Runs.Run.{after_step, after_turn, is_done, proceed, reply, run}
 use Rattle.cany_model.specs.Bus.Slot.{FaultScript, after_slot, script, slot_note_of}
