@@ -22,17 +22,17 @@ use Rattle.cany_model.proofs.Rules.LifeCounts.{due_in}
 use Rattle.can_controller.specs.Controller.{ControllerState}
 use Rattle.cany_totcan.specs.Totcan.{IsTotcanOf, TotcanParts}
 use Rattle.cany_node.specs.Agenda.{IsAgendaOf}
-use Rattle.cany_node.specs.Apply.{AreAskable, AreDone, CanApply, NamesAskable, all_told, asks_sign, is_sign}
+use Rattle.cany_node.specs.Apply.{AreAskable, AreDone, CanApply, NamesAskable, all_stamped, asks_sign, is_sign}
 use Rattle.cany_node.specs.Asks.{AreAsksOf}
 use Rattle.cany_node.specs.Node.{NodeParts, IsNodeOf}
 use Rattle.cany_node.specs.Membership.{IsNextOf}
-use Rattle.cany_node.specs.Telling.{AreTold}
+use Rattle.cany_node.specs.Stamping.{AreStamped}
 use Rattle.cany_node.specs.Turning.{CanScript, HasHeard, HasScripted, heard_effects, plain_effects, script_effects}
 use Rattle.cany_node.proofs.Askable.{turn_names}
 use Rattle.cany_node.proofs.Doing.{signs_asked}
 use Rattle.cany_node.proofs.Filled.{log_within}
 use Rattle.cany_node.proofs.HeardTurn.{listed_more, same_room}
-use Rattle.cany_node.proofs.ToldFacts.{entered_plain, names_plain, signs_plain, turn_told}
+use Rattle.cany_node.proofs.StampedEffects.{entered_plain, names_plain, signs_plain, turn_stamped}
 
 -- what the parts of a turn leave as it was
 pub record IsSame (v w : NodeParts) : Type 0 where
@@ -108,8 +108,8 @@ module _ (scenario : ScenarioParts) (past : List NoticeKind) (notice : Notice) (
 
   -- ---- that it can be done
 
-  told : all_told scenario.inc plain ≡ effects
-  told = turn_told scenario v.node notice.kind past
+  stamped : all_stamped scenario.inc plain ≡ effects
+  stamped = turn_stamped scenario v.node notice.kind past
 
   names : AllByRecursion (NamesAskable scenario v.node) effects
   names =
@@ -117,7 +117,7 @@ module _ (scenario : ScenarioParts) (past : List NoticeKind) (notice : Notice) (
       (omega (arith, next.few, next.next.within))
 
   plain_names : AllByRecursion (NamesAskable scenario v.node) plain
-  plain_names = names_plain scenario v.node scenario.inc plain (subst (AllByRecursion (NamesAskable scenario v.node)) (sym told) names)
+  plain_names = names_plain scenario v.node scenario.inc plain (subst (AllByRecursion (NamesAskable scenario v.node)) (sym stamped) names)
 
   -- no more than one life sign is asked for
   one_sign : count_by asks_sign plain ≤ 1
@@ -125,7 +125,7 @@ module _ (scenario : ScenarioParts) (past : List NoticeKind) (notice : Notice) (
       omega (
         arith,
         signs_plain scenario.inc plain,
-        ap (λ es. count_by asks_sign es) told,
+        ap (λ es. count_by asks_sign es) stamped,
         signs_asked effects,
         turn_asks scenario v.node notice.kind past,
         one_at_most (due_in scenario v.node notice.kind past),
@@ -136,7 +136,7 @@ module _ (scenario : ScenarioParts) (past : List NoticeKind) (notice : Notice) (
       one_at_most false = omega arith
 
   entered_is : entered plain ≡ entered effects
-  entered_is = sym (entered_plain scenario.inc plain) ∙ ap entered told
+  entered_is = sym (entered_plain scenario.inc plain) ∙ ap entered stamped
 
   -- the log after the turn, and that there is room for it
   logged : log_from scenario v.node past ++ entered effects ≡ log_from scenario v.node read
@@ -158,7 +158,7 @@ module _ (scenario : ScenarioParts) (past : List NoticeKind) (notice : Notice) (
 
   pub can_apply : (actions : List Action) (ctl : ControllerState) → actions ≡ actions_of scenario.params.format (plain_effects scenario v.node (notice.kind ∷ past))
       → w.inc ≤ most_restarts_of_node → ctl.params.format ≡ scenario.params.format → ctl.room ≡ waiting_room scenario → AreAskable scenario v.node ctl.waiting
-      → AreTold v.inc ctl.waiting → count_by is_sign ctl.waiting ≤ 2 → CanApply w.inc actions ctl (record { items = w.log; room = w.room })
+      → AreStamped v.inc ctl.waiting → count_by is_sign ctl.waiting ≤ 2 → CanApply w.inc actions ctl (record { items = w.log; room = w.room })
   can_apply actions ctl are number format room askable tells signs = record {
     scenario = scenario;
     node = v.node;
@@ -169,7 +169,7 @@ module _ (scenario : ScenarioParts) (past : List NoticeKind) (notice : Notice) (
     are = are;
     names = plain_names;
     waiting = askable;
-    told = subst (λ n. AreTold n ctl.waiting) (sym same.inc) tells;
+    stamped = subst (λ n. AreStamped n ctl.waiting) (sym same.inc) tells;
     signs = omega (arith, signs, one_sign);
     room = room;
     entries = room_to_enter;
@@ -178,12 +178,12 @@ module _ (scenario : ScenarioParts) (past : List NoticeKind) (notice : Notice) (
   -- what is listed is done
   pub done : (actions : List Action) (ctl ctl' : ControllerState) (log log' : Bounded LogEntry)
       → ((s : ScenarioParts) (i : ℕ) (es : List Effect) → IsLegalScenario s → ctl.params.format ≡ s.params.format → actions ≡ actions_of s.params.format es
-      → AllByRecursion (NamesAskable s i) es → AreTold w.inc ctl.waiting → AreDone (all_told w.inc es) ctl ctl' log log')
+      → AllByRecursion (NamesAskable s i) es → AreStamped w.inc ctl.waiting → AreDone (all_stamped w.inc es) ctl ctl' log log')
       → ctl.params.format ≡ scenario.params.format → actions ≡ actions_of scenario.params.format (plain_effects scenario v.node (notice.kind ∷ past))
-      → AreTold v.inc ctl.waiting → AreDone (turn_effects scenario v.node (notice.kind ∷ past)) ctl ctl' log log'
+      → AreStamped v.inc ctl.waiting → AreDone (turn_effects scenario v.node (notice.kind ∷ past)) ctl ctl' log log'
   done actions ctl ctl' log log' all format are tells =
-      subst (λ es. AreDone es ctl ctl' log log') (ap (λ n. all_told n plain) (same.inc ∙ stands.inc) ∙ told)
-      (all scenario v.node plain stands.legal format are plain_names (subst (λ n. AreTold n ctl.waiting) (sym same.inc) tells))
+      subst (λ es. AreDone es ctl ctl' log log') (ap (λ n. all_stamped n plain) (same.inc ∙ stands.inc) ∙ stamped)
+      (all scenario v.node plain stands.legal format are plain_names (subst (λ n. AreStamped n ctl.waiting) (sym same.inc) tells))
 
   -- ---- the node after the turn
 

@@ -13,8 +13,8 @@ use Rattle.cany_model.specs.Bus.Frames.{Identity}
 use Rattle.cany_model.specs.Bus.Waiting.{with_frame, without}
 use Rattle.cany_model.proofs.Rules.DeliveryFacts.{entered-append}
 use Rattle.can_controller.specs.Controller.{ControllerState}
-use Rattle.cany_node.specs.Apply.{AreDone, all_told}
-use Rattle.cany_node.specs.Telling.{with_incarnation}
+use Rattle.cany_node.specs.Apply.{AreDone, all_stamped}
+use Rattle.cany_node.specs.Stamping.{with_incarnation}
 
 pub waiting-append : (first rest : List Effect) (w : List FrameParts)
     → waiting_after (first ++ rest) w ≡ waiting_after rest (waiting_after first w)
@@ -26,26 +26,26 @@ waiting-append (Enter entry ∷ first) rest w = waiting-append first rest w
 
 -- ---- one effect
 
-pub done-ask : (format : Format) (inc : ℕ) (f told : FrameParts) (effect : Effect) (ctl ctl' : ControllerState) (log log' : Bounded LogEntry)
-    → action_of format effect ≡ action.Ask f → told ≡ with_incarnation inc f → ctl' ≡ record ctl { waiting = with_frame told ctl.waiting }
+pub done-ask : (format : Format) (inc : ℕ) (f stamped : FrameParts) (effect : Effect) (ctl ctl' : ControllerState) (log log' : Bounded LogEntry)
+    → action_of format effect ≡ action.Ask f → stamped ≡ with_incarnation inc f → ctl' ≡ record ctl { waiting = with_frame stamped ctl.waiting }
     → log' ≡ log
-    → AreDone (all_told inc (effect ∷ [])) ctl ctl' log log'
+    → AreDone (all_stamped inc (effect ∷ [])) ctl ctl' log log'
 unfolding waiting_after entered
-done-ask format inc f told (Ask g) ctl ctl' log log' e tells is same =
+done-ask format inc f stamped (Ask g) ctl ctl' log log' e tells is same =
     let frame : g ≡ f = cc in
     record {
       controller = is ∙ ap (λ (h : FrameParts). record ctl { waiting = with_frame h ctl.waiting }) (tells ∙ ap (with_incarnation inc) (sym frame));
       entries = ap (λ (b : Bounded LogEntry). b.items) same ∙ sym (append-nil log.items);
       room = ap (λ (b : Bounded LogEntry). b.room) same;
     }
-done-ask format inc f told (Withdraw x) ctl ctl' log log' e tells is same = absurd (cc)
-done-ask format inc f told (Enter entry) ctl ctl' log log' e tells is same = absurd (cc)
+done-ask format inc f stamped (Withdraw x) ctl ctl' log log' e tells is same = absurd (cc)
+done-ask format inc f stamped (Enter entry) ctl ctl' log log' e tells is same = absurd (cc)
 
 pub done-withdraw : (format : Format) (inc ident : ℕ) (effect : Effect) (ctl ctl' : ControllerState) (log log' : Bounded LogEntry)
     → action_of format effect ≡ action.Withdraw ident
     → ((x : Identity) → effect ≡ Withdraw x → ident_of format x ≡ ident → ctl' ≡ record ctl { waiting = without x ctl.waiting })
     → log' ≡ log
-    → AreDone (all_told inc (effect ∷ [])) ctl ctl' log log'
+    → AreDone (all_stamped inc (effect ∷ [])) ctl ctl' log log'
 unfolding waiting_after entered
 done-withdraw format inc ident (Withdraw x) ctl ctl' log log' e is same =
     let number : ident_of format x ≡ ident = cc in
@@ -59,7 +59,7 @@ done-withdraw format inc ident (Enter entry) ctl ctl' log log' e is same = absur
 
 pub done-enter : (format : Format) (inc : ℕ) (entry : LogEntry) (effect : Effect) (ctl ctl' : ControllerState) (log log' : Bounded LogEntry)
     → action_of format effect ≡ action.Enter entry → ctl' ≡ ctl → log' ≡ record { items = log.items ++ entry ∷ []; room = log.room }
-    → AreDone (all_told inc (effect ∷ [])) ctl ctl' log log'
+    → AreDone (all_stamped inc (effect ∷ [])) ctl ctl' log log'
 unfolding waiting_after entered
 done-enter format inc entry (Enter made) ctl ctl' log log' e is same =
     let one : made ≡ entry = cc in

@@ -20,12 +20,12 @@ use Rattle.cany_model.proofs.Rules.DeliveryFacts.{entered-append}
 use Rattle.can_frame.specs.Identifier.{FitsFormat}
 use Rattle.can_controller.specs.Controller.{ControllerState}
 use Rattle.can_controller.specs.Waiting.{IsAscending}
-use Rattle.cany_node.specs.Apply.{AreAskable, NamesAskable, AreDone, CanApply, CanDo, WithdrawsFitting, all_told, asks_sign, is_sign}
-use Rattle.cany_node.specs.Telling.{AreTold, Tells, told_effect, with_incarnation}
+use Rattle.cany_node.specs.Apply.{AreAskable, NamesAskable, AreDone, CanApply, CanDo, WithdrawsFitting, all_stamped, asks_sign, is_sign}
+use Rattle.cany_node.specs.Stamping.{AreStamped, IsStamped, stamped_effect, with_incarnation}
 use Rattle.cany_node.proofs.Applying.{Stands, stands, each-front, each-at, done-then}
 use Rattle.cany_node.proofs.Askable.{askable_fits}
 use Rattle.cany_node.proofs.Filled.{waiting_below}
-use Rattle.cany_node.proofs.TellingFacts.{ident_small}
+use Rattle.cany_node.proofs.StampedIdentifiers.{ident_small}
 
 pub withdraws_fitting : (scenario : ScenarioParts) (i : ℕ) (effect : Effect) → IsLegalScenario scenario → NamesAskable scenario i effect
     → WithdrawsFitting scenario.params.format effect
@@ -36,7 +36,7 @@ withdraws_fitting scenario i (Enter entry) legal is = tt
 -- ---- what waits after effects that tell the incarnation
 
 asks_askable : (scenario : ScenarioParts) (i inc : ℕ) (effects : List Effect) → AllByRecursion (NamesAskable scenario i) effects
-    → AllByRecursion (AsksOnly (λ f. IsAskable scenario i (identity_of f))) (all_told inc effects)
+    → AllByRecursion (AsksOnly (λ f. IsAskable scenario i (identity_of f))) (all_stamped inc effects)
 asks_askable scenario i inc [] h = tt
 asks_askable scenario i inc (Ask f ∷ effects) h = (h.0.0, asks_askable scenario i inc effects h.1)
 asks_askable scenario i inc (Withdraw x ∷ effects) h = (tt, asks_askable scenario i inc effects h.1)
@@ -45,30 +45,30 @@ asks_askable scenario i inc (Enter entry ∷ effects) h = (tt, asks_askable scen
 -- it may be asked for
 still_askable : (scenario : ScenarioParts) (i inc : ℕ) (effects : List Effect) (w : List FrameParts)
     → AllByRecursion (NamesAskable scenario i) effects
-    → AreAskable scenario i w → AreAskable scenario i (waiting_after (all_told inc effects) w)
+    → AreAskable scenario i w → AreAskable scenario i (waiting_after (all_stamped inc effects) w)
 still_askable scenario i inc effects w names all =
-    Each-after (λ f. IsAskable scenario i (identity_of f)) (all_told inc effects) w (asks_askable scenario i inc effects names) all
+    Each-after (λ f. IsAskable scenario i (identity_of f)) (all_stamped inc effects) w (asks_askable scenario i inc effects names) all
 
-frame_tells : (inc : ℕ) (f : FrameParts) → Tells inc (with_incarnation inc f)
-frame_tells inc f tells = ap (λ (told : Bool). if told then inc else f.inc) tells
+frame_tells : (inc : ℕ) (f : FrameParts) → IsStamped inc (with_incarnation inc f)
+frame_tells inc f tells = ap (λ (stamped : Bool). if stamped then inc else f.inc) tells
 
-asks_tell : (inc : ℕ) (effects : List Effect) → AllByRecursion (AsksOnly (Tells inc)) (all_told inc effects)
+asks_tell : (inc : ℕ) (effects : List Effect) → AllByRecursion (AsksOnly (IsStamped inc)) (all_stamped inc effects)
 asks_tell inc [] = tt
 asks_tell inc (Ask f ∷ effects) = (frame_tells inc f, asks_tell inc effects)
 asks_tell inc (Withdraw x ∷ effects) = (tt, asks_tell inc effects)
 asks_tell inc (Enter entry ∷ effects) = (tt, asks_tell inc effects)
 
 -- and tells the incarnation
-still_told : (inc : ℕ) (effects : List Effect) (w : List FrameParts) → AreTold inc w → AreTold inc (waiting_after (all_told inc effects) w)
-still_told inc effects w told = Each-after (Tells inc) (all_told inc effects) w (asks_tell inc effects) told
+still_stamped : (inc : ℕ) (effects : List Effect) (w : List FrameParts) → AreStamped inc w → AreStamped inc (waiting_after (all_stamped inc effects) w)
+still_stamped inc effects w stamped = Each-after (IsStamped inc) (all_stamped inc effects) w (asks_tell inc effects) stamped
 
 -- what is entered does not depend on it
-pub entered_told : (inc : ℕ) (effects : List Effect) → entered (all_told inc effects) ≡ entered effects
+pub entered_stamped : (inc : ℕ) (effects : List Effect) → entered (all_stamped inc effects) ≡ entered effects
 unfolding entered
-entered_told inc [] = refl
-entered_told inc (Ask f ∷ effects) = entered_told inc effects
-entered_told inc (Withdraw x ∷ effects) = entered_told inc effects
-entered_told inc (Enter entry ∷ effects) = ap (λ entries. entry ∷ entries) (entered_told inc effects)
+entered_stamped inc [] = refl
+entered_stamped inc (Ask f ∷ effects) = entered_stamped inc effects
+entered_stamped inc (Withdraw x ∷ effects) = entered_stamped inc effects
+entered_stamped inc (Enter entry ∷ effects) = ap (λ entries. entry ∷ entries) (entered_stamped inc effects)
 
 -- ---- life signs
 
@@ -78,18 +78,18 @@ signs_asked (Ask f ∷ effects) = omega (arith, count-cons asks_sign (Ask f) eff
 signs_asked (Withdraw x ∷ effects) = omega (arith, count-cons asks_sign (Withdraw x) effects, signs_asked effects)
 signs_asked (Enter entry ∷ effects) = omega (arith, count-cons asks_sign (Enter entry) effects, signs_asked effects)
 
-signs_told : (inc : ℕ) (effects : List Effect) → els_asks (all_told inc effects) ≡ els_asks effects
-signs_told inc [] = refl
-signs_told inc (Ask f ∷ effects) = omega (arith, signs_told inc effects)
-signs_told inc (Withdraw x ∷ effects) = signs_told inc effects
-signs_told inc (Enter entry ∷ effects) = signs_told inc effects
+signs_stamped : (inc : ℕ) (effects : List Effect) → els_asks (all_stamped inc effects) ≡ els_asks effects
+signs_stamped inc [] = refl
+signs_stamped inc (Ask f ∷ effects) = omega (arith, signs_stamped inc effects)
+signs_stamped inc (Withdraw x ∷ effects) = signs_stamped inc effects
+signs_stamped inc (Enter entry ∷ effects) = signs_stamped inc effects
 
 -- those that wait after the first effects are no more than all effects bring
 signs_so_far : (inc : ℕ) (effects front back : List Effect) (effect : Effect) (w : List FrameParts) (most : ℕ)
     → effects ≡ front ++ effect ∷ back
-    → count_by is_sign w + count_by asks_sign effects ≤ most → count_by is_sign (waiting_after (all_told inc front) w) ≤ most
+    → count_by is_sign w + count_by asks_sign effects ≤ most → count_by is_sign (waiting_after (all_stamped inc front) w) ≤ most
 signs_so_far inc effects front back effect w most whole few =
-    omega (arith, waiting_few (all_told inc front) w, signs_told inc front, signs_asked effects, ap els_asks whole, asks_more front (effect ∷ back), few)
+    omega (arith, waiting_few (all_stamped inc front) w, signs_stamped inc front, signs_asked effects, ap els_asks whole, asks_more front (effect ∷ back), few)
 
 -- ---- the next effect
 
@@ -110,14 +110,14 @@ can_do_effect scenario i inc (Enter entry) ctl log legal number is format all up
 
 pub can_do : (inc : ℕ) (actions : List Action) (start ctl : ControllerState) (before log : Bounded LogEntry) (can : CanApply inc actions start before) (place : ℕ)
     (a : Action) → Stands can.scenario.params.format can.effects place a
-    → AreDone (all_told inc (take place can.effects)) start ctl before log
+    → AreDone (all_stamped inc (take place can.effects)) start ctl before log
     → IsAscending ctl.params.format ctl.waiting → CanDo inc a ctl log
 can_do inc actions start ctl before log can place a at done up =
     let i : ℕ = can.node in
     let front : List Effect = take place can.effects in
     let back : List Effect = drop (place + 1) can.effects in
     let names = subst (AllByRecursion (NamesAskable can.scenario i)) at.whole can.names in
-    let left : waiting_after (all_told inc front) start.waiting ≡ ctl.waiting = sym (ap (λ (s : ControllerState). s.waiting) done.controller) in
+    let left : waiting_after (all_stamped inc front) start.waiting ≡ ctl.waiting = sym (ap (λ (s : ControllerState). s.waiting) done.controller) in
     let waiting : AreAskable can.scenario i ctl.waiting =
     subst (AreAskable can.scenario i) left
     (still_askable can.scenario i inc front start.waiting (each-front (NamesAskable can.scenario i) front (at.effect ∷ back) names) can.waiting) in
@@ -129,8 +129,8 @@ can_do inc actions start ctl before log can place a at done up =
     ap (λ es. length (entered es)) at.whole ∙ ap length (entered-append front (at.effect ∷ back)) ∙ length-append (entered front) (entered (at.effect ∷ back))
     ∙ ap (λ n. length (entered front) + n) (ap length (entered-append (at.effect ∷ []) back) ∙ length-append (entered (at.effect ∷ [])) (entered back)) in
     let made : length log.items ≡ length before.items + length (entered front) =
-    ap length done.entries ∙ length-append before.items (entered (all_told inc front))
-    ∙ ap (λ entries. length before.items + length entries) (entered_told inc front) in
+    ap length done.entries ∙ length-append before.items (entered (all_stamped inc front))
+    ∙ ap (λ entries. length before.items + length entries) (entered_stamped inc front) in
     subst (λ x. CanDo inc x ctl log) at.action
     (can_do_effect can.scenario i inc at.effect ctl log can.legal can.number (each-at (NamesAskable can.scenario i) front back at.effect names) format waiting up signs
     room (omega (arith, all, made, can.entries, done.room)))
@@ -145,27 +145,27 @@ next_stands format effects out actions i a are same within is =
 
 pub next_done : (scenario : ScenarioParts) (i inc : ℕ) (effects : List Effect) (place : ℕ) (a : Action) (start ctl ctl' : ControllerState) (before log log' : Bounded LogEntry)
     → IsLegalScenario scenario → start.params.format ≡ scenario.params.format → AllByRecursion (NamesAskable scenario i) effects
-    → AreTold inc start.waiting
+    → AreStamped inc start.waiting
     → Stands scenario.params.format effects place a
-    → ((effect : Effect) → action_of ctl.params.format effect ≡ a → WithdrawsFitting ctl.params.format effect → AreTold inc ctl.waiting
-    → AreDone (all_told inc (effect ∷ [])) ctl ctl' log log')
-    → AreDone (all_told inc (take place effects)) start ctl before log
-    → AreDone (all_told inc (take (place + 1) effects)) start ctl' before log'
-next_done scenario i inc effects place a start ctl ctl' before log log' legal same names told at one done =
+    → ((effect : Effect) → action_of ctl.params.format effect ≡ a → WithdrawsFitting ctl.params.format effect → AreStamped inc ctl.waiting
+    → AreDone (all_stamped inc (effect ∷ [])) ctl ctl' log log')
+    → AreDone (all_stamped inc (take place effects)) start ctl before log
+    → AreDone (all_stamped inc (take (place + 1) effects)) start ctl' before log'
+next_done scenario i inc effects place a start ctl ctl' before log log' legal same names stamped at one done =
     let front : List Effect = take place effects in
     let format : ctl.params.format ≡ scenario.params.format = ap (λ (s : ControllerState). s.params.format) done.controller ∙ same in
     let named = each-at (NamesAskable scenario i) front (drop (place + 1) effects) at.effect (subst (AllByRecursion (NamesAskable scenario i)) at.whole names) in
-    let tells : AreTold inc ctl.waiting =
-    subst (AreTold inc) (sym (ap (λ (s : ControllerState). s.waiting) done.controller)) (still_told inc front start.waiting told) in
-    subst (λ es. AreDone es start ctl' before log') (sym (ap (all_told inc) at.taken ∙ map-append (told_effect inc) front (at.effect ∷ [])))
-    (done-then (all_told inc front) (all_told inc (at.effect ∷ [])) start ctl ctl' before log log' done
+    let tells : AreStamped inc ctl.waiting =
+    subst (AreStamped inc) (sym (ap (λ (s : ControllerState). s.waiting) done.controller)) (still_stamped inc front start.waiting stamped) in
+    subst (λ es. AreDone es start ctl' before log') (sym (ap (all_stamped inc) at.taken ∙ map-append (stamped_effect inc) front (at.effect ∷ [])))
+    (done-then (all_stamped inc front) (all_stamped inc (at.effect ∷ [])) start ctl ctl' before log log' done
     (one at.effect (subst (λ k. action_of k at.effect ≡ a) (sym format) at.action)
     (subst (λ k. WithdrawsFitting k at.effect) (sym format) (withdraws_fitting scenario i at.effect legal named)) tells))
 
 pub all_done : (format : Format) (inc : ℕ) (effects : List Effect) (out actions : List Action) (place : ℕ) (start ctl : ControllerState) (before log : Bounded LogEntry)
     → out ≡ actions_of format effects → actions ≡ out → length actions ≤ place
-    → AreDone (all_told inc (take place effects)) start ctl before log
-    → AreDone (all_told inc effects) start ctl before log
+    → AreDone (all_stamped inc (take place effects)) start ctl before log
+    → AreDone (all_stamped inc effects) start ctl before log
 all_done format inc effects out actions place start ctl before log are same past done =
-    subst (λ es. AreDone (all_told inc es) start ctl before log)
+    subst (λ es. AreDone (all_stamped inc es) start ctl before log)
     (take_all place effects (omega (arith, ap length (same ∙ are), length-map effects (action_of format)))) done

@@ -1,6 +1,7 @@
 -- The turn of a data frame of EDCAN in a slot in which the node would rest: only EDCAN does something.
 use Rattle.std.specs.List.{flat_map}
 use Rattle.std.proofs.Common.{◌≡◌, ℕ, ◌+◌, true, List, [], ◌∷◌, ◌++◌, length, Option, Some, None, refl, ap, sym, ◌∙◌, subst, arith, append-nil}
+use Rattle.can_frame.specs.Classes.{is_of_site}
 use Rattle.cany_base.specs.declared.actions.Action.{Action}
 use Rattle.cany_base.specs.declared.class.Class.TheVariants as class
 use Rattle.cany_base.specs.declared.notice.NoticeKind.{NoticeKind}
@@ -21,17 +22,17 @@ use Rattle.cany_model.specs.Rules.Views.{join_asked, leave_asked}
 use Rattle.cany_model.proofs.Bus.Identities.{same_class-true}
 use Rattle.cany_totcan.specs.Totcan.{IsTotcanOf}
 use Rattle.cany_node.specs.Agenda.{IsAgendaOf}
-use Rattle.cany_node.specs.Apply.{all_told}
+use Rattle.cany_node.specs.Apply.{all_stamped}
 use Rattle.cany_node.specs.Asks.{AreAsksOf}
 use Rattle.cany_node.specs.Node.{IsNodeOf, NodeParts}
 use Rattle.cany_node.specs.Resting.{Rests, is_of_edcan}
-use Rattle.cany_node.specs.Membership.{is_of_site, membership_effects}
+use Rattle.cany_node.specs.Membership.{membership_effects}
 use Rattle.cany_node.specs.Turning.{HasScripted, asks_plain, heard_effects, plain_effects, script_effects}
 use Rattle.cany_node.proofs.ActSteps.{IsSame}
 use Rattle.cany_node.proofs.EdcanFrames.{IsEdcanOnly, edcan_only, relcan_same, relcan_unheard}
 use Rattle.cany_node.proofs.EdcanPlaces.{next_same, totcan_same, totcan_unheard}
 use Rattle.cany_node.proofs.MembershipRest.{both_none}
-use Rattle.cany_node.proofs.ToldFacts.{turn_told}
+use Rattle.cany_node.proofs.StampedEffects.{turn_stamped}
 use Rattle.cany_node.proofs.Unheard.{IsUnheard, site_same, site_unheard, knowledge_same, unheard}
 
 -- ---- lists of effects
@@ -44,20 +45,20 @@ none_right : (xs ys : List Effect) → xs ++ ys ≡ [] → ys ≡ []
 none_right [] ys none = none
 none_right (x ∷ xs) ys none = absurd (cc)
 
-none_told : (inc : ℕ) (es : List Effect) → all_told inc es ≡ [] → es ≡ []
-none_told inc [] none = refl
-none_told inc (e ∷ es) none = absurd (cc)
+none_stamped : (inc : ℕ) (es : List Effect) → all_stamped inc es ≡ [] → es ≡ []
+none_stamped inc [] none = refl
+none_stamped inc (e ∷ es) none = absurd (cc)
 
 none_asked : (next : Option Message) → ask_for next ≡ [] → next ≡ None
 none_asked None none = refl
 none_asked (Some m) none = absurd (cc)
 
 -- the site hears nothing of it
-untold : (e : NoticeKind) → is_of_edcan e ≡ true → IsUnheard e
-untold Idle is = absurd (cc)
-untold (Got f) is = unheard (Got f) (ap is_of_site (same_class-true f.class class.Ed is))
-untold (Sent f) is = unheard (Sent f) (ap is_of_site (same_class-true f.class class.Ed is))
-untold Bad is = absurd (cc)
+tells_nothing : (e : NoticeKind) → is_of_edcan e ≡ true → IsUnheard e
+tells_nothing Idle is = absurd (cc)
+tells_nothing (Got f) is = unheard (Got f) (ap is_of_site (same_class-true f.class class.Ed is))
+tells_nothing (Sent f) is = unheard (Sent f) (ap is_of_site (same_class-true f.class class.Ed is))
+tells_nothing Bad is = absurd (cc)
 
 -- ---- the turn
 
@@ -78,7 +79,7 @@ module _ (scenario : ScenarioParts) (past : List NoticeKind) (e : NoticeKind) (i
   -- ---- an idle slot would lead to nothing
 
   idle_plain : plain_effects scenario i idle ≡ []
-  idle_plain = none_told scenario.inc (plain_effects scenario i idle) (turn_told scenario i Idle past ∙ rests.effects)
+  idle_plain = none_stamped scenario.inc (plain_effects scenario i idle) (turn_stamped scenario i Idle past ∙ rests.effects)
 
   idle_heard : relcan_effects scenario i idle ++ (totcan_effects scenario i idle ++ membership_effects scenario i idle) ≡ []
   idle_heard = none_right (edcan_effects scenario i idle) _ (none_left (heard_effects scenario i idle) _ idle_plain)
@@ -98,7 +99,7 @@ module _ (scenario : ScenarioParts) (past : List NoticeKind) (e : NoticeKind) (i
   asks_same = ap (λ (st : Knowledge).
       flat_map (λ ask. join_asked scenario.params 0 i (length past) st.members) (asks_in scenario i (length past) scenario.joins)
       ++ flat_map (λ ask. leave_asked scenario.params 0 i (length past) st.members) (asks_in scenario i (length past) scenario.leaves))
-      (knowledge_same scenario i past e (untold e is))
+      (knowledge_same scenario i past e (tells_nothing e is))
 
   script_none : script_effects scenario i read ≡ []
   unfolding send_effects
@@ -122,7 +123,7 @@ module _ (scenario : ScenarioParts) (past : List NoticeKind) (e : NoticeKind) (i
       (relcan_same e only past scenario i ∙ none_left (relcan_effects scenario i idle) _ idle_heard)
       (both_none (totcan_effects scenario i read) (membership_effects scenario i read)
       (totcan_same e only past scenario i ∙ none_left (totcan_effects scenario i idle) _ idle_later)
-      (site_same scenario i past e (untold e is) ∙ none_right (totcan_effects scenario i idle) _ idle_later))
+      (site_same scenario i past e (tells_nothing e is) ∙ none_right (totcan_effects scenario i idle) _ idle_later))
 
   pub edcan_alone : plain_effects scenario i read ≡ edcan_effects scenario i read
   edcan_alone =
@@ -167,7 +168,7 @@ module _ (scenario : ScenarioParts) (past : List NoticeKind) (e : NoticeKind) (i
     edcan = subst (λ n. IsEdcanOf scenario n read edcan) stands.edcan.node heard;
     relcan = relcan_unheard e only past scenario i v.relcan rests.stands.relcan;
     totcan = totcan_stands;
-    membership = site_unheard scenario i past e (untold e is) v.membership rests.stands.membership;
+    membership = site_unheard scenario i past e (tells_nothing e is) v.membership rests.stands.membership;
     agenda = subst (λ n. IsAgendaOf scenario i n v.agenda) one_more_read rests.stands.agenda;
     joins = subst (λ n. AreAsksOf scenario i n scenario.joins v.joins) one_more_read rests.stands.joins;
     leaves = subst (λ n. AreAsksOf scenario i n scenario.leaves v.leaves) one_more_read rests.stands.leaves;

@@ -1,4 +1,4 @@
--- A node that is idle until a slot rests until then, and it may always be said to be idle until slot 0.
+-- A node that is idle until a slot rests until then.
 use Rattle.std.proofs.Common.{ℕ, ◌≤◌, List, length, arith}
 use Rattle.cany_base.specs.declared.log_entry.LogEntry.{LogEntry}
 use Rattle.cany_base.specs.declared.notice.NoticeKind.{NoticeKind}
@@ -8,16 +8,6 @@ use Rattle.cany_edcan.specs.Edcan.{EdcanParts, IsEdcanOf}
 use Rattle.cany_node.specs.Node.{IsNodeOf, NodeParts}
 use Rattle.cany_node.specs.Resting.{IsIdleUntil, RestsUntil}
 use Rattle.cany_node.proofs.IdleTurn.{edcan_now, node_rests, relcan_now, totcan_now}
-
-pub idle_never : (v : NodeParts) → IsIdleUntil 0 v
-idle_never v = record {
-  relcan = λ scenario past is before. absurd (omega (arith, before));
-  totcan = λ scenario past messages count is before. absurd (omega (arith, before));
-  membership = λ scenario i past is later before within. absurd (omega (arith, before));
-  sends = λ n before. absurd (omega (arith, before));
-  joins = λ n before. absurd (omega (arith, before));
-  leaves = λ n before. absurd (omega (arith, before));
-}
 
 -- EDCAN has nothing to do in any idle slot
 abbrev pub EdcanRests : EdcanParts → Type 0

@@ -25,7 +25,7 @@ use Rattle.cany_relcan.specs.Relcan.{IsRelcanOf}
 use Rattle.cany_totcan.specs.Rests as totcan
 use Rattle.cany_totcan.specs.Totcan.{IsTotcanOf}
 use Rattle.cany_node.specs.Agenda.{AgendaParts, IsAgendaOf, IsRising, is_for, message_from, sent_asks}
-use Rattle.cany_node.specs.Apply.{all_told}
+use Rattle.cany_node.specs.Apply.{all_stamped}
 use Rattle.cany_node.specs.Asks.{AreAsksOf, IsRisingFrom, slot_of}
 use Rattle.cany_node.specs.Node.{NodeParts, IsNodeOf}
 use Rattle.cany_node.specs.Resting.{Rests, MembershipRests}
@@ -35,7 +35,7 @@ use Rattle.cany_node.proofs.AskFacts.{none_at}
 use Rattle.cany_node.proofs.GiveFacts.{none_joined}
 use Rattle.cany_node.proofs.SendFacts.{asks-from_slot, none_asked, none_for}
 use Rattle.cany_node.proofs.MembershipRest.{both_none}
-use Rattle.cany_node.proofs.ToldFacts.{turn_told}
+use Rattle.cany_node.proofs.StampedEffects.{turn_stamped}
 
 -- ---- a slot for which nothing is scripted
 
@@ -152,7 +152,7 @@ module _ (scenario : ScenarioParts) (past : List NoticeKind) (v : NodeParts) (h 
         (both_none (script_effects scenario i idle) (backlog_effects scenario i idle) no_script no_next)
 
     none_done : turn_effects scenario i idle ≡ []
-    none_done = sym (turn_told scenario i Idle past) ∙ ap (all_told scenario.inc) none_plain
+    none_done = sym (turn_stamped scenario i Idle past) ∙ ap (all_stamped scenario.inc) none_plain
 
     -- ---- the node
 

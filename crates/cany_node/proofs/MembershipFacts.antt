@@ -20,7 +20,7 @@ use Rattle.cany_model.proofs.Among.{Each-filter, Each-map, Each-weaker}
 use Rattle.cany_model.proofs.Bus.Identities.{same_class-true}
 use Rattle.cany_model.proofs.Rules.KnowledgeSteps.{IgnoresAsks, IgnoresLife, IgnoresSigns, IgnoresVector, asks_keep, found_keeps, life_keeps, met_keeps}
 use Rattle.cany_views.specs.Views.{IsViewsOf, ViewsParts}
-use Rattle.cany_views.proofs.SetFacts.{below_with}
+use Rattle.cany_base.proofs.SetFacts.{below_with}
 use Rattle.cany_node.specs.Membership.{KnowsOf, MembershipParts, ended_as}
 
 -- ---- what the parts rest on

@@ -25,7 +25,7 @@ use Rattle.cany_base.specs.Cycles.{is_start}
 use Rattle.cany_model.specs.Rules.Views.{after_ask, start_of, view_effects, with_ended, with_view}
 use Rattle.cany_model.proofs.Rules.VectorFacts.{knowledge_vector}
 use Rattle.cany_views.specs.Views.{IsViewsOf, ViewsParts}
-use Rattle.cany_views.proofs.SetFacts.{below_minus}
+use Rattle.cany_base.proofs.SetFacts.{below_minus}
 use Rattle.cany_node.specs.Membership.{Exchanges, HasKnown, IsNextOf, IsMembershipOf, KnowsOf, MembershipParts, ended_as, exchange_plain, life_plain, met_by, membership_effects}
 use Rattle.cany_node.proofs.MembershipFacts.{asked_members, ended_none, ended_vector, found_failed, knows_moved, life_moved, met_life, met_views, starts_as_met, views_moved}
 

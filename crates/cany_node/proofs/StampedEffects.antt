@@ -1,4 +1,4 @@
--- What a turn asks for tells the incarnation, so that telling it to what the protocols list gives just the turn.
+-- What a turn asks for tells the incarnation, so that stamping it into what the protocols list gives just the turn.
 use Rattle.std.proofs.Common.{◌≡◌, ℕ, Bool, true, false, if◌then◌else◌, List, [], ◌∷◌, ◌++◌, length, Option, Some, None, count_by, refl, ap, sym, ◌∙◌, subst, arith, append-nil, append_assoc}
 use Rattle.std.specs.List.{AllByRecursion, flat_map}
 use Rattle.std.proofs.lemmas.List.{map-append}
@@ -37,21 +37,21 @@ use Rattle.cany_model.proofs.Rules.TotcanFacts.{totcan_is_lawful}
 use Rattle.cany_model.proofs.Rules.ViewFacts.{views_are_lawful}
 use Rattle.cany_model.proofs.Among.{count-cons}
 use Rattle.cany_model.specs.Rules.Knowledge.{Knowledge}
-use Rattle.cany_node.specs.Apply.{NamesAskable, all_told, asks_sign}
+use Rattle.cany_node.specs.Apply.{NamesAskable, all_stamped, asks_sign}
 use Rattle.cany_node.specs.Membership.{exchange_plain, life_plain, membership_effects}
-use Rattle.cany_node.specs.Telling.{told_effect, with_incarnation}
+use Rattle.cany_node.specs.Stamping.{stamped_effect, with_incarnation}
 use Rattle.cany_node.specs.Turning.{asks_plain, heard_effects, plain_effects, script_effects}
 
 -- ---- frames that tell the incarnation already, or none
 
 plain_same : (inc : ℕ) (f : FrameParts) → has_incarnation f.class ≡ false → with_incarnation inc f ≡ f
-plain_same inc f plain = ap (λ told. record f { inc = if told then inc else f.inc }) plain
+plain_same inc f plain = ap (λ stamped. record f { inc = if stamped then inc else f.inc }) plain
 
 own_same : (inc : ℕ) (f : FrameParts) → f.inc ≡ inc → with_incarnation inc f ≡ f
 own_same inc f own =
     ap (λ n. record f { inc = if has_incarnation f.class then n else f.inc }) (sym own) ∙ by_class (has_incarnation f.class)
   where
-    by_class : (told : Bool) → record f { inc = if told then f.inc else f.inc } ≡ f
+    by_class : (stamped : Bool) → record f { inc = if stamped then f.inc else f.inc } ≡ f
     by_class true = refl
     by_class false = refl
 
@@ -87,79 +87,79 @@ module _ (scenario : ScenarioParts) (i : ℕ) (past : List NoticeKind) where
   asked_same f (requests slot c is frame) =
       subst (λ h. with_incarnation scenario.inc h ≡ h) frame (own_same scenario.inc (ask_frame c scenario.inc (cycle_of scenario.params slot) i) refl)
 
-  effect_same : (p : Protocol) (e : Effect) → IsFounded scenario p i past e → told_effect scenario.inc e ≡ e
+  effect_same : (p : Protocol) (e : Effect) → IsFounded scenario p i past e → stamped_effect scenario.inc e ≡ e
   effect_same p (Ask f) k = ap Ask (asked_same f k.0)
   effect_same p (Withdraw x) k = refl
   effect_same p (Enter entry) k = refl
 
-  effects_same : (p : Protocol) (es : List Effect) → AllByRecursion (IsFounded scenario p i past) es → all_told scenario.inc es ≡ es
+  effects_same : (p : Protocol) (es : List Effect) → AllByRecursion (IsFounded scenario p i past) es → all_stamped scenario.inc es ≡ es
   effects_same p [] all = refl
-  effects_same p (e ∷ es) all = ap (λ x. x ∷ all_told scenario.inc es) (effect_same p e all.0) ∙ ap (λ xs. e ∷ xs) (effects_same p es all.1)
+  effects_same p (e ∷ es) all = ap (λ x. x ∷ all_stamped scenario.inc es) (effect_same p e all.0) ∙ ap (λ xs. e ∷ xs) (effects_same p es all.1)
 
-  protocol_same : (p : Protocol) → IsLawful p → all_told scenario.inc (p.effects scenario i past) ≡ p.effects scenario i past
+  protocol_same : (p : Protocol) → IsLawful p → all_stamped scenario.inc (p.effects scenario i past) ≡ p.effects scenario i past
   protocol_same p lawful = effects_same p (p.effects scenario i past) (lawful.founded scenario i past)
 
 -- ---- what is listed without an incarnation
 
-told_append : (inc : ℕ) (xs ys : List Effect) → all_told inc (xs ++ ys) ≡ all_told inc xs ++ all_told inc ys
-told_append inc xs ys = map-append (told_effect inc) xs ys
+stamped_append : (inc : ℕ) (xs ys : List Effect) → all_stamped inc (xs ++ ys) ≡ all_stamped inc xs ++ all_stamped inc ys
+stamped_append inc xs ys = map-append (stamped_effect inc) xs ys
 
-told_if : (inc : ℕ) (b : Bool) (xs ys : List Effect) → all_told inc (if b then xs else ys) ≡ (if b then all_told inc xs else all_told inc ys)
-told_if inc true xs ys = refl
-told_if inc false xs ys = refl
+stamped_if : (inc : ℕ) (b : Bool) (xs ys : List Effect) → all_stamped inc (if b then xs else ys) ≡ (if b then all_stamped inc xs else all_stamped inc ys)
+stamped_if inc true xs ys = refl
+stamped_if inc false xs ys = refl
 
 module _ (p : Parameters) (inc i slot : ℕ) where
-  vector_told : (past : List NoticeKind) (old brings : Option Nodes) → all_told inc (vector_effects p 0 i slot past old brings) ≡ vector_effects p inc i slot past old brings
+  vector_stamped : (past : List NoticeKind) (old brings : Option Nodes) → all_stamped inc (vector_effects p 0 i slot past old brings) ≡ vector_effects p inc i slot past old brings
   unfolding vector_effects
-  vector_told past old None = refl
-  vector_told past old (Some w) =
+  vector_stamped past old None = refl
+  vector_stamped past old (Some w) =
       let v : Nodes = met_with p old w in
       let settled : List Effect = Withdraw (rha_of (cycle_of p slot) i) ∷ [] in
       let asked : List Effect = if is_new old v then Ask (rha_frame p.format 0 (cycle_of p slot) i v) ∷ [] else [] in
-      told_if inc (is_covered p (cycle_of p slot) i v past) settled asked
+      stamped_if inc (is_covered p (cycle_of p slot) i v past) settled asked
       ∙ ap (λ es. if is_covered p (cycle_of p slot) i v past then settled else es)
-      (told_if inc (is_new old v) (Ask (rha_frame p.format 0 (cycle_of p slot) i v) ∷ []) [])
+      (stamped_if inc (is_new old v) (Ask (rha_frame p.format 0 (cycle_of p slot) i v) ∷ []) [])
 
-  end_told : (vector : Option Nodes) → all_told inc (end_effects p i slot vector) ≡ end_effects p i slot vector
+  end_stamped : (vector : Option Nodes) → all_stamped inc (end_effects p i slot vector) ≡ end_effects p i slot vector
   unfolding end_effects
-  end_told None = refl
-  end_told (Some v) = refl
+  end_stamped None = refl
+  end_stamped (Some v) = refl
 
-  start_told : (start : Option Nodes) → all_told inc (start_effects p 0 i slot start) ≡ start_effects p inc i slot start
+  start_stamped : (start : Option Nodes) → all_stamped inc (start_effects p 0 i slot start) ≡ start_effects p inc i slot start
   unfolding start_effects
-  start_told None = refl
-  start_told (Some v) = told_if inc (is_start p slot) (Ask (rha_frame p.format 0 (cycle_of p slot) i v) ∷ []) []
+  start_stamped None = refl
+  start_stamped (Some v) = stamped_if inc (is_start p slot) (Ask (rha_frame p.format 0 (cycle_of p slot) i v) ∷ []) []
 
-exchange_told : (p : Parameters) (inc i : ℕ) (notice : NoticeKind) (before : List NoticeKind) (old start : Option Nodes)
-    → all_told inc (exchange_at p 0 i notice before old start) ≡ exchange_at p inc i notice before old start
+exchange_stamped : (p : Parameters) (inc i : ℕ) (notice : NoticeKind) (before : List NoticeKind) (old start : Option Nodes)
+    → all_stamped inc (exchange_at p 0 i notice before old start) ≡ exchange_at p inc i notice before old start
 unfolding exchange_at
-exchange_told p inc i notice before old start =
+exchange_stamped p inc i notice before old start =
     let slot : ℕ = length before in
     let a : List Effect = vector_effects p 0 i slot (notice ∷ before) old (brought p slot notice) in
     let b : List Effect = end_effects p i slot (ended p slot (met p old (brought p slot notice))) in
     let c : List Effect = start_effects p 0 i slot start in
-    told_append inc (a ++ b) c ∙ ap (λ es. es ++ all_told inc c) (told_append inc a b)
-    ∙ ap (λ es. (es ++ all_told inc b) ++ all_told inc c) (vector_told p inc i slot (notice ∷ before) old (brought p slot notice))
-    ∙ ap (λ es. (vector_effects p inc i slot (notice ∷ before) old (brought p slot notice) ++ es) ++ all_told inc c)
-    (end_told p inc i slot (ended p slot (met p old (brought p slot notice))))
-    ∙ ap (λ es. (vector_effects p inc i slot (notice ∷ before) old (brought p slot notice) ++ b) ++ es) (start_told p inc i slot start)
+    stamped_append inc (a ++ b) c ∙ ap (λ es. es ++ all_stamped inc c) (stamped_append inc a b)
+    ∙ ap (λ es. (es ++ all_stamped inc b) ++ all_stamped inc c) (vector_stamped p inc i slot (notice ∷ before) old (brought p slot notice))
+    ∙ ap (λ es. (vector_effects p inc i slot (notice ∷ before) old (brought p slot notice) ++ es) ++ all_stamped inc c)
+    (end_stamped p inc i slot (ended p slot (met p old (brought p slot notice))))
+    ∙ ap (λ es. (vector_effects p inc i slot (notice ∷ before) old (brought p slot notice) ++ b) ++ es) (start_stamped p inc i slot start)
 
-life_told : (inc life i slot : ℕ) (st : Knowledge) (sent : ℕ) → all_told inc (life_sign life 0 i slot st sent) ≡ life_sign life inc i slot st sent
-life_told inc life i slot st sent = told_if inc (is_due life i slot st) (Ask (els_frame 0 i sent) ∷ []) []
+life_stamped : (inc life i slot : ℕ) (st : Knowledge) (sent : ℕ) → all_stamped inc (life_sign life 0 i slot st sent) ≡ life_sign life inc i slot st sent
+life_stamped inc life i slot st sent = stamped_if inc (is_due life i slot st) (Ask (els_frame 0 i sent) ∷ []) []
 
 -- each ask of a slot asks for the same frame
-each_told : (inc : ℕ) (plain told : List Effect) → all_told inc plain ≡ told → (asks : List NodeAsk)
-    → all_told inc (flat_map (λ ask. plain) asks) ≡ flat_map (λ ask. told) asks
-each_told inc plain told same [] = refl
-each_told inc plain told same (ask ∷ asks) =
-    told_append inc plain (flat_map (λ ask. plain) asks) ∙ ap (λ es. es ++ all_told inc (flat_map (λ ask. plain) asks)) same
-    ∙ ap (λ es. told ++ es) (each_told inc plain told same asks)
+each_stamped : (inc : ℕ) (plain stamped : List Effect) → all_stamped inc plain ≡ stamped → (asks : List NodeAsk)
+    → all_stamped inc (flat_map (λ ask. plain) asks) ≡ flat_map (λ ask. stamped) asks
+each_stamped inc plain stamped same [] = refl
+each_stamped inc plain stamped same (ask ∷ asks) =
+    stamped_append inc plain (flat_map (λ ask. plain) asks) ∙ ap (λ es. es ++ all_stamped inc (flat_map (λ ask. plain) asks)) same
+    ∙ ap (λ es. stamped ++ es) (each_stamped inc plain stamped same asks)
 
-join_told : (p : Parameters) (inc i slot : ℕ) (members : Nodes) → all_told inc (join_asked p 0 i slot members) ≡ join_asked p inc i slot members
-join_told p inc i slot members = told_if inc (has members i) [] (Ask (ask_frame class.Join 0 (cycle_of p slot) i) ∷ [])
+join_stamped : (p : Parameters) (inc i slot : ℕ) (members : Nodes) → all_stamped inc (join_asked p 0 i slot members) ≡ join_asked p inc i slot members
+join_stamped p inc i slot members = stamped_if inc (has members i) [] (Ask (ask_frame class.Join 0 (cycle_of p slot) i) ∷ [])
 
-leave_told : (p : Parameters) (inc i slot : ℕ) (members : Nodes) → all_told inc (leave_asked p 0 i slot members) ≡ leave_asked p inc i slot members
-leave_told p inc i slot members = told_if inc (has members i) (Ask (ask_frame class.Leave 0 (cycle_of p slot) i) ∷ []) []
+leave_stamped : (p : Parameters) (inc i slot : ℕ) (members : Nodes) → all_stamped inc (leave_asked p 0 i slot members) ≡ leave_asked p inc i slot members
+leave_stamped p inc i slot members = stamped_if inc (has members i) (Ask (ask_frame class.Leave 0 (cycle_of p slot) i) ∷ []) []
 
 -- ---- all of a turn
 
@@ -167,64 +167,64 @@ module _ (scenario : ScenarioParts) (i : ℕ) (notice : NoticeKind) (before : Li
   abbrev past : List NoticeKind
   past = notice ∷ before
 
-  abbrev told : List Effect → List Effect
-  told es = all_told scenario.inc es
+  abbrev stamped : List Effect → List Effect
+  stamped es = all_stamped scenario.inc es
 
-  vectors_told : told (exchange_plain scenario i past) ≡ exchange_effects scenario i past
+  vectors_stamped : stamped (exchange_plain scenario i past) ≡ exchange_effects scenario i past
   unfolding exchange_effects
-  vectors_told =
-      exchange_told scenario.params scenario.inc i notice before (knowledge_of scenario i before).vector
+  vectors_stamped =
+      exchange_stamped scenario.params scenario.inc i notice before (knowledge_of scenario i before).vector
       (start_in scenario.params i (length before) notice (knowledge_of scenario i before))
 
-  signs_told : told (life_plain scenario i past) ≡ life_effects scenario i past
+  signs_stamped : stamped (life_plain scenario i past) ≡ life_effects scenario i past
   unfolding life_effects
-  signs_told = life_told scenario.inc scenario.params.life i (length before) (knowledge_of scenario i past) (life_signs_sent i past)
+  signs_stamped = life_stamped scenario.inc scenario.params.life i (length before) (knowledge_of scenario i past) (life_signs_sent i past)
 
-  asks_told : told (asks_plain scenario i past) ≡ ask_effects scenario i past
+  asks_stamped : stamped (asks_plain scenario i past) ≡ ask_effects scenario i past
   unfolding ask_effects
-  asks_told =
+  asks_stamped =
       let p : Parameters = scenario.params in
       let members : Nodes = (knowledge_of scenario i past).members in
       let joins : List NodeAsk = asks_in scenario i (length before) scenario.joins in
       let leaves : List NodeAsk = asks_in scenario i (length before) scenario.leaves in
-      told_append scenario.inc (flat_map (λ ask. join_asked p 0 i (length before) members) joins) (flat_map (λ ask. leave_asked p 0 i (length before) members) leaves)
-      ∙ ap (λ es. es ++ told (flat_map (λ ask. leave_asked p 0 i (length before) members) leaves))
-      (each_told scenario.inc (join_asked p 0 i (length before) members) (join_asked p scenario.inc i (length before) members)
-      (join_told p scenario.inc i (length before) members) joins)
+      stamped_append scenario.inc (flat_map (λ ask. join_asked p 0 i (length before) members) joins) (flat_map (λ ask. leave_asked p 0 i (length before) members) leaves)
+      ∙ ap (λ es. es ++ stamped (flat_map (λ ask. leave_asked p 0 i (length before) members) leaves))
+      (each_stamped scenario.inc (join_asked p 0 i (length before) members) (join_asked p scenario.inc i (length before) members)
+      (join_stamped p scenario.inc i (length before) members) joins)
       ∙ ap (λ es. flat_map (λ ask. join_asked p scenario.inc i (length before) members) joins ++ es)
-      (each_told scenario.inc (leave_asked p 0 i (length before) members) (leave_asked p scenario.inc i (length before) members)
-      (leave_told p scenario.inc i (length before) members) leaves)
+      (each_stamped scenario.inc (leave_asked p 0 i (length before) members) (leave_asked p scenario.inc i (length before) members)
+      (leave_stamped p scenario.inc i (length before) members) leaves)
 
-  same : (p : Protocol) → IsLawful p → told (p.effects scenario i past) ≡ p.effects scenario i past
+  same : (p : Protocol) → IsLawful p → stamped (p.effects scenario i past) ≡ p.effects scenario i past
   same p lawful = protocol_same scenario i past p lawful
 
-  two : (xs ys xs' ys' : List Effect) → told xs ≡ xs' → told ys ≡ ys' → told (xs ++ ys) ≡ xs' ++ ys'
-  two xs ys xs' ys' first second = told_append scenario.inc xs ys ∙ ap (λ es. es ++ told ys) first ∙ ap (λ es. xs' ++ es) second
+  two : (xs ys xs' ys' : List Effect) → stamped xs ≡ xs' → stamped ys ≡ ys' → stamped (xs ++ ys) ≡ xs' ++ ys'
+  two xs ys xs' ys' first second = stamped_append scenario.inc xs ys ∙ ap (λ es. es ++ stamped ys) first ∙ ap (λ es. xs' ++ es) second
 
-  site_told : told (membership_effects scenario i past)
+  site_stamped : stamped (membership_effects scenario i past)
       ≡ failure_effects scenario i past ++ (exchange_effects scenario i past ++ (install_effects scenario i past ++ life_effects scenario i past))
-  site_told =
+  site_stamped =
       two (failure_effects scenario i past) _ (failure_effects scenario i past) _ (same failure_signs failures_are_lawful)
-      (two (exchange_plain scenario i past) _ (exchange_effects scenario i past) _ vectors_told
-      (two (install_effects scenario i past) (life_plain scenario i past) (install_effects scenario i past) (life_effects scenario i past) (same views views_are_lawful) signs_told))
+      (two (exchange_plain scenario i past) _ (exchange_effects scenario i past) _ vectors_stamped
+      (two (install_effects scenario i past) (life_plain scenario i past) (install_effects scenario i past) (life_effects scenario i past) (same views views_are_lawful) signs_stamped))
 
-  heard_told : told (heard_effects scenario i past)
+  heard_stamped : stamped (heard_effects scenario i past)
       ≡ edcan_effects scenario i past ++ (relcan_effects scenario i past ++ (totcan_effects scenario i past
       ++ (failure_effects scenario i past ++ (exchange_effects scenario i past ++ (install_effects scenario i past ++ life_effects scenario i past)))))
-  heard_told =
+  heard_stamped =
       two (edcan_effects scenario i past) _ (edcan_effects scenario i past) _ (same edcan edcan_is_lawful)
       (two (relcan_effects scenario i past) _ (relcan_effects scenario i past) _ (same relcan relcan_is_lawful)
-      (two (totcan_effects scenario i past) (membership_effects scenario i past) (totcan_effects scenario i past) _ (same totcan totcan_is_lawful) site_told))
+      (two (totcan_effects scenario i past) (membership_effects scenario i past) (totcan_effects scenario i past) _ (same totcan totcan_is_lawful) site_stamped))
 
-  script_told : told (script_effects scenario i past) ≡ send_effects scenario i past ++ ask_effects scenario i past
-  script_told =
+  script_stamped : stamped (script_effects scenario i past) ≡ send_effects scenario i past ++ ask_effects scenario i past
+  script_stamped =
       two (send_effects scenario i past) (asks_plain scenario i past) (send_effects scenario i past) (ask_effects scenario i past)
-      (same scripted_sends sends_are_lawful) asks_told
+      (same scripted_sends sends_are_lawful) asks_stamped
 
-  -- telling the incarnation to what is listed gives what the rules say of the turn
-  pub turn_told : told (plain_effects scenario i past) ≡ turn_effects scenario i past
+  -- stamping the incarnation into what is listed gives what the rules say of the turn
+  pub turn_stamped : stamped (plain_effects scenario i past) ≡ turn_effects scenario i past
   unfolding turn_effects
-  turn_told =
+  turn_stamped =
       let ed : List Effect = edcan_effects scenario i past in
       let rel : List Effect = relcan_effects scenario i past in
       let tot : List Effect = totcan_effects scenario i past in
@@ -236,8 +236,8 @@ module _ (scenario : ScenarioParts) (i : ℕ) (notice : NoticeKind) (before : Li
       let ask : List Effect = ask_effects scenario i past in
       let next : List Effect = backlog_effects scenario i past in
       two (heard_effects scenario i past) (script_effects scenario i past ++ backlog_effects scenario i past)
-      (ed ++ (rel ++ (tot ++ (fail ++ (vec ++ (view ++ life)))))) ((send ++ ask) ++ next) heard_told
-      (two (script_effects scenario i past) (backlog_effects scenario i past) (send ++ ask) next script_told (same tot_backlog backlog_is_lawful))
+      (ed ++ (rel ++ (tot ++ (fail ++ (vec ++ (view ++ life)))))) ((send ++ ask) ++ next) heard_stamped
+      (two (script_effects scenario i past) (backlog_effects scenario i past) (send ++ ask) next script_stamped (same tot_backlog backlog_is_lawful))
       ∙ nested ed rel tot fail vec view life send ask next
     where
       nested : (a b c d e f g h j k : List Effect) → (a ++ (b ++ (c ++ (d ++ (e ++ (f ++ g)))))) ++ ((h ++ j) ++ k)
@@ -251,10 +251,10 @@ module _ (scenario : ScenarioParts) (i : ℕ) (notice : NoticeKind) (before : Li
           ∙ ap (λ x. e ++ x) (append_assoc f g ((h ++ j) ++ k)
           ∙ ap (λ x. f ++ (g ++ x)) (append_assoc h j k ∙ ap (λ x. h ++ (j ++ x)) (sym (append-nil k))))))))
 
--- ---- what telling leaves
+-- ---- what stamping leaves
 
 -- what is named is the same
-pub names_plain : (scenario : ScenarioParts) (i inc : ℕ) (es : List Effect) → AllByRecursion (NamesAskable scenario i) (all_told inc es)
+pub names_plain : (scenario : ScenarioParts) (i inc : ℕ) (es : List Effect) → AllByRecursion (NamesAskable scenario i) (all_stamped inc es)
     → AllByRecursion (NamesAskable scenario i) es
 names_plain scenario i inc [] h = tt
 names_plain scenario i inc (Ask f ∷ es) h = (h.0, names_plain scenario i inc es h.1)
@@ -262,7 +262,7 @@ names_plain scenario i inc (Withdraw x ∷ es) h = (h.0, names_plain scenario i 
 names_plain scenario i inc (Enter entry ∷ es) h = (h.0, names_plain scenario i inc es h.1)
 
 -- so is what is entered
-pub entered_plain : (inc : ℕ) (es : List Effect) → entered (all_told inc es) ≡ entered es
+pub entered_plain : (inc : ℕ) (es : List Effect) → entered (all_stamped inc es) ≡ entered es
 unfolding entered
 entered_plain inc [] = refl
 entered_plain inc (Ask f ∷ es) = entered_plain inc es
@@ -270,8 +270,8 @@ entered_plain inc (Withdraw x ∷ es) = entered_plain inc es
 entered_plain inc (Enter entry ∷ es) = ap (λ rest. entry ∷ rest) (entered_plain inc es)
 
 -- and so are the life signs that are asked for
-pub signs_plain : (inc : ℕ) (es : List Effect) → count_by asks_sign (all_told inc es) ≡ count_by asks_sign es
+pub signs_plain : (inc : ℕ) (es : List Effect) → count_by asks_sign (all_stamped inc es) ≡ count_by asks_sign es
 signs_plain inc [] = refl
-signs_plain inc (Ask f ∷ es) = omega (arith, count-cons asks_sign (Ask f) es, count-cons asks_sign (Ask (with_incarnation inc f)) (all_told inc es), signs_plain inc es)
-signs_plain inc (Withdraw x ∷ es) = omega (arith, count-cons asks_sign (Withdraw x) es, count-cons asks_sign (Withdraw x) (all_told inc es), signs_plain inc es)
-signs_plain inc (Enter entry ∷ es) = omega (arith, count-cons asks_sign (Enter entry) es, count-cons asks_sign (Enter entry) (all_told inc es), signs_plain inc es)
+signs_plain inc (Ask f ∷ es) = omega (arith, count-cons asks_sign (Ask f) es, count-cons asks_sign (Ask (with_incarnation inc f)) (all_stamped inc es), signs_plain inc es)
+signs_plain inc (Withdraw x ∷ es) = omega (arith, count-cons asks_sign (Withdraw x) es, count-cons asks_sign (Withdraw x) (all_stamped inc es), signs_plain inc es)
+signs_plain inc (Enter entry ∷ es) = omega (arith, count-cons asks_sign (Enter entry) es, count-cons asks_sign (Enter entry) (all_stamped inc es), signs_plain inc es)

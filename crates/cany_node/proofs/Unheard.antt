@@ -2,6 +2,7 @@
 use Rattle.std.specs.List.{flat_map, list_any}
 use Rattle.std.proofs.Common.{◌≡◌, ℕ, ◌+◌, ◌*◌, ◌/◌, ◌≤◌, ◌==◌, ◌&&◌, ◌||◌, Bool, true, false, nat_le, if◌then◌else◌, List, [], ◌∷◌, ◌++◌, length, Option, Some, None, IfSome, count_by, refl, ap, sym, ◌∙◌, subst}
 use Rattle.std.proofs.lemmas.Bool.{false_from_ne_true}
+use Rattle.can_frame.specs.Classes.{is_of_site}
 use Rattle.cany_base.specs.declared.class.Class.{Class}
 use Rattle.cany_base.specs.declared.class.Class.TheVariants as class
 use Rattle.cany_base.specs.declared.format.Format.{Format}
@@ -29,7 +30,7 @@ use Rattle.cany_model.proofs.Among.{count-no}
 use Rattle.cany_model.proofs.Bus.Identities.{same_class-true}
 use Rattle.cany_views.specs.Views.{IsViewsOf}
 use Rattle.cany_node.specs.Resting.{MembershipRests}
-use Rattle.cany_node.specs.Membership.{IsMembershipOf, MembershipParts, is_of_site, membership_effects, tells_of_site}
+use Rattle.cany_node.specs.Membership.{IsMembershipOf, MembershipParts, membership_effects, tells_of_site}
 
 -- ---- the class of a frame
 

@@ -17,7 +17,7 @@ use Rattle.cany_model.specs.Rules.Rooms.{IsAskable, waiting_room}
 use Rattle.can_frame.specs.Identifier.{FitsFormat}
 use Rattle.can_controller.specs.Controller.{ControllerState}
 use Rattle.can_controller.specs.Waiting.{HasRoomFor}
-use Rattle.cany_node.specs.Telling.{AreTold, told_effect}
+use Rattle.cany_node.specs.Stamping.{AreStamped, stamped_effect}
 
 -- each waiting frame is one that node i may ask for
 abbrev pub AreAskable : ScenarioParts → ℕ → List FrameParts → Type 0
@@ -49,8 +49,8 @@ pub record AreDone (effects : List Effect) (ctl ctl' : ControllerState) (log log
   pub room : log'.room ≡ log.room
 
 -- the same effects, each of which tells the incarnation
-abbrev pub all_told : ℕ → List Effect → List Effect
-all_told inc effects = map (told_effect inc) effects
+abbrev pub all_stamped : ℕ → List Effect → List Effect
+all_stamped inc effects = map (stamped_effect inc) effects
 
 -- The actions are those of effects that an incarnation of node i can do: what they name may be asked for, there is room for all, and
 -- what waits tells the incarnation. The life signs that wait and those that are asked for are three at most.
@@ -64,7 +64,7 @@ pub record CanApply (inc : ℕ) (actions : List Action) (ctl : ControllerState) 
   pub are : actions ≡ actions_of scenario.params.format effects
   pub names : AllByRecursion (NamesAskable scenario node) effects
   pub waiting : AreAskable scenario node ctl.waiting
-  pub told : AreTold inc ctl.waiting
+  pub stamped : AreStamped inc ctl.waiting
   pub signs : count_by is_sign ctl.waiting + count_by asks_sign effects ≤ 3
   pub room : ctl.room ≡ waiting_room scenario
   pub entries : length log.items + length (entered effects) ≤ log.room

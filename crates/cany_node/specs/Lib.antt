@@ -1,11 +1,11 @@
 pub mod Agenda
 pub mod Apply
 pub mod Asks
+pub mod Membership
 pub mod Node
 pub mod NodeFields
+pub mod Plan
 pub mod Protocols
 pub mod Resting
-pub mod Plan
-pub mod Membership
-pub mod Telling
+pub mod Stamping
 pub mod Turning

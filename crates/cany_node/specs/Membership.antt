@@ -1,13 +1,12 @@
 -- What a node keeps of the site: life signs and failure signs, the exchange of vectors, and the view.
 use Rattle.std.specs.Prelude.{◌≡◌, ℕ, ◌+◌, ◌*◌, ◌<◌, Bool, true, false, [], ◌∷◌, ◌++◌, List, length, Option, None, IfSome, option_map, replicate}
-use Rattle.cany_base.specs.declared.class.Class.{Class}
-use Rattle.cany_base.specs.declared.class.Class.TheVariants.{Accept, Rha, Els, Fda, Join, Leave, Confirm, Tot, Rel, Ed}
 use Rattle.cany_base.specs.declared.notice.Notice.{Notice}
 use Rattle.cany_base.specs.declared.notice.NoticeKind.{NoticeKind}
 use Rattle.cany_base.specs.declared.notice.NoticeKind.TheVariants.{Idle, Got, Sent, Bad}
 use Rattle.cany_base.specs.Nodes.{AllBelow, Nodes}
 use Rattle.cany_base.specs.Params.{Parameters}
 use Rattle.cany_base.specs.Scenario.{ScenarioParts}
+use Rattle.can_frame.specs.Classes.{is_of_site}
 use Rattle.cany_model.specs.Rules.Effect.{TurnRule}
 use Rattle.cany_model.specs.Rules.Life.{failure_effects, life_sign, life_signs_sent}
 use Rattle.cany_model.specs.Rules.Membership.{install_effects}
@@ -51,20 +50,7 @@ pub record IsNextOf (scenario : ScenarioParts) (i : ℕ) (past : List NoticeKind
 
 -- ---- what tells of the site
 
--- whether frames of the class do: those of TOTCAN's data show that their node lives
-abbrev pub is_of_site : Class → Bool
-is_of_site Accept = false
-is_of_site Rha = true
-is_of_site Els = true
-is_of_site Fda = true
-is_of_site Join = true
-is_of_site Leave = true
-is_of_site Confirm = false
-is_of_site Tot = true
-is_of_site Rel = false
-is_of_site Ed = false
-
--- whether the notice does
+-- whether the notice tells of it: frames of TOTCAN's data do, since they show that their node lives
 abbrev pub tells_of_site : NoticeKind → Bool
 tells_of_site Idle = false
 tells_of_site (Got f) = is_of_site f.class
@@ -108,9 +94,9 @@ pub record CanExchange (v : MembershipParts) (notice : Notice) : Type 0 where
   pub past : List NoticeKind
   pub exchanges : Exchanges scenario node past notice v
 
--- the vector with which a cycle ended in the slot has only nodes of the bus, and is named by the cycle
-abbrev pub FitsCycle : Parameters → ℕ → Option Ended → Type 0
-FitsCycle p slot ended = IfSome ended (λ e. (e.cycle ≡ cycle_of p slot) × AllBelow p.nodes e.vector)
+-- the vector with which a cycle ended has only nodes of the bus
+abbrev pub IsOfBus : Parameters → Option Ended → Type 0
+IsOfBus p ended = IfSome ended (λ e. AllBelow p.nodes e.vector)
 
 -- the value stands for what a node knows after the turn of the slot has begun
 pub record HasKnown (v : MembershipParts) (slot : ℕ) : Type 0 where

@@ -25,7 +25,7 @@ use Rattle.cany_node.specs.Agenda.{AgendaParts, IsAgendaOf, IsPlanOf}
 use Rattle.cany_node.specs.Apply.{AreAskable, is_sign}
 use Rattle.cany_node.specs.Asks.{AreAsksOf, IsAskPlanOf}
 use Rattle.cany_node.specs.Membership.{IsNextOf, IsMembershipAtRest, IsMembershipOf, MembershipParts}
-use Rattle.cany_node.specs.Telling.{AreTold}
+use Rattle.cany_node.specs.Stamping.{AreStamped}
 
 -- its number, the number of its incarnation, the parameters, and the first slot and the first membership cycle in which this one takes
 -- part; its log and how much the log can hold, how many notices it has read, the parts that its protocols keep, and its scripted sends
@@ -113,7 +113,7 @@ pub record CanTurn (v : NodeParts) (ctl : ControllerState) (out : Bounded Action
   pub params : ctl.params ≡ scenario.params
   pub room : ctl.room ≡ waiting_room scenario
   pub askable : ctl.stopped ≡ None → AreAskable scenario v.node ctl.waiting
-  pub told : ctl.stopped ≡ None → AreTold v.inc ctl.waiting
+  pub stamped : ctl.stopped ≡ None → AreStamped v.inc ctl.waiting
   pub signs : ctl.stopped ≡ None → count_by is_sign ctl.waiting ≤ 2
   pub next : (notice : Notice) → slice_get ctl.unread 0 ≡ Some notice → IsNextNotice scenario past (heard_by v notice)
   pub few : ctl.stopped ≡ None → (notice : Notice) → slice_get ctl.unread 0 ≡ Some notice → HasFewSigns scenario v.node ((heard_by v notice).kind ∷ past) notice.slot
@@ -132,7 +132,7 @@ pub record CanAct (v : NodeParts) (notice : Notice) (ctl : ControllerState) (out
   pub format : ctl.params.format ≡ scenario.params.format
   pub room : ctl.room ≡ waiting_room scenario
   pub askable : AreAskable scenario v.node ctl.waiting
-  pub told : AreTold v.inc ctl.waiting
+  pub stamped : AreStamped v.inc ctl.waiting
   pub signs : count_by is_sign ctl.waiting ≤ 2
   pub free : out.items ≡ []
   pub actions : out.room ≡ actions_room scenario

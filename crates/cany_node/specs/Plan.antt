@@ -6,7 +6,7 @@ use Rattle.cany_node.specs.Asks.{IsAskPlanOf}
 use Rattle.cany_node.specs.declared.plan.Plan.{Plan}
 
 -- they are those of node i, all of them still to come
-pub record IsScriptOf (scenario : ScenarioParts) (i : ℕ) (s : Plan) : Type 0 where
-  pub agenda : IsPlanOf scenario i s.agenda
-  pub joins : IsAskPlanOf i scenario.joins s.joins
-  pub leaves : IsAskPlanOf i scenario.leaves s.leaves
+pub record IsOpeningPlanOf (scenario : ScenarioParts) (i : ℕ) (plan : Plan) : Type 0 where
+  pub agenda : IsPlanOf scenario i plan.agenda
+  pub joins : IsAskPlanOf i scenario.joins plan.joins
+  pub leaves : IsAskPlanOf i scenario.leaves plan.leaves

@@ -1,17 +1,22 @@
--- A turn in parts: what the protocols do at the notice, and then what the script asks for. The frames tell no incarnation yet.
+-- A turn in parts: what the protocols do at the notice, and then what the script asks for. The frames are not stamped with the incarnation
+-- yet.
 use Rattle.std.specs.Prelude.{◌≡◌, ◌+◌, ◌<◌, ◌≤◌, ℕ, List, [], ◌∷◌, ◌++◌, length}
 use Rattle.std.specs.List.{flat_map}
+use Rattle.cany_base.specs.declared.actions.Action.{Action}
 use Rattle.cany_base.specs.declared.notice.Notice.{Notice}
 use Rattle.cany_base.specs.declared.notice.NoticeKind.{NoticeKind}
+use Rattle.cany_base.specs.Bounded.{Bounded}
 use Rattle.cany_base.specs.Scenario.{ScenarioParts}
+use Rattle.can_controller.specs.Controller.{ControllerState}
 use Rattle.cany_model.specs.Rules.Backlog.{asked, backlog, backlog_effects}
 use Rattle.cany_model.specs.Rules.Edcan.{edcan_effects}
-use Rattle.cany_model.specs.Rules.Effect.{TurnRule}
+use Rattle.cany_model.specs.Rules.Effect.{TurnRule, waiting_after}
 use Rattle.cany_model.specs.Rules.Membership.{asks_in}
 use Rattle.cany_model.specs.Rules.Relcan.{relcan_effects}
 use Rattle.cany_model.specs.Rules.Sends.{send_effects}
 use Rattle.cany_model.specs.Rules.KnowledgeOf.{knowledge_of}
 use Rattle.cany_model.specs.Rules.Totcan.{totcan_effects}
+use Rattle.cany_model.specs.Rules.Turn.{turn_effects}
 use Rattle.cany_model.specs.Rules.Views.{join_asked, leave_asked}
 use Rattle.cany_edcan.specs.Edcan.{IsEdcanOf}
 use Rattle.cany_relcan.specs.Relcan.{IsRelcanOf}
@@ -87,3 +92,15 @@ pub record HasScripted (scenario : ScenarioParts) (past : List NoticeKind) (noti
   pub joins : AreAsksOf scenario v.node (length past + 1) scenario.joins v.joins
   pub leaves : AreAsksOf scenario v.node (length past + 1) scenario.leaves v.leaves
   pub room_to_give : length v.totcan.backlog.given + length v.agenda.left ≤ v.totcan.backlog.room
+
+-- The notice is done, as the node heard it: for each history that the node stood for and that the notice continues, the controller waits
+-- with what the rules say of the turn, and the node stands for the notice too. The room for actions is free again.
+pub record IsActed (notice : Notice) (v v' : NodeParts) (ctl ctl' : ControllerState) (acts acts' : Bounded Action) : Type 0 where
+  pub controller : (scenario : ScenarioParts) (past : List NoticeKind) → IsNodeOf scenario past v → IsNextOf scenario v.node past notice
+      → ctl' ≡ record ctl { waiting = waiting_after (turn_effects scenario v.node (notice.kind ∷ past)) ctl.waiting }
+  pub stands : (scenario : ScenarioParts) (past : List NoticeKind) → IsNodeOf scenario past v → IsNextOf scenario v.node past notice
+      → IsNodeOf scenario (notice.kind ∷ past) v'
+  pub node : v'.node ≡ v.node
+  pub inc : v'.inc ≡ v.inc
+  pub cycle : v'.cycle ≡ v.cycle
+  pub out : acts' ≡ acts

@@ -5,10 +5,10 @@ ghost use Rattle.cany_base.specs.Limits.{most_restarts_of_node};
 ghost use Rattle.cany_base.specs.Scenario.{ScenarioParts, IsLegalScenario};
 ghost use Rattle.cany_model.specs.Rules.Actions.{action_of, actions_of};
 ghost use Rattle.cany_model.specs.Rules.Effect.{Effect};
-ghost use Rattle.cany_node.specs.Apply.{NamesAskable, AreDone, CanApply, CanDo, WithdrawsFitting, all_told};
-ghost use Rattle.cany_node.specs.Telling.{AreTold};
+ghost use Rattle.cany_node.specs.Apply.{NamesAskable, AreDone, CanApply, CanDo, WithdrawsFitting, all_stamped};
+ghost use Rattle.cany_node.specs.Stamping.{AreStamped};
 
-use crate::telling::{ident_with, with_incarnation};
+use crate::stamping::{ident_with, with_incarnation};
 use can_controller::Controller;
 use can_controller::laws::{frames_ascend, frames_fit};
 use cany_base::{Action, Actions, BoundedVec, LogEntry};
@@ -20,8 +20,8 @@ fn apply(action: &Action, inc: u8, ctl: &mut Controller, log: &mut BoundedVec<Lo
     requires number { inc ≤ most_restarts_of_node }
     requires can { CanDo inc action.now ctl.old log.old }
     requires fit { All (FitsIdentifier ctl.old.params.format) ctl.old.waiting }
-    ensures { (effect : Effect) → action_of ctl.old.params.format effect ≡ action.now → WithdrawsFitting ctl.old.params.format effect → AreTold inc ctl.old.waiting →
-        AreDone (all_told inc (effect ∷ [])) ctl.old ctl.new log.old log.new }
+    ensures { (effect : Effect) → action_of ctl.old.params.format effect ≡ action.now → WithdrawsFitting ctl.old.params.format effect → AreStamped inc ctl.old.waiting →
+        AreDone (all_stamped inc (effect ∷ [])) ctl.old ctl.new log.old log.new }
 {
     match action {
         Action::Ask(frame) => ctl.ask(with_incarnation(frame, inc)),
@@ -41,8 +41,8 @@ pub(crate) fn apply_all(
 )
     requires { CanApply inc out.now.items ctl.old log.old }
     ensures { (scenario : ScenarioParts) (i : ℕ) (effects : List Effect) → IsLegalScenario scenario → ctl.old.params.format ≡ scenario.params.format →
-        out.now.items ≡ actions_of scenario.params.format effects → AllByRecursion (NamesAskable scenario i) effects → AreTold inc ctl.old.waiting →
-        AreDone (all_told inc effects) ctl.old ctl.new log.old log.new }
+        out.now.items ≡ actions_of scenario.params.format effects → AllByRecursion (NamesAskable scenario i) effects → AreStamped inc ctl.old.waiting →
+        AreDone (all_stamped inc effects) ctl.old ctl.new log.old log.new }
 {
     let actions = out.as_slice();
     for action in actions {

@@ -113,18 +113,19 @@ pub(crate) fn ask_due(
     kind: AskKind,
     slot: Slot,
     plan: &mut AskPlan,
-    membership: &Membership,
+    membership: &mut Membership,
     out: &mut Actions,
 )
-    requires slot { slot < membership.now.views.params.slots }
+    requires slot { slot < membership.old.views.params.slots }
     requires room { length out.old.items + length plan.old ≤ out.old.room }
-    ensures actions { (scenario : ScenarioParts) → AreAsksOf scenario membership.now.views.node slot (asks_of kind scenario) plan.old →
-        out.new.items ≡ out.old.items ++ actions_of membership.now.views.params.format
-        (flat_map (λ ask. asked_as kind membership.now.views.params 0 membership.now.views.node slot membership.now.views.members) (asks_in scenario membership.now.views.node slot (asks_of kind scenario))) }
-    ensures plan { (scenario : ScenarioParts) → AreAsksOf scenario membership.now.views.node slot (asks_of kind scenario) plan.old →
-        AreAsksOf scenario membership.now.views.node (slot + 1) (asks_of kind scenario) plan.new }
+    ensures actions { (scenario : ScenarioParts) → AreAsksOf scenario membership.old.views.node slot (asks_of kind scenario) plan.old →
+        out.new.items ≡ out.old.items ++ actions_of membership.old.views.params.format
+        (flat_map (λ ask. asked_as kind membership.old.views.params 0 membership.old.views.node slot membership.old.views.members) (asks_in scenario membership.old.views.node slot (asks_of kind scenario))) }
+    ensures plan { (scenario : ScenarioParts) → AreAsksOf scenario membership.old.views.node slot (asks_of kind scenario) plan.old →
+        AreAsksOf scenario membership.old.views.node (slot + 1) (asks_of kind scenario) plan.new }
     ensures few { length out.new.items + length plan.new ≤ length out.old.items + length plan.old }
     ensures room { out.new.room ≡ out.old.room }
+    ensures kept { membership.new ≡ membership.old }
 {
     while plan.take_due(slot) {
         membership.ask(kind, slot, out);

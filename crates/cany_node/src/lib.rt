@@ -12,7 +12,7 @@ mod protocols;
 mod reply;
 mod rooms;
 mod sending;
-mod telling;
+mod stamping;
 mod threads;
 
 pub use node::Node;

@@ -11,11 +11,12 @@ ghost use Rattle.cany_base.specs.Cycles.{is_start};
 ghost use Rattle.cany_model.specs.Rules.Views.{start_of, view_effects, with_ended};
 ghost use Rattle.cany_views.specs.Views.{IsViewsOf};
 ghost use Rattle.cany_node.specs.Asks.{asked_as};
-ghost use Rattle.cany_node.specs.Membership.{CanExchange, CanHear, Exchanges, FitsCycle, HasKnown, IsNextOf, IsMembershipAtRest, IsMembershipOf, KnowsOf, ended_as, exchange_plain, membership_effects, membership_room};
+ghost use Rattle.cany_node.specs.Membership.{CanExchange, CanHear, Exchanges, HasKnown, IsNextOf, IsMembershipAtRest, IsMembershipOf, IsOfBus, KnowsOf, ended_as, exchange_plain, membership_effects, membership_room};
 ghost use Rattle.cany_node.specs.Resting.{MembershipRests};
 
 use crate::asks::AskKind;
 use crate::notices::tells_of_site;
+use cany_base::cycle::is_start;
 use cany_base::{Actions, Memory, NodeId, NodeSet, Notice, Params, Scenario, Slot};
 use cany_history::{Ended, History};
 use cany_life::Life;
@@ -40,13 +41,6 @@ impl Model for Membership {
     ghost view = { λ s. record { params = s.params; life = s.life; history = s.history; views = s.views } };
 }
 
-/// Whether a membership cycle starts in the slot.
-fn is_start(params: &Params, slot: Slot) -> bool
-    ensures { result ≡ is_start params.now slot }
-{
-    slot % params.cycle == 0 && slot / params.cycle > 0
-}
-
 impl Membership {
     /// That of a node which has read nothing, or only notices of idle slots.
     pub(crate) fn build(
@@ -58,7 +52,7 @@ impl Membership {
         ensures { IfOk result (IsMembershipAtRest scenario.now node) }
     {
         let life = Life::build(alloc, node, scenario)?;
-        let history = History::build(node, scenario);
+        let history = History::build(alloc, node, scenario)?;
         let views = Views::build(alloc, node, scenario)?;
         Ok(Membership {
             params: *scenario.params(),
@@ -123,11 +117,12 @@ impl Membership {
     }
 
     /// In the turn of a slot in which the node's script asks to join the view, or to leave it. At most one action is appended.
-    pub(crate) fn ask(&self, kind: AskKind, now: Slot, out: &mut Actions)
-        requires now { now < self.now.views.params.slots }
+    pub(crate) fn ask(&mut self, kind: AskKind, now: Slot, out: &mut Actions)
+        requires now { now < self.old.views.params.slots }
         requires room { length out.old.items < out.old.room }
         ensures actions { out.new.items ≡ out.old.items
-            ++ actions_of self.now.views.params.format (asked_as kind self.now.views.params 0 self.now.views.node now self.now.views.members) }
+            ++ actions_of self.old.views.params.format (asked_as kind self.old.views.params 0 self.old.views.node now self.old.views.members) }
+        ensures kept { self.new ≡ self.old }
         ensures few { length out.new.items ≤ length out.old.items + 1 }
         ensures room { out.new.room ≡ out.old.room }
     {
@@ -157,6 +152,7 @@ impl Membership {
 
     /// What the node starts a cycle with in the slot, if one starts and the node is a member.
     fn start(&self, slot: Slot) -> Option<NodeSet>
+        requires cycle { 0 < self.now.params.cycle }
         requires failed { AllBelow self.now.views.params.nodes self.now.life.failed }
         ensures exact { (scenario : ScenarioParts) (i : ℕ) (past : List NoticeKind) (knowledge : Knowledge) → KnowsOf scenario i past knowledge self.now →
             result ≡ (if is_start scenario.params slot then start_of i knowledge else None) }
@@ -176,7 +172,7 @@ impl Membership {
         requires room { length out.old.items + 3 ≤ out.old.room }
         ensures ended { (scenario : ScenarioParts) (i : ℕ) (past : List NoticeKind) → Exchanges scenario i past notice.now self.old →
             result ≡ ended_as scenario.params (length past) (ended_in scenario.params (length past) notice.now.kind (knowledge_of scenario i past)) }
-        ensures fits { FitsCycle self.old.params notice.now.slot result }
+        ensures below { IsOfBus self.old.params result }
         ensures actions { (scenario : ScenarioParts) (i : ℕ) (past : List NoticeKind) → Exchanges scenario i past notice.now self.old →
             out.new.items ≡ out.old.items ++ actions_of scenario.params.format (exchange_plain scenario i (notice.now.kind ∷ past)) }
         ensures history { (scenario : ScenarioParts) (i : ℕ) (past : List NoticeKind) → Exchanges scenario i past notice.now self.old →
@@ -192,7 +188,7 @@ impl Membership {
     /// The vector with which a cycle ended becomes the view, if there is one.
     fn install(&mut self, ended: Option<Ended>, slot: Slot, out: &mut Actions)
         requires known { HasKnown self.old slot }
-        requires fits { FitsCycle self.old.params slot ended }
+        requires below { IsOfBus self.old.params ended }
         requires room { length out.old.items + 1 + length self.old.views.joins + length self.old.views.leaves ≤ out.old.room }
         ensures knows { (scenario : ScenarioParts) (i : ℕ) (past : List NoticeKind) (knowledge : Knowledge) (vector : Option Nodes) → KnowsOf scenario i past knowledge self.old →
             ended ≡ ended_as scenario.params slot vector → KnowsOf scenario i past (with_ended i slot vector knowledge) self.new }

@@ -15,14 +15,14 @@ ghost use Rattle.cany_node.specs.Asks.{AreAsksPassed, IsRisingFrom};
 ghost use Rattle.cany_node.specs.Agenda.{ArePassed, IsRising};
 ghost use Rattle.cany_node.specs.Resting.{IsIdleUntil, RestsUntil, is_of_edcan};
 ghost use Rattle.cany_node.specs.Membership.{IsNextOf};
-ghost use Rattle.cany_node.specs.Turning.{CanHearNext, CanScript, HasHeard, HasScripted, heard_effects, heard_room, script_effects, script_room};
+ghost use Rattle.cany_node.specs.Turning.{CanHearNext, CanScript, HasHeard, HasScripted, IsActed, heard_effects, heard_room, script_effects, script_room};
 
 use crate::agenda::Agenda;
 use crate::apply::apply_all;
 use crate::asks::{AskKind, AskPlan, ask_due};
 use crate::membership::Membership;
 use crate::notices::{is_early, is_error, is_idle, is_of_edcan};
-use crate::plan::{Plan, build_script};
+use crate::plan::{Plan, build_plan};
 use crate::protocols::{Protocols, build_protocols};
 use crate::reply::TurnReply;
 use crate::rooms::log_room;
@@ -88,7 +88,7 @@ impl Node {
     {
         let params = *scenario.params();
         let protocols = build_protocols(alloc, node, scenario)?;
-        let plan = build_script(alloc, node, scenario)?;
+        let plan = build_plan(alloc, node, scenario)?;
         let log = BoundedVec::build(alloc, log_room(scenario))?;
         let Protocols {
             edcan,
@@ -132,7 +132,7 @@ impl Node {
         ensures node { self.new.node ≡ self.old.node }
         ensures inc { self.new.inc ≡ self.old.inc }
     {
-        self.idle_until = 0;
+        forget_idle(&mut self.idle_until);
         self.read = restart + 1;
         self.from = self.read + (self.params.bound + Slot::from(self.params.lag));
         self.cycle = (self.from + (self.params.cycle - 1)) / self.params.cycle;
@@ -147,7 +147,7 @@ impl Node {
         ensures leaves { AreAsksPassed slot self.old.leaves self.new.leaves }
         ensures state { self.new ≡ record self.old { agenda = self.new.agenda; joins = self.new.joins; leaves = self.new.leaves } }
     {
-        self.idle_until = 0;
+        forget_idle(&mut self.idle_until);
         self.agenda.pass_before(slot);
         self.joins.pass_before(slot);
         self.leaves.pass_before(slot);
@@ -196,38 +196,24 @@ impl Node {
     /// only what EDCAN does.
     fn act(&mut self, notice: &Notice, ctl: &mut Controller, out: &mut Actions)
         requires { CanAct self.old notice.now ctl.old out.old }
-        ensures controller { (scenario : ScenarioParts) (past : List NoticeKind) → IsNodeOf scenario past self.old → IsNextOf scenario self.old.node past notice.now →
-            ctl.new ≡ record ctl.old { waiting = waiting_after (turn_effects scenario self.old.node (notice.now.kind ∷ past)) ctl.old.waiting } }
-        ensures stands { (scenario : ScenarioParts) (past : List NoticeKind) → IsNodeOf scenario past self.old → IsNextOf scenario self.old.node past notice.now →
-            IsNodeOf scenario (notice.now.kind ∷ past) self.new }
-        ensures node { self.new.node ≡ self.old.node }
-        ensures inc { self.new.inc ≡ self.old.inc }
-        ensures cycle { self.new.cycle ≡ self.old.cycle }
-        ensures out { out.new ≡ out.old }
+        ensures { IsActed notice.now self.old self.new ctl.old ctl.new out.old out.new }
     {
         if is_idle(&notice.kind) && notice.slot < self.wake() {
             self.read = notice.slot + 1;
         } else if is_of_edcan(&notice.kind) && notice.slot < self.wake() {
-            self.relay(notice, ctl, out);
+            self.follow_edcan(notice, ctl, out);
         } else {
             self.follow_rules(notice, ctl, out);
         }
     }
 
-    /// Does what EDCAN does with a data frame of its own, in a slot in which the node would rest: nothing else hears the frame, and
-    /// nothing is due.
-    fn relay(&mut self, notice: &Notice, ctl: &mut Controller, out: &mut Actions)
+    /// Does what EDCAN does with a data frame of its own, its delivery and its relay, in a slot in which the node would rest: nothing
+    /// else hears the frame, and nothing is due.
+    fn follow_edcan(&mut self, notice: &Notice, ctl: &mut Controller, out: &mut Actions)
         requires acts { CanAct self.old notice.now ctl.old out.old }
         requires brings { is_of_edcan notice.now.kind ≡ true }
         requires rests { RestsUntil (notice.now.slot + 1) self.old }
-        ensures controller { (scenario : ScenarioParts) (past : List NoticeKind) → IsNodeOf scenario past self.old → IsNextOf scenario self.old.node past notice.now →
-            ctl.new ≡ record ctl.old { waiting = waiting_after (turn_effects scenario self.old.node (notice.now.kind ∷ past)) ctl.old.waiting } }
-        ensures stands { (scenario : ScenarioParts) (past : List NoticeKind) → IsNodeOf scenario past self.old → IsNextOf scenario self.old.node past notice.now →
-            IsNodeOf scenario (notice.now.kind ∷ past) self.new }
-        ensures node { self.new.node ≡ self.old.node }
-        ensures inc { self.new.inc ≡ self.old.inc }
-        ensures cycle { self.new.cycle ≡ self.old.cycle }
-        ensures out { out.new ≡ out.old }
+        ensures { IsActed notice.now self.old self.new ctl.old ctl.new out.old out.new }
     {
         self.edcan.on(notice, out);
         apply_all(out, self.inc, ctl, &mut self.log);
@@ -238,18 +224,11 @@ impl Node {
     /// Does what the rules say of a notice, rule by rule.
     fn follow_rules(&mut self, notice: &Notice, ctl: &mut Controller, out: &mut Actions)
         requires { CanAct self.old notice.now ctl.old out.old }
-        ensures controller { (scenario : ScenarioParts) (past : List NoticeKind) → IsNodeOf scenario past self.old → IsNextOf scenario self.old.node past notice.now →
-            ctl.new ≡ record ctl.old { waiting = waiting_after (turn_effects scenario self.old.node (notice.now.kind ∷ past)) ctl.old.waiting } }
-        ensures stands { (scenario : ScenarioParts) (past : List NoticeKind) → IsNodeOf scenario past self.old → IsNextOf scenario self.old.node past notice.now →
-            IsNodeOf scenario (notice.now.kind ∷ past) self.new }
-        ensures node { self.new.node ≡ self.old.node }
-        ensures inc { self.new.inc ≡ self.old.inc }
-        ensures cycle { self.new.cycle ≡ self.old.cycle }
-        ensures out { out.new ≡ out.old }
+        ensures { IsActed notice.now self.old self.new ctl.old ctl.new out.old out.new }
     {
         self.hear(notice, out);
         self.plan(notice.slot, out);
-        self.idle_until = 0;
+        forget_idle(&mut self.idle_until);
         self.totcan.next(notice.slot, out);
         apply_all(out, self.inc, ctl, &mut self.log);
         out.clear();
@@ -269,7 +248,7 @@ impl Node {
         ensures few { length out.new.items ≤ length out.old.items + heard_room self.old }
         ensures room { out.new.room ≡ out.old.room }
     {
-        self.idle_until = 0;
+        forget_idle(&mut self.idle_until);
         self.edcan.on(notice, out);
         self.relcan.on(notice, out);
         self.totcan.on(notice, out);
@@ -288,7 +267,7 @@ impl Node {
         ensures few { length out.new.items ≤ length out.old.items + script_room self.old }
         ensures room { out.new.room ≡ out.old.room }
     {
-        self.idle_until = 0;
+        forget_idle(&mut self.idle_until);
         send_due(
             self.node,
             slot,
@@ -298,12 +277,18 @@ impl Node {
             &mut self.totcan,
             out,
         );
-        ask_due(AskKind::Join, slot, &mut self.joins, &self.membership, out);
+        ask_due(
+            AskKind::Join,
+            slot,
+            &mut self.joins,
+            &mut self.membership,
+            out,
+        );
         ask_due(
             AskKind::Leave,
             slot,
             &mut self.leaves,
-            &self.membership,
+            &mut self.membership,
             out,
         );
     }
@@ -315,6 +300,7 @@ impl Node {
     pub fn wake(&self) -> Slot
         ensures rests { RestsUntil result self.now }
     {
+        // Called for what it ensures: EDCAN has nothing to do in an idle slot.
         rests(&self.edcan);
         self.idle_until
     }
@@ -383,10 +369,19 @@ impl Node {
         ensures no_message { (scenario : ScenarioParts) (past : List NoticeKind) → IsNodeOf scenario past self.now →
             ((m : Message) → Contains (messages_of scenario.sends) m → message_key m ≢ msg) → result ≡ false }
     {
+        // A copy by hand: a struct that is passed by value twice is none that the borrow checker's proof covers.
         let key = MsgKey {
             origin: msg.origin,
             seq: msg.seq,
         };
         self.totcan.ahead(key) || self.relcan.ahead(msg)
     }
+}
+
+/// Forgets up to which slot the node is idle. What it keeps is about to change, and what was noted of its idle slots may not hold of
+/// what it keeps then; that it is idle before slot 0 holds of every value.
+fn forget_idle(idle_until: &mut Slot)
+    ensures { idle_until.new ≡ 0 }
+{
+    *idle_until = 0;
 }

@@ -4,8 +4,9 @@ ghost use Rattle.std.specs.Prelude.{◌≡◌, ◌↔◌, false, true};
 ghost use Rattle.cany_base.specs.declared.notice.NoticeKind.TheVariants.{Idle};
 ghost use Rattle.cany_model.specs.Rules.Notices.{error_as_idle, is_early, is_early_frame};
 ghost use Rattle.cany_node.specs.Resting.{is_of_edcan};
-ghost use Rattle.cany_node.specs.Membership.{is_of_site, tells_of_site};
+ghost use Rattle.cany_node.specs.Membership.{tells_of_site};
 
+use can_frame::is_of_site;
 use cany_base::{Class, Frame, NoticeKind};
 use cany_message::is_of_class;
 
@@ -52,17 +53,8 @@ pub(crate) fn is_of_edcan(kind: &NoticeKind) -> bool
     }
 }
 
-/// Whether frames of the class tell of the site. Those of the data of TOTCAN do: they show that their node lives.
-fn is_of_site(class: Class) -> bool
-    ensures { result ≡ is_of_site class }
-{
-    match class {
-        Class::Rha | Class::Els | Class::Fda | Class::Join | Class::Leave | Class::Tot => true,
-        Class::Accept | Class::Confirm | Class::Rel | Class::Ed => false,
-    }
-}
-
-/// Whether a notice tells of the site: who lives, who has failed, who joins or leaves, or a vector.
+/// Whether a notice tells of the site: who lives, who has failed, who joins or leaves, or a vector. A data frame of TOTCAN does: it
+/// shows that its node lives.
 pub(crate) fn tells_of_site(kind: &NoticeKind) -> bool
     ensures { result ≡ tells_of_site kind.now }
 {

@@ -1,5 +1,5 @@
 ghost use Rattle.std.specs.Prelude.{◌<◌, IfOk};
-ghost use Rattle.cany_node.specs.Plan.{IsScriptOf};
+ghost use Rattle.cany_node.specs.Plan.{IsOpeningPlanOf};
 
 use crate::agenda::Agenda;
 use crate::asks::AskPlan;
@@ -15,8 +15,8 @@ pub(crate) struct Plan {
 }
 
 /// The sends and asks of a node, all still to come.
-pub(crate) fn build_script(alloc: Global, node: NodeId, scenario: &Scenario) -> Result<Plan, Memory>
-    ensures { IfOk result (IsScriptOf scenario.now node) }
+pub(crate) fn build_plan(alloc: Global, node: NodeId, scenario: &Scenario) -> Result<Plan, Memory>
+    ensures { IfOk result (IsOpeningPlanOf scenario.now node) }
 {
     let agenda = Agenda::build(alloc, node, scenario)?;
     let joins = AskPlan::build(alloc, node, scenario.joins())?;

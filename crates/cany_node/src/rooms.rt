@@ -33,7 +33,7 @@ pub fn waiting_room(scenario: &Scenario) -> usize
 pub fn actions_room(scenario: &Scenario) -> usize
     ensures { result ≡ rooms.actions_room scenario.now }
 {
-    // each frame that may wait is asked for, withdrawn and entered at most, and one is to spare
+    // above what the rules list in a turn of any scenario (`actions_within`), and the rest is to spare
     4 * waiting_room(scenario)
 }
 

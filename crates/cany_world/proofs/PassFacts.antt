@@ -97,16 +97,6 @@ all_passed next slots due k row row' kept kept' now all = record {
 abbrev pub HaveNothingToDoBelow : ℕ → List ControllerState → Type 0
 HaveNothingToDoBelow k row = (i : ℕ) (c : ControllerState) → i < k → slice_get row i ≡ Some c → HasNothingToDoIfItRuns c
 
-pub nothing_to_do_below_next : (k : ℕ) (row : List ControllerState) (c : ControllerState) → HaveNothingToDoBelow k row → slice_get row k ≡ Some c → HasNothingToDoIfItRuns c
-    → HaveNothingToDoBelow (k + 1) row
-nothing_to_do_below_next k row c now at here i d h there = elim (cases_eq i k) [
-  | inl same ↦
-      let is_c : Some c ≡ Some d = sym at ∙ subst (λ n. slice_get row n ≡ Some d) same there in
-      let same_c : c ≡ d = cc in
-      subst (λ (x : ControllerState). HasNothingToDoIfItRuns x) same_c here
-  | inr other ↦ now i d (omega arith) there
-]
-
 -- fewer slots can be passed where more can
 pub fewer_pass : (next slots fewer : ℕ) (c : ControllerState) (v : IncarnationsParts) → fewer ≤ slots → CanPass next slots c v → CanPass next fewer c v
 fewer_pass next slots fewer c v less passes running =
@@ -157,9 +147,6 @@ passes_most slots due i = either (has due i)
 
 pub passes_all : (slots : ℕ) (due : Nodes) (i : ℕ) → has due i ≡ false → passes slots due i ≡ slots
 passes_all slots due i e = rw e refl
-
-pub passes_due : (slots : ℕ) (due : Nodes) (i : ℕ) → has due i ≡ true → passes slots due i ≡ slots - 1
-passes_due slots due i e = rw e refl
 
 -- where the script ends the stretch early, none is due and all pass it
 pub passes_early : (fewer slots : ℕ) (none due : Nodes) (i : ℕ) → fewer < slots → has none i ≡ false → passes fewer none i ≤ passes slots due i

@@ -13,9 +13,11 @@ use Rattle.cany_model.proofs.Runs.Journals.{run_then, slot_step-trace, step_is}
 use Rattle.cany_model.proofs.Runs.Steps.{after_turn-trace}
 use Rattle.cany_model.proofs.Runs.RoundRobinEnds.{round_robin_ends}
 use Rattle.cany_model.proofs.Runs.Rounds.{RoundSoFar, round_begins, round_turn, round_skips, round_ends, round_slot_done, to_read, turn_exactly, rounds_next, rounds_none, rounds_opening, next_round_legal}
+use Rattle.cany_node.specs.declared.reply.TurnReply.{TurnReply}
+use Rattle.cany_world.specs.Replies.{has_turned, step_reply}
 use Rattle.cany_world.specs.World.{WorldParts, state_of}
 use Rattle.cany_world.proofs.IdleRounds.{rounds_split}
-use Rattle.cany_world.proofs.JournalFacts.{made}
+use Rattle.cany_world.proofs.JournalFacts.{made, turned_done}
 
 -- ---- a round
 
@@ -35,14 +37,10 @@ round_slot before new r legal is e =
 abbrev pub turn_made : WorldParts → ℕ → WorldParts
 turn_made now i = if is_done (reply now.scenario (state_of now) (Turn i)) then record now { journal = now.journal ++ Turn i ∷ [] } else now
 
-pub done_made : (now : WorldParts) (i : ℕ) (journal : List Step) → is_done (reply now.scenario (state_of now) (Turn i)) ≡ true
-    → journal ≡ now.journal ++ Turn i ∷ []
-    → record { scenario = now.scenario; journal = journal } ≡ turn_made now i
-done_made now i journal done e = rw done (λ k. record { scenario = now.scenario; journal = e k })
-
-pub none_made : (now : WorldParts) (i : ℕ) → is_done (reply now.scenario (state_of now) (Turn i)) ≡ false
-    → record { scenario = now.scenario; journal = now.journal } ≡ turn_made now i
-none_made now i refused = rw refused refl
+pub as_made : (now new : WorldParts) (i : ℕ) (r : TurnReply) → step_reply r ≡ reply now.scenario (state_of now) (Turn i)
+    → new ≡ (if has_turned r then record now { journal = now.journal ++ Turn i ∷ [] } else now) → new ≡ turn_made now i
+as_made now new i r replies is =
+    is ∙ ap (λ (b : Bool). if b then record now { journal = now.journal ++ Turn i ∷ [] } else now) (turned_done r ∙ ap is_done replies)
 
 pub round_next : (before now new : WorldParts) (i : ℕ) → IsInRound before now i → new ≡ turn_made now i → IsInRound before new (i + 1)
 round_next before now new i so e = go (to_read before.scenario now.journal i) refl

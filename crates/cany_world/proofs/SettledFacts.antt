@@ -8,7 +8,9 @@ use Rattle.std.proofs.lemmas.Option.{same_Some, slice_get-map, slice_get_within,
 use Rattle.cany_base.specs.declared.message.MsgKey.{MsgKey}
 use Rattle.cany_base.specs.declared.message.SendAsk.{SendAsk}
 use Rattle.cany_base.specs.declared.message.Service.{Service}
+use Rattle.cany_base.specs.declared.message.Service.TheVariants as service
 use Rattle.cany_base.specs.declared.step.Step.{Step}
+use Rattle.cany_base.specs.Frame.{FitsClass, data_class, has_incarnation}
 use Rattle.cany_base.specs.Limits.{most_sends}
 use Rattle.cany_base.specs.Scenario.{ScenarioParts, IsLegalScenario}
 use Rattle.cany_base.specs.declared.notice.NoticeKind.{NoticeKind}
@@ -59,6 +61,19 @@ settled_by scenario journal m service key controllers nodes asked quiet ahead ab
     (ap (λ k. list_any (awaits (frames_named service k)) controllers) (sym about.key) ∙ ap (λ x. list_any (awaits (frames_named x (message_key m))) controllers) (sym by)
     ∙ sym (awaited_same scenario journal controllers about.controllers (frames_of m)))
     (sym (all_read_same scenario journal controllers about.controllers)) has
+
+-- ---- the data frame
+
+-- it carries any bytes, and tells no incarnation
+pub data_fits : (by : Service) → FitsClass (data_class by) []
+data_fits service.Ed = tt
+data_fits service.Rel = tt
+data_fits service.Tot = tt
+
+pub data_plain : (by : Service) → has_incarnation (data_class by) ≡ false
+data_plain service.Ed = refl
+data_plain service.Rel = refl
+data_plain service.Tot = refl
 
 -- ---- at one node
 

@@ -47,8 +47,8 @@ use Rattle.can_controller.specs.Controller.{ControllerState}
 use Rattle.cany_node.specs.Apply.{AreAskable, is_sign}
 use Rattle.cany_node.specs.declared.reply.TurnReply.{TurnReply}
 use Rattle.cany_node.specs.declared.reply.TurnReply.TheVariants.{Turned, NothingYet, Stopped}
-use Rattle.cany_node.specs.Node.{NodeParts, IsNodeOf, Reads, heard, heard_by, reply_at, reply_of, turned}
-use Rattle.cany_node.specs.Telling.{AreTold}
+use Rattle.cany_node.specs.Node.{CanTurn, NodeParts, IsNodeOf, Reads, heard, heard_by, reply_at, reply_of, turned}
+use Rattle.cany_node.specs.Stamping.{AreStamped}
 use Rattle.cany_world.specs.Incarnations.{IncarnationsParts, CanTurnNow, HasTurned, IsLeft}
 use Rattle.cany_world.specs.Kept.{IsKeptAs, IsKeptAt, IsPresentAt, AreControllersOf, AreNodesOf, heard_of}
 use Rattle.cany_world.specs.Replies.{IfDone, step_reply}
@@ -82,6 +82,19 @@ turn_reply_is scenario s i c within kept = go c.stopped refl
     go None e =
         let here : (node_at s.nodes i).stopped ≡ None = sym kept.stopped ∙ e in
         rw (e, there, here) (by_unread c.unread c.read (node_at s.nodes i).unread (reads s i) (kept.all e) kept.read)
+
+-- a turn that is made names the slot of its notice, which is the next that the controller has to read
+pub turned_slot : (it : NodeParts) (c : ControllerState) (out : Bounded Action) → CanTurn it c out → (slot : ℕ) → reply_of c ≡ Turned slot
+    → slot ≡ c.read
+turned_slot it c out can slot h = go c.stopped (slice_get c.unread 0) refl h
+  where
+    go : (o : Option ℕ) (next : Option Notice) → slice_get c.unread 0 ≡ next → reply_at c.read next o ≡ Turned slot → slot ≡ c.read
+    go (Some at) (Some notice) e h = absurd (cc)
+    go (Some at) None e h = absurd (cc)
+    go None None e h = absurd (cc)
+    go None (Some notice) e h =
+        let named : notice.slot ≡ slot = cc in
+        omega (arith, named, (can.next notice e).slot, can.read)
 
 -- ---- the oldest unread notice
 
@@ -290,8 +303,8 @@ can_turn scenario journal i v c out legal opening node kept empty = record {
         (Each-weaker (Waiting scenario s.trace i) (λ f. IsAskable (scenario_at scenario s i) i (identity_of f))
         (λ f h. askable_for scenario (node_at s.nodes i).present i (identity_of f) (h.askable (trace_short scenario journal))) (node_at s.nodes i).waiting
         ((all_belong scenario journal few).waiting i (ap is_none (sym kept.stopped ∙ running)))));
-    told = λ running. subst (λ k. AreTold k c.waiting) (sym p.inc)
-        (subst (AreTold (node_at s.nodes i).present.number) (sym kept.waiting)
+    stamped = λ running. subst (λ k. AreStamped k c.waiting) (sym p.inc)
+        (subst (AreStamped (node_at s.nodes i).present.number) (sym kept.waiting)
         (tells_incarnation scenario opening journal i (ap is_none (sym kept.stopped ∙ running))));
     signs = λ running. subst (λ (w : List FrameParts). count_by is_sign w ≤ 2) (sym kept.waiting)
         (few_life_signs scenario journal longer i (ap is_none (sym kept.stopped ∙ running)));

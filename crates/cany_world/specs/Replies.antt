@@ -1,5 +1,5 @@
 -- What becomes of a step by its reply.
-use Rattle.std.specs.Prelude.{MatchBool}
+use Rattle.std.specs.Prelude.{Bool, true, false, MatchBool}
 use Rattle.cany_model.specs.declared.reply.StepReply.{StepReply}
 use Rattle.cany_model.specs.declared.reply.StepReply.TheVariants.{Done, NothingYet, Stopped}
 use Rattle.cany_model.specs.Runs.Run.{is_done}
@@ -15,3 +15,9 @@ abbrev pub step_reply : TurnReply → StepReply
 step_reply (turn.Turned slot) = Done
 step_reply (turn.NothingYet now) = NothingYet now
 step_reply (turn.Stopped slot) = Stopped slot
+
+-- whether the node took its turn
+abbrev pub has_turned : TurnReply → Bool
+has_turned (turn.Turned slot) = true
+has_turned (turn.NothingYet now) = false
+has_turned (turn.Stopped slot) = false

@@ -29,7 +29,7 @@ pub(crate) fn began_nodes(slot: Slot, nodes: &[Incarnations]) -> NodeSet
     ensures { (scenario : ScenarioParts) (journal : List Step) → AreNodesOf scenario (run scenario journal) nodes.now
         → result ≡ restarted_in (run scenario journal) slot }
 {
-    let mut set = NodeSet::of_bits(0);
+    let mut set = NodeSet::empty();
     for i in 0..nodes.len() {
         insert_begun(&mut set, i, slot, &nodes[i]);
     }

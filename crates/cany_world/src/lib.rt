@@ -3,13 +3,13 @@
 
 mod began;
 mod following;
+mod free_slots;
 mod incarnations;
 mod journal;
 mod opening;
 mod restarting;
 mod resting;
 mod rounds;
-mod script;
 mod settled;
 mod slot;
 mod step;

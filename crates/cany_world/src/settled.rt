@@ -2,7 +2,7 @@
 ghost use Rattle.std.specs.Prelude.{◌≡◌, ℕ, ◌<◌, ◌&&◌, [], false, List, length, not, Contains};
 ghost use Rattle.std.specs.List.{list_all, list_any};
 ghost use Rattle.cany_base.specs.declared.step.Step.{Step};
-ghost use Rattle.cany_base.specs.Frame.{data_class, FitsClass, has_incarnation};
+ghost use Rattle.cany_base.specs.Frame.{FitsClass, has_incarnation};
 ghost use Rattle.cany_base.specs.Scenario.{ScenarioParts};
 ghost use Rattle.cany_model.specs.Runs.Run.{run};
 ghost use Rattle.cany_model.specs.Bus.State.{RunState, node_at};
@@ -18,19 +18,6 @@ use crate::unread::all_read;
 use can_controller::Controller;
 use can_frame::{identifier, small_numbers_fit};
 use cany_base::{Class, Format, Frame, MsgKey, Payload, SendAsk, Service, Slot};
-
-/// The class of a message's data frame.
-fn data_class(service: Service) -> Class
-    ensures class { result ≡ data_class service }
-    ensures fits { FitsClass result [] }
-    ensures plain { has_incarnation result ≡ false }
-{
-    match service {
-        Service::Ed => Class::Ed,
-        Service::Rel => Class::Rel,
-        Service::Tot => Class::Tot,
-    }
-}
 
 /// Whether a frame of this class and of the message's number and node waits.
 fn waits(format: Format, class: Class, key: &MsgKey, controller: &Controller) -> bool
@@ -61,7 +48,7 @@ fn awaits(format: Format, service: Service, key: &MsgKey, controller: &Controlle
     if controller.stopped().is_some() || controller.has_nothing_to_do() {
         return false;
     }
-    waits(format, data_class(service), key, controller)
+    waits(format, service.class(), key, controller)
         || waits(format, Class::Confirm, key, controller)
         || waits(format, Class::Accept, key, controller)
 }

@@ -7,7 +7,7 @@ ghost use Rattle.cany_world.specs.Replies.{IfDone};
 
 use crate::incarnations::Incarnations;
 use crate::slot::run_slot;
-use crate::turn::take_turn;
+use crate::turn::turn_step;
 use can_bus::Bus;
 use can_controller::Controller;
 use can_fault::Script;
@@ -39,6 +39,6 @@ pub(crate) fn make(
 {
     match step {
         Step::Slot => run_slot(scenario, script, bus, controllers, nodes),
-        Step::Turn(node) => take_turn(node, nodes, controllers, actions),
+        Step::Turn(node) => turn_step(node, nodes, controllers, actions),
     }
 }

@@ -5,7 +5,7 @@ ghost use Rattle.cany_base.specs.Scenario.{ScenarioParts};
 ghost use Rattle.cany_world.specs.Resting.{HaveNothingToDo, CanAllPass, CanPass, HasNothingToDoIfItRuns, IsFree, passes};
 
 use crate::incarnations::Incarnations;
-use crate::script::free_slots;
+use crate::free_slots::free_slots;
 use can_controller::Controller;
 use can_controller::laws::counters_within;
 use can_fault::Script;

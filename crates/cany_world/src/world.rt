@@ -1,4 +1,4 @@
-ghost use Rattle.std.specs.Prelude.{◌≡◌, ◌+◌, ◌<◌, ◌≤◌, ◌↔◌, [], ◌∷◌, ◌++◌, None, Some, if◌then◌else◌, length, reverse, slice_get, IfOk, IsSomeAnd};
+ghost use Rattle.std.specs.Prelude.{◌≡◌, ◌+◌, ◌<◌, ◌≤◌, ◌↔◌, ℕ, [], ◌∷◌, ◌++◌, None, Some, true, if◌then◌else◌, length, reverse, slice_get, IfOk, IsSomeAnd};
 ghost use Rattle.cany_base.specs.declared.step.Step.TheVariants.{Turn};
 ghost use Rattle.cany_model.specs.Runs.Follow as following;
 ghost use Rattle.cany_model.specs.Runs.Incarnations.{log_of, span_of};
@@ -13,6 +13,7 @@ ghost use Rattle.cany_model.specs.Promises.Safe.{IsIntegral, IsSafe};
 ghost use Rattle.cany_model.specs.Promises.Settled.{is_settled};
 ghost use Rattle.cany_model.specs.Bus.State.{node_at, reads, slots_run};
 ghost use Rattle.cany_world.specs.Kept.{IsKeptAs, IsKeptAt};
+ghost use Rattle.cany_world.specs.Replies.{has_turned, step_reply};
 
 use crate::began::began_nodes;
 use crate::incarnations::Incarnations;
@@ -32,7 +33,7 @@ use cany_base::{
 };
 use cany_message::keys_of;
 use cany_model::{Break, Span, StepReply};
-use cany_node::actions_room;
+use cany_node::{TurnReply, actions_room};
 use std::alloc::Global;
 use std::marker::Model;
 
@@ -121,10 +122,14 @@ impl World {
         }
     }
 
-    /// Makes the turn of the node, if it runs and has something to read.
-    pub(crate) fn make_turn(&mut self, node: NodeId)
-        ensures { self.new ≡ (if is_done (reply self.old.scenario (state_of self.old) (Turn node))
-            then record self.old { journal = self.old.journal ++ Turn node ∷ [] } else self.old) }
+    /// Makes the turn of the node, if it runs and has something to read, as the step of this turn does. The answer is the node's: it
+    /// names the slot whose notice was read.
+    pub fn make_turn(&mut self, node: NodeId) -> TurnReply
+        requires { node < self.old.scenario.params.nodes }
+        ensures reply { step_reply result ≡ reply self.old.scenario (state_of self.old) (Turn node) }
+        ensures slot { (slot : ℕ) → result ≡ TurnReply.Turned slot → slot ≡ reads (state_of self.old) node }
+        ensures new { self.new ≡ (if has_turned result then record self.old { journal = self.old.journal ++ Turn node ∷ [] } else self.old) }
+        ensures run { has_turned result ≡ true → state_of self.new ≡ after_step self.old.scenario (state_of self.old) (Turn node) }
     {
         let reply = take_turn(
             node,
@@ -133,8 +138,11 @@ impl World {
             &mut self.actions,
         );
         match reply {
-            StepReply::Done => self.journal.push_copy(&Step::Turn(node)),
-            _ => {}
+            TurnReply::Turned { slot } => {
+                self.journal.push_copy(&Step::Turn(node));
+                TurnReply::Turned { slot }
+            }
+            answer => answer,
         }
     }
 

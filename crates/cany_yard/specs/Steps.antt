@@ -5,9 +5,6 @@ use Rattle.cany_base.specs.declared.step.Step.TheVariants.{Slot, Turn}
 use Rattle.cany_model.specs.Runs.Run.{after_step, reply}
 use Rattle.cany_model.specs.Bus.State.{RunState}
 use Rattle.cany_model.specs.declared.reply.StepReply.{StepReply}
-use Rattle.cany_model.specs.declared.reply.StepReply.TheVariants as replied
-use Rattle.cany_node.specs.declared.reply.TurnReply.{TurnReply}
-use Rattle.cany_node.specs.declared.reply.TurnReply.TheVariants.{Turned, NothingYet, Stopped}
 use Rattle.cany_world.specs.World.{WorldParts, state_of}
 
 -- ---- a step
@@ -22,21 +19,6 @@ state_after world step = after_step world.scenario (state_of world) step
 -- the world after the step, which is in its journal if it was done
 abbrev pub world_after : Bool → WorldParts → Step → WorldParts
 world_after done world step = if done then record world { journal = world.journal ++ step ∷ [] } else world
-
--- whether the node took its turn
-abbrev pub has_turned : TurnReply → Bool
-has_turned (Turned slot) = true
-has_turned (NothingYet now) = false
-has_turned (Stopped slot) = false
-
--- a reply that the turn of a node of the bus can get
-abbrev pub IsTurnReply : StepReply → Type 0
-IsTurnReply replied.Done = Unit {0}
-IsTurnReply (replied.NothingYet now) = Unit {0}
-IsTurnReply (replied.Stopped slot) = Unit {0}
-IsTurnReply (replied.Lagging node unread) = ⊥
-IsTurnReply (replied.Over slots) = ⊥
-IsTurnReply (replied.NoNode node) = ⊥
 
 -- ---- a journal
 

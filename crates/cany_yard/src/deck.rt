@@ -2,10 +2,10 @@ ghost use Rattle.std.specs.Prelude.{◌≡◌, ℕ, true};
 ghost use Rattle.cany_base.specs.declared.step.Step.TheVariants as step;
 ghost use Rattle.cany_model.specs.Runs.Run.{is_done};
 ghost use Rattle.cany_model.specs.Bus.State.{reads};
-ghost use Rattle.cany_world.specs.Replies.{step_reply};
+ghost use Rattle.cany_world.specs.Replies.{has_turned, step_reply};
 ghost use Rattle.cany_world.specs.World.{state_of};
 ghost use Rattle.cany_yard.specs.Seats.{count_after, seat_after};
-ghost use Rattle.cany_yard.specs.Steps.{has_turned, reply_in, state_after, world_after};
+ghost use Rattle.cany_yard.specs.Steps.{reply_in, state_after, world_after};
 
 use crate::course::Course;
 use crate::locked::Locked;

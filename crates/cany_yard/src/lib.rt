@@ -13,7 +13,6 @@ mod seating;
 #[cfg(test)]
 mod tests;
 mod threads;
-mod turn;
 mod yard;
 
 pub use cany_model::StepReply;

@@ -1,14 +1,13 @@
 ghost use Rattle.std.specs.Prelude.{◌≡◌, ◌≤◌, ℕ, [], true};
 ghost use Rattle.cany_model.specs.Runs.Run.{is_done};
 ghost use Rattle.cany_model.specs.Bus.State.{reads};
-ghost use Rattle.cany_world.specs.Replies.{step_reply};
+ghost use Rattle.cany_world.specs.Replies.{has_turned, step_reply};
 ghost use Rattle.cany_world.specs.World.{state_of};
 ghost use Rattle.cany_yard.specs.Seats.{count_after, seat_after};
-ghost use Rattle.cany_yard.specs.Steps.{has_turned, reply_in, slots_in, state_after, turns_in, world_after};
+ghost use Rattle.cany_yard.specs.Steps.{reply_in, slots_in, state_after, turns_in, world_after};
 
 use crate::course::{Course, Names};
 use crate::seat::{BusSeat, Seat};
-use crate::turn::take_turn;
 use cany_base::Step;
 use cany_model::StepReply;
 use cany_node::TurnReply;
@@ -52,7 +51,7 @@ impl<L: Course, B: Ledger> Locked<L, B> {
             turns,
             slots: _,
         } = self;
-        let reply = take_turn(world, seat.node);
+        let reply = world.make_turn(seat.node);
         if let TurnReply::Turned { .. } = reply {
             turns.add(&mut seat.turns, 1);
         }

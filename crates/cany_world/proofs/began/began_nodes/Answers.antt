@@ -11,7 +11,7 @@ use Rattle.cany_world.proofs.Told.{began_is, none_began}
 use Rattle.cany_world.proofs.began.began_nodes.Goals as goal
 
 pub loop-i-init : goal.loop-i-init
-loop-i-init c scenario journal are = so_far_none _ _ c.of_bits-set.ensures
+loop-i-init c scenario journal are = so_far_none _ _ c.empty-set.ensures.set
 
 pub loop-i-preserved : goal.loop-i-preserved
 loop-i-preserved c scenario journal are =

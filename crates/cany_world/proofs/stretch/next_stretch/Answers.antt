@@ -10,5 +10,5 @@ pub returns-clause-passes : goal.returns-clause-passes
 returns-clause-passes c some i x v at node_at =
     fewer_pass c.args.next _ _ x v
     (passes_early c.free_slots-slots.result c.passed_by_all-stretch.result.slots c.empty-2.result c.passed_by_all-stretch.result.due i
-    (omega (arith, c.free_slots-slots.ensures.few, c.if-slots-stretch.false)) (c.empty-2.ensures i))
+    (omega (arith, c.free_slots-slots.ensures.few, c.if-slots-stretch.false)) (c.empty-2.ensures.has i))
     (c.passed_by_all-stretch.ensures.passes i x v at node_at)

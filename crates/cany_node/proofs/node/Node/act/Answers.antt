@@ -1,4 +1,4 @@
-use Rattle.std.proofs.Common.{◌≤◌, ◌+◌, refl, ap, sym, subst, arith}
+use Rattle.std.proofs.Common.{rules, ◌≤◌, ◌+◌, refl, ap, sym, subst, arith}
 use Rattle.cany_model.specs.Rules.Effect.{waiting_after}
 use Rattle.cany_node.specs.Node.{NodeParts}
 use Rattle.cany_node.proofs.IdleFacts.{idle_later}
@@ -13,17 +13,24 @@ invariant_of-self c =
       idle_until = idle_later c.self.inside.idle_until (c.args.notice.now.slot + 1) _ _ _ _ c.self.invariant.idle_until (omega (arith, before));
     }
 
-pub returns-then-notice-wake-clause-controller : goal.returns-then-notice-wake-clause-controller
+pub returns-then-notice-wake : goal.returns-then-notice-wake
 unfolding waiting_after
-returns-then-notice-wake-clause-controller c = λ scenario past stands next.
-    let none = idle_turn-effects scenario past c.args.notice.now c.args.self.now c.wake.result c.wake.ensures.rests (omega arith) (c.if-is_idle.ensures.0 refl) stands next in
-    sym (ap (λ effects. record c.args.ctl.now { waiting = waiting_after effects c.args.ctl.now.waiting }) none)
+returns-then-notice-wake c = record {
+  controller = λ scenario past stands next.
+      let none =
+      idle_turn-effects scenario past c.args.notice.now c.args.self.now c.wake.result c.wake.ensures.rests (omega arith)
+      (c.if-is_idle.ensures.0 refl) stands next in
+      sym (ap (λ effects. record c.args.ctl.now { waiting = waiting_after effects c.args.ctl.now.waiting }) none);
+  stands = λ scenario past stands next.
+      let state = ap (λ (v : NodeParts). record v { read = c.args.notice.now.slot + 1 }) c.self.view_is in
+      idle_turn-stands scenario past c.args.notice.now c.args.self.now c.wake.result c.wake.ensures.rests (omega arith)
+      (c.if-is_idle.ensures.0 refl) stands next _ state;
+  node = search rules;
+  inc = search rules;
+  cycle = search rules;
+  out = search rules;
+}
 
-pub returns-then-notice-wake-clause-stands : goal.returns-then-notice-wake-clause-stands
-returns-then-notice-wake-clause-stands c = λ scenario past stands next.
-    let state = ap (λ (v : NodeParts). record v { read = c.args.notice.now.slot + 1 }) c.self.view_is in
-    idle_turn-stands scenario past c.args.notice.now c.args.self.now c.wake.result c.wake.ensures.rests (omega arith) (c.if-is_idle.ensures.0 refl) stands next _ state
-
-pub relay-requires-clause-rests : goal.relay-requires-clause-rests
-relay-requires-clause-rests c = λ scenario past stands later early within.
+pub follow_edcan-requires-clause-rests : goal.follow_edcan-requires-clause-rests
+follow_edcan-requires-clause-rests c = λ scenario past stands later early within.
     c.wake-then-is_of_edcan.ensures.rests scenario past stands later (omega (arith, early)) within

@@ -1,5 +1,6 @@
 use Rattle.std.proofs.Common.{ap, sym, subst, ◌∙◌, ◌++◌, ◌∷◌}
 use Rattle.cany_model.specs.Rules.Actions.{actions_of}
+use Rattle.cany_node.specs.Membership.{IsMembershipOf, MembershipParts}
 use Rattle.cany_node.specs.Node.{NodeParts}
 use Rattle.cany_node.specs.Turning.{HasHeard, script_effects}
 use Rattle.cany_edcan.specs.Edcan.{EdcanParts, IsEdcanOf}
@@ -19,26 +20,29 @@ send_due-requires-clause-own c =
 pub returns-clause-actions : goal.returns-clause-actions
 returns-clause-actions c = λ scenario past notice stands now.
     let heard = subst (HasHeard scenario past notice) (sym c.self.view_is) stands in
+    let leaves = rw c.ask_due.ensures.kept at c.ask_due-2.ensures.actions in
     script_listed scenario past notice c.args.slot _ heard now c.args.out.now.items c.send_due.new.out.items c.ask_due.new.out.items c.ask_due-2.new.out.items
     (c.send_due.ensures.asks scenario (agenda_now scenario past notice c.args.slot _ heard now))
     (c.ask_due.ensures.actions scenario (joins_now scenario past notice c.args.slot _ heard now))
-    (c.ask_due-2.ensures.actions scenario (leaves_now scenario past notice c.args.slot _ heard now))
+    (leaves scenario (leaves_now scenario past notice c.args.slot _ heard now))
     ∙ ap (λ (v : NodeParts). c.args.out.now.items ++ actions_of scenario.params.format (script_effects scenario v.node (notice ∷ past))) c.self.view_is
 
 pub returns-clause-stands : goal.returns-clause-stands
 returns-clause-stands c = λ scenario past notice stands now.
     let heard = subst (HasHeard scenario past notice) (sym c.self.view_is) stands in
     let plan = agenda_now scenario past notice c.args.slot _ heard now in
+    let leaves = rw c.ask_due.ensures.kept at c.ask_due-2.ensures.plan in
     let scripted =
     has_scripted scenario past notice c.args.slot _ heard now c.send_due.new.totcan c.send_due.new.agenda c.ask_due.new.plan c.ask_due-2.new.plan
     (c.send_due.ensures.gives scenario (notice ∷ past) _ _ plan heard.totcan) (c.send_due.ensures.agenda scenario plan)
     (c.ask_due.ensures.plan scenario (joins_now scenario past notice c.args.slot _ heard now))
-    (c.ask_due-2.ensures.plan scenario (leaves_now scenario past notice c.args.slot _ heard now)) c.send_due.ensures.given in
+    (leaves scenario (leaves_now scenario past notice c.args.slot _ heard now)) c.send_due.ensures.given in
     record {
       edcan = subst (λ (e : EdcanParts). IsEdcanOf scenario c.self.inside.node (notice ∷ past) e) (sym c.send_due.ensures.edcan) scripted.edcan;
       relcan = subst (λ (r : RelcanParts). IsRelcanOf scenario c.self.inside.node (notice ∷ past) r) (sym c.send_due.ensures.relcan) scripted.relcan;
       totcan = scripted.totcan;
-      membership = scripted.membership;
+      membership = subst (λ (m : MembershipParts). IsMembershipOf scenario c.self.inside.node (notice ∷ past) m)
+          (sym (c.ask_due-2.ensures.kept ∙ c.ask_due.ensures.kept)) scripted.membership;
       agenda = scripted.agenda;
       joins = scripted.joins;
       leaves = scripted.leaves;

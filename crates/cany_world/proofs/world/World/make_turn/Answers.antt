@@ -3,14 +3,14 @@ use Rattle.cany_base.specs.declared.step.Step.{Step}
 use Rattle.cany_base.specs.declared.step.Step.TheVariants.{Turn}
 use Rattle.cany_base.specs.Bounded.{Bounded}
 use Rattle.cany_base.specs.Scenario.{ScenarioParts}
-use Rattle.cany_model.specs.Runs.Run.{IsLegal, is_done, reply, run}
-use Rattle.cany_model.specs.Bus.State.{RunState}
-use Rattle.cany_model.proofs.Runs.Journals.{legal_push}
+use Rattle.cany_model.specs.Runs.Run.{IsLegal, after_step, is_done, reply, run}
+use Rattle.cany_model.specs.Bus.State.{RunState, opening, reads}
+use Rattle.cany_model.proofs.Runs.Journals.{legal_push, run_push}
 use Rattle.cany_world.specs.Kept.{StandFor}
-use Rattle.cany_world.specs.World.{WorldParts}
-use Rattle.cany_world.proofs.JournalFacts.{refused}
+use Rattle.cany_world.specs.Replies.{step_reply}
+use Rattle.cany_world.specs.World.{WorldParts, state_of}
+use Rattle.cany_world.proofs.JournalFacts.{turn_refused}
 use Rattle.cany_world.proofs.PlaceFacts.{written}
-use Rattle.cany_world.proofs.RoundFacts.{done_made, none_made, turn_made}
 use Rattle.cany_world.proofs.StepFacts.{same_stands, step_room, step_stands, turn_replies, turn_stands}
 use Rattle.cany_world.proofs.TurnFacts.{can_turn}
 use Rattle.cany_world.proofs.world.World.make_turn.Goals as goal
@@ -34,8 +34,8 @@ push_copy-requires c =
     let before : StandFor scenario s c.self.inside.bus c.as_mut_slice-2.result.now c.as_mut_slice.result.now =
     same_stands scenario s s c.self.inside.bus c.self.inside.bus c.self.inside.controllers.items c.as_mut_slice-2.result.now c.self.inside.nodes.items c.as_mut_slice.result.now
     refl refl c.as_mut_slice-2.ensures.value c.as_mut_slice.ensures.value c.self.invariant.stands in
-    step_room scenario journal (Turn c.args.node) c.take_turn-reply.result c.self.inside.journal.room c.self.invariant.steps c.in-Done.is
-    (turn_replies scenario s (Turn c.args.node) c.args.node c.take_turn-reply.result refl (c.take_turn-reply.ensures.reply scenario journal before.controllers before.nodes))
+    step_room scenario journal (Turn c.args.node) (step_reply c.take_turn-reply.result) c.self.inside.journal.room c.self.invariant.steps (ap step_reply c.in-Turned.is)
+    (turn_replies scenario s (Turn c.args.node) c.args.node (step_reply c.take_turn-reply.result) refl (c.take_turn-reply.ensures.reply scenario journal before.controllers before.nodes))
     c.self.invariant.room
 
 pub invariant_of-self : goal.invariant_of-self
@@ -46,11 +46,11 @@ invariant_of-self c =
     let before : StandFor scenario s c.self.inside.bus c.as_mut_slice-2.result.now c.as_mut_slice.result.now =
     same_stands scenario s s c.self.inside.bus c.self.inside.bus c.self.inside.controllers.items c.as_mut_slice-2.result.now c.self.inside.nodes.items c.as_mut_slice.result.now
     refl refl c.as_mut_slice-2.ensures.value c.as_mut_slice.ensures.value c.self.invariant.stands in
-    let answer : c.take_turn-reply.result ≡ reply scenario s (Turn c.args.node) =
-    turn_replies scenario s (Turn c.args.node) c.args.node c.take_turn-reply.result refl (c.take_turn-reply.ensures.reply scenario journal before.controllers before.nodes) in
+    let answer : step_reply c.take_turn-reply.result ≡ reply scenario s (Turn c.args.node) =
+    turn_replies scenario s (Turn c.args.node) c.args.node (step_reply c.take_turn-reply.result) refl (c.take_turn-reply.ensures.reply scenario journal before.controllers before.nodes) in
     let after : StandFor scenario (run scenario (journal ++ Turn c.args.node ∷ [])) c.self.inside.bus c.take_turn-reply.new.controllers c.take_turn-reply.new.nodes =
-    step_stands scenario journal (Turn c.args.node) c.take_turn-reply.result c.self.inside.bus c.take_turn-reply.new.controllers c.take_turn-reply.new.nodes c.in-Done.is answer
-    (turn_stands scenario journal (Turn c.args.node) c.args.node c.take_turn-reply.result c.self.inside.bus c.as_mut_slice-2.result.now c.take_turn-reply.new.controllers
+    step_stands scenario journal (Turn c.args.node) (step_reply c.take_turn-reply.result) c.self.inside.bus c.take_turn-reply.new.controllers c.take_turn-reply.new.nodes (ap step_reply c.in-Turned.is) answer
+    (turn_stands scenario journal (Turn c.args.node) c.args.node (step_reply c.take_turn-reply.result) c.self.inside.bus c.as_mut_slice-2.result.now c.take_turn-reply.new.controllers
     c.as_mut_slice.result.now c.take_turn-reply.new.nodes refl before
     (c.take_turn-reply.ensures.done scenario journal c.self.invariant.legal before.controllers before.nodes)) in
     let items : c.push_copy.new.self.items ≡ journal ++ Turn c.args.node ∷ [] = ap (λ (b : Bounded Step). b.items) c.push_copy.ensures in
@@ -64,7 +64,7 @@ invariant_of-self c =
       opening = c.self.invariant.opening;
       script = c.self.invariant.script;
       steps = subst (λ (j : List Step). IsLegal scenario j) (sym items)
-          (legal_push scenario journal (Turn c.args.node) c.self.invariant.steps (ap is_done (sym answer ∙ c.in-Done.is)));
+          (legal_push scenario journal (Turn c.args.node) c.self.invariant.steps (ap is_done (sym answer ∙ (ap step_reply c.in-Turned.is))));
       room = ap (λ (b : Bounded Step). b.room) c.push_copy.ensures ∙ c.self.invariant.room;
       stands = same_stands scenario (run scenario (journal ++ Turn c.args.node ∷ [])) (run scenario c.push_copy.new.self.items) c.self.inside.bus c.self.inside.bus
           c.take_turn-reply.new.controllers _ c.take_turn-reply.new.nodes _ (ap (run scenario) (sym items)) refl row nodes after;
@@ -82,7 +82,7 @@ invariant_of-self-in_default c =
     let nodes : take c.self.inside.nodes.len (c.take_turn-reply.new.nodes ++ drop (length c.take_turn-reply.new.nodes) c.self.inside.nodes.items) ≡ c.take_turn-reply.new.nodes =
     written c.take_turn-reply.new.nodes _ c.self.inside.nodes.len (c.take_turn-reply.auto.nodes ∙ c.as_mut_slice.ensures.len) in
     let left : (c.take_turn-reply.new.controllers ≡ c.as_mut_slice-2.result.now) × (c.take_turn-reply.new.nodes ≡ c.as_mut_slice.result.now) =
-    rw (refused c.take_turn-reply.result c.in_default.not-Done) at c.take_turn-reply.ensures.refused in
+    rw (turn_refused c.take_turn-reply.result c.in_default.not-Turned) at c.take_turn-reply.ensures.refused in
     record {
       legal = c.self.invariant.legal;
       opening = c.self.invariant.opening;
@@ -95,29 +95,46 @@ invariant_of-self-in_default c =
       keys = c.self.invariant.keys;
     }
 
-pub returns-in-Done : goal.returns-in-Done
-returns-in-Done c =
+pub returns-in-Turned-clause-reply : goal.returns-in-Turned-clause-reply
+returns-in-Turned-clause-reply c =
     let scenario : ScenarioParts = c.self.inside.scenario in
     let journal : List Step = c.self.inside.journal.items in
     let s : RunState = run scenario journal in
     let before : StandFor scenario s c.self.inside.bus c.as_mut_slice-2.result.now c.as_mut_slice.result.now =
     same_stands scenario s s c.self.inside.bus c.self.inside.bus c.self.inside.controllers.items c.as_mut_slice-2.result.now c.self.inside.nodes.items c.as_mut_slice.result.now
     refl refl c.as_mut_slice-2.ensures.value c.as_mut_slice.ensures.value c.self.invariant.stands in
-    let answer : c.take_turn-reply.result ≡ reply scenario s (Turn c.args.node) =
-    turn_replies scenario s (Turn c.args.node) c.args.node c.take_turn-reply.result refl (c.take_turn-reply.ensures.reply scenario journal before.controllers before.nodes) in
-    let items : c.push_copy.new.self.items ≡ journal ++ Turn c.args.node ∷ [] = ap (λ (b : Bounded Step). b.items) c.push_copy.ensures in
-    subst (λ (w : WorldParts). record { scenario = scenario; journal = c.push_copy.new.self.items } ≡ turn_made w c.args.node) c.self.view_is
-    (done_made (record { scenario = scenario; journal = journal }) c.args.node c.push_copy.new.self.items (ap is_done (sym answer ∙ c.in-Done.is)) items)
+    let answer : step_reply c.take_turn-reply.result ≡ reply scenario s (Turn c.args.node) =
+    turn_replies scenario s (Turn c.args.node) c.args.node (step_reply c.take_turn-reply.result) refl (c.take_turn-reply.ensures.reply scenario journal before.controllers before.nodes) in
+    sym (ap step_reply c.in-Turned.is) ∙ answer ∙ ap (λ (w : WorldParts). reply w.scenario (state_of w) (Turn c.args.node)) c.self.view_is
 
-pub returns-in_default : goal.returns-in_default
-returns-in_default c =
+pub returns-in_default-clause-reply : goal.returns-in_default-clause-reply
+returns-in_default-clause-reply c =
     let scenario : ScenarioParts = c.self.inside.scenario in
     let journal : List Step = c.self.inside.journal.items in
     let s : RunState = run scenario journal in
     let before : StandFor scenario s c.self.inside.bus c.as_mut_slice-2.result.now c.as_mut_slice.result.now =
     same_stands scenario s s c.self.inside.bus c.self.inside.bus c.self.inside.controllers.items c.as_mut_slice-2.result.now c.self.inside.nodes.items c.as_mut_slice.result.now
     refl refl c.as_mut_slice-2.ensures.value c.as_mut_slice.ensures.value c.self.invariant.stands in
-    let answer : c.take_turn-reply.result ≡ reply scenario s (Turn c.args.node) =
-    turn_replies scenario s (Turn c.args.node) c.args.node c.take_turn-reply.result refl (c.take_turn-reply.ensures.reply scenario journal before.controllers before.nodes) in
-    subst (λ (w : WorldParts). record { scenario = scenario; journal = journal } ≡ turn_made w c.args.node) c.self.view_is
-    (none_made (record { scenario = scenario; journal = journal }) c.args.node (ap is_done (sym answer) ∙ refused c.take_turn-reply.result c.in_default.not-Done))
+    let answer : step_reply c.take_turn-reply.result ≡ reply scenario s (Turn c.args.node) =
+    turn_replies scenario s (Turn c.args.node) c.args.node (step_reply c.take_turn-reply.result) refl (c.take_turn-reply.ensures.reply scenario journal before.controllers before.nodes) in
+    answer ∙ ap (λ (w : WorldParts). reply w.scenario (state_of w) (Turn c.args.node)) c.self.view_is
+
+pub returns-in-Turned-clause-slot : goal.returns-in-Turned-clause-slot
+returns-in-Turned-clause-slot c slot is =
+    let scenario : ScenarioParts = c.self.inside.scenario in
+    let journal : List Step = c.self.inside.journal.items in
+    let s : RunState = run scenario journal in
+    let before : StandFor scenario s c.self.inside.bus c.as_mut_slice-2.result.now c.as_mut_slice.result.now =
+    same_stands scenario s s c.self.inside.bus c.self.inside.bus c.self.inside.controllers.items c.as_mut_slice-2.result.now c.self.inside.nodes.items c.as_mut_slice.result.now
+    refl refl c.as_mut_slice-2.ensures.value c.as_mut_slice.ensures.value c.self.invariant.stands in
+    c.take_turn-reply.ensures.slot scenario journal before.controllers slot (c.in-Turned.is ∙ is)
+    ∙ ap (λ (w : WorldParts). reads (state_of w) c.args.node) c.self.view_is
+
+pub returns-in_default-clause-slot : goal.returns-in_default-clause-slot
+returns-in_default-clause-slot c slot is = absurd (c.in_default.not-Turned slot is)
+
+pub returns-in-Turned-clause-run : goal.returns-in-Turned-clause-run
+returns-in-Turned-clause-run c _ =
+    ap (λ (b : Bounded Step). run c.self.inside.scenario b.items) c.push_copy.ensures
+    ∙ run_push c.self.inside.scenario (opening c.self.inside.scenario.params.nodes) c.self.inside.journal.items (Turn c.args.node)
+    ∙ ap (λ (w : WorldParts). after_step w.scenario (state_of w) (Turn c.args.node)) c.self.view_is

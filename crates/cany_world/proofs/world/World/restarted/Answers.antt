@@ -11,4 +11,4 @@ returns-then-is_empty c =
     let none : c.self.inside.scenario.restarts ≡ [] = sym c.restarts.ensures
     ∙ nil_from_length c.restarts.result.now (eqb-true (length c.restarts.result.now) 0 (sym c.is_empty.ensures ∙ c.if-is_empty.true)) in
     subst (λ (w : WorldParts). c.empty.result ≡ restarted_in (state_of w) c.args.slot) c.self.view_is
-    (none_restarted c.self.inside.scenario c.self.inside.journal.items c.args.slot c.empty.result none c.empty.ensures)
+    (none_restarted c.self.inside.scenario c.self.inside.journal.items c.args.slot c.empty.result none c.empty.ensures.has)

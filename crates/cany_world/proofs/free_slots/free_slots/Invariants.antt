@@ -1,6 +1,6 @@
 use Rattle.std.proofs.Common.{◌≤◌, ◌-◌}
 use Rattle.cany_world.proofs.FreeFacts.{AreFree}
-use Rattle.cany_world.proofs.script.free_slots.Given as goal
+use Rattle.cany_world.proofs.free_slots.free_slots.Given as goal
 
 abbrev pub invariant-loop-slots : goal.invariant-loop-slots
 invariant-loop-slots l = (l.slots ≤ l.most) × AreFree l.script l.restarts l.next l.slots

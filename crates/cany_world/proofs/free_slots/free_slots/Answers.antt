@@ -1,6 +1,6 @@
 use Rattle.std.proofs.Common.{arith}
 use Rattle.cany_world.proofs.FreeFacts.{one_more_free}
-use Rattle.cany_world.proofs.script.free_slots.Goals as goal
+use Rattle.cany_world.proofs.free_slots.free_slots.Goals as goal
 
 pub loop-slots-preserved : goal.loop-slots-preserved
 loop-slots-preserved c = (

@@ -1,5 +1,5 @@
 use Rattle.cany_world.proofs.FreeFacts.{free_by}
-use Rattle.cany_world.proofs.script.is_free.Goals as goal
+use Rattle.cany_world.proofs.free_slots.is_free.Goals as goal
 
 pub returns-then-not-has_rule : goal.returns-then-not-has_rule
 returns-then-not-has_rule c scenario same also free =
