@@ -5,8 +5,8 @@ import tomllib
 import program as programs
 from words import pages, spans_of
 
-# After a line of a report a page may remark on it.
-REMARK = r"\s+←.*"
+# After a line of a report, and at least two spaces, a page may remark on it.
+REMARK = r"\s{2,}.*"
 
 
 def is_part(lines, whole):

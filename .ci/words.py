@@ -10,6 +10,7 @@ EXCEPTIONS = {
     "a type of std that was weighed and not taken": "FinSet",
     "the kit that proved it, as `rt version` prints it": "rattle-kit-13f logic dac8208d650f15bf",
     "a key with a value that is none": "eth",
+    "a tool that shows the frames of a CAN bus": "candump",
 }
 ALLOWED = {it for words in EXCEPTIONS.values() for it in words.split()}
 
@@ -42,14 +43,14 @@ class Vocabulary:
     def __init__(self, root):
         self.root = root
         parts = ["crates/*/src/**/*.rt", "crates/*/specs/**/*.antt", "crates/*/proofs/**/*.antt"]
-        others = ["crates.txt", "HANDLES", "scenarios/*.toml", "scenarios/*.report", ".ci/*", "benches/*.py", "tools/*.py"]
+        others = ["crates.txt", "HANDLES", "scenarios/*.toml", "scenarios/*.report", "benches/*.py", "tools/*.py"]
         self.code = {it: set(re.findall(WORD, code_of(it))) for part in [*parts, *others] for it in root.glob(part) if it.is_file()}
         files = [it for it in self.code if it.suffix in (".rt", ".antt")]
         # files and folders name modules
         names = {part for it in files for part in it.relative_to(root / "crates").with_suffix("").parts}
-        edits = {it.stem for it in root.glob("crates/*/must-fail/*.edit")}
-        scenarios = {it.stem for it in root.glob("scenarios/*.toml")}
-        self.words = set().union(*self.code.values(), names, edits, scenarios)
+        at_top = {it.stem for it in root.iterdir()}
+        others = {it.stem for place in ("crates/*/must-fail/*.edit", "scenarios/*.toml") for it in root.glob(place)}
+        self.words = set().union(*self.code.values(), names, at_top, others)
 
     def has(self, word):
         return word in self.words or word in ALLOWED or ("NAME" in word or word.endswith("_")) and self.has_like(word)
@@ -119,7 +120,9 @@ def missing_in(span, page, vocabulary):
         for owner, word in re.findall(rf"({WORD})(?:::|\.)({WORD})", token):
             if vocabulary.has(owner) and vocabulary.has(word) and not vocabulary.has_in(owner, word):
                 missing.append(f"{owner}::{word}")
-        missing += [it for it in re.findall(rf"(?<![\w'])({WORD})", token) if len(it) > 1 and not vocabulary.has(it)]
+        unknown = [it for it in re.findall(rf"(?<![\w'])({WORD})", token) if len(it) > 1 and not vocabulary.has(it)]
+        # a folder such as must-fail
+        missing += [] if unknown and "-" in token and vocabulary.is_path(token, page) else unknown
     return missing
 
 
@@ -147,7 +150,7 @@ def check_words(page, text, vocabulary, tally, root):
     for at, lines in blocks:
         for token in " ".join(lines).split():
             # of a block only the files that its commands name
-            if re.fullmatch(r"[\w.-]+(/[\w.-]+)+", token) and not is_made(token):
+            if re.fullmatch(r"[\w.-]+(/[\w.-]+)+", token) and looks_like_path(token) and not is_made(token):
                 path = re.sub(r"^(\.\./)+", "", token)
                 tally.check(vocabulary.is_path(path, name), f"{name}:{at}: the block names {token}, which is not there")
 
