@@ -26,26 +26,38 @@ def pages(root):
 
 
 def code_of(file):
-    """The text of a file of code without its comments."""
+    """The text of a file of code without its comments, and of a script without its strings too."""
     text = file.read_text(encoding="utf-8", errors="replace")
     if file.suffix == ".rt":
         return re.sub(r"""//[^\n]*|("(?:[^"\\]|\\.)*"|'\\?.')""", lambda it: it[1] or " ", text)
     if file.suffix == ".antt":
         return re.sub(r"(?m)(^|\s)--(\s[^\n]*)?$", r"\1", text)
+    if file.suffix == ".py":
+        text = re.sub(r'''"""[\s\S]*?"""|"(?:[^"\\\n]|\\.)*"|'(?:[^'\\\n]|\\.)*\'''', " ", text)
     if file.suffix in (".toml", ".py", ".txt"):
         return re.sub(r"(?m)^\s*#[^\n]*$", "", text)
     return text
 
 
+# What a file of code defines at its left edge, what it hands on, and what has a body of members.
+PUB = r"(?m)^(?:pub(?:\([a-z]+\))? )?"
+DEFINED = re.compile(rf"{PUB}(?:fn|struct|enum|trait|const|static|type|mod|macro_rules!) ({WORD})")
+HANDED_ON = re.compile(rf"{PUB}use ([^;]*);")
+WITH_MEMBERS = re.compile(rf"{PUB}(struct|enum|trait|impl)\b([^;{{]*)\{{(.*?)^\}}", re.S)
+# What a body of an item defines: functions, constants and types, fields and variants.
+MEMBER = re.compile(rf"(?m)^    (?:pub(?:\([a-z]+\))? )?(?:fn |const |type )?({WORD})")
+
+
 class Vocabulary:
-    """The words of the code, and the files."""
+    """The words of the code, the files, and what stands in what."""
 
     def __init__(self, root):
         self.root = root
         parts = ["crates/*/src/**/*.rt", "crates/*/specs/**/*.antt", "crates/*/proofs/**/*.antt"]
-        others = ["crates.txt", "HANDLES", "scenarios/*.toml", "scenarios/*.report", "benches/*.py", "tools/*.py"]
+        others = ["crates.txt", "HANDLES", "scenarios/*.toml", "scenarios/*.report", ".ci/*.py", "benches/*.py", "tools/*.py"]
         self.code = {it: set(re.findall(WORD, code_of(it))) for part in [*parts, *others] for it in root.glob(part) if it.is_file()}
         files = [it for it in self.code if it.suffix in (".rt", ".antt")]
+        self.members = {it for file in files if file.suffix == ".rt" for it in self.members_of(file)}
         # files and folders name modules
         names = {part for it in files for part in it.relative_to(root / "crates").with_suffix("").parts}
         at_top = {it.stem for it in root.iterdir()}
@@ -61,9 +73,21 @@ class Vocabulary:
         pattern = re.compile(re.sub(r"NAME|(?<=_)$", r"\\w+", word))
         return any(pattern.fullmatch(it) for it in self.words)
 
+    def members_of(self, file):
+        """Each pair A, b for which A::b stands in the file: what a type, a trait, a module or a crate has."""
+        modules = {*file.relative_to(self.root / "crates").with_suffix("").parts} - {"src"}
+        modules |= {file.parent.name} if file.stem in ("lib", "main") else set()
+        code = code_of(file)
+        handed_on = [it for use in HANDED_ON.findall(code) for it in re.findall(WORD, use)]
+        yield from ((module, it) for module in modules for it in [*DEFINED.findall(code), *handed_on])
+        for kind, head, body in WITH_MEMBERS.findall(code):
+            names = re.findall(WORD, head)
+            owners = names if kind == "impl" else names[:1]
+            yield from ((owner, it) for owner in owners for it in MEMBER.findall(body))
+
     def has_in(self, owner, word):
         """Whether a file that is or names the owner has the word."""
-        return any(word in words and (owner in words or owner in file.parts or owner == file.stem) for file, words in self.code.items())
+        return any(word in words and (owner in words or owner == file.stem) for file, words in self.code.items())
 
     @functools.lru_cache(maxsize=None)
     def is_path(self, path, page):
@@ -117,9 +141,12 @@ def missing_in(span, page, vocabulary):
                 continue
         if len(tokens) > 1 and re.fullmatch(PLACEHOLDER, token) or re.fullmatch(r"x([0-9a-f]{2})*", token):
             continue
-        for owner, word in re.findall(rf"({WORD})(?:::|\.)({WORD})", token):
-            if vocabulary.has(owner) and vocabulary.has(word) and not vocabulary.has_in(owner, word):
+        for owner, word in re.findall(rf"({WORD})::(?=({WORD}))", token):
+            if (owner, word) not in vocabulary.members:
                 missing.append(f"{owner}::{word}")
+        for owner, word in re.findall(rf"({WORD})\.(?=({WORD}))", token):
+            if vocabulary.has(word) and not vocabulary.has_in(owner, word):
+                missing.append(f"{owner}.{word}")
         unknown = [it for it in re.findall(rf"(?<![\w'])({WORD})", token) if len(it) > 1 and not vocabulary.has(it)]
         # a folder such as must-fail
         missing += [] if unknown and "-" in token and vocabulary.is_path(token, page) else unknown
