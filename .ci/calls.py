@@ -1,6 +1,7 @@
 """Calls of the program that no scenario makes: its arguments, its streams, and what it says on standard error."""
 import contextlib
 import os
+import re
 
 import program as programs
 
@@ -61,6 +62,27 @@ def check_streams(tally, program, scenario):
         check_call(tally, f"canely {' '.join(arguments)} > /dev/full", found, 5, None, "cannot write to standard output")
 
 
+def check_texts(tally, program):
+    check_call(tally, "canely --version", programs.call(program, ["--version"]), 0, b"canely 1\n", "")
+    found = programs.call(program, ["--help"])
+    check_call(tally, "canely --help", found, 0, None, "")
+    text = found[1].decode()
+    for command in ("replay", "run", "storm NUMBER", "--help", "--version"):
+        tally.check(f" canely {command}" in text, f"canely --help does not show the command {command}")
+    for status in (0, *range(2, 9)):
+        tally.check(re.search(rf"(?m)^(exit status:|\s+)\s*{status}  \w", text), f"canely --help does not say when the exit status is {status}")
+
+
+def check_threads(tally, program, scenario):
+    """The report of `run`, whose journal its threads made, is that of `replay` by this journal."""
+    text = scenario.read_bytes()
+    status, report, error = programs.call(program, ["run"], text)
+    tally.check(status == 0 and not error, f"canely run < {scenario.name} ends with status {status} and says {error!r}")
+    steps = "".join(re.findall(r"(?m)^journal (.*)$", report.decode()))
+    again = programs.call(program, ["replay"], f'journal = ["{steps}"]\n'.encode() + text)
+    tally.check(again == (0, report, b""), f"canely run < {scenario.name}: its report, replayed, gives another")
+
+
 def check(root, tally, program):
     if not program:
         print("calls: not tried, since they need a built program")
@@ -70,3 +92,6 @@ def check(root, tally, program):
         found = programs.call(program, arguments, scenario.read_bytes())
         check_call(tally, f"canely {' '.join(map(str, arguments))}", found, 2, b"", line)
     check_streams(tally, program, scenario)
+    check_texts(tally, program)
+    for name in ("one_message_no_fault", "three_services", "restart_joins"):
+        check_threads(tally, program, root / f"scenarios/{name}.toml")

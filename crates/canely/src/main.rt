@@ -14,7 +14,6 @@ use std::process::ExitCode;
 use std::sync::Wait;
 use std::thread::Threads;
 use std::{env, io};
-use thiserror::Error;
 
 /// How many bytes of output are kept until they go to standard output together.
 const BUFFER_BYTES: usize = 65536;
@@ -22,11 +21,10 @@ const BUFFER_BYTES: usize = 65536;
 const VERSION: &str = "canely 1\n";
 
 /// Why there are no arguments to look at.
-#[derive(Clone, Copy, Debug, PartialEq, Eq, Error)]
+#[derive(Clone, Copy, Debug, PartialEq, Eq)]
 enum ArgsFault {
-    #[error("out of memory")]
     Memory,
-    #[error("an argument is not valid UTF-8")]
+    /// One of them is not valid UTF-8.
     NotText,
 }
 
