@@ -83,15 +83,15 @@ def check_threads(tally, program, scenario):
     tally.check(again == (0, report, b""), f"canely run < {scenario.name}: its report, replayed, gives another")
 
 
-def check(root, tally, program):
-    if not program:
+def check(root, tally, built):
+    if not built:
         print("calls: not tried, since they need a built program")
-        return
     scenario = root / "scenarios/one_message_no_fault.toml"
-    for arguments, line in WRONG_ARGUMENTS:
-        found = programs.call(program, arguments, scenario.read_bytes())
-        check_call(tally, f"canely {' '.join(map(str, arguments))}", found, 2, b"", line)
-    check_streams(tally, program, scenario)
-    check_texts(tally, program)
-    for name in ("one_message_no_fault", "three_services", "restart_joins"):
-        check_threads(tally, program, root / f"scenarios/{name}.toml")
+    for program in built:
+        for arguments, line in WRONG_ARGUMENTS:
+            found = programs.call(program, arguments, scenario.read_bytes())
+            check_call(tally, f"canely {' '.join(map(str, arguments))}", found, 2, b"", line)
+        check_streams(tally, program, scenario)
+        check_texts(tally, program)
+        for name in ("one_message_no_fault", "three_services", "restart_joins"):
+            check_threads(tally, program, root / f"scenarios/{name}.toml")

@@ -21,13 +21,13 @@ from tally import Tally
 def main():
     parser = argparse.ArgumentParser(description=__doc__)
     parser.add_argument("--program", metavar="PATH", help="the built program to run, in place of crates/canely/out/canely")
-    program = programs.built(ROOT, parser.parse_args().program)
+    built = programs.built(ROOT, parser.parse_args().program)
     tally = Tally()
     subjects = {
-        "scenarios": lambda: scenarios.check(ROOT, tally, program),
-        "calls": lambda: calls.check(ROOT, tally, program),
+        "scenarios": lambda: scenarios.check(ROOT, tally, built),
+        "calls": lambda: calls.check(ROOT, tally, built),
         "words and links": lambda: words.check(ROOT, tally),
-        "examples": lambda: examples.check(ROOT, tally, program),
+        "examples": lambda: examples.check(ROOT, tally, built),
         "counts": lambda: counts.check(ROOT, tally),
     }
     for subject, check in subjects.items():

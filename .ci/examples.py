@@ -24,7 +24,7 @@ def check_report(place, lines, reports, tally):
         tally.check(any(is_part(lines, it) for it in reports.values()), f"{place}: the lines are in no report of scenarios/ in this order")
 
 
-def check_block(place, lines, reports, texts, program, tally):
+def check_block(place, lines, reports, texts, built, tally):
     text = "\n".join(lines)
     if not lines:
         return
@@ -32,16 +32,16 @@ def check_block(place, lines, reports, texts, program, tally):
         check_report(place, lines, reports, tally)
     elif re.match(r"(#.*\n)*format = ", text):
         tally.check(tomllib.loads(text) in texts, f"{place}: the scenario is none of scenarios/")
-    elif program and re.fullmatch(r"storm [0-9]+", lines[0]):
-        found = programs.call(program, lines[0].split())
+    elif built and re.fullmatch(r"storm [0-9]+", lines[0]):
+        found = programs.call(built[0], lines[0].split())
         tally.check(found == (0, f"{text}\n".encode(), b""), f"{place}: canely {lines[0]} writes {found}")
 
 
-def check(root, tally, program):
+def check(root, tally, built):
     reports = {it.name: it.read_text(encoding="utf-8").splitlines() for it in root.glob("scenarios/*.report")}
     texts = [tomllib.loads(it.read_text(encoding="utf-8")) for it in root.glob("scenarios/*.toml")]
     before = tally.passed + tally.failed
     for page in pages(root):
         for at, lines in spans_of(page.read_text(encoding="utf-8"))[1]:
-            check_block(f"{page.relative_to(root)}:{at}", lines, reports, texts, program, tally)
+            check_block(f"{page.relative_to(root)}:{at}", lines, reports, texts, built[:1], tally)
     tally.check(tally.passed + tally.failed > before, "the pages print no report of a scenario")

@@ -14,19 +14,18 @@ def sources(root):
 
 
 def built(root, given):
-    """The path of a program that was built from the files as they are, or None.
+    """The paths of the programs that were built from the files as they are: as LLVM builds it, and as Rattle's own compiler does.
 
-    `rt ci` and `rt run` leave it in out/. One that is older than a file of code is not that of these files."""
+    `rt ci` leaves both in out/, and `rt run` the first. One that is older than a file of code is not that of these files."""
     if given:
-        return Path(given).resolve(strict=True)
-    program = root / "crates/canely/out/canely"
-    if not program.is_file():
-        print("check: no built program in crates/canely/out: rt try builds one without a proof")
-        return None
-    if program.stat().st_mtime < max(it.stat().st_mtime for it in sources(root)):
-        print("check: crates/canely/out/canely is older than the code: rt try builds one without a proof")
-        return None
-    return program
+        return [Path(given).resolve(strict=True)]
+    newest = max(it.stat().st_mtime for it in sources(root))
+    programs = [it for it in root.glob("crates/canely/out/canely*") if it.name in ("canely", "canely.by-rattle")]
+    fresh = [it for it in sorted(programs) if it.stat().st_mtime >= newest]
+    if not fresh:
+        why = "the program in crates/canely/out is older than the code" if programs else "no program in crates/canely/out"
+        print(f"check: {why}: rt try builds one without a proof")
+    return fresh
 
 
 def call(program, arguments, stdin=b"", stdout=subprocess.PIPE):
@@ -38,11 +37,6 @@ def call(program, arguments, stdin=b"", stdout=subprocess.PIPE):
         except subprocess.TimeoutExpired:
             return None, b"", f"no end after {RUN_LIMIT} seconds".encode()
     return ran.returncode, ran.stdout or b"", ran.stderr
-
-
-def replay_all(program, texts):
-    """Replays each text with a built program: status, output and standard error by name."""
-    return {name: call(program, ["replay"], text) for name, text in texts.items()}
 
 
 def try_all(root, texts, wanted):

@@ -32,24 +32,30 @@ def check_files(root, tally):
     return {it.stem: it.read_bytes() for it in texts}
 
 
-def check_runs(root, tally, program, texts):
-    wanted = {}
+def reports_of(root, tally, texts):
+    reports = {}
     for name in texts:
         report = root / f"scenarios/{name}.report"
         if tally.check(report.is_file(), f"scenarios/{name}.toml has no report beside it"):
-            wanted[name] = report.read_bytes()
-    texts = {name: texts[name] for name in wanted}
-    if program:
-        for name, (status, output, error) in programs.replay_all(program, texts).items():
-            report, place = wanted[name], f"scenarios/{name}.toml"
-            tally.check(status == wanted_status(report), f"{place} ends with status {status}, and not {wanted_status(report)}; it says {error!r}")
-            tally.check(output == report, f"{place} does not give its report: {first_difference(report, output)}")
-            tally.check(not error, f"{place}: standard error has {error!r}")
-        return
-    found = programs.try_all(root, texts, wanted)
-    for name, report in wanted.items():
+            reports[name] = report.read_bytes()
+    return reports
+
+
+def check_runs(tally, program, texts, reports):
+    for name, report in reports.items():
+        status, output, error = programs.call(program, ["replay"], texts[name])
+        place, wanted = f"scenarios/{name}.toml by {program.name}", wanted_status(report)
+        tally.check(status == wanted, f"{place} ends with status {status}, and not {wanted}; it says {error!r}")
+        tally.check(output == report, f"{place} does not give its report: {first_difference(report, output)}")
+        tally.check(not error, f"{place}: standard error has {error!r}")
+
+
+def check_tries(root, tally, texts, reports):
+    found = programs.try_all(root, {name: texts[name] for name in reports}, reports)
+    for name, report in reports.items():
         status, is_wanted = found.get(name, (None, False))
-        tally.check(status == wanted_status(report), f"scenarios/{name}.toml ends with status {status}, and not {wanted_status(report)}")
+        wanted = wanted_status(report)
+        tally.check(status == wanted, f"scenarios/{name}.toml ends with status {status}, and not {wanted}")
         tally.check(is_wanted, f"scenarios/{name}.toml does not give its report")
 
 
@@ -65,7 +71,11 @@ def check_names(root, tally, texts):
                 tally.check(is_same, f"{file.relative_to(root)}: the test {name} runs another text than scenarios/{name}.toml")
 
 
-def check(root, tally, program):
+def check(root, tally, built):
     texts = check_files(root, tally)
-    check_runs(root, tally, program, texts)
+    reports = reports_of(root, tally, texts)
+    for program in built:
+        check_runs(tally, program, texts, reports)
+    if not built:
+        check_tries(root, tally, texts, reports)
     check_names(root, tally, texts)
