@@ -1,7 +1,15 @@
-use super::*;
-use std::test::Fail;
+//! The text of `--help`.
+use cany_crew::status::HELD;
+use cany_replay::MOST_TEXT_BYTES;
+use cany_replay::status::{
+    DONE, NO_MEMORY, OTHER_WORDS, READ_FAULT, REFUSED, TOO_LONG, WRITE_FAULT,
+};
+use std::alloc::{AllocError, Global};
 
-const HELP: &str = "\
+/// What the program is for, its arguments, the keys of a scenario and the exit statuses.
+pub(crate) fn help(alloc: Global) -> Result<String, AllocError> {
+    format!(in alloc;
+        "\
 Runs scenarios of reliable broadcast on one CAN bus.
 
 usage: canely replay < SCENARIO > REPORT
@@ -16,8 +24,8 @@ journal, and writes the report of the run.
 run reads a scenario that has no journal, runs it by a thread for each node and one for the bus,
 and writes the report of the run, with the journal that the threads made.
 
-storm draws a scenario from the number, which has 1 to 10 digits and is at most 4294967295, runs
-it by the round robin journal, and writes the summary of the run.
+storm generates a scenario from the number, which has 1 to 10 digits and is at most {},
+runs it by the round robin journal, and writes the summary of the run.
 
 A scenario is a TOML document; slots, nodes and entries are counted from 0:
   format, nodes, slots       required; format 1 has up to 32 nodes, format 2 up to 64
@@ -30,33 +38,15 @@ A scenario is a TOML document; slots, nodes and entries are counted from 0:
   [[join]] [[leave]] [[restart]]   slot, node
   journal = [\".012\", ..]   . is a slot; 0 to 9, a to z, A to Z, + and - are turns of nodes
 
-status 0  done
-       2  the words are none of these
-       3  the scenario or its journal was refused, and one line says so
-       4  reading failed
-       5  writing failed
-       6  out of memory, and nothing was written
-       7  more than 33554432 bytes were read
-       8  a gate held the run, and nothing was written; the gates of this program hold none
-";
-
-#[test]
-fn words_that_ask_for_a_text(rt: HostRuntime) -> Result<(), Fail> {
-    let alloc = rt.alloc();
-    for (words, wanted) in [
-        (["--help"].as_slice(), HELP),
-        (["--version"].as_slice(), "canely 1\n"),
-        (["replay"].as_slice(), ""),
-        (["--help", "--version"].as_slice(), ""),
-        ([].as_slice(), ""),
-    ] {
-        let mut given = Vec::new(alloc);
-        for word in words {
-            given.push(String::from_str(alloc, word)?)?;
-        }
-        let text = text_for(alloc, &given)?;
-        let shown = text.as_ref().map_or("", |text| text.as_str());
-        assert_eq!(rt; shown, wanted);
-    }
-    Ok(())
+exit status: {DONE}  success
+             {OTHER_WORDS}  unknown command or wrong arguments; nothing was read or written
+             {REFUSED}  the scenario or its journal was refused; the one line written says why
+             {READ_FAULT}  reading standard input failed; nothing was written
+             {WRITE_FAULT}  writing standard output failed
+             {NO_MEMORY}  out of memory; nothing was written
+             {TOO_LONG}  the scenario has more than {MOST_TEXT_BYTES} bytes; nothing was written
+             {HELD}  a gate held the run, and nothing was written; no gate of this program does
+",
+        u32::MAX
+    )
 }
