@@ -1,11 +1,11 @@
 -- The vector of a node in a cycle, and the view that comes of it.
-use Rattle.std.proofs.Common.{◌≡◌, ℕ, suc, ◌+◌, ◌-◌, ◌*◌, ◌<◌, ◌≤◌, ◌&&◌, ◌||◌, ◌++◌, inl, inr, Bool, true, false, nat_lt, if◌then◌else◌, List, [], ◌∷◌, length, Option, Some, None, unwrap_or, refl, ap, sym, ◌∙◌, subst, arith}
+use Rattle.std.proofs.Common.{◌≡◌, ℕ, suc, ◌+◌, ◌-◌, ◌*◌, ◌<◌, ◌≤◌, ◌==◌, ◌&&◌, ◌||◌, ◌++◌, inl, inr, Bool, true, false, nat_le, nat_lt, if◌then◌else◌, List, [], ◌∷◌, length, Option, Some, None, unwrap_or, refl, ap, sym, ◌∙◌, subst, arith}
 use Rattle.std.specs.List.{list_all}
-use Rattle.std.proofs.lemmas.Bool.{cases_Bool, cases_lt, cond-false, cond-true, cond_both, le-ltb, lt-ltb}
+use Rattle.std.proofs.lemmas.Bool.{and_from, and_left, and_right, cases_Bool, cases_eq, cases_lt, cond-false, cond-true, cond_both, eq-eqb, le-ltb, lt-leb, lt-ltb}
 use Rattle.cany_base.specs.Limits.{most_nodes}
 use Rattle.cany_base.specs.declared.notice.NoticeKind.{NoticeKind}
 use Rattle.cany_base.specs.declared.notice.NoticeKind.TheVariants.{Idle, Got, Sent, Bad}
-use Rattle.cany_base.specs.Cycles.{cycle_of, is_end, is_start}
+use Rattle.cany_base.specs.Cycles.{cycle_of, is_end, is_exchange, is_start}
 use Rattle.cany_base.specs.Nodes.{Nodes, has, those_where, meet, minus, plus}
 use Rattle.cany_base.specs.Params.{MeetsFormulas, Parameters}
 use Rattle.cany_base.specs.Scenario.{ScenarioParts}
@@ -17,7 +17,7 @@ use Rattle.cany_model.specs.Rules.Views.{start_of}
 use Rattle.cany_model.proofs.Rules.CycleFacts.{in_start}
 use Rattle.cany_model.proofs.Rules.KnowledgeSteps.{members_after, members_by, vector_after}
 use Rattle.cany_model.proofs.Timed.Views.SameView.{end_place}
-use Rattle.cany_model.proofs.Timed.Views.VectorLastEffect.{IsAt, IsCycle, at_place, brings, brought_in, exchange_in, no_end, no_start}
+use Rattle.cany_model.proofs.Timed.Views.VectorLastEffect.{IsAt, IsCycle, at_end, at_exchange, at_place, at_start, brings, brought_in, brought_out, exchange_in, no_end, no_start}
 use Rattle.cany_model.proofs.Timed.Views.VectorSlots.{cycle_of_formulas}
 use Rattle.cany_knowledge.specs.ClosedForms.{installed_in, listed, members_of, met_with_all, met_with_some, up_to, vector_got, vector_of_cycle, vectors_got}
 use Rattle.cany_knowledge.proofs.Slots.{up_to_newest, up_to_older}
@@ -167,6 +167,77 @@ module _ (scenario : ScenarioParts) (i k : ℕ) (formulas : MeetsFormulas scenar
     | inl after ↦ got_later e past after (omega (arith, to)) (vector_is past after (omega (arith, to)))
     | inr now ↦ got_first e past (omega (arith, now, from))
   ]
+
+-- ---- no vector
+
+-- a turn in which no cycle starts, and no vector is exchanged or one ends, leaves a node without one
+module _ (scenario : ScenarioParts) (i : ℕ) (e : NoticeKind) (past : List NoticeKind) (start : is_start scenario.params (length past) ≡ false) where
+  vector_there : (knowledge_of scenario i (e ∷ past)).vector
+      ≡ (if is_end scenario.params (length past) then None
+      else met scenario.params (knowledge_of scenario i past).vector (brought scenario.params (length past) e))
+  unfolding knowledge_of
+  vector_there =
+      let p : Parameters = scenario.params in
+      let slot : ℕ = length past in
+      let st : Knowledge = knowledge_of scenario i past in
+      vector_after p i slot e st
+      ∙ cond-false (is_start p slot) (start_in p i slot e st) (if is_end p slot then None else met p st.vector (brought p slot e)) start
+
+  vector_ended : is_end scenario.params (length past) ≡ true → (knowledge_of scenario i (e ∷ past)).vector ≡ None
+  vector_ended last =
+      vector_there
+      ∙ cond-true (is_end scenario.params (length past)) None
+      (met scenario.params (knowledge_of scenario i past).vector (brought scenario.params (length past) e)) last
+
+  vector_kept : is_end scenario.params (length past) ≡ false → is_exchange scenario.params (length past) ≡ false
+      → (knowledge_of scenario i (e ∷ past)).vector ≡ (knowledge_of scenario i past).vector
+  unfolding met
+  vector_kept last out =
+      let p : Parameters = scenario.params in
+      let old : Option Nodes = (knowledge_of scenario i past).vector in
+      vector_there
+      ∙ cond-false (is_end p (length past)) None (met p old (brought p (length past) e)) last
+      ∙ ap (met p old) (brought_out p (length past) e out)
+
+no_vector_first : (scenario : ScenarioParts) (i : ℕ) → (knowledge_of scenario i []).vector ≡ None
+unfolding knowledge_of
+no_vector_first scenario i = refl
+
+-- in the first cycle, which has no start
+pub no_vector_before : (scenario : ScenarioParts) (i : ℕ) (past : List NoticeKind) → MeetsFormulas scenario.params
+    → length past ≤ scenario.params.cycle → (knowledge_of scenario i past).vector ≡ None
+no_vector_before scenario i [] formulas short = no_vector_first scenario i
+no_vector_before scenario i (e ∷ past) formulas short =
+    let p : Parameters = scenario.params in
+    let slot : ℕ = length past in
+    let a : IsAt p 0 slot slot = at_place p 0 slot slot (omega arith) (omega (arith, short)) in
+    vector_kept scenario i e past (at_start p 0 slot slot a ∙ and_right (slot == 0) (nat_lt 0 0) refl)
+    (at_end p 0 slot slot a ∙ and_right (slot == p.bound) (nat_lt 0 0) refl)
+    (at_exchange p 0 slot slot a ∙ and_right (nat_lt 0 slot && nat_le slot p.bound) (nat_lt 0 0) refl)
+    ∙ no_vector_before scenario i past formulas (omega (arith, short))
+
+-- and from the end of a cycle to the start of the next
+pub no_vector_after : (scenario : ScenarioParts) (i k : ℕ) (past : List NoticeKind) → MeetsFormulas scenario.params → 0 < k
+    → k * scenario.params.cycle + scenario.params.bound < length past → length past ≤ k * scenario.params.cycle + scenario.params.cycle
+    → (knowledge_of scenario i past).vector ≡ None
+no_vector_after scenario i k [] formulas some from to = absurd (omega (arith, from))
+no_vector_after scenario i k (e ∷ past) formulas some from to =
+    let p : Parameters = scenario.params in
+    let slot : ℕ = length past in
+    let q : ℕ = slot - k * p.cycle in
+    let c : IsCycle p k = cycle_of_formulas p formulas k some in
+    let a : IsAt p k slot q = at_place p k slot q (omega (arith, from)) (omega (arith, from, to)) in
+    let start : is_start p slot ≡ false = no_start p k slot q a (omega (arith, from, c.exchanged)) in
+    elim (cases_lt p.bound q) [
+      | inr last ↦
+          vector_ended scenario i e past start
+          (at_end p k slot q a ∙ and_from (q == p.bound) (nat_lt 0 k) (eq-eqb q p.bound (omega (arith, from, last))) (lt-ltb 0 k some))
+      | inl later ↦
+          vector_kept scenario i e past start (no_end p k slot q a (λ same. omega (arith, same, later)))
+          (at_exchange p k slot q a
+          ∙ and_left (nat_lt 0 q && nat_le q p.bound) (nat_lt 0 k) (and_right (nat_lt 0 q) (nat_le q p.bound) (lt-leb q p.bound later)))
+          ∙ no_vector_after scenario i k past formulas some (omega (arith, from, later)) (omega (arith, to))
+    ]
 
 -- ---- the view
 

@@ -1,7 +1,7 @@
 //! What a node knows of the site, in closed form: the definitions of the model make it turn by turn, and these laws say of each part what it
 //! is of all that was read. No crate stands on it.
 #![tactic(auto)]
-ghost use Rattle.std.specs.Prelude.{◌≡◌, ◌<◌, ◌≤◌, ◌+◌, ◌*◌, ◌↔◌, ℕ, suc, true, List, ◌∷◌, length, unwrap_or};
+ghost use Rattle.std.specs.Prelude.{◌≡◌, ◌<◌, ◌≤◌, ◌+◌, ◌*◌, ◌↔◌, ℕ, suc, true, List, ◌∷◌, length, None, unwrap_or};
 ghost use Rattle.cany_base.specs.Limits.{most_nodes};
 ghost use Rattle.cany_base.specs.declared.notice.NoticeKind.{NoticeKind};
 ghost use Rattle.cany_base.specs.Nodes.{has};
@@ -28,6 +28,15 @@ pub fn vector_is_all_that_was_got()
     ensures { (scenario : ScenarioParts) (i k : ℕ) (past : List NoticeKind) → MeetsFormulas scenario.params → 0 < k
         → k * scenario.params.cycle < length past → length past ≤ k * scenario.params.cycle + scenario.params.bound
         → (knowledge_of scenario i past).vector ≡ vector_of_cycle scenario i k past }
+{}
+
+/// It has no vector before the start of the first cycle, nor from the end of a cycle to the start of the next.
+pub fn a_vector_is_held_in_cycles_alone()
+    ensures before { (scenario : ScenarioParts) (i : ℕ) (past : List NoticeKind) → MeetsFormulas scenario.params
+        → length past ≤ scenario.params.cycle → (knowledge_of scenario i past).vector ≡ None }
+    ensures between { (scenario : ScenarioParts) (i k : ℕ) (past : List NoticeKind) → MeetsFormulas scenario.params → 0 < k
+        → k * scenario.params.cycle + scenario.params.bound < length past → length past ≤ k * scenario.params.cycle + scenario.params.cycle
+        → (knowledge_of scenario i past).vector ≡ None }
 {}
 
 /// The view: it becomes the vector of the cycle where one ends, with what was got in that slot too, and stays as it is elsewhere, and where
