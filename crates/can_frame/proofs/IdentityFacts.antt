@@ -16,7 +16,7 @@ pub same_class : (x y : Class) → class_number x ≡ class_number y → x ≡ y
 same_class x y e = grind arith
 
 -- every incarnation has four bits
-incarnation_below : (class : Class) (inc : ℕ) → FitsIncarnation class inc → inc < 2 ^ 4
+pub incarnation_below : (class : Class) (inc : ℕ) → FitsIncarnation class inc → inc < 2 ^ 4
 incarnation_below class inc fits = below (has_incarnation class) fits
   where
     below : (told : Bool) → inc < (if told then 2 ^ 4 else 1) → inc < 2 ^ 4

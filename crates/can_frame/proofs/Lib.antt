@@ -1,3 +1,4 @@
+pub mod ClassFacts
 pub mod DecodingFacts
 pub mod FieldFacts
 pub mod IdentityFacts

@@ -1,3 +1,4 @@
+pub mod Classes
 pub mod Decoding
 pub mod Field
 pub mod Identifier

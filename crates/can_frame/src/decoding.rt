@@ -3,7 +3,7 @@ ghost use Rattle.cany_base.specs.Frame.{FrameParts};
 ghost use Rattle.can_frame.specs.Decoding.{IsFrameOf, IsFirstFault};
 ghost use Rattle.can_frame.specs.declared.decoding.FrameFault.{FrameFault};
 
-use crate::class::{class_of_number, fits_class, has_incarnation, is_remote};
+use crate::class::{class_of, fits_class, has_incarnation, is_remote};
 use crate::encoding::IncarnationField;
 use crate::layout::take_fields;
 use cany_base::{Format, Frame, Payload};
@@ -32,8 +32,7 @@ pub fn frame_of(
     ensures frame { (f : FrameParts) → (result ≡ Ok f) ↔ IsFrameOf format ident remote payload f }
     ensures fault { (e : FrameFault) → (result ≡ Err e) ↔ IsFirstFault format e ident remote payload }
 {
-    // Bits above the 29 of an identifier make the class too great.
-    let Some(class) = class_of_number(ident >> 25) else {
+    let Some(class) = class_of(ident) else {
         return Err(FrameFault::Class);
     };
     let inc = IncarnationField::take(ident) as u8;

@@ -10,7 +10,8 @@ use cany_base::{Format, Frame};
 /// The class, in the four most significant of the 29 bits.
 pub(crate) type ClassField = Field<25, 4>;
 
-/// The sender's incarnation, in the bits below the node. They are 0 in a frame whose class tells none.
+/// The sender's incarnation, in the bits below the node. They are 0 in a frame whose class tells
+/// none.
 pub(crate) type IncarnationField = Field<0, 4>;
 
 /// The 29-bit identifier of a frame.

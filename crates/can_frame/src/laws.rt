@@ -1,4 +1,5 @@
-//! What holds of identifiers and keys in every format, for every frame whose number, node and incarnation fit their fields.
+//! What holds of identifiers and keys in every format, for every frame whose number, node and
+//! incarnation fit their fields.
 
 ghost use Rattle.std.specs.Prelude.{◌≡◌, ◌<◌, ◌↔◌, ℕ, Bool, true, false, List};
 ghost use Rattle.cany_base.specs.Frame.{FrameParts, identifier_of, is_remote, key_of};
@@ -7,7 +8,8 @@ ghost use Rattle.can_frame.specs.Identifier.{AgreeInIdentifier, FitsFormat, Fits
 
 use cany_base::Format;
 
-/// A frame with such a number as the frames of a run have, which names a node that there can be, fits the format.
+/// A frame with such a number as the frames of a run have, which names a node that there can be,
+/// fits the format.
 pub fn small_numbers_fit(format: Format)
     ensures { (f : FrameParts) → HasSmallNumbers format f → FitsFormat format f }
 {}

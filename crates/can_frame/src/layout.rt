@@ -5,8 +5,9 @@ ghost use Rattle.can_frame.specs.Field.{field_of};
 use crate::field::Field;
 use cany_base::{Format, NodeId};
 
-/// Makes a body from the table of the formats. A row is a format, and the shift and the width of its fields: the number (a
-/// sequence number, a cycle or a count, by class), and the node that the frame names.
+/// Makes a body from the table of the formats. A row is a format, and the shift and the width of
+/// its fields: the number (a sequence number, a cycle or a count, by class), and the node that the
+/// frame names.
 macro_rules! by_format {
     (word of $number:expr, $node:expr, in $format:expr) => { by_format!(rows $format, put ($number, $node)) };
     (fields of $ident:expr, in $format:expr) => { by_format!(rows $format, take ($ident)) };

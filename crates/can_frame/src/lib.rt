@@ -1,5 +1,5 @@
-//! The identifiers of frames: how class, number, node and incarnation lie in the 29 bits, which frame an
-//! identifier stands for, and the key by which frames arbitrate.
+//! The identifiers of frames: how class, number, node and incarnation lie in the 29 bits, which
+//! frame an identifier stands for, and the key by which frames arbitrate.
 #![tactic(auto)]
 
 mod class;
@@ -12,7 +12,7 @@ mod layout;
 mod tests;
 mod threads;
 
-pub use class::{has_incarnation, is_remote};
+pub use class::{class_of, has_incarnation, is_of_site, is_remote, shows_life, tells_incarnation};
 pub use decoding::{FrameFault, frame_of};
 pub use encoding::{identifier, key};
 pub use field::Field;

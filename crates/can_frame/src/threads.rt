@@ -1,4 +1,5 @@
-//! A fault of a frame may move to another thread and be shared by threads, as the bounds below show.
+//! A fault of a frame may move to another thread and be shared by threads, as the bounds below
+//! show.
 
 use crate::decoding::FrameFault;
 

@@ -2,10 +2,8 @@ ghost use Rattle.std.specs.Prelude.{◌≡◌, ◌⊎◌};
 ghost use Rattle.cany_base.specs.Params.{default_parameters};
 
 use crate::actions::{Action, Actions};
-use crate::class::Class;
 use crate::format::Format;
-use crate::frame::Frame;
-use crate::limits::{MOST_RESTARTS, MOST_RESTARTS_OF_NODE};
+use crate::limits::MOST_RESTARTS_OF_NODE;
 use crate::memory::Memory;
 use crate::message::NodeAsk;
 use crate::node::NodeId;
@@ -36,63 +34,57 @@ fn four_nodes(bound: u64) -> Params
     }
 }
 
+fn lacks(which: ParamName, needed: u64) -> Result<(), ParamFault> {
+    Err(ParamFault { which, needed })
+}
+
 #[test]
 fn parameters_meet_their_formulas(rt: HostRuntime) {
-    assert_eq!(rt; three_nodes().check(), Ok(()));
-    assert_eq!(rt; four_nodes(122).check(), Ok(()));
+    let low_bound = Params {
+        bound: 35,
+        ..three_nodes()
+    };
+    let low_life = Params {
+        life: 35,
+        silence: 71,
+        ..three_nodes()
+    };
+    let found = [
+        three_nodes().check(),
+        four_nodes(122).check(),
+        Params::with_defaults_of(Format::Two, 40, 2).check(),
+        Params::with_defaults_of(Format::Two, 64, 400_000).check(),
+        low_bound.check(),
+        four_nodes(121).check(),
+        low_life.check(),
+    ];
+    let wanted = [
+        Ok(()),
+        Ok(()),
+        Ok(()),
+        Ok(()),
+        lacks(ParamName::Bound, 36),
+        lacks(ParamName::Bound, 122),
+        lacks(ParamName::Life, 36),
+    ];
+    assert_eq!(rt; found, wanted);
 }
 
 #[test]
 fn defaults_are_the_least_values(rt: HostRuntime) {
-    let params = three_nodes();
-    assert_eq!(rt; params.bound, 36);
-    assert_eq!(rt; params.cycle, 72);
-    assert_eq!(rt; params.life, 36);
-    assert_eq!(rt; params.silence, 73);
-    assert_eq!(rt; params.confirm, 10);
-}
-
-#[test]
-fn the_second_format_has_more_nodes_and_slots(rt: HostRuntime) {
+    let three = three_nodes();
     let forty = Params::with_defaults_of(Format::Two, 40, 2);
-    assert_eq!(rt; forty.bound, 4_883);
-    assert_eq!(rt; forty.cycle, 9_766);
-    assert_eq!(rt; forty.check(), Ok(()));
-    let greatest = Params::with_defaults_of(Format::Two, 64, 400_000);
-    assert_eq!(rt; greatest.bound, 12_419);
-    assert_eq!(rt; greatest.check(), Ok(()));
-}
-
-#[test]
-fn a_bound_below_its_formula_is_a_fault(rt: HostRuntime) {
-    let mut params = three_nodes();
-    params.bound = 35;
-    let needed_36 = ParamFault {
-        which: ParamName::Bound,
-        needed: 36,
-    };
-    assert_eq!(rt; params.check(), Err(needed_36));
-    let needed_122 = ParamFault {
-        which: ParamName::Bound,
-        needed: 122,
-    };
-    assert_eq!(rt; four_nodes(121).check(), Err(needed_122));
-}
-
-#[test]
-fn the_first_fault_is_named(rt: HostRuntime) {
-    let mut params = three_nodes();
-    params.life = 35;
-    params.silence = 71;
-    let fault = ParamFault {
-        which: ParamName::Life,
-        needed: 36,
-    };
-    assert_eq!(rt; params.check(), Err(fault));
-}
-
-fn set_of(bits: u64) -> NodeSet {
-    NodeSet::of_bits(bits)
+    let found = [
+        three.bound,
+        three.cycle,
+        three.life,
+        three.silence,
+        three.confirm,
+        forty.bound,
+        forty.cycle,
+        Params::with_defaults_of(Format::Two, 64, 400_000).bound,
+    ];
+    assert_eq!(rt; found, [36, 72, 36, 73, 10, 4_883, 9_766, 12_419]);
 }
 
 fn bytes(bytes: &[u8]) -> Result<Payload, &'static str> {
@@ -102,85 +94,84 @@ fn bytes(bytes: &[u8]) -> Result<Payload, &'static str> {
 #[test]
 fn a_vector_has_its_lowest_nodes_last(rt: HostRuntime) -> Result<(), Fail> {
     let three = NodeSet::all(3);
-    let of_four = Payload::vector(three, Format::One);
-    let of_eight = Payload::vector(three, Format::Two);
-    assert_eq!(rt; of_four, bytes(&[0, 0, 0, 7])?);
-    assert_eq!(rt; of_eight, bytes(&[0, 0, 0, 0, 0, 0, 0, 7])?);
-    assert_eq!(rt; of_four.as_vector(Format::One), Some(three));
-    assert_eq!(rt; of_eight.as_vector(Format::Two), Some(three));
-    assert_eq!(rt; of_four.as_vector(Format::Two), None);
-    assert_eq!(rt; of_eight.as_vector(Format::One), None);
-    assert_eq!(rt; bytes(&[1, 2])?.as_vector(Format::One), None);
-    assert_eq!(rt;
+    let of_four = bytes(&[0, 0, 0, 7])?;
+    let of_eight = bytes(&[0, 0, 0, 0, 0, 0, 0, 7])?;
+    let made = [
+        Payload::vector(three, Format::One),
+        Payload::vector(three, Format::Two),
+    ];
+    assert_eq!(rt; made, [of_four, of_eight]);
+    let read = [
+        of_four.as_vector(Format::One),
+        of_eight.as_vector(Format::Two),
+        of_four.as_vector(Format::Two),
+        of_eight.as_vector(Format::One),
+        bytes(&[1, 2])?.as_vector(Format::One),
         bytes(&[0x80, 0, 0, 0, 0, 0, 0, 1])?.as_vector(Format::Two),
-        Some(set_of(1 << 63 | 1))
+    ];
+    let ends = NodeSet::of_bits(1 << 63 | 1);
+    assert_eq!(rt;
+        read,
+        [Some(three), Some(three), None, None, None, Some(ends)]
     );
     Ok(())
 }
 
 #[test]
 fn sets_of_nodes(rt: HostRuntime) -> Result<(), Fail> {
-    let two = NodeId::new(2).ok_or("a node")?;
-    let mut set = NodeSet::all(4);
-    assert_eq!(rt; set, set_of(0b1111));
-    set.remove(two);
-    assert_eq!(rt; set, set_of(0b1011));
-    set.insert(two);
-    assert_eq!(rt; set.count(), 4);
-    assert_eq!(rt; set.meet(set_of(0b1_0110)), set_of(0b0110));
-    assert_eq!(rt; set.plus(set_of(0b1_0110)), set_of(0b1_1111));
-    assert_eq!(rt; set.minus(set_of(0b1_0110)), set_of(0b1001));
-    assert_eq!(rt; set_of(0b1100).least(), Some(two));
-    assert_eq!(rt; NodeSet::empty().least(), None);
-    let last = NodeId::new(63).ok_or("a node")?;
-    assert!(rt; NodeSet::all(64).has(last));
-    assert!(rt; !NodeSet::all(63).has(last));
-    assert_eq!(rt; set_of(1 << 63).least(), Some(last));
-    assert_eq!(rt; NodeSet::all(64).count(), 64);
+    let two = NodeId::of_index(2);
+    let last = NodeId::of_index(63);
+    let four = NodeSet::all(4);
+    let others = NodeSet::of_bits(0b1_0110);
+    let mut without = four;
+    without.remove(two);
+    let mut again = without;
+    again.insert(two);
+    let made = [
+        four,
+        without,
+        again,
+        four.meet(others),
+        four.plus(others),
+        four.minus(others),
+    ];
+    assert_eq!(rt;
+        made.map(|set| set.bits()),
+        [0b1111, 0b1011, 0b1111, 0b0110, 0b1_1111, 0b1001]
+    );
+    let least = [
+        NodeSet::of_bits(0b1100).least(),
+        NodeSet::empty().least(),
+        NodeSet::of_bits(1 << 63).least(),
+    ];
+    assert_eq!(rt; least, [Some(two), None, Some(last)]);
+    let found = (
+        four.count(),
+        NodeSet::all(64).count(),
+        NodeSet::all(64).has(last),
+        NodeSet::all(63).has(last),
+    );
+    assert_eq!(rt; found, (4, 64, true, false));
     Ok(())
 }
 
 #[test]
 fn nodes_are_below_64(rt: HostRuntime) {
-    assert!(rt; NodeId::new(63).is_some());
-    assert!(rt; NodeId::new(64).is_none());
-    assert_eq!(rt; NodeId::of_index(63).get(), 63);
+    let found = [NodeId::new(63), NodeId::new(64)];
+    assert_eq!(rt; found, [Some(NodeId::of_index(63)), None]);
 }
 
 #[test]
 fn memory_is_there(rt: HostRuntime) -> Result<(), Fail> {
     let mut actions = Actions::build(rt.alloc(), 2)?;
     actions.push(Action::Withdraw { ident: 7 });
-    assert_eq!(rt; actions.len(), 1);
-    assert_eq!(rt; actions.get(0), Action::Withdraw { ident: 7 });
+    let found = (actions.room(), actions.len(), actions.get(0));
+    assert_eq!(rt; found, (2, 1, Action::Withdraw { ident: 7 }));
     Ok(())
 }
 
-#[test]
-fn a_join_tells_an_incarnation(rt: HostRuntime) {
-    let original = Frame {
-        class: Class::Join,
-        number: 2,
-        node: NodeId::of_index(1),
-        inc: 0,
-        payload: Payload::empty(),
-    };
-    let last = Frame {
-        inc: 15,
-        ..original
-    };
-    assert_eq!(rt; last.inc, 15);
-    assert!(rt; last != original);
-}
-
-#[test]
-fn a_node_has_sixteen_incarnations(rt: HostRuntime) {
-    assert_eq!(rt; MOST_RESTARTS, 64);
-    assert_eq!(rt; MOST_RESTARTS_OF_NODE, 15);
-}
-
 /// A scenario without a send, where one node starts again as often as a node may.
-fn quiet_scenario(alloc: Global) -> Result<Scenario, Memory> {
+fn scenario_of_restarts(alloc: Global) -> Result<Scenario, Memory> {
     let again = NodeAsk {
         slot: 7,
         node: NodeId::of_index(1),
@@ -201,11 +192,17 @@ fn quiet_scenario(alloc: Global) -> Result<Scenario, Memory> {
 
 #[test]
 fn a_scenario_is_copied(rt: HostRuntime) -> Result<(), Fail> {
-    let scenario = quiet_scenario(rt.alloc())?;
+    let scenario = scenario_of_restarts(rt.alloc())?;
     let copy = scenario.copy(rt.alloc())?;
-    assert_eq!(rt; copy.journal(), Some([Step::Slot].as_slice()));
-    assert_eq!(rt; copy.members(), NodeSet::all(3));
-    assert_eq!(rt; copy.restarts().len(), 15);
-    assert_eq!(rt; copy.restarts(), scenario.restarts());
+    let found = (
+        copy.members(),
+        copy.restarts().len(),
+        copy.restarts() == scenario.restarts(),
+        copy.journal(),
+    );
+    assert_eq!(rt;
+        found,
+        (NodeSet::all(3), 15, true, Some([Step::Slot].as_slice()))
+    );
     Ok(())
 }

@@ -1,3 +1,4 @@
 pub mod EagerFacts
+pub mod LearntFacts
 pub mod MadeFacts
 pub mod RoomFacts

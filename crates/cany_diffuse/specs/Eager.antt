@@ -1,5 +1,5 @@
 -- What a contract sees of the copies that are kept, and what each call does to them.
-use Rattle.std.specs.Prelude.{◌≡◌, ℕ, ◌+◌, ◌-◌, ◌^◌, ◌<◌, ◌≤◌, ◌==◌, ◌⊎◌, ◌&&◌, ◌||◌, Bool, false, not, nat_le, nat_lt, min, if◌then◌else◌, IsTrue, List, [], ◌∷◌, length, map, is_some}
+use Rattle.std.specs.Prelude.{◌≡◌, ℕ, ◌+◌, ◌-◌, ◌^◌, ◌<◌, ◌≤◌, ◌==◌, ◌⊎◌, ◌&&◌, ◌||◌, Bool, true, false, not, nat_le, nat_lt, min, if◌then◌else◌, IsTrue, List, [], ◌∷◌, length, map, is_some}
 use Rattle.cany_diffuse.specs.declared.counts.Noted.{Noted}
 use Rattle.cany_diffuse.specs.declared.learnt.Learnt.{Learnt}
 use Rattle.cany_diffuse.specs.declared.learnt.Learnt.TheVariants.{First, Again, Enough}
@@ -101,3 +101,15 @@ learnt_of omit copies owned =
     if nat_le (omit + 1) copies then Enough copies
     else if copies == 1 && not owned then First
     else Again copies
+
+-- whether the copy that was counted is the first that was read
+abbrev pub is_first_copy : Learnt → Bool
+is_first_copy First = true
+is_first_copy (Again copies) = copies == 1
+is_first_copy (Enough copies) = copies == 1
+
+-- whether it is one of more than there may be omissions
+abbrev pub is_enough : Learnt → Bool
+is_enough First = false
+is_enough (Again copies) = false
+is_enough (Enough copies) = true

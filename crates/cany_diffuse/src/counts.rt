@@ -12,7 +12,8 @@ use std::marker::Model;
 /// What is noted of a key.
 #[derive(Clone, Copy, Debug, PartialEq, Eq)]
 pub(crate) struct Noted {
-    /// The copies read since the key was last forgotten. The count stands still at the end of its type.
+    /// The copies read since the key was last forgotten. The count stands still at the end of its
+    /// type.
     pub(crate) copies: u32,
     /// The node's own transmission was read since then.
     pub(crate) owned: bool,
@@ -35,8 +36,8 @@ impl Noted {
 
 /// What is noted of keys, each key once.
 ///
-/// A key is found by its hash, and the memory is all taken when the counts are built. A removal might give no room
-/// back, so a key that came stays.
+/// A key is found by its hash, and the memory is all taken when the counts are built. A removal
+/// might give no room back, so a key that came stays.
 #[derive(Debug, Drop)]
 pub(crate) struct Counts {
     entries: IndexMap<u64, Noted>,

@@ -5,7 +5,8 @@ use cany_base::Frame;
 
 /// A value that nodes spread by eager diffusion: it travels in a frame.
 ///
-/// Two values whose numbers are in range have one key exactly where their frames have one class, number and node.
+/// Two values whose numbers are in range have one key exactly where their frames have one class,
+/// number and node.
 pub trait Diffused: Drop {
     /// The key of a value.
     ghost key: { Self → ℕ };

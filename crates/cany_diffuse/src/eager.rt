@@ -8,10 +8,11 @@ use cany_base::Memory;
 use std::alloc::Global;
 use std::marker::{Model, PhantomData};
 
-/// The copies of values that a node read, and which of the values it sent itself: the rule of eager diffusion.
+/// The copies of values that a node read, and which of the values it sent itself: the rule of eager
+/// diffusion.
 ///
-/// This project's own rule. At the first copy a node asks for the frame too, unless it has sent it itself; with more than
-/// `omit` copies it withdraws the frame.
+/// This project's own rule. At the first copy a node asks for the frame too, unless it has sent it
+/// itself; with more than `omit` copies it withdraws the frame.
 #[derive(Drop)]
 pub struct Eager<K: Diffused> {
     omit: u32,
@@ -28,7 +29,8 @@ impl<K: Diffused> Model for Eager<K> {
 }
 
 impl<K: Diffused> Eager<K> {
-    /// No copies, for so many omissions of a frame, with room for so many values. No later call takes memory.
+    /// No copies, for so many omissions of a frame, with room for so many values. No later call
+    /// takes memory.
     pub fn build(alloc: Global, omit: u32, room: usize) -> Result<Eager<K>, Memory>
         ensures { IfOk result (IsFresh omit room) }
     {
@@ -40,7 +42,8 @@ impl<K: Diffused> Eager<K> {
         })
     }
 
-    /// Counts a copy that was read, and says what it calls for. Once learnt, a value is there from then on.
+    /// Counts a copy that was read, and says what it calls for. Once learnt, a value is there from
+    /// then on.
     pub fn learn(&mut self, k: K) -> Learnt
         requires value { K.is_value k }
         requires room { HasRoomFor (K.key k) self.old }
@@ -51,7 +54,8 @@ impl<K: Diffused> Eager<K> {
         call_of(self.omit, noted.copies, noted.owned)
     }
 
-    /// Notes that the node's own transmission was read. It is no copy. Once owned, a value is there from then on.
+    /// Notes that the node's own transmission was read. It is no copy. Once owned, a value is there
+    /// from then on.
     pub fn own(&mut self, k: K)
         requires value { K.is_value k }
         requires room { HasRoomFor (K.key k) self.old }
@@ -102,7 +106,8 @@ impl<K: Diffused> Eager<K> {
     }
 }
 
-/// What a copy calls for, with so many copies, this one counted, and with or without the node's own transmission.
+/// What a copy calls for, with so many copies, this one counted, and with or without the node's own
+/// transmission.
 fn call_of(omit: u32, copies: u32, owned: bool) -> Learnt
     ensures { result ≡ learnt_of omit copies owned }
 {

@@ -1,4 +1,5 @@
-//! Eager diffusion: how many copies of each frame a node read, whether it sent the frame itself, and what a copy calls for.
+//! Eager diffusion: how many copies of each frame a node read, whether it sent the frame itself,
+//! and what a copy calls for.
 #![tactic(auto)]
 
 mod counts;

@@ -70,48 +70,48 @@ fn own<K: Diffused>(eager: &mut Eager<K>, k: K)
 }
 
 #[test]
-fn a_first_copy_is_asked_for_until_there_are_enough(rt: HostRuntime) -> Result<(), Fail> {
-    let one = sign_of(1).ok_or("node 0")?;
-    let mut eager = Eager::build(rt.alloc(), 2, 4)?;
-    assert_eq!(rt; eager.omit(), 2);
-    assert_eq!(rt; learn(&mut eager, one), Some(Learnt::First));
-    assert_eq!(rt; learn(&mut eager, one), Some(Learnt::Again { copies: 2 }));
-    assert_eq!(rt; learn(&mut eager, one), Some(Learnt::Enough { copies: 3 }));
-    assert_eq!(rt; eager.copies(&one), 3);
-    assert_eq!(rt; eager.spare(), 3);
-    Ok(())
-}
-
-#[test]
-fn an_own_frame_is_not_asked_for_again(rt: HostRuntime) -> Result<(), Fail> {
+fn a_value_is_asked_for_at_its_first_copy_until_there_are_enough(
+    rt: HostRuntime,
+) -> Result<(), Fail> {
     let one = sign_of(1).ok_or("node 0")?;
     let two = sign_of(2).ok_or("node 0")?;
     let mut eager = Eager::build(rt.alloc(), 2, 4)?;
-    own(&mut eager, one);
-    assert!(rt; eager.holds(&one));
-    assert!(rt; !eager.holds(&two));
-    assert_eq!(rt; learn(&mut eager, one), Some(Learnt::Again { copies: 1 }));
-    assert_eq!(rt; learn(&mut eager, two), Some(Learnt::First));
-    Ok(())
-}
-
-#[test]
-fn a_forgotten_value_is_learnt_anew(rt: HostRuntime) -> Result<(), Fail> {
-    let one = sign_of(1).ok_or("node 0")?;
-    let mut eager = Eager::build(rt.alloc(), 2, 4)?;
-    own(&mut eager, one);
-    assert_eq!(rt; learn(&mut eager, one), Some(Learnt::Again { copies: 1 }));
-    eager.forget(&one);
-    assert!(rt; !eager.holds(&one));
-    assert_eq!(rt; eager.spare(), 3);
-    assert_eq!(rt; learn(&mut eager, one), Some(Learnt::First));
+    let first = learn(&mut eager, one);
+    let second = learn(&mut eager, one);
+    let third = learn(&mut eager, one);
+    let counts = [
+        eager.omit() as usize,
+        eager.copies(&one) as usize,
+        eager.spare(),
+    ];
+    own(&mut eager, two);
+    let held = [
+        eager.holds(&two),
+        eager.holds(&FailureSign { cycle: 3, ..two }),
+    ];
+    let sent = learn(&mut eager, two);
+    eager.forget(&two);
+    let forgotten = [eager.holds(&two), eager.spare() == 2];
+    let anew = learn(&mut eager, two);
+    let learnt = [first, second, third, sent, anew];
+    let expected = [
+        Some(Learnt::First),
+        Some(Learnt::Again { copies: 2 }),
+        Some(Learnt::Enough { copies: 3 }),
+        // The node has sent the frame itself.
+        Some(Learnt::Again { copies: 1 }),
+        Some(Learnt::First),
+    ];
+    assert_eq!(rt;
+        (learnt, counts, held, forgotten),
+        (expected, [2, 3, 3], [true, false], [false, true])
+    );
     Ok(())
 }
 
 #[test]
 fn the_form_of_a_value_has_its_name(rt: HostRuntime) -> Result<(), Fail> {
-    let one = sign_of(1).ok_or("node 0")?;
-    assert_eq!(rt; one.form().number, 1);
-    assert_eq!(rt; one.form().class, Class::Fda);
+    let form = sign_of(1).ok_or("node 0")?.form();
+    assert_eq!(rt; (form.number, form.class), (1, Class::Fda));
     Ok(())
 }

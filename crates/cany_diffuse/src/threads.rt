@@ -1,4 +1,5 @@
-//! Where its values may move to another thread and be shared by threads, an `Eager` of them may too, as the bounds below show.
+//! Where its values may move to another thread and be shared by threads, an `Eager` of them may
+//! too, as the bounds below show.
 
 use crate::diffused::Diffused;
 use crate::eager::Eager;

@@ -1,7 +1,7 @@
 pub mod ActFacts
 pub mod CycleFacts
+pub mod MetFacts
 pub mod PastFacts
 pub mod ReadFacts
 pub mod RestFacts
-pub mod SetFacts
 pub mod TurnFacts

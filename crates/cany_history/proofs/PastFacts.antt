@@ -15,7 +15,7 @@ use Rattle.cany_model.specs.Rules.Vectors.{is_just, is_new, is_vector_got, is_ve
 use Rattle.cany_model.proofs.Among.{Each-weaker, count-no}
 use Rattle.cany_model.proofs.Bus.Identities.{same_class-true}
 use Rattle.cany_history.specs.History.{HasMore, HasNoVector, StandsIn, vector_read}
-use Rattle.cany_history.proofs.SetFacts.{bits_same, part_same, same_bits}
+use Rattle.cany_history.proofs.MetFacts.{bits_same, part_same, same_bits}
 
 -- ---- a frame with a vector of the cycle
 

@@ -14,7 +14,7 @@ use Rattle.cany_model.proofs.Among.{count-cons, count-no}
 use Rattle.cany_history.specs.History.{HasMore, HistoryParts, IsExchangeOf, StandsIn}
 use Rattle.cany_history.specs.HistorySteps.{after_meeting, having_read, is_just_own, is_own_vector, met_by}
 use Rattle.cany_history.proofs.PastFacts.{new_copies, new_own, smaller_more, vector_frame}
-use Rattle.cany_history.proofs.SetFacts.{met_part_got, met_part_own, same_bits}
+use Rattle.cany_history.proofs.MetFacts.{met_part_got, met_part_own, same_bits}
 
 -- ---- what a value has after a notice
 

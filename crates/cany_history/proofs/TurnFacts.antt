@@ -19,7 +19,7 @@ use Rattle.cany_history.specs.HistorySteps.{IsInRun, having_ended, having_read, 
 use Rattle.cany_history.proofs.CycleFacts.{exchanged_before, first_slot, has_cycles, no_end, same_cycle}
 use Rattle.cany_history.proofs.PastFacts.{early_notice, unread_copies, unread_more, unread_own}
 use Rattle.cany_history.proofs.ReadFacts.{IsRead, after_reading, read_is, value}
-use Rattle.cany_history.proofs.SetFacts.{met_with_below}
+use Rattle.cany_history.proofs.MetFacts.{met_with_below}
 
 -- ---- the end and the start of a cycle, whether it is one or not
 

@@ -1,8 +1,8 @@
-ghost use Rattle.std.specs.Prelude.{◌≡◌, ℕ, ◌+◌, ◌<◌, ◌≤◌, ◌++◌, [], ◌∷◌, length, List, Option, Some, None, option_map, replicate, IfSome};
+ghost use Rattle.std.specs.Prelude.{◌≡◌, ℕ, ◌+◌, ◌<◌, ◌≤◌, ◌++◌, [], ◌∷◌, length, List, Option, Some, None, option_map, replicate, IfOk, IfSome};
 ghost use Rattle.cany_base.specs.declared.notice.NoticeKind.{NoticeKind};
 ghost use Rattle.cany_base.specs.declared.notice.NoticeKind.TheVariants.{Idle, Got};
 ghost use Rattle.cany_base.specs.Limits.{most_nodes, most_slots};
-ghost use Rattle.cany_base.specs.Nodes.{AllBelow, Nodes, meet};
+ghost use Rattle.cany_base.specs.Nodes.{AllBelow, Nodes};
 ghost use Rattle.cany_base.specs.Scenario.{ScenarioParts};
 ghost use Rattle.cany_history.specs.History.{CanRead, IsHistoryOf, IsNextAt, Rests, StartsWith};
 ghost use Rattle.cany_history.specs.HistorySteps.{IsInRun, end_actions, frame_at, got_actions, having_ended, having_read, after_starting, is_covered_by, is_own_vector, met_by, is_just_own, read_actions, start_actions, with_vector, withdrawal_at};
@@ -10,13 +10,15 @@ ghost use Rattle.cany_model.specs.Rules.Actions.{actions_of};
 ghost use Rattle.cany_model.specs.Rules.Vectors.{after_exchange, brought, ended, everybody, exchange_at, is_new, met, met_with, vector_in};
 ghost use Rattle.cany_base.specs.Cycles.{cycle_of};
 
-use crate::cycle::{cycle_of, is_end, is_exchange, is_start, next_start_or_end};
+use crate::cycle::next_start_or_end;
 use crate::ended::Ended;
+use cany_base::cycle::{cycle_of, is_end, is_exchange, is_start};
 use cany_base::{
-    Action, Actions, Class, Frame, NodeId, NodeSet, Notice, NoticeKind, Params, Payload, Scenario,
-    Slot,
+    Action, Actions, Class, Frame, Memory, NodeId, NodeSet, Notice, NoticeKind, Params, Payload,
+    Scenario, Slot,
 };
 use cany_message::{is_of_class, withdraw};
+use std::alloc::Global;
 use std::marker::Model;
 
 /// The reception history vector of one node.
@@ -55,18 +57,19 @@ impl Model for History {
 }
 
 impl History {
-    /// That of a node that has read nothing, or only notices of idle slots.
-    pub fn build(node: NodeId, scenario: &Scenario) -> History
+    /// That of a node that has read nothing, or only notices of idle slots. It takes no memory: it is built as the other protocols are.
+    pub fn build(alloc: Global, node: NodeId, scenario: &Scenario) -> Result<History, Memory>
         requires { node < scenario.now.params.nodes }
-        ensures { (n : ℕ) → IsHistoryOf scenario.now node (replicate n Idle) None result }
+        ensures { IfOk result (λ history. (n : ℕ) → IsHistoryOf scenario.now node (replicate n Idle) None history) }
     {
-        History {
+        let _ = alloc;
+        Ok(History {
             node,
             params: *scenario.params(),
             vector: None,
             copies: 0,
             sent: false,
-        }
+        })
     }
 
     /// What a notice leads to: the vector in it, then the end of a cycle, then the start of one. `start` is what the node starts with,
@@ -257,7 +260,7 @@ impl History {
         ensures below { AllBelow self.now.params.nodes result }
     {
         let all = everybody(&self.params);
-        meet(self.vector.unwrap_or(all), got)
+        self.vector.unwrap_or(all).meet(got)
     }
 
     /// Whether a vector differs from the node's own, or it has none.
@@ -338,14 +341,4 @@ fn everybody(params: &Params) -> NodeSet
     ensures { result ≡ everybody params.now }
 {
     NodeSet::all(params.nodes)
-}
-
-/// The nodes that stand in both sets.
-fn meet(one: NodeSet, other: NodeSet) -> NodeSet
-    ensures { result ≡ meet one other }
-{
-    let both = one.meet(other);
-    // Called for what it ensures: each node has a place in a set.
-    let _bits = both.bits();
-    both
 }

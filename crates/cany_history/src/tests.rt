@@ -57,13 +57,14 @@ fn scenario_of(alloc: Global) -> Result<Scenario, Memory>
 }
 
 /// Node 1, which has read idle slots alone, so many.
-fn begun(scenario: &Scenario, slots: Slot) -> History
+fn begun(alloc: Global, scenario: &Scenario, slots: Slot) -> Result<History, Memory>
     requires { scenario.now.params.nodes ≡ 3 }
-    ensures { HasReadSlots scenario.now slots result }
+    ensures { IfOk result (HasReadSlots scenario.now slots) }
 {
     // Named for the contract alone: a value stands for as many idle slots as there were.
     let _slots = slots;
-    History::build(node(1), scenario)
+    let history = History::build(alloc, node(1), scenario)?;
+    Ok(history)
 }
 
 /// A node reads a notice.
@@ -236,79 +237,99 @@ fn asked(vector: NodeSet) -> Action
     Action::Ask(vector_frame(node(1), 1, vector))
 }
 
+/// The action of a turn, which has one at most here, and how many it has.
+fn done(turn: &Turn) -> (usize, Option<Action>) {
+    let action = turn.actions.as_slice().first().copied();
+    (turn.actions.len(), action)
+}
+
+/// The cycle that ends in a turn, and the bits of its vector.
+fn ended(turn: &Turn) -> Option<(u16, u64)> {
+    match &turn.ended {
+        Some(ended) => Some((ended.cycle, ended.vector.bits())),
+        None => None,
+    }
+}
+
 /// The withdrawal of node 1's vector of the first cycle: class 1 at bit 25, number 1 at bit 9, node 1 at bit 4.
 fn withdrawal() -> Action {
     Action::Withdraw { ident: 33_554_960 }
 }
 
 #[test]
-fn a_member_sends_its_vector_at_the_start(rt: HostRuntime) -> Result<(), Fail> {
+fn a_vector_is_met_with_what_is_got(rt: HostRuntime) -> Result<(), Fail> {
     let scenario = scenario_of(rt.alloc())?;
-    let mut history = begun(&scenario, 72);
-    let turn = start(rt.alloc(), &mut history, &scenario, nodes(7))?;
-    assert_eq!(rt; turn.actions.as_slice(), [asked(nodes(7))].as_slice());
-    assert_eq!(rt; turn.ended.is_none(), true);
+    let mut member = begun(rt.alloc(), &scenario, 72)?;
+    let first = start(rt.alloc(), &mut member, &scenario, nodes(3))?;
+    let met = got(rt.alloc(), &mut member, &scenario, 73, 1, nodes(6))?;
+    let mut other = begun(rt.alloc(), &scenario, 72)?;
+    pass(rt.alloc(), &mut other, &scenario, 72, 80)?;
+    let met_with_all = got(rt.alloc(), &mut other, &scenario, 80, 1, nodes(5))?;
+    let mut third = begun(rt.alloc(), &scenario, 72)?;
+    start(rt.alloc(), &mut third, &scenario, nodes(7))?;
+    let of_another_cycle = got(rt.alloc(), &mut third, &scenario, 73, 0, nodes(3))?;
+    pass(rt.alloc(), &mut other, &scenario, 81, 108)?;
+    let end = idle(rt.alloc(), &mut other, &scenario, 108)?;
+    pass(rt.alloc(), &mut third, &scenario, 74, 108)?;
+    let unchanged = idle(rt.alloc(), &mut third, &scenario, 108)?;
+    assert_eq!(rt;
+        (
+            [
+                done(&first),
+                done(&met),
+                done(&met_with_all),
+                done(&of_another_cycle),
+            ],
+            [ended(&first), ended(&end), ended(&unchanged)],
+        ),
+        (
+            [
+                (1, Some(asked(nodes(3)))),
+                (1, Some(asked(nodes(2)))),
+                (1, Some(asked(nodes(5)))),
+                (0, None),
+            ],
+            [None, Some((1, 5)), Some((1, 7))],
+        )
+    );
     Ok(())
 }
 
 #[test]
-fn a_vector_that_is_got_is_met_with_the_own(rt: HostRuntime) -> Result<(), Fail> {
+fn a_vector_that_is_covered_is_withdrawn(rt: HostRuntime) -> Result<(), Fail> {
     let scenario = scenario_of(rt.alloc())?;
-    let mut history = begun(&scenario, 72);
-    start(rt.alloc(), &mut history, &scenario, nodes(3))?;
-    let turn = got(rt.alloc(), &mut history, &scenario, 73, 1, nodes(6))?;
-    assert_eq!(rt; turn.actions.as_slice(), [asked(nodes(2))].as_slice());
-    Ok(())
-}
-
-#[test]
-fn with_enough_copies_a_vector_is_withdrawn(rt: HostRuntime) -> Result<(), Fail> {
-    let scenario = scenario_of(rt.alloc())?;
-    let mut history = begun(&scenario, 72);
-    start(rt.alloc(), &mut history, &scenario, nodes(7))?;
-    let first = got(rt.alloc(), &mut history, &scenario, 73, 1, nodes(7))?;
-    assert_eq!(rt; first.actions.len(), 0);
-    let second = got(rt.alloc(), &mut history, &scenario, 74, 1, nodes(7))?;
-    assert_eq!(rt; second.actions.as_slice(), [withdrawal()].as_slice());
-    Ok(())
-}
-
-#[test]
-fn copies_of_an_old_vector_do_not_count_for_a_new_one(rt: HostRuntime) -> Result<(), Fail> {
-    let scenario = scenario_of(rt.alloc())?;
-    let mut history = begun(&scenario, 72);
-    start(rt.alloc(), &mut history, &scenario, nodes(7))?;
-    got(rt.alloc(), &mut history, &scenario, 73, 1, nodes(7))?;
-    let new = got(rt.alloc(), &mut history, &scenario, 74, 1, nodes(3))?;
-    assert_eq!(rt; new.actions.as_slice(), [asked(nodes(3))].as_slice());
-    let again = got(rt.alloc(), &mut history, &scenario, 75, 1, nodes(3))?;
-    assert_eq!(rt; again.actions.as_slice(), [withdrawal()].as_slice());
-    Ok(())
-}
-
-#[test]
-fn a_vector_that_was_sent_is_withdrawn_at_a_copy(rt: HostRuntime) -> Result<(), Fail> {
-    let scenario = scenario_of(rt.alloc())?;
-    let mut history = begun(&scenario, 72);
-    start(rt.alloc(), &mut history, &scenario, nodes(7))?;
-    let own = sent(rt.alloc(), &mut history, &scenario, 73, nodes(7))?;
-    assert_eq!(rt; own.actions.len(), 0);
-    let copy = got(rt.alloc(), &mut history, &scenario, 74, 1, nodes(7))?;
-    assert_eq!(rt; copy.actions.as_slice(), [withdrawal()].as_slice());
-    Ok(())
-}
-
-#[test]
-fn a_vector_of_another_cycle_is_ignored(rt: HostRuntime) -> Result<(), Fail> {
-    let scenario = scenario_of(rt.alloc())?;
-    let mut history = begun(&scenario, 72);
-    start(rt.alloc(), &mut history, &scenario, nodes(7))?;
-    let turn = got(rt.alloc(), &mut history, &scenario, 73, 0, nodes(3))?;
-    assert_eq!(rt; turn.actions.len(), 0);
-    pass(rt.alloc(), &mut history, &scenario, 74, 108)?;
-    let end = idle(rt.alloc(), &mut history, &scenario, 108)?;
-    let ended = end.ended.ok_or("a vector")?;
-    assert_eq!(rt; ended.vector.bits(), 7);
+    let mut got_often = begun(rt.alloc(), &scenario, 72)?;
+    start(rt.alloc(), &mut got_often, &scenario, nodes(7))?;
+    let once = got(rt.alloc(), &mut got_often, &scenario, 73, 1, nodes(7))?;
+    let twice = got(rt.alloc(), &mut got_often, &scenario, 74, 1, nodes(7))?;
+    // Copies of the old vector do not count for a new one.
+    let mut got_new = begun(rt.alloc(), &scenario, 72)?;
+    start(rt.alloc(), &mut got_new, &scenario, nodes(7))?;
+    got(rt.alloc(), &mut got_new, &scenario, 73, 1, nodes(7))?;
+    let new = got(rt.alloc(), &mut got_new, &scenario, 74, 1, nodes(3))?;
+    let new_twice = got(rt.alloc(), &mut got_new, &scenario, 75, 1, nodes(3))?;
+    let mut has_sent = begun(rt.alloc(), &scenario, 72)?;
+    start(rt.alloc(), &mut has_sent, &scenario, nodes(7))?;
+    let own = sent(rt.alloc(), &mut has_sent, &scenario, 73, nodes(7))?;
+    let copy = got(rt.alloc(), &mut has_sent, &scenario, 74, 1, nodes(7))?;
+    assert_eq!(rt;
+        [
+            done(&once),
+            done(&twice),
+            done(&new),
+            done(&new_twice),
+            done(&own),
+            done(&copy),
+        ],
+        [
+            (0, None),
+            (1, Some(withdrawal())),
+            (1, Some(asked(nodes(3)))),
+            (1, Some(withdrawal())),
+            (0, None),
+            (1, Some(withdrawal())),
+        ]
+    );
     Ok(())
 }
 
@@ -317,45 +338,27 @@ fn a_cycle_ends_as_many_slots_after_its_start_as_the_bound_has(
     rt: HostRuntime,
 ) -> Result<(), Fail> {
     let scenario = scenario_of(rt.alloc())?;
-    let mut history = begun(&scenario, 72);
-    start(rt.alloc(), &mut history, &scenario, nodes(7))?;
-    assert_eq!(rt; history.wake(73), 108);
-    pass(rt.alloc(), &mut history, &scenario, 73, 107)?;
-    let early = idle(rt.alloc(), &mut history, &scenario, 107)?;
-    assert_eq!(rt; early.ended.is_none(), true);
-    assert_eq!(rt; early.actions.len(), 0);
-    let end = idle(rt.alloc(), &mut history, &scenario, 108)?;
-    assert_eq!(rt; end.actions.as_slice(), [withdrawal()].as_slice());
-    let ended = end.ended.ok_or("a vector")?;
-    assert_eq!(rt; ended.cycle, 1);
-    assert_eq!(rt; ended.vector.bits(), 7);
-    let late = idle(rt.alloc(), &mut history, &scenario, 109)?;
-    assert_eq!(rt; late.ended.is_none(), true);
-    assert_eq!(rt; history.wake(110), 144);
-    Ok(())
-}
-
-#[test]
-fn a_node_without_a_vector_ends_none(rt: HostRuntime) -> Result<(), Fail> {
-    let scenario = scenario_of(rt.alloc())?;
-    let mut history = begun(&scenario, 72);
-    pass(rt.alloc(), &mut history, &scenario, 72, 108)?;
-    let end = idle(rt.alloc(), &mut history, &scenario, 108)?;
-    assert_eq!(rt; end.ended.is_none(), true);
-    assert_eq!(rt; end.actions.len(), 0);
-    Ok(())
-}
-
-#[test]
-fn a_node_without_a_vector_meets_that_of_all_nodes(rt: HostRuntime) -> Result<(), Fail> {
-    let scenario = scenario_of(rt.alloc())?;
-    let mut history = begun(&scenario, 72);
-    pass(rt.alloc(), &mut history, &scenario, 72, 80)?;
-    let turn = got(rt.alloc(), &mut history, &scenario, 80, 1, nodes(5))?;
-    assert_eq!(rt; turn.actions.as_slice(), [asked(nodes(5))].as_slice());
-    pass(rt.alloc(), &mut history, &scenario, 81, 108)?;
-    let end = idle(rt.alloc(), &mut history, &scenario, 108)?;
-    let ended = end.ended.ok_or("a vector")?;
-    assert_eq!(rt; ended.vector.bits(), 5);
+    let mut member = begun(rt.alloc(), &scenario, 72)?;
+    start(rt.alloc(), &mut member, &scenario, nodes(7))?;
+    let end_slot = member.wake(73);
+    pass(rt.alloc(), &mut member, &scenario, 73, 107)?;
+    let early = idle(rt.alloc(), &mut member, &scenario, 107)?;
+    let end = idle(rt.alloc(), &mut member, &scenario, 108)?;
+    let late = idle(rt.alloc(), &mut member, &scenario, 109)?;
+    let mut other = begun(rt.alloc(), &scenario, 72)?;
+    pass(rt.alloc(), &mut other, &scenario, 72, 108)?;
+    let none = idle(rt.alloc(), &mut other, &scenario, 108)?;
+    assert_eq!(rt;
+        (
+            [end_slot, member.wake(110)],
+            [done(&early), done(&end), done(&none)],
+            [ended(&early), ended(&end), ended(&late), ended(&none)],
+        ),
+        (
+            [108, 144],
+            [(0, None), (1, Some(withdrawal())), (0, None)],
+            [None, Some((1, 7)), None, None],
+        )
+    );
     Ok(())
 }

@@ -6,5 +6,6 @@ pub mod HistoryFacts
 pub mod KeyFacts
 pub mod NoticeFacts
 pub mod NumberFacts
+pub mod RelayFacts
 pub mod SequenceFacts
 pub mod TableFacts

@@ -1,9 +1,10 @@
 ghost use Rattle.std.specs.Prelude.{◌≡◌, ◌+◌, ◌<◌, ◌≤◌, ◌++◌, length};
 ghost use Rattle.can_frame.specs.Identifier.{HasSmallNumbers};
-ghost use Rattle.cany_message.specs.Actions.{delivery_actions, withdraw_actions};
+ghost use Rattle.cany_message.specs.Actions.{delivery_actions, relay_actions, withdraw_actions};
 
 use can_frame::{identifier, small_numbers_fit};
 use cany_base::{Action, Actions, Format, Frame, LogEntry, MsgKey, Service, Slot};
+use cany_diffuse::Learnt;
 
 /// Delivers the message of a data frame, or does nothing.
 pub fn deliver(service: Service, slot: Slot, frame: &Frame, delivers: bool, out: &mut Actions)
@@ -25,7 +26,8 @@ pub fn deliver(service: Service, slot: Slot, frame: &Frame, delivers: bool, out:
     }
 }
 
-/// Withdraws the frame of this frame's identity, or does nothing. The format is that of the scenario. No incarnation is named.
+/// Withdraws the frame of this frame's identity, or does nothing. The format is that of the
+/// scenario. No incarnation is named.
 pub fn withdraw(format: Format, frame: &Frame, withdraws: bool, out: &mut Actions)
     requires small { HasSmallNumbers format frame.now }
     requires room { length out.old.items < out.old.room }
@@ -38,5 +40,20 @@ pub fn withdraw(format: Format, frame: &Frame, withdraws: bool, out: &mut Action
         let named = Frame { inc: 0, ..*frame };
         let ident = identifier(format, &named);
         out.push(Action::Withdraw { ident });
+    }
+}
+
+/// Asks for a frame, withdraws it or does nothing, as its copy calls for.
+pub fn relay(format: Format, learnt: &Learnt, frame: &Frame, out: &mut Actions)
+    requires small { HasSmallNumbers format frame.now }
+    requires room { length out.old.items < out.old.room }
+    ensures actions { out.new.items ≡ out.old.items ++ relay_actions format learnt.now frame.now }
+    ensures room { out.new.room ≡ out.old.room }
+    ensures few { length out.new.items ≤ length out.old.items + 1 }
+{
+    match learnt {
+        Learnt::First => out.push(Action::Ask(*frame)),
+        Learnt::Again { .. } => {}
+        Learnt::Enough { .. } => withdraw(format, frame, true, out),
     }
 }

@@ -79,7 +79,10 @@ impl<C: FrameClass> Diffused for MessageFrame<C> {
         }
     }
 
-    ghost one_name_one_key = { λ a b in_a in_b. (λ one. Prim.omega (arith, one.number, one.node), λ e. record { class = refl; number = Prim.omega (arith, e, in_a.0, in_b.0); node = Prim.omega (arith, e, in_a.0, in_b.0) }) };
+    ghost one_name_one_key = { λ a b in_a in_b. (
+      λ one. Prim.omega (arith, one.number, one.node),
+      λ e. record { class = refl; number = Prim.omega (arith, e, in_a.0, in_b.0); node = Prim.omega (arith, e, in_a.0, in_b.0) },
+    ) };
 }
 
 /// Whether the frame is of a class.

@@ -1,5 +1,6 @@
-//! What the broadcast protocols share: the number that stands for a message, the frames that name it, the actions that
-//! deliver it and withdraw its frame, the sequence numbers of scripted sends, and how many of them are by a service.
+//! What the broadcast protocols share: the number that stands for a message, the frames that name
+//! it, the actions that deliver it, relay its frame and withdraw it, the sequence numbers of
+//! scripted sends, and how many of them are by a service.
 #![tactic(auto)]
 
 mod actions;
@@ -12,7 +13,7 @@ mod sequence;
 mod tests;
 mod threads;
 
-pub use actions::{deliver, withdraw};
+pub use actions::{deliver, relay, withdraw};
 pub use frame::{FrameClass, MessageFrame, is_of_class};
 pub use keys::keys_of;
 pub use number::message_number;

@@ -31,7 +31,8 @@ impl SequenceNumbers {
         }
     }
 
-    /// Counts a send of a node, which follows those counted before. Gives the sequence number of its message.
+    /// Counts a send of a node, which follows those counted before. Gives the sequence number of
+    /// its message.
     pub fn next(&mut self, origin: NodeId) -> u16
         requires { (node : ℕ) → node < most_nodes → sent_by self.old node < 65535 }
         ensures message { (earlier : List SendAsk) (send : SendAsk) → HaveCounted earlier self.old → send.node ≡ origin → result ≡ (message_of earlier send).seq }

@@ -1,5 +1,5 @@
-//! These values may move to another thread and be shared by threads: a `MessageFrame` where the type that stands for its
-//! class may.
+//! These values may move to another thread and be shared by threads: a `MessageFrame` where the
+//! type that stands for its class may.
 
 use crate::frame::{FrameClass, MessageFrame};
 use crate::sequence::SequenceNumbers;

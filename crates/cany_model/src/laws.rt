@@ -145,8 +145,8 @@ pub fn few_life_sign_frames()
         → HasFewLifeSigns scenario.params (run scenario journal).trace }
 {}
 
-/// Few asking slots: in such a run few slots of a window leave a notice at which a running node asks for a frame that accepts or for a
-/// vector.
+/// Few asking slots: in such a run few slots of a window leave a notice at which a node, running or stopped, asks by one of its incarnations
+/// for a frame that accepts or for a vector.
 pub fn few_asking_slots()
     ensures { (scenario : ScenarioParts) (journal : List Step) → scenario.params.nodes ≤ most_nodes → MeetsFormulas scenario.params
         → AllBelow scenario.params.nodes scenario.members → IsWithin scenario.params (run scenario journal).trace
@@ -218,12 +218,12 @@ pub fn detector_accuracy()
         → HasNotFailed scenario (run scenario journal) r }
 {}
 
-/// Staying: in such a run a running node that asks for no leave, and that each correct node has in its view after its turn of a slot, stands
+/// Staying: in such a run a running node that has asked for no leave, and that each correct node has in its view after its turn of a slot, stands
 /// in each view that a correct node holds of a cycle that ends after that slot.
 pub fn members_stay()
     ensures { (scenario : ScenarioParts) (journal : List Step) → IsLegalScenario scenario → scenario.restarts ≡ []
         → IsWithin scenario.params (run scenario journal).trace → (r t : ℕ) → IsCorrect scenario (run scenario journal) r
-        → AsksNoLeave scenario r → StandsAfter scenario (run scenario journal) r t → StaysInViews scenario (run scenario journal) r t }
+        → AsksNoLeave scenario (run scenario journal) r → StandsAfter scenario (run scenario journal) r t → StaysInViews scenario (run scenario journal) r t }
 {}
 
 /// Removal: in such a run a node that stopped in a slot after which each correct node has it in its view stands in no view that a correct

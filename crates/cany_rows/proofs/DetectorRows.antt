@@ -1,11 +1,11 @@
 -- Worked rows of the failure detector, and of members that stop, stay or leave: runs in which what is promised holds, and runs that lack a
 -- premise of it, and in which it does not. What a run comes to is computed in rows of its own: what is promised for every node then
 -- follows without it.
-use Rattle.std.specs.Prelude.{ℕ, ◌+◌, ◌*◌, ◌<◌, ◌≡◌, ◌≢◌, true, false, List, [], ◌∷◌, Some, Err, Contains, refl}
+use Rattle.std.specs.Prelude.{ℕ, ◌+◌, ◌*◌, ◌<◌, ◌≡◌, ◌≢◌, true, false, List, [], ◌∷◌, Some, Err, All, Contains, refl}
 use Rattle.std.specs.List.{AllByRecursion}
 use Rattle.std.proofs.Common.{ap, arith, ◌∙◌, lit<, lit≤, sym}
 use Rattle.std.proofs.lemmas.Bool.{false≢true}
-use Rattle.std.proofs.lemmas.List.Elements.{All-nil}
+use Rattle.std.proofs.lemmas.List.Elements.{All-contains}
 use Rattle.cany_base.specs.declared.log_entry.LogEntry.{LogEntry}
 use Rattle.cany_base.specs.declared.log_entry.LogEntry.TheVariants.{Failed, View}
 use Rattle.cany_base.specs.declared.message.NodeAsk.{NodeAsk}
@@ -17,7 +17,9 @@ use Rattle.cany_base.specs.Scenario.{IsLegalScenario, ScenarioParts}
 use Rattle.cany_base.proofs.NodesFacts.{AllBelow-bits}
 use Rattle.cany_model.specs.Bus.History.{history}
 use Rattle.cany_model.specs.Bus.State.{RunState, node_at, slots_run}
-use Rattle.cany_model.specs.Promises.Detector.{AsksNoLeave, HasNotFailed, IsRemoved, StandsAfter, StaysInViews, members_before}
+use Rattle.cany_model.specs.Runs.RoundRobin.{round_robin}
+use Rattle.cany_model.specs.Runs.Run.{run}
+use Rattle.cany_model.specs.Promises.Detector.{AsksNoLeave, HasNotFailed, IsRemoved, StandsAfter, StaysInViews, has_asked_leave, members_before}
 use Rattle.cany_model.specs.Promises.Hypothesis.{IsWithin}
 use Rattle.cany_model.specs.Promises.Settled.{IsCorrect}
 use Rattle.cany_model.specs.Rules.Log.{log}
@@ -119,9 +121,9 @@ views_of_the_other : AllByRecursion (OfView HasNode0) stopped_entries
 unfolding detector_row
 views_of_the_other = (tt, ((λ ends. refl), ((λ ends. refl), tt)))
 
-it_asks_no_leave : AsksNoLeave node_1_stops 0
-unfolding detector_row
-it_asks_no_leave = All-nil (λ (ask : NodeAsk). ask.node ≢ 0)
+it_asks_no_leave : AsksNoLeave node_1_stops stopped_run 0
+unfolding detector_row has_asked_leave
+it_asks_no_leave = refl
 
 it_stands_in_the_view : StandsAfter node_1_stops stopped_run 0 1
 it_stands_in_the_view = record {
@@ -257,3 +259,64 @@ staying_needs_no_leave : StaysInViews node_1_leaves left_run 1 56 → ⊥
 unfolding detector_row
 staying_needs_no_leave stays =
     false≢true (stays 0 (record { there = lit< tt; running = refl }) 57 1 (set 1) (0, lit< tt, refl) (lit< tt))
+
+-- it has asked, in its turn of slot 10
+leaver_has_asked : AsksNoLeave node_1_leaves left_run 1 → ⊥
+unfolding detector_row has_asked_leave
+leaver_has_asked none = false≢true (sym none)
+
+-- ---- a scripted leave by which the node has not asked
+
+-- that no entry of the scenario names the node: more than that it has asked for no leave in the run
+abbrev HasNoScriptedLeave : ScenarioParts → ℕ → Type 0
+HasNoScriptedLeave sc r = All (λ ask. ask.node ≢ r) sc.leaves
+
+-- Node 1 is no member at slot 0, so its leave of this slot does nothing. It asks in slot 5 to join, and stands in both views.
+abbrev leaves_as_no_member : ScenarioParts
+leaves_as_no_member = two 96 1 [] (asks_at 5 1 ∷ []) (asks_at 0 1 ∷ [])
+
+abbrev joined_run : RunState
+joined_run = run_of leaves_as_no_member
+
+joined_log : log leaves_as_no_member joined_run 0 ≡ View 57 1 (set 3) ∷ View 95 2 (set 3) ∷ []
+unfolding detector_row
+joined_log = refl
+
+joined_is_within : IsWithin leaves_as_no_member.params joined_run.trace
+unfolding detector_row
+joined_is_within = (first_break_exact leaves_as_no_member.params joined_run.trace).0 refl
+
+its_leave_is_none : AsksNoLeave leaves_as_no_member joined_run 1
+unfolding detector_row has_asked_leave
+its_leave_is_none = refl
+
+its_leave_is_scripted : HasNoScriptedLeave leaves_as_no_member 1 → ⊥
+unfolding detector_row
+its_leave_is_scripted none = All-contains (λ (ask : NodeAsk). ask.node ≢ 1) leaves_as_no_member.leaves (asks_at 0 1) none (0, lit< tt, refl) refl
+
+-- Node 1 is to leave in slot 60. After the first 58 slots it has not asked, and stands in the view of the first cycle; after all it has.
+abbrev leaves_later : ScenarioParts
+leaves_later = two 96 3 [] [] (asks_at 60 1 ∷ [])
+
+abbrev early_run : RunState
+early_run = run leaves_later (round_robin (two 58 3 [] [] []))
+
+early_log : log leaves_later early_run 0 ≡ View 57 1 (set 3) ∷ []
+unfolding detector_row
+early_log = refl
+
+early_is_within : IsWithin leaves_later.params early_run.trace
+unfolding detector_row
+early_is_within = (first_break_exact leaves_later.params early_run.trace).0 refl
+
+it_has_not_asked_yet : AsksNoLeave leaves_later early_run 1
+unfolding detector_row has_asked_leave
+it_has_not_asked_yet = refl
+
+it_is_to_leave : HasNoScriptedLeave leaves_later 1 → ⊥
+unfolding detector_row
+it_is_to_leave none = All-contains (λ (ask : NodeAsk). ask.node ≢ 1) leaves_later.leaves (asks_at 60 1) none (0, lit< tt, refl) refl
+
+it_has_asked_at_last : AsksNoLeave leaves_later (run_of leaves_later) 1 → ⊥
+unfolding detector_row has_asked_leave
+it_has_asked_at_last none = false≢true (sym none)

@@ -17,8 +17,7 @@ use Rattle.cany_model.specs.Bus.Frames.{identity_of}
 use Rattle.cany_model.specs.Runs.RoundRobin.{round_robin}
 use Rattle.cany_model.specs.Runs.Run.{run, slot_state, slot_state_from}
 use Rattle.cany_model.specs.Bus.State.{RunState, node_at, runs}
-use Rattle.cany_model.specs.Promises.Quiet.{HasFewAskingSlots, HasQuietSlots, IsQuiet, WasQuiet, asks_at, asks_first, is_top, makes_ask, most_asking}
-use Rattle.cany_model.specs.Bus.History.{history_but}
+use Rattle.cany_model.specs.Promises.Quiet.{HasFewAskingSlots, HasQuietSlots, IsQuiet, WasQuiet, asks_as, asks_at, asks_for_first_class, is_top, makes_ask, most_asking}
 use Rattle.cany_model.specs.Promises.Windows.{HasFew, HasFewAccepts, HasFewLifeSigns, HasFewTotFrames, HasFewVectors, is_clean_of}
 use Rattle.cany_model.specs.Rules.Effect.{Ask, Withdraw}
 use Rattle.cany_rows.proofs.OrderRows.{early_row, late_reader, order_row, starved, starved_journal}
@@ -37,12 +36,12 @@ first_frames sc s i =
 
 -- of the state in which a slot is run, for each node
 unfoldable in_slot : ScenarioParts → List Step → ℕ → Option (List (Bool × List Bool))
-unfolding report slot_state_from history_but asks_at
+unfolding report slot_state_from asks_as
 in_slot sc journal t = option_map (λ s. map (first_frames sc s) (range_with_len 0 sc.params.nodes)) (slot_state sc t journal)
 
--- for each of so many newest slots of a run, the newest first, whether its notice makes a running node ask
+-- for each of so many newest slots of a run, the newest first, whether its notice makes a node ask
 unfoldable asking : ScenarioParts → ℕ → List Step → List Bool
-unfolding report history_but asks_at
+unfolding report asks_as
 asking sc slots journal = let s = run sc journal in map (makes_ask sc s) (range_with_len 0 slots)
 
 unfoldable quiet_row : Unit {0}
@@ -57,7 +56,7 @@ classes_that_win = refl
 
 -- of them a node is not said to ask for life signs, nor by a withdrawal
 asks_that_count :
-    map (λ f. asks_first (Ask f)) (first_accept ∷ rha 0 1 7 ∷ els 0 1 ∷ first_tot ∷ []) ++ asks_first (Withdraw (identity_of first_accept)) ∷ []
+    map (λ f. asks_for_first_class (Ask f)) (first_accept ∷ rha 0 1 7 ∷ els 0 1 ∷ first_tot ∷ []) ++ asks_for_first_class (Withdraw (identity_of first_accept)) ∷ []
     ≡ true ∷ true ∷ false ∷ false ∷ false ∷ []
 unfolding quiet_row
 asks_that_count = refl
@@ -79,18 +78,18 @@ quiet_under_lag :
 unfolding quiet_row
 quiet_under_lag = refl
 
--- The slots whose notices make a node ask, from slot 7 back to the opening and beyond: slot 4, which nodes 1 and 2 got, and slot 2, which node
--- 3 got. In slot 5 all have enough copies. Node 0 asked at slot 1, but is stopped.
+-- The slots whose notices make a node ask, from the newest back to the opening and beyond: slot 4, which nodes 1 and 2 got, slot 2, which node
+-- 3 got, and slot 1, at which node 0 asked, which is stopped. In slot 5 all have enough copies.
 asking_under_lag :
     asking late_reader 8 (steps (codes ".012.0123.123.123.123.123"))
-    ≡ false ∷ true ∷ false ∷ true ∷ false ∷ false ∷ false ∷ false ∷ []
+    ≡ false ∷ true ∷ false ∷ true ∷ true ∷ false ∷ false ∷ false ∷ []
 unfolding quiet_row
 asking_under_lag = refl
 
--- so long as it runs it counts, whether it has read the notice or not
+-- it counts in each of these states: before it has read the notice, after, and once it has stopped in slot 2
 asking_of_the_origin :
     map (λ journal. asking late_reader 3 (steps journal)) (codes ".012." ∷ codes ".012.0123" ∷ codes ".012.0123." ∷ [])
-    ≡ (true ∷ false ∷ false ∷ []) ∷ (true ∷ false ∷ false ∷ []) ∷ (true ∷ false ∷ false ∷ []) ∷ []
+    ≡ (true ∷ false ∷ false ∷ []) ∷ (true ∷ false ∷ false ∷ []) ∷ (true ∷ true ∷ false ∷ []) ∷ []
 unfolding quiet_row
 asking_of_the_origin = refl
 

@@ -54,14 +54,14 @@ module _ (scenario : ScenarioParts) (i slot : ℕ) (vector : Nodes) (v : ViewsPa
     | inr outside ↦ rw outside (withdrawn_are scenario.params.format class.Leave scenario.params i scenario.leaves)
   ]
 
-  module _ (knowledge : Knowledge) (h : IsViewsOf scenario i knowledge v) (cycle : ℕ) (at : cycle ≡ cycle_of v.params slot) where
-    is_told : installed_actions slot cycle vector v ≡ installed_actions slot (cycle_of scenario.params slot) vector as_told
+  module _ (knowledge : Knowledge) (h : IsViewsOf scenario i knowledge v) where
+    is_told : installed_actions slot (cycle_of v.params slot) vector v ≡ installed_actions slot (cycle_of scenario.params slot) vector as_told
     is_told =
-        let number : cycle ≡ cycle_of scenario.params slot = at ∙ ap (λ (p : Parameters). cycle_of p slot) h.params in
-        λ k. installed_actions slot (number k) vector
+        λ k. installed_actions slot (cycle_of (h.params k) slot) vector
         (record v { node = h.node k; params = h.params k; joins = h.joins k; leaves = h.leaves k })
 
-    pub view_acts : (start end : List Action) → end ≡ start ++ installed_actions slot cycle vector (installed vector v)
+    pub view_acts : (start end : List Action)
+        → end ≡ start ++ installed_actions slot (cycle_of v.params slot) vector (installed vector v)
         → end ≡ start
         ++ actions_of scenario.params.format (view_effects scenario.params scenario.joins scenario.leaves i slot (Some vector))
     view_acts start end acts = acts ∙ ap (λ actions. start ++ actions) (is_told ∙ told_acts)

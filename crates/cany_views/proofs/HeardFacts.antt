@@ -15,7 +15,7 @@ use Rattle.cany_model.specs.Rules.Views.{after_ask, with_joiner, with_leaver}
 use Rattle.cany_model.proofs.Bus.Identities.{same_class-true}
 use Rattle.cany_views.specs.Views.{IsViewsOf, ViewsParts}
 use Rattle.cany_views.specs.ViewsSteps.{heard_join, heard_leave}
-use Rattle.cany_views.proofs.SetFacts.{below_with}
+use Rattle.cany_base.proofs.SetFacts.{below_with}
 use Rattle.cany_views.proofs.ViewFacts.{stands_with}
 
 -- who asks by a frame of the class is a node of the bus, if such a frame names one

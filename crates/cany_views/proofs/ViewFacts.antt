@@ -1,5 +1,5 @@
 -- What a value of views stands for with other sets: before anything is heard, outside, and with a vector that becomes the view.
-use Rattle.std.proofs.Common.{◌≡◌, ℕ, ◌<◌, refl, ap, sym, ◌∙◌}
+use Rattle.std.proofs.Common.{◌≡◌, ℕ, ◌<◌, refl, ap, sym, ◌∙◌, arith}
 use Rattle.std.proofs.lemmas.Bool.{false≢true}
 use Rattle.cany_base.specs.Nodes.{AllBelow, Nodes, nobody, meet, minus}
 use Rattle.cany_base.specs.Scenario.{ScenarioParts, IsLegalScenario}
@@ -9,7 +9,7 @@ use Rattle.cany_model.specs.Rules.Views.{with_view}
 use Rattle.cany_views.specs.Views.{HasNodesOfBus, IsInBounds, IsViewsOf, ViewsParts, asked_cycles}
 use Rattle.cany_views.specs.ViewsSteps.{installed}
 use Rattle.cany_views.proofs.AskFacts.{asked_small, cycle_small}
-use Rattle.cany_views.proofs.SetFacts.{below_meet, below_minus}
+use Rattle.cany_base.proofs.SetFacts.{below_meet, below_minus}
 
 -- ---- with other sets
 
@@ -20,7 +20,7 @@ with_sets members joiners leavers v = record v { members = members; joiners = jo
 pub bounds_with : (v : ViewsParts) (members joiners leavers : Nodes) → IsInBounds v
     → HasNodesOfBus (with_sets members joiners leavers v) → IsInBounds (with_sets members joiners leavers v)
 bounds_with v members joiners leavers h below =
-    record { node = h.node; below = below; cycles = h.cycles; joins = h.joins; leaves = h.leaves }
+    record { node = h.node; below = below; length = h.length; cycles = h.cycles; joins = h.joins; leaves = h.leaves }
 
 -- and stands for a knowledge that has these sets
 pub stands_with : (scenario : ScenarioParts) (i : ℕ) (knowledge after : Knowledge) (v : ViewsParts) (members joiners leavers : Nodes)
@@ -92,6 +92,7 @@ pub first_bounds : (scenario : ScenarioParts) (i : ℕ) → IsLegalScenario scen
 first_bounds scenario i legal near = record {
   node = near;
   below = (first_stands scenario i legal).below;
+  length = omega (arith, legal.in_range.cycle.0);
   cycles = cycle_small scenario legal;
   joins = asked_small scenario legal i scenario.joins legal.joins;
   leaves = asked_small scenario legal i scenario.leaves legal.leaves;

@@ -31,10 +31,12 @@ pub record HasNodesOfBus (v : ViewsParts) : Type 0 where
 abbrev pub AreNumbers : List ℕ → Type 0
 AreNumbers cycles = All (λ cycle. cycle < most_numbers) cycles
 
--- What is true of every value: its nodes are those of the bus, and frames can have the numbers of the cycles of the run and of its asks.
+-- What is true of every value: its nodes are those of the bus, a cycle has slots, and frames can have the numbers of the cycles of the run
+-- and of its asks.
 pub record IsInBounds (v : ViewsParts) : Type 0 where
   pub node : v.node < v.params.nodes
   pub below : HasNodesOfBus v
+  pub length : 0 < v.params.cycle
   pub cycles : (slot : ℕ) → slot < v.params.slots → cycle_of v.params slot < most_numbers
   pub joins : AreNumbers v.joins
   pub leaves : AreNumbers v.leaves

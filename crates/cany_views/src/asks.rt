@@ -9,6 +9,7 @@ ghost use Rattle.cany_model.specs.Rules.Views.{ask_frame};
 ghost use Rattle.cany_views.specs.Views.{asked_cycles};
 ghost use Rattle.cany_views.specs.ViewsSteps.{withdrawals};
 
+use cany_base::cycle::cycle_of;
 use cany_base::{
     Actions, BoundedVec, Class, Format, Frame, Memory, NodeAsk, NodeId, Params, Payload,
 };
@@ -43,7 +44,7 @@ fn push_asked(params: &Params, node: NodeId, ask: &NodeAsk, cycles: &mut Bounded
     ensures room { cycles.new.room ≡ cycles.old.room }
 {
     if ask.node.get() == node.get() {
-        cycles.push((ask.slot / params.cycle) as u16);
+        cycles.push(cycle_of(params, ask.slot));
     }
 }
 

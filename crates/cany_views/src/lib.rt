@@ -2,7 +2,6 @@
 #![tactic(auto)]
 
 mod asks;
-mod sets;
 #[cfg(test)]
 mod tests;
 mod threads;

@@ -152,10 +152,16 @@ fn become_view(
 }
 
 /// What a node asks for in a slot in which its script asks to join and to leave.
-fn asked(alloc: Global, views: &Views, scenario: &Scenario, slot: Slot) -> Result<Actions, Memory>
+fn asked(
+    alloc: Global,
+    views: &mut Views,
+    scenario: &Scenario,
+    slot: Slot,
+) -> Result<Actions, Memory>
     requires site { IsSmallSite scenario.now }
-    requires stands { StandsIn scenario.now views.now }
+    requires stands { StandsIn scenario.now views.old }
     requires slot { slot < 200 }
+    ensures { OnOk result (StandsIn scenario.now views.new) }
 {
     // Named for the contract alone: the slot is one of a run of the scenario.
     let _scenario = scenario;
@@ -197,150 +203,114 @@ fn without(node: NodeId) -> NodeSet
     others
 }
 
-#[test]
-fn a_node_outside_that_asks_to_join_is_offered(rt: HostRuntime) -> Result<(), Fail> {
-    let node = NodeId::new(1).ok_or("a node")?;
-    let other = NodeId::new(2).ok_or("a node")?;
-    let scenario = scenario_of(rt.alloc(), between(0, 2), node, other)?;
-    let mut views = begun(rt.alloc(), &scenario, node)?;
-    assert_eq!(rt;
-        start(&views, &scenario, between(0, 0)),
-        Some(between(0, 2))
-    );
-    got_join(&mut views, &scenario, other);
-    assert_eq!(rt;
-        start(&views, &scenario, between(0, 0)),
-        Some(between(0, 3))
-    );
-    assert_eq!(rt; views.members().bits(), 3);
-    Ok(())
+/// What a node starts a cycle with, where nobody has failed.
+fn offered(views: &Views, scenario: &Scenario) -> Option<NodeSet>
+    requires site { IsSmallSite scenario.now }
+    requires stands { StandsIn scenario.now views.now }
+{
+    start(views, scenario, between(0, 0))
 }
 
 #[test]
-fn a_member_that_asks_to_join_is_not_heard(rt: HostRuntime) -> Result<(), Fail> {
-    let node = NodeId::new(1).ok_or("a node")?;
+fn who_asks_to_join_is_offered_until_it_is_in_the_view(rt: HostRuntime) -> Result<(), Fail> {
     let least = NodeId::new(0).ok_or("a node")?;
-    let scenario = scenario_of(rt.alloc(), between(0, 2), node, least)?;
-    let mut views = begun(rt.alloc(), &scenario, node)?;
-    got_join(&mut views, &scenario, least);
-    // A node that is no longer in the view would still be offered, had it been heard.
-    become_view(rt.alloc(), &mut views, &scenario, between(1, 2))?;
-    assert_eq!(rt;
-        start(&views, &scenario, between(0, 0)),
-        Some(between(1, 2))
-    );
-    Ok(())
-}
-
-#[test]
-fn a_member_that_leaves_or_has_failed_is_not_offered(rt: HostRuntime) -> Result<(), Fail> {
-    let node = NodeId::new(1).ok_or("a node")?;
-    let other = NodeId::new(2).ok_or("a node")?;
-    let scenario = scenario_of(rt.alloc(), between(0, 3), node, other)?;
-    let mut views = begun(rt.alloc(), &scenario, node)?;
-    assert_eq!(rt;
-        start(&views, &scenario, between(0, 1)),
-        Some(between(1, 3))
-    );
-    got_leave(&mut views, &scenario, other);
-    assert_eq!(rt;
-        start(&views, &scenario, between(0, 0)),
-        Some(between(0, 2))
-    );
-    assert_eq!(rt;
-        start(&views, &scenario, between(0, 1)),
-        Some(between(1, 2))
-    );
-    Ok(())
-}
-
-#[test]
-fn a_leave_counts_also_where_it_is_the_own_one(rt: HostRuntime) -> Result<(), Fail> {
-    let node = NodeId::new(1).ok_or("a node")?;
-    let other = NodeId::new(2).ok_or("a node")?;
-    let scenario = scenario_of(rt.alloc(), between(0, 3), node, other)?;
-    let mut views = begun(rt.alloc(), &scenario, node)?;
-    sent_leave(&mut views, &scenario, node);
-    assert_eq!(rt;
-        start(&views, &scenario, between(0, 0)),
-        Some(without(node))
-    );
-    Ok(())
-}
-
-#[test]
-fn a_node_outside_that_asks_to_leave_is_not_heard(rt: HostRuntime) -> Result<(), Fail> {
     let node = NodeId::new(1).ok_or("a node")?;
     let other = NodeId::new(2).ok_or("a node")?;
     let scenario = scenario_of(rt.alloc(), between(0, 2), node, other)?;
     let mut views = begun(rt.alloc(), &scenario, node)?;
-    got_leave(&mut views, &scenario, other);
-    // A node that comes into the view would not be offered, had it been heard.
-    become_view(rt.alloc(), &mut views, &scenario, between(0, 3))?;
-    assert_eq!(rt;
-        start(&views, &scenario, between(0, 0)),
-        Some(between(0, 3))
-    );
-    Ok(())
-}
-
-#[test]
-fn who_is_in_the_view_asks_no_longer_to_join(rt: HostRuntime) -> Result<(), Fail> {
-    let node = NodeId::new(1).ok_or("a node")?;
-    let other = NodeId::new(2).ok_or("a node")?;
-    let scenario = scenario_of(rt.alloc(), between(0, 2), node, other)?;
-    let mut views = begun(rt.alloc(), &scenario, node)?;
+    let before = offered(&views, &scenario);
     got_join(&mut views, &scenario, other);
+    let joining = offered(&views, &scenario);
+    let members = views.members();
     become_view(rt.alloc(), &mut views, &scenario, between(0, 2))?;
-    assert_eq!(rt;
-        start(&views, &scenario, between(0, 0)),
-        Some(between(0, 3))
-    );
+    let still_joining = offered(&views, &scenario);
     become_view(rt.alloc(), &mut views, &scenario, between(0, 3))?;
     become_view(rt.alloc(), &mut views, &scenario, between(0, 2))?;
+    let forgotten = offered(&views, &scenario);
+    // A member that asks is not heard: it would still be offered once it is no longer in the view.
+    let mut deaf = begun(rt.alloc(), &scenario, node)?;
+    got_join(&mut deaf, &scenario, least);
+    become_view(rt.alloc(), &mut deaf, &scenario, between(1, 2))?;
     assert_eq!(rt;
-        start(&views, &scenario, between(0, 0)),
-        Some(between(0, 2))
+        [
+            before,
+            joining,
+            Some(members),
+            still_joining,
+            forgotten,
+            offered(&deaf, &scenario),
+        ],
+        [
+            Some(between(0, 2)),
+            Some(between(0, 3)),
+            Some(between(0, 2)),
+            Some(between(0, 3)),
+            Some(between(0, 2)),
+            Some(between(1, 2)),
+        ]
     );
     Ok(())
 }
 
 #[test]
-fn who_is_not_in_the_view_asks_no_longer_to_leave(rt: HostRuntime) -> Result<(), Fail> {
+fn who_leaves_or_has_failed_is_not_offered(rt: HostRuntime) -> Result<(), Fail> {
     let node = NodeId::new(1).ok_or("a node")?;
     let other = NodeId::new(2).ok_or("a node")?;
     let scenario = scenario_of(rt.alloc(), between(0, 3), node, other)?;
     let mut views = begun(rt.alloc(), &scenario, node)?;
+    let failed = start(&views, &scenario, between(0, 1));
     got_leave(&mut views, &scenario, other);
+    let leaving = offered(&views, &scenario);
+    let both = start(&views, &scenario, between(0, 1));
     become_view(rt.alloc(), &mut views, &scenario, between(0, 3))?;
-    assert_eq!(rt;
-        start(&views, &scenario, between(0, 0)),
-        Some(between(0, 2))
-    );
+    let still_leaving = offered(&views, &scenario);
     become_view(rt.alloc(), &mut views, &scenario, between(0, 2))?;
     become_view(rt.alloc(), &mut views, &scenario, between(0, 3))?;
+    let forgotten = offered(&views, &scenario);
+    let mut own = begun(rt.alloc(), &scenario, node)?;
+    sent_leave(&mut own, &scenario, node);
+    // A node outside that asks is not heard: it would not be offered once it is in the view.
+    let mut deaf = begun(rt.alloc(), &scenario, node)?;
+    become_view(rt.alloc(), &mut deaf, &scenario, between(0, 2))?;
+    got_leave(&mut deaf, &scenario, other);
+    become_view(rt.alloc(), &mut deaf, &scenario, between(0, 3))?;
     assert_eq!(rt;
-        start(&views, &scenario, between(0, 0)),
-        Some(between(0, 3))
+        [
+            failed,
+            leaving,
+            both,
+            still_leaving,
+            forgotten,
+            offered(&own, &scenario),
+            offered(&deaf, &scenario),
+        ],
+        [
+            Some(between(1, 3)),
+            Some(between(0, 2)),
+            Some(between(1, 2)),
+            Some(between(0, 2)),
+            Some(between(0, 3)),
+            Some(without(node)),
+            Some(between(0, 3)),
+        ]
     );
     Ok(())
 }
 
 #[test]
-fn a_node_of_the_view_enters_it_and_withdraws_its_asks_to_join(
-    rt: HostRuntime,
-) -> Result<(), Fail> {
+fn a_view_is_entered_and_asks_are_withdrawn(rt: HostRuntime) -> Result<(), Fail> {
     let node = NodeId::new(1).ok_or("a node")?;
     let other = NodeId::new(2).ok_or("a node")?;
     let scenario = scenario_of(rt.alloc(), between(0, 2), node, other)?;
-    let mut views = begun(rt.alloc(), &scenario, node)?;
-    let mut out = Actions::build(rt.alloc(), 7)?;
-    let newly = install(&mut views, &scenario, between(1, 3), &mut out);
-    assert_eq!(rt; newly, between(2, 3));
-    assert_eq!(rt; views.members(), between(1, 3));
-    // Class 4 at bit 25, the numbers 1 and 2 at bit 9, node 1 at bit 4.
+    let mut inside = begun(rt.alloc(), &scenario, node)?;
+    let mut entered = Actions::build(rt.alloc(), 7)?;
+    let newly = install(&mut inside, &scenario, between(1, 3), &mut entered);
+    let mut outside = begun(rt.alloc(), &scenario, node)?;
+    let mut left = Actions::build(rt.alloc(), 7)?;
+    let nobody = install(&mut outside, &scenario, between(0, 1), &mut left);
+    // The classes 4 and 5 at bit 25, the numbers 1 and 2 at bit 9, node 1 at bit 4.
     assert_eq!(rt;
-        out.as_slice(),
+        entered.as_slice(),
         [
             Action::Enter(LogEntry::View {
                 slot: 108,
@@ -352,28 +322,28 @@ fn a_node_of_the_view_enters_it_and_withdraws_its_asks_to_join(
         ]
         .as_slice()
     );
-    Ok(())
-}
-
-#[test]
-fn a_node_outside_the_view_withdraws_its_asks_to_leave(rt: HostRuntime) -> Result<(), Fail> {
-    let node = NodeId::new(1).ok_or("a node")?;
-    let other = NodeId::new(2).ok_or("a node")?;
-    let scenario = scenario_of(rt.alloc(), between(0, 3), node, other)?;
-    let mut views = begun(rt.alloc(), &scenario, node)?;
-    let mut out = Actions::build(rt.alloc(), 7)?;
-    let newly = install(&mut views, &scenario, without(node), &mut out);
-    assert_eq!(rt; newly, between(0, 0));
-    // Class 5 at bit 25, the numbers 1 and 2 at bit 9, node 1 at bit 4.
     assert_eq!(rt;
-        out.as_slice(),
+        left.as_slice(),
         [
             Action::Withdraw { ident: 167_772_688 },
             Action::Withdraw { ident: 167_773_200 },
         ]
         .as_slice()
     );
-    assert_eq!(rt; start(&views, &scenario, between(0, 0)), None);
+    assert_eq!(rt;
+        [
+            Some(newly),
+            Some(inside.members()),
+            Some(nobody),
+            offered(&outside, &scenario),
+        ],
+        [
+            Some(between(2, 3)),
+            Some(between(1, 3)),
+            Some(between(0, 0)),
+            None,
+        ]
+    );
     Ok(())
 }
 
@@ -383,18 +353,27 @@ fn a_node_outside_asks_to_join_and_a_member_to_leave(rt: HostRuntime) -> Result<
     let other = NodeId::new(2).ok_or("a node")?;
     let scenario = scenario_of(rt.alloc(), between(0, 2), node, other)?;
     let mut views = begun(rt.alloc(), &scenario, node)?;
-    let member = asked(rt.alloc(), &views, &scenario, 80)?;
-    assert_eq!(rt;
-        member.as_slice(),
-        [Action::Ask(leave_frame(node))].as_slice()
-    );
+    let member = asked(rt.alloc(), &mut views, &scenario, 80)?;
     // One that starts again is outside.
     begin_outside(&mut views, &scenario);
-    assert_eq!(rt; views.members(), between(0, 0));
-    let outside = asked(rt.alloc(), &views, &scenario, 80)?;
+    let outside = asked(rt.alloc(), &mut views, &scenario, 80)?;
     assert_eq!(rt;
-        outside.as_slice(),
-        [Action::Ask(join_frame(node))].as_slice()
+        (
+            views.members(),
+            [member.len(), outside.len()],
+            [
+                member.as_slice().first().copied(),
+                outside.as_slice().first().copied(),
+            ],
+        ),
+        (
+            between(0, 0),
+            [1, 1],
+            [
+                Some(Action::Ask(leave_frame(node))),
+                Some(Action::Ask(join_frame(node))),
+            ],
+        )
     );
     Ok(())
 }

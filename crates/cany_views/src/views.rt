@@ -1,5 +1,6 @@
 ghost use Rattle.std.specs.Prelude.{◌≡◌, ℕ, ◌+◌, ◌<◌, ◌≤◌, ◌++◌, length, Some, IfOk, IfSome};
 ghost use Rattle.cany_base.specs.declared.class.Class.TheVariants as class;
+ghost use Rattle.cany_base.specs.declared.log_entry.LogEntry.TheVariants.{View};
 ghost use Rattle.cany_base.specs.Nodes.{AllBelow, has, nobody, minus, plus};
 ghost use Rattle.cany_base.specs.Scenario.{ScenarioParts};
 ghost use Rattle.cany_model.specs.Rules.Actions.{actions_of};
@@ -11,7 +12,7 @@ ghost use Rattle.cany_views.specs.Views.{CanHear, IsViewsOf};
 ghost use Rattle.cany_views.specs.ViewsSteps.{heard_join, heard_leave, installed, installed_actions, withdrawals};
 
 use crate::asks::{ask_frame, asked_cycles, withdraw_asks};
-use crate::sets::{meet, minus, nobody, plus, with_node};
+use cany_base::cycle::cycle_of;
 use cany_base::{
     Action, Actions, BoundedVec, Class, Frame, LogEntry, Memory, NodeId, NodeSet, Notice,
     NoticeKind, Params, Scenario, Slot,
@@ -66,8 +67,8 @@ impl Views {
             node,
             params,
             members: scenario.members(),
-            joiners: nobody(),
-            leavers: nobody(),
+            joiners: NodeSet::empty(),
+            leavers: NodeSet::empty(),
             joins,
             leaves,
         })
@@ -82,9 +83,9 @@ impl Views {
         ensures joins { self.new.joins ≡ self.old.joins }
         ensures leaves { self.new.leaves ≡ self.old.leaves }
     {
-        self.members = nobody();
-        self.joiners = nobody();
-        self.leavers = nobody();
+        self.members = NodeSet::empty();
+        self.joiners = NodeSet::empty();
+        self.leavers = NodeSet::empty();
     }
 
     /// Who asks in a notice to join the view or to leave it. A join counts where it is got, a leave also where it is the node's own.
@@ -142,10 +143,10 @@ impl Views {
     /// The vector of a cycle that ends becomes the view. The nodes that are newly admitted, which were not in the view before.
     ///
     /// A node of the new view enters it in its log and withdraws its asks to join. One that is not in it withdraws its asks to leave.
-    /// At most one action is appended, and one for each scripted ask of the node.
+    /// At most one action is appended, and one for each scripted ask of the node. The number of the view is that of the cycle of the slot.
     pub fn install(&mut self, ended: Ended, now: Slot, out: &mut Actions) -> NodeSet
         requires vector { AllBelow self.old.params.nodes ended.vector }
-        requires cycle { ended.cycle ≡ cycle_of self.old.params now }
+        requires now { now < self.old.params.slots }
         requires room { length out.old.items + 1 + length self.old.joins + length self.old.leaves ≤ out.old.room }
         ensures newly { result ≡ minus ended.vector self.old.members }
         ensures below { AllBelow self.old.params.nodes result }
@@ -161,25 +162,26 @@ impl Views {
         ensures few { length out.new.items ≤ length out.old.items + 1 + length self.old.joins + length self.old.leaves }
         ensures room { out.new.room ≡ out.old.room }
     {
-        let newly = minus(ended.vector, self.members);
+        let newly = ended.vector.minus(self.members);
         self.become_view(ended.vector);
-        self.act_on_view(&ended, now, out);
+        self.act_on_view(ended.vector, now, out);
         newly
     }
 
     /// In the turn of a slot in which the node's script asks to join: a node that is no member asks.
     ///
     /// At most one action is appended. The frame tells no incarnation: its node does that.
-    pub fn ask_join(&self, now: Slot, out: &mut Actions)
-        requires now { now < self.now.params.slots }
+    pub fn ask_join(&mut self, now: Slot, out: &mut Actions)
+        requires now { now < self.old.params.slots }
         requires room { length out.old.items < out.old.room }
         ensures actions { out.new.items ≡ out.old.items
-            ++ actions_of self.now.params.format (join_asked self.now.params 0 self.now.node now self.now.members) }
+            ++ actions_of self.old.params.format (join_asked self.old.params 0 self.old.node now self.old.members) }
+        ensures kept { self.new ≡ self.old }
         ensures few { length out.new.items ≤ length out.old.items + 1 }
         ensures room { out.new.room ≡ out.old.room }
     {
         if !self.members.has(self.node) {
-            let cycle = self.cycle_of(now);
+            let cycle = cycle_of(&self.params, now);
             out.push(Action::Ask(ask_frame(Class::Join, cycle, self.node)));
         }
     }
@@ -187,16 +189,17 @@ impl Views {
     /// In the turn of a slot in which the node's script asks to leave: a member asks.
     ///
     /// At most one action is appended. The frame tells no incarnation: its node does that.
-    pub fn ask_leave(&self, now: Slot, out: &mut Actions)
-        requires now { now < self.now.params.slots }
+    pub fn ask_leave(&mut self, now: Slot, out: &mut Actions)
+        requires now { now < self.old.params.slots }
         requires room { length out.old.items < out.old.room }
         ensures actions { out.new.items ≡ out.old.items
-            ++ actions_of self.now.params.format (leave_asked self.now.params 0 self.now.node now self.now.members) }
+            ++ actions_of self.old.params.format (leave_asked self.old.params 0 self.old.node now self.old.members) }
+        ensures kept { self.new ≡ self.old }
         ensures few { length out.new.items ≤ length out.old.items + 1 }
         ensures room { out.new.room ≡ out.old.room }
     {
         if self.members.has(self.node) {
-            let cycle = self.cycle_of(now);
+            let cycle = cycle_of(&self.params, now);
             out.push(Action::Ask(ask_frame(Class::Leave, cycle, self.node)));
         }
     }
@@ -206,8 +209,8 @@ impl Views {
         ensures nodes { result ≡ plus (minus (minus self.now.members failed) self.now.leavers) self.now.joiners }
         ensures below { AllBelow self.now.params.nodes result }
     {
-        let stay = minus(minus(self.members, failed), self.leavers);
-        plus(stay, self.joiners)
+        let stay = self.members.minus(failed).minus(self.leavers);
+        stay.plus(self.joiners)
     }
 
     /// The node that the frame names asks to join the view, if it is outside.
@@ -216,7 +219,7 @@ impl Views {
         ensures { self.new ≡ heard_join frame.now.node self.old }
     {
         if !self.members.has(frame.node) {
-            self.joiners = with_node(self.joiners, frame.node);
+            self.joiners.insert(frame.node);
         }
     }
 
@@ -226,7 +229,7 @@ impl Views {
         ensures { self.new ≡ heard_leave frame.now.node self.old }
     {
         if self.members.has(frame.node) {
-            self.leavers = with_node(self.leavers, frame.node);
+            self.leavers.insert(frame.node);
         }
     }
 
@@ -236,26 +239,35 @@ impl Views {
         ensures { self.new ≡ installed vector self.old }
     {
         self.members = vector;
-        self.joiners = minus(self.joiners, vector);
-        self.leavers = meet(self.leavers, vector);
+        self.joiners = self.joiners.minus(vector);
+        self.leavers = self.leavers.meet(vector);
     }
 
     /// A node of the view enters it and withdraws its asks to join, another node withdraws its asks to leave.
-    fn act_on_view(&self, ended: &Ended, now: Slot, out: &mut Actions)
+    fn act_on_view(&self, vector: NodeSet, now: Slot, out: &mut Actions)
+        requires now { now < self.now.params.slots }
         requires room { length out.old.items + 1 + length self.now.joins + length self.now.leaves ≤ out.old.room }
-        ensures actions { out.new.items ≡ out.old.items ++ installed_actions now ended.now.cycle ended.now.vector self.now }
+        ensures actions { out.new.items ≡ out.old.items ++ installed_actions now (cycle_of self.now.params now) vector self.now }
         ensures few { length out.new.items ≤ length out.old.items + 1 + length self.now.joins + length self.now.leaves }
         ensures room { out.new.room ≡ out.old.room }
     {
-        if ended.vector.has(self.node) {
-            out.push(Action::Enter(LogEntry::View {
-                slot: now,
-                number: ended.cycle,
-                members: ended.vector,
-            }));
+        if vector.has(self.node) {
+            out.push(Action::Enter(self.entry(vector, now)));
             self.withdraw_joins(out);
         } else {
             self.withdraw_leaves(out);
+        }
+    }
+
+    /// What a node of the view enters. The view has the number of the cycle of the slot.
+    fn entry(&self, vector: NodeSet, now: Slot) -> LogEntry
+        requires { now < self.now.params.slots }
+        ensures { result ≡ View now (cycle_of self.now.params now) vector }
+    {
+        LogEntry::View {
+            slot: now,
+            number: cycle_of(&self.params, now),
+            members: vector,
         }
     }
 
@@ -289,13 +301,5 @@ impl Views {
             self.leaves.as_slice(),
             out,
         );
-    }
-
-    /// The number of the cycle of a slot.
-    fn cycle_of(&self, slot: Slot) -> u16
-        requires { slot < self.now.params.slots }
-        ensures { result ≡ cycle_of self.now.params slot }
-    {
-        (slot / self.params.cycle) as u16
     }
 }

@@ -14,7 +14,7 @@ use Rattle.cany_base.specs.Frame.{FrameParts}
 use Rattle.cany_base.specs.Scenario.{ScenarioParts}
 use Rattle.cany_model.specs.Bus.Frames.{Identity, identity_of, is_of, same_class}
 use Rattle.cany_model.specs.Rules.Messages.{IsOfMessage, Message, is_service, message_of, messages_after, messages_of}
-use Rattle.cany_model.specs.Rules.Rooms.{IsAskable, IsAskableAs, IsOfAsk, IsOfNode, IsOfVector, class_room, cycles, sends_by, waiting_room}
+use Rattle.cany_model.specs.Rules.Rooms.{IsAskable, IsAskableAs, IsOfAsk, IsOfNode, IsOfVector, cycles, sends_by, waiting_room}
 use Rattle.cany_model.specs.Rules.Knowledge.{FailureSign, fda_of, sign_of}
 use Rattle.cany_model.specs.Rules.Vectors.{rha_of}
 use Rattle.cany_base.specs.Cycles.{cycle_of}
@@ -22,6 +22,23 @@ use Rattle.cany_model.specs.Rules.Views.{ask_of}
 use Rattle.cany_model.proofs.Among.{Among, Among-append_left, Among-append_right, Among-from_Contains, Among-weaker, Each-weaker, count-cons, count-from_Among, count-no, count-yes, one_if}
 use Rattle.cany_model.proofs.Bus.Identities.{same_class-true, same_identity-from}
 use Rattle.cany_model.proofs.Rules.MessageKeys.{is_service-from}
+
+-- ---- the rooms of the classes
+
+-- How many frames of a class may wait at a node: one of each message of the service; of each cycle from 0 on the node's own
+-- vector, and the failure sign of each node; of life signs two before a turn, which may ask for one more; and one of each
+-- scripted ask to join and to leave.
+abbrev pub class_room : ScenarioParts → Class → ℕ
+class_room scenario Accept = sends_by scenario service.Tot
+class_room scenario Rha = cycles scenario + 1
+class_room scenario Els = 3
+class_room scenario Fda = scenario.params.nodes * (cycles scenario + 1)
+class_room scenario Join = length scenario.joins
+class_room scenario Leave = length scenario.leaves
+class_room scenario Confirm = sends_by scenario service.Rel
+class_room scenario Tot = sends_by scenario service.Tot
+class_room scenario Rel = sends_by scenario service.Rel
+class_room scenario Ed = sends_by scenario service.Ed
 
 -- ---- counting
 

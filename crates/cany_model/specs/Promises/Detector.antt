@@ -1,19 +1,24 @@
 -- What users of the failure detector and of the membership are promised: is a running node ever thrown out, is a stopped one removed, is
 -- one that asks to join admitted.
-use Rattle.std.specs.Prelude.{◌≡◌, ℕ, ◌+◌, ◌-◌, ◌*◌, ◌<◌, ◌≤◌, ◌≢◌, ◌⊎◌, true, false, Some, Contains, All}
+use Rattle.std.specs.Prelude.{◌≡◌, ℕ, ◌+◌, ◌-◌, ◌*◌, ◌<◌, ◌≤◌, ◌⊎◌, ◌||◌, Bool, true, false, List, [], ◌∷◌, Some, Contains}
+use Rattle.std.specs.List.{list_any}
 use Rattle.cany_base.specs.declared.class.Class.TheVariants as class
 use Rattle.cany_base.specs.declared.log_entry.LogEntry.TheVariants.{View}
+use Rattle.cany_base.specs.declared.notice.NoticeKind.{NoticeKind}
 use Rattle.cany_base.specs.declared.rule.Verdict.TheVariants.{Clean}
 use Rattle.cany_base.specs.declared.slot_note.SlotNote.{SlotNote}
 use Rattle.cany_base.specs.Frame.{FrameParts}
 use Rattle.cany_base.specs.Nodes.{Nodes, has}
 use Rattle.cany_base.specs.Scenario.{ScenarioParts}
+use Rattle.cany_model.specs.Bus.Frames.{same_class}
 use Rattle.cany_model.specs.Bus.History.{history, history_but}
 use Rattle.cany_model.specs.Bus.State.{RunState, node_at, slots_run}
 use Rattle.cany_model.specs.Promises.OneView.{installed}
 use Rattle.cany_model.specs.Promises.Settled.{IsCorrect}
+use Rattle.cany_model.specs.Rules.Effect.{Effect, Ask, Withdraw, Enter}
 use Rattle.cany_model.specs.Rules.Log.{log}
 use Rattle.cany_model.specs.Rules.KnowledgeOf.{knowledge_of}
+use Rattle.cany_model.specs.Rules.Membership.{ask_effects}
 use Rattle.cany_model.specs.Rules.Turn.{scenario_at}
 
 -- the view that node i has, or will have, before its turn of slot t
@@ -31,9 +36,21 @@ pub record StandsAfter (scenario : ScenarioParts) (s : RunState) (r t : ℕ) : T
 abbrev pub HasNotFailed : ScenarioParts → RunState → ℕ → Type 0
 HasNotFailed scenario s r = (i : ℕ) → IsCorrect scenario s i → has (knowledge_of (scenario_at scenario s i) i (history i s)).failed r ≡ false
 
--- it has no scripted leave
-abbrev pub AsksNoLeave : ScenarioParts → ℕ → Type 0
-AsksNoLeave scenario r = All (λ ask. ask.node ≢ r) scenario.leaves
+-- whether an effect asks to leave the view
+abbrev pub asks_leave : Effect → Bool
+asks_leave (Ask f) = same_class f.class class.Leave
+asks_leave (Withdraw x) = false
+asks_leave (Enter entry) = false
+
+-- whether node i asked to leave in one of its turns so far, as a member does by a scripted leave of the slot
+unfoldable pub has_asked_leave : ScenarioParts → ℕ → List NoticeKind → Bool
+has_asked_leave scenario i [] = false
+has_asked_leave scenario i (notice ∷ before) =
+    list_any asks_leave (ask_effects scenario i (notice ∷ before)) || has_asked_leave scenario i before
+
+-- it has asked for no leave in the run
+abbrev pub AsksNoLeave : ScenarioParts → RunState → ℕ → Type 0
+AsksNoLeave scenario s r = has_asked_leave (scenario_at scenario s r) r (history r s) ≡ false
 
 -- it stands in each view that a correct node holds of a cycle that ends after slot t
 abbrev pub StaysInViews : ScenarioParts → RunState → (r t : ℕ) → Type 0
@@ -77,8 +94,8 @@ IsAdmitted scenario s r k =
 pub record KeepsMembers (scenario : ScenarioParts) (s : RunState) : Type 0 where
   -- a running node has failed at no correct node
   pub accuracy : (r : ℕ) → IsCorrect scenario s r → HasNotFailed scenario s r
-  -- one that stands in the views, and has no scripted leave, stays in them
-  pub staying : (r t : ℕ) → IsCorrect scenario s r → AsksNoLeave scenario r → StandsAfter scenario s r t → StaysInViews scenario s r t
+  -- one that stands in the views, and has asked for no leave, stays in them
+  pub staying : (r t : ℕ) → IsCorrect scenario s r → AsksNoLeave scenario s r → StandsAfter scenario s r t → StaysInViews scenario s r t
   -- one that stops while it stands in the views is removed from them
   pub removal : (r t : ℕ) → r < scenario.params.nodes → (node_at s.nodes r).stopped ≡ Some t → StandsAfter scenario s r t
       → IsRemoved scenario s r t

@@ -57,21 +57,6 @@ cycles scenario = scenario.params.slots / scenario.params.cycle
 abbrev pub sends_by : ScenarioParts → Service → ℕ
 sends_by scenario by = count_by (λ send. is_service by send.service) scenario.sends
 
--- How many frames of a class may wait at a node: one of each message of the service; of each cycle from 0 on the node's own
--- vector, and the failure sign of each node; of life signs two before a turn, which may ask for one more; and one of each
--- scripted ask to join and to leave.
-abbrev pub class_room : ScenarioParts → Class → ℕ
-class_room scenario Accept = sends_by scenario service.Tot
-class_room scenario Rha = cycles scenario + 1
-class_room scenario Els = 3
-class_room scenario Fda = scenario.params.nodes * (cycles scenario + 1)
-class_room scenario Join = length scenario.joins
-class_room scenario Leave = length scenario.leaves
-class_room scenario Confirm = sends_by scenario service.Rel
-class_room scenario Tot = sends_by scenario service.Tot
-class_room scenario Rel = sends_by scenario service.Rel
-class_room scenario Ed = sends_by scenario service.Ed
-
 -- the frames that may wait at a node: at least as many as the classes have together
 abbrev pub waiting_room : ScenarioParts → ℕ
 waiting_room scenario =

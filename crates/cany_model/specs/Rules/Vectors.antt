@@ -1,12 +1,12 @@
 -- Reception history vectors: in each membership cycle the nodes come to one set of nodes by exchanging it.
-use Rattle.std.specs.Prelude.{ℕ, ◌/◌, ◌%◌, ◌==◌, ◌&&◌, ◌||◌, ◌++◌, Bool, false, true, not, nat_lt, if◌then◌else◌, List, [], ◌∷◌, length, Option, Some, None, count_by, unwrap_or}
+use Rattle.std.specs.Prelude.{ℕ, ◌==◌, ◌&&◌, ◌||◌, ◌++◌, Bool, false, true, not, nat_lt, if◌then◌else◌, List, [], ◌∷◌, length, Option, Some, None, count_by, unwrap_or}
 use Rattle.std.specs.List.{list_any}
 use Rattle.cany_base.specs.declared.class.Class.TheVariants as class
 use Rattle.cany_base.specs.declared.format.Format.{Format}
 use Rattle.cany_base.specs.declared.notice.NoticeKind.{NoticeKind}
 use Rattle.cany_base.specs.declared.notice.NoticeKind.TheVariants.{Idle, Got, Sent, Bad}
 use Rattle.cany_base.specs.Frame.{FrameParts}
-use Rattle.cany_base.specs.Nodes.{Nodes, has, those_where, meet}
+use Rattle.cany_base.specs.Nodes.{Nodes, those_where, meet}
 use Rattle.cany_base.specs.Cycles.{cycle_of, is_end, is_exchange, is_start}
 use Rattle.cany_base.specs.Params.{Parameters}
 use Rattle.cany_base.specs.Payload.{vector_bytes, vector_of}

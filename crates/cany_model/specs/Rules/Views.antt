@@ -1,5 +1,5 @@
 -- Views of the site: who asks to join and to leave, what a member starts a cycle with, and how a vector becomes the view.
-use Rattle.std.specs.Prelude.{ℕ, ◌==◌, ◌&&◌, ◌||◌, not, if◌then◌else◌, List, [], ◌∷◌, filter, map, Option, Some, None}
+use Rattle.std.specs.Prelude.{ℕ, ◌==◌, if◌then◌else◌, List, [], ◌∷◌, filter, map, Option, Some, None}
 use Rattle.cany_base.specs.declared.class.Class.{Class}
 use Rattle.cany_base.specs.declared.class.Class.TheVariants as class
 use Rattle.cany_base.specs.declared.log_entry.LogEntry.TheVariants.{View}
@@ -7,7 +7,7 @@ use Rattle.cany_base.specs.declared.message.NodeAsk.{NodeAsk}
 use Rattle.cany_base.specs.declared.notice.NoticeKind.{NoticeKind}
 use Rattle.cany_base.specs.declared.notice.NoticeKind.TheVariants.{Idle, Got, Sent, Bad}
 use Rattle.cany_base.specs.Frame.{FrameParts}
-use Rattle.cany_base.specs.Nodes.{Nodes, has, those_where, meet, plus, minus, with_node}
+use Rattle.cany_base.specs.Nodes.{Nodes, has, meet, plus, minus, with_node}
 use Rattle.cany_base.specs.Params.{Parameters}
 use Rattle.cany_model.specs.Bus.Frames.{Identity, same_class}
 use Rattle.cany_model.specs.Rules.Effect.{Effect, Ask, Withdraw, Enter}
@@ -66,7 +66,8 @@ ask_frame class inc number i = record { class = class; number = number; node = i
 abbrev pub ask_of : Class → ℕ → ℕ → Identity
 ask_of class number i = record { class = class; number = number; node = i }
 
--- the frames of this class by which node i may have asked, whatever their number, wait no longer
+-- The frames of this class by which node i may have asked wait no longer, whatever their number: one withdrawal for each of its entries is the
+-- same, for nothing but an entry makes it ask for one.
 abbrev pub withdrawn_asks : Class → Parameters → ℕ → List NodeAsk → List Effect
 withdrawn_asks class p i asks =
     map (λ ask. Withdraw (ask_of class (cycle_of p ask.slot) i)) (filter (λ ask. ask.node == i) asks)

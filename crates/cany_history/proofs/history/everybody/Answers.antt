@@ -1,6 +1,6 @@
 use Rattle.std.proofs.Common.{ap}
 use Rattle.cany_base.specs.Params.{Parameters}
-use Rattle.cany_history.proofs.SetFacts.{all_nodes}
+use Rattle.cany_history.proofs.MetFacts.{all_nodes}
 use Rattle.cany_history.proofs.history.everybody.Goals as goal
 
 pub returns : goal.returns

@@ -8,6 +8,6 @@ use Rattle.cany_history.proofs.tests.begun.Goals as goal
 pub returns : goal.returns
 returns c = record {
   past = replicate c.args.slots Idle;
-  stands = at_own c.args.scenario.now c.node.result (replicate c.args.slots Idle) None c.build.result (c.build.ensures c.args.slots);
+  stands = at_own c.args.scenario.now c.node.result (replicate c.args.slots Idle) None c.in_ok-history.history (c.in_ok-history.ensures c.args.slots);
   read = length-replicate c.args.slots Idle;
 }

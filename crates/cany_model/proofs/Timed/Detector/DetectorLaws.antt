@@ -41,7 +41,7 @@ module _ (scenario : ScenarioParts) (legal : IsLegalScenario scenario) (none : s
   none_is_thrown_out =
       not_failed scenario none (few_nodes scenario.params legal.in_range) legal.formulas journal within quiet one
 
-  pub members_remain : (r t : ℕ) → IsCorrect scenario (run scenario journal) r → AsksNoLeave scenario r
+  pub members_remain : (r t : ℕ) → IsCorrect scenario (run scenario journal) r → AsksNoLeave scenario (run scenario journal) r
       → StandsAfter scenario (run scenario journal) r t → StaysInViews scenario (run scenario journal) r t
   members_remain = stays scenario none legal.in_range.nodes.1 legal.formulas legal.members journal within quiet one
 

@@ -1,10 +1,11 @@
--- A node without a scripted leave is never among those that leave; so a member that has not failed starts each cycle.
-use Rattle.std.proofs.Common.{◌≡◌, ◌≢◌, ℕ, ◌<◌, ◌⊎◌, ◌&&◌, ◌||◌, ◌==◌, not, inl, inr, if◌then◌else◌, Bool, true, false, List, [], ◌∷◌, length, map, Option, Some, None, refl, ap, sym, ◌∙◌, subst}
-use Rattle.std.specs.List.{AllByRecursion}
-use Rattle.std.proofs.lemmas.Bool.{and_from, and_parts, both_ways, cond_both, eqb-true, false_from_ne_true, false≢true, not_from_false, or_cases, or_left}
+-- A node that has asked for no leave is never among those that leave; so a member that has not failed starts each cycle.
+use Rattle.std.proofs.Common.{◌≡◌, ℕ, ◌<◌, ◌≤◌, ◌++◌, nat_lt, filter, ◌⊎◌, ◌&&◌, ◌||◌, ◌==◌, not, inl, inr, if◌then◌else◌, Bool, true, false, List, [], ◌∷◌, length, map, Option, Some, None, refl, ap, sym, ◌∙◌, subst, arith}
+use Rattle.std.specs.List.{AllByRecursion, flat_map, list_any}
+use Rattle.std.proofs.lemmas.Bool.{and_from, and_parts, both_ways, cases_Bool, cases_eq, cond-false, cond_both, eq-eqb, eqb-true, false_from_ne_true, ltb-true, or_right, false≢true, not_from_false, or_cases, or_left}
 use Rattle.std.proofs.lemmas.List.Elements.{All-contains, All-from_recursion}
 use Rattle.cany_base.specs.declared.class.Class.{Class}
 use Rattle.cany_base.specs.declared.class.Class.TheVariants as class
+use Rattle.cany_base.specs.declared.message.NodeAsk.{NodeAsk}
 use Rattle.cany_base.specs.declared.message.Service.{Service}
 use Rattle.cany_base.specs.declared.message.Service.TheVariants.{Ed, Rel, Tot}
 use Rattle.cany_base.specs.declared.notice.NoticeKind.{NoticeKind}
@@ -18,27 +19,35 @@ use Rattle.cany_base.specs.Params.{Parameters}
 use Rattle.cany_base.specs.Scenario.{ScenarioParts}
 use Rattle.cany_base.proofs.NodesFacts.{has_none}
 use Rattle.cany_model.specs.Bus.Frames.{same_class}
-use Rattle.cany_model.specs.Bus.History.{given}
-use Rattle.cany_model.specs.Runs.Run.{run}
-use Rattle.cany_model.specs.Bus.Slot.{FaultScript, script, slot_note_of}
+use Rattle.cany_model.specs.Bus.History.{given, history, seen}
+use Rattle.cany_model.specs.Runs.Run.{after_turn, run}
+use Rattle.cany_model.specs.Bus.Slot.{FaultScript, after_slot, carried, script, slot_note_of}
 use Rattle.cany_model.specs.Bus.State.{NodeState, RunState, node_at}
-use Rattle.cany_model.specs.Promises.Detector.{AsksNoLeave}
+use Rattle.cany_model.specs.Promises.Detector.{AsksNoLeave, asks_leave, has_asked_leave}
 use Rattle.cany_model.specs.Rules.KnowledgeOf.{ended_in, after_asking, after_installing, after_meeting, start_in, knowledge_of}
 use Rattle.cany_model.specs.Rules.Knowledge.{Knowledge, after_finding}
-use Rattle.cany_model.specs.Rules.Turn.{scenario_for}
-use Rattle.cany_base.specs.Cycles.{is_end, is_start}
-use Rattle.cany_model.specs.Rules.Views.{after_ask, start_of, start_vector, with_ended, with_joiner, with_leaver}
-use Rattle.cany_model.proofs.Bus.Identities.{same_class-true}
+use Rattle.cany_model.specs.Rules.Effect.{Effect, Ask}
+use Rattle.cany_model.specs.Rules.Membership.{ask_effects, asks_in, is_ask_in}
+use Rattle.cany_model.specs.Rules.Turn.{scenario_at, scenario_for, turn_effects}
+use Rattle.cany_base.specs.Cycles.{cycle_of, is_end, is_start}
+use Rattle.cany_model.specs.Rules.Views.{after_ask, ask_frame, join_asked, leave_asked, start_of, start_vector, with_ended, with_joiner, with_leaver}
+use Rattle.cany_model.proofs.Among.{Among, Among-append_right, Among-flat_map, Among-from_Contains, Among-weaker, Each-weaker, any-from_Among}
+use Rattle.cany_model.proofs.Bus.Identities.{same_class-true, same_class_self}
 use Rattle.cany_model.proofs.Bus.Notes.{given-Got, given-Sent, has_where, note_of-offered, those_where_pass}
-use Rattle.cany_model.proofs.Bus.Restarts.{after_restarts-trace}
+use Rattle.cany_model.proofs.Bus.Seen.{history-is}
 use Rattle.cany_model.proofs.Runs.Runs.{along_run}
-use Rattle.cany_model.proofs.Runs.Steps.{after_slot-trace, after_turn-trace}
-use Rattle.cany_model.proofs.Promises.EachNode.{EachRunning, IsNodes, nodes_at_first, nodes_kept, waiting_has}
+use Rattle.cany_model.proofs.Runs.Steps.{MayTurn, after_slot-history, after_slot-present, after_slot-trace, after_turn-history, after_turn-other_history, after_turn-present, after_turn-trace, next_notice}
+use Rattle.cany_model.proofs.Runs.Waits.{Each-after, Each-kept}
+use Rattle.cany_model.proofs.Promises.Diffusion.{past_of}
+use Rattle.cany_model.proofs.Promises.EachNode.{EachRunning, IsNodes, nodes_at_first, nodes_kept}
 use Rattle.cany_model.proofs.Promises.OwnSlotsAlone.{AllWaitForOwnSlots}
-use Rattle.cany_model.proofs.Rules.ProtocolFacts.{MayAsk, MayRequest, accepts, confirms, exchanges, is_relayed, lives, originates, relays, requests, signals}
+use Rattle.cany_model.proofs.Rules.ProtocolFacts.{IsScripted, MayAsk, MayRequest, accepts, confirms, exchanges, is_relayed, lives, originates, relays, requests, signals}
+use Rattle.cany_model.proofs.Rules.TurnFacts.{turn_only}
+use Rattle.cany_model.proofs.Timed.Detector.NoRestarts.{restarts_none}
+use Rattle.cany_model.proofs.Timed.Windows.TopFrames.{carried_frame, is_carried}
 use Rattle.cany_model.proofs.Rules.KnowledgeSteps.{found_keeps, leavers_after, leavers_by, life_keeps, met_keeps}
 
--- ---- no frame asks for it to leave
+-- ---- a frame by which it asks to leave is asked for
 
 abbrev pub NoLeave : ℕ → FrameParts → Type 0
 NoLeave r f = f.class ≡ class.Leave → f.node ≡ r → ⊥
@@ -48,62 +57,196 @@ data_never Ed e = cc
 data_never Rel e = cc
 data_never Tot e = cc
 
-leave_requested : (scenario : ScenarioParts) (r i : ℕ) (past : List NoticeKind) (slot : ℕ) (c : Class) → AsksNoLeave scenario r
-    → MayRequest scenario i past slot c → c ≡ class.Leave → i ≡ r → ⊥
-leave_requested scenario r i past slot c none (inl join) is own = let e : class.Join ≡ class.Leave = sym join.0 ∙ is in cc
-leave_requested scenario r i past slot c none (inr leave) is own =
-    All-contains (λ ask. ask.node ≢ r) scenario.leaves leave.1.ask none leave.1.stands (leave.1.asker ∙ own)
+-- if the frame asks to leave, it is one of node i itself, which has asked to leave
+abbrev LeaveAsked : ScenarioParts → ℕ → List NoticeKind → FrameParts → Type 0
+LeaveAsked scenario i past f = f.class ≡ class.Leave → (f.node ≡ i) × (has_asked_leave scenario i past ≡ true)
 
-leave_asked : (scenario : ScenarioParts) (r i : ℕ) (past : List NoticeKind) (f : FrameParts) → AsksNoLeave scenario r → MayAsk scenario i past f
-    → NoLeave r f
-leave_asked scenario r i past f none (relays relayed got) is own = false≢true (sym (ap is_relayed is) ∙ relayed)
-leave_asked scenario r i past f none (originates m stands origin read late frame) is own =
-    data_never m.service (ap (λ (g : FrameParts). g.class) frame ∙ is)
-leave_asked scenario r i past f none (confirms g sent rel mine frame) is own =
-    let e : class.Confirm ≡ class.Leave = ap (λ (h : FrameParts). h.class) frame ∙ is in cc
-leave_asked scenario r i past f none (accepts g sent tot mine frame) is own =
-    let e : class.Accept ≡ class.Leave = ap (λ (h : FrameParts). h.class) frame ∙ is in cc
-leave_asked scenario r i past f none (signals sign slot now known frame) is own =
-    let e : class.Fda ≡ class.Leave = ap (λ (h : FrameParts). h.class) frame ∙ is in cc
-leave_asked scenario r i past f none (lives slot now due frame) is own =
-    let e : class.Els ≡ class.Leave = ap (λ (h : FrameParts). h.class) frame ∙ is in cc
-leave_asked scenario r i past f none (exchanges slot v sends frame) is own =
-    let e : class.Rha ≡ class.Leave = ap (λ (h : FrameParts). h.class) frame ∙ is in cc
-leave_asked scenario r i past f none (requests slot c may frame) is own =
-    leave_requested scenario r i past slot c none may (ap (λ (h : FrameParts). h.class) frame ∙ is) (ap (λ (h : FrameParts). h.node) frame ∙ own)
+Among-filter : {X : Type 0} (p : X → Bool) (x : X) (xs : List X) → p x ≡ true → Among (λ y. y ≡ x) xs → Among (λ y. y ≡ x) (filter p xs)
+Among-filter p x [] passes h = h
+Among-filter p x (y ∷ xs) passes h =
+    cond_both (p y) (y ∷ filter p xs) (filter p xs) (Among (λ z. z ≡ x))
+    (λ _. elim h [ inl here ↦ inl here | inr later ↦ inr (Among-filter p x xs passes later) ])
+    (λ no. elim h [
+      | inl here ↦ absurd (both_ways (p y) no (ap p here ∙ passes))
+      | inr later ↦ Among-filter p x xs passes later
+    ])
+
+-- a scripted leave of a member asks to leave
+leave_asks : (scenario : ScenarioParts) (i : ℕ) (e : NoticeKind) (past : List NoticeKind) (slot : ℕ)
+    → IsScripted scenario scenario.leaves i (e ∷ past) slot → has (knowledge_of scenario i (e ∷ past)).members i ≡ true
+    → list_any asks_leave (ask_effects scenario i (e ∷ past)) ≡ true
+unfolding ask_effects same_class
+leave_asks scenario i e past slot scripted member =
+    let p : Parameters = scenario.params in
+    let now : ℕ = length past in
+    let size = scripted.now in
+    let at : now ≡ slot = omega (arith, size) in
+    let members : Nodes = (knowledge_of scenario i (e ∷ past)).members in
+    let join : NodeAsk → List Effect = λ ask. join_asked p scenario.inc i now members in
+    let leave : NodeAsk → List Effect = λ ask. leave_asked p scenario.inc i now members in
+    let ask : NodeAsk = scripted.ask in
+    let own : is_ask_in i now ask ≡ true =
+    and_from (ask.node == i) (ask.slot == now) (eq-eqb ask.node i scripted.asker) (eq-eqb ask.slot now (scripted.asked_in ∙ sym at)) in
+    let late : nat_lt now scenario.from ≡ false =
+    false_from_ne_true (nat_lt now scenario.from) (λ early. let less = ltb-true now scenario.from early in omega (arith, less, at, scripted.late)) in
+    let made : Among (λ a. a ≡ ask) (asks_in scenario i now scenario.leaves) =
+    subst (Among (λ a. a ≡ ask)) (sym (cond-false {A = List NodeAsk} (nat_lt now scenario.from) [] (filter (is_ask_in i now) scenario.leaves) late))
+    (Among-filter (is_ask_in i now) ask scenario.leaves own (Among-from_Contains scenario.leaves ask scripted.stands)) in
+    let asked : Among (λ effect. asks_leave effect ≡ true) (leave ask) =
+    cond_both (has members i) (Ask (ask_frame class.Leave scenario.inc (cycle_of p now) i) ∷ []) [] (Among (λ effect. asks_leave effect ≡ true))
+    (λ _. inl refl) (λ outside. absurd (both_ways (has members i) outside member)) in
+    any-from_Among asks_leave (flat_map join (asks_in scenario i now scenario.joins) ++ flat_map leave (asks_in scenario i now scenario.leaves))
+    (Among-append_right (λ effect. asks_leave effect ≡ true) (flat_map join (asks_in scenario i now scenario.joins))
+    (flat_map leave (asks_in scenario i now scenario.leaves))
+    (Among-flat_map leave (λ effect. asks_leave effect ≡ true) (asks_in scenario i now scenario.leaves)
+    (Among-weaker (λ a. a ≡ ask) (λ a. Among (λ effect. asks_leave effect ≡ true) (leave a)) (λ a _. asked) (asks_in scenario i now scenario.leaves) made)))
+
+leave_requested : (scenario : ScenarioParts) (i : ℕ) (past : List NoticeKind) (slot : ℕ) (c : Class)
+    → MayRequest scenario i past slot c → c ≡ class.Leave → has_asked_leave scenario i past ≡ true
+unfolding has_asked_leave
+leave_requested scenario i past slot c (inl join) is = let e : class.Join ≡ class.Leave = sym join.0 ∙ is in absurd (cc)
+leave_requested scenario i [] slot c (inr leave) is = let none = leave.1.now in absurd (omega (arith, none))
+leave_requested scenario i (e ∷ past) slot c (inr leave) is =
+    or_left (list_any asks_leave (ask_effects scenario i (e ∷ past))) (has_asked_leave scenario i past)
+    (leave_asks scenario i e past slot leave.1 leave.2)
+
+leave_may : (scenario : ScenarioParts) (i : ℕ) (past : List NoticeKind) (f : FrameParts) → MayAsk scenario i past f → LeaveAsked scenario i past f
+leave_may scenario i past f (relays relayed got) is = absurd (false≢true (sym (ap is_relayed is) ∙ relayed))
+leave_may scenario i past f (originates m stands origin read late frame) is =
+    absurd (data_never m.service (ap (λ (g : FrameParts). g.class) frame ∙ is))
+leave_may scenario i past f (confirms g sent rel mine frame) is =
+    let e : class.Confirm ≡ class.Leave = ap (λ (h : FrameParts). h.class) frame ∙ is in absurd (cc)
+leave_may scenario i past f (accepts g sent tot mine frame) is =
+    let e : class.Accept ≡ class.Leave = ap (λ (h : FrameParts). h.class) frame ∙ is in absurd (cc)
+leave_may scenario i past f (signals sign slot now known frame) is =
+    let e : class.Fda ≡ class.Leave = ap (λ (h : FrameParts). h.class) frame ∙ is in absurd (cc)
+leave_may scenario i past f (lives slot now due frame) is =
+    let e : class.Els ≡ class.Leave = ap (λ (h : FrameParts). h.class) frame ∙ is in absurd (cc)
+leave_may scenario i past f (exchanges slot v sends frame) is =
+    let e : class.Rha ≡ class.Leave = ap (λ (h : FrameParts). h.class) frame ∙ is in absurd (cc)
+leave_may scenario i past f (requests slot c may frame) is = (
+  sym (ap (λ (h : FrameParts). h.node) frame),
+  leave_requested scenario i past slot c may (ap (λ (h : FrameParts). h.class) frame ∙ is),
+)
+
+-- ---- so one that waits was asked for by the node at which it waits
+
+asked_later : (scenario : ScenarioParts) (i : ℕ) (e : NoticeKind) (past : List NoticeKind) → has_asked_leave scenario i past ≡ true
+    → has_asked_leave scenario i (e ∷ past) ≡ true
+unfolding has_asked_leave
+asked_later scenario i e past h = or_right (list_any asks_leave (ask_effects scenario i (e ∷ past))) (has_asked_leave scenario i past) h
+
+abbrev LeavesAreAsked : ScenarioParts → List SlotNote → ℕ → NodeState → Type 0
+LeavesAreAsked scenario trace i node =
+    AllByRecursion (LeaveAsked (scenario_for scenario node.present) i (past_of i trace node)) node.waiting
+
+leaves_are_asked : (scenario : ScenarioParts) → IsNodes scenario (LeavesAreAsked scenario)
+leaves_are_asked scenario = record {
+  new = λ trace i node new. rw new.waiting tt;
+  slot = λ note trace i node after same l h.
+      rw (same, l.past, l.kept)
+      (Each-kept (LeaveAsked (scenario_for scenario node.present) i (past_of i trace node)) (given i note) node.waiting h);
+  turn = λ trace i node after same t h.
+      let sc : ScenarioParts = scenario_for scenario node.present in
+      let before : List NoticeKind = past_of i trace node in
+      let read : List NoticeKind = past_of i trace after in
+      let later : AllByRecursion (LeaveAsked sc i read) node.waiting =
+      Each-weaker (LeaveAsked sc i before) (LeaveAsked sc i read) (λ f asked is.
+      let a = asked is in (a.0, subst (λ past. has_asked_leave sc i past ≡ true) (sym t.past) (asked_later sc i t.notice before a.1)))
+      node.waiting h in
+      rw (same, t.waiting)
+      (Each-after (LeaveAsked sc i read) (turn_effects sc i read) node.waiting (turn_only (LeaveAsked sc i read) sc i read (leave_may sc i read)) later);
+}
+
+-- ---- and one that was carried by the node that it names
 
 abbrev pub NoLeaveIn : ℕ → SlotNote → Type 0
 NoLeaveIn r note = (f : FrameParts) → note.frame ≡ Some f → NoLeave r f
 
-abbrev LeavesNone : ℕ → List SlotNote → ℕ → NodeState → Type 0
-LeavesNone r trace i node = AllByRecursion (NoLeave r) node.waiting
+-- node r has asked to leave
+abbrev HasAsked : ScenarioParts → ℕ → RunState → Type 0
+HasAsked scenario r s = has_asked_leave (scenario_at scenario s r) r (history r s) ≡ true
 
-leaves_none : (scenario : ScenarioParts) (r : ℕ) → AsksNoLeave scenario r → IsNodes scenario (LeavesNone r)
-leaves_none scenario r none =
-    waiting_has scenario (λ inc i f. NoLeave r f) (λ inc i past f may. leave_asked (scenario_for scenario inc) r i past f none may)
+abbrev asks_for_itself : ℕ → FrameParts → Bool
+asks_for_itself r f = same_class f.class class.Leave && f.node == r
 
-none_slot : (r : ℕ) (rules : FaultScript) (s : RunState) → EachRunning (LeavesNone r) s → NoLeaveIn r (slot_note_of rules s)
-none_slot r rules s all f frame =
-    let offer = note_of-offered rules s f frame in
-    let waiting : List FrameParts = (node_at s.nodes offer.node).waiting in
-    All-contains (NoLeave r) waiting f (All-from_recursion (NoLeave r) waiting (all offer.node offer.running)) offer.waits
+slot_leave : (scenario : ScenarioParts) (r : ℕ) (rules : FaultScript) (s : RunState) → EachRunning (LeavesAreAsked scenario) s
+    → HasAsked scenario r s ⊎ NoLeaveIn r (slot_note_of rules s)
+slot_leave scenario r rules s all = elim (cases_Bool (carried (asks_for_itself r) (slot_note_of rules s))) [
+  | inr none ↦ inr (λ f frame is own. both_ways (carried (asks_for_itself r) (slot_note_of rules s)) none
+      (is_carried (asks_for_itself r) (slot_note_of rules s) f frame
+      (and_from (same_class f.class class.Leave) (f.node == r) (ap (λ c. same_class c class.Leave) is ∙ same_class_self class.Leave) (eq-eqb f.node r own))))
+  | inl some ↦
+      let f = carried_frame (asks_for_itself r) (slot_note_of rules s) some in
+      let parts = and_parts (same_class f.what.class class.Leave) (f.what.node == r) f.passes in
+      let offer = note_of-offered rules s f.what f.frame in
+      let i : ℕ = offer.node in
+      let node : NodeState = node_at s.nodes i in
+      let P : FrameParts → Type 0 = LeaveAsked (scenario_for scenario node.present) i (past_of i (seen node.present s.trace) node) in
+      let asked = All-contains P node.waiting f.what (All-from_recursion P node.waiting (all i offer.running)) offer.waits
+      (same_class-true f.what.class class.Leave parts.0) in
+      let own : i ≡ r = sym asked.0 ∙ eqb-true f.what.node r parts.1 in
+      inl (subst (λ k. HasAsked scenario k s) own
+      (ap (has_asked_leave (scenario_at scenario s i) i) (history-is i s) ∙ asked.1))
+]
 
-pub no_leave : (scenario : ScenarioParts) (r : ℕ) → AsksNoLeave scenario r → (journal : List Step)
-    → AllByRecursion (NoLeaveIn r) (run scenario journal).trace
-no_leave scenario r none journal =
-    let is : IsNodes scenario (LeavesNone r) = leaves_none scenario r none in
-    let kept = nodes_kept scenario (LeavesNone r) is in
-    (along_run scenario (λ s. (AllWaitForOwnSlots s × EachRunning (LeavesNone r) s) × AllByRecursion (NoLeaveIn r) s.trace)
-    (nodes_at_first scenario (LeavesNone r) is, tt)
+-- ---- so a node that has asked for no leave has none carried, in a scenario without restarts
+
+slot_asked : (scenario : ScenarioParts) (r : ℕ) (rules : FaultScript) (s : RunState) → r < length s.nodes → HasAsked scenario r s
+    → HasAsked scenario r (after_slot rules s)
+slot_asked scenario r rules s there h =
+    ap (λ inc. has_asked_leave (scenario_for scenario inc) r (history r (after_slot rules s))) (after_slot-present rules s r there)
+    ∙ ap (has_asked_leave (scenario_at scenario s r) r) (after_slot-history rules s r there) ∙ h
+
+turn_asked : (scenario : ScenarioParts) (r i : ℕ) (s : RunState) → MayTurn s i → (node_at s.nodes i).unread ≤ length s.trace → HasAsked scenario r s
+    → HasAsked scenario r (after_turn scenario i s)
+turn_asked scenario r i s may short h =
+    ap (λ inc. has_asked_leave (scenario_for scenario inc) r (history r (after_turn scenario i s))) (after_turn-present scenario i s r may short)
+    ∙ elim (cases_eq r i) [
+      | inl same ↦ subst (λ k. HasAsked scenario k s → has_asked_leave (scenario_at scenario s k) k (history k (after_turn scenario i s)) ≡ true) (sym same)
+          (λ before. ap (has_asked_leave (scenario_at scenario s i) i) (after_turn-history scenario i s may short)
+          ∙ asked_later (scenario_at scenario s i) i (next_notice s i) (history i s) before) h
+      | inr other ↦ ap (has_asked_leave (scenario_at scenario s r) r) (after_turn-other_history scenario i s r other) ∙ h
+    ]
+
+pub no_leave : (scenario : ScenarioParts) → scenario.restarts ≡ [] → (r : ℕ) → r < scenario.params.nodes → (journal : List Step)
+    → AsksNoLeave scenario (run scenario journal) r → AllByRecursion (NoLeaveIn r) (run scenario journal).trace
+no_leave scenario none r below journal asks =
+    let P : List SlotNote → ℕ → NodeState → Type 0 = LeavesAreAsked scenario in
+    let is : IsNodes scenario P = leaves_are_asked scenario in
+    let kept = nodes_kept scenario P is in
+    let rules : FaultScript = script scenario.rules in
+    let either = (along_run scenario
+    (λ s. (AllWaitForOwnSlots s × EachRunning P s) × (HasAsked scenario r s ⊎ AllByRecursion (NoLeaveIn r) s.trace))
+    (nodes_at_first scenario P is, inr tt)
     (record {
-      slot = λ s o may h. (
-        kept.slot s o may h.0,
-        subst (AllByRecursion (NoLeaveIn r)) (sym (after_slot-trace (script scenario.rules) s)) (none_slot r (script scenario.rules) s h.0.1, h.1),
+      slot = λ s o may h.
+          let there : r < length s.nodes = omega (arith, below, o.count) in (
+            kept.slot s o may h.0,
+            elim (slot_leave scenario r rules s h.0.1) [
+              | inl asked ↦ inl (slot_asked scenario r rules s there asked)
+              | inr now ↦ elim h.1 [
+                | inl asked ↦ inl (slot_asked scenario r rules s there asked)
+                | inr before ↦ inr (subst (AllByRecursion (NoLeaveIn r)) (sym (after_slot-trace rules s)) (now, before))
+              ]
+            ],
+          );
+      restarts = λ s o some h.
+          subst (λ t. (AllWaitForOwnSlots t × EachRunning P t) × (HasAsked scenario r t ⊎ AllByRecursion (NoLeaveIn r) t.trace))
+          (sym (restarts_none scenario none s)) h;
+      turn = λ s i o may h. (
+        kept.turn s i o may h.0,
+        elim h.1 [
+          | inl asked ↦ inl (turn_asked scenario r i s may (o.unread i) asked)
+          | inr before ↦ inr (subst (AllByRecursion (NoLeaveIn r)) (sym (after_turn-trace scenario i s)) before)
+        ],
       );
-      restarts = λ s o some h. (kept.restarts s o some h.0, subst (AllByRecursion (NoLeaveIn r)) (sym (after_restarts-trace scenario s)) h.1);
-      turn = λ s i o may h. (kept.turn s i o may h.0, subst (AllByRecursion (NoLeaveIn r)) (sym (after_turn-trace scenario i s)) h.1);
     })
-    journal).1
+    journal).1 in
+    elim either [
+      | inl asked ↦ absurd (both_ways (has_asked_leave (scenario_at scenario (run scenario journal) r) r (history r (run scenario journal))) asks asked)
+      | inr carried ↦ carried
+    ]
 
 -- ---- so it is not among those that leave
 

@@ -1,6 +1,7 @@
--- A running member that has no scripted leave stands in each view that follows. In a scenario without restarts, where the vectors that are
+-- A running member that has asked for no leave stands in each view that follows. In a scenario without restarts, where the vectors that are
 -- installed are one and there are quiet slots.
 use Rattle.std.proofs.Common.{◌≡◌, ℕ, zero, suc, ◌+◌, ◌-◌, ◌*◌, ◌<◌, ◌≤◌, inl, inr, Bool, true, false, List, [], ◌∷◌, ◌++◌, length, map, drop, take, Option, Some, None, Contains, refl, ap, sym, ◌∙◌, subst, arith, append_assoc, length-append, length-drop, suc-mul}
+use Rattle.std.specs.List.{AllByRecursion}
 use Rattle.std.proofs.Math.Nat.{mul-le-mul_right}
 use Rattle.std.proofs.lemmas.Bool.{cases_lt}
 use Rattle.std.proofs.lemmas.List.{drop-map, length-map, take-append-drop}
@@ -164,10 +165,15 @@ most_of : (format : Format) (n : ℕ) → n ≤ (layout format).nodes → n ≤ 
 most_of One n h = omega (arith, h)
 most_of Two n h = h
 
+-- what holds of each note of a run holds of each of those before
+before_front : (P : SlotNote → Type 0) (front older : List SlotNote) → AllByRecursion P (front ++ older) → AllByRecursion P older
+before_front P [] older h = h
+before_front P (note ∷ front) older h = before_front P front older h.1
+
 module _ (scenario : ScenarioParts) (none : scenario.restarts ≡ []) (fits : scenario.params.nodes ≤ (layout scenario.params.format).nodes)
     (formulas : MeetsFormulas scenario.params) (first : AllBelow scenario.params.nodes scenario.members) (journal : List Step)
     (known : (front rest : List Step) → journal ≡ front ++ rest → IsTimely scenario front) (r : ℕ)
-    (running : runs (node_at (run scenario journal).nodes r) ≡ true) (asks : AsksNoLeave scenario r)
+    (running : runs (node_at (run scenario journal).nodes r) ≡ true) (asks : AsksNoLeave scenario (run scenario journal) r)
     (newer base : List SlotNote) (place : (run scenario journal).trace ≡ newer ++ base) (member : has (full scenario r base).members r ≡ true)
   where
     abbrev s : RunState
@@ -271,7 +277,7 @@ module _ (scenario : ScenarioParts) (none : scenario.restarts ≡ []) (fits : sc
             let given_now : notice ≡ given a note = next_given scenario fits first none front a in
             let sign = no_sign scenario none few formulas front (λ front' rest' e'. known front' (rest' ++ rest)
             (e ∙ ap (λ l. l ++ rest) e' ∙ append_assoc front' rest' rest)) r ran in
-            let leave = no_leave scenario r asks front in
+            let leave = before_front (NoLeaveIn r) grown.0 b.trace (subst (AllByRecursion (NoLeaveIn r)) grown.1 (no_leave scenario none r below journal asks)) in
             let hears = told_other r notice (after_hearing a n notice st) (λ f got.
             each_at (NoFrameIn r) b.trace (next_age b a) no_note sign.carried there f (given-Got a note f (sym given_now ∙ got)).0) in
             let finds = found_other r p a n (after_learning a n notice st)
@@ -350,13 +356,13 @@ was_entered scenario s all i slot number members logged =
       view = ap (λ p. (knowledge_of scenario i p).members) (sym notices) ∙ is.members;
     }
 
--- a running member that asks for no leave stands in each view of a correct node of a cycle that ends later
+-- a running member that has asked for no leave stands in each view of a correct node of a cycle that ends later
 pub stays : (scenario : ScenarioParts) → scenario.restarts ≡ [] → scenario.params.nodes ≤ (layout scenario.params.format).nodes
     → MeetsFormulas scenario.params → AllBelow scenario.params.nodes scenario.members → (journal : List Step)
     → IsWithin scenario.params (run scenario journal).trace
     → ((front rest : List Step) → journal ≡ front ++ rest → HasQuietSlots scenario front)
     → ((front rest : List Step) → journal ≡ front ++ rest → (k : ℕ) → InstallsOneVector scenario (run scenario front) k)
-    → (r t : ℕ) → IsCorrect scenario (run scenario journal) r → AsksNoLeave scenario r → StandsAfter scenario (run scenario journal) r t
+    → (r t : ℕ) → IsCorrect scenario (run scenario journal) r → AsksNoLeave scenario (run scenario journal) r → StandsAfter scenario (run scenario journal) r t
     → StaysInViews scenario (run scenario journal) r t
 stays scenario none fits formulas first journal within quiet one r t correct asks stands i correct_i slot number members logged after =
     let s : RunState = run scenario journal in

@@ -13,13 +13,13 @@ use Rattle.cany_base.specs.Frame.{FrameParts}
 use Rattle.cany_base.specs.Limits.{most_nodes}
 use Rattle.cany_base.specs.Scenario.{ScenarioParts}
 use Rattle.cany_model.specs.Bus.Frames.{Identity, identity_of, is_of, same_class}
-use Rattle.cany_model.specs.Bus.History.{given, is_got, is_sent, seen, trace_for, history_but}
+use Rattle.cany_model.specs.Bus.History.{given, is_got, is_sent, seen, trace_for}
 use Rattle.cany_model.specs.Bus.Restart.{after_restarts}
 use Rattle.cany_model.specs.Runs.Run.{after_step, after_turn, is_done, proceed, reply, run_from}
 use Rattle.cany_model.specs.Bus.Slot.{FaultScript, after_slot, script, slot_note_of}
 use Rattle.cany_model.specs.Bus.State.{Incarnation, NodeState, RunState, node_at, runs}
 use Rattle.cany_model.specs.Bus.Waiting.{waits}
-use Rattle.cany_model.specs.Promises.Quiet.{IsQuiet, asks_at, asks_first, is_top}
+use Rattle.cany_model.specs.Promises.Quiet.{IsQuiet, asks_as, asks_for_first_class, is_top}
 use Rattle.cany_model.specs.Rules.Effect.{Effect, Ask, Withdraw, Enter, waiting_after}
 use Rattle.cany_model.specs.Rules.Messages.{accept_of_key}
 use Rattle.cany_model.specs.Rules.Totcan.{tot_of_key}
@@ -73,7 +73,7 @@ waits_top m (f ∷ w) h = elim (or_cases (is_of (accept_of_key m) f) (waits (acc
   | inr there ↦ or_right (is_top f.class) (list_any (λ g. is_top g.class) w) (waits_top m w there)
 ]
 
-asks_accept : (m : MsgKey) (e : Effect) → Asks (accept_of_key m) e → asks_first e ≡ true
+asks_accept : (m : MsgKey) (e : Effect) → Asks (accept_of_key m) e → asks_for_first_class e ≡ true
 asks_accept m (Ask f) same = or_left (same_class f.class class.Accept) (same_class f.class class.Rha) (of_accept m f same)
 asks_accept m (Withdraw x) none = absurd none
 asks_accept m (Enter entry) none = absurd none
@@ -91,7 +91,7 @@ quiet_waits scenario s quiet i running m h =
 pub quiet_asks : (scenario : ScenarioParts) (s : RunState) → IsQuiet scenario s → (i : ℕ) → runs (node_at s.nodes i) ≡ true → (m : MsgKey) (age : ℕ)
     → age < (node_at s.nodes i).unread
     → let inc = (node_at s.nodes i).present in AsksFor m i (scenario_for scenario inc) (past i (seen inc s.trace) age) → ⊥
-unfolding asks_at history_but
+unfolding asks_as
 quiet_asks scenario s quiet i running m age unread h =
     let inc = (node_at s.nodes i).present in
     let was : List NoticeKind = past i (trace_for inc.number inc s.trace) age in
@@ -99,9 +99,9 @@ quiet_asks scenario s quiet i running m age unread h =
     let effects : List Effect = turn_effects (scenario_for scenario inc) i read in
     let same : effects_for inc.number scenario inc i was ≡ effects =
     effects_for-is scenario inc i was ∙ ap (λ t. turn_effects (scenario_for scenario inc) i (past i t age)) (trace_for-is inc s.trace) in
-    let none : list_any asks_first effects ≡ false = ap (list_any asks_first) (sym same) ∙ quiet.asks i running age unread in
-    both_ways (list_any asks_first effects) none
-    (any-from_Among asks_first effects (Among-weaker (Asks (accept_of_key m)) (λ e. asks_first e ≡ true) (asks_accept m) effects h))
+    let none : list_any asks_for_first_class effects ≡ false = ap (list_any asks_for_first_class) (sym same) ∙ quiet.asks i running age unread in
+    both_ways (list_any asks_for_first_class effects) none
+    (any-from_Among asks_for_first_class effects (Among-weaker (Asks (accept_of_key m)) (λ e. asks_for_first_class e ≡ true) (asks_accept m) effects h))
 
 -- ---- since a state
 

@@ -18,12 +18,12 @@ use Rattle.cany_base.specs.Nodes.{Nodes}
 use Rattle.cany_base.specs.Params.{Parameters}
 use Rattle.cany_base.specs.Scenario.{ScenarioParts}
 use Rattle.cany_model.specs.Bus.Frames.{Identity, identity_of, is_of, same_class}
-use Rattle.cany_model.specs.Bus.History.{as_seen, given, history, seen, trace_for, history_but}
+use Rattle.cany_model.specs.Bus.History.{as_seen, given, history, seen, trace_for}
 use Rattle.cany_model.specs.Bus.Restart.{after_restarts, first_cycle, next_incarnation}
 use Rattle.cany_model.specs.Runs.Run.{after_step, after_turn, is_done, proceed, reply, run}
 use Rattle.cany_model.specs.Bus.Slot.{FaultScript, after_slot, script, slot_note_of}
 use Rattle.cany_model.specs.Bus.State.{Incarnation, NodeState, RunState, fresh, node_at, opening, original, runs, slots_run}
-use Rattle.cany_model.specs.Promises.Quiet.{IsQuiet, asks_at, asks_first}
+use Rattle.cany_model.specs.Promises.Quiet.{IsQuiet, asks_as, asks_at, asks_for_first_class}
 use Rattle.cany_model.specs.Rules.Effect.{waiting_after}
 use Rattle.cany_model.specs.Rules.Notices.{is_early_frame}
 use Rattle.cany_model.specs.Rules.Turn.{scenario_for, turn_effects}
@@ -306,7 +306,7 @@ each_note_at P (note ∷ newer) older (suc age) all h = each_note_at P newer old
 -- none of their turns would have asked for a vector.
 calm_waits : (scenario : ScenarioParts) (k i : ℕ) → IsCycle scenario.params k → (newer older : List SlotNote) → AllByRecursion (NoVector k) newer
     → k * scenario.params.cycle < length older → (u unread : ℕ) → 0 < u → u ≤ length (newer ++ older) → u ≤ length newer + unread
-    → ((age : ℕ) → age < unread → list_any asks_first (turn_effects scenario i (past i older age)) ≡ false)
+    → ((age : ℕ) → age < unread → list_any asks_for_first_class (turn_effects scenario i (past i older age)) ≡ false)
     → (w : List FrameParts) (r : ℕ) → held (rha_of k r) w ≡ []
     → held (rha_of k r) (waiting_after (turn_effects scenario i (gave i (newer ++ older) (u - 1) ∷ past i (newer ++ older) u)) w) ≡ []
 calm_waits scenario k i c newer older calm from u unread some short few asks w r free = elim (cases_lt (u - 1) (length newer)) [
@@ -326,7 +326,7 @@ calm_waits scenario k i c newer older calm from u unread some short few asks w r
       let there : past i (newer ++ older) (u - 1) ≡ past i older m =
       ap (map (given i)) (ap (λ n. drop n (newer ++ older)) split ∙ drop-append-add newer older m) in
       held_unasked k r (turn_effects scenario i (gave i (newer ++ older) (u - 1) ∷ past i (newer ++ older) u)) w
-      (subst (λ read. list_any asks_first (turn_effects scenario i read) ≡ false) (sym there ∙ whole) (asks m (omega (arith, some, few, old)))) free
+      (subst (λ read. list_any asks_for_first_class (turn_effects scenario i read) ≡ false) (sym there ∙ whole) (asks m (omega (arith, some, few, old)))) free
 ]
 
 -- what an incarnation sees carries none either
@@ -343,12 +343,12 @@ calm_seen k inc (note ∷ notes) h = (λ f frame. h.0 f (seen_frame inc note f f
 -- none of the unread notices makes the node ask, told by what its incarnation sees
 pub unasked_seen : (scenario : ScenarioParts) (s : RunState) (i age : ℕ) → asks_at scenario s i age ≡ false
     → let inc = (node_at s.nodes i).present in
-    list_any asks_first (turn_effects (scenario_for scenario inc) i (past i (seen inc s.trace) age)) ≡ false
-unfolding asks_at history_but
+    list_any asks_for_first_class (turn_effects (scenario_for scenario inc) i (past i (seen inc s.trace) age)) ≡ false
+unfolding asks_as
 unasked_seen scenario s i age h =
     let inc : Incarnation = (node_at s.nodes i).present in
-    sym (ap (list_any asks_first) (effects_for-is scenario inc i (map (given i) (drop age (trace_for inc.number inc s.trace))))
-    ∙ ap (λ trace. list_any asks_first (turn_effects (scenario_for scenario inc) i (map (given i) (drop age trace)))) (trace_for-is inc s.trace)) ∙ h
+    sym (ap (list_any asks_for_first_class) (effects_for-is scenario inc i (map (given i) (drop age (trace_for inc.number inc s.trace))))
+    ∙ ap (λ trace. list_any asks_for_first_class (turn_effects (scenario_for scenario inc) i (map (given i) (drop age trace)))) (trace_for-is inc s.trace)) ∙ h
 
 -- one of a later cycle waits with none
 none_early : (k r : ℕ) (inc : Incarnation) → k < inc.cycle → (w : List FrameParts) → AllByRecursion (IsTimely inc) w → held (rha_of k r) w ≡ []
@@ -398,9 +398,9 @@ module _ (scenario : ScenarioParts) (k : ℕ) (c : IsCycle scenario.params k) (b
           let read : next_notice s i ∷ history i s ≡ gave i (newer ++ older) (u - 1) ∷ past i (newer ++ older) u =
           ap (λ l. next_notice s i ∷ l) (history-is i s) ∙ ap (λ t. gave i t (u - 1) ∷ past i t u) whole in
           let unasked : (age : ℕ) → age < (node_at base.nodes i).unread
-          → list_any asks_first (turn_effects (scenario_for scenario inc) i (past i older age)) ≡ false =
+          → list_any asks_for_first_class (turn_effects (scenario_for scenario inc) i (past i older age)) ≡ false =
           λ age l.
-          subst (λ (n : Incarnation). list_any asks_first (turn_effects (scenario_for scenario n) i (past i (seen n base.trace) age)) ≡ false)
+          subst (λ (n : Incarnation). list_any asks_for_first_class (turn_effects (scenario_for scenario n) i (past i (seen n base.trace) age)) ≡ false)
           (sym was.same) (unasked_seen scenario base i age (quiet.asks i was.ran age l)) in
           ap (held (rha_of k r)) (waits ∙ ap (λ l. waiting_after (turn_effects (scenario_for scenario inc) i l) w) read)
           ∙ calm_waits (scenario_for scenario inc) k i c newer older (calm_seen k inc h.newer h.calm)

@@ -22,7 +22,7 @@ use Rattle.cany_model.specs.Bus.History.{given, is_hidden, seen}
 use Rattle.cany_model.specs.Bus.Slot.{carried, is_success, lets_accept}
 use Rattle.cany_model.specs.Bus.State.{Incarnation}
 use Rattle.cany_model.specs.Promises.Hypothesis.{count_together, is_partial, is_partial_slot_of, is_silent, is_silent_slot, partial_slots}
-use Rattle.cany_model.specs.Promises.Quiet.{asks_first, is_top}
+use Rattle.cany_model.specs.Promises.Quiet.{asks_for_first_class, is_top}
 use Rattle.cany_model.specs.Rules.Effect.{Effect, waiting_after}
 use Rattle.cany_model.specs.Rules.Notices.{IsPart}
 use Rattle.cany_model.specs.Rules.Turn.{scenario_for, turn_effects}
@@ -62,22 +62,22 @@ none_held k r (f ∷ w) h =
         absurd (both_ways (is_top f.class) top (sym (ap is_top c)))
 
 -- nor after a turn that asks for none
-pub held_unasked : (k r : ℕ) (effects : List Effect) (w : List FrameParts) → list_any asks_first effects ≡ false → held (rha_of k r) w ≡ []
+pub held_unasked : (k r : ℕ) (effects : List Effect) (w : List FrameParts) → list_any asks_for_first_class effects ≡ false → held (rha_of k r) w ≡ []
     → held (rha_of k r) (waiting_after effects w) ≡ []
 unfolding same_class
 held_unasked k r effects w plain none = held_after (rha_of k r) effects w ∙ by_last (word (rha_of k r) effects) refl
   where
-    asks : (f : FrameParts) (e : Effect) → AsksFor (rha_of k r) f e → asks_first e ≡ true
+    asks : (f : FrameParts) (e : Effect) → AsksFor (rha_of k r) f e → asks_for_first_class e ≡ true
     asks f e a =
         let c : class.Rha ≡ f.class = ap (λ (x : Identity). x.class) a.1 in
-        ap asks_first a.0 ∙ sym (ap (λ d. same_class d class.Accept || same_class d class.Rha) c)
+        ap asks_for_first_class a.0 ∙ sym (ap (λ d. same_class d class.Accept || same_class d class.Rha) c)
 
     by_last : (last : Word) → word (rha_of k r) effects ≡ last → by_word last (held (rha_of k r) w) ≡ []
     by_last Silence e = none
     by_last Withdrawn e = refl
     by_last (Asked f) e =
-        absurd (both_ways (list_any asks_first effects) plain (any-from_Among asks_first effects
-        (Among-weaker (AsksFor (rha_of k r) f) (λ e. asks_first e ≡ true) (asks f) effects (word_asks (rha_of k r) f effects e))))
+        absurd (both_ways (list_any asks_for_first_class effects) plain (any-from_Among asks_for_first_class effects
+        (Among-weaker (AsksFor (rha_of k r) f) (λ e. asks_for_first_class e ≡ true) (asks f) effects (word_asks (rha_of k r) f effects e))))
 
 -- ---- the unread notices, as if they were read
 
@@ -94,7 +94,7 @@ module _ (scenario : ScenarioParts) (fits : scenario.params.nodes ≤ (layout sc
     read_some age P h = Among-drop (λ note. P (given i note)) age trace (Among-from_map (given i) P (drop age trace) h)
 
     pub still_all : (age : ℕ) → age ≤ length trace
-        → ((younger : ℕ) → younger < age → list_any asks_first (turn_effects scenario i (past i trace younger)) ≡ false)
+        → ((younger : ℕ) → younger < age → list_any asks_for_first_class (turn_effects scenario i (past i trace younger)) ≡ false)
         → ((younger : ℕ) → IsVectorOfBus scenario.params (vector_at scenario i (past i trace younger)))
         → Still scenario k i trace (past i trace age) → Still scenario k i trace (map (given i) trace)
     still_all zero short plain known h = h
@@ -102,8 +102,8 @@ module _ (scenario : ScenarioParts) (fits : scenario.params.nodes ≤ (layout sc
         let e : NoticeKind = gave i trace age in
         let before : List NoticeKind = past i trace (suc age) in
         let more : past i trace age ≡ e ∷ before = past_next i trace age (omega (arith, short)) in
-        let unasked : list_any asks_first (turn_effects scenario i (e ∷ before)) ≡ false =
-        subst (λ read. list_any asks_first (turn_effects scenario i read) ≡ false) more (plain age (omega arith)) in
+        let unasked : list_any asks_for_first_class (turn_effects scenario i (e ∷ before)) ≡ false =
+        subst (λ read. list_any asks_for_first_class (turn_effects scenario i read) ≡ false) more (plain age (omega arith)) in
         let below : IsVectorOfBus scenario.params (vector_at scenario i (e ∷ before)) =
         subst (λ read. IsVectorOfBus scenario.params (vector_at scenario i read)) more (known age) in
         still_all age (omega (arith, short)) (λ younger y. plain younger (omega (arith, y))) known

@@ -20,12 +20,13 @@ use Rattle.cany_base.specs.Nodes.{Nodes}
 use Rattle.cany_base.specs.Params.{MeetsFormulas, Parameters, top_frames}
 use Rattle.cany_base.specs.Scenario.{ScenarioParts}
 use Rattle.cany_model.specs.Bus.Frames.{same_class}
-use Rattle.cany_model.specs.Bus.History.{given, seen, trace_for, history_but}
+use Rattle.cany_model.specs.Bus.History.{given, seen, trace_for}
+use Rattle.cany_model.specs.Runs.Incarnations.{incarnations}
 use Rattle.cany_model.specs.Runs.Run.{run}
 use Rattle.cany_model.specs.Bus.Slot.{carried, is_success}
-use Rattle.cany_model.specs.Bus.State.{Incarnation, RunState, node_at, runs}
+use Rattle.cany_model.specs.Bus.State.{EndedIncarnation, Incarnation, RunState}
 use Rattle.cany_model.specs.Promises.Hypothesis.{IsWithin, any_frame, error_slots, is_error, is_error_slot, is_silent_slot}
-use Rattle.cany_model.specs.Promises.Quiet.{HasFewAskingSlots, asks_at, asks_first, makes_ask, most_asking}
+use Rattle.cany_model.specs.Promises.Quiet.{HasFewAskingSlots, asks_as, asks_for_first_class, makes_ask, most_asking}
 use Rattle.cany_model.specs.Promises.Windows.{HasFew, HasFewAccepts, HasFewTotFrames, HasFewVectors, is_clean_of}
 use Rattle.cany_model.specs.Rules.Backlog.{tot_backlog}
 use Rattle.cany_model.specs.Rules.Edcan.{edcan}
@@ -92,14 +93,14 @@ given_reason R r (Ask f ∷ effects) = (λ first. r, given_reason R r effects)
 given_reason R r (Withdraw x ∷ effects) = (tt, given_reason R r effects)
 given_reason R r (Enter entry ∷ effects) = (tt, given_reason R r effects)
 
-reason_of : (R : Type 0) (effects : List Effect) → FirstFor R effects → list_any asks_first effects ≡ true → R
+reason_of : (R : Type 0) (effects : List Effect) → FirstFor R effects → list_any asks_for_first_class effects ≡ true → R
 reason_of R [] all h = absurd (false≢true h)
-reason_of R (e ∷ effects) all h = elim (or_cases (asks_first e) (list_any asks_first effects) h) [
+reason_of R (e ∷ effects) all h = elim (or_cases (asks_for_first_class e) (list_any asks_for_first_class effects) h) [
   | inl here ↦ of_effect e all.0 here
   | inr later ↦ reason_of R effects all.1 later
 ]
   where
-    of_effect : (e : Effect) → AsksFor R e → asks_first e ≡ true → R
+    of_effect : (e : Effect) → AsksFor R e → asks_for_first_class e ≡ true → R
     of_effect (Ask f) gives first = gives first
     of_effect (Withdraw x) gives first = absurd (false≢true first)
     of_effect (Enter entry) gives first = absurd (false≢true first)
@@ -227,7 +228,7 @@ exchange_cause scenario i e past =
 -- ---- a whole turn
 
 pub turn_cause : (scenario : ScenarioParts) (i : ℕ) (e : NoticeKind) (past : List NoticeKind)
-    → list_any asks_first (turn_effects scenario i (e ∷ past)) ≡ true → MayAskFirst scenario.params e past
+    → list_any asks_for_first_class (turn_effects scenario i (e ∷ past)) ≡ true → MayAskFirst scenario.params e past
 unfolding turn_effects same_class
 turn_cause scenario i e past h =
     let R : Type 0 = MayAskFirst scenario.params e past in
@@ -320,7 +321,7 @@ none_makes_ask p = no_start p
 
 -- whether its turn at the notice of that age asks for such a frame
 abbrev asks_seeing : ScenarioParts → ℕ → Incarnation → List SlotNote → ℕ → Bool
-asks_seeing scenario i inc trace age = list_any asks_first (turn_effects (scenario_for scenario inc) i (past i (seen inc trace) age))
+asks_seeing scenario i inc trace age = list_any asks_for_first_class (turn_effects (scenario_for scenario inc) i (past i (seen inc trace) age))
 
 -- a turn without a notice asks for nothing
 asks_there : (scenario : ScenarioParts) (i : ℕ) (inc : Incarnation) (trace : List SlotNote) (age : ℕ) → asks_seeing scenario i inc trace age ≡ true
@@ -332,7 +333,7 @@ asks_there scenario i inc trace age h = elim (cases_lt age (length trace)) [
       let short : length (seen inc trace) ≤ age = omega (arith, length-seen inc trace, over) in
       let none : past i (seen inc trace) age ≡ [] = ap (map (given i)) (drop_of_length-le (seen inc trace) short) in
       let mute : turn_effects sc i (past i (seen inc trace) age) ≡ [] = ap (turn_effects sc i) none ∙ turn_muted sc i [] (begun_first sc) in
-      absurd (false≢true (sym (ap (list_any asks_first) mute) ∙ h))
+      absurd (false≢true (sym (ap (list_any asks_for_first_class) mute) ∙ h))
 ]
 
 -- it asks because of the slot
@@ -347,7 +348,7 @@ asks_because scenario i inc trace age there plain number h =
     ap (map (given i)) (drop-cons (seen inc trace) age no_note (omega (arith, length-seen inc trace, there))) in
     let size : length before ≡ length (seen inc trace) - suc age =
     length-map (drop (suc age) (seen inc trace)) (given i) ∙ length-drop (suc age) (seen inc trace) in
-    elim (turn_cause sc i (gave i (seen inc trace) age) before (sym (ap (λ read. list_any asks_first (turn_effects sc i read)) first) ∙ h)) [
+    elim (turn_cause sc i (gave i (seen inc trace) age) before (sym (ap (λ read. list_any asks_for_first_class (turn_effects sc i read)) first) ∙ h)) [
       | inl cause ↦
           cause_slot p i (note_at trace age) plain (from_seen (λ note. is_cause (given i note) ≡ true) (idle_cause i) inc trace age cause).1
       | inr start ↦
@@ -355,21 +356,19 @@ asks_because scenario i inc trace age there plain number h =
           start_asks p (note_at trace age) (subst (λ n. is_start p n ≡ true) slot start)
     ]
 
-asks_at-is : (scenario : ScenarioParts) (s : RunState) (i age : ℕ)
-    → asks_at scenario s i age ≡ asks_seeing scenario i (node_at s.nodes i).present s.trace age
-unfolding asks_at history_but
-asks_at-is scenario s i age =
-    let inc : Incarnation = (node_at s.nodes i).present in
-    ap (list_any asks_first) (effects_for-is scenario inc i (map (given i) (drop age (trace_for inc.number inc s.trace))))
-    ∙ ap (λ trace. list_any asks_first (turn_effects (scenario_for scenario inc) i (map (given i) (drop age trace)))) (trace_for-is inc s.trace)
+asks_as-is : (scenario : ScenarioParts) (s : RunState) (i : ℕ) (inc : Incarnation) (age : ℕ)
+    → asks_as scenario s i inc age ≡ asks_seeing scenario i inc s.trace age
+unfolding asks_as
+asks_as-is scenario s i inc age =
+    ap (list_any asks_for_first_class) (effects_for-is scenario inc i (map (given i) (drop age (trace_for inc.number inc s.trace))))
+    ∙ ap (λ trace. list_any asks_for_first_class (turn_effects (scenario_for scenario inc) i (map (given i) (drop age trace)))) (trace_for-is inc s.trace)
 
--- of a node in a state of a run
-pub asking_slot : (scenario : ScenarioParts) (s : RunState) → IsOrderly scenario.params.nodes s → (i age : ℕ)
-    → is_silent_slot (note_at s.trace age) ≡ false → asks_at scenario s i age ≡ true
+-- of any incarnation, in a state of a run
+pub asking_slot : (scenario : ScenarioParts) (s : RunState) → IsOrderly scenario.params.nodes s → (i : ℕ) (inc : Incarnation) (age : ℕ)
+    → is_silent_slot (note_at s.trace age) ≡ false → asks_as scenario s i inc age ≡ true
     → may_make_ask scenario.params (note_at s.trace age) ≡ true
-asking_slot scenario s orderly i age plain h =
-    let inc : Incarnation = (node_at s.nodes i).present in
-    let asks : asks_seeing scenario i inc s.trace age ≡ true = sym (asks_at-is scenario s i age) ∙ h in
+asking_slot scenario s orderly i inc age plain h =
+    let asks : asks_seeing scenario i inc s.trace age ≡ true = sym (asks_as-is scenario s i inc age) ∙ h in
     let there = asks_there scenario i inc s.trace age asks in
     asks_because scenario i inc s.trace age there plain (orderly.numbered age there) asks
 
@@ -461,15 +460,17 @@ few_may_ask scenario s orderly formulas within accepts vectors sends newest =
 
 -- ---- every run
 
--- if one of these nodes runs and asks at the notice of an age, it does so because of that slot
+-- if an incarnation of one of these nodes asks at the notice of an age, it does so because of that slot
 one_asks : (scenario : ScenarioParts) (s : RunState) → IsOrderly scenario.params.nodes s → (age : ℕ) → is_silent_slot (note_at s.trace age) ≡ false
-    → (nodes : List ℕ) → list_any (λ i. runs (node_at s.nodes i) && asks_at scenario s i age) nodes ≡ true
+    → (nodes : List ℕ) → list_any (λ i. list_any (λ e. asks_as scenario s i e.incarnation age) (incarnations s i)) nodes ≡ true
     → may_make_ask scenario.params (note_at s.trace age) ≡ true
 one_asks scenario s orderly age plain nodes h =
-    let asks : ℕ → Bool = λ i. runs (node_at s.nodes i) && asks_at scenario s i age in
-    Among-gives (λ i. asks i ≡ true) (may_make_ask scenario.params (note_at s.trace age) ≡ true)
-    (λ i both. asking_slot scenario s orderly i age plain (and_parts (runs (node_at s.nodes i)) (asks_at scenario s i age) both).1)
-    nodes (Among-from_any asks nodes h)
+    let asks : ℕ → EndedIncarnation → Bool = λ i e. asks_as scenario s i e.incarnation age in
+    let C : Type 0 = may_make_ask scenario.params (note_at s.trace age) ≡ true in
+    Among-gives (λ i. list_any (asks i) (incarnations s i) ≡ true) C
+    (λ i some. Among-gives (λ e. asks i e ≡ true) C (λ e is. asking_slot scenario s orderly i e.incarnation age plain is) (incarnations s i)
+    (Among-from_any (asks i) (incarnations s i) some))
+    nodes (Among-from_any (λ i. list_any (asks i) (incarnations s i)) nodes h)
 
 few_asking : (scenario : ScenarioParts) (s : RunState) → IsOrderly scenario.params.nodes s → MeetsFormulas scenario.params
     → IsWithin scenario.params s.trace → HasFewAccepts scenario.params s.trace → HasFewVectors scenario.params s.trace
@@ -482,7 +483,7 @@ few_asking scenario s orderly formulas within accepts vectors sends newest =
     let slots = count_ages (may_make_ask p) no_note (none_makes_ask p) s.trace newest size in
     omega (arith, asks, slots, few_may_ask scenario s orderly formulas within accepts vectors sends newest)
 
--- few notices of a window make a running node ask for a frame that accepts, or for a vector
+-- few notices of a window make a node ask for a frame that accepts, or for a vector
 pub few_asking_slots : (scenario : ScenarioParts) (journal : List Step) → scenario.params.nodes ≤ most_nodes → MeetsFormulas scenario.params
     → IsWithin scenario.params (run scenario journal).trace → HasFewAccepts scenario.params (run scenario journal).trace
     → HasFewVectors scenario.params (run scenario journal).trace → HasFewTotFrames scenario.params (run scenario journal).trace

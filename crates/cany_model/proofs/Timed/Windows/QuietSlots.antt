@@ -15,7 +15,7 @@ use Rattle.cany_base.specs.Params.{MeetsFormulas, Parameters, top_frames}
 use Rattle.cany_base.specs.Scenario.{ScenarioParts}
 use Rattle.cany_model.specs.Runs.Run.{run}
 use Rattle.cany_model.specs.Bus.Slot.{script, slot_note_of}
-use Rattle.cany_model.specs.Bus.State.{RunState, opening, slots_run}
+use Rattle.cany_model.specs.Bus.State.{RunState, node_at, opening, slots_run}
 use Rattle.cany_model.specs.Promises.Hypothesis.{IsWithin, is_error_slot, is_partial_slot_of, is_silent_slot}
 use Rattle.cany_model.specs.Promises.Quiet.{HasQuietSlots, IsQuiet, WasQuiet, asks_at, most_asking}
 use Rattle.cany_model.specs.Promises.Windows.{HasFew, HasFewAccepts, HasFewLifeSigns, HasFewTotFrames, HasFewVectors, is_clean_of}
@@ -38,7 +38,7 @@ quiet_state scenario s orderly may plain top calm = record {
   waits = none_waited (script scenario.rules) s top;
   asks = λ i running age unread. false_from_ne_true (asks_at scenario s i age) (λ asks.
       both_ways (may_make_ask scenario.params (note_at s.trace age)) (calm age (omega (arith, unread, may.lag i running)))
-      (asking_slot scenario s orderly i age (plain age) asks));
+      (asking_slot scenario s orderly i (node_at s.nodes i).present age (plain age) asks));
 }
 
 -- ---- an age that is free

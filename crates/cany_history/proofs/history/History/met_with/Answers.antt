@@ -1,6 +1,6 @@
 use Rattle.std.proofs.Common.{◌≡◌, rules}
 use Rattle.cany_model.specs.Rules.Vectors.{met_with}
-use Rattle.cany_history.proofs.SetFacts.{met_with_below}
+use Rattle.cany_history.proofs.MetFacts.{met_with_below}
 use Rattle.cany_history.proofs.history.History.met_with.Goals as goal
 
 pub returns-clause-below : goal.returns-clause-below

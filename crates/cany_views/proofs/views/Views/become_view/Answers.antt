@@ -1,12 +1,12 @@
 use Rattle.cany_views.specs.ViewsFields.{parts_of}
-use Rattle.cany_views.proofs.SetFacts.{below_meet, below_minus}
+use Rattle.cany_base.proofs.SetFacts.{below_meet, below_minus}
 use Rattle.cany_views.proofs.ViewFacts.{bounds_with}
 use Rattle.cany_views.proofs.views.Views.become_view.Goals as goal
 
 pub invariant_of-self : goal.invariant_of-self
 invariant_of-self c =
     let v = parts_of c.self.inside in
-    rw (c.minus-self-inside.ensures, c.meet-self-inside.ensures)
+    rw (c.minus-self-inside.ensures.set, c.meet-self-inside.ensures.set)
     (bounds_with v c.args.vector _ _ c.self.invariant
     (record {
       members = rw (← c.self.view_is) at c.requires;

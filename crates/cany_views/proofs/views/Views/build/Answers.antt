@@ -4,20 +4,20 @@ use Rattle.cany_model.specs.Rules.Knowledge.{knowledge_at_first}
 use Rattle.cany_views.specs.Views.{IsInBounds, IsViewsOf, ViewsParts, asked_cycles}
 use Rattle.cany_views.proofs.ViewFacts.{first_bounds, first_stands, first_views}
 use Rattle.cany_views.proofs.views.Views.build.Goals as goal
-use Rattle.cany_views.proofs.views.Views.build.Goals.{After-nobody-2}
+use Rattle.cany_views.proofs.views.Views.build.Goals.{After-empty-2}
 
-abbrev views : After-nobody-2 → ViewsParts
+abbrev views : After-empty-2 → ViewsParts
 views c = record {
   node = c.args.node;
   params = c.params.result.now;
   members = c.members.result;
-  joiners = c.nobody.result;
-  leavers = c.nobody-2.result;
+  joiners = c.empty.result;
+  leavers = c.empty-2.result;
   joins = c.in_ok-joins.joins.items;
   leaves = c.in_ok-leaves.leaves.items;
 }
 
-same : (c : After-nobody-2) → views c ≡ first_views c.args.scenario.now c.args.node
+same : (c : After-empty-2) → views c ≡ first_views c.args.scenario.now c.args.node
 same c =
     let joins : c.in_ok-joins.joins.items ≡ asked_cycles c.args.scenario.now.params c.args.node c.args.scenario.now.joins =
     c.in_ok-joins.ensures ∙ (λ k. asked_cycles (c.params.ensures.params k) c.args.node (c.joins.ensures k)) in
@@ -27,8 +27,8 @@ same c =
       node = c.args.node;
       params = c.params.ensures.params k;
       members = c.members.ensures k;
-      joiners = c.nobody.ensures k;
-      leavers = c.nobody-2.ensures k;
+      joiners = c.empty.ensures.set k;
+      leavers = c.empty-2.ensures.set k;
       joins = joins k;
       leaves = leaves k;
     }

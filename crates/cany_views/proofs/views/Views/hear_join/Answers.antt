@@ -1,12 +1,12 @@
 use Rattle.cany_views.specs.ViewsFields.{parts_of}
-use Rattle.cany_views.proofs.SetFacts.{below_with}
+use Rattle.cany_base.proofs.SetFacts.{below_with}
 use Rattle.cany_views.proofs.ViewFacts.{bounds_with}
 use Rattle.cany_views.proofs.views.Views.hear_join.Goals as goal
 
 pub invariant_of-self : goal.invariant_of-self
 invariant_of-self c =
     let v = parts_of c.self.inside in
-    rw c.with_node-self-inside.ensures
+    rw c.insert.ensures.set
     (bounds_with v v.members _ v.leavers c.self.invariant
     (record {
       members = c.self.invariant.below.members;
