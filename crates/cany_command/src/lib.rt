@@ -13,6 +13,7 @@ pub mod status;
 mod words;
 
 pub use answer::{refuse, report_run};
+pub use cany_base::limits::MOST_TEXT_BYTES;
 pub use reading::{is_memory, scenario_in, text_from};
 pub use running::{RunFault, run};
 pub use words::is_only;

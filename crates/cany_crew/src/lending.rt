@@ -1,4 +1,4 @@
-//! Seats go to workers and come back.
+//! Seats and gates are lent to the workers, and taken back after the work.
 ghost use Rattle.std.specs.Prelude.{◌≡◌, ◌≤◌, ◌<◌, ◌+◌, [], map, IfSome, IfNone, vec_len, vec_capacity};
 ghost use Rattle.cany_base.specs.Limits.{most_nodes};
 ghost use Rattle.cany_crew.specs.Gates.{HasRefused, NoneFell};
@@ -14,7 +14,8 @@ use std::sync::Wait;
 use std::sync::ledger::Ledger;
 use std::thread::Threads;
 
-/// What comes back from the work: the seats, and the least node whose pass was refused with the slot of that pass.
+/// What comes back from the work: the seats, and the least node whose pass was refused with the
+/// slot of that pass.
 #[derive(Drop)]
 pub(crate) struct Worked<L: Course, B: Ledger> {
     pub(crate) bus: BusSeat<L, B>,
@@ -22,7 +23,8 @@ pub(crate) struct Worked<L: Course, B: Ledger> {
     pub(crate) held: Option<(NodeId, Slot)>,
 }
 
-/// Works each seat by a worker of its own, which has the gate at the same place, and puts the gates back to their places.
+/// Works each seat by a worker of its own, which has the gate at the same place, and puts the gates
+/// back to their places.
 pub(crate) fn work_seats<
     L: Course + Send + Sync,
     B: Ledger + Send + Sync,
@@ -43,6 +45,7 @@ pub(crate) fn work_seats<
     requires gates { vec_len seats ≤ vec_len gates.old }
     ensures seats { vec_len result.seats ≡ vec_len seats }
     ensures passed { IfNone result.held (map G.refusals gates.new.items ≡ map G.refusals gates.old.items) }
+    ensures node { IfSome result.held (λ found. found.0 < vec_len seats) }
     ensures held { IfSome result.held (λ found. HasRefused found.0 (map G.refusals gates.old.items) (map G.refusals gates.new.items)) }
     ensures count { NoneFell (map G.refusals gates.old.items) (map G.refusals gates.new.items) }
 {
@@ -55,6 +58,8 @@ pub(crate) fn work_seats<
     work_all(rt, work, &mut assignments);
     let held = first_refused(assignments.as_slice());
     let bus = empty_assignments(assignments, &mut back, gates);
+    // Assignments took the first gates, so these came back behind the others. That puts each at its
+    // old place.
     gates.rotate_right(nodes);
     Worked {
         bus,

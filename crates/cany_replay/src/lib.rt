@@ -7,8 +7,6 @@ mod storm_run;
 mod storm_words;
 mod top;
 
-pub use cany_base::limits::MOST_TEXT_BYTES;
-pub use cany_command::status;
 pub use storm::storm_scenario;
 pub use storm_run::storm_top;
 pub use top::replay_top;

@@ -7,8 +7,8 @@ ghost use Rattle.cany_replay.specs.Storm as storm;
 
 use arrayvec::ArrayVec;
 use cany_base::{
-    Format, Memory, NodeId, NodeSet, Params, Payload, Place, Rule, Scenario, SendAsk,
-    Service, Verdict,
+    Format, Memory, NodeId, NodeSet, Params, Payload, Place, Rule, Scenario, SendAsk, Service,
+    Verdict,
 };
 use cany_message::keys_of;
 use rand_core::utils::NextWord;

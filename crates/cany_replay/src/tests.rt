@@ -2,7 +2,7 @@
 //! `scenarios/`.
 
 use crate::replay_top;
-use crate::status::{DONE, OTHER_WORDS, READ_FAULT, REFUSED, TOO_LONG, WRITE_FAULT};
+use cany_command::status::{DONE, OTHER_WORDS, READ_FAULT, REFUSED, TOO_LONG, WRITE_FAULT};
 use cany_io::{MemSink, MemSource, PlainSource, Source};
 use std::alloc::{AllocError, Global};
 use std::test::Fail;

@@ -1,9 +1,9 @@
 use Rattle.std.proofs.Common.{◌≡◌, ◌-◌, ◌++◌, length, drop, take, refl, ap, ◌∙◌, arith, vec_len, map}
 use Rattle.std.proofs.lemmas.List.{length-append, length-map}
 use Rattle.cany_crew.specs.Assignments.{counts_of, first_refused}
-use Rattle.cany_crew.proofs.AssignmentFacts.{IsShift, bus_stays, counts_stay, shift_is}
-use Rattle.cany_crew.proofs.shift.work_seats.Given as given
-use Rattle.cany_crew.proofs.shift.work_seats.Goals as goal
+use Rattle.cany_crew.proofs.AssignmentFacts.{IsOutcome, bus_stays, counts_stay, held_within, outcome_is}
+use Rattle.cany_crew.proofs.lending.work_seats.Given as given
+use Rattle.cany_crew.proofs.lending.work_seats.Goals as goal
 
 pub empty_assignments-bus-requires-clause-bus : goal.empty_assignments-bus-requires-clause-bus
 empty_assignments-bus-requires-clause-bus g c κs within = bus_stays c.fill_assignments.new.assignments.items c.work_all.new.assignments.items c.work_all.ensures ∙ c.fill_assignments.ensures.bus
@@ -41,11 +41,11 @@ returns-clause-seats g c =
     let none : length c.args.rooms.seats.items ≡ 0 = ap (λ xs. length xs) c.requires.empty.1 in
     omega (arith, n, count, back, none, c.args.rooms.seats.ok)
 
-shift : (g : given.Over) (c : goal.After-rotate_right g) → IsShift (map g.G.Gate.refusals c.args.gates.now.items) (map g.G.Gate.refusals c.rotate_right.new.self.items) c.first_refused-held.result
-shift g c =
+outcome : (g : given.Over) (c : goal.After-rotate_right g) → IsOutcome (map g.G.Gate.refusals c.args.gates.now.items) (map g.G.Gate.refusals c.rotate_right.new.self.items) c.first_refused-held.result
+outcome g c =
     let len : vec_len c.empty_assignments-bus.new.gates ≡ length c.empty_assignments-bus.new.gates.items = omega (arith, c.empty_assignments-bus.new.gates.ok.0) in
     let nodes : c.len-nodes.result ≡ length (counts_of c.fill_assignments.new.assignments.items) = let count = c.fill_assignments.ensures.count in omega (arith, count, c.len-nodes.ensures) in
-    shift_is g.G.Gate.refusals c.fill_assignments.new.assignments.items c.work_all.new.assignments.items c.args.gates.now.items c.fill_assignments.new.gates.items
+    outcome_is g.G.Gate.refusals c.fill_assignments.new.assignments.items c.work_all.new.assignments.items c.args.gates.now.items c.fill_assignments.new.gates.items
     c.empty_assignments-bus.new.gates.items c.rotate_right.new.self.items c.first_refused-held.result (length (counts_of c.fill_assignments.new.assignments.items))
     c.fill_assignments.ensures.order c.work_all.ensures refl c.fill_assignments.ensures.gates c.empty_assignments-bus.ensures.gates
     (c.rotate_right.ensures.items
@@ -54,10 +54,15 @@ shift g c =
     (c.first_refused-held.ensures ∙ ap first_refused c.as_slice.ensures.value)
 
 pub returns-clause-passed : goal.returns-clause-passed
-returns-clause-passed g c = (shift g c).passed
+returns-clause-passed g c = (outcome g c).passed
+
+pub returns-clause-node : goal.returns-clause-node
+returns-clause-node g c =
+    held_within c.fill_assignments.new.assignments.items c.work_all.new.assignments.items c.first_refused-held.result _ c.fill_assignments.ensures.order
+    c.work_all.ensures c.fill_assignments.ensures.count (c.first_refused-held.ensures ∙ ap first_refused c.as_slice.ensures.value)
 
 pub returns-clause-held : goal.returns-clause-held
-returns-clause-held g c = (shift g c).refused
+returns-clause-held g c = (outcome g c).refused
 
 pub returns-clause-count : goal.returns-clause-count
-returns-clause-count g c = (shift g c).fell
+returns-clause-count g c = (outcome g c).fell
