@@ -1,7 +1,7 @@
 //! What the program says on standard error: one line, where the status is neither success nor that of a refusal.
+use cany_command::MOST_TEXT_BYTES;
+use cany_command::status::{NO_MEMORY, OTHER_WORDS, READ_FAULT, TOO_LONG, WRITE_FAULT};
 use cany_crew::status::HELD;
-use cany_replay::MOST_TEXT_BYTES;
-use cany_replay::status::{NO_MEMORY, OTHER_WORDS, READ_FAULT, TOO_LONG, WRITE_FAULT};
 use std::alloc::{AllocError, Global};
 
 /// The longest argument that a line repeats.

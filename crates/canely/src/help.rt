@@ -1,9 +1,9 @@
 //! The text of `--help`.
-use cany_crew::status::HELD;
-use cany_replay::MOST_TEXT_BYTES;
-use cany_replay::status::{
+use cany_command::MOST_TEXT_BYTES;
+use cany_command::status::{
     DONE, NO_MEMORY, OTHER_WORDS, READ_FAULT, REFUSED, TOO_LONG, WRITE_FAULT,
 };
+use cany_crew::status::HELD;
 use std::alloc::{AllocError, Global};
 
 /// What the program is for, its arguments, the keys of a scenario and the exit statuses.

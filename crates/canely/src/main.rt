@@ -4,9 +4,9 @@
 mod complaint;
 mod help;
 
+use cany_command::status::{DONE, NO_MEMORY, OTHER_WORDS, WRITE_FAULT};
 use cany_crew::{free_gates, run_top};
 use cany_io::{Failed, Sink, Source, StdSink, StdSource, write_whole};
-use cany_replay::status::{DONE, NO_MEMORY, OTHER_WORDS, WRITE_FAULT};
 use cany_replay::{replay_top, storm_top};
 use std::alloc::{AllocError, Global};
 use std::io::{BufWriter, Write};

@@ -95,10 +95,6 @@ AllBelow-none nodes none i h = absurd (false≢true (sym (none i) ∙ h))
 
 -- ---- none and all
 
--- the empty set is the set of no numbers
-pub empty-set_of : (nodes : Nodes) → ((i : ℕ) → has nodes i ≡ false) → nodes ≡ set_of []
-empty-set_of nodes none = same_as_those_where nodes (λ i. false) (λ i. none i ∙ below_test i false (λ e. absurd (false≢true e)))
-
 both_below : (i nodes : ℕ) → nodes ≤ most_nodes → nat_lt i nodes ≡ (nat_lt i most_nodes && nat_lt i nodes)
 both_below i nodes few = grind (arith, nat_tests)
 
