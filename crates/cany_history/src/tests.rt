@@ -230,135 +230,201 @@ fn node(n: usize) -> NodeId
     NodeId::of_index(n)
 }
 
-/// That node 1 asks for the frame of a vector of the first cycle.
-fn asked(vector: NodeSet) -> Action
-    requires { AllBelow 3 vector }
+/// What happens in a slot.
+#[derive(Clone, Copy)]
+enum Event {
+    Idle,
+    /// The first cycle starts, and the node starts it with the vector of these bits.
+    Start(u64),
+    /// A vector of node 2 is got, of this cycle and these bits.
+    Got(u16, u64),
+}
+
+/// The node reads a slot. An event that cannot be in it is left out.
+fn take(
+    alloc: Global,
+    history: &mut History,
+    scenario: &Scenario,
+    slot: Slot,
+    event: Event,
+) -> Result<Turn, Memory>
+    requires stands { HasReadSlots scenario.now slot history.old }
+    requires bus { scenario.now.params.nodes ≡ 3 }
+    requires slots { scenario.now.params.slots ≡ 200 }
+    requires length { scenario.now.params.cycle ≡ 72 }
+    requires within { slot < 200 }
+    ensures { OnOk result (HasReadSlots scenario.now (slot + 1) history.new) }
 {
-    Action::Ask(vector_frame(node(1), 1, vector))
+    match event {
+        Event::Start(bits) => {
+            if slot == 72 && bits < 8 {
+                return start(alloc, history, scenario, nodes(bits));
+            }
+        }
+        Event::Got(cycle, bits) => {
+            if u64::from(cycle) * 72 < slot && bits < 8 {
+                return got(alloc, history, scenario, slot, cycle, nodes(bits));
+            }
+        }
+        Event::Idle => {}
+    }
+    idle(alloc, history, scenario, slot)
 }
 
-/// The action of a turn, which has one at most here, and how many it has.
-fn done(turn: &Turn) -> (usize, Option<Action>) {
-    let action = turn.actions.as_slice().first().copied();
-    (turn.actions.len(), action)
+/// What a node did with vectors in a turn.
+#[derive(Clone, Copy, Debug, PartialEq, Eq)]
+enum Did {
+    Nothing,
+    /// It asked for its frame of the vector of these bits, in the first cycle.
+    Asked(u64),
+    /// That frame was withdrawn.
+    Withdrew,
+    Other,
 }
 
-/// The cycle that ends in a turn, and the bits of its vector.
-fn ended(turn: &Turn) -> Option<(u16, u64)> {
-    match &turn.ended {
-        Some(ended) => Some((ended.cycle, ended.vector.bits())),
-        None => None,
+fn done_in(turn: &Turn) -> Did {
+    let actions = turn.actions.as_slice();
+    if actions.len() > 1 {
+        return Did::Other;
+    }
+    match actions.first() {
+        Some(action) => done_by(action),
+        None => Did::Nothing,
     }
 }
 
-/// The withdrawal of node 1's vector of the first cycle: class 1 at bit 25, number 1 at bit 9, node 1 at bit 4.
-fn withdrawal() -> Action {
-    Action::Withdraw { ident: 33_554_960 }
+fn done_by(action: &Action) -> Did {
+    match action {
+        Action::Ask(frame) => asked_by(frame),
+        // Class 1 at bit 25, number 1 at bit 9, node 1 at bit 4.
+        Action::Withdraw { ident } if *ident == 33_554_960 => Did::Withdrew,
+        _ => Did::Other,
+    }
 }
 
-#[test]
-fn a_vector_is_met_with_what_is_got(rt: HostRuntime) -> Result<(), Fail> {
-    let scenario = scenario_of(rt.alloc())?;
-    let mut member = begun(rt.alloc(), &scenario, 72)?;
-    let first = start(rt.alloc(), &mut member, &scenario, nodes(3))?;
-    let met = got(rt.alloc(), &mut member, &scenario, 73, 1, nodes(6))?;
-    let mut other = begun(rt.alloc(), &scenario, 72)?;
-    pass(rt.alloc(), &mut other, &scenario, 72, 80)?;
-    let met_with_all = got(rt.alloc(), &mut other, &scenario, 80, 1, nodes(5))?;
-    let mut third = begun(rt.alloc(), &scenario, 72)?;
-    start(rt.alloc(), &mut third, &scenario, nodes(7))?;
-    let of_another_cycle = got(rt.alloc(), &mut third, &scenario, 73, 0, nodes(3))?;
-    pass(rt.alloc(), &mut other, &scenario, 81, 108)?;
-    let end = idle(rt.alloc(), &mut other, &scenario, 108)?;
-    pass(rt.alloc(), &mut third, &scenario, 74, 108)?;
-    let unchanged = idle(rt.alloc(), &mut third, &scenario, 108)?;
-    assert_eq!(rt;
-        (
-            [
-                done(&first),
-                done(&met),
-                done(&met_with_all),
-                done(&of_another_cycle),
-            ],
-            [ended(&first), ended(&end), ended(&unchanged)],
-        ),
-        (
-            [
-                (1, Some(asked(nodes(3)))),
-                (1, Some(asked(nodes(2)))),
-                (1, Some(asked(nodes(5)))),
-                (0, None),
-            ],
-            [None, Some((1, 5)), Some((1, 7))],
-        )
-    );
-    Ok(())
+fn asked_by(frame: &Frame) -> Did {
+    let is_own = frame.class == Class::Rha && frame.number == 1 && frame.node.get() == 1;
+    match frame.payload.as_vector(Format::One) {
+        Some(vector) if is_own && frame.inc == 0 => Did::Asked(vector.bits()),
+        _ => Did::Other,
+    }
 }
 
-#[test]
-fn a_vector_that_is_covered_is_withdrawn(rt: HostRuntime) -> Result<(), Fail> {
-    let scenario = scenario_of(rt.alloc())?;
-    let mut got_often = begun(rt.alloc(), &scenario, 72)?;
-    start(rt.alloc(), &mut got_often, &scenario, nodes(7))?;
-    let once = got(rt.alloc(), &mut got_often, &scenario, 73, 1, nodes(7))?;
-    let twice = got(rt.alloc(), &mut got_often, &scenario, 74, 1, nodes(7))?;
-    // Copies of the old vector do not count for a new one.
-    let mut got_new = begun(rt.alloc(), &scenario, 72)?;
-    start(rt.alloc(), &mut got_new, &scenario, nodes(7))?;
-    got(rt.alloc(), &mut got_new, &scenario, 73, 1, nodes(7))?;
-    let new = got(rt.alloc(), &mut got_new, &scenario, 74, 1, nodes(3))?;
-    let new_twice = got(rt.alloc(), &mut got_new, &scenario, 75, 1, nodes(3))?;
-    let mut has_sent = begun(rt.alloc(), &scenario, 72)?;
-    start(rt.alloc(), &mut has_sent, &scenario, nodes(7))?;
-    let own = sent(rt.alloc(), &mut has_sent, &scenario, 73, nodes(7))?;
-    let copy = got(rt.alloc(), &mut has_sent, &scenario, 74, 1, nodes(7))?;
-    assert_eq!(rt;
-        [
-            done(&once),
-            done(&twice),
-            done(&new),
-            done(&new_twice),
-            done(&own),
-            done(&copy),
+/// What a node did in a turn, and the cycle that ended in it with the bits of its vector.
+type Seen = (Did, Option<(u16, u64)>);
+
+fn seen(turn: &Turn) -> Seen {
+    let ended = match &turn.ended {
+        Some(ended) => Some((ended.cycle, ended.vector.bits())),
+        None => None,
+    };
+    (done_in(turn), ended)
+}
+
+/// What a node does at these events of slots from 72 on, in ascending order. The slots between them are idle.
+fn played(alloc: Global, scenario: &Scenario, events: &[(Slot, Event)]) -> Result<Vec<Seen>, Memory>
+    requires bus { scenario.now.params.nodes ≡ 3 }
+    requires slots { scenario.now.params.slots ≡ 200 }
+    requires length { scenario.now.params.cycle ≡ 72 }
+{
+    let mut history = begun(alloc, scenario, 72)?;
+    let mut all = Vec::new(alloc);
+    let mut next = 72;
+    for (slot, event) in events {
+        if *slot < next || *slot >= 200 {
+            return Ok(all);
+        }
+        pass(alloc, &mut history, scenario, next, *slot)?;
+        let turn = take(alloc, &mut history, scenario, *slot, *event)?;
+        all.push(seen(&turn))?;
+        next = *slot + 1;
+    }
+    Ok(all)
+}
+
+/// The events of a node, and what it does at each.
+const RUNS: [(&[(Slot, Event)], &[Seen]); 6] = [
+    // A member sends its vector at the start, and what it met with another.
+    (
+        &[(72, Event::Start(3)), (73, Event::Got(1, 6))],
+        &[(Did::Asked(3), None), (Did::Asked(2), None)],
+    ),
+    // With enough copies a vector is withdrawn.
+    (
+        &[
+            (72, Event::Start(7)),
+            (73, Event::Got(1, 7)),
+            (74, Event::Got(1, 7)),
         ],
-        [
-            (0, None),
-            (1, Some(withdrawal())),
-            (1, Some(asked(nodes(3)))),
-            (1, Some(withdrawal())),
-            (0, None),
-            (1, Some(withdrawal())),
-        ]
-    );
+        &[
+            (Did::Asked(7), None),
+            (Did::Nothing, None),
+            (Did::Withdrew, None),
+        ],
+    ),
+    // Copies of the old vector do not count for a new one.
+    (
+        &[
+            (72, Event::Start(7)),
+            (73, Event::Got(1, 7)),
+            (74, Event::Got(1, 3)),
+            (75, Event::Got(1, 3)),
+        ],
+        &[
+            (Did::Asked(7), None),
+            (Did::Nothing, None),
+            (Did::Asked(3), None),
+            (Did::Withdrew, None),
+        ],
+    ),
+    // A vector of another cycle is ignored. A cycle ends as many slots after its start as the bound has.
+    (
+        &[
+            (72, Event::Start(7)),
+            (73, Event::Got(0, 3)),
+            (107, Event::Idle),
+            (108, Event::Idle),
+            (109, Event::Idle),
+        ],
+        &[
+            (Did::Asked(7), None),
+            (Did::Nothing, None),
+            (Did::Nothing, None),
+            (Did::Withdrew, Some((1, 7))),
+            (Did::Nothing, None),
+        ],
+    ),
+    // A node without a vector ends none.
+    (&[(108, Event::Idle)], &[(Did::Nothing, None)]),
+    // It meets the set of all nodes with what it gets.
+    (
+        &[(80, Event::Got(1, 5)), (108, Event::Idle)],
+        &[(Did::Asked(5), None), (Did::Withdrew, Some((1, 5)))],
+    ),
+];
+
+#[test]
+fn vectors_are_met_covered_and_ended(rt: HostRuntime) -> Result<(), Fail> {
+    let scenario = scenario_of(rt.alloc())?;
+    for (events, wanted) in RUNS {
+        let all = played(rt.alloc(), &scenario, events)?;
+        assert_eq!(rt; all.as_slice(), wanted);
+    }
     Ok(())
 }
 
 #[test]
-fn a_cycle_ends_as_many_slots_after_its_start_as_the_bound_has(
-    rt: HostRuntime,
-) -> Result<(), Fail> {
+fn a_vector_that_was_sent_is_withdrawn_at_a_copy(rt: HostRuntime) -> Result<(), Fail> {
     let scenario = scenario_of(rt.alloc())?;
-    let mut member = begun(rt.alloc(), &scenario, 72)?;
-    start(rt.alloc(), &mut member, &scenario, nodes(7))?;
-    let end_slot = member.wake(73);
-    pass(rt.alloc(), &mut member, &scenario, 73, 107)?;
-    let early = idle(rt.alloc(), &mut member, &scenario, 107)?;
-    let end = idle(rt.alloc(), &mut member, &scenario, 108)?;
-    let late = idle(rt.alloc(), &mut member, &scenario, 109)?;
-    let mut other = begun(rt.alloc(), &scenario, 72)?;
-    pass(rt.alloc(), &mut other, &scenario, 72, 108)?;
-    let none = idle(rt.alloc(), &mut other, &scenario, 108)?;
+    let mut history = begun(rt.alloc(), &scenario, 72)?;
+    start(rt.alloc(), &mut history, &scenario, nodes(7))?;
+    let end = history.wake(73);
+    let own = sent(rt.alloc(), &mut history, &scenario, 73, nodes(7))?;
+    let copy = got(rt.alloc(), &mut history, &scenario, 74, 1, nodes(7))?;
+    // The cycle ends in slot 108, and the next one starts in slot 144.
     assert_eq!(rt;
-        (
-            [end_slot, member.wake(110)],
-            [done(&early), done(&end), done(&none)],
-            [ended(&early), ended(&end), ended(&late), ended(&none)],
-        ),
-        (
-            [108, 144],
-            [(0, None), (1, Some(withdrawal())), (0, None)],
-            [None, Some((1, 7)), None, None],
-        )
+        (done_in(&own), done_in(&copy), [end, history.wake(110)]),
+        (Did::Nothing, Did::Withdrew, [108, 144])
     );
     Ok(())
 }

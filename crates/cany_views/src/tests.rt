@@ -194,106 +194,145 @@ fn between(from: u8, to: u8) -> NodeSet
     NodeSet::all(to).minus(NodeSet::all(from))
 }
 
-/// All nodes but one.
-fn without(node: NodeId) -> NodeSet
+/// A set of the three nodes.
+fn nodes(bits: u64) -> NodeSet
+    requires { bits < 8 }
     ensures { AllBelow 3 result }
 {
-    let mut others = NodeSet::all(3);
-    others.remove(node);
-    others
+    NodeSet::of_bits(bits)
 }
 
-/// What a node starts a cycle with, where nobody has failed.
-fn offered(views: &Views, scenario: &Scenario) -> Option<NodeSet>
+/// What happens at a node.
+#[derive(Clone, Copy)]
+enum Event {
+    /// It gets an ask of this node to join, or to leave.
+    Join(u8),
+    Leave(u8),
+    /// It reads that it has asked to leave itself.
+    OwnLeave,
+    /// The vector of these bits becomes the view.
+    View(u64),
+}
+
+/// An event that cannot be is left out.
+fn happen(alloc: Global, views: &mut Views, scenario: &Scenario, event: Event) -> Result<(), Memory>
     requires site { IsSmallSite scenario.now }
-    requires stands { StandsIn scenario.now views.now }
+    requires stands { StandsIn scenario.now views.old }
+    ensures { OnOk result (StandsIn scenario.now views.new) }
 {
-    start(views, scenario, between(0, 0))
-}
-
-#[test]
-fn who_asks_to_join_is_offered_until_it_is_in_the_view(rt: HostRuntime) -> Result<(), Fail> {
-    let least = NodeId::new(0).ok_or("a node")?;
-    let node = NodeId::new(1).ok_or("a node")?;
-    let other = NodeId::new(2).ok_or("a node")?;
-    let scenario = scenario_of(rt.alloc(), between(0, 2), node, other)?;
-    let mut views = begun(rt.alloc(), &scenario, node)?;
-    let before = offered(&views, &scenario);
-    got_join(&mut views, &scenario, other);
-    let joining = offered(&views, &scenario);
-    let members = views.members();
-    become_view(rt.alloc(), &mut views, &scenario, between(0, 2))?;
-    let still_joining = offered(&views, &scenario);
-    become_view(rt.alloc(), &mut views, &scenario, between(0, 3))?;
-    become_view(rt.alloc(), &mut views, &scenario, between(0, 2))?;
-    let forgotten = offered(&views, &scenario);
-    // A member that asks is not heard: it would still be offered once it is no longer in the view.
-    let mut deaf = begun(rt.alloc(), &scenario, node)?;
-    got_join(&mut deaf, &scenario, least);
-    become_view(rt.alloc(), &mut deaf, &scenario, between(1, 2))?;
-    assert_eq!(rt;
-        [
-            before,
-            joining,
-            Some(members),
-            still_joining,
-            forgotten,
-            offered(&deaf, &scenario),
-        ],
-        [
-            Some(between(0, 2)),
-            Some(between(0, 3)),
-            Some(between(0, 2)),
-            Some(between(0, 3)),
-            Some(between(0, 2)),
-            Some(between(1, 2)),
-        ]
-    );
+    match event {
+        Event::Join(other) => {
+            if other < 3 {
+                got_join(views, scenario, NodeId::of_index(usize::from(other)));
+            }
+        }
+        Event::Leave(other) => {
+            if other < 3 {
+                got_leave(views, scenario, NodeId::of_index(usize::from(other)));
+            }
+        }
+        Event::OwnLeave => sent_leave(views, scenario, NodeId::of_index(1)),
+        Event::View(bits) => {
+            if bits < 8 {
+                become_view(alloc, views, scenario, nodes(bits))?;
+            }
+        }
+    }
     Ok(())
 }
 
+/// Node 1 after these events.
+fn played(alloc: Global, scenario: &Scenario, events: &[Event]) -> Result<Views, Memory>
+    requires { IsSmallSite scenario.now }
+    ensures { IfOk result (StandsIn scenario.now) }
+{
+    let mut views = begun(alloc, scenario, NodeId::of_index(1))?;
+    for event in events {
+        happen(alloc, &mut views, scenario, *event)?;
+    }
+    Ok(views)
+}
+
+/// The bits of the view of node 1 after these events, and of what it starts a cycle with. At first the nodes of `members` are in the
+/// view, and those of `failed` have failed.
+fn offered(
+    alloc: Global,
+    members: NodeSet,
+    events: &[Event],
+    failed: NodeSet,
+) -> Result<(u64, Option<u64>), Memory>
+    requires members { AllBelow 3 members }
+    requires failed { AllBelow 3 failed }
+{
+    let scenario = scenario_of(alloc, members, NodeId::of_index(1), NodeId::of_index(2))?;
+    let views = played(alloc, &scenario, events)?;
+    let start = start(&views, &scenario, failed);
+    Ok((views.members().bits(), start.map(|set| set.bits())))
+}
+
+/// The first members, what happens, who has failed, and then the view and what a cycle starts with.
+const RUNS: [(u64, &[Event], u64, (u64, Option<u64>)); 13] = [
+    (0b011, &[], 0, (0b011, Some(0b011))),
+    // Who asks to join is offered, until it is in the view.
+    (0b011, &[Event::Join(2)], 0, (0b011, Some(0b111))),
+    (
+        0b011,
+        &[Event::Join(2), Event::View(0b011)],
+        0,
+        (0b011, Some(0b111)),
+    ),
+    (
+        0b011,
+        &[Event::Join(2), Event::View(0b111), Event::View(0b011)],
+        0,
+        (0b011, Some(0b011)),
+    ),
+    // A member that asks to join is not heard: it would still be offered once it is no longer in the view.
+    (
+        0b011,
+        &[Event::Join(0), Event::View(0b010)],
+        0,
+        (0b010, Some(0b010)),
+    ),
+    // Who has failed or leaves is not offered, until it is not in the view.
+    (0b111, &[], 0b001, (0b111, Some(0b110))),
+    (0b111, &[Event::Leave(2)], 0, (0b111, Some(0b011))),
+    (0b111, &[Event::Leave(2)], 0b001, (0b111, Some(0b010))),
+    (
+        0b111,
+        &[Event::Leave(2), Event::View(0b111)],
+        0,
+        (0b111, Some(0b011)),
+    ),
+    (
+        0b111,
+        &[Event::Leave(2), Event::View(0b011), Event::View(0b111)],
+        0,
+        (0b111, Some(0b111)),
+    ),
+    // A leave counts also where it is the own one.
+    (0b111, &[Event::OwnLeave], 0, (0b111, Some(0b101))),
+    // A node outside that asks to leave is not heard: it would not be offered once it is in the view.
+    (
+        0b011,
+        &[Event::Leave(2), Event::View(0b111)],
+        0,
+        (0b111, Some(0b111)),
+    ),
+    // A node outside offers nothing.
+    (0b111, &[Event::View(0b101)], 0, (0b101, None)),
+];
+
 #[test]
-fn who_leaves_or_has_failed_is_not_offered(rt: HostRuntime) -> Result<(), Fail> {
-    let node = NodeId::new(1).ok_or("a node")?;
-    let other = NodeId::new(2).ok_or("a node")?;
-    let scenario = scenario_of(rt.alloc(), between(0, 3), node, other)?;
-    let mut views = begun(rt.alloc(), &scenario, node)?;
-    let failed = start(&views, &scenario, between(0, 1));
-    got_leave(&mut views, &scenario, other);
-    let leaving = offered(&views, &scenario);
-    let both = start(&views, &scenario, between(0, 1));
-    become_view(rt.alloc(), &mut views, &scenario, between(0, 3))?;
-    let still_leaving = offered(&views, &scenario);
-    become_view(rt.alloc(), &mut views, &scenario, between(0, 2))?;
-    become_view(rt.alloc(), &mut views, &scenario, between(0, 3))?;
-    let forgotten = offered(&views, &scenario);
-    let mut own = begun(rt.alloc(), &scenario, node)?;
-    sent_leave(&mut own, &scenario, node);
-    // A node outside that asks is not heard: it would not be offered once it is in the view.
-    let mut deaf = begun(rt.alloc(), &scenario, node)?;
-    become_view(rt.alloc(), &mut deaf, &scenario, between(0, 2))?;
-    got_leave(&mut deaf, &scenario, other);
-    become_view(rt.alloc(), &mut deaf, &scenario, between(0, 3))?;
-    assert_eq!(rt;
-        [
-            failed,
-            leaving,
-            both,
-            still_leaving,
-            forgotten,
-            offered(&own, &scenario),
-            offered(&deaf, &scenario),
-        ],
-        [
-            Some(between(1, 3)),
-            Some(between(0, 2)),
-            Some(between(1, 2)),
-            Some(between(0, 2)),
-            Some(between(0, 3)),
-            Some(without(node)),
-            Some(between(0, 3)),
-        ]
-    );
+fn a_member_offers_the_view_with_who_joins_and_without_who_leaves(
+    rt: HostRuntime,
+) -> Result<(), Fail> {
+    for (members, events, failed, wanted) in RUNS {
+        if members < 8 && failed < 8 {
+            let seen = offered(rt.alloc(), nodes(members), events, nodes(failed))?;
+            assert_eq!(rt; seen, wanted);
+        }
+    }
     Ok(())
 }
 
@@ -335,7 +374,7 @@ fn a_view_is_entered_and_asks_are_withdrawn(rt: HostRuntime) -> Result<(), Fail>
             Some(newly),
             Some(inside.members()),
             Some(nobody),
-            offered(&outside, &scenario),
+            start(&outside, &scenario, between(0, 0)),
         ],
         [
             Some(between(2, 3)),
