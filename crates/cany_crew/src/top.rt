@@ -1,10 +1,10 @@
 //! The call behind the command `run`.
-ghost use Rattle.std.specs.Prelude.{◌≡◌, ◌⊎◌, ◌↔◌, ◌<◌, ◌≤◌, map, length, string_bytes, None, is_some, IsTrue, IfSome, IsOkAnd, IsSomeAnd, MatchOption, vec_len};
+ghost use Rattle.std.specs.Prelude.{◌≡◌, ◌⊎◌, ◌↔◌, ◌<◌, ◌≤◌, map, length, string_bytes, None, is_some, IfSome, IsOkAnd, IsSomeAnd, MatchOption, vec_len};
 ghost use Rattle.cany_base.specs.Limits.{most_nodes, most_text_bytes};
 ghost use Rattle.cany_crew.specs.Gates.{HasAnyRefused, NoneFell, NoneRefused};
 ghost use Rattle.cany_crew.specs.Top.{AreRun, HasNoAnswer, IsCrewRun, TakesReportStart, TakesStart, run_refusal};
 ghost use Rattle.cany_io.specs.Faults.{HasRisen, StandsStill};
-ghost use Rattle.cany_io.specs.Sink.{Takes, TakesPrefix};
+ghost use Rattle.cany_io.specs.Sink.{Takes};
 ghost use Rattle.cany_io.specs.Source.{IsAtEnd};
 ghost use Rattle.cany_text.specs.ScenarioText.{scenario_of};
 ghost use Rattle.cany_command.specs.Status.{HasAnswered};
