@@ -16,8 +16,9 @@ pub enum Outcome {
     Won { frame: Frame, senders: NodeSet },
 }
 
-/// Arbitration over the offers of one slot (CAN Specification 2.0 Part B, basic concepts, "arbitration"). The winner is the offer
-/// of the least key, and of equal keys that of the least node: the one that a bus finds bit by bit (`walk_leaves_least`).
+/// Arbitration over the offers of one slot (CAN Specification 2.0 Part B, basic concepts,
+/// "arbitration"). The winner is the offer of the least key, and of equal keys that of the least
+/// node: the one that a bus finds bit by bit (`walk_leaves_least`).
 pub fn arbitrate(offers: &Offers) -> Outcome
     ensures { IsOutcome offers.now result }
 {
@@ -32,8 +33,8 @@ pub fn arbitrate(offers: &Offers) -> Outcome
     }
 }
 
-/// Those of `sending` that offer this frame. The others offer one with the same identifier and kind,
-/// and with another payload.
+/// Those of `sending` that offer this frame. The others offer one with the same identifier and
+/// kind, and with another payload.
 fn senders_of(offers: &Offers, frame: &Frame, sending: NodeSet) -> NodeSet
     ensures { (i : ℕ) →
         IsTrue (has result i) ↔ (IsTrue (has sending i) × (offer_at offers.now i ≡ Some frame.now)) }

@@ -7,8 +7,8 @@ use cany_base::{Format, Frame};
 
 const RECESSIVE: u32 = 1;
 
-/// The levels that a frame sends in arbitration, bit 31 first: 11 base identifier bits, SRR, IDE, 18
-/// further identifier bits, RTR (CAN Specification 2.0 Part B, 3.2.1, arbitration field of the
+/// The levels that a frame sends in arbitration, bit 31 first: 11 base identifier bits, SRR, IDE,
+/// 18 further identifier bits, RTR (CAN Specification 2.0 Part B, 3.2.1, arbitration field of the
 /// extended format). A dominant level is 0.
 pub(crate) fn levels(format: Format, frame: &Frame) -> u32
     requires { FitsFormat format frame.now }

@@ -1,4 +1,5 @@
-//! Offers and outcomes may move to another thread and be shared by threads, as the bounds below show.
+//! Offers and outcomes may move to another thread and be shared by threads, as the bounds below
+//! show.
 
 use crate::arbitration::Outcome;
 use crate::offers::Offers;

@@ -3,14 +3,14 @@ use Rattle.std.proofs.Common.{◌≡◌, ◌≢◌, ℕ, ◌≤◌, ◌+◌, ◌
 use Rattle.std.specs.Prelude.{Option, Some, None, IfNone, is_some}
 use Rattle.std.proofs.lemmas.Bool.{cases_lt, cases_eq, lt-ltb, le-ltb, eq-eqb, ne_eqb}
 use Rattle.cany_base.specs.Limits.{most_nodes}
-use Rattle.cany_base.specs.Nodes.{Nodes, has, those_where}
+use Rattle.cany_base.specs.Nodes.{Nodes, has, nobody, those_where}
 use Rattle.cany_base.proofs.NodesFacts.{has_none, same_as_those_where}
 
 -- the set has the nodes below i at which the test holds
 abbrev pub SetSoFar : Nodes → ℕ → (ℕ → Bool) → Type 0
 SetSoFar set i test = (k : ℕ) → has set k ≡ (nat_lt k i && test k)
 
-pub so_far_none : (set : Nodes) (test : ℕ → Bool) → set ≡ record { bits = 0 } → SetSoFar set 0 test
+pub so_far_none : (set : Nodes) (test : ℕ → Bool) → set ≡ nobody → SetSoFar set 0 test
 so_far_none set test e k = ap (λ s. has s k) e ∙ has_none k ∙ sym (ap (λ b. b && test k) (le-ltb k 0 (omega arith)))
 
 here : (o n t p e l m : Bool) → o ≡ (l && p) → n ≡ (o || (t && e)) → t ≡ p → e ≡ true → l ≡ false → m ≡ true → n ≡ (m && p)

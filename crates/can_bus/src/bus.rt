@@ -16,8 +16,8 @@ use cany_base::{BoundedVec, Memory, Params, Scenario, Slot, SlotNote};
 use std::alloc::Global;
 use std::marker::Model;
 
-/// The bus of a run: it runs one slot after another, keeps the note of each, and tells whether the run keeps the fault
-/// hypothesis.
+/// The bus of a run: it runs one slot after another, keeps the note of each, and tells whether the
+/// run keeps the fault hypothesis.
 ///
 /// All memory is taken by `build`.
 #[derive(Drop)]
@@ -47,6 +47,8 @@ impl Bus {
         ensures trace { IfOk result (λ bus. bus.trace ≡ []) }
         ensures follows { IfOk result (Follows scenario.now.rules) }
     {
+        // Who runs the slots builds a script of its own and passes it to `slot`: the bus has only the
+        // scenario here, so its counts are built from a second one, which is dropped again.
         let script = Script::of_scenario(alloc, scenario)?;
         let attempts = Attempts::build(alloc, &script)?;
         let params = *scenario.params();
@@ -60,16 +62,18 @@ impl Bus {
         })
     }
 
-    /// Runs the next slot: the running controllers compete, the script says what comes of it, each running controller sees
-    /// its share, and those stop that the script names or that have a counter above the limit. `script` is the one that
-    /// ruled the slots before, that of the scenario's rules.
+    /// Runs the next slot: the running controllers compete, the script says what comes of it, each
+    /// running controller sees its share, and those stop that the script names or that have a
+    /// counter above the limit. `script` is the one that ruled the slots before, that of the
+    /// scenario's rules.
     pub fn slot(&mut self, controllers: &mut [Controller], script: &Script) -> SlotNote
         requires row { IsRowFor self.old.params controllers.old }
         requires reading { NoneLags self.old.params.lag controllers.old }
         requires left { length self.old.trace < self.old.params.slots }
         requires follows { Follows script.now self.old }
 
-        // The note is that of the nodes, whatever they have not read and of whichever incarnation they are.
+        // The note is that of the nodes, whatever they have not read and of whichever incarnation
+        // they are.
         ensures note { (nodes : List NodeState) → StandFor controllers.old nodes
             → result ≡ slot_note_of (script_of script.now) (record { trace = self.old.trace; nodes = nodes }) }
 

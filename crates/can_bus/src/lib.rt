@@ -1,5 +1,5 @@
-//! The bus: one slot at a time, the controllers that run compete, the fault script says what comes of it, and each of them
-//! learns its share.
+//! The bus: one slot at a time, the controllers that run compete, the fault script says what comes
+//! of it, and each of them learns its share.
 #![tactic(auto)]
 
 mod bus;

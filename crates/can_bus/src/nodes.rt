@@ -11,12 +11,6 @@ use crate::offers::offer_of;
 use can_controller::Controller;
 use cany_base::{NodeId, NodeSet};
 
-pub(crate) fn nobody() -> NodeSet
-    ensures { result ≡ record { bits = 0 } }
-{
-    NodeSet::of_bits(0)
-}
-
 /// Puts node i into the set if its controller runs.
 pub(crate) fn insert_running(set: &mut NodeSet, i: usize, controller: &Controller)
     requires { i < most_nodes }
@@ -44,8 +38,8 @@ pub(crate) fn running_and_offering(controllers: &[Controller]) -> (NodeSet, Node
     ensures running { result.0 ≡ running_nodes (nodes_of controllers.now) }
     ensures offering { AreOffering (nodes_of controllers.now) result.1 }
 {
-    let mut running = nobody();
-    let mut offering = nobody();
+    let mut running = NodeSet::empty();
+    let mut offering = NodeSet::empty();
     for i in 0..controllers.len() {
         let controller = &controllers[i];
         insert_running(&mut running, i, controller);
@@ -54,8 +48,8 @@ pub(crate) fn running_and_offering(controllers: &[Controller]) -> (NodeSet, Node
     (running, offering)
 }
 
-/// Those of the nodes that run before the slot which do not run after it: the script names them, or they stopped by
-/// their counters.
+/// Those of the nodes that run before the slot which do not run after it: the script names them, or
+/// they stopped by their counters.
 pub(crate) fn stopping(before: NodeSet, after: NodeSet, scripted: NodeSet) -> NodeSet
     ensures { (i : ℕ) → has result i ≡ (has before i && not (has after i && not (has scripted i))) }
 {

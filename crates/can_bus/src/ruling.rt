@@ -11,7 +11,8 @@ use can_fault::laws::attempts_are_at_most_slots;
 use can_fault::{Attempts, Script};
 use cany_base::{NodeSet, Slot, Verdict};
 
-/// The ruling of the script on the slot: the verdict, and the nodes that it stops at the end. The attempt is counted.
+/// The ruling of the script on the slot: the verdict, and the nodes that it stops at the end. The
+/// attempt is counted.
 pub(crate) fn ruling(
     slot: Slot,
     outcome: &Outcome,

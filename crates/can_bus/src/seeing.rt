@@ -5,7 +5,7 @@ ghost use Rattle.can_bus.specs.Contest.{running_nodes, seen_by, stopped_by};
 ghost use Rattle.can_bus.specs.Each.{each};
 ghost use Rattle.can_bus.specs.Row.{HaveRoom, nodes_of};
 
-use crate::nodes::{insert_running, nobody};
+use crate::nodes::insert_running;
 use crate::transmission::share_of;
 use can_controller::Controller;
 use cany_base::{NodeId, NodeSet, Slot, SlotNote};
@@ -28,7 +28,7 @@ pub(crate) fn see_all(controllers: &mut [Controller], note: &SlotNote) -> NodeSe
     ensures controllers { controllers.new ≡ each (seen_by note.now) 0 controllers.old }
     ensures running { result ≡ running_nodes (nodes_of controllers.new) }
 {
-    let mut running = nobody();
+    let mut running = NodeSet::empty();
     for i in 0..controllers.len() {
         let controller = &mut controllers[i];
         see_share(controller, i, note);

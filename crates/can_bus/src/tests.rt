@@ -200,10 +200,10 @@ fn run_alone(
     Ok(bus)
 }
 
-/// The note of a slot: the first node sends the frame in the slots before slot 16, which are all lost, stops in the last of
-/// them, and leaves the bus idle.
+/// The note of a slot: the first node sends the frame in the slots before slot 16, which are all
+/// lost, stops in the last of them, and leaves the bus idle.
 fn lost_note(slot: Slot, frame: Frame) -> SlotNote {
-    let nobody = NodeSet::of_bits(0);
+    let nobody = NodeSet::empty();
     let first = NodeSet::of_bits(1);
     let sent = slot < 16;
     SlotNote {

@@ -7,7 +7,6 @@ ghost use Rattle.cany_model.specs.Bus.State.{NodeState};
 ghost use Rattle.can_bus.specs.Contest.{IsContestOf, running_nodes};
 ghost use Rattle.can_bus.specs.Rest.{idle_note};
 
-use crate::nodes::nobody;
 use can_arbiter::Outcome;
 use can_controller::Share;
 use cany_base::{NodeId, NodeSet, Slot, SlotNote, Verdict};
@@ -42,7 +41,7 @@ pub(crate) fn transmission(
             senders: *senders,
             takers: takers(running, *senders, verdict),
             verdict: *verdict,
-            stops: nobody(),
+            stops: NodeSet::empty(),
         },
         Outcome::Idle => idle_note(slot),
     }
@@ -55,10 +54,10 @@ pub(crate) fn idle_note(slot: Slot) -> SlotNote
     SlotNote {
         slot,
         frame: None,
-        senders: nobody(),
-        takers: nobody(),
+        senders: NodeSet::empty(),
+        takers: NodeSet::empty(),
         verdict: Verdict::Clean,
-        stops: nobody(),
+        stops: NodeSet::empty(),
     }
 }
 

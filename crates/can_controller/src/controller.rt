@@ -17,9 +17,10 @@ use circular_buffer::HeapCircularBuffer;
 use std::alloc::Global;
 use std::marker::Model;
 
-/// The controller of a node. It waits with frames, at most one of an identity, and offers the one that wins, slot after slot,
-/// until it was sent with success. It counts errors (CAN Specification 2.0 Part B, 8) and stops where a counter exceeds
-/// `GREATEST_ERROR_COUNTER`, which is this project's own rule. It keeps the notices of the slots until its node reads them.
+/// The controller of a node. It waits with frames, at most one of an identity, and offers the one
+/// that wins, slot after slot, until it was sent with success. It counts errors (CAN Specification
+/// 2.0 Part B, 8) and stops where a counter exceeds `GREATEST_ERROR_COUNTER`, which is this
+/// project's own rule. It keeps the notices of the slots until its node reads them.
 ///
 /// All memory is taken by `build`.
 #[derive(Debug, Drop)]
@@ -46,7 +47,8 @@ impl Model for Controller {
 }
 
 impl Controller {
-    /// A running controller of the node, with room for so many waiting frames and for one unread notice more than the lag.
+    /// A running controller of the node, with room for so many waiting frames and for one unread
+    /// notice more than the lag.
     pub fn build(
         alloc: Global,
         node: NodeId,
@@ -112,7 +114,8 @@ impl Controller {
         self.waiting.spare()
     }
 
-    /// The waiting frame that wins over the others, which is the one that the controller offers in a slot.
+    /// The waiting frame that wins over the others, which is the one that the controller offers in
+    /// a slot.
     pub fn best(&self) -> Option<Frame>
         ensures none { IsNone result ↔ (self.now.waiting ≡ []) }
         ensures head { result ≡ slice_get self.now.waiting 0 }
@@ -126,8 +129,8 @@ impl Controller {
         self.waiting.first()
     }
 
-    /// What the controller did in a slot: it gets the notice, its counters change, a frame sent with success waits no longer, and
-    /// where a counter exceeds the limit it stops.
+    /// What the controller did in a slot: it gets the notice, its counters change, a frame sent
+    /// with success waits no longer, and where a counter exceeds the limit it stops.
     // A hint, since a run makes most of these calls in one place.
     #[inline(always)]
     pub fn see(&mut self, slot: Slot, share: Share)
@@ -154,8 +157,9 @@ impl Controller {
         }
     }
 
-    /// The controller starts again at the end of the slot, after its stop in this slot or an earlier one. It then runs, nothing
-    /// waits, nothing is unread, its counters are zero, and the next slot is the next to read. It takes no memory.
+    /// The controller starts again at the end of the slot, after its stop in this slot or an
+    /// earlier one. It then runs, nothing waits, nothing is unread, its counters are zero, and the
+    /// next slot is the next to read. It takes no memory.
     pub fn restart(&mut self, slot: Slot)
         requires { HasStoppedBy slot self.old }
         ensures { self.new ≡ restarted_at slot self.old }
@@ -174,7 +178,8 @@ impl Controller {
         self.stopped
     }
 
-    /// The oldest unread notice, which is then read. What `read` gives stays at the greatest `u64` once it is there.
+    /// The oldest unread notice, which is then read. What `read` gives stays at the greatest `u64`
+    /// once it is there.
     pub fn next_notice(&mut self) -> Option<Notice>
         ensures all_read { IsNone result ↔ (self.old.unread ≡ []) }
         ensures oldest { result ≡ slice_get self.old.unread 0 }
@@ -195,11 +200,13 @@ impl Controller {
         self.notices.len() as u32
     }
 
-    /// Whether the controller waits with nothing and its node has read every notice. If it runs too, a slot in which nobody offers a
-    /// frame changes nothing of it but that one notice more is to be read.
+    /// Whether the controller waits with nothing and its node has read every notice. If it runs
+    /// too, a slot in which nobody offers a frame changes nothing of it but that one notice more is
+    /// to be read.
     pub fn has_nothing_to_do(&self) -> bool
         ensures waiting { result ≡ true → self.now.waiting ≡ [] }
         ensures unread { result ≡ true → self.now.unread ≡ [] }
+        ensures exact { self.now.waiting ≡ [] → self.now.unread ≡ [] → result ≡ true }
     {
         self.waiting.is_empty() && self.notices.is_empty()
     }
@@ -212,8 +219,8 @@ impl Controller {
         self.read += slots;
     }
 
-    /// The next slot to read. Of a controller that has never started again this is how many notices were read; a restart passes
-    /// over the slots that are unread when it comes.
+    /// The next slot to read. Of a controller that has never started again this is how many notices
+    /// were read; a restart passes over the slots that are unread when it comes.
     pub fn read(&self) -> u64
         ensures { result ≡ self.now.read }
     {

@@ -1,5 +1,5 @@
-//! What ties the calls of a controller to the definitions of a run, each law as the contract of a function that does
-//! nothing.
+//! What ties the calls of a controller to the definitions of a run, each law as the contract of a
+//! function that does nothing.
 ghost use Rattle.std.specs.Prelude.{◌≡◌, ◌==◌, ◌/◌, ◌^◌, ℕ, false, All, None};
 ghost use Rattle.cany_base.specs.declared.slot_note.SlotNote.{SlotNote};
 ghost use Rattle.cany_base.specs.Frame.{FrameParts, identifier_of};
@@ -12,8 +12,8 @@ ghost use Rattle.can_controller.specs.Waiting.{IsAscending, LesserKeyWins};
 use crate::controller::Controller;
 use cany_base::Format;
 
-/// Frames that fit have one identity exactly where their identifiers are equal but for the low four bits, which tell the
-/// incarnation.
+/// Frames that fit have one identity exactly where their identifiers are equal but for the low four
+/// bits, which tell the incarnation.
 pub fn identifier_is_identity(format: Format)
     ensures { (a b : FrameParts) → FitsIdentifier format a → FitsIdentifier format b →
         same_identity (identity_of a) (identity_of b) ≡ (identifier_of format a / 2 ^ 4 == identifier_of format b / 2 ^ 4) }
@@ -24,8 +24,9 @@ pub fn lesser_key_wins(format: Format)
     ensures { LesserKeyWins format }
 {}
 
-/// A running controller that sees its share in a slot, and then stops where the note of the slot stops its node, is the
-/// node after the slot. The note is one that stops a node whose counters exceed the limit.
+/// A running controller that sees its share in a slot, and then stops where the note of the slot
+/// stops its node, is the node after the slot. The note is one that stops a node whose counters
+/// exceed the limit.
 pub fn seen_is_node_after()
     ensures { (i : ℕ) (note : SlotNote) (c : ControllerState) → SeenIsNodeAfter i note c }
 {}

@@ -1,4 +1,5 @@
-//! The controller of a node: the frames that wait to be sent, the error counters, and the notices of the slots.
+//! The controller of a node: the frames that wait to be sent, the error counters, and the notices
+//! of the slots.
 #![tactic(auto)]
 
 mod controller;

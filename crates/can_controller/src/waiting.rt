@@ -1,4 +1,4 @@
-ghost use Rattle.std.specs.Prelude.{◌≡◌, ◌≢◌, ◌<◌, ◌+◌, ◌==◌, ◌⊎◌, true, false, not, [], length, filter, slice_get, All, IfOk, IfErr, IfSome, IfNone};
+ghost use Rattle.std.specs.Prelude.{◌≡◌, ◌≢◌, ◌<◌, ◌+◌, ◌==◌, ◌↔◌, ◌⊎◌, true, false, not, [], length, filter, slice_get, All, IfOk, IfErr, IfSome, IfNone};
 ghost use Rattle.std.specs.List.{list_any};
 ghost use Rattle.cany_base.specs.Frame.{FrameParts, has_incarnation, identifier_of, key_of};
 ghost use Rattle.cany_model.specs.Bus.Frames.{identity_of};
@@ -15,8 +15,8 @@ use cany_model::Share;
 use std::alloc::Global;
 use std::marker::Model;
 
-/// The frames that a controller waits to send, at most one of an identity. They stand ascending by identity, which is the order in
-/// which they win, in memory that is all taken at the start.
+/// The frames that a controller waits to send, at most one of an identity. They stand ascending by
+/// identity, which is the order in which they win, in memory that is all taken at the start.
 #[derive(Debug, Drop)]
 pub(crate) struct Waiting {
     format: Format,
@@ -46,7 +46,8 @@ fn identity_number(format: Format, frame: &Frame) -> u32
 
 /// The place of the frame of this identity, or else the place at which it would stand.
 ///
-/// It is written by hand since std's search may ask for the key of any frame, and only one that fits has an identifier.
+/// It is written by hand since std's search may ask for the key of any frame, and only one that
+/// fits has an identifier.
 fn find(format: Format, frames: &[Frame], number: u32) -> Result<usize, usize>
     requires fit { All (FitsIdentifier format) frames.now }
     requires ascending { IsAscending format frames.now }
@@ -153,7 +154,8 @@ impl Waiting {
         }
     }
 
-    /// Removes the frame of this frame's identity, if there is one. This frame may be one that fits no identifier.
+    /// Removes the frame of this frame's identity, if there is one. This frame may be one that fits
+    /// no identifier.
     fn drop_frame(&mut self, frame: &Frame)
         ensures { let others = without (identity_of frame.now) self.old.frames in
             self.new ≡ record self.old { frames = others } }
@@ -196,7 +198,7 @@ impl Waiting {
 
     /// Whether no frame waits.
     pub(crate) fn is_empty(&self) -> bool
-        ensures { result ≡ true → self.now.frames ≡ [] }
+        ensures { (result ≡ true) ↔ (self.now.frames ≡ []) }
     {
         self.frames.is_empty()
     }

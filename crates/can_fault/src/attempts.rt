@@ -42,8 +42,8 @@ impl Attempts {
         Ok(Attempts { counts })
     }
 
-    /// Counts an attempt to carry the frame, and gives its number, counted from 1. For a frame that no rule names the
-    /// number is 0.
+    /// Counts an attempt to carry the frame, and gives its number, counted from 1. For a frame that
+    /// no rule names the number is 0.
     ///
     /// A count stands still at the end of its type, which no run of a scenario reaches.
     pub fn count(&mut self, frame: &Frame) -> u32

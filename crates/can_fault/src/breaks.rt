@@ -9,7 +9,8 @@ use cany_base::{Frame, Memory, Params, SlotNote, Verdict};
 use cany_model::BreakKind;
 use std::alloc::Global;
 
-/// Decides of each slot which clause of the fault hypothesis it breaks. It is kept of the slots of a run that breaks none.
+/// Decides of each slot which clause of the fault hypothesis it breaks. It is kept of the slots of
+/// a run that breaks none.
 #[derive(Drop)]
 pub(crate) struct Breaks {
     omit: u32,
@@ -47,7 +48,8 @@ impl Breaks {
         ensures limits { HasLimitsOf self.old self.new }
         ensures room { self.new.counts.room ≡ self.old.counts.room }
     {
-        // The clauses are tried in the order of the definition: Silent, then omissions, then errors.
+        // The clauses are tried in the order of the definition: Silent, then omissions, then
+        // errors.
         match note.verdict {
             Verdict::Clean => None,
             Verdict::Silent(_) => Some(BreakKind::Silent),

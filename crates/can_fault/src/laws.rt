@@ -12,7 +12,8 @@ pub fn attempts_are_at_most_slots()
     ensures { (rules : List Rule) (trace : List SlotNote) (f : FrameParts) → next_attempt rules trace f ≤ length trace + 1 }
 {}
 
-/// A rule makes at most one Partial slot. So there is room for a Partial slot in a tally with room for each rule.
+/// A rule makes at most one Partial slot. So there is room for a Partial slot in a tally with room
+/// for each rule.
 pub fn partial_slots_are_fewer_than_rules()
     ensures { (rules : List Rule) (trace : List SlotNote) (note : SlotNote) → IsRuledBy rules (note ∷ trace) → is_partial_slot note ≡ true
         → count_by is_partial_slot trace < length rules }

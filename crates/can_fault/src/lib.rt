@@ -1,4 +1,5 @@
-//! The fault side of the bus: what the scripted rules say of each slot, and whether the run keeps the fault hypothesis.
+//! The fault side of the bus: what the scripted rules say of each slot, and whether the run keeps
+//! the fault hypothesis.
 #![tactic(auto)]
 
 mod attempts;

@@ -98,10 +98,12 @@ impl Script {
         self.rules.as_slice()
     }
 
-    /// The verdict on a slot, and the nodes that stop at its end. `carried` is the frame that the slot carries, with the
-    /// number of the attempt to carry it, counted from 1. For a frame that no rule names any number will do.
+    /// The verdict on a slot, and the nodes that stop at its end. `carried` is the frame that the
+    /// slot carries, with the number of the attempt to carry it, counted from 1. For a frame that
+    /// no rule names any number will do.
     ///
-    /// That a rule for the slot is used alone, though the attempt has one too, is this project's own rule.
+    /// That a rule for the slot is used alone, though the attempt has one too, is this project's
+    /// own rule.
     pub fn verdict(&self, slot: Slot, carried: Option<(Frame, u32)>) -> (Verdict, NodeSet)
         ensures ruling { record { verdict = result.0; stop = result.1 } ≡ ruling_of (rule_for self.now slot carried) }
         ensures script { (trace : List SlotNote) → slot ≡ length trace → IsCounted self.now trace carried

@@ -11,10 +11,12 @@ use cany_model::Break;
 use std::alloc::Global;
 use std::marker::Model;
 
-/// Tells whether a run keeps the fault hypothesis, from the notes of its slots, and where it first does not.
+/// Tells whether a run keeps the fault hypothesis, from the notes of its slots, and where it first
+/// does not.
 ///
-/// Of the run it keeps a hash map of the counts of Partial slots, a ring of the newest slots of errors, one more than a
-/// window may have, and a few numbers. All memory is taken when it is built.
+/// Of the run it keeps a hash map of the counts of Partial slots, a ring of the newest slots of
+/// errors, one more than a window may have, and a few numbers. All memory is taken when it is
+/// built.
 #[derive(Drop)]
 pub struct Tally {
     params: Params,

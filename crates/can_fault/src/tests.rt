@@ -147,7 +147,8 @@ fn lost_slots_break_at_the_third(rt: HostRuntime) -> Result<(), Fail> {
     Ok(())
 }
 
-/// Two Lost slots at these places, with idle slots around them. A verdict on an idle slot is no error.
+/// Two Lost slots at these places, with idle slots around them. A verdict on an idle slot is no
+/// error.
 fn break_of_two_lost(alloc: Global, first: usize, second: usize) -> Result<Option<Break>, Fail>
     requires first { first < 8 }
     requires second { second < 8 }

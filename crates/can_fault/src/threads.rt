@@ -1,4 +1,5 @@
-//! The script, the counts and the tally may move to another thread and be shared by threads, as the bounds below show.
+//! The script, the counts and the tally may move to another thread and be shared by threads, as the
+//! bounds below show.
 
 use crate::attempts::Attempts;
 use crate::script::{Script, ScriptFault};

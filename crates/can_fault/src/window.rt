@@ -42,7 +42,8 @@ impl ErrorWindow {
         })
     }
 
-    /// Notes a Lost or Partial slot, and says whether the window that ends there has too many of them.
+    /// Notes a Lost or Partial slot, and says whether the window that ends there has too many of
+    /// them.
     pub(crate) fn note(&mut self, slot: Slot) -> bool
         ensures noted { self.new ≡ record self.old { recent = take (self.old.errors + 1) (slot ∷ self.old.recent) } }
         ensures crowded { result ≡ is_crowded self.new slot }

@@ -236,39 +236,47 @@ turned all front back n e len =
     take_front (x ∷ xs) ys = ap (λ (zs : List ℕ). x ∷ zs) (take_front xs ys)
 
 -- what the work came to, for the caller
-pub record IsShift (old new : List ℕ) (held : Option (ℕ × ℕ)) : Type 0 where
+pub record IsOutcome (old new : List ℕ) (held : Option (ℕ × ℕ)) : Type 0 where
   pub fell : NoneFell old new
   pub passed : IfNone held (new ≡ old)
   pub refused : IfSome held (λ found. HasRefused found.0 old new)
 
-shift_of : {L B G : Type 0} (before after : List (Assignment L B G)) (old others new : List ℕ) (held : Option (ℕ × ℕ)) → AreFrom 0 before → AreAfterWork before after
-    → counts_of before ++ others ≡ old → new ≡ counts_of after ++ others → held ≡ first_refused after → IsShift old new held
-shift_of before after old others new held from h was now is =
+of_node : {P : ℕ → Type 0} (o : Option (ℕ × ℕ)) → ((at slot : ℕ) → o ≡ Some (at, slot) → P at) → IfSome o (λ found. P found.0)
+of_node None f = tt
+of_node (Some x) f = f x.0 x.1 refl
+
+-- a pass that was refused is that of one of the nodes
+pub held_within : {L B G : Type 0} (before after : List (Assignment L B G)) (held : Option (ℕ × ℕ)) (n : ℕ) → AreFrom 0 before → AreAfterWork before after
+    → length (counts_of before) ≡ n → held ≡ first_refused after → IfSome held (λ found. found.0 < n)
+held_within before after held n from h count is =
     let so = counted 0 before after from h in
     let len = so.fell.len in
-    let with_old : IsShift (counts_of before ++ others) (counts_of after ++ others) held = record {
+    of_node held (λ at slot e. let below = (so.found at slot (sym is ∙ e)).1.0 in omega (arith, below, len, count))
+
+outcome_of : {L B G : Type 0} (before after : List (Assignment L B G)) (old others new : List ℕ) (held : Option (ℕ × ℕ)) → AreFrom 0 before → AreAfterWork before after
+    → counts_of before ++ others ≡ old → new ≡ counts_of after ++ others → held ≡ first_refused after → IsOutcome old new held
+outcome_of before after old others new held from h was now is =
+    let so = counted 0 before after from h in
+    let len = so.fell.len in
+    let with_old : IsOutcome (counts_of before ++ others) (counts_of after ++ others) held = record {
       fell = fell_with (counts_of before) (counts_of after) others so.fell;
       passed = passed held (λ none. ap (λ (c : List ℕ). c ++ others) (so.passed (sym is ∙ none)));
-      refused = refused held (λ at slot e.
+      refused = of_node held (λ at slot e.
           let f = so.found at slot (sym is ∙ e) in
           refused_with at (counts_of before) (counts_of after) others len (subst (λ k. HasRefused k (counts_of before) (counts_of after)) (let le = f.0 in omega arith) f.1));
     } in
-    subst (λ (c : List ℕ). IsShift old c held) (sym now) (subst (λ (c : List ℕ). IsShift c (counts_of after ++ others) held) was with_old)
+    subst (λ (c : List ℕ). IsOutcome old c held) (sym now) (subst (λ (c : List ℕ). IsOutcome c (counts_of after ++ others) held) was with_old)
   where
     passed : {P : Type 0} (o : Option (ℕ × ℕ)) → (o ≡ None → P) → IfNone o P
     passed None f = f refl
     passed (Some x) f = tt
 
-    refused : {P : ℕ → Type 0} (o : Option (ℕ × ℕ)) → ((at slot : ℕ) → o ≡ Some (at, slot) → P at) → IfSome o (λ found. P found.0)
-    refused None f = tt
-    refused (Some x) f = f x.0 x.1 refl
-
 -- the gates went behind the others and were turned to the front
-pub shift_is : {L B G X : Type 0} (refusals : X → ℕ) (before after : List (Assignment L B G)) (old others back new : List X) (held : Option (ℕ × ℕ)) (n : ℕ)
+pub outcome_is : {L B G X : Type 0} (refusals : X → ℕ) (before after : List (Assignment L B G)) (old others back new : List X) (held : Option (ℕ × ℕ)) (n : ℕ)
     → AreFrom 0 before → AreAfterWork before after → length (counts_of before) ≡ n
     → counts_of before ++ map refusals others ≡ map refusals old → map refusals back ≡ map refusals others ++ counts_of after
-    → new ≡ drop (length back - n) back ++ take (length back - n) back → held ≡ first_refused after → IsShift (map refusals old) (map refusals new) held
-shift_is {X = X} refusals before after old others back new held n from h count was came turn is =
+    → new ≡ drop (length back - n) back ++ take (length back - n) back → held ≡ first_refused after → IsOutcome (map refusals old) (map refusals new) held
+outcome_is {X = X} refusals before after old others back new held n from h count was came turn is =
     let so = counted 0 before after from h in
     let len : length (counts_of after) ≡ n = so.fell.len ∙ count in
     let same : length (map refusals back) ≡ length back = length-map back refusals in
@@ -278,7 +286,7 @@ shift_is {X = X} refusals before after old others back new held n from h count w
     ∙ ap (λ (xs : List ℕ). drop (length back - n) (map refusals back) ++ xs) (map_take (length back - n) back)
     ∙ ap (λ k. drop (k - n) (map refusals back) ++ take (k - n) (map refusals back)) (sym same)
     ∙ turned (map refusals back) (counts_of after) (map refusals others) n came len in
-    shift_of before after (map refusals old) (map refusals others) (map refusals new) held from h was now is
+    outcome_of before after (map refusals old) (map refusals others) (map refusals new) held from h was now is
   where
     map_drop : (k : ℕ) (xs : List X) → map refusals (drop k xs) ≡ drop k (map refusals xs)
     map_drop zero xs = refl

@@ -40,7 +40,7 @@ pub record IsWorked (before after : AssignmentParts) : Type 0 where
   pub node : after.node ≡ before.node
   pub gate : CountsRefusal before.refusals after.refused after.refusals
 
--- what the work makes of a assignment
+-- what the work makes of an assignment
 abbrev pub IsAfterWork : {L B G : Type 0} → Assignment L B G → Assignment L B G → Type 0
 IsAfterWork (Bus seat) (Bus seat') = Unit {0}
 IsAfterWork (Bus seat) (Node assignment) = ⊥

@@ -8,8 +8,8 @@ use Rattle.cany_text.specs.RefusalLines.{journal_given_line, scenario_refusal_li
 use Rattle.cany_text.specs.Report.{report}
 use Rattle.cany_text.specs.ScenarioText.{scenario_of}
 use Rattle.cany_text.specs.TomlKeys.{Read}
-use Rattle.cany_replay.specs.Status as replay
-use Rattle.cany_replay.specs.Top.{PromisesHold}
+use Rattle.cany_command.specs.Promises.{PromisesHold}
+use Rattle.cany_command.specs.Status as all
 
 -- the words are the one word of the command
 abbrev pub AreRun : List (List ℕ) → Type 0
@@ -55,4 +55,4 @@ TakesStart bytes old new = (text : List ℕ) × IsAnswer bytes text × TakesPref
 
 -- nothing was written
 abbrev pub HasNoAnswer : ℕ → Type 0
-HasNoAnswer status = replay.HasNoAnswer status ⊎ (status ≡ HELD)
+HasNoAnswer status = all.HasNoAnswer status ⊎ (status ≡ HELD)

@@ -32,7 +32,8 @@ impl<L: Course, B: Ledger, G: Gate> Rooms<L, B, G> {
     }
 }
 
-/// The assignment of the bus, and then those of the nodes in their order. The first gate is that of the first node.
+/// The assignment of the bus, and then those of the nodes in their order. The first gate is that of
+/// the first node.
 pub(crate) fn fill_assignments<L: Course, B: Ledger, G: Gate>(
     assignments: &mut Vec<Assignment<L, B, G>>,
     bus: BusSeat<L, B>,
@@ -79,7 +80,8 @@ pub(crate) fn first_refused<L: Course, B: Ledger, G: Gate>(
     None
 }
 
-/// Takes the assignments apart: seats and gates go behind those that are there. Gives the seat of the bus.
+/// Takes the assignments apart: seats and gates go behind those that are there. Gives the seat of
+/// the bus.
 pub(crate) fn empty_assignments<L: Course, B: Ledger, G: Gate>(
     mut assignments: Vec<Assignment<L, B, G>>,
     seats: &mut Vec<Seat<L, B>>,

@@ -1,5 +1,5 @@
 //! A run whose steps are made by threads.
-ghost use Rattle.std.specs.Prelude.{◌≡◌, ◌≤◌, [], map, IfOk, IfErr, vec_len};
+ghost use Rattle.std.specs.Prelude.{◌≡◌, ◌<◌, ◌≤◌, [], map, IfOk, IfErr, vec_len};
 ghost use Rattle.cany_crew.specs.Gates.{HasRefused, NoneFell};
 ghost use Rattle.cany_crew.specs.Held.{IfHeld, IfMemory, world_of};
 ghost use Rattle.cany_model.specs.Runs.Run.{IsLegal, IsWhole};
@@ -7,8 +7,8 @@ ghost use Rattle.cany_model.specs.Runs.Run.{IsLegal, IsWhole};
 use crate::assigning::Rooms;
 use crate::finish::finish;
 use crate::gate::Gate;
+use crate::lending::work_seats;
 use crate::nodes::nodes_of;
-use crate::shift::work_seats;
 use crate::signals::Signals;
 use crate::worker::Work;
 use cany_base::{NodeId, Slot};
@@ -23,7 +23,8 @@ use std::thread::Threads;
 /// Why a run did not end. The world is handed back.
 #[derive(Drop)]
 pub enum CrewFault {
-    /// The gate of the node refused the turn that was to read this slot or, after a restart, a later one.
+    /// The gate of the node refused the turn that was to read this slot or, after a restart, a
+    /// later one.
     Held {
         world: World,
         node: NodeId,
@@ -36,7 +37,7 @@ pub enum CrewFault {
 }
 
 /// `crew_run` under the names of the two blanks.
-fn run_as<L: Course + Send + Sync, B: Ledger + Send + Sync, G: Gate, R: Threads + Wait + Sync>(
+fn run_as<R: Threads + Wait + Sync, L: Course + Send + Sync, B: Ledger + Send + Sync, G: Gate>(
     rt: &R,
     alloc: Global,
     turns: Blank,
@@ -52,6 +53,7 @@ fn run_as<L: Course + Send + Sync, B: Ledger + Send + Sync, G: Gate, R: Threads 
     ensures scenario { IfOk result (λ ended. ended.scenario ≡ world.scenario) }
     ensures ended { IfOk result (λ ended. IsLegal ended.scenario ended.journal × IsWhole ended.scenario ended.journal) }
     ensures passed { IfOk result (λ _. map G.refusals gates.new.items ≡ map G.refusals gates.old.items) }
+    ensures node { IfErr result (λ fault. IfHeld fault (λ node. node < world.scenario.params.nodes)) }
     ensures held { IfErr result (λ fault. IfHeld fault (λ node. HasRefused node (map G.refusals gates.old.items) (map G.refusals gates.new.items))) }
     ensures count { NoneFell (map G.refusals gates.old.items) (map G.refusals gates.new.items) }
     ensures back { IfErr result (λ fault. (world_of fault).scenario ≡ world.scenario) }
@@ -85,18 +87,19 @@ fn run_as<L: Course + Send + Sync, B: Ledger + Send + Sync, G: Gate, R: Threads 
     }
 }
 
-/// Runs the scenario of the world to its end by a thread for each node and one for the bus. The gate at place i is that of
-/// node i, and gates stand at their old places after the call.
+/// Runs the scenario of the world to its end by a thread for each node and one for the bus. The
+/// gate at place i is that of node i, and gates stand at their old places after the call.
 ///
-/// The worker of a node asks its gate before the turn of each slot, outside the lock. After a refusal each worker ends at its
-/// next step, and `Held` names the least node whose pass was refused. A worker that has waited two seconds for a step of another
-/// ends too, as it may while a gate takes longer to answer. The steps that the workers have left are made after them, and ask the
-/// gates too. The call may wait for its threads, which may wait for one another at the lock.
+/// The worker of a node asks its gate before the turn of each slot, outside the lock. After a
+/// refusal each worker ends at its next step, and `Held` names the least node whose pass was
+/// refused. A worker that has waited two seconds for a step of another ends too, as it may while a
+/// gate takes longer to answer. The steps that the workers have left are made after them, and ask
+/// the gates too. The call may wait for its threads, which may wait for one another at the lock.
 ///
 /// # Errors
 ///
 /// `Held` only where the gate of that node refused a pass, and `Memory` for want of memory.
-pub fn crew_run<G: Gate, R: Threads + Wait + Sync>(
+pub fn crew_run<R: Threads + Wait + Sync, G: Gate>(
     rt: &R,
     alloc: Global,
     world: World,
@@ -109,8 +112,10 @@ pub fn crew_run<G: Gate, R: Threads + Wait + Sync>(
     ensures scenario { IfOk result (λ ended. ended.scenario ≡ world.scenario) }
     ensures ended { IfOk result (λ ended. IsLegal ended.scenario ended.journal × IsWhole ended.scenario ended.journal) }
 
-    // No gate's count rose in a run that ended, and that of the node named rose in one that is held.
+    // No gate's count rose in a run that ended, and that of the node named, one of the bus, rose in
+    // one that is held.
     ensures passed { IfOk result (λ _. map G.refusals gates.new.items ≡ map G.refusals gates.old.items) }
+    ensures node { IfErr result (λ fault. IfHeld fault (λ node. node < world.scenario.params.nodes)) }
     ensures held { IfErr result (λ fault. IfHeld fault (λ node. HasRefused node (map G.refusals gates.old.items) (map G.refusals gates.new.items))) }
     ensures count { NoneFell (map G.refusals gates.old.items) (map G.refusals gates.new.items) }
 
@@ -119,5 +124,5 @@ pub fn crew_run<G: Gate, R: Threads + Wait + Sync>(
     ensures memory { IfErr result (λ fault. IfMemory fault (λ back. back ≡ world)) }
 {
     let turns = Blank::new(u64::from(nodes_of(world.scenario())));
-    run_as::<Brand, Brand, G, R>(rt, alloc, turns, Blank::new(1), world, gates)
+    run_as::<R, Brand, Brand, G>(rt, alloc, turns, Blank::new(1), world, gates)
 }

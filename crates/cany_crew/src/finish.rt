@@ -35,7 +35,8 @@ fn first_unread(world: &World) -> Option<NodeId>
     None
 }
 
-/// A step that can be made, while the world has not ended: a turn where there is one, and otherwise the next slot.
+/// A step that can be made, while the world has not ended: a turn where there is one, and otherwise
+/// the next slot.
 fn next_step(world: &World) -> Option<Step>
     ensures done { IfSome result (λ step. is_done (reply world.now.scenario (state_of world.now) step) ≡ true) }
     ensures legal { IfSome result (λ step. IsLegal world.now.scenario (world.now.journal ++ step ∷ [])) }
@@ -52,13 +53,14 @@ fn next_step(world: &World) -> Option<Step>
     }
 }
 
-/// Makes the steps that are left until the world has ended, and asks the node's gate before each turn. Stops at the first pass
-/// that is refused, and gives its node and its slot.
+/// Makes the steps that are left until the world has ended, and asks the node's gate before each
+/// turn. Stops at the first pass that is refused, and gives its node and its slot.
 pub(crate) fn finish<G: Gate>(world: &mut World, gates: &mut Vec<G>) -> Option<(NodeId, Slot)>
     requires { world.old.scenario.params.nodes ≤ vec_len gates.old }
     ensures scenario { world.new.scenario ≡ world.old.scenario }
     ensures ended { IfNone result (IsLegal world.new.scenario world.new.journal × IsWhole world.new.scenario world.new.journal) }
     ensures passed { IfNone result (map G.refusals gates.new.items ≡ map G.refusals gates.old.items) }
+    ensures node { IfSome result (λ found. found.0 < world.old.scenario.params.nodes) }
     ensures held { IfSome result (λ found. HasRefused found.0 (map G.refusals gates.old.items) (map G.refusals gates.new.items)) }
     ensures count { NoneFell (map G.refusals gates.old.items) (map G.refusals gates.new.items) }
 {

@@ -4,13 +4,15 @@ ghost use Rattle.cany_io.specs.Faults.{HasRisen};
 
 use cany_base::{NodeId, Slot};
 
-/// What lets a node take its turn. Each node has a gate of its own, which its worker holds while it runs, in whatever thread.
+/// What lets a node take its turn. Each node has a gate of its own, which its worker holds while it
+/// runs, in whatever thread.
 pub trait Gate: Send + Drop {
-    /// How often a pass was refused. It never falls, and stands still at the last number of 64 bits.
+    /// How often a pass was refused. It never falls, and stands still at the last number of 64
+    /// bits.
     ghost refusals: { Self → ℕ };
 
-    /// Whether the node may take its next turn, the one that reads this slot or, after a restart, a later one. The gate may take its
-    /// time before it answers.
+    /// Whether the node may take its next turn, the one that reads this slot or, after a restart, a
+    /// later one. The gate may take its time before it answers.
     fn pass(&mut self, node: NodeId, slot: Slot) -> bool
         ensures count { refusals self.old ≤ refusals self.new }
         ensures passed { result ≡ true → refusals self.new ≡ refusals self.old }

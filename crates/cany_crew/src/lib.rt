@@ -1,7 +1,8 @@
 //! The command `run`: a thread for each node and one for the bus, on one world under one lock.
 //!
-//! A worker asks its gate outside the lock and makes one step each time it holds the lock. Nothing that a worker learnt under
-//! the lock is relied on: when all have ended the world is taken out of the lock, and the caller makes the steps that are left.
+//! A worker asks its gate outside the lock and makes one step each time it holds the lock. Nothing
+//! that a worker learnt under the lock is relied on: when all have ended the world is taken out of
+//! the lock, and the caller makes the steps that are left.
 #![tactic(auto)]
 
 mod assigning;
@@ -10,12 +11,13 @@ mod crew;
 mod finish;
 mod free_gate;
 mod gate;
+mod lending;
 mod nodes;
-mod shift;
 mod signals;
 pub mod status;
 #[cfg(test)]
 mod tests;
+mod threads;
 mod top;
 mod worker;
 mod workers;

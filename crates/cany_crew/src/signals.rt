@@ -4,14 +4,18 @@ use std::sync::Wait;
 use std::sync::atomic::{AtomicBool, AtomicU64, Ordering};
 use std::time::Duration;
 
-/// How long a worker is parked before it looks at an event count again, in milliseconds. An event wakes it.
+/// How long a worker waits for an event before it gives up, in milliseconds.
+const PATIENCE_MILLIS: u64 = 2_000;
+
+/// How long it is parked between two looks at the count of events, in milliseconds. An event wakes
+/// it earlier.
 const PARK_MILLIS: u64 = 10;
 
-/// How often a worker looks at an event count that stands still before it gives up: for two seconds in all.
-const MOST_LOOKS: u32 = 200;
+/// How often it looks at a count that stands still.
+const MOST_LOOKS: u64 = PATIENCE_MILLIS / PARK_MILLIS;
 
-/// A count of events that only rises. A worker whose step cannot be made waits here for the next event, and takes no lock
-/// meanwhile.
+/// A count of events that only rises. A worker whose step cannot be made waits here for the next
+/// event, and takes no lock meanwhile.
 #[derive(Drop)]
 pub(crate) struct EventCount {
     events: AtomicU64,
@@ -55,7 +59,8 @@ impl EventCount {
 pub(crate) struct Signals {
     halted: AtomicBool,
     over: AtomicBool,
-    /// The slots that ran, for the workers of nodes: a turn that cannot be made needs a notice, or a restart.
+    /// The slots that ran, for the workers of nodes: a turn that cannot be made needs a notice, or
+    /// a restart.
     pub(crate) slots: EventCount,
     /// The turns, for the worker of the bus: a slot that cannot run needs a node that reads.
     pub(crate) turns: EventCount,

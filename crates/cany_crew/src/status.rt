@@ -1,4 +1,4 @@
-//! The status that this command has besides those of the command `replay`.
+//! The status that this command has besides those of all commands.
 
 /// A gate refused a pass. Nothing was written.
 pub const HELD: u8 = 8;

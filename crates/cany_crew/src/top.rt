@@ -1,42 +1,32 @@
 //! The call behind the command `run`.
-ghost use Rattle.std.specs.Prelude.{◌≡◌, ◌⊎◌, ◌↔◌, ◌<◌, ◌≤◌, map, length, string_bytes, None, is_some, IsTrue, IfSome, IsOkAnd, IsSomeAnd, MatchOption, vec_len};
+ghost use Rattle.std.specs.Prelude.{◌≡◌, ◌⊎◌, ◌↔◌, ◌<◌, ◌≤◌, map, length, string_bytes, None, is_some, IfSome, IsOkAnd, IsSomeAnd, MatchOption, vec_len};
 ghost use Rattle.cany_base.specs.Limits.{most_nodes, most_text_bytes};
 ghost use Rattle.cany_crew.specs.Gates.{HasAnyRefused, NoneFell, NoneRefused};
 ghost use Rattle.cany_crew.specs.Top.{AreRun, HasNoAnswer, IsCrewRun, TakesReportStart, TakesStart, run_refusal};
 ghost use Rattle.cany_io.specs.Faults.{HasRisen, StandsStill};
-ghost use Rattle.cany_io.specs.Sink.{Takes, TakesPrefix};
+ghost use Rattle.cany_io.specs.Sink.{Takes};
 ghost use Rattle.cany_io.specs.Source.{IsAtEnd};
 ghost use Rattle.cany_text.specs.ScenarioText.{scenario_of};
-ghost use Rattle.cany_replay.specs.Status.{HasAnswered};
+ghost use Rattle.cany_command.specs.Status.{HasAnswered};
 
 use crate::crew::{CrewFault, crew_run};
 use crate::gate::Gate;
 use crate::nodes::nodes_of;
 use crate::status::HELD;
 use cany_base::Scenario;
-use cany_base::limits::MOST_TEXT_BYTES;
-use cany_io::{ReadFault, Sink, Source, read_all};
-use cany_log::Refusal;
-use cany_replay::status::{
+use cany_command::status::{
     DONE, NO_MEMORY, OTHER_WORDS, READ_FAULT, REFUSED, TOO_LONG, WRITE_FAULT,
 };
-use cany_replay::{is_memory, refuse, report_run, scenario_in};
-use cany_scenario::ScenarioFault;
+use cany_command::{is_memory, is_only, refuse, report_run, scenario_in, text_from};
+use cany_io::{Sink, Source};
+use cany_log::Refusal;
 use cany_world::World;
 use std::alloc::Global;
 use std::sync::Wait;
 use std::thread::Threads;
 
-fn is_run(words: &[String]) -> bool
-    ensures { IsTrue result ↔ AreRun (map string_bytes words.now) }
-{
-    match words {
-        [word] => word.as_str() == "run",
-        _ => false,
-    }
-}
-
-/// Runs a scenario that has no journal by threads, and writes the report. Nothing is written before the run has ended.
+/// Runs a scenario that has no journal by threads, and writes the report. Nothing is written before
+/// the run has ended.
 fn run_scenario<R: Threads + Wait + Sync, K: Sink, G: Gate>(
     rt: &R,
     alloc: Global,
@@ -58,7 +48,8 @@ fn run_scenario<R: Threads + Wait + Sync, K: Sink, G: Gate>(
     let Ok(world) = World::build(alloc, scenario) else {
         return NO_MEMORY;
     };
-    // What this call says of the number of nodes is a part of the contract here: there is a gate for each.
+    // What this call says of the number of nodes is a part of the contract here: there is a gate
+    // for each.
     nodes_of(scenario);
     match crew_run(rt, alloc, world, gates) {
         Ok(ended) => {
@@ -106,12 +97,13 @@ fn run_text<R: Threads + Wait + Sync, K: Sink, G: Gate>(
     }
 }
 
-/// Runs by threads: reads a scenario text from the source, runs the scenario by a thread for each node and one for the bus,
-/// and writes the report to the sink, a line at a time. The journal is the one that the threads made, and the report prints
-/// it. It answers the status of the program, one of those in `status` here and in `cany_replay`. The words are the one word
-/// `run`; causes are looked at in this order: the words, the reading, the text, a journal in the scenario, the gates, the
-/// writing. The gate at place i is that of node i, and gates stand at their old places after the call, which may wait for its
-/// threads.
+/// Runs by threads: reads a scenario text from the source, runs the scenario by a thread for each
+/// node and one for the bus, and writes the report to the sink, a line at a time. The journal is
+/// the one that the threads made, and the report prints it. It answers the status of the program,
+/// one of those in `status` here and in `cany_command`. The words are the one word `run`; causes
+/// are looked at in this order: the words, the reading, the text, a journal in the scenario, the
+/// gates, the writing. The gate at place i is that of node i, and gates stand at their old places
+/// after the call, which may wait for its threads.
 pub fn run_top<R: Threads + Wait + Sync, S: Source, K: Sink, G: Gate>(
     rt: &R,
     alloc: Global,
@@ -167,13 +159,11 @@ pub fn run_top<R: Threads + Wait + Sync, S: Source, K: Sink, G: Gate>(
         → StandsStill (S.faults source.old) (S.faults source.new)
         → IfSome (S.left source.old) (λ bytes. most_text_bytes < length bytes → (result ≡ NO_MEMORY) ⊎ (result ≡ TOO_LONG)) }
 {
-    if !is_run(words) {
+    if !is_only(words, "run") {
         return OTHER_WORDS;
     }
-    match read_all(alloc, source, MOST_TEXT_BYTES) {
+    match text_from(alloc, source) {
         Ok(text) => run_text(rt, alloc, text, sink, gates),
-        Err(ReadFault::Failed) => READ_FAULT,
-        Err(ReadFault::TooLong) => TOO_LONG,
-        Err(ReadFault::Memory) => NO_MEMORY,
+        Err(status) => status,
     }
 }

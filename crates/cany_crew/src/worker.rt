@@ -1,4 +1,5 @@
-//! What the workers do. Each makes a bounded number of calls, and waits for the lock or, for a bounded time, for a signal.
+//! What the workers do. Each makes a bounded number of calls, and waits for the lock or, for a
+//! bounded time, for a signal.
 ghost use Rattle.std.specs.Prelude.{◌≡◌};
 ghost use Rattle.cany_crew.specs.Gates.{CountsRefusal};
 ghost use Rattle.cany_crew.specs.Assignments.{IsAfterWork, IsWorked};
@@ -11,8 +12,8 @@ use cany_yard::{BusSeat, Course, Seat, StepReply, TurnReply, Yard};
 use std::sync::Wait;
 use std::sync::ledger::Ledger;
 
-/// How often in a row a worker tries a step that cannot be made yet. A node that has stopped tries at each slot, and a run
-/// has fewer.
+/// How often in a row a worker tries a step that cannot be made yet. A node that has stopped tries
+/// at each slot, and a run has fewer.
 const MOST_TRIES: u32 = 1_000_000;
 
 /// What all workers share.
@@ -23,8 +24,9 @@ pub(crate) struct Work<'a, L: Course, B: Ledger> {
     pub(crate) signals: &'a Signals,
 }
 
-/// Makes the next turn of the seat's node, and says which slot's notice it read. There is none where a gate has refused a
-/// pass, where no more notices come, or where none came for so long that the worker gives up.
+/// Makes the next turn of the seat's node, and says which slot's notice it read. There is none
+/// where a gate has refused a pass, where no more notices come, or where none came for so long that
+/// the worker gives up.
 fn take_turn<L: Course, B: Ledger, R: Wait>(
     rt: &R,
     work: &Work<'_, L, B>,
@@ -53,7 +55,8 @@ fn take_turn<L: Course, B: Ledger, R: Wait>(
     None
 }
 
-/// Takes the turns of a node, and asks its gate before each. Gives the slot of the pass that the gate refused.
+/// Takes the turns of a node, and asks its gate before each. Gives the slot of the pass that the
+/// gate refused.
 fn take_turns<L: Course, B: Ledger, G: Gate, R: Wait>(
     rt: &R,
     work: &Work<'_, L, B>,
@@ -133,7 +136,7 @@ fn work_bus<L: Course, B: Ledger, R: Wait>(rt: &R, work: &Work<'_, L, B>, bus: &
     work.signals.end();
 }
 
-/// Works a assignment until all slots ran, or were read.
+/// Works an assignment until all slots ran, or were read.
 pub(crate) fn work_assignment<L: Course, B: Ledger, G: Gate, R: Wait>(
     rt: &R,
     work: &Work<'_, L, B>,

@@ -11,7 +11,8 @@ use std::sync::ledger::Ledger;
 use std::thread;
 use std::thread::Threads;
 
-/// Works all assignments, each in a thread of its own. Where no thread can be made they are worked one after another.
+/// Works all assignments, each in a thread of its own. Where no thread can be made they are worked
+/// one after another.
 pub(crate) fn work_all<
     L: Course + Send + Sync,
     B: Ledger + Send + Sync,

@@ -1,10 +1,9 @@
 -- What EDCAN does at a notice, and that the value then stands for one notice more.
-use Rattle.std.specs.Prelude.{nat_lt, nat_le}
+use Rattle.std.specs.Prelude.{nat_lt}
 use Rattle.std.specs.List.{list_any}
 use Rattle.std.proofs.Common.{◌≡◌, ℕ, ◌+◌, ◌<◌, ◌==◌, ◌&&◌, ◌||◌, Bool, true, false, if◌then◌else◌, not, List, [], ◌∷◌, ◌++◌, refl, ap, sym, ◌∙◌, subst, arith}
 use Rattle.cany_base.specs.declared.actions.Action.{Action}
 use Rattle.cany_base.specs.declared.class.Class.TheVariants as class
-use Rattle.cany_base.specs.declared.format.Format.{Format}
 use Rattle.cany_base.specs.declared.message.Service.TheVariants as service
 use Rattle.cany_base.specs.declared.notice.Notice.{Notice}
 use Rattle.cany_base.specs.declared.notice.NoticeKind.{NoticeKind}
@@ -12,9 +11,8 @@ use Rattle.cany_base.specs.declared.notice.NoticeKind.TheVariants.{Idle, Got, Se
 use Rattle.cany_base.specs.Frame.{FrameParts}
 use Rattle.cany_base.specs.Scenario.{ScenarioParts}
 use Rattle.cany_base.proofs.ParamsFacts.{few_slots}
-use Rattle.cany_diffuse.specs.declared.learnt.Learnt.TheVariants.{First, Again, Enough}
 use Rattle.cany_diffuse.specs.Eager.{copies_of, is_owned, learnt_of, IsLearnt, IsOwned}
-use Rattle.cany_message.specs.Actions.{delivery_actions}
+use Rattle.cany_message.specs.Actions.{delivery_actions, relay_actions}
 use Rattle.cany_base.specs.Limits.{most_nodes}
 use Rattle.can_frame.specs.Identifier.{HasSmallNumbers}
 use Rattle.cany_message.specs.Numbers.{frame_number}
@@ -23,6 +21,7 @@ use Rattle.cany_message.proofs.DeliveryFacts.{both_actions, delivery_got, delive
 use Rattle.cany_message.proofs.FollowedFacts.{legal_for, table_for}
 use Rattle.cany_message.proofs.HistoryFacts.{brought, has_own-more, identity_is}
 use Rattle.cany_message.proofs.NoticeFacts.{got_names, got_small, sent_names}
+use Rattle.cany_message.proofs.RelayFacts.{eager_is}
 use Rattle.cany_message.proofs.TableFacts.{IsOther, can_take, table_got, table_other, table_sent}
 use Rattle.cany_model.specs.Bus.Frames.{identity_of, same_class}
 use Rattle.cany_model.specs.Bus.History.{copies, has_own}
@@ -31,12 +30,11 @@ use Rattle.cany_model.specs.Rules.Actions.{actions_of}
 use Rattle.cany_model.specs.Rules.Delivery.{brings, delivery_effects}
 use Rattle.cany_model.specs.Rules.Eager.{eager_effects}
 use Rattle.cany_model.specs.Rules.Edcan.{edcan_at, edcan_effects}
-use Rattle.cany_model.specs.Rules.Effect.{Ask, Withdraw}
 use Rattle.cany_model.specs.Rules.Notices.{IsNextNotice}
 use Rattle.cany_model.specs.Rules.Turn.{scenario_for}
 use Rattle.cany_model.proofs.Bus.Identities.{same_class-true}
 use Rattle.cany_edcan.specs.Edcan.{EdcanParts, IsEdcanOf, CanRead, Rests, of_all}
-use Rattle.cany_edcan.specs.EdcanSteps.{was_delivered, relay_actions}
+use Rattle.cany_edcan.specs.EdcanSteps.{was_delivered}
 
 -- ---- what a caller meets
 
@@ -79,16 +77,6 @@ held : (before own more : Bool) → (before || (own && more)) ≡ (before || (ow
 held true own more = refl
 held false own more = refl
 
-relays : (format : Format) (omit c : ℕ) (own : Bool) (f : FrameParts)
-    → actions_of format (if nat_le (omit + 1) c then Withdraw (identity_of f) ∷ [] else if c == 1 && not own then Ask f ∷ [] else []) ≡ relay_actions format (learnt_of omit c own) f
-relays format omit c own f = go (nat_le (omit + 1) c) (c == 1 && not own)
-  where
-    go : (t u : Bool) → actions_of format (if t then Withdraw (identity_of f) ∷ [] else if u then Ask f ∷ [] else [])
-        ≡ relay_actions format (if t then Enough c else if u then First else Again c) f
-    go true u = refl
-    go false true = refl
-    go false false = refl
-
 module _ (scenario : ScenarioParts) (past : List NoticeKind) (v w : EdcanParts) (notice : Notice) (f : FrameParts) (h : IsEdcanOf scenario v.node past v)
     (next : IsNextNotice scenario past notice) (is : same_class f.class class.Ed ≡ true) (small : f.node < most_nodes) where
   ed : f.class ≡ class.Ed
@@ -121,9 +109,8 @@ module _ (scenario : ScenarioParts) (past : List NoticeKind) (v w : EdcanParts) 
 
   relay_is : IsEdcanOf scenario v.node (Got f ∷ past) w → actions_of scenario.params.format (eager_effects scenario.params.omit f (Got f ∷ past))
       ≡ relay_actions scenario.params.format (learnt_of v.copies.omit (copies_of w.copies (frame_number f)) (is_owned v.copies (frame_number f))) f
-  unfolding eager_effects
   relay_is after =
-      relays scenario.params.format scenario.params.omit (copies (identity_of f) (Got f ∷ past)) (has_own (identity_of f) (Got f ∷ past)) f
+      eager_is scenario.params.format scenario.params.omit f (Got f ∷ past)
       ∙ ap (λ x. relay_actions scenario.params.format (learnt_of scenario.params.omit (copies x (Got f ∷ past)) (has_own x (Got f ∷ past))) f) (identity_is class.Ed f ed)
       ∙ (rw (has_own-more (frame_identity class.Ed f.number f.node) (Got f) past, after.copies.copies f.number f.node small, h.copies.owned f.number f.node small, h.copies.omit) refl)
 

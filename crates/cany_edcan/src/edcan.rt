@@ -7,7 +7,7 @@ ghost use Rattle.cany_base.specs.declared.notice.NoticeKind.TheVariants.{Idle};
 ghost use Rattle.cany_base.specs.Frame.{FrameParts};
 ghost use Rattle.cany_base.specs.Scenario.{ScenarioParts};
 ghost use Rattle.cany_diffuse.specs.Eager.{copies_of, is_owned, learnt_of, IsCounted, IsLearnt, IsOwned};
-ghost use Rattle.cany_message.specs.Actions.{delivery_actions};
+ghost use Rattle.cany_message.specs.Actions.{delivery_actions, relay_actions};
 ghost use Rattle.cany_base.specs.Limits.{most_nodes};
 ghost use Rattle.can_frame.specs.Identifier.{HasSmallNumbers};
 ghost use Rattle.cany_message.specs.Numbers.{frame_number};
@@ -16,22 +16,22 @@ ghost use Rattle.cany_model.specs.Rules.Actions.{actions_of};
 ghost use Rattle.cany_model.specs.Rules.Edcan.{edcan_effects};
 ghost use Rattle.cany_model.specs.Rules.Notices.{IsNextNotice};
 ghost use Rattle.cany_edcan.specs.Edcan.{IsEdcanOf, CanRead};
-ghost use Rattle.cany_edcan.specs.EdcanSteps.{holds_own, is_first_copy, was_delivered, relay_actions};
+ghost use Rattle.cany_edcan.specs.EdcanSteps.{holds_own, was_delivered};
 
 use crate::data::{Data, is_data};
 use cany_base::{
     Action, Actions, Format, Frame, Memory, MsgKey, NodeId, Notice, NoticeKind, Payload, Scenario,
     Service, Slot,
 };
-use cany_diffuse::{Diffused, Eager, Learnt};
-use cany_message::{deliver, sends_by, withdraw};
+use cany_diffuse::{Diffused, Eager};
+use cany_message::{deliver, relay, sends_by};
 use std::alloc::Global;
 use std::marker::Model;
 
 /// EDCAN at one node: which messages it delivered, and the copies of each data frame.
 ///
-/// This project's own rule. A node delivers a message at its first copy of the data frame, or at its own transmission if it
-/// is the origin, and every node relays data frames by eager diffusion.
+/// This project's own rule. A node delivers a message at its first copy of the data frame, or at
+/// its own transmission if it is the origin, and every node relays data frames by eager diffusion.
 #[derive(Drop)]
 pub struct Edcan {
     node: NodeId,
@@ -49,8 +49,8 @@ impl Model for Edcan {
 }
 
 impl Edcan {
-    /// The EDCAN of a node that has read nothing, or only notices of idle slots, with room for all messages of the scenario
-    /// that are by EDCAN.
+    /// The EDCAN of a node that has read nothing, or only notices of idle slots, with room for all
+    /// messages of the scenario that are by EDCAN.
     pub fn build(alloc: Global, node: NodeId, scenario: &Scenario) -> Result<Edcan, Memory>
         requires { node < scenario.now.params.nodes }
         ensures { IfOk result (λ edcan. (n : ℕ) → IsEdcanOf scenario.now node (replicate n Idle) edcan) }
@@ -76,7 +76,8 @@ impl Edcan {
         out.push(Action::Ask(data.form()));
     }
 
-    /// What EDCAN does at a notice. The notices of the slots before the first that a value is given count as idle ones.
+    /// What EDCAN does at a notice. The notices of the slots before the first that a value is given
+    /// count as idle ones.
     ///
     /// At most two actions are appended.
     // A hint, since a node makes most of these calls in one place.
@@ -107,8 +108,8 @@ impl Edcan {
         }
     }
 
-    /// A copy of a data frame: the message is delivered if none was before, and the frame is relayed. A node that is not the
-    /// origin knows from the count alone.
+    /// A copy of a data frame: the message is delivered if none was before, and the frame is
+    /// relayed. A node that is not the origin knows from the count alone.
     fn on_copy(&mut self, slot: Slot, frame: &Frame, out: &mut Actions)
         requires small { HasSmallNumbers self.old.format frame.now }
         requires takes { CanTake (frame_number frame.now) self.old.copies }
@@ -123,12 +124,13 @@ impl Edcan {
     {
         let was_held = self.holds_own(frame);
         let learnt = self.copies.learn(Data::of(frame));
-        let is_new = is_first_copy(&learnt) && !was_held;
+        let is_new = learnt.is_first_copy() && !was_held;
         deliver(Service::Ed, slot, frame, is_new, out);
         relay(self.format, &learnt, frame, out);
     }
 
-    /// The node's own transmission of a data frame: the message is delivered if the node is its origin and none was before.
+    /// The node's own transmission of a data frame: the message is delivered if the node is its
+    /// origin and none was before.
     fn on_own(&mut self, slot: Slot, frame: &Frame, out: &mut Actions)
         requires takes { CanTake (frame_number frame.now) self.old.copies }
         requires room { length out.old.items + 2 ≤ out.old.room }
@@ -146,8 +148,8 @@ impl Edcan {
         self.copies.own(Data::of(frame));
     }
 
-    /// Whether the node is the origin of a data frame and has noted a copy or its own transmission. At other nodes nothing is
-    /// looked up.
+    /// Whether the node is the origin of a data frame and has noted a copy or its own transmission.
+    /// At other nodes nothing is looked up.
     fn holds_own(&self, frame: &Frame) -> bool
         ensures held { result ≡ holds_own self.now frame.now }
         ensures in_range { frame.now.node < most_nodes }
@@ -157,30 +159,5 @@ impl Edcan {
         let _spare = self.copies.spare();
         let data = Data::of(frame);
         frame.node.get() == self.node.get() && self.copies.holds(&data)
-    }
-}
-
-/// Whether the copy that was counted is the first that was read.
-fn is_first_copy(learnt: &Learnt) -> bool
-    ensures { result ≡ is_first_copy learnt.now }
-{
-    match learnt {
-        Learnt::First => true,
-        Learnt::Again { copies } | Learnt::Enough { copies } => *copies == 1,
-    }
-}
-
-/// Asks for a data frame, withdraws it or does nothing, as its copy calls for.
-fn relay(format: Format, learnt: &Learnt, frame: &Frame, out: &mut Actions)
-    requires small { HasSmallNumbers format frame.now }
-    requires room { length out.old.items < out.old.room }
-    ensures actions { out.new.items ≡ out.old.items ++ relay_actions format learnt.now frame.now }
-    ensures few { length out.new.items ≤ length out.old.items + 1 }
-    ensures room { out.new.room ≡ out.old.room }
-{
-    match learnt {
-        Learnt::First => out.push(Action::Ask(*frame)),
-        Learnt::Again { .. } => {}
-        Learnt::Enough { .. } => withdraw(format, frame, true, out),
     }
 }

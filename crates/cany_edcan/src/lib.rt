@@ -1,4 +1,5 @@
-//! EDCAN: every node that gets the data frame of a message delivers the message and relays the frame by eager diffusion.
+//! EDCAN: every node that gets the data frame of a message delivers the message and relays the
+//! frame by eager diffusion.
 #![tactic(auto)]
 
 mod data;

@@ -106,10 +106,11 @@ fn a_copy_is_delivered_and_relayed(rt: HostRuntime) -> Result<(), Fail> {
         },
         payload,
     });
-    assert_eq!(rt; first.as_slice(), [delivery, Action::Ask(frame)].as_slice());
+    let at_first = [delivery, Action::Ask(frame)];
+    let withdrawn = [Action::Withdraw { ident: 301_989_920 }];
     assert_eq!(rt;
-        second.as_slice(),
-        [Action::Withdraw { ident: 301_989_920 }].as_slice()
+        (first.as_slice(), second.as_slice()),
+        (at_first.as_slice(), withdrawn.as_slice())
     );
     Ok(())
 }
@@ -131,12 +132,9 @@ fn a_withdrawal_names_the_identifier_of_the_second_format(rt: HostRuntime) -> Re
     let mut first = Actions::build(rt.alloc(), 2)?;
     let mut second = Actions::build(rt.alloc(), 2)?;
     read_twice(rt.alloc(), &scenario, &frame, &mut first, &mut second)?;
-    assert_eq!(rt; first.len(), 2);
     // Class 9 at bit 25, number 1 at bit 10, node 40 at bit 4.
-    assert_eq!(rt;
-        second.as_slice(),
-        [Action::Withdraw { ident: 301_991_552 }].as_slice()
-    );
+    let withdrawn = [Action::Withdraw { ident: 301_991_552 }];
+    assert_eq!(rt; (first.len(), second.as_slice()), (2, withdrawn.as_slice()));
     Ok(())
 }
 

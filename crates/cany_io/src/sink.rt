@@ -10,11 +10,12 @@ pub trait Sink {
     /// The bytes taken so far, or `None`, which claims nothing.
     ghost taken: { Self → Option (List ℕ) };
 
-    /// How often a write has failed. It never falls, and stands still at the last number of 64 bits.
+    /// How often a write has failed. It never falls, and stands still at the last number of 64
+    /// bits.
     ghost faults: { Self → ℕ };
 
-    /// Takes bytes off the front of `piece`, at least one. A device that takes none answers `Failed`.
-    /// After an error a write may be tried again.
+    /// Takes bytes off the front of `piece`, at least one. A device that takes none answers
+    /// `Failed`. After an error a write may be tried again.
     fn write(&mut self, piece: &[u8]) -> Result<usize, Failed>
         requires { 0 < length piece.now }
         ensures bound { IfOk result (λ n. n ≤ length piece.now) }

@@ -14,8 +14,8 @@ pub trait Source {
     ghost faults: { Self → ℕ };
 
     /// Takes bytes off the front of those left and puts them at the start of `buf`, which may be
-    /// filled in part. What stands in `buf` behind them, and all of it after an error, is left open.
-    /// After an error a read may be tried again.
+    /// filled in part. What stands in `buf` behind them, and all of it after an error, is left
+    /// open. After an error a read may be tried again.
     fn read(&mut self, buf: &mut [u8]) -> Result<usize, Failed>
         requires { 0 < length buf.old }
         ensures bound { IfOk result (λ n. n ≤ length buf.new) }

@@ -62,9 +62,10 @@ impl<R: Read + Drop> Source for StdSource<R> {
     }
 }
 
-/// A sink over one of std's writers, as a file or standard output. As a sink it tells nothing of the
-/// bytes, and it never flushes. Each error of the writer is a fault, `Interrupted` too, and so is a
-/// write that takes nothing; nothing is tried again. Contracts see the writer and the count of faults.
+/// A sink over one of std's writers, as a file or standard output. As a sink it tells nothing of
+/// the bytes, and it never flushes. Each error of the writer is a fault, `Interrupted` too, and so
+/// is a write that takes nothing; nothing is tried again. Contracts see the writer and the count of
+/// faults.
 #[derive(Drop)]
 pub struct StdSink<W: Write + Drop> {
     writer: W,

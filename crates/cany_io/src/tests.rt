@@ -76,13 +76,11 @@ fn all_is_read_and_written(rt: HostRuntime) -> Result<(), Fail> {
     let alloc = rt.alloc();
     let mut source = PlainSource::new(b"one two three".to_vec(alloc)?);
     let mut sink = MemSink::new(alloc, Vec::new(alloc), 13)?;
-    assert_eq!(rt; copy_all(alloc, &mut source, &mut sink, 13), 0);
-    assert_eq!(rt; sink.taken(), b"one two three".as_slice());
-    assert_eq!(rt; sink.faults(), 0);
-
+    let first = copy_all(alloc, &mut source, &mut sink, 13);
     // Nothing is left, and no room: an empty text is written without a call.
-    assert_eq!(rt; copy_all(alloc, &mut source, &mut sink, 0), 0);
-    assert_eq!(rt; sink.faults(), 0);
+    let second = copy_all(alloc, &mut source, &mut sink, 0);
+    let is_whole = sink.taken() == b"one two three".as_slice() && sink.faults() == 0;
+    assert!(rt; first == 0 && second == 0 && is_whole);
     Ok(())
 }
 
@@ -90,13 +88,10 @@ fn all_is_read_and_written(rt: HostRuntime) -> Result<(), Fail> {
 fn the_first_read_fails(rt: HostRuntime) -> Result<(), Fail> {
     let alloc = rt.alloc();
     let mut source = MemSource::new(b"text".to_vec(alloc)?, list(alloc, &[1])?);
-    assert!(rt; matches!(read_all(alloc, &mut source, 100), Err(ReadFault::Failed)));
-    assert_eq!(rt; source.faults(), 1);
-
+    let has_failed = matches!(read_all(alloc, &mut source, 100), Err(ReadFault::Failed));
     // The bytes are still there for the next call.
     let text = read_all(alloc, &mut source, 100)?;
-    assert_eq!(rt; text.as_slice(), b"text".as_slice());
-    assert_eq!(rt; source.faults(), 1);
+    assert!(rt; has_failed && text.as_slice() == b"text".as_slice() && source.faults() == 1);
     Ok(())
 }
 
@@ -104,20 +99,10 @@ fn the_first_read_fails(rt: HostRuntime) -> Result<(), Fail> {
 fn the_third_write_fails(rt: HostRuntime) -> Result<(), Fail> {
     let alloc = rt.alloc();
     let mut sink = MemSink::new(alloc, list(alloc, &[3])?, 100)?;
-    for (piece, done) in [
-        ("one ", true),
-        ("two ", true),
-        ("three ", false),
-        ("four", true),
-    ] {
-        assert_eq!(rt;
-            write_whole(&mut sink, piece.as_bytes()).is_ok(),
-            done,
-            "at {piece}"
-        );
+    for piece in ["one ", "two ", "three ", "four"] {
+        let _ = write_whole(&mut sink, piece.as_bytes());
     }
-    assert_eq!(rt; sink.taken(), b"one two four".as_slice());
-    assert_eq!(rt; sink.faults(), 1);
+    assert!(rt; sink.taken() == b"one two four".as_slice() && sink.faults() == 1);
     Ok(())
 }
 
@@ -125,25 +110,21 @@ fn the_third_write_fails(rt: HostRuntime) -> Result<(), Fail> {
 fn a_full_sink_takes_what_fits(rt: HostRuntime) -> Result<(), Fail> {
     let alloc = rt.alloc();
     let mut sink = MemSink::new(alloc, Vec::new(alloc), 5)?;
-    assert!(rt; write_whole(&mut sink, b"one two").is_err());
-    assert_eq!(rt; sink.taken(), b"one t".as_slice());
-    assert_eq!(rt; sink.faults(), 1);
+    let has_failed = write_whole(&mut sink, b"one two").is_err();
+    assert!(rt; has_failed && sink.taken() == b"one t".as_slice() && sink.faults() == 1);
     Ok(())
 }
 
 #[test]
 fn one_byte_more_than_the_limit(rt: HostRuntime) -> Result<(), Fail> {
     let alloc = rt.alloc();
-    let mut source = PlainSource::new(vec![in alloc; 0u8; LIMIT + 1]?);
-    assert!(rt; matches!(read_all(alloc, &mut source, LIMIT), Err(ReadFault::TooLong)));
-
-    let mut source = PlainSource::new(vec![in alloc; 7u8; LIMIT]?);
-    let bytes = read_all(alloc, &mut source, LIMIT)?;
-    assert_eq!(rt; bytes.len(), LIMIT);
-
-    let mut source = PlainSource::new(b"short".to_vec(alloc)?);
-    let bytes = read_all(alloc, &mut source, usize::MAX)?;
-    assert_eq!(rt; bytes.as_slice(), b"short".as_slice());
+    let mut long = PlainSource::new(vec![in alloc; 0u8; LIMIT + 1]?);
+    let is_too_long = matches!(read_all(alloc, &mut long, LIMIT), Err(ReadFault::TooLong));
+    let mut whole = PlainSource::new(vec![in alloc; 7u8; LIMIT]?);
+    let count = read_all(alloc, &mut whole, LIMIT)?.len();
+    let mut short = PlainSource::new(b"short".to_vec(alloc)?);
+    let bytes = read_all(alloc, &mut short, usize::MAX)?;
+    assert!(rt; is_too_long && count == LIMIT && bytes.as_slice() == b"short".as_slice());
     Ok(())
 }
 
@@ -152,12 +133,10 @@ fn a_reader_of_std(rt: HostRuntime) -> Result<(), Fail> {
     let alloc = rt.alloc();
     let mut source = StdSource::new(b"one two".as_slice());
     let bytes = read_all(alloc, &mut source, 7)?;
-    assert_eq!(rt; bytes.as_slice(), b"one two".as_slice());
-    assert_eq!(rt; source.faults(), 0);
-
-    let mut source = StdSource::new(Broken);
-    assert!(rt; matches!(read_all(alloc, &mut source, 7), Err(ReadFault::Failed)));
-    assert_eq!(rt; source.faults(), 1);
+    let is_read = bytes.as_slice() == b"one two".as_slice() && source.faults() == 0;
+    let mut broken = StdSource::new(Broken);
+    let has_failed = matches!(read_all(alloc, &mut broken, 7), Err(ReadFault::Failed));
+    assert!(rt; is_read && has_failed && broken.faults() == 1);
     Ok(())
 }
 
@@ -167,17 +146,15 @@ fn a_writer_of_std(rt: HostRuntime) -> Result<(), Fail> {
     let mut sink = StdSink::new(&mut text);
     write_whole(&mut sink, b"one ")?;
     write_whole(&mut sink, b"two")?;
-    assert_eq!(rt; sink.faults(), 0);
+    let is_well = sink.faults() == 0;
     drop(sink);
-    assert_eq!(rt; text.as_slice(), b"one two".as_slice());
-
-    let mut sink = StdSink::new(Full);
-    assert!(rt; write_whole(&mut sink, b"one").is_err());
-    assert_eq!(rt; sink.faults(), 1);
-
-    let mut sink = StdSink::new(Broken);
-    assert!(rt; write_whole(&mut sink, b"one").is_err());
-    assert!(rt; write_whole(&mut sink, b"two").is_err());
-    assert_eq!(rt; sink.faults(), 2);
+    let mut full = StdSink::new(Full);
+    let mut broken = StdSink::new(Broken);
+    for piece in [b"one".as_slice(), b"two"] {
+        let _ = write_whole(&mut full, piece);
+        let _ = write_whole(&mut broken, piece);
+    }
+    let are_counted = full.faults() == 2 && broken.faults() == 2;
+    assert!(rt; is_well && text.as_slice() == b"one two".as_slice() && are_counted);
     Ok(())
 }

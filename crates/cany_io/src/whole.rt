@@ -82,8 +82,8 @@ pub fn read_all<S: Source>(
     }
 }
 
-/// Writes all of `bytes`, in as many pieces as the sink takes. It takes no memory. Nothing is called
-/// where there are no bytes.
+/// Writes all of `bytes`, in as many pieces as the sink takes. It takes no memory. Nothing is
+/// called where there are no bytes.
 pub fn write_whole<K: Sink>(sink: &mut K, bytes: &[u8]) -> Result<(), Failed>
     ensures bytes { OnOk result (Takes (K.taken sink.old) bytes.now (K.taken sink.new)) }
     ensures prefix { TakesPrefix (K.taken sink.old) bytes.now (K.taken sink.new) }

@@ -3,17 +3,16 @@ use Rattle.std.specs.Prelude.{nat_lt}
 use Rattle.std.proofs.Common.{◌≡◌, ℕ, ◌<◌, ◌&&◌, not, if◌then◌else◌, List, length, get_or, ap, sym, ◌∙◌, arith}
 use Rattle.cany_base.specs.declared.notice.NoticeKind.{NoticeKind}
 use Rattle.cany_base.specs.Limits.{most_nodes}
-use Rattle.cany_base.specs.Nodes.{Nodes, has}
+use Rattle.cany_base.specs.Nodes.{Nodes, has, minus}
 use Rattle.cany_base.specs.Scenario.{ScenarioParts}
 use Rattle.cany_base.proofs.NodesFacts.{has-those_where}
 use Rattle.cany_base.proofs.ParamsFacts.{few_nodes}
 use Rattle.cany_model.specs.Rules.Knowledge.{Knowledge, after_admitting}
 use Rattle.cany_life.specs.Life.{IsLifeOf, LifeParts}
-use Rattle.cany_life.specs.LifeSteps.{without_nodes}
 
 module _ (scenario : ScenarioParts) (i : ℕ) (past : List NoticeKind) (knowledge : Knowledge) (v : LifeParts) (newly : Nodes) (slot : ℕ)
     (h : IsLifeOf scenario i past knowledge v) where
-  pub admitted : (failed : Nodes) (shown : List ℕ) (last : ℕ) → failed ≡ without_nodes newly v.failed → length shown ≡ most_nodes
+  pub admitted : (failed : Nodes) (shown : List ℕ) (last : ℕ) → failed ≡ minus v.failed newly → length shown ≡ most_nodes
       → ((r : ℕ) → r < most_nodes → get_or shown r 0 ≡ (if has newly r then slot else get_or v.shown r 0))
       → last ≡ (if has newly i then slot else v.last)
       → IsLifeOf scenario i past (after_admitting i slot newly knowledge) (record v { failed = failed; shown = shown; last = last })

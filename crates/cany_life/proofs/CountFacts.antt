@@ -1,24 +1,13 @@
 -- A copy of the frame of a sign: what it calls for, from the copies that are counted then.
-use Rattle.std.specs.Prelude.{nat_le}
-use Rattle.std.proofs.Common.{◌≡◌, ℕ, ◌+◌, ◌==◌, ◌&&◌, Bool, true, false, if◌then◌else◌, not, List, ◌++◌, refl, ap, sym, ◌∙◌}
+use Rattle.std.proofs.Common.{◌≡◌, ℕ, Bool, List, ◌++◌, ap, sym, ◌∙◌}
 use Rattle.cany_base.specs.declared.actions.Action.{Action}
 use Rattle.cany_base.specs.declared.format.Format.{Format}
 use Rattle.cany_base.specs.Frame.{FrameParts}
-use Rattle.cany_diffuse.specs.declared.learnt.Learnt.TheVariants.{First, Again, Enough}
-use Rattle.cany_diffuse.specs.Eager.{learnt_of}
 use Rattle.cany_message.specs.Actions.{withdraw_actions}
 use Rattle.cany_model.specs.Rules.Knowledge.{FailureSign}
 use Rattle.cany_life.specs.Life.{LifeParts}
-use Rattle.cany_life.specs.LifeSteps.{all_marked, has_enough_of, is_enough, known_actions, unknown}
+use Rattle.cany_life.specs.LifeSteps.{all_marked, has_enough_of, known_actions, unknown}
 use Rattle.cany_life.proofs.MarkFacts.{marks_rest}
-
-pub enough_is : (omit c : ℕ) (own : Bool) → is_enough (learnt_of omit c own) ≡ nat_le (omit + 1) c
-enough_is omit c own = go (nat_le (omit + 1) c) (c == 1 && not own)
-  where
-    go : (t u : Bool) → is_enough (if t then Enough c else if u then First else Again c) ≡ t
-    go true u = refl
-    go false true = refl
-    go false false = refl
 
 -- the copy is counted, and then the sign becomes known
 module _ (sign : FailureSign) (v x w : LifeParts) (counted : x ≡ record v { copies = x.copies }) (state : w ≡ all_marked (unknown sign x) x) where

@@ -15,7 +15,7 @@ use Rattle.cany_model.specs.Rules.Life.{sign_effects}
 use Rattle.cany_model.specs.Rules.Knowledge.{FailureSign, Knowledge, fda_of, found, has_timed_out, knows, sign_in, with_signs}
 use Rattle.cany_model.proofs.Among.{Each-weaker}
 use Rattle.cany_life.specs.Life.{IsSignOf, LifeParts}
-use Rattle.cany_life.specs.LifeSteps.{IsReading, all_marked, found_actions, found_at, found_below, has_enough_of, is_known, is_silent_at}
+use Rattle.cany_life.specs.LifeSteps.{IsReading, all_marked, found_actions, found_at, found_below, has_enough_of, is_known, has_timed_out_at}
 use Rattle.cany_life.proofs.FoundFacts.{IsBelow, found_below-below}
 use Rattle.cany_life.proofs.KnownFacts.{stands_all}
 use Rattle.cany_life.proofs.LearnFacts.{all_acts, cycle_of_run, enough_of}
@@ -55,7 +55,7 @@ module _ (scenario : ScenarioParts) (i : ℕ) (counted past : List NoticeKind) (
   sign_of_run : (n : ℕ) → n < scenario.params.nodes → IsSignOf scenario (sign_in scenario.params slot n)
   sign_of_run n below = record { node = below; cycle = cycle_of_run scenario slot (slot / scenario.params.cycle) h.legal within (omega arith) }
 
-  silent_is : (n : ℕ) → n < scenario.params.nodes → is_silent_at v members slot n ≡ has_timed_out scenario.params i slot knowledge n
+  silent_is : (n : ℕ) → n < scenario.params.nodes → has_timed_out_at v members slot n ≡ has_timed_out scenario.params i slot knowledge n
   silent_is n below = rw (same, h.node, h.failed n, h.params, h.shown n below) refl
 
   found_at-is : (n : ℕ) → n < scenario.params.nodes → found_at v members slot n

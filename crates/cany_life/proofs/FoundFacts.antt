@@ -6,12 +6,12 @@ use Rattle.std.proofs.lemmas.List.{get_or-set_other, get_or-set_same}
 use Rattle.std.proofs.lemmas.List.Concat.{flat_map-append}
 use Rattle.cany_base.specs.declared.actions.Action.{Action}
 use Rattle.cany_base.specs.Limits.{most_nodes}
-use Rattle.cany_base.specs.Nodes.{Nodes, has, nobody}
+use Rattle.cany_base.specs.Nodes.{Nodes, has, nobody, with_node}
 use Rattle.cany_base.proofs.NodesFacts.{has-those_where}
 use Rattle.cany_model.specs.Rules.Knowledge.{FailureSign, sign_in}
 use Rattle.cany_model.proofs.Among.{Each-append, Each-weaker}
 use Rattle.cany_life.specs.Life.{LifeParts, known_in}
-use Rattle.cany_life.specs.LifeSteps.{all_marked, found_actions, found_at, found_below, has_enough_of, is_silent_at, marked, sign_actions, unknown, with_node}
+use Rattle.cany_life.specs.LifeSteps.{all_marked, found_actions, found_at, found_below, has_enough_of, has_timed_out_at, marked, sign_actions, unknown}
 use Rattle.cany_life.proofs.MarkFacts.{all_marked-append, length-marked, marks_rest}
 
 -- the sign names a node below n, in this cycle
@@ -58,7 +58,7 @@ all_other n cycle (sign ∷ signs) v near within each =
 
 found_at-below : (v : LifeParts) (members : Nodes) (slot n : ℕ) → AllByRecursion (IsBelow (n + 1) (slot / v.params.cycle)) (found_at v members slot n)
 found_at-below v members slot n =
-    cond_both (is_silent_at v members slot n) (unknown (sign_in v.params slot n) v) [] (AllByRecursion (IsBelow (n + 1) (slot / v.params.cycle)))
+    cond_both (has_timed_out_at v members slot n) (unknown (sign_in v.params slot n) v) [] (AllByRecursion (IsBelow (n + 1) (slot / v.params.cycle)))
     (λ _. cond_both (has (known_in v.known (slot / v.params.cycle)) n) [] (sign_in v.params slot n ∷ []) (AllByRecursion (IsBelow (n + 1) (slot / v.params.cycle)))
     (λ _. tt) (λ _. ((omega arith, refl), tt)))
     (λ _. tt)

@@ -5,9 +5,9 @@ use Rattle.std.proofs.lemmas.Bool.{cases_Bool, cases_eq, leb-true}
 use Rattle.std.proofs.lemmas.List.{append-nil, get_or-set_other, get_or-set_same}
 use Rattle.cany_base.specs.declared.actions.Action.{Action}
 use Rattle.cany_base.specs.Limits.{most_nodes}
-use Rattle.cany_base.specs.Nodes.{Nodes, has}
+use Rattle.cany_base.specs.Nodes.{Nodes, has, with_node}
 use Rattle.cany_life.specs.Life.{LifeParts}
-use Rattle.cany_life.specs.LifeSteps.{IsIdleUntil, all_marked, found_actions, found_below, is_silent_at, is_watched, with_node}
+use Rattle.cany_life.specs.LifeSteps.{IsIdleUntil, all_marked, found_actions, found_below, has_timed_out_at, is_watched}
 use Rattle.cany_life.proofs.KnownFacts.{has-with_node}
 
 -- where more nodes have failed, no more are watched
@@ -37,7 +37,7 @@ shown_later shown node slot silence idle_until r there late before = elim (cases
 -- ---- what is found in a slot before it
 
 module _ (v : LifeParts) (members : Nodes) (slot : ℕ) (some : 0 < v.params.silence) (idle_until : IsIdleUntil (slot + 1) members v) where
-  none_silent : (r : ℕ) → r < most_nodes → is_silent_at v members slot r ≡ false
+  none_silent : (r : ℕ) → r < most_nodes → has_timed_out_at v members slot r ≡ false
   none_silent r near = elim (cases_Bool (is_watched v members r)) [
     | inl watched ↦ rw watched (elim (cases_Bool (nat_le v.params.silence (slot - get_or v.shown r 0))) [
       | inl silent ↦ absurd (omega (arith, some, leb-true v.params.silence (slot - get_or v.shown r 0) silent, idle_until r near watched))

@@ -6,14 +6,14 @@ use Rattle.std.proofs.lemmas.Bool.{cases_eq, eq-eqb, lt-ltb, ne_eqb}
 use Rattle.std.proofs.lemmas.List.{get_or-set_other, get_or-set_same}
 use Rattle.cany_base.specs.declared.notice.NoticeKind.{NoticeKind}
 use Rattle.cany_base.specs.Limits.{most_nodes}
-use Rattle.cany_base.specs.Nodes.{Nodes, has, nobody}
+use Rattle.cany_base.specs.Nodes.{Nodes, has, nobody, with_node}
 use Rattle.cany_base.specs.Scenario.{ScenarioParts}
 use Rattle.cany_base.proofs.NodesFacts.{has-those_where}
 use Rattle.cany_base.proofs.ParamsFacts.{few_nodes}
 use Rattle.cany_diffuse.specs.Eager.{EagerParts}
 use Rattle.cany_model.specs.Rules.Knowledge.{FailureSign, Knowledge, knows, with_sign, with_signs}
 use Rattle.cany_life.specs.Life.{AreCopies, IsSignOf, LifeParts, known_in}
-use Rattle.cany_life.specs.LifeSteps.{IsReading, all_marked, marked, with_node}
+use Rattle.cany_life.specs.LifeSteps.{IsReading, all_marked, marked}
 use Rattle.cany_life.proofs.MarkFacts.{length-marked}
 
 -- the nodes of a set with one node more

@@ -10,5 +10,4 @@ pub mod MarkFacts
 pub mod IdleFacts
 pub mod RestFacts
 pub mod SentFacts
-pub mod SetFacts
 pub mod TurnFacts

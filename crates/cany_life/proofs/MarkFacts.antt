@@ -2,7 +2,8 @@
 use Rattle.std.proofs.Common.{◌≡◌, List, [], ◌∷◌, ◌++◌, length, refl, ap, ◌∙◌, length-set}
 use Rattle.cany_model.specs.Rules.Knowledge.{FailureSign}
 use Rattle.cany_life.specs.Life.{LifeParts, known_in}
-use Rattle.cany_life.specs.LifeSteps.{all_marked, marked, with_node}
+use Rattle.cany_base.specs.Nodes.{with_node}
+use Rattle.cany_life.specs.LifeSteps.{all_marked, marked}
 
 -- of a value only the failed nodes and the signs change
 pub marks_rest : (signs : List FailureSign) (v : LifeParts) → all_marked signs v ≡ record v { failed = (all_marked signs v).failed; known = (all_marked signs v).known }

@@ -9,10 +9,8 @@ use Rattle.cany_base.specs.declared.notice.Notice.{Notice}
 use Rattle.cany_base.specs.declared.notice.NoticeKind.{NoticeKind}
 use Rattle.cany_base.specs.declared.notice.NoticeKind.TheVariants.{Idle, Got, Sent, Bad}
 use Rattle.cany_base.specs.Limits.{most_nodes}
-use Rattle.cany_base.specs.Nodes.{Nodes, has, those_where}
+use Rattle.cany_base.specs.Nodes.{Nodes, has, with_node}
 use Rattle.cany_base.specs.Scenario.{ScenarioParts, IsLegalScenario}
-use Rattle.cany_diffuse.specs.declared.learnt.Learnt.{Learnt}
-use Rattle.cany_diffuse.specs.declared.learnt.Learnt.TheVariants.{First, Again, Enough}
 use Rattle.cany_diffuse.specs.Eager.{copies_of}
 use Rattle.cany_model.specs.Bus.Frames.{same_class}
 use Rattle.cany_model.specs.Rules.Life.{life_signs_sent}
@@ -37,12 +35,6 @@ heard slot (Sent f) v = if f.node == v.node then record v {
 heard slot Bad v = v
 
 -- ---- a sign becomes known
-
-abbrev pub with_node : ℕ → Nodes → Nodes
-with_node node nodes = those_where (λ r. has nodes r || r == node)
-
-abbrev pub without_nodes : Nodes → Nodes → Nodes
-without_nodes others nodes = those_where (λ r. has nodes r && not (has others r))
 
 abbrev pub is_known : FailureSign → LifeParts → Bool
 is_known sign v = has (known_in v.known sign.cycle) sign.node
@@ -73,11 +65,6 @@ sign_actions slot is_enough sign = Enter (Failed slot sign.node sign.cycle) ∷ 
 abbrev pub known_actions : ℕ → Bool → List FailureSign → List Action
 known_actions slot is_enough signs = flat_map (sign_actions slot is_enough) signs
 
-abbrev pub is_enough : Learnt → Bool
-is_enough First = false
-is_enough (Again copies) = false
-is_enough (Enough copies) = true
-
 -- ---- signs by silence
 
 -- whether silence can find node r, one of these members: it is another one that has not failed
@@ -85,8 +72,8 @@ abbrev pub is_watched : LifeParts → Nodes → ℕ → Bool
 is_watched v members r = has members r && not (r == v.node) && not (has v.failed r)
 
 -- whether it finds it: the node has shown no life for as many slots as the silence has
-abbrev pub is_silent_at : LifeParts → Nodes → ℕ → ℕ → Bool
-is_silent_at v members slot r = is_watched v members r && nat_le v.params.silence (slot - shown_by v r)
+abbrev pub has_timed_out_at : LifeParts → Nodes → ℕ → ℕ → Bool
+has_timed_out_at v members slot r = is_watched v members r && nat_le v.params.silence (slot - shown_by v r)
 
 -- before this slot it finds none of these members
 abbrev pub IsIdleUntil : ℕ → Nodes → LifeParts → Type 0
@@ -94,7 +81,7 @@ IsIdleUntil idle_until members v = (r : ℕ) → r < most_nodes → is_watched v
 
 -- the sign of a node that is silent, where it is not known
 abbrev pub found_at : LifeParts → Nodes → ℕ → ℕ → List FailureSign
-found_at v members slot r = if is_silent_at v members slot r then unknown (sign_in v.params slot r) v else []
+found_at v members slot r = if has_timed_out_at v members slot r then unknown (sign_in v.params slot r) v else []
 
 -- those of the nodes below n, ascending
 unfoldable pub found_below : LifeParts → Nodes → ℕ → ℕ → List FailureSign

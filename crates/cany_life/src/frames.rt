@@ -9,7 +9,8 @@ use cany_diffuse::Diffused;
 use cany_message::is_of_class;
 use std::marker::Model;
 
-/// That a node has failed, as it was found out in a membership cycle. It is told of by a frame without payload.
+/// That a node has failed, as it was found out in a membership cycle. It is told of by a frame
+/// without payload.
 #[derive(Clone, Copy)]
 pub(crate) struct DiffusedSign {
     pub(crate) node: NodeId,

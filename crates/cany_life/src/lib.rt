@@ -1,4 +1,5 @@
-//! Life signs and failure signs: a member shows life at intervals, and a node that learns that another one failed tells of it.
+//! Life signs and failure signs: a member shows life at intervals, and a node that learns that
+//! another one failed tells of it.
 #![tactic(auto)]
 
 mod frames;

@@ -1,15 +1,16 @@
-ghost use Rattle.std.specs.Prelude.{◌≡◌, ℕ, ◌+◌, ◌*◌, ◌/◌, ◌<◌, ◌≤◌, ◌==◌, ◌&&◌, ◌++◌, ◌∷◌, if◌then◌else◌, length, List, false, replicate, slice_index, slice_set, EachIndex, IfOk};
+ghost use Rattle.std.specs.Prelude.{◌≡◌, ℕ, ◌+◌, ◌*◌, ◌<◌, ◌≤◌, ◌==◌, ◌&&◌, ◌++◌, ◌∷◌, if◌then◌else◌, length, List, false, replicate, slice_index, slice_set, EachIndex, IfOk};
 ghost use Rattle.std.specs.List.{flat_map};
 ghost use Rattle.can_frame.specs.Identifier.{HasSmallNumbers};
 ghost use Rattle.cany_base.specs.declared.class.Class.TheVariants as class;
 ghost use Rattle.cany_base.specs.declared.notice.NoticeKind.{NoticeKind};
 ghost use Rattle.cany_base.specs.declared.notice.NoticeKind.TheVariants.{Idle};
+ghost use Rattle.cany_base.specs.Cycles.{cycle_of};
 ghost use Rattle.cany_base.specs.Limits.{most_nodes, most_numbers, most_slots};
 ghost use Rattle.cany_base.specs.Nodes.{AllBelow, Nodes, has, nobody};
 ghost use Rattle.cany_base.specs.Scenario.{ScenarioParts};
 ghost use Rattle.cany_diffuse.specs.Eager.{IsLearnt};
 ghost use Rattle.cany_life.specs.Life.{CanRead, HasReadSlot, IsLifeOf, IsNextAt, Rests, sign_number};
-ghost use Rattle.cany_life.specs.LifeSteps.{CanLearn, IsIdleUntil, IsReading, all_marked, found_actions, found_at, found_below, has_enough_of, heard, is_enough, is_known, is_silent_at, is_watched, known_actions, marked, unknown, with_node, without_nodes};
+ghost use Rattle.cany_life.specs.LifeSteps.{CanLearn, IsIdleUntil, IsReading, all_marked, found_actions, found_at, found_below, has_enough_of, has_timed_out_at, heard, is_known, is_watched, known_actions, marked, unknown};
 ghost use Rattle.cany_message.specs.Actions.{withdraw_actions};
 ghost use Rattle.cany_message.specs.Table.{CanTake};
 ghost use Rattle.cany_model.specs.Bus.Frames.{same_class};
@@ -19,21 +20,24 @@ ghost use Rattle.cany_model.specs.Rules.Notices.{IsNextNotice};
 ghost use Rattle.cany_model.specs.Rules.Knowledge.{Knowledge, after_admitting, after_finding, shows_life, sign_of, knowledge_at_first, told, with_members, with_signs};
 
 use crate::frames::{DiffusedSign, is_failure_sign, is_life_sign, shows_life};
+use cany_base::cycle::cycle_of;
 use cany_base::{
     Action, Actions, BoundedVec, Class, Format, Frame, LogEntry, Memory, NodeId, NodeSet, Notice,
     NoticeKind, Params, Payload, Scenario, Slot,
 };
-use cany_diffuse::{Diffused, Eager, Learnt};
+use cany_diffuse::{Diffused, Eager};
 use cany_message::withdraw;
 use std::alloc::Global;
 use std::marker::Model;
 
-/// Life signs and failure signs at one node: when each other node last showed life, which nodes have failed, and the signs by which
-/// that is known.
+/// Life signs and failure signs at one node: when each other node last showed life, which nodes
+/// have failed, and the signs by which that is known.
 ///
-/// This project's own rule. A member shows life at intervals of `life` slots. A node from which a member has heard no sign of life
-/// for `silence` slots has failed there, and so has one of which a failure sign is got. Each sign becomes known once, is entered in the
-/// log then, and its frame is spread, with more than `omit` copies no longer. The members are not kept here: each call is given them.
+/// This project's own rule. A member shows life at intervals of `life` slots. A node from which a
+/// member has heard no sign of life for `silence` slots has failed there, and so has one of which a
+/// failure sign is got. Each sign becomes known once, is entered in the log then, and its frame is
+/// spread, with more than `omit` copies no longer. The members are not kept here: each call is
+/// given them.
 #[derive(Drop)]
 pub struct Life {
     node: NodeId,
@@ -78,7 +82,8 @@ impl Model for Life {
 }
 
 impl Life {
-    /// That of a node that has read nothing, or only notices of idle slots, with room for the signs of all nodes in all cycles.
+    /// That of a node that has read nothing, or only notices of idle slots, with room for the signs
+    /// of all nodes in all cycles.
     pub fn build(alloc: Global, node: NodeId, scenario: &Scenario) -> Result<Life, Memory>
         requires { node < scenario.now.params.nodes }
         ensures { IfOk result (λ life. (n : ℕ) (members : Nodes) → IsLifeOf scenario.now node (replicate n Idle) (knowledge_at_first members) life) }
@@ -101,8 +106,9 @@ impl Life {
         })
     }
 
-    /// What a notice leads to: who shows life in it, the failure sign in it, and then the signs that silence brings, by ascending node.
-    /// The notices of the slots before the first that a value is given count as idle ones.
+    /// What a notice leads to: who shows life in it, the failure sign in it, and then the signs
+    /// that silence brings, by ascending node. The notices of the slots before the first that a
+    /// value is given count as idle ones.
     ///
     /// At most three actions are appended, and two for each node.
     pub fn on(&mut self, notice: &Notice, members: NodeSet, out: &mut Actions)
@@ -127,7 +133,8 @@ impl Life {
         self.find(notice.slot, members, out);
     }
 
-    /// These nodes are newly admitted to the view in the turn of a slot: they have not failed, and show life from that slot on.
+    /// These nodes are newly admitted to the view in the turn of a slot: they have not failed, and
+    /// show life from that slot on.
     pub fn admit(&mut self, newly: NodeSet, now: Slot)
         requires newly { AllBelow self.old.params.nodes newly }
         requires now { HasReadSlot self.old now }
@@ -136,7 +143,7 @@ impl Life {
         ensures node { self.new.node ≡ self.old.node }
         ensures params { self.new.params ≡ self.old.params }
     {
-        self.failed = without(self.failed, newly);
+        self.failed = self.failed.minus(newly);
         self.idle_until = 0;
         show(&mut self.shown, newly, now);
         if newly.has(self.node) {
@@ -163,8 +170,9 @@ impl Life {
         }
     }
 
-    /// The first slot from `now` on in which an idle notice may lead to something, where these are the members then too: silence may
-    /// find one of them, or the node's next life sign is due. Until then the value stands as it is for the idle notices too.
+    /// The first slot from `now` on in which an idle notice may lead to something, where these are
+    /// the members then too: silence may find one of them, or the node's next life sign is due.
+    /// Until then the value stands as it is for the idle notices too.
     ///
     /// It is `now` where silence was not looked for among just these members yet.
     pub fn wake(&self, members: NodeSet, now: Slot) -> Slot
@@ -186,7 +194,8 @@ impl Life {
         self.failed
     }
 
-    /// Who shows life in a notice: another node, or the node itself, which counts its own life signs.
+    /// Who shows life in a notice: another node, or the node itself, which counts its own life
+    /// signs.
     #[tactic(auto, unfolding(crate::specs::LifeSteps::heard))]
     fn hear(&mut self, notice: &Notice)
         requires { self.old.sent < most_slots }
@@ -263,7 +272,8 @@ impl Life {
         }
     }
 
-    /// A copy of the frame of a failure sign: the sign becomes known, and with enough copies the frame is withdrawn.
+    /// A copy of the frame of a failure sign: the sign becomes known, and with enough copies the
+    /// frame is withdrawn.
     fn on_copy(&mut self, slot: Slot, frame: &Frame, out: &mut Actions)
         requires small { HasSmallNumbers self.old.params.format frame.now }
         requires takes { CanTake (sign_number (sign_of frame.now)) self.old.copies }
@@ -296,16 +306,16 @@ impl Life {
         let _node = sign.node.get();
         // Called for what it ensures: no sign is there twice, so there is room for this one.
         let _copies = self.copies.copies(&sign);
-        let learnt = self.copies.learn(sign);
-        is_enough(&learnt)
+        self.copies.learn(sign).is_enough()
     }
 
-    /// The signs that silence brings, by ascending node. In most slots it is known that there are none.
+    /// The signs that silence brings, by ascending node. In most slots it is known that there are
+    /// none.
     fn find(&mut self, slot: Slot, members: NodeSet, out: &mut Actions)
         requires cycle { 0 < self.old.params.cycle }
         requires silence { 0 < self.old.params.silence }
-        requires number { slot / self.old.params.cycle < most_numbers }
-        requires known { slot / self.old.params.cycle < length self.old.known }
+        requires number { cycle_of self.old.params slot < most_numbers }
+        requires known { cycle_of self.old.params slot < length self.old.known }
         requires nodes { self.old.params.nodes ≤ most_nodes }
         requires room { length out.old.items + 2 * self.old.params.nodes ≤ out.old.room }
         ensures state { self.new ≡ all_marked (found_below self.old members slot self.old.params.nodes) self.old }
@@ -322,8 +332,8 @@ impl Life {
     /// The signs that silence brings, as the nodes are looked at one after another.
     fn find_among(&mut self, slot: Slot, members: NodeSet, out: &mut Actions)
         requires cycle { 0 < self.old.params.cycle }
-        requires number { slot / self.old.params.cycle < most_numbers }
-        requires known { slot / self.old.params.cycle < length self.old.known }
+        requires number { cycle_of self.old.params slot < most_numbers }
+        requires known { cycle_of self.old.params slot < length self.old.known }
         requires nodes { self.old.params.nodes ≤ most_nodes }
         requires room { length out.old.items + 2 * self.old.params.nodes ≤ out.old.room }
         ensures state { self.new ≡ all_marked (found_below self.old members slot self.old.params.nodes) self.old }
@@ -340,31 +350,33 @@ impl Life {
     #[tactic(auto, unfolding(crate::specs::LifeSteps::all_marked))]
     fn find_node(&mut self, slot: Slot, node: NodeId, members: NodeSet, out: &mut Actions)
         requires cycle { 0 < self.old.params.cycle }
-        requires number { slot / self.old.params.cycle < most_numbers }
-        requires known { slot / self.old.params.cycle < length self.old.known }
+        requires number { cycle_of self.old.params slot < most_numbers }
+        requires known { cycle_of self.old.params slot < length self.old.known }
         requires room { length out.old.items + 2 ≤ out.old.room }
         ensures state { self.new ≡ all_marked (found_at self.old members slot node) self.old }
         ensures actions { out.new.items ≡ out.old.items ++ found_actions self.old slot (found_at self.old members slot node) }
         ensures few { length out.new.items ≤ length out.old.items + 2 }
         ensures room { out.new.room ≡ out.old.room }
     {
-        if self.is_silent(slot, node, members) {
-            let cycle = (slot / self.params.cycle) as u16;
+        if self.has_timed_out(slot, node, members) {
+            let cycle = cycle_of(&self.params, slot);
             let sign = DiffusedSign { node, cycle };
             let is_enough = self.has_enough(&sign);
             self.know(slot, sign, is_enough, out);
         }
     }
 
-    /// Whether a node, one of these members, has shown no life for as many slots as the silence has.
-    fn is_silent(&self, slot: Slot, node: NodeId, members: NodeSet) -> bool
-        ensures { result ≡ is_silent_at self.now members slot node }
+    /// Whether a node, one of these members, has shown no life for as many slots as the silence
+    /// has.
+    fn has_timed_out(&self, slot: Slot, node: NodeId, members: NodeSet) -> bool
+        ensures { result ≡ has_timed_out_at self.now members slot node }
     {
         self.is_watched(node, members)
             && slot.saturating_sub(self.shown[usize::from(node.get())]) >= self.params.silence
     }
 
-    /// Whether silence can find a node, one of these members: it is another one that has not failed here.
+    /// Whether silence can find a node, one of these members: it is another one that has not failed
+    /// here.
     fn is_watched(&self, node: NodeId, members: NodeSet) -> bool
         ensures { result ≡ is_watched self.now members node }
     {
@@ -380,7 +392,8 @@ impl Life {
         self.idle_until = idle_until;
     }
 
-    /// The first slot in which silence can find one of these members, `Slot::MAX` where it can find none.
+    /// The first slot in which silence can find one of these members, `Slot::MAX` where it can find
+    /// none.
     fn until_silence(&self, members: NodeSet) -> Slot
         ensures { IsIdleUntil result members self.now }
     {
@@ -394,7 +407,8 @@ impl Life {
         idle_until
     }
 
-    /// The first slot from `now` on in which silence may find one of these members: `now` where that is not known.
+    /// The first slot from `now` on in which silence may find one of these members: `now` where
+    /// that is not known.
     fn next_silent(&self, members: NodeSet, now: Slot) -> Slot
         ensures { (slot : ℕ) → now ≤ slot → slot < result → IsIdleUntil (slot + 1) members self.now }
     {
@@ -405,7 +419,8 @@ impl Life {
         }
     }
 
-    /// The first slot from `now` on in which the node's next life sign is due, `Slot::MAX` where it is in none.
+    /// The first slot from `now` on in which the node's next life sign is due, `Slot::MAX` where it
+    /// is in none.
     fn next_due(&self, members: NodeSet, now: Slot) -> Slot
         ensures { (slot : ℕ) → now ≤ slot → slot < result → (has members self.now.node && slot == self.now.last + self.now.params.life) ≡ false }
     {
@@ -417,7 +432,8 @@ impl Life {
         }
     }
 
-    /// A sign becomes known, unless it is: it is entered, and its frame is asked for, unless there are enough copies of it.
+    /// A sign becomes known, unless it is: it is entered, and its frame is asked for, unless there
+    /// are enough copies of it.
     #[tactic(auto, unfolding(crate::specs::LifeSteps::all_marked))]
     fn know(&mut self, slot: Slot, sign: DiffusedSign, is_enough: bool, out: &mut Actions)
         requires cycle { sign.cycle < length self.old.known }
@@ -448,9 +464,10 @@ impl Life {
         ensures { self.new ≡ marked sign.now self.old }
     {
         let cycle = usize::from(sign.cycle);
-        let known = with(self.known.get(cycle), sign.node);
+        let mut known = self.known.get(cycle);
+        known.insert(sign.node);
         self.known.set(cycle, known);
-        self.failed = with(self.failed, sign.node);
+        self.failed.insert(sign.node);
     }
 
     fn is_known(&self, sign: &DiffusedSign) -> bool
@@ -476,7 +493,8 @@ impl Life {
         self.params.format
     }
 
-    /// Whether the node is one of these members, and its own last life lies just the life interval back.
+    /// Whether the node is one of these members, and its own last life lies just the life interval
+    /// back.
     fn is_due(&self, now: Slot, members: NodeSet) -> bool
         ensures { result ≡ (has members self.now.node && now == self.now.last + self.now.params.life) }
     {
@@ -497,37 +515,6 @@ impl Life {
             payload: Payload::empty(),
         }
     }
-}
-
-/// Whether a copy is one of more than there may be omissions.
-fn is_enough(learnt: &Learnt) -> bool
-    ensures { result ≡ is_enough learnt.now }
-{
-    match learnt {
-        Learnt::First | Learnt::Again { .. } => false,
-        Learnt::Enough { .. } => true,
-    }
-}
-
-/// The set with one node more.
-fn with(nodes: NodeSet, node: NodeId) -> NodeSet
-    ensures { result ≡ with_node node nodes }
-{
-    let mut more = nodes;
-    more.insert(node);
-    // Called for what it ensures: each node has a place in a set.
-    let _bits = more.bits();
-    more
-}
-
-/// The nodes of the set that are not among the others.
-fn without(nodes: NodeSet, others: NodeSet) -> NodeSet
-    ensures { result ≡ without_nodes others nodes }
-{
-    let fewer = nodes.minus(others);
-    // Called for what it ensures: each node has a place in a set.
-    let _bits = fewer.bits();
-    fewer
 }
 
 /// So many sets of nodes, all empty.

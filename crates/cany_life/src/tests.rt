@@ -17,7 +17,8 @@ use cany_base::{
 use std::alloc::Global;
 use std::test::Fail;
 
-/// Three nodes, with so many omissions of a frame. A life interval has 36 slots, the silence 73, and a membership cycle 72.
+/// Three nodes, with so many omissions of a frame. A life interval has 36 slots, the silence 73,
+/// and a membership cycle 72.
 fn three_nodes(omit: u32) -> Params
     requires { omit ≤ greatest_omit }
     ensures ranges { IsInRange result }
@@ -204,56 +205,40 @@ fn pass(
     Ok(())
 }
 
-/// The frames that a node asks for in the turn of a slot because its life sign is due.
+/// The frames that a node that has read so many slots asks for because its life sign is due.
 fn due(
     alloc: Global,
     life: &mut Life,
     scenario: &Scenario,
-    slot: Slot,
+    read: Slot,
     members: NodeSet,
 ) -> Result<Actions, Memory>
-    requires stands { HasReadSlots scenario.now (slot + 1) life.old }
-    requires within { slot < scenario.now.params.slots }
+    requires stands { HasReadSlots scenario.now read life.old }
+    requires some { 0 < read }
+    requires within { read ≤ scenario.now.params.slots }
     requires bus { scenario.now.params.nodes ≡ 3 }
     requires members { AllBelow 3 members }
-    ensures state { life.new ≡ life.old }
+    ensures { OnOk result (HasReadSlots scenario.now read life.new) }
 {
     // Named for the contract alone: the slots are those of a run of the scenario.
     let _scenario = scenario;
     let mut out = Actions::build(alloc, 1)?;
-    life.sign(slot, members, &mut out);
+    life.sign(read - 1, members, &mut out);
     Ok(out)
 }
 
-/// The same at a node that has read idle slots alone.
-fn due_at_first(
-    alloc: Global,
-    scenario: &Scenario,
-    node: NodeId,
-    slot: Slot,
-    members: NodeSet,
-) -> Result<Actions, Memory>
-    requires node { node < 3 }
-    requires within { slot < scenario.now.params.slots }
-    requires slots { scenario.now.params.slots ≤ 200 }
-    requires bus { scenario.now.params.nodes ≡ 3 }
-    requires members { AllBelow 3 members }
-{
-    let mut life = begun(alloc, scenario, node, slot + 1)?;
-    due(alloc, &mut life, scenario, slot, members)
-}
-
-/// These nodes are admitted in the turn of a slot.
-fn admit(life: &mut Life, scenario: &Scenario, slot: Slot, newly: NodeSet)
-    requires stands { HasReadSlots scenario.now (slot + 1) life.old }
-    requires within { slot < scenario.now.params.slots }
+/// These nodes are admitted in the turn of the last of so many slots.
+fn admit(life: &mut Life, scenario: &Scenario, read: Slot, newly: NodeSet)
+    requires stands { HasReadSlots scenario.now read life.old }
+    requires some { 0 < read }
+    requires within { read ≤ scenario.now.params.slots }
     requires bus { scenario.now.params.nodes ≡ 3 }
     requires newly { AllBelow 3 newly }
-    ensures { HasReadSlots scenario.now (slot + 1) life.new }
+    ensures { HasReadSlots scenario.now read life.new }
 {
     // Named for the contract alone: the slots are those of a run of the scenario.
     let _scenario = scenario;
-    life.admit(newly, slot);
+    life.admit(newly, read - 1);
 }
 
 /// The frame of the failure sign of a node, of cycle 1.
@@ -300,196 +285,241 @@ fn between(from: u8, to: u8) -> NodeSet
     NodeSet::all(to).minus(NodeSet::all(from))
 }
 
-#[test]
-fn a_sign_that_is_told_is_entered_spread_and_withdrawn(rt: HostRuntime) -> Result<(), Fail> {
-    let node = NodeId::new(1).ok_or("a node")?;
-    let other = NodeId::new(2).ok_or("a node")?;
-    let scenario = scenario_of(rt.alloc(), 1)?;
-    let mut life = begun(rt.alloc(), &scenario, node, 80)?;
-    assert_eq!(rt; life.failed().bits(), 0);
-    // The node is no member, so it finds nobody by silence.
-    let members = between(0, 0);
-    let first = told(rt.alloc(), &mut life, &scenario, 80, other, members)?;
-    let asked = Action::Ask(sign_frame(other));
-    assert_eq!(rt; first.as_slice(), [entry(80, other), asked].as_slice());
-    assert_eq!(rt; life.failed().bits(), 4);
-    let second = told(rt.alloc(), &mut life, &scenario, 81, other, members)?;
-    // Class 3 at bit 25, number 1 at bit 9, node 2 at bit 4.
-    let withdrawn = Action::Withdraw { ident: 100_663_840 };
-    assert_eq!(rt; second.as_slice(), [withdrawn].as_slice());
-    Ok(())
+/// What a node reads next, or does in the turn of the slot that it read last.
+#[derive(Clone, Copy)]
+enum Event {
+    /// It reads an idle slot.
+    Idle,
+    /// It reads idle slots, up to one that it does not read, and what it does then is not looked at.
+    PassTo(Slot),
+    /// It reads a copy of the frame of the failure sign of a node.
+    Told(NodeId),
+    /// It reads the first life sign of another node.
+    Heard(NodeId),
+    /// It asks for its life sign, if that is due.
+    Due,
+    /// The nodes from one number on, below another, are admitted.
+    Admitted(u8, u8),
 }
 
-#[test]
-fn silence_finds_nodes_in_ascending_order(rt: HostRuntime) -> Result<(), Fail> {
-    let node = NodeId::new(1).ok_or("a node")?;
-    let least = NodeId::new(0).ok_or("a node")?;
-    let other = NodeId::new(2).ok_or("a node")?;
-    let scenario = scenario_of(rt.alloc(), 1)?;
-    let mut life = begun(rt.alloc(), &scenario, node, 80)?;
-    let found = idle(rt.alloc(), &mut life, &scenario, 80, between(0, 3))?;
-    assert_eq!(rt;
-        found.as_slice(),
-        [
-            entry(80, least),
-            Action::Ask(sign_frame(least)),
-            entry(80, other),
-            Action::Ask(sign_frame(other)),
-        ]
-        .as_slice()
-    );
-    assert_eq!(rt; life.failed().bits(), 5);
-    Ok(())
+/// What a node does at an event after so many slots. An event that cannot come is refused.
+fn step(
+    alloc: Global,
+    life: &mut Life,
+    scenario: &Scenario,
+    read: &mut Slot,
+    event: Event,
+    members: NodeSet,
+) -> Result<Actions, Memory>
+    requires stands { HasReadSlots scenario.now read.old life.old }
+    requires bus { scenario.now.params.nodes ≡ 3 }
+    requires slots { scenario.now.params.slots ≡ 200 }
+    requires cycle { scenario.now.params.cycle ≡ 72 }
+    requires members { AllBelow 3 members }
+    ensures { OnOk result (HasReadSlots scenario.now read.new life.new) }
+{
+    let slot = *read;
+    if slot == 0 || slot >= 200 {
+        return Err(Memory);
+    }
+    match event {
+        Event::Idle => {
+            *read = slot + 1;
+            idle(alloc, life, scenario, slot, members)
+        }
+        Event::PassTo(to) => {
+            if to < slot || to > 200 {
+                return Err(Memory);
+            }
+            *read = to;
+            pass(alloc, life, scenario, slot, to, members)?;
+            Actions::build(alloc, 0)
+        }
+        Event::Told(failed) => {
+            if failed.get() >= 3 || slot < 72 {
+                return Err(Memory);
+            }
+            *read = slot + 1;
+            told(alloc, life, scenario, slot, failed, members)
+        }
+        Event::Heard(other) => {
+            if other.get() >= 3 {
+                return Err(Memory);
+            }
+            *read = slot + 1;
+            heard(alloc, life, scenario, slot, other, members)
+        }
+        Event::Due => due(alloc, life, scenario, slot, members),
+        Event::Admitted(from, to) => {
+            if from > 3 || to > 3 {
+                return Err(Memory);
+            }
+            admit(life, scenario, slot, between(from, to));
+            Actions::build(alloc, 0)
+        }
+    }
 }
 
-#[test]
-fn a_sign_by_silence_is_not_asked_for_at_its_copy(rt: HostRuntime) -> Result<(), Fail> {
-    let node = NodeId::new(1).ok_or("a node")?;
-    let other = NodeId::new(2).ok_or("a node")?;
-    let scenario = scenario_of(rt.alloc(), 1)?;
-    let mut life = begun(rt.alloc(), &scenario, node, 80)?;
-    let members = between(1, 3);
-    let found = idle(rt.alloc(), &mut life, &scenario, 80, members)?;
-    let asked = Action::Ask(sign_frame(other));
-    assert_eq!(rt; found.as_slice(), [entry(80, other), asked].as_slice());
-    let first = told(rt.alloc(), &mut life, &scenario, 81, other, members)?;
-    assert_eq!(rt; first.len(), 0);
-    let second = told(rt.alloc(), &mut life, &scenario, 82, other, members)?;
-    let withdrawn = Action::Withdraw { ident: 100_663_840 };
-    assert_eq!(rt; second.as_slice(), [withdrawn].as_slice());
-    Ok(())
+/// What came of some events: the actions, after each event how many actions it led to and until
+/// when the value rests, and the bits of the nodes that have failed in the end.
+#[derive(Drop)]
+struct Seen {
+    actions: Vec<Action>,
+    notes: Vec<(usize, Slot)>,
+    failed: u64,
 }
 
-#[test]
-fn a_sign_that_is_told_comes_before_those_of_silence(rt: HostRuntime) -> Result<(), Fail> {
-    let node = NodeId::new(1).ok_or("a node")?;
-    let least = NodeId::new(0).ok_or("a node")?;
-    let other = NodeId::new(2).ok_or("a node")?;
-    let scenario = scenario_of(rt.alloc(), 1)?;
-    let mut life = begun(rt.alloc(), &scenario, node, 80)?;
-    let both = told(rt.alloc(), &mut life, &scenario, 80, other, between(0, 3))?;
-    assert_eq!(rt;
-        both.as_slice(),
-        [
-            entry(80, other),
-            Action::Ask(sign_frame(other)),
-            entry(80, least),
-            Action::Ask(sign_frame(least)),
-        ]
-        .as_slice()
-    );
-    Ok(())
-}
-
-#[test]
-fn with_no_omissions_the_first_copy_is_enough(rt: HostRuntime) -> Result<(), Fail> {
-    let node = NodeId::new(1).ok_or("a node")?;
-    let other = NodeId::new(2).ok_or("a node")?;
-    let scenario = scenario_of(rt.alloc(), 0)?;
-    let mut life = begun(rt.alloc(), &scenario, node, 80)?;
-    let first = told(rt.alloc(), &mut life, &scenario, 80, other, between(0, 0))?;
-    let withdrawn = Action::Withdraw { ident: 100_663_840 };
-    assert_eq!(rt; first.as_slice(), [entry(80, other), withdrawn].as_slice());
-    Ok(())
-}
-
-#[test]
-fn a_node_is_silent_as_many_slots_after_its_life_as_the_silence_has(
-    rt: HostRuntime,
-) -> Result<(), Fail> {
-    let node = NodeId::new(1).ok_or("a node")?;
-    let least = NodeId::new(0).ok_or("a node")?;
-    let scenario = scenario_of(rt.alloc(), 1)?;
-    let mut life = begun(rt.alloc(), &scenario, node, 10)?;
-    let members = between(0, 2);
-    let shown = heard(rt.alloc(), &mut life, &scenario, 10, least, members)?;
-    assert_eq!(rt; shown.len(), 0);
-    // Its own life sign is due in slot 36, and then silence may find the other one.
-    assert_eq!(rt; life.wake(members, 11), 36);
-    assert_eq!(rt; life.wake(members, 37), 83);
-    pass(rt.alloc(), &mut life, &scenario, 11, 82, members)?;
-    let early = idle(rt.alloc(), &mut life, &scenario, 82, members)?;
-    assert_eq!(rt; early.len(), 0);
-    let found = idle(rt.alloc(), &mut life, &scenario, 83, members)?;
-    let asked = Action::Ask(sign_frame(least));
-    assert_eq!(rt; found.as_slice(), [entry(83, least), asked].as_slice());
-    Ok(())
-}
-
-/// What node 1 asks for in the turn of a slot, where it has read idle slots alone.
-fn asked_at(alloc: Global, slot: Slot, members: NodeSet) -> Result<Actions, Fail>
-    requires slot { slot < 200 }
+/// What a node that has read so many slots does at these events.
+fn follow(
+    alloc: Global,
+    life: &mut Life,
+    scenario: &Scenario,
+    read: Slot,
+    events: &[Event],
+    members: NodeSet,
+) -> Result<Seen, Memory>
+    requires stands { HasReadSlots scenario.now read life.old }
+    requires bus { scenario.now.params.nodes ≡ 3 }
+    requires slots { scenario.now.params.slots ≡ 200 }
+    requires cycle { scenario.now.params.cycle ≡ 72 }
     requires members { AllBelow 3 members }
 {
-    let node = NodeId::new(1).ok_or("a node")?;
+    let mut slots = read;
+    let mut actions = Vec::new(alloc);
+    let mut notes = Vec::new(alloc);
+    for event in events {
+        let done = step(alloc, life, scenario, &mut slots, *event, members)?;
+        actions.extend_from_slice(done.as_slice())?;
+        notes.push((done.len(), life.wake(members, slots)))?;
+    }
+    let failed = life.failed().bits();
+    Ok(Seen {
+        actions,
+        notes,
+        failed,
+    })
+}
+
+/// What node 1 does that has read so many idle slots. The members are the nodes from one number on,
+/// below another.
+fn after_idle(
+    alloc: Global,
+    omit: u32,
+    read: Slot,
+    from: u8,
+    to: u8,
+    events: &[Event],
+) -> Result<Seen, Memory> {
+    if omit > 1 || from > 3 || to > 3 {
+        return Err(Memory);
+    }
+    let node = NodeId::new(1).ok_or(Memory)?;
+    let scenario = scenario_of(alloc, omit)?;
+    let mut life = begun(alloc, &scenario, node, read)?;
+    follow(alloc, &mut life, &scenario, read, events, between(from, to))
+}
+
+/// What node 1, the only member, does that has read so many idle slots, and then its own first life
+/// sign.
+fn after_own_sign(alloc: Global, read: Slot, events: &[Event]) -> Result<Seen, Memory> {
+    if read < 36 || read >= 200 {
+        return Err(Memory);
+    }
+    let node = NodeId::new(1).ok_or(Memory)?;
     let scenario = scenario_of(alloc, 1)?;
-    Ok(due_at_first(alloc, &scenario, node, slot, members)?)
+    let mut life = begun(alloc, &scenario, node, read)?;
+    let members = between(1, 2);
+    let _ = sent(alloc, &mut life, &scenario, read, node, members)?;
+    follow(alloc, &mut life, &scenario, read + 1, events, members)
 }
 
 #[test]
-fn a_life_sign_is_due_in_one_slot(rt: HostRuntime) -> Result<(), Fail> {
-    let asks = asked_at(rt.alloc(), 36, between(0, 3))?;
-    let node = NodeId::new(1).ok_or("a node")?;
+fn failure_signs_are_entered_spread_and_withdrawn(rt: HostRuntime) -> Result<(), Fail> {
+    let least = NodeId::new(0).ok_or("a node")?;
+    let other = NodeId::new(2).ok_or("a node")?;
+    let told = Event::Told(other);
+    let idle = Event::Idle;
+    let heard = Event::Heard(least);
+    let alloc = rt.alloc();
+    let twice = after_idle(alloc, 1, 80, 0, 0, &[told, told])?;
+    let silent = after_idle(alloc, 1, 80, 0, 3, &[idle])?;
+    let found = after_idle(alloc, 1, 80, 1, 3, &[idle, told, told])?;
+    let both = after_idle(alloc, 1, 80, 0, 3, &[told])?;
+    let once = after_idle(alloc, 0, 80, 0, 0, &[told])?;
+    let shown = after_idle(alloc, 1, 10, 0, 2, &[heard, Event::PassTo(82), idle, idle])?;
+    let admitted = after_idle(alloc, 1, 80, 0, 3, &[idle, Event::Admitted(2, 3), told])?;
+    let never = Slot::MAX;
+    let at_least = entry(80, least);
+    let at_other = entry(80, other);
+    let late_least = entry(83, least);
+    let ask_least = Action::Ask(sign_frame(least));
+    let ask_other = Action::Ask(sign_frame(other));
+    // Class 3 at bit 25, number 1 at bit 9, node 2 at bit 4.
+    let withdrawn = Action::Withdraw { ident: 100_663_840 };
     assert_eq!(rt;
-        asks.as_slice(),
-        [Action::Ask(life_frame(node, 0))].as_slice()
+        [
+            (twice.actions.as_slice(), twice.notes.as_slice(), twice.failed),
+            (silent.actions.as_slice(), silent.notes.as_slice(), silent.failed),
+            (found.actions.as_slice(), found.notes.as_slice(), found.failed),
+            (both.actions.as_slice(), both.notes.as_slice(), both.failed),
+            (once.actions.as_slice(), once.notes.as_slice(), once.failed),
+            (shown.actions.as_slice(), shown.notes.as_slice(), shown.failed),
+            (admitted.actions.as_slice(), admitted.notes.as_slice(), admitted.failed),
+        ],
+        [
+            // A node that is no member finds nobody by silence.
+            ([at_other, ask_other, withdrawn].as_slice(), [(2, never), (1, never)].as_slice(), 4),
+            // Silence finds nodes in ascending order.
+            ([at_least, ask_least, at_other, ask_other].as_slice(), [(4, never)].as_slice(), 5),
+            // A sign by silence is not asked for again at its copy.
+            ([at_other, ask_other, withdrawn].as_slice(), [(2, never), (0, never), (1, never)].as_slice(), 4),
+            // A sign that is told comes before those of silence.
+            ([at_other, ask_other, at_least, ask_least].as_slice(), [(4, never)].as_slice(), 5),
+            // With no omissions the first copy is enough.
+            ([at_other, withdrawn].as_slice(), [(2, never)].as_slice(), 4),
+            // A node is silent as many slots after its life as the silence has.
+            ([late_least, ask_least].as_slice(), [(0, 36), (0, 83), (0, 83), (2, never)].as_slice(), 1),
+            // A node that is admitted has not failed, and its sign is known already.
+            ([at_least, ask_least, at_other, ask_other].as_slice(), [(4, never), (0, 0), (0, 153)].as_slice(), 1),
+        ]
     );
     Ok(())
 }
 
 #[test]
-fn no_life_sign_is_due_in_other_slots_or_outside(rt: HostRuntime) -> Result<(), Fail> {
-    assert_eq!(rt; asked_at(rt.alloc(), 35, between(0, 3))?.len(), 0);
-    assert_eq!(rt; asked_at(rt.alloc(), 37, between(0, 3))?.len(), 0);
-    assert_eq!(rt; asked_at(rt.alloc(), 36, between(0, 1))?.len(), 0);
-    Ok(())
-}
-
-#[test]
-fn the_next_life_sign_has_the_next_number(rt: HostRuntime) -> Result<(), Fail> {
+fn a_member_asks_for_its_life_sign_in_the_slot_in_which_it_is_due(
+    rt: HostRuntime,
+) -> Result<(), Fail> {
+    let alloc = rt.alloc();
+    let due = after_idle(alloc, 1, 37, 0, 3, &[Event::Due])?;
+    let early = after_idle(alloc, 1, 36, 0, 3, &[Event::Due])?;
+    let late = after_idle(alloc, 1, 38, 0, 3, &[Event::Due])?;
+    let outside = after_idle(alloc, 1, 37, 0, 1, &[Event::Due])?;
+    let next = after_own_sign(alloc, 40, &[Event::PassTo(77), Event::Due])?;
+    let admits = [Event::Admitted(1, 2), Event::PassTo(117), Event::Due];
+    let admitted = after_idle(alloc, 1, 81, 1, 2, &admits)?;
     let node = NodeId::new(1).ok_or("a node")?;
-    let scenario = scenario_of(rt.alloc(), 1)?;
-    // The other nodes are no members, so they are not found by silence.
-    let members = between(1, 2);
-    let mut life = begun(rt.alloc(), &scenario, node, 40)?;
-    let own = sent(rt.alloc(), &mut life, &scenario, 40, node, members)?;
-    assert_eq!(rt; own.len(), 0);
-    pass(rt.alloc(), &mut life, &scenario, 41, 77, members)?;
-    let asks = due(rt.alloc(), &mut life, &scenario, 76, members)?;
-    let next = Action::Ask(life_frame(node, 1));
-    assert_eq!(rt; asks.as_slice(), [next].as_slice());
-    Ok(())
-}
-
-#[test]
-fn a_node_that_is_admitted_has_not_failed(rt: HostRuntime) -> Result<(), Fail> {
-    let node = NodeId::new(1).ok_or("a node")?;
-    let other = NodeId::new(2).ok_or("a node")?;
-    let scenario = scenario_of(rt.alloc(), 1)?;
-    let mut life = begun(rt.alloc(), &scenario, node, 80)?;
-    let members = between(0, 3);
-    let found = idle(rt.alloc(), &mut life, &scenario, 80, members)?;
-    assert_eq!(rt; found.len(), 4);
-    admit(&mut life, &scenario, 80, between(2, 3));
-    assert_eq!(rt; life.failed().bits(), 1);
-    // It shows life from that slot on, so silence does not find it. Its sign is known already, so a copy of its frame only counts.
-    let again = told(rt.alloc(), &mut life, &scenario, 81, other, members)?;
-    assert_eq!(rt; again.len(), 0);
-    assert_eq!(rt; life.failed().bits(), 1);
-    Ok(())
-}
-
-#[test]
-fn a_node_that_is_admitted_itself_shows_life(rt: HostRuntime) -> Result<(), Fail> {
-    let node = NodeId::new(1).ok_or("a node")?;
-    let scenario = scenario_of(rt.alloc(), 1)?;
-    // The other nodes are no members, so they are not found by silence.
-    let members = between(1, 2);
-    let mut life = begun(rt.alloc(), &scenario, node, 81)?;
-    admit(&mut life, &scenario, 80, members);
-    pass(rt.alloc(), &mut life, &scenario, 81, 117, members)?;
-    let asks = due(rt.alloc(), &mut life, &scenario, 116, members)?;
-    let first = Action::Ask(life_frame(node, 0));
-    assert_eq!(rt; asks.as_slice(), [first].as_slice());
+    let first_sign = Action::Ask(life_frame(node, 0));
+    let second_sign = Action::Ask(life_frame(node, 1));
+    assert_eq!(rt;
+        [
+            due.actions.as_slice(),
+            early.actions.as_slice(),
+            late.actions.as_slice(),
+            outside.actions.as_slice(),
+            next.actions.as_slice(),
+            admitted.actions.as_slice(),
+        ],
+        [
+            [first_sign].as_slice(),
+            [].as_slice(),
+            [].as_slice(),
+            [].as_slice(),
+            // The next has the next number.
+            [second_sign].as_slice(),
+            // A node that is admitted itself shows life.
+            [first_sign].as_slice(),
+        ]
+    );
     Ok(())
 }

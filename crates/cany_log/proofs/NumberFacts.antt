@@ -25,6 +25,6 @@ pub node_text-short : (node inc : ℕ) → node < 64 → inc < 256 → length (n
 unfolding node_text
 node_text-short node inc small few = omega (arith, length-append (decimal node) (inc_text inc), node_digits node small, inc_text-short inc few)
 
-pub node_text-row : (node inc : ℕ) (row : List ℕ) → decimal node ++ (inc_text inc ++ row) ≡ node_text node inc ++ row
+pub node_text-put : (node inc : ℕ) (row : List ℕ) → decimal node ++ (inc_text inc ++ row) ≡ node_text node inc ++ row
 unfolding node_text
-node_text-row node inc row = sym (append_assoc (decimal node) (inc_text inc) row)
+node_text-put node inc row = sym (append_assoc (decimal node) (inc_text inc) row)

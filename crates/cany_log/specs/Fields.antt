@@ -3,7 +3,7 @@ use Rattle.std.specs.Prelude.{ℕ, ◌+◌, List, [], ◌∷◌, Option, Some, N
 use Rattle.std.specs.List.{flat_map}
 use Rattle.cany_base.specs.Nodes.{Nodes}
 use Rattle.cany_log.specs.declared.field.Field.{Field}
-use Rattle.cany_log.specs.declared.field.Field.TheVariants.{Text, Number, Count, Signed, Node, Bytes, Set, NumberIfAny, SetIfAny}
+use Rattle.cany_log.specs.declared.field.Field.TheVariants.{Text, Number, Count, SignedNumber, Node, Bytes, Set, NumberIfAny, SetIfAny}
 use Rattle.cany_text.specs.RefusalLines.{signed_decimal}
 use Rattle.cany_text.specs.ReportLines.{has_any, node_text, payload_text, set_text}
 
@@ -21,7 +21,7 @@ abbrev pub texts_of : Field → List (List ℕ)
 texts_of (Text text) = text.now ∷ []
 texts_of (Number n) = decimal n ∷ []
 texts_of (Count n) = decimal n ∷ []
-texts_of (Signed n) = signed_decimal n ∷ []
+texts_of (SignedNumber n) = signed_decimal n ∷ []
 texts_of (Node node inc) = node_text node inc ∷ []
 texts_of (Bytes payload) = payload_text payload ∷ []
 texts_of (Set nodes) = set_text nodes ∷ []
@@ -32,17 +32,39 @@ texts_of (SetIfAny word nodes) = set_if_any word.now nodes
 abbrev pub spaced : List (List ℕ) → List ℕ
 spaced texts = flat_map (λ text. 32 ∷ text) texts
 
--- how many bytes a piece takes in a line at most
+-- ---- how many bytes a field has at most
+
+-- a number of 64 bits, which may be below zero
+abbrev pub most_number_bytes : ℕ
+most_number_bytes = 20
+
+-- a number of 128 bits
+abbrev pub most_count_bytes : ℕ
+most_count_bytes = 39
+
+-- a node and the number of its incarnation
+abbrev pub most_node_bytes : ℕ
+most_node_bytes = 6
+
+-- a payload of 8 bytes
+abbrev pub most_payload_bytes : ℕ
+most_payload_bytes = 17
+
+-- a set of 64 nodes
+abbrev pub most_set_bytes : ℕ
+most_set_bytes = 181
+
+-- and a piece, with the spaces before its fields
 abbrev pub most_bytes : Field → ℕ
 most_bytes (Text text) = 1 + length text.now
-most_bytes (Number n) = 21
-most_bytes (Count n) = 40
-most_bytes (Signed n) = 21
-most_bytes (Node node inc) = 7
-most_bytes (Bytes payload) = 18
-most_bytes (Set nodes) = 182
-most_bytes (NumberIfAny word n) = length word.now + 22
-most_bytes (SetIfAny word nodes) = length word.now + 183
+most_bytes (Number n) = 1 + most_number_bytes
+most_bytes (Count n) = 1 + most_count_bytes
+most_bytes (SignedNumber n) = 1 + most_number_bytes
+most_bytes (Node node inc) = 1 + most_node_bytes
+most_bytes (Bytes payload) = 1 + most_payload_bytes
+most_bytes (Set nodes) = 1 + most_set_bytes
+most_bytes (NumberIfAny word n) = (1 + length word.now) + (1 + most_number_bytes)
+most_bytes (SetIfAny word nodes) = (1 + length word.now) + (1 + most_set_bytes)
 
 -- and pieces together
 abbrev pub room_of : List Field → ℕ

@@ -1,15 +1,16 @@
 //! What happened on the bus, slot by slot.
-ghost use Rattle.std.specs.Prelude.{◌≡◌, ◌≤◌, ◌∷◌, []};
+ghost use Rattle.std.specs.Prelude.{◌≡◌, ◌+◌, ◌≤◌, ◌∷◌, []};
 ghost use Rattle.std.specs.List.{concat};
 ghost use Rattle.cany_text.specs.Report.{bus_lines};
 ghost use Rattle.cany_text.specs.ReportLines as report;
-ghost use Rattle.cany_log.specs.Fields.{most_bytes, texts_of};
+ghost use Rattle.cany_log.specs.Fields.{most_bytes, most_payload_bytes, texts_of};
 ghost use Rattle.cany_log.specs.Written.{IsWritten};
 ghost use Rattle.cany_world.specs.World.{state_of};
 
 use crate::field::Field;
 use crate::line::{has_any, write_line};
-use cany_base::{Class, Frame, NodeSet, SlotNote};
+use can_frame::is_remote;
+use cany_base::{Frame, NodeSet, SlotNote};
 use cany_io::{Failed, Sink};
 use cany_text::names::{class_name, verdict_name};
 use cany_world::World;
@@ -17,12 +18,12 @@ use cany_world::World;
 /// The bytes of a data frame. A remote frame has none to show.
 fn frame_payload(frame: &Frame) -> Field
     ensures text { texts_of result ≡ report.frame_payload frame.now ∷ [] }
-    ensures short { most_bytes result ≤ 18 }
+    ensures short { most_bytes result ≤ 1 + most_payload_bytes }
 {
-    match frame.class {
-        Class::Rha | Class::Tot | Class::Rel | Class::Ed => Field::Bytes(frame.payload),
-        Class::Accept | Class::Els | Class::Fda | Class::Join | Class::Leave | Class::Confirm =>
-            Field::Text("r"),
+    if is_remote(frame.class) {
+        Field::Text("r")
+    } else {
+        Field::Bytes(frame.payload)
     }
 }
 

@@ -7,14 +7,15 @@ use cany_base::{LogEntry, MsgKey, NodeId, NodeSet, Payload, Service, Slot};
 use cany_io::{Failed, Sink, write_whole};
 use cany_text::names::service_name;
 
-/// How many bytes the line of a delivery or of a failure has at most, with numbers as long as their fields allow.
+/// How many bytes the line of a delivery or of a failure has at most, with numbers as long as their
+/// fields allow.
 const ENTRY_LINE_BYTES: usize = 96;
 
 /// How many bytes the line of a view has at most: it names all nodes.
 const VIEW_LINE_BYTES: usize = 256;
 
-/// Writes the line of a delivery. Nearly all lines of a report are those of entries, so they are put together without a list of
-/// their fields.
+/// Writes the line of a delivery. Nearly all lines of a report are those of entries, so they are
+/// put together without a list of their fields.
 #[tactic(auto, unfolding(cany_text::specs::ReportLines::entry_line, cany_text::specs::ReportLines::line_of))]
 fn write_delivery<K: Sink>(
     slot: Slot,

@@ -10,8 +10,8 @@ use cany_world::World;
 
 /// How many log entries there are of each kind.
 ///
-/// No contract says how many entries a log has at most, so there is room for the longest slices, of every incarnation of every
-/// node.
+/// No contract says how many entries a log has at most, so there is room for the longest slices, of
+/// every incarnation of every node.
 #[derive(Clone, Copy, Debug, PartialEq, Eq)]
 pub(crate) struct EntryCounts {
     pub(crate) deliveries: u128,

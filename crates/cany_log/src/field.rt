@@ -10,7 +10,7 @@ pub(crate) enum Field {
     /// A number that may be past the range of the others, in decimal.
     Count(u128),
     /// A number that may be below zero, in decimal.
-    Signed(i64),
+    SignedNumber(i64),
     /// A node by its number, with that of its incarnation where it is not the first.
     Node(NodeId, u8),
     /// The bytes of a data frame or of a message, in hexadecimal.

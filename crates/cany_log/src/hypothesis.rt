@@ -19,7 +19,8 @@ fn break_name(kind: BreakKind) -> &'static str
     }
 }
 
-/// Writes the line of the fault hypothesis: that a run is within it, or where it leaves it first. It takes no memory.
+/// Writes the line of the fault hypothesis: that a run is within it, or where it leaves it first.
+/// It takes no memory.
 #[tactic(auto, unfolding(cany_text::specs::ReportLines::hypothesis_line))]
 pub fn write_hypothesis<K: Sink>(found: Option<Break>, sink: &mut K) -> Result<(), Failed>
     ensures { IsWritten (report.hypothesis_line found) result

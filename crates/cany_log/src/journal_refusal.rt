@@ -54,7 +54,8 @@ fn write_refused_step<K: Sink>(place: u64, reply: &StepReply, sink: &mut K) -> R
     }
 }
 
-/// Writes the line of a journal whose step at this place is refused for a cause of some words and a number.
+/// Writes the line of a journal whose step at this place is refused for a cause of some words and a
+/// number.
 fn write_cause<K: Sink>(
     place: u64,
     words: &'static str,

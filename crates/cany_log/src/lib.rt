@@ -1,5 +1,5 @@
-//! The report and the summary of a run, and the lines of refusals, written to a sink. Each line is put together before the sink
-//! is given any of it, and no call takes memory.
+//! The report and the summary of a run, and the lines of refusals, written to a sink. Each line is
+//! put together before the sink is given any of it, and no call takes memory.
 #![tactic(auto)]
 
 mod bus_lines;

@@ -2,7 +2,7 @@ ghost use Rattle.std.specs.Prelude.{◌+◌, ◌≤◌, ◌≡◌, ◌∷◌, �
 ghost use Rattle.std.specs.List.{flat_map};
 ghost use Rattle.cany_base.specs.Limits.{most_line_bytes};
 ghost use Rattle.cany_text.specs.ReportLines as report;
-ghost use Rattle.cany_log.specs.Fields.{most_bytes, number_if_any, room_of, set_if_any, spaced, texts_of};
+ghost use Rattle.cany_log.specs.Fields.{most_bytes, most_number_bytes, most_set_bytes, number_if_any, room_of, set_if_any, spaced, texts_of};
 ghost use Rattle.cany_log.specs.Written.{IsWritten};
 
 use crate::field::Field;
@@ -29,9 +29,9 @@ fn put_number_if_any<const ROOM: usize>(
     word: &'static str,
     number: Option<u64>,
 )
-    requires { length line_buffer.old + (length word.now + 22) ≤ ROOM }
+    requires { length line_buffer.old + ((1 + length word.now) + (1 + most_number_bytes)) ≤ ROOM }
     ensures text { line_buffer.new ≡ spaced (number_if_any word.now number) ++ line_buffer.old }
-    ensures short { length (spaced (number_if_any word.now number)) ≤ length word.now + 22 }
+    ensures short { length (spaced (number_if_any word.now number)) ≤ (1 + length word.now) + (1 + most_number_bytes) }
 {
     if let Some(number) = number {
         line_buffer.put_number(number);
@@ -44,9 +44,9 @@ fn put_set_if_any<const ROOM: usize>(
     word: &'static str,
     nodes: NodeSet,
 )
-    requires { length line_buffer.old + (length word.now + 183) ≤ ROOM }
+    requires { length line_buffer.old + ((1 + length word.now) + (1 + most_set_bytes)) ≤ ROOM }
     ensures text { line_buffer.new ≡ spaced (set_if_any word.now nodes) ++ line_buffer.old }
-    ensures short { length (spaced (set_if_any word.now nodes)) ≤ length word.now + 183 }
+    ensures short { length (spaced (set_if_any word.now nodes)) ≤ (1 + length word.now) + (1 + most_set_bytes) }
 {
     if has_any(nodes) {
         line_buffer.put_set(nodes);
@@ -64,7 +64,7 @@ fn put_field<const ROOM: usize>(line_buffer: &mut LineBuffer<ROOM>, field: &Fiel
         Field::Text(text) => line_buffer.put_text(text),
         Field::Number(number) => line_buffer.put_number(number),
         Field::Count(number) => line_buffer.put_count(number),
-        Field::Signed(number) => line_buffer.put_signed(number),
+        Field::SignedNumber(number) => line_buffer.put_signed(number),
         Field::Node(node, inc) => line_buffer.put_node(node, inc),
         Field::Bytes(payload) => line_buffer.put_payload(&payload),
         Field::Set(set) => line_buffer.put_set(set),
@@ -73,8 +73,8 @@ fn put_field<const ROOM: usize>(line_buffer: &mut LineBuffer<ROOM>, field: &Fiel
     }
 }
 
-/// Writes a line of at most so many bytes that begins with these words. It is put together before the sink is given any of
-/// it, and takes no memory.
+/// Writes a line of at most so many bytes that begins with these words. It is put together before
+/// the sink is given any of it, and takes no memory.
 fn write_row<const ROOM: usize, K: Sink>(
     words: &'static str,
     fields: &[Field],
@@ -109,14 +109,15 @@ pub(crate) fn write_line<K: Sink>(
     write_row::<MOST_LINE_BYTES, K>(words, fields, sink)
 }
 
-/// Writes a short line that begins with these words. Lines that a report has many of are short: the bytes of a line buffer are
-/// cleared before it is filled, which for a long one costs as much as filling it.
+/// Writes a short line that begins with these words. Lines that a report has many of are short: the
+/// bytes of a line buffer are cleared before it is filled, which for a long one costs as much as
+/// filling it.
 pub(crate) fn write_short_line<K: Sink>(
     words: &'static str,
     fields: &[Field],
     sink: &mut K,
 ) -> Result<(), Failed>
-    requires room { length words.now + room_of fields.now + 1 ≤ 256 }
+    requires room { length words.now + room_of fields.now + 1 ≤ SHORT_LINE_BYTES }
     ensures { IsWritten (report.line_of (words.now ∷ flat_map texts_of fields.now)) result
         (K.taken sink.old) (K.taken sink.new) (K.faults sink.old) (K.faults sink.new) }
 {

@@ -1,7 +1,9 @@
-//! The bytes of a line, from the last one to the first: so the digits of a number, of which the last is known first, are written
-//! where they stay. A field is put before the others together with the space before it.
+//! The bytes of a line, from the last one to the first: so the digits of a number, of which the
+//! last is known first, are written where they stay. A field is put before the others together with
+//! the space before it.
 ghost use Rattle.std.specs.Prelude.{◌≡◌, ◌+◌, ◌≤◌, ◌∷◌, ◌++◌, ◌==◌, [], if◌then◌else◌, codes, length, map, decimal};
 ghost use Rattle.cany_base.specs.Limits.{most_line_bytes};
+ghost use Rattle.cany_log.specs.Fields.{most_count_bytes, most_node_bytes, most_number_bytes, most_payload_bytes, most_set_bytes};
 ghost use Rattle.cany_text.specs.RefusalLines.{signed_decimal};
 ghost use Rattle.cany_text.specs.ReportLines.{byte_text, node_text, payload_text, set_text, step_letter};
 
@@ -9,7 +11,8 @@ use cany_base::{NodeId, NodeSet, Payload, Step};
 use itoa::{Buffer, write_digits};
 use std::marker::Model;
 
-/// The letters of a journal: those of the turns of the nodes, from node 0 on, and then that of a slot.
+/// The letters of a journal: those of the turns of the nodes, from node 0 on, and then that of a
+/// slot.
 const LETTERS: &[u8; SLOT_PLACE + 1] =
     b"0123456789abcdefghijklmnopqrstuvwxyzABCDEFGHIJKLMNOPQRSTUVWXYZ+-.";
 
@@ -80,8 +83,8 @@ impl<const ROOM: usize> LineBuffer<ROOM> {
         self.start = write_digits(number, &mut self.bytes, self.start);
     }
 
-    /// Puts fixed words.
-    pub(crate) fn put_text(&mut self, text: &'static str)
+    /// Puts a text.
+    pub(crate) fn put_text(&mut self, text: &str)
         requires { length self.old + (1 + length text.now) ≤ ROOM }
         ensures { self.new ≡ (32 ∷ text.now) ++ self.old }
     {
@@ -93,9 +96,9 @@ impl<const ROOM: usize> LineBuffer<ROOM> {
     // A hint, since most lines of a report have three numbers.
     #[inline(always)]
     pub(crate) fn put_number(&mut self, number: u64)
-        requires { length self.old + 21 ≤ ROOM }
+        requires { length self.old + (1 + most_number_bytes) ≤ ROOM }
         ensures text { self.new ≡ (32 ∷ decimal number) ++ self.old }
-        ensures short { length (decimal number) ≤ 20 }
+        ensures short { length (decimal number) ≤ most_number_bytes }
     {
         self.put_digits(number);
         self.put_byte(b' ');
@@ -103,24 +106,22 @@ impl<const ROOM: usize> LineBuffer<ROOM> {
 
     /// Puts a number of up to 128 bits in decimal.
     pub(crate) fn put_count(&mut self, number: u128)
-        requires { length self.old + 40 ≤ ROOM }
+        requires { length self.old + (1 + most_count_bytes) ≤ ROOM }
         ensures text { self.new ≡ (32 ∷ decimal number) ++ self.old }
-        ensures short { length (decimal number) ≤ 39 }
+        ensures short { length (decimal number) ≤ most_count_bytes }
     {
         let mut buffer = Buffer::new();
-        self.put_bytes(buffer.format(number).as_bytes());
-        self.put_byte(b' ');
+        self.put_text(buffer.format(number));
     }
 
     /// Puts a number that may be below zero, in decimal.
     pub(crate) fn put_signed(&mut self, number: i64)
-        requires { length self.old + 21 ≤ ROOM }
+        requires { length self.old + (1 + most_number_bytes) ≤ ROOM }
         ensures text { self.new ≡ (32 ∷ signed_decimal number) ++ self.old }
-        ensures short { length (signed_decimal number) ≤ 20 }
+        ensures short { length (signed_decimal number) ≤ most_number_bytes }
     {
         let mut buffer = Buffer::new();
-        self.put_bytes(buffer.format(number).as_bytes());
-        self.put_byte(b' ');
+        self.put_text(buffer.format(number));
     }
 
     /// Puts the number of an incarnation, where it is not the first.
@@ -136,9 +137,9 @@ impl<const ROOM: usize> LineBuffer<ROOM> {
 
     /// Puts the number of a node, with that of its incarnation where it is not the first.
     pub(crate) fn put_node(&mut self, node: NodeId, inc: u8)
-        requires { length self.old + 7 ≤ ROOM }
+        requires { length self.old + (1 + most_node_bytes) ≤ ROOM }
         ensures text { self.new ≡ (32 ∷ node_text node inc) ++ self.old }
-        ensures short { length (node_text node inc) ≤ 6 }
+        ensures short { length (node_text node inc) ≤ most_node_bytes }
     {
         self.put_incarnation(inc);
         self.put_digits(u64::from(node.get()));
@@ -158,9 +159,9 @@ impl<const ROOM: usize> LineBuffer<ROOM> {
 
     /// Puts the bytes of a payload in hexadecimal.
     pub(crate) fn put_payload(&mut self, payload: &Payload)
-        requires { length self.old + 18 ≤ ROOM }
+        requires { length self.old + (1 + most_payload_bytes) ≤ ROOM }
         ensures text { self.new ≡ (32 ∷ payload_text payload.now) ++ self.old }
-        ensures short { length (payload_text payload.now) ≤ 17 }
+        ensures short { length (payload_text payload.now) ≤ most_payload_bytes }
     {
         let mut left = payload.len();
         while left > 0 {
@@ -172,18 +173,18 @@ impl<const ROOM: usize> LineBuffer<ROOM> {
 
     /// Puts the numbers of the nodes of a set.
     pub(crate) fn put_set(&mut self, set: NodeSet)
-        requires { length self.old + 182 ≤ ROOM }
+        requires { length self.old + (1 + most_set_bytes) ≤ ROOM }
         ensures text { self.new ≡ (32 ∷ set_text set) ++ self.old }
-        ensures short { length (set_text set) ≤ 181 }
+        ensures short { length (set_text set) ≤ most_set_bytes }
     {
         self.put_numbers(set);
         self.put_byte(b' ');
     }
 
     fn put_numbers(&mut self, set: NodeSet)
-        requires { length self.old + 181 ≤ ROOM }
+        requires { length self.old + most_set_bytes ≤ ROOM }
         ensures text { self.new ≡ set_text set ++ self.old }
-        ensures short { length (set_text set) ≤ 181 }
+        ensures short { length (set_text set) ≤ most_set_bytes }
     {
         let mut is_last = true;
         // No number is greater than that of the highest bit.

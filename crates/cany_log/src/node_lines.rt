@@ -22,8 +22,8 @@ fn if_later(inc: u8, number: u64) -> Option<u64>
     if inc > 0 { Some(number) } else { None }
 }
 
-/// Writes the line of an incarnation of a node: since when it runs, where it is not the first; whether it stopped; and how many
-/// notices it read.
+/// Writes the line of an incarnation of a node: since when it runs, where it is not the first;
+/// whether it stopped; and how many notices it read.
 pub(crate) fn write_node_line<K: Sink>(
     node: NodeId,
     inc: u8,

@@ -28,7 +28,8 @@ fn write_journal_given<K: Sink>(sink: &mut K) -> Result<(), Failed>
     write_line("refused journal given to run", &[], sink)
 }
 
-/// Writes the line of a refusal. It takes no memory. Want of memory is no fault of the text and has no line: nothing is written.
+/// Writes the line of a refusal. It takes no memory. Want of memory is no fault of the text and has
+/// no line: nothing is written.
 pub fn write_refusal<K: Sink>(refusal: &Refusal, sink: &mut K) -> Result<(), Failed>
     ensures { IsWritten (refusal_line refusal.now) result
         (K.taken sink.old) (K.taken sink.new) (K.faults sink.old) (K.faults sink.new) }

@@ -42,8 +42,8 @@ fn write_nodes_and_messages<K: Sink>(world: &World, sink: &mut K) -> Result<(), 
     write_line("end", &[], sink)
 }
 
-/// Writes the report of the world's run, line by line. It takes no memory. A run that has not ended has a report too: of what
-/// happened so far.
+/// Writes the report of the world's run, line by line. It takes no memory. A run that has not ended
+/// has a report too: of what happened so far.
 pub fn write_report<K: Sink>(world: &World, sink: &mut K) -> Result<(), Failed>
     ensures { IsWritten (report world.now.scenario world.now.journal) result
         (K.taken sink.old) (K.taken sink.new) (K.faults sink.old) (K.faults sink.new) }

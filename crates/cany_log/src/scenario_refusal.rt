@@ -122,7 +122,7 @@ fn write_out_of_range<K: Sink>(
         Field::Text(table_name(table)),
         Field::Number(place as u64),
         Field::Text("value"),
-        Field::Signed(value),
+        Field::SignedNumber(value),
     ];
     write_line("refused out of range", &fields, sink)
 }

@@ -168,8 +168,8 @@ fn write_ending<K: Sink>(world: &World, sink: &mut K) -> Result<(), Failed>
     write_line("end", &[], sink)
 }
 
-/// Writes the summary of the run of a storm, line by line. It takes no memory. A run that has not ended has a summary too: of
-/// what happened so far.
+/// Writes the summary of the run of a storm, line by line. It takes no memory. A run that has not
+/// ended has a summary too: of what happened so far.
 pub fn write_summary<K: Sink>(world: &World, number: u32, sink: &mut K) -> Result<(), Failed>
     ensures { IsWritten (summary.summary number world.now.scenario world.now.journal) result
         (K.taken sink.old) (K.taken sink.new) (K.faults sink.old) (K.faults sink.new) }

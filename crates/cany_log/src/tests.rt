@@ -15,8 +15,8 @@ use std::alloc::Global;
 use std::process::Abort;
 use std::test::Fail;
 
-// Answers with a status, as a program does. That a caller can say so much of the sink, with no proof
-// of its own, is what the contract is for.
+// Answers with a status, as a program does. That a caller can say so much of the sink, with no
+// proof of its own, is what the contract is for.
 fn report_status<K: Sink>(world: &World, sink: &mut K) -> u8
     ensures whole { result ≡ 0 → Takes (K.taken sink.old) (report world.now.scenario world.now.journal) (K.taken sink.new) }
     ensures prefix { TakesPrefix (K.taken sink.old) (report world.now.scenario world.now.journal) (K.taken sink.new) }

@@ -12,8 +12,8 @@ use Rattle.cany_base.specs.declared.notice.NoticeKind.TheVariants.{Idle, Got, Se
 use Rattle.cany_base.specs.Frame.{FrameParts}
 use Rattle.cany_base.specs.Params.{Parameters}
 use Rattle.cany_base.specs.Scenario.{ScenarioParts}
-use Rattle.cany_diffuse.specs.declared.learnt.Learnt.TheVariants.{First, Again, Enough}
-use Rattle.cany_diffuse.specs.Eager.{copies_of, is_owned, learnt_of}
+use Rattle.cany_diffuse.specs.Eager.{copies_of, is_enough, is_owned, learnt_of}
+use Rattle.cany_diffuse.proofs.LearntFacts.{enough_is}
 use Rattle.cany_message.specs.Actions.{delivery_actions, withdraw_actions}
 use Rattle.cany_base.specs.Limits.{most_nodes}
 use Rattle.cany_message.specs.Numbers.{frame_number}
@@ -28,15 +28,7 @@ use Rattle.cany_model.specs.Bus.Frames.{identity_of, same_class}
 use Rattle.cany_model.specs.Bus.History.{copies, has_own}
 use Rattle.cany_model.specs.Rules.Relcan.{confirm_effects, confirm_frame, fell_back, late_copy_effects, relcan_at}
 use Rattle.cany_relcan.specs.Relcan.{RelcanParts, HasRead, IsRelcanOf, of_own}
-use Rattle.cany_relcan.specs.RelcanSteps.{is_enough, is_fallen, was_delivered}
-
-enough_is : (omit c : ℕ) (own : Bool) → is_enough (learnt_of omit c own) ≡ nat_le (omit + 1) c
-enough_is omit c own = go (nat_le (omit + 1) c) (c == 1 && not own)
-  where
-    go : (t u : Bool) → is_enough (if t then Enough c else if u then First else Again c) ≡ t
-    go true u = refl
-    go false true = refl
-    go false false = refl
+use Rattle.cany_relcan.specs.RelcanSteps.{is_fallen, was_delivered}
 
 late_if : (format : Format) (fell many : Bool) (f : FrameParts)
     → actions_of format (if fell && many then Withdraw (identity_of f) ∷ [] else []) ≡ withdraw_actions format (many && fell) f

@@ -1,6 +1,7 @@
 -- The value after a notice, before the timer that ends in its turn.
-use Rattle.std.specs.Prelude.{min, nat_le, nat_lt}
+use Rattle.std.specs.Prelude.{min, nat_lt}
 use Rattle.std.proofs.Common.{◌≡◌, ℕ, zero, suc, ◌+◌, ◌<◌, ◌≤◌, ◌==◌, ◌&&◌, ◌||◌, Bool, true, false, if◌then◌else◌, not, List, [], ◌∷◌, ◌++◌, length, refl, ap, subst, sym, ◌∙◌, arith, length-append}
+use Rattle.std.specs.List.{AllByRecursion}
 use Rattle.std.proofs.lemmas.Bool.{and_parts, not-true}
 use Rattle.std.proofs.lemmas.Bool.Decides.{nat_tests}
 use Rattle.std.proofs.lemmas.List.{append-nil}
@@ -13,8 +14,8 @@ use Rattle.cany_base.specs.Frame.{FrameParts}
 use Rattle.cany_base.specs.Scenario.{ScenarioParts}
 use Rattle.cany_base.proofs.ParamsFacts.{few_slots}
 use Rattle.cany_diffuse.specs.declared.learnt.Learnt.{Learnt}
-use Rattle.cany_diffuse.specs.declared.learnt.Learnt.TheVariants.{First, Again, Enough}
-use Rattle.cany_diffuse.specs.Eager.{EagerParts, copies_of, is_held, is_owned, is_there, learnt_of, raised, spare_of, IsPut, IsLearnt, IsOwned}
+use Rattle.cany_diffuse.specs.Eager.{EagerParts, copies_of, is_first_copy, is_held, is_owned, is_there, learnt_of, raised, spare_of, IsPut, IsLearnt, IsOwned}
+use Rattle.cany_diffuse.proofs.LearntFacts.{first_copy_is}
 use Rattle.cany_base.specs.Limits.{most_nodes}
 use Rattle.cany_message.specs.Numbers.{frame_number}
 use Rattle.cany_message.proofs.HistoryFacts.{has_copy-counted, identity_is}
@@ -26,9 +27,9 @@ use Rattle.cany_model.specs.Rules.Relcan.{has_copy, is_timed}
 use Rattle.cany_model.specs.Rules.Rooms.{sends_by}
 use Rattle.cany_relcan.specs.declared.timers.Timer.{Timer}
 use Rattle.cany_relcan.specs.Relcan.{RelcanParts, HasLimitsOf, IsRelcanOf, AreMarksOf, HasRead, CanRead, data_identity, of_own, of_none}
-use Rattle.cany_relcan.specs.RelcanSteps.{holds_own, is_first_copy, starts_timer, timers_with, was_delivered}
+use Rattle.cany_relcan.specs.RelcanSteps.{holds_own, starts_timer, timers_with, was_delivered}
 use Rattle.cany_relcan.specs.Timers.{TimersParts, started_by, started_since}
-use Rattle.cany_relcan.proofs.TimerFacts.{started_by_one}
+use Rattle.cany_relcan.proofs.TimerFacts.{started_before, started_by_one}
 use Rattle.cany_relcan.proofs.TablesFacts.{tables_confirmed, tables_got, tables_other, tables_sent}
 
 -- ---- what a caller meets
@@ -75,6 +76,11 @@ one_more_timer scenario i past v h some =
     (omega (arith, h.limits.timers_few, some))
     (omega (arith, ap (λ (timers : List Timer). length timers) h.timers, few_started i scenario.params.confirm past))
 
+-- the timers that run were started before the slot that is read
+pub timers_before : (scenario : ScenarioParts) (i : ℕ) (past : List NoticeKind) (v : RelcanParts) (slot : ℕ) → IsRelcanOf scenario i past v → slot ≡ length past
+    → AllByRecursion (λ t. t.first < slot) v.timers.running
+timers_before scenario i past v slot h at = rw (h.timers, at) (started_before i scenario.params.confirm past)
+
 timers_fit : (b : Bool) (slot most : ℕ) (f : FrameParts) (v w : RelcanParts) → w.timers ≡ timers_with b slot f v.timers → IsPut (frame_number f) v.copies w.copies
     → (b ≡ true → is_there v.copies (frame_number f) ≡ false) → spare_of v.copies + length v.timers.running ≤ most → spare_of w.copies + length w.timers.running ≤ most
 timers_fit true slot most f v w is put absent fit =
@@ -87,14 +93,6 @@ same_room true slot f timers = refl
 same_room false slot f timers = refl
 
 -- ---- which copy is the first
-
-first_copy_is : (omit c : ℕ) (own : Bool) → is_first_copy (learnt_of omit c own) ≡ (c == 1)
-first_copy_is omit c own = go (nat_le (omit + 1) c) (c == 1 && not own) (λ first. (and_parts (c == 1) (not own) first).0)
-  where
-    go : (t u : Bool) → (u ≡ true → (c == 1) ≡ true) → is_first_copy (if t then Enough c else if u then First else Again c) ≡ (c == 1)
-    go true u one = refl
-    go false true one = sym (one refl)
-    go false false one = refl
 
 -- the message was not delivered before a copy that is the first, where the node does not know the frame as its own
 first_is_new : (got own noted first : Bool) → first ≡ not got → (own ≡ false → noted ≡ false) → (first && not (own && (got || noted))) ≡ true → not (got || noted) ≡ true

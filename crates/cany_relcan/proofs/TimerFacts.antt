@@ -66,6 +66,16 @@ started_late i (suc n) (notice ∷ before) =
     (Each-weaker (λ t. length before ≤ t.first + n) (λ t. suc (length before) ≤ t.first + suc n) (λ t h. omega arith) (started_since i n before) (started_late i n before))
     (started_by_each (λ t. suc (length before) ≤ t.first + suc n) i notice before (λ f _. omega arith))
 
+-- and all before the slot that comes next
+pub started_before : (i n : ℕ) (past : List NoticeKind) → AllByRecursion (λ t. t.first < length past) (started_since i n past)
+unfolding started_since
+started_before i zero past = tt
+started_before i (suc n) [] = tt
+started_before i (suc n) (notice ∷ before) =
+    Each-append (λ t. t.first < suc (length before)) (started_since i n before) (started_by i notice before)
+    (Each-weaker (λ t. t.first < length before) (λ t. t.first < suc (length before)) (λ t h. omega arith) (started_since i n before) (started_before i n before))
+    (started_by_each (λ t. t.first < suc (length before)) i notice before (λ f _. omega arith))
+
 -- ---- the oldest
 
 abbrev pub first_frame : List Timer → Option FrameParts

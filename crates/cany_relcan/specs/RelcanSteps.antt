@@ -4,8 +4,6 @@ use Rattle.cany_base.specs.declared.actions.Action.{Action}
 use Rattle.cany_base.specs.declared.actions.Action.TheVariants.{Ask}
 use Rattle.cany_base.specs.declared.message.MsgKey.{MsgKey}
 use Rattle.cany_base.specs.Frame.{FrameParts}
-use Rattle.cany_diffuse.specs.declared.learnt.Learnt.{Learnt}
-use Rattle.cany_diffuse.specs.declared.learnt.Learnt.TheVariants.{First, Again, Enough}
 use Rattle.cany_diffuse.specs.Eager.{EagerParts, copies_of, is_held, is_there}
 use Rattle.cany_message.specs.Numbers.{frame_number, message_number}
 use Rattle.cany_relcan.specs.Relcan.{RelcanParts}
@@ -14,12 +12,6 @@ use Rattle.cany_relcan.specs.Timers.{TimersParts, oldest_from, without_from, wit
 -- whether the node delivered the message of a data frame
 abbrev pub was_delivered : RelcanParts → FrameParts → Bool
 was_delivered v f = is_held v.copies (frame_number f)
-
--- whether the copy that was counted is the first that was read
-abbrev pub is_first_copy : Learnt → Bool
-is_first_copy First = true
-is_first_copy (Again copies) = copies == 1
-is_first_copy (Enough copies) = copies == 1
 
 -- whether the node is the origin of the frame and has noted a copy or its own transmission
 abbrev pub holds_own : RelcanParts → FrameParts → Bool
@@ -40,11 +32,6 @@ is_fallen v f = is_held v.fallen (frame_number f)
 
 abbrev pub is_confirmed : EagerParts → FrameParts → Bool
 is_confirmed confirms f = nat_lt 0 (copies_of confirms (frame_number f))
-
-abbrev pub is_enough : Learnt → Bool
-is_enough First = false
-is_enough (Again copies) = false
-is_enough (Enough copies) = true
 
 -- one timer more, or the timers as they are
 abbrev pub timers_with : Bool → ℕ → FrameParts → TimersParts → TimersParts

@@ -1,5 +1,6 @@
 -- The timers of messages: which run at a node, oldest first.
-use Rattle.std.specs.Prelude.{ℕ, zero, suc, ◌==◌, ◌&&◌, not, if◌then◌else◌, List, [], ◌∷◌, ◌++◌, length, Option, Some, None}
+use Rattle.std.specs.Prelude.{ℕ, zero, suc, ◌<◌, ◌==◌, ◌&&◌, not, if◌then◌else◌, List, [], ◌∷◌, ◌++◌, length, Option, Some, None}
+use Rattle.std.specs.List.{AllByRecursion}
 use Rattle.cany_base.specs.declared.notice.NoticeKind.{NoticeKind}
 use Rattle.cany_base.specs.declared.notice.NoticeKind.TheVariants.{Idle, Got, Sent, Bad}
 use Rattle.cany_base.specs.Frame.{FrameParts}
@@ -11,6 +12,11 @@ use Rattle.cany_relcan.specs.declared.timers.Timer.{Timer}
 pub record TimersParts : Type 0 where
   pub running : List Timer
   pub room : ℕ
+
+-- each was started in a later slot than those before it
+abbrev pub IsAscending : List Timer → Type 0
+IsAscending [] = Unit {0}
+IsAscending (timer ∷ timers) = AllByRecursion (λ t. timer.first < t.first) timers × IsAscending timers
 
 -- the oldest timer's frame, if it was started in this slot, and the timers without it
 abbrev pub oldest_from : ℕ → List Timer → Option FrameParts

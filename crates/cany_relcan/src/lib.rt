@@ -1,5 +1,5 @@
-//! RELCAN: a node delivers a message at its first copy, the origin confirms it, and a node that reads no confirmation in
-//! time falls back to sending the data frame itself.
+//! RELCAN: a node delivers a message at its first copy, the origin confirms it, and a node that
+//! reads no confirmation in time falls back to sending the data frame itself.
 #![tactic(auto)]
 
 mod frames;

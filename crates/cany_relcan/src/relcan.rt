@@ -1,4 +1,5 @@
 ghost use Rattle.std.specs.Prelude.{◌≡◌, ◌≢◌, ℕ, ◌+◌, ◌-◌, ◌<◌, ◌≤◌, ◌==◌, ◌&&◌, false, [], ◌∷◌, ◌++◌, min, not, length, IsTrue, List, replicate, Contains, Some, IfSome, IfOk};
+ghost use Rattle.std.specs.List.{AllByRecursion};
 ghost use Rattle.cany_base.specs.declared.actions.Action.TheVariants as action;
 ghost use Rattle.cany_base.specs.declared.class.Class.TheVariants as class;
 ghost use Rattle.cany_base.specs.declared.message.Service.TheVariants as service;
@@ -6,7 +7,7 @@ ghost use Rattle.cany_base.specs.declared.notice.NoticeKind.{NoticeKind};
 ghost use Rattle.cany_base.specs.declared.notice.NoticeKind.TheVariants.{Idle};
 ghost use Rattle.cany_base.specs.Frame.{FrameParts};
 ghost use Rattle.cany_base.specs.Scenario.{ScenarioParts};
-ghost use Rattle.cany_diffuse.specs.Eager.{copies_of, is_held, is_owned, is_there, learnt_of, spare_of, IsCounted, IsLearnt, IsOwned};
+ghost use Rattle.cany_diffuse.specs.Eager.{copies_of, is_held, is_owned, is_enough, is_there, learnt_of, spare_of, IsCounted, IsLearnt, IsOwned};
 ghost use Rattle.cany_message.specs.Actions.{delivery_actions, withdraw_actions};
 ghost use Rattle.cany_base.specs.Limits.{greatest_default, most_nodes};
 ghost use Rattle.can_frame.specs.Identifier.{HasSmallNumbers};
@@ -18,7 +19,7 @@ ghost use Rattle.cany_model.specs.Rules.Messages.{Message, messages_of, message_
 ghost use Rattle.cany_model.specs.Rules.Notices.{IsNextNotice};
 ghost use Rattle.cany_model.specs.Rules.Relcan.{confirm_frame, has_timer_ahead, relcan_at, relcan_effects};
 ghost use Rattle.cany_relcan.specs.Relcan.{IsRelcanOf, HasRead, CanRead, Rests};
-ghost use Rattle.cany_relcan.specs.RelcanSteps.{due_frame, holds_own, is_awaited, is_enough, is_first_copy, is_fallen, starts_timer, timer_actions, timers_with, was_delivered, without_due, AreMarksAfter};
+ghost use Rattle.cany_relcan.specs.RelcanSteps.{due_frame, holds_own, is_awaited, is_fallen, starts_timer, timer_actions, timers_with, was_delivered, without_due, AreMarksAfter};
 
 use crate::frames::{Confirmation, Data, confirmation_of, is_confirmation, is_data};
 use crate::timers::{Timer, Timers};
@@ -31,13 +32,14 @@ use cany_message::{deliver, sends_by, withdraw};
 use std::alloc::Global;
 use std::marker::Model;
 
-/// RELCAN at one node: which messages it delivered, which confirmations it read, the timers that run, and for which messages
-/// it fell back.
+/// RELCAN at one node: which messages it delivered, which confirmations it read, the timers that
+/// run, and for which messages it fell back.
 ///
-/// This project's own rule. A node delivers a message at its first copy of the data frame, or at its own transmission if it
-/// is the origin, which then asks for the confirmation. At every other node the first copy starts a timer of `confirm` slots.
-/// If no confirmation was read when it runs out, the node falls back: it asks for the data frame itself unless it has more
-/// than `omit` copies, and withdraws it once it has.
+/// This project's own rule. A node delivers a message at its first copy of the data frame, or at
+/// its own transmission if it is the origin, which then asks for the confirmation. At every other
+/// node the first copy starts a timer of `confirm` slots. If no confirmation was read when it runs
+/// out, the node falls back: it asks for the data frame itself unless it has more than `omit`
+/// copies, and withdraws it once it has.
 #[derive(Drop)]
 pub struct Relcan {
     node: NodeId,
@@ -60,8 +62,8 @@ impl Model for Relcan {
 }
 
 impl Relcan {
-    /// The RELCAN of a node that has read nothing, or only notices of idle slots, with room for all messages of the scenario
-    /// that are by RELCAN.
+    /// The RELCAN of a node that has read nothing, or only notices of idle slots, with room for all
+    /// messages of the scenario that are by RELCAN.
     pub fn build(alloc: Global, node: NodeId, scenario: &Scenario) -> Result<Relcan, Memory>
         requires { node < scenario.now.params.nodes }
         ensures { IfOk result (λ relcan. (n : ℕ) → IsRelcanOf scenario.now node (replicate n Idle) relcan) }
@@ -94,8 +96,8 @@ impl Relcan {
         out.push(Action::Ask(data.form()));
     }
 
-    /// What RELCAN does at a notice, and when the timer runs out that is due in its slot. The notices of the slots before the
-    /// first that a value is given count as idle ones.
+    /// What RELCAN does at a notice, and when the timer runs out that is due in its slot. The
+    /// notices of the slots before the first that a value is given count as idle ones.
     ///
     /// At most three actions are appended.
     pub fn on(&mut self, notice: &Notice, out: &mut Actions)
@@ -112,7 +114,8 @@ impl Relcan {
         self.end_timer(notice.slot, out);
     }
 
-    /// Whether a timer of the message lies ahead at this node: it runs, and no confirmation was read.
+    /// Whether a timer of the message lies ahead at this node: it runs, and no confirmation was
+    /// read.
     pub fn ahead(&self, msg: MsgKey) -> bool
         ensures message { (scenario : ScenarioParts) (past : List NoticeKind) (m : Message) → IsRelcanOf scenario self.now.node past self.now
             → Contains (messages_of scenario.sends) m → message_key m ≡ msg → result ≡ has_timer_ahead scenario m self.now.node past }
@@ -122,8 +125,8 @@ impl Relcan {
         self.is_awaited(&msg)
     }
 
-    /// The slot in whose turn the oldest timer that runs is due, and `Slot::MAX` where none runs. An idle notice of an earlier
-    /// slot leads to nothing.
+    /// The slot in whose turn the oldest timer that runs is due, and `Slot::MAX` where none runs.
+    /// An idle notice of an earlier slot leads to nothing.
     pub fn wake(&self) -> Slot
         ensures rests { (scenario : ScenarioParts) (past : List NoticeKind) → IsRelcanOf scenario self.now.node past self.now → length past < result
             → Rests scenario self.now.node past self.now }
@@ -164,14 +167,16 @@ impl Relcan {
         }
     }
 
-    /// A copy of a data frame: the message is delivered if it was not before, and at a node other than its origin the first copy
-    /// starts the timer. With enough copies the frame is withdrawn if the node fell back.
+    /// A copy of a data frame: the message is delivered if it was not before, and at a node other
+    /// than its origin the first copy starts the timer. With enough copies the frame is withdrawn
+    /// if the node fell back.
     fn on_copy(&mut self, slot: Slot, frame: &Frame, out: &mut Actions)
         requires small { HasSmallNumbers self.old.format frame.now }
         requires takes { CanTake (frame_number frame.now) self.old.copies }
         requires there { is_there self.old.copies (frame_number frame.now) ≡ is_held self.old.copies (frame_number frame.now) }
         requires own { frame.now.node < most_nodes → (frame.now.node == self.old.node) ≡ false → is_owned self.old.copies (frame_number frame.now) ≡ false }
         requires timers { 0 < spare_of self.old.copies → length self.old.timers.running < self.old.timers.room }
+        requires later { AllByRecursion (λ t. t.first < slot) self.old.timers.running }
         requires room { length out.old.items + 2 ≤ out.old.room }
         ensures learnt { IsLearnt (frame_number frame.now) self.old.copies self.new.copies }
         ensures in_range { frame.now.node < most_nodes }
@@ -184,7 +189,7 @@ impl Relcan {
     {
         let was_held = self.holds_own(frame);
         let learnt = self.copies.learn(Data::of(frame));
-        let is_first = is_first_copy(&learnt) && !was_held;
+        let is_first = learnt.is_first_copy() && !was_held;
         deliver(Service::Rel, slot, frame, is_first, out);
         self.start_timer(slot, frame, is_first);
         withdraw(self.format, frame, self.is_late(&learnt, frame), out);
@@ -192,7 +197,8 @@ impl Relcan {
 
     /// The first copy of a message of another node starts its timer.
     fn start_timer(&mut self, slot: Slot, frame: &Frame, is_first: bool)
-        requires { IsTrue (is_first && not (frame.now.node == self.old.node)) → length self.old.timers.running < self.old.timers.room }
+        requires room { IsTrue (is_first && not (frame.now.node == self.old.node)) → length self.old.timers.running < self.old.timers.room }
+        requires later { AllByRecursion (λ t. t.first < slot) self.old.timers.running }
         ensures { self.new ≡ record self.old { timers = timers_with (is_first && not (frame.now.node == self.old.node)) slot frame.now self.old.timers } }
     {
         if is_first && frame.node.get() != self.node.get() {
@@ -207,7 +213,7 @@ impl Relcan {
     fn is_late(&self, learnt: &Learnt, frame: &Frame) -> bool
         ensures { result ≡ (is_enough learnt.now && is_fallen self.now frame.now) }
     {
-        is_enough(learnt) && self.is_fallen(frame)
+        learnt.is_enough() && self.is_fallen(frame)
     }
 
     /// The confirmation of a message is read.
@@ -224,8 +230,8 @@ impl Relcan {
         let _ = self.confirms.learn(confirmation);
     }
 
-    /// The origin reads its own transmission of the data frame: it delivers the message if it did not before, and asks for the
-    /// confirmation.
+    /// The origin reads its own transmission of the data frame: it delivers the message if it did
+    /// not before, and asks for the confirmation.
     fn on_own(&mut self, slot: Slot, frame: &Frame, out: &mut Actions)
         requires takes { CanTake (frame_number frame.now) self.old.copies }
         requires room { length out.old.items + 2 ≤ out.old.room }
@@ -289,8 +295,9 @@ impl Relcan {
         }
     }
 
-    /// Whether the timer of a message runs and its confirmation was not read. Without a confirmation the node has fallen back
-    /// once the timer has run out, so the timers need not be looked through.
+    /// Whether the timer of a message runs and its confirmation was not read. Without a
+    /// confirmation the node has fallen back once the timer has run out, so the timers need not be
+    /// looked through.
     fn is_awaited(&self, msg: &MsgKey) -> bool
         ensures awaited { result ≡ is_awaited self.now msg.now }
         ensures in_range { msg.now.origin < most_nodes }
@@ -312,8 +319,8 @@ impl Relcan {
         is_data(frame) && frame.node.get() == self.node.get()
     }
 
-    /// Whether the node is the origin of a data frame and has noted a copy or its own transmission. At other nodes nothing is
-    /// looked up.
+    /// Whether the node is the origin of a data frame and has noted a copy or its own transmission.
+    /// At other nodes nothing is looked up.
     fn holds_own(&self, frame: &Frame) -> bool
         ensures held { result ≡ holds_own self.now frame.now }
         ensures in_range { frame.now.node < most_nodes }
@@ -340,24 +347,4 @@ fn timers_at_once(messages: usize, confirm: u64) -> usize
 {
     let slots = confirm as usize + 1;
     if slots < messages { slots } else { messages }
-}
-
-/// Whether the copy that was counted is the first that was read.
-fn is_first_copy(learnt: &Learnt) -> bool
-    ensures { result ≡ is_first_copy learnt.now }
-{
-    match learnt {
-        Learnt::First => true,
-        Learnt::Again { copies } | Learnt::Enough { copies } => *copies == 1,
-    }
-}
-
-/// Whether a copy is one of more than there may be omissions.
-fn is_enough(learnt: &Learnt) -> bool
-    ensures { result ≡ is_enough learnt.now }
-{
-    match learnt {
-        Learnt::First | Learnt::Again { .. } => false,
-        Learnt::Enough { .. } => true,
-    }
 }

@@ -73,8 +73,8 @@ fn send_of(node: NodeId, payload: Payload) -> SendAsk
     }
 }
 
-/// Node 1 reads three notices from slot 3 on. Tells after each whether a timer of the message lies ahead, and until which slot
-/// the value rests after the second.
+/// Node 1 reads three notices from slot 3 on. Tells after each whether a timer of the message lies
+/// ahead, and until which slot the value rests after the second.
 fn read_three(
     alloc: Global,
     scenario: &Scenario,
@@ -145,9 +145,11 @@ fn a_message_without_confirmation_is_asked_for(rt: HostRuntime) -> Result<(), Fa
         },
         payload,
     });
-    assert_eq!(rt; out.as_slice(), [delivery, Action::Ask(frame)].as_slice());
-    assert_eq!(rt; ahead, [true, true, false]);
-    assert_eq!(rt; wake, 5);
+    let expected = [delivery, Action::Ask(frame)];
+    assert_eq!(rt;
+        (out.as_slice(), ahead, wake),
+        (expected.as_slice(), [true, true, false], 5)
+    );
     Ok(())
 }
 
@@ -193,9 +195,7 @@ fn a_confirmation_in_time_ends_the_wait(rt: HostRuntime) -> Result<(), Fail> {
         &msg,
         &mut out,
     )?;
-    assert_eq!(rt; out.len(), 1);
-    assert_eq!(rt; ahead, [true, false, false]);
-    assert_eq!(rt; wake, 5);
+    assert_eq!(rt; (out.len(), ahead, wake), (1, [true, false, false], 5));
     Ok(())
 }
 
@@ -246,12 +246,11 @@ fn a_withdrawal_names_the_identifier_of_the_second_format(rt: HostRuntime) -> Re
     });
     // Class 8 at bit 25, number 1 at bit 10, node 40 at bit 4.
     let withdrawal = Action::Withdraw { ident: 268_437_120 };
+    let expected = [delivery, Action::Ask(frame), withdrawal];
     assert_eq!(rt;
-        out.as_slice(),
-        [delivery, Action::Ask(frame), withdrawal].as_slice()
+        (out.as_slice(), ahead, wake),
+        (expected.as_slice(), [true, false, false], Slot::MAX)
     );
-    assert_eq!(rt; ahead, [true, false, false]);
-    assert_eq!(rt; wake, Slot::MAX);
     Ok(())
 }
 
@@ -267,7 +266,6 @@ fn a_message_is_asked_for(rt: HostRuntime) -> Result<(), Fail> {
         seq: 0,
     };
     relcan.send(msg, payload, &mut out);
-    assert_eq!(rt; relcan.wake(), Slot::MAX);
     let frame = Frame {
         class: Class::Rel,
         number: 0,
@@ -275,6 +273,10 @@ fn a_message_is_asked_for(rt: HostRuntime) -> Result<(), Fail> {
         inc: 0,
         payload,
     };
-    assert_eq!(rt; out.as_slice(), [Action::Ask(frame)].as_slice());
+    let expected = [Action::Ask(frame)];
+    assert_eq!(rt;
+        (out.as_slice(), relcan.wake()),
+        (expected.as_slice(), Slot::MAX)
+    );
     Ok(())
 }

@@ -1,4 +1,5 @@
 ghost use Rattle.std.specs.Prelude.{◌≡◌, ◌<◌, [], length, IfOk};
+ghost use Rattle.std.specs.List.{AllByRecursion};
 ghost use Rattle.cany_relcan.specs.Timers.{oldest_from, oldest_start, with_timer, without_from};
 
 use cany_base::{Frame, Memory, Slot};
@@ -15,19 +16,22 @@ pub(crate) struct Timer {
     pub(crate) first: Slot,
 }
 
-/// The timers of a node that run, in the order in which they were started. All run for the same time, so they run out in that
-/// order. They stand in a ring, of which no more is touched than ever runs at once.
+/// The timers of a node that run, in the order in which they were started. All run for the same
+/// time, so they run out in that order. They stand in a ring, of which no more is touched than ever
+/// runs at once.
 #[derive(Drop)]
 pub(crate) struct Timers {
     running: HeapCircularBuffer<Timer>,
 }
 
 impl Model for Timers {
-    ghost use Rattle.cany_relcan.specs.Timers.{TimersParts};
+    ghost use Rattle.cany_relcan.specs.Timers.{IsAscending, TimersParts};
 
     ghost Value = { TimersParts };
 
     ghost view = { λ t. record { running = t.running.items; room = t.running.capacity } };
+
+    ghost invariant = { λ t. IsAscending t.running.items };
 }
 
 impl Timers {
@@ -39,9 +43,10 @@ impl Timers {
         Ok(Timers { running })
     }
 
-    /// Starts a timer.
+    /// Starts a timer, in a later slot than those that run.
     pub(crate) fn start(&mut self, timer: Timer)
-        requires { length self.old.running < self.old.room }
+        requires room { length self.old.running < self.old.room }
+        requires later { AllByRecursion (λ t. t.first < timer.first) self.old.running }
         ensures { self.new ≡ with_timer timer self.old }
     {
         // The ring has room, as this call requires.

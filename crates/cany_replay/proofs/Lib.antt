@@ -1,6 +1,5 @@
 pub mod DrawFacts
 pub mod MessagePlaces
-pub mod RunFacts
 pub mod StormFacts
 pub mod StormTopFacts
 pub mod StormWordFacts

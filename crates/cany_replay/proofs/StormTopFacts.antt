@@ -6,13 +6,14 @@ use Rattle.cany_log.specs.Summary.{summary}
 use Rattle.cany_model.specs.declared.follow.FollowFault.{FollowFault}
 use Rattle.cany_model.specs.Runs.Follow.{journal_fault, journal_of}
 use Rattle.cany_model.specs.Runs.RoundRobin.{round_robin}
-use Rattle.cany_replay.specs.declared.status.TheConstants.{DONE, NO_MEMORY, WRITE_FAULT}
-use Rattle.cany_replay.specs.declared.run.RunFault.{RunFault}
-use Rattle.cany_replay.specs.declared.run.RunFault.TheVariants.{Journal}
-use Rattle.cany_replay.specs.RunFaults.{IfJournal}
+use Rattle.cany_command.specs.declared.status.TheConstants.{DONE, NO_MEMORY, WRITE_FAULT}
+use Rattle.cany_command.specs.declared.running.RunFault.{RunFault}
+use Rattle.cany_command.specs.declared.running.RunFault.TheVariants.{Journal}
+use Rattle.cany_command.specs.RunFaults.{IfJournal}
 use Rattle.cany_replay.specs.Storm.{storm_scenario}
 use Rattle.cany_replay.specs.StormTop.{IsStorm, storm_summary}
-use Rattle.cany_replay.specs.Top.{KeepsPromises, own_fault}
+use Rattle.cany_command.specs.Promises.{KeepsPromises}
+use Rattle.cany_command.specs.Refused.{own_fault}
 use Rattle.cany_world.specs.World.{WorldParts}
 
 -- a storm brings no journal

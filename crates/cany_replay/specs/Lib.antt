@@ -1,5 +1,3 @@
-pub mod RunFaults
-pub mod Status
 pub mod Storm
 pub mod StormTop
 pub mod StormWords

@@ -4,7 +4,7 @@ use Rattle.cany_io.specs.Sink.{Takes}
 use Rattle.cany_log.specs.Summary.{summary}
 use Rattle.cany_model.specs.Runs.RoundRobin.{round_robin}
 use Rattle.cany_replay.specs.Storm.{storm_scenario}
-use Rattle.cany_replay.specs.Top.{KeepsPromises}
+use Rattle.cany_command.specs.Promises.{KeepsPromises}
 
 -- the summary of the storm's run by round robin
 unfoldable pub storm_summary : ℕ → List ℕ

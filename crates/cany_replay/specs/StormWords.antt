@@ -5,9 +5,12 @@ use Rattle.std.specs.List.{list_all}
 use Rattle.std.specs.Str.{bytes_eq}
 use Rattle.std.specs.Str.Parse.{digits_value}
 
+abbrev pub most_digits : ℕ
+most_digits = 10
+
 -- 1 to 10 digits
 abbrev pub is_numeral : List ℕ → Bool
-is_numeral word = nat_le 1 (length word) && nat_le (length word) 10 && list_all is_ascii_digit word
+is_numeral word = nat_le 1 (length word) && nat_le (length word) most_digits && list_all is_ascii_digit word
 
 -- the number of 32 bits that a word writes
 unfoldable pub number_in : List ℕ → Option ℕ

@@ -1,18 +1,15 @@
-//! The commands `replay`, a scenario text in and the report of its run out, and `storm`, a number in and the summary of the run
-//! of the scenario that is drawn from it out.
+//! The commands `replay`, a scenario text in and the report of its run out, and `storm`, a number
+//! in and the summary of the run of the scenario that is drawn from it out.
 #![tactic(auto)]
 
-mod run;
-pub mod status;
 mod storm;
 mod storm_run;
 mod storm_words;
 mod top;
 
-pub use cany_base::limits::MOST_TEXT_BYTES;
 pub use storm::storm_scenario;
 pub use storm_run::storm_top;
-pub use top::{is_memory, refuse, replay_top, report_run, scenario_in};
+pub use top::replay_top;
 
 #[cfg(test)]
 mod tests;

@@ -1,14 +1,14 @@
-//! The scenario of a storm: its sends and its faults are drawn from the words of a generator that the number starts.
+//! The scenario of a storm: its sends and its faults are drawn from the words of a generator that
+//! the number starts.
 ghost use Rattle.std.specs.Prelude.{◌≡◌, ◌<◌, ◌≤◌, IfOk, length};
-ghost use Rattle.cany_base.specs.Frame.{data_class};
 ghost use Rattle.cany_model.specs.Rules.Messages.{messages_of};
 ghost use Rattle.cany_text.specs.NodesText.{all_nodes};
 ghost use Rattle.cany_replay.specs.Storm as storm;
 
 use arrayvec::ArrayVec;
 use cany_base::{
-    Class, Format, Memory, NodeId, NodeSet, Params, Payload, Place, Rule, Scenario, SendAsk,
-    Service, Verdict,
+    Format, Memory, NodeId, NodeSet, Params, Payload, Place, Rule, Scenario, SendAsk, Service,
+    Verdict,
 };
 use cany_message::keys_of;
 use rand_core::utils::NextWord;
@@ -73,17 +73,6 @@ fn service_at(n: u32) -> Service
         0 => Service::Ed,
         1 => Service::Rel,
         _ => Service::Tot,
-    }
-}
-
-/// The class of the data frame of a message of this service.
-fn data_class(service: Service) -> Class
-    ensures { result ≡ data_class service }
-{
-    match service {
-        Service::Ed => Class::Ed,
-        Service::Rel => Class::Rel,
-        Service::Tot => Class::Tot,
     }
 }
 
@@ -154,7 +143,7 @@ fn rule_drawn(words: &mut Lcg64Xsh32, send: &SendAsk, seq: u16) -> Rule
     let reject = below(words, 256);
     Rule {
         place: Place::FrameNth {
-            class: data_class(send.service),
+            class: send.service.class(),
             number: seq,
             node: send.node,
             nth: 1,

@@ -6,10 +6,10 @@ ghost use Rattle.cany_log.specs.Summary.{summary};
 ghost use Rattle.cany_replay.specs.StormTop.{IsStorm, storm_summary};
 ghost use Rattle.cany_replay.specs.StormWords.{storm_number};
 
-use crate::run::{RunFault, run};
-use crate::status::{DONE, NO_MEMORY, OTHER_WORDS, WRITE_FAULT};
 use crate::storm::storm_scenario;
 use crate::storm_words::storm_number;
+use cany_command::status::{DONE, NO_MEMORY, OTHER_WORDS, WRITE_FAULT};
+use cany_command::{RunFault, run};
 use cany_io::{Failed, Sink};
 use cany_log::write_summary;
 use cany_world::World;
@@ -47,9 +47,10 @@ fn run_storm<K: Sink>(alloc: Global, number: u32, sink: &mut K) -> u8
     }
 }
 
-/// Storms: draws the scenario of a number, runs it by its round robin journal, and writes the summary of the run to the sink, a
-/// line at a time. It answers the status of the program, one of those in `status`. The words are the word `storm` and the
-/// number, in 1 to 10 digits and at most 4294967295.
+/// Storms: draws the scenario of a number, runs it by its round robin journal, and writes the
+/// summary of the run to the sink, a line at a time. It answers the status of the program, one of
+/// those in `cany_command::status`. The words are the word `storm` and the number, in 1 to 10
+/// digits and at most 4294967295.
 pub fn storm_top<K: Sink>(alloc: Global, words: &[String], sink: &mut K) -> u8
     // The words alone decide on this status.
     ensures words { (result ≡ OTHER_WORDS) ↔ (storm_number (map string_bytes words.now) ≡ None) }

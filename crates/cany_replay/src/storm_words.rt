@@ -2,7 +2,7 @@
 ghost use Rattle.std.specs.Prelude.{◌≡◌, ◌&&◌, length, map, nat_le, string_bytes};
 ghost use Rattle.std.specs.Char.{is_ascii_digit};
 ghost use Rattle.std.specs.List.{list_all};
-ghost use Rattle.cany_replay.specs.StormWords.{is_numeral, number_in, storm_number};
+ghost use Rattle.cany_replay.specs.StormWords.{is_numeral, most_digits, number_in, storm_number};
 
 /// The most digits of the number of a storm.
 const MOST_DIGITS: usize = 10;
@@ -20,7 +20,7 @@ fn are_digits(bytes: &[u8]) -> bool
 }
 
 fn are_few(bytes: &[u8]) -> bool
-    ensures { result ≡ (nat_le 1 (length bytes.now) && nat_le (length bytes.now) 10) }
+    ensures { result ≡ (nat_le 1 (length bytes.now) && nat_le (length bytes.now) most_digits) }
 {
     1 <= bytes.len() && bytes.len() <= MOST_DIGITS
 }

@@ -1,37 +1,16 @@
+//! Streams that fail, words that are others, and journals that are refused. Whole runs are in
+//! `scenarios/`.
+
 use crate::replay_top;
-use crate::status::{DONE, OTHER_WORDS, READ_FAULT, REFUSED, TOO_LONG, WRITE_FAULT};
-use crate::tests::journals::JOURNALS;
-use crate::tests::life::LIFE_RUNS;
-use crate::tests::membership::MEMBERSHIP_RUNS;
-use crate::tests::relcan::RELCAN_RUNS;
-use crate::tests::restart_reports::RESTART_REPORTS;
-use crate::tests::round_robin::ROUND_ROBIN_RUNS;
-use crate::tests::runs::RUNS;
-use crate::tests::second_format::SECOND_FORMAT_RUNS;
-use crate::tests::thirty_two_nodes::THIRTY_TWO_NODES;
-use crate::tests::totcan::TOTCAN_RUNS;
+use cany_command::status::{DONE, OTHER_WORDS, READ_FAULT, REFUSED, TOO_LONG, WRITE_FAULT};
 use cany_io::{MemSink, MemSource, PlainSource, Source};
 use std::alloc::{AllocError, Global};
 use std::test::Fail;
 
-mod backlog;
 mod journals;
-mod life;
-mod membership;
-mod relcan;
-mod restart_reports;
-mod restarts;
-mod round_robin;
-mod runs;
-mod second_format;
 mod storms;
 mod streams;
-mod thirty_two_nodes;
-mod totcan;
 mod words;
-
-/// A run: its name, its text, and the status and the answer that a call on it comes to.
-type Case = (&'static str, &'static str, u8, &'static str);
 
 /// More bytes than any report here has.
 const ROOM: usize = 65_536;
@@ -137,26 +116,4 @@ fn replay(alloc: Global, text: &str, answer: &str) -> Result<Seen, Fail> {
         &[],
         answer.as_bytes(),
     )
-}
-
-#[test]
-fn texts_and_their_answers(rt: HostRuntime) -> Result<(), Fail> {
-    for cases in [
-        RUNS.as_slice(),
-        RELCAN_RUNS.as_slice(),
-        TOTCAN_RUNS.as_slice(),
-        LIFE_RUNS.as_slice(),
-        MEMBERSHIP_RUNS.as_slice(),
-        RESTART_REPORTS.as_slice(),
-        SECOND_FORMAT_RUNS.as_slice(),
-        ROUND_ROBIN_RUNS.as_slice(),
-        JOURNALS.as_slice(),
-        &[THIRTY_TWO_NODES],
-    ] {
-        for (name, text, status, answer) in cases {
-            let seen = replay(rt.alloc(), text, answer)?;
-            assert!(rt; seen.is_answer(*status), "at {name}");
-        }
-    }
-    Ok(())
 }

@@ -1,64 +1,29 @@
 //! The call behind the command `replay`.
-ghost use Rattle.std.specs.Prelude.{◌≡◌, ◌≢◌, ◌⊎◌, ◌↔◌, ◌<◌, ◌≤◌, map, length, string_bytes, Ok, Err, None, IsTrue, IfErr, IfOk, IfSome, IsOkAnd, IsSomeAnd, MatchOption};
+ghost use Rattle.std.specs.Prelude.{◌≡◌, ◌⊎◌, ◌↔◌, ◌<◌, ◌≤◌, map, length, string_bytes, None, IfSome, IsOkAnd, IsSomeAnd, MatchOption};
 ghost use Rattle.cany_base.specs.Limits.{most_text_bytes};
 ghost use Rattle.cany_io.specs.Faults.{HasRisen, StandsStill};
 ghost use Rattle.cany_io.specs.Sink.{Takes, TakesPrefix};
 ghost use Rattle.cany_io.specs.Source.{IsAtEnd};
 ghost use Rattle.cany_model.specs.Runs.Follow.{journal_of};
-ghost use Rattle.cany_log.specs.Refusals.{refusal_line};
-ghost use Rattle.cany_text.specs.declared.scenario_fault.ScenarioFault.TheVariants.{Memory};
 ghost use Rattle.cany_text.specs.RefusalLines.{journal_refusal_line};
 ghost use Rattle.cany_text.specs.Report.{report};
 ghost use Rattle.cany_text.specs.ScenarioText.{scenario_of};
-ghost use Rattle.cany_replay.specs.Status.{HasAnswered, HasNoAnswer};
-ghost use Rattle.cany_replay.specs.Top.{AreReplay, IsReplay, KeepsPromises, own_fault, refusal_of, answer_for, answer_of};
+ghost use Rattle.cany_command.specs.Promises.{KeepsPromises};
+ghost use Rattle.cany_command.specs.Refused.{own_fault, refusal_of};
+ghost use Rattle.cany_command.specs.Status.{HasAnswered, HasNoAnswer};
+ghost use Rattle.cany_replay.specs.Top.{AreReplay, IsReplay, answer_for, answer_of};
 
-use crate::run::{RunFault, run};
-use crate::status::{DONE, NO_MEMORY, OTHER_WORDS, READ_FAULT, REFUSED, TOO_LONG, WRITE_FAULT};
 use cany_base::Scenario;
-use cany_base::limits::MOST_TEXT_BYTES;
-use cany_io::{Failed, ReadFault, Sink, Source, read_all};
-use cany_log::{Refusal, write_refusal, write_report};
-use cany_scenario::{ScenarioFault, read_scenario};
-use cany_world::World;
+use cany_command::status::{
+    DONE, NO_MEMORY, OTHER_WORDS, READ_FAULT, REFUSED, TOO_LONG, WRITE_FAULT,
+};
+use cany_command::{RunFault, is_memory, is_only, refuse, report_run, run, scenario_in, text_from};
+use cany_io::{Sink, Source};
+use cany_log::Refusal;
 use std::alloc::Global;
 
-fn is_replay(words: &[String]) -> bool
-    ensures { IsTrue result ↔ AreReplay (map string_bytes words.now) }
-{
-    match words {
-        [word] => word.as_str() == "replay",
-        _ => false,
-    }
-}
-
-/// Writes the report of a run, and answers the status.
-pub fn report_run<K: Sink>(world: &World, sink: &mut K) -> u8
-    ensures done { result ≡ DONE → Takes (K.taken sink.old) (report world.now.scenario world.now.journal) (K.taken sink.new) }
-    ensures write_fault { result ≡ WRITE_FAULT → HasRisen (K.faults sink.old) (K.faults sink.new) }
-    ensures prefix { TakesPrefix (K.taken sink.old) (report world.now.scenario world.now.journal) (K.taken sink.new) }
-    ensures status { (result ≡ DONE) ⊎ (result ≡ WRITE_FAULT) }
-{
-    match write_report(world, sink) {
-        Ok(()) => DONE,
-        Err(Failed) => WRITE_FAULT,
-    }
-}
-
-/// Refuses a text, or a journal, and answers the status.
-pub fn refuse<K: Sink>(refusal: &Refusal, sink: &mut K) -> u8
-    ensures refused { result ≡ REFUSED → Takes (K.taken sink.old) (refusal_line refusal.now) (K.taken sink.new) }
-    ensures write_fault { result ≡ WRITE_FAULT → HasRisen (K.faults sink.old) (K.faults sink.new) }
-    ensures prefix { TakesPrefix (K.taken sink.old) (refusal_line refusal.now) (K.taken sink.new) }
-    ensures status { (result ≡ REFUSED) ⊎ (result ≡ WRITE_FAULT) }
-{
-    match write_refusal(refusal, sink) {
-        Ok(()) => REFUSED,
-        Err(Failed) => WRITE_FAULT,
-    }
-}
-
-/// Runs a scenario and writes the report, or refuses its journal. Nothing is written before the run has ended.
+/// Runs a scenario and writes the report, or refuses its journal. Nothing is written before the run
+/// has ended.
 fn replay_scenario<K: Sink>(alloc: Global, scenario: Scenario, sink: &mut K) -> u8
     ensures done { result ≡ DONE → Takes (K.taken sink.old) (report scenario (journal_of scenario)) (K.taken sink.new) }
     ensures followed { result ≡ DONE → own_fault scenario ≡ None }
@@ -74,21 +39,6 @@ fn replay_scenario<K: Sink>(alloc: Global, scenario: Scenario, sink: &mut K) -> 
         Err(RunFault::Journal(fault)) => refuse(&Refusal::Journal(fault), sink),
         Err(RunFault::Memory) => NO_MEMORY,
     }
-}
-
-/// Whether a text was not read for want of memory, which is no fault of the text.
-pub fn is_memory(fault: &ScenarioFault) -> bool
-    ensures { IsTrue result ↔ (fault.now ≡ Memory) }
-{
-    matches!(fault, ScenarioFault::Memory)
-}
-
-/// The scenario of a text, which is then given up, since the run has need of the memory.
-pub fn scenario_in(alloc: Global, text: Vec<u8>) -> Result<Scenario, ScenarioFault>
-    ensures ok { IfOk result (λ scenario. scenario_of text.items ≡ Ok scenario) }
-    ensures fault { IfErr result (λ fault. fault ≢ Memory → scenario_of text.items ≡ Err fault) }
-{
-    read_scenario(alloc, &text)
 }
 
 /// Replays the scenario of a text, or refuses the text.
@@ -108,9 +58,10 @@ fn replay_text<K: Sink>(alloc: Global, text: Vec<u8>, sink: &mut K) -> u8
     }
 }
 
-/// Replays: reads a scenario text from the source, runs the scenario by its own journal or, where it has none, by its round
-/// robin journal, and writes the report to the sink, a line at a time. It answers the status of the program, one of those in
-/// `status`. The words are the one word `replay`; causes are looked at in this order: the words, the reading, the text, the
+/// Replays: reads a scenario text from the source, runs the scenario by its own journal or, where
+/// it has none, by its round robin journal, and writes the report to the sink, a line at a time. It
+/// answers the status of the program, one of those in `cany_command::status`. The words are the one
+/// word `replay`; causes are looked at in this order: the words, the reading, the text, the
 /// journal, the writing.
 pub fn replay_top<S: Source, K: Sink>(
     alloc: Global,
@@ -154,13 +105,11 @@ pub fn replay_top<S: Source, K: Sink>(
         → StandsStill (S.faults source.old) (S.faults source.new)
         → IfSome (S.left source.old) (λ bytes. most_text_bytes < length bytes → (result ≡ NO_MEMORY) ⊎ (result ≡ TOO_LONG)) }
 {
-    if !is_replay(words) {
+    if !is_only(words, "replay") {
         return OTHER_WORDS;
     }
-    match read_all(alloc, source, MOST_TEXT_BYTES) {
+    match text_from(alloc, source) {
         Ok(text) => replay_text(alloc, text, sink),
-        Err(ReadFault::Failed) => READ_FAULT,
-        Err(ReadFault::TooLong) => TOO_LONG,
-        Err(ReadFault::Memory) => NO_MEMORY,
+        Err(status) => status,
     }
 }

@@ -4,6 +4,7 @@ use Rattle.std.specs.Str.{chars, is_utf8}
 use Rattle.toml.specs.Data.{Members, no_members}
 use Rattle.cany_base.specs.declared.format.Format.TheVariants.{One, Two}
 use Rattle.cany_base.specs.Nodes.{Nodes}
+use Rattle.cany_base.specs.Params.{default_parameters_of}
 use Rattle.cany_text.specs.declared.scenario_fault.KeyName.TheVariants as key
 use Rattle.cany_text.specs.declared.scenario_fault.ScenarioFault.TheVariants.{NotText, WrongKind, OutOfRange}
 use Rattle.cany_text.specs.declared.scenario_fault.TableName.TheVariants as in_table
@@ -136,3 +137,10 @@ the_silence_follows_the_life = refl
 the_longest_timer : of_ok (λ s. s.params.confirm) (read (five_slots (number (codes "confirm") 72 no_members))) ≡ Ok 72
 unfolding text_row
 the_longest_timer = refl
+
+-- without other keys they are the parameters by default
+parameters_by_default :
+    (of_ok (λ s. s.params) (read (run_in 1 3 5 no_members)) ≡ Ok (default_parameters_of One 3 5))
+    × (of_ok (λ s. s.params) (read (run_in 2 40 5 no_members)) ≡ Ok (default_parameters_of Two 40 5))
+unfolding text_row
+parameters_by_default = (refl, refl)

@@ -1,5 +1,5 @@
 -- A set of nodes that grows by the items of an array.
-use Rattle.std.proofs.Common.{◌≡◌, ℕ, ◌+◌, ◌<◌, ◌≤◌, ◌==◌, ◌&&◌, ◌||◌, nat_lt, Bool, true, false, List, [], ◌∷◌, length, get_or, Some, refl, ap, sym, ◌∙◌, arith}
+use Rattle.std.proofs.Common.{◌≡◌, ℕ, ◌+◌, ◌<◌, ◌≤◌, ◌==◌, ◌&&◌, ◌||◌, nat_lt, Bool, true, false, List, ◌∷◌, length, get_or, Some, refl, ap, sym, ◌∙◌, arith}
 use Rattle.std.specs.Prelude.{Ok, Err}
 use Rattle.std.specs.List.{list_any}
 use Rattle.std.proofs.Math.Seq.{drop-length}
@@ -94,10 +94,6 @@ pub AllBelow-none : (nodes : Nodes) → ((i : ℕ) → has nodes i ≡ false) �
 AllBelow-none nodes none i h = absurd (false≢true (sym (none i) ∙ h))
 
 -- ---- none and all
-
--- the empty set is the set of no numbers
-pub empty-set_of : (nodes : Nodes) → ((i : ℕ) → has nodes i ≡ false) → nodes ≡ set_of []
-empty-set_of nodes none = same_as_those_where nodes (λ i. false) (λ i. none i ∙ below_test i false (λ e. absurd (false≢true e)))
 
 both_below : (i nodes : ℕ) → nodes ≤ most_nodes → nat_lt i nodes ≡ (nat_lt i most_nodes && nat_lt i nodes)
 both_below i nodes few = grind (arith, nat_tests)

@@ -9,7 +9,8 @@ use crate::entry::{Entry, wrong_kind};
 use cany_text::{KeyName, Position, ScenarioFault, TableName};
 use toml::Value;
 
-/// The items of the array of tables at a key of the top table, at most so many: none where the key is absent.
+/// The items of the array of tables at a key of the top table, at most so many: none where the key
+/// is absent.
 pub(crate) fn items_at<'a>(
     top: &Entry<'a>,
     table: TableName,
@@ -28,7 +29,8 @@ pub(crate) fn items_at<'a>(
     Ok(items)
 }
 
-/// The item at a place of an array of tables as an entry. Where it is no table, the fault names the key of the array.
+/// The item at a place of an array of tables as an entry. Where it is no table, the fault names the
+/// key of the array.
 pub(crate) fn entry_at<'a>(
     table: TableName,
     name: KeyName,

@@ -13,7 +13,8 @@ use cany_text::names::key_name;
 use cany_text::{KeyName, Position, ScenarioFault, TableName};
 use toml::{Table, Value};
 
-/// One table of the text: the top table, or an entry of an array of tables at its place, counted from 0.
+/// One table of the text: the top table, or an entry of an array of tables at its place, counted
+/// from 0.
 #[derive(Clone, Copy, Debug)]
 pub(crate) struct Entry<'a> {
     pub(crate) table: TableName,

@@ -74,7 +74,8 @@ fn read_texts(
     Ok(steps)
 }
 
-/// Appends the steps that the bytes write. Each byte before them has written one, so the place of a byte is how many there are.
+/// Appends the steps that the bytes write. Each byte before them has written one, so the place of a
+/// byte is how many there are.
 fn push_steps(format: Format, steps: &mut Vec<Step>, bytes: &[u8]) -> Result<(), ScenarioFault>
     ensures ok { IfOk result (λ _. after steps.old.items (steps_from format (length steps.old.items) bytes.now) ≡ Ok steps.new.items) }
     ensures fault { IfErr result (λ fault. fault ≢ Memory → after steps.old.items (steps_from format (length steps.old.items) bytes.now) ≡ Err fault) }

@@ -1,5 +1,5 @@
-//! The reader of scenario texts. What scenario the bytes of a text stand for, or which fault is the first in it, is `scenario_of`
-//! of `cany_model`; the files below meet its parts.
+//! The reader of scenario texts. What scenario the bytes of a text stand for, or which fault is the
+//! first in it, is `scenario_of` of `cany_text`; the files below meet its parts.
 #![tactic(auto)]
 
 mod array;

@@ -23,6 +23,7 @@ pub(crate) fn read_members(params: &Params, top: &Entry) -> Result<NodeSet, Scen
 }
 
 /// The nodes that a key lists: none where the key is absent.
+#[tactic(auto, unfolding(cany_base::specs::Nodes::those_where, cany_base::specs::Nodes::bits_where))]
 pub(crate) fn nodes_at(
     params: &Params,
     entry: &Entry,
@@ -32,7 +33,7 @@ pub(crate) fn nodes_at(
 {
     match entry.value(name) {
         Some(value) => nodes_from(params, entry.position(name), value),
-        None => Ok(nobody()),
+        None => Ok(NodeSet::empty()),
     }
 }
 
@@ -41,13 +42,6 @@ fn every_node(params: &Params) -> NodeSet
     ensures { result ≡ all_nodes params.now }
 {
     NodeSet::all(params.nodes)
-}
-
-/// No node.
-pub(crate) fn nobody() -> NodeSet
-    ensures { result ≡ set_of [] }
-{
-    NodeSet::empty()
 }
 
 /// The nodes whose numbers an array has. A number may stand twice.

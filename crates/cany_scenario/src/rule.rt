@@ -9,7 +9,7 @@ ghost use Rattle.cany_text.specs.TomlKeys.{optional};
 ghost use Rattle.cany_scenario.specs.Entries.{entry_of};
 
 use crate::entry::{Entry, wrong_kind};
-use crate::nodes::{nobody, nodes_at};
+use crate::nodes::nodes_at;
 use crate::rule_place::place_from;
 use cany_base::{NodeSet, Params, Rule, Verdict};
 use cany_text::names::verdict_name;
@@ -32,7 +32,8 @@ pub(crate) fn rule_from(params: &Params, entry: &Entry) -> Result<Rule, Scenario
     })
 }
 
-/// The verdict that an entry names, by which nobody rejects the frame as yet: clean where the key is absent.
+/// The verdict that an entry names, by which nobody rejects the frame as yet: clean where the key
+/// is absent.
 fn read_verdict(entry: &Entry) -> Result<Verdict, ScenarioFault>
     ensures { result ≡ optional verdict_from Clean key.Verdict (entry_of entry.now) }
 {
@@ -51,6 +52,7 @@ fn verdict_from(at: Position, value: &Value) -> Result<Verdict, ScenarioFault>
 }
 
 /// The verdict of the name.
+#[tactic(auto, unfolding(cany_base::specs::Nodes::those_where, cany_base::specs::Nodes::bits_where))]
 fn verdict_named(name: &str) -> Option<Verdict>
     ensures { result ≡ named verdict_name verdicts name.now }
 {
@@ -60,11 +62,11 @@ fn verdict_named(name: &str) -> Option<Verdict>
     if verdict_name(Verdict::Lost) == name {
         return Some(Verdict::Lost);
     }
-    if verdict_name(Verdict::Partial(nobody())) == name {
-        return Some(Verdict::Partial(nobody()));
+    if verdict_name(Verdict::Partial(NodeSet::empty())) == name {
+        return Some(Verdict::Partial(NodeSet::empty()));
     }
-    if verdict_name(Verdict::Silent(nobody())) == name {
-        return Some(Verdict::Silent(nobody()));
+    if verdict_name(Verdict::Silent(NodeSet::empty())) == name {
+        return Some(Verdict::Silent(NodeSet::empty()));
     }
     None
 }

@@ -48,8 +48,8 @@ const CLASSES: [Class; 10] = [
     Class::Ed,
 ];
 
-/// Where the rule of an entry acts: at a frame where the entry has the key `class`, whatever that holds, and at a slot
-/// elsewhere.
+/// Where the rule of an entry acts: at a frame where the entry has the key `class`, whatever that
+/// holds, and at a slot elsewhere.
 #[tactic(auto, unfolding(cany_text::specs::FaultsText::place_from))]
 pub(crate) fn place_from(params: &Params, entry: &Entry) -> Result<Place, ScenarioFault>
     ensures { result ≡ place_from params.now (entry_of entry.now) }

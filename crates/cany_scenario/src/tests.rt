@@ -169,11 +169,6 @@ fn first_is_read(alloc: Global) -> bool {
     }
 }
 
-#[test]
-fn a_text_of_the_first_format_is_read(rt: HostRuntime) {
-    assert!(rt; first_is_read(rt.alloc()));
-}
-
 const SECOND: &str =
     "format = 2\nnodes = 64\nslots = 400000\njoin = []\njournal = [\"A-.\"]\n[[send]]\nslot = 399999\nnode = 63\nservice = \"tot\"\n[[leave]]\nslot = 0\nnode = 63\n[[fault]]\nclass = \"ed\"\nnumber = 32767\nnode = 63\nnth = 400000\nverdict = \"silent\"\nreject = [62]\n";
 
@@ -216,22 +211,18 @@ fn second_is_read(alloc: Global) -> bool {
 }
 
 #[test]
-fn a_text_of_the_second_format_is_read(rt: HostRuntime) {
-    assert!(rt; second_is_read(rt.alloc()));
+fn texts_of_both_formats_are_read(rt: HostRuntime) {
+    assert!(rt; first_is_read(rt.alloc()) && second_is_read(rt.alloc()));
 }
 
 #[test]
 fn bytes_of_no_document_are_refused(rt: HostRuntime) {
-    let bytes = b"format = 1\nnodes = 3\nslots = 5 # \xff\n";
-    assert!(rt; read_scenario(rt.alloc(), bytes).err() == Some(ScenarioFault::NotText));
-    for text in [
-        "format",
-        "format = 1\nformat = 1\n",
-        "slots = 9223372036854775808\n",
+    for (bytes, fault) in [
+        (b"format = 1 # \xff\n".as_slice(), ScenarioFault::NotText),
+        (b"format", ScenarioFault::NotToml),
+        (b"format = 1\nformat = 1\n", ScenarioFault::NotToml),
+        (b"slots = 9223372036854775808\n", ScenarioFault::NotToml),
     ] {
-        assert!(rt;
-            fault_of(rt.alloc(), text) == Some(ScenarioFault::NotToml),
-            "at {text}"
-        );
+        assert!(rt; read_scenario(rt.alloc(), bytes).err() == Some(fault));
     }
 }

@@ -23,8 +23,8 @@ use Rattle.cany_model.proofs.Bus.Identities.{same_identity-from, same_identity-t
 use Rattle.cany_totcan.specs.declared.queue.Placed.{Placed}
 use Rattle.cany_totcan.specs.Queue.{AreOnce, is_at, oldest_from, placed_at, placed_from, placed_in}
 use Rattle.cany_totcan.proofs.AcceptedFacts.{accepted_before, accepted_placed}
-use Rattle.cany_totcan.proofs.PlaceFacts.{IsAtAge, IsWithin, at_age, at_age_cases, each-filter, first_frame, oldest_is, open_is, placed_once, placed_split, placed_whole, placed_within, recent_more, recent_none, recent_weaker, tot_in-class}
-use Rattle.cany_totcan.proofs.QueueFacts.{same_key, same_key-true, same_key_self}
+use Rattle.cany_totcan.proofs.PlaceFacts.{IsAtAge, IsWithin, at_age, at_age_cases, first_frame, oldest_is, open_is, placed_once, placed_split, placed_whole, placed_within, recent_more, recent_none, recent_weaker, tot_in-class}
+use Rattle.cany_totcan.proofs.QueueFacts.{same_key, same_key-true, same_key_self, each-filter}
 
 -- ---- the walk over the messages that have a place
 

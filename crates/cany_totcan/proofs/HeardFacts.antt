@@ -1,11 +1,9 @@
 -- The value after a notice, before what closes and what is delivered in its turn.
 use Rattle.std.proofs.Common.{◌≡◌, ℕ, ◌+◌, ◌<◌, ◌==◌, ◌&&◌, ◌||◌, inl, inr, Bool, true, false, if◌then◌else◌, not, List, [], ◌∷◌, ◌++◌, length, take, Some, None, refl, ap, sym, subst, ◌∙◌, arith}
-use Rattle.std.specs.Prelude.{nat_le}
-use Rattle.std.specs.List.{list_any}
+use Rattle.std.specs.List.{AllByRecursion, list_any}
 use Rattle.std.proofs.lemmas.Bool.{and_parts, cases_Bool, eqb-true}
 use Rattle.cany_base.specs.declared.class.Class.{Class}
 use Rattle.cany_base.specs.declared.class.Class.TheVariants as class
-use Rattle.cany_base.specs.declared.format.Format.{Format}
 use Rattle.cany_base.specs.declared.message.MsgKey.{MsgKey}
 use Rattle.cany_base.specs.declared.message.Service.TheVariants as service
 use Rattle.cany_base.specs.declared.notice.Notice.{Notice}
@@ -15,17 +13,18 @@ use Rattle.cany_base.specs.Frame.{FrameParts}
 use Rattle.cany_base.specs.Limits.{most_nodes}
 use Rattle.cany_base.specs.Scenario.{ScenarioParts}
 use Rattle.cany_base.proofs.ParamsFacts.{few_slots}
-use Rattle.cany_diffuse.specs.declared.learnt.Learnt.TheVariants.{First, Again, Enough}
 use Rattle.cany_diffuse.specs.Eager.{EagerParts, copies_of, is_owned, learnt_of, IsForgotten, IsLearnt, IsOwned}
+use Rattle.cany_message.specs.Actions.{relay_actions}
 use Rattle.cany_message.specs.Numbers.{frame_number}
 use Rattle.cany_message.specs.Table.{CanTake}
 use Rattle.cany_message.proofs.HistoryFacts.{has_own-more, identity_is}
 use Rattle.cany_message.proofs.NoticeFacts.{got_belongs, sent_belongs}
+use Rattle.cany_message.proofs.RelayFacts.{eager_is}
 use Rattle.cany_model.specs.Bus.Frames.{identity_of, same_class}
 use Rattle.cany_model.specs.Bus.History.{copies, has_own}
 use Rattle.cany_model.specs.Rules.Actions.{actions_of}
 use Rattle.cany_model.specs.Rules.Eager.{eager_effects}
-use Rattle.cany_model.specs.Rules.Effect.{Ask, Withdraw}
+use Rattle.cany_model.specs.Rules.Effect.{Ask}
 use Rattle.cany_model.specs.Rules.Messages.{Message}
 use Rattle.cany_model.specs.Rules.Notices.{BelongsTo, IsNextNotice, NamesMessage}
 use Rattle.cany_model.specs.Rules.Totcan.{accept_effects, accept_frame, after_place, delivered, holds, can_be_accepted, is_recent, message_in, tot_in}
@@ -34,12 +33,12 @@ use Rattle.cany_model.proofs.Bus.Identities.{same_class-true}
 use Rattle.cany_totcan.specs.declared.queue.Placed.{Placed}
 use Rattle.cany_totcan.specs.Queue.{AreOnce, is_at, moved, placed_in, without_key}
 use Rattle.cany_totcan.specs.Totcan.{AreAcceptances, AreDone, CanRead, HasHeard, IsBacklogOf, IsTotcanOf, TotcanParts}
-use Rattle.cany_totcan.specs.TotcanSteps.{has_open, noted_if, origin_actions, relay_actions}
+use Rattle.cany_totcan.specs.TotcanSteps.{has_open, noted_if, origin_actions}
 use Rattle.cany_totcan.proofs.AcceptanceFacts.{AcceptsNone, acceptances_learnt, acceptances_moved, acceptances_owned, acceptances_same, accepts_none-bad, accepts_none-got, accepts_none-got_closed, accepts_none-idle, accepts_none-sent, accepts_none-sent_closed, can_take_acceptance, not_accepting, not_carrying}
 use Rattle.cany_totcan.proofs.AcceptedFacts.{accepted_stays, after_other}
 use Rattle.cany_totcan.proofs.KnownFacts.{own_named}
 use Rattle.cany_totcan.proofs.OwnFacts.{IsOfOwn, brings_own, got_own, own_noted, own_other, sent_own}
-use Rattle.cany_totcan.proofs.PlaceFacts.{holds-none, holds-some, is_of_key_back, open_is, placed_kept, placed_moved, placed_once, recent_more, tot_in-got, tot_in-got_other, tot_in-sent, tot_in-sent_other}
+use Rattle.cany_totcan.proofs.PlaceFacts.{IsWithin, holds-none, holds-some, is_of_key_back, open_is, placed_kept, placed_moved, placed_once, placed_within, recent_more, tot_in-got, tot_in-got_other, tot_in-sent, tot_in-sent_other}
 use Rattle.cany_totcan.proofs.QueueFacts.{done-moved, named-moved, room_to_place}
 
 and_none : (b : Bool) → (b && false) ≡ false
@@ -161,6 +160,13 @@ module _ (scenario : ScenarioParts) (i : ℕ) (before : List NoticeKind) (messag
     (h : IsTotcanOf scenario i before messages count v) (f : FrameParts) where
   -- there is room for a message of the scenario
   module _ (named : NamesMessage scenario service.Tot f) where
+    -- the open messages have their places before the slot that is read
+    pub placed_before : (slot : ℕ) → slot ≡ length before → AllByRecursion (λ x. x.place < slot) v.queue.items
+    placed_before slot at =
+        rw (h.queue.places, at)
+        (Each-weaker (IsWithin scenario.params.bound before) (λ x. x.place < length before) (λ x within. within.1) (placed_in scenario.params.bound before)
+        (placed_within scenario.params.bound before))
+
     pub can_place : length (without_key (message_in f) v.queue.items) < v.queue.room
     can_place =
         omega (
@@ -315,21 +321,6 @@ origin_is scenario i f before is = rw is (go (f.node == i))
     go : (own : Bool) → origin_actions own f ≡ actions_of scenario.params.format (if own then Ask (accept_frame f) ∷ [] else [])
     go true = refl
     go false = refl
-
-relays : (format : Format) (omit c : ℕ) (own : Bool) (f : FrameParts)
-    → actions_of format (if nat_le (omit + 1) c then Withdraw (identity_of f) ∷ [] else if c == 1 && not own then Ask f ∷ [] else []) ≡ relay_actions format (learnt_of omit c own) f
-relays format omit c own f = go (nat_le (omit + 1) c) (c == 1 && not own)
-  where
-    go : (t u : Bool) → actions_of format (if t then Withdraw (identity_of f) ∷ [] else if u then Ask f ∷ [] else [])
-        ≡ relay_actions format (if t then Enough c else if u then First else Again c) f
-    go true u = refl
-    go false true = refl
-    go false false = refl
-
-eager_is : (format : Format) (omit : ℕ) (f : FrameParts) (past : List NoticeKind)
-    → actions_of format (eager_effects omit f past) ≡ relay_actions format (learnt_of omit (copies (identity_of f) past) (has_own (identity_of f) past)) f
-unfolding eager_effects
-eager_is format omit f past = relays format omit (copies (identity_of f) past) (has_own (identity_of f) past) f
 
 accepts : (scenario : ScenarioParts) (i : ℕ) (f : FrameParts) (before : List NoticeKind)
     → (same_class f.class class.Accept && can_be_accepted scenario.params.bound (message_in f) before) ≡ true

@@ -22,8 +22,8 @@ use Rattle.cany_model.proofs.Among.{Among, Each-append, Each-weaker}
 use Rattle.cany_model.proofs.Bus.Carried.{Has}
 use Rattle.cany_model.proofs.Bus.Identities.{same_class-true}
 use Rattle.cany_totcan.specs.declared.queue.Placed.{Placed}
-use Rattle.cany_totcan.specs.Queue.{AreOnce, OpenParts, is_at, oldest_from, placed_at, placed_from, placed_in, without_key, without_oldest, without_oldest_from}
-use Rattle.cany_totcan.proofs.QueueFacts.{any-append_one, any-without, any-without_self, once-append_one, once-without, same_key, same_key-true, same_key_self}
+use Rattle.cany_totcan.specs.Queue.{AreAscending, AreOnce, OpenParts, is_at, oldest_from, placed_at, placed_from, placed_in, without_key, without_oldest, without_oldest_from}
+use Rattle.cany_totcan.proofs.QueueFacts.{any-append_one, any-without, any-without_self, ascending-append_one, ascending-filter, each-filter, once-append_one, once-without, same_key, same_key-true, same_key_self}
 
 -- ---- what a notice brings
 
@@ -267,14 +267,6 @@ placed_whole past = ap (placed_from past 0) (take_all (length past) past (omega 
 
 -- ---- what the messages at their places are
 
--- what is true of each element is true of each that a filter keeps
-pub each-filter : {X : Type 0} (P : X → Type 0) (p : X → Bool) (xs : List X) → AllByRecursion P xs → AllByRecursion P (filter p xs)
-each-filter P p [] all = tt
-each-filter P p (x ∷ xs) all = elim (cases_Bool (p x)) [
-  | inl kept ↦ rw kept (all.0, each-filter P p xs all.1)
-  | inr gone ↦ rw gone (each-filter P p xs all.1)
-]
-
 open_moved : (here there : Bool) → ((not here && there) || here) ≡ (here || there)
 open_moved true there = refl
 open_moved false there = or-false there
@@ -337,23 +329,6 @@ placed_within n past =
     (each-filter (IsWithin n before) (λ x. not (is_at (message_in f) x)) items all))
     ((omega arith, omega arith), tt))
     n past
-
--- each has a place before those that follow
-abbrev pub AreAscending : List Placed → Type 0
-AreAscending [] = Unit {0}
-AreAscending (x ∷ items) = AllByRecursion (λ y. x.place < y.place) items × AreAscending items
-
-ascending-filter : (p : Placed → Bool) (items : List Placed) → AreAscending items → AreAscending (filter p items)
-ascending-filter p [] up = tt
-ascending-filter p (x ∷ items) up = elim (cases_Bool (p x)) [
-  | inl kept ↦ rw kept (each-filter (λ y. x.place < y.place) p items up.0, ascending-filter p items up.1)
-  | inr gone ↦ rw gone (ascending-filter p items up.1)
-]
-
-ascending-append_one : (items : List Placed) (x : Placed) → AreAscending items → AllByRecursion (λ y. y.place < x.place) items → AreAscending (items ++ x ∷ [])
-ascending-append_one [] x up last = (tt, tt)
-ascending-append_one (y ∷ items) x up last =
-    (Each-append (λ z. y.place < z.place) items (x ∷ []) up.0 (last.0, tt), ascending-append_one items x up.1 last.1)
 
 abbrev IsAscendingBelow : ℕ → List NoticeKind → List Placed → Type 0
 IsAscendingBelow n past items = AreAscending items × AllByRecursion (λ x. x.place < length past) items

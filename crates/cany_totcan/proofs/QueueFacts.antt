@@ -24,7 +24,7 @@ use Rattle.cany_model.proofs.Among.{Among, Among-from_Contains, Among-weaker, Ea
 use Rattle.cany_model.proofs.Rules.MessageKeys.{is_service-from}
 use Rattle.cany_model.proofs.Rules.RoomFacts.{pigeonhole}
 use Rattle.cany_totcan.specs.declared.queue.Placed.{Placed}
-use Rattle.cany_totcan.specs.Queue.{AreOnce, IsIndexOf, IsKept, OpenParts, is_at, is_removed, moved, without_key}
+use Rattle.cany_totcan.specs.Queue.{AreAscending, AreOnce, IsIndexOf, IsKept, OpenParts, is_at, is_removed, moved, without_key}
 
 -- ---- keys
 
@@ -139,6 +139,28 @@ once-moved f slot v once =
 once_here : (key : MsgKey) (x : Placed) (items : List Placed) → AreOnce (x ∷ items) → is_at key x ≡ true → list_any (is_at key) items ≡ false
 once_here key x items once here = ap (λ k. list_any (is_at k) items) (is_at-true key x here) ∙ once.0
 
+-- ---- in the order of their places
+
+-- what is true of each element is true of each that a filter keeps
+pub each-filter : {X : Type 0} (P : X → Type 0) (p : X → Bool) (xs : List X) → AllByRecursion P xs → AllByRecursion P (filter p xs)
+each-filter P p [] all = tt
+each-filter P p (x ∷ xs) all = elim (cases_Bool (p x)) [
+  | inl kept ↦ rw kept (all.0, each-filter P p xs all.1)
+  | inr gone ↦ rw gone (each-filter P p xs all.1)
+]
+
+pub ascending-filter : (p : Placed → Bool) (items : List Placed) → AreAscending items → AreAscending (filter p items)
+ascending-filter p [] up = tt
+ascending-filter p (x ∷ items) up = elim (cases_Bool (p x)) [
+  | inl kept ↦ rw kept (each-filter (λ y. x.place < y.place) p items up.0, ascending-filter p items up.1)
+  | inr gone ↦ rw gone (ascending-filter p items up.1)
+]
+
+pub ascending-append_one : (items : List Placed) (x : Placed) → AreAscending items → AllByRecursion (λ y. y.place < x.place) items → AreAscending (items ++ x ∷ [])
+ascending-append_one [] x up last = (tt, tt)
+ascending-append_one (y ∷ items) x up last =
+    (Each-append (λ z. y.place < z.place) items (x ∷ []) up.0 (last.0, tt), ascending-append_one items x up.1 last.1)
+
 -- ---- how many there are
 
 pub length-without-le : (key : MsgKey) (items : List Placed) → length (without_key key items) ≤ length items
@@ -250,15 +272,18 @@ pub kept-remove : (key : MsgKey) (index : ℕ) (items : List Placed) (done left 
     → IsIndexOf key index items → left < length items → IsKept (remove items index) left room capacity
 kept-remove key index items done left room capacity kept at fewer = record {
   once = subst AreOnce (removed_at key items index kept.once at) (once-without key items kept.once);
+  ascending = subst AreAscending (removed_at key items index kept.once at) (ascending-filter (λ x. not (is_at key x)) items kept.ascending);
   there = omega (arith, length-remove items index at.within);
   in_room = omega (arith, length-remove items index at.within, kept.in_room);
   reserved = kept.reserved;
 }
 
 kept-append_one : (items : List Placed) (x : Placed) (done room capacity : ℕ) → IsKept items done room capacity
-    → list_any (is_at (message_in x.frame)) items ≡ false → length items < room → IsKept (items ++ x ∷ []) done room capacity
-kept-append_one items x done room capacity kept none spare = record {
+    → list_any (is_at (message_in x.frame)) items ≡ false → AllByRecursion (λ y. y.place < x.place) items → length items < room
+    → IsKept (items ++ x ∷ []) done room capacity
+kept-append_one items x done room capacity kept none later spare = record {
   once = once-append_one items x kept.once none;
+  ascending = ascending-append_one items x kept.ascending later;
   there = omega (arith, length-append items (x ∷ []), kept.there);
   in_room = omega (arith, length-append items (x ∷ []));
   reserved = kept.reserved;
@@ -267,12 +292,14 @@ kept-append_one items x done room capacity kept none spare = record {
 -- a message is placed after it was removed from the messages of v
 pub kept-place : (f : FrameParts) (slot : ℕ) (v : OpenParts) (items : List Placed) (done room capacity : ℕ) → IsKept items done room capacity
     → record { items = items; done = done; room = room } ≡ is_removed (message_in f) v → length (without_key (message_in f) v.items) < v.room
-    → IsKept (items ++ record { frame = f; place = slot } ∷ []) done room capacity
-kept-place f slot v items done room capacity kept is spare =
+    → AllByRecursion (λ x. x.place < slot) v.items → IsKept (items ++ record { frame = f; place = slot } ∷ []) done room capacity
+kept-place f slot v items done room capacity kept is spare later =
     let left : items ≡ without_key (message_in f) v.items = ap (λ (w : OpenParts). w.items) is in
     let same : room ≡ v.room = ap (λ (w : OpenParts). w.room) is in
     kept-append_one items (record { frame = f; place = slot }) done room capacity kept
-    (ap (list_any (is_at (message_in f))) left ∙ any-without_self (message_in f) v.items) (omega (arith, ap length left))
+    (ap (list_any (is_at (message_in f))) left ∙ any-without_self (message_in f) v.items)
+    (subst (AllByRecursion (λ x. x.place < slot)) (sym left) (each-filter (λ x. x.place < slot) (λ x. not (is_at (message_in f) x)) v.items later))
+    (omega (arith, ap length left))
 
 -- ---- those that are done
 

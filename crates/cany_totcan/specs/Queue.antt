@@ -1,6 +1,6 @@
 -- The open messages of a node, in the order of their places.
 use Rattle.std.specs.Prelude.{◌≡◌, ℕ, ◌+◌, ◌-◌, ◌≤◌, ◌<◌, ◌==◌, ◌&&◌, Bool, true, false, not, if◌then◌else◌, List, [], ◌∷◌, ◌++◌, filter, length, take, Option, Some, None}
-use Rattle.std.specs.List.{HoldsAt, list_any}
+use Rattle.std.specs.List.{AllByRecursion, HoldsAt, list_any}
 use Rattle.cany_base.specs.declared.message.MsgKey.{MsgKey}
 use Rattle.cany_base.specs.declared.notice.NoticeKind.{NoticeKind}
 use Rattle.cany_base.specs.Frame.{FrameParts}
@@ -24,9 +24,15 @@ abbrev pub AreOnce : List Placed → Type 0
 AreOnce [] = Unit {0}
 AreOnce (x ∷ items) = (list_any (is_at (message_in x.frame)) items ≡ false) × AreOnce items
 
+-- each has a place before those that follow
+abbrev pub AreAscending : List Placed → Type 0
+AreAscending [] = Unit {0}
+AreAscending (x ∷ items) = AllByRecursion (λ y. x.place < y.place) items × AreAscending items
+
 -- what is true of the messages and of the memory that holds them
 pub record IsKept (items : List Placed) (done room capacity : ℕ) : Type 0 where
   pub once : AreOnce items
+  pub ascending : AreAscending items
   pub there : done ≤ length items
   pub in_room : length items ≤ room
   pub reserved : room ≤ capacity

@@ -9,8 +9,6 @@ use Rattle.cany_base.specs.declared.message.Service.TheVariants as service
 use Rattle.cany_base.specs.Frame.{FrameParts}
 use Rattle.cany_base.specs.Limits.{most_nodes}
 use Rattle.cany_base.specs.Scenario.{ScenarioParts, IsLegalScenario}
-use Rattle.cany_diffuse.specs.declared.learnt.Learnt.{Learnt}
-use Rattle.cany_diffuse.specs.declared.learnt.Learnt.TheVariants.{First, Again, Enough}
 use Rattle.cany_diffuse.specs.Eager.{copies_of}
 use Rattle.cany_message.specs.Actions.{withdraw_actions}
 use Rattle.cany_message.specs.Numbers.{frame_number}
@@ -38,12 +36,6 @@ noted f slot is_sent v =
 -- the backlog after a data frame was read, which may be the node's
 abbrev pub noted_if : Bool → FrameParts → ℕ → Bool → BacklogParts → BacklogParts
 noted_if own f slot is_sent v = if own then noted f slot is_sent v else v
-
--- what a node does with a copy of a frame that accepts an open message
-abbrev pub relay_actions : Format → Learnt → FrameParts → List Action
-relay_actions format First f = Ask f ∷ []
-relay_actions format (Again copies) f = []
-relay_actions format (Enough copies) f = withdraw_actions format true f
 
 -- the origin accepts its message
 abbrev pub origin_actions : Bool → FrameParts → List Action

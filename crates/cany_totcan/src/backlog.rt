@@ -24,7 +24,8 @@ pub(crate) struct OwnMessage {
     pub(crate) place: Option<Slot>,
 }
 
-/// The messages that a node was given to send, how many of them were asked for, and what became of each of its messages.
+/// The messages that a node was given to send, how many of them were asked for, and what became of
+/// each of its messages.
 #[derive(Drop)]
 pub(crate) struct Backlog {
     given: BoundedVec<Given>,
@@ -110,8 +111,8 @@ impl Backlog {
         self.own.get(usize::from(seq)).sent
     }
 
-    /// Takes the next message that is to be asked for in the turn of a slot, if there is one: the last one that was asked for was
-    /// sent, and its place lies `spacing` slots back.
+    /// Takes the next message that is to be asked for in the turn of a slot, if there is one: the
+    /// last one that was asked for was sent, and its place lies `spacing` slots back.
     pub(crate) fn next(&mut self, now: Slot, spacing: Slot) -> Option<Given>
         ensures next { result ≡ next_given now spacing self.old }
         ensures after { self.new ≡ after_next now spacing self.old }

@@ -15,8 +15,8 @@ use std::marker::Model;
 
 /// Which messages a node has delivered: of each origin those below a floor, but for the exceptions.
 ///
-/// The messages of an origin are mostly delivered in the order of their numbers, so that exceptions are few. There is room for
-/// all that there may be.
+/// The messages of an origin are mostly delivered in the order of their numbers, so that exceptions
+/// are few. There is room for all that there may be.
 #[derive(Drop)]
 pub(crate) struct Deliveries {
     /// For each origin the number above the greatest one that was delivered.
@@ -73,7 +73,8 @@ impl Deliveries {
         self.except(msg.origin, floor as u16, msg.seq);
     }
 
-    /// The messages of an origin from one number on to below another become exceptions. The floor is above them already.
+    /// The messages of an origin from one number on to below another become exceptions. The floor
+    /// is above them already.
     fn except(&mut self, origin: NodeId, from: u16, to: u16)
         requires { CanExcept origin from to self.old }
         ensures excepted { AreExcepted origin from to self.old self.new }
@@ -87,8 +88,9 @@ impl Deliveries {
     }
 }
 
-/// How many exceptions there may be in a run of the scenario: the messages of an origin are numbered together, whatever their
-/// service, so each of them may be passed over, but none is unless a message is by TOTCAN.
+/// How many exceptions there may be in a run of the scenario: the messages of an origin are
+/// numbered together, whatever their service, so each of them may be passed over, but none is
+/// unless a message is by TOTCAN.
 pub(crate) fn most_exceptions(scenario: &Scenario) -> usize
     ensures { result ≡ most_exceptions scenario.now }
 {

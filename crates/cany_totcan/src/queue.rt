@@ -1,5 +1,5 @@
 ghost use Rattle.std.specs.Prelude.{◌≡◌, ℕ, ◌<◌, ◌≤◌, ◌+◌, ◌-◌, [], None, length, option_map, slice_get, false, IfOk, IfSome, IfNone};
-ghost use Rattle.std.specs.List.{list_any};
+ghost use Rattle.std.specs.List.{AllByRecursion, list_any};
 ghost use Rattle.cany_model.specs.Rules.Totcan.{message_in};
 ghost use Rattle.cany_totcan.specs.Queue.{IsIndexOf, is_at, is_removed, moved, oldest_from, without_key, without_oldest};
 
@@ -24,9 +24,11 @@ impl Placed {
     }
 }
 
-/// The open messages of a node in the order of their places, the oldest first, each once. Of these the first `done` are done.
+/// The open messages of a node in the order of their places, the oldest first, each once. Of these
+/// the first `done` are done.
 ///
-/// All stay open for the same time, so they close in that order, and a turn looks at the first, and at the first that is not done.
+/// All stay open for the same time, so they close in that order, and a turn looks at the first, and
+/// at the first that is not done.
 #[derive(Drop)]
 pub(crate) struct OpenMessages {
     placed: Vec<Placed>,
@@ -58,9 +60,11 @@ impl OpenMessages {
         })
     }
 
-    /// The data frame of a message was read in a slot: the message is the last from now on, and not done.
+    /// The data frame of a message was read in a slot, which comes after all places: the message is
+    /// the last from now on, and not done.
     pub(crate) fn place(&mut self, frame: &Frame, slot: Slot)
-        requires { length (without_key (message_in frame.now) self.old.items) < self.old.room }
+        requires room { length (without_key (message_in frame.now) self.old.items) < self.old.room }
+        requires later { AllByRecursion (λ x. x.place < slot) self.old.items }
         ensures { self.new ≡ moved frame.now slot self.old }
     {
         let msg = MsgKey {

@@ -208,17 +208,15 @@ fn a_message_closes_without_acceptance(rt: HostRuntime) -> Result<(), Fail> {
     let data = [NoticeKind::Got(data_of(node, 1, payload))];
     read(&mut totcan, &scenario, 3, &data, &mut out);
     read(&mut totcan, &scenario, 4, &[NoticeKind::Idle; 39], &mut out);
-    assert_eq!(rt; out.len(), 0);
-    assert_eq!(rt; totcan.ahead(key_of(node, 1)), true);
-    assert_eq!(rt; totcan.wake(), 43);
+    let before = (out.len(), totcan.ahead(key_of(node, 1)), totcan.wake());
     read(&mut totcan, &scenario, 43, &[NoticeKind::Idle], &mut out);
+    let after = (totcan.ahead(key_of(node, 1)), totcan.wake());
     // Class 0, number 1 at bit 9, node 0.
+    let withdrawn = [Action::Withdraw { ident: 512 }];
     assert_eq!(rt;
-        out.as_slice(),
-        [Action::Withdraw { ident: 512 }].as_slice()
+        (before, out.as_slice(), after),
+        ((0, true, 43), withdrawn.as_slice(), (false, Slot::MAX))
     );
-    assert_eq!(rt; totcan.ahead(key_of(node, 1)), false);
-    assert_eq!(rt; totcan.wake(), Slot::MAX);
     Ok(())
 }
 
@@ -232,23 +230,27 @@ fn the_next_message_waits_for_bound_and_lag_slots(rt: HostRuntime) -> Result<(),
     let mut out = Actions::build(rt.alloc(), 20)?;
     totcan.send(key_of(node, 0), payload);
     totcan.send(key_of(node, 1), payload);
-    assert_eq!(rt; totcan.wake(), 0);
+    let given = totcan.wake();
     totcan.next(3, &mut out);
-    assert_eq!(rt; totcan.wake(), Slot::MAX);
-    assert_eq!(rt; totcan.asked(key_of(node, 0)), true);
-    assert_eq!(rt; totcan.asked(key_of(node, 1)), false);
+    let waits = totcan.wake();
+    let asked = [totcan.asked(key_of(node, 0)), totcan.asked(key_of(node, 1))];
     let sent = [NoticeKind::Sent(data_of(node, 0, payload))];
     read(&mut totcan, &scenario, 4, &sent, &mut out);
     totcan.next(44, &mut out);
+    let early = totcan.asked(key_of(node, 1));
+    totcan.next(45, &mut out);
     let data = data_of(node, 0, payload);
     let expected = [
         Action::Ask(data),
         Action::Ask(acceptance_of(node, 0)),
         delivery_of(4, &data),
+        Action::Ask(data_of(node, 1, payload)),
     ];
-    assert_eq!(rt; out.as_slice(), expected.as_slice());
-    totcan.next(45, &mut out);
-    assert_eq!(rt; totcan.asked(key_of(node, 1)), true);
+    let later = totcan.asked(key_of(node, 1));
+    assert_eq!(rt;
+        (out.as_slice(), [given, waits], asked, [early, later]),
+        (expected.as_slice(), [0, Slot::MAX], [true, false], [false, true])
+    );
     Ok(())
 }
 
@@ -259,9 +261,12 @@ fn no_message_is_not_asked_for_and_has_nothing_ahead(rt: HostRuntime) -> Result<
     let payload = Payload::of(&[7]).ok_or("at most eight bytes")?;
     let scenario = scenario_of(rt.alloc(), &[send_of(node, payload)])?;
     let totcan = Totcan::build(rt.alloc(), node, &scenario)?;
-    assert_eq!(rt; totcan.asked(key_of(node, 1)), false);
-    assert_eq!(rt; totcan.asked(key_of(other, 0)), false);
-    assert_eq!(rt; totcan.ahead(key_of(node, 1)), false);
-    assert_eq!(rt; totcan.ahead(key_of(other, 0)), false);
+    let strange = [
+        totcan.asked(key_of(node, 1)),
+        totcan.asked(key_of(other, 0)),
+        totcan.ahead(key_of(node, 1)),
+        totcan.ahead(key_of(other, 0)),
+    ];
+    assert_eq!(rt; strange, [false; 4]);
     Ok(())
 }

@@ -8,7 +8,7 @@ ghost use Rattle.cany_base.specs.declared.notice.NoticeKind.TheVariants.{Idle};
 ghost use Rattle.cany_base.specs.Limits.{most_nodes};
 ghost use Rattle.cany_base.specs.Scenario.{ScenarioParts};
 ghost use Rattle.cany_diffuse.specs.Eager.{copies_of, is_owned, learnt_of, IsForgotten, IsLearnt, IsOwned};
-ghost use Rattle.cany_message.specs.Actions.{withdraw_actions};
+ghost use Rattle.cany_message.specs.Actions.{relay_actions, withdraw_actions};
 ghost use Rattle.cany_message.specs.Numbers.{frame_number};
 ghost use Rattle.cany_message.specs.Table.{CanTake};
 ghost use Rattle.cany_model.specs.Bus.Frames.{same_class};
@@ -21,7 +21,7 @@ ghost use Rattle.cany_totcan.specs.Deliveries.{CanDeliver};
 ghost use Rattle.cany_totcan.specs.Queue.{moved, without_key};
 ghost use Rattle.cany_totcan.specs.Rests.{Rests};
 ghost use Rattle.cany_totcan.specs.Totcan.{CanRead, HasHeard, IsOwnTot, IsTotcanOf, has_seq};
-ghost use Rattle.cany_totcan.specs.TotcanSteps.{AreAdded, AreKnown, HaveGone, closing_accepted, closing_actions, closing_frame, due, first_of, fresh_of, has_open, if_accepted, is_accepted_by, noted_if, origin_actions, relay_actions, tot_actions, without_closing};
+ghost use Rattle.cany_totcan.specs.TotcanSteps.{AreAdded, AreKnown, HaveGone, closing_accepted, closing_actions, closing_frame, due, first_of, fresh_of, has_open, if_accepted, is_accepted_by, noted_if, origin_actions, tot_actions, without_closing};
 
 use crate::backlog::Backlog;
 use crate::deliveries::{Deliveries, most_exceptions};
@@ -31,19 +31,21 @@ use cany_base::{
     Action, Actions, Format, Frame, Memory, MsgKey, NodeId, Notice, NoticeKind, Payload, Scenario,
     Service, Slot,
 };
-use cany_diffuse::{Diffused, Eager, Learnt};
-use cany_message::{deliver, sends_by, withdraw};
+use cany_diffuse::{Diffused, Eager};
+use cany_message::{deliver, relay, sends_by, withdraw};
 use std::alloc::Global;
 use std::marker::Model;
 
-/// TOTCAN at one node: which messages are open and in which order, which of them are accepted, which were delivered, and the
-/// messages that the node itself is to send.
+/// TOTCAN at one node: which messages are open and in which order, which of them are accepted,
+/// which were delivered, and the messages that the node itself is to send.
 ///
-/// This project's own rule. The place of a message is the last slot in which the node got its data frame or sent it. The origin,
-/// which alone sends the data frame, then asks for a frame that accepts the message, and each node that holds it relays that by the
-/// eager rule. A message that is not accepted in the `bound` slots after its place closes and is passed over. Accepted messages are
-/// delivered in the order of their places, once no message with an older place is open and not accepted. An origin asks for its next
-/// message once it has read its transmission of the one before, `bound + lag` slots after its place.
+/// This project's own rule. The place of a message is the last slot in which the node got its data
+/// frame or sent it. The origin, which alone sends the data frame, then asks for a frame that
+/// accepts the message, and each node that holds it relays that by the eager rule. A message that
+/// is not accepted in the `bound` slots after its place closes and is passed over. Accepted
+/// messages are delivered in the order of their places, once no message with an older place is open
+/// and not accepted. An origin asks for its next message once it has read its transmission of the
+/// one before, `bound + lag` slots after its place.
 #[derive(Drop)]
 pub struct Totcan {
     node: NodeId,
@@ -78,8 +80,8 @@ impl Model for Totcan {
 }
 
 impl Totcan {
-    /// The TOTCAN of a node that has read nothing, or only notices of idle slots, with room for all messages of the scenario
-    /// that are by TOTCAN.
+    /// The TOTCAN of a node that has read nothing, or only notices of idle slots, with room for all
+    /// messages of the scenario that are by TOTCAN.
     pub fn build(alloc: Global, node: NodeId, scenario: &Scenario) -> Result<Totcan, Memory>
         requires { node < scenario.now.params.nodes }
         ensures { IfOk result (λ totcan. (n : ℕ) → IsTotcanOf scenario.now node (replicate n Idle) [] 0 totcan) }
@@ -102,7 +104,8 @@ impl Totcan {
         })
     }
 
-    /// The node, which is the origin, is given a message to send after those that it was given before.
+    /// The node, which is the origin, is given a message to send after those that it was given
+    /// before.
     pub fn send(&mut self, msg: MsgKey, payload: Payload)
         requires room { length self.old.backlog.given < self.old.backlog.room }
         requires own { msg.seq < length self.old.backlog.own }
@@ -117,8 +120,9 @@ impl Totcan {
         self.backlog.give(msg.seq, payload);
     }
 
-    /// What TOTCAN does at a notice: with the frame in it, then with the message that closes in its slot, and then what it delivers.
-    /// The notices of the slots before the first that a value is given count as idle ones.
+    /// What TOTCAN does at a notice: with the frame in it, then with the message that closes in its
+    /// slot, and then what it delivers. The notices of the slots before the first that a value is
+    /// given count as idle ones.
     ///
     /// At most three actions are appended, besides one for each message that there is room for.
     pub fn on(&mut self, notice: &Notice, out: &mut Actions)
@@ -139,8 +143,8 @@ impl Totcan {
         self.deliver_done(notice.slot, out);
     }
 
-    /// In the turn of a slot, after its notice and its scripted sends: asks for the next message that the node was given, if the one
-    /// before was sent and its place lies far enough back.
+    /// In the turn of a slot, after its notice and its scripted sends: asks for the next message
+    /// that the node was given, if the one before was sent and its place lies far enough back.
     pub fn next(&mut self, now: Slot, out: &mut Actions)
         requires room { length out.old.items < out.old.room }
         ensures actions { (scenario : ScenarioParts) (past : List NoticeKind) (messages : List Message) (asked : ℕ) →
@@ -233,9 +237,11 @@ impl Totcan {
         }
     }
 
-    /// A data frame was read: its message has its place here, and is accepted by what is read from now on.
+    /// A data frame was read: its message has its place here, and is accepted by what is read from
+    /// now on.
     fn hold(&mut self, slot: Slot, frame: &Frame, is_sent: bool)
         requires room { length (without_key (message_in frame.now) self.old.queue.items) < self.old.queue.room }
+        requires later { AllByRecursion (λ x. x.place < slot) self.old.queue.items }
         requires own { frame.now.node ≡ self.old.node → frame.now.number < length self.old.backlog.own }
         ensures forgotten { IsForgotten (frame_number frame.now) self.old.acceptances self.new.acceptances }
         ensures in_range { frame.now.node < most_nodes }
@@ -255,6 +261,7 @@ impl Totcan {
     /// The node's own transmission of a data frame was read: the origin accepts the message.
     fn on_own_data(&mut self, slot: Slot, frame: &Frame, out: &mut Actions)
         requires place { length (without_key (message_in frame.now) self.old.queue.items) < self.old.queue.room }
+        requires later { AllByRecursion (λ x. x.place < slot) self.old.queue.items }
         requires own { frame.now.node ≡ self.old.node → frame.now.number < length self.old.backlog.own }
         requires room { length out.old.items < out.old.room }
         ensures forgotten { IsForgotten (frame_number frame.now) self.old.acceptances self.new.acceptances }
@@ -282,7 +289,8 @@ impl Totcan {
         is_acceptance(frame) && self.queue.has(&key_of(frame))
     }
 
-    /// A copy of a frame that accepts an open message was read: the node relays it by the eager rule.
+    /// A copy of a frame that accepts an open message was read: the node relays it by the eager
+    /// rule.
     fn on_acceptance(&mut self, frame: &Frame, out: &mut Actions)
         requires small { HasSmallNumbers self.old.format frame.now }
         requires takes { CanTake (frame_number frame.now) self.old.acceptances }
@@ -337,8 +345,8 @@ impl Totcan {
         }
     }
 
-    /// A message closes: no frame that accepts it waits any longer. If it is accepted and was not delivered, it is delivered now,
-    /// since nothing before it is open.
+    /// A message closes: no frame that accepts it waits any longer. If it is accepted and was not
+    /// delivered, it is delivered now, since nothing before it is open.
     fn on_closed(&mut self, slot: Slot, frame: &Frame, out: &mut Actions)
         requires deliver { CanDeliver (message_in frame.now) self.old.deliveries }
         requires own { frame.now.node ≡ self.old.node → frame.now.number < length self.old.backlog.own }
@@ -358,7 +366,8 @@ impl Totcan {
         }
     }
 
-    /// Delivers the accepted messages that no open one before them holds back, in the order of their places.
+    /// Delivers the accepted messages that no open one before them holds back, in the order of
+    /// their places.
     fn deliver_done(&mut self, slot: Slot, out: &mut Actions)
         requires known { AreKnown self.old }
         requires room { length out.old.items + length self.old.queue.items ≤ out.old.room }
@@ -372,7 +381,8 @@ impl Totcan {
         }
     }
 
-    /// The first open message that is not done is accepted: it is done now, and is delivered unless it was before.
+    /// The first open message that is not done is accepted: it is done now, and is delivered unless
+    /// it was before.
     fn deliver_next(&mut self, slot: Slot, frame: &Frame, out: &mut Actions)
         requires next { first_of (due self.old) ≡ Some frame.now }
         requires deliver { CanDeliver (message_in frame.now) self.old.deliveries }
@@ -418,8 +428,8 @@ impl Totcan {
         }
     }
 
-    /// Whether the open message of a data frame is accepted: the node has read a frame that says so since its place, or is its origin
-    /// and has read its own transmission of the data frame.
+    /// Whether the open message of a data frame is accepted: the node has read a frame that says so
+    /// since its place, or is its origin and has read its own transmission of the data frame.
     fn is_accepted(&self, frame: &Frame) -> bool
         requires { frame.now.node ≡ self.now.node → frame.now.number < length self.now.backlog.own }
         ensures { result ≡ is_accepted_by self.now frame.now }
@@ -428,21 +438,6 @@ impl Totcan {
             return true;
         }
         frame.node.get() == self.node.get() && self.backlog.is_sent(frame.number)
-    }
-}
-
-/// What a copy calls for of a frame that accepts an open message.
-fn relay(format: Format, learnt: &Learnt, frame: &Frame, out: &mut Actions)
-    requires small { HasSmallNumbers format frame.now }
-    requires room { length out.old.items < out.old.room }
-    ensures actions { out.new.items ≡ out.old.items ++ relay_actions format learnt.now frame.now }
-    ensures few { length out.new.items ≤ length out.old.items + 1 }
-    ensures room { out.new.room ≡ out.old.room }
-{
-    match learnt {
-        Learnt::First => out.push(Action::Ask(*frame)),
-        Learnt::Again { .. } => {}
-        Learnt::Enough { .. } => withdraw(format, frame, true, out),
     }
 }
 

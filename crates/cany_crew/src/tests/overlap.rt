@@ -59,19 +59,6 @@ fn work<G: Gate, R: Threads + Wait + Sync>(
     Ok(outcome_of(&run))
 }
 
-/// What becomes of it with free gates.
-fn work_free<R: Threads + Wait + Sync>(
-    rt: &R,
-    alloc: Global,
-    gates: &mut Vec<FreeGate>,
-) -> Result<Outcome, Fail>
-    requires { most_nodes ≤ vec_len gates.old }
-{
-    let world = world_of(alloc, ONE_MESSAGE)?;
-    let run = free_run(rt, alloc, world, gates);
-    Ok(outcome_of(&run))
-}
-
 /// The status of the command on the one message with these gates, and whether anything was written.
 fn status_by<G: Gate, R: Threads + Wait + Sync>(
     rt: &R,
@@ -85,44 +72,33 @@ fn status_by<G: Gate, R: Threads + Wait + Sync>(
     Ok((status, streams.were_written()))
 }
 
-/// The passes of nodes 0 and 1 for slot 0 wait for one another. A body that works the nodes one after another is held.
+/// The passes of nodes 0 and 1 for slot 0 wait for one another. A body that works the nodes one
+/// after another is held.
 #[test]
 fn gates_overlap(rt: HostRuntime) -> Result<(), Fail> {
     let alloc = rt.alloc();
     let flags = Arc::new(alloc, Flags::new())?;
-    let mut gates = meetings(alloc, &flags)?;
-    assert!(rt; work(&rt, alloc, &mut gates)? == WHOLE);
-    assert!(rt; flags.are_raised());
+    let outcome = work(&rt, alloc, &mut meetings(alloc, &flags)?)?;
+    let flags_of_command = Arc::new(alloc, Flags::new())?;
+    let status = status_by(&rt, alloc, &mut meetings(alloc, &flags_of_command)?)?;
+    let are_raised = flags.are_raised() && flags_of_command.are_raised();
+    assert!(rt; outcome == WHOLE && status == (DONE, true) && are_raised);
     Ok(())
 }
 
-#[test]
-fn gates_overlap_in_the_command(rt: HostRuntime) -> Result<(), Fail> {
-    let alloc = rt.alloc();
-    let flags = Arc::new(alloc, Flags::new())?;
-    let mut gates = meetings(alloc, &flags)?;
-    assert!(rt; status_by(&rt, alloc, &mut gates)? == (DONE, true));
-    assert!(rt; flags.are_raised());
-    Ok(())
-}
-
-/// Node 1 has read slot 0 when its gate refuses slot 1. A body whose workers make no step leaves it unread.
+/// Node 1 has read slot 0 when its gate refuses slot 1. A body whose workers make no step leaves it
+/// unread.
 #[test]
 fn a_gate_refuses(rt: HostRuntime) -> Result<(), Fail> {
-    let mut gates = one_refusal(rt.alloc())?;
+    let alloc = rt.alloc();
     let held = Outcome::Held {
         node: 1,
         slot: 1,
         turns: 1,
     };
-    assert!(rt; work(&rt, rt.alloc(), &mut gates)? == held);
-    Ok(())
-}
-
-#[test]
-fn a_gate_refuses_in_the_command(rt: HostRuntime) -> Result<(), Fail> {
-    let mut gates = one_refusal(rt.alloc())?;
-    assert!(rt; status_by(&rt, rt.alloc(), &mut gates)? == (HELD, false));
+    let outcome = work(&rt, alloc, &mut one_refusal(alloc)?)?;
+    let status = status_by(&rt, alloc, &mut one_refusal(alloc)?)?;
+    assert!(rt; outcome == held && status == (HELD, false));
     Ok(())
 }
 
@@ -130,7 +106,7 @@ fn a_gate_refuses_in_the_command(rt: HostRuntime) -> Result<(), Fail> {
 #[test]
 fn free_gates_pass(rt: HostRuntime) -> Result<(), Fail> {
     let mut gates = free_gates(rt.alloc())?;
-    assert!(rt; gates.len() == 64);
-    assert!(rt; work_free(&rt, rt.alloc(), &mut gates)? == WHOLE);
+    let outcome = work(&rt, rt.alloc(), &mut gates)?;
+    assert!(rt; gates.len() == 64 && outcome == WHOLE);
     Ok(())
 }

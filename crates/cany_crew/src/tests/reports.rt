@@ -83,8 +83,14 @@ fn run<R: Threads + Wait + Sync>(rt: &R, alloc: Global, text: &str) -> Result<St
 
 /// The report of a run by the text's journal.
 fn replay(alloc: Global, text: &str) -> Result<String, Fail> {
+    let Ok(scenario) = read_scenario(alloc, text.as_bytes()) else {
+        return Err(Fail::from("no scenario"));
+    };
+    let Ok(world) = cany_command::run(alloc, scenario) else {
+        return Err(Fail::from("no run"));
+    };
     let mut streams = Streams::of_text(alloc, text)?;
-    let status = streams.replay(alloc)?;
+    let status = streams.report(&world);
     report_in(alloc, &streams, status)
 }
 
@@ -103,7 +109,8 @@ fn is_replayed<R: Threads + Wait + Sync>(
 
 #[test]
 fn threads_replay(rt: HostRuntime) -> Result<(), Fail> {
-    assert!(rt; is_replayed(&rt, rt.alloc(), LAGGING)?);
-    assert!(rt; is_replayed(&rt, rt.alloc(), ONE_MESSAGE_PARTS)?);
+    for parts in [LAGGING, ONE_MESSAGE_PARTS] {
+        assert!(rt; is_replayed(&rt, rt.alloc(), parts)?);
+    }
     Ok(())
 }

@@ -3,8 +3,8 @@ ghost use Rattle.std.specs.Prelude.{◌≤◌, vec_len};
 ghost use Rattle.cany_base.specs.Limits.{most_nodes};
 
 use super::*;
+use cany_command::report_run;
 use cany_io::{MemSink, MemSource};
-use cany_replay::replay_top;
 
 /// More bytes than any report here has.
 const ROOM: usize = 65_536;
@@ -65,10 +65,9 @@ impl Streams {
         Ok(run_status(rt, alloc, &words, self, gates))
     }
 
-    /// Calls `replay_top`, and gives its status.
-    pub(super) fn replay(&mut self, alloc: Global) -> Result<u8, AllocError> {
-        let words = words_of(alloc, &["replay"])?;
-        Ok(replay_status(alloc, &words, self))
+    /// Writes the report of a run, and gives the status.
+    pub(super) fn report(&mut self, world: &World) -> u8 {
+        report_run(world, &mut self.sink)
     }
 
     pub(super) fn were_read(&self) -> bool {
@@ -103,11 +102,6 @@ fn run_status<G: Gate, R: Threads + Wait + Sync>(
         &mut streams.sink,
         gates,
     )
-}
-
-/// Nothing but the call, whose contract is long.
-fn replay_status(alloc: Global, words: &[String], streams: &mut Streams) -> u8 {
-    replay_top(alloc, words, &mut streams.source, &mut streams.sink)
 }
 
 /// The status of a call of `run_top` with these words, by free gates.

@@ -5,7 +5,8 @@ use crate::tests::streams::{Streams, free_status};
 /// A scenario that brings a journal.
 const GIVEN: &str = "format = 1\nnodes = 2\nslots = 1\njournal = [\".01\"]\n";
 
-/// Whether a call with these words reads nothing, writes nothing, and says that they are not its own.
+/// Whether a call with these words reads nothing, writes nothing, and says that they are not its
+/// own.
 fn is_turned_away<R: Threads + Wait + Sync>(
     rt: &R,
     alloc: Global,
@@ -47,20 +48,14 @@ fn words_and_given_journal(rt: HostRuntime) -> Result<(), Fail> {
     Ok(())
 }
 
+/// The first line is taken where the second write fails.
 #[test]
-fn a_read_fails(rt: HostRuntime) -> Result<(), Fail> {
+fn a_read_or_a_write_fails(rt: HostRuntime) -> Result<(), Fail> {
     let alloc = rt.alloc();
-    let mut streams = Streams::failing(alloc, ONE_MESSAGE, &[1], &[])?;
-    let status = free_status(&rt, alloc, &["run"], &mut streams)?;
-    assert!(rt; status == READ_FAULT && !streams.were_written());
-    Ok(())
-}
-
-/// The first line was taken.
-#[test]
-fn a_write_fails(rt: HostRuntime) -> Result<(), Fail> {
-    let alloc = rt.alloc();
-    let streams = Streams::failing(alloc, ONE_MESSAGE, &[], &[2])?;
-    assert!(rt; comes_to(&rt, alloc, streams, WRITE_FAULT, b"canely report 1\n")?);
+    let unread = Streams::failing(alloc, ONE_MESSAGE, &[1], &[])?;
+    let is_unread = comes_to(&rt, alloc, unread, READ_FAULT, b"")?;
+    let unwritten = Streams::failing(alloc, ONE_MESSAGE, &[], &[2])?;
+    let is_unwritten = comes_to(&rt, alloc, unwritten, WRITE_FAULT, b"canely report 1\n")?;
+    assert!(rt; is_unread && is_unwritten);
     Ok(())
 }

@@ -27,7 +27,8 @@ impl Model for MemSink {
 }
 
 impl MemSink {
-    /// A sink with room for `room` bytes. `failing` lists the writes that are to fail, counted from 1.
+    /// A sink with room for `room` bytes. `failing` lists the writes that are to fail, counted from
+    /// 1.
     pub fn new(alloc: Global, failing: Vec<u32>, room: usize) -> Result<MemSink, Memory>
         ensures { IfOk result (λ sink. sink
             ≡ record { taken = []; failing = failing.items; room = room; calls = 0; faults = 0 }) }
@@ -66,7 +67,8 @@ impl Sink for MemSink {
 
     ghost faults = { λ s. s.faults };
 
-    /// Takes as much of `piece` as there is room for, unless this call is listed or no room is left.
+    /// Takes as much of `piece` as there is room for, unless this call is listed or no room is
+    /// left.
     fn write(&mut self, piece: &[u8]) -> Result<usize, Failed>
         requires { 0 < length piece.now }
         ensures refused { IsErr result ↔ FailsNext self.old.failing self.old.calls ⊎ (length self.old.taken ≡ self.old.room) }

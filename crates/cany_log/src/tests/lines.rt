@@ -1,15 +1,7 @@
 use super::{bytes, node, set, sink};
 use crate::bus_lines::write_bus_line;
-use crate::heading::{write_first_line, write_journal, write_params};
-use crate::messages::write_message;
-use crate::node_lines::write_node_line;
-use crate::{write_entry, write_hypothesis};
-use cany_base::{
-    Class, Format, Frame, LogEntry, MsgKey, Params, Payload, SendAsk, Service, Slot, SlotNote,
-    Step, Verdict,
-};
+use cany_base::{Class, Frame, Payload, SlotNote, Verdict};
 use cany_io::{Failed, Sink};
-use cany_model::{Break, BreakKind, Span};
 use std::process::Abort;
 use std::test::Fail;
 
@@ -41,87 +33,6 @@ fn idle(slot: u64, stops: u64) -> SlotNote {
         verdict: Verdict::Clean,
         stops: set(stops),
     }
-}
-
-fn span(since: u64, stopped: Option<Slot>, read: u64) -> Span {
-    Span {
-        since,
-        stopped,
-        read,
-    }
-}
-
-// The lines of a run of one message without a fault, in the order of the report.
-fn write_one_message<K: Sink>(sink: &mut K) -> Result<(), Failed> {
-    write_first_line(Format::One, sink)?;
-    write_params(&Params::with_defaults(3, 5), sink)?;
-    let round = [
-        Step::Slot,
-        Step::Turn(node(0)),
-        Step::Turn(node(1)),
-        Step::Turn(node(2)),
-    ];
-    write_journal(&round, sink)?;
-    write_bus_line(&carried(1, 1, 6, Verdict::Clean, 0), set(0), sink)?;
-    write_bus_line(&carried(2, 6, 1, Verdict::Clean, 0), set(0), sink)?;
-    write_hypothesis(None, sink)?;
-    let delivery = LogEntry::Deliver {
-        slot: 1,
-        service: Service::Ed,
-        msg: MsgKey {
-            origin: node(0),
-            seq: 0,
-        },
-        payload: bytes(&[1]),
-    };
-    for number in 0..3 {
-        write_node_line(node(number), 0, &span(0, None, 5), sink)?;
-        write_entry(&delivery, sink)?;
-    }
-    let send = SendAsk {
-        slot: 0,
-        node: node(0),
-        service: Service::Ed,
-        payload: bytes(&[1]),
-    };
-    write_message(&send, 0, true, sink)
-}
-
-const ONE_MESSAGE: &str = "canely report 1
-params nodes 3 lag 0 omit 1 errors 2 bound 36 cycle 72 life 36 silence 73 confirm 10 slots 5
-journal .012
-bus 1 ed 0 0 x01 from 0 to 1,2 clean
-bus 2 ed 0 0 x01 from 1,2 to 0 clean
-hypothesis within
-node 0 correct read 5
-deliver 1 ed 0 0 x01
-node 1 correct read 5
-deliver 1 ed 0 0 x01
-node 2 correct read 5
-deliver 1 ed 0 0 x01
-message ed 0 0 settled
-";
-
-#[test]
-fn a_line_is_one_write(rt: HostRuntime) -> Result<(), Fail> {
-    let alloc = rt.alloc();
-    let mut sink = sink(alloc, Vec::new(alloc))?;
-    write_one_message(&mut sink)?;
-    assert_eq!(rt; sink.taken(), ONE_MESSAGE.as_bytes());
-    assert_eq!(rt; sink.calls(), 13);
-    Ok(())
-}
-
-#[test]
-fn a_failed_write_ends_the_lines(rt: HostRuntime) -> Result<(), Fail> {
-    let alloc = rt.alloc();
-    let mut sink = sink(alloc, vec![in alloc; 3]?)?;
-    assert!(rt; write_one_message(&mut sink).is_err());
-    let heading: &[u8] = b"canely report 1
-params nodes 3 lag 0 omit 1 errors 2 bound 36 cycle 72 life 36 silence 73 confirm 10 slots 5
-";
-    assert_eq!(rt; sink.taken(), heading);
-    Ok(())
 }
 
 // The note of a slot that carried a frame to which nobody listened.
@@ -200,65 +111,6 @@ fn the_longest_line_is_one_write(rt: HostRuntime) -> Result<(), Fail> {
     let alloc = rt.alloc();
     let mut sink = sink(alloc, Vec::new(alloc))?;
     write_longest_line(&mut sink)?;
-    assert_eq!(rt; sink.calls(), 1);
-    assert_eq!(rt; sink.taken().len(), 816);
-    Ok(())
-}
-
-fn write_other_lines<K: Sink>(sink: &mut K) -> Result<(), Failed> {
-    let broken = Break {
-        kind: BreakKind::Errors,
-        slot: 3,
-    };
-    write_hypothesis(Some(broken), sink)?;
-    write_node_line(node(0), 0, &span(0, Some(16), 16), sink)?;
-    write_node_line(node(0), 1, &span(18, Some(20), 2), sink)?;
-    write_node_line(node(0), 15, &span(60, None, 0), sink)?;
-    let sign = LogEntry::Failed {
-        slot: 110,
-        node: node(2),
-        cycle: 1,
-    };
-    write_entry(&sign, sink)?;
-    let view = LogEntry::View {
-        slot: 144,
-        number: 2,
-        members: set(3),
-    };
-    write_entry(&view, sink)?;
-    let delivery = LogEntry::Deliver {
-        slot: 12,
-        service: Service::Tot,
-        msg: MsgKey {
-            origin: node(31),
-            seq: 7,
-        },
-        payload: bytes(&[0, 255, 10, 156, 1, 2, 3, 4]),
-    };
-    write_entry(&delivery, sink)?;
-    let send = SendAsk {
-        slot: 0,
-        node: node(12),
-        service: Service::Rel,
-        payload: Payload::empty(),
-    };
-    write_message(&send, 7, false, sink)
-}
-
-#[test]
-fn other_lines(rt: HostRuntime) -> Result<(), Fail> {
-    let alloc = rt.alloc();
-    let mut sink = sink(alloc, Vec::new(alloc))?;
-    write_other_lines(&mut sink)?;
-    let lines: &[u8] = b"hypothesis outside errors 3
-node 0 stopped 16 read 16
-node 0 inc 1 since 18 stopped 20 read 2
-node 0 inc 15 since 60 correct read 0
-failed 110 2 1
-view 144 2 0,1
-deliver 12 tot 31 7 x00ff0a9c01020304
-message rel 12 7 open
-";
-    assert_eq!(rt; sink.taken(), lines);
+    assert!(rt; sink.calls() == 1 && sink.taken().len() == 816);
     Ok(())
 }

@@ -1,8 +1,7 @@
-use super::{node, sink};
+use super::sink;
 use crate::{Refusal, write_refusal};
 use cany_base::ParamName;
 use cany_io::{Failed, Sink};
-use cany_model::{FollowFault, StepReply};
 use cany_text::{KeyName, ScenarioFault, TableName};
 use std::process::Abort;
 use std::test::Fail;
@@ -80,48 +79,6 @@ refused bound too small silence needs 73
 refused repeated rule 1
 refused too often in restart 15
 refused bad journal at 4
-";
-    assert_eq!(rt; sink.taken(), lines);
-    Ok(())
-}
-
-fn write_of_journals<K: Sink>(sink: &mut K) -> Result<(), Failed> {
-    for reply in [
-        StepReply::Lagging {
-            node: node(31),
-            unread: 9,
-        },
-        StepReply::Over { slots: 100_000 },
-        StepReply::NothingYet { now: 7 },
-        StepReply::Stopped { slot: 3 },
-        StepReply::NoNode { node: node(12) },
-    ] {
-        let fault = FollowFault::Refused {
-            place: 3_300_000,
-            reply,
-        };
-        write_refusal(&Refusal::Journal(fault), sink)?;
-    }
-    for node in [None, Some(node(2))] {
-        let fault = FollowFault::Unfinished { ran: 6, node };
-        write_refusal(&Refusal::Journal(fault), sink)?;
-    }
-    write_refusal(&Refusal::JournalGiven, sink)
-}
-
-#[test]
-fn lines_of_refused_journals(rt: HostRuntime) -> Result<(), Fail> {
-    let alloc = rt.alloc();
-    let mut sink = sink(alloc, Vec::new(alloc))?;
-    write_of_journals(&mut sink)?;
-    let lines: &[u8] = b"refused journal step 3300000 lagging node 31 unread 9
-refused journal step 3300000 over slots 100000
-refused journal step 3300000 nothing yet now 7
-refused journal step 3300000 stopped slot 3
-refused journal step 3300000 no node 12
-refused journal unfinished ran 6
-refused journal unfinished ran 6 node 2
-refused journal given to run
 ";
     assert_eq!(rt; sink.taken(), lines);
     Ok(())

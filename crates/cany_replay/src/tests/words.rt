@@ -13,9 +13,8 @@ fn other_words(rt: HostRuntime) -> Result<(), Fail> {
         &["--help"],
     ] {
         let seen = call(rt.alloc(), words, ONE_MESSAGE.as_bytes(), &[], &[], b"")?;
-        assert_eq!(rt; seen.status, OTHER_WORDS);
-        assert_eq!(rt; seen.reads, 0);
-        assert_eq!(rt; seen.writes, 0);
+        let is_untouched = seen.reads == 0 && seen.writes == 0;
+        assert!(rt; seen.status == OTHER_WORDS && is_untouched);
     }
     Ok(())
 }

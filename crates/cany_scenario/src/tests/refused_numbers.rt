@@ -44,7 +44,8 @@ fn required_top_keys_are_held_to_their_ranges(rt: HostRuntime) {
     }
 }
 
-/// The keys that may be absent, in their order, each at both ends of its range, and then the formulas and the members.
+/// The keys that may be absent, in their order, each at both ends of its range, and then the
+/// formulas and the members.
 #[test]
 fn other_top_keys_are_held_to_their_ranges(rt: HostRuntime) {
     let top = TableName::Top;

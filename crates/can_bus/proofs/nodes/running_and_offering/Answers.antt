@@ -12,8 +12,8 @@ use Rattle.can_bus.proofs.nodes.running_and_offering.Goals as goal
 
 pub loop-i-init : goal.loop-i-init
 loop-i-init c = record {
-  running = so_far_none _ _ c.nobody-running.ensures;
-  offering = so_far_none _ _ c.nobody-offering.ensures;
+  running = so_far_none _ _ c.empty-running.ensures.set;
+  offering = so_far_none _ _ c.empty-offering.ensures.set;
 }
 
 pub loop-i-preserved : goal.loop-i-preserved

@@ -17,7 +17,7 @@ was c =
     ∙ changed_next (seen_by c.args.note.now) 0 c.loop-i.i c.args.controllers.now c.index-controllers-i.result
 
 pub loop-i-init : goal.loop-i-init
-loop-i-init c = record { seen = refl; running = so_far_none _ _ c.nobody-running.ensures }
+loop-i-init c = record { seen = refl; running = so_far_none _ _ c.empty-running.ensures.set }
 
 pub see_share-requires-clause-room : goal.see_share-requires-clause-room
 see_share-requires-clause-room c =

@@ -28,6 +28,15 @@ ask-requires-after_bounds g c κs from =
     let gates = c.loop-step.invariant.1 in
     omega (arith, below, same, gates, c.requires, c.as_mut_slice.ensures.len)
 
+pub returns-then-not-ask-clause-node : goal.returns-then-not-ask-clause-node
+returns-then-not-ask-clause-node g c =
+    let world = c.loop-step.world in
+    let below : c.in-Turn.node < world.scenario.params.nodes =
+    turn_within world.scenario world.journal c.in-Turn.node
+    (subst (λ (step : Step). is_done (reply world.scenario (state_of world) step) ≡ true) c.in-Turn.is c.in-Some.ensures.done) in
+    let same = ap (λ (s : ScenarioParts). s.params.nodes) c.loop-step.invariant.0 in
+    omega (arith, below, same)
+
 pub loop-step-smaller : goal.loop-step-smaller
 loop-step-smaller g c =
     let same : c.match-step.step ≡ c.in-Some.step = elim c.match-step.branch [ in-Turn+else-not-ask w ↦ w.step-is ∙ sym w.in-Turn.is | in_default-step w ↦ w.step-is ] in

@@ -3,7 +3,7 @@ use Rattle.cany_base.specs.declared.step.Step.{Step}
 use Rattle.cany_base.specs.Scenario.{ScenarioParts}
 use Rattle.cany_io.specs.Sink.{TakesPrefix}
 use Rattle.cany_text.specs.Report.{report}
-use Rattle.cany_replay.specs.Top.{PromisesHold}
+use Rattle.cany_command.specs.Promises.{PromisesHold}
 use Rattle.cany_world.specs.World.{WorldParts}
 use Rattle.cany_crew.specs.Top.{TakesReportStart}
 use Rattle.cany_crew.proofs.top.run_scenario.Given as given

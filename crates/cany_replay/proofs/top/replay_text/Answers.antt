@@ -1,7 +1,8 @@
 use Rattle.std.proofs.Common.{◌≡◌, ◌≢◌, ◌∙◌, true, sym}
 use Rattle.std.proofs.lemmas.Bool.{false≢true}
 use Rattle.cany_text.specs.declared.scenario_fault.ScenarioFault.TheVariants.{Memory}
-use Rattle.cany_replay.proofs.TopFacts.{reported, not_refused, refused_journal, refused_text, answer_of_scenario, answer_of_other}
+use Rattle.cany_replay.proofs.TopFacts.{reported, answer_of_scenario, answer_of_other}
+use Rattle.cany_command.proofs.RefusedFacts.{not_refused, refused_journal, refused_text}
 use Rattle.cany_replay.proofs.top.replay_text.Goals as goal
 
 pub returns-in-Ok-clause-done : goal.returns-in-Ok-clause-done

@@ -14,8 +14,8 @@ use Rattle.cany_scenario.proofs.nodes.each_node.Goals as goal
 
 pub loop-item-init : goal.loop-item-init
 loop-item-init c = record {
-  stands_for = joined-none c.empty-nodes.result c.empty-nodes.ensures _;
-  nodes = AllBelow-none c.empty-nodes.result c.empty-nodes.ensures;
+  stands_for = joined-none c.empty-nodes.result c.empty-nodes.ensures.has _;
+  nodes = AllBelow-none c.empty-nodes.result c.empty-nodes.ensures.has;
 }
 
 pub loop-item-preserved : goal.loop-item-preserved

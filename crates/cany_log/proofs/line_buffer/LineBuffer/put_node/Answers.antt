@@ -1,6 +1,6 @@
 use Rattle.std.proofs.Common.{◌<◌, ◌∷◌, ◌++◌, ◌∙◌, ap, arith, length, length-append, rules}
 use Rattle.std.specs.Prelude.{decimal}
-use Rattle.cany_log.proofs.NumberFacts.{node_digits, node_text-line_buffer, node_text-short, inc_text, inc_text-short}
+use Rattle.cany_log.proofs.NumberFacts.{node_digits, node_text-put, node_text-short, inc_text, inc_text-short}
 use Rattle.cany_log.proofs.line_buffer.LineBuffer.put_node.Goals as goal
 
 pub put_digits-requires : goal.put_digits-requires
@@ -33,7 +33,7 @@ returns-clause-text g c =
     ∙ ap (λ line_buffer. 32 ∷ line_buffer) (c.put_digits.ensures
     ∙ ap (λ node. decimal node ++ c.put_incarnation.new.self) (c.from.ensures ∙ c.get.ensures.value)
     ∙ ap (λ line_buffer. decimal c.args.node ++ line_buffer) c.put_incarnation.ensures
-    ∙ node_text-line_buffer c.args.node c.args.inc c.args.self.now)
+    ∙ node_text-put c.args.node c.args.inc c.args.self.now)
 
 pub returns-clause-short : goal.returns-clause-short
 returns-clause-short g c =

@@ -12,7 +12,7 @@ use Rattle.cany_model.specs.Bus.History.{has_own}
 use Rattle.cany_model.proofs.Bus.Identities.{same_class-true}
 use Rattle.cany_relcan.specs.Relcan.{HasRead, data_identity, of_own, of_none}
 use Rattle.cany_relcan.proofs.ActionFacts.{got_actions, sent_actions, none_at}
-use Rattle.cany_relcan.proofs.ReadFacts.{one_more_timer, read_copy, read_confirmation, read_sent, read_other}
+use Rattle.cany_relcan.proofs.ReadFacts.{one_more_timer, read_copy, read_confirmation, read_sent, read_other, timers_before}
 use Rattle.cany_relcan.proofs.TablesFacts.{confirm_names, none_noted}
 use Rattle.cany_relcan.proofs.relcan.Relcan.on_notice.Goals as goal
 
@@ -38,6 +38,10 @@ on_copy-requires-clause-own c = λ near other.
 pub on_copy-requires-clause-timers : goal.on_copy-requires-clause-timers
 on_copy-requires-clause-timers c =
     one_more_timer c.requires.reads.scenario c.args.self.now.node c.requires.reads.past c.args.self.now c.requires.reads.stands
+
+pub on_copy-requires-clause-later : goal.on_copy-requires-clause-later
+on_copy-requires-clause-later c =
+    timers_before c.requires.reads.scenario c.args.self.now.node c.requires.reads.past c.args.self.now c.args.notice.now.slot c.requires.reads.stands c.requires.reads.next.slot
 
 pub on_confirmation-requires : goal.on_confirmation-requires
 on_confirmation-requires c =

@@ -6,14 +6,15 @@ use Rattle.cany_base.specs.declared.message.Service.TheVariants as service
 use Rattle.cany_base.specs.declared.notice.NoticeKind.TheVariants.{Got}
 use Rattle.cany_diffuse.specs.declared.learnt.Learnt.{Learnt}
 use Rattle.cany_diffuse.specs.Eager.{copies_of, is_owned, learnt_of}
+use Rattle.cany_message.specs.Actions.{relay_actions}
 use Rattle.cany_message.specs.Numbers.{frame_number}
 use Rattle.cany_message.proofs.DeliveryFacts.{no_actions}
 use Rattle.cany_message.proofs.NoticeFacts.{got_names, got_small, sent_names}
 use Rattle.cany_model.specs.Bus.Frames.{same_class}
 use Rattle.cany_model.proofs.Bus.Identities.{same_class-true}
 use Rattle.cany_totcan.specs.Totcan.{HasHeard}
-use Rattle.cany_totcan.specs.TotcanSteps.{has_open, relay_actions}
-use Rattle.cany_totcan.proofs.HeardFacts.{can_count, can_note, can_place, got_accepts, heard_acceptance, heard_bad, heard_got, heard_got_other, heard_idle, heard_own_acceptance, heard_sent, heard_sent_other, nothing_bad, nothing_data, nothing_got, nothing_idle, nothing_sent, open_now, origin_is, relay_is, sent_accepts}
+use Rattle.cany_totcan.specs.TotcanSteps.{has_open}
+use Rattle.cany_totcan.proofs.HeardFacts.{can_count, can_note, can_place, got_accepts, heard_acceptance, heard_bad, heard_got, heard_got_other, heard_idle, heard_own_acceptance, heard_sent, heard_sent_other, nothing_bad, nothing_data, nothing_got, nothing_idle, nothing_sent, open_now, origin_is, placed_before, relay_is, sent_accepts}
 use Rattle.cany_totcan.proofs.totcan.Totcan.hear.Goals as goal
 
 -- ---- what the parts require
@@ -31,6 +32,20 @@ hold-requires-clause-own c =
     can_note reads.scenario c.args.self.now.node reads.past reads.messages reads.count c.args.self.now c.args.self.now reads.stands c.in-Got.frame
     (got_names reads.scenario reads.past c.args.notice.now c.in-Got.frame reads.next service.Tot c.in-Got.is
     (same_class-true c.in-Got.frame.class class.Tot (sym c.is_data.ensures ∙ c.if-is_data.true)))
+
+pub hold-requires-clause-later : goal.hold-requires-clause-later
+hold-requires-clause-later c =
+    let reads = c.requires.reads in
+    placed_before reads.scenario c.args.self.now.node reads.past reads.messages reads.count c.args.self.now c.args.self.now reads.stands c.in-Got.frame
+    (got_names reads.scenario reads.past c.args.notice.now c.in-Got.frame reads.next service.Tot c.in-Got.is
+    (same_class-true c.in-Got.frame.class class.Tot (sym c.is_data.ensures ∙ c.if-is_data.true))) c.args.notice.now.slot reads.next.slot
+
+pub on_own_data-requires-clause-later : goal.on_own_data-requires-clause-later
+on_own_data-requires-clause-later c =
+    let reads = c.requires.reads in
+    placed_before reads.scenario c.args.self.now.node reads.past reads.messages reads.count c.args.self.now c.args.self.now reads.stands c.in-Sent.frame
+    (sent_names reads.scenario reads.past c.args.notice.now c.in-Sent.frame reads.next service.Tot c.in-Sent.is
+    (same_class-true c.in-Sent.frame.class class.Tot (sym c.is_data-in-Sent.ensures ∙ c.if-is_data-2.true))) c.args.notice.now.slot reads.next.slot
 
 pub on_own_data-requires-clause-place : goal.on_own_data-requires-clause-place
 on_own_data-requires-clause-place c =

@@ -1,0 +1,97 @@
+"""Calls of the program that no scenario makes: its arguments, its streams, and what it says on standard error."""
+import contextlib
+import os
+import re
+
+import program as programs
+
+# The greatest length of a text.
+MOST_TEXT_BYTES = 33_554_432
+
+SEE_HELP = "see canely --help"
+
+# The arguments that are wrong, and the line for each. Nothing is read or written, and the status is 2.
+WRONG_ARGUMENTS = [
+    ([], f"no command given; {SEE_HELP}"),
+    (["play"], f"unknown command 'play'; {SEE_HELP}"),
+    (["Replay"], f"unknown command 'Replay'; {SEE_HELP}"),
+    (["two lines\n"], f"unknown command; {SEE_HELP}"),
+    (["x" * 41], f"unknown command; {SEE_HELP}"),
+    (["replay", "scenario.toml"], f"replay takes no arguments; {SEE_HELP}"),
+    (["run", "now"], f"run takes no arguments; {SEE_HELP}"),
+    (["--help", "--version"], f"--help takes no arguments; {SEE_HELP}"),
+    (["--version", "--help"], f"--version takes no arguments; {SEE_HELP}"),
+    (["storm"], f"storm needs a number; {SEE_HELP}"),
+    (["storm", "1", "2"], f"storm takes one number alone; {SEE_HELP}"),
+    (["storm", "x"], "invalid number 'x': storm takes 1 to 10 digits, at most 4294967295"),
+    (["storm", "-1"], "invalid number '-1': storm takes 1 to 10 digits, at most 4294967295"),
+    (["storm", "4294967296"], "invalid number '4294967296': storm takes 1 to 10 digits, at most 4294967295"),
+    (["storm", ""], "invalid number '': storm takes 1 to 10 digits, at most 4294967295"),
+    ([b"\xff"], "an argument is not valid UTF-8"),
+]
+
+
+def check_call(tally, what, found, status, output, line):
+    ended, wrote, error = found
+    error_wanted = f"canely: {line}\n".encode() if line else b""
+    tally.check(ended == status, f"{what} ends with status {ended}, and not {status}")
+    tally.check(output is None or wrote == output, f"{what} writes {wrote[:200]!r}")
+    tally.check(error == error_wanted, f"{what} says {error!r}, and not {error_wanted!r}")
+
+
+@contextlib.contextmanager
+def opened_folder(path):
+    number = os.open(path, os.O_RDONLY)
+    try:
+        yield number
+    finally:
+        os.close(number)
+
+
+def check_streams(tally, program, scenario):
+    """A folder as standard input, a full disk as standard output, and a text that is too long."""
+    for command in ("replay", "run"):
+        with opened_folder(scenario.parent) as source:
+            found = programs.call(program, [command], source)
+        check_call(tally, f"canely {command} < FOLDER", found, 4, b"", "cannot read the scenario from standard input")
+        found = programs.call(program, [command], b"#" * (MOST_TEXT_BYTES + 1))
+        check_call(tally, f"canely {command} < LONG", found, 7, b"", f"the scenario has more than {MOST_TEXT_BYTES} bytes")
+    for arguments in (["replay"], ["run"], ["storm", "7"], ["--help"], ["--version"]):
+        with open("/dev/full", "wb") as sink:
+            found = programs.call(program, arguments, scenario.read_bytes(), sink)
+        check_call(tally, f"canely {' '.join(arguments)} > /dev/full", found, 5, None, "cannot write to standard output")
+
+
+def check_texts(tally, program):
+    check_call(tally, "canely --version", programs.call(program, ["--version"]), 0, b"canely 1\n", "")
+    found = programs.call(program, ["--help"])
+    check_call(tally, "canely --help", found, 0, None, "")
+    text = found[1].decode()
+    for command in ("replay", "run", "storm NUMBER", "--help", "--version"):
+        tally.check(f" canely {command}" in text, f"canely --help does not show the command {command}")
+    for status in (0, *range(2, 9)):
+        tally.check(re.search(rf"(?m)^(exit status:|\s+)\s*{status}  \w", text), f"canely --help does not say when the exit status is {status}")
+
+
+def check_threads(tally, program, scenario):
+    """The report of `run`, whose journal its threads made, is that of `replay` by this journal."""
+    text = scenario.read_bytes()
+    status, report, error = programs.call(program, ["run"], text)
+    tally.check(status == 0 and not error, f"canely run < {scenario.name} ends with status {status} and says {error!r}")
+    steps = "".join(re.findall(r"(?m)^journal (.*)$", report.decode()))
+    again = programs.call(program, ["replay"], f'journal = ["{steps}"]\n'.encode() + text)
+    tally.check(again == (0, report, b""), f"canely run < {scenario.name}: its report, replayed, gives another")
+
+
+def check(root, tally, built):
+    if not built:
+        print("calls: not tried, since they need a built program")
+    scenario = root / "scenarios/one_message_no_fault.toml"
+    for program in built:
+        for arguments, line in WRONG_ARGUMENTS:
+            found = programs.call(program, arguments, scenario.read_bytes())
+            check_call(tally, f"canely {' '.join(map(str, arguments))}", found, 2, b"", line)
+        check_streams(tally, program, scenario)
+        check_texts(tally, program)
+        for name in ("one_message_no_fault", "three_services", "restart_joins"):
+            check_threads(tally, program, root / f"scenarios/{name}.toml")

@@ -1,0 +1,81 @@
+"""Runs each scenarios/NAME.toml, and compares status and output with scenarios/NAME.report, byte for byte."""
+import ast
+import re
+import tomllib
+
+import program as programs
+
+DONE, REFUSED = 0, 3
+
+
+def wanted_status(report):
+    """A report that is the line of a refusal goes with its status, and any other with success."""
+    return REFUSED if report.startswith(b"refused ") else DONE
+
+
+def first_difference(wanted, found):
+    at = next((i for i, (a, b) in enumerate(zip(wanted, found)) if a != b), min(len(wanted), len(found)))
+    line = wanted[:at].count(b"\n")
+    line_of = lambda text: (text.split(b"\n") + [b""] * (line + 1))[line].decode(errors="replace")
+    return f"line {line + 1} is {line_of(found)!r}, and not {line_of(wanted)!r}"
+
+
+def check_files(root, tally):
+    """Each scenario has a first line that says what it shows, and a report; no report is without a scenario."""
+    texts = sorted((root / "scenarios").glob("*.toml"))
+    reports = sorted((root / "scenarios").glob("*.report"))
+    tally.check(texts, "scenarios/ has no scenario")
+    for it in texts:
+        tally.check(it.read_text(encoding="utf-8").startswith("# "), f"scenarios/{it.name} does not begin with a comment that says what it shows")
+    for it in reports:
+        tally.check(it.with_suffix(".toml") in texts, f"scenarios/{it.name} has no scenario beside it")
+    return {it.stem: it.read_bytes() for it in texts}
+
+
+def reports_of(root, tally, texts):
+    reports = {}
+    for name in texts:
+        report = root / f"scenarios/{name}.report"
+        if tally.check(report.is_file(), f"scenarios/{name}.toml has no report beside it"):
+            reports[name] = report.read_bytes()
+    return reports
+
+
+def check_runs(tally, program, texts, reports):
+    for name, report in reports.items():
+        status, output, error = programs.call(program, ["replay"], texts[name])
+        place, wanted = f"scenarios/{name}.toml by {program.name}", wanted_status(report)
+        tally.check(status == wanted, f"{place} ends with status {status}, and not {wanted}; it says {error!r}")
+        tally.check(output == report, f"{place} does not give its report: {first_difference(report, output)}")
+        tally.check(not error, f"{place}: standard error has {error!r}")
+
+
+def check_tries(root, tally, texts, reports):
+    found = programs.try_all(root, {name: texts[name] for name in reports}, reports)
+    for name, report in reports.items():
+        status, is_wanted = found.get(name, (None, False))
+        wanted = wanted_status(report)
+        tally.check(status == wanted, f"scenarios/{name}.toml ends with status {status}, and not {wanted}")
+        tally.check(is_wanted, f"scenarios/{name}.toml does not give its report")
+
+
+def check_names(root, tally, texts):
+    """A test that has a scenario's name runs that scenario, whatever the order of its tables."""
+    # a name, and after it a text that begins as a scenario does
+    case = re.compile(r'"(\w+)",\s*("format = (?:[^"\\]|\\.)*")', re.S)
+    for file in sorted(root.glob("crates/*/src/**/*.rt")):
+        for name, literal in case.findall(file.read_text(encoding="utf-8")):
+            if name in texts:
+                text = ast.literal_eval(f'""{literal}""')
+                is_same = tomllib.loads(text) == tomllib.loads(texts[name].decode())
+                tally.check(is_same, f"{file.relative_to(root)}: the test {name} runs another text than scenarios/{name}.toml")
+
+
+def check(root, tally, built):
+    texts = check_files(root, tally)
+    reports = reports_of(root, tally, texts)
+    for program in built:
+        check_runs(tally, program, texts, reports)
+    if not built:
+        check_tries(root, tally, texts, reports)
+    check_names(root, tally, texts)

@@ -1,0 +1,91 @@
+//! What the program says on standard error: one line, where the status is neither success nor that of a refusal.
+use cany_command::MOST_TEXT_BYTES;
+use cany_command::status::{NO_MEMORY, OTHER_WORDS, READ_FAULT, TOO_LONG, WRITE_FAULT};
+use cany_crew::status::HELD;
+use std::alloc::{AllocError, Global};
+
+/// The longest argument that a line repeats.
+const MOST_SHOWN_BYTES: usize = 40;
+
+pub(crate) const NOT_TEXT: &str = "canely: an argument is not valid UTF-8\n";
+
+/// Whether a line can repeat an argument: it is short, and has no control character that would end the line.
+fn is_plain(arg: &str) -> bool {
+    arg.len() <= MOST_SHOWN_BYTES && arg.as_bytes().iter().all(is_shown)
+}
+
+fn is_shown(byte: &u8) -> bool {
+    byte.is_ascii_graphic()
+}
+
+/// An argument in quotes, with a space before it, or nothing where a line cannot repeat it.
+fn quoted(alloc: Global, arg: &str) -> Result<String, AllocError> {
+    if is_plain(arg) {
+        format!(in alloc; " '{arg}'")
+    } else {
+        Ok(String::new(alloc))
+    }
+}
+
+fn of_command(alloc: Global, arg: &str) -> Result<String, AllocError> {
+    let shown = quoted(alloc, arg)?;
+    format!(in alloc; "canely: unknown command{shown}; see canely --help\n")
+}
+
+fn of_number(alloc: Global, arg: &str) -> Result<String, AllocError> {
+    let shown = quoted(alloc, arg)?;
+    let most = u32::MAX;
+    format!(in alloc; "canely: invalid number{shown}: storm takes 1 to 10 digits, at most {most}\n")
+}
+
+/// What is wrong with the arguments after `storm`.
+fn of_storm(alloc: Global, rest: &[String]) -> Result<String, AllocError> {
+    match rest {
+        [] => String::from_str(alloc, "canely: storm needs a number; see canely --help\n"),
+        [arg] => of_number(alloc, arg.as_str()),
+        _ => String::from_str(
+            alloc,
+            "canely: storm takes one number alone; see canely --help\n",
+        ),
+    }
+}
+
+/// What is wrong with arguments that the program does not take.
+fn of_args(alloc: Global, args: &[String]) -> Result<String, AllocError> {
+    match args {
+        [] => String::from_str(alloc, "canely: no command given; see canely --help\n"),
+        [arg, rest @ ..] => match arg.as_str() {
+            "storm" => of_storm(alloc, rest),
+            "replay" | "run" | "--help" | "--version" => {
+                format!(in alloc; "canely: {arg} takes no arguments; see canely --help\n")
+            }
+            _ => of_command(alloc, arg.as_str()),
+        },
+    }
+}
+
+fn of_length(alloc: Global) -> Result<String, AllocError> {
+    format!(in alloc; "canely: the scenario has more than {MOST_TEXT_BYTES} bytes\n")
+}
+
+/// The line for a status that has details, where there is memory for it.
+pub(crate) fn in_detail(alloc: Global, status: u8, args: &[String]) -> Option<String> {
+    match status {
+        OTHER_WORDS => of_args(alloc, args).ok(),
+        TOO_LONG => of_length(alloc).ok(),
+        _ => None,
+    }
+}
+
+/// The line for a status that takes no memory.
+pub(crate) fn in_general(status: u8) -> Option<&'static str> {
+    match status {
+        OTHER_WORDS => Some("canely: unknown command or wrong arguments; see canely --help\n"),
+        READ_FAULT => Some("canely: cannot read the scenario from standard input\n"),
+        WRITE_FAULT => Some("canely: cannot write to standard output\n"),
+        NO_MEMORY => Some("canely: out of memory\n"),
+        TOO_LONG => Some("canely: the scenario is too long\n"),
+        HELD => Some("canely: a gate held the run\n"),
+        _ => None,
+    }
+}

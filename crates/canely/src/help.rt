@@ -1,0 +1,52 @@
+//! The text of `--help`.
+use cany_command::MOST_TEXT_BYTES;
+use cany_command::status::{
+    DONE, NO_MEMORY, OTHER_WORDS, READ_FAULT, REFUSED, TOO_LONG, WRITE_FAULT,
+};
+use cany_crew::status::HELD;
+use std::alloc::{AllocError, Global};
+
+/// What the program is for, its arguments, the keys of a scenario and the exit statuses.
+pub(crate) fn help(alloc: Global) -> Result<String, AllocError> {
+    format!(in alloc;
+        "\
+Runs scenarios of reliable broadcast on one CAN bus.
+
+usage: canely replay < SCENARIO > REPORT
+       canely run < SCENARIO > REPORT
+       canely storm NUMBER > SUMMARY
+       canely --help
+       canely --version
+
+replay reads a scenario, runs it by its own journal or, where it has none, by the round robin
+journal, and writes the report of the run.
+
+run reads a scenario that has no journal, runs it by a thread for each node and one for the bus,
+and writes the report of the run, with the journal that the threads made.
+
+storm generates a scenario from the number, which has 1 to 10 digits and is at most {},
+runs it by the round robin journal, and writes the summary of the run.
+
+A scenario is a TOML document; slots, nodes and entries are counted from 0:
+  format, nodes, slots       required; format 1 has up to 32 nodes, format 2 up to 64
+  lag, omit, errors          unread notices, omissions, errors; 0, 1 and 2 where absent
+  bound, cycle, life, silence, confirm   in slots; the least legal ones, and 10, where absent
+  members = [NODE, ..]       the members of view 0; all nodes where absent
+  [[send]]                   slot, node, service = \"ed\", \"rel\" or \"tot\", data = \"HEX\"
+  [[fault]]                  slot, or class, number, node and nth; verdict = \"clean\", \"lost\",
+                             \"partial\" or \"silent\"; reject = [NODE, ..], stop = [NODE, ..]
+  [[join]] [[leave]] [[restart]]   slot, node
+  journal = [\".012\", ..]   . is a slot; 0 to 9, a to z, A to Z, + and - are turns of nodes
+
+exit status: {DONE}  success
+             {OTHER_WORDS}  unknown command or wrong arguments; nothing was read or written
+             {REFUSED}  the scenario or its journal was refused; the one line written says why
+             {READ_FAULT}  reading standard input failed; nothing was written
+             {WRITE_FAULT}  writing standard output failed
+             {NO_MEMORY}  out of memory; nothing was written
+             {TOO_LONG}  the scenario has more than {MOST_TEXT_BYTES} bytes; nothing was written
+             {HELD}  a gate held the run, and nothing was written; no gate of this program does
+",
+        u32::MAX
+    )
+}

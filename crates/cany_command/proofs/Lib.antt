@@ -1,0 +1,3 @@
+pub mod RefusedFacts
+pub mod RunFacts
+pub mod WordFacts

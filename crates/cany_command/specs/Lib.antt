@@ -1,0 +1,4 @@
+pub mod Promises
+pub mod Refused
+pub mod RunFaults
+pub mod Status

@@ -1,0 +1,37 @@
+//! What a command writes, with the status that it ends with.
+ghost use Rattle.std.specs.Prelude.{◌≡◌, ◌⊎◌};
+ghost use Rattle.cany_io.specs.Faults.{HasRisen};
+ghost use Rattle.cany_io.specs.Sink.{Takes, TakesPrefix};
+ghost use Rattle.cany_log.specs.Refusals.{refusal_line};
+ghost use Rattle.cany_text.specs.Report.{report};
+
+use crate::status::{DONE, REFUSED, WRITE_FAULT};
+use cany_io::{Failed, Sink};
+use cany_log::{Refusal, write_refusal, write_report};
+use cany_world::World;
+
+/// Writes the report of a run, and answers the status.
+pub fn report_run<K: Sink>(world: &World, sink: &mut K) -> u8
+    ensures done { result ≡ DONE → Takes (K.taken sink.old) (report world.now.scenario world.now.journal) (K.taken sink.new) }
+    ensures write_fault { result ≡ WRITE_FAULT → HasRisen (K.faults sink.old) (K.faults sink.new) }
+    ensures prefix { TakesPrefix (K.taken sink.old) (report world.now.scenario world.now.journal) (K.taken sink.new) }
+    ensures status { (result ≡ DONE) ⊎ (result ≡ WRITE_FAULT) }
+{
+    match write_report(world, sink) {
+        Ok(()) => DONE,
+        Err(Failed) => WRITE_FAULT,
+    }
+}
+
+/// Refuses a text, or a journal, and answers the status.
+pub fn refuse<K: Sink>(refusal: &Refusal, sink: &mut K) -> u8
+    ensures refused { result ≡ REFUSED → Takes (K.taken sink.old) (refusal_line refusal.now) (K.taken sink.new) }
+    ensures write_fault { result ≡ WRITE_FAULT → HasRisen (K.faults sink.old) (K.faults sink.new) }
+    ensures prefix { TakesPrefix (K.taken sink.old) (refusal_line refusal.now) (K.taken sink.new) }
+    ensures status { (result ≡ REFUSED) ⊎ (result ≡ WRITE_FAULT) }
+{
+    match write_refusal(refusal, sink) {
+        Ok(()) => REFUSED,
+        Err(Failed) => WRITE_FAULT,
+    }
+}

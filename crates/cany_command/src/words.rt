@@ -1,0 +1,12 @@
+//! The words of a command that has no arguments.
+ghost use Rattle.std.specs.Prelude.{◌≡◌, ◌↔◌, ◌∷◌, [], map, string_bytes, IsTrue};
+
+/// Whether the words are this one word alone.
+pub fn is_only(words: &[String], name: &str) -> bool
+    ensures { IsTrue result ↔ (map string_bytes words.now ≡ name.now ∷ []) }
+{
+    match words {
+        [word] => word.as_str() == name,
+        _ => false,
+    }
+}

@@ -1,0 +1,4 @@
+pub mod Asks
+pub mod Life
+pub mod Slots
+pub mod Vector

@@ -1,5 +1,0 @@
-use Rattle.cany_life.proofs.SetFacts.{set_where}
-use Rattle.cany_life.proofs.life.without.Goals as goal
-
-pub returns : goal.returns
-returns c = set_where c.minus-fewer.result _ c.bits-bits.ensures.below c.minus-fewer.ensures
