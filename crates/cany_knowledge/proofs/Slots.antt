@@ -91,10 +91,10 @@ module _ (test : List NoticeKind → Bool) where
           (elim (holds_cases e past w.slot w.holds) [
             | inl now ↦ or_left (test (e ∷ past)) (f past) now.1
             | inr before ↦ or_right (test (e ∷ past)) (f past) (old.1 (record {
-                slot = w.slot;
-                holds = before;
-                since = λ later from to. ap stop (sym (up_to_older e past later to)) ∙ w.since later from (omega (arith, to));
-              }))
+              slot = w.slot;
+              holds = before;
+              since = λ later from to. ap stop (sym (up_to_older e past later to)) ∙ w.since later from (omega (arith, to));
+            }))
           ])
 
       since_next : (f (e ∷ past) ≡ true) ↔ HoldsSince test stop (e ∷ past)

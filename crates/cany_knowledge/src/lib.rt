@@ -1,6 +1,7 @@
 //! What a node knows of the site, in closed form: the definitions of the model make it turn by turn, and these laws say of each part what it
 //! is of all that was read. No crate stands on it.
 #![tactic(auto)]
+
 ghost use Rattle.std.specs.Prelude.{◌≡◌, ◌<◌, ◌≤◌, ◌+◌, ◌*◌, ◌↔◌, ℕ, suc, true, List, ◌∷◌, length, None, unwrap_or};
 ghost use Rattle.cany_base.specs.Limits.{most_nodes};
 ghost use Rattle.cany_base.specs.declared.notice.NoticeKind.{NoticeKind};

@@ -249,7 +249,12 @@ fn the_next_message_waits_for_bound_and_lag_slots(rt: HostRuntime) -> Result<(),
     let later = totcan.asked(key_of(node, 1));
     assert_eq!(rt;
         (out.as_slice(), [given, waits], asked, [early, later]),
-        (expected.as_slice(), [0, Slot::MAX], [true, false], [false, true])
+        (
+            expected.as_slice(),
+            [0, Slot::MAX],
+            [true, false],
+            [false, true]
+        )
     );
     Ok(())
 }
