@@ -88,7 +88,8 @@ fn run_as<R: Threads + Wait + Sync, L: Course + Send + Sync, B: Ledger + Send + 
 }
 
 /// Runs the scenario of the world to its end by a thread for each node and one for the bus. The
-/// gate at place i is that of node i, and gates stand at their old places after the call.
+/// gate at place i is that of node i, and after the call the counts of the gates stand at their old
+/// places.
 ///
 /// The worker of a node asks its gate before the turn of each slot, outside the lock. After a
 /// refusal each worker ends at its next step, and `Held` names the least node whose pass was
