@@ -4,8 +4,8 @@ ghost use Rattle.cany_base.specs.Limits.{most_nodes};
 ghost use Rattle.cany_base.specs.Scenario.{ScenarioParts};
 ghost use Rattle.cany_world.specs.Resting.{HaveNothingToDo, CanAllPass, CanPass, HasNothingToDoIfItRuns, IsFree, passes};
 
-use crate::incarnations::Incarnations;
 use crate::free_slots::free_slots;
+use crate::incarnations::Incarnations;
 use can_controller::Controller;
 use can_controller::laws::counters_within;
 use can_fault::Script;
