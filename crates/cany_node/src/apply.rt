@@ -30,7 +30,8 @@ fn apply(action: &Action, inc: u8, ctl: &mut Controller, log: &mut BoundedVec<Lo
     }
 }
 
-/// Does the actions of an incarnation in their order. Each frame that they ask for or withdraw tells it, if frames of its class do.
+/// Does the actions of an incarnation in their order. Each frame that they ask for or withdraw
+/// tells it, if frames of its class do.
 // A hint, since a node makes most of these calls in one place.
 #[inline(always)]
 pub(crate) fn apply_all(

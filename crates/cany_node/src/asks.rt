@@ -91,7 +91,8 @@ impl AskPlan {
         while self.take_before(slot) {}
     }
 
-    /// Takes the next ask that is still to come, if it is one of a slot before this one. Whether it is.
+    /// Takes the next ask that is still to come, if it is one of a slot before this one. Whether it
+    /// is.
     fn take_before(&mut self, slot: Slot) -> bool
         ensures taken { result ≡ true → IsNextBefore slot self.old self.new }
         ensures kept { result ≡ false → self.new ≡ self.old }

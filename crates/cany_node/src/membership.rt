@@ -24,7 +24,8 @@ use cany_views::Views;
 use std::alloc::Global;
 use std::marker::Model;
 
-/// What a node keeps of the site: who shows life and who has failed, the exchange of vectors, and the view.
+/// What a node keeps of the site: who shows life and who has failed, the exchange of vectors, and
+/// the view.
 #[derive(Drop)]
 pub(crate) struct Membership {
     params: Params,
@@ -73,7 +74,8 @@ impl Membership {
         self.views.begin_outside();
     }
 
-    /// What a notice tells, up to the node's own life sign. Before `wake` that is nothing, where it tells nothing of the site.
+    /// What a notice tells, up to the node's own life sign. Before `wake` that is nothing, where it
+    /// tells nothing of the site.
     pub(crate) fn on(&mut self, notice: &Notice, out: &mut Actions)
         requires hears { CanHear self.old notice.now }
         requires room { length out.old.items + membership_room self.old ≤ out.old.room }
@@ -89,8 +91,9 @@ impl Membership {
         }
     }
 
-    /// The same, step by step: who asks to join or to leave, who shows life and who has failed, then the vectors, at the end of a cycle
-    /// the new view, at the start of one what the node starts with, and the node's own life sign.
+    /// The same, step by step: who asks to join or to leave, who shows life and who has failed,
+    /// then the vectors, at the end of a cycle the new view, at the start of one what the node
+    /// starts with, and the node's own life sign.
     fn follow(&mut self, notice: &Notice, out: &mut Actions)
         requires hears { CanHear self.old notice.now }
         requires room { length out.old.items + membership_room self.old ≤ out.old.room }
@@ -116,7 +119,8 @@ impl Membership {
         life.min(self.history.wake(now))
     }
 
-    /// In the turn of a slot in which the node's script asks to join the view, or to leave it. At most one action is appended.
+    /// In the turn of a slot in which the node's script asks to join the view, or to leave it. At
+    /// most one action is appended.
     pub(crate) fn ask(&mut self, kind: AskKind, now: Slot, out: &mut Actions)
         requires now { now < self.old.views.params.slots }
         requires room { length out.old.items < out.old.room }
@@ -132,7 +136,8 @@ impl Membership {
         }
     }
 
-    /// Who asks to join and to leave, who shows life, and who has failed. The members are those of before the turn.
+    /// Who asks to join and to leave, who shows life, and who has failed. The members are those of
+    /// before the turn.
     fn hear(&mut self, notice: &Notice, out: &mut Actions)
         requires hears { CanHear self.old notice.now }
         requires room { length out.old.items + 2 * self.old.life.params.nodes + 3 ≤ out.old.room }

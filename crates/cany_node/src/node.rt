@@ -38,19 +38,22 @@ use cany_totcan::Totcan;
 use std::alloc::Global;
 use std::marker::Model;
 
-/// A node, or one incarnation of it: the protocols that it runs, the scripted sends that it is to make, and its log.
+/// A node, or one incarnation of it: the protocols that it runs, the scripted sends that it is to
+/// make, and its log.
 ///
-/// All memory is taken by `build`. An incarnation of a restarted node is built at the opening of the run too, and waits.
+/// All memory is taken by `build`. An incarnation of a restarted node is built at the opening of
+/// the run too, and waits.
 #[derive(Drop)]
 pub struct Node {
     node: NodeId,
     /// The number of the incarnation, 0 at the opening.
     inc: u8,
     params: Params,
-    /// The first slot in which the incarnation takes part: of an earlier one it hears nothing, and makes none of its scripted
-    /// sends and asks.
+    /// The first slot in which the incarnation takes part: of an earlier one it hears nothing, and
+    /// makes none of its scripted sends and asks.
     from: Slot,
-    /// The first membership cycle in which it takes part: of the vectors of an earlier one it hears nothing.
+    /// The first membership cycle in which it takes part: of the vectors of an earlier one it hears
+    /// nothing.
     cycle: u64,
     read: Slot,
     edcan: Edcan,
@@ -61,7 +64,8 @@ pub struct Node {
     joins: AskPlan,
     leaves: AskPlan,
     log: BoundedVec<LogEntry>,
-    /// A slot before which an idle notice leads to nothing. It is no part of what the value stands for.
+    /// A slot before which an idle notice leads to nothing. It is no part of what the value stands
+    /// for.
     idle_until: Slot,
 }
 
@@ -77,7 +81,8 @@ impl Model for Node {
 }
 
 impl Node {
-    /// An incarnation of a node of the scenario that has read nothing. That of the opening may read, a later one waits.
+    /// An incarnation of a node of the scenario that has read nothing. That of the opening may
+    /// read, a later one waits.
     pub fn build(alloc: Global, node: NodeId, inc: u8, scenario: &Scenario) -> Result<Node, Memory>
         requires node { node < scenario.now.params.nodes }
         requires inc { inc ≤ most_restarts_of_node }
@@ -120,8 +125,9 @@ impl Node {
         })
     }
 
-    /// The incarnation begins, after a restart at the end of this slot. It has heard nothing in the slots so far, is no member, and
-    /// takes part only `bound + lag` slots later, in vectors from the first membership cycle on that does not start before.
+    /// The incarnation begins, after a restart at the end of this slot. It has heard nothing in the
+    /// slots so far, is no member, and takes part only `bound + lag` slots later, in vectors from
+    /// the first membership cycle on that does not start before.
     pub fn begin(&mut self, restart: Slot)
         requires { CanBegin self.old restart }
         ensures stands { (scenario : ScenarioParts) (inc : Incarnation) → inc.number ≡ self.old.inc →
@@ -153,9 +159,10 @@ impl Node {
         self.leaves.pass_before(slot);
     }
 
-    /// Reads the oldest unread notice of the controller and does what the rules say of what it hears: EDCAN, RELCAN, TOTCAN, what it
-    /// tells of the site, then the scripted sends, joins and leaves of the slot, and the next message of the backlog. `out` is where
-    /// the actions of the turn are kept while they are done.
+    /// Reads the oldest unread notice of the controller and does what the rules say of what it
+    /// hears: EDCAN, RELCAN, TOTCAN, what it tells of the site, then the scripted sends, joins and
+    /// leaves of the slot, and the next message of the backlog. `out` is where the actions of the
+    /// turn are kept while they are done.
     pub fn turn(&mut self, ctl: &mut Controller, out: &mut Actions) -> TurnReply
         requires { CanTurn self.old ctl.old out.old }
         ensures reply { result ≡ reply_of ctl.old }
@@ -192,8 +199,8 @@ impl Node {
         heard
     }
 
-    /// Does what the rules say of a notice, as it is heard. Before `wake` that is nothing in an idle slot, and at a data frame of EDCAN
-    /// only what EDCAN does.
+    /// Does what the rules say of a notice, as it is heard. Before `wake` that is nothing in an
+    /// idle slot, and at a data frame of EDCAN only what EDCAN does.
     fn act(&mut self, notice: &Notice, ctl: &mut Controller, out: &mut Actions)
         requires { CanAct self.old notice.now ctl.old out.old }
         ensures { IsActed notice.now self.old self.new ctl.old ctl.new out.old out.new }
@@ -207,8 +214,8 @@ impl Node {
         }
     }
 
-    /// Does what EDCAN does with a data frame of its own, its delivery and its relay, in a slot in which the node would rest: nothing
-    /// else hears the frame, and nothing is due.
+    /// Does what EDCAN does with a data frame of its own, its delivery and its relay, in a slot in
+    /// which the node would rest: nothing else hears the frame, and nothing is due.
     fn follow_edcan(&mut self, notice: &Notice, ctl: &mut Controller, out: &mut Actions)
         requires acts { CanAct self.old notice.now ctl.old out.old }
         requires brings { is_of_edcan notice.now.kind ≡ true }
@@ -255,7 +262,8 @@ impl Node {
         self.membership.on(notice, out);
     }
 
-    /// What the script asks of the node in a slot: its sends, its joins and then its leaves, each in file order.
+    /// What the script asks of the node in a slot: its sends, its joins and then its leaves, each
+    /// in file order.
     fn plan(&mut self, slot: Slot, out: &mut Actions)
         requires scripts { CanScript self.old slot }
         requires room { length out.old.items + script_room self.old ≤ out.old.room }
@@ -293,10 +301,11 @@ impl Node {
         );
     }
 
-    /// The first slot, from the next one that it reads on, in whose turn an idle notice may lead to something. Before it the
-    /// incarnation can rest.
+    /// The first slot, from the next one that it reads on, in whose turn an idle notice may lead to
+    /// something. Before it the incarnation can rest.
     ///
-    /// It may be too early: a turn then does nothing. It is found out in each turn that is not passed over.
+    /// It may be too early: a turn then does nothing. It is found out in each turn that is not
+    /// passed over.
     pub fn wake(&self) -> Slot
         ensures rests { RestsUntil result self.now }
     {
@@ -305,8 +314,9 @@ impl Node {
         self.idle_until
     }
 
-    /// The first slot, from the next one that it reads on, for which the script says something or in whose turn an idle notice may
-    /// lead a protocol to something. It does not look at the messages or the nodes one by one.
+    /// The first slot, from the next one that it reads on, for which the script says something or
+    /// in whose turn an idle notice may lead a protocol to something. It does not look at the
+    /// messages or the nodes one by one.
     fn next_due(&self) -> Slot
         ensures { IsIdleUntil result self.now }
     {
@@ -361,7 +371,8 @@ impl Node {
             && (self.agenda.asked(msg.seq, self.from, self.read) || self.totcan.asked(msg))
     }
 
-    /// Whether something of the message of this key is ahead at the node: a timer of RELCAN, or a closing of TOTCAN.
+    /// Whether something of the message of this key is ahead at the node: a timer of RELCAN, or a
+    /// closing of TOTCAN.
     pub fn ahead(&self, msg: MsgKey) -> bool
         ensures message { (scenario : ScenarioParts) (past : List NoticeKind) → IsNodeOf scenario past self.now →
             (m : Message) → Contains (messages_of scenario.sends) m → message_key m ≡ msg →
@@ -369,7 +380,8 @@ impl Node {
         ensures no_message { (scenario : ScenarioParts) (past : List NoticeKind) → IsNodeOf scenario past self.now →
             ((m : Message) → Contains (messages_of scenario.sends) m → message_key m ≢ msg) → result ≡ false }
     {
-        // A copy by hand: a struct that is passed by value twice is none that the borrow checker's proof covers.
+        // A copy by hand: a struct that is passed by value twice is none that the borrow checker's
+        // proof covers.
         let key = MsgKey {
             origin: msg.origin,
             seq: msg.seq,
@@ -378,8 +390,9 @@ impl Node {
     }
 }
 
-/// Forgets up to which slot the node is idle. What it keeps is about to change, and what was noted of its idle slots may not hold of
-/// what it keeps then; that it is idle before slot 0 holds of every value.
+/// Forgets up to which slot the node is idle. What it keeps is about to change, and what was noted
+/// of its idle slots may not hold of what it keeps then; that it is idle before slot 0 holds of
+/// every value.
 fn forget_idle(idle_until: &mut Slot)
     ensures { idle_until.new ≡ 0 }
 {

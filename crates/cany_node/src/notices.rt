@@ -27,7 +27,8 @@ pub(crate) fn is_early(cycle: u64, kind: &NoticeKind) -> bool
     }
 }
 
-/// Whether there was an error in the slot, which is heard as an idle slot: no rule tells the one from the other.
+/// Whether there was an error in the slot, which is heard as an idle slot: no rule tells the one
+/// from the other.
 #[tactic(auto, unfolding(cany_model::specs::Rules::Notices::error_as_idle))]
 pub(crate) fn is_error(kind: &NoticeKind) -> bool
     ensures error { result ≡ true → error_as_idle kind.now ≡ Idle }
@@ -53,8 +54,8 @@ pub(crate) fn is_of_edcan(kind: &NoticeKind) -> bool
     }
 }
 
-/// Whether a notice tells of the site: who lives, who has failed, who joins or leaves, or a vector. A data frame of TOTCAN does: it
-/// shows that its node lives.
+/// Whether a notice tells of the site: who lives, who has failed, who joins or leaves, or a vector.
+/// A data frame of TOTCAN does: it shows that its node lives.
 pub(crate) fn tells_of_site(kind: &NoticeKind) -> bool
     ensures { result ≡ tells_of_site kind.now }
 {

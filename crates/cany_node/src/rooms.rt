@@ -21,7 +21,8 @@ pub fn waiting_room(scenario: &Scenario) -> usize
     let nodes = usize::from(params.nodes);
     // of each send the data frame, and one that confirms or accepts it
     2 * scenario.sends().len()
-        // a vector of each cycle, and a failure sign of each node in it: one cycle starts in slot 0, and one is to spare
+        // a vector of each cycle, and a failure sign of each node in it: one cycle starts in slot
+        // 0, and one is to spare
         + (nodes + 1) * (cycles(params) + 2)
         // of each join and leave its frame
         + (scenario.joins().len() + scenario.leaves().len())
@@ -33,7 +34,8 @@ pub fn waiting_room(scenario: &Scenario) -> usize
 pub fn actions_room(scenario: &Scenario) -> usize
     ensures { result ≡ rooms.actions_room scenario.now }
 {
-    // above what the rules list in a turn of any scenario (`actions_within`), and the rest is to spare
+    // above what the rules list in a turn of any scenario (`actions_within`), and the rest is to
+    // spare
     4 * waiting_room(scenario)
 }
 

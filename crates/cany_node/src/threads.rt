@@ -1,4 +1,5 @@
-//! A node and its answers may move to another thread and be shared by threads, as the bounds below show.
+//! A node and its answers may move to another thread and be shared by threads, as the bounds below
+//! show.
 
 use crate::node::Node;
 use crate::reply::TurnReply;

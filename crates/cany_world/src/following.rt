@@ -7,10 +7,11 @@ use crate::world::World;
 use cany_base::Step;
 use cany_model::{FollowFault, StepReply};
 
-/// Makes the steps of the journal up to the first that is refused, and says whether they are a whole run.
+/// Makes the steps of the journal up to the first that is refused, and says whether they are a
+/// whole run.
 ///
-/// `Refused` comes exactly where a step is not done, and names the first by its place. `Unfinished` comes exactly where all
-/// steps were done and the world has not ended.
+/// `Refused` comes exactly where a step is not done, and names the first by its place. `Unfinished`
+/// comes exactly where all steps were done and the world has not ended.
 pub fn follow(world: &mut World, journal: &[Step]) -> Result<(), FollowFault>
     requires { world.old.journal ≡ [] }
     ensures fault { MatchResult result (λ _. journal_fault world.old.scenario journal.now ≡ None)

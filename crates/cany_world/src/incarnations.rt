@@ -17,8 +17,9 @@ use cany_node::{Node, TurnReply};
 use std::alloc::Global;
 use std::marker::Model;
 
-/// The incarnations of a node, all built in advance: that of the opening, and one for each restart entry of the node. The present
-/// one runs or has stopped; those before it have ended and keep their logs; those after it wait for a restart.
+/// The incarnations of a node, all built in advance: that of the opening, and one for each restart
+/// entry of the node. The present one runs or has stopped; those before it have ended and keep
+/// their logs; those after it wait for a restart.
 ///
 /// All memory is taken by `build`.
 #[derive(Drop)]
@@ -97,7 +98,8 @@ fn began_in(slot: Slot, span: &Span) -> bool
 }
 
 impl Incarnations {
-    /// The incarnations of a node of the scenario before the first step: that of the opening is present.
+    /// The incarnations of a node of the scenario before the first step: that of the opening is
+    /// present.
     pub(crate) fn build(
         alloc: Global,
         node: NodeId,
@@ -106,8 +108,8 @@ impl Incarnations {
         requires { node < scenario.now.params.nodes }
         ensures { IfOk result (IsFirstOf scenario.now node) }
     {
-        // The call says that the scenario is legal and starts with slot 0, from which the proof has that the restarts of a node
-        // are few and that the incarnation of the opening may read.
+        // The call says that the scenario is legal and starts with slot 0, from which the proof has
+        // that the restarts of a node are few and that the incarnation of the opening may read.
         let _legal = scenario.params();
         let count = restarts_of(node, scenario.restarts()) + 1;
         let nodes = built(alloc, node, count, scenario)?;
@@ -150,7 +152,8 @@ impl Incarnations {
         nodes[self.present].turn(ctl, out)
     }
 
-    /// The first slot in whose turn the present incarnation may have something to do, as `Node::wake` says.
+    /// The first slot in whose turn the present incarnation may have something to do, as
+    /// `Node::wake` says.
     pub(crate) fn wake(&self) -> Slot
         ensures { IncarnationRests result self.now }
     {
@@ -166,8 +169,8 @@ impl Incarnations {
         nodes[self.present].rest(slots);
     }
 
-    /// At the end of the slot the present incarnation ends, and the next begins. `next` is the slot that the one that ends would
-    /// have read next.
+    /// At the end of the slot the present incarnation ends, and the next begins. `next` is the slot
+    /// that the one that ends would have read next.
     pub(crate) fn restart(&mut self, slot: Slot, stopped: Option<Slot>, next: Slot)
         requires { CanRestart slot self.old }
         ensures { IsRestarted slot stopped next self.old self.new }
@@ -203,7 +206,8 @@ impl Incarnations {
         span
     }
 
-    /// Whether the present incarnation, if it is not that of the opening, takes part only since a later slot than this one.
+    /// Whether the present incarnation, if it is not that of the opening, takes part only since a
+    /// later slot than this one.
     pub(crate) fn came_after(&self, slot: Slot) -> bool
         ensures { (it : NodeParts) → slice_get self.now.nodes self.now.present ≡ Some it →
             result ≡ (nat_lt 0 self.now.present && nat_lt slot it.from) }

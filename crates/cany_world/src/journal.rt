@@ -9,7 +9,8 @@ use cany_base::{BoundedVec, NodeId, Step};
 /// How many steps a round has at most: the slot, and a turn of each node.
 const MOST_STEPS: usize = NodeId::COUNT as usize + 1;
 
-/// The slot, and the turns of the nodes whose controllers run, in ascending order, at the front; and how many they are.
+/// The slot, and the turns of the nodes whose controllers run, in ascending order, at the front;
+/// and how many they are.
 fn round_of(controllers: &[Controller]) -> ([Step; MOST_STEPS], usize)
     requires { length controllers.now ≤ most_nodes }
     ensures few { result.1 ≤ length result.0 }
@@ -35,7 +36,8 @@ fn push_steps(journal: &mut BoundedVec<Step>, steps: &[Step])
     }
 }
 
-/// Appends the steps of so many rounds: each the slot, and the turns of the nodes whose controllers run, in ascending order.
+/// Appends the steps of so many rounds: each the slot, and the turns of the nodes whose controllers
+/// run, in ascending order.
 pub(crate) fn push_rounds(journal: &mut BoundedVec<Step>, controllers: &[Controller], slots: u64)
     requires few { length controllers.now ≤ most_nodes }
     requires room { length journal.old.items + length (rounds_of slots controllers.now) ≤ journal.old.room }

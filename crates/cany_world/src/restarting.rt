@@ -48,7 +48,8 @@ fn restart_node(
     }
 }
 
-/// The stopped nodes that restart entries of the slot name start again. For a node that runs an entry does nothing.
+/// The stopped nodes that restart entries of the slot name start again. For a node that runs an
+/// entry does nothing.
 pub(crate) fn restart_all(
     restarts: &[NodeAsk],
     slot: Slot,

@@ -24,7 +24,8 @@ fn pass_over(slots: u64, controller: &mut Controller, node: &mut Incarnations)
     node.rest(slots);
 }
 
-/// A controller and its node pass all but the last of so many slots from the next one on. In the last one the node takes its turn.
+/// A controller and its node pass all but the last of so many slots from the next one on. In the
+/// last one the node takes its turn.
 fn pass_to_turn(
     next: Slot,
     slots: u64,
@@ -45,7 +46,8 @@ fn pass_to_turn(
     node.turn(controller, actions);
 }
 
-/// A controller and its node pass so many slots from the next one on, if it runs. Where it is due, it takes its turn in the last one.
+/// A controller and its node pass so many slots from the next one on, if it runs. Where it is due,
+/// it takes its turn in the last one.
 fn pass(
     next: Slot,
     slots: u64,
@@ -70,7 +72,8 @@ fn pass(
     }
 }
 
-/// All controllers and nodes pass so many slots from the next one on. Those that are due take their turns in the last one.
+/// All controllers and nodes pass so many slots from the next one on. Those that are due take their
+/// turns in the last one.
 fn pass_all(
     next: Slot,
     slots: u64,
@@ -99,8 +102,8 @@ fn pass_all(
     }
 }
 
-/// The bus runs so many idle slots, and all nodes make their turns in them. Only in the last one, and only those that are due, may
-/// they find something to do.
+/// The bus runs so many idle slots, and all nodes make their turns in them. Only in the last one,
+/// and only those that are due, may they find something to do.
 pub(crate) fn rest(
     slots: u64,
     due: NodeSet,

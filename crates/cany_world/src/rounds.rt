@@ -8,8 +8,8 @@ ghost use Rattle.cany_world.specs.World.{WorldParts, state_of};
 use crate::world::World;
 use cany_base::{NodeId, Step};
 
-/// Makes the steps of one slot: the slot, and then the turns of the running nodes that have something to read, in ascending
-/// order.
+/// Makes the steps of one slot: the slot, and then the turns of the running nodes that have
+/// something to read, in ascending order.
 fn make_round(world: &mut World)
     requires { IsLegal world.old.scenario (world.old.journal ++ round world.old.scenario (state_of world.old)) }
     ensures { world.new ≡ record world.old { journal = world.old.journal ++ round world.old.scenario (state_of world.old) } }
@@ -21,8 +21,8 @@ fn make_round(world: &mut World)
     }
 }
 
-/// Makes at least one of the rounds that are left: those of the next idle slots, or where the next slot is not known to be idle, its
-/// round. How many are left.
+/// Makes at least one of the rounds that are left: those of the next idle slots, or where the next
+/// slot is not known to be idle, its round. How many are left.
 fn advance(world: &mut World, left: u64) -> u64
     requires some { 0 < left }
     requires room { slots_run (state_of world.old) + left ≤ world.old.scenario.params.slots }
@@ -40,8 +40,8 @@ fn advance(world: &mut World, left: u64) -> u64
     left - 1
 }
 
-/// Runs the whole of the scenario: in each slot the slot, and then the turns of the running nodes that have something to
-/// read, in ascending order.
+/// Runs the whole of the scenario: in each slot the slot, and then the turns of the running nodes
+/// that have something to read, in ascending order.
 pub fn round_robin(world: &mut World)
     requires { world.old.journal ≡ [] }
     ensures run { world.new ≡ record { scenario = world.old.scenario; journal = round_robin world.old.scenario } }

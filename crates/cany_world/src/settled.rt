@@ -38,7 +38,8 @@ fn waits(format: Format, class: Class, key: &MsgKey, controller: &Controller) ->
     controller.waits(identifier(format, &frame))
 }
 
-/// Whether the controller runs and waits with the data of the message, or with a frame that confirms or accepts it.
+/// Whether the controller runs and waits with the data of the message, or with a frame that
+/// confirms or accepts it.
 fn awaits(format: Format, service: Service, key: &MsgKey, controller: &Controller) -> bool
     requires key { IsSmallKey format key.now }
     requires format { controller.now.params.format ≡ format }
@@ -81,7 +82,8 @@ fn nobody_waits_and_all_read(
     !is_awaited(format, service, key, controllers) && all_read(controllers)
 }
 
-/// Whether the node is the origin of the message and has asked for it, has stopped, or came too late for it.
+/// Whether the node is the origin of the message and has asked for it, has stopped, or came too
+/// late for it.
 fn has_asked(key: &MsgKey, slot: Slot, controller: &Controller, node: &Incarnations) -> bool
     ensures { (scenario : ScenarioParts) (journal : List Step) (m : Message) → let s = run scenario journal in
         IsKeptAs scenario s.trace m.origin (node_at s.nodes m.origin) controller.now → IsKeptAt scenario s.trace m.origin (node_at s.nodes m.origin) node.now
@@ -127,8 +129,9 @@ fn is_ahead(key: &MsgKey, controllers: &[Controller], nodes: &[Incarnations]) ->
     false
 }
 
-/// Whether nothing more is to come of the message of a scripted send: its origin has asked for it, has stopped or came too late
-/// for it, no running node waits with a frame of it, every running node has read every notice, and none has anything of it ahead.
+/// Whether nothing more is to come of the message of a scripted send: its origin has asked for it,
+/// has stopped or came too late for it, no running node waits with a frame of it, every running
+/// node has read every notice, and none has anything of it ahead.
 pub(crate) fn is_settled(
     format: Format,
     send: &SendAsk,

@@ -1,4 +1,5 @@
-//! How long the next stretch of idle slots is in which no node has anything to do before the last one.
+//! How long the next stretch of idle slots is in which no node has anything to do before the last
+//! one.
 ghost use Rattle.std.specs.Prelude.{◌≡◌, ◌+◌, ◌^◌, ◌<◌, ◌≤◌, ℕ, length, true};
 ghost use Rattle.cany_base.specs.Limits.{most_nodes};
 ghost use Rattle.cany_base.specs.Scenario.{ScenarioParts};
@@ -11,8 +12,8 @@ use can_controller::laws::counters_within;
 use can_fault::Script;
 use cany_base::{NodeAsk, NodeId, NodeSet, Slot};
 
-/// So many slots from the next one on. If they are idle, these nodes may have something to do in the last of them, and in the
-/// others no node has.
+/// So many slots from the next one on. If they are idle, these nodes may have something to do in
+/// the last of them, and in the others no node has.
 #[derive(Clone, Copy)]
 pub(crate) struct Stretch {
     pub(crate) slots: u64,
@@ -32,7 +33,8 @@ fn none_has_anything_to_do(controllers: &[Controller]) -> bool
     true
 }
 
-/// How many slots from the next one on the node can pass. One that has stopped can pass as many as are asked about.
+/// How many slots from the next one on the node can pass. One that has stopped can pass as many as
+/// are asked about.
 fn passed_by(next: Slot, most: u64, controller: &Controller, node: &Incarnations) -> u64
     requires { HasNothingToDoIfItRuns controller.now }
     ensures { CanPass next result controller.now node.now }
@@ -44,7 +46,8 @@ fn passed_by(next: Slot, most: u64, controller: &Controller, node: &Incarnations
     node.wake().saturating_sub(next)
 }
 
-/// The stretch, or the part of it that is left where node i can pass only so many slots. In the slot after these it is due.
+/// The stretch, or the part of it that is left where node i can pass only so many slots. In the
+/// slot after these it is due.
 fn narrowed(stretch: Stretch, i: usize, slots: u64) -> Stretch
     requires { i < most_nodes }
     ensures few { result.slots ≤ stretch.slots }
@@ -65,7 +68,8 @@ fn narrowed(stretch: Stretch, i: usize, slots: u64) -> Stretch
     }
 }
 
-/// The slots from the next one on, at most so many, up to the first in which a node has something to do.
+/// The slots from the next one on, at most so many, up to the first in which a node has something
+/// to do.
 fn passed_by_all(
     next: Slot,
     most: u64,
@@ -89,9 +93,9 @@ fn passed_by_all(
     stretch
 }
 
-/// The next slots, at most so many, of which the script says nothing, up to the first in which a node has something to do. They are
-/// none where a running node waits with a frame or has something to read. That is looked at first, since it takes less than to ask
-/// the nodes.
+/// The next slots, at most so many, of which the script says nothing, up to the first in which a
+/// node has something to do. They are none where a running node waits with a frame or has something
+/// to read. That is looked at first, since it takes less than to ask the nodes.
 pub(crate) fn next_stretch(
     next: Slot,
     most: u64,

@@ -39,8 +39,8 @@ use std::marker::Model;
 
 /// A run of a scenario: the steps that were made so far, and what they led to.
 ///
-/// A world is at every moment the run of its scenario by its journal, in whatever order the steps were asked for. All memory
-/// is taken by `build`.
+/// A world is at every moment the run of its scenario by its journal, in whatever order the steps
+/// were asked for. All memory is taken by `build`.
 #[derive(Drop)]
 pub struct World {
     scenario: Scenario,
@@ -75,8 +75,8 @@ impl World {
         let params = scenario.params();
         let script = Script::of_scenario(alloc, scenario)?;
         let bus = Bus::build(alloc, scenario)?;
-        // The nodes come first: they fill most of their room, and the controllers little of theirs, so that the memory which the
-        // reading of the text gave back is used again.
+        // The nodes come first: they fill most of their room, and the controllers little of theirs,
+        // so that the memory which the reading of the text gave back is used again.
         let nodes = nodes_of(alloc, scenario)?;
         let controllers = controllers_of(alloc, scenario)?;
         let actions = Actions::build(alloc, actions_room(scenario))?;
@@ -95,10 +95,11 @@ impl World {
         })
     }
 
-    /// Makes the step, if it can be made, and then appends it to the journal. A step that is refused changes nothing.
+    /// Makes the step, if it can be made, and then appends it to the journal. A step that is
+    /// refused changes nothing.
     ///
-    /// A slot runs where slots are left and no running node lags. A turn reads the oldest unread notice of a node that
-    /// runs. How far a node may lag is a parameter of the scenario.
+    /// A slot runs where slots are left and no running node lags. A turn reads the oldest unread
+    /// notice of a node that runs. How far a node may lag is a parameter of the scenario.
     pub fn step(&mut self, step: Step) -> StepReply
         ensures reply { result ≡ reply self.old.scenario (state_of self.old) step }
         ensures new { self.new ≡ (if is_done result then record self.old { journal = self.old.journal ++ step ∷ [] } else self.old) }
@@ -122,8 +123,8 @@ impl World {
         }
     }
 
-    /// Makes the turn of the node, if it runs and has something to read, as the step of this turn does. The answer is the node's: it
-    /// names the slot whose notice was read.
+    /// Makes the turn of the node, if it runs and has something to read, as the step of this turn
+    /// does. The answer is the node's: it names the slot whose notice was read.
     pub fn make_turn(&mut self, node: NodeId) -> TurnReply
         requires { node < self.old.scenario.params.nodes }
         ensures reply { step_reply result ≡ reply self.old.scenario (state_of self.old) (Turn node) }
@@ -146,9 +147,10 @@ impl World {
         }
     }
 
-    /// Makes rounds of the next slots in bulk where they are known to be idle, at most so many: each slot, and the turns of all running
-    /// nodes. Only in the last slot some of them may find something to do, and only these take their turns one by one. How many rounds
-    /// it made, which may be none.
+    /// Makes rounds of the next slots in bulk where they are known to be idle, at most so many:
+    /// each slot, and the turns of all running nodes. Only in the last slot some of them may find
+    /// something to do, and only these take their turns one by one. How many rounds it made, which
+    /// may be none.
     pub(crate) fn rest(&mut self, most: u64) -> u64
         requires { slots_run (state_of self.old) + most ≤ self.old.scenario.params.slots }
         ensures few { result ≤ most }
@@ -213,7 +215,8 @@ impl World {
         self.incarnations(node).span_of(inc, self.controller(node))
     }
 
-    /// The number of the present incarnation of a node: 0 at the opening, and one more with each restart.
+    /// The number of the present incarnation of a node: 0 at the opening, and one more with each
+    /// restart.
     pub fn incarnation(&self, node: NodeId) -> u8
         requires { node < self.now.scenario.params.nodes }
         ensures { result ≡ (node_at (state_of self.now).nodes node).present.number }
@@ -231,7 +234,8 @@ impl World {
         began_nodes(slot, self.nodes.as_slice())
     }
 
-    /// The next slot that a node has to read: how many notices it has read, of one that has never started again.
+    /// The next slot that a node has to read: how many notices it has read, of one that has never
+    /// started again.
     pub fn read(&self, node: NodeId) -> u64
         requires { node < self.now.scenario.params.nodes }
         ensures { result ≡ reads (state_of self.now) node }
@@ -279,7 +283,8 @@ impl World {
         keys[index]
     }
 
-    /// Whether the message of a scripted send, by its place in the file, is settled: nothing more is to come of it.
+    /// Whether the message of a scripted send, by its place in the file, is settled: nothing more
+    /// is to come of it.
     pub fn settled(&self, index: usize) -> bool
         requires { index < length self.now.scenario.sends }
         ensures { IsSomeAnd (slice_get (messages_of self.now.scenario.sends) index) (λ m. result ≡ is_settled self.now.scenario (state_of self.now) m) }
@@ -293,12 +298,13 @@ impl World {
 
     /// The first slot at which the run leaves the fault hypothesis.
     ///
-    /// In any case no message stands twice or unsent in the log of a node that runs. Where there is no such slot, the run
-    /// keeps what is promised of a run within the hypothesis.
+    /// In any case no message stands twice or unsent in the log of a node that runs. Where there is
+    /// no such slot, the run keeps what is promised of a run within the hypothesis.
     ///
-    /// If besides the scenario has no restart entry, a node that runs counts as failed at no node that runs, and stays in the
-    /// views of their logs unless it asks to leave; a node that stopped as a member is in no view there of a cycle that starts
-    /// more than `silence` slots later; and a node whose ask to join got through is admitted.
+    /// If besides the scenario has no restart entry, a node that runs counts as failed at no node
+    /// that runs, and stays in the views of their logs unless it asks to leave; a node that stopped
+    /// as a member is in no view there of a cycle that starts more than `silence` slots later; and
+    /// a node whose ask to join got through is admitted.
     pub fn hypothesis(&self) -> Option<Break>
         ensures first { result ≡ first_break self.now.scenario.params (state_of self.now).trace }
         ensures within { (result ≡ None) ↔ IsWithin self.now.scenario.params (state_of self.now).trace }

@@ -5,8 +5,8 @@ use std::sync::ledger::Ledger;
 
 /// The name of a ledger of turns, which tells the scenario that these are turns of.
 ///
-/// A caller makes two blanks and works the yard in a function over two names, `L: Course` and `B: Ledger`, which it calls with
-/// `Brand` for both.
+/// A caller makes two blanks and works the yard in a function over two names, `L: Course` and `B:
+/// Ledger`, which it calls with `Brand` for both.
 pub trait Course: Ledger {
     ghost use Rattle.cany_base.specs.Scenario.{ScenarioParts};
 
@@ -20,7 +20,8 @@ impl Course for Brand {
     ghost scenario = { no_scenario };
 }
 
-/// What the two names of a yard say: there is a part of the ledger of turns for each node, and one of the ledger of slots.
+/// What the two names of a yard say: there is a part of the ledger of turns for each node, and one
+/// of the ledger of slots.
 #[derive(Drop)]
 pub(crate) struct Names<L: Course, B: Ledger> {
     turns: PhantomData<L>,

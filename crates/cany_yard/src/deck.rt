@@ -33,7 +33,8 @@ impl<'a, L: Course, B: Ledger> Model for Deck<'a, L, B> {
 }
 
 impl<'a, L: Course, B: Ledger> Deck<'a, L, B> {
-    /// The world as it is now: the run, by its journal, of the scenario with which the yard was started.
+    /// The world as it is now: the run, by its journal, of the scenario with which the yard was
+    /// started.
     pub fn world(&self) -> &World
         ensures world { result.now ≡ self.now }
         ensures scenario { result.now.scenario ≡ L.scenario }
@@ -41,7 +42,8 @@ impl<'a, L: Course, B: Ledger> Deck<'a, L, B> {
         &self.locked.world
     }
 
-    /// Makes the turn of the seat's node, if it can be made. The reply names the slot whose notice was read.
+    /// Makes the turn of the seat's node, if it can be made. The reply names the slot whose notice
+    /// was read.
     pub fn turn(&mut self, seat: &mut Seat<L, B>) -> TurnReply
         ensures reply { step_reply result ≡ reply_in self.old (step.Turn seat.old.node) }
         ensures slot { (slot : ℕ) → result ≡ TurnReply.Turned slot → slot ≡ reads (state_of self.old) seat.old.node }

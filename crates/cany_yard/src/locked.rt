@@ -14,7 +14,8 @@ use cany_node::TurnReply;
 use cany_world::World;
 use std::sync::ledger::{Book, Ledger, Share};
 
-/// What lies under the lock: the world, with a book of the turns in its journal and one of the slots.
+/// What lies under the lock: the world, with a book of the turns in its journal and one of the
+/// slots.
 #[derive(Drop)]
 pub(crate) struct Locked<L: Course, B: Ledger> {
     pub(crate) world: World,
@@ -77,7 +78,8 @@ impl<L: Course, B: Ledger> Locked<L, B> {
         reply
     }
 
-    /// The world, with what the seats counted: all the parts of both ledgers show the totals of both books.
+    /// The world, with what the seats counted: all the parts of both ledgers show the totals of
+    /// both books.
     pub(crate) fn end(self, names: &Names<L, B>, bus: BusSeat<L, B>, all: Share<L>) -> World
         requires enough { L.scenario.params.nodes ≤ all.parts }
         requires within { all.parts ≤ L.parts }

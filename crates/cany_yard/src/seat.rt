@@ -41,7 +41,8 @@ impl<L: Course, B: Ledger> Seat<L, B> {
     }
 }
 
-/// The seat of the bus, by which the slots are run. It counts them, and contracts see it as their number.
+/// The seat of the bus, by which the slots are run. It counts them, and contracts see it as their
+/// number.
 ///
 /// It belongs to the yard that was started under the same names.
 #[derive(Drop)]

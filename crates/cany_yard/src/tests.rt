@@ -89,7 +89,8 @@ fn seats_by_hand(rt: HostRuntime) -> Result<(), Fail> {
     Ok(())
 }
 
-/// The numbers that the close tells where one seat of three is not given back, and how many come back.
+/// The numbers that the close tells where one seat of three is not given back, and how many come
+/// back.
 fn without_one<L: Course, B: Ledger>(
     alloc: Global,
     turns: Blank,

@@ -36,8 +36,8 @@ pub struct SeatsMissing<L: Course, B: Ledger> {
 impl<L: Course, B: Ledger> Yard<L, B> {
     /// Puts the world under a lock, with a seat for the bus and one for each node, in node order.
     ///
-    /// The names are those of the two blanks: the first has a part for each node, and the second has one. No call but this
-    /// takes memory.
+    /// The names are those of the two blanks: the first has a part for each node, and the second
+    /// has one. No call but this takes memory.
     pub fn start(
         alloc: Global,
         turns: Blank,
@@ -76,8 +76,8 @@ impl<L: Course, B: Ledger> Yard<L, B> {
         }
     }
 
-    /// The world, once all seats are given back. Its journal has as many turns as the seats counted together, and as many
-    /// slots as the seat of the bus counted.
+    /// The world, once all seats are given back. Its journal has as many turns as the seats counted
+    /// together, and as many slots as the seat of the bus counted.
     pub fn close(
         self,
         bus: BusSeat<L, B>,
