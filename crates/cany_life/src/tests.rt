@@ -360,13 +360,21 @@ fn step(
     }
 }
 
-/// What came of some events: the actions, after each event how many actions it led to and until
-/// when the value rests, and the bits of the nodes that have failed in the end.
+/// What came of events: the actions, after each event how many actions it led to and until when the
+/// value rests, and after each list of events the bits of the nodes that have failed.
 #[derive(Drop)]
 struct Seen {
     actions: Vec<Action>,
     notes: Vec<(usize, Slot)>,
-    failed: u64,
+    failed: Vec<u64>,
+}
+
+fn nothing(alloc: Global) -> Seen {
+    Seen {
+        actions: Vec::new(alloc),
+        notes: Vec::new(alloc),
+        failed: Vec::new(alloc),
+    }
 }
 
 /// What a node that has read so many slots does at these events.
@@ -377,7 +385,8 @@ fn follow(
     read: Slot,
     events: &[Event],
     members: NodeSet,
-) -> Result<Seen, Memory>
+    seen: &mut Seen,
+) -> Result<(), Memory>
     requires stands { HasReadSlots scenario.now read life.old }
     requires bus { scenario.now.params.nodes ≡ 3 }
     requires slots { scenario.now.params.slots ≡ 200 }
@@ -385,19 +394,13 @@ fn follow(
     requires members { AllBelow 3 members }
 {
     let mut slots = read;
-    let mut actions = Vec::new(alloc);
-    let mut notes = Vec::new(alloc);
     for event in events {
         let done = step(alloc, life, scenario, &mut slots, *event, members)?;
-        actions.extend_from_slice(done.as_slice())?;
-        notes.push((done.len(), life.wake(members, slots)))?;
+        seen.actions.extend_from_slice(done.as_slice())?;
+        seen.notes.push((done.len(), life.wake(members, slots)))?;
     }
-    let failed = life.failed().bits();
-    Ok(Seen {
-        actions,
-        notes,
-        failed,
-    })
+    seen.failed.push(life.failed().bits())?;
+    Ok(())
 }
 
 /// What node 1 does that has read so many idle slots. The members are the nodes from one number on,
@@ -409,19 +412,26 @@ fn after_idle(
     from: u8,
     to: u8,
     events: &[Event],
-) -> Result<Seen, Memory> {
+    seen: &mut Seen,
+) -> Result<(), Memory> {
     if omit > 1 || from > 3 || to > 3 {
         return Err(Memory);
     }
     let node = NodeId::new(1).ok_or(Memory)?;
     let scenario = scenario_of(alloc, omit)?;
     let mut life = begun(alloc, &scenario, node, read)?;
-    follow(alloc, &mut life, &scenario, read, events, between(from, to))
+    let members = between(from, to);
+    follow(alloc, &mut life, &scenario, read, events, members, seen)
 }
 
 /// What node 1, the only member, does that has read so many idle slots, and then its own first life
 /// sign.
-fn after_own_sign(alloc: Global, read: Slot, events: &[Event]) -> Result<Seen, Memory> {
+fn after_own_sign(
+    alloc: Global,
+    read: Slot,
+    events: &[Event],
+    seen: &mut Seen,
+) -> Result<(), Memory> {
     if read < 36 || read >= 200 {
         return Err(Memory);
     }
@@ -430,58 +440,136 @@ fn after_own_sign(alloc: Global, read: Slot, events: &[Event]) -> Result<Seen, M
     let mut life = begun(alloc, &scenario, node, read)?;
     let members = between(1, 2);
     let _ = sent(alloc, &mut life, &scenario, read, node, members)?;
-    follow(alloc, &mut life, &scenario, read + 1, events, members)
+    follow(alloc, &mut life, &scenario, read + 1, events, members, seen)
 }
 
 #[test]
 fn failure_signs_are_entered_spread_and_withdrawn(rt: HostRuntime) -> Result<(), Fail> {
-    let least = NodeId::new(0).ok_or("a node")?;
-    let other = NodeId::new(2).ok_or("a node")?;
-    let told = Event::Told(other);
-    let idle = Event::Idle;
-    let heard = Event::Heard(least);
     let alloc = rt.alloc();
-    let twice = after_idle(alloc, 1, 80, 0, 0, &[told, told])?;
-    let silent = after_idle(alloc, 1, 80, 0, 3, &[idle])?;
-    let found = after_idle(alloc, 1, 80, 1, 3, &[idle, told, told])?;
-    let both = after_idle(alloc, 1, 80, 0, 3, &[told])?;
-    let once = after_idle(alloc, 0, 80, 0, 0, &[told])?;
-    let shown = after_idle(alloc, 1, 10, 0, 2, &[heard, Event::PassTo(82), idle, idle])?;
-    let admitted = after_idle(alloc, 1, 80, 0, 3, &[idle, Event::Admitted(2, 3), told])?;
-    let never = Slot::MAX;
-    let at_least = entry(80, least);
-    let at_other = entry(80, other);
-    let late_least = entry(83, least);
-    let ask_least = Action::Ask(sign_frame(least));
+    let other = NodeId::new(2).ok_or("a node")?;
+    let mut seen = nothing(alloc);
+    let two = [Event::Told(other), Event::Told(other)];
+    let found = [Event::Idle, Event::Told(other), Event::Told(other)];
+    after_idle(alloc, 1, 80, 0, 0, &two, &mut seen)?;
+    after_idle(alloc, 1, 80, 1, 3, &found, &mut seen)?;
     let ask_other = Action::Ask(sign_frame(other));
     // Class 3 at bit 25, number 1 at bit 9, node 2 at bit 4.
     let withdrawn = Action::Withdraw { ident: 100_663_840 };
+    let enter_other = entry(80, other);
+    let actions = [
+        // A node that is no member finds nobody by silence.
+        enter_other,
+        ask_other,
+        withdrawn,
+        // A sign by silence is not asked for again at its copy.
+        enter_other,
+        ask_other,
+        withdrawn,
+    ];
+    let never = Slot::MAX;
+    let notes = [(2, never), (1, never), (2, never), (0, never), (1, never)];
+    let failed = [4, 4];
     assert_eq!(rt;
-        [
-            (twice.actions.as_slice(), twice.notes.as_slice(), twice.failed),
-            (silent.actions.as_slice(), silent.notes.as_slice(), silent.failed),
-            (found.actions.as_slice(), found.notes.as_slice(), found.failed),
-            (both.actions.as_slice(), both.notes.as_slice(), both.failed),
-            (once.actions.as_slice(), once.notes.as_slice(), once.failed),
-            (shown.actions.as_slice(), shown.notes.as_slice(), shown.failed),
-            (admitted.actions.as_slice(), admitted.notes.as_slice(), admitted.failed),
-        ],
-        [
-            // A node that is no member finds nobody by silence.
-            ([at_other, ask_other, withdrawn].as_slice(), [(2, never), (1, never)].as_slice(), 4),
-            // Silence finds nodes in ascending order.
-            ([at_least, ask_least, at_other, ask_other].as_slice(), [(4, never)].as_slice(), 5),
-            // A sign by silence is not asked for again at its copy.
-            ([at_other, ask_other, withdrawn].as_slice(), [(2, never), (0, never), (1, never)].as_slice(), 4),
-            // A sign that is told comes before those of silence.
-            ([at_other, ask_other, at_least, ask_least].as_slice(), [(4, never)].as_slice(), 5),
-            // With no omissions the first copy is enough.
-            ([at_other, withdrawn].as_slice(), [(2, never)].as_slice(), 4),
-            // A node is silent as many slots after its life as the silence has.
-            ([late_least, ask_least].as_slice(), [(0, 36), (0, 83), (0, 83), (2, never)].as_slice(), 1),
-            // A node that is admitted has not failed, and its sign is known already.
-            ([at_least, ask_least, at_other, ask_other].as_slice(), [(4, never), (0, 0), (0, 153)].as_slice(), 1),
-        ]
+        (
+            seen.actions.as_slice(),
+            seen.notes.as_slice(),
+            seen.failed.as_slice()
+        ),
+        (actions.as_slice(), notes.as_slice(), failed.as_slice())
+    );
+    Ok(())
+}
+
+#[test]
+fn signs_that_are_told_come_before_those_of_silence(rt: HostRuntime) -> Result<(), Fail> {
+    let alloc = rt.alloc();
+    let least = NodeId::new(0).ok_or("a node")?;
+    let other = NodeId::new(2).ok_or("a node")?;
+    let mut seen = nothing(alloc);
+    let idle = [Event::Idle];
+    let one = [Event::Told(other)];
+    after_idle(alloc, 1, 80, 0, 3, &idle, &mut seen)?;
+    after_idle(alloc, 1, 80, 0, 3, &one, &mut seen)?;
+    after_idle(alloc, 0, 80, 0, 0, &one, &mut seen)?;
+    let ask_least = Action::Ask(sign_frame(least));
+    let ask_other = Action::Ask(sign_frame(other));
+    let withdrawn = Action::Withdraw { ident: 100_663_840 };
+    let (enter_least, enter_other) = (entry(80, least), entry(80, other));
+    let actions = [
+        // Silence finds nodes in ascending order.
+        enter_least,
+        ask_least,
+        enter_other,
+        ask_other,
+        // A sign that is told comes before those of silence.
+        enter_other,
+        ask_other,
+        enter_least,
+        ask_least,
+        // With no omissions the first copy is enough.
+        enter_other,
+        withdrawn,
+    ];
+    let never = Slot::MAX;
+    let notes = [(4, never), (4, never), (2, never)];
+    let failed = [5, 5, 4];
+    assert_eq!(rt;
+        (
+            seen.actions.as_slice(),
+            seen.notes.as_slice(),
+            seen.failed.as_slice()
+        ),
+        (actions.as_slice(), notes.as_slice(), failed.as_slice())
+    );
+    Ok(())
+}
+
+#[test]
+fn silence_counts_from_the_last_life_or_the_admission(rt: HostRuntime) -> Result<(), Fail> {
+    let alloc = rt.alloc();
+    let least = NodeId::new(0).ok_or("a node")?;
+    let other = NodeId::new(2).ok_or("a node")?;
+    let mut seen = nothing(alloc);
+    let shown = [
+        Event::Heard(least),
+        Event::PassTo(82),
+        Event::Idle,
+        Event::Idle,
+    ];
+    let admitted = [Event::Idle, Event::Admitted(2, 3), Event::Told(other)];
+    after_idle(alloc, 1, 10, 0, 2, &shown, &mut seen)?;
+    after_idle(alloc, 1, 80, 0, 3, &admitted, &mut seen)?;
+    let ask_least = Action::Ask(sign_frame(least));
+    let ask_other = Action::Ask(sign_frame(other));
+    let actions = [
+        // A node is silent as many slots after its life as the silence has.
+        entry(83, least),
+        ask_least,
+        // A node that is admitted has not failed, and its sign is known already.
+        entry(80, least),
+        ask_least,
+        entry(80, other),
+        ask_other,
+    ];
+    let never = Slot::MAX;
+    let notes = [
+        // Its own life sign is due in slot 36, and then silence may find the other one.
+        (0, 36),
+        (0, 83),
+        (0, 83),
+        (2, never),
+        (4, never),
+        (0, 0),
+        (0, 153),
+    ];
+    let failed = [1, 1];
+    assert_eq!(rt;
+        (
+            seen.actions.as_slice(),
+            seen.notes.as_slice(),
+            seen.failed.as_slice()
+        ),
+        (actions.as_slice(), notes.as_slice(), failed.as_slice())
     );
     Ok(())
 }
@@ -491,35 +579,41 @@ fn a_member_asks_for_its_life_sign_in_the_slot_in_which_it_is_due(
     rt: HostRuntime,
 ) -> Result<(), Fail> {
     let alloc = rt.alloc();
-    let due = after_idle(alloc, 1, 37, 0, 3, &[Event::Due])?;
-    let early = after_idle(alloc, 1, 36, 0, 3, &[Event::Due])?;
-    let late = after_idle(alloc, 1, 38, 0, 3, &[Event::Due])?;
-    let outside = after_idle(alloc, 1, 37, 0, 1, &[Event::Due])?;
-    let next = after_own_sign(alloc, 40, &[Event::PassTo(77), Event::Due])?;
-    let admits = [Event::Admitted(1, 2), Event::PassTo(117), Event::Due];
-    let admitted = after_idle(alloc, 1, 81, 1, 2, &admits)?;
     let node = NodeId::new(1).ok_or("a node")?;
-    let first_sign = Action::Ask(life_frame(node, 0));
-    let second_sign = Action::Ask(life_frame(node, 1));
+    let mut seen = nothing(alloc);
+    let due = [Event::Due];
+    after_idle(alloc, 1, 37, 0, 3, &due, &mut seen)?;
+    after_idle(alloc, 1, 36, 0, 3, &due, &mut seen)?;
+    after_idle(alloc, 1, 38, 0, 3, &due, &mut seen)?;
+    // The node is no member.
+    after_idle(alloc, 1, 37, 0, 1, &due, &mut seen)?;
+    let next = [Event::PassTo(77), Event::Due];
+    after_own_sign(alloc, 40, &next, &mut seen)?;
+    let admitted = [Event::Admitted(1, 2), Event::PassTo(117), Event::Due];
+    after_idle(alloc, 1, 81, 1, 2, &admitted, &mut seen)?;
+    let actions = [
+        Action::Ask(life_frame(node, 0)),
+        // The next has the next number.
+        Action::Ask(life_frame(node, 1)),
+        // A node that is admitted itself shows life.
+        Action::Ask(life_frame(node, 0)),
+    ];
+    let never = Slot::MAX;
+    // Where silence was not looked for among the members, the value rests until the next slot.
+    let notes = [
+        (1, 37),
+        (0, 36),
+        (0, 38),
+        (0, 37),
+        (0, never),
+        (1, never),
+        (0, 81),
+        (0, never),
+        (1, never),
+    ];
     assert_eq!(rt;
-        [
-            due.actions.as_slice(),
-            early.actions.as_slice(),
-            late.actions.as_slice(),
-            outside.actions.as_slice(),
-            next.actions.as_slice(),
-            admitted.actions.as_slice(),
-        ],
-        [
-            [first_sign].as_slice(),
-            [].as_slice(),
-            [].as_slice(),
-            [].as_slice(),
-            // The next has the next number.
-            [second_sign].as_slice(),
-            // A node that is admitted itself shows life.
-            [first_sign].as_slice(),
-        ]
+        (seen.actions.as_slice(), seen.notes.as_slice()),
+        (actions.as_slice(), notes.as_slice())
     );
     Ok(())
 }
