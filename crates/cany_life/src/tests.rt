@@ -443,6 +443,9 @@ fn after_own_sign(
     follow(alloc, &mut life, &scenario, read + 1, events, members, seen)
 }
 
+/// The identifier of the sign of node 2: class 3 at bit 25, number 1 at bit 9, node 2 at bit 4.
+const WITHDRAWN: u32 = 100_663_840;
+
 #[test]
 fn failure_signs_are_entered_spread_and_withdrawn(rt: HostRuntime) -> Result<(), Fail> {
     let alloc = rt.alloc();
@@ -452,19 +455,15 @@ fn failure_signs_are_entered_spread_and_withdrawn(rt: HostRuntime) -> Result<(),
     let found = [Event::Idle, Event::Told(other), Event::Told(other)];
     after_idle(alloc, 1, 80, 0, 0, &two, &mut seen)?;
     after_idle(alloc, 1, 80, 1, 3, &found, &mut seen)?;
-    let ask_other = Action::Ask(sign_frame(other));
-    // Class 3 at bit 25, number 1 at bit 9, node 2 at bit 4.
-    let withdrawn = Action::Withdraw { ident: 100_663_840 };
-    let enter_other = entry(80, other);
     let actions = [
         // A node that is no member finds nobody by silence.
-        enter_other,
-        ask_other,
-        withdrawn,
+        entry(80, other),
+        Action::Ask(sign_frame(other)),
+        Action::Withdraw { ident: WITHDRAWN },
         // A sign by silence is not asked for again at its copy.
-        enter_other,
-        ask_other,
-        withdrawn,
+        entry(80, other),
+        Action::Ask(sign_frame(other)),
+        Action::Withdraw { ident: WITHDRAWN },
     ];
     let never = Slot::MAX;
     let notes = [(2, never), (1, never), (2, never), (0, never), (1, never)];
@@ -491,24 +490,20 @@ fn signs_that_are_told_come_before_those_of_silence(rt: HostRuntime) -> Result<(
     after_idle(alloc, 1, 80, 0, 3, &idle, &mut seen)?;
     after_idle(alloc, 1, 80, 0, 3, &one, &mut seen)?;
     after_idle(alloc, 0, 80, 0, 0, &one, &mut seen)?;
-    let ask_least = Action::Ask(sign_frame(least));
-    let ask_other = Action::Ask(sign_frame(other));
-    let withdrawn = Action::Withdraw { ident: 100_663_840 };
-    let (enter_least, enter_other) = (entry(80, least), entry(80, other));
     let actions = [
         // Silence finds nodes in ascending order.
-        enter_least,
-        ask_least,
-        enter_other,
-        ask_other,
+        entry(80, least),
+        Action::Ask(sign_frame(least)),
+        entry(80, other),
+        Action::Ask(sign_frame(other)),
         // A sign that is told comes before those of silence.
-        enter_other,
-        ask_other,
-        enter_least,
-        ask_least,
+        entry(80, other),
+        Action::Ask(sign_frame(other)),
+        entry(80, least),
+        Action::Ask(sign_frame(least)),
         // With no omissions the first copy is enough.
-        enter_other,
-        withdrawn,
+        entry(80, other),
+        Action::Withdraw { ident: WITHDRAWN },
     ];
     let never = Slot::MAX;
     let notes = [(4, never), (4, never), (2, never)];
@@ -539,17 +534,15 @@ fn silence_counts_from_the_last_life_or_the_admission(rt: HostRuntime) -> Result
     let admitted = [Event::Idle, Event::Admitted(2, 3), Event::Told(other)];
     after_idle(alloc, 1, 10, 0, 2, &shown, &mut seen)?;
     after_idle(alloc, 1, 80, 0, 3, &admitted, &mut seen)?;
-    let ask_least = Action::Ask(sign_frame(least));
-    let ask_other = Action::Ask(sign_frame(other));
     let actions = [
         // A node is silent as many slots after its life as the silence has.
         entry(83, least),
-        ask_least,
+        Action::Ask(sign_frame(least)),
         // A node that is admitted has not failed, and its sign is known already.
         entry(80, least),
-        ask_least,
+        Action::Ask(sign_frame(least)),
         entry(80, other),
-        ask_other,
+        Action::Ask(sign_frame(other)),
     ];
     let never = Slot::MAX;
     let notes = [
