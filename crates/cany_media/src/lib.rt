@@ -1,0 +1,21 @@
+//! A bus of two lines that fail one at a time or together, and the command `media`: what is planned
+//! for the lines, what comes of a slot over them, and the scenario of one bus whose run is that over
+//! both.
+#![tactic(auto)]
+
+pub mod laws;
+mod line;
+mod outcome;
+mod plan;
+mod single_bus;
+mod stretches;
+mod tables;
+mod threads;
+
+#[cfg(test)]
+mod tests;
+
+pub use line::{Line, LineFault};
+pub use outcome::{MediaOutcome, levels};
+pub use plan::{MediaFault, MediaPlan};
+pub use single_bus::{SingleFault, single};
