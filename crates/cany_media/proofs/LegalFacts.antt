@@ -33,7 +33,7 @@ pub rules_number : (sc : ScenarioParts) (faults : List FaultParts) (kept : List 
 unfolding single_rules
 rules_number sc faults kept slots kept_is slots_are =
     rw (kept_is, slots_are) (sym (length-append (filter (λ rule. not (is_replaced sc.params.nodes faults rule.place)) sc.rules) (map (blind_rule sc.rules) (blind_slots sc faults))
-      ∙ ap (λ n. length (filter (λ rule. not (is_replaced sc.params.nodes faults rule.place)) sc.rules) + n) (length-map (blind_slots sc faults) (blind_rule sc.rules))))
+    ∙ ap (λ n. length (filter (λ rule. not (is_replaced sc.params.nodes faults rule.place)) sc.rules) + n) (length-map (blind_slots sc faults) (blind_rule sc.rules))))
 
 -- ---- each rule is one of the scenario's
 
@@ -122,9 +122,9 @@ joined_apart nodes faults own n (rule ∷ rules) pairs = elim (cases_Bool (is_re
       let kept = filter (λ r. not (is_replaced nodes faults r.place)) rules in
       let made = map (blind_rule own) (filter (is_blind nodes faults) (range_with_len 0 n)) in
       rw stays (AllPairs-cons Differ rule (kept ++ made)
-        (All-append (Differ rule) kept made (All-filter (Differ rule) (λ r. not (is_replaced nodes faults r.place)) rules (pair_head rule rules pairs))
-          (kept_differs nodes faults own rule stays n 0))
-        (joined_apart nodes faults own n rules (pair_tail rule rules pairs)))
+      (All-append (Differ rule) kept made (All-filter (Differ rule) (λ r. not (is_replaced nodes faults r.place)) rules (pair_head rule rules pairs))
+      (kept_differs nodes faults own rule stays n 0))
+      (joined_apart nodes faults own n rules (pair_tail rule rules pairs)))
 ]
 
 -- ---- together
@@ -137,8 +137,8 @@ legal_single sc faults legal few = record {
   members = legal.members;
   sends = legal.sends;
   rules = All-append (IsRuleOf sc.params) (filter (λ rule. not (is_replaced sc.params.nodes faults rule.place)) sc.rules) (map (blind_rule sc.rules) (blind_slots sc faults))
-    (All-filter (IsRuleOf sc.params) (λ rule. not (is_replaced sc.params.nodes faults rule.place)) sc.rules legal.rules)
-    (made_legal sc.params sc.rules (is_blind sc.params.nodes faults) legal.rules sc.params.slots 0 (omega arith));
+      (All-filter (IsRuleOf sc.params) (λ rule. not (is_replaced sc.params.nodes faults rule.place)) sc.rules legal.rules)
+      (made_legal sc.params sc.rules (is_blind sc.params.nodes faults) legal.rules sc.params.slots 0 (omega arith));
   joins = legal.joins;
   leaves = legal.leaves;
   restarts = legal.restarts;

@@ -94,8 +94,18 @@ backlog_effects_same sc rules i (notice ∷ before) = rw (asked_same sc rules i 
 turn_same : (sc : ScenarioParts) (rules : List Rule) (i : ℕ) (past : List NoticeKind) → turn_effects (with_rules sc rules) i past ≡ turn_effects sc i past
 unfolding turn_effects
 turn_same sc rules i past =
-    rw (edcan_same sc rules i past, relcan_same sc rules i past, totcan_same sc rules i past, failure_same sc rules i past, exchange_same sc rules i past,
-      install_same sc rules i past, life_same sc rules i past, send_same sc rules i past, ask_same sc rules i past, backlog_effects_same sc rules i past) refl
+    rw (
+      edcan_same sc rules i past,
+      relcan_same sc rules i past,
+      totcan_same sc rules i past,
+      failure_same sc rules i past,
+      exchange_same sc rules i past,
+      install_same sc rules i past,
+      life_same sc rules i past,
+      send_same sc rules i past,
+      ask_same sc rules i past,
+      backlog_effects_same sc rules i past,
+    ) refl
 
 effects_same : (number : ℕ) (sc : ScenarioParts) (rules : List Rule) (inc : Incarnation) (i : ℕ) (past : List NoticeKind)
     → effects_for number (with_rules sc rules) inc i past ≡ effects_for number sc inc i past

@@ -13,7 +13,7 @@ use Rattle.std.proofs.lemmas.Option.{slice_get_read}
 use Rattle.cany_media.specs.Plan.{FaultParts, spans}
 use Rattle.cany_media.specs.Stretches.{AreInOrder, HasShared, IsFree, found_at, next_at, place_at}
 
-le_leb : (a b : ℕ) → a ≤ b → nat_le a b ≡ true
+pub le_leb : (a b : ℕ) → a ≤ b → nat_le a b ≡ true
 le_leb a b h = grind (arith, nat_tests)
 
 gt_leb : (a b : ℕ) → b < a → nat_le a b ≡ false
@@ -139,6 +139,7 @@ none_from from slot (x ∷ xs) none le = elim (cases_Bool (nat_le from x.to)) [
   where
     some_none : (y : FaultParts) → Some y ≡ None → ⊥
     some_none y h = cc
+
     and_false : (a b : Bool) → b ≡ false → (a && b) ≡ false
     and_false true b h = h
     and_false false b h = refl
@@ -164,6 +165,7 @@ none_between from slot next (x ∷ xs) o is le less = elim (cases_Bool (nat_le f
   where
     some_same : (y z : FaultParts) → Some y ≡ Some z → y ≡ z
     some_same y z h = cc
+
     and_false : (a b : Bool) → b ≡ false → (a && b) ≡ false
     and_false true b h = h
     and_false false b h = refl
@@ -296,11 +298,11 @@ apart_put_in f (x ∷ xs) ordered o free = elim (cases_Bool (nat_le f.from x.to)
       let before = ends_before f x xs ordered (first_ordered x xs o) free here in
       let last = first_ordered x xs o in
       rw here (AllPairs-cons (λ (a b : FaultParts). a.to < b.from) f (x ∷ xs)
-        (All-cons (λ (b : FaultParts). f.to < b.from) x xs before (λ k d below. let h = later x xs o k d below in omega arith)) o.apart)
+      (All-cons (λ (b : FaultParts). f.to < b.from) x xs before (λ k d below. let h = later x xs o k d below in omega arith)) o.apart)
   | inr on ↦
       rw on (AllPairs-cons (λ (a b : FaultParts). a.to < b.from) x (put_in f xs)
-        (All-put_in (λ (b : FaultParts). x.to < b.from) f xs (leb_gt f.from x.to on) (later x xs o))
-        (apart_put_in f xs ordered (rest x xs o) (free_rest f x xs on free)))
+      (All-put_in (λ (b : FaultParts). x.to < b.from) f xs (leb_gt f.from x.to on) (later x xs o))
+      (apart_put_in f xs ordered (rest x xs o) (free_rest f x xs on free)))
 ]
 
 pub in_order_more : (f : FaultParts) (xs : List FaultParts) → f.from ≤ f.to → AreInOrder xs → IsFree xs f → AreInOrder (insert xs (place_at xs f.from) f)

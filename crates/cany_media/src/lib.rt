@@ -3,17 +3,19 @@
 //! both.
 #![tactic(auto)]
 
+mod fault_words;
 pub mod laws;
 mod line;
+mod medium_lines;
 mod outcome;
 mod plan;
+mod refusal;
 mod single_bus;
 mod stretches;
 mod tables;
-mod threads;
-
 #[cfg(test)]
 mod tests;
+mod threads;
 
 pub use line::{Line, LineFault};
 pub use outcome::{MediaOutcome, levels};

@@ -55,9 +55,11 @@ fn blind_slots(alloc: Global, scenario: &Scenario, plan: &MediaPlan) -> Result<V
 {
     let nodes = scenario.params().nodes;
     let slots = 0..scenario.params().slots;
-    Ok(slots
-        .filter(|slot| is_blind(plan, nodes, *slot))
-        .collect(alloc)?)
+    Ok(
+        slots
+            .filter(|slot| is_blind(plan, nodes, *slot))
+            .collect(alloc)?,
+    )
 }
 
 fn is_replaced(plan: &MediaPlan, nodes: u8, place: &Place) -> bool
@@ -75,11 +77,13 @@ fn kept_rules(alloc: Global, scenario: &Scenario, plan: &MediaPlan) -> Result<Ve
 {
     let nodes = scenario.params().nodes;
     let rules = scenario.rules();
-    Ok(rules
-        .iter()
-        .filter(|rule| !is_replaced(plan, nodes, &rule.place))
-        .copied()
-        .collect(alloc)?)
+    Ok(
+        rules
+            .iter()
+            .filter(|rule| !is_replaced(plan, nodes, &rule.place))
+            .copied()
+            .collect(alloc)?,
+    )
 }
 
 /// The nodes that the script stops at the end of a slot, whatever it carries.
@@ -144,11 +148,7 @@ fn copied_journal(alloc: Global, scenario: &Scenario) -> Result<Option<Vec<Step>
 ///
 /// `TooMany` where it would have more fault rules than a scenario can have, `Memory` for want of
 /// memory.
-pub fn single(
-    alloc: Global,
-    scenario: &Scenario,
-    plan: &MediaPlan,
-) -> Result<Scenario, SingleFault>
+pub fn single(alloc: Global, scenario: &Scenario, plan: &MediaPlan) -> Result<Scenario, SingleFault>
     ensures ok { IfOk result (λ one. one ≡ single_bus scenario.now plan.now) }
     ensures few { OnOk result (length (single_rules scenario.now plan.now) ≤ most_rules) }
     ensures too_many { (rules : ℕ) → result ≡ Err (SingleFault.TooMany rules)

@@ -61,7 +61,11 @@ impl Stretches {
         ensures { result ≡ found_at self.now slot }
     {
         let fault = self.next(slot)?;
-        if fault.from <= slot { Some(fault) } else { None }
+        if fault.from <= slot {
+            Some(fault)
+        } else {
+            None
+        }
     }
 
     /// Whether the fault shares no slot with one of these.

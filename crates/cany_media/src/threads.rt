@@ -1,8 +1,8 @@
 //! What is planned, and what comes of a slot, may move to another thread and be shared by threads, as
 //! the bounds below show.
 
-use crate::outcome::MediaOutcome;
 use crate::line::{Line, LineFault};
+use crate::outcome::MediaOutcome;
 use crate::plan::{MediaFault, MediaPlan};
 use crate::single_bus::SingleFault;
 

@@ -13,9 +13,9 @@ returns-then-not-branch-clause-overlap c = λ index h.
     let was : c.enter.result ≡ Ok false = c.in_ok-enter.was ∙ ap (λ b. Ok b) c.if-not-branch.true in
     subst (IsFirstOverlap c.args.faults.now) same
     (first_overlap c.args.faults.now c.loop-index.index found.result
-      (slice_get_read c.args.faults.now (length c.args.faults.now) c.loop-index.index found.result refl c.loop-index-test.true found.is)
-      c.loop-index.invariant.apart
-      (c.enter.ensures.taken (take c.loop-index.index c.args.faults.now) c.loop-index.invariant.tables was))
+    (slice_get_read c.args.faults.now (length c.args.faults.now) c.loop-index.index found.result refl c.loop-index-test.true found.is)
+    c.loop-index.invariant.apart
+    (c.enter.ensures.taken (take c.loop-index.index c.args.faults.now) c.loop-index.invariant.tables was))
 
 pub loop-index-preserved : goal.loop-index-preserved
 loop-index-preserved c =

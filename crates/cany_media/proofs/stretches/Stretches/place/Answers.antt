@@ -11,5 +11,5 @@ returns c =
     let ordered : AreInOrder xs = rw c.deref.ensures.value c.self.invariant in
     place_found c.args.slot xs c.partition_point.result c.partition_point.ensures.bound
     (IsPartitionPoint-from_clause (λ (f : FaultParts). nat_lt f.to c.args.slot) xs c.partition_point.result c.partition_point.ensures.partitioned
-      (IsPartitionedBy-ltb (λ (f : FaultParts). f.to) xs c.args.slot (rising xs ordered)) (λ a r q k. search rules))
+    (IsPartitionedBy-ltb (λ (f : FaultParts). f.to) xs c.args.slot (rising xs ordered)) (λ a r q k. search rules))
     ∙ ap (λ (ys : _). place_at ys c.args.slot) (c.deref.ensures.value ∙ c.self.view_is)
