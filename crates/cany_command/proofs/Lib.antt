@@ -1,4 +1,4 @@
-pub mod PerformFacts
+pub mod PerformingFacts
 pub mod RefusedFacts
 pub mod RunFacts
 pub mod StatusFacts

@@ -9,7 +9,7 @@
 mod answer;
 mod command;
 mod command_fault;
-mod perform;
+mod performing;
 mod reading;
 mod refusal_line;
 mod running;
@@ -20,7 +20,7 @@ pub use answer::{refuse, report_run};
 pub use cany_base::limits::MOST_TEXT_BYTES;
 pub use command::Command;
 pub use command_fault::{AnswerFault, CommandFault};
-pub use perform::perform;
+pub use performing::perform;
 pub use reading::{is_memory, scenario_in, text_from};
 pub use refusal_line::{NoRefusal, RefusalLine};
 pub use running::{RunFault, run};
