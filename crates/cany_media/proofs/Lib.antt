@@ -7,4 +7,5 @@ pub mod RulesAside
 pub mod Scripts
 pub mod StretchFacts
 pub mod TextFacts
+pub mod TopFacts
 pub mod WordFacts

@@ -9,3 +9,4 @@ pub mod Single
 pub mod Spaced
 pub mod Stretches
 pub mod Tables
+pub mod Top

@@ -16,8 +16,10 @@ mod tables;
 #[cfg(test)]
 mod tests;
 mod threads;
+mod top;
 
 pub use line::{Line, LineFault};
 pub use outcome::{MediaOutcome, levels};
 pub use plan::{MediaFault, MediaPlan};
 pub use single_bus::{SingleFault, single};
+pub use top::media_top;
