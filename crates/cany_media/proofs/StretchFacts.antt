@@ -16,7 +16,7 @@ use Rattle.cany_media.specs.Stretches.{AreInOrder, HasShared, IsFree, found_at, 
 pub le_leb : (a b : ℕ) → a ≤ b → nat_le a b ≡ true
 le_leb a b h = grind (arith, nat_tests)
 
-gt_leb : (a b : ℕ) → b < a → nat_le a b ≡ false
+pub gt_leb : (a b : ℕ) → b < a → nat_le a b ≡ false
 gt_leb a b h = grind (arith, nat_tests)
 
 leb_gt : (a b : ℕ) → nat_le a b ≡ false → b < a

@@ -46,6 +46,7 @@ impl RefusalLine for MediaRefusal {
 }
 
 /// The plan of the faults that the words name.
+#[tactic(auto, using(crate::proofs::TopFacts::accepted_by, crate::proofs::TopFacts::refused_by))]
 fn plan_of(alloc: Global, words: &[String]) -> Result<MediaPlan, CommandFault<MediaRefusal>>
     requires { AreMedia (map string_bytes words.now) }
     ensures plan { IfOk result (λ plan. media_faults (map string_bytes words.now) ≡ Some plan) }
@@ -66,6 +67,7 @@ fn plan_of(alloc: Global, words: &[String]) -> Result<MediaPlan, CommandFault<Me
 }
 
 /// The scenario of one bus that is run for one that was read.
+#[tactic(auto, using(crate::proofs::TopFacts::chosen_few, crate::proofs::TopFacts::chosen_many))]
 fn chosen(
     alloc: Global,
     plan: &MediaPlan,
@@ -84,12 +86,19 @@ fn chosen(
     }
 }
 
+fn write_text<K: Sink>(text: &[u8], sink: &mut K) -> Result<(), Failed>
+    ensures { IsWritten text.now result
+        (K.taken sink.old) (K.taken sink.new) (K.faults sink.old) (K.faults sink.new) }
+{
+    write_whole(sink, text)
+}
+
 /// Writes a text, and then the report of the run.
 fn write_before_report<K: Sink>(text: &[u8], world: &World, sink: &mut K) -> Result<(), Failed>
     ensures { IsWritten (text.now ++ report world.now.scenario world.now.journal) result
         (K.taken sink.old) (K.taken sink.new) (K.faults sink.old) (K.faults sink.new) }
 {
-    write_whole(sink, text)?;
+    write_text(text, sink)?;
     write_report(world, sink)
 }
 
