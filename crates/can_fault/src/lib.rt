@@ -6,7 +6,7 @@ mod attempts;
 mod breaks;
 mod counts;
 pub mod laws;
-mod name;
+mod identity;
 mod script;
 mod table;
 mod tally;

@@ -30,7 +30,7 @@ use Rattle.cany_model.proofs.Rules.ErrorFacts.{error_turn}
 use Rattle.cany_model.proofs.Rules.IncarnationFacts.{effects_for-is}
 use Rattle.can_bus.specs.Bus.{BusParts}
 use Rattle.can_bus.specs.Rest.{idle_note, idle_trace}
-use Rattle.can_bus.specs.Row.{controller_after}
+use Rattle.can_bus.specs.Controllers.{controller_after}
 use Rattle.can_bus.proofs.RestFacts.{length-idle_trace}
 use Rattle.can_controller.specs.Controller.{ControllerState, node_state, seen, stopped_at}
 use Rattle.cany_node.specs.Node.{NodeParts, IsNodeOf}

@@ -1,11 +1,11 @@
--- A row of controllers of which one after another reads.
+-- One controller of each node, of which one after another reads.
 use Rattle.std.proofs.Common.{◌≡◌, ◌≢◌, ℕ, zero, suc, ◌+◌, ◌<◌, ◌⊎◌, inl, inr, List, [], ◌∷◌, ◌++◌, length, length-append, get_or, set, refl, ap, sym, subst, ◌∙◌, arith}
 use Rattle.std.specs.Prelude.{Some, slice_get}
 use Rattle.std.proofs.lemmas.List.{length-set}
 use Rattle.std.proofs.lemmas.Option.{same_Some}
 use Rattle.cany_base.specs.Params.{Parameters}
 use Rattle.can_controller.specs.Controller.{ControllerState}
-use Rattle.can_bus.specs.Row.{IsControllerOf, IsRowFor}
+use Rattle.can_bus.specs.Controllers.{IsControllerOf, AreControllersFor}
 use Rattle.can_bus.proofs.EachFacts.{got}
 
 -- what stands at a place after a write is what was written there, or what stood there
@@ -19,16 +19,16 @@ got_set (z ∷ xs) (suc i) (suc k) y x e = elim (got_set xs i k y x e) [
   | inr other ↦ inr (omega (arith, other.0), other.1)
 ]
 
-pub row_set : (p : Parameters) (controllers : List ControllerState) (i : ℕ) (old new : ControllerState) → i < length controllers → old ≡ get_or controllers i old
-    → new.node ≡ old.node → new.params ≡ old.params → IsRowFor p controllers → IsRowFor p (set controllers i new)
-row_set p controllers i old new within is node params row =
-    let was : IsControllerOf p i old = row.each i old (got controllers i old within is) in
+pub controllers_with : (p : Parameters) (controllers : List ControllerState) (i : ℕ) (old new : ControllerState) → i < length controllers → old ≡ get_or controllers i old
+    → new.node ≡ old.node → new.params ≡ old.params → AreControllersFor p controllers → AreControllersFor p (set controllers i new)
+controllers_with p controllers i old new within is node params are =
+    let was : IsControllerOf p i old = are.each i old (got controllers i old within is) in
     let now : IsControllerOf p i new = record { node = node ∙ was.node; params = params ∙ was.params } in
     record {
-      whole = length-set controllers i new ∙ row.whole;
+      whole = length-set controllers i new ∙ are.whole;
       each = λ k c e. elim (got_set controllers i k new c e) [
         | inl there ↦ subst (λ (x : ControllerState). IsControllerOf p k x) there.1 (subst (λ j. IsControllerOf p j new) (sym there.0) now)
-        | inr other ↦ row.each k c other.1
+        | inr other ↦ are.each k c other.1
       ];
     }
 

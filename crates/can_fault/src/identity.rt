@@ -3,37 +3,37 @@ ghost use Rattle.cany_model.specs.Bus.Frames.{identity_of};
 
 use cany_base::{Class, Frame, NodeId};
 
-/// What names a frame.
+/// What tells frames apart: one frame has one class, number and node, in each of its attempts.
 #[derive(Clone, Copy, Debug, PartialEq, Eq, PartialOrd, Ord, Hash)]
-pub(crate) struct FrameName {
+pub(crate) struct FrameIdentity {
     pub(crate) class: Class,
     pub(crate) number: u16,
     pub(crate) node: NodeId,
 }
 
-impl FrameName {
-    ghost use Rattle.can_fault.specs.Names.{name_of};
+impl FrameIdentity {
+    ghost use Rattle.can_fault.specs.Identities.{frame_identity};
 
-    pub(crate) fn new(class: Class, number: u16, node: NodeId) -> FrameName
+    pub(crate) fn new(class: Class, number: u16, node: NodeId) -> FrameIdentity
         ensures { result ≡ record { class = class; number = number; node = node } }
     {
-        FrameName {
+        FrameIdentity {
             class,
             number,
             node,
         }
     }
 
-    pub(crate) fn of(frame: &Frame) -> FrameName
-        ensures { result ≡ name_of (identity_of frame.now) }
+    pub(crate) fn of(frame: &Frame) -> FrameIdentity
+        ensures { result ≡ frame_identity (identity_of frame.now) }
     {
-        FrameName::new(frame.class, frame.number, frame.node)
+        FrameIdentity::new(frame.class, frame.number, frame.node)
     }
 }
 
 /// An attempt to carry a frame, counted from 1.
 #[derive(Clone, Copy, Debug, PartialEq, Eq, PartialOrd, Ord)]
 pub(crate) struct Attempt {
-    pub(crate) name: FrameName,
+    pub(crate) identity: FrameIdentity,
     pub(crate) nth: u32,
 }

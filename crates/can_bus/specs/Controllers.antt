@@ -17,7 +17,7 @@ pub record IsControllerOf (p : Parameters) (i : ℕ) (c : ControllerState) : Typ
   pub params : c.params ≡ p
 
 -- one controller of each node, in the order of the nodes
-pub record IsRowFor (p : Parameters) (controllers : List ControllerState) : Type 0 where
+pub record AreControllersFor (p : Parameters) (controllers : List ControllerState) : Type 0 where
   pub whole : length controllers ≡ p.nodes
   pub each : (i : ℕ) (c : ControllerState) → slice_get controllers i ≡ Some c → IsControllerOf p i c
 
