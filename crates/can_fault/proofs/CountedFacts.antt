@@ -5,9 +5,9 @@ use Rattle.std.proofs.lemmas.Bool.{and_parts, and_from, cases_Bool}
 use Rattle.std.specs.Cmp.{both_ways}
 use Rattle.cany_base.specs.declared.class.Class.TheVariants.{Rha}
 use Rattle.cany_base.specs.Frame.{FrameParts}
-use Rattle.cany_model.specs.Bus.Frames.{Identity, identity_of, same_class, same_identity}
+use Rattle.cany_model.specs.Bus.Frames.{Identity, identity_of, same_class}
 use Rattle.cany_model.specs.Promises.Hypothesis.{count_together}
-use Rattle.cany_model.proofs.Bus.Identities.{same_class-true, same_class_self, same_identity-true, same_identity_self}
+use Rattle.cany_model.proofs.Bus.Identities.{same_class-true, same_class_self, same_identity-true}
 use Rattle.can_fault.specs.declared.counts.Counted.{Counted}
 use Rattle.can_fault.specs.declared.counts.Counted.TheVariants.{Vectors, Frame}
 use Rattle.can_fault.specs.declared.identity.FrameIdentity.{FrameIdentity}
