@@ -24,7 +24,7 @@ use Rattle.cany_node.specs.Apply.{AreAskable, NamesAskable, AreDone, CanApply, C
 use Rattle.cany_node.specs.Stamping.{AreStamped, IsStamped, stamped_effect, with_incarnation}
 use Rattle.cany_node.proofs.Applying.{Stands, stands, each-front, each-at, done-then}
 use Rattle.cany_node.proofs.Askable.{askable_fits}
-use Rattle.cany_node.proofs.Filled.{waiting_below}
+use Rattle.cany_node.proofs.RoomsSuffice.{waiting_below}
 use Rattle.cany_node.proofs.StampedIdentifiers.{ident_small}
 
 pub withdraws_fitting : (scenario : ScenarioParts) (i : ℕ) (effect : Effect) → IsLegalScenario scenario → NamesAskable scenario i effect

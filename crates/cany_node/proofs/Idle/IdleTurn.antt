@@ -34,7 +34,7 @@ use Rattle.cany_node.specs.Turning.{asks_plain, heard_effects, plain_effects, sc
 use Rattle.cany_node.proofs.AskFacts.{none_at}
 use Rattle.cany_node.proofs.GiveFacts.{none_joined}
 use Rattle.cany_node.proofs.SendFacts.{asks-from_slot, none_asked, none_for}
-use Rattle.cany_node.proofs.MembershipRest.{both_none}
+use Rattle.cany_node.proofs.Idle.MembershipRest.{both_none}
 use Rattle.cany_node.proofs.StampedEffects.{turn_stamped}
 
 -- ---- a slot for which nothing is scripted

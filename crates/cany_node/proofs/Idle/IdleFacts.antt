@@ -7,7 +7,7 @@ use Rattle.cany_edcan.specs.Edcan as edcan
 use Rattle.cany_edcan.specs.Edcan.{EdcanParts, IsEdcanOf}
 use Rattle.cany_node.specs.Node.{IsNodeOf, NodeParts}
 use Rattle.cany_node.specs.Resting.{IsIdleUntil, RestsUntil}
-use Rattle.cany_node.proofs.IdleTurn.{edcan_now, node_rests, relcan_now, totcan_now}
+use Rattle.cany_node.proofs.Idle.IdleTurn.{edcan_now, node_rests, relcan_now, totcan_now}
 
 -- EDCAN has nothing to do in any idle slot
 abbrev pub EdcanRests : EdcanParts → Type 0
