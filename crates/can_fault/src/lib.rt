@@ -5,8 +5,8 @@
 mod attempts;
 mod breaks;
 mod counts;
-pub mod laws;
 mod identity;
+pub mod laws;
 mod script;
 mod table;
 mod tally;
