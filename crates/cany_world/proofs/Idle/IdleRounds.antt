@@ -20,8 +20,8 @@ use Rattle.cany_model.proofs.Runs.Runs.{IsOrderly, orderly}
 use Rattle.cany_model.proofs.Bus.States.{node_at_past, runs_within}
 use Rattle.can_bus.specs.Rest.{idle_note, idle_trace}
 use Rattle.can_bus.proofs.RestFacts.{length-idle_trace}
-use Rattle.cany_world.proofs.Idle.{HasNothingToDo, MayRest, after_rest, idle_round, idle_rounds, rested}
-use Rattle.cany_world.proofs.IdleRound.{IsAfterRound, IsIdleNext, LeadsTo, RoundLeads, idle_next, idle_round_leads, leads_nowhere, leads_then, node_at-map, rested_running, rested_stopped, round-is, round_leads, slot_leads}
+use Rattle.cany_world.proofs.Idle.IdleSlots.{HasNothingToDo, MayRest, after_rest, idle_round, idle_rounds, rested}
+use Rattle.cany_world.proofs.Idle.IdleRound.{IsAfterRound, IsIdleNext, LeadsTo, RoundLeads, idle_next, idle_round_leads, leads_nowhere, leads_then, node_at-map, rested_running, rested_stopped, round-is, round_leads, slot_leads}
 
 -- ---- one slot, and then more
 

@@ -30,12 +30,12 @@ use Rattle.can_controller.specs.Controller.{ControllerState}
 use Rattle.cany_world.specs.Incarnations.{IncarnationsParts}
 use Rattle.cany_world.specs.Kept.{IsKeptAs, IsKeptAt, StandFor}
 use Rattle.cany_world.specs.Resting.{CanAllGo, CanAllPass, CanGo, CanRest, CanTakeTurn, HasPassed, HasTakenTurn, HaveAllPassed, HavePassed, HavePassedAt, HaveRested, IsOpen, noticed, passes}
-use Rattle.cany_world.proofs.Idle.{MayRest, after_rest, rested}
-use Rattle.cany_world.proofs.IdleRound.{HasNothing, IsAfterRound, IsIdleNext, node_at-map, one_unread, proceed_idle, rested_stopped, turn_node}
-use Rattle.cany_world.proofs.IdleRounds.{after_rest_then, before_slot, before_slot_run, still_is, still_runs, stretch_run, trace_then, with_slot, with_slot_run}
+use Rattle.cany_world.proofs.Idle.IdleSlots.{MayRest, after_rest, rested}
+use Rattle.cany_world.proofs.Idle.IdleRound.{HasNothing, IsAfterRound, IsIdleNext, node_at-map, one_unread, proceed_idle, rested_stopped, turn_node}
+use Rattle.cany_world.proofs.Idle.IdleRounds.{after_rest_then, before_slot, before_slot_run, still_is, still_runs, stretch_run, trace_then, with_slot, with_slot_run}
 use Rattle.cany_world.proofs.InOrder.{IsInOrder, in_order}
-use Rattle.cany_world.proofs.PassFacts.{passes_all, passes_most}
-use Rattle.cany_world.proofs.RestFacts.{IsThere, Runs, can_count, idle_notice, is_there, last_idle, may_rest, node_rests, node_waits, nothing_at, running_rests, runs_at, stopped_rests}
+use Rattle.cany_world.proofs.Idle.PassFacts.{passes_all, passes_most}
+use Rattle.cany_world.proofs.Idle.RestFacts.{IsThere, Runs, can_count, idle_notice, is_there, last_idle, may_rest, node_rests, node_waits, nothing_at, running_rests, runs_at, stopped_rests}
 use Rattle.cany_world.proofs.TurnFacts.{AreTurned, can_turn, turned_one}
 
 module _ (scenario : ScenarioParts) (journal : List Step) (slots : ℕ) (due : Nodes) (bus : BusParts) (row : List ControllerState)

@@ -29,7 +29,7 @@ use Rattle.cany_model.proofs.Runs.Steps.{MayTurn, after_slot-length, after_slot-
 use Rattle.cany_model.proofs.Rules.IncarnationFacts.{effects_for-is}
 use Rattle.can_bus.specs.Rest.{idle_note, idle_trace}
 use Rattle.cany_world.specs.Resting.{IsFree}
-use Rattle.cany_world.proofs.Idle.{HasNothingToDo, MayRest, after_rest, idle_round, rested}
+use Rattle.cany_world.proofs.Idle.IdleSlots.{HasNothingToDo, MayRest, after_rest, idle_round, rested}
 
 -- ---- the slot
 

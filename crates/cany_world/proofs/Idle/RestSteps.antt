@@ -20,11 +20,11 @@ use Rattle.can_controller.specs.Controller.{ControllerState}
 use Rattle.cany_world.specs.Incarnations.{IncarnationsParts}
 use Rattle.cany_world.specs.Kept.{StandFor}
 use Rattle.cany_world.specs.Resting.{CanAllPass, CanRest, IsFree, IsOpen, rounds_of}
-use Rattle.cany_world.proofs.Idle.{MayRest, after_rest, idle_rounds}
-use Rattle.cany_world.proofs.IdleRound.{IsIdleNext}
-use Rattle.cany_world.proofs.IdleRounds.{stretch_legal, stretch_ran, stretch_steps}
-use Rattle.cany_world.proofs.RestFacts.{last_idle, may_rest, rounds_are}
-use Rattle.cany_world.proofs.StretchFacts as stretch
+use Rattle.cany_world.proofs.Idle.IdleSlots.{MayRest, after_rest, idle_rounds}
+use Rattle.cany_world.proofs.Idle.IdleRound.{IsIdleNext}
+use Rattle.cany_world.proofs.Idle.IdleRounds.{stretch_legal, stretch_ran, stretch_steps}
+use Rattle.cany_world.proofs.Idle.RestFacts.{last_idle, may_rest, rounds_are}
+use Rattle.cany_world.proofs.Idle.StretchFacts as stretch
 
 -- what the world has found out of the next slots
 pub record IsReady (scenario : ScenarioParts) (journal : List Step) (slots : ℕ) (due : Nodes) (bus : BusParts) (row : List ControllerState)

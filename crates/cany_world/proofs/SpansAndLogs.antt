@@ -1,4 +1,4 @@
--- What is told of the incarnations of a node: their spans, their logs, and which began at the end of a slot.
+-- What is told of the incarnations of a node: their spans, their logs, since when they take part, and which began at the end of a slot.
 use Rattle.std.proofs.Common.{◌≡◌, ℕ, zero, suc, ◌+◌, ◌-◌, ◌<◌, ◌≤◌, ◌==◌, ◌&&◌, ◌||◌, Bool, true, false, not, nat_lt, List, [], ◌∷◌, length, refl, ap, sym, ◌∙◌, arith, inl, inr}
 use Rattle.std.specs.Prelude.{slice_get, find, option_map, Some}
 use Rattle.std.specs.List.{AllByRecursion, list_any}
@@ -24,7 +24,7 @@ use Rattle.cany_model.proofs.Promises.OwnSlotsAlone.{from_later}
 use Rattle.cany_model.proofs.Rules.ErrorFacts.{error_log}
 use Rattle.can_controller.specs.Controller.{ControllerState}
 use Rattle.cany_node.specs.Node.{NodeParts}
-use Rattle.cany_world.specs.Incarnations.{IncarnationsParts, began_in, span_in}
+use Rattle.cany_world.specs.Incarnations.{IncarnationsParts, began_in, span_in, takes_part_since}
 use Rattle.cany_world.specs.Kept.{IsEndedAt, IsKeptAs, IsKeptAt, IsPresentAt, IsWaitingAt, heard_of, past_of}
 use Rattle.cany_world.proofs.Endings.{HasEnded, has_ended}
 use Rattle.cany_world.proofs.InOrder.{AreInOrder, IsInOrder, first_is_original, in_order}
@@ -57,6 +57,15 @@ log_is scenario s i v it entries kept at e =
     ∙ ap (log_from (scenario_for scenario (node_at s.nodes i).present) i) (sym (history-is i s))
 
 -- ---- by its number
+
+-- that of the opening takes part from the start
+from_start : (inc : Incarnation) (ended : List EndedIncarnation) → AreInOrder inc ended → AllByRecursion (λ e. e.incarnation.number ≡ 0 → e.incarnation.from ≡ 0) ended
+unfolding AreInOrder
+from_start inc [] order = tt
+from_start inc (e ∷ ended) order = (
+  λ first. ap (λ (x : Incarnation). x.from) (first_is_original e.incarnation ended order.1 first),
+  from_start e.incarnation ended order.1,
+)
 
 module _ (scenario : ScenarioParts) (s : RunState) (i number : ℕ) (v : IncarnationsParts) (order : IsInOrder s.trace (node_at s.nodes i)) (short : (node_at s.nodes i).unread ≤ length s.trace)
     (kept : IsKeptAt scenario s.trace i (node_at s.nodes i) v) (within : number ≤ (node_at s.nodes i).present.number) where
@@ -98,6 +107,47 @@ module _ (scenario : ScenarioParts) (s : RunState) (i number : ℕ) (v : Incarna
         let is : result ≡ record { since = span.since; stopped = c.stopped; read = c.read - span.since } = rw now at e in
         ap (λ r. Some r) (is ∙ rw (same, p.since, ctl.stopped, ctl.read) refl) ∙ sym (ap (option_map span_from) (found_present s i number here))
   ]
+
+  -- since when the node of it takes part
+  module _ (it : NodeParts) (at : slice_get v.nodes number ≡ Some it) where
+    ended_since : number < (node_at s.nodes i).present.number → (result : ℕ) → (number ≡ 0 → result ≡ 0) → (0 < number → result ≡ it.from) → Some result ≡ takes_part_since s i number
+    ended_since below result first later =
+        let x : HasEnded (IsEndedAt scenario s.trace i v) (node_at s.nodes i).ended number = ends below in
+        let y : HasEnded (λ e. e.incarnation.number ≡ 0 → e.incarnation.from ≡ 0) (node_at s.nodes i).ended number =
+        has_ended (λ e. e.incarnation.number ≡ 0 → e.incarnation.from ≡ 0) (node_at s.nodes i).present (node_at s.nodes i).ended number order.order
+        (from_start (node_at s.nodes i).present (node_at s.nodes i).ended order.order) below in
+        let both : Some y.end ≡ Some x.end = sym y.found ∙ x.found in
+        let same_end : y.end ≡ x.end = cc in
+        let some : Some x.has.it ≡ Some it = sym x.has.at ∙ ap (slice_get v.nodes) x.is ∙ at in
+        let same : x.has.it ≡ it = cc in
+        let is : result ≡ x.end.incarnation.from =
+        elim (cases_eq number 0) [
+          | inl zero' ↦ first zero' ∙ sym (y.has (y.is ∙ zero')) ∙ ap (λ (e : EndedIncarnation). e.incarnation.from) same_end
+          | inr more ↦
+              later (omega (arith, more)) ∙ ap (λ (n : NodeParts). n.from) (sym same) ∙ x.has.from
+              ∙ from_later scenario x.end.incarnation (omega (arith, more, x.is))
+        ] in
+        ap (λ r. Some r) is ∙ sym (ap (option_map (λ e. e.incarnation.from)) (found_ended s i number x.end below x.found))
+
+    present_since : number ≡ (node_at s.nodes i).present.number → (result : ℕ) → (number ≡ 0 → result ≡ 0) → (0 < number → result ≡ it.from) → Some result ≡ takes_part_since s i number
+    present_since here result first later =
+        let some : Some p.it ≡ Some it = sym p.at ∙ ap (slice_get v.nodes) (kept.number ∙ sym here) ∙ at in
+        let same : p.it ≡ it = cc in
+        let is : result ≡ (node_at s.nodes i).present.from =
+        elim (cases_eq number 0) [
+          | inl zero' ↦
+              first zero' ∙ sym (ap (λ (x : Incarnation). x.from) (first_is_original (node_at s.nodes i).present (node_at s.nodes i).ended order.order (sym here ∙ zero')))
+          | inr more ↦
+              later (omega (arith, more)) ∙ ap (λ (n : NodeParts). n.from) (sym same) ∙ p.stands.from
+              ∙ from_later scenario (node_at s.nodes i).present (omega (arith, more, here))
+        ] in
+        ap (λ r. Some r) is ∙ sym (ap (option_map (λ e. e.incarnation.from)) (found_present s i number here))
+
+    pub since_is : (result : ℕ) → (number ≡ 0 → result ≡ 0) → (0 < number → result ≡ it.from) → Some result ≡ takes_part_since s i number
+    since_is result first later = elim (cases_lt number (node_at s.nodes i).present.number) [
+      | inl below ↦ ended_since below result first later
+      | inr past ↦ present_since (omega (arith, past, within)) result first later
+    ]
 
 -- ---- which took part too late
 
@@ -250,3 +300,10 @@ module _ (scenario : ScenarioParts) (journal : List Step) (i number : ℕ) (v : 
   told_span c result ctl law =
       let span = there v.spans number (omega (arith, within_nodes, kept.spans)) in
       span_of_is scenario (run scenario journal) i number v (in_order scenario journal i) ((orderly scenario journal).unread i) kept within c span.0 result ctl span.1 (law span.0 span.1)
+
+  pub told_since : (result : ℕ) → (number ≡ 0 → result ≡ 0) → (0 < number → (it : NodeParts) → slice_get v.nodes number ≡ Some it → result ≡ it.from)
+      → Some result ≡ takes_part_since (run scenario journal) i number
+  told_since result first later =
+      let it = there v.nodes number within_nodes in
+      since_is scenario (run scenario journal) i number v (in_order scenario journal i) ((orderly scenario journal).unread i) kept within it.0 it.1 result first
+      (λ more. later more it.0 it.1)

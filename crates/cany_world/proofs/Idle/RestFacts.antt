@@ -35,19 +35,19 @@ use Rattle.can_bus.proofs.RestFacts.{length-idle_trace}
 use Rattle.can_controller.specs.Controller.{ControllerState, node_state, seen, stopped_at}
 use Rattle.cany_node.specs.Node.{NodeParts, IsNodeOf}
 use Rattle.cany_node.specs.Resting.{RestsUntil}
-use Rattle.cany_node.proofs.RestFacts.{rested_as, rested_effects}
+use Rattle.cany_node.proofs.Idle.RestFacts.{rested_as, rested_effects}
 use Rattle.cany_world.specs.Incarnations.{IncarnationsParts}
 use Rattle.cany_world.specs.Kept.{IsKeptAs, IsKeptAt, IsPresentAt, AreControllersOf, AreNodesOf, StandFor, heard_of, newest_notices, past_of}
 use Rattle.cany_world.specs.Resting.{runs_at as controller_runs}
 use Rattle.cany_world.specs.Resting.{CanAllPass, CanCount, IncarnationRests, IsIdleFor, IsOpen, passes, round_of, rounds_of}
-use Rattle.cany_world.proofs.Idle.{HasNothingToDo, MayRest, after_rest, idle_round, idle_rounds, rested}
+use Rattle.cany_world.proofs.Idle.IdleSlots.{HasNothingToDo, MayRest, after_rest, idle_round, idle_rounds, rested}
 use Rattle.cany_world.proofs.ControllerFacts.{kept_slot, running_after, stopped_after, stopped_node}
-use Rattle.cany_world.proofs.IdleNotes.{all_ended_rested, heard_rested, past_rested, past_unread, plain_rested}
-use Rattle.cany_world.proofs.IdleRound.{IsIdleNext, idle_node, node_at-map, one_unread, rested_running}
-use Rattle.cany_world.proofs.IdleRounds.{still_is, still_runs}
+use Rattle.cany_world.proofs.Idle.IdleNotes.{all_ended_rested, heard_rested, past_rested, past_unread, plain_rested}
+use Rattle.cany_world.proofs.Idle.IdleRound.{IsIdleNext, idle_node, node_at-map, one_unread, rested_running}
+use Rattle.cany_world.proofs.Idle.IdleRounds.{still_is, still_runs}
 use Rattle.cany_world.proofs.InOrder.{IsInOrder, weaker}
 use Rattle.cany_world.proofs.NodeFacts.{kept_still, kept_turned}
-use Rattle.cany_world.proofs.PassFacts.{passes_few, passes_most}
+use Rattle.cany_world.proofs.Idle.PassFacts.{passes_few, passes_most}
 use Rattle.cany_world.proofs.PlaceFacts.{there}
 use Rattle.cany_world.proofs.TurnFacts.{past_length}
 
