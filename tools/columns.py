@@ -27,6 +27,8 @@ class Column:
     """How many slots are left out before it."""
     frames_before: int = 0
     """How many of these carried a frame."""
+    changes_views: bool = False
+    """Whether a node installs a view in it with other members than those of its view before."""
 
     @property
     def frame(self):
@@ -41,8 +43,7 @@ class Column:
     @property
     def is_remarkable(self):
         """Whether it has more than frames without errors, and deliveries."""
-        has_more = any(not isinstance(it, Delivery) for entries in self.entries.values() for it in entries)
-        bus = self.bus
+        bus, has_more = self.bus, self.changes_views or any(isinstance(it, Failure) for entries in self.entries.values() for it in entries)
         return bool(has_more or self.notes or bus and (bus.stopped or bus.restarted or bus.verdict not in ("clean", None)))
 
 
@@ -55,8 +56,13 @@ def columns(report, first, last, everything):
         column(slot.slot).bus = slot
     for lives in report.nodes:
         for life in lives:
+            members = None
             for entry in life.log:
-                column(entry.slot).entries.setdefault(life.node, []).append(entry)
+                here = column(entry.slot)
+                here.entries.setdefault(life.node, []).append(entry)
+                if isinstance(entry, View):
+                    here.changes_views |= members not in (None, entry.members)
+                    members = entry.members
             is_reached = life.acts < report.parameters["slots"] and (life.stopped is None or life.acts <= life.stopped)
             if life.number and is_reached:
                 column(life.acts).notes.append(Note(f"{life.node} takes part", False))
@@ -87,6 +93,8 @@ def fold(chosen, most):
         else:
             count += column.frame is not None
     chosen = chosen[:most]
+    for it in chosen[:1]:
+        it.before = 0
     for before, it in zip(chosen, chosen[1:]):
         it.before = it.slot - before.slot - 1
     return chosen

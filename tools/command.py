@@ -30,12 +30,13 @@ def read_bytes(path):
         raise Failure(READ_FAILED, f"cannot read {path if is_file else 'standard input'}: {cause(error)}") from None
 
 
-def write(text):
-    """Writes to standard output. A reader that has gone, as `head` does, is a failure like a full disk."""
+def write(lines):
+    """Writes lines to standard output. A reader that has gone, as `head` does, is a failure like a full disk."""
     try:
         if sys.stdout is None:
             raise OSError("it is closed")
-        sys.stdout.buffer.write(text.encode())
+        for line in lines:
+            sys.stdout.buffer.write(line.encode() + b"\n")
         sys.stdout.buffer.flush()
     except OSError as error:
         if sys.stdout is not None:

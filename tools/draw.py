@@ -18,7 +18,7 @@ from verdict import read_check
 
 LEAST_CHART_WIDTH, LEAST_PAGE_WIDTH, PAGE_WIDTH = 40, 560, 1000
 # More columns than these no page shows: those with the least in them go.
-MOST_COLUMNS = 240
+MOST_COLUMNS = 150
 
 
 def number_from(least):
@@ -64,7 +64,7 @@ def draw(given):
     else:
         width = given.width or max(shutil.get_terminal_size((100, 24)).columns, LEAST_CHART_WIDTH)
         lines = chart(report, shown, check, given.title, width)
-    command.write("".join(f"{line}\n" for line in lines))
+    command.write(lines)
 
 
 def main():

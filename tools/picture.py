@@ -4,6 +4,7 @@ from typing import NamedTuple
 import marks
 from columns import GONE, IDLE, MUTED, Column, did, findings, spans, summary
 from marks import GREEN, GREY, INK, PALE, RED, SHADES
+from overview import Overview
 from report import Delivery, View
 from svg import FONT, element, text, tooltip, width_of, wrapped
 
@@ -12,9 +13,17 @@ MARGIN, STEP, GAP, LABEL = 16, 30, 28, 10.5
 MOST_SINGLE = 12
 # With more lanes than these, tags stand beside the marks and not below them.
 MOST_TALL = 16
-MOST_FINDINGS = 8
+# Of what was found, the lines that tell of something broken, and others.
+MOST_BROKEN, MOST_OTHERS = 8, 4
+# A run of so many slots has a strip above, which shows it whole.
+LONG_RUN = 500
 # A page is no narrower than this, for the words above and below.
 LEAST_PAGE = 560
+
+
+def gap_of(column):
+    """The room before a column for the slots that are left out there."""
+    return max(GAP, width_of(f"+{column.before}", 8) + 8) if column.before else 0
 
 
 class Lane(NamedTuple):
@@ -38,11 +47,12 @@ class Layout:
         self.tag = 0 if is_flat else 15
 
     def column_width(self, column):
-        """As wide as the marks, and the widest tags."""
+        """As wide as the marks, the number of the slot, and the widest tags."""
+        step = max(STEP, width_of(str(column.slot)) + 4)
         rows = [[marks.tag_width(marks.tag(entry)[0]) + 3 for entry in entries] for entries in column.entries.values()]
         if self.is_flat:
-            return STEP + max(map(sum, rows), default=0)
-        return max(STEP, *(width + 3 for row in rows for width in row)) if rows else STEP
+            return step + max(map(sum, rows), default=0)
+        return max([step, *(width + 3 for row in rows for width in row)])
 
 
 class Row:
@@ -82,7 +92,7 @@ class Picture:
         room = self.page - 2 * MARGIN - self.label_room() - 40
         for column in shown:
             width = self.layout.column_width(column)
-            gap = GAP if column.before else 0
+            gap = gap_of(column)
             if placed and x + gap + width > room:
                 rows.append(placed)
                 placed, x = [], 0
@@ -124,14 +134,23 @@ class Picture:
             heights.append(self.layout.lane + self.layout.tag * max(0, most - 1))
         return heights
 
+    def is_cut(self, shown):
+        """Whether a part of the run is missing at an end, or was folded because the picture had too many columns."""
+        happened = [slot.slot for slot in self.report.bus if slot.frame and slot.frame.kind != "els"]
+        return bool(shown and happened) and (happened[0] < shown[0].slot or happened[-1] > shown[-1].slot)
+
     # drawing
 
     def add(self, *elements):
         self.out += elements
 
-    def draw(self):
+    def draw(self, shown):
         y = self.heading()
         right = 0
+        if self.report.parameters["slots"] >= LONG_RUN and (len(self.rows) > 1 or self.is_cut(shown)):
+            strip = Overview(self.report, self.left, self.page - MARGIN - 30, y)
+            self.add(*strip.draw(shown))
+            y, right = strip.end, self.page - MARGIN
         for row in self.rows:
             y, edge = self.draw_row(row, y)
             right = max(right, edge)
@@ -201,7 +220,7 @@ class Picture:
                 element("path", d=f"M{a:.0f} {y:.0f}H{b:.0f}", stroke=PALE if is_muted else GREY, stroke_width=4 if is_muted else 1.2, **given)
             )
             if it.column.before and life.first < it.column.slot:
-                line(x - GAP, x, it.column.slot <= life.acts and life.number, stroke_dasharray="2 4")
+                line(x - gap_of(it.column), x, it.column.slot <= life.acts and life.number, stroke_dasharray="2 4")
             line(x, end, it.column.slot < life.acts)
 
     def mark_x(self, it):
@@ -211,7 +230,7 @@ class Picture:
         x, column = self.mark_x(it), it.column
         if column.before:
             tip = f"{column.before} slots are left out, {column.frames_before} of them with a frame"
-            self.add(text(self.left + it.x - GAP / 2, y - 6, f"+{column.before}", tip, font_size=8, fill="#888", text_anchor="middle"))
+            self.add(text(self.left + it.x - gap_of(column) / 2, y - 6, f"+{column.before}", tip, font_size=8, fill="#888", text_anchor="middle"))
         self.add(text(x, y - 6, str(column.slot), text_anchor="middle"))
         if column.frame:
             ink, name = marks.INKS[column.frame.kind], marks.frame_name(column.frame)
@@ -293,7 +312,7 @@ class Picture:
         if not any(row.placed for row in self.rows):
             self.add(text(MARGIN, y + 4, "nothing happened in these slots", fill="#555"))
             y += 15
-        shown = sorted(self.found, key=lambda it: not it.is_bad)[:MOST_FINDINGS]
+        shown = [it for it in self.found if it.is_bad][:MOST_BROKEN] + [it for it in self.found if not it.is_bad][:MOST_OTHERS]
         lines = [(line, it.is_bad) for it in shown for line in wrapped(it.words, width - 2 * MARGIN, 10)]
         if len(self.found) > len(shown):
             lines.append((f"and {len(self.found) - len(shown)} more", False))
@@ -316,4 +335,4 @@ class Picture:
 
 def picture(report, shown, check, title, width, each):
     """The lines of the page."""
-    return Picture(report, shown, check, title, width, each).draw()
+    return Picture(report, shown, check, title, width, each).draw(shown)

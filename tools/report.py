@@ -396,7 +396,7 @@ def json_lines(path):
         text = verdict.facts(verdict.read_check(data)) if data.startswith(b"canely check ") else facts(read_report(data))
     except Malformed as error:
         raise command.Failure(command.REFUSED, f"{path or 'standard input'}: {error}") from None
-    command.write("".join(json.dumps(it, separators=(",", ":")) + "\n" for it in text))
+    command.write(json.dumps(it, separators=(",", ":")) for it in text)
 
 
 def main():
