@@ -5,7 +5,6 @@
 
 One interface hears each attempt. With --nodes there is one for each node, with what its controller saw.
 """
-import argparse
 import functools
 import sys
 from typing import NamedTuple
@@ -117,22 +116,13 @@ def asc(report, events, clock):
     yield ASC_END
 
 
-def whole(least, most):
-    def read(text):
-        if not text.isdecimal() or not least <= int(text) <= most:
-            raise argparse.ArgumentTypeError(f"{text!r} is no number from {least} to {most}")
-        return int(text)
-
-    return read
-
-
 def arguments():
-    parser = argparse.ArgumentParser(prog="buslog.py", description="Writes the bus of a run of canely as a log of CAN tools.")
+    parser = command.Parser(prog="buslog.py", description="Writes the bus of a run of canely as a log of CAN tools.")
     parser.add_argument("file", nargs="?", help="the report; without it standard input")
     parser.add_argument("--asc", action="store_true", help="a Vector ASC file in place of the lines of candump -L")
     parser.add_argument("--nodes", action="store_true", help="an interface for each node, with what its controller saw")
-    parser.add_argument("--bitrate", type=whole(1, 10**9), default=500_000, metavar="N", help="bits in a second, 500000 where not given")
-    parser.add_argument("--start", type=whole(0, 4 * 10**9), default=0, metavar="SECONDS", help="the time of slot 0, in seconds since 1970")
+    parser.add_argument("--bitrate", type=command.number_between(1, 10**9), default=500_000, metavar="N", help="bits in a second, 500000 where not given")
+    parser.add_argument("--start", type=command.number_between(0, 4 * 10**9), default=0, metavar="SECONDS", help="the time of slot 0, in seconds since 1970")
     parser.add_argument("--direction", action="store_true", help="R or T at the end of each line of candump -L, which Wireshark 4.0 does not read")
     return parser.parse_args()
 

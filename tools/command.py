@@ -1,9 +1,28 @@
-"""How the commands of this folder read their input, write their output, and end."""
+"""How the commands of this folder take their arguments, read their input, write their output, and end."""
+import argparse
 import os
 import sys
 
-# The exit statuses are those of canely, where it has one for the cause. argparse ends with 2 for wrong arguments.
-REFUSED, READ_FAILED, WRITE_FAILED = 3, 4, 5
+# The exit statuses are those that canely has for the same causes.
+WRONG_ARGUMENTS, REFUSED, READ_FAILED, WRITE_FAILED = 2, 3, 4, 5
+
+
+class Parser(argparse.ArgumentParser):
+    """A parser of arguments that complains in one line."""
+
+    def error(self, message):
+        self.exit(WRONG_ARGUMENTS, f"{self.prog}: {message}; see {self.prog} --help\n")
+
+
+def number_between(least, most):
+    """Reads an argument that is a number in this range."""
+
+    def read(text):
+        if not (text.isascii() and text.isdecimal()) or not least <= int(text) <= most:
+            raise argparse.ArgumentTypeError(f"{text!r} is no number from {least} to {most}")
+        return int(text)
+
+    return read
 
 
 class Failure(Exception):

@@ -3,7 +3,6 @@
 
     tools/draw.py [FILE] [--svg] [--from SLOT] [--to SLOT] [--all] [--check FILE] [--title TEXT] [--width N]
 """
-import argparse
 import shutil
 import sys
 
@@ -16,31 +15,24 @@ from lines import Malformed
 from report import report_from
 from verdict import read_check
 
-LEAST_CHART_WIDTH, LEAST_PAGE_WIDTH, PAGE_WIDTH = 40, 560, 1000
+LEAST_CHART_WIDTH, LEAST_PAGE_WIDTH, PAGE_WIDTH, MOST_WIDTH = 40, 560, 1000, 100_000
+MOST_SLOT = 10**9
 # More columns than these no page shows: those with the least in them go.
 MOST_COLUMNS = 150
 
 
-def number_from(least):
-    def read(text):
-        if not text.isdecimal() or int(text) < least:
-            raise argparse.ArgumentTypeError(f"{text!r} is no number from {least} on")
-        return int(text)
-
-    return read
-
-
 def arguments():
-    parser = argparse.ArgumentParser(prog="draw.py", description="Draws a run of canely from its report.")
+    slot = command.number_between(0, MOST_SLOT)
+    parser = command.Parser(prog="draw.py", description="Draws a run of canely from its report.")
     parser.add_argument("file", nargs="?", help="the report; without it standard input")
     parser.add_argument("--svg", action="store_true", help="a page of SVG in place of a chart of text")
-    parser.add_argument("--from", type=number_from(0), default=0, dest="first", metavar="SLOT", help="the first slot that is shown")
-    parser.add_argument("--to", type=number_from(0), default=sys.maxsize, dest="last", metavar="SLOT", help="the last slot that is shown")
+    parser.add_argument("--from", type=slot, default=0, dest="first", metavar="SLOT", help="the first slot that is shown")
+    parser.add_argument("--to", type=slot, default=MOST_SLOT, dest="last", metavar="SLOT", help="the last slot that is shown")
     parser.add_argument("--all", action="store_true", help="show life signs without an error too, and on a page all columns")
     parser.add_argument("--each", action="store_true", help="on a page a lane for each node, where nodes that did the same would share one")
     parser.add_argument("--check", metavar="FILE", help="the text that canely check wrote of the same scenario, to show what it found")
     parser.add_argument("--title", default="", metavar="TEXT", help="a heading")
-    parser.add_argument("--width", type=number_from(LEAST_CHART_WIDTH), metavar="N", help="columns of the terminal, or pixels of the page")
+    parser.add_argument("--width", type=command.number_between(LEAST_CHART_WIDTH, MOST_WIDTH), metavar="N", help="columns of the terminal, or pixels of the page")
     return parser.parse_args()
 
 

@@ -43,6 +43,8 @@ class Lines:
     """The lines of a text in their order, each taken once."""
 
     def __init__(self, data):
+        if not data:
+            raise Malformed(1, "the text is empty")
         try:
             text = data.decode("ascii")
         except UnicodeDecodeError as error:

@@ -278,10 +278,9 @@ class Picture:
 
     def lacking(self, row, middle):
         """Behind the last column, which correct node lacks which message that others have. Returns the right edge."""
-        edge = 0
+        edge, last = 0, row.placed[-1] if row.placed else Placed(None, 0, 0)
         for lane in row.lanes:
             tags = row.lacks.get(lane.nodes[0], [])
-            last = row.placed[-1]
             x, y = self.left + last.x + last.width + 8, middle[lane.nodes[0]]
             shown = tags if len(tags) <= 3 else [*tags[:2], f"and {len(tags) - 2} more"]
             for at, tag in enumerate(shown):

@@ -5,7 +5,6 @@ As a command it writes a report, or the text of `canely check`, as JSON lines, o
 
     tools/report.py [FILE]
 """
-import argparse
 import json
 import re
 import sys
@@ -21,6 +20,8 @@ from lines import HYPOTHESIS, NUMBER, SERVICE, SET, Lines, Malformed, nodes_of, 
 # The classes of frames, in the order in which they win arbitration.
 CLASSES = ("accept", "rha", "els", "fda", "join", "leave", "confirm", "tot", "rel", "ed")
 REMOTE = ("accept", "els", "fda", "join", "leave", "confirm")
+# Those whose frames tell the incarnation of their sender.
+WITH_INCARNATION = ("rha", "els", "join", "leave")
 PARAMETERS = ("nodes", "lag", "omit", "errors", "bound", "cycle", "life", "silence", "confirm", "slots")
 
 # By format: the most nodes, the most of a frame's number, and the bytes of a vector.
@@ -262,6 +263,8 @@ class Reader:
         )
         if (frame.kind in REMOTE) != (payload is None):
             raise self.lines.fault(f"{frame.kind} frames are {'remote' if payload else 'data'} frames")
+        if frame.incarnation and frame.kind not in WITH_INCARNATION:
+            raise self.lines.fault(f"{frame.kind} frames tell no incarnation")
         if frame.kind == "rha" and len(frame.payload) != VECTOR_BYTES[self.format]:
             raise self.lines.fault(f"an rha frame of format {self.format} has {VECTOR_BYTES[self.format]} bytes")
         return frame
@@ -400,7 +403,7 @@ def json_lines(path):
 
 
 def main():
-    parser = argparse.ArgumentParser(prog="report.py", description="Writes a report, or the text of canely check, as JSON lines.")
+    parser = command.Parser(prog="report.py", description="Writes a report, or the text of canely check, as JSON lines.")
     parser.add_argument("file", nargs="?", help="the text; without it standard input")
     arguments = parser.parse_args()
     return command.run("report.py", lambda: json_lines(arguments.file))

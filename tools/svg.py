@@ -36,7 +36,8 @@ def width_of(words, size=10.0):
 
 def wrapped(words, width, size):
     """The words in lines of this width; a long set of nodes is broken after commas."""
-    most = int(width / width_of("0", size))
+    # the letters of a sentence are narrower than digits
+    most = int(width / (0.57 * size))
     parts = []
     for word in words.split(" "):
         parts.append(f" {word}")
