@@ -1,6 +1,8 @@
 """Charts and pictures: those that are stored are made again, and each of every report is whole and keeps its width."""
 import re
 import shlex
+import shutil
+import subprocess
 import xml.etree.ElementTree as ElementTree
 
 import chart
@@ -9,7 +11,7 @@ import picture
 import pictures
 import report as reports
 from draw import MOST_SLOT
-from readings import at_once, stored, tool
+from readings import LIMIT, at_once, stored, tool
 
 # By the name of a file of tools/expected: the script and its arguments that write it.
 EXPECTED = {
@@ -96,10 +98,14 @@ def check_pictures(root, tally):
 def check_page(root, tally):
     """The commands that docs/tools.md shows write what stands below them."""
     page = (root / "docs/tools.md").read_text(encoding="utf-8")
-    found = re.findall(r"(?m)^```\n\$ tools/(\S+ .*)\n((?:.*\n)*?)```", page)
-    tally.check(found, "docs/tools.md shows no command with what it writes")
-    for command, text in found:
-        tally.check(made(root, command) == (0, text.encode(), ""), f"docs/tools.md: tools/{command} writes something else")
+    found = re.findall(r"(?m)^```\n\$ (\S+)( .*)\n((?:.*\n)*?)```", page)
+    tally.check(len(found) > 3, "docs/tools.md shows no commands with what they write")
+    for name, words, text in found:
+        if "/" not in name and not shutil.which(name):
+            print(f"drawing: {name} is not here, so its example in docs/tools.md is not tried")
+            continue
+        ran = subprocess.run(["bash", "-c", name + words], cwd=root, stdin=subprocess.DEVNULL, stdout=subprocess.PIPE, stderr=subprocess.PIPE, timeout=LIMIT)
+        tally.check(ran.stdout.decode() == text, f"docs/tools.md: {name}{words} writes something else: {ran.stderr.decode()[-300:]}")
 
 
 def check(root, tally):

@@ -48,15 +48,13 @@ class Layout:
 
     def wrapped(self, start, remarks):
         """The line of a slot, and below it what has no room in it."""
-        words = "; ".join(remarks)
-        if not words:
+        if not remarks:
             return [start.rstrip()]
         if self.is_beside:
-            lines = textwrap.wrap(words, self.width - self.remarks, break_long_words=False, break_on_hyphens=False)
+            lines = flow(remarks, self.width - self.remarks, "; ")
             return [(start if at == 0 else "").ljust(self.remarks) + line for at, line in enumerate(lines)]
         indent = " " * (self.slot + 2)
-        lines = textwrap.wrap(words, self.width, initial_indent=indent, subsequent_indent=indent, break_on_hyphens=False)
-        return [start.rstrip(), *lines]
+        return [start.rstrip(), *(indent + line for line in flow(remarks, self.width - len(indent), "; "))]
 
 
 def letters_of(report, column):
@@ -74,15 +72,17 @@ def gap(layout, column):
     return f"{'':{layout.slot}}  ... {column.before} slot{'s' if column.before > 1 else ''}{frames}"
 
 
-def flow(items, width):
-    """The items in lines, none of them broken."""
-    line = ""
-    for item in items:
-        if line and len(line) + 3 + len(item) > width:
-            yield line
-            line = ""
-        line += f"   {item}" if line else item
-    yield line
+def flow(items, width, between):
+    """The items in lines; only one that is longer than a line is broken."""
+    lines = [""]
+    for at, item in enumerate(items):
+        item += between.rstrip() if at + 1 < len(items) else ""
+        gap = between[len(between.rstrip()) :]
+        if lines[-1] and len(lines[-1]) + len(gap) + len(item) <= width:
+            lines[-1] += gap + item
+        else:
+            lines += textwrap.wrap(item, width, break_on_hyphens=False)
+    return [line for line in lines if line]
 
 
 def paragraph(text, width):
@@ -106,8 +106,10 @@ def chart(report, shown, check, title, width):
         yield from layout.wrapped(start, verdict + sets + happenings(column))
     if not shown:
         yield "nothing happened in these slots"
-    yield ""
-    for finding in findings(report, check):
+    for at, finding in enumerate(findings(report, check)):
+        if at == 0:
+            yield ""
         yield from paragraph(("! " if finding.is_bad else "- ") + finding.words, width)
+    yield ""
     legend = [f"{letter} {words}" for letter, words in WORDS.items() if letter in used]
-    yield from flow(legend + (["blank stopped"] if " " in used else []), width)
+    yield from flow(legend + (["blank stopped"] if " " in used else []), width, "   ")

@@ -65,7 +65,7 @@ def columns(report, first, last, everything):
                     members = entry.members
             is_reached = life.acts < report.parameters["slots"] and (life.stopped is None or life.acts <= life.stopped)
             if life.number and is_reached:
-                column(life.acts).notes.append(Note(f"{life.node} takes part", False))
+                column(life.acts).notes.append(Note(f"node {life.node} takes part", False))
     if report.first_break:
         column(report.first_break.slot).notes.append(Note(f"outside: {report.first_break.kind}", True))
     chosen = [found[slot] for slot in sorted(found) if first <= slot <= last]
@@ -146,12 +146,13 @@ def entry_words(entry):
     if isinstance(entry, Delivery):
         return "deliver", f"{entry.service} {entry.origin} {entry.seq}"
     if isinstance(entry, Failure):
-        return "find", f"{entry.node} failed (cycle {entry.cycle})"
+        return "find", f"node {entry.node} failed (cycle {entry.cycle})"
     return "install", f"view {entry.number}: {spans(entry.members)}"
 
 
 def sentence(nodes, verb, rest=""):
-    return f"{spans(nodes)} {verb}{'s' if len(nodes) == 1 else ''} {rest}".rstrip()
+    is_one = len(nodes) == 1
+    return f"{'node' if is_one else 'nodes'} {spans(nodes)} {verb}{'s' if is_one else ''} {rest}".rstrip()
 
 
 def happenings(column):

@@ -7,7 +7,7 @@ FONT = "DejaVu Sans, Verdana, Helvetica, Arial, sans-serif"
 
 def short(number):
     """A coordinate with at most one digit after the point."""
-    return f"{number:.1f}".removesuffix(".0")
+    return re.sub(r"\.0$", "", f"{number:.1f}")
 
 
 def attributes(given):
