@@ -28,7 +28,7 @@ class Column:
     frames_before: int = 0
     """How many of these carried a frame."""
     changes_views: bool = False
-    """Whether a node installs a view in it with other members than those of its view before."""
+    """Whether a node installs its first view in it, or one with other members than those of its view before."""
 
     @property
     def frame(self):
@@ -41,10 +41,15 @@ class Column:
         return not self.entries and not self.notes and bus is not None and bus.verdict == "clean" and not bus.stopped and not bus.restarted
 
     @property
+    def is_faulty(self):
+        """Whether its frame met an error that somebody saw or did not see, or a node stopped."""
+        return bool(self.bus and (self.bus.stopped or self.bus.verdict not in ("clean", None)))
+
+    @property
     def is_remarkable(self):
-        """Whether it has more than frames without errors, and deliveries."""
-        bus, has_more = self.bus, self.changes_views or any(isinstance(it, Failure) for entries in self.entries.values() for it in entries)
-        return bool(has_more or self.notes or bus and (bus.stopped or bus.restarted or bus.verdict not in ("clean", None)))
+        """Whether it has more than a frame without an error, deliveries, and views that are those before."""
+        has_failure = any(isinstance(it, Failure) for entries in self.entries.values() for it in entries)
+        return bool(has_failure or self.changes_views or self.notes or self.is_faulty or self.bus and self.bus.restarted)
 
 
 def columns(report, first, last, everything):
@@ -61,7 +66,7 @@ def columns(report, first, last, everything):
                 here = column(entry.slot)
                 here.entries.setdefault(life.node, []).append(entry)
                 if isinstance(entry, View):
-                    here.changes_views |= members not in (None, entry.members)
+                    here.changes_views |= entry.members != members
                     members = entry.members
             is_reached = life.acts < report.parameters["slots"] and (life.stopped is None or life.acts <= life.stopped)
             if life.number and is_reached:
@@ -76,28 +81,34 @@ def is_life_sign(column):
     return column.is_quiet and column.frame is not None and column.frame.kind == "els"
 
 
+# How many columns before and after one with a fault are shown with it.
+BEFORE_FAULT, AFTER_FAULT = 1, 2
+
+
 def fold(chosen, most):
-    """At most so many columns: first those without more than a frame go, then those with deliveries alone, then the last."""
-    known = {it.slot: it for it in chosen}
-    frames = {it.slot: it.frames_before for it in chosen}
-    for wanted in (lambda it: not it.is_quiet, lambda it: it.is_remarkable):
-        if len(chosen) > most:
-            chosen = [it for it in chosen if wanted(it)]
-    kept = {it.slot for it in chosen[:most]}
-    # what is left out now stands before the next that stays
-    count = 0
-    for slot, column in known.items():
-        count += frames[slot]
-        if slot in kept:
-            column.frames_before, count = count, 0
+    """At most so many columns. Where there are more, first come those that are remarkable, and then those around a fault; where
+    none is remarkable, those with deliveries; and where none has any, the first."""
+    if len(chosen) <= most:
+        return chosen
+    remarkable = [at for at, it in enumerate(chosen) if it.is_remarkable]
+    around = [at + by for at in remarkable if chosen[at].is_faulty for by in range(-BEFORE_FAULT, AFTER_FAULT + 1)]
+    told = [at for at, it in enumerate(chosen) if it.entries]
+    kept = dict.fromkeys(remarkable + [at for at in around if 0 <= at < len(chosen)] or told or range(len(chosen)))
+    return without_others(chosen, set(list(kept)[:most]))
+
+
+def without_others(chosen, kept):
+    """The columns at the kept places; each tells how many slots are left out before it now."""
+    found, frames, last = [], 0, None
+    for at, column in enumerate(chosen):
+        frames += column.frames_before
+        if at in kept:
+            column.before = column.slot - last - 1 if last is not None else 0
+            column.frames_before, frames, last = frames, 0, column.slot
+            found.append(column)
         else:
-            count += column.frame is not None
-    chosen = chosen[:most]
-    for it in chosen[:1]:
-        it.before = 0
-    for before, it in zip(chosen, chosen[1:]):
-        it.before = it.slot - before.slot - 1
-    return chosen
+            frames += column.frame is not None
+    return found
 
 
 def with_gaps(chosen, found):

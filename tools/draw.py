@@ -17,8 +17,8 @@ from verdict import read_check
 
 LEAST_CHART_WIDTH, LEAST_PAGE_WIDTH, PAGE_WIDTH, MOST_WIDTH = 40, 560, 1000, 100_000
 MOST_SLOT = 10**9
-# More columns than these no page shows: those with the least in them go.
-MOST_COLUMNS = 150
+# More columns than these no page shows, and more marks of nodes: those with the least in them go.
+MOST_COLUMNS, MOST_MARKS = 150, 3_000
 
 
 def arguments():
@@ -50,7 +50,7 @@ def draw(given):
     if given.svg:
         from picture import picture
 
-        shown = shown if given.all else fold(shown, MOST_COLUMNS)
+        shown = shown if given.all else fold(shown, min(MOST_COLUMNS, MOST_MARKS // len(report.nodes)))
         width = max(given.width or PAGE_WIDTH, LEAST_PAGE_WIDTH)
         lines = picture(report, shown, check, given.title, width, given.each)
     else:

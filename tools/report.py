@@ -8,7 +8,6 @@ As a command it writes a report, or the text of `canely check`, as JSON lines, o
 import json
 import re
 import sys
-from bisect import bisect_right
 from dataclasses import dataclass, field
 from typing import NamedTuple, Optional
 
@@ -163,9 +162,7 @@ class Report:
 
     def incarnation_in(self, node, slot):
         """The incarnation of the node that ran in the slot, or None."""
-        lives = self.nodes[node]
-        at = bisect_right([life.first for life in lives], slot) - 1
-        return lives[at] if at >= 0 and lives[at].runs_in(slot) else None
+        return next((life for life in self.nodes[node] if life.runs_in(slot)), None)
 
     def present(self):
         """The incarnations that run at the end: those of the correct nodes."""
