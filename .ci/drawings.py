@@ -19,6 +19,7 @@ EXPECTED = {
     "edcan_sender_stops_after_partial.narrow.chart": "draw.py scenarios/edcan_sender_stops_after_partial.report --width 40",
     "restart_joins.chart": "draw.py scenarios/restart_joins.report --width 90",
     "restart_joins.part.chart": "draw.py scenarios/restart_joins.report --all --from 70 --to 120 --title 'A part' --width 60",
+    "a_restart_between_two_copies.chart": "draw.py scenarios/a_restart_between_two_copies.report --width 80",
     "thirty_two_nodes.chart": "draw.py scenarios/thirty_two_nodes.report --width 72",
     "thirty_two_nodes.narrow.chart": "draw.py scenarios/thirty_two_nodes.report --width 44",
     "silent_omission_is_outside.chart": "draw.py scenarios/silent_omission_is_outside.report --check tools/expected/silent_omission_is_outside.check --width 72",

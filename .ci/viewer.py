@@ -11,6 +11,10 @@ PLACE = """(() => {{
 }})()"""
 
 
+# Of a frame of class ed that was sent or accepted, of one that was rejected, and of one that a node read as idle.
+GREEN, RED, WHITE = [0, 158, 115], [198, 40, 40], [255, 255, 255]
+
+
 class Page:
     """The viewer, and what is asked of it."""
 
@@ -25,6 +29,14 @@ class Page:
     def point(self, slot, node):
         self.page.painted()
         self.page.mouse("mouseMoved", *self.page.value(PLACE.format(slot=slot, node=node)))
+
+    def has_colour(self, slot, node, wanted):
+        """What stands in the middle of the mark of a node."""
+        self.page.painted()
+        place = PLACE.format(slot=slot, node=node)
+        inside = f"(([x, y], box) => [...context.getImageData(x - box.x, y - box.y, 1, 1).data].slice(0, 3))({place}, canvas.getBoundingClientRect())"
+        found = self.page.value(inside)
+        self.tally.check(found == wanted, f"the viewer: the mark of node {node} in slot {slot} has the colour {found}, and not {wanted}")
 
     def click(self, slot, node):
         self.page.painted()
@@ -43,6 +55,8 @@ def check_reading(view):
     view.says("pointing at node 1 in slot 1", "#lines", "bus 1 ed 0 0 x01 from 0 to 1 partial stop 0\nnode 1: deliver 1 ed 0 0 x01")
     view.point(3, 2)
     view.says("pointing at node 2 in slot 3", "#lines", "bus 3 ed 0 0 x01 from 2 to 1 clean")
+    for slot, node, colour in ((1, 1, GREEN), (1, 2, RED), (2, 1, GREEN), (2, 2, GREEN)):
+        view.has_colour(slot, node, colour)
     view.page.drop_file(400, 300, view.root / "scenarios/silent_omission_is_outside.report")
     view.page.wait("document.querySelector('#name').textContent.startsWith('silent')")
     said = "3 nodes, 45 slots, 6 lines of the bus, 2 entries, bound 36, cycle 72; outside the hypothesis since slot 1 (silent)"
@@ -72,6 +86,7 @@ def check_filters(view):
     """Classes and nodes come and go, and with them the slots that have nothing else."""
     view.opens("restart_joins")
     view.says("opened", "#count", "13 slots")
+    view.has_colour(145, 1, WHITE)
     view.page.click_on("#classes input[data-value='1']")
     view.says("without rha", "#count", "8 slots")
     view.page.click_on("#no-classes")
