@@ -1,10 +1,7 @@
 """A whole run on one strip of a picture: when each node ran, where faults were, and how busy the bus was."""
-from bisect import bisect_left
-
-from columns import spans
-from marks import GREEN, GREY, PALE, RED, SHADES, VIEW
+from marks import GREEN, GREY, PALE, RED
 from report import Failure, View
-from svg import element, short, text, tooltip, width_of
+from svg import element, short, text, tooltip
 
 MOST_LABELLED = 16
 LOAD = 22

@@ -2,7 +2,7 @@
 from typing import NamedTuple
 
 import marks
-from columns import GONE, IDLE, MUTED, Column, did, findings, spans, summary
+from columns import GONE, Column, did, findings, spans, summary
 from marks import GREEN, GREY, INK, PALE, RED, SHADES
 from overview import Overview
 from report import Delivery, View

@@ -3,7 +3,7 @@ import re
 from dataclasses import dataclass
 from typing import NamedTuple, Optional
 
-from lines import HYPOTHESIS, NUMBER, SERVICE, SET, Lines, nodes_of, number, set_text, shown
+from lines import HYPOTHESIS, NUMBER, SERVICE, SET, Lines, nodes_of, number, shown
 
 JUDGEMENT = r"(?P<judgement>held|broken|open)"
 COUNTS = " ".join(rf"{fate} (?P<{fate}>{NUMBER})" for fate in ("all", "none", "apart", "open"))
