@@ -8,8 +8,8 @@ use Rattle.can_bus.specs.Controllers.{AreControllersFor, NoneLags}
 use Rattle.cany_world.proofs.SlotFacts.{can_restart, may_slot, none_lags, controllers_for, slot_stands_after}
 use Rattle.cany_world.proofs.slot.run_slot.Goals as goal
 
-pub slot-requires-clause-row : goal.slot-requires-clause-row
-slot-requires-clause-row c =
+pub slot-requires-clause-each_node : goal.slot-requires-clause-each_node
+slot-requires-clause-each_node c =
     subst (λ (p : Parameters). AreControllersFor p c.args.controllers.now) (sym c.requires.stands.bus.params)
     (controllers_for c.args.scenario.now (run c.args.scenario.now c.requires.journal) c.args.controllers.now c.requires.stands.controllers)
 
