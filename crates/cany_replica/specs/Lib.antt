@@ -1,0 +1,5 @@
+pub mod Agreement
+pub mod Fold
+pub mod ReplicaText
+pub mod Table
+pub mod ValueBytes
