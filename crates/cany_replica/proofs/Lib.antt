@@ -3,3 +3,4 @@ pub mod FoldFacts
 pub mod LineFacts
 pub mod Rows
 pub mod TextFacts
+pub mod TopFacts

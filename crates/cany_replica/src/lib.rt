@@ -11,6 +11,7 @@ mod reply;
 mod row;
 mod table;
 mod text;
+mod top;
 mod value;
 
 pub use answer::Answer;
@@ -18,6 +19,7 @@ pub use fold::table_of;
 pub use reply::Reply;
 pub use table::Table;
 pub use text::write_replica;
+pub use top::replica_top;
 pub use value::Value;
 
 #[cfg(test)]
