@@ -58,15 +58,6 @@ count_applied (View slot number members ∷ entries) = count-no is_applied (View
 abbrev pub replies : TableParts → List Content → List ℕ
 replies table ms = concat (map reply_line (answers_after table ms))
 
-pub no_reply : (answers : List Answer) (old : Option (List ℕ)) (n : ℕ) → ◌≡◌ {A = List Answer} [] answers → IsWritten (concat (map reply_line answers)) (Ok tt) old old n n
-no_reply answers old n none = subst (λ (l : List Answer). IsWritten (concat (map reply_line l)) (Ok tt) old old n n) none (IsWritten-nothing old n)
-
-pub one_reply : (a : Answer) (answers : List Answer) (r : Result (Unit {0}) Failed) (s0 s1 : Option (List ℕ)) (n0 n1 : ℕ) → a ∷ [] ≡ answers
-    → IsWritten (reply_line a) r s0 s1 n0 n1 → IsWritten (concat (map reply_line answers)) r s0 s1 n0 n1
-one_reply a answers r s0 s1 n0 n1 is written =
-    subst (λ (l : List Answer). IsWritten (concat (map reply_line l)) r s0 s1 n0 n1) is
-    (subst (λ (t : List ℕ). IsWritten t r s0 s1 n0 n1) (sym (append-nil (reply_line a))) written)
-
 replies-append : (table : TableParts) (xs ys : List Content) → replies table (xs ++ ys) ≡ replies table xs ++ replies (table_after table xs) ys
 replies-append table xs ys =
     ap (λ (l : List Answer). concat (map reply_line l)) (answers-append table xs ys)

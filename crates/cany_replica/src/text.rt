@@ -1,13 +1,14 @@
 //! The text of a run.
-ghost use Rattle.std.specs.Prelude.{◌≡◌, ◌<◌, count_by, map, OnOk};
+ghost use Rattle.std.specs.Prelude.{◌≡◌, ◌<◌, count_by, map, option_to_list, OnOk};
 ghost use Rattle.std.specs.List.{concat, flat_map, range_with_len};
 ghost use Rattle.cany_log.specs.Written.{IsWritten};
-ghost use Rattle.cany_model.specs.Promises.Order.{tot_content, tot_deliveries};
+ghost use Rattle.cany_model.specs.Promises.Order.{tot_deliveries};
 ghost use Rattle.cany_replica.specs.Fold as folded;
 ghost use Rattle.cany_replica.specs.Fold.{answers_after, table_after};
 ghost use Rattle.cany_replica.specs.ReplicaText.{key_lines, node_lines, replica_text, reply_line, value_lines};
 ghost use Rattle.cany_world.specs.World.{state_of};
 
+use crate::answer::Answer;
 use crate::fold::is_applied;
 use crate::lines::{write_first_line, write_key, write_last_line, write_node_line, write_reply};
 use crate::table::Table;
@@ -24,13 +25,12 @@ fn applied_in(log: &[LogEntry]) -> usize
     log.iter().filter(|entry| is_applied(entry)).count()
 }
 
-/// Applies what an entry of a log delivers by TOTCAN, and writes the reply.
-fn write_answer<K: Sink>(table: &mut Table, entry: &LogEntry, sink: &mut K) -> Result<(), Failed>
-    ensures table { table.new ≡ table_after table.old (tot_content entry.now) }
-    ensures written { IsWritten (concat (map reply_line (answers_after table.old (tot_content entry.now)))) result
+/// Writes the reply to a message, where there is one.
+fn write_answer<K: Sink>(answer: Option<Answer>, sink: &mut K) -> Result<(), Failed>
+    ensures { IsWritten (concat (map reply_line (option_to_list answer))) result
         (K.taken sink.old) (K.taken sink.new) (K.faults sink.old) (K.faults sink.new) }
 {
-    match table.take_in(entry) {
+    match answer {
         Some(answer) => write_reply(&answer, sink),
         None => Ok(()),
     }
@@ -43,7 +43,8 @@ fn write_answers<K: Sink>(table: &mut Table, log: &[LogEntry], sink: &mut K) -> 
         (K.taken sink.old) (K.taken sink.new) (K.faults sink.old) (K.faults sink.new) }
 {
     for entry in log {
-        write_answer(table, entry, sink)?;
+        let answer = table.take_in(entry);
+        write_answer(answer, sink)?;
     }
     Ok(())
 }

@@ -13,10 +13,10 @@ loop-entry-init g c = record { table = refl; written = replies-nothing c.args.ta
 
 pub loop-entry-preserved : goal.loop-entry-preserved
 loop-entry-preserved g c = record {
-  table = c.in_ok-write_answer.ensures.table ∙ ap (λ table. table_after table (tot_content c.entry-item.result)) c.loop-entry.invariant.table
+  table = c.take_in-answer.ensures.table ∙ ap (λ table. table_after table (tot_content c.entry-item.result)) c.loop-entry.invariant.table
       ∙ next_table c.args.table.now c.args.log.now c.loop-entry.entry-index c.entry-item.result c.loop-entry-test.true c.entry-item.is;
   written = replies-next _ _ _ _ _ _ _ _ _ _ _ c.loop-entry-test.true c.entry-item.is c.loop-entry.invariant.table c.loop-entry.invariant.written
-      c.in_ok-write_answer.ensures.written;
+      (rw c.take_in-answer.ensures.answer at c.in_ok-write_answer.ensures);
 }
 
 pub returns-in_err-write_answer : goal.returns-in_err-write_answer
@@ -25,7 +25,7 @@ returns-in_err-write_answer g c =
     rw p.1 (record {
       table = tt;
       written = replies-cut _ _ _ _ _ _ _ _ _ _ _ _ c.loop-entry-test.true c.entry-item.is c.loop-entry.invariant.table c.loop-entry.invariant.written
-          c.in_err-write_answer.ensures.written;
+          (rw c.take_in-answer.ensures.answer at c.in_err-write_answer.ensures);
     })
 
 pub returns : goal.returns
