@@ -1,5 +1,5 @@
 -- What a command writes for a text, by what was read of it and by what the command chose to run.
-use Rattle.std.proofs.Common.{◌≡◌, ℕ, List, Option, None, Ok, Err, IsOkAnd, refl, sym, subst}
+use Rattle.std.proofs.Common.{◌≡◌, ℕ, List, Option, None, Ok, Err, IsOkAnd, sym, subst}
 use Rattle.std.specs.Option.{option_map_or}
 use Rattle.cany_base.specs.Scenario.{ScenarioParts}
 use Rattle.cany_io.specs.Sink.{Takes, TakesPrefix}
@@ -10,16 +10,11 @@ use Rattle.cany_text.specs.RefusalLines.{journal_refusal_line, scenario_refusal_
 use Rattle.cany_text.specs.ScenarioText.{scenario_of}
 use Rattle.cany_text.specs.TomlKeys.{Read}
 use Rattle.cany_command.specs.Answers.{IsAnswered, OfChosen, RunText, answer_by, answer_for, answer_if, answer_to}
-use Rattle.cany_command.specs.Promises.{HasRun, KeepsPromises, PromisesHold}
+use Rattle.cany_command.specs.Promises.{KeepsPromises}
 use Rattle.cany_command.specs.Refused.{Chosen, own_fault}
 use Rattle.cany_world.specs.World.{WorldParts}
 
 -- ---- the run that has ended
-
-pub has_run : (scenario : ScenarioParts) (world : WorldParts) → world ≡ record { scenario = scenario; journal = journal_of scenario } → KeepsPromises scenario
-    → HasRun world
-has_run scenario world is promises =
-    subst HasRun (sym is) (record { journal = refl; promises = promises })
 
 pub run_answered : (text : RunText) (scenario : ScenarioParts) (world : WorldParts) (old new : Option (List ℕ))
     → world ≡ record { scenario = scenario; journal = journal_of scenario } → KeepsPromises scenario → Takes old (text world.scenario world.journal) new

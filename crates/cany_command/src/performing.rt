@@ -110,7 +110,7 @@ pub fn perform<C: Command, S: Source, K: Sink>(
     // The words, the text, the scenario or the journal is refused.
     ensures refused { let said = map string_bytes words.now in result ≡ REFUSED → MatchOption (C.words_refusal said)
         (IfSome (S.left source.old) (λ bytes. IsSomeAnd (refusal_by (C.choose said) bytes) (λ line.
-            Takes (K.taken sink.old) line (K.taken sink.new))))
+        Takes (K.taken sink.old) line (K.taken sink.new))))
         (λ line. Takes (K.taken sink.old) line (K.taken sink.new)) }
 
     // The streams fail.
@@ -118,7 +118,7 @@ pub fn perform<C: Command, S: Source, K: Sink>(
     ensures write_fault { result ≡ WRITE_FAULT → HasRisen (K.faults sink.old) (K.faults sink.new) }
     ensures prefix { let said = map string_bytes words.now in result ≡ WRITE_FAULT → MatchOption (C.words_refusal said)
         (IfSome (S.left source.old) (λ bytes.
-            TakesPrefix (K.taken sink.old) (answer_by (C.text said) (C.choose said) bytes) (K.taken sink.new)))
+        TakesPrefix (K.taken sink.old) (answer_by (C.text said) (C.choose said) bytes) (K.taken sink.new)))
         (λ line. TakesPrefix (K.taken sink.old) line (K.taken sink.new)) }
 
     // The source has too many bytes, or all of them were read.
