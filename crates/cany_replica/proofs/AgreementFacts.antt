@@ -1,5 +1,5 @@
 -- Tables follow the one order of TOTCAN.
-use Rattle.std.proofs.Common.{◌≡◌, ℕ, suc, ◌+◌, ◌<◌, ◌≤◌, ◌⊎◌, ◌==◌, ◌&&◌, inl, inr, Bool, true, false, List, [], ◌∷◌, ◌++◌, length, take, drop, count_by, Contains, refl, ap, sym, subst, ◌∙◌, arith, length-append}
+use Rattle.std.proofs.Common.{◌≡◌, ℕ, ◌+◌, ◌<◌, ◌≤◌, ◌==◌, ◌&&◌, inl, inr, Bool, true, false, List, [], ◌∷◌, ◌++◌, length, take, drop, count_by, Contains, refl, ap, sym, subst, ◌∙◌, arith, length-append}
 use Rattle.std.specs.Prelude.{if◌then◌else◌}
 use Rattle.std.proofs.lemmas.Bool.{cases_lt, eq-eqb}
 use Rattle.std.proofs.lemmas.List.{take-take, take-append-drop}
@@ -12,15 +12,15 @@ use Rattle.cany_base.specs.declared.message.Service.TheVariants.{Tot}
 use Rattle.cany_base.specs.Scenario.{ScenarioParts}
 use Rattle.cany_model.specs.Bus.State.{RunState, node_at}
 use Rattle.cany_model.specs.Promises.Entries.{delivers_key}
-use Rattle.cany_model.specs.Promises.Order.{Content, HasOneOrder, order, tot_content, tot_deliveries}
-use Rattle.cany_model.specs.Promises.Safe.{IsIntegral, IsSafe}
+use Rattle.cany_model.specs.Promises.Order.{Content, order, tot_deliveries}
+use Rattle.cany_model.specs.Promises.Safe.{IsSafe}
 use Rattle.cany_model.specs.Promises.Settled.{IsCorrect, IsCorrectFrom}
 use Rattle.cany_model.specs.Rules.Log.{log}
 use Rattle.cany_model.specs.Rules.Messages.{is_service}
 -- of some element of a list, and of counts
 use Rattle.cany_model.proofs.Among.{Among, Among-from_Contains, Among-weaker, count-from_Among, count-grows, count-no, count-yes, count-cons}
 use Rattle.cany_replica.specs.declared.answer.Answer.{Answer}
-use Rattle.cany_replica.specs.Agreement.{AreEqual, FollowsTable, HasOneTable}
+use Rattle.cany_replica.specs.Agreement.{FollowsTable, HasOneTable}
 use Rattle.cany_replica.specs.Fold.{answers_after, answers_of, table_after, table_of}
 use Rattle.cany_replica.specs.ReplicaText.{applied}
 use Rattle.cany_replica.specs.Table.{TableParts, apply, empty_table}

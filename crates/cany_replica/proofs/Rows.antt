@@ -40,7 +40,7 @@ use Rattle.cany_replica.specs.declared.reply.Reply.{Reply}
 use Rattle.cany_replica.specs.declared.reply.Reply.TheVariants.{Stored, Removed, Absent, Swapped, Kept, Ignored}
 use Rattle.cany_replica.specs.Fold.{answers_after, table_after}
 use Rattle.cany_replica.specs.ReplicaText.{first_line, key_line, key_lines, last_line, node_line, node_lines, replica_lines, replica_text, reply_line, reply_name}
-use Rattle.cany_replica.specs.Table.{TableParts, apply, command_of, empty_table, obey, value_at}
+use Rattle.cany_replica.specs.Table.{apply, command_of, empty_table, obey, value_at}
 
 -- ten slots of three nodes, with everything else by default
 unfoldable ten_slots : List SendAsk → ScenarioParts

@@ -1,6 +1,6 @@
 -- The text, part by part.
-use Rattle.std.proofs.Common.{◌≡◌, ℕ, ◌+◌, ◌<◌, ◌≤◌, Bool, true, false, List, [], ◌∷◌, ◌++◌, length, map, take, drop, get_or, count_by, Option, Some, None, Ok, Err, refl, sym, ◌∙◌, ap, subst, append_assoc, append-nil, arith}
-use Rattle.std.specs.Prelude.{Result, if◌then◌else◌}
+use Rattle.std.proofs.Common.{◌≡◌, ℕ, ◌+◌, ◌<◌, Bool, true, false, List, [], ◌∷◌, ◌++◌, length, map, take, drop, get_or, count_by, Option, Ok, Err, refl, sym, ◌∙◌, ap, subst, append-nil, arith}
+use Rattle.std.specs.Prelude.{if◌then◌else◌}
 use Rattle.std.specs.List.{concat, flat_map, range_with_len}
 use Rattle.std.proofs.lemmas.List.{map-append, take-append-drop}
 use Rattle.std.proofs.lemmas.List.Folds.{concat-append}
@@ -18,7 +18,7 @@ use Rattle.cany_log.proofs.ReportFacts.{concat-flat_map}
 use Rattle.cany_log.proofs.WrittenFacts.{IsWritten-nothing, IsWritten-short, IsWritten-then}
 use Rattle.cany_log.specs.Written.{IsWritten}
 use Rattle.cany_model.proofs.Among.{count-no, count-yes}
-use Rattle.cany_model.specs.Bus.State.{RunState, node_at}
+use Rattle.cany_model.specs.Bus.State.{node_at}
 use Rattle.cany_model.specs.declared.breaks.Break.{Break}
 use Rattle.cany_model.specs.Promises.Hypothesis.{first_break}
 use Rattle.cany_model.specs.Promises.Order.{Content, tot_content, tot_deliveries}
@@ -28,9 +28,9 @@ use Rattle.cany_model.specs.Runs.Run.{run}
 use Rattle.cany_text.specs.ReportLines.{hypothesis_line}
 use Rattle.cany_replica.specs.declared.answer.Answer.{Answer}
 use Rattle.cany_replica.specs.Fold.{answers_after, answers_of, is_applied, table_after, table_of}
-use Rattle.cany_replica.specs.ReplicaText.{applied, first_line, key_line, key_lines, last_line, node_line, node_lines, replica_lines, replica_text, reply_line, value_lines}
+use Rattle.cany_replica.specs.ReplicaText.{first_line, key_lines, last_line, node_line, node_lines, replica_lines, replica_text, reply_line, value_lines}
 use Rattle.cany_replica.specs.Table.{TableParts, empty_table, value_at}
-use Rattle.cany_replica.proofs.FoldFacts.{answers-append, next_delivery, table-append}
+use Rattle.cany_replica.proofs.FoldFacts.{answers-append, next_delivery}
 
 -- ---- how many messages a log applies
 

@@ -1,6 +1,6 @@
 -- What success says of a run.
-use Rattle.std.proofs.Common.{◌≡◌, ℕ, List, Option, Some, None, Ok, Err, IsOkAnd}
-use Rattle.std.specs.Prelude.{IfSome, Result}
+use Rattle.std.proofs.Common.{ℕ, List, Option, Some, None, Ok, Err, IsOkAnd}
+use Rattle.std.specs.Prelude.{IfSome}
 use Rattle.cany_base.specs.Scenario.{ScenarioParts}
 use Rattle.cany_command.specs.Answers.{IsAnswered}
 use Rattle.cany_model.specs.Runs.Follow.{journal_of}

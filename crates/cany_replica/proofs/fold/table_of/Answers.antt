@@ -1,4 +1,4 @@
-use Rattle.std.proofs.Common.{refl, ◌∙◌, ap}
+use Rattle.std.proofs.Common.{◌∙◌, ap}
 use Rattle.cany_model.specs.Promises.Order.{tot_content}
 use Rattle.cany_replica.specs.Fold.{table_after}
 use Rattle.cany_replica.specs.Table.{empty_table}

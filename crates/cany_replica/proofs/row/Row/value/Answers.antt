@@ -1,4 +1,4 @@
-use Rattle.std.proofs.Common.{◌∙◌, ap, arith, length}
+use Rattle.std.proofs.Common.{ap, arith, length}
 use Rattle.cany_replica.proofs.LineFacts.{payload_length, value_done, value_room}
 use Rattle.cany_replica.proofs.row.Row.value.Goals as goal
 

@@ -1,4 +1,4 @@
-use Rattle.std.proofs.Common.{suc, ◌≤◌, arith, refl}
+use Rattle.std.proofs.Common.{suc, arith, refl}
 use Rattle.cany_replica.proofs.value.Value.after_key.Goals as goal
 
 pub invariant_of-result : goal.invariant_of-result
