@@ -5,8 +5,8 @@
 mod answer;
 mod command;
 mod fold;
-mod lines;
 pub mod laws;
+mod lines;
 mod reply;
 mod row;
 mod table;

@@ -102,6 +102,9 @@ fn texts(rt: HostRuntime) -> Result<(), Fail> {
         call(alloc, "replica", &[3], BEGIN)?,
         call(alloc, "replicas", &[], "")?,
     ];
-    assert_eq!(rt; seen, [(DONE, true), (WRITE_FAULT, true), (OTHER_WORDS, true)]);
+    assert_eq!(rt;
+        seen,
+        [(DONE, true), (WRITE_FAULT, true), (OTHER_WORDS, true)]
+    );
     Ok(())
 }
