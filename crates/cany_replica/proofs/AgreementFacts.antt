@@ -21,7 +21,7 @@ use Rattle.cany_model.specs.Rules.Messages.{is_service}
 use Rattle.cany_model.proofs.Among.{Among, Among-from_Contains, Among-weaker, count-from_Among, count-grows, count-no, count-yes, count-cons}
 use Rattle.cany_replica.specs.declared.answer.Answer.{Answer}
 use Rattle.cany_replica.specs.Agreement.{FollowsTable, HasOneTable}
-use Rattle.cany_replica.specs.Fold.{answers_after, answers_of, table_after, table_of}
+use Rattle.cany_replica.specs.Fold.{replies_after, replies_of, table_after, table_of}
 use Rattle.cany_replica.specs.ReplicaText.{applied}
 use Rattle.cany_replica.specs.Table.{TableParts, apply, empty_table}
 use Rattle.cany_replica.proofs.FoldFacts.{answers-append}
@@ -64,13 +64,13 @@ one_of (x ∷ xs) a b key ka kb once (inr ha) (inr hb) =
 abbrev has_key : MsgKey → Content → Bool
 has_key key m = is_key key m.msg
 
-count-answers : (key : MsgKey) (table : TableParts) (ms : List Content) → count_by (answers_key key) (answers_after table ms) ≡ count_by (has_key key) ms
-unfolding answers_after
+count-answers : (key : MsgKey) (table : TableParts) (ms : List Content) → count_by (answers_key key) (replies_after table ms) ≡ count_by (has_key key) ms
+unfolding replies_after
 count-answers key table [] = refl
 count-answers key table (m ∷ ms) =
     let t : TableParts = (apply table m.payload).0 in
     let a : Answer = record { msg = m.msg; reply = (apply table m.payload).1 } in
-    omega (arith, count-cons (answers_key key) a (answers_after t ms), count-cons (has_key key) m ms, count-answers key t ms)
+    omega (arith, count-cons (answers_key key) a (replies_after t ms), count-cons (has_key key) m ms, count-answers key t ms)
 
 -- one delivery more, if it is one of TOTCAN
 count-more : (key : MsgKey) (b : Bool) (m : Content) (ms : List Content) (d : Bool) (n k : ℕ) → count_by (has_key key) ms ≤ n
@@ -114,7 +114,7 @@ module _ (scenario : ScenarioParts) (s : RunState) (safe : IsSafe scenario s) wh
       record {
         few = omega (arith, ap length all, length-append (applied scenario s i) follows.rest);
         table = ap table_of cut;
-        answers = ap answers_of cut;
+        answers = ap replies_of cut;
       }
 
   from_zero : (i : ℕ) → IsCorrectFrom scenario s 0 i → (node_at s.nodes i).present.from ≡ 0
@@ -134,22 +134,22 @@ module _ (scenario : ScenarioParts) (s : RunState) (safe : IsSafe scenario s) wh
 
   -- where the first node applied no more messages than the second
   reply_below : (i j : ℕ) → IsCorrectFrom scenario s 0 i → IsCorrectFrom scenario s 0 j → (a b : Answer)
-      → Contains (answers_of (applied scenario s i)) a → Contains (answers_of (applied scenario s j)) b → a.msg ≡ b.msg
+      → Contains (replies_of (applied scenario s i)) a → Contains (replies_of (applied scenario s j)) b → a.msg ≡ b.msg
       → length (applied scenario s i) ≤ length (applied scenario s j) → a.reply ≡ b.reply
   reply_below i j hi hj a b ha hb same le =
       let xs = applied scenario s i in
       let ys = applied scenario s j in
       let more = shorter xs ys (safe.order i hi.correct).rest (safe.order j hj.correct).rest (order scenario s 0) (whole_order i hi) (whole_order j hj) le in
-      let parts = ap answers_of more ∙ answers-append empty_table xs (drop (length xs) ys) in
-      let there : Contains (answers_of ys) a = subst (λ (l : List Answer). Contains l a) (sym parts)
-      (Contains-append_left (answers_of xs) (answers_after (table_after empty_table xs) (drop (length xs) ys)) a ha) in
+      let parts = ap replies_of more ∙ answers-append empty_table xs (drop (length xs) ys) in
+      let there : Contains (replies_of ys) a = subst (λ (l : List Answer). Contains l a) (sym parts)
+      (Contains-append_left (replies_of xs) (replies_after (table_after empty_table xs) (drop (length xs) ys)) a ha) in
       let once = safe.integrity.once j hj.correct b.msg in
-      one_of (answers_of ys) a b b.msg same refl
+      one_of (replies_of ys) a b b.msg same refl
       (omega (arith, once, count-answers b.msg empty_table ys, count-delivered b.msg (log scenario s j)))
-      (Among-from_Contains (answers_of ys) a there) (Among-from_Contains (answers_of ys) b hb)
+      (Among-from_Contains (replies_of ys) a there) (Among-from_Contains (replies_of ys) b hb)
 
   one_reply_of : (i j : ℕ) → IsCorrectFrom scenario s 0 i → IsCorrectFrom scenario s 0 j → (a b : Answer)
-      → Contains (answers_of (applied scenario s i)) a → Contains (answers_of (applied scenario s j)) b → a.msg ≡ b.msg → a.reply ≡ b.reply
+      → Contains (replies_of (applied scenario s i)) a → Contains (replies_of (applied scenario s j)) b → a.msg ≡ b.msg → a.reply ≡ b.reply
   one_reply_of i j hi hj a b ha hb same = elim (cases_lt (length (applied scenario s i)) (length (applied scenario s j))) [
     | inl less ↦ reply_below i j hi hj a b ha hb same (omega (arith, less))
     | inr le ↦ sym (reply_below j i hj hi b a hb ha (sym same) le)
@@ -159,6 +159,6 @@ module _ (scenario : ScenarioParts) (s : RunState) (safe : IsSafe scenario s) wh
   one_table = record {
     follows = λ i correct. follows_from i (node_at s.nodes i).present.from correct refl;
     from_the_start = λ i h. follows_from i 0 h.correct (from_zero i h);
-    equal = λ i j hi hj same. record { tables = ap table_of (same_list i j hi hj same); answers = ap answers_of (same_list i j hi hj same) };
+    equal = λ i j hi hj same. record { tables = ap table_of (same_list i j hi hj same); answers = ap replies_of (same_list i j hi hj same) };
     one_reply = one_reply_of;
   }

@@ -4,7 +4,7 @@ use Rattle.std.proofs.lemmas.List.{take_more}
 use Rattle.std.proofs.lemmas.Grind.{flat_map-append}
 use Rattle.cany_base.specs.declared.log_entry.LogEntry.{LogEntry}
 use Rattle.cany_model.specs.Promises.Order.{Content, tot_content, tot_deliveries}
-use Rattle.cany_replica.specs.Fold.{answers_after, table_after}
+use Rattle.cany_replica.specs.Fold.{replies_after, table_after}
 use Rattle.cany_replica.specs.Table.{TableParts, apply}
 
 pub table-append : (table : TableParts) (xs ys : List Content) → table_after table (xs ++ ys) ≡ table_after (table_after table xs) ys
@@ -13,8 +13,8 @@ table-append table [] ys = refl
 table-append table (x ∷ xs) ys = table-append (apply table x.payload).0 xs ys
 
 pub answers-append : (table : TableParts) (xs ys : List Content)
-    → answers_after table (xs ++ ys) ≡ answers_after table xs ++ answers_after (table_after table xs) ys
-unfolding table_after answers_after
+    → replies_after table (xs ++ ys) ≡ replies_after table xs ++ replies_after (table_after table xs) ys
+unfolding table_after replies_after
 answers-append table [] ys = refl
 answers-append table (x ∷ xs) ys =
     ap (λ later. record { msg = x.msg; reply = (apply table x.payload).1 } ∷ later) (answers-append (apply table x.payload).0 xs ys)

@@ -38,9 +38,9 @@ use Rattle.cany_model.specs.Rules.Views.{after_ask, with_ended, view_effects}
 use Rattle.cany_model.specs.Bus.Waiting.{put_in_order}
 use Rattle.cany_replica.specs.declared.reply.Reply.{Reply}
 use Rattle.cany_replica.specs.declared.reply.Reply.TheVariants.{Stored, Removed, Absent, Swapped, Kept, Ignored}
-use Rattle.cany_replica.specs.Fold.{answers_after, table_after}
+use Rattle.cany_replica.specs.Fold.{replies_after, table_after}
 use Rattle.cany_replica.specs.ReplicaText.{first_line, key_line, key_lines, last_line, node_line, node_lines, replica_lines, replica_text, reply_line, reply_name}
-use Rattle.cany_replica.specs.Table.{apply, command_of, empty_table, obey, value_at}
+use Rattle.cany_replica.specs.Table.{apply, change_of, empty_table, make_change, value_at}
 
 -- ten slots of three nodes, with everything else by default
 unfoldable ten_slots : List SendAsk → ScenarioParts
@@ -62,7 +62,7 @@ send slot node service payload = record { slot = slot; node = node; service = se
 
 -- the text of the run by round robin
 unfoldable text_of : List SendAsk → List ℕ
-unfolding ten_slots digits line_of hypothesis_line payload_text table_after answers_after command_of obey first_line last_line node_line reply_line reply_name key_line key_lines node_lines replica_lines replica_text has bits_where those_where same_class same_identity same_frame is_before messages_after node_at put_in_order least_frame winner script share_of after_share slot_note_of node_after nodes_after after_slot names_restart after_entries nodes_after_entries after_restarts is_hidden as_seen history copies has_own waiting_after entered eager_effects delivery_effects edcan_at edcan_effects fell_back relcan_at timer_effects relcan_effects send_effects tot_in is_recent after_place is_heard is_accepted accept_effects closing_effects is_clear done_from delivered_tot delivered_now totcan_effects shows_life after_life with_signs told found after_notice knowledge_of sign_effects fda_copy_effects failure_effects failures_at life_signs_sent life_effects brought met is_just is_covered is_new vector_effects end_effects start_effects exchange_at exchange_effects after_ask with_ended view_effects install_effects ask_effects backlog asked backlog_effects is_service turn_effects has_asked log_from first_lagging reply after_turn proceed after_step run_from round rounds break_at first_break count_together
+unfolding ten_slots digits line_of hypothesis_line payload_text table_after replies_after change_of make_change first_line last_line node_line reply_line reply_name key_line key_lines node_lines replica_lines replica_text has bits_where those_where same_class same_identity same_frame is_before messages_after node_at put_in_order least_frame winner script share_of after_share slot_note_of node_after nodes_after after_slot names_restart after_entries nodes_after_entries after_restarts is_hidden as_seen history copies has_own waiting_after entered eager_effects delivery_effects edcan_at edcan_effects fell_back relcan_at timer_effects relcan_effects send_effects tot_in is_recent after_place is_heard is_accepted accept_effects closing_effects is_clear done_from delivered_tot delivered_now totcan_effects shows_life after_life with_signs told found after_notice knowledge_of sign_effects fda_copy_effects failure_effects failures_at life_signs_sent life_effects brought met is_just is_covered is_new vector_effects end_effects start_effects exchange_at exchange_effects after_ask with_ended view_effects install_effects ask_effects backlog asked backlog_effects is_service turn_effects has_asked log_from first_lagging reply after_turn proceed after_step run_from round rounds break_at first_break count_together
 text_of sends = replica_text (ten_slots sends) (round_robin (ten_slots sends))
 
 -- a message of TOTCAN gives a key its value, at each node
@@ -132,7 +132,7 @@ ignored = record { reply = Ignored; five = Some (170 ∷ []); six = Some [] }
 
 -- what a message makes of a table in which key 5 has the byte 170, and key 6 no bytes
 unfoldable after : List ℕ → Answered
-unfolding table_after command_of obey
+unfolding table_after change_of make_change
 after payload =
     let table = table_after empty_table (
     record { msg = record { origin = 0; seq = 0 }; payload = 1 ∷ 5 ∷ 170 ∷ [] } ∷ record { msg = record { origin = 0; seq = 1 }; payload = 1 ∷ 6 ∷ [] } ∷ []) in

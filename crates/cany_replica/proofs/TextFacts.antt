@@ -27,7 +27,7 @@ use Rattle.cany_model.specs.Rules.Messages.{is_service}
 use Rattle.cany_model.specs.Runs.Run.{run}
 use Rattle.cany_text.specs.ReportLines.{hypothesis_line}
 use Rattle.cany_replica.specs.declared.answer.Answer.{Answer}
-use Rattle.cany_replica.specs.Fold.{answers_after, answers_of, is_applied, table_after, table_of}
+use Rattle.cany_replica.specs.Fold.{replies_after, replies_of, is_applied, table_after, table_of}
 use Rattle.cany_replica.specs.ReplicaText.{first_line, key_lines, last_line, node_line, node_lines, replica_lines, replica_text, reply_line, value_lines}
 use Rattle.cany_replica.specs.Table.{TableParts, empty_table, value_at}
 use Rattle.cany_replica.proofs.FoldFacts.{answers-append, next_delivery}
@@ -56,20 +56,20 @@ count_applied (View slot number members ∷ entries) = count-no is_applied (View
 
 -- the lines of the replies to messages
 abbrev pub replies : TableParts → List Content → List ℕ
-replies table ms = concat (map reply_line (answers_after table ms))
+replies table ms = concat (map reply_line (replies_after table ms))
 
 replies-append : (table : TableParts) (xs ys : List Content) → replies table (xs ++ ys) ≡ replies table xs ++ replies (table_after table xs) ys
 replies-append table xs ys =
     ap (λ (l : List Answer). concat (map reply_line l)) (answers-append table xs ys)
-    ∙ ap concat (map-append reply_line (answers_after table xs) (answers_after (table_after table xs) ys))
-    ∙ concat-append (map reply_line (answers_after table xs)) (map reply_line (answers_after (table_after table xs) ys))
+    ∙ ap concat (map-append reply_line (replies_after table xs) (replies_after (table_after table xs) ys))
+    ∙ concat-append (map reply_line (replies_after table xs)) (map reply_line (replies_after (table_after table xs) ys))
 
 -- the first entries of a log
 abbrev pub first_replies : TableParts → List LogEntry → ℕ → List ℕ
 first_replies table entries i = replies table (tot_deliveries (take i entries))
 
 pub replies-nothing : (table : TableParts) (entries : List LogEntry) (old : Option (List ℕ)) (n : ℕ) → IsWritten (first_replies table entries 0) (Ok tt) old old n n
-unfolding answers_after
+unfolding replies_after
 replies-nothing table entries old n = IsWritten-nothing old n
 
 next_replies : (table : TableParts) (entries : List LogEntry) (i : ℕ) (entry : LogEntry) → i < length entries → entry ≡ get_or entries i entry
@@ -128,7 +128,7 @@ unfolding node_lines
 node_text_is scenario journal i inc count stopped entries log_is inc_is stopped_is count_is =
     let ms = tot_deliveries entries in
     rw (← log_is, ← inc_is, ← stopped_is, count_is ∙ count_applied entries)
-    (ap (λ r. node_line i inc stopped (length ms) ++ r) (concat-append (map reply_line (answers_of ms)) (key_lines (table_of ms))))
+    (ap (λ r. node_line i inc stopped (length ms) ++ r) (concat-append (map reply_line (replies_of ms)) (key_lines (table_of ms))))
 
 -- what is written of each
 abbrev pub node_part : ScenarioParts → List Step → ℕ → List ℕ

@@ -18,14 +18,14 @@ unfoldable pub table_after : TableParts → List Content → TableParts
 table_after table [] = table
 table_after table (m ∷ later) = table_after (apply table m.payload).0 later
 
-unfoldable pub answers_after : TableParts → List Content → List Answer
-answers_after table [] = []
-answers_after table (m ∷ later) =
-    record { msg = m.msg; reply = (apply table m.payload).1 } ∷ answers_after (apply table m.payload).0 later
+unfoldable pub replies_after : TableParts → List Content → List Answer
+replies_after table [] = []
+replies_after table (m ∷ later) =
+    record { msg = m.msg; reply = (apply table m.payload).1 } ∷ replies_after (apply table m.payload).0 later
 
 -- from the empty table on
 abbrev pub table_of : List Content → TableParts
 table_of messages = table_after empty_table messages
 
-abbrev pub answers_of : List Content → List Answer
-answers_of messages = answers_after empty_table messages
+abbrev pub replies_of : List Content → List Answer
+replies_of messages = replies_after empty_table messages

@@ -1,4 +1,5 @@
--- The text of the command: for each node the replies to the messages that its present incarnation delivered by TOTCAN, and its table.
+-- The text of the command: for each node the replies to the messages that its present incarnation delivered by TOTCAN, and its
+-- table.
 use Rattle.std.specs.Prelude.{ℕ, ◌==◌, if◌then◌else◌, List, [], ◌∷◌, ◌++◌, length, map, Option, Some, None, codes, decimal}
 use Rattle.std.specs.List.{concat, flat_map, range_with_len}
 use Rattle.std.specs.Option.{option_map_or}
@@ -13,7 +14,7 @@ use Rattle.cany_text.specs.ReportLines.{byte_text, hypothesis_line, line_of, pay
 use Rattle.cany_replica.specs.declared.answer.Answer.{Answer}
 use Rattle.cany_replica.specs.declared.reply.Reply.{Reply}
 use Rattle.cany_replica.specs.declared.reply.Reply.TheVariants.{Stored, Removed, Absent, Swapped, Kept, Ignored}
-use Rattle.cany_replica.specs.Fold.{answers_of, table_of}
+use Rattle.cany_replica.specs.Fold.{replies_of, table_of}
 use Rattle.cany_replica.specs.Table.{TableParts, value_at}
 
 unfoldable pub first_line : List ℕ
@@ -68,7 +69,7 @@ applied scenario s i = tot_deliveries (log scenario s i)
 unfoldable pub node_lines : ScenarioParts → RunState → ℕ → List (List ℕ)
 node_lines scenario s i =
     node_line i (node_at s.nodes i).present.number (node_at s.nodes i).stopped (length (applied scenario s i))
-    ∷ map reply_line (answers_of (applied scenario s i))
+    ∷ map reply_line (replies_of (applied scenario s i))
     ++ key_lines (table_of (applied scenario s i))
 
 -- ---- the text

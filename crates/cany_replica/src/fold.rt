@@ -3,7 +3,7 @@ ghost use Rattle.std.specs.Prelude.{◌≡◌, ◌∷◌, [], option_to_list};
 ghost use Rattle.cany_base.specs.declared.message.Service.TheVariants.{Tot};
 ghost use Rattle.cany_model.specs.Promises.Order.{tot_content, tot_deliveries};
 ghost use Rattle.cany_model.specs.Rules.Messages.{is_service};
-ghost use Rattle.cany_replica.specs.Fold.{answers_after, table_after};
+ghost use Rattle.cany_replica.specs.Fold.{replies_after, table_after};
 ghost use Rattle.cany_replica.specs.Fold as folded;
 
 use crate::answer::Answer;
@@ -30,10 +30,10 @@ pub(crate) fn is_applied(entry: &LogEntry) -> bool
 
 impl Table {
     /// Answers a message.
-    #[tactic(auto, unfolding(crate::specs::Fold::table_after, crate::specs::Fold::answers_after))]
+    #[tactic(auto, unfolding(crate::specs::Fold::table_after, crate::specs::Fold::replies_after))]
     fn answer(&mut self, msg: MsgKey, payload: &Payload) -> Answer
         ensures table { self.new ≡ table_after self.old (record { msg = msg; payload = payload.now } ∷ []) }
-        ensures answer { result ∷ [] ≡ answers_after self.old (record { msg = msg; payload = payload.now } ∷ []) }
+        ensures answer { result ∷ [] ≡ replies_after self.old (record { msg = msg; payload = payload.now } ∷ []) }
     {
         let reply = self.apply(payload);
         Answer { msg, reply }
@@ -41,10 +41,10 @@ impl Table {
 
     /// Applies what an entry of a log delivers by TOTCAN. Any other entry changes nothing, and has
     /// no answer.
-    #[tactic(auto, unfolding(crate::specs::Fold::table_after, crate::specs::Fold::answers_after))]
+    #[tactic(auto, unfolding(crate::specs::Fold::table_after, crate::specs::Fold::replies_after))]
     pub(crate) fn take_in(&mut self, entry: &LogEntry) -> Option<Answer>
         ensures table { self.new ≡ table_after self.old (tot_content entry.now) }
-        ensures answer { option_to_list result ≡ answers_after self.old (tot_content entry.now) }
+        ensures answer { option_to_list result ≡ replies_after self.old (tot_content entry.now) }
     {
         match *entry {
             LogEntry::Deliver {

@@ -3,7 +3,7 @@
 #![tactic(auto)]
 
 mod answer;
-mod command;
+mod change;
 mod fold;
 pub mod laws;
 mod lines;

@@ -1,9 +1,9 @@
 ghost use Rattle.std.specs.Prelude.{◌≡◌, ◌<◌};
-ghost use Rattle.cany_replica.specs.declared.command.Command.TheVariants.{Remove, Swap};
+ghost use Rattle.cany_replica.specs.declared.change.Change.TheVariants.{Remove, Swap};
 ghost use Rattle.cany_replica.specs.Table as parts;
-ghost use Rattle.cany_replica.specs.Table.{empty_table, is_byte, obey, value_at, with_value};
+ghost use Rattle.cany_replica.specs.Table.{empty_table, is_byte, make_change, value_at, with_value};
 
-use crate::command::Command;
+use crate::change::Change;
 use crate::reply::Reply;
 use crate::value::Value;
 use cany_base::Payload;
@@ -51,7 +51,7 @@ impl Table {
     pub fn apply(&mut self, payload: &Payload) -> Reply
         ensures { (self.new, result) ≡ parts.apply self.old payload.now }
     {
-        self.obey(&Command::of(payload))
+        self.make_change(&Change::of(payload))
     }
 
     fn set(&mut self, key: u8, value: Option<Value>)
@@ -60,24 +60,24 @@ impl Table {
         self.values[usize::from(key)] = value;
     }
 
-    #[tactic(auto, unfolding(crate::specs::Table::obey))]
-    fn obey(&mut self, command: &Command) -> Reply
-        ensures { (self.new, result) ≡ obey self.old command.now }
+    #[tactic(auto, unfolding(crate::specs::Table::make_change))]
+    fn make_change(&mut self, change: &Change) -> Reply
+        ensures { (self.new, result) ≡ make_change self.old change.now }
     {
-        match *command {
-            Command::Store { key, value } => {
+        match *change {
+            Change::Store { key, value } => {
                 self.set(key, Some(value));
                 Reply::Stored
             }
-            Command::Remove { key } => self.remove(key),
-            Command::Swap { key, from, to } => self.swap(key, from, to),
-            Command::Nothing => Reply::Ignored,
+            Change::Remove { key } => self.remove(key),
+            Change::Swap { key, from, to } => self.swap(key, from, to),
+            Change::Nothing => Reply::Ignored,
         }
     }
 
-    #[tactic(auto, unfolding(crate::specs::Table::obey))]
+    #[tactic(auto, unfolding(crate::specs::Table::make_change))]
     fn remove(&mut self, key: u8) -> Reply
-        ensures { (self.new, result) ≡ obey self.old (Remove key) }
+        ensures { (self.new, result) ≡ make_change self.old (Remove key) }
     {
         let had = self.get(key).is_some();
         self.set(key, None);
@@ -94,9 +94,9 @@ impl Table {
         }
     }
 
-    #[tactic(auto, unfolding(crate::specs::Table::obey))]
+    #[tactic(auto, unfolding(crate::specs::Table::make_change))]
     fn swap(&mut self, key: u8, from: u8, to: u8) -> Reply
-        ensures { (self.new, result) ≡ obey self.old (Swap key from to) }
+        ensures { (self.new, result) ≡ make_change self.old (Swap key from to) }
     {
         if self.has_byte(key, from) {
             self.set(key, Some(Value::of_byte(to)));

@@ -1,4 +1,5 @@
-//! What no clause says: that calls succeed where nothing is wanting. Whole runs are in `scenarios/`.
+//! What no clause says: that calls succeed where nothing is wanting. Whole runs are in
+//! `scenarios/`.
 
 use crate::{Reply, Table, replica_top, table_of};
 use cany_base::{LogEntry, MsgKey, NodeId, Payload, Service};

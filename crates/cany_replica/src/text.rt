@@ -4,7 +4,7 @@ ghost use Rattle.std.specs.List.{concat, flat_map, range_with_len};
 ghost use Rattle.cany_log.specs.Written.{IsWritten};
 ghost use Rattle.cany_model.specs.Promises.Order.{tot_deliveries};
 ghost use Rattle.cany_replica.specs.Fold as folded;
-ghost use Rattle.cany_replica.specs.Fold.{answers_after, table_after};
+ghost use Rattle.cany_replica.specs.Fold.{replies_after, table_after};
 ghost use Rattle.cany_replica.specs.ReplicaText.{key_lines, node_lines, replica_text, reply_line, value_lines};
 ghost use Rattle.cany_world.specs.World.{state_of};
 
@@ -39,7 +39,7 @@ fn write_answer<K: Sink>(answer: Option<Answer>, sink: &mut K) -> Result<(), Fai
 /// Applies what a log delivers by TOTCAN, and writes the replies.
 fn write_answers<K: Sink>(table: &mut Table, log: &[LogEntry], sink: &mut K) -> Result<(), Failed>
     ensures table { OnOk result (table.new ≡ table_after table.old (tot_deliveries log.now)) }
-    ensures written { IsWritten (concat (map reply_line (answers_after table.old (tot_deliveries log.now)))) result
+    ensures written { IsWritten (concat (map reply_line (replies_after table.old (tot_deliveries log.now)))) result
         (K.taken sink.old) (K.taken sink.new) (K.faults sink.old) (K.faults sink.new) }
 {
     for entry in log {

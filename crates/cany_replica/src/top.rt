@@ -78,8 +78,8 @@ impl Command for Replica {
     ghost no_fault = { done_is_no_fault };
 }
 
-/// Keeps a table at each node by the messages that it delivers by TOTCAN: reads a scenario text from
-/// the source, runs the scenario by its own journal or, where it has none, by its round robin
+/// Keeps a table at each node by the messages that it delivers by TOTCAN: reads a scenario text
+/// from the source, runs the scenario by its own journal or, where it has none, by its round robin
 /// journal, and writes the replies and the tables of the nodes to the sink, a line at a time. It
 /// answers the status of the program, one of those in `cany_command::status`. The words are the one
 /// word `replica`; causes are looked at in this order: the words, the reading, the text, the
