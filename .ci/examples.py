@@ -9,6 +9,10 @@ from words import pages, spans_of
 REMARK = r"\s{2,}.*"
 
 
+# A text of a run begins so, of whichever command.
+BEGIN = ("canely report ", "canely replica ")
+
+
 def is_part(lines, whole):
     """Whether the lines stand in the whole in this order."""
     rest = iter(whole)
@@ -18,7 +22,7 @@ def is_part(lines, whole):
 def check_report(place, lines, reports, tally):
     """A block with lines of a report has the lines of one report, in its order; one that begins as a report does has all of them."""
     lines = [re.sub(REMARK, "", it) for it in lines]
-    if lines[0].startswith("canely report ") and lines[-1] == "end":
+    if lines[0].startswith(BEGIN) and lines[-1] == "end":
         tally.check(lines in reports.values(), f"{place}: the report is that of no scenario")
     else:
         tally.check(any(is_part(lines, it) for it in reports.values()), f"{place}: the lines are in no report of scenarios/ in this order")
@@ -28,7 +32,7 @@ def check_block(place, lines, reports, texts, built, tally):
     text = "\n".join(lines)
     if not lines:
         return
-    if lines[0].startswith("canely report ") or all(re.match(r"(bus|node|deliver|view|failed|message|hypothesis) ", it) for it in lines):
+    if lines[0].startswith(BEGIN) or all(re.match(r"(bus|node|deliver|view|failed|message|hypothesis|reply|key) ", it) for it in lines):
         check_report(place, lines, reports, tally)
     elif re.match(r"(#.*\n)*format = ", text):
         tally.check(tomllib.loads(text) in texts, f"{place}: the scenario is none of scenarios/")

@@ -39,12 +39,12 @@ def call(program, arguments, stdin=b"", stdout=subprocess.PIPE):
     return ran.returncode, ran.stdout or b"", ran.stderr
 
 
-def try_all(root, texts, wanted):
-    """Replays each text by one `rt try`, which compares the output itself: status and whether the output was the wanted one, by name."""
+def try_all(root, words, texts, wanted):
+    """Runs each text by one `rt try`, which compares the output itself: status and whether the output was the wanted one, by name."""
     with tempfile.TemporaryDirectory() as folder:
         for name, text in texts.items():
             Path(folder, name).write_bytes(text)
-            Path(folder, f"{name}.args").write_text("replay\n")
+            Path(folder, f"{name}.args").write_text("".join(f"{word}\n" for word in words[name]))
             Path(folder, f"{name}.stdout").write_bytes(wanted[name])
         ran = subprocess.run(["rt", "try", "--cases", folder], cwd=root / "crates/canely", stdin=subprocess.DEVNULL, stdout=subprocess.PIPE, stderr=subprocess.STDOUT, text=True, errors="replace", timeout=TRY_LIMIT)
     lines = re.findall(r"(?m)^case=(\S+) run=ended status=(\d+) .*\boutput=(\w+)", ran.stdout)

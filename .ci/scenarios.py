@@ -1,4 +1,6 @@
-"""Runs each scenarios/NAME.toml, and compares status and output with scenarios/NAME.report, byte for byte."""
+"""Runs each scenarios/NAME.toml, and compares status and output with scenarios/NAME.report, byte for byte.
+
+It is run by `replay`, or by the words of scenarios/NAME.args, one a line, where that file is there."""
 import ast
 import re
 import tomllib
@@ -6,6 +8,12 @@ import tomllib
 import program as programs
 
 DONE, REFUSED = 0, 3
+
+
+def words_of(root, name):
+    """The arguments by which a scenario is run."""
+    words = root / f"scenarios/{name}.args"
+    return words.read_text(encoding="utf-8").split("\n")[:-1] if words.is_file() else ["replay"]
 
 
 def wanted_status(report):
@@ -21,13 +29,13 @@ def first_difference(wanted, found):
 
 
 def check_files(root, tally):
-    """Each scenario has a first line that says what it shows, and a report; no report is without a scenario."""
+    """Each scenario has a first line that says what it shows; no report and no arguments are without a scenario."""
     texts = sorted((root / "scenarios").glob("*.toml"))
     reports = sorted((root / "scenarios").glob("*.report"))
     tally.check(texts, "scenarios/ has no scenario")
     for it in texts:
         tally.check(it.read_text(encoding="utf-8").startswith("# "), f"scenarios/{it.name} does not begin with a comment that says what it shows")
-    for it in reports:
+    for it in [*reports, *sorted((root / "scenarios").glob("*.args"))]:
         tally.check(it.with_suffix(".toml") in texts, f"scenarios/{it.name} has no scenario beside it")
     return {it.stem: it.read_bytes() for it in texts}
 
@@ -41,9 +49,9 @@ def reports_of(root, tally, texts):
     return reports
 
 
-def check_runs(tally, program, texts, reports):
+def check_runs(root, tally, program, texts, reports):
     for name, report in reports.items():
-        status, output, error = programs.call(program, ["replay"], texts[name])
+        status, output, error = programs.call(program, words_of(root, name), texts[name])
         place, wanted = f"scenarios/{name}.toml by {program.name}", wanted_status(report)
         tally.check(status == wanted, f"{place} ends with status {status}, and not {wanted}; it says {error!r}")
         tally.check(output == report, f"{place} does not give its report: {first_difference(report, output)}")
@@ -51,7 +59,8 @@ def check_runs(tally, program, texts, reports):
 
 
 def check_tries(root, tally, texts, reports):
-    found = programs.try_all(root, {name: texts[name] for name in reports}, reports)
+    words = {name: words_of(root, name) for name in reports}
+    found = programs.try_all(root, words, {name: texts[name] for name in reports}, reports)
     for name, report in reports.items():
         status, is_wanted = found.get(name, (None, False))
         wanted = wanted_status(report)
@@ -75,7 +84,7 @@ def check(root, tally, built):
     texts = check_files(root, tally)
     reports = reports_of(root, tally, texts)
     for program in built:
-        check_runs(tally, program, texts, reports)
+        check_runs(root, tally, program, texts, reports)
     if not built:
         check_tries(root, tally, texts, reports)
     check_names(root, tally, texts)

@@ -15,6 +15,6 @@ no_offer node = elim (cases_lt node most_nodes) [
   | inr past ↦ get_or_past {X = Option FrameParts} (replicate most_nodes None) node None past
 ]
 
--- a row of no offers fits every format
+-- a table of no offers fits every format
 pub all_fit : (format : Format) → AllFit format (replicate {A = Option FrameParts} most_nodes None)
 all_fit format node f h = absurd (none-some f (sym (no_offer node) ∙ h))

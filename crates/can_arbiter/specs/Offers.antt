@@ -8,21 +8,21 @@ use Rattle.cany_base.specs.Nodes.{Nodes, has}
 use Rattle.can_frame.specs.Identifier.{FitsFormat}
 use Rattle.can_arbiter.specs.Levels.{levels_of}
 
--- the offers in the order of the nodes
-pub record OfferRow : Type 0 where
+-- the offers, one place for each node, in the order of the nodes
+pub record OfferTable : Type 0 where
   pub format : Format
   pub frames : List (Option FrameParts)
 
 -- what a node offers
-abbrev pub offer_at : OfferRow → ℕ → Option FrameParts
+abbrev pub offer_at : OfferTable → ℕ → Option FrameParts
 offer_at offers node = slice_index_or offers.frames node None
 
 -- whether a node offers a frame
-abbrev pub does_offer : OfferRow → ℕ → Bool
+abbrev pub does_offer : OfferTable → ℕ → Bool
 does_offer offers node = is_some (offer_at offers node)
 
 -- the levels that a node's frame sends, as a word; 0 where it offers none
-abbrev pub word_at : OfferRow → ℕ → ℕ
+abbrev pub word_at : OfferTable → ℕ → ℕ
 word_at offers node = option_map_or (levels_of offers.format) (offer_at offers node) 0
 
 -- the offered frames fit the format
@@ -31,7 +31,7 @@ AllFit format frames =
     (node : ℕ) (f : FrameParts) → slice_index_or frames node None ≡ Some f → FitsFormat format f
 
 -- a place for each node that there can be, and the set of the nodes that offer
-pub record IsRow (format : Format) (frames : List (Option FrameParts)) (offering : Nodes) : Type 0 where
+pub record IsOfferTable (format : Format) (frames : List (Option FrameParts)) (offering : Nodes) : Type 0 where
   pub whole : length frames ≡ most_nodes
   pub fit : AllFit format frames
   pub known : (node : ℕ) → has offering node ≡ is_some (slice_index_or frames node None)

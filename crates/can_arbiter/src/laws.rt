@@ -1,7 +1,7 @@
 ghost use Rattle.std.specs.Prelude.{◌≡◌, ◌<◌, ◌^◌, ◌↔◌, ℕ, Bool};
 ghost use Rattle.cany_base.specs.Frame.{FrameParts, key_of};
 ghost use Rattle.can_arbiter.specs.Levels.{Beats};
-ghost use Rattle.can_arbiter.specs.Offers.{OfferRow};
+ghost use Rattle.can_arbiter.specs.Offers.{OfferTable};
 ghost use Rattle.can_arbiter.specs.Outcome.{IsWinner};
 ghost use Rattle.can_arbiter.specs.Walk.{IsWalk, IsWalked};
 
@@ -22,5 +22,5 @@ pub fn walk_leaves_least()
 
 /// One frame wins at most.
 pub fn winner_is_unique()
-    ensures { (offers : OfferRow) (a b : FrameParts) → IsWinner offers a → IsWinner offers b → a ≡ b }
+    ensures { (offers : OfferTable) (a b : FrameParts) → IsWinner offers a → IsWinner offers b → a ≡ b }
 {}

@@ -17,13 +17,13 @@ pub struct Offers {
 }
 
 impl Model for Offers {
-    ghost use Rattle.can_arbiter.specs.Offers.{OfferRow, IsRow};
+    ghost use Rattle.can_arbiter.specs.Offers.{OfferTable, IsOfferTable};
 
-    ghost Value = { OfferRow };
+    ghost Value = { OfferTable };
 
     ghost view = { λ offers. record { format = offers.format; frames = offers.frames } };
 
-    ghost invariant = { λ offers. IsRow offers.format offers.frames offers.offering };
+    ghost invariant = { λ offers. IsOfferTable offers.format offers.frames offers.offering };
 }
 
 impl Offers {

@@ -11,7 +11,7 @@ use Rattle.cany_model.specs.Bus.Slot.{after_share, exceeds, share_of, stopping}
 use Rattle.cany_model.specs.Bus.State.{NodeState, node_at, runs}
 use Rattle.can_controller.specs.Controller.{ControllerState, SeenIsNodeAfter, node_state, seen, stopped_at}
 use Rattle.can_bus.specs.Each.{each}
-use Rattle.can_bus.specs.Row.{AreAfter, IsControllerOf, IsRowFor, controller_after, nodes_of}
+use Rattle.can_bus.specs.Controllers.{AreAfter, IsControllerOf, AreControllersFor, controller_after, nodes_of}
 use Rattle.can_bus.proofs.EachFacts.{get_each, length-each}
 use Rattle.can_bus.proofs.NodeFacts.{share_same, state_at}
 
@@ -58,7 +58,7 @@ are_after law bare scripted stops old new few stop e = record {
     note : SlotNote
     note = record bare { stops = stops }
 
--- ---- the row stays one
+-- ---- the controllers stay one of each node
 
 built_by : (p : Parameters) (note : SlotNote) (i : ℕ) (c : ControllerState) (running stops : Bool) → IsControllerOf p i c
     → IsControllerOf p i (if running then (if stops then stopped_at note.slot (seen note.slot (share_of i note) c) else seen note.slot (share_of i note) c) else c)
@@ -74,10 +74,10 @@ mapped : {X Y : Type 0} (f : X → Y) (o : Option X) (y : Y) → option_map f o 
 mapped f None y e = cc
 mapped f (Some x) y e = (x, (refl, cc))
 
-pub row_after : (p : Parameters) (note : SlotNote) (old new : List ControllerState) → AreAfter note old new → IsRowFor p old → IsRowFor p new
-row_after p note old new are row = record {
-  whole = are.whole ∙ row.whole;
+pub controllers_after_slot : (p : Parameters) (note : SlotNote) (old new : List ControllerState) → AreAfter note old new → AreControllersFor p old → AreControllersFor p new
+controllers_after_slot p note old new are each_node = record {
+  whole = are.whole ∙ each_node.whole;
   each = λ i c e.
       let was = mapped (controller_after i note) (slice_get old i) c (sym (are.each i) ∙ e) in
-      subst (λ (x : ControllerState). IsControllerOf p i x) was.1.1 (after_built p note i was.0 (row.each i was.0 was.1.0));
+      subst (λ (x : ControllerState). IsControllerOf p i x) was.1.1 (after_built p note i was.0 (each_node.each i was.0 was.1.0));
 }

@@ -17,7 +17,7 @@ use Rattle.cany_model.specs.Bus.Waiting.{waits_with}
 use Rattle.cany_model.proofs.Bus.Identities.{same_frame-true, same_frame_self}
 use Rattle.can_arbiter.specs.declared.arbitration.Outcome.{Outcome}
 use Rattle.can_arbiter.specs.declared.arbitration.Outcome.TheVariants.{Idle, Won}
-use Rattle.can_arbiter.specs.Offers.{OfferRow, offer_at}
+use Rattle.can_arbiter.specs.Offers.{OfferTable, offer_at}
 use Rattle.can_arbiter.specs.Outcome.{IsOutcome, IsWinner}
 use Rattle.can_controller.specs.Waiting.{LesserKeyWins}
 use Rattle.can_bus.specs.Contest.{AreOffering, AreOffersOf, IsContestOf, StandInOrder, HasSenders, frame_of}
@@ -90,7 +90,7 @@ below_all nodes f i past = elim (cases_lt i most_nodes) [
 ]
 
 -- one frame wins at most
-one_winner : (offers : OfferRow) (f g : FrameParts) → IsWinner offers f → IsWinner offers g → f ≡ g
+one_winner : (offers : OfferTable) (f g : FrameParts) → IsWinner offers f → IsWinner offers g → f ≡ g
 one_winner offers f g first second =
     let at_most : key_of offers.format f ≤ key_of offers.format g = first.least_key second.node g second.offered in
     let at_least : key_of offers.format g ≤ key_of offers.format f = second.least_key first.node f first.offered in
@@ -109,7 +109,7 @@ idle nodes set are none = record {
 
 -- ---- of what the nodes offer
 
-module _ (nodes : List NodeState) (offers : OfferRow) (lesser_wins : LesserKeyWins offers.format) (are : AreOffersOf nodes offers) where
+module _ (nodes : List NodeState) (offers : OfferTable) (lesser_wins : LesserKeyWins offers.format) (are : AreOffersOf nodes offers) where
   senders_are : (f : FrameParts) (senders : Nodes) → ((k : ℕ) → most_nodes ≤ k → node_at nodes k ≡ absent) → IsOutcome offers (Won f senders)
       → senders ≡ those_where (λ i. sends f (node_at nodes i))
   senders_are f senders past outcome =

@@ -1,12 +1,12 @@
 pub mod AfterFacts
 pub mod ContestFacts
+pub mod ControllersFor
 pub mod EachFacts
 pub mod KeptFacts
 pub mod NodeFacts
 pub mod NoteFacts
 pub mod OfferFacts
 pub mod RestFacts
-pub mod RowFacts
 pub mod SetFacts
 pub mod UnreadFacts
 pub mod WinnerFacts

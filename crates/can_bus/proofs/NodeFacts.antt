@@ -10,7 +10,7 @@ use Rattle.cany_model.specs.Bus.State.{NodeState, node_at, runs, absent}
 use Rattle.can_controller.specs.Controller.{ControllerState, node_state, seen, stopped_at}
 use Rattle.can_bus.specs.Contest.{seen_by, stopped_by}
 use Rattle.can_bus.specs.Each.{each}
-use Rattle.can_bus.specs.Row.{nodes_of, controller_after}
+use Rattle.can_bus.specs.Controllers.{nodes_of, controller_after}
 use Rattle.can_bus.proofs.EachFacts.{each-each, each_same, get_each}
 
 pub state_at : (controllers : List ControllerState) (i : ℕ) (c : ControllerState) → slice_get controllers i ≡ Some c → node_at (nodes_of controllers) i ≡ node_state c
@@ -60,7 +60,7 @@ runs_seen note controllers i =
     let at : 0 + i ≡ i = omega arith in
     runs_seen_from note 0 controllers i ∙ ap (λ k. runs (node_at (nodes_of controllers) i) && not (over_after note k (node_at (nodes_of controllers) i))) at
 
--- a controller of the row runs after its share where it has not stopped then
+-- a controller runs after its share where it has not stopped then
 pub runs_seen_at : (note : SlotNote) (controllers : List ControllerState) (i : ℕ) (c : ControllerState) → slice_get controllers i ≡ Some c
     → runs (node_at (nodes_of (each (seen_by note) 0 controllers)) i) ≡ is_none (seen_by note i c).stopped
 runs_seen_at note controllers i c at =

@@ -14,7 +14,7 @@ use Rattle.can_arbiter.specs.declared.arbitration.Outcome.TheVariants.{Won}
 use Rattle.can_controller.specs.Controller.{ControllerState}
 use Rattle.can_bus.specs.Contest.{IsContestOf, running_nodes, seen_by}
 use Rattle.can_bus.specs.Each.{each}
-use Rattle.can_bus.specs.Row.{nodes_of}
+use Rattle.can_bus.specs.Controllers.{nodes_of}
 use Rattle.can_bus.proofs.NodeFacts.{runs_seen}
 
 -- ---- the takers

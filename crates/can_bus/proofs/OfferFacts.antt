@@ -8,11 +8,11 @@ use Rattle.cany_base.specs.Nodes.{Nodes, has}
 use Rattle.cany_model.specs.Bus.Slot.{least_frame, offered}
 use Rattle.cany_model.specs.Bus.State.{NodeState, node_at, absent}
 use Rattle.can_frame.specs.Identifier.{FitsIdentifier}
-use Rattle.can_arbiter.specs.Offers.{OfferRow, offer_at}
+use Rattle.can_arbiter.specs.Offers.{OfferTable, offer_at}
 use Rattle.can_arbiter.proofs.RestFacts.{IsWithout, taken_out, left_in, was_in}
 use Rattle.can_controller.specs.Controller.{ControllerState}
 use Rattle.can_bus.specs.Contest.{AreOffering, AreOffersOf, StandInOrder}
-use Rattle.can_bus.specs.Row.{nodes_of}
+use Rattle.can_bus.specs.Controllers.{nodes_of}
 use Rattle.can_bus.proofs.NodeFacts.{state_past}
 
 no_frame_in_order : (format : Format) → StandInOrder format []
@@ -59,7 +59,7 @@ running_in_order format node e order = subst (StandInOrder format) (sym (offered
 -- ---- going over the nodes that offer
 
 -- what the nodes offer is put in, but for the rest, which offer too
-pub record OffersSoFar (format : Format) (nodes : List NodeState) (rest : ℕ → Bool) (offers : OfferRow) : Type 0 where
+pub record OffersSoFar (format : Format) (nodes : List NodeState) (rest : ℕ → Bool) (offers : OfferTable) : Type 0 where
   pub same_format : offers.format ≡ format
   pub within : (k : ℕ) → IsTrue (rest k) → is_some (least_frame (offered (node_at nodes k))) ≡ true
   pub put : (k : ℕ) → rest k ≡ false → offer_at offers k ≡ least_frame (offered (node_at nodes k))
@@ -67,7 +67,7 @@ pub record OffersSoFar (format : Format) (nodes : List NodeState) (rest : ℕ �
   pub fit : (k : ℕ) (f : FrameParts) → offer_at offers k ≡ Some f → FitsIdentifier format f
   pub in_order : (k : ℕ) → rest k ≡ false → StandInOrder format (offered (node_at nodes k))
 
-pub none_so_far : (format : Format) (nodes : List NodeState) (set : Nodes) (offers : OfferRow) → offers.format ≡ format → ((k : ℕ) → offer_at offers k ≡ None)
+pub none_so_far : (format : Format) (nodes : List NodeState) (set : Nodes) (offers : OfferTable) → offers.format ≡ format → ((k : ℕ) → offer_at offers k ≡ None)
     → AreOffering nodes set → OffersSoFar format nodes (has set) offers
 none_so_far format nodes set offers same none are = record {
   same_format = same;
@@ -89,7 +89,7 @@ if_elsewhere k i x y e = ap (λ b. cond b x y) (ne_eqb k i e)
 fits_some : (format : Format) (o : Option FrameParts) (f : FrameParts) → IfSome o (FitsIdentifier format) → o ≡ Some f → FitsIdentifier format f
 fits_some format o f fit e = subst (λ (p : Option FrameParts). IfSome p (FitsIdentifier format)) e fit
 
-pub one_more_offers : (format : Format) (nodes : List NodeState) (rest less : ℕ → Bool) (i : ℕ) (node : NodeState) (old new : OfferRow)
+pub one_more_offers : (format : Format) (nodes : List NodeState) (rest less : ℕ → Bool) (i : ℕ) (node : NodeState) (old new : OfferTable)
     → OffersSoFar format nodes rest old → IsWithout rest i less → node ≡ node_at nodes i → new.format ≡ old.format
     → ((k : ℕ) → offer_at new k ≡ (if k == i then least_frame (offered node) else offer_at old k))
     → IfSome (least_frame (offered node)) (FitsIdentifier old.format) → StandInOrder old.format (offered node) → OffersSoFar format nodes less new
@@ -121,19 +121,19 @@ one_more_offers format nodes rest less i node old new so out here same put fit i
 pub absent_offers : None ≡ least_frame (offered absent)
 absent_offers = least_of_none
 
--- a node that offers is one of the row
+-- a node that offers has a controller
 offers_within : (controllers : List ControllerState) (i : ℕ) → is_some (least_frame (offered (node_at (nodes_of controllers) i))) ≡ true → i < length controllers
 offers_within controllers i some = elim (cases_lt i (length controllers)) [
   | inl below ↦ below
   | inr past ↦ absurd (false≢true (ap is_some (absent_offers ∙ ap (λ n. least_frame (offered n)) (sym (state_past controllers i past))) ∙ some))
 ]
 
-pub rest_within : (format : Format) (controllers : List ControllerState) (rest : ℕ → Bool) (offers : OfferRow) (node i : ℕ)
+pub rest_within : (format : Format) (controllers : List ControllerState) (rest : ℕ → Bool) (offers : OfferTable) (node i : ℕ)
     → OffersSoFar format (nodes_of controllers) rest offers → IsTrue (rest node) → i ≡ node → i < length controllers
 rest_within format controllers rest offers node i so there at = rw at (offers_within controllers node (so.within node there))
 
 -- the rest is empty
-pub all_offers : (format : Format) (nodes : List NodeState) (rest : ℕ → Bool) (offers : OfferRow) → OffersSoFar format nodes rest offers
+pub all_offers : (format : Format) (nodes : List NodeState) (rest : ℕ → Bool) (offers : OfferTable) → OffersSoFar format nodes rest offers
     → ((k : ℕ) → rest k ≡ false) → AreOffersOf nodes offers
 all_offers format nodes rest offers so none = record {
   each = λ i. so.put i (none i);

@@ -11,7 +11,7 @@ use Rattle.cany_model.specs.declared.share.Share.TheVariants.{Idle, Took, Reject
 use Rattle.cany_model.specs.Bus.Slot.{Ruling, FaultScript, after_share, exceeds, transmission, lets_accept, least_frame, note_by, offered, sends, share_of, slot_note_of, stopping, winner, with_stops}
 use Rattle.cany_model.specs.Bus.State.{NodeState, node_at, original, runs}
 use Rattle.can_controller.specs.Controller.{ControllerState, node_state}
-use Rattle.can_bus.specs.Row.{IsSameBut, StandFor, nodes_of}
+use Rattle.can_bus.specs.Controllers.{IsSameBut, StandFor, nodes_of}
 
 -- the node in its first incarnation, with every notice read
 abbrev pub all_read : NodeState → NodeState

@@ -3,7 +3,7 @@ use Rattle.std.specs.Prelude.{◌≡◌, ℕ, List, length}
 use Rattle.cany_base.specs.declared.rule.Rule.{Rule}
 use Rattle.cany_base.specs.declared.slot_note.SlotNote.{SlotNote}
 use Rattle.cany_base.specs.Params.{Parameters}
-use Rattle.can_fault.specs.declared.name.FrameName.{FrameName}
+use Rattle.can_fault.specs.declared.identity.FrameIdentity.{FrameIdentity}
 use Rattle.can_fault.specs.Attempts.{AreCountsOf}
 use Rattle.can_fault.specs.Rules.{IsRuledBy}
 
@@ -12,7 +12,7 @@ use Rattle.can_fault.specs.Rules.{IsRuledBy}
 pub record BusParts : Type 0 where
   pub params : Parameters
   pub trace : List SlotNote
-  pub attempts : List (FrameName × ℕ)
+  pub attempts : List (FrameIdentity × ℕ)
   pub rules : ℕ
 
 -- the slots so far went by these rules, and the bus has room for all that they can do

@@ -9,7 +9,7 @@ use Rattle.cany_model.specs.Bus.State.{NodeState, node_at, runs}
 use Rattle.can_frame.specs.Identifier.{FitsIdentifier}
 use Rattle.can_arbiter.specs.declared.arbitration.Outcome.{Outcome}
 use Rattle.can_arbiter.specs.declared.arbitration.Outcome.TheVariants.{Idle, Won}
-use Rattle.can_arbiter.specs.Offers.{OfferRow, offer_at}
+use Rattle.can_arbiter.specs.Offers.{OfferTable, offer_at}
 use Rattle.can_controller.specs.Controller.{ControllerState, seen, stopped_at}
 
 -- of the frames that a controller waits with the first wins, and each other has a greater key
@@ -22,7 +22,7 @@ abbrev pub AreOffering : List NodeState → Nodes → Type 0
 AreOffering nodes set = (i : ℕ) → has set i ≡ is_some (least_frame (offered (node_at nodes i)))
 
 -- each node offers, of the frames that it waits with, the one that wins
-pub record AreOffersOf (nodes : List NodeState) (offers : OfferRow) : Type 0 where
+pub record AreOffersOf (nodes : List NodeState) (offers : OfferTable) : Type 0 where
   pub each : (i : ℕ) → offer_at offers i ≡ least_frame (offered (node_at nodes i))
   pub fit : (i : ℕ) (f : FrameParts) → offer_at offers i ≡ Some f → FitsIdentifier offers.format f
   pub in_order : (i : ℕ) → StandInOrder offers.format (offered (node_at nodes i))

@@ -5,7 +5,7 @@ ghost use Rattle.cany_base.specs.declared.rule.Rule.{Rule};
 ghost use Rattle.cany_model.specs.Bus.State.{NodeState};
 ghost use Rattle.can_bus.specs.Bus.{Follows};
 ghost use Rattle.can_bus.specs.Rest.{idle_note, idle_trace};
-ghost use Rattle.can_bus.specs.Row.{AreAfter, IsRowFor, NoneLags, StandFor};
+ghost use Rattle.can_bus.specs.Controllers.{AreAfter, AreControllersFor, NoneLags, StandFor};
 
 use crate::slot::run_slot;
 use crate::transmission::idle_note;
@@ -67,7 +67,7 @@ impl Bus {
     /// counter above the limit. `script` is the one that ruled the slots before, that of the
     /// scenario's rules.
     pub fn slot(&mut self, controllers: &mut [Controller], script: &Script) -> SlotNote
-        requires row { IsRowFor self.old.params controllers.old }
+        requires each_node { AreControllersFor self.old.params controllers.old }
         requires reading { NoneLags self.old.params.lag controllers.old }
         requires left { length self.old.trace < self.old.params.slots }
         requires follows { Follows script.now self.old }
@@ -81,7 +81,7 @@ impl Bus {
         ensures params { self.new.params ≡ self.old.params }
         ensures follows { Follows script.now self.new }
         ensures controllers { AreAfter result controllers.old controllers.new }
-        ensures row { IsRowFor self.new.params controllers.new }
+        ensures each_node { AreControllersFor self.new.params controllers.new }
     {
         let slot = self.trace.len() as Slot;
         let note = run_slot(slot, &self.params, controllers, &mut self.attempts, script);

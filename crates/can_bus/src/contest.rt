@@ -3,7 +3,7 @@ ghost use Rattle.std.specs.Prelude.{◌≡◌, ◌≤◌, ℕ, Some, length, sli
 ghost use Rattle.cany_base.specs.Limits.{most_nodes};
 ghost use Rattle.can_controller.specs.Controller.{ControllerState};
 ghost use Rattle.can_bus.specs.Contest.{AreOffering, IsContestOf};
-ghost use Rattle.can_bus.specs.Row.{nodes_of};
+ghost use Rattle.can_bus.specs.Controllers.{nodes_of};
 
 use crate::offers::put_offers;
 use can_arbiter::{Offers, Outcome, arbitrate};
@@ -18,7 +18,7 @@ pub(crate) fn contest(params: &Params, controllers: &[Controller], offering: Nod
     requires offering { AreOffering (nodes_of controllers.now) offering }
     ensures { IsContestOf (nodes_of controllers.now) result }
 {
-    // A row of offers is large, and most slots of a run need none.
+    // A table of offers is large, and most slots of a run need none.
     if offering.least().is_none() {
         return Outcome::Idle;
     }

@@ -5,7 +5,7 @@ ghost use Rattle.cany_base.specs.Nodes.{has};
 ghost use Rattle.cany_model.specs.Bus.Slot.{least_frame, offered};
 ghost use Rattle.can_controller.specs.Controller.{node_state};
 ghost use Rattle.can_bus.specs.Contest.{AreOffering, running_nodes};
-ghost use Rattle.can_bus.specs.Row.{nodes_of};
+ghost use Rattle.can_bus.specs.Controllers.{nodes_of};
 
 use crate::offers::offer_of;
 use can_controller::Controller;

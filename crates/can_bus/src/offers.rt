@@ -6,7 +6,7 @@ ghost use Rattle.can_frame.specs.Identifier.{FitsIdentifier};
 ghost use Rattle.can_arbiter.specs.Offers.{offer_at};
 ghost use Rattle.can_controller.specs.Controller.{ControllerState, node_state};
 ghost use Rattle.can_bus.specs.Contest.{AreOffering, AreOffersOf, StandInOrder};
-ghost use Rattle.can_bus.specs.Row.{nodes_of};
+ghost use Rattle.can_bus.specs.Controllers.{nodes_of};
 
 use can_arbiter::Offers;
 use can_controller::Controller;

@@ -3,7 +3,7 @@ ghost use Rattle.std.specs.Prelude.{◌≡◌, ◌<◌, ◌≤◌, None, length}
 ghost use Rattle.cany_base.specs.Limits.{most_nodes};
 ghost use Rattle.can_bus.specs.Contest.{running_nodes, seen_by, stopped_by};
 ghost use Rattle.can_bus.specs.Each.{each};
-ghost use Rattle.can_bus.specs.Row.{HaveRoom, nodes_of};
+ghost use Rattle.can_bus.specs.Controllers.{HaveRoom, nodes_of};
 
 use crate::nodes::insert_running;
 use crate::transmission::share_of;

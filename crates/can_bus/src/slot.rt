@@ -5,7 +5,7 @@ ghost use Rattle.cany_base.specs.Limits.{most_slots, most_nodes};
 ghost use Rattle.cany_model.specs.Bus.Slot.{script as script_of, slot_note_of};
 ghost use Rattle.can_controller.specs.Controller.{ControllerState};
 ghost use Rattle.can_fault.specs.Attempts.{AreCountsOf};
-ghost use Rattle.can_bus.specs.Row.{AreAfter, HaveRoom, nodes_of};
+ghost use Rattle.can_bus.specs.Controllers.{AreAfter, HaveRoom, nodes_of};
 
 use crate::contest::contest;
 use crate::nodes::{running_and_offering, stopping};

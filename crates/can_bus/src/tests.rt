@@ -5,7 +5,7 @@ ghost use Rattle.cany_base.specs.Limits.{most_nodes};
 ghost use Rattle.cany_base.specs.Params.{IsInRange, MeetsFormulas, Parameters, default_parameters, default_parameters_of};
 ghost use Rattle.can_frame.specs.Identifier.{FitsFormat};
 ghost use Rattle.can_bus.specs.Bus.{Follows};
-ghost use Rattle.can_bus.specs.Row.{IsRowFor, NoneLags};
+ghost use Rattle.can_bus.specs.Controllers.{AreControllersFor, NoneLags};
 
 use crate::Bus;
 use can_controller::Controller;
@@ -83,15 +83,15 @@ fn wide(alloc: Global) -> Scenario
 }
 
 /// A controller of each node.
-fn row_of(alloc: Global, params: &Params) -> Result<Vec<Controller>, Memory>
-    ensures { IfOk result (λ row. IsRowFor params.now row.items) }
+fn controllers_for(alloc: Global, params: &Params) -> Result<Vec<Controller>, Memory>
+    ensures { IfOk result (λ controllers. AreControllersFor params.now controllers.items) }
 {
-    let mut row = Vec::new(alloc);
+    let mut controllers = Vec::new(alloc);
     for i in 0..usize::from(params.nodes) {
         let controller = Controller::build(alloc, NodeId::of_index(i), params, 4)?;
-        row.push(controller)?;
+        controllers.push(controller)?;
     }
-    Ok(row)
+    Ok(controllers)
 }
 
 /// The data of a message.
@@ -117,8 +117,8 @@ fn fits(rt: &impl Abort, format: Format, frame: &Frame)
 
 /// The controller of node i asks for the frame, where there is room for one more.
 fn ask(rt: &impl Abort, params: &Params, controllers: &mut [Controller], i: usize, frame: Frame)
-    requires { IsRowFor params.now controllers.old }
-    ensures { IsRowFor params.now controllers.new }
+    requires { AreControllersFor params.now controllers.old }
+    ensures { AreControllersFor params.now controllers.new }
 {
     fits(rt, params.format, &frame);
     assert!(rt; i < controllers.len());
@@ -138,7 +138,7 @@ fn read(rt: &impl Abort, controller: &mut Controller)
 }
 
 fn read_all(rt: &impl Abort, controllers: &mut [Controller])
-    ensures row { (p : Parameters) → IsRowFor p controllers.old → IsRowFor p controllers.new }
+    ensures each_node { (p : Parameters) → AreControllersFor p controllers.old → AreControllersFor p controllers.new }
     ensures unread { (lag : ℕ) → NoneLags lag controllers.new }
 {
     for i in 0..controllers.len() {
@@ -150,10 +150,10 @@ fn read_all(rt: &impl Abort, controllers: &mut [Controller])
 /// Reads all notices and runs the next slot.
 fn next(rt: &impl Abort, bus: &mut Bus, controllers: &mut [Controller], script: &Script)
     requires slots { bus.old.params.slots ≡ 100 }
-    requires row { IsRowFor bus.old.params controllers.old }
+    requires each_node { AreControllersFor bus.old.params controllers.old }
     requires follows { Follows script.now bus.old }
     ensures slots { bus.new.params.slots ≡ 100 }
-    ensures row { IsRowFor bus.new.params controllers.new }
+    ensures each_node { AreControllersFor bus.new.params controllers.new }
     ensures follows { Follows script.now bus.new }
 {
     assert!(rt; bus.trace().len() < 100);
@@ -173,7 +173,7 @@ fn run(
 )
     requires params { params.now ≡ bus.old.params }
     requires slots { bus.old.params.slots ≡ 100 }
-    requires row { IsRowFor bus.old.params controllers.old }
+    requires each_node { AreControllersFor bus.old.params controllers.old }
     requires follows { Follows script.now bus.old }
 {
     ask(rt, params, controllers, 0, frame);
@@ -194,9 +194,9 @@ fn run_alone(
     requires script { script.now ≡ scenario.now.rules }
 {
     let mut bus = Bus::build(alloc, scenario)?;
-    let mut controllers = row_of(alloc, scenario.params())?;
-    let row = controllers.as_mut_slice();
-    run(rt, scenario.params(), &mut bus, row, script, frame, 17);
+    let mut controllers = controllers_for(alloc, scenario.params())?;
+    let each = controllers.as_mut_slice();
+    run(rt, scenario.params(), &mut bus, each, script, frame, 17);
     Ok(bus)
 }
 
@@ -258,7 +258,7 @@ fn first_slot(
 ) -> FirstSlot
     requires params { params.now ≡ bus.old.params }
     requires slots { bus.old.params.slots ≡ 100 }
-    requires row { IsRowFor bus.old.params controllers.old }
+    requires each_node { AreControllersFor bus.old.params controllers.old }
     requires follows { Follows script.now bus.old }
 {
     ask(rt, params, controllers, 33, of_33);
@@ -283,9 +283,9 @@ fn contest(
     let scenario = wide(alloc);
     let script = Script::of_scenario(alloc, &scenario)?;
     let mut bus = Bus::build(alloc, &scenario)?;
-    let mut controllers = row_of(alloc, scenario.params())?;
-    let row = controllers.as_mut_slice();
-    Ok(first_slot(rt, scenario.params(), &mut bus, row, &script, of_33, of_40))
+    let mut controllers = controllers_for(alloc, scenario.params())?;
+    let each = controllers.as_mut_slice();
+    Ok(first_slot(rt, scenario.params(), &mut bus, each, &script, of_33, of_40))
 }
 
 /// In the fields of format one the frame of node 33 would win.

@@ -1,5 +1,5 @@
 -- Counts of attempts along a run.
-use Rattle.std.proofs.Common.{◌≡◌, ℕ, ◌+◌, ◌≤◌, ◌||◌, Bool, true, false, List, [], ◌∷◌, ◌++◌, Option, Some, None, refl, ap, sym, ◌∙◌, arith, if◌then◌else◌, min, length, count_by}
+use Rattle.std.proofs.Common.{◌≡◌, ℕ, ◌+◌, ◌≤◌, ◌||◌, Bool, true, false, List, [], ◌∷◌, ◌++◌, Option, Some, None, refl, ap, sym, ◌∙◌, arith, if◌then◌else◌, min, length}
 use Rattle.std.specs.BTreeMap.{BTreeMap, get, is_at}
 use Rattle.std.specs.Option.{option_map, option_map_or}
 use Rattle.std.specs.Ordering.{is_eq}
@@ -14,11 +14,11 @@ use Rattle.cany_model.specs.Bus.Frames.{Identity, identity_of, same_identity, is
 use Rattle.cany_model.specs.Bus.Slot.{attempts, carried}
 use Rattle.cany_model.proofs.Among.{count-yes, count-no}
 use Rattle.cany_model.proofs.Bus.Identities.{same_identity-true, same_identity_self}
-use Rattle.can_fault.specs.declared.name.FrameName.{FrameName}
-use Rattle.can_fault.specs.Attempts.{AreCountsOf, HasNames, count_of, greatest, raised}
-use Rattle.can_fault.specs.Names.{name_cmp, name_of}
+use Rattle.can_fault.specs.declared.identity.FrameIdentity.{FrameIdentity}
+use Rattle.can_fault.specs.Attempts.{AreCountsOf, HasIdentities, count_of, greatest, raised}
+use Rattle.can_fault.specs.Identities.{identity_cmp, frame_identity}
 use Rattle.can_fault.specs.Rules.{names_frame, is_named, next_attempt}
-use Rattle.can_fault.proofs.KeyFacts.{name_test}
+use Rattle.can_fault.proofs.KeyFacts.{identity_test}
 
 pub same_identity_turned : (x y : Identity) → same_identity x y ≡ same_identity y x
 same_identity_turned x y =
@@ -45,19 +45,19 @@ entered_zero true false = refl
 entered_zero false true = refl
 entered_zero false false = refl
 
--- a rule for an attempt enters the name of its frame
-pub entered_name : (rules : List Rule) (rule : Rule) (y : Identity) (k : ℕ) (old new : BTreeMap FrameName ℕ) → rule.place ≡ FrameNth y.class y.number y.node k
-    → HasNames rules old.entries → ((q : FrameName) → get name_cmp new q ≡ (if is_at (name_cmp (name_of y)) q then Some 0 else get name_cmp old q))
-    → HasNames (rules ++ rule ∷ []) new.entries
+-- a rule for an attempt enters the identity of its frame
+pub entered_name : (rules : List Rule) (rule : Rule) (y : Identity) (k : ℕ) (old new : BTreeMap FrameIdentity ℕ) → rule.place ≡ FrameNth y.class y.number y.node k
+    → HasIdentities rules old.entries → ((q : FrameIdentity) → get identity_cmp new q ≡ (if is_at (identity_cmp (frame_identity y)) q then Some 0 else get identity_cmp old q))
+    → HasIdentities (rules ++ rule ∷ []) new.entries
 entered_name rules rule y k old new e counts updates x =
-    updates (name_of x)
-    ∙ ap (λ b. if b then Some 0 else count_of old.entries x) (name_test y x ∙ sym (ap (names_frame x) e))
+    updates (frame_identity x)
+    ∙ ap (λ b. if b then Some 0 else count_of old.entries x) (identity_test y x ∙ sym (ap (names_frame x) e))
     ∙ ap (λ o. if names_frame x rule.place then Some 0 else o) (counts x)
     ∙ entered_zero (is_named rules x) (names_frame x rule.place)
     ∙ ap zero_where (sym (named_push rules rule x))
 
 -- a rule for a slot names no frame
-pub entered_slot : (rules : List Rule) (rule : Rule) (slot : ℕ) (counts : List (FrameName × ℕ)) → rule.place ≡ At slot → HasNames rules counts → HasNames (rules ++ rule ∷ []) counts
+pub entered_slot : (rules : List Rule) (rule : Rule) (slot : ℕ) (counts : List (FrameIdentity × ℕ)) → rule.place ≡ At slot → HasIdentities rules counts → HasIdentities (rules ++ rule ∷ []) counts
 entered_slot rules rule slot counts e has x =
     has x ∙ ap zero_where (sym (named_push rules rule x ∙ ap (λ p. is_named rules x || names_frame x p) e ∙ or_false (is_named rules x)))
 
@@ -85,13 +85,13 @@ after true false a b more same = ap (λ n. Some (min n greatest)) (sym (same ref
 after false true a b more same = refl
 after false false a b more same = refl
 
-pub raised_counts : (rules : List Rule) (trace : List SlotNote) (note : SlotNote) (f : FrameParts) (old new : BTreeMap FrameName ℕ) → AreCountsOf rules trace old.entries → note.frame ≡ Some f
-    → ((q : FrameName) → get name_cmp new q ≡ (if is_eq (name_cmp (name_of (identity_of f)) q) then option_map raised (get name_cmp old q) else get name_cmp old q))
+pub raised_counts : (rules : List Rule) (trace : List SlotNote) (note : SlotNote) (f : FrameParts) (old new : BTreeMap FrameIdentity ℕ) → AreCountsOf rules trace old.entries → note.frame ≡ Some f
+    → ((q : FrameIdentity) → get identity_cmp new q ≡ (if is_eq (identity_cmp (frame_identity (identity_of f)) q) then option_map raised (get identity_cmp old q) else get identity_cmp old q))
     → AreCountsOf rules (note ∷ trace) new.entries
 raised_counts rules trace note f old new counts e raise x =
     let y = identity_of f in
-    raise (name_of x)
-    ∙ ap (λ b. if b then option_map raised (count_of old.entries x) else count_of old.entries x) (name_test y x ∙ same_identity_turned y x)
+    raise (frame_identity x)
+    ∙ ap (λ b. if b then option_map raised (count_of old.entries x) else count_of old.entries x) (identity_test y x ∙ same_identity_turned y x)
     ∙ ap (λ o. if same_identity x y then option_map raised o else o) (counts x)
     ∙ after (is_named rules x) (same_identity x y) (attempts x trace) (attempts x (note ∷ trace))
     (one_more x trace note f e) (no_more x trace note f e)

@@ -6,36 +6,36 @@ use Rattle.std.proofs.lemmas.Cmp.{tied_itself}
 use Rattle.std.specs.declared.cmp.Ordering.TheVariants.{Equal}
 use Rattle.std.specs.Cmp.{IsTotalOrder, both_ways, Equal-is}
 use Rattle.std.specs.Ordering.{is_eq}
-use Rattle.can_fault.specs.declared.name.FrameName.{FrameName}
-use Rattle.can_fault.specs.declared.name.Attempt.{Attempt}
-use Rattle.can_fault.specs.Names.{name_cmp, attempt_cmp, name_of, attempt_of}
-use Rattle.can_fault.specs.contracts.name.FrameNameOrd.TheImpl.Laws as name_laws
-use Rattle.can_fault.specs.contracts.name.AttemptOrd.TheImpl.Laws as attempt_laws
+use Rattle.can_fault.specs.declared.identity.FrameIdentity.{FrameIdentity}
+use Rattle.can_fault.specs.declared.identity.Attempt.{Attempt}
+use Rattle.can_fault.specs.Identities.{identity_cmp, attempt_cmp, frame_identity, attempt_of}
+use Rattle.can_fault.specs.contracts.identity.FrameIdentityOrd.TheImpl.Laws as identity_laws
+use Rattle.can_fault.specs.contracts.identity.AttemptOrd.TheImpl.Laws as attempt_laws
 use Rattle.cany_model.specs.Bus.Frames.{Identity, same_identity}
 use Rattle.cany_model.proofs.Bus.Identities.{same_identity-true, same_identity-from}
 
-pub name_total : IsTotalOrder name_cmp
-name_total = name_laws.total-law
+pub identity_total : IsTotalOrder identity_cmp
+identity_total = identity_laws.total-law
 
 pub attempt_total : IsTotalOrder attempt_cmp
 attempt_total = attempt_laws.total-law
 
-name_exact : (a b : FrameName) → name_cmp a b ≡ Equal → a ≡ b
-name_exact a b h = grind (arith, common_steps)
+identity_exact : (a b : FrameIdentity) → identity_cmp a b ≡ Equal → a ≡ b
+identity_exact a b h = grind (arith, common_steps)
 
 attempt_exact : (a b : Attempt) → attempt_cmp a b ≡ Equal → a ≡ b
 attempt_exact a b h = grind (arith, common_steps)
 
-pub same_from_names : (x y : Identity) → name_of x ≡ name_of y → same_identity x y ≡ true
-same_from_names x y e = same_identity-from x y (ap (λ (n : FrameName). record { class = n.class; number = n.number; node = n.node }) e)
+pub same_from_keys : (x y : Identity) → frame_identity x ≡ frame_identity y → same_identity x y ≡ true
+same_from_keys x y e = same_identity-from x y (ap (λ (n : FrameIdentity). record { class = n.class; number = n.number; node = n.node }) e)
 
 -- names are compared by the identities that they stand for
-pub name_test : (x y : Identity) → is_eq (name_cmp (name_of x) (name_of y)) ≡ same_identity x y
-name_test x y =
-    both_ways (is_eq (name_cmp (name_of x) (name_of y))) (same_identity x y)
-    (λ h. same_from_names x y (name_exact (name_of x) (name_of y) ((Equal-is (name_cmp (name_of x) (name_of y))).0 h)))
+pub identity_test : (x y : Identity) → is_eq (identity_cmp (frame_identity x) (frame_identity y)) ≡ same_identity x y
+identity_test x y =
+    both_ways (is_eq (identity_cmp (frame_identity x) (frame_identity y))) (same_identity x y)
+    (λ h. same_from_keys x y (identity_exact (frame_identity x) (frame_identity y) ((Equal-is (identity_cmp (frame_identity x) (frame_identity y))).0 h)))
     (λ h. let e : x ≡ y = same_identity-true x y h in
-    (Equal-is (name_cmp (name_of x) (name_of y))).1 (rw e (tied_itself name_total (name_of y))))
+    (Equal-is (identity_cmp (frame_identity x) (frame_identity y))).1 (rw e (tied_itself identity_total (frame_identity y))))
 
 attempt_from : (x y : Identity) (k j : ℕ) → x ≡ y → k ≡ j → attempt_cmp (attempt_of x k) (attempt_of y j) ≡ Equal
 attempt_from x y k j e n = rw (e, n) (tied_itself attempt_total (attempt_of y j))
@@ -47,7 +47,7 @@ attempt_test x y k j =
     (λ h.
     let same : attempt_of x k ≡ attempt_of y j = attempt_exact (attempt_of x k) (attempt_of y j) ((Equal-is (attempt_cmp (attempt_of x k) (attempt_of y j))).0 h) in
     and_from (same_identity x y) (k == j)
-    (same_from_names x y (ap (λ (a : Attempt). a.name) same))
+    (same_from_keys x y (ap (λ (a : Attempt). a.identity) same))
     (eq-eqb k j (ap (λ (a : Attempt). a.nth) same)))
     (λ h.
     let parts = and_parts (same_identity x y) (k == j) h in

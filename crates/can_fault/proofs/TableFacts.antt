@@ -16,9 +16,9 @@ use Rattle.cany_base.specs.Scenario.{same_place, HaveDistinctPlaces}
 use Rattle.cany_base.proofs.PlaceFacts.{same_place-true, same_place_self}
 use Rattle.cany_model.specs.Bus.Frames.{Identity, identity_of, same_class, same_identity}
 use Rattle.cany_model.specs.Bus.Slot.{ruling_of, script, rule_at, slot_rule, frame_rule, attempts}
-use Rattle.can_fault.specs.declared.name.Attempt.{Attempt}
+use Rattle.can_fault.specs.declared.identity.Attempt.{Attempt}
 use Rattle.can_fault.specs.declared.table.RuleTable.{RuleTable}
-use Rattle.can_fault.specs.Names.{attempt_cmp, attempt_of}
+use Rattle.can_fault.specs.Identities.{attempt_cmp, attempt_of}
 use Rattle.can_fault.specs.Rules.{IsFirstRepeated, rule_for, names_frame, is_named, IsCounted}
 use Rattle.can_fault.specs.Table.{entry_at, IsTableOf}
 use Rattle.can_fault.proofs.KeyFacts.{attempt_test}

@@ -2,7 +2,7 @@ pub mod Attempts
 pub mod Breaks
 pub mod Counted
 pub mod Counts
-pub mod Names
+pub mod Identities
 pub mod Rules
 pub mod Table
 pub mod Tally

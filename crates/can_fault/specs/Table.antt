@@ -6,7 +6,7 @@ use Rattle.cany_base.specs.declared.rule.Place.{Place}
 use Rattle.cany_base.specs.declared.rule.Place.TheVariants.{At, FrameNth}
 use Rattle.cany_base.specs.declared.rule.Rule.{Rule}
 use Rattle.cany_model.specs.Bus.Slot.{rule_at}
-use Rattle.can_fault.specs.Names.{attempt_cmp, attempt_of}
+use Rattle.can_fault.specs.Identities.{attempt_cmp, attempt_of}
 use Rattle.can_fault.specs.declared.table.RuleTable.{RuleTable}
 
 -- what the table has at a place

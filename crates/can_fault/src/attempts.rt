@@ -3,12 +3,12 @@ ghost use Rattle.std.specs.BTreeMap.{get};
 ghost use Rattle.std.specs.Ordering.{is_eq};
 ghost use Rattle.cany_base.specs.declared.rule.Rule.{Rule};
 ghost use Rattle.cany_base.specs.declared.slot_note.SlotNote.{SlotNote};
-ghost use Rattle.can_fault.specs.declared.name.FrameName.{FrameName};
-ghost use Rattle.can_fault.specs.Attempts.{AreCountsOf, HasNames, greatest, raised};
-ghost use Rattle.can_fault.specs.Names.{name_cmp};
+ghost use Rattle.can_fault.specs.declared.identity.FrameIdentity.{FrameIdentity};
+ghost use Rattle.can_fault.specs.Attempts.{AreCountsOf, HasIdentities, greatest, raised};
+ghost use Rattle.can_fault.specs.Identities.{identity_cmp};
 ghost use Rattle.can_fault.specs.Rules.{next_attempt};
 
-use crate::name::FrameName;
+use crate::identity::FrameIdentity;
 use crate::script::Script;
 use cany_base::{Frame, Memory, Place, Rule};
 use std::alloc::Global;
@@ -18,14 +18,14 @@ use std::marker::Model;
 /// How often each frame that a rule names was carried.
 #[derive(Debug, Drop)]
 pub struct Attempts {
-    counts: BTreeMap<FrameName, u32>,
+    counts: BTreeMap<FrameIdentity, u32>,
 }
 
 impl Model for Attempts {
     ghost use Rattle.std.specs.Prelude.{List, ℕ};
-    ghost use Rattle.can_fault.specs.declared.name.FrameName.{FrameName};
+    ghost use Rattle.can_fault.specs.declared.identity.FrameIdentity.{FrameIdentity};
 
-    ghost Value = { List (FrameName × ℕ) };
+    ghost Value = { List (FrameIdentity × ℕ) };
 
     ghost view = { λ a. a.counts.entries };
 }
@@ -52,13 +52,13 @@ impl Attempts {
         ensures counted { (rules : List Rule) (trace : List SlotNote) (note : SlotNote) → AreCountsOf rules trace self.old
             → note.frame ≡ Some frame.now → AreCountsOf rules (note ∷ trace) self.new }
     {
-        raise(&mut self.counts, &FrameName::of(frame)).unwrap_or(0)
+        raise(&mut self.counts, &FrameIdentity::of(frame)).unwrap_or(0)
     }
 }
 
-/// Enters the name of the frame that a rule names, if it names one.
-fn enter(counts: &mut BTreeMap<FrameName, u32>, rule: &Rule) -> Result<(), Memory>
-    ensures { (rules : List Rule) → HasNames rules counts.old.entries → OnOk result (HasNames (rules ++ rule.now ∷ []) counts.new.entries) }
+/// Enters the identity of the frame that a rule names, if it names one.
+fn enter(counts: &mut BTreeMap<FrameIdentity, u32>, rule: &Rule) -> Result<(), Memory>
+    ensures { (rules : List Rule) → HasIdentities rules counts.old.entries → OnOk result (HasIdentities (rules ++ rule.now ∷ []) counts.new.entries) }
 {
     match rule.place {
         Place::At { .. } => Ok(()),
@@ -68,19 +68,19 @@ fn enter(counts: &mut BTreeMap<FrameName, u32>, rule: &Rule) -> Result<(), Memor
             node,
             ..
         } => {
-            counts.insert(FrameName::new(class, number, node), 0)?;
+            counts.insert(FrameIdentity::new(class, number, node), 0)?;
             Ok(())
         }
     }
 }
 
-/// Raises the count of a name by one, where there is one, and gives it.
-fn raise(counts: &mut BTreeMap<FrameName, u32>, name: &FrameName) -> Option<u32>
-    ensures answer { result ≡ option_map raised (get name_cmp counts.old name.now) }
-    ensures raised { (other : FrameName) → get name_cmp counts.new other
-        ≡ (if is_eq (name_cmp name.now other) then option_map raised (get name_cmp counts.old other) else get name_cmp counts.old other) }
+/// Raises the count of an identity by one, where there is one, and gives it.
+fn raise(counts: &mut BTreeMap<FrameIdentity, u32>, identity: &FrameIdentity) -> Option<u32>
+    ensures answer { result ≡ option_map raised (get identity_cmp counts.old identity.now) }
+    ensures raised { (other : FrameIdentity) → get identity_cmp counts.new other
+        ≡ (if is_eq (identity_cmp identity.now other) then option_map raised (get identity_cmp counts.old other) else get identity_cmp counts.old other) }
 {
-    let count = counts.get_mut(name)?;
+    let count = counts.get_mut(identity)?;
     *count = count.saturating_add(1);
     Some(*count)
 }

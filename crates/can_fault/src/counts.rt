@@ -1,7 +1,7 @@
 ghost use Rattle.std.specs.Prelude.{◌≡◌, ◌+◌, ◌<◌, ◌≤◌, [], nat_lt, length, IfOk, IsTrue, if◌then◌else◌};
 ghost use Rattle.cany_model.specs.Bus.Frames.{identity_of};
 
-use crate::name::FrameName;
+use crate::identity::FrameIdentity;
 use cany_base::{Class, Frame, Memory};
 use indexmap::IndexMap;
 use std::alloc::Global;
@@ -12,8 +12,8 @@ use std::marker::Model;
 pub(crate) enum Counted {
     /// The vectors of a membership cycle together.
     Vectors { cycle: u16 },
-    /// The frames of any other name.
-    Frame(FrameName),
+    /// The frames of any other identity.
+    Frame(FrameIdentity),
 }
 
 impl Counted {
@@ -26,7 +26,7 @@ impl Counted {
             Class::Rha => Counted::Vectors {
                 cycle: frame.number,
             },
-            _ => Counted::Frame(FrameName::of(frame)),
+            _ => Counted::Frame(FrameIdentity::of(frame)),
         }
     }
 }

@@ -5,8 +5,8 @@
 mod attempts;
 mod breaks;
 mod counts;
+mod identity;
 pub mod laws;
-mod name;
 mod script;
 mod table;
 mod tally;

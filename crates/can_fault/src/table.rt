@@ -2,7 +2,7 @@ ghost use Rattle.std.specs.Prelude.{◌≡◌, [], Option, Some, IfOk, OnOk, if�
 ghost use Rattle.cany_base.specs.declared.rule.Place.{Place};
 ghost use Rattle.cany_base.specs.declared.rule.Place.TheVariants.{At, FrameNth};
 
-use crate::name::{Attempt, FrameName};
+use crate::identity::{Attempt, FrameIdentity};
 use cany_base::{Frame, Memory, Place, Rule, Slot};
 use std::alloc::Global;
 use std::collections::BTreeMap;
@@ -40,8 +40,8 @@ impl RuleTable {
                 node,
                 nth,
             } => {
-                let name = FrameName::new(class, number, node);
-                Ok(self.by_attempt.insert(Attempt { name, nth }, *rule)?)
+                let identity = FrameIdentity::new(class, number, node);
+                Ok(self.by_attempt.insert(Attempt { identity, nth }, *rule)?)
             }
         }
     }
@@ -57,7 +57,7 @@ impl RuleTable {
     pub(crate) fn for_attempt(&self, frame: &Frame, nth: u32) -> Option<Rule>
         ensures { result ≡ entry_at self.now (FrameNth frame.now.class frame.now.number frame.now.node nth) }
     {
-        let name = FrameName::of(frame);
-        self.by_attempt.get(&Attempt { name, nth }).copied()
+        let identity = FrameIdentity::of(frame);
+        self.by_attempt.get(&Attempt { identity, nth }).copied()
     }
 }

@@ -15,6 +15,7 @@ Runs scenarios of reliable broadcast on one CAN bus.
 usage: canely replay < SCENARIO > REPORT
        canely run < SCENARIO > REPORT
        canely storm NUMBER > SUMMARY
+       canely replica < SCENARIO > TABLES
        canely --help
        canely --version
 
@@ -26,6 +27,10 @@ and writes the report of the run, with the journal that the threads made.
 
 storm generates a scenario from the number, which has 1 to 10 digits and is at most {},
 runs it by the round robin journal, and writes the summary of the run.
+
+replica runs a scenario as replay does, and writes the table of each node: a payload of a tot message
+is 01 KEY VALUE, 02 KEY or 03 KEY BYTE BYTE, by which a key gets a value, loses it, or gets the second
+byte where it has exactly the first.
 
 A scenario is a TOML document; slots, nodes and entries are counted from 0:
   format, nodes, slots       required; format 1 has up to 32 nodes, format 2 up to 64

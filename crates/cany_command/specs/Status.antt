@@ -1,5 +1,5 @@
 -- Statuses by what they say of the streams.
-use Rattle.std.specs.Prelude.{ℕ, ◌≡◌, ◌<◌, ◌⊎◌}
+use Rattle.std.specs.Prelude.{ℕ, ◌≡◌, ◌+◌, ◌<◌, ◌⊎◌}
 use Rattle.cany_command.specs.declared.status.TheConstants.{DONE, OTHER_WORDS, REFUSED, READ_FAULT, WRITE_FAULT, NO_MEMORY, TOO_LONG}
 
 -- the answer was written, of success or of a refusal, or as much of it as the sink took
@@ -14,6 +14,7 @@ HasAnswered status = HasEnded (λ s. s ≡ DONE) status
 abbrev pub HasNoAnswer : ℕ → Type 0
 HasNoAnswer status = (status ≡ OTHER_WORDS) ⊎ (status ≡ READ_FAULT) ⊎ (status ≡ NO_MEMORY) ⊎ (status ≡ TOO_LONG)
 
--- the status is none of those that a command answers where it does not succeed
+-- the status is none of those that a command answers where it does not succeed, nor the one after them, that of a run which a
+-- gate held
 abbrev pub IsNoFault : ℕ → Type 0
-IsNoFault status = (status < OTHER_WORDS) ⊎ (TOO_LONG < status)
+IsNoFault status = (status < OTHER_WORDS) ⊎ (TOO_LONG + 1 < status)

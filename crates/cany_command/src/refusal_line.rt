@@ -27,9 +27,12 @@ impl RefusalLine for Refusal {
     }
 }
 
-/// The refusal of a command that has none of its own: there is no value of it.
+/// The refusal of a command that has none of its own. No command makes one; its line is empty.
+///
+/// It has a value, since a call that nothing could make would prove whatever its contract says, and
+/// the gate lets no such call pass.
 #[derive(Clone, Copy, Debug, PartialEq, Eq)]
-pub enum NoRefusal {}
+pub struct NoRefusal;
 
 impl RefusalLine for NoRefusal {
     ghost use Rattle.std.specs.Prelude.{[]};
@@ -37,6 +40,6 @@ impl RefusalLine for NoRefusal {
     ghost line = { λ _. [] };
 
     fn write_line<K: Sink>(&self, _sink: &mut K) -> Result<(), Failed> {
-        match *self {}
+        Ok(())
     }
 }

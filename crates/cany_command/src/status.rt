@@ -8,8 +8,8 @@ pub const DONE: u8 = 0;
 pub const OTHER_WORDS: u8 = 2;
 
 /// The text stands for no scenario, or a step of the scenario's journal could not be done, or slots
-/// or notices are left at its end, or for `run` the scenario has a journal at all. The line of the
-/// refusal was written.
+/// or notices are left at its end, or the command refuses its words or the scenario, as `run` does
+/// where that one has a journal at all. The line of the refusal was written.
 pub const REFUSED: u8 = 3;
 
 /// The source failed. Nothing was written.

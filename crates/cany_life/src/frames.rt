@@ -87,9 +87,8 @@ pub(crate) fn is_life_sign(frame: &Frame) -> bool
 }
 
 /// Whether the frame shows that the node lives which it names.
-#[tactic(auto, unfolding(cany_model::specs::Rules::Knowledge::shows_life))]
 pub(crate) fn shows_life(frame: &Frame) -> bool
     ensures { result ≡ shows_life frame.now }
 {
-    is_life_sign(frame) || is_of_class(frame, Class::Rha) || is_of_class(frame, Class::Tot)
+    can_frame::shows_life(frame.class)
 }

@@ -29,8 +29,8 @@ use Rattle.cany_node.specs.Membership.{IsNextOf}
 use Rattle.cany_node.specs.Stamping.{AreStamped}
 use Rattle.cany_node.specs.Turning.{CanScript, HasHeard, HasScripted, heard_effects, plain_effects, script_effects}
 use Rattle.cany_node.proofs.Askable.{turn_names}
-use Rattle.cany_node.proofs.Doing.{signs_asked}
-use Rattle.cany_node.proofs.Filled.{log_within}
+use Rattle.cany_node.proofs.NextAction.{signs_asked}
+use Rattle.cany_node.proofs.RoomsSuffice.{log_within}
 use Rattle.cany_node.proofs.HeardTurn.{listed_more, same_room}
 use Rattle.cany_node.proofs.StampedEffects.{entered_plain, names_plain, signs_plain, turn_stamped}
 

@@ -31,9 +31,9 @@ use Rattle.cany_node.specs.Turning.{HasScripted, asks_plain, heard_effects, plai
 use Rattle.cany_node.proofs.ActSteps.{IsSame}
 use Rattle.cany_node.proofs.EdcanFrames.{IsEdcanOnly, edcan_only, relcan_same, relcan_unheard}
 use Rattle.cany_node.proofs.EdcanPlaces.{next_same, totcan_same, totcan_unheard}
-use Rattle.cany_node.proofs.MembershipRest.{both_none}
+use Rattle.cany_node.proofs.Idle.MembershipRest.{both_none}
 use Rattle.cany_node.proofs.StampedEffects.{turn_stamped}
-use Rattle.cany_node.proofs.Unheard.{IsUnheard, site_same, site_unheard, knowledge_same, unheard}
+use Rattle.cany_node.proofs.TellsNothingOfTheSite.{IsUnheard, site_same, site_unheard, knowledge_same, unheard}
 
 -- ---- lists of effects
 

@@ -1,5 +1,5 @@
 -- What RELCAN does with a frame and at the end of a timer, from what the value has.
-use Rattle.std.specs.Prelude.{◌≡◌, ℕ, ◌-◌, ◌==◌, ◌&&◌, ◌||◌, Bool, true, false, not, nat_lt, if◌then◌else◌, List, [], ◌∷◌, Option, Some, None}
+use Rattle.std.specs.Prelude.{◌≡◌, ℕ, ◌-◌, ◌==◌, ◌&&◌, ◌||◌, Bool, false, not, nat_lt, if◌then◌else◌, List, [], ◌∷◌, Option, Some, None}
 use Rattle.cany_base.specs.declared.actions.Action.{Action}
 use Rattle.cany_base.specs.declared.actions.Action.TheVariants.{Ask}
 use Rattle.cany_base.specs.declared.message.MsgKey.{MsgKey}

@@ -16,7 +16,7 @@ use Rattle.cany_model.specs.Bus.Restart.{restarted}
 use Rattle.cany_model.specs.Bus.Slot.{after_share, node_after, share_of}
 use Rattle.cany_model.specs.Bus.State.{NodeState, original, runs}
 use Rattle.cany_model.proofs.Bus.States.{no_note, note_at}
-use Rattle.can_bus.specs.Row.{controller_after}
+use Rattle.can_bus.specs.Controllers.{controller_after}
 use Rattle.can_controller.specs.Controller.{ControllerState, HasStoppedBy, node_state, restarted_at, seen, stopped_at}
 use Rattle.cany_node.specs.Node.{turned}
 use Rattle.cany_world.specs.Kept.{notice_in, newest_notices, IsKeptAs}

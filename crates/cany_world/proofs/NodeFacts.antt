@@ -35,6 +35,7 @@ ended_still scenario trace trace' i v (e ∷ ended) same h = (
   record {
     it = h.0.it;
     at = h.0.at;
+    from = h.0.from;
     log = h.0.log ∙ ap (log_from (scenario_for scenario e.incarnation) i) (sym same.0);
     span = h.0.span;
   },
@@ -53,6 +54,7 @@ ended_below_stay scenario trace i count v v' (e ∷ ended) same below h = (
   record {
     it = h.0.it;
     at = same.nodes e.incarnation.number below.0 ∙ h.0.at;
+    from = h.0.from;
     log = h.0.log;
     span = same.spans e.incarnation.number below.0 ∙ h.0.span;
   },
@@ -193,6 +195,7 @@ module _ (scenario : ScenarioParts) (trace : List SlotNote) (i slot : ℕ) (node
       record {
         it = was.it;
         at = ap (slice_get v'.nodes) (sym kept.number) ∙ node_stays v.present (λ e. absurd (omega (arith, e))) ∙ was.at;
+        from = was.stands.from;
         log = was.stands.log ∙ ap (λ n. log_from (scenario_for scenario node.present) n (heard_of i trace node)) was.number
             ∙ error_log (scenario_for scenario node.present) i (past_of i trace node)
             ∙ ap (log_from (scenario_for scenario node.present) i) (sym (ended_past i slot trace node ran short));

@@ -23,7 +23,7 @@ use Rattle.cany_world.proofs.ControllerFacts.{kept_restart, may_restart}
 use Rattle.cany_world.proofs.EntriesLeft.{AllHaveLeft, one_left, slot_left}
 use Rattle.cany_world.proofs.InOrder.{AllInOrder, in_order, slot_in_order}
 use Rattle.cany_world.proofs.NodeFacts.{kept_restarted}
-use Rattle.cany_world.proofs.Partly.{partly, partly_all, partly_here, partly_next, partly_other}
+use Rattle.cany_world.proofs.RestartsOneByOne.{partly, partly_all, partly_here, partly_next, partly_other}
 use Rattle.cany_world.proofs.PlaceFacts.{one_changed}
 
 -- a state at the end of a slot, before the restarts

@@ -16,7 +16,7 @@ use Rattle.cany_model.proofs.Runs.Rounds.{RoundSoFar, round_begins, round_turn, 
 use Rattle.cany_node.specs.declared.reply.TurnReply.{TurnReply}
 use Rattle.cany_world.specs.Replies.{has_turned, step_reply}
 use Rattle.cany_world.specs.World.{WorldParts, state_of}
-use Rattle.cany_world.proofs.IdleRounds.{rounds_split}
+use Rattle.cany_world.proofs.Idle.IdleRounds.{rounds_split}
 use Rattle.cany_world.proofs.JournalFacts.{made, turned_done}
 
 -- ---- a round

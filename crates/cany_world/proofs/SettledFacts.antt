@@ -225,3 +225,17 @@ has_message scenario index sends_read send key legal within same is names = reco
 
     below : IsBelow most_sends scenario.params.slots scenario.params.nodes m
     below = message_below scenario m legal (contains_at (messages_of scenario.sends) index m message.1)
+
+-- the message of a place, where its key is all that is asked of it
+pub record IsNamed (scenario : ScenarioParts) (index : ℕ) (key : MsgKey) : Type 0 where
+  pub message : Message
+  pub at : slice_get (messages_of scenario.sends) index ≡ Some message
+  pub stands : Contains (messages_of scenario.sends) message
+  pub named : message_key message ≡ key
+
+pub is_named : (scenario : ScenarioParts) (index : ℕ) (key : MsgKey) → IsSomeAnd (slice_get (messages_of scenario.sends) index) (λ m. key ≡ message_key m) → IsNamed scenario index key
+is_named scenario index key names = by_place (slice_get (messages_of scenario.sends) index) refl names
+  where
+    by_place : (o : Option Message) → slice_get (messages_of scenario.sends) index ≡ o → IsSomeAnd o (λ m. key ≡ message_key m) → IsNamed scenario index key
+    by_place None at h = absurd h
+    by_place (Some m) at h = record { message = m; at = at; stands = contains_at (messages_of scenario.sends) index m at; named = sym h }

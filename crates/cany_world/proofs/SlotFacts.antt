@@ -20,7 +20,7 @@ use Rattle.cany_model.proofs.Runs.Runs.{IsOrderly, MaySlot, orderly, slot_done}
 use Rattle.cany_model.proofs.Bus.Seen.{history-is}
 use Rattle.cany_model.proofs.Runs.Steps.{after_slot-node, after_slot-trace, after_slot-history}
 use Rattle.can_bus.specs.Bus.{BusParts, Follows}
-use Rattle.can_bus.specs.Row.{AreAfter, IsRowFor, NoneLags, StandFor, controller_after}
+use Rattle.can_bus.specs.Controllers.{AreAfter, AreControllersFor, NoneLags, StandFor, controller_after}
 use Rattle.can_controller.specs.Controller.{ControllerState, node_state}
 use Rattle.cany_world.specs.Incarnations.{IncarnationsParts}
 use Rattle.cany_world.specs.Kept.{IsKeptAs, AreControllersOf, AreNodesOf, IsBusOf, past_of}
@@ -43,8 +43,8 @@ none_lags scenario s controllers may kept i c at running =
     let it : IsKeptAs scenario s.trace i (node_at s.nodes i) c = kept.each i c at in
     omega (arith, it.all running, may.lag i (ap is_none (sym it.stopped ∙ running)))
 
-pub row_for : (scenario : ScenarioParts) (s : RunState) (controllers : List ControllerState) → AreControllersOf scenario s controllers → IsRowFor scenario.params controllers
-row_for scenario s controllers kept = record {
+pub controllers_for : (scenario : ScenarioParts) (s : RunState) (controllers : List ControllerState) → AreControllersOf scenario s controllers → AreControllersFor scenario.params controllers
+controllers_for scenario s controllers kept = record {
   whole = kept.whole;
   each = λ i c at. let it : IsKeptAs scenario s.trace i (node_at s.nodes i) c = kept.each i c at in record { node = it.number; params = it.params };
 }

@@ -1,5 +1,5 @@
 -- What a contract sees of the incarnations of a node, and what a turn and a restart make of them.
-use Rattle.std.specs.Prelude.{◌≡◌, ℕ, ◌+◌, ◌-◌, ◌==◌, Bool, if◌then◌else◌, List, [], count_by, replicate, slice_get, slice_set, Option, Some, None}
+use Rattle.std.specs.Prelude.{◌≡◌, ℕ, ◌+◌, ◌-◌, ◌==◌, Bool, if◌then◌else◌, List, [], count_by, replicate, slice_get, slice_set, Option, Some, None, option_map}
 use Rattle.cany_base.specs.declared.actions.Action.{Action}
 use Rattle.cany_base.specs.declared.notice.Notice.{Notice}
 use Rattle.cany_base.specs.declared.notice.NoticeKind.{NoticeKind}
@@ -8,7 +8,8 @@ use Rattle.cany_base.specs.Bounded.{Bounded}
 use Rattle.cany_base.specs.Scenario.{ScenarioParts, is_ask_of_node}
 use Rattle.cany_model.specs.declared.span.Span.{Span}
 use Rattle.cany_model.specs.Bus.Restart.{first_cycle}
-use Rattle.cany_model.specs.Bus.State.{Incarnation}
+use Rattle.cany_model.specs.Bus.State.{Incarnation, RunState}
+use Rattle.cany_model.specs.Runs.Incarnations.{incarnation_of}
 use Rattle.cany_model.specs.Rules.Turn.{scenario_for}
 use Rattle.can_controller.specs.Controller.{ControllerState}
 use Rattle.cany_node.specs.declared.reply.TurnReply.{TurnReply}
@@ -105,3 +106,7 @@ pub record IsRestarted (slot : ℕ) (stopped : Option ℕ) (next : ℕ) (v v' : 
 -- whether the incarnation of this span began with the slot after this one
 abbrev pub began_in : ℕ → Span → Bool
 began_in slot span = span.since == slot + 1
+
+-- the first slot in which an incarnation of node i takes part
+abbrev pub takes_part_since : RunState → ℕ → ℕ → Option ℕ
+takes_part_since s i number = option_map (λ e. e.incarnation.from) (incarnation_of s i number)

@@ -66,10 +66,11 @@ pub record IsPresentAt (scenario : ScenarioParts) (trace : List SlotNote) (i : �
   pub span_at : slice_get v.spans v.present ≡ Some span
   pub since : span.since ≡ node.present.since
 
--- one that has ended keeps its log and its span
+-- one that has ended keeps its log, its span, and since when it took part
 pub record IsEndedAt (scenario : ScenarioParts) (trace : List SlotNote) (i : ℕ) (v : IncarnationsParts) (e : EndedIncarnation) : Type 0 where
   pub it : NodeParts
   pub at : slice_get v.nodes e.incarnation.number ≡ Some it
+  pub from : it.from ≡ (scenario_for scenario e.incarnation).from
   pub log : it.log ≡ log_from (scenario_for scenario e.incarnation) i (ended_history i trace e)
   pub span : slice_get v.spans e.incarnation.number ≡ Some (span_from e)
 

@@ -1,11 +1,15 @@
 -- What is asked about a message of a run.
 use Rattle.std.specs.Prelude.{◌≡◌, ℕ, ◌&&◌, ◌||◌, Bool, not, List, Contains}
+use Rattle.std.specs.List.{list_any}
 use Rattle.cany_base.specs.declared.message.MsgKey.{MsgKey}
 use Rattle.cany_base.specs.declared.step.Step.{Step}
+use Rattle.cany_base.specs.Nodes.{Nodes, those_where}
 use Rattle.cany_base.specs.Scenario.{ScenarioParts}
+use Rattle.cany_model.specs.Bus.Frames.{Identity}
 use Rattle.cany_model.specs.Bus.History.{history}
 use Rattle.cany_model.specs.Runs.Run.{run}
 use Rattle.cany_model.specs.Bus.State.{RunState, node_at, runs}
+use Rattle.cany_model.specs.Bus.Waiting.{waits}
 use Rattle.cany_model.specs.Promises.Settled.{came_too_late, origin_has_asked}
 use Rattle.cany_model.specs.Rules.Messages.{Message, message_key, messages_of}
 use Rattle.cany_model.specs.Rules.Turn.{is_ahead_at, scenario_at}
@@ -27,3 +31,21 @@ is_asked scenario s m = origin_has_asked scenario s m || not (runs (node_at s.no
 -- whether node i runs and has something of the message ahead
 abbrev pub has_ahead : ScenarioParts → RunState → Message → ℕ → Bool
 has_ahead scenario s m i = runs (node_at s.nodes i) && is_ahead_at (scenario_at scenario s i) m i (history i s)
+
+-- ---- why a message is not settled
+
+-- whether the message is to be asked for yet: its origin runs, takes part since the scripted slot, and has not asked for it
+abbrev pub is_queued : ScenarioParts → RunState → Message → Bool
+is_queued scenario s m = not (is_asked scenario s m)
+
+-- whether node i runs and waits with one of these frames
+abbrev pub is_waiting : List Identity → RunState → ℕ → Bool
+is_waiting frames s i = runs (node_at s.nodes i) && list_any (λ x. waits x (node_at s.nodes i).waiting) frames
+
+-- the nodes that do
+unfoldable pub waiting_nodes : List Identity → RunState → Nodes
+waiting_nodes frames s = those_where (is_waiting frames s)
+
+-- the nodes that run and have something of the message ahead
+unfoldable pub nodes_ahead : ScenarioParts → RunState → Message → Nodes
+nodes_ahead scenario s m = those_where (has_ahead scenario s m)

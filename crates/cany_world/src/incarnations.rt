@@ -206,6 +206,19 @@ impl Incarnations {
         span
     }
 
+    /// The first slot in which an incarnation that has begun takes part.
+    pub(crate) fn takes_part_since(&self, inc: u8) -> Slot
+        requires { inc ≤ self.now.present }
+        ensures first { inc ≡ 0 → result ≡ 0 }
+        ensures later { 0 < inc → (it : NodeParts) → slice_get self.now.nodes inc ≡ Some it → result ≡ it.from }
+    {
+        if inc == 0 {
+            return 0;
+        }
+        let nodes = self.nodes.as_slice();
+        nodes[usize::from(inc)].from()
+    }
+
     /// Whether the present incarnation, if it is not that of the opening, takes part only since a
     /// later slot than this one.
     pub(crate) fn came_after(&self, slot: Slot) -> bool

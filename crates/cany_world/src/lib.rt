@@ -17,6 +17,7 @@ mod stretch;
 mod threads;
 mod turn;
 mod unread;
+mod unsettled;
 mod world;
 
 pub use cany_model::{Break, FollowFault, Span, StepReply};

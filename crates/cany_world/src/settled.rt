@@ -40,7 +40,12 @@ fn waits(format: Format, class: Class, key: &MsgKey, controller: &Controller) ->
 
 /// Whether the controller runs and waits with the data of the message, or with a frame that
 /// confirms or accepts it.
-fn awaits(format: Format, service: Service, key: &MsgKey, controller: &Controller) -> bool
+pub(crate) fn awaits(
+    format: Format,
+    service: Service,
+    key: &MsgKey,
+    controller: &Controller,
+) -> bool
     requires key { IsSmallKey format key.now }
     requires format { controller.now.params.format ≡ format }
     ensures { result ≡ awaits (frames_named service key.now) controller.now }
@@ -96,7 +101,12 @@ fn has_asked(key: &MsgKey, slot: Slot, controller: &Controller, node: &Incarnati
 }
 
 /// Whether the origin of the message has asked for it, has stopped, or came too late for it.
-fn is_asked(key: &MsgKey, slot: Slot, controllers: &[Controller], nodes: &[Incarnations]) -> bool
+pub(crate) fn is_asked(
+    key: &MsgKey,
+    slot: Slot,
+    controllers: &[Controller],
+    nodes: &[Incarnations],
+) -> bool
     requires count { length controllers.now ≡ length nodes.now }
     requires origin { key.now.origin < length controllers.now }
     ensures { (scenario : ScenarioParts) (journal : List Step) (m : Message) → IsAbout scenario journal m key.now controllers.now nodes.now
@@ -107,7 +117,7 @@ fn is_asked(key: &MsgKey, slot: Slot, controllers: &[Controller], nodes: &[Incar
 }
 
 /// Whether the node runs and has something of the message ahead.
-fn has_ahead(key: &MsgKey, controller: &Controller, node: &Incarnations) -> bool
+pub(crate) fn has_ahead(key: &MsgKey, controller: &Controller, node: &Incarnations) -> bool
     ensures { (scenario : ScenarioParts) (s : RunState) (i : ℕ) (m : Message) → IsKeptAs scenario s.trace i (node_at s.nodes i) controller.now
         → IsKeptAt scenario s.trace i (node_at s.nodes i) node.now → Contains (messages_of scenario.sends) m → message_key m ≡ key.now
         → result ≡ has_ahead scenario s m i }

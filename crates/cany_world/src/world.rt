@@ -1,30 +1,35 @@
-ghost use Rattle.std.specs.Prelude.{◌≡◌, ◌+◌, ◌<◌, ◌≤◌, ◌↔◌, ℕ, [], ◌∷◌, ◌++◌, None, Some, true, if◌then◌else◌, length, reverse, slice_get, IfOk, IsSomeAnd};
+ghost use Rattle.std.specs.Prelude.{◌≡◌, ◌+◌, ◌<◌, ◌≤◌, ◌↔◌, ℕ, [], ◌∷◌, ◌++◌, None, Some, true, false, if◌then◌else◌, length, reverse, slice_get, IfOk, IsSomeAnd};
 ghost use Rattle.cany_base.specs.declared.step.Step.TheVariants.{Turn};
+ghost use Rattle.cany_base.specs.Nodes.{nobody};
 ghost use Rattle.cany_model.specs.Runs.Follow as following;
 ghost use Rattle.cany_model.specs.Runs.Incarnations.{log_of, span_of};
 ghost use Rattle.cany_model.specs.Bus.Restart.{restarted_in};
 ghost use Rattle.cany_model.specs.Promises.Detector.{KeepsMembers};
 ghost use Rattle.cany_model.specs.Promises.Hypothesis.{IsWithin, first_break};
 ghost use Rattle.cany_model.specs.Rules.Log as model;
-ghost use Rattle.cany_model.specs.Rules.Messages.{message_key, messages_of};
+ghost use Rattle.cany_model.specs.Rules.Knowledge.{fda_of};
+ghost use Rattle.cany_model.specs.Rules.Messages.{frames_of, message_key, messages_of};
 ghost use Rattle.cany_model.specs.Runs.RoundRobin.{rounds};
 ghost use Rattle.cany_model.specs.Runs.Run.{IsLegal, after_step, has_ended, is_done, reply};
 ghost use Rattle.cany_model.specs.Promises.Safe.{IsIntegral, IsSafe};
-ghost use Rattle.cany_model.specs.Promises.Settled.{is_settled};
+ghost use Rattle.cany_model.specs.Promises.Settled.{is_ahead, is_awaited, is_settled, nobody_waits_with_sign};
 ghost use Rattle.cany_model.specs.Bus.State.{node_at, reads, slots_run};
 ghost use Rattle.cany_world.specs.Kept.{IsKeptAs, IsKeptAt};
+ghost use Rattle.cany_world.specs.Incarnations.{takes_part_since};
 ghost use Rattle.cany_world.specs.Replies.{has_turned, step_reply};
+ghost use Rattle.cany_world.specs.Settled.{is_queued, nodes_ahead, waiting_nodes};
 
 use crate::began::began_nodes;
 use crate::incarnations::Incarnations;
 use crate::journal::push_rounds;
 use crate::opening::{controllers_of, journal_room, nodes_of};
 use crate::resting::rest;
-use crate::settled::is_settled;
+use crate::settled::{is_asked, is_settled};
 use crate::step::make;
 use crate::stretch::{Stretch, next_stretch};
 use crate::turn::take_turn;
 use crate::unread::{all_read, first_lagging};
+use crate::unsettled::{nodes_ahead, nodes_waiting_with_sign, waiting_nodes};
 use can_bus::Bus;
 use can_controller::Controller;
 use can_fault::Script;
@@ -294,6 +299,69 @@ impl World {
         let controllers = self.controllers.as_slice();
         let nodes = self.nodes.as_slice();
         is_settled(format, &sends[index], &self.key(index), controllers, nodes)
+    }
+
+    /// Whether the message of a scripted send, by its place in the file, is to be asked for yet: its
+    /// origin runs, takes part since the scripted slot, and has not asked for it.
+    ///
+    /// Where all is read, a message is settled if it is not queued, nobody waits with a frame of it
+    /// and nobody has anything of it ahead.
+    pub fn queued(&self, index: usize) -> bool
+        requires { index < length self.now.scenario.sends }
+        ensures { IsSomeAnd (slice_get (messages_of self.now.scenario.sends) index) (λ m. result ≡ is_queued self.now.scenario (state_of self.now) m) }
+    {
+        let sends = self.scenario.sends();
+        let controllers = self.controllers.as_slice();
+        let nodes = self.nodes.as_slice();
+        !is_asked(&self.key(index), sends[index].slot, controllers, nodes)
+    }
+
+    /// The running nodes that wait with the data frame of the message of a scripted send, by its
+    /// place in the file, or with a frame that confirms or accepts it.
+    pub fn waiting(&self, index: usize) -> NodeSet
+        requires { index < length self.now.scenario.sends }
+        ensures set { IsSomeAnd (slice_get (messages_of self.now.scenario.sends) index) (λ m. result ≡ waiting_nodes (frames_of m) (state_of self.now)) }
+        ensures nobody { IsSomeAnd (slice_get (messages_of self.now.scenario.sends) index)
+            (λ m. (result ≡ nobody) ↔ (is_awaited (frames_of m) (state_of self.now) ≡ false)) }
+    {
+        let format = self.scenario.params().format;
+        let sends = self.scenario.sends();
+        let controllers = self.controllers.as_slice();
+        waiting_nodes(format, sends[index].service, &self.key(index), controllers)
+    }
+
+    /// The running nodes that have a timer or a closing of the message of a scripted send, by its
+    /// place in the file, ahead.
+    pub fn ahead(&self, index: usize) -> NodeSet
+        requires { index < length self.now.scenario.sends }
+        ensures set { IsSomeAnd (slice_get (messages_of self.now.scenario.sends) index)
+            (λ m. result ≡ nodes_ahead self.now.scenario (state_of self.now) m) }
+        ensures nobody { IsSomeAnd (slice_get (messages_of self.now.scenario.sends) index)
+            (λ m. (result ≡ nobody) ↔ (is_ahead self.now.scenario (state_of self.now) m ≡ false)) }
+    {
+        let controllers = self.controllers.as_slice();
+        let nodes = self.nodes.as_slice();
+        nodes_ahead(&self.key(index), controllers, nodes)
+    }
+
+    /// The running nodes that wait with the frame of the sign that the node failed, as it was found
+    /// out in a membership cycle.
+    pub fn waiting_sign(&self, node: NodeId, cycle: u16) -> NodeSet
+        requires { node < self.now.scenario.params.nodes }
+        ensures set { result ≡ waiting_nodes (fda_of (record { node = node; cycle = cycle }) ∷ []) (state_of self.now) }
+        ensures nobody { (result ≡ nobody) ↔ (nobody_waits_with_sign (state_of self.now) (record { node = node; cycle = cycle }) ≡ true) }
+    {
+        let format = self.scenario.params().format;
+        nodes_waiting_with_sign(format, node, cycle, self.controllers.as_slice())
+    }
+
+    /// The first slot in which an incarnation of a node takes part.
+    pub fn takes_part_since(&self, node: NodeId, inc: u8) -> Slot
+        requires node { node < self.now.scenario.params.nodes }
+        requires inc { inc ≤ (node_at (state_of self.now).nodes node).present.number }
+        ensures { Some result ≡ takes_part_since (state_of self.now) node inc }
+    {
+        self.incarnations(node).takes_part_since(inc)
     }
 
     /// The first slot at which the run leaves the fault hypothesis.

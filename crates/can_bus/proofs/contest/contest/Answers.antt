@@ -1,6 +1,6 @@
 use Rattle.std.proofs.Common.{subst, sym, ◌∙◌, arith}
 use Rattle.can_controller.specs.Waiting.{LesserKeyWins}
-use Rattle.can_bus.specs.Row.{nodes_of}
+use Rattle.can_bus.specs.Controllers.{nodes_of}
 use Rattle.can_bus.proofs.ContestFacts.{contested, idle}
 use Rattle.can_bus.proofs.NodeFacts.{state_past}
 use Rattle.can_bus.proofs.SetFacts.{has_nobody}

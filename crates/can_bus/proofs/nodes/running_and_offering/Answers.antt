@@ -3,7 +3,7 @@ use Rattle.std.specs.Prelude.{is_some}
 use Rattle.cany_model.specs.Bus.Slot.{least_frame, offered}
 use Rattle.cany_model.specs.Bus.State.{node_at, runs}
 use Rattle.can_controller.specs.Controller.{node_state}
-use Rattle.can_bus.specs.Row.{nodes_of}
+use Rattle.can_bus.specs.Controllers.{nodes_of}
 use Rattle.can_bus.proofs.EachFacts.{got}
 use Rattle.can_bus.proofs.NodeFacts.{state_at, state_past}
 use Rattle.can_bus.proofs.OfferFacts.{absent_offers}

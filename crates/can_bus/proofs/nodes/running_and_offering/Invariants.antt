@@ -1,7 +1,7 @@
 use Rattle.std.specs.Prelude.{is_some}
 use Rattle.cany_model.specs.Bus.Slot.{least_frame, offered}
 use Rattle.cany_model.specs.Bus.State.{node_at, runs}
-use Rattle.can_bus.specs.Row.{nodes_of}
+use Rattle.can_bus.specs.Controllers.{nodes_of}
 use Rattle.can_bus.proofs.SetFacts.{SetSoFar}
 use Rattle.can_bus.proofs.nodes.running_and_offering.Given as goal
 

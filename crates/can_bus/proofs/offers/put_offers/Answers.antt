@@ -3,7 +3,7 @@ use Rattle.cany_base.specs.Limits.{most_nodes}
 use Rattle.cany_base.specs.Nodes.{has}
 use Rattle.can_controller.specs.Controller.{ControllerState, node_state}
 use Rattle.can_arbiter.proofs.RestFacts.{one_less}
-use Rattle.can_bus.specs.Row.{nodes_of}
+use Rattle.can_bus.specs.Controllers.{nodes_of}
 use Rattle.can_bus.proofs.EachFacts.{got}
 use Rattle.can_bus.proofs.OfferFacts.{none_so_far, one_more_offers, all_offers, rest_within}
 use Rattle.can_bus.proofs.NodeFacts.{state_at}

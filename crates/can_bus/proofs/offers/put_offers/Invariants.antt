@@ -1,7 +1,7 @@
 use Rattle.cany_base.specs.Limits.{most_nodes}
 use Rattle.cany_base.specs.Nodes.{has}
 use Rattle.can_arbiter.proofs.RestFacts.{left}
-use Rattle.can_bus.specs.Row.{nodes_of}
+use Rattle.can_bus.specs.Controllers.{nodes_of}
 use Rattle.can_bus.proofs.OfferFacts.{OffersSoFar}
 use Rattle.can_bus.proofs.offers.put_offers.Given as goal
 

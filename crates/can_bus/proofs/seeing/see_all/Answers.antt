@@ -4,7 +4,7 @@ use Rattle.can_controller.specs.Controller.{ControllerState}
 use Rattle.cany_model.specs.Bus.State.{runs, node_at}
 use Rattle.can_bus.specs.Contest.{running_nodes, seen_by}
 use Rattle.can_bus.specs.Each.{each}
-use Rattle.can_bus.specs.Row.{nodes_of}
+use Rattle.can_bus.specs.Controllers.{nodes_of}
 use Rattle.can_bus.proofs.EachFacts.{changed_next, changed_more, changed_all, length-each, got}
 use Rattle.can_bus.proofs.NodeFacts.{runs_seen_at, state_past}
 use Rattle.can_bus.proofs.SetFacts.{so_far_none, so_far_more, so_far_all}

@@ -2,7 +2,7 @@ use Rattle.std.proofs.Common.{◌≡◌}
 use Rattle.cany_model.specs.Bus.State.{node_at, runs}
 use Rattle.can_bus.specs.Contest.{seen_by}
 use Rattle.can_bus.specs.Each.{each}
-use Rattle.can_bus.specs.Row.{nodes_of}
+use Rattle.can_bus.specs.Controllers.{nodes_of}
 use Rattle.can_bus.proofs.EachFacts.{changed}
 use Rattle.can_bus.proofs.SetFacts.{SetSoFar}
 use Rattle.can_bus.proofs.seeing.see_all.Given as goal

@@ -4,7 +4,7 @@ use Rattle.cany_base.specs.declared.slot_note.SlotNote.{SlotNote}
 use Rattle.cany_model.specs.Bus.Slot.{transmission, script, stopping, winner}
 use Rattle.can_bus.specs.Contest.{seen_by, stopped_by}
 use Rattle.can_bus.specs.Each.{each}
-use Rattle.can_bus.specs.Row.{nodes_of}
+use Rattle.can_bus.specs.Controllers.{nodes_of}
 use Rattle.can_bus.proofs.AfterFacts.{are_after}
 use Rattle.can_bus.proofs.NodeFacts.{seen_and_stopped}
 use Rattle.can_bus.proofs.NoteFacts.{noted, stops_are, frame_noted, slot_noted}

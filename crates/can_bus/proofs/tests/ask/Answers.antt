@@ -2,9 +2,9 @@ use Rattle.std.proofs.Common.{ap, sym, subst, ◌∙◌, arith}
 use Rattle.cany_base.specs.Params.{Parameters}
 use Rattle.can_frame.specs.Identifier.{FitsFormat}
 use Rattle.can_controller.specs.Controller.{ControllerState}
-use Rattle.can_bus.specs.Row.{IsControllerOf}
+use Rattle.can_bus.specs.Controllers.{IsControllerOf}
 use Rattle.can_bus.proofs.EachFacts.{got}
-use Rattle.can_bus.proofs.RowFacts.{row_set}
+use Rattle.can_bus.proofs.ControllersFor.{controllers_with}
 use Rattle.can_bus.proofs.tests.ask.Goals as goal
 
 pub ask-requires-clause-fits : goal.ask-requires-clause-fits
@@ -17,6 +17,6 @@ ask-requires-clause-fits g c =
 pub returns : goal.returns
 returns g c =
     let x : ControllerState = c.index-controllers-i.result in
-    row_set c.args.params.now c.args.controllers.now c.args.i x c.ask.new.self (omega arith) c.index-controllers-i.is
+    controllers_with c.args.params.now c.args.controllers.now c.args.i x c.ask.new.self (omega arith) c.index-controllers-i.is
     (ap (λ (y : ControllerState). y.node) c.ask.ensures ∙ ap (λ (y : ControllerState). y.node) (sym c.index-controllers-i.is))
     (ap (λ (y : ControllerState). y.params) c.ask.ensures ∙ ap (λ (y : ControllerState). y.params) (sym c.index-controllers-i.is)) c.requires

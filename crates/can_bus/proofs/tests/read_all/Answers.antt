@@ -1,25 +1,25 @@
 use Rattle.std.proofs.Common.{◌≡◌, ◌<◌, length, ap, sym, ◌∙◌, arith}
 use Rattle.can_controller.specs.Controller.{ControllerState}
-use Rattle.can_bus.proofs.RowFacts.{row_set, read_more}
+use Rattle.can_bus.proofs.ControllersFor.{controllers_with, read_more}
 use Rattle.std.proofs.lemmas.Option.{slice_get_within}
 use Rattle.can_bus.proofs.tests.read_all.Goals as goal
 
 pub loop-i-init : goal.loop-i-init
-loop-i-init g c = record { row = λ p row. row; unread = λ k x below e. absurd (omega arith) }
+loop-i-init g c = record { each_node = λ p are. are; unread = λ k x below e. absurd (omega arith) }
 
 pub loop-i-preserved : goal.loop-i-preserved
 loop-i-preserved g c =
     let x : ControllerState = c.index-controllers-i.result in
     record {
-      row = λ p row.
-          row_set p c.loop-i.controllers c.loop-i.i x c.read.new.controller (omega arith) c.index-controllers-i.is
+      each_node = λ p are.
+          controllers_with p c.loop-i.controllers c.loop-i.i x c.read.new.controller (omega arith) c.index-controllers-i.is
           (c.read.ensures.node ∙ ap (λ (y : ControllerState). y.node) (sym c.index-controllers-i.is))
-          (c.read.ensures.params ∙ ap (λ (y : ControllerState). y.params) (sym c.index-controllers-i.is)) (c.loop-i.invariant.row p row);
+          (c.read.ensures.params ∙ ap (λ (y : ControllerState). y.params) (sym c.index-controllers-i.is)) (c.loop-i.invariant.each_node p are);
       unread = read_more c.loop-i.i c.loop-i.controllers c.read.new.controller c.loop-i.invariant.unread c.read.ensures.unread;
     }
 
-pub returns-clause-row : goal.returns-clause-row
-returns-clause-row g c = λ p row. c.loop-i.invariant.row p row
+pub returns-clause-each_node : goal.returns-clause-each_node
+returns-clause-each_node g c = λ p are. c.loop-i.invariant.each_node p are
 
 pub returns-clause-unread : goal.returns-clause-unread
 returns-clause-unread g c = λ lag k x e running.

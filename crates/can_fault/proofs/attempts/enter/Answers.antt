@@ -1,4 +1,4 @@
--- A rule for an attempt enters the name of its frame.
+-- A rule for an attempt enters the identity of its frame.
 use Rattle.can_fault.proofs.AttemptFacts.{entered_name}
 use Rattle.can_fault.proofs.attempts.enter.Goals as goal
 

@@ -1,5 +1,5 @@
 use Rattle.cany_node.proofs.Applying.{done-none}
-use Rattle.cany_node.proofs.Doing.{can_do, next_stands, next_done, all_done}
+use Rattle.cany_node.proofs.NextAction.{can_do, next_stands, next_done, all_done}
 use Rattle.cany_node.proofs.apply.apply_all.Goals as goal
 
 pub loop-action-init : goal.loop-action-init

@@ -7,7 +7,7 @@ use Rattle.cany_model.specs.Bus.State.{node_at}
 use Rattle.cany_model.proofs.Runs.Runs.{orderly}
 use Rattle.can_bus.proofs.SetFacts.{so_far_all, so_far_more, so_far_none}
 use Rattle.cany_world.proofs.InOrder.{in_order}
-use Rattle.cany_world.proofs.Told.{began_is, none_began}
+use Rattle.cany_world.proofs.SpansAndLogs.{began_is, none_began}
 use Rattle.cany_world.proofs.began.began_nodes.Goals as goal
 
 pub loop-i-init : goal.loop-i-init

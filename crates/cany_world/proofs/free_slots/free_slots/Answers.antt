@@ -1,5 +1,5 @@
 use Rattle.std.proofs.Common.{arith}
-use Rattle.cany_world.proofs.FreeFacts.{one_more_free}
+use Rattle.cany_world.proofs.Idle.FreeFacts.{one_more_free}
 use Rattle.cany_world.proofs.free_slots.free_slots.Goals as goal
 
 pub loop-slots-preserved : goal.loop-slots-preserved

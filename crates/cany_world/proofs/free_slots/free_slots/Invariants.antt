@@ -1,5 +1,5 @@
 use Rattle.std.proofs.Common.{◌≤◌, ◌-◌}
-use Rattle.cany_world.proofs.FreeFacts.{AreFree}
+use Rattle.cany_world.proofs.Idle.FreeFacts.{AreFree}
 use Rattle.cany_world.proofs.free_slots.free_slots.Given as goal
 
 abbrev pub invariant-loop-slots : goal.invariant-loop-slots

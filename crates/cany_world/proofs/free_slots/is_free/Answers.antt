@@ -1,4 +1,4 @@
-use Rattle.cany_world.proofs.FreeFacts.{free_by}
+use Rattle.cany_world.proofs.Idle.FreeFacts.{free_by}
 use Rattle.cany_world.proofs.free_slots.is_free.Goals as goal
 
 pub returns-then-not-has_rule : goal.returns-then-not-has_rule

@@ -4,7 +4,7 @@ use Rattle.cany_base.specs.declared.step.Step.{Step}
 use Rattle.cany_base.specs.Bounded.{Bounded}
 use Rattle.can_controller.specs.Controller.{ControllerState}
 use Rattle.cany_world.specs.Resting.{rounds_of}
-use Rattle.cany_world.proofs.JournalRounds.{round_room, rounds_pushed_all, rounds_pushed_next}
+use Rattle.cany_world.proofs.Idle.JournalRounds.{round_room, rounds_pushed_all, rounds_pushed_next}
 use Rattle.cany_world.proofs.journal.push_rounds.Goals as goal
 
 pub push_steps-requires : goal.push_steps-requires

@@ -1,6 +1,6 @@
 use Rattle.std.proofs.Common.{◌≡◌, ◌-◌, ◌++◌}
 use Rattle.cany_world.specs.Resting.{rounds_of}
-use Rattle.cany_world.proofs.JournalRounds.{IsInSteps}
+use Rattle.cany_world.proofs.Idle.JournalRounds.{IsInSteps}
 use Rattle.cany_world.proofs.journal.push_rounds.Given as goal
 
 abbrev pub invariant-loop-slot : goal.invariant-loop-slot

@@ -5,7 +5,7 @@ use Rattle.cany_base.specs.declared.step.Step.{Step}
 use Rattle.cany_base.specs.declared.step.Step.TheVariants.{Turn}
 use Rattle.can_controller.specs.Controller.{ControllerState}
 use Rattle.cany_world.specs.Resting.{round_of, runs_at}
-use Rattle.cany_world.proofs.JournalRounds.{IsInSteps, not_not, round_begun, runs_here, turn_left_out, turn_pushed, turns_from}
+use Rattle.cany_world.proofs.Idle.JournalRounds.{IsInSteps, not_not, round_begun, runs_here, turn_left_out, turn_pushed, turns_from}
 use Rattle.cany_world.proofs.PlaceFacts.{found}
 use Rattle.cany_world.proofs.journal.round_of.Goals.{then-is_none, else-is_none}
 use Rattle.cany_world.proofs.journal.round_of.Goals as goal

@@ -1,6 +1,6 @@
 use Rattle.std.proofs.Common.{◌≡◌, ◌+◌, ◌-◌, ◌≤◌, length, take}
 use Rattle.cany_world.specs.Resting.{round_of}
-use Rattle.cany_world.proofs.JournalRounds.{IsInSteps, turns_from}
+use Rattle.cany_world.proofs.Idle.JournalRounds.{IsInSteps, turns_from}
 use Rattle.cany_world.proofs.journal.round_of.Given as goal
 
 abbrev pub invariant-loop-i : goal.invariant-loop-i

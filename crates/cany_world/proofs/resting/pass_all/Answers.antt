@@ -6,7 +6,7 @@ use Rattle.cany_base.specs.Nodes.{has}
 use Rattle.can_controller.specs.Controller.{ControllerState}
 use Rattle.cany_world.specs.Incarnations.{IncarnationsParts}
 use Rattle.cany_world.specs.Resting.{CanAllGo, CanGo, HavePassed}
-use Rattle.cany_world.proofs.PassFacts.{all_passed, can_go_here, none_passed, one_passed}
+use Rattle.cany_world.proofs.Idle.PassFacts.{all_passed, can_go_here, none_passed, one_passed}
 use Rattle.cany_world.proofs.resting.pass_all.Goals as goal
 
 pub loop-i-init : goal.loop-i-init

@@ -1,5 +1,5 @@
 use Rattle.std.proofs.Common.{◌≡◌}
-use Rattle.cany_world.proofs.PassFacts.{ArePassedBelow}
+use Rattle.cany_world.proofs.Idle.PassFacts.{ArePassedBelow}
 use Rattle.cany_world.proofs.resting.pass_all.Given as goal
 
 abbrev pub invariant-loop-i : goal.invariant-loop-i

@@ -3,7 +3,7 @@ use Rattle.std.proofs.lemmas.List.{length-reverse}
 use Rattle.cany_model.specs.Runs.Run.{run}
 use Rattle.cany_model.specs.Bus.State.{slots_run}
 use Rattle.cany_world.specs.Resting.{HaveAllPassed}
-use Rattle.cany_world.proofs.StretchFacts.{stand_after_rest}
+use Rattle.cany_world.proofs.Idle.StretchFacts.{stand_after_rest}
 use Rattle.cany_world.proofs.resting.rest.Goals as goal
 
 pub returns-clause-stands : goal.returns-clause-stands

@@ -5,7 +5,7 @@ use Rattle.cany_model.specs.Bus.State.{RunState, node_at}
 use Rattle.cany_model.specs.Promises.Settled.{came_too_late, origin_has_asked}
 use Rattle.cany_world.proofs.InOrder.{in_order}
 use Rattle.cany_world.proofs.SettledFacts.{any_of_three, asked_is}
-use Rattle.cany_world.proofs.Told.{came_after_is}
+use Rattle.cany_world.proofs.SpansAndLogs.{came_after_is}
 use Rattle.cany_world.proofs.settled.has_asked.Goals as goal
 
 pub returns-then-asked : goal.returns-then-asked

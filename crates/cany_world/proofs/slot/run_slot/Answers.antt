@@ -4,14 +4,14 @@ use Rattle.cany_base.specs.declared.slot_note.SlotNote.{SlotNote}
 use Rattle.cany_base.specs.Params.{Parameters}
 use Rattle.cany_base.specs.Scenario.{ScenarioParts}
 use Rattle.cany_model.specs.Runs.Run.{run}
-use Rattle.can_bus.specs.Row.{IsRowFor, NoneLags}
-use Rattle.cany_world.proofs.SlotFacts.{can_restart, may_slot, none_lags, row_for, slot_stands_after}
+use Rattle.can_bus.specs.Controllers.{AreControllersFor, NoneLags}
+use Rattle.cany_world.proofs.SlotFacts.{can_restart, may_slot, none_lags, controllers_for, slot_stands_after}
 use Rattle.cany_world.proofs.slot.run_slot.Goals as goal
 
-pub slot-requires-clause-row : goal.slot-requires-clause-row
-slot-requires-clause-row c =
-    subst (λ (p : Parameters). IsRowFor p c.args.controllers.now) (sym c.requires.stands.bus.params)
-    (row_for c.args.scenario.now (run c.args.scenario.now c.requires.journal) c.args.controllers.now c.requires.stands.controllers)
+pub slot-requires-clause-each_node : goal.slot-requires-clause-each_node
+slot-requires-clause-each_node c =
+    subst (λ (p : Parameters). AreControllersFor p c.args.controllers.now) (sym c.requires.stands.bus.params)
+    (controllers_for c.args.scenario.now (run c.args.scenario.now c.requires.journal) c.args.controllers.now c.requires.stands.controllers)
 
 pub slot-requires-clause-reading : goal.slot-requires-clause-reading
 slot-requires-clause-reading c =

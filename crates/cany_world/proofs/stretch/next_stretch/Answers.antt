@@ -1,5 +1,5 @@
 use Rattle.std.proofs.Common.{arith}
-use Rattle.cany_world.proofs.PassFacts.{fewer_pass, passes_early}
+use Rattle.cany_world.proofs.Idle.PassFacts.{fewer_pass, passes_early}
 use Rattle.cany_world.proofs.stretch.next_stretch.Goals as goal
 
 pub returns-then-slots-stretch-clause-free : goal.returns-then-slots-stretch-clause-free

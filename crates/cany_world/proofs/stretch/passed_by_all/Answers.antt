@@ -1,6 +1,6 @@
 use Rattle.std.proofs.Common.{refl, arith}
 use Rattle.std.proofs.lemmas.Option.{slice_get_within}
-use Rattle.cany_world.proofs.PassFacts.{pass_below_next}
+use Rattle.cany_world.proofs.Idle.PassFacts.{pass_below_next}
 use Rattle.cany_world.proofs.PlaceFacts.{found}
 use Rattle.cany_world.proofs.stretch.passed_by_all.Goals as goal
 

@@ -1,5 +1,5 @@
 use Rattle.std.proofs.Common.{◌≤◌}
-use Rattle.cany_world.proofs.PassFacts.{PassBelow}
+use Rattle.cany_world.proofs.Idle.PassFacts.{PassBelow}
 use Rattle.cany_world.proofs.stretch.passed_by_all.Given as goal
 
 abbrev pub invariant-loop-i : goal.invariant-loop-i

@@ -4,8 +4,8 @@ use Rattle.cany_base.specs.Bounded.{Bounded}
 use Rattle.cany_model.specs.Bus.Slot.{script}
 use Rattle.can_bus.specs.Bus.{BusParts, Follows}
 use Rattle.can_bus.specs.BusFields.{parts_of}
-use Rattle.can_bus.specs.Row.{IsRowFor, nodes_of}
-use Rattle.can_bus.proofs.AfterFacts.{row_after}
+use Rattle.can_bus.specs.Controllers.{AreControllersFor, nodes_of}
+use Rattle.can_bus.proofs.AfterFacts.{controllers_after_slot}
 use Rattle.can_bus.proofs.KeptFacts.{slot_note, partial_room, ruled_on, follows_on}
 use Rattle.can_bus.proofs.NoteFacts.{note_numbered}
 use Rattle.can_bus.proofs.UnreadFacts.{slot_without_unread}
@@ -41,7 +41,7 @@ returns-clause-follows c =
     (ap (λ (b : Bounded SlotNote). b.items) c.push_copy.ensures)
     (c.run_slot-note.ensures.counts (parts_of c.self.inside).trace was.counts) c.note.ensures.rules
 
-pub returns-clause-row : goal.returns-clause-row
-returns-clause-row c =
-    row_after c.self.inside.params c.run_slot-note.result c.args.controllers.now c.run_slot-note.new.controllers c.run_slot-note.ensures.controllers
-    (subst (λ (b : BusParts). IsRowFor b.params c.args.controllers.now) (sym c.self.view_is) c.requires.row)
+pub returns-clause-each_node : goal.returns-clause-each_node
+returns-clause-each_node c =
+    controllers_after_slot c.self.inside.params c.run_slot-note.result c.args.controllers.now c.run_slot-note.new.controllers c.run_slot-note.ensures.controllers
+    (subst (λ (b : BusParts). AreControllersFor b.params c.args.controllers.now) (sym c.self.view_is) c.requires.each_node)

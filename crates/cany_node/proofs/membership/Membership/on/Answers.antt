@@ -1,6 +1,6 @@
 use Rattle.std.proofs.Common.{◌∙◌, ◌++◌, ap, sym, arith, append-nil}
 use Rattle.cany_model.specs.Rules.Actions.{actions_of}
-use Rattle.cany_node.proofs.Unheard.{none_unheard, site_unheard, unheard}
+use Rattle.cany_node.proofs.TellsNothingOfTheSite.{none_unheard, site_unheard, unheard}
 use Rattle.cany_node.proofs.membership.Membership.on.Goals as goal
 
 pub returns-else-notice-wake-clause-actions : goal.returns-else-notice-wake-clause-actions

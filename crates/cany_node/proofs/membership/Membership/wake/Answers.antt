@@ -1,7 +1,7 @@
 use Rattle.std.proofs.Common.{subst, sym, arith}
 use Rattle.cany_node.specs.Resting.{MembershipRests}
 use Rattle.cany_node.specs.Membership.{IsMembershipOf}
-use Rattle.cany_node.proofs.MembershipRest.{history_now, life_now, site_rests}
+use Rattle.cany_node.proofs.Idle.MembershipRest.{history_now, life_now, site_rests}
 use Rattle.cany_node.proofs.membership.Membership.wake.Goals as goal
 
 pub returns : goal.returns

@@ -1,8 +1,8 @@
 use Rattle.std.proofs.Common.{rules, ◌≤◌, ◌+◌, refl, ap, sym, subst, arith}
 use Rattle.cany_model.specs.Rules.Effect.{waiting_after}
 use Rattle.cany_node.specs.Node.{NodeParts}
-use Rattle.cany_node.proofs.IdleFacts.{idle_later}
-use Rattle.cany_node.proofs.RestFacts.{idle_turn-effects, idle_turn-stands}
+use Rattle.cany_node.proofs.Idle.IdleFacts.{idle_later}
+use Rattle.cany_node.proofs.Idle.RestFacts.{idle_turn-effects, idle_turn-stands}
 use Rattle.cany_node.proofs.node.Node.act.Goals as goal
 
 pub invariant_of-self : goal.invariant_of-self

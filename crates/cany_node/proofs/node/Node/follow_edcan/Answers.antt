@@ -8,8 +8,8 @@ use Rattle.cany_node.specs.Membership.{IsNextOf}
 use Rattle.cany_node.proofs.ActSteps.{can_apply, done, stands_after}
 use Rattle.cany_node.proofs.EdcanTurn.{edcan_asked, edcan_listed, edcan_same, edcan_scripted}
 use Rattle.cany_node.proofs.HeardTurn.{edcan_stands}
-use Rattle.cany_node.proofs.IdleFacts.{idle_later}
-use Rattle.cany_node.proofs.RestFacts.{rests_in}
+use Rattle.cany_node.proofs.Idle.IdleFacts.{idle_later}
+use Rattle.cany_node.proofs.Idle.RestFacts.{rests_in}
 use Rattle.cany_node.proofs.node.Node.follow_edcan.Goals as goal
 
 pub invariant_of-self : goal.invariant_of-self

@@ -3,7 +3,7 @@ use Rattle.cany_model.specs.Rules.Actions.{actions_of}
 use Rattle.cany_node.specs.Node.{NodeParts}
 use Rattle.cany_node.specs.Turning.{HasScripted, script_effects, script_room}
 use Rattle.cany_node.proofs.ActSteps.{IsSame, can_apply, can_script, done, joined, listed, one_more_read, same_after, stands_after}
-use Rattle.cany_node.proofs.Filled.{actions_within}
+use Rattle.cany_node.proofs.RoomsSuffice.{actions_within}
 use Rattle.cany_node.proofs.node.Node.follow_rules.Goals as goal
 
 pub hear-requires-clause-room : goal.hear-requires-clause-room

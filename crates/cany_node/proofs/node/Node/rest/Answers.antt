@@ -1,6 +1,6 @@
 use Rattle.std.proofs.Common.{◌+◌, ap}
 use Rattle.cany_node.specs.Node.{NodeParts}
-use Rattle.cany_node.proofs.RestFacts.{rested_as}
+use Rattle.cany_node.proofs.Idle.RestFacts.{rested_as}
 use Rattle.cany_node.proofs.node.Node.rest.Goals as goal
 
 pub returns-clause-stands : goal.returns-clause-stands

@@ -1,6 +1,6 @@
 use Rattle.std.proofs.Common.{subst}
 use Rattle.cany_node.specs.Resting.{RestsUntil}
-use Rattle.cany_node.proofs.IdleFacts.{idle_rests}
+use Rattle.cany_node.proofs.Idle.IdleFacts.{idle_rests}
 use Rattle.cany_node.proofs.node.Node.wake.Goals as goal
 
 pub returns : goal.returns

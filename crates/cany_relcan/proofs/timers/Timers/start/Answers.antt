@@ -1,4 +1,4 @@
-use Rattle.std.proofs.Common.{◌++◌, ◌-◌, ◌∷◌, [], length}
+use Rattle.std.proofs.Common.{◌++◌, ◌∷◌, []}
 use Rattle.cany_relcan.proofs.OrderFacts.{ascending_drop, ascending_more}
 use Rattle.cany_relcan.proofs.timers.Timers.start.Goals as goal
 

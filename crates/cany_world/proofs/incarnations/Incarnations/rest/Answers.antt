@@ -5,7 +5,7 @@ use Rattle.std.proofs.lemmas.Option.{get_or_from_slice_get}
 use Rattle.cany_node.specs.Node.{NodeParts}
 use Rattle.cany_world.specs.Incarnations.{IncarnationsParts}
 use Rattle.cany_world.specs.IncarnationsFields.{incarnations_parts}
-use Rattle.cany_world.proofs.PassFacts.{rested_by}
+use Rattle.cany_world.proofs.Idle.PassFacts.{rested_by}
 use Rattle.cany_world.proofs.PlaceFacts.{written}
 use Rattle.cany_world.proofs.incarnations.Incarnations.rest.Goals as goal
 

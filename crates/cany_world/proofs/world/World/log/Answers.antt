@@ -1,5 +1,5 @@
 use Rattle.cany_world.specs.World.{state_of}
-use Rattle.cany_world.proofs.Told.{log_is}
+use Rattle.cany_world.proofs.SpansAndLogs.{log_is}
 use Rattle.cany_world.proofs.world.World.log.Goals as goal
 
 pub returns : goal.returns

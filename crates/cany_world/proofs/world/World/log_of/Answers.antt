@@ -1,4 +1,4 @@
-use Rattle.cany_world.proofs.Told.{told_log}
+use Rattle.cany_world.proofs.SpansAndLogs.{told_log}
 use Rattle.cany_world.proofs.world.World.log_of.Goals as goal
 
 pub returns : goal.returns

@@ -13,7 +13,7 @@ use Rattle.cany_world.specs.Kept.{StandFor}
 use Rattle.cany_world.specs.Resting.{CanAllPass, CanRest, rounds_of}
 use Rattle.cany_world.specs.World.{WorldParts, state_of}
 use Rattle.cany_world.proofs.PlaceFacts.{written}
-use Rattle.cany_world.proofs.RestSteps.{IsReady, can_rest, ready_by, steps_are, steps_room, then_legal, then_ran}
+use Rattle.cany_world.proofs.Idle.RestSteps.{IsReady, can_rest, ready_by, steps_are, steps_room, then_legal, then_ran}
 use Rattle.cany_world.proofs.StepFacts.{same_stands}
 use Rattle.cany_world.proofs.world.World.rest.Goals as goal
 

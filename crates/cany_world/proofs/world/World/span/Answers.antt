@@ -1,4 +1,4 @@
-use Rattle.cany_world.proofs.Told.{told_span}
+use Rattle.cany_world.proofs.SpansAndLogs.{told_span}
 use Rattle.cany_world.proofs.world.World.span.Goals as goal
 
 pub returns : goal.returns

@@ -1,0 +1,116 @@
+"""Charts and pictures: those that are stored are made again, and each of every report is whole and keeps its width."""
+import re
+import shlex
+import shutil
+import subprocess
+import xml.etree.ElementTree as ElementTree
+
+import chart
+import columns
+import picture
+import pictures
+import report as reports
+from draw import MOST_SLOT
+from readings import LIMIT, at_once, stored, tool
+
+# By the name of a file of tools/expected: the script and its arguments that write it.
+EXPECTED = {
+    "edcan_sender_stops_after_partial.chart": "draw.py scenarios/edcan_sender_stops_after_partial.report --width 80",
+    "edcan_sender_stops_after_partial.narrow.chart": "draw.py scenarios/edcan_sender_stops_after_partial.report --width 40",
+    "restart_joins.chart": "draw.py scenarios/restart_joins.report --width 90",
+    "restart_joins.part.chart": "draw.py scenarios/restart_joins.report --all --from 70 --to 120 --title 'A part' --width 60",
+    "a_restart_between_two_copies.chart": "draw.py scenarios/a_restart_between_two_copies.report --width 80",
+    "thirty_two_nodes.chart": "draw.py scenarios/thirty_two_nodes.report --width 72",
+    "thirty_two_nodes.narrow.chart": "draw.py scenarios/thirty_two_nodes.report --width 44",
+    "silent_omission_is_outside.chart": "draw.py scenarios/silent_omission_is_outside.report --check tools/expected/silent_omission_is_outside.check --width 72",
+    "restart_joins.log": "buslog.py scenarios/restart_joins.report",
+    "edcan_sender_stops_after_partial.nodes.log": "buslog.py scenarios/edcan_sender_stops_after_partial.report --nodes --direction",
+    "three_services.asc": "buslog.py scenarios/three_services.report --asc --bitrate 250000",
+    "one_message_no_fault.jsonl": "report.py scenarios/one_message_no_fault.report",
+}
+WIDTHS = (40, 57, 80, 132)
+SVG = "{http://www.w3.org/2000/svg}"
+MOST_PICTURE_BYTES = 100_000
+
+
+def made(root, command):
+    name, *arguments = shlex.split(command)
+    return tool(root, name, *arguments)
+
+
+def keep(root):
+    for file, command in EXPECTED.items():
+        status, text, said = made(root, command)
+        print(f"{file}: status {status} {said}".rstrip())
+        (root / "tools/expected" / file).write_bytes(text)
+
+
+def check_expected(root, tally):
+    for (file, command), found in at_once(list(EXPECTED.items()), lambda file, command: made(root, command)):
+        stored_text = root / "tools/expected" / file
+        if tally.check(stored_text.is_file(), f"tools/expected has no {file}"):
+            tally.check(found == (0, stored_text.read_bytes(), ""), f"tools/{command} writes not tools/expected/{file}: {found[0]} {found[2]}")
+    texts = {it.name for it in root.glob("tools/expected/*") if it.suffix != ".check"}
+    tally.check(texts <= set(EXPECTED), f"tools/expected has what nothing makes: {', '.join(texts - set(EXPECTED))}")
+
+
+def check_charts(root, tally):
+    """A chart of each report, at each width: no line is longer, and each slot with something in it has its line."""
+    for name, text in stored(root).items():
+        report = reports.read_report(text)
+        shown = columns.columns(report, 0, MOST_SLOT, True)
+        for width in WIDTHS:
+            lines = list(chart.chart(report, shown, None, "", width))
+            longest = max(map(len, lines))
+            tally.check(longest <= width, f"the chart of {name} at width {width} has a line of {longest}")
+            slots = [int(found[1]) for found in (re.match(r" *([0-9]+)  \S", line) for line in lines) if found]
+            tally.check(slots == [it.slot for it in shown], f"the chart of {name} at width {width} has other slots")
+
+
+def check_picture(name, text, shown, tally):
+    """A page is well formed, has each slot that it should, and no mark outside."""
+    page = ElementTree.fromstring(text)
+    tally.check(page.tag == f"{SVG}svg", f"{name}: is no SVG")
+    words = [it.text for it in page.iter(f"{SVG}text")]
+    missing = [it.slot for it in shown if str(it.slot) not in words]
+    tally.check(not missing, f"{name}: has no slots {missing[:5]}")
+    width, height = float(page.get("width")), float(page.get("height"))
+    outside = [it for it in page.iter(f"{SVG}text") if not (0 <= float(it.get("x", 0)) <= width and 0 <= float(it.get("y", 0)) <= height)]
+    tally.check(not outside, f"{name}: {len(outside)} words stand outside")
+    tally.check(not any(it.tag.endswith(("script", "image")) for it in page.iter()), f"{name}: has more than shapes and words")
+
+
+def check_pictures(root, tally):
+    for name, text in stored(root).items():
+        report = reports.read_report(text)
+        shown = columns.columns(report, 0, MOST_SLOT, False)
+        for each in (False, True):
+            page = "\n".join(picture.picture(report, shown, None, "<&>", 1000, each))
+            check_picture(f"the picture of {name}", page, shown, tally)
+    for name in pictures.TITLES:
+        file = root / f"docs/pictures/{name}.svg"
+        if tally.check(file.is_file(), f"docs/pictures has no {name}.svg: tools/pictures.py makes it"):
+            tally.check(file.read_text(encoding="utf-8") == pictures.drawn(name), f"{file.name} is not what tools/pictures.py draws")
+            tally.check(file.stat().st_size <= MOST_PICTURE_BYTES, f"{file.name} is too large")
+    others = {it.stem for it in root.glob("docs/pictures/*")} - set(pictures.TITLES)
+    tally.check(not others, f"docs/pictures has what nothing makes: {', '.join(others)}")
+
+
+def check_page(root, tally):
+    """The commands that docs/tools.md shows write what stands below them."""
+    page = (root / "docs/tools.md").read_text(encoding="utf-8")
+    found = re.findall(r"(?m)^```\n\$ (\S+)( .*)\n((?:.*\n)*?)```", page)
+    tally.check(len(found) > 3, "docs/tools.md shows no commands with what they write")
+    for name, words, text in found:
+        if "/" not in name and not shutil.which(name):
+            print(f"drawing: {name} is not here, so its example in docs/tools.md is not tried")
+            continue
+        ran = subprocess.run(["bash", "-c", name + words], cwd=root, stdin=subprocess.DEVNULL, stdout=subprocess.PIPE, stderr=subprocess.PIPE, timeout=LIMIT)
+        tally.check(ran.stdout.decode() == text, f"docs/tools.md: {name}{words} writes something else: {ran.stderr.decode()[-300:]}")
+
+
+def check(root, tally):
+    check_expected(root, tally)
+    check_charts(root, tally)
+    check_pictures(root, tally)
+    check_page(root, tally)

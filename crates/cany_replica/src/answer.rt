@@ -1,0 +1,9 @@
+use crate::reply::Reply;
+use cany_base::MsgKey;
+
+/// The reply to a message.
+#[derive(Clone, Copy, Debug, PartialEq, Eq)]
+pub struct Answer {
+    pub msg: MsgKey,
+    pub reply: Reply,
+}

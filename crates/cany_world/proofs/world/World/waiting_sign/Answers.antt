@@ -1,0 +1,28 @@
+use Rattle.std.proofs.Common.{◌≡◌, ◌↔◌, true, ap, subst, sym, ◌∙◌, List}
+use Rattle.std.specs.Prelude.{slice_get, Some}
+use Rattle.can_controller.specs.Controller.{ControllerState}
+use Rattle.cany_base.specs.Nodes.{Nodes, nobody}
+use Rattle.cany_base.specs.Params.{Parameters}
+use Rattle.cany_base.proofs.ParamsFacts.{few_nodes}
+use Rattle.cany_model.specs.Promises.Settled.{nobody_waits_with_sign}
+use Rattle.cany_model.specs.Rules.Knowledge.{FailureSign}
+use Rattle.cany_world.specs.Kept.{AreControllersOf}
+use Rattle.cany_world.specs.World.{WorldParts, state_of}
+use Rattle.cany_world.specs.WorldFields.{world_parts}
+use Rattle.cany_world.proofs.UnsettledFacts.{nobody_waits_with}
+use Rattle.cany_world.proofs.world.World.waiting_sign.Goals as goal
+
+pub nodes_waiting_with_sign-requires-clause-format : goal.nodes_waiting_with_sign-requires-clause-format
+nodes_waiting_with_sign-requires-clause-format c i x at =
+    let kept = c.self.invariant.stands.controllers.each i x (subst (λ (t : List ControllerState). slice_get t i ≡ Some x) c.as_slice.ensures.value at) in
+    ap (λ (p : Parameters). p.format) (kept.params ∙ sym (c.behind-self.view_is ∙ c.params.ensures.params))
+
+pub returns-clause-nobody : goal.returns-clause-nobody
+returns-clause-nobody c =
+    let w : WorldParts = world_parts c.self.inside in
+    let sign : FailureSign = record { node = c.args.node; cycle = c.args.cycle } in
+    subst (λ (v : WorldParts). (c.nodes_waiting_with_sign.result ≡ nobody) ↔ (nobody_waits_with_sign (state_of v) sign ≡ true)) c.self.view_is
+    (subst (λ (set : Nodes). (set ≡ nobody) ↔ (nobody_waits_with_sign (state_of w) sign ≡ true))
+    (sym (c.nodes_waiting_with_sign.ensures w.scenario w.journal
+    (subst (AreControllersOf w.scenario (state_of w)) (sym c.as_slice.ensures.value) c.self.invariant.stands.controllers)))
+    (nobody_waits_with w.scenario w.journal (few_nodes w.scenario.params c.self.invariant.legal.in_range) sign))

@@ -1,0 +1,123 @@
+//! Why a message or a sign is not settled: which nodes wait with a frame of it, and which have
+//! something of it ahead.
+ghost use Rattle.std.specs.Prelude.{◌≡◌, ◌<◌, ◌≤◌, ◌^◌, ◌↔◌, ◌&&◌, ◌||◌, ◌==◌, ℕ, [], ◌∷◌, true, List, length, Contains};
+ghost use Rattle.cany_base.specs.declared.step.Step.{Step};
+ghost use Rattle.cany_base.specs.Layout.{layout};
+ghost use Rattle.cany_base.specs.Limits.{most_nodes};
+ghost use Rattle.cany_base.specs.Nodes.{has};
+ghost use Rattle.cany_base.specs.Scenario.{ScenarioParts};
+ghost use Rattle.cany_model.specs.Rules.Knowledge.{fda_of};
+ghost use Rattle.cany_model.specs.Rules.Messages.{Message, frames_named};
+ghost use Rattle.cany_model.specs.Runs.Run.{run};
+ghost use Rattle.cany_world.specs.Controllers.{HaveFormat, IsSmallKey, awaits};
+ghost use Rattle.cany_world.specs.Kept.{AreControllersOf};
+ghost use Rattle.cany_world.specs.Settled.{IsAbout, nodes_ahead, waiting_nodes};
+
+use crate::incarnations::Incarnations;
+use crate::settled::{awaits, has_ahead};
+use can_controller::Controller;
+use can_controller::laws::frames_fit;
+use can_frame::identifier;
+use cany_base::{Class, Format, Frame, MsgKey, NodeId, NodeSet, Payload, Service};
+
+/// Puts node i into the set, if so.
+fn insert_if(set: &mut NodeSet, i: usize, so: bool)
+    requires { i < most_nodes }
+    ensures { (k : ℕ) → has set.new k ≡ (has set.old k || (so && k == i)) }
+{
+    if so {
+        set.insert(NodeId::of_index(i));
+    }
+}
+
+/// The running nodes that wait with a frame of the message.
+pub(crate) fn waiting_nodes(
+    format: Format,
+    service: Service,
+    key: &MsgKey,
+    controllers: &[Controller],
+) -> NodeSet
+    requires count { length controllers.now ≤ most_nodes }
+    requires key { IsSmallKey format key.now }
+    requires format { HaveFormat format controllers.now }
+    ensures { (scenario : ScenarioParts) (journal : List Step) → AreControllersOf scenario (run scenario journal) controllers.now
+        → result ≡ waiting_nodes (frames_named service key.now) (run scenario journal) }
+{
+    let mut set = NodeSet::empty();
+    for i in 0..controllers.len() {
+        insert_if(&mut set, i, awaits(format, service, key, &controllers[i]));
+    }
+    set
+}
+
+/// The running nodes that have something of the message ahead.
+pub(crate) fn nodes_ahead(
+    key: &MsgKey,
+    controllers: &[Controller],
+    nodes: &[Incarnations],
+) -> NodeSet
+    requires count { length controllers.now ≡ length nodes.now }
+    requires few { length controllers.now ≤ most_nodes }
+    ensures { (scenario : ScenarioParts) (journal : List Step) (m : Message) → IsAbout scenario journal m key.now controllers.now nodes.now
+        → result ≡ nodes_ahead scenario (run scenario journal) m }
+{
+    let mut set = NodeSet::empty();
+    for i in 0..controllers.len() {
+        insert_if(&mut set, i, has_ahead(key, &controllers[i], &nodes[i]));
+    }
+    set
+}
+
+/// Whether a number fits its field in an identifier of the format.
+fn fits(format: Format, number: u16) -> bool
+    ensures { (result ≡ true) ↔ (number < 2 ^ (layout format).number_width) }
+{
+    match format {
+        Format::One => true,
+        Format::Two => number < 32_768,
+    }
+}
+
+/// Whether the controller runs and waits with the frame of the sign that the node failed.
+fn awaits_sign(format: Format, node: NodeId, cycle: u16, controller: &Controller) -> bool
+    requires node { node < (layout format).nodes }
+    requires format { controller.now.params.format ≡ format }
+    ensures { result ≡ awaits (fda_of (record { node = node; cycle = cycle }) ∷ []) controller.now }
+{
+    frames_fit(controller);
+    if controller.stopped().is_some() || !fits(format, cycle) {
+        return false;
+    }
+    let frame = Frame {
+        class: Class::Fda,
+        number: cycle,
+        node,
+        inc: 0,
+        payload: Payload::empty(),
+    };
+    controller.waits(identifier(format, &frame))
+}
+
+/// The running nodes that wait with the frame of the sign that the node failed.
+pub(crate) fn nodes_waiting_with_sign(
+    format: Format,
+    node: NodeId,
+    cycle: u16,
+    controllers: &[Controller],
+) -> NodeSet
+    requires count { length controllers.now ≤ most_nodes }
+    requires node { node < (layout format).nodes }
+    requires format { HaveFormat format controllers.now }
+    ensures { (scenario : ScenarioParts) (journal : List Step) → AreControllersOf scenario (run scenario journal) controllers.now
+        → result ≡ waiting_nodes (fda_of (record { node = node; cycle = cycle }) ∷ []) (run scenario journal) }
+{
+    let mut set = NodeSet::empty();
+    for i in 0..controllers.len() {
+        insert_if(
+            &mut set,
+            i,
+            awaits_sign(format, node, cycle, &controllers[i]),
+        );
+    }
+    set
+}
