@@ -1,13 +1,22 @@
--- The first fault that shares a slot with an earlier one, by the relation and by the test.
-use Rattle.std.proofs.Common.{◌≡◌, ℕ, zero, suc, ◌+◌, ◌<◌, ◌≤◌, ◌==◌, ◌||◌, Bool, true, false, List, [], ◌∷◌, length, get_or, max, min, Option, Some, None, refl, sym, ◌∙◌, inl, inr, arith}
+-- The first fault that shares a slot with an earlier one.
+use Rattle.std.proofs.Common.{◌≡◌, ℕ, zero, suc, ◌+◌, ◌<◌, ◌≤◌, ◌==◌, ◌||◌, Bool, true, false, List, [], ◌∷◌, max, min, length, Some, None, IsTrue, refl, sym, inl, inr, arith}
 use Rattle.std.specs.Prelude.{nat_le, find, slice_get, take}
 use Rattle.std.specs.List.{list_any, range_with_len}
-use Rattle.std.specs.Option.{IsSomeAnd, option_map_or}
+use Rattle.std.specs.Option.{IsSomeAnd}
 use Rattle.std.proofs.lemmas.Bool.{and_parts, cases_Bool, cases_lt, eq-eqb, eqb-true, false≢true, leb-true}
-use Rattle.std.proofs.lemmas.List.{length-take, get_or-take}
-use Rattle.cany_media.specs.Overlaps.{do_share, first_overlap, is_taken_at}
-use Rattle.cany_media.specs.Plan.{AreApart, FaultParts, IsFirstOverlap, IsTaken, ShareSlot, spans}
+use Rattle.cany_media.specs.Overlaps.{do_share, first_overlap, is_taken, is_taken_at}
+use Rattle.cany_media.specs.Plan.{FaultParts, covers, spans}
 use Rattle.cany_media.proofs.StretchFacts.{le_leb}
+
+-- two faults of one line, and a slot of both
+pub record ShareSlot (a b : FaultParts) : Type 0 where
+  pub slot : ℕ
+  pub first : IsTrue (covers b.line slot a)
+  pub second : IsTrue (covers a.line slot b)
+
+-- one of these shares a slot with the fault
+abbrev pub IsShared : List FaultParts → FaultParts → Type 0
+IsShared faults fault = (k : ℕ) × IsSomeAnd (slice_get faults k) (λ earlier. ShareSlot earlier fault)
 
 -- ---- two faults
 
@@ -49,18 +58,23 @@ any_from (f ∷ faults) fault (suc k) share = rw (any_from faults fault k share)
     or_true true = refl
     or_true false = refl
 
-any_at : (faults : List FaultParts) (fault : FaultParts) → list_any (λ earlier. do_share earlier fault) faults ≡ true
-    → (k : ℕ) × (k < length faults) × ((d : FaultParts) → ShareSlot (get_or faults k d) fault)
+any_at : (faults : List FaultParts) (fault : FaultParts) → list_any (λ earlier. do_share earlier fault) faults ≡ true → IsShared faults fault
 any_at [] fault is = absurd (false≢true is)
 any_at (f ∷ faults) fault is = elim (cases_Bool (do_share f fault)) [
-  | inl here ↦ (0, omega arith, λ d. share_from f fault here)
-  | inr other ↦ let more = any_at faults fault (rw other at is) in (suc more.0, omega (arith, more.1), more.2)
+  | inl here ↦ (0, share_from f fault here)
+  | inr other ↦ let more = any_at faults fault (rw other at is) in (suc more.0, more.1)
 ]
 
-read_at : (faults : List FaultParts) (k : ℕ) (d : FaultParts) → k < length faults → slice_get faults k ≡ Some (get_or faults k d)
-read_at [] k d below = absurd (omega arith)
-read_at (f ∷ faults) zero d below = refl
-read_at (f ∷ faults) (suc k) d below = read_at faults k d (omega arith)
+pub taken_where : (faults : List FaultParts) (fault : FaultParts) → IsShared faults fault → is_taken faults fault ≡ true
+unfolding is_taken
+taken_where faults fault shared = any_from faults fault shared.0 shared.1
+
+pub free_where : (faults : List FaultParts) (fault : FaultParts) → (IsShared faults fault → ⊥) → is_taken faults fault ≡ false
+unfolding is_taken
+free_where faults fault free = elim (cases_Bool (list_any (λ earlier. do_share earlier fault) faults)) [
+  | inl taken ↦ absurd (free (any_at faults fault taken))
+  | inr other ↦ other
+]
 
 -- ---- the first place
 
@@ -76,45 +90,23 @@ found_first test i (suc n) a low high is fails = elim (cases_lt a i) [
   | inr here ↦ let e : a ≡ i = omega arith in rw (e, is) refl
 ]
 
--- where the faults before a place are apart, none of them shares a slot with an earlier one
-not_taken_at : (faults : List FaultParts) (bound k : ℕ) → k < bound → k < length faults
-    → ((i j : ℕ) (d : FaultParts) → i < j → j < bound → ShareSlot (get_or faults i d) (get_or faults j d) → ⊥) → is_taken_at faults k ≡ false
-not_taken_at faults bound k less below apart = by_fault (slice_get faults k) refl
-  where
-    by_fault : (o : Option FaultParts) → slice_get faults k ≡ o → option_map_or (λ fault. list_any (λ earlier. do_share earlier fault) (take k faults)) o false ≡ false
-    by_fault None at = refl
-    by_fault (Some fault) at = elim (cases_Bool (list_any (λ earlier. do_share earlier fault) (take k faults))) [
-      | inl taken ↦
-          let one = any_at (take k faults) fault taken in
-          let near : one.0 < k = omega (arith, one.1, length-take k faults) in
-          let read : Some (get_or faults k fault) ≡ Some fault = sym (read_at faults k fault below) ∙ at in
-          let is : get_or faults k fault ≡ fault = cc in
-          absurd (apart one.0 k fault near less (rw (is, sym (get_or-take k faults one.0 fault near)) (one.2 fault)))
-      | inr free ↦ free
-    ]
+-- none of the faults before a place shares a slot with an earlier one
+abbrev pub AreFree : List FaultParts → ℕ → Type 0
+AreFree faults bound = (k : ℕ) → k < bound → is_taken_at faults k ≡ false
 
-pub none_overlaps : (faults : List FaultParts) → AreApart faults → first_overlap faults ≡ None
+pub one_more : (faults : List FaultParts) (bound : ℕ) (fault : FaultParts) → AreFree faults bound → slice_get faults bound ≡ Some fault
+    → is_taken (take bound faults) fault ≡ false → AreFree faults (bound + 1)
+one_more faults bound fault before at free k below = elim (cases_lt k bound) [
+  | inl less ↦ before k less
+  | inr here ↦ let e : k ≡ bound = omega arith in rw (e, at) free
+]
+
+pub none_overlaps : (faults : List FaultParts) (bound : ℕ) → length faults ≤ bound → AreFree faults bound → first_overlap faults ≡ None
 unfolding first_overlap
-none_overlaps faults apart =
-    found_none (is_taken_at faults) (length faults) 0 (λ k low high. not_taken_at faults (length faults) k (omega arith) (omega arith) apart)
+none_overlaps faults bound all free = found_none (is_taken_at faults) (length faults) 0 (λ k low high. free k (omega arith))
 
-pub first_overlaps : (faults : List FaultParts) (index : ℕ) → IsFirstOverlap faults index → first_overlap faults ≡ Some index
+pub first_overlaps : (faults : List FaultParts) (index : ℕ) (fault : FaultParts) → index < length faults → slice_get faults index ≡ Some fault → AreFree faults index
+    → is_taken (take index faults) fault ≡ true → first_overlap faults ≡ Some index
 unfolding first_overlap
-first_overlaps faults index first = by_fault (slice_get faults index) refl first.overlaps
-  where
-    inside : (fs : List FaultParts) (k : ℕ) (f : FaultParts) → slice_get fs k ≡ Some f → k < length fs
-    inside [] k f at = absurd (cc)
-    inside (g ∷ fs) zero f at = omega arith
-    inside (g ∷ fs) (suc k) f at = let h = inside fs k f at in omega arith
-
-    by_fault : (o : Option FaultParts) → slice_get faults index ≡ o → IsSomeAnd o (IsTaken (take index faults))
-        → find (is_taken_at faults) (range_with_len 0 (length faults)) ≡ Some index
-    by_fault None at taken = absurd taken
-    by_fault (Some fault) at taken =
-        let below = inside faults index fault at in
-        let here : is_taken_at faults index ≡ true = rw at (any_from (take index faults) fault taken.0 taken.1) in
-        found_first (is_taken_at faults) index (length faults) 0 (omega arith) (omega arith) here
-        (λ k low less. not_taken_at faults index k less (omega arith)
-        (λ i j d before near share.
-        first.first i j d before (omega (arith, length-take index faults))
-        (rw (get_or-take index faults i d (omega arith), get_or-take index faults j d near) share)))
+first_overlaps faults index fault below at free taken =
+    found_first (is_taken_at faults) index (length faults) 0 (omega arith) (omega arith) (rw at taken) (λ k low less. free k less)

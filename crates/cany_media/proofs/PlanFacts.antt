@@ -1,12 +1,13 @@
 -- The tables of a plan, and which faults of it share slots.
-use Rattle.std.proofs.Common.{◌≡◌, ◌≢◌, ℕ, zero, suc, ◌<◌, ◌==◌, ◌++◌, true, if◌then◌else◌, List, [], ◌∷◌, length, get_or, Option, Some, None, IsTrue, refl, sym, ◌∙◌, subst, inl, inr, arith}
-use Rattle.std.specs.Prelude.{IsSome, find, slice_get, take}
+use Rattle.std.proofs.Common.{◌≡◌, ◌≢◌, ℕ, zero, suc, ◌==◌, ◌++◌, true, false, if◌then◌else◌, List, [], ◌∷◌, Option, Some, None, IsTrue, refl, sym, ◌∙◌, subst, inl, inr}
+use Rattle.std.specs.Prelude.{IsSome, find, slice_get}
 use Rattle.std.specs.Option.{IsSomeAnd, option_or}
 use Rattle.std.proofs.lemmas.Bool.{and_parts, cases_Bool, eq-eqb, eqb-true, false≢true, ne_eqb}
 use Rattle.std.proofs.lemmas.List.Folds.{find-append}
-use Rattle.std.proofs.lemmas.List.Quantifiers.{all_pairs_push}
-use Rattle.cany_media.specs.Plan.{AreApart, FaultParts, IsFirstOverlap, IsTaken, ShareSlot, covers, spans}
+use Rattle.cany_media.specs.Overlaps.{is_taken}
+use Rattle.cany_media.specs.Plan.{FaultParts, covers, spans}
 use Rattle.cany_media.specs.Stretches.{HasShared, IsFree, IsTableOf, found_at}
+use Rattle.cany_media.proofs.OverlapFacts.{ShareSlot, free_where, taken_where}
 
 or_none : (o : Option FaultParts) → option_or o None ≡ o
 or_none None = refl
@@ -45,11 +46,11 @@ shares_from (Some f) fault slot spanned has =
     let turned : (fault.line == f.line) ≡ true = eq-eqb fault.line f.line (sym same) in
     record { slot = slot; first = has; second = rw (turned, spanned) refl }
 
-pub taken_from : (faults : List FaultParts) (fault : FaultParts) (table : List FaultParts) → IsTableOf faults fault.line table → HasShared table fault → IsTaken faults fault
+pub taken_from : (faults : List FaultParts) (fault : FaultParts) (table : List FaultParts) → IsTableOf faults fault.line table → HasShared table fault → is_taken faults fault ≡ true
 taken_from faults fault table is shared =
     let found : IsSome (find (covers fault.line shared.slot) faults) = subst IsSome (is shared.slot) shared.found in
     let one = among fault.line shared.slot faults found in
-    (one.0, shares_from (slice_get faults one.0) fault shared.slot shared.spanned one.1)
+    taken_where faults fault (one.0, shares_from (slice_get faults one.0) fault shared.slot shared.spanned one.1)
 
 taken_at : (faults : List FaultParts) (fault : FaultParts) (table : List FaultParts) (k : ℕ) (o : Option FaultParts) → slice_get faults k ≡ o → IsTableOf faults fault.line table
     → IsFree table fault → IsSomeAnd o (λ earlier. ShareSlot earlier fault) → ⊥
@@ -58,8 +59,8 @@ taken_at faults fault table k (Some earlier) at is free has =
     let spanned = (and_parts (fault.line == earlier.line) (spans has.slot fault) has.second).1 in
     found_among fault.line has.slot faults k (rw at has.first) (sym (is has.slot) ∙ free has.slot spanned)
 
-pub not_taken : (faults : List FaultParts) (fault : FaultParts) (table : List FaultParts) → IsTableOf faults fault.line table → IsFree table fault → IsTaken faults fault → ⊥
-not_taken faults fault table is free taken = taken_at faults fault table taken.0 (slice_get faults taken.0) refl is free taken.1
+pub not_taken : (faults : List FaultParts) (fault : FaultParts) (table : List FaultParts) → IsTableOf faults fault.line table → IsFree table fault → is_taken faults fault ≡ false
+not_taken faults fault table is free = free_where faults fault (λ taken. taken_at faults fault table taken.0 (slice_get faults taken.0) refl is free taken.1)
 
 -- ---- the tables
 
@@ -75,19 +76,3 @@ pub table_same : (faults : List FaultParts) (fault : FaultParts) (table : List F
     → IsTableOf (faults ++ fault ∷ []) line table
 table_same faults fault table line other is slot =
     is slot ∙ sym (find-append (covers line slot) faults (fault ∷ []) ∙ rw (ne_eqb fault.line line other) (or_none (find (covers line slot) faults)))
-
--- ---- the faults one after another
-
-at_index : (faults : List FaultParts) (k : ℕ) (d : FaultParts) → k < length faults → slice_get faults k ≡ Some (get_or faults k d)
-at_index [] k d below = absurd (omega arith)
-at_index (f ∷ faults) zero d below = refl
-at_index (f ∷ faults) (suc k) d below = at_index faults k d (omega arith)
-
-pub apart_more : (faults : List FaultParts) (fault : FaultParts) → AreApart faults → (IsTaken faults fault → ⊥) → AreApart (faults ++ fault ∷ [])
-apart_more faults fault apart free =
-    all_pairs_push (λ (a b : FaultParts). ShareSlot a b → ⊥) faults fault apart
-    (λ k d below share. free (k, subst (λ o. IsSomeAnd o (λ earlier. ShareSlot earlier fault)) (sym (at_index faults k d below)) share))
-
-pub first_overlap : (faults : List FaultParts) (index : ℕ) (fault : FaultParts) → slice_get faults index ≡ Some fault → AreApart (take index faults) → IsTaken (take index faults) fault
-    → IsFirstOverlap faults index
-first_overlap faults index fault at apart taken = record { overlaps = rw at taken; first = apart }

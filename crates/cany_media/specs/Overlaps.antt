@@ -8,9 +8,13 @@ use Rattle.cany_media.specs.Plan.{FaultParts}
 abbrev pub do_share : FaultParts → FaultParts → Bool
 do_share a b = a.line == b.line && nat_le (max a.from b.from) (min a.to b.to)
 
+-- whether the fault shares a slot with one of these
+unfoldable pub is_taken : List FaultParts → FaultParts → Bool
+is_taken faults fault = list_any (λ earlier. do_share earlier fault) faults
+
 -- whether the fault at this place shares a slot with an earlier one
 abbrev pub is_taken_at : List FaultParts → ℕ → Bool
-is_taken_at faults k = option_map_or (λ fault. list_any (λ earlier. do_share earlier fault) (take k faults)) (slice_get faults k) false
+is_taken_at faults k = option_map_or (is_taken (take k faults)) (slice_get faults k) false
 
 -- the first such place
 unfoldable pub first_overlap : List FaultParts → Option ℕ

@@ -1,5 +1,6 @@
-ghost use Rattle.std.specs.Prelude.{◌≡◌, ℕ, Err, IfOk, OnOk};
-ghost use Rattle.cany_media.specs.Plan.{AreApart, IsFirstOverlap, lines_at};
+ghost use Rattle.std.specs.Prelude.{◌≡◌, ℕ, Err, Some, None, IfOk, OnOk};
+ghost use Rattle.cany_media.specs.Overlaps.{first_overlap};
+ghost use Rattle.cany_media.specs.Plan.{lines_at};
 
 use crate::line::{Line, LineFault};
 use crate::tables::LineTables;
@@ -68,8 +69,8 @@ impl MediaPlan {
     /// memory.
     pub fn build(alloc: Global, faults: &[LineFault]) -> Result<MediaPlan, MediaFault>
         ensures ok { IfOk result (λ plan. plan ≡ faults.now) }
-        ensures apart { OnOk result (AreApart faults.now) }
-        ensures overlap { (index : ℕ) → result ≡ Err (MediaFault.Overlap index) → IsFirstOverlap faults.now index }
+        ensures none { OnOk result (first_overlap faults.now ≡ None) }
+        ensures overlap { (index : ℕ) → result ≡ Err (MediaFault.Overlap index) → first_overlap faults.now ≡ Some index }
     {
         let mut tables = LineTables::none(alloc);
         for (index, fault) in faults.iter().enumerate() {

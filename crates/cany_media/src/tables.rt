@@ -1,5 +1,6 @@
 ghost use Rattle.std.specs.Prelude.{◌≡◌, ◌∷◌, [], ◌++◌, true, false, List, Ok};
-ghost use Rattle.cany_media.specs.Plan.{FaultParts, IsTaken, lines_at};
+ghost use Rattle.cany_media.specs.Overlaps.{is_taken};
+ghost use Rattle.cany_media.specs.Plan.{FaultParts, lines_at};
 ghost use Rattle.cany_media.specs.Tables.{AreTablesOf};
 
 use crate::line::{Line, LineFault};
@@ -27,8 +28,8 @@ impl LineTables {
     /// Enters a fault, unless it shares a slot with an earlier one of its line. It answers whether it
     /// does not.
     pub(crate) fn enter(&mut self, fault: &LineFault) -> Result<bool, Memory>
-        ensures taken { (faults : List FaultParts) → AreTablesOf faults self.old → result ≡ Ok false → IsTaken faults fault.now }
-        ensures free { (faults : List FaultParts) → AreTablesOf faults self.old → result ≡ Ok true → IsTaken faults fault.now → ⊥ }
+        ensures taken { (faults : List FaultParts) → AreTablesOf faults self.old → result ≡ Ok false → is_taken faults fault.now ≡ true }
+        ensures free { (faults : List FaultParts) → AreTablesOf faults self.old → result ≡ Ok true → is_taken faults fault.now ≡ false }
         ensures entered { (faults : List FaultParts) → AreTablesOf faults self.old → result ≡ Ok true → AreTablesOf (faults ++ fault.now ∷ []) self.new }
     {
         let line = fault.line;

@@ -1,9 +1,7 @@
 //! The call behind the command `media`.
-ghost use Rattle.std.specs.Prelude.{◌≡◌, ◌⊎◌, ◌↔◌, ◌<◌, ◌≤◌, List, map, length, string_bytes, IfNone, IfSome, IsSomeAnd, MatchOption, None, IfErr, IfOk, OnOk, Ok, Err, Some, ◌++◌};
-ghost use Rattle.cany_base.specs.declared.step.Step.{Step};
+ghost use Rattle.std.specs.Prelude.{◌≡◌, ◌⊎◌, ◌↔◌, ◌<◌, ◌≤◌, ◌++◌, Some, None, Ok, Err, map, length, string_bytes, IfErr, IfNone, IfOk, IfSome, IsOkAnd, IsSomeAnd, MatchOption, OnOk};
 ghost use Rattle.cany_base.specs.Limits.{most_text_bytes};
-ghost use Rattle.cany_base.specs.Scenario.{ScenarioParts};
-ghost use Rattle.cany_command.specs.Answers.{IsAnswered, OfChosen, answer_by};
+ghost use Rattle.cany_command.specs.Answers.{answer_by};
 ghost use Rattle.cany_command.specs.Refused.{refusal_by};
 ghost use Rattle.cany_command.specs.Status.{HasAnswered, HasNoAnswer};
 ghost use Rattle.cany_command.specs.Faults.{IfRefused};
@@ -11,16 +9,13 @@ ghost use Rattle.cany_io.specs.Faults.{HasRisen, StandsStill};
 ghost use Rattle.cany_io.specs.Sink.{Takes, TakesPrefix};
 ghost use Rattle.cany_io.specs.Source.{IsAtEnd};
 ghost use Rattle.cany_log.specs.Written.{IsWritten};
-ghost use Rattle.cany_model.specs.Runs.Run.{run};
 ghost use Rattle.cany_text.specs.Report.{report};
-ghost use Rattle.cany_media.specs.MediaRun.{media_run};
+ghost use Rattle.cany_text.specs.ScenarioText.{scenario_of};
 ghost use Rattle.cany_media.specs.MediaText.{media_refusal_line};
 ghost use Rattle.cany_media.specs.MediaWords.{AreMedia, media_faults};
-ghost use Rattle.cany_media.specs.Single.{single_bus};
-ghost use Rattle.cany_media.specs.Top.{chosen_for, media_choice, overlap_refusal, text_of};
+ghost use Rattle.cany_media.specs.Top.{IsMedia, chosen_for, faults_of, media_choice, overlap_refusal, text_of};
 
 use crate::fault_words::{are_media, media_faults};
-use crate::laws::one_bus;
 use crate::medium_lines::medium_lines;
 use crate::plan::{MediaFault, MediaPlan};
 use crate::refusal::MediaRefusal;
@@ -188,18 +183,14 @@ pub fn media_top<S: Source, K: Sink>(
         (result ≡ REFUSED) ⊎ (result ≡ WRITE_FAULT) ⊎ (result ≡ NO_MEMORY)) }
     ensures early_unread { IfSome (overlap_refusal (map string_bytes words.now)) (λ _. source.new ≡ source.old) }
 
-    // Success. `bytes` are all that the source had.
-    ensures done { let said = map string_bytes words.now in result ≡ DONE → IfSome (S.left source.old) (λ bytes.
-        OfChosen (media_choice said) bytes (λ one. IsAnswered (text_of said) one (K.taken sink.old) (K.taken sink.new))) }
-
-    // The run that is reported is the run over two media: of every scenario, by every journal.
-    ensures two_media { IsSomeAnd (media_faults (map string_bytes words.now)) (λ plan. (scenario : ScenarioParts) (journal : List Step)
-        → media_run scenario plan journal ≡ run (single_bus scenario plan) journal) ⊎ (result ≡ OTHER_WORDS) }
+    // Success: the run over two media is reported. Here and below, `bytes` are all that the source had.
+    ensures done { let said = map string_bytes words.now in result ≡ DONE → IfSome (S.left source.old) (λ bytes. IsOkAnd (scenario_of bytes) (λ scenario.
+        IsMedia (faults_of said) scenario (K.taken sink.old) (K.taken sink.new))) }
 
     // The words, the text, the scenario or the journal is refused.
     ensures refused { let said = map string_bytes words.now in result ≡ REFUSED → MatchOption (overlap_refusal said)
         (IfSome (S.left source.old) (λ bytes. IsSomeAnd (refusal_by (media_choice said) bytes) (λ line.
-            Takes (K.taken sink.old) line (K.taken sink.new))))
+        Takes (K.taken sink.old) line (K.taken sink.new))))
         (λ line. Takes (K.taken sink.old) line (K.taken sink.new)) }
 
     // The streams fail.
@@ -207,7 +198,7 @@ pub fn media_top<S: Source, K: Sink>(
     ensures write_fault { result ≡ WRITE_FAULT → HasRisen (K.faults sink.old) (K.faults sink.new) }
     ensures prefix { let said = map string_bytes words.now in result ≡ WRITE_FAULT → MatchOption (overlap_refusal said)
         (IfSome (S.left source.old) (λ bytes.
-            TakesPrefix (K.taken sink.old) (answer_by (text_of said) (media_choice said) bytes) (K.taken sink.new)))
+        TakesPrefix (K.taken sink.old) (answer_by (text_of said) (media_choice said) bytes) (K.taken sink.new)))
         (λ line. TakesPrefix (K.taken sink.old) line (K.taken sink.new)) }
 
     // The source has too many bytes, or all of them were read.
@@ -232,6 +223,5 @@ pub fn media_top<S: Source, K: Sink>(
         → IfNone (overlap_refusal said) (IfSome (S.left source.old) (λ bytes. most_text_bytes < length bytes
         → (result ≡ NO_MEMORY) ⊎ (result ≡ TOO_LONG))) }
 {
-    one_bus();
     perform(alloc, &Media, words, source, sink)
 }
