@@ -16,6 +16,7 @@ usage: canely replay < SCENARIO > REPORT
        canely run < SCENARIO > REPORT
        canely storm NUMBER > SUMMARY
        canely replica < SCENARIO > TABLES
+       canely media [FAULT ..] < SCENARIO > REPORT
        canely --help
        canely --version
 
@@ -31,6 +32,11 @@ runs it by the round robin journal, and writes the summary of the run.
 replica runs a scenario as replay does, and writes the table of each node: a payload of a tot message
 is 01 KEY VALUE, 02 KEY or 03 KEY BYTE BYTE, by which a key gets a value, loses it, or gets the second
 byte where it has exactly the first.
+
+media runs a scenario as replay does, but over two lines, 0 and 1. A FAULT is LINE:FROM-TO:down or
+LINE:FROM-TO:split:NODE,.. by which a line is down, or cut into these nodes and the others, from a slot
+to another; nothing is lost in a slot that has a whole line. It writes a line for each FAULT, and then
+the report of the run.
 
 A scenario is a TOML document; slots, nodes and entries are counted from 0:
   format, nodes, slots       required; format 1 has up to 32 nodes, format 2 up to 64
