@@ -1,9 +1,9 @@
 -- The scenario of one bus is legal where it has few rules; and how many it has.
-use Rattle.std.proofs.Common.{◌≡◌, ◌≢◌, ℕ, zero, suc, ◌+◌, ◌<◌, ◌≤◌, ◌++◌, Bool, false, not, List, [], ◌∷◌, length, map, filter, refl, ap, sym, ◌∙◌, subst, inl, inr, arith, length-append}
+use Rattle.std.proofs.Common.{◌≡◌, ◌≢◌, ℕ, zero, suc, ◌+◌, ◌<◌, ◌≤◌, ◌++◌, Bool, true, false, not, List, [], ◌∷◌, length, map, filter, refl, ap, sym, ◌∙◌, subst, inl, inr, arith, length-append}
 use Rattle.std.proofs.lemmas.List.{length-map}
 use Rattle.std.specs.Prelude.{All, AllPairs, find}
 use Rattle.std.specs.List.{range_with_len}
-use Rattle.std.proofs.lemmas.Bool.{cases_Bool, false≢true}
+use Rattle.std.proofs.lemmas.Bool.{cases_Bool, lt-ltb, false≢true}
 use Rattle.std.proofs.lemmas.List.Elements.{All-append, All-cons, All-head, All-nil, All-tail}
 use Rattle.std.proofs.lemmas.List.Kept.{AllPairs-cons}
 use Rattle.cany_base.specs.declared.rule.Place.{Place}
@@ -22,18 +22,18 @@ use Rattle.cany_media.specs.Single.{blind_rule, blind_slots, is_replaced, single
 -- ---- how many
 
 pub rules_are : (sc : ScenarioParts) (faults : List FaultParts) (kept rules : List Rule) (slots : List ℕ)
-    → kept ≡ filter (λ rule. not (is_replaced sc.params.nodes faults rule.place)) sc.rules → slots ≡ blind_slots sc faults
+    → kept ≡ filter (λ rule. not (is_replaced sc.params faults rule.place)) sc.rules → slots ≡ blind_slots sc faults
     → rules ≡ kept ++ map (blind_rule sc.rules) slots → rules ≡ single_rules sc faults
 unfolding single_rules
 rules_are sc faults kept rules slots kept_is slots_are all = all ∙ rw (kept_is, slots_are) refl
 
 pub rules_number : (sc : ScenarioParts) (faults : List FaultParts) (kept : List Rule) (slots : List ℕ)
-    → kept ≡ filter (λ rule. not (is_replaced sc.params.nodes faults rule.place)) sc.rules → slots ≡ blind_slots sc faults
+    → kept ≡ filter (λ rule. not (is_replaced sc.params faults rule.place)) sc.rules → slots ≡ blind_slots sc faults
     → length kept + length slots ≡ length (single_rules sc faults)
 unfolding single_rules
 rules_number sc faults kept slots kept_is slots_are =
-    rw (kept_is, slots_are) (sym (length-append (filter (λ rule. not (is_replaced sc.params.nodes faults rule.place)) sc.rules) (map (blind_rule sc.rules) (blind_slots sc faults))
-    ∙ ap (λ n. length (filter (λ rule. not (is_replaced sc.params.nodes faults rule.place)) sc.rules) + n) (length-map (blind_slots sc faults) (blind_rule sc.rules))))
+    rw (kept_is, slots_are) (sym (length-append (filter (λ rule. not (is_replaced sc.params faults rule.place)) sc.rules) (map (blind_rule sc.rules) (blind_slots sc faults))
+    ∙ ap (λ n. length (filter (λ rule. not (is_replaced sc.params faults rule.place)) sc.rules) + n) (length-map (blind_slots sc faults) (blind_rule sc.rules))))
 
 -- ---- each rule is one of the scenario's
 
@@ -97,14 +97,15 @@ made_apart rules test (suc n) a = elim (cases_Bool (test a)) [
 ]
 
 -- a rule that stays differs from those that are made
-kept_differs : (nodes : ℕ) (faults : List FaultParts) (rules : List Rule) (rule : Rule) → is_replaced nodes faults rule.place ≡ false → (n a : ℕ)
-    → All (Differ rule) (map (blind_rule rules) (filter (is_blind nodes faults) (range_with_len a n)))
-kept_differs nodes faults rules rule stays zero a = All-nil (Differ rule)
-kept_differs nodes faults rules rule stays (suc n) a = elim (cases_Bool (is_blind nodes faults a)) [
+kept_differs : (params : Parameters) (faults : List FaultParts) (rules : List Rule) (rule : Rule) → is_replaced params faults rule.place ≡ false → (n a : ℕ)
+    → a + n ≤ params.slots → All (Differ rule) (map (blind_rule rules) (filter (is_blind params.nodes faults) (range_with_len a n)))
+kept_differs params faults rules rule stays zero a within = All-nil (Differ rule)
+kept_differs params faults rules rule stays (suc n) a within = elim (cases_Bool (is_blind params.nodes faults a)) [
   | inl taken ↦
-      let one : Differ rule (blind_rule rules a) = λ e. false≢true (sym stays ∙ ap (is_replaced nodes faults) e ∙ taken) in
-      rw taken (All-cons (Differ rule) (blind_rule rules a) (map (blind_rule rules) (filter (is_blind nodes faults) (range_with_len (a + 1) n))) one (kept_differs nodes faults rules rule stays n (a + 1)))
-  | inr left ↦ rw left (kept_differs nodes faults rules rule stays n (a + 1))
+      let gone : is_replaced params faults (At a) ≡ true = rw (lt-ltb a params.slots (omega arith), taken) refl in
+      let one : Differ rule (blind_rule rules a) = λ e. false≢true (sym stays ∙ ap (is_replaced params faults) e ∙ gone) in
+      rw taken (All-cons (Differ rule) (blind_rule rules a) (map (blind_rule rules) (filter (is_blind params.nodes faults) (range_with_len (a + 1) n))) one (kept_differs params faults rules rule stays n (a + 1) (omega arith)))
+  | inr left ↦ rw left (kept_differs params faults rules rule stays n (a + 1) (omega arith))
 ]
 
 pair_tail : (rule : Rule) (rules : List Rule) → AllPairs Differ (rule ∷ rules) → AllPairs Differ rules
@@ -113,18 +114,18 @@ pair_tail rule rules pairs i j d less below = pairs (suc i) (suc j) d (omega ari
 pair_head : (rule : Rule) (rules : List Rule) → AllPairs Differ (rule ∷ rules) → All (Differ rule) rules
 pair_head rule rules pairs k d below = pairs 0 (suc k) d (omega arith) (omega arith)
 
-joined_apart : (nodes : ℕ) (faults : List FaultParts) (own : List Rule) (n : ℕ) (rules : List Rule) → AllPairs Differ rules
-    → AllPairs Differ (filter (λ rule. not (is_replaced nodes faults rule.place)) rules ++ map (blind_rule own) (filter (is_blind nodes faults) (range_with_len 0 n)))
-joined_apart nodes faults own n [] pairs = made_apart own (is_blind nodes faults) n 0
-joined_apart nodes faults own n (rule ∷ rules) pairs = elim (cases_Bool (is_replaced nodes faults rule.place)) [
-  | inl out ↦ rw out (joined_apart nodes faults own n rules (pair_tail rule rules pairs))
+joined_apart : (params : Parameters) (faults : List FaultParts) (own rules : List Rule) → AllPairs Differ rules
+    → AllPairs Differ (filter (λ rule. not (is_replaced params faults rule.place)) rules ++ map (blind_rule own) (filter (is_blind params.nodes faults) (range_with_len 0 params.slots)))
+joined_apart params faults own [] pairs = made_apart own (is_blind params.nodes faults) params.slots 0
+joined_apart params faults own (rule ∷ rules) pairs = elim (cases_Bool (is_replaced params faults rule.place)) [
+  | inl out ↦ rw out (joined_apart params faults own rules (pair_tail rule rules pairs))
   | inr stays ↦
-      let kept = filter (λ r. not (is_replaced nodes faults r.place)) rules in
-      let made = map (blind_rule own) (filter (is_blind nodes faults) (range_with_len 0 n)) in
+      let kept = filter (λ r. not (is_replaced params faults r.place)) rules in
+      let made = map (blind_rule own) (filter (is_blind params.nodes faults) (range_with_len 0 params.slots)) in
       rw stays (AllPairs-cons Differ rule (kept ++ made)
-      (All-append (Differ rule) kept made (All-filter (Differ rule) (λ r. not (is_replaced nodes faults r.place)) rules (pair_head rule rules pairs))
-      (kept_differs nodes faults own rule stays n 0))
-      (joined_apart nodes faults own n rules (pair_tail rule rules pairs)))
+      (All-append (Differ rule) kept made (All-filter (Differ rule) (λ r. not (is_replaced params faults r.place)) rules (pair_head rule rules pairs))
+      (kept_differs params faults own rule stays params.slots 0 (omega arith)))
+      (joined_apart params faults own rules (pair_tail rule rules pairs)))
 ]
 
 -- ---- together
@@ -136,8 +137,8 @@ legal_single sc faults legal few = record {
   formulas = legal.formulas;
   members = legal.members;
   sends = legal.sends;
-  rules = All-append (IsRuleOf sc.params) (filter (λ rule. not (is_replaced sc.params.nodes faults rule.place)) sc.rules) (map (blind_rule sc.rules) (blind_slots sc faults))
-      (All-filter (IsRuleOf sc.params) (λ rule. not (is_replaced sc.params.nodes faults rule.place)) sc.rules legal.rules)
+  rules = All-append (IsRuleOf sc.params) (filter (λ rule. not (is_replaced sc.params faults rule.place)) sc.rules) (map (blind_rule sc.rules) (blind_slots sc faults))
+      (All-filter (IsRuleOf sc.params) (λ rule. not (is_replaced sc.params faults rule.place)) sc.rules legal.rules)
       (made_legal sc.params sc.rules (is_blind sc.params.nodes faults) legal.rules sc.params.slots 0 (omega arith));
   joins = legal.joins;
   leaves = legal.leaves;
@@ -148,7 +149,7 @@ legal_single sc faults legal few = record {
   few_leaves = legal.few_leaves;
   few_restarts = legal.few_restarts;
   few_of_node = legal.few_of_node;
-  places = joined_apart sc.params.nodes faults sc.rules sc.params.slots sc.rules legal.places;
+  places = joined_apart sc.params faults sc.rules sc.rules legal.places;
 }
 
 -- as it is where all scripted asks are made, by the first incarnation of each node

@@ -7,7 +7,7 @@ use crate::outcome::has_whole;
 use crate::plan::MediaPlan;
 use can_fault::Script;
 use cany_base::limits::MOST_RULES;
-use cany_base::{Memory, NodeSet, Place, Rule, Scenario, Slot, Step, Verdict};
+use cany_base::{Memory, NodeSet, Params, Place, Rule, Scenario, Slot, Step, Verdict};
 use std::alloc::{AllocError, Global};
 use thiserror::Error;
 
@@ -62,25 +62,25 @@ fn blind_slots(alloc: Global, scenario: &Scenario, plan: &MediaPlan) -> Result<V
     )
 }
 
-fn is_replaced(plan: &MediaPlan, nodes: u8, place: &Place) -> bool
-    ensures { result ≡ is_replaced nodes plan.now place.now }
+fn is_replaced(plan: &MediaPlan, params: &Params, place: &Place) -> bool
+    ensures { result ≡ is_replaced params.now plan.now place.now }
 {
     match *place {
-        Place::At { slot } => is_blind(plan, nodes, slot),
+        Place::At { slot } => slot < params.slots && is_blind(plan, params.nodes, slot),
         Place::FrameNth { .. } => false,
     }
 }
 
 /// The rules of the scenario that stay.
 fn kept_rules(alloc: Global, scenario: &Scenario, plan: &MediaPlan) -> Result<Vec<Rule>, Memory>
-    ensures { IfOk result (λ rules. rules.items ≡ filter (λ rule. not (is_replaced scenario.now.params.nodes plan.now rule.place)) scenario.now.rules) }
+    ensures { IfOk result (λ rules. rules.items ≡ filter (λ rule. not (is_replaced scenario.now.params plan.now rule.place)) scenario.now.rules) }
 {
-    let nodes = scenario.params().nodes;
+    let params = scenario.params();
     let rules = scenario.rules();
     Ok(
         rules
             .iter()
-            .filter(|rule| !is_replaced(plan, nodes, &rule.place))
+            .filter(|rule| !is_replaced(plan, params, &rule.place))
             .copied()
             .collect(alloc)?,
     )
