@@ -2,7 +2,6 @@
 use Rattle.std.proofs.Common.{◌≡◌, ℕ, zero, suc, ◌+◌, ◌<◌, ◌≤◌, ◌&&◌, ◌||◌, Bool, true, false, not, nat_lt, refl, ap, sym, ◌∙◌, inl, inr, arith, min, IsTrue, Option, Some, None}
 use Rattle.std.specs.List.{list_all, list_any, range_with_len}
 use Rattle.std.proofs.lemmas.Bool.{and_parts, cases_Bool, cases_lt, lt-ltb, ltb-true, false≢true}
-use Rattle.std.proofs.lemmas.Bool.Decides.{nat_tests}
 use Rattle.std.specs.Option.{IfNone, IfSome, is_some}
 use Rattle.cany_base.specs.Limits.{most_nodes}
 use Rattle.cany_base.specs.Nodes.{Nodes, has}
@@ -30,21 +29,18 @@ none_holds test bound fails (suc n) a within = rw (fails a (omega arith)) (none_
 -- a node of the bus that passes
 pub some_node-holds : (nodes : ℕ) (test : ℕ → Bool) (i : ℕ) → i < most_nodes → i < nodes → test i ≡ true → some_node nodes test ≡ true
 unfolding some_node
-some_node-holds nodes test i placed below holds = any_holds (λ j. nat_lt j nodes && test j) i (rw (lt-ltb i nodes below) holds) most_nodes 0 (omega arith) (omega arith)
+some_node-holds nodes test i placed below holds = any_holds test i holds (min nodes most_nodes) 0 (omega arith) (omega arith)
 
 -- and that none does
-pub some_node-none : (nodes : ℕ) (test : ℕ → Bool) → ((i : ℕ) → i < most_nodes → (nat_lt i nodes && test i) ≡ false) → some_node nodes test ≡ false
+some_node-none : (nodes : ℕ) (test : ℕ → Bool) → ((i : ℕ) → i < min nodes most_nodes → test i ≡ false) → some_node nodes test ≡ false
 unfolding some_node
-some_node-none nodes test fails = none_holds (λ j. nat_lt j nodes && test j) most_nodes fails most_nodes 0 (omega arith)
-
-below_both : (i nodes : ℕ) → i < most_nodes → nat_lt i (min nodes most_nodes) ≡ nat_lt i nodes
-below_both i nodes placed = grind (arith, nat_tests)
+some_node-none nodes test fails = none_holds test (min nodes most_nodes) fails (min nodes most_nodes) 0 (omega arith)
 
 -- the least node of the set of those that pass tells whether one does
 pub some_node-least : (nodes : ℕ) (test : ℕ → Bool) (set : Nodes) (least : Option ℕ) → ((i : ℕ) → has set i ≡ (nat_lt i (min nodes most_nodes) && test i))
     → IfNone least ((i : ℕ) → has set i ≡ false) → IfSome least (λ node. IsTrue (has set node)) → is_some least ≡ some_node nodes test
 some_node-least nodes test set None passes none has_node =
-    sym (some_node-none nodes test (λ i placed. ap (λ b. b && test i) (sym (below_both i nodes placed)) ∙ sym (passes i) ∙ none i))
+    sym (some_node-none nodes test (λ i below. rw (lt-ltb i (min nodes most_nodes) below) at (sym (passes i) ∙ none i)))
 some_node-least nodes test set (Some node) passes none has_node =
     let both = and_parts (nat_lt node (min nodes most_nodes)) (test node) (sym (passes node) ∙ has_node) in
     let below = ltb-true node (min nodes most_nodes) both.0 in

@@ -1,8 +1,9 @@
 -- The two lines of a bus: what comes over a line from one node to another, and what a node reads at a bit. A level is true
 -- where it is recessive, so a wired AND is recessive where every level is.
-use Rattle.std.specs.Prelude.{ℕ, ◌&&◌, ◌||◌, Bool, true, false, not, nat_lt, if◌then◌else◌}
+use Rattle.std.specs.Prelude.{ℕ, ◌&&◌, ◌||◌, Bool, true, false, not, min, if◌then◌else◌}
 use Rattle.std.specs.List.{list_all, list_any, range_with_len}
-use Rattle.cany_base.specs.Nodes.{has, node_numbers}
+use Rattle.cany_base.specs.Limits.{most_nodes}
+use Rattle.cany_base.specs.Nodes.{has}
 use Rattle.cany_media.specs.declared.line.Line.{Line}
 use Rattle.cany_media.specs.declared.line.Line.TheVariants.{Whole, Down, Split}
 
@@ -24,9 +25,9 @@ level_at lines nodes sent i = level_on lines.0 nodes sent i && level_on lines.1 
 abbrev pub bus_level : ℕ → (ℕ → Bool) → Bool
 bus_level nodes sent = list_all sent (range_with_len 0 nodes)
 
--- whether some node of a bus of so many passes the test
+-- whether some node of a bus of so many passes the test; there are no more than the most that a bus can have
 unfoldable pub some_node : ℕ → (ℕ → Bool) → Bool
-some_node nodes test = list_any (λ i. nat_lt i nodes && test i) node_numbers
+some_node nodes test = list_any test (range_with_len 0 (min nodes most_nodes))
 
 -- whether a line parts no two nodes of a bus of so many: one that is split by nobody, or by all of them, is whole
 abbrev pub is_whole : ℕ → Line → Bool

@@ -1,4 +1,4 @@
-//! The words of the command `media`. None of these calls but the last takes memory.
+//! The words of the command `media`. None of these calls but the last two takes memory.
 ghost use Rattle.std.specs.Prelude.{◌≡◌, ◌≤◌, ◌&&◌, ◌<◌, [], ◌∷◌, Some, length, map, nat_le, string_bytes, IsTrue, IfOk, IfSome, IfNone, MatchOption, true, is_some, option_map, ◌≢◌};
 ghost use Rattle.std.specs.Char.{is_ascii_digit};
 ghost use Rattle.std.specs.List.{list_all};
