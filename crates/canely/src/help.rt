@@ -34,9 +34,9 @@ is 01 KEY VALUE, 02 KEY or 03 KEY BYTE BYTE, by which a key gets a value, loses 
 byte where it has exactly the first.
 
 media runs a scenario as replay does, but over two lines, 0 and 1. A FAULT is LINE:FROM-TO:down or
-LINE:FROM-TO:split:NODE,.. by which a line is down, or cut into these nodes and the others, from a slot
-to another; nothing is lost in a slot that has a whole line. It writes a line for each FAULT, and then
-the report of the run.
+LINE:FROM-TO:split:NODE,.. by which a line is down, or cut into these nodes and the others, from one
+slot to another; in a slot in which neither line is whole the frame is lost. It writes a line for each
+FAULT, and then the report of the run.
 
 A scenario is a TOML document; slots, nodes and entries are counted from 0:
   format, nodes, slots       required; format 1 has up to 32 nodes, format 2 up to 64
