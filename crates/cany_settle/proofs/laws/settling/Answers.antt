@@ -1,0 +1,5 @@
+use Rattle.cany_settle.proofs.Turns.{turn_others}
+use Rattle.cany_settle.proofs.laws.settling.Goals as goal
+
+pub returns : goal.returns
+returns c = ?
