@@ -1,3 +1,4 @@
+use Rattle.cany_settle.proofs.Backlogs.{BacklogKept}
 use Rattle.cany_settle.proofs.Turns.{turn_others}
 use Rattle.cany_settle.proofs.laws.settling.Goals as goal
 
