@@ -1,2 +1,4 @@
+pub mod Asked
 pub mod Backlogs
+pub mod Resting
 pub mod Turns

@@ -1,3 +1,5 @@
+use Rattle.cany_settle.proofs.Resting.{IsResting}
+use Rattle.cany_settle.proofs.Asked.{all_asked}
 use Rattle.cany_settle.proofs.Backlogs.{BacklogKept}
 use Rattle.cany_settle.proofs.Turns.{turn_others}
 use Rattle.cany_settle.proofs.laws.settling.Goals as goal
