@@ -1,4 +1,5 @@
 pub mod Asked
 pub mod Backlogs
 pub mod Resting
+pub mod Rests
 pub mod Turns

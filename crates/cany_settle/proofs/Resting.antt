@@ -81,7 +81,7 @@ never_idle : (note : SlotNote) → note.frame ≡ None → is_lower_slot note �
 never_idle note none h = false≢true (rw none at h)
 
 -- a notice of a frame of a lower class is that of a slot up to there
-low_at : (last i : ℕ) (inc : Incarnation) (T : List SlotNote) (q : ℕ) → AreNumbered T → IsCalmAfter last T → is_low (gave i (seen inc T) q) ≡ true
+pub low_at : (last i : ℕ) (inc : Incarnation) (T : List SlotNote) (q : ℕ) → AreNumbered T → IsCalmAfter last T → is_low (gave i (seen inc T) q) ≡ true
     → (q < length T) × (length T ≤ last + suc q)
 low_at last i inc T q numbered calm h =
     let lower : is_lower_slot (note_at T q) ≡ true =
@@ -110,7 +110,7 @@ module _ (scenario : ScenarioParts) (i last : ℕ) (inc : Incarnation) (T : List
   p = scenario.params
 
   -- of notices that lie so far back from the end that all of them come later, none is of a lower class
-  none_low : (slots u : ℕ) → last + slots + u < length T → list_any is_low (take slots (past i S u)) ≡ false
+  pub none_low : (slots u : ℕ) → last + slots + u < length T → list_any is_low (take slots (past i S u)) ≡ false
   none_low slots u late = false_from_ne_true (list_any is_low (take slots (past i S u))) (λ h.
       let q = any_take is_low i slots u S h in
       let low = low_at last i inc T q.0 numbered calm q.3 in
@@ -120,7 +120,7 @@ module _ (scenario : ScenarioParts) (i last : ℕ) (inc : Incarnation) (T : List
   plain_at q late = false_from_ne_true (is_low (gave i S q)) (λ h. let low = low_at last i inc T q numbered calm h in omega (arith, low.1, late))
 
   -- a turn leaves it so
-  rests_on : AreScriptedBy last scenario → (u left : ℕ) (W : List FrameParts) → u ≡ suc left → u ≤ length T → IsResting scenario i last S u W
+  pub rests_on : AreScriptedBy last scenario → (u left : ℕ) (W : List FrameParts) → u ≡ suc left → u ≤ length T → IsResting scenario i last S u W
       → IsResting scenario i last S left (waiting_after (turn_effects scenario i (gave i S left ∷ past i S u)) W)
   rests_on scripted u left W next short h =
       let size : length S ≡ length T = length-seen inc T in
@@ -163,7 +163,7 @@ module _ (scenario : ScenarioParts) (i last : ℕ) (inc : Incarnation) (T : List
   ]
 
   -- so all of the backlog was asked for
-  all_asked_idle : (u : ℕ) → last + settling_time p + u < length T → BacklogKept scenario i S (past i S u) [] → AllAsked scenario i (past i S u)
+  pub all_asked_idle : (u : ℕ) → last + settling_time p + u < length T → BacklogKept scenario i S (past i S u) [] → AllAsked scenario i (past i S u)
   all_asked_idle u late kept =
       let size : length S ≡ length T = length-seen inc T in
       let b = greater-right p.confirm (p.bound + p.lag) in
