@@ -2,4 +2,5 @@ pub mod Asked
 pub mod Backlogs
 pub mod Resting
 pub mod Rests
+pub mod Settles
 pub mod Turns

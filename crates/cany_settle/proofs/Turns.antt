@@ -66,7 +66,7 @@ top_ed : is_top class.Ed ≡ false
 unfolding same_class
 top_ed = refl
 
-top_rel : is_top class.Rel ≡ false
+pub top_rel : is_top class.Rel ≡ false
 unfolding same_class
 top_rel = refl
 

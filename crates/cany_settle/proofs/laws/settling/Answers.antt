@@ -1,3 +1,4 @@
+use Rattle.cany_settle.proofs.Settles.{settles}
 use Rattle.cany_settle.proofs.Rests.{nodes_rest}
 use Rattle.cany_settle.proofs.Resting.{IsResting}
 use Rattle.cany_settle.proofs.Asked.{all_asked}
