@@ -1,9 +1,8 @@
 -- What is kept of the backlog of each running node: a message that was asked for waits or was sent, what waits or was sent was asked for, and the newest turn
 -- asked for none that was sent before.
-use Rattle.std.specs.Prelude.{slice_index_or}
-use Rattle.std.proofs.Common.{◌≡◌, ℕ, zero, suc, ◌+◌, ◌<◌, ◌≤◌, ◌⊎◌, inl, inr, Bool, true, false, List, [], ◌∷◌, length, Option, Some, None, refl, ap, sym, ◌∙◌, subst, arith}
-use Rattle.std.specs.List.{AllByRecursion, list_any}
-use Rattle.std.proofs.lemmas.Bool.{both_ways, cases_lt, cases_Bool, false≢true}
+use Rattle.std.proofs.Common.{◌≡◌, ℕ, zero, suc, ◌<◌, ◌≤◌, ◌⊎◌, inl, inr, true, List, [], ◌∷◌, length, Option, Some, None, refl, ap, sym, ◌∙◌, subst, arith}
+use Rattle.std.specs.List.{AllByRecursion}
+use Rattle.std.proofs.lemmas.Bool.{cases_lt, false≢true}
 use Rattle.std.proofs.lemmas.List.Elements.{All-from_recursion, All-get_or}
 use Rattle.cany_base.specs.declared.message.MsgKey.{MsgKey}
 use Rattle.cany_base.specs.declared.notice.NoticeKind.{NoticeKind}
@@ -11,26 +10,26 @@ use Rattle.cany_base.specs.declared.slot_note.SlotNote.{SlotNote}
 use Rattle.cany_base.specs.declared.step.Step.{Step}
 use Rattle.cany_base.specs.Frame.{FrameParts}
 use Rattle.cany_base.specs.Scenario.{ScenarioParts}
-use Rattle.cany_model.specs.Bus.Frames.{Identity, identity_of}
+use Rattle.cany_model.specs.Bus.Frames.{Identity}
 use Rattle.cany_model.specs.Bus.History.{given, has_own, is_sent}
 use Rattle.cany_model.specs.Bus.State.{Incarnation, NodeState}
 use Rattle.cany_model.specs.Bus.Waiting.{waits}
-use Rattle.cany_model.specs.Rules.Backlog.{ask_for, asked, backlog, backlog_effects, next_after, one_more, tot_backlog}
-use Rattle.cany_model.specs.Rules.Effect.{Effect, Ask, waiting_after}
+use Rattle.cany_model.specs.Rules.Backlog.{ask_for, asked, backlog, backlog_effects, next_after, one_more}
+use Rattle.cany_model.specs.Rules.Effect.{Ask, waiting_after}
 use Rattle.cany_model.specs.Rules.Messages.{Message, data_frame, data_id, message_key}
 use Rattle.cany_model.specs.Rules.Totcan.{tot_of_key}
 use Rattle.cany_model.specs.Rules.Turn.{scenario_for, turn_effects}
 use Rattle.cany_model.specs.Runs.Run.{run}
 use Rattle.cany_model.proofs.Bus.States.{note_at}
 use Rattle.cany_model.proofs.Promises.Diffusion.{Lived, Turned, past_of}
-use Rattle.cany_model.proofs.Promises.EachNode.{EachRunning, IsNew, IsNodes, each_running}
+use Rattle.cany_model.proofs.Promises.EachNode.{EachRunning, IsNew, each_running}
 use Rattle.cany_model.proofs.Rules.BacklogFacts.{HasJoined, asked-few, backlog_is_lawful, backlog_joined, next_joined}
 use Rattle.cany_model.proofs.Rules.Begun.{IsBegun}
 use Rattle.cany_model.proofs.Runs.Steps.{kept_at}
 use Rattle.cany_model.proofs.Timed.Common.Ages.{Sends, any_past, past}
 use Rattle.cany_model.proofs.Timed.Common.LastEffect.{turn_waits, waits_word, word}
 use Rattle.cany_model.proofs.Timed.Order.OneOrder.{tot_id}
-use Rattle.cany_model.proofs.Timed.Order.TotBacklog.{at_place, backlog_longer, backlog_same, next_stands, planned_next, planned_on, planned_other}
+use Rattle.cany_model.proofs.Timed.Order.TotBacklog.{at_place, backlog_same, next_stands, planned_next, planned_on, planned_other}
 use Rattle.cany_model.proofs.Timed.Order.TotEffects.{asks_next, data_still, data_then, data_word}
 use Rattle.cany_model.proofs.Timed.Order.TotKept.{IsPlanned, no_message}
 use Rattle.cany_model.proofs.Timed.Order.TotSlots.{sent_carried, waits_before, waits_of, waits_on}

@@ -1,50 +1,37 @@
 -- From an idle slot on that comes long after the last load: no running node waits with a frame of a message, and each has asked for all of its backlog.
-use Rattle.std.proofs.Common.{◌≡◌, ℕ, zero, suc, ◌+◌, ◌-◌, ◌<◌, ◌≤◌, ◌⊎◌, inl, inr, Bool, true, false, not, List, [], ◌∷◌, length, map, drop, take, slice_index_or, Option, Some, None, refl, ap, sym, ◌∙◌, subst, arith, length-drop, nat_lt}
-use Rattle.std.specs.List.{AllByRecursion, flat_map, list_any}
-use Rattle.std.proofs.lemmas.Bool.{cases_eq, cases_lt, cond_both, false_from_ne_true, false≢true, ltb-false, ltb-true, or_right}
+use Rattle.std.proofs.Common.{◌≡◌, ℕ, zero, suc, ◌+◌, ◌-◌, ◌<◌, ◌≤◌, inl, inr, true, false, List, [], ◌∷◌, length, drop, take, slice_index_or, None, refl, ap, sym, ◌∙◌, subst, arith, length-drop, nat_lt}
+use Rattle.std.specs.List.{AllByRecursion, list_any}
+use Rattle.std.proofs.lemmas.Bool.{cond_both, false_from_ne_true, false≢true, ltb-false, ltb-true, or_right}
 use Rattle.std.proofs.lemmas.List.{length-map}
-use Rattle.cany_base.specs.declared.class.Class.TheVariants as class
 use Rattle.cany_base.specs.declared.message.MsgKey.{MsgKey}
 use Rattle.cany_base.specs.declared.notice.NoticeKind.{NoticeKind}
 use Rattle.cany_base.specs.declared.notice.NoticeKind.TheVariants.{Idle, Got, Sent, Bad}
 use Rattle.cany_base.specs.declared.slot_note.SlotNote.{SlotNote}
-use Rattle.cany_base.specs.declared.step.Step.{Step}
 use Rattle.cany_base.specs.Frame.{FrameParts}
-use Rattle.cany_base.specs.Limits.{most_nodes}
 use Rattle.cany_base.specs.Params.{Parameters}
 use Rattle.cany_base.specs.Scenario.{ScenarioParts}
-use Rattle.cany_model.specs.Bus.Frames.{Identity, identity_of}
 use Rattle.cany_model.specs.Bus.History.{given, has_own, is_sent, seen}
-use Rattle.cany_model.specs.Bus.Restart.{after_restarts}
-use Rattle.cany_model.specs.Bus.Slot.{FaultScript, after_slot, carried, least_frame, offered, script, slot_note_of, winner}
-use Rattle.cany_model.specs.Bus.State.{Incarnation, NodeState, RunState, absent, node_at, opening, runs}
-use Rattle.cany_model.specs.Promises.Quiet.{is_top}
+use Rattle.cany_model.specs.Bus.State.{Incarnation, NodeState}
 use Rattle.cany_model.specs.Rules.Backlog.{asked, backlog}
 use Rattle.cany_model.specs.Rules.Effect.{waiting_after}
 use Rattle.cany_model.specs.Rules.Messages.{Message, data_id, messages_of}
 use Rattle.cany_model.specs.Rules.Totcan.{is_recent, tot_of_key}
 use Rattle.cany_model.specs.Rules.Turn.{scenario_for, turn_effects}
-use Rattle.cany_model.specs.Runs.Run.{after_turn, run}
-use Rattle.cany_model.proofs.Among.{Among, Among-flat_map, Among-get_or}
-use Rattle.cany_model.proofs.Bus.Notes.{given-Got, given-Sent, note_of-frame, note_of-slot}
-use Rattle.cany_model.proofs.Bus.Restarts.{after_restarts-trace, restarts_or_stays}
-use Rattle.cany_model.proofs.Bus.Seen.{history-is, length-seen}
-use Rattle.cany_model.proofs.Bus.States.{no_note, note_at, runs_within}
-use Rattle.cany_model.proofs.Promises.EachNode.{EachRunning, IsNew, restarted_new}
+use Rattle.cany_model.proofs.Bus.Notes.{given-Got, given-Sent}
+use Rattle.cany_model.proofs.Bus.Seen.{length-seen}
+use Rattle.cany_model.proofs.Bus.States.{note_at}
 use Rattle.cany_model.proofs.Rules.BacklogFacts.{asked-few}
 use Rattle.cany_model.proofs.Rules.MessageKeys.{IsOneOf}
-use Rattle.cany_model.proofs.Runs.Runs.{IsOrderly, MaySlot, orderly}
-use Rattle.cany_model.proofs.Runs.Steps.{MayTurn, after_slot-present, after_slot-trace, after_slot-unread, after_slot-waiting, after_turn-node, after_turn-other, after_turn-runs, after_turn-trace, kept_at, next_notice, node_after_turn, running_before_slot}
-use Rattle.cany_model.proofs.Runs.Waits.{Each-after, Each-kept}
-use Rattle.cany_model.proofs.Timed.Common.Ages.{Sends, any_take, at_past, gave, past, some_past}
-use Rattle.cany_model.proofs.Timed.Common.SeenAges.{Sees, from_seen}
+use Rattle.cany_model.proofs.Runs.Waits.{Each-after}
+use Rattle.cany_model.proofs.Timed.Common.Ages.{any_take, at_past, gave, past, some_past}
+use Rattle.cany_model.proofs.Timed.Common.SeenAges.{from_seen}
 use Rattle.cany_model.proofs.Timed.Order.TotBacklog.{at_place}
-use Rattle.cany_model.proofs.Timed.Order.TotRun.{IsOfRun, along_states, past_next, run_orderly}
+use Rattle.cany_model.proofs.Timed.Order.TotRun.{past_next}
 use Rattle.cany_model.proofs.Timed.Order.TotTurn.{AreNumbered}
 use Rattle.cany_settle.specs.Settling.{greater, is_lower_slot, settling_time}
 use Rattle.cany_settle.proofs.Asked.{all_asked}
-use Rattle.cany_settle.proofs.Backlogs.{AskedForUnsent, BacklogKept, KeepsBacklog, backlogs_kept, begun_asked, place_id, planned_at}
-use Rattle.cany_settle.proofs.Turns.{AllAsked, AreAllBefore, IsOther, all_asked_on, holds_low, is_low, not_recent, top_tot, turn_others}
+use Rattle.cany_settle.proofs.Backlogs.{AskedForUnsent, BacklogKept, place_id, planned_at}
+use Rattle.cany_settle.proofs.Turns.{AllAsked, AreAllBefore, IsOther, all_asked_on, holds_low, is_low, not_recent, turn_others}
 
 -- ---- the times
 
@@ -72,7 +59,7 @@ low_given i note h = by_notice (given i note) refl
     by_notice (Got f) is = rw (given-Got i note f is).0 (sym (ap is_low is) ∙ h)
     by_notice (Sent f) is = rw (given-Sent i note f is).0 (sym (ap is_low is) ∙ h)
 
-lower_there : (T : List SlotNote) (q : ℕ) → is_lower_slot (note_at T q) ≡ true → q < length T
+pub lower_there : (T : List SlotNote) (q : ℕ) → is_lower_slot (note_at T q) ≡ true → q < length T
 lower_there [] q h = absurd (false≢true h)
 lower_there (note ∷ T) zero h = omega arith
 lower_there (note ∷ T) (suc q) h = omega (arith, lower_there T q h)

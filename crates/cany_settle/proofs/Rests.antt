@@ -1,7 +1,7 @@
 -- Every running node of a run is at rest once an idle slot ran long after the last load; and of the last `bound` slots of a run one was idle, if its last load lies
 -- before them.
-use Rattle.std.proofs.Common.{◌≡◌, ℕ, zero, suc, ◌+◌, ◌-◌, ◌<◌, ◌≤◌, inl, inr, Bool, true, false, not, List, [], ◌∷◌, ◌++◌, length, Option, Some, None, refl, ap, sym, ◌∙◌, subst, arith, length-append}
-use Rattle.std.specs.List.{AllByRecursion, flat_map, list_any}
+use Rattle.std.proofs.Common.{◌≡◌, ℕ, zero, suc, ◌+◌, ◌-◌, ◌<◌, ◌≤◌, inl, inr, true, not, List, [], ◌∷◌, length, Option, Some, None, refl, ap, sym, ◌∙◌, subst, arith, length-append}
+use Rattle.std.specs.List.{flat_map, list_any}
 use Rattle.std.proofs.lemmas.Bool.{both_ways, cases_Bool, cases_eq, not_from_false}
 use Rattle.cany_base.specs.declared.slot_note.SlotNote.{SlotNote}
 use Rattle.cany_base.specs.declared.step.Step.{Step}
@@ -11,7 +11,7 @@ use Rattle.cany_base.specs.Scenario.{ScenarioParts}
 use Rattle.cany_model.specs.Bus.History.{given, history, seen}
 use Rattle.cany_model.specs.Bus.Restart.{after_restarts}
 use Rattle.cany_model.specs.Bus.Slot.{FaultScript, after_slot, least_frame, offered, script, slot_note_of, winner}
-use Rattle.cany_model.specs.Bus.State.{Incarnation, NodeState, RunState, absent, node_at, opening, runs, slots_run}
+use Rattle.cany_model.specs.Bus.State.{Incarnation, NodeState, RunState, absent, node_at, runs, slots_run}
 use Rattle.cany_model.specs.Promises.Quiet.{HasQuietSlots, IsQuiet, is_top}
 use Rattle.cany_model.specs.Rules.Turn.{scenario_for}
 use Rattle.cany_model.specs.Runs.Run.{after_turn, run}
@@ -26,7 +26,6 @@ use Rattle.cany_model.proofs.Runs.Runs.{IsOrderly, MaySlot}
 use Rattle.cany_model.proofs.Runs.SlotStates.{slot_state-trace, slot_state_is}
 use Rattle.cany_model.proofs.Runs.Steps.{MayTurn, after_slot-present, after_slot-trace, after_slot-unread, after_slot-waiting, after_turn-node, after_turn-other, after_turn-runs, after_turn-trace, kept_at, next_notice, node_after_turn, running_before_slot}
 use Rattle.cany_model.proofs.Runs.Waits.{Each-kept}
-use Rattle.cany_model.proofs.Timed.Common.Ages.{past}
 use Rattle.cany_model.proofs.Timed.Order.NoLateAcceptances.{at_older}
 use Rattle.cany_model.proofs.Timed.Order.TotRun.{IsOfRun, along_states, run_orderly}
 use Rattle.cany_model.proofs.Timed.Windows.TopFrames.{is_carried}

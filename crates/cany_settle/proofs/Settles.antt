@@ -1,6 +1,5 @@
 -- In a whole run all of whose running nodes are at rest, every message is settled.
-use Rattle.std.specs.Prelude.{slice_index_or}
-use Rattle.std.proofs.Common.{◌≡◌, ℕ, zero, suc, ◌+◌, ◌-◌, ◌<◌, ◌≤◌, ◌==◌, ◌&&◌, ◌||◌, inl, inr, Bool, true, false, not, nat_lt, List, [], ◌∷◌, ◌++◌, filter, length, take, drop, Contains, refl, ap, sym, ◌∙◌, subst, arith}
+use Rattle.std.proofs.Common.{◌≡◌, ℕ, ◌+◌, ◌<◌, ◌≤◌, ◌==◌, ◌&&◌, ◌||◌, inl, inr, Bool, true, false, not, nat_lt, List, [], ◌∷◌, filter, length, take, drop, refl, ap, sym, ◌∙◌, subst, arith}
 use Rattle.std.specs.List.{AllByRecursion, list_any, range_with_len}
 use Rattle.std.proofs.lemmas.Bool.{and_from, and_parts, both_ways, cases_Bool, cases_eq, cond_both, eq-eqb, false_from_ne_true, false≢true, le-ltb, lt-ltb, ltb-false, not-true, not_from_false, or_cases, or_left, or_right}
 use Rattle.cany_base.specs.declared.class.Class.TheVariants as class
@@ -11,22 +10,22 @@ use Rattle.cany_base.specs.declared.slot_note.SlotNote.{SlotNote}
 use Rattle.cany_base.specs.Frame.{FrameParts, data_class}
 use Rattle.cany_base.specs.Scenario.{ScenarioParts}
 use Rattle.cany_model.specs.Bus.Frames.{Identity, identity_of, same_class}
-use Rattle.cany_model.specs.Bus.History.{given, history, is_got, seen}
+use Rattle.cany_model.specs.Bus.History.{history, is_got, seen}
 use Rattle.cany_model.specs.Bus.State.{Incarnation, NodeState, RunState, absent, node_at, runs}
 use Rattle.cany_model.specs.Bus.Waiting.{waits}
 use Rattle.cany_model.specs.Promises.Settled.{came_too_late, is_ahead, is_awaited, is_settled, origin_has_asked}
 use Rattle.cany_model.specs.Promises.Quiet.{is_top}
-use Rattle.cany_model.specs.Rules.Backlog.{asked, backlog, joins_in}
+use Rattle.cany_model.specs.Rules.Backlog.{backlog, joins_in}
 use Rattle.cany_model.specs.Rules.Messages.{Message, accept_of_key, confirm_of_key, data_frame, data_id, frames_of, is_service, message_key, messages_of}
 use Rattle.cany_model.specs.Rules.Relcan.{has_confirm, has_copy, has_timer_ahead, is_timed}
 use Rattle.cany_model.specs.Rules.Sends.{is_sent_at_once, sendable}
 use Rattle.cany_model.specs.Rules.Totcan.{can_be_accepted, has_closing_ahead}
 use Rattle.cany_model.specs.Rules.Turn.{has_asked, is_ahead_at, scenario_at, scenario_for}
-use Rattle.cany_model.specs.Runs.Run.{all_read, run}
+use Rattle.cany_model.specs.Runs.Run.{all_read}
 use Rattle.cany_model.proofs.Among.{Among, Among-append_left, Among-append_right, Among-from_Contains, Among-from_any, Among-place, Among-weaker, Among-which, Each-of, any-from_Among}
 use Rattle.cany_model.proofs.Bus.Carried.{is_got-true}
 use Rattle.cany_model.proofs.Bus.Identities.{same_class-true}
-use Rattle.cany_model.proofs.Bus.Seen.{history-is, length-seen}
+use Rattle.cany_model.proofs.Bus.Seen.{history-is}
 use Rattle.cany_model.proofs.Promises.EachNode.{EachRunning}
 use Rattle.cany_model.proofs.Promises.SettledFacts.{each_has_read}
 use Rattle.cany_model.proofs.Rules.AskedFacts.{asked_at_once, asked_of_backlog}
@@ -37,7 +36,7 @@ use Rattle.cany_model.proofs.Timed.Order.TotBacklog.{past_dropped}
 use Rattle.cany_model.proofs.Timed.Order.TotSlots.{waiting_frame}
 use Rattle.cany_model.proofs.Timed.Order.TotTurn.{AreNumbered}
 use Rattle.cany_settle.specs.Settling.{settling_time}
-use Rattle.cany_settle.proofs.Resting.{AreScriptedBy, IsCalmAfter, IsResting, Resting, greater-left, greater-right, low_at, none_low}
+use Rattle.cany_settle.proofs.Resting.{AreScriptedBy, IsCalmAfter, Resting, greater-left, greater-right, low_at, none_low}
 use Rattle.cany_settle.proofs.Turns.{AllAsked, IsOther, is_low, is_of_message, not_recent, top_rel}
 
 -- ---- nobody waits

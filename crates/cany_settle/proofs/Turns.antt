@@ -1,8 +1,8 @@
 -- A turn in which no frame of a message is asked for: its notice, the one that may run out a timer, and those within which a message can be accepted carry no
 -- frame of the lower classes, nothing is scripted to be sent in it, and all of the backlog was asked for.
-use Rattle.std.proofs.Common.{◌≡◌, ℕ, ◌+◌, ◌<◌, ◌≤◌, ◌&&◌, ◌||◌, ◌==◌, inl, inr, Bool, true, false, not, List, [], ◌∷◌, ◌++◌, filter, map, length, take, drop, slice_index_or, Option, Some, None, refl, ap, sym, ◌∙◌, subst, arith, append-nil}
+use Rattle.std.proofs.Common.{◌≡◌, ℕ, ◌<◌, ◌&&◌, ◌||◌, ◌==◌, inl, inr, Bool, true, false, not, List, [], ◌∷◌, ◌++◌, filter, map, length, take, drop, slice_index_or, Option, Some, None, refl, ap, sym, ◌∙◌, arith, append-nil}
 use Rattle.std.specs.List.{AllByRecursion, list_any}
-use Rattle.std.proofs.lemmas.Bool.{and_parts, both_ways, cases_Bool, cond_both, eqb-true, false_from_ne_true, false≢true, not-true, or_cases, or_left, or_right}
+use Rattle.std.proofs.lemmas.Bool.{and_parts, both_ways, cond_both, eqb-true, false_from_ne_true, false≢true, or_cases, or_left, or_right}
 use Rattle.cany_base.specs.declared.class.Class.{Class}
 use Rattle.cany_base.specs.declared.class.Class.TheVariants as class
 use Rattle.cany_base.specs.declared.message.MsgKey.{MsgKey}
@@ -13,22 +13,20 @@ use Rattle.cany_base.specs.Frame.{FrameParts}
 use Rattle.cany_base.specs.Params.{Parameters}
 use Rattle.cany_base.specs.Scenario.{ScenarioParts}
 use Rattle.cany_model.specs.Bus.Frames.{Identity, identity_of, is_of, same_class}
-use Rattle.cany_model.specs.Bus.History.{is_got, is_sent}
 use Rattle.cany_model.specs.Promises.Quiet.{is_top}
-use Rattle.cany_model.specs.Rules.Backlog.{ask_for, asked, asked_after, backlog, backlog_effects, joins_in, next_after, next_of, tot_backlog}
-use Rattle.cany_model.specs.Rules.Edcan.{edcan, edcan_at, edcan_effects}
+use Rattle.cany_model.specs.Rules.Backlog.{asked, backlog, backlog_effects, joins_in, next_after, next_of}
+use Rattle.cany_model.specs.Rules.Edcan.{edcan_at, edcan_effects}
 use Rattle.cany_model.specs.Rules.Effect.{Effect, Ask, Withdraw, Enter}
 use Rattle.cany_model.specs.Rules.Life.{failure_signs, life_signs}
 use Rattle.cany_model.specs.Rules.Membership.{scripted_asks, vectors, views}
 use Rattle.cany_model.specs.Rules.Messages.{Message, is_service, messages_of}
 use Rattle.cany_model.specs.Rules.Protocol.{Protocol}
-use Rattle.cany_model.specs.Rules.Relcan.{fall_back_effects, falls_back, has_confirm, is_first_got, is_timed, relcan, relcan_at, relcan_effects, timer_effects}
-use Rattle.cany_model.specs.Rules.Sends.{is_sent_at_once, is_sent_in, scripted_sends, send_effects, sendable}
-use Rattle.cany_model.specs.Rules.Totcan.{accept_effects, can_be_accepted, closing_effects, closing_of, delivered_now, holds, is_recent, message_in, tot_delivery, tot_in, tot_of_key, totcan, totcan_effects}
+use Rattle.cany_model.specs.Rules.Relcan.{fall_back_effects, falls_back, has_confirm, is_first_got, is_timed, relcan_at, relcan_effects, timer_effects}
+use Rattle.cany_model.specs.Rules.Sends.{is_sent_in, send_effects, sendable}
+use Rattle.cany_model.specs.Rules.Totcan.{accept_effects, can_be_accepted, closing_effects, closing_of, delivered_now, holds, is_recent, message_in, tot_delivery, tot_in, tot_of_key, totcan_effects}
 use Rattle.cany_model.specs.Rules.Turn.{protocols, turn_effects}
 use Rattle.cany_model.proofs.Among.{Each-append, Each-flat_map, Each-weaker}
 use Rattle.cany_model.proofs.Bus.Identities.{same_class-true, same_identity-true}
-use Rattle.cany_model.proofs.Rules.BacklogFacts.{asked-few}
 use Rattle.cany_model.proofs.Rules.LifeFacts.{failures_are_lawful, life_is_lawful}
 use Rattle.cany_model.proofs.Rules.MessageKeys.{IsOneOf}
 use Rattle.cany_model.proofs.Rules.ProtocolFacts.{IsFounded, IsLawful}
