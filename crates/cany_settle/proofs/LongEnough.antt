@@ -16,7 +16,8 @@ use Rattle.cany_model.proofs.Bus.States.{note_at}
 use Rattle.cany_model.proofs.Rules.MessageKeys.{IsOneOf}
 use Rattle.cany_model.proofs.Runs.Runs.{orderly}
 use Rattle.cany_model.proofs.Timed.Guarantees.{slots_are_quiet}
-use Rattle.cany_settle.specs.Settling.{AllSettled, IsLongEnough, ask_slots, greater, greatest, is_event, is_failed_slot, is_lower_slot, is_stop_slot, last_event, last_load, last_slot, send_slots, short_tail, tail}
+use Rattle.cany_settle.specs.LastEvent.{ask_slots, greater, greatest, is_event, is_failed_slot, is_lower_slot, is_stop_slot, last_event, last_slot, send_slots}
+use Rattle.cany_settle.specs.LongEnough.{AllSettled, IsLongEnough, last_load, short_tail, tail}
 use Rattle.cany_settle.proofs.Resting.{AreScriptedBy, IsCalmAfter, greater-left, greater-right, lower_there}
 use Rattle.cany_settle.proofs.Rests.{idle_slot, nodes_rest}
 use Rattle.cany_settle.proofs.Settles.{settles}

@@ -28,7 +28,8 @@ use Rattle.cany_model.proofs.Timed.Common.SeenAges.{from_seen}
 use Rattle.cany_model.proofs.Timed.Order.TotBacklog.{at_place}
 use Rattle.cany_model.proofs.Timed.Order.TotRun.{past_next}
 use Rattle.cany_model.proofs.Timed.Order.TotTurn.{AreNumbered}
-use Rattle.cany_settle.specs.Settling.{greater, is_lower_slot, settling_time}
+use Rattle.cany_settle.specs.LastEvent.{greater, is_lower_slot}
+use Rattle.cany_settle.specs.LongEnough.{settling_time}
 use Rattle.cany_settle.proofs.Asked.{all_asked}
 use Rattle.cany_settle.proofs.Backlogs.{AskedForUnsent, BacklogKept, place_id, planned_at}
 use Rattle.cany_settle.proofs.Turns.{AllAsked, AreAllBefore, IsOther, all_asked_on, holds_low, is_low, not_recent, turn_others}

@@ -29,7 +29,8 @@ use Rattle.cany_model.proofs.Runs.Waits.{Each-kept}
 use Rattle.cany_model.proofs.Timed.Order.NoLateAcceptances.{at_older}
 use Rattle.cany_model.proofs.Timed.Order.TotRun.{IsOfRun, along_states, run_orderly}
 use Rattle.cany_model.proofs.Timed.Windows.TopFrames.{is_carried}
-use Rattle.cany_settle.specs.Settling.{is_lower_slot, settling_time}
+use Rattle.cany_settle.specs.LastEvent.{is_lower_slot}
+use Rattle.cany_settle.specs.LongEnough.{settling_time}
 use Rattle.cany_settle.proofs.Backlogs.{BacklogKept, KeepsBacklog, backlogs_kept, begun_asked}
 use Rattle.cany_settle.proofs.Resting.{AreScriptedBy, IsCalmAfter, IsResting, Resting, all_asked_idle, rests_on}
 use Rattle.cany_settle.proofs.Turns.{IsOther}

@@ -35,7 +35,7 @@ use Rattle.cany_model.proofs.Timed.Common.Ages.{any_past, gave, past, some_past}
 use Rattle.cany_model.proofs.Timed.Order.TotBacklog.{past_dropped}
 use Rattle.cany_model.proofs.Timed.Order.TotSlots.{waiting_frame}
 use Rattle.cany_model.proofs.Timed.Order.TotTurn.{AreNumbered}
-use Rattle.cany_settle.specs.Settling.{settling_time}
+use Rattle.cany_settle.specs.LongEnough.{settling_time}
 use Rattle.cany_settle.proofs.Resting.{AreScriptedBy, IsCalmAfter, Resting, greater-left, greater-right, low_at, none_low}
 use Rattle.cany_settle.proofs.Turns.{AllAsked, IsOther, is_low, is_of_message, not_recent, top_rel}
 

@@ -4,7 +4,7 @@ ghost use Rattle.cany_base.specs.declared.step.Step.{Step};
 ghost use Rattle.cany_base.specs.Scenario.{IsLegalScenario, ScenarioParts};
 ghost use Rattle.cany_model.specs.Promises.Hypothesis.{IsWithin};
 ghost use Rattle.cany_model.specs.Runs.Run.{IsWhole, run};
-ghost use Rattle.cany_settle.specs.Settling.{AllSettled, IsLongEnough, last_load, short_tail};
+ghost use Rattle.cany_settle.specs.LongEnough.{AllSettled, IsLongEnough, last_load, short_tail};
 
 /// Settling: in every whole run within the fault hypothesis of a legal scenario whose last event lies two membership cycles or more before the
 /// end, every message is settled.
