@@ -1,7 +1,10 @@
 pub mod Asked
 pub mod Backlogs
+pub mod LastSlotFacts
 pub mod LongEnough
 pub mod Resting
 pub mod Rests
+pub mod Rows
 pub mod Settles
+pub mod TextFacts
 pub mod Turns

@@ -1,2 +1,3 @@
 pub mod LastEvent
 pub mod LongEnough
+pub mod TailText
