@@ -1,5 +1,6 @@
 pub mod Asked
 pub mod Backlogs
+pub mod LastEventFacts
 pub mod LastSlotFacts
 pub mod LongEnough
 pub mod Resting

@@ -16,7 +16,7 @@ use Rattle.cany_model.specs.Rules.Messages.{messages_of}
 use Rattle.cany_model.specs.Runs.RoundRobin.{round_robin}
 use Rattle.cany_settle.specs.LastEvent.{greatest, last_event, last_slot}
 use Rattle.cany_settle.specs.LongEnough.{last_load}
-use Rattle.cany_settle.specs.TailText.{claim_line, ending_lines, lengths_lines, number_line, tail_lines, tail_text, word_line}
+use Rattle.cany_settle.specs.TailText.{claim_line, ending_lines, enough_line, lengths_lines, number_line, tail_lines, tail_text, word_line}
 use Rattle.cany_text.specs.ReportLines.{break_name, has_any, hypothesis_line, line_of}
 use Rattle.cany_base.specs.Nodes.{has, bits_where, those_where}
 use Rattle.cany_model.specs.Rules.Backlog.{backlog, asked, backlog_effects}
@@ -95,7 +95,7 @@ restart_hears_again =
     (record { place = At 5; verdict = Clean; stop = record { bits = 1 } } ∷ []) (record { slot = 10; node = 0 } ∷ [])
 
 unfoldable text_of : ScenarioParts → List ℕ
-unfolding has bits_where those_where same_class same_identity same_frame is_before messages_after node_at put_in_order least_frame winner script share_of after_share slot_note_of node_after nodes_after after_slot names_restart after_entries nodes_after_entries after_restarts is_hidden as_seen history copies has_own waiting_after entered eager_effects delivery_effects edcan_at edcan_effects fell_back relcan_at timer_effects relcan_effects send_effects tot_in is_recent after_place is_heard is_accepted accept_effects closing_effects is_clear done_from delivered_tot delivered_now totcan_effects shows_life after_life with_signs told found after_notice knowledge_of sign_effects fda_copy_effects failure_effects failures_at life_signs_sent life_effects brought met is_just is_covered is_new vector_effects end_effects start_effects exchange_at exchange_effects after_ask with_ended view_effects install_effects ask_effects backlog asked backlog_effects is_service turn_effects has_asked log_from first_lagging reply is_legal_from after_turn proceed after_step run_from round rounds break_at first_break count_together is_settled digits open_count settled_count settled_line greatest last_slot claim_line ending_lines lengths_lines number_line tail_lines tail_text word_line break_name has_any hypothesis_line line_of
+unfolding has bits_where those_where same_class same_identity same_frame is_before messages_after node_at put_in_order least_frame winner script share_of after_share slot_note_of node_after nodes_after after_slot names_restart after_entries nodes_after_entries after_restarts is_hidden as_seen history copies has_own waiting_after entered eager_effects delivery_effects edcan_at edcan_effects fell_back relcan_at timer_effects relcan_effects send_effects tot_in is_recent after_place is_heard is_accepted accept_effects closing_effects is_clear done_from delivered_tot delivered_now totcan_effects shows_life after_life with_signs told found after_notice knowledge_of sign_effects fda_copy_effects failure_effects failures_at life_signs_sent life_effects brought met is_just is_covered is_new vector_effects end_effects start_effects exchange_at exchange_effects after_ask with_ended view_effects install_effects ask_effects backlog asked backlog_effects is_service turn_effects has_asked log_from first_lagging reply is_legal_from after_turn proceed after_step run_from round rounds break_at first_break count_together is_settled digits open_count settled_count settled_line greatest last_slot claim_line ending_lines enough_line lengths_lines number_line tail_lines tail_text word_line break_name has_any hypothesis_line line_of
 text_of sc = tail_text sc (round_robin sc)
 
 -- the run of five slots is too short to be claimed, though its message is settled

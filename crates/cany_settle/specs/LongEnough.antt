@@ -11,8 +11,12 @@ use Rattle.cany_settle.specs.LastEvent.{greater, greatest, is_lower_slot, last_e
 abbrev pub tail : Parameters → ℕ
 tail p = 2 * p.cycle
 
+-- how many slots the run would have to have
+abbrev pub needed : ScenarioParts → RunState → ℕ
+needed scenario s = last_event scenario s + tail scenario.params
+
 abbrev pub IsLongEnough : ScenarioParts → RunState → Type 0
-IsLongEnough scenario s = last_event scenario s + tail scenario.params ≤ scenario.params.slots
+IsLongEnough scenario s = needed scenario s ≤ scenario.params.slots
 
 -- every message is settled: nothing more is to come of it
 abbrev pub AllSettled : ScenarioParts → RunState → Type 0

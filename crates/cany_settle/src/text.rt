@@ -8,7 +8,7 @@ ghost use Rattle.cany_settle.specs.TailText.{tail_text};
 ghost use Rattle.cany_world.specs.World.{state_of};
 
 use crate::events::last_event;
-use crate::length::tail;
+use crate::length::{needed, tail};
 use crate::row::Row;
 use cany_io::{Failed, Sink};
 use cany_log::write_hypothesis;
@@ -67,21 +67,28 @@ fn write_settled<K: Sink>(world: &World, sink: &mut K) -> Result<(), Failed>
     row.write(sink)
 }
 
-/// Writes whether the run was long enough, or how long it would have to be. Nothing is claimed of a
-/// run with restarts.
+/// Writes whether the run was long enough, or how long it would have to be.
+fn write_enough<K: Sink>(world: &World, sink: &mut K) -> Result<(), Failed>
+    ensures { IsWritten (text.enough_line world.now.scenario (state_of world.now)) result
+        (K.taken sink.old) (K.taken sink.new) (K.faults sink.old) (K.faults sink.new) }
+{
+    let needed = needed(world);
+    if needed <= world.scenario().params().slots {
+        write_word("enough", sink)
+    } else {
+        write_number("short", needed, sink)
+    }
+}
+
+/// Writes the same, where the scenario has no restarts: of one that has, nothing is claimed.
 fn write_claim<K: Sink>(world: &World, sink: &mut K) -> Result<(), Failed>
     ensures { IsWritten (text.claim_line world.now.scenario (state_of world.now)) result
         (K.taken sink.old) (K.taken sink.new) (K.faults sink.old) (K.faults sink.new) }
 {
-    let scenario = world.scenario();
-    if !scenario.restarts().is_empty() {
-        return write_word("unclaimed", sink);
-    }
-    let needed = last_event(world) + tail(scenario);
-    if needed <= scenario.params().slots {
-        write_word("enough", sink)
+    if world.scenario().restarts().is_empty() {
+        write_enough(world, sink)
     } else {
-        write_number("short", needed, sink)
+        write_word("unclaimed", sink)
     }
 }
 

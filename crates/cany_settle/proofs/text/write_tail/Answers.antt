@@ -1,5 +1,4 @@
 use Rattle.std.proofs.lemmas.Result.{err_from_is_err_and}
-use Rattle.cany_model.specs.Runs.Run.{run}
 use Rattle.cany_log.proofs.WrittenFacts.{IsWritten-then, IsWritten-short}
 use Rattle.cany_settle.proofs.TextFacts.{tail-is}
 use Rattle.cany_settle.proofs.text.write_tail.Goals as goal
