@@ -1,3 +1,5 @@
+pub mod PerformingFacts
 pub mod RefusedFacts
 pub mod RunFacts
+pub mod StatusFacts
 pub mod WordFacts

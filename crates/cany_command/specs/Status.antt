@@ -1,11 +1,19 @@
 -- Statuses by what they say of the streams.
-use Rattle.std.specs.Prelude.{ℕ, ◌≡◌, ◌⊎◌}
+use Rattle.std.specs.Prelude.{ℕ, ◌≡◌, ◌<◌, ◌⊎◌}
 use Rattle.cany_command.specs.declared.status.TheConstants.{DONE, OTHER_WORDS, REFUSED, READ_FAULT, WRITE_FAULT, NO_MEMORY, TOO_LONG}
 
--- the text was read to its end, and its answer was written, or as much of it as the sink took
+-- the answer was written, of success or of a refusal, or as much of it as the sink took
+abbrev pub HasEnded : (ℕ → Type 0) → ℕ → Type 0
+HasEnded IsSuccess status = IsSuccess status ⊎ (status ≡ REFUSED) ⊎ (status ≡ WRITE_FAULT)
+
+-- the same, where success has one status
 abbrev pub HasAnswered : ℕ → Type 0
-HasAnswered status = (status ≡ DONE) ⊎ (status ≡ REFUSED) ⊎ (status ≡ WRITE_FAULT)
+HasAnswered status = HasEnded (λ s. s ≡ DONE) status
 
 -- nothing was written
 abbrev pub HasNoAnswer : ℕ → Type 0
 HasNoAnswer status = (status ≡ OTHER_WORDS) ⊎ (status ≡ READ_FAULT) ⊎ (status ≡ NO_MEMORY) ⊎ (status ≡ TOO_LONG)
+
+-- the status is none of those that a command answers where it does not succeed
+abbrev pub IsNoFault : ℕ → Type 0
+IsNoFault status = (status < OTHER_WORDS) ⊎ (TOO_LONG < status)

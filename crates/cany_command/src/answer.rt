@@ -2,12 +2,12 @@
 ghost use Rattle.std.specs.Prelude.{◌≡◌, ◌⊎◌};
 ghost use Rattle.cany_io.specs.Faults.{HasRisen};
 ghost use Rattle.cany_io.specs.Sink.{Takes, TakesPrefix};
-ghost use Rattle.cany_log.specs.Refusals.{refusal_line};
 ghost use Rattle.cany_text.specs.Report.{report};
 
+use crate::refusal_line::RefusalLine;
 use crate::status::{DONE, REFUSED, WRITE_FAULT};
 use cany_io::{Failed, Sink};
-use cany_log::{Refusal, write_refusal, write_report};
+use cany_log::write_report;
 use cany_world::World;
 
 /// Writes the report of a run, and answers the status.
@@ -23,14 +23,14 @@ pub fn report_run<K: Sink>(world: &World, sink: &mut K) -> u8
     }
 }
 
-/// Refuses a text, or a journal, and answers the status.
-pub fn refuse<K: Sink>(refusal: &Refusal, sink: &mut K) -> u8
-    ensures refused { result ≡ REFUSED → Takes (K.taken sink.old) (refusal_line refusal.now) (K.taken sink.new) }
+/// Refuses, and answers the status.
+pub fn refuse<L: RefusalLine, K: Sink>(refusal: &L, sink: &mut K) -> u8
+    ensures refused { result ≡ REFUSED → Takes (K.taken sink.old) (L.line refusal.now) (K.taken sink.new) }
     ensures write_fault { result ≡ WRITE_FAULT → HasRisen (K.faults sink.old) (K.faults sink.new) }
-    ensures prefix { TakesPrefix (K.taken sink.old) (refusal_line refusal.now) (K.taken sink.new) }
+    ensures prefix { TakesPrefix (K.taken sink.old) (L.line refusal.now) (K.taken sink.new) }
     ensures status { (result ≡ REFUSED) ⊎ (result ≡ WRITE_FAULT) }
 {
-    match write_refusal(refusal, sink) {
+    match refusal.write_line(sink) {
         Ok(()) => REFUSED,
         Err(Failed) => WRITE_FAULT,
     }

@@ -3,4 +3,3 @@ pub mod MessagePlaces
 pub mod StormFacts
 pub mod StormTopFacts
 pub mod StormWordFacts
-pub mod TopFacts

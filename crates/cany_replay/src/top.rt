@@ -1,61 +1,81 @@
 //! The call behind the command `replay`.
-ghost use Rattle.std.specs.Prelude.{◌≡◌, ◌⊎◌, ◌↔◌, ◌<◌, ◌≤◌, map, length, string_bytes, None, IfSome, IsOkAnd, IsSomeAnd, MatchOption};
+ghost use Rattle.std.specs.Prelude.{◌≡◌, ◌⊎◌, ◌↔◌, ◌<◌, ◌≤◌, map, length, string_bytes, IfSome, IsOkAnd, IsSomeAnd, MatchOption};
 ghost use Rattle.cany_base.specs.Limits.{most_text_bytes};
 ghost use Rattle.cany_io.specs.Faults.{HasRisen, StandsStill};
 ghost use Rattle.cany_io.specs.Sink.{Takes, TakesPrefix};
 ghost use Rattle.cany_io.specs.Source.{IsAtEnd};
-ghost use Rattle.cany_model.specs.Runs.Follow.{journal_of};
-ghost use Rattle.cany_text.specs.RefusalLines.{journal_refusal_line};
-ghost use Rattle.cany_text.specs.Report.{report};
 ghost use Rattle.cany_text.specs.ScenarioText.{scenario_of};
-ghost use Rattle.cany_command.specs.Promises.{KeepsPromises};
-ghost use Rattle.cany_command.specs.Refused.{own_fault, refusal_of};
+ghost use Rattle.cany_command.specs.Refused.{refusal_of};
 ghost use Rattle.cany_command.specs.Status.{HasAnswered, HasNoAnswer};
-ghost use Rattle.cany_replay.specs.Top.{AreReplay, IsReplay, answer_for, answer_of};
+ghost use Rattle.cany_replay.specs.Top.{AreReplay, IsReplay, answer_of};
 
 use cany_base::Scenario;
 use cany_command::status::{
     DONE, NO_MEMORY, OTHER_WORDS, READ_FAULT, REFUSED, TOO_LONG, WRITE_FAULT,
 };
-use cany_command::{RunFault, is_memory, is_only, refuse, report_run, run, scenario_in, text_from};
+use cany_command::{AnswerFault, Command, CommandFault, NoRefusal, is_only, perform};
 use cany_io::{Sink, Source};
-use cany_log::Refusal;
+use cany_log::write_report;
+use cany_world::World;
 use std::alloc::Global;
 
-/// Runs a scenario and writes the report, or refuses its journal. Nothing is written before the run
-/// has ended.
-fn replay_scenario<K: Sink>(alloc: Global, scenario: Scenario, sink: &mut K) -> u8
-    ensures done { result ≡ DONE → Takes (K.taken sink.old) (report scenario (journal_of scenario)) (K.taken sink.new) }
-    ensures followed { result ≡ DONE → own_fault scenario ≡ None }
-    ensures promises { result ≡ DONE → KeepsPromises scenario }
-    ensures refused { result ≡ REFUSED → IsSomeAnd (own_fault scenario) (λ fault. Takes (K.taken sink.old) (journal_refusal_line fault) (K.taken sink.new)) }
-    ensures write_fault { result ≡ WRITE_FAULT → HasRisen (K.faults sink.old) (K.faults sink.new) }
-    ensures prefix { result ≡ WRITE_FAULT → TakesPrefix (K.taken sink.old) (answer_for scenario) (K.taken sink.new) }
-    ensures untouched { result ≡ NO_MEMORY → sink.new ≡ sink.old }
-    ensures status { (result ≡ DONE) ⊎ (result ≡ REFUSED) ⊎ (result ≡ WRITE_FAULT) ⊎ (result ≡ NO_MEMORY) }
-{
-    match run(alloc, scenario) {
-        Ok(world) => report_run(&world, sink),
-        Err(RunFault::Journal(fault)) => refuse(&Refusal::Journal(fault), sink),
-        Err(RunFault::Memory) => NO_MEMORY,
-    }
-}
+/// The command `replay`.
+struct Replay;
 
-/// Replays the scenario of a text, or refuses the text.
-fn replay_text<K: Sink>(alloc: Global, text: Vec<u8>, sink: &mut K) -> u8
-    ensures done { result ≡ DONE → IsOkAnd (scenario_of text.items) (λ scenario. IsReplay scenario (K.taken sink.old) (K.taken sink.new)) }
-    ensures not_refused { result ≡ DONE → refusal_of text.items ≡ None }
-    ensures refused { result ≡ REFUSED → IsSomeAnd (refusal_of text.items) (λ line. Takes (K.taken sink.old) line (K.taken sink.new)) }
-    ensures write_fault { result ≡ WRITE_FAULT → HasRisen (K.faults sink.old) (K.faults sink.new) }
-    ensures prefix { result ≡ WRITE_FAULT → TakesPrefix (K.taken sink.old) (answer_of text.items) (K.taken sink.new) }
-    ensures untouched { result ≡ NO_MEMORY → sink.new ≡ sink.old }
-    ensures status { (result ≡ DONE) ⊎ (result ≡ REFUSED) ⊎ (result ≡ WRITE_FAULT) ⊎ (result ≡ NO_MEMORY) }
-{
-    match scenario_in(alloc, text) {
-        Ok(scenario) => replay_scenario(alloc, scenario, sink),
-        Err(fault) if is_memory(&fault) => NO_MEMORY,
-        Err(fault) => refuse(&Refusal::Scenario(fault), sink),
+impl Command for Replay {
+    type Plan = ();
+
+    type Refusal = NoRefusal;
+
+    ghost use Rattle.std.specs.Prelude.{None};
+    ghost use Rattle.cany_command.specs.declared.status.TheConstants.{DONE};
+    ghost use Rattle.cany_command.specs.Refused.{as_read};
+    ghost use Rattle.cany_command.proofs.StatusFacts.{done_is_no_fault};
+    ghost use Rattle.cany_text.specs.Report.{report};
+
+    ghost are_words = { AreReplay };
+
+    ghost is_plan = { λ _ _. Unit {0} };
+
+    ghost words_refusal = { λ _. None };
+
+    ghost choose = { λ _. as_read };
+
+    ghost text = { λ _. report };
+
+    ghost success = { λ _ _ _. DONE };
+
+    ghost is_success = { λ status. status ≡ DONE };
+
+    fn are_words(&self, words: &[String]) -> bool {
+        is_only(words, "replay")
     }
+
+    fn plan(&self, _alloc: Global, _words: &[String]) -> Result<(), CommandFault<NoRefusal>> {
+        Ok(())
+    }
+
+    fn scenario(
+        &self,
+        _alloc: Global,
+        _plan: &(),
+        scenario: Scenario,
+    ) -> Result<Scenario, CommandFault<NoRefusal>> {
+        Ok(scenario)
+    }
+
+    fn answer<K: Sink>(
+        &self,
+        _alloc: Global,
+        _plan: &(),
+        world: &World,
+        sink: &mut K,
+    ) -> Result<u8, AnswerFault> {
+        write_report(world, sink)?;
+        Ok(DONE)
+    }
+
+    ghost no_fault = { done_is_no_fault };
 }
 
 /// Replays: reads a scenario text from the source, runs the scenario by its own journal or, where
@@ -105,11 +125,5 @@ pub fn replay_top<S: Source, K: Sink>(
         → StandsStill (S.faults source.old) (S.faults source.new)
         → IfSome (S.left source.old) (λ bytes. most_text_bytes < length bytes → (result ≡ NO_MEMORY) ⊎ (result ≡ TOO_LONG)) }
 {
-    if !is_only(words, "replay") {
-        return OTHER_WORDS;
-    }
-    match text_from(alloc, source) {
-        Ok(text) => replay_text(alloc, text, sink),
-        Err(status) => status,
-    }
+    perform(alloc, &Replay, words, source, sink)
 }
