@@ -7,7 +7,9 @@ pub mod laws;
 mod length;
 mod row;
 mod text;
+mod top;
 
 pub use events::last_event;
 pub use length::{long_enough, tail};
 pub use text::write_tail;
+pub use top::tail_top;
