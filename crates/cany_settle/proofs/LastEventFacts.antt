@@ -1,5 +1,5 @@
 -- The last event lies in the run.
-use Rattle.std.proofs.Common.{◌≡◌, ℕ, zero, suc, ◌+◌, ◌-◌, ◌<◌, ◌≤◌, Bool, if◌then◌else◌, nat_lt, List, [], ◌∷◌, length, map, All, arith}
+use Rattle.std.proofs.Common.{ℕ, suc, ◌<◌, Bool, if◌then◌else◌, nat_lt, List, [], ◌∷◌, length, map, All, arith}
 use Rattle.std.specs.List.{AllByRecursion}
 use Rattle.std.proofs.lemmas.Bool.{cond_both}
 use Rattle.std.proofs.lemmas.List.Elements.{recursion_from_All}

@@ -1,5 +1,5 @@
 -- Worked texts, computed from the definitions, and runs that show what the premises are for.
-use Rattle.std.specs.Prelude.{ℕ, ◌≡◌, Bool, List, [], ◌∷◌, None, true, false, map, codes, refl}
+use Rattle.std.specs.Prelude.{ℕ, ◌≡◌, List, [], ◌∷◌, None, codes, refl}
 use Rattle.std.specs.Fmt.{digits}
 use Rattle.std.specs.List.{concat}
 use Rattle.cany_base.specs.declared.format.Format.TheVariants.{One}
@@ -12,10 +12,8 @@ use Rattle.cany_base.specs.declared.rule.Verdict.TheVariants.{Clean, Partial}
 use Rattle.cany_base.specs.Params.{Parameters}
 use Rattle.cany_base.specs.Scenario.{ScenarioParts}
 use Rattle.cany_log.specs.Summary.{open_count, settled_count, settled_line}
-use Rattle.cany_model.specs.Rules.Messages.{messages_of}
 use Rattle.cany_model.specs.Runs.RoundRobin.{round_robin}
-use Rattle.cany_settle.specs.LastEvent.{greatest, last_event, last_slot}
-use Rattle.cany_settle.specs.LongEnough.{last_load}
+use Rattle.cany_settle.specs.LastEvent.{greatest, last_slot}
 use Rattle.cany_settle.specs.TailText.{claim_line, ending_lines, enough_line, lengths_lines, number_line, tail_lines, tail_text, word_line}
 use Rattle.cany_text.specs.ReportLines.{break_name, has_any, hypothesis_line, line_of}
 use Rattle.cany_base.specs.Nodes.{has, bits_where, those_where}
@@ -126,3 +124,26 @@ tail_unclaimed : text_of restart_hears_again ≡ concat (
     codes "tail 144\n" ∷ codes "last 52\n" ∷ codes "slots 60\n" ∷ codes "unclaimed\n" ∷ codes "settled 1 open 0\n" ∷ codes "hypothesis within\n" ∷ codes "end\n" ∷ [])
 unfolding text_of params scenario restart_hears_again
 tail_unclaimed = refl
+
+-- ---- what the premises are for
+
+-- the messages of TOTCAN of one node, all at slot 0: each waits for the one before
+unfoldable backlog_of_five : ℕ → ScenarioParts
+backlog_of_five slots =
+    scenario slots 0
+    (record { slot = 0; node = 0; service = service.Tot; payload = [] } ∷ record { slot = 0; node = 0; service = service.Tot; payload = [] }
+    ∷ record { slot = 0; node = 0; service = service.Tot; payload = [] } ∷ record { slot = 0; node = 0; service = service.Tot; payload = [] }
+    ∷ record { slot = 0; node = 0; service = service.Tot; payload = [] } ∷ []) [] []
+
+-- A run that goes on for the tail after the last ask, where nothing went wrong, and that has an open message: the last frame of a lower class
+-- came later.
+late_frames_are_events : text_of (backlog_of_five 149) ≡ concat (
+    codes "tail 144\n" ∷ codes "last 112\n" ∷ codes "slots 149\n" ∷ codes "short 256\n" ∷ codes "settled 4 open 1\n" ∷ codes "hypothesis within\n" ∷ codes "end\n" ∷ [])
+unfolding text_of params scenario backlog_of_five
+late_frames_are_events = refl
+
+-- a message that is asked for in the last slot is open: the last ask is an event
+late_asks_are_events : text_of (scenario 40 0 (record { slot = 39; node = 0; service = service.Ed; payload = 1 ∷ [] } ∷ []) [] []) ≡ concat (
+    codes "tail 144\n" ∷ codes "last 39\n" ∷ codes "slots 40\n" ∷ codes "short 183\n" ∷ codes "settled 0 open 1\n" ∷ codes "hypothesis within\n" ∷ codes "end\n" ∷ [])
+unfolding text_of params scenario
+late_asks_are_events = refl

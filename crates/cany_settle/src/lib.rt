@@ -13,3 +13,6 @@ pub use events::last_event;
 pub use length::{long_enough, tail};
 pub use text::write_tail;
 pub use top::tail_top;
+
+#[cfg(test)]
+mod tests;
