@@ -8,7 +8,7 @@ use Rattle.cany_base.specs.Params.{MeetsFormulas, Parameters}
 use Rattle.cany_base.specs.Scenario.{IsLegalScenario, ScenarioParts}
 use Rattle.cany_base.proofs.ParamsFacts.{few_nodes}
 use Rattle.cany_model.specs.Bus.State.{RunState, slots_run}
-use Rattle.cany_model.specs.Promises.Hypothesis.{IsWithin}
+use Rattle.cany_model.specs.Promises.Hypothesis.{IsWithin, is_error_slot}
 use Rattle.cany_model.specs.Rules.Messages.{Message, messages_after, messages_of}
 use Rattle.cany_model.specs.Runs.Run.{IsWhole, all_read, run}
 use Rattle.cany_model.proofs.Among.{Among-from_Contains}
@@ -16,7 +16,7 @@ use Rattle.cany_model.proofs.Bus.States.{note_at}
 use Rattle.cany_model.proofs.Rules.MessageKeys.{IsOneOf}
 use Rattle.cany_model.proofs.Runs.Runs.{orderly}
 use Rattle.cany_model.proofs.Timed.Guarantees.{slots_are_quiet}
-use Rattle.cany_settle.specs.LastEvent.{ask_slots, greater, greatest, is_event, is_failed_slot, is_lower_slot, is_stop_slot, last_event, last_slot, send_slots}
+use Rattle.cany_settle.specs.LastEvent.{ask_slots, greater, greatest, is_event, is_lower_slot, is_stop_slot, last_event, last_slot, send_slots}
 use Rattle.cany_settle.specs.LongEnough.{AllSettled, IsLongEnough, last_load, short_tail, tail}
 use Rattle.cany_settle.proofs.Resting.{AreScriptedBy, IsCalmAfter, greater-left, greater-right, lower_there}
 use Rattle.cany_settle.proofs.Rests.{idle_slot, nodes_rest}
@@ -107,7 +107,7 @@ load_is_event scenario s =
     let b = greater-left (greater sends asks) events in
     let c = greater-right (greater sends asks) events in
     let lower = last_slot_more is_lower_slot is_event
-    (λ note h. or_left (is_lower_slot note || is_failed_slot note) (is_stop_slot note) (or_left (is_lower_slot note) (is_failed_slot note) h)) s.trace in
+    (λ note h. or_left (is_lower_slot note || is_error_slot note) (is_stop_slot note) (or_left (is_lower_slot note) (is_error_slot note) h)) s.trace in
     greater_least sends (last_slot is_lower_slot s.trace) (last_event scenario s) (omega (arith, a, b)) (omega (arith, lower, c))
 
 pub settles_in_the_end : (scenario : ScenarioParts) (journal : List Step) → IsLegalScenario scenario → scenario.from ≡ 0

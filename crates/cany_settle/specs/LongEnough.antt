@@ -24,7 +24,8 @@ AllSettled scenario s = (m : Message) → Contains (messages_of scenario.sends) 
 
 -- ---- what it takes
 
--- The last load: the last scripted send, and the last slot that carried a frame of a lower class. Stops and errors need not be over.
+-- The last load: the last scripted send, and the last slot that carried a frame of a lower class. Stops and errors need not be
+-- over.
 abbrev pub last_load : ScenarioParts → RunState → ℕ
 last_load scenario s = greater (greatest (send_slots scenario.sends)) (last_slot is_lower_slot s.trace)
 

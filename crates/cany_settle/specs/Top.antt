@@ -16,8 +16,8 @@ use Rattle.cany_settle.specs.TailText.{tail_text}
 abbrev pub AreTail : List (List ℕ) → Type 0
 AreTail words = words ≡ codes "tail" ∷ []
 
--- what is written for the bytes of a text: whether the run of the scenario that they stand for was long enough, by its own journal or, where
--- it has none, by its round robin journal; or the line of the refusal
+-- what is written for the bytes of a text: whether the run of the scenario that they stand for was long enough, by its own
+-- journal or, where it has none, by its round robin journal; or the line of the refusal
 abbrev pub answer_of : List ℕ → List ℕ
 answer_of bytes = answer_by tail_text as_read bytes
 

@@ -1,6 +1,7 @@
-//! The last event of a run: the last scripted ask, and the last slot in which something went wrong
-//! or a frame was carried that is not of the classes that win over all others.
+//! The last event of a run: the last scripted ask, and the last slot that ended in a stop, met an
+//! error, or carried a frame that is not of the classes that win over all others.
 ghost use Rattle.std.specs.Prelude.{◌≡◌, if◌then◌else◌};
+ghost use Rattle.cany_model.specs.Promises.Hypothesis.{is_error_slot};
 ghost use Rattle.cany_model.specs.Promises.Quiet.{is_top};
 ghost use Rattle.cany_settle.specs.LastEvent as event;
 ghost use Rattle.cany_world.specs.World.{state_of};
@@ -34,7 +35,7 @@ fn is_lower(note: &SlotNote) -> bool
 
 /// Whether the slot carried a frame whose senders saw an error.
 fn has_failed(note: &SlotNote) -> bool
-    ensures { result ≡ event.is_failed_slot note.now }
+    ensures { result ≡ is_error_slot note.now }
 {
     note.frame.is_some() && matches!(note.verdict, Verdict::Lost | Verdict::Partial(_))
 }
