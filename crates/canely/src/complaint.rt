@@ -56,7 +56,7 @@ fn of_args(alloc: Global, args: &[String]) -> Result<String, AllocError> {
         [] => String::from_str(alloc, "canely: no command given; see canely --help\n"),
         [arg, rest @ ..] => match arg.as_str() {
             "storm" => of_storm(alloc, rest),
-            "replay" | "run" | "replica" | "--help" | "--version" => {
+            "replay" | "run" | "replica" | "tail" | "--help" | "--version" => {
                 format!(in alloc; "canely: {arg} takes no arguments; see canely --help\n")
             }
             _ => of_command(alloc, arg.as_str()),

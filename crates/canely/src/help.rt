@@ -16,6 +16,7 @@ usage: canely replay < SCENARIO > REPORT
        canely run < SCENARIO > REPORT
        canely storm NUMBER > SUMMARY
        canely replica < SCENARIO > TABLES
+       canely tail < SCENARIO > TAIL
        canely --help
        canely --version
 
@@ -31,6 +32,9 @@ runs it by the round robin journal, and writes the summary of the run.
 replica runs a scenario as replay does, and writes the table of each node: a payload of a tot message
 is 01 KEY VALUE, 02 KEY or 03 KEY BYTE BYTE, by which a key gets a value, loses it, or gets the second
 byte where it has exactly the first.
+
+tail runs a scenario as replay does, and tells whether the run went on long enough after its last
+event (a send, a fault, a stop, a frame of a message) that every message has to be settled.
 
 A scenario is a TOML document; slots, nodes and entries are counted from 0:
   format, nodes, slots       required; format 1 has up to 32 nodes, format 2 up to 64
