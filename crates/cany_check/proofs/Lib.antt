@@ -1,0 +1,4 @@
+pub mod CorrectLogs
+pub mod Decided
+pub mod RowWords
+pub mod Rows

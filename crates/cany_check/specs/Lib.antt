@@ -1,0 +1,10 @@
+pub mod Account
+pub mod Accuracy
+pub mod Fates
+pub mod InOrder
+pub mod Integrity
+pub mod OneOrder
+pub mod Unused
+pub mod Verdict
+pub mod Views
+pub mod Words

@@ -1,0 +1,42 @@
+//! What an account tells of a message and of a failure sign.
+use cany_base::{MsgKey, NodeId, NodeSet, Payload, Service, Slot};
+
+/// The first and the last of some slots.
+#[derive(Clone, Copy, Debug, PartialEq, Eq)]
+pub struct Slots {
+    pub first: Slot,
+    pub last: Slot,
+}
+
+/// A message, and what became of it.
+#[derive(Clone, Copy, Debug, PartialEq, Eq)]
+pub struct MessageRecord {
+    pub key: MsgKey,
+    pub service: Service,
+    pub payload: Payload,
+    /// The slot in whose turn its origin was to send it.
+    pub slot: Slot,
+    /// The first slot that carried its data frame, payload included, with its origin among the
+    /// senders.
+    pub sent: Option<Slot>,
+    /// The slots that carried a frame of the identity of its data frame, with whatever verdict.
+    pub carried: Option<Slots>,
+    /// Whether its origin runs, takes part since the scripted slot, and has not asked for it.
+    pub queued: bool,
+    /// The running nodes that wait with its data frame, or with a frame that confirms or accepts
+    /// it.
+    pub waits: NodeSet,
+    /// The running nodes that have a timer or a closing of it ahead.
+    pub ahead: NodeSet,
+}
+
+/// The sign that a node failed, as it was found out in a membership cycle, and what became of it.
+#[derive(Clone, Copy, Debug, PartialEq, Eq)]
+pub struct SignRecord {
+    pub node: NodeId,
+    pub cycle: u16,
+    /// The slots that carried its frame, with whatever verdict.
+    pub carried: Option<Slots>,
+    /// The running nodes that wait with its frame.
+    pub waits: NodeSet,
+}

@@ -1,0 +1,15 @@
+//! The verdict of one run: of each part of the promise whether it held, who has each message and
+//! each failure sign, and which entries of the scenario did nothing.
+//!
+//! Verdicts are given of an account, which has what they need of a run and knows no world.
+#![tactic(auto)]
+
+mod account;
+mod findings;
+mod unused;
+
+pub use account::{MessageRecord, SignRecord, Slots};
+pub use findings::{
+    Accusation, Delivery, EntryAt, Fate, Judgement, Part, Parting, Told, ViewParting,
+};
+pub use unused::{NoAsk, NoFault, Unused, UnusedEntry};
