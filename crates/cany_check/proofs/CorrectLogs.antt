@@ -92,7 +92,7 @@ module _ (scenario : ScenarioParts) (s : RunState) (short : (i : ℕ) → (node_
       let is = record_is i number h in
       (i, record { there = omega (arith, below); running = is.0 }, is.1))))))
 
-  has_running : (i : ℕ) → IsCorrect scenario s i → Among (λ x. x ≡ log_at scenario s i) (running (logs_of scenario s))
+  pub has_running : (i : ℕ) → IsCorrect scenario s i → Among (λ x. x ≡ log_at scenario s i) (running (logs_of scenario s))
   has_running i c =
       among_filter (λ x. x ≡ log_at scenario s i) (λ x. x.runs) (logs_of scenario s) (λ x e. ap (λ (y : LogParts). y.runs) e)
       (Among-flat_map (logs_of_node scenario s) (λ x. x ≡ log_at scenario s i) (range_with_len 0 scenario.params.nodes)

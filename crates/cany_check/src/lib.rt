@@ -6,6 +6,7 @@
 
 mod account;
 mod findings;
+pub mod laws;
 mod unused;
 
 pub use account::{MessageRecord, SignRecord, Slots};

@@ -1,0 +1,31 @@
+//! That the verdicts on the account of a run are those of the promise: laws of the definitions, each
+//! a function without a body whose clauses say it.
+ghost use Rattle.std.specs.Prelude.{◌≡◌, ◌↔◌, false, List, Contains};
+ghost use Rattle.cany_base.specs.declared.step.Step.{Step};
+ghost use Rattle.cany_base.specs.Scenario.{ScenarioParts, IsLegalScenario};
+ghost use Rattle.cany_model.specs.Promises.Safe.{IsAgreedOn, IsSignAgreedOn};
+ghost use Rattle.cany_model.specs.Promises.Settled.{is_settled};
+ghost use Rattle.cany_model.specs.Rules.Knowledge.{FailureSign};
+ghost use Rattle.cany_model.specs.Rules.Messages.{Message};
+ghost use Rattle.cany_model.specs.Runs.Run.{IsWhole, run};
+ghost use Rattle.cany_check.specs.declared.findings.Fate.TheVariants.{Apart, Open};
+ghost use Rattle.cany_check.specs.Account.{account_of, logs_of, message_record, sign_record, signs_told};
+ghost use Rattle.cany_check.specs.Fates.{message_fate, sign_fate};
+
+/// The fate of a message in the account of a run: it is open exactly where the message is not
+/// settled, and apart exactly where the run does not agree on it.
+pub fn message_fates_are_promised()
+    ensures open { (scenario : ScenarioParts) (journal : List Step) → IsLegalScenario scenario → IsWhole scenario journal → let s = run scenario journal in
+        (m : Message) → (message_fate (account_of scenario s) (message_record scenario s m) ≡ Open) ↔ (is_settled scenario s m ≡ false) }
+    ensures apart { (scenario : ScenarioParts) (journal : List Step) → IsLegalScenario scenario → IsWhole scenario journal → let s = run scenario journal in
+        (m : Message) → (message_fate (account_of scenario s) (message_record scenario s m) ≡ Apart) ↔ (IsAgreedOn scenario s m → ⊥) }
+{}
+
+/// The fate of a failure sign in the account of a run: it is apart exactly where the run does not
+/// agree on it. On each sign that the account does not list the run agrees.
+pub fn sign_fates_are_promised()
+    ensures apart { (scenario : ScenarioParts) (journal : List Step) → IsLegalScenario scenario → IsWhole scenario journal → let s = run scenario journal in
+        (sign : FailureSign) → (sign_fate (account_of scenario s) (sign_record s sign) ≡ Apart) ↔ (IsSignAgreedOn scenario s sign → ⊥) }
+    ensures unlisted { (scenario : ScenarioParts) (journal : List Step) → IsLegalScenario scenario → IsWhole scenario journal → let s = run scenario journal in
+        (sign : FailureSign) → (Contains (signs_told (logs_of scenario s)) sign → ⊥) → IsSignAgreedOn scenario s sign }
+{}
