@@ -39,12 +39,12 @@ use Rattle.cany_check.specs.declared.findings.Fate.{Fate}
 use Rattle.cany_check.specs.declared.findings.Fate.TheVariants.{Apart, Open}
 use Rattle.cany_check.specs.Account.{AccountParts, LogParts, account_of, first_and_last, is_sign_before, last_carried, logs_of, message_record, running, sign_in, sign_record, signs_told, slots_of}
 use Rattle.cany_check.specs.Fates.{message_fate, sign_fate}
-use Rattle.cany_check.specs.InOrder.{ascending, put_once}
 use Rattle.cany_check.specs.Verdict.{is_apart}
 use Rattle.cany_check.specs.Words as words
 use Rattle.cany_check.specs.Words.{correct, delivers, is_nobody, knows, nodes_of, takes_part}
 use Rattle.cany_check.proofs.CorrectLogs.{IsLogOfCorrect, among_filter, each_correct, each_filter, has_correct, has_running, log_at}
 use Rattle.cany_check.proofs.Decided.{delivers_from, has_delivered, has_signed, is_nobody-from, is_nobody-true, knows_from}
+use Rattle.cany_check.proofs.InOrderFacts.{among_ascending}
 use Rattle.cany_check.proofs.FateFacts.{AreLogsOf, IsApartBy, IsSignApartBy, all_have, apart_by, apart_if, apart_only, fate_of, has_it, one_has, one_lacks, open_if, open_only, sign_apart_if, sign_apart_only, sign_fate_of}
 
 -- ---- the slots that carried a frame
@@ -72,7 +72,7 @@ slots_some x trace first h =
 slots_none : (x : Identity) (trace : List SlotNote) → first_carried x trace ≡ None → slots_of x trace ≡ None
 slots_none x trace h = ap (λ o. first_and_last o (last_carried x trace)) h
 
--- ---- lists that ascend
+-- ---- the order of signs
 
 -- of two signs neither of which is before the other
 same_unless_before : (x y : FailureSign) → is_sign_before x y ≡ false → is_sign_before y x ≡ false → x ≡ y
@@ -90,35 +90,6 @@ same_unless_before x y not_before not_after =
     or_false : (b c : Bool) → (b || c) ≡ false → (b ≡ false) × (c ≡ false)
     or_false true c h = absurd (false≢true (sym h))
     or_false false c h = (refl, h)
-
-module _ {X : Type 0} (is_before : X → X → Bool) (same : (x y : X) → is_before x y ≡ false → is_before y x ≡ false → x ≡ y) where
-  put_has : (x : X) (ys : List X) → Among (λ z. z ≡ x) (put_once is_before x ys)
-  unfolding put_once
-  put_has x [] = inl refl
-  put_has x (y ∷ ys) = elim (cases_Bool (is_before x y)) [
-    | inl here ↦ rw here (inl refl)
-    | inr later ↦ elim (cases_Bool (is_before y x)) [
-      | inl after ↦ rw (later, after) (inr (put_has x ys))
-      | inr equal ↦ rw (later, equal) (inl (sym (same x y later equal)))
-    ]
-  ]
-
-  put_keeps : (x z : X) (ys : List X) → Among (λ w. w ≡ z) ys → Among (λ w. w ≡ z) (put_once is_before x ys)
-  unfolding put_once
-  put_keeps x z [] h = absurd h
-  put_keeps x z (y ∷ ys) h = elim (cases_Bool (is_before x y)) [
-    | inl here ↦ rw here (inr h)
-    | inr later ↦ elim (cases_Bool (is_before y x)) [
-      | inl after ↦ rw (later, after) (elim h [ inl e ↦ inl e | inr rest ↦ inr (put_keeps x z ys rest) ])
-      | inr equal ↦ rw (later, equal) h
-    ]
-  ]
-
-  among_ascending : (x : X) (xs : List X) → Among (λ z. z ≡ x) xs → Among (λ z. z ≡ x) (ascending is_before xs)
-  unfolding ascending
-  among_ascending x [] h = absurd h
-  among_ascending x (y ∷ xs) (inl e) = subst (λ w. Among (λ z. z ≡ w) (put_once is_before y (ascending is_before xs))) e (put_has y (ascending is_before xs))
-  among_ascending x (y ∷ xs) (inr h) = put_keeps y x (ascending is_before xs) (among_ascending x xs h)
 
 -- ---- tests of sets
 

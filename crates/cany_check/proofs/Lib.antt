@@ -2,5 +2,8 @@ pub mod CorrectLogs
 pub mod Decided
 pub mod FateFacts
 pub mod FatesOfRun
+pub mod InOrderFacts
+pub mod IntegrityOfRun
 pub mod RowWords
 pub mod Rows
+pub mod ViewsOfRun
