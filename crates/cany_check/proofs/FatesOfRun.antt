@@ -1,37 +1,35 @@
 -- The fates in the account of a run are what is promised: a message is open exactly where it is not settled, and apart exactly where the
 -- run does not agree on it; a sign is apart exactly where the run does not agree on it.
-use Rattle.std.proofs.Common.{◌≡◌, ℕ, zero, suc, ◌+◌, ◌<◌, ◌≤◌, ◌↔◌, ◌==◌, ◌&&◌, ◌||◌, Bool, true, false, not, List, [], ◌∷◌, length, refl, ap, sym, subst, ◌∙◌, arith, ◌⊎◌, inl, inr, Contains}
-use Rattle.std.specs.Prelude.{filter, nat_le, nat_lt, is_none, if◌then◌else◌, Option, Some, None}
+use Rattle.std.proofs.Common.{◌≡◌, ℕ, ◌<◌, ◌≤◌, ◌↔◌, ◌==◌, ◌&&◌, ◌||◌, Bool, true, false, not, List, [], ◌∷◌, length, refl, ap, sym, subst, ◌∙◌, arith, ◌⊎◌, inl, inr, Contains}
+use Rattle.std.specs.Prelude.{filter, nat_lt, is_none, Option, Some, None}
 use Rattle.std.specs.List.{AllByRecursion, flat_map, list_any}
 use Rattle.std.specs.Option.{option_map_or, option_or}
 use Rattle.std.proofs.lemmas.Bool.{and_from, and_parts, cases_Bool, eq-eqb, eqb-true, false≢true, le-leb, leb-true, ltb-false}
 use Rattle.cany_base.specs.declared.log_entry.LogEntry.{LogEntry}
 use Rattle.cany_base.specs.declared.log_entry.LogEntry.TheVariants.{Deliver, Failed, View}
-use Rattle.cany_base.specs.declared.message.MsgKey.{MsgKey}
 use Rattle.cany_base.specs.declared.slot_note.SlotNote.{SlotNote}
 use Rattle.cany_base.specs.declared.step.Step.{Step}
-use Rattle.cany_base.specs.Frame.{FrameParts}
 use Rattle.cany_base.specs.Limits.{most_nodes}
 use Rattle.cany_base.specs.Nodes.{Nodes, nobody}
 use Rattle.cany_base.specs.Scenario.{ScenarioParts}
-use Rattle.cany_model.specs.Bus.Frames.{Identity, identity_of, is_of}
+use Rattle.cany_model.specs.Bus.Frames.{Identity, is_of}
 use Rattle.cany_model.specs.Bus.Slot.{carried}
-use Rattle.cany_model.specs.Bus.State.{RunState, node_at, runs}
+use Rattle.cany_model.specs.Bus.State.{RunState, node_at}
 use Rattle.cany_model.specs.Promises.Entries.{HasDelivered, HasSigned, is_delivery_of, tells_of}
-use Rattle.cany_model.specs.Promises.FirstSlots.{first_carried, first_of_message, first_of_sign, slot_of}
-use Rattle.cany_model.specs.Promises.Safe.{IsAgreedFrom, IsAgreedOn, IsIntegral, IsSignAgreedFrom, IsSignAgreedOn, IsSound, WasSent}
-use Rattle.cany_model.specs.Promises.Settled.{IsCorrect, IsCorrectFrom, came_too_late, is_ahead, is_awaited, is_settled, nobody_waits_with_sign, origin_has_asked}
+use Rattle.cany_model.specs.Promises.FirstSlots.{first_carried, first_of_message, first_of_sign}
+use Rattle.cany_model.specs.Promises.Safe.{IsAgreedFrom, IsAgreedOn, IsSignAgreedFrom, IsSignAgreedOn, IsSound, WasSent}
+use Rattle.cany_model.specs.Promises.Settled.{IsCorrect, IsCorrectFrom, is_ahead, is_awaited, is_settled, nobody_waits_with_sign}
 use Rattle.cany_model.specs.Rules.Knowledge.{FailureSign, fda_of}
 use Rattle.cany_model.specs.Rules.Log.{log}
-use Rattle.cany_model.specs.Rules.Messages.{Message, data_frame, data_id, data_of, frames_of, message_key, messages_of}
+use Rattle.cany_model.specs.Rules.Messages.{Message, data_frame, data_id, data_of, frames_of, message_key}
 use Rattle.cany_model.specs.Runs.Run.{all_read, run}
 use Rattle.cany_model.proofs.Among.{Among, Among-flat_map, Among-from_Contains, Among-from_any, Among-weaker, Contains-from_Among, any-from_Among}
 use Rattle.cany_model.proofs.Bus.Carried.{Carries}
 use Rattle.cany_model.proofs.Promises.Firsts.{carried_has_first}
 use Rattle.cany_model.proofs.Promises.Integrity.{integral}
 use Rattle.cany_model.proofs.Runs.Runs.{orderly}
-use Rattle.cany_world.specs.Settled.{is_asked, is_queued, nodes_ahead, waiting_nodes}
-use Rattle.cany_world.proofs.UnsettledFacts.{nobody_has_ahead, nobody_waits, nobody_waits_with}
+use Rattle.cany_world.specs.Settled.{is_asked, nodes_ahead, waiting_nodes}
+use Rattle.cany_world.proofs.UnsettledFacts.{nobody_has_ahead, nobody_waits}
 use Rattle.cany_check.specs.declared.account.MessageRecord.{MessageRecord}
 use Rattle.cany_check.specs.declared.account.SignRecord.{SignRecord}
 use Rattle.cany_check.specs.declared.account.Slots.{Slots}
@@ -271,8 +269,7 @@ module _ (scenario : ScenarioParts) (journal : List Step) (few : scenario.params
             subst (λ t. is_settled scenario s m ≡ true → (i : ℕ) → IsCorrectFrom scenario s t i → (i ≡ m.origin) ⊎ HasDelivered scenario s i m
             → (j : ℕ) → IsCorrectFrom scenario s t j → HasDelivered scenario s j m) at (all_or_none whole)
         by_first None never =
-            let at : since ≡ m.slot = ap (λ o. option_map_or (λ (x : Slots). x.first) o m.slot) (slots_none (data_id m) s.trace never) in
-            (
+            let at : since ≡ m.slot = ap (λ o. option_map_or (λ (x : Slots). x.first) o m.slot) (slots_none (data_id m) s.trace never) in (
               never_delivered never,
               λ settled c.
                   never_delivered never m.origin c.correct
@@ -343,10 +340,10 @@ module _ (scenario : ScenarioParts) (journal : List Step) (few : scenario.params
       knows_all whole nobody' i c had j d = elim (cases_Bool none_lacks_it) [
         | inl none ↦ known_by j (all_have scenario s Counts logs are small (knows r') none j d)
         | inr some ↦ absurd (whole (sign_apart_if waited was_carried none_knows none_lacks_it (record {
-            nobody_waits = waited_is ∙ ap not nobody';
-            known = has_it scenario s Counts logs are small (knows r') i c (knows_from scenario s i sign had);
-            lacking = inl some;
-          })))
+          nobody_waits = waited_is ∙ ap not nobody';
+          known = has_it scenario s Counts logs are small (knows r') i c (knows_from scenario s i sign had);
+          lacking = inl some;
+        })))
       ]
 
       nobody_knows : (fate ≡ Apart → ⊥) → was_carried ≡ false → nobody_waits_with_sign s sign ≡ true → (i : ℕ) → Counts i → HasSigned scenario s i sign → ⊥
@@ -416,12 +413,12 @@ module _ (scenario : ScenarioParts) (journal : List Step) (few : scenario.params
         by_first (Some first) is =
             let slots = slots_some (fda_of sign) s.trace first is in
             λ quiet i c had j d.
-                knows_all (IsCorrectFrom scenario s first) (small_from first) (filter (takes_part first) (correct a)) (counts_from first) true
-                (λ h. whole (sign_fate_is ∙ ap fate_by slots.1 ∙ h)) (and_parts (nobody_waits_with_sign s sign) (all_read s) quiet).0 i c had j d
+            knows_all (IsCorrectFrom scenario s first) (small_from first) (filter (takes_part first) (correct a)) (counts_from first) true
+            (λ h. whole (sign_fate_is ∙ ap fate_by slots.1 ∙ h)) (and_parts (nobody_waits_with_sign s sign) (all_read s) quiet).0 i c had j d
         by_first None never =
             λ quiet i c had.
-                nobody_knows (IsCorrect scenario s) small_all (filter (λ log. true) (correct a)) all_count false
-                (λ h. whole (sign_fate_is ∙ ap fate_by (slots_none (fda_of sign) s.trace never) ∙ h)) refl quiet i c had
+            nobody_knows (IsCorrect scenario s) small_all (filter (λ log. true) (correct a)) all_count false
+            (λ h. whole (sign_fate_is ∙ ap fate_by (slots_none (fda_of sign) s.trace never) ∙ h)) refl quiet i c had
 
     sign_disagreed : sign_fate a r' ≡ Apart → IsSignAgreedOn scenario s sign → ⊥
     sign_disagreed h agree = by_first (first_of_sign sign s.trace) refl agree

@@ -1,5 +1,5 @@
 -- A list that ascends has each element of the list that it was made of.
-use Rattle.std.proofs.Common.{◌≡◌, Bool, true, false, List, [], ◌∷◌, refl, sym, subst, inl, inr}
+use Rattle.std.proofs.Common.{◌≡◌, Bool, false, List, [], ◌∷◌, refl, sym, subst, inl, inr}
 use Rattle.std.proofs.lemmas.Bool.{cases_Bool}
 use Rattle.cany_model.proofs.Among.{Among}
 use Rattle.cany_check.specs.InOrder.{ascending, put_once}

@@ -1,9 +1,9 @@
 -- No entry of the account of a run is wrong.
-use Rattle.std.proofs.Common.{◌≡◌, ℕ, zero, suc, ◌+◌, ◌/◌, ◌<◌, ◌≤◌, ◌==◌, ◌&&◌, ◌||◌, Bool, true, false, not, nat_lt, List, [], ◌∷◌, ◌++◌, length, map, refl, ap, sym, subst, ◌∙◌, arith, inl, inr, Contains}
+use Rattle.std.proofs.Common.{◌≡◌, ℕ, ◌/◌, ◌<◌, ◌≤◌, ◌==◌, ◌&&◌, ◌||◌, Bool, true, false, not, nat_lt, List, [], ◌∷◌, ◌++◌, length, map, refl, ap, sym, subst, ◌∙◌, arith, inl, inr, Contains}
 use Rattle.std.specs.Prelude.{count_by, nat_le, if◌then◌else◌, option_map, Option, Some, None}
 use Rattle.std.specs.List.{AllByRecursion, list_any}
 use Rattle.std.specs.Option.{option_map_or, option_or}
-use Rattle.std.proofs.lemmas.Bool.{and_from, cases_Bool, cases_lt, eq-eqb, false≢true, le-leb, le-ltb, lt-leb}
+use Rattle.std.proofs.lemmas.Bool.{and_from, cases_Bool, eq-eqb, false≢true, le-leb, le-ltb, lt-leb}
 use Rattle.std.proofs.lemmas.List.{append_assoc}
 use Rattle.std.proofs.lemmas.Slice.Eq.{bytes_eq-Decides}
 use Rattle.std.specs.Str.{bytes_eq}
@@ -13,7 +13,6 @@ use Rattle.cany_base.specs.declared.message.MsgKey.{MsgKey}
 use Rattle.cany_base.specs.declared.message.Service.{Service}
 use Rattle.cany_base.specs.declared.slot_note.SlotNote.{SlotNote}
 use Rattle.cany_base.specs.declared.step.Step.{Step}
-use Rattle.cany_base.specs.Frame.{FrameParts}
 use Rattle.cany_base.specs.Limits.{most_nodes}
 use Rattle.cany_base.specs.Nodes.{has}
 use Rattle.cany_base.specs.Scenario.{ScenarioParts}
@@ -26,18 +25,16 @@ use Rattle.cany_model.specs.Promises.Settled.{IsCorrect}
 use Rattle.cany_model.specs.Rules.Log.{log}
 use Rattle.cany_model.specs.Rules.Messages.{Message, data_frame, is_service, message_key, messages_of}
 use Rattle.cany_model.specs.Runs.Run.{run}
-use Rattle.cany_model.proofs.Among.{Among, Among-append_left, Among-append_right, Among-from_Contains, Among-from_any, Among-map, Among-weaker, Contains-from_Among, any-from_Among, count-from_Among, count-grows, count-yes}
+use Rattle.cany_model.proofs.Among.{Among, Among-append_right, Among-from_Contains, Among-map, Among-weaker, Contains-from_Among, any-from_Among, count-from_Among, count-grows, count-yes}
 use Rattle.cany_model.proofs.Bus.Identities.{same_frame_self}
 use Rattle.cany_model.proofs.Bus.Seen.{Numbered}
 use Rattle.cany_model.proofs.Promises.Integrity.{integral}
 use Rattle.cany_model.proofs.Promises.OwnSlotsAlone.{run_numbered}
 use Rattle.cany_model.proofs.Runs.Runs.{orderly}
-use Rattle.cany_check.specs.declared.account.MessageRecord.{MessageRecord}
-use Rattle.cany_check.specs.declared.findings.EntryAt.{EntryAt}
 use Rattle.cany_check.specs.Account.{AccountParts, LogParts, account_of, first_where, message_record, sends_data}
 use Rattle.cany_check.specs.Integrity.{first_wrong, first_wrong_of, is_wrong, was_sent_by_then, wrong_entry, wrong_in}
 use Rattle.cany_check.specs.Words.{correct, is_delivery, same_key}
-use Rattle.cany_check.proofs.CorrectLogs.{IsLogOfCorrect, each_correct, log_at}
+use Rattle.cany_check.proofs.CorrectLogs.{IsLogOfCorrect, each_correct}
 use Rattle.cany_check.proofs.Decided.{is_service-self, same_key-self}
 
 -- ---- the first slot that passes a test

@@ -4,6 +4,8 @@ pub mod FateFacts
 pub mod FatesOfRun
 pub mod InOrderFacts
 pub mod IntegrityOfRun
+pub mod OrderOfRun
 pub mod RowWords
 pub mod Rows
 pub mod ViewsOfRun
+pub mod Within

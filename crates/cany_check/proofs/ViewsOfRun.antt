@@ -1,8 +1,8 @@
 -- No number is apart in the account of a run exactly where correct nodes hold one view of each number.
-use Rattle.std.proofs.Common.{◌≡◌, ℕ, ◌<◌, ◌≤◌, ◌↔◌, ◌==◌, Bool, true, false, not, List, [], ◌∷◌, map, length, refl, ap, sym, subst, ◌∙◌, arith, inl, inr, Contains}
-use Rattle.std.specs.Prelude.{filter, filter_map, find, nat_lt, option_map, Option, Some, None}
+use Rattle.std.proofs.Common.{◌≡◌, ℕ, ◌≤◌, ◌↔◌, ◌==◌, true, false, not, List, [], ◌∷◌, map, length, refl, ap, sym, subst, ◌∙◌, arith, inl, inr, Contains}
+use Rattle.std.specs.Prelude.{filter_map, find, nat_lt, option_map, Option, Some, None}
 use Rattle.std.specs.List.{AllByRecursion, cons_option, flat_map}
-use Rattle.std.proofs.lemmas.Bool.{cases_Bool, eq-eqb, eqb-true, false≢true, ltb-false}
+use Rattle.std.proofs.lemmas.Bool.{cases_Bool, eq-eqb, eqb-true, ltb-false}
 use Rattle.cany_base.specs.declared.log_entry.LogEntry.{LogEntry}
 use Rattle.cany_base.specs.declared.log_entry.LogEntry.TheVariants.{Deliver, Failed, View}
 use Rattle.cany_base.specs.declared.step.Step.{Step}
@@ -17,7 +17,6 @@ use Rattle.cany_model.proofs.Among.{Among, Among-flat_map, Among-from_Contains, 
 use Rattle.cany_model.proofs.Runs.Runs.{orderly}
 use Rattle.cany_check.specs.declared.findings.ViewParting.{ViewParting}
 use Rattle.cany_check.specs.Account.{AccountParts, LogParts, account_of}
-use Rattle.cany_check.specs.InOrder.{ascending, put_once}
 use Rattle.cany_check.specs.Views.{HeldView, as_parting, held_views, parting_in, same_members, view_in, view_numbers, view_partings, views_of_number}
 use Rattle.cany_check.specs.Words.{correct}
 use Rattle.cany_check.proofs.CorrectLogs.{IsLogOfCorrect, among_filter, each_correct, each_filter, has_correct, log_at}
@@ -104,8 +103,8 @@ module _ (scenario : ScenarioParts) (journal : List Step) where
       of_logs [] h = tt
       of_logs (x ∷ logs) h = (
         subst (λ (y : LogParts). AllByRecursion IsHeld (flat_map (view_in y.node) y.entries)) (sym h.0.2)
-        (Each-flat_map (view_in h.0.0) IsHeld (log scenario s h.0.0)
-        (each_entry (λ entry. AllByRecursion IsHeld (view_in h.0.0 entry)) (log scenario s h.0.0) (held_by h.0.0 h.0.1))),
+            (Each-flat_map (view_in h.0.0) IsHeld (log scenario s h.0.0)
+            (each_entry (λ entry. AllByRecursion IsHeld (view_in h.0.0 entry)) (log scenario s h.0.0) (held_by h.0.0 h.0.1))),
         of_logs logs h.1,
       )
 
@@ -139,8 +138,8 @@ module _ (scenario : ScenarioParts) (journal : List Step) where
       with_all v held [] h = tt
       with_all v held (w ∷ views) h = (
         one v.node w.node held.0.correct_is h.0.0.correct_is number held.0.slot h.0.0.slot v.members w.members
-        (subst (λ n. Contains (log scenario s v.node) (View held.0.slot n v.members)) held.1 held.0.stands)
-        (subst (λ n. Contains (log scenario s w.node) (View h.0.0.slot n w.members)) h.0.1 h.0.0.stands),
+            (subst (λ n. Contains (log scenario s v.node) (View held.0.slot n v.members)) held.1 held.0.stands)
+            (subst (λ n. Contains (log scenario s w.node) (View h.0.0.slot n w.members)) h.0.1 h.0.0.stands),
         with_all v held views h.1,
       )
 

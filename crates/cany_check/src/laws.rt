@@ -1,16 +1,31 @@
 //! That the verdicts on the account of a run are those of the promise: laws of the definitions, each
 //! a function without a body whose clauses say it.
-ghost use Rattle.std.specs.Prelude.{◌≡◌, ◌↔◌, false, List, Contains};
+ghost use Rattle.std.specs.Prelude.{◌≡◌, ◌↔◌, false, None, List, [], Contains};
 ghost use Rattle.cany_base.specs.declared.step.Step.{Step};
 ghost use Rattle.cany_base.specs.Scenario.{ScenarioParts, IsLegalScenario};
+ghost use Rattle.cany_model.specs.Promises.Hypothesis.{IsWithin};
+ghost use Rattle.cany_model.specs.Promises.OneView.{HasOneView};
+ghost use Rattle.cany_model.specs.Promises.Order.{HasOneOrder};
 ghost use Rattle.cany_model.specs.Promises.Safe.{IsAgreedOn, IsSignAgreedOn};
 ghost use Rattle.cany_model.specs.Promises.Settled.{is_settled};
 ghost use Rattle.cany_model.specs.Rules.Knowledge.{FailureSign};
 ghost use Rattle.cany_model.specs.Rules.Messages.{Message};
 ghost use Rattle.cany_model.specs.Runs.Run.{IsWhole, run};
 ghost use Rattle.cany_check.specs.declared.findings.Fate.TheVariants.{Apart, Open};
+ghost use Rattle.cany_check.specs.declared.findings.Judgement.TheVariants.{Broken};
+ghost use Rattle.cany_check.specs.declared.findings.Part.{Part};
+ghost use Rattle.cany_check.specs.declared.findings.Part.TheVariants.{Accuracy};
 ghost use Rattle.cany_check.specs.Account.{account_of, logs_of, message_record, sign_record, signs_told};
 ghost use Rattle.cany_check.specs.Fates.{message_fate, sign_fate};
+ghost use Rattle.cany_check.specs.Integrity.{wrong_entry};
+ghost use Rattle.cany_check.specs.OneOrder.{parting};
+ghost use Rattle.cany_check.specs.Verdict.{judgement};
+ghost use Rattle.cany_check.specs.Views.{view_partings};
+
+/// In the account of a run no entry is wrong, as every run has integrity.
+pub fn no_entry_is_wrong()
+    ensures { (scenario : ScenarioParts) (journal : List Step) → IsLegalScenario scenario → wrong_entry (account_of scenario (run scenario journal)) ≡ None }
+{}
 
 /// The fate of a message in the account of a run: it is open exactly where the message is not
 /// settled, and apart exactly where the run does not agree on it.
@@ -28,4 +43,27 @@ pub fn sign_fates_are_promised()
         (sign : FailureSign) → (sign_fate (account_of scenario s) (sign_record s sign) ≡ Apart) ↔ (IsSignAgreedOn scenario s sign → ⊥) }
     ensures unlisted { (scenario : ScenarioParts) (journal : List Step) → IsLegalScenario scenario → IsWhole scenario journal → let s = run scenario journal in
         (sign : FailureSign) → (Contains (signs_told (logs_of scenario s)) sign → ⊥) → IsSignAgreedOn scenario s sign }
+{}
+
+/// Where correct nodes follow the one order of TOTCAN, no two of them part in the account of the
+/// run.
+///
+/// The converse is false: the order has what was carried Clean, and outside the fault hypothesis
+/// no two nodes may differ that deliver something else.
+pub fn one_order_has_no_parting()
+    ensures { (scenario : ScenarioParts) (journal : List Step) → IsLegalScenario scenario → let s = run scenario journal in
+        HasOneOrder scenario s → parting (account_of scenario s) ≡ None }
+{}
+
+/// No number is apart in the account of a run exactly where correct nodes hold one view of each
+/// number.
+pub fn views_are_promised()
+    ensures { (scenario : ScenarioParts) (journal : List Step) → let s = run scenario journal in
+        (view_partings (account_of scenario s) ≡ []) ↔ HasOneView scenario s }
+{}
+
+/// Of a run within the fault hypothesis no part of the promise is judged broken, but for accuracy.
+pub fn within_only_accuracy_breaks()
+    ensures { (scenario : ScenarioParts) (journal : List Step) → IsLegalScenario scenario → IsWhole scenario journal → let s = run scenario journal in
+        IsWithin scenario.params s.trace → (part : Part) → judgement (account_of scenario s) part ≡ Broken → part ≡ Accuracy }
 {}
