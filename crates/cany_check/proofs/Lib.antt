@@ -1,3 +1,4 @@
+pub mod Accused
 pub mod CorrectLogs
 pub mod Decided
 pub mod FateFacts

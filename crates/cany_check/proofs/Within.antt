@@ -1,5 +1,5 @@
 -- In the account of a run within the fault hypothesis no part of the promise is broken, but for accuracy.
-use Rattle.std.proofs.Common.{◌≡◌, ◌≤◌, Bool, true, false, List, [], ◌∷◌, map, refl, ap, sym, ◌∙◌, inl, inr, Contains}
+use Rattle.std.proofs.Common.{◌≡◌, ℕ, ◌≤◌, Bool, true, false, List, [], ◌∷◌, map, refl, ap, sym, subst, ◌∙◌, inl, inr, Contains}
 use Rattle.std.specs.Prelude.{filter, is_some, if◌then◌else◌}
 use Rattle.std.specs.List.{AllByRecursion, list_any}
 use Rattle.std.proofs.lemmas.Bool.{cases_Bool, false≢true}
@@ -9,6 +9,7 @@ use Rattle.cany_base.specs.Limits.{most_nodes}
 use Rattle.cany_base.specs.Scenario.{ScenarioParts}
 use Rattle.cany_model.specs.Bus.State.{RunState}
 use Rattle.cany_model.specs.Promises.Safe.{IsSafe}
+use Rattle.cany_model.specs.Promises.Settled.{IsCorrect}
 use Rattle.cany_model.specs.Rules.Messages.{is_service, messages_of}
 use Rattle.cany_model.specs.Runs.Run.{all_read, run}
 use Rattle.cany_model.proofs.Among.{Among, Contains-from_Among, Each-filter, Each-map}
@@ -24,6 +25,7 @@ use Rattle.cany_check.specs.Integrity.{wrong_entry}
 use Rattle.cany_check.specs.OneOrder.{parting}
 use Rattle.cany_check.specs.Views.{view_partings}
 use Rattle.cany_check.specs.Verdict.{broken_if, fates_of_service, is_apart, is_broken_judgement, is_open, is_some_of, judgement, of_fates}
+use Rattle.cany_check.proofs.Accused.{StandsInNone, nobody_accused}
 use Rattle.cany_check.proofs.FateFacts.{apart_by}
 use Rattle.cany_check.proofs.FatesOfRun.{apart_where, sign_apart_where}
 use Rattle.cany_check.proofs.IntegrityOfRun.{nothing_wrong}
@@ -91,3 +93,12 @@ module _ (scenario : ScenarioParts) (journal : List Step) (few : scenario.params
       absurd (not_broken (of_fates (map (sign_fate a) a.signs)) (whole_fates (map (sign_fate a) a.signs)
       (Each-map (sign_fate a) (λ f. f ≡ Apart → ⊥) a.signs all_signs_agree)) h)
   only_accuracy part.Accuracy h = refl
+
+  accuracy_holds : ((r : ℕ) → IsCorrect scenario s r → StandsInNone scenario s r) → is_broken_judgement (judgement a part.Accuracy) ≡ false
+  unfolding judgement
+  accuracy_holds none = ap (λ l. is_broken_judgement (broken_if (is_some_of l))) ((nobody_accused scenario journal).1 (λ r c. none r c.correct))
+
+  -- and with accuracy nothing is
+  pub none_breaks : ((r : ℕ) → IsCorrect scenario s r → StandsInNone scenario s r) → (p : Part) → judgement a p ≡ Broken → ⊥
+  none_breaks none p h =
+      not_broken (judgement a part.Accuracy) (accuracy_holds none) (subst (λ q. judgement a q ≡ Broken) (only_accuracy p h) h)

@@ -1,14 +1,16 @@
 //! That the verdicts on the account of a run are those of the promise: laws of the definitions, each
 //! a function without a body whose clauses say it.
-ghost use Rattle.std.specs.Prelude.{◌≡◌, ◌↔◌, false, None, List, [], Contains};
+ghost use Rattle.std.specs.Prelude.{◌≡◌, ◌↔◌, ℕ, false, None, List, [], Contains};
+ghost use Rattle.cany_base.specs.declared.log_entry.LogEntry.TheVariants.{Failed};
 ghost use Rattle.cany_base.specs.declared.step.Step.{Step};
 ghost use Rattle.cany_base.specs.Scenario.{ScenarioParts, IsLegalScenario};
 ghost use Rattle.cany_model.specs.Promises.Hypothesis.{IsWithin};
 ghost use Rattle.cany_model.specs.Promises.OneView.{HasOneView};
 ghost use Rattle.cany_model.specs.Promises.Order.{HasOneOrder};
 ghost use Rattle.cany_model.specs.Promises.Safe.{IsAgreedOn, IsSignAgreedOn};
-ghost use Rattle.cany_model.specs.Promises.Settled.{is_settled};
+ghost use Rattle.cany_model.specs.Promises.Settled.{IsCorrect, IsCorrectFrom, is_settled};
 ghost use Rattle.cany_model.specs.Rules.Knowledge.{FailureSign};
+ghost use Rattle.cany_model.specs.Rules.Log.{log};
 ghost use Rattle.cany_model.specs.Rules.Messages.{Message};
 ghost use Rattle.cany_model.specs.Runs.Run.{IsWhole, run};
 ghost use Rattle.cany_check.specs.declared.findings.Fate.TheVariants.{Apart, Open};
@@ -16,6 +18,7 @@ ghost use Rattle.cany_check.specs.declared.findings.Judgement.TheVariants.{Broke
 ghost use Rattle.cany_check.specs.declared.findings.Part.{Part};
 ghost use Rattle.cany_check.specs.declared.findings.Part.TheVariants.{Accuracy};
 ghost use Rattle.cany_check.specs.Account.{account_of, logs_of, message_record, sign_record, signs_told};
+ghost use Rattle.cany_check.specs.Accuracy.{accusations};
 ghost use Rattle.cany_check.specs.Fates.{message_fate, sign_fate};
 ghost use Rattle.cany_check.specs.Integrity.{wrong_entry};
 ghost use Rattle.cany_check.specs.OneOrder.{parting};
@@ -66,4 +69,29 @@ pub fn views_are_promised()
 pub fn within_only_accuracy_breaks()
     ensures { (scenario : ScenarioParts) (journal : List Step) → IsLegalScenario scenario → IsWhole scenario journal → let s = run scenario journal in
         IsWithin scenario.params s.trace → (part : Part) → judgement (account_of scenario s) part ≡ Broken → part ≡ Accuracy }
+{}
+
+/// Nobody is accused in the account of a run exactly where no log of a correct node has a failure
+/// entry of a correct node that takes part since slot 0.
+pub fn accuracy_is_promised()
+    ensures { (scenario : ScenarioParts) (journal : List Step) → let s = run scenario journal in
+        (accusations (account_of scenario s) ≡ []) ↔ ((r : ℕ) → IsCorrectFrom scenario s 0 r → (i : ℕ) → IsCorrect scenario s i
+        → (slot cycle : ℕ) → Contains (log scenario s i) (Failed slot r cycle) → ⊥) }
+{}
+
+/// In a run within the fault hypothesis of a scenario without restart entries no log of a running
+/// node has a failure entry of a node that runs.
+///
+/// This says more than that no node that runs counts as failed at the end: an entry stays where a
+/// node was admitted again.
+pub fn nobody_is_accused()
+    ensures { (scenario : ScenarioParts) (journal : List Step) → IsLegalScenario scenario → scenario.restarts ≡ [] → let s = run scenario journal in
+        IsWithin scenario.params s.trace → (r : ℕ) → IsCorrect scenario s r → (i : ℕ) → IsCorrect scenario s i
+        → (slot cycle : ℕ) → Contains (log scenario s i) (Failed slot r cycle) → ⊥ }
+{}
+
+/// So of such a run nothing is judged broken.
+pub fn within_nothing_breaks()
+    ensures { (scenario : ScenarioParts) (journal : List Step) → IsLegalScenario scenario → IsWhole scenario journal → scenario.restarts ≡ []
+        → let s = run scenario journal in IsWithin scenario.params s.trace → (part : Part) → judgement (account_of scenario s) part ≡ Broken → ⊥ }
 {}
