@@ -1,7 +1,7 @@
 -- Nobody is accused in the account of a run exactly where no log of a correct node has a failure entry of one that ran all the time; and in
 -- a run within the fault hypothesis of a scenario without restart entries none has one of a node that runs.
-use Rattle.std.proofs.Common.{◌≡◌, ℕ, ◌+◌, ◌<◌, ◌≤◌, ◌↔◌, ◌==◌, Bool, true, false, List, [], ◌∷◌, ◌++◌, drop, map, length, refl, ap, sym, subst, ◌∙◌, arith, inl, inr, Contains}
-use Rattle.std.specs.Prelude.{filter, filter_map, nat_le, option_map, Option, Some, None}
+use Rattle.std.proofs.Common.{◌≡◌, ℕ, ◌≤◌, ◌↔◌, true, false, List, [], ◌∷◌, ◌++◌, drop, map, length, refl, ap, sym, subst, ◌∙◌, inl, inr}
+use Rattle.std.specs.Prelude.{filter, filter_map, option_map, Option, Some, None}
 use Rattle.std.specs.List.{AllByRecursion, cons_option, flat_map, list_any}
 use Rattle.std.proofs.lemmas.Bool.{cases_Bool, eq-eqb, eqb-true, false≢true, le-leb, leb-true}
 use Rattle.cany_base.specs.declared.log_entry.LogEntry.{LogEntry}
@@ -33,10 +33,10 @@ use Rattle.cany_model.proofs.Timed.Detector.NoRestarts.{all_original, follows, h
 use Rattle.cany_model.proofs.Timed.Guarantees.{one_vector_each, slots_are_quiet}
 use Rattle.cany_model.proofs.Timed.Windows.QuietSlots.{front_trace, within_dropped}
 use Rattle.cany_check.specs.declared.account.Slots.{Slots}
-use Rattle.cany_check.specs.declared.findings.Accusation.{Accusation}
 use Rattle.cany_check.specs.Account.{AccountParts, LogParts, account_of}
 use Rattle.cany_check.specs.Accuracy.{accusation_of, accusations, accusers, is_failure_of}
 use Rattle.cany_check.specs.Fates.{least_and_greatest, slots_where, with_slot}
+use Rattle.cany_check.specs.Promise.{StandsInNone}
 use Rattle.cany_check.specs.Words.{correct, entry_slot, nodes_of, takes_part}
 use Rattle.cany_check.proofs.CorrectLogs.{IsLogOfCorrect, among_filter, each_correct, each_filter, has_correct, log_at}
 
@@ -60,10 +60,6 @@ signed_known scenario s i sign h =
     (founded_known sign sc split.0 i (drop made.place (history i s)) made.entry (subst (tells_of sign) (sym made.is) h.tells) made.founded)
 
 -- ---- within the hypothesis, without restarts
-
--- no log of a correct node has a failure entry of this one
-abbrev pub StandsInNone : ScenarioParts → RunState → ℕ → Type 0
-StandsInNone scenario s r = (i : ℕ) → IsCorrect scenario s i → (slot cycle : ℕ) → Contains (log scenario s i) (Failed slot r cycle) → ⊥
 
 module _ (scenario : ScenarioParts) (legal : IsLegalScenario scenario) (none : scenario.restarts ≡ []) (journal : List Step)
     (within : IsWithin scenario.params (run scenario journal).trace) where

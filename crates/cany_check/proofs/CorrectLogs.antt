@@ -81,7 +81,7 @@ module _ (scenario : ScenarioParts) (s : RunState) (short : (i : ℕ) → (node_
   abbrev pub IsLogOfCorrect : LogParts → Type 0
   IsLogOfCorrect x = (i : ℕ) × IsCorrect scenario s i × (x ≡ log_at scenario s i)
 
-  each_running : AllByRecursion IsLogOfCorrect (running (logs_of scenario s))
+  pub each_running : AllByRecursion IsLogOfCorrect (running (logs_of scenario s))
   each_running =
       each_filter IsLogOfCorrect (λ x. x.runs) (logs_of scenario s)
       (Each-flat_map (logs_of_node scenario s) (λ x. x.runs ≡ true → IsLogOfCorrect x) (range_with_len 0 scenario.params.nodes)

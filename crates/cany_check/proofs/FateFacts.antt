@@ -53,7 +53,7 @@ apart_if true false false o is = refl
 apart_if true true false true is = refl
 apart_if true true false false is = elim is.having [ inl some ↦ absurd (false≢true (sym some)) | inr counts ↦ absurd (false≢true counts) ]
 
-not_open : (f : Fate) → is_open f ≡ false → f ≡ Open → ⊥
+pub not_open : (f : Fate) → is_open f ≡ false → f ≡ Open → ⊥
 not_open f h e = absurd (false≢true (sym h ∙ ap is_open e))
 
 pub open_only : (settled none_has none_lacks origin : Bool) → fate_of settled none_has none_lacks origin ≡ Open → settled ≡ false

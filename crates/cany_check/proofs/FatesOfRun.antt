@@ -36,14 +36,14 @@ use Rattle.cany_check.specs.declared.account.Slots.{Slots}
 use Rattle.cany_check.specs.declared.findings.Fate.{Fate}
 use Rattle.cany_check.specs.declared.findings.Fate.TheVariants.{Apart, Open}
 use Rattle.cany_check.specs.Account.{AccountParts, LogParts, account_of, first_and_last, is_sign_before, last_carried, logs_of, message_record, running, sign_in, sign_record, signs_told, slots_of}
-use Rattle.cany_check.specs.Fates.{message_fate, sign_fate}
-use Rattle.cany_check.specs.Verdict.{is_apart}
+use Rattle.cany_check.specs.Fates.{message_fate, sign_fate, sign_has, sign_lacks}
+use Rattle.cany_check.specs.Verdict.{is_apart, is_open}
 use Rattle.cany_check.specs.Words as words
 use Rattle.cany_check.specs.Words.{correct, delivers, is_nobody, knows, nodes_of, takes_part}
 use Rattle.cany_check.proofs.CorrectLogs.{IsLogOfCorrect, among_filter, each_correct, each_filter, has_correct, has_running, log_at}
 use Rattle.cany_check.proofs.Decided.{delivers_from, has_delivered, has_signed, is_nobody-from, is_nobody-true, knows_from}
 use Rattle.cany_check.proofs.InOrderFacts.{among_ascending}
-use Rattle.cany_check.proofs.FateFacts.{AreLogsOf, IsApartBy, IsSignApartBy, all_have, apart_by, apart_if, apart_only, fate_of, has_it, one_has, one_lacks, open_if, open_only, sign_apart_if, sign_apart_only, sign_fate_of}
+use Rattle.cany_check.proofs.FateFacts.{AreLogsOf, IsApartBy, IsSignApartBy, all_have, apart_by, apart_if, apart_only, fate_of, has_it, not_open, one_has, one_lacks, open_if, open_only, sign_apart_if, sign_apart_only, sign_fate_of}
 
 -- ---- the slots that carried a frame
 
@@ -295,6 +295,9 @@ module _ (scenario : ScenarioParts) (journal : List Step) (few : scenario.params
               | inr had ↦ from.0 p.i p.counts.correct had
             ]
 
+    pub agreed_unless_apart : (message_fate a r ≡ Apart → ⊥) → IsAgreedOn scenario s m
+    agreed_unless_apart whole = agreed (λ h. whole (fate_is ∙ h))
+
     pub apart_where : (message_fate a r ≡ Apart) ↔ (IsAgreedOn scenario s m → ⊥)
     apart_where = (
       λ h. disagreed (sym fate_is ∙ h),
@@ -406,7 +409,11 @@ module _ (scenario : ScenarioParts) (journal : List Step) (few : scenario.params
     unfolding sign_fate
     sign_fate_is = refl
 
-    sign_agreed : (sign_fate a r' ≡ Apart → ⊥) → IsSignAgreedOn scenario s sign
+    open_is : sign_fate a r' ≡ sign_fate_of waited (not (is_none r'.carried)) (is_nobody (nodes_of (sign_has a r'))) (is_nobody (nodes_of (sign_lacks a r')))
+    unfolding sign_fate
+    open_is = refl
+
+    pub sign_agreed : (sign_fate a r' ≡ Apart → ⊥) → IsSignAgreedOn scenario s sign
     sign_agreed whole = by_first (first_of_sign sign s.trace) refl
       where
         by_first : (o : Option ℕ) → first_of_sign sign s.trace ≡ o → IsSignAgreedFrom scenario s sign o
@@ -437,6 +444,31 @@ module _ (scenario : ScenarioParts) (journal : List Step) (few : scenario.params
             (ap fate_by (sym (slots_none (fda_of sign) s.trace never)) ∙ sym sign_fate_is ∙ h) in
             from p.nobody_waits' p.i p.counts p.had
 
+    pub sign_open_where : (sign_fate a r' ≡ Open) ↔ (nobody_waits_with_sign s sign ≡ false)
+    sign_open_where = (
+      λ h. waited_false (nobody_waits_with_sign s sign) (sym waited_is ∙ open_by waited (not (is_none r'.carried)) (is_nobody (nodes_of (sign_has a r'))) (is_nobody (nodes_of (sign_lacks a r'))) (sym open_is ∙ h)),
+      λ h. open_is ∙ by_open waited (not (is_none r'.carried)) (is_nobody (nodes_of (sign_has a r'))) (is_nobody (nodes_of (sign_lacks a r'))) (waited_is ∙ ap not h),
+    )
+      where
+        waited_false : (b : Bool) → not b ≡ true → b ≡ false
+        waited_false true e = sym e
+        waited_false false e = refl
+
+        open_by : (w c k l : Bool) → sign_fate_of w c k l ≡ Open → w ≡ true
+        open_by true c k l e = refl
+        open_by false c k l e = absurd (not_open (sign_fate_of false c k l) (closed c k l) e)
+          where
+            closed : (c k l : Bool) → is_open (sign_fate_of false c k l) ≡ false
+            closed true true l = refl
+            closed false true l = refl
+            closed c false false = refl
+            closed true false true = refl
+            closed false false true = refl
+
+        by_open : (w c k l : Bool) → w ≡ true → sign_fate_of w c k l ≡ Open
+        by_open true c k l e = refl
+        by_open false c k l e = absurd (false≢true e)
+
     pub sign_apart_where : (sign_fate a r' ≡ Apart) ↔ (IsSignAgreedOn scenario s sign → ⊥)
     sign_apart_where = (
       sign_disagreed,
@@ -455,7 +487,7 @@ module _ (scenario : ScenarioParts) (journal : List Step) (few : scenario.params
         by_first None = λ quiet i c had. none i c had
 
   -- the account has each sign that a correct node knows
-  signs_are_told : (sign : FailureSign) (i : ℕ) → IsCorrect scenario s i → HasSigned scenario s i sign → Among (λ x. x ≡ sign) (signs_told (logs_of scenario s))
+  pub signs_are_told : (sign : FailureSign) (i : ℕ) → IsCorrect scenario s i → HasSigned scenario s i sign → Among (λ x. x ≡ sign) (signs_told (logs_of scenario s))
   signs_are_told sign i c had =
       among_ascending is_sign_before same_unless_before sign (flat_map (λ log. flat_map sign_in log.entries) (running (logs_of scenario s)))
       (Among-flat_map (λ log. flat_map sign_in log.entries) (λ x. x ≡ sign) (running (logs_of scenario s))

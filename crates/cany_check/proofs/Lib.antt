@@ -6,7 +6,9 @@ pub mod FatesOfRun
 pub mod InOrderFacts
 pub mod IntegrityOfRun
 pub mod OrderOfRun
+pub mod PartingFacts
 pub mod RowWords
 pub mod Rows
+pub mod StatusOfRun
 pub mod ViewsOfRun
 pub mod Within

@@ -2,7 +2,7 @@
 use Rattle.std.proofs.Common.{◌≡◌, ℕ, ◌<◌, ◌≤◌, ◌&&◌, Bool, true, false, List, [], ◌∷◌, ◌++◌, map, length, refl, ap, sym, ◌∙◌, arith, inl, inr, Contains}
 use Rattle.std.specs.Prelude.{filter, find, max, nat_le, if◌then◌else◌, option_map, Option, Some, None}
 use Rattle.std.specs.List.{AllByRecursion, flat_map}
-use Rattle.std.specs.Option.{option_map_or, option_or}
+use Rattle.std.specs.Option.{option_map_or}
 use Rattle.std.proofs.lemmas.Bool.{and_parts, cases_Bool, cases_lt, le-leb, lt-leb}
 use Rattle.std.proofs.lemmas.List.{map-append}
 use Rattle.std.proofs.lemmas.List.Elements.{filter-append}
@@ -26,7 +26,7 @@ use Rattle.cany_model.specs.Rules.Log.{log}
 use Rattle.cany_model.specs.Rules.Messages.{Message, data_id, is_service, message_key, messages_of}
 use Rattle.cany_model.specs.Rules.Totcan.{message_in}
 use Rattle.cany_model.specs.Runs.Run.{run}
-use Rattle.cany_model.proofs.Among.{Among, Among-from_Contains, Contains-from_Among, Each-append, Each-of}
+use Rattle.cany_model.proofs.Among.{Among, Among-from_Contains, Contains-from_Among, Each-of}
 use Rattle.cany_model.proofs.Bus.Carried.{Carries}
 use Rattle.cany_model.proofs.Bus.Identities.{same_class-true}
 use Rattle.cany_model.proofs.Promises.Firsts.{first_is_first}
@@ -38,9 +38,10 @@ use Rattle.cany_check.specs.declared.account.MessageRecord.{MessageRecord}
 use Rattle.cany_check.specs.declared.account.Slots.{Slots}
 use Rattle.cany_check.specs.declared.findings.Delivery.{Delivery}
 use Rattle.cany_check.specs.Account.{AccountParts, LogParts, account_of, first_and_last, last_carried, message_record, slots_of}
-use Rattle.cany_check.specs.OneOrder.{by_from, deliveries, deliveries_from, delivery_in, difference, first_parting, is_carried_from, one_later, parting, parting_from, parting_of, put_by_from}
-use Rattle.cany_check.specs.Words.{correct, same_key}
+use Rattle.cany_check.specs.OneOrder.{deliveries, deliveries_from, delivery_in, difference, is_carried_from, one_later, parting, parting_of}
+use Rattle.cany_check.specs.Words.{same_key}
 use Rattle.cany_check.proofs.CorrectLogs.{IsLogOfCorrect, each_correct, log_at}
+use Rattle.cany_check.proofs.PartingFacts.{none_of_all}
 use Rattle.cany_check.proofs.Decided.{same_key-self, same_key-true}
 
 -- ---- keys
@@ -254,33 +255,5 @@ module _ (scenario : ScenarioParts) (journal : List Step) (few : scenario.params
   both_part_not x y p q =
       ap (λ (z : LogParts). parting_of a z y) p.2 ∙ ap (λ (z : LogParts). parting_of a (log_at scenario s p.0) z) q.2 ∙ together p.0 q.0 p.1 q.1
 
-  abbrev AreCorrect : List LogParts → Type 0
-  AreCorrect logs = AllByRecursion (IsLogOfCorrect scenario s short) logs
-
-  from_none : (before : List LogParts) (y : LogParts) → AreCorrect before → IsLogOfCorrect scenario s short y → parting_from a before y ≡ None
-  unfolding parting_from
-  from_none [] y h q = refl
-  from_none (x ∷ before) y h q = ap (λ o. option_or o (parting_from a before y)) (both_part_not x y h.0 q) ∙ from_none before y h.1 q
-
-  first_none : (before logs : List LogParts) → AreCorrect before → AreCorrect logs → first_parting a before logs ≡ None
-  unfolding first_parting
-  first_none before [] h k = refl
-  first_none before (y ∷ logs) h k =
-      ap (λ o. option_or o (first_parting a (before ++ y ∷ []) logs)) (from_none before y h k.0)
-      ∙ first_none (before ++ y ∷ []) logs (Each-append (IsLogOfCorrect scenario s short) before (y ∷ []) h (k.0, tt)) k.1
-
-  put_correct : (x : LogParts) (logs : List LogParts) → IsLogOfCorrect scenario s short x → AreCorrect logs → AreCorrect (put_by_from x logs)
-  unfolding put_by_from
-  put_correct x [] p h = (p, tt)
-  put_correct x (y ∷ logs) p h = elim (cases_Bool (nat_le x.from y.from)) [
-    | inl first ↦ rw first (p, h)
-    | inr later ↦ rw later (h.0, put_correct x logs p h.1)
-  ]
-
-  by_from_correct : (logs : List LogParts) → AreCorrect logs → AreCorrect (by_from logs)
-  unfolding by_from
-  by_from_correct [] h = tt
-  by_from_correct (x ∷ logs) h = put_correct x (by_from logs) h.0 (by_from_correct logs h.1)
-
   pub nobody_parts : parting a ≡ None
-  nobody_parts = first_none [] (by_from (correct a)) tt (by_from_correct (correct a) (each_correct scenario s short))
+  nobody_parts = none_of_all a (IsLogOfCorrect scenario s short) both_part_not (each_correct scenario s short)

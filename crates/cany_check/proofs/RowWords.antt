@@ -9,6 +9,7 @@ use Rattle.cany_base.specs.declared.message.Service.{Service}
 use Rattle.cany_base.specs.declared.rule.Place.TheVariants.{At, FrameNth}
 use Rattle.cany_base.specs.declared.rule.Rule.{Rule}
 use Rattle.cany_base.specs.declared.rule.Verdict.{Verdict}
+use Rattle.cany_base.specs.declared.step.Step.{Step}
 use Rattle.cany_base.specs.Nodes.{Nodes, has, bits_where, those_where}
 use Rattle.cany_base.specs.Scenario.{ScenarioParts}
 use Rattle.cany_model.specs.declared.breaks.Break.{Break}
@@ -130,11 +131,11 @@ pub record Found : Type 0 where
 abbrev message_found : AccountParts → MessageRecord → MessageFound
 message_found a m = record { sent = m.sent; carried = m.carried; queued = m.queued; waits = m.waits; ahead = m.ahead; told = message_told a m }
 
--- of the run of a scenario by the round robin journal; what computes it is opened here, once for all rows
-unfoldable pub found_of : ScenarioParts → Found
+-- of the run of a scenario by a journal; what computes it is opened here, once for all rows
+unfoldable pub found_by : ScenarioParts → List Step → Found
 unfolding has bits_where those_where same_class same_identity same_frame is_before messages_after node_at put_in_order least_frame winner script share_of after_share slot_note_of node_after nodes_after after_slot names_restart after_entries nodes_after_entries after_restarts is_hidden as_seen history copies has_own waiting_after entered eager_effects delivery_effects edcan_at edcan_effects fell_back relcan_at timer_effects relcan_effects send_effects tot_in is_recent after_place is_heard is_accepted accept_effects closing_effects is_clear done_from delivered_tot delivered_now totcan_effects shows_life after_life with_signs told found after_notice knowledge_of sign_effects fda_copy_effects failure_effects failures_at life_signs_sent life_effects brought met is_just is_covered is_new vector_effects end_effects start_effects exchange_at exchange_effects after_ask with_ended view_effects install_effects ask_effects backlog asked backlog_effects is_service turn_effects has_asked log_from first_lagging reply is_legal_from after_turn proceed after_step run_from round rounds break_at first_break count_together is_settled restarted_in ended_history first_carried incarnation_of nodes_ahead waiting_nodes account_of first_where last_carried least_and_greatest message_fate sign_fate ascending put_once first_wrong first_wrong_of by_from difference first_parting parting_from put_by_from attempt_slot unused with_places judgement status nodes_of
-found_of sc =
-    let s = run sc (round_robin sc) in
+found_by sc journal =
+    let s = run sc journal in
     let a = account_of sc s in
     record {
       broken = first_break sc.params s.trace;
@@ -149,6 +150,11 @@ found_of sc =
       accusations = accusations a;
       unused = unused sc s;
     }
+
+-- by the round robin journal
+unfoldable pub found_of : ScenarioParts → Found
+unfolding found_by
+found_of sc = found_by sc (round_robin sc)
 
 -- nothing was sent, and nothing happened
 abbrev pub all_held : Found
@@ -186,5 +192,5 @@ abbrev pub delivered : ℕ → ℕ → ℕ → Delivery
 delivered origin seq slot = record { msg = key origin seq; slot = slot }
 
 unfoldable pub row : Unit {0}
-unfolding found_of send slot_rule frame_rule asks three
+unfolding found_by found_of send slot_rule frame_rule asks three
 row = tt

@@ -1,6 +1,6 @@
 -- In the account of a run within the fault hypothesis no part of the promise is broken, but for accuracy.
 use Rattle.std.proofs.Common.{◌≡◌, ℕ, ◌≤◌, Bool, true, false, List, [], ◌∷◌, map, refl, ap, sym, subst, ◌∙◌, inl, inr, Contains}
-use Rattle.std.specs.Prelude.{filter, is_some, if◌then◌else◌}
+use Rattle.std.specs.Prelude.{filter, is_some, None, if◌then◌else◌}
 use Rattle.std.specs.List.{AllByRecursion, list_any}
 use Rattle.std.proofs.lemmas.Bool.{cases_Bool, false≢true}
 use Rattle.cany_base.specs.declared.message.Service.{Service}
@@ -8,9 +8,11 @@ use Rattle.cany_base.specs.declared.step.Step.{Step}
 use Rattle.cany_base.specs.Limits.{most_nodes}
 use Rattle.cany_base.specs.Scenario.{ScenarioParts}
 use Rattle.cany_model.specs.Bus.State.{RunState}
-use Rattle.cany_model.specs.Promises.Safe.{IsSafe}
-use Rattle.cany_model.specs.Promises.Settled.{IsCorrect}
-use Rattle.cany_model.specs.Rules.Messages.{is_service, messages_of}
+use Rattle.cany_model.specs.Promises.OneView.{HasOneView}
+use Rattle.cany_model.specs.Promises.Safe.{IsAgreedOn, IsSafe, IsSignAgreedOn}
+use Rattle.cany_model.specs.Promises.Settled.{IsCorrectFrom}
+use Rattle.cany_model.specs.Rules.Knowledge.{FailureSign}
+use Rattle.cany_model.specs.Rules.Messages.{Message, is_service, messages_of}
 use Rattle.cany_model.specs.Runs.Run.{all_read, run}
 use Rattle.cany_model.proofs.Among.{Among, Contains-from_Among, Each-filter, Each-map}
 use Rattle.cany_check.specs.declared.findings.Fate.{Fate}
@@ -25,7 +27,8 @@ use Rattle.cany_check.specs.Integrity.{wrong_entry}
 use Rattle.cany_check.specs.OneOrder.{parting}
 use Rattle.cany_check.specs.Views.{view_partings}
 use Rattle.cany_check.specs.Verdict.{broken_if, fates_of_service, is_apart, is_broken_judgement, is_open, is_some_of, judgement, of_fates}
-use Rattle.cany_check.proofs.Accused.{StandsInNone, nobody_accused}
+use Rattle.cany_check.specs.Promise.{StandsInNone}
+use Rattle.cany_check.proofs.Accused.{nobody_accused}
 use Rattle.cany_check.proofs.FateFacts.{apart_by}
 use Rattle.cany_check.proofs.FatesOfRun.{apart_where, sign_apart_where}
 use Rattle.cany_check.proofs.IntegrityOfRun.{nothing_wrong}
@@ -49,8 +52,24 @@ whole_fates fates h = by_open (list_any is_open fates) (none_apart_in fates h)
     by_open true e = rw e refl
     by_open false e = rw e refl
 
+-- what is promised of a run, but for accuracy
+pub record KeepsButAccuracy (scenario : ScenarioParts) (s : RunState) : Type 0 where
+  pub agreement : (m : Message) → Contains (messages_of scenario.sends) m → IsAgreedOn scenario s m
+  pub order : parting (account_of scenario s) ≡ None
+  pub views : HasOneView scenario s
+  pub signs : (sign : FailureSign) → IsSignAgreedOn scenario s sign
+
+pub safe_keeps : (scenario : ScenarioParts) (journal : List Step) → scenario.params.nodes ≤ most_nodes → IsSafe scenario (run scenario journal)
+    → KeepsButAccuracy scenario (run scenario journal)
+safe_keeps scenario journal few safe = record {
+  agreement = safe.agreement;
+  order = nobody_parts scenario journal few safe.order;
+  views = safe.views;
+  signs = safe.signs;
+}
+
 module _ (scenario : ScenarioParts) (journal : List Step) (few : scenario.params.nodes ≤ most_nodes) (read : all_read (run scenario journal) ≡ true)
-    (safe : IsSafe scenario (run scenario journal)) where
+    (safe : KeepsButAccuracy scenario (run scenario journal)) where
   abbrev s : RunState
   s = run scenario journal
 
@@ -86,7 +105,7 @@ module _ (scenario : ScenarioParts) (journal : List Step) (few : scenario.params
       absurd (not_broken (broken_if (is_some (wrong_entry a))) (ap (λ o. is_broken_judgement (broken_if (is_some o))) (nothing_wrong scenario journal few)) h)
   only_accuracy (part.Agreement by) h = absurd (not_broken (of_fates (fates_of_service a by)) (whole_fates (fates_of_service a by) (messages_agree by)) h)
   only_accuracy part.Order h =
-      absurd (not_broken (broken_if (is_some (parting a))) (ap (λ o. is_broken_judgement (broken_if (is_some o))) (nobody_parts scenario journal few safe.order)) h)
+      absurd (not_broken (broken_if (is_some (parting a))) (ap (λ o. is_broken_judgement (broken_if (is_some o))) safe.order) h)
   only_accuracy part.Views h =
       absurd (not_broken (broken_if (is_some_of (view_partings a))) (ap (λ l. is_broken_judgement (broken_if (is_some_of l))) ((none_apart scenario journal).1 safe.views)) h)
   only_accuracy part.Signs h =
@@ -94,11 +113,11 @@ module _ (scenario : ScenarioParts) (journal : List Step) (few : scenario.params
       (Each-map (sign_fate a) (λ f. f ≡ Apart → ⊥) a.signs all_signs_agree)) h)
   only_accuracy part.Accuracy h = refl
 
-  accuracy_holds : ((r : ℕ) → IsCorrect scenario s r → StandsInNone scenario s r) → is_broken_judgement (judgement a part.Accuracy) ≡ false
+  accuracy_holds : ((r : ℕ) → IsCorrectFrom scenario s 0 r → StandsInNone scenario s r) → is_broken_judgement (judgement a part.Accuracy) ≡ false
   unfolding judgement
-  accuracy_holds none = ap (λ l. is_broken_judgement (broken_if (is_some_of l))) ((nobody_accused scenario journal).1 (λ r c. none r c.correct))
+  accuracy_holds none = ap (λ l. is_broken_judgement (broken_if (is_some_of l))) ((nobody_accused scenario journal).1 none)
 
   -- and with accuracy nothing is
-  pub none_breaks : ((r : ℕ) → IsCorrect scenario s r → StandsInNone scenario s r) → (p : Part) → judgement a p ≡ Broken → ⊥
+  pub none_breaks : ((r : ℕ) → IsCorrectFrom scenario s 0 r → StandsInNone scenario s r) → (p : Part) → judgement a p ≡ Broken → ⊥
   none_breaks none p h =
       not_broken (judgement a part.Accuracy) (accuracy_holds none) (subst (λ q. judgement a q ≡ Broken) (only_accuracy p h) h)

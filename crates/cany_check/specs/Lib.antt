@@ -4,6 +4,7 @@ pub mod Fates
 pub mod InOrder
 pub mod Integrity
 pub mod OneOrder
+pub mod Promise
 pub mod Unused
 pub mod Verdict
 pub mod Views

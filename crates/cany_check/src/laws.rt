@@ -17,12 +17,13 @@ ghost use Rattle.cany_check.specs.declared.findings.Fate.TheVariants.{Apart, Ope
 ghost use Rattle.cany_check.specs.declared.findings.Judgement.TheVariants.{Broken};
 ghost use Rattle.cany_check.specs.declared.findings.Part.{Part};
 ghost use Rattle.cany_check.specs.declared.findings.Part.TheVariants.{Accuracy};
-ghost use Rattle.cany_check.specs.Account.{account_of, logs_of, message_record, sign_record, signs_told};
+ghost use Rattle.cany_check.specs.Account.{AccountParts, account_of, logs_of, message_record, sign_record, signs_told};
 ghost use Rattle.cany_check.specs.Accuracy.{accusations};
 ghost use Rattle.cany_check.specs.Fates.{message_fate, sign_fate};
 ghost use Rattle.cany_check.specs.Integrity.{wrong_entry};
-ghost use Rattle.cany_check.specs.OneOrder.{parting};
-ghost use Rattle.cany_check.specs.Verdict.{judgement};
+ghost use Rattle.cany_check.specs.OneOrder.{NobodyParts, parting};
+ghost use Rattle.cany_check.specs.Promise.{IsOpen, KeepsPromise};
+ghost use Rattle.cany_check.specs.Verdict.{judgement, status};
 ghost use Rattle.cany_check.specs.Views.{view_partings};
 
 /// In the account of a run no entry is wrong, as every run has integrity.
@@ -56,6 +57,11 @@ pub fn sign_fates_are_promised()
 pub fn one_order_has_no_parting()
     ensures { (scenario : ScenarioParts) (journal : List Step) → IsLegalScenario scenario → let s = run scenario journal in
         HasOneOrder scenario s → parting (account_of scenario s) ≡ None }
+{}
+
+/// The witness of an account against one order is found exactly where two correct nodes part.
+pub fn a_parting_is_found()
+    ensures { (a : AccountParts) → (parting a ≡ None) ↔ NobodyParts a }
 {}
 
 /// No number is apart in the account of a run exactly where correct nodes hold one view of each
@@ -94,4 +100,16 @@ pub fn nobody_is_accused()
 pub fn within_nothing_breaks()
     ensures { (scenario : ScenarioParts) (journal : List Step) → IsLegalScenario scenario → IsWhole scenario journal → scenario.restarts ≡ []
         → let s = run scenario journal in IsWithin scenario.params s.trace → (part : Part) → judgement (account_of scenario s) part ≡ Broken → ⊥ }
+{}
+
+/// The status of the verdict on a run is 9 exactly where the promise is not kept.
+pub fn nine_is_not_kept()
+    ensures { (scenario : ScenarioParts) (journal : List Step) → IsLegalScenario scenario → IsWhole scenario journal → let s = run scenario journal in
+        (status (account_of scenario s) ≡ 9) ↔ (KeepsPromise scenario s → ⊥) }
+{}
+
+/// It is 10 exactly where the promise is kept, and more may come of a message or of a sign.
+pub fn ten_is_open()
+    ensures { (scenario : ScenarioParts) (journal : List Step) → IsLegalScenario scenario → IsWhole scenario journal → let s = run scenario journal in
+        (status (account_of scenario s) ≡ 10) ↔ (KeepsPromise scenario s × IsOpen scenario s) }
 {}

@@ -5,11 +5,11 @@ use Rattle.cany_model.specs.Bus.State.{slots_run}
 use Rattle.cany_model.specs.Runs.Run.{all_read, run}
 use Rattle.cany_model.proofs.Promises.Safety.{safe}
 use Rattle.cany_check.proofs.Accused.{runs_unaccused}
-use Rattle.cany_check.proofs.Within.{none_breaks}
+use Rattle.cany_check.proofs.Within.{none_breaks, safe_keeps}
 use Rattle.cany_check.proofs.laws.within_nothing_breaks.Goals as goal
 
 pub returns : goal.returns
 returns c scenario journal legal whole none within part broken =
     none_breaks scenario journal (few_nodes scenario.params legal.in_range)
-    (and_parts (nat_le scenario.params.slots (slots_run (run scenario journal))) (all_read (run scenario journal)) whole).1 (safe scenario legal journal within)
-    (λ r correct. runs_unaccused scenario legal none journal within r correct) part broken
+    (and_parts (nat_le scenario.params.slots (slots_run (run scenario journal))) (all_read (run scenario journal)) whole).1 (safe_keeps scenario journal (few_nodes scenario.params legal.in_range) (safe scenario legal journal within))
+    (λ r c. runs_unaccused scenario legal none journal within r c.correct) part broken
