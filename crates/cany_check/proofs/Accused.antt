@@ -32,7 +32,7 @@ use Rattle.cany_model.proofs.Timed.Detector.Accuracy.{NoSign, no_sign, timely_fr
 use Rattle.cany_model.proofs.Timed.Detector.NoRestarts.{all_original, follows, history_all}
 use Rattle.cany_model.proofs.Timed.Guarantees.{one_vector_each, slots_are_quiet}
 use Rattle.cany_model.proofs.Timed.Windows.QuietSlots.{front_trace, within_dropped}
-use Rattle.cany_check.specs.declared.account.Slots.{Slots}
+use Rattle.cany_check.specs.declared.record.Slots.{Slots}
 use Rattle.cany_check.specs.Account.{AccountParts, LogParts, account_of}
 use Rattle.cany_check.specs.Accuracy.{accusation_of, accusations, accusers, is_failure_of}
 use Rattle.cany_check.specs.Fates.{least_and_greatest, slots_where, with_slot}

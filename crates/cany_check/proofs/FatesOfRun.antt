@@ -30,9 +30,9 @@ use Rattle.cany_model.proofs.Promises.Integrity.{integral}
 use Rattle.cany_model.proofs.Runs.Runs.{orderly}
 use Rattle.cany_world.specs.Settled.{is_asked, nodes_ahead, waiting_nodes}
 use Rattle.cany_world.proofs.UnsettledFacts.{nobody_has_ahead, nobody_waits}
-use Rattle.cany_check.specs.declared.account.MessageRecord.{MessageRecord}
-use Rattle.cany_check.specs.declared.account.SignRecord.{SignRecord}
-use Rattle.cany_check.specs.declared.account.Slots.{Slots}
+use Rattle.cany_check.specs.declared.record.MessageRecord.{MessageRecord}
+use Rattle.cany_check.specs.declared.record.SignRecord.{SignRecord}
+use Rattle.cany_check.specs.declared.record.Slots.{Slots}
 use Rattle.cany_check.specs.declared.findings.Fate.{Fate}
 use Rattle.cany_check.specs.declared.findings.Fate.TheVariants.{Apart, Open}
 use Rattle.cany_check.specs.Account.{AccountParts, LogParts, account_of, first_and_last, is_sign_before, last_carried, logs_of, message_record, running, sign_in, sign_record, signs_told, slots_of}

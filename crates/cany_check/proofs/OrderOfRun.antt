@@ -34,8 +34,8 @@ use Rattle.cany_model.proofs.Promises.OwnSlotsAlone.{run_numbered}
 use Rattle.cany_model.proofs.Promises.Sources.{IsSent, carries_data, sourced}
 use Rattle.cany_model.proofs.Rules.MessageKeys.{same_message}
 use Rattle.cany_model.proofs.Runs.Runs.{orderly}
-use Rattle.cany_check.specs.declared.account.MessageRecord.{MessageRecord}
-use Rattle.cany_check.specs.declared.account.Slots.{Slots}
+use Rattle.cany_check.specs.declared.record.MessageRecord.{MessageRecord}
+use Rattle.cany_check.specs.declared.record.Slots.{Slots}
 use Rattle.cany_check.specs.declared.findings.Delivery.{Delivery}
 use Rattle.cany_check.specs.Account.{AccountParts, LogParts, account_of, first_and_last, last_carried, message_record, slots_of}
 use Rattle.cany_check.specs.OneOrder.{deliveries, deliveries_from, delivery_in, difference, is_carried_from, one_later, parting, parting_of}

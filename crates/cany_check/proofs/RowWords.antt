@@ -43,9 +43,9 @@ use Rattle.cany_model.specs.Bus.Waiting.{put_in_order}
 use Rattle.cany_model.specs.Promises.FirstSlots.{first_carried}
 use Rattle.cany_model.specs.Runs.Incarnations.{incarnation_of}
 use Rattle.cany_world.specs.Settled.{nodes_ahead, waiting_nodes}
-use Rattle.cany_check.specs.declared.account.MessageRecord.{MessageRecord}
-use Rattle.cany_check.specs.declared.account.SignRecord.{SignRecord}
-use Rattle.cany_check.specs.declared.account.Slots.{Slots}
+use Rattle.cany_check.specs.declared.record.MessageRecord.{MessageRecord}
+use Rattle.cany_check.specs.declared.record.SignRecord.{SignRecord}
+use Rattle.cany_check.specs.declared.record.Slots.{Slots}
 use Rattle.cany_check.specs.declared.findings.Accusation.{Accusation}
 use Rattle.cany_check.specs.declared.findings.Delivery.{Delivery}
 use Rattle.cany_check.specs.declared.findings.EntryAt.{EntryAt}

@@ -21,8 +21,8 @@ use Rattle.cany_model.specs.Runs.Run.{all_read, run}
 use Rattle.cany_model.proofs.Among.{Among, Among-from_Contains, Among-from_any, Among-from_map, Among-map, Among-weaker, Among-which, Among-with, Contains-from_Among, Each-filter, Each-flat_map, Each-map, Each-weaker, any-from_Among}
 use Rattle.cany_model.proofs.Rules.KnowledgeFacts.{same_sign-true}
 use Rattle.cany_model.proofs.Runs.Runs.{orderly}
-use Rattle.cany_check.specs.declared.account.MessageRecord.{MessageRecord}
-use Rattle.cany_check.specs.declared.account.SignRecord.{SignRecord}
+use Rattle.cany_check.specs.declared.record.MessageRecord.{MessageRecord}
+use Rattle.cany_check.specs.declared.record.SignRecord.{SignRecord}
 use Rattle.cany_check.specs.declared.findings.Fate.{Fate}
 use Rattle.cany_check.specs.declared.findings.Fate.TheVariants as fate
 use Rattle.cany_check.specs.declared.findings.Judgement.{Judgement}

@@ -17,9 +17,9 @@ use Rattle.cany_model.specs.Rules.Messages.{Message, data_frame, data_id, frames
 use Rattle.cany_model.specs.Runs.Incarnations.{log_of}
 use Rattle.cany_world.specs.Incarnations.{takes_part_since}
 use Rattle.cany_world.specs.Settled.{is_queued, nodes_ahead, waiting_nodes}
-use Rattle.cany_check.specs.declared.account.MessageRecord.{MessageRecord}
-use Rattle.cany_check.specs.declared.account.SignRecord.{SignRecord}
-use Rattle.cany_check.specs.declared.account.Slots.{Slots}
+use Rattle.cany_check.specs.declared.record.MessageRecord.{MessageRecord}
+use Rattle.cany_check.specs.declared.record.SignRecord.{SignRecord}
+use Rattle.cany_check.specs.declared.record.Slots.{Slots}
 use Rattle.cany_check.specs.InOrder.{ascending}
 
 -- the log of an incarnation: its node, the slot since which it takes part, whether it is the present incarnation of a running

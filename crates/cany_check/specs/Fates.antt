@@ -3,9 +3,9 @@ use Rattle.std.specs.Prelude.{ℕ, ◌&&◌, ◌||◌, ◌==◌, min, max, Bool,
 use Rattle.std.specs.List.{flat_map, list_any}
 use Rattle.cany_base.specs.declared.log_entry.LogEntry.{LogEntry}
 use Rattle.cany_base.specs.Nodes.{Nodes, has, nobody}
-use Rattle.cany_check.specs.declared.account.MessageRecord.{MessageRecord}
-use Rattle.cany_check.specs.declared.account.SignRecord.{SignRecord}
-use Rattle.cany_check.specs.declared.account.Slots.{Slots}
+use Rattle.cany_check.specs.declared.record.MessageRecord.{MessageRecord}
+use Rattle.cany_check.specs.declared.record.SignRecord.{SignRecord}
+use Rattle.cany_check.specs.declared.record.Slots.{Slots}
 use Rattle.cany_check.specs.declared.findings.Fate.{Fate}
 use Rattle.cany_check.specs.declared.findings.Fate.TheVariants.{All, Nobody, Apart, Open}
 use Rattle.cany_check.specs.declared.findings.Told.{Told}

@@ -1,9 +1,11 @@
 pub mod Account
+pub mod AccountFields
 pub mod Accuracy
 pub mod Fates
 pub mod InOrder
 pub mod Integrity
 pub mod OneOrder
+pub mod Orderly
 pub mod Promise
 pub mod Unused
 pub mod Verdict

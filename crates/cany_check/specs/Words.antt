@@ -8,8 +8,8 @@ use Rattle.cany_base.specs.declared.log_entry.LogEntry.TheVariants.{Deliver, Fai
 use Rattle.cany_base.specs.declared.message.MsgKey.{MsgKey}
 use Rattle.cany_base.specs.Nodes.{Nodes, those_where}
 use Rattle.cany_model.specs.Rules.Messages.{is_service}
-use Rattle.cany_check.specs.declared.account.MessageRecord.{MessageRecord}
-use Rattle.cany_check.specs.declared.account.SignRecord.{SignRecord}
+use Rattle.cany_check.specs.declared.record.MessageRecord.{MessageRecord}
+use Rattle.cany_check.specs.declared.record.SignRecord.{SignRecord}
 use Rattle.cany_check.specs.Account.{AccountParts, LogParts, running}
 
 -- ---- nodes

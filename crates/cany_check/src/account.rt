@@ -1,42 +1,85 @@
-//! What an account tells of a message and of a failure sign.
-use cany_base::{MsgKey, NodeId, NodeSet, Payload, Service, Slot};
+//! The account of a run: all that a verdict needs of it.
+ghost use Rattle.std.specs.Prelude.{◌≡◌, map};
+ghost use Rattle.cany_check.specs.AccountFields.{log_parts};
+ghost use Rattle.cany_check.specs.Orderly.{IsOrderly};
 
-/// The first and the last of some slots.
-#[derive(Clone, Copy, Debug, PartialEq, Eq)]
-pub struct Slots {
-    pub first: Slot,
-    pub last: Slot,
+use crate::record::{LogRecord, MessageRecord, SignRecord};
+use cany_base::Params;
+use std::marker::Model;
+
+/// What the messages, the logs and the failure signs of a run came to.
+///
+/// It may also be made of logs that were recorded elsewhere: a verdict looks at nothing else.
+#[derive(Drop)]
+pub struct Account<'a> {
+    params: Params,
+    messages: Vec<MessageRecord>,
+    logs: Vec<LogRecord<'a>>,
+    signs: Vec<SignRecord>,
 }
 
-/// A message, and what became of it.
-#[derive(Clone, Copy, Debug, PartialEq, Eq)]
-pub struct MessageRecord {
-    pub key: MsgKey,
-    pub service: Service,
-    pub payload: Payload,
-    /// The slot in whose turn its origin was to send it.
-    pub slot: Slot,
-    /// The first slot that carried its data frame, payload included, with its origin among the
-    /// senders.
-    pub sent: Option<Slot>,
-    /// The slots that carried a frame of the identity of its data frame, with whatever verdict.
-    pub carried: Option<Slots>,
-    /// Whether its origin runs, takes part since the scripted slot, and has not asked for it.
-    pub queued: bool,
-    /// The running nodes that wait with its data frame, or with a frame that confirms or accepts
-    /// it.
-    pub waits: NodeSet,
-    /// The running nodes that have a timer or a closing of it ahead.
-    pub ahead: NodeSet,
+impl<'a> Model for Account<'a> {
+    ghost use Rattle.cany_check.specs.Account.{AccountParts};
+
+    ghost Value = { AccountParts };
+
+    ghost use Rattle.cany_check.specs.AccountFields.{account_parts, IsOrderlyInside};
+
+    ghost view = { account_parts };
+
+    ghost invariant = { IsOrderlyInside };
 }
 
-/// The sign that a node failed, as it was found out in a membership cycle, and what became of it.
-#[derive(Clone, Copy, Debug, PartialEq, Eq)]
-pub struct SignRecord {
-    pub node: NodeId,
-    pub cycle: u16,
-    /// The slots that carried its frame, with whatever verdict.
-    pub carried: Option<Slots>,
-    /// The running nodes that wait with its frame.
-    pub waits: NodeSet,
+impl<'a> Account<'a> {
+    ghost use Rattle.cany_check.specs.Account.{AccountParts};
+
+    /// The account of these parts: the messages in file order, the logs by ascending node and then
+    /// incarnation, and the signs that running logs tell of, by ascending cycle and then node.
+    pub fn of_parts(
+        params: Params,
+        messages: Vec<MessageRecord>,
+        logs: Vec<LogRecord<'a>>,
+        signs: Vec<SignRecord>,
+    ) -> Account<'a>
+        requires { IsOrderly (record { params = params; messages = messages.items; logs = map log_parts logs.items; signs = signs.items }) }
+        ensures { result ≡ record { params = params; messages = messages.items; logs = map log_parts logs.entry.items; signs = signs.items } }
+    {
+        Account {
+            params,
+            messages,
+            logs,
+            signs,
+        }
+    }
+
+    /// The parameters of the run.
+    pub fn params(&self) -> &Params
+        ensures { result.now ≡ self.now.params }
+    {
+        &self.params
+    }
+
+    /// The messages of the scenario, in file order.
+    pub fn messages(&self) -> &[MessageRecord]
+        ensures messages { result.now ≡ self.now.messages }
+        ensures orderly { IsOrderly self.now }
+    {
+        self.messages.as_slice()
+    }
+
+    /// The logs of the incarnations of the nodes, by ascending node and then incarnation.
+    pub fn logs(&self) -> &[LogRecord<'a>]
+        ensures logs { map log_parts result.now ≡ self.now.logs }
+        ensures orderly { IsOrderly self.now }
+    {
+        self.logs.as_slice()
+    }
+
+    /// The failure signs that running logs tell of, by ascending cycle and then node.
+    pub fn signs(&self) -> &[SignRecord]
+        ensures signs { result.now ≡ self.now.signs }
+        ensures orderly { IsOrderly self.now }
+    {
+        self.signs.as_slice()
+    }
 }

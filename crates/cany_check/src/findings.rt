@@ -1,5 +1,5 @@
 //! What is found of an account.
-use crate::account::Slots;
+use crate::record::Slots;
 use cany_base::{MsgKey, NodeId, NodeSet, Service, Slot};
 
 /// What is judged of a part of the promise.

@@ -7,10 +7,12 @@
 mod account;
 mod findings;
 pub mod laws;
+mod record;
 mod unused;
 
-pub use account::{MessageRecord, SignRecord, Slots};
+pub use account::Account;
 pub use findings::{
     Accusation, Delivery, EntryAt, Fate, Judgement, Part, Parting, Told, ViewParting,
 };
+pub use record::{LogRecord, MessageRecord, SignRecord, Slots};
 pub use unused::{NoAsk, NoFault, Unused, UnusedEntry};
