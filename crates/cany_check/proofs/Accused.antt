@@ -1,8 +1,8 @@
 -- Nobody is accused in the account of a run exactly where no log of a correct node has a failure entry of one that ran all the time; and in
 -- a run within the fault hypothesis of a scenario without restart entries none has one of a node that runs.
 use Rattle.std.proofs.Common.{◌≡◌, ℕ, ◌≤◌, ◌↔◌, true, false, List, [], ◌∷◌, ◌++◌, drop, map, length, refl, ap, sym, subst, ◌∙◌, inl, inr}
-use Rattle.std.specs.Prelude.{filter, filter_map, option_map, Option, Some, None}
-use Rattle.std.specs.List.{AllByRecursion, cons_option, flat_map, list_any}
+use Rattle.std.specs.Prelude.{min, max, filter, filter_map, option_map, Option, Some, None}
+use Rattle.std.specs.List.{AllByRecursion, cons_option, flat_map, fold, list_any}
 use Rattle.std.proofs.lemmas.Bool.{cases_Bool, eq-eqb, eqb-true, false≢true, le-leb, leb-true}
 use Rattle.cany_base.specs.declared.log_entry.LogEntry.{LogEntry}
 use Rattle.cany_base.specs.declared.log_entry.LogEntry.TheVariants.{Deliver, Failed, View}
@@ -94,18 +94,18 @@ module _ (scenario : ScenarioParts) (legal : IsLegalScenario scenario) (none : s
 
 -- ---- the accusations of an account
 
+still_some : (slots : List ℕ) (x : Slots) → fold with_slot (Some x) slots ≡ None → ⊥
+still_some [] x h = absurd (cc)
+still_some (slot ∷ slots) x h = still_some slots (record { first = min slot x.first; last = max slot x.last }) h
+
 some_slots : (slots : List ℕ) → least_and_greatest slots ≡ None → slots ≡ []
 unfolding least_and_greatest
 some_slots [] h = refl
-some_slots (slot ∷ slots) h = absurd (with_some slot (least_and_greatest slots) h)
-  where
-    with_some : (n : ℕ) (o : Option Slots) → with_slot n o ≡ None → ⊥
-    with_some n None e = absurd (cc)
-    with_some n (Some x) e = absurd (cc)
+some_slots (slot ∷ slots) h = absurd (still_some slots (record { first = slot; last = slot }) h)
 
 no_slots : (slots : List ℕ) → slots ≡ [] → least_and_greatest slots ≡ None
 unfolding least_and_greatest
-no_slots slots e = ap least_and_greatest e
+no_slots slots e = ap (fold with_slot None) e
 
 none_in_nil : {X : Type 0} (P : X → Type 0) (xs : List X) → xs ≡ [] → Among P xs → ⊥
 none_in_nil P xs e h = subst (λ (l : List _). Among P l) e h

@@ -3,6 +3,7 @@ pub mod CorrectLogs
 pub mod Decided
 pub mod FateFacts
 pub mod FatesOfRun
+pub mod HolderFacts
 pub mod InOrderFacts
 pub mod IntegrityOfRun
 pub mod OrderOfRun

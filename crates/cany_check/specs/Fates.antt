@@ -1,6 +1,6 @@
 -- What became of a message, and of a failure sign, among the nodes that count for it.
-use Rattle.std.specs.Prelude.{ℕ, ◌&&◌, ◌||◌, ◌==◌, min, max, Bool, not, is_none, if◌then◌else◌, List, [], ◌∷◌, filter, map, Option, Some, None}
-use Rattle.std.specs.List.{flat_map, list_any}
+use Rattle.std.specs.Prelude.{ℕ, ◌&&◌, ◌||◌, ◌==◌, min, max, Bool, not, is_none, if◌then◌else◌, List, filter, map, Option, Some, None}
+use Rattle.std.specs.List.{flat_map, fold, list_any}
 use Rattle.cany_base.specs.declared.log_entry.LogEntry.{LogEntry}
 use Rattle.cany_base.specs.Nodes.{Nodes, has, nobody}
 use Rattle.cany_check.specs.declared.record.MessageRecord.{MessageRecord}
@@ -14,14 +14,14 @@ use Rattle.cany_check.specs.Words.{counting, counting_for_sign, delivers, entry_
 
 -- ---- slots of entries
 
-abbrev pub with_slot : ℕ → Option Slots → Option Slots
-with_slot slot None = Some (record { first = slot; last = slot })
-with_slot slot (Some slots) = Some (record { first = min slot slots.first; last = max slot slots.last })
+-- and one slot more
+abbrev pub with_slot : Option Slots → ℕ → Option Slots
+with_slot None slot = Some (record { first = slot; last = slot })
+with_slot (Some slots) slot = Some (record { first = min slot slots.first; last = max slot slots.last })
 
 -- the least and the greatest
 unfoldable pub least_and_greatest : List ℕ → Option Slots
-least_and_greatest [] = None
-least_and_greatest (slot ∷ slots) = with_slot slot (least_and_greatest slots)
+least_and_greatest slots = fold with_slot None slots
 
 -- those of the entries of these logs that pass a test
 abbrev pub slots_where : (LogEntry → Bool) → List LogParts → Option Slots

@@ -2,6 +2,7 @@ pub mod Account
 pub mod AccountFields
 pub mod Accuracy
 pub mod Fates
+pub mod Holders
 pub mod InOrder
 pub mod Integrity
 pub mod OneOrder

@@ -1,6 +1,6 @@
 -- When the parts of an account are in order.
 use Rattle.std.specs.Prelude.{◌≡◌, ◌<◌, ◌≤◌, ◌^◌, ◌==◌, ℕ, Bool, false, List, count_by, length, map, take, slice_get, Option, Some, None, All, AllPairs}
-use Rattle.cany_base.specs.Limits.{most_sends}
+use Rattle.cany_base.specs.Limits.{most_nodes, most_sends}
 use Rattle.cany_model.specs.Rules.Knowledge.{FailureSign}
 use Rattle.cany_check.specs.declared.record.MessageRecord.{MessageRecord}
 use Rattle.cany_check.specs.declared.record.SignRecord.{SignRecord}
@@ -42,6 +42,8 @@ abbrev pub sign_named : SignRecord → FailureSign
 sign_named r = record { node = r.node; cycle = r.cycle }
 
 pub record IsOrderly (a : AccountParts) : Type 0 where
+  -- as the type of the parameters says too
+  pub few_nodes : a.params.nodes ≤ most_nodes
   -- of each origin the messages have the sequence numbers 0, 1, 2 and so on
   pub few : length a.messages ≤ most_sends
   pub numbered : (k : ℕ) (m : MessageRecord) → slice_get a.messages k ≡ Some m → IsNextAfter (take k a.messages) m

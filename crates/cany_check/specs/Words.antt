@@ -57,10 +57,17 @@ delivers m log = list_any (is_delivery m) log.entries
 
 -- ---- signs
 
--- the nodes that count for a sign: the correct nodes that take part since the first slot that carried its frame, or, where there is
--- none, all correct nodes
+-- whether the log is that of a node that takes part since the first slot that carried its frame, where there is one
+abbrev pub takes_part_for : SignRecord → LogParts → Bool
+takes_part_for sign log = option_map_or (λ slots. takes_part slots.first log) sign.carried true
+
+-- the correct nodes that do: those that count for the sign
 abbrev pub counting_for_sign : AccountParts → SignRecord → List LogParts
-counting_for_sign a sign = filter (λ log. option_map_or (λ slots. takes_part slots.first log) sign.carried true) (correct a)
+counting_for_sign a sign = filter (takes_part_for sign) (correct a)
+
+-- whether the log is that of one of them
+abbrev pub counts_for_sign : SignRecord → LogParts → Bool
+counts_for_sign sign log = log.runs && takes_part_for sign log
 
 -- whether the entry tells of the sign
 abbrev pub tells_sign : SignRecord → LogEntry → Bool

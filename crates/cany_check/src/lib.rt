@@ -8,6 +8,7 @@ mod account;
 mod findings;
 pub mod laws;
 mod record;
+mod signs;
 mod unused;
 
 pub use account::Account;
@@ -15,4 +16,5 @@ pub use findings::{
     Accusation, Delivery, EntryAt, Fate, Judgement, Part, Parting, Told, ViewParting,
 };
 pub use record::{LogRecord, MessageRecord, SignRecord, Slots};
+pub use signs::sign_fates;
 pub use unused::{NoAsk, NoFault, Unused, UnusedEntry};
