@@ -1,3 +1,4 @@
+pub mod AccuracyFacts
 pub mod Accused
 pub mod CorrectLogs
 pub mod Decided

@@ -13,9 +13,13 @@ is_failure_of r (Deliver slot service msg payload) = false
 is_failure_of r (Failed slot node cycle) = node == r
 is_failure_of r (View slot number members) = false
 
+-- whether an entry of the log says that the node failed
+abbrev pub accuses : ℕ → LogParts → Bool
+accuses r log = list_any (is_failure_of r) log.entries
+
 -- the correct nodes that took this one for failed
 abbrev pub accusers : AccountParts → ℕ → List LogParts
-accusers a r = filter (λ log. list_any (is_failure_of r) log.entries) (correct a)
+accusers a r = filter (accuses r) (correct a)
 
 abbrev pub accusation_of : AccountParts → LogParts → Option Accusation
 accusation_of a log =

@@ -5,6 +5,8 @@
 #![tactic(auto)]
 
 mod account;
+mod accuracy;
+mod entries;
 mod findings;
 pub mod laws;
 mod record;
@@ -12,6 +14,7 @@ mod signs;
 mod unused;
 
 pub use account::Account;
+pub use accuracy::accusations;
 pub use findings::{
     Accusation, Delivery, EntryAt, Fate, Judgement, Part, Parting, Told, ViewParting,
 };

@@ -11,37 +11,11 @@ ghost use Rattle.cany_check.specs.Holders.{AreHolders};
 ghost use Rattle.cany_check.specs.Words.{counts_for_sign, entry_slot, is_nobody, knows, tells_sign};
 
 use crate::account::Account;
+use crate::entries::{entry_slot, with_slot};
 use crate::findings::{Fate, Told};
 use crate::record::{LogRecord, SignRecord, Slots};
-use cany_base::{LogEntry, Memory, NodeSet, Slot};
+use cany_base::{LogEntry, Memory, NodeSet};
 use std::alloc::Global;
-
-/// The least and the greatest of some slots, with one more.
-fn with_slot(slots: Option<Slots>, slot: Slot) -> Option<Slots>
-    ensures { result ≡ with_slot slots slot }
-{
-    match slots {
-        None => Some(Slots {
-            first: slot,
-            last: slot,
-        }),
-        Some(slots) => Some(Slots {
-            first: slot.min(slots.first),
-            last: slot.max(slots.last),
-        }),
-    }
-}
-
-/// The slot of an entry.
-fn entry_slot(entry: &LogEntry) -> Slot
-    ensures { result ≡ entry_slot entry.now }
-{
-    match entry {
-        LogEntry::Deliver { slot, .. } => *slot,
-        LogEntry::Failed { slot, .. } => *slot,
-        LogEntry::View { slot, .. } => *slot,
-    }
-}
 
 /// Whether the entry tells of the sign.
 fn tells_sign(sign: &SignRecord, entry: &LogEntry) -> bool
