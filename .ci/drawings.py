@@ -124,7 +124,8 @@ def check_page(root, tally, built):
     tally.check(len(found) > 3, "docs/tools.md shows no commands with what they write")
     with on_the_path(built) as environment, tempfile.TemporaryDirectory() as folder:
         for name, words, text in found:
-            if "/" not in name and not shutil.which(name) or name in WITH_PROGRAM and not built:
+            is_here = "/" in name or shutil.which(name, path=environment["PATH"])
+            if not is_here or name in WITH_PROGRAM and not built:
                 print(f"drawing: the example of {name} in docs/tools.md needs what is not here, and is not tried")
                 continue
             line = (name + words).replace("/tmp/", f"{folder}/")

@@ -117,9 +117,10 @@ def clock(seconds):
 def progress(counts, before, total, seconds):
     done = counts.done.value
     rate = done / seconds if seconds else 0
-    left = clock((total - before - done) / rate) if rate else "unknown"
+    left = total - before - done
+    time_left = f", {clock(left / rate) if rate else 'unknown time'} left" if left else ""
     failed = f", {counts.failed.value} ended otherwise" if counts.failed.value else ""
-    return f"{before + done} of {total} cases, {rate:.0f} a second, {counts.broken.value} broken{failed}, {left} left"
+    return f"{before + done} of {total} cases, {rate:.0f} a second, {counts.broken.value} broken{failed}{time_left}"
 
 
 def show(line, is_last=False):

@@ -98,6 +98,11 @@ BOUNDS = {
         "exactly, from the slot of a restart to the first slot in which the node takes part",
         "rule of restarts",
     ),
+    "return": Bound(
+        lambda p: 1 + p.bound + p.lag + p.cycle + p.bound + p.lag,
+        "at most, from the slot of a restart to the first views with the node, where its JOIN is carried clean in the slot after it takes part",
+        "rules of restarts and views",
+    ),
 }
 
 
@@ -200,7 +205,7 @@ def row(name, slots, slot, text):
 
 def table(params, bitrate, slot):
     yield f"{params.nodes} nodes, lag {params.lag}, omit {params.omit}, errors {params.errors}; format {params.format}"
-    yield f"a slot lasts at most {SLOT_BITS} bits, at {bitrate} bit/s {milliseconds(1, slot)} ms"
+    yield f"a slot lasts at most {SLOT_BITS} bits, at {bitrate} bits a second {milliseconds(1, slot)} ms"
     yield ""
     yield f"{'parameter':10} {'slots':>7} {'ms':>11}  at least"
     for name, (_, formula) in FORMULAS.items():

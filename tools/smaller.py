@@ -110,9 +110,10 @@ def earlier_slots(scenario):
 
 
 def shorter_payloads(scenario):
+    """A send without the key has no bytes."""
     for place, send in enumerate(scenario.get("send", [])):
-        if send.get("data"):
-            yield with_entry(scenario, "send", place, {**send, "data": ""})
+        if "data" in send:
+            yield with_entry(scenario, "send", place, {key: it for key, it in send.items() if key != "data"})
 
 
 def fewer_keys(scenario):
