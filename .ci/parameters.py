@@ -98,7 +98,13 @@ def check_program(tally, program):
             tally.check(programs.call(program, ["replay"], lines + f"\n{name} = {least}".encode())[0] == 0, f"{name} {least} is refused for {nodes} nodes")
 
 
+def check_busiest(tally):
+    found = [measure.busiest([0, 99, 100, 198, 300], window) for window in (1, 100, 101, 1000)]
+    tally.check(found == [(1, 0), (3, 99), (3, 0), (5, 0)], f"measure.py: the busiest stretches are {found}")
+
+
 def check(root, tally, built):
+    check_busiest(tally)
     check_reports(root, tally)
     check_words(root, tally)
     for program in built:

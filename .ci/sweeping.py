@@ -63,21 +63,21 @@ slots = 90
 bound = 200
 [[send]]
 slot = 20
-node = 1
+node = 3
 service = "tot"
 data = "0102"
 [[send]]
 slot = 21
-node = 1
+node = 3
 service = "ed"
 [[fault]]
 class = "ed"
 number = 1
-node = 1
+node = 3
 nth = 2
 verdict = "silent"
-reject = [0, 3, 4]
-stop = [3]
+reject = [0, 2, 4]
+stop = [2]
 [[fault]]
 slot = 7
 stop = [2]
@@ -103,6 +103,44 @@ nth = 1
 verdict = "silent"
 reject = [0]
 """
+
+
+# Scenarios that show what a verdict counts, each with lines of its text of check: a node that takes part late and an earlier incarnation
+# that was found silent; an origin that delivered before it stopped, and an ask that it could not make; a sign that one node alone knows.
+ROWS = {
+    """format = 1
+nodes = 3
+slots = 100
+send = [{slot = 0, node = 0, service = "tot", data = "0a"}, {slot = 60, node = 1, service = "tot", data = "0b"}]
+fault = [{slot = 5, stop = [2]}]
+restart = [{slot = 10, node = 2}]
+""": [
+        "order held shortest 1 longest 2",
+        "accuracy held",
+        "message tot 0 0 slot 0 all carried 1 1 delivered 1 2",
+        "sign 2 1 all carried 75 76 known 73 75",
+    ],
+    """format = 1
+nodes = 3
+slots = 45
+send = [{slot = 0, node = 0, service = "tot", data = "01"}, {slot = 20, node = 0, service = "ed", data = "02"}]
+fault = [{slot = 2, verdict = "partial", reject = [1, 2], stop = [0]}]
+""": [
+        "message tot 0 0 slot 0 none had 0 carried 1 1",
+        "message ed 0 1 slot 20 none had - carried -",
+        "unused send 1 stopped",
+    ],
+    """format = 1
+nodes = 3
+slots = 80
+send = [{slot = 10, node = 1, service = "tot", data = "01"}]
+fault = [{slot = 11, verdict = "silent", reject = [2]}, {slot = 20, stop = [1]}, {class = "fda", number = 1, node = 1, nth = 1, verdict = "silent", reject = [0]}]
+""": [
+        "order held shortest 0 longest 1",
+        "signs broken all 0 none 0 apart 1 open 0",
+        "sign 1 1 apart has 2 lacks 0 carried 75 75 known 73 73",
+    ],
+}
 
 
 class StandIn:
@@ -223,13 +261,31 @@ def summary(number, report):
 
 
 def check_storms(root, tally, program):
-    for number in (0, 1, 7, 4_294_967_295):
+    # the sets of those that reject show in the counts of 6 and 9
+    for number in (0, 6, 9, 4_294_967_295):
         status, text, said = tool(root, STORM, str(number))
         replayed = programs.call(program, ["replay"], text)
         wanted = programs.call(program, ["storm", str(number)])[1].decode()
         if tally.check(status == replayed[0] == 0, f"the text of storm {number}: {said} {replayed[1][:100]}"):
             found = "".join(f"{line}\n" for line in summary(number, reports.read_report(replayed[1])))
             tally.check(found == wanted, f"the text of storm {number} gives another summary: {found}")
+
+
+def check_rows(root, tally, program):
+    """The verdicts of judge.py on runs of the program; where the program has the command, they are those of `canely check`."""
+    for text, lines in ROWS.items():
+        status, wrote, said = tool(root, JUDGE, "--program", str(program), stdin=text.encode())
+        missing = [line for line in lines if line not in wrote.decode().splitlines()]
+        tally.check(not missing, f"judge.py: {status} {said} without {missing} in {wrote.decode()}")
+    if " canely check " not in programs.call(program, ["--help"])[1].decode():
+        return
+    # what an open message waits for is in no report
+    waits = re.compile(r"(?m)^(message .* open)( queued)?( waits [0-9,]+)?( ahead [0-9,]+ by [0-9]+)?(?= carried)")
+    for text in [*(it.encode() for it in ROWS), *((root / f"scenarios/{name}.toml").read_bytes() for name in stored(root))]:
+        status, wrote, said = programs.call(program, ["check"], text)
+        found = tool(root, JUDGE, "--program", str(program), stdin=text)
+        is_same = found[:2] == (status, waits.sub(r"\1", wrote.decode()).encode())
+        tally.check(is_same, f"judge.py and canely check say different things of {text.decode()}")
 
 
 def check_with_program(root, tally, program, folder):
@@ -295,4 +351,5 @@ def check(root, tally, built):
         check_ends(root, tally, stand_in, folder / "faults")
         for program in built:
             check_storms(root, tally, program)
+            check_rows(root, tally, program)
             check_with_program(root, tally, program, folder / f"sweep-{program.name}")

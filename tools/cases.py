@@ -131,14 +131,16 @@ def show(line, is_last=False):
 def watch(workers, counts, before, total):
     """Shows how far the workers are until they have ended."""
     start = shown = time.monotonic()
-    while any(it.is_alive() for it in workers):
-        for it in workers:
-            it.join(PAUSE / len(workers))
-        now = time.monotonic()
-        if sys.stderr.isatty() or now - shown >= LONG_PAUSE:
-            show(progress(counts, before, total, now - start))
-            shown = now
-    show(progress(counts, before, total, time.monotonic() - start), True)
+    try:
+        while any(it.is_alive() for it in workers):
+            for it in workers:
+                it.join(PAUSE / len(workers))
+            now = time.monotonic()
+            if sys.stderr.isatty() or now - shown >= LONG_PAUSE:
+                show(progress(counts, before, total, now - start))
+                shown = now
+    finally:
+        show(progress(counts, before, total, time.monotonic() - start), True)
 
 
 def run_cases(words, paths, jobs, limit):
