@@ -7,6 +7,7 @@ mod help;
 use cany_command::status::{DONE, NO_MEMORY, OTHER_WORDS, WRITE_FAULT};
 use cany_crew::{free_gates, run_top};
 use cany_io::{Failed, Sink, Source, StdSink, StdSource, write_whole};
+use cany_media::media_top;
 use cany_replay::{replay_top, storm_top};
 use cany_replica::replica_top;
 use cany_settle::tail_top;
@@ -88,6 +89,7 @@ fn command<R: Threads + Wait + Sync, K: Sink>(
     let mut source = StdSource::new(rt.stdin());
     match args {
         [arg, ..] if arg.as_str() == "storm" => storm_top(alloc, args, sink),
+        [arg, ..] if arg.as_str() == "media" => media_top(alloc, args, &mut source, sink),
         [arg, ..] if arg.as_str() == "run" => run_freely(threads, alloc, args, &mut source, sink),
         [arg, ..] if arg.as_str() == "replica" => replica_top(alloc, args, &mut source, sink),
         [arg, ..] if arg.as_str() == "tail" => tail_top(alloc, args, &mut source, sink),

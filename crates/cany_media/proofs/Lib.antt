@@ -1,0 +1,11 @@
+pub mod LegalFacts
+pub mod LevelFacts
+pub mod MediaRuns
+pub mod OverlapFacts
+pub mod PlanFacts
+pub mod RulesAside
+pub mod Scripts
+pub mod StretchFacts
+pub mod TextFacts
+pub mod TopFacts
+pub mod WordFacts

@@ -1,0 +1,12 @@
+pub mod Lines
+pub mod MediaRun
+pub mod MediaText
+pub mod MediaWords
+pub mod Outcome
+pub mod Overlaps
+pub mod Plan
+pub mod Single
+pub mod Spaced
+pub mod Stretches
+pub mod Tables
+pub mod Top

@@ -1,0 +1,98 @@
+ghost use Rattle.std.specs.Prelude.{◌≡◌, ℕ, Err, Some, None, IfOk, OnOk};
+ghost use Rattle.cany_media.specs.Overlaps.{first_overlap};
+ghost use Rattle.cany_media.specs.Plan.{lines_at};
+
+use crate::line::{Line, LineFault};
+use crate::tables::LineTables;
+use cany_base::{Memory, Slot};
+use std::alloc::{AllocError, Global};
+use std::marker::Model;
+use thiserror::Error;
+
+/// Why faults make no plan.
+#[derive(Clone, Copy, Debug, PartialEq, Eq, Error)]
+pub enum MediaFault {
+    /// The fault at `index`, counted from 0, shares a slot with an earlier one of its line.
+    #[error("fault {index} shares a slot with an earlier fault of its line")]
+    Overlap { index: usize },
+    /// Want of memory, which no contract ties to a cause.
+    #[error("out of memory")]
+    Memory,
+}
+
+impl From<Memory> for MediaFault {
+    ghost use Rattle.cany_media.specs.declared.plan.MediaFault.TheVariants as fault;
+
+    ghost from_gives = { λ _ e. e ≡ fault.Memory };
+
+    fn from(_: Memory) -> Self {
+        MediaFault::Memory
+    }
+}
+
+impl From<AllocError> for MediaFault {
+    ghost use Rattle.cany_media.specs.declared.plan.MediaFault.TheVariants as fault;
+
+    ghost from_gives = { λ _ e. e ≡ fault.Memory };
+
+    fn from(_: AllocError) -> Self {
+        MediaFault::Memory
+    }
+}
+
+/// What is planned for the two lines of a run: faults in the order given, of which no two of one line
+/// share a slot. Of its slots those that the run has not are of no effect.
+#[derive(Debug, Drop)]
+pub struct MediaPlan {
+    faults: Vec<LineFault>,
+    tables: LineTables,
+}
+
+impl Model for MediaPlan {
+    ghost use Rattle.std.specs.Prelude.{List};
+    ghost use Rattle.cany_media.specs.Plan.{FaultParts};
+    ghost use Rattle.cany_media.specs.Tables.{AreTablesOf};
+
+    ghost Value = { List FaultParts };
+
+    ghost view = { λ plan. plan.faults.items };
+
+    ghost invariant = { λ plan. AreTablesOf plan.faults.items plan.tables };
+}
+
+impl MediaPlan {
+    /// The plan of these faults.
+    ///
+    /// # Errors
+    ///
+    /// `Overlap` where a fault shares a slot with an earlier one of its line, `Memory` for want of
+    /// memory.
+    pub fn build(alloc: Global, faults: &[LineFault]) -> Result<MediaPlan, MediaFault>
+        ensures ok { IfOk result (λ plan. plan ≡ faults.now) }
+        ensures none { OnOk result (first_overlap faults.now ≡ None) }
+        ensures overlap { (index : ℕ) → result ≡ Err (MediaFault.Overlap index) → first_overlap faults.now ≡ Some index }
+    {
+        let mut tables = LineTables::none(alloc);
+        for (index, fault) in faults.iter().enumerate() {
+            if !tables.enter(fault)? {
+                return Err(MediaFault::Overlap { index });
+            }
+        }
+        let faults = Vec::from_slice(alloc, faults)?;
+        Ok(MediaPlan { faults, tables })
+    }
+
+    /// The faults, in the order in which they were given.
+    pub fn faults(&self) -> &[LineFault]
+        ensures { result.now ≡ self.now }
+    {
+        self.faults.as_slice()
+    }
+
+    /// How the two lines are in a slot.
+    pub fn lines(&self, slot: Slot) -> (Line, Line)
+        ensures { result ≡ lines_at self.now slot }
+    {
+        self.tables.lines(slot)
+    }
+}

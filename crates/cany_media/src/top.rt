@@ -1,0 +1,227 @@
+//! The call behind the command `media`.
+ghost use Rattle.std.specs.Prelude.{◌≡◌, ◌⊎◌, ◌↔◌, ◌<◌, ◌≤◌, ◌++◌, Some, None, Ok, Err, map, length, string_bytes, IfErr, IfNone, IfOk, IfSome, IsOkAnd, IsSomeAnd, MatchOption, OnOk};
+ghost use Rattle.cany_base.specs.Limits.{most_text_bytes};
+ghost use Rattle.cany_command.specs.Answers.{answer_by};
+ghost use Rattle.cany_command.specs.Refused.{refusal_by};
+ghost use Rattle.cany_command.specs.Status.{HasAnswered, HasNoAnswer};
+ghost use Rattle.cany_command.specs.Faults.{IfRefused};
+ghost use Rattle.cany_io.specs.Faults.{HasRisen, StandsStill};
+ghost use Rattle.cany_io.specs.Sink.{Takes, TakesPrefix};
+ghost use Rattle.cany_io.specs.Source.{IsAtEnd};
+ghost use Rattle.cany_log.specs.Written.{IsWritten};
+ghost use Rattle.cany_text.specs.Report.{report};
+ghost use Rattle.cany_text.specs.ScenarioText.{scenario_of};
+ghost use Rattle.cany_media.specs.MediaText.{media_refusal_line};
+ghost use Rattle.cany_media.specs.MediaWords.{AreMedia, media_faults};
+ghost use Rattle.cany_media.specs.Top.{IsMedia, chosen_for, faults_of, media_choice, overlap_refusal, text_of};
+
+use crate::fault_words::{are_media, media_faults};
+use crate::medium_lines::medium_lines;
+use crate::plan::{MediaFault, MediaPlan};
+use crate::refusal::MediaRefusal;
+use crate::single_bus::{SingleFault, single};
+use cany_base::Scenario;
+use cany_command::status::{
+    DONE, NO_MEMORY, OTHER_WORDS, READ_FAULT, REFUSED, TOO_LONG, WRITE_FAULT,
+};
+use cany_command::{AnswerFault, Command, CommandFault, RefusalLine, perform};
+use cany_io::{Failed, Sink, Source, write_whole};
+use cany_log::write_report;
+use cany_world::World;
+use std::alloc::Global;
+
+impl RefusalLine for MediaRefusal {
+    ghost use Rattle.cany_media.specs.MediaText.{media_refusal_line};
+
+    ghost line = { media_refusal_line };
+
+    fn write_line<K: Sink>(&self, sink: &mut K) -> Result<(), Failed> {
+        write_whole(sink, self.line().as_slice())
+    }
+}
+
+/// The plan of the faults that the words name.
+#[tactic(auto, using(crate::proofs::TopFacts::accepted_by, crate::proofs::TopFacts::refused_by))]
+fn plan_of(alloc: Global, words: &[String]) -> Result<MediaPlan, CommandFault<MediaRefusal>>
+    requires { AreMedia (map string_bytes words.now) }
+    ensures plan { IfOk result (λ plan. media_faults (map string_bytes words.now) ≡ Some plan) }
+    ensures accepted { OnOk result (overlap_refusal (map string_bytes words.now) ≡ None) }
+    ensures refused { IfErr result (λ fault. IfRefused fault (λ refusal.
+        overlap_refusal (map string_bytes words.now) ≡ Some (media_refusal_line refusal))) }
+{
+    let Ok(faults) = media_faults(alloc, words) else {
+        return Err(CommandFault::Memory);
+    };
+    match MediaPlan::build(alloc, &faults) {
+        Ok(plan) => Ok(plan),
+        Err(MediaFault::Overlap { index }) => {
+            Err(CommandFault::Refused(MediaRefusal::Overlap { index }))
+        }
+        Err(MediaFault::Memory) => Err(CommandFault::Memory),
+    }
+}
+
+/// The scenario of one bus that is run for one that was read.
+#[tactic(auto, using(crate::proofs::TopFacts::chosen_few, crate::proofs::TopFacts::chosen_many))]
+fn chosen(
+    alloc: Global,
+    plan: &MediaPlan,
+    scenario: Scenario,
+) -> Result<Scenario, CommandFault<MediaRefusal>>
+    ensures chosen { IfOk result (λ one. chosen_for plan.now scenario ≡ Ok one) }
+    ensures refused { IfErr result (λ fault. IfRefused fault (λ refusal.
+        chosen_for plan.now scenario ≡ Err (media_refusal_line refusal))) }
+{
+    match single(alloc, &scenario, plan) {
+        Ok(one) => Ok(one),
+        Err(SingleFault::TooMany { rules }) => {
+            Err(CommandFault::Refused(MediaRefusal::TooMany { rules }))
+        }
+        Err(SingleFault::Memory) => Err(CommandFault::Memory),
+    }
+}
+
+fn write_text<K: Sink>(text: &[u8], sink: &mut K) -> Result<(), Failed>
+    ensures { IsWritten text.now result
+        (K.taken sink.old) (K.taken sink.new) (K.faults sink.old) (K.faults sink.new) }
+{
+    write_whole(sink, text)
+}
+
+/// Writes a text, and then the report of the run.
+fn write_before_report<K: Sink>(text: &[u8], world: &World, sink: &mut K) -> Result<(), Failed>
+    ensures { IsWritten (text.now ++ report world.now.scenario world.now.journal) result
+        (K.taken sink.old) (K.taken sink.new) (K.faults sink.old) (K.faults sink.new) }
+{
+    write_text(text, sink)?;
+    write_report(world, sink)
+}
+
+/// The command `media`.
+struct Media;
+
+impl Command for Media {
+    type Plan = MediaPlan;
+
+    type Refusal = MediaRefusal;
+
+    ghost use Rattle.std.specs.Prelude.{◌≡◌, Some};
+    ghost use Rattle.cany_command.specs.declared.status.TheConstants.{DONE};
+    ghost use Rattle.cany_command.proofs.StatusFacts.{done_is_no_fault};
+    ghost use Rattle.cany_media.specs.MediaWords.{AreMedia, media_faults};
+    ghost use Rattle.cany_media.specs.Top.{media_choice, overlap_refusal, text_of};
+
+    ghost are_words = { AreMedia };
+
+    ghost is_plan = { λ said plan. media_faults said ≡ Some plan };
+
+    ghost words_refusal = { overlap_refusal };
+
+    ghost choose = { media_choice };
+
+    ghost text = { text_of };
+
+    ghost success = { λ _ _ _. DONE };
+
+    ghost is_success = { λ status. status ≡ DONE };
+
+    fn are_words(&self, words: &[String]) -> bool {
+        are_media(words)
+    }
+
+    fn plan(
+        &self,
+        alloc: Global,
+        words: &[String],
+    ) -> Result<MediaPlan, CommandFault<MediaRefusal>> {
+        plan_of(alloc, words)
+    }
+
+    fn scenario(
+        &self,
+        alloc: Global,
+        plan: &MediaPlan,
+        scenario: Scenario,
+    ) -> Result<Scenario, CommandFault<MediaRefusal>> {
+        chosen(alloc, plan, scenario)
+    }
+
+    fn answer<K: Sink>(
+        &self,
+        alloc: Global,
+        plan: &MediaPlan,
+        world: &World,
+        sink: &mut K,
+    ) -> Result<u8, AnswerFault> {
+        let text = medium_lines(alloc, plan.faults())?;
+        write_before_report(&text, world, sink)?;
+        Ok(DONE)
+    }
+
+    ghost no_fault = { done_is_no_fault };
+}
+
+/// Runs over two media: takes the faults of the lines from the words, reads a scenario text from the
+/// source, runs the scenario of one bus whose run is that over both lines, by its own journal or,
+/// where it has none, by its round robin journal, and writes a line for each fault and the report of
+/// the run to the sink. It answers the status of the program, one of those in
+/// `cany_command::status`. The words are `media` and any number of words `LINE:FROM-TO:down` and
+/// `LINE:FROM-TO:split:SET`; causes are looked at in this order: the words, faults that share a slot,
+/// the reading, the text, too many slots without a whole line, the journal, the writing.
+pub fn media_top<S: Source, K: Sink>(
+    alloc: Global,
+    words: &[String],
+    source: &mut S,
+    sink: &mut K,
+) -> u8
+    // The words alone decide on this status. Here and below, `said` are the words.
+    ensures words { (result ≡ OTHER_WORDS) ↔ (AreMedia (map string_bytes words.now) → ⊥) }
+    ensures unread { result ≡ OTHER_WORDS → source.new ≡ source.old }
+
+    // Where faults share a slot, the words alone decide, but for a fault of the sink and for want of memory.
+    ensures early { let said = map string_bytes words.now in AreMedia said → IfSome (overlap_refusal said) (λ _.
+        (result ≡ REFUSED) ⊎ (result ≡ WRITE_FAULT) ⊎ (result ≡ NO_MEMORY)) }
+    ensures early_unread { IfSome (overlap_refusal (map string_bytes words.now)) (λ _. source.new ≡ source.old) }
+
+    // Success: the run over two media is reported. Here and below, `bytes` are all that the source had.
+    ensures done { let said = map string_bytes words.now in result ≡ DONE → IfSome (S.left source.old) (λ bytes. IsOkAnd (scenario_of bytes) (λ scenario.
+        IsMedia (faults_of said) scenario (K.taken sink.old) (K.taken sink.new))) }
+
+    // The words, the text, the scenario or the journal is refused.
+    ensures refused { let said = map string_bytes words.now in result ≡ REFUSED → MatchOption (overlap_refusal said)
+        (IfSome (S.left source.old) (λ bytes. IsSomeAnd (refusal_by (media_choice said) bytes) (λ line.
+        Takes (K.taken sink.old) line (K.taken sink.new))))
+        (λ line. Takes (K.taken sink.old) line (K.taken sink.new)) }
+
+    // The streams fail.
+    ensures read_fault { result ≡ READ_FAULT → HasRisen (S.faults source.old) (S.faults source.new) }
+    ensures write_fault { result ≡ WRITE_FAULT → HasRisen (K.faults sink.old) (K.faults sink.new) }
+    ensures prefix { let said = map string_bytes words.now in result ≡ WRITE_FAULT → MatchOption (overlap_refusal said)
+        (IfSome (S.left source.old) (λ bytes.
+        TakesPrefix (K.taken sink.old) (answer_by (text_of said) (media_choice said) bytes) (K.taken sink.new)))
+        (λ line. TakesPrefix (K.taken sink.old) line (K.taken sink.new)) }
+
+    // The source has too many bytes, or all of them were read.
+    ensures too_long { result ≡ TOO_LONG → IfSome (S.left source.old) (λ bytes. most_text_bytes < length bytes) }
+    ensures fits { HasAnswered result → IfNone (overlap_refusal (map string_bytes words.now))
+        (IfSome (S.left source.old) (λ bytes. length bytes ≤ most_text_bytes)) }
+    ensures drained { HasAnswered result → IfNone (overlap_refusal (map string_bytes words.now))
+        (IsAtEnd (S.left source.new)) }
+
+    // Nothing else writes.
+    ensures unwritten { HasNoAnswer result → sink.new ≡ sink.old }
+    ensures status { HasAnswered result ⊎ HasNoAnswer result }
+
+    // Where neither stream fails, the words and the text decide, but for want of memory.
+    ensures complete { let said = map string_bytes words.now in AreMedia said
+        → StandsStill (S.faults source.old) (S.faults source.new)
+        → StandsStill (K.faults sink.old) (K.faults sink.new)
+        → IfNone (overlap_refusal said) (IfSome (S.left source.old) (λ bytes. length bytes ≤ most_text_bytes
+        → (result ≡ NO_MEMORY) ⊎ MatchOption (refusal_by (media_choice said) bytes) (result ≡ DONE) (λ _. result ≡ REFUSED))) }
+    ensures complete_too_long { let said = map string_bytes words.now in AreMedia said
+        → StandsStill (S.faults source.old) (S.faults source.new)
+        → IfNone (overlap_refusal said) (IfSome (S.left source.old) (λ bytes. most_text_bytes < length bytes
+        → (result ≡ NO_MEMORY) ⊎ (result ≡ TOO_LONG))) }
+{
+    perform(alloc, &Media, words, source, sink)
+}
