@@ -10,6 +10,9 @@ MOST_TEXT_BYTES = 33_554_432
 
 SEE_HELP = "see canely --help"
 
+# Faults of lines that are none.
+WRONG_FAULTS = ["", "0:5-3:down", "2:0-1:down", "0:0-1:up", "0:0000000-1:down", "0:0-1:split:", "0:0-1:split:64", "0:0-1:down "]
+
 # The arguments that are wrong, and the line for each. Nothing is read or written, and the status is 2.
 WRONG_ARGUMENTS = [
     ([], f"no command given; {SEE_HELP}"),
@@ -29,6 +32,7 @@ WRONG_ARGUMENTS = [
     (["storm", "-1"], "invalid number '-1': storm takes 1 to 10 digits, at most 4294967295"),
     (["storm", "4294967296"], "invalid number '4294967296': storm takes 1 to 10 digits, at most 4294967295"),
     (["storm", ""], "invalid number '': storm takes 1 to 10 digits, at most 4294967295"),
+    *((["media", fault], f"media takes faults of lines, as 0:5-9:down or 1:5-9:split:0,2; {SEE_HELP}") for fault in WRONG_FAULTS),
     ([b"\xff"], "an argument is not valid UTF-8"),
 ]
 
@@ -52,13 +56,13 @@ def opened_folder(path):
 
 def check_streams(tally, program, scenario):
     """A folder as standard input, a full disk as standard output, and a text that is too long."""
-    for command in ("replay", "run", "replica", "tail"):
+    for command in ("replay", "run", "replica", "tail", "media"):
         with opened_folder(scenario.parent) as source:
             found = programs.call(program, [command], source)
         check_call(tally, f"canely {command} < FOLDER", found, 4, b"", "cannot read the scenario from standard input")
         found = programs.call(program, [command], b"#" * (MOST_TEXT_BYTES + 1))
         check_call(tally, f"canely {command} < LONG", found, 7, b"", f"the scenario has more than {MOST_TEXT_BYTES} bytes")
-    for arguments in (["replay"], ["run"], ["replica"], ["tail"], ["storm", "7"], ["--help"], ["--version"]):
+    for arguments in (["replay"], ["run"], ["replica"], ["tail"], ["media"], ["media", "0:0-4:down"], ["storm", "7"], ["--help"], ["--version"]):
         with open("/dev/full", "wb") as sink:
             found = programs.call(program, arguments, scenario.read_bytes(), sink)
         check_call(tally, f"canely {' '.join(arguments)} > /dev/full", found, 5, None, "cannot write to standard output")
@@ -69,7 +73,7 @@ def check_texts(tally, program):
     found = programs.call(program, ["--help"])
     check_call(tally, "canely --help", found, 0, None, "")
     text = found[1].decode()
-    for command in ("replay", "run", "replica", "tail", "storm NUMBER", "--help", "--version"):
+    for command in ("replay", "run", "replica", "tail", "media", "storm NUMBER", "--help", "--version"):
         tally.check(f" canely {command}" in text, f"canely --help does not show the command {command}")
     for status in (0, *range(2, 9)):
         tally.check(re.search(rf"(?m)^(exit status:|\s+)\s*{status}  \w", text), f"canely --help does not say when the exit status is {status}")

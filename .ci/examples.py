@@ -10,7 +10,7 @@ REMARK = r"\s{2,}.*"
 
 
 # A text of a run begins so, of whichever command.
-BEGIN = ("canely report ", "canely replica ")
+BEGIN = ("canely report ", "canely replica ", "medium ")
 
 
 def is_part(lines, whole):

@@ -50,12 +50,17 @@ fn of_storm(alloc: Global, rest: &[String]) -> Result<String, AllocError> {
     }
 }
 
+/// What the arguments after `media` have to be.
+const OF_MEDIA: &str =
+    "canely: media takes faults of lines, as 0:5-9:down or 1:5-9:split:0,2; see canely --help\n";
+
 /// What is wrong with arguments that the program does not take.
 fn of_args(alloc: Global, args: &[String]) -> Result<String, AllocError> {
     match args {
         [] => String::from_str(alloc, "canely: no command given; see canely --help\n"),
         [arg, rest @ ..] => match arg.as_str() {
             "storm" => of_storm(alloc, rest),
+            "media" => String::from_str(alloc, OF_MEDIA),
             "replay" | "run" | "replica" | "tail" | "--help" | "--version" => {
                 format!(in alloc; "canely: {arg} takes no arguments; see canely --help\n")
             }

@@ -16,6 +16,7 @@ usage: canely replay < SCENARIO > REPORT
        canely run < SCENARIO > REPORT
        canely storm NUMBER > SUMMARY
        canely replica < SCENARIO > TABLES
+       canely media [FAULT ..] < SCENARIO > REPORT
        canely tail < SCENARIO > TAIL
        canely --help
        canely --version
@@ -32,6 +33,11 @@ runs it by the round robin journal, and writes the summary of the run.
 replica runs a scenario as replay does, and writes the table of each node: a payload of a tot message
 is 01 KEY VALUE, 02 KEY or 03 KEY BYTE BYTE, by which a key gets a value, loses it, or gets the second
 byte where it has exactly the first.
+
+media runs a scenario as replay does, but over two lines, 0 and 1. A FAULT is LINE:FROM-TO:down or
+LINE:FROM-TO:split:NODE,.. by which a line is down, or cut into these nodes and the others, from a slot
+to another; nothing is lost in a slot that has a whole line. It writes a line for each FAULT, and then
+the report of the run.
 
 tail runs a scenario as replay does, and tells whether the run went on long enough after its last
 event (a send, a fault, a stop, a frame of a message) that every message has to be settled.
