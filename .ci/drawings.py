@@ -1,9 +1,13 @@
 """Charts and pictures: those that are stored are made again, and each of every report is whole and keeps its width."""
+import contextlib
+import os
 import re
 import shlex
 import shutil
 import subprocess
+import tempfile
 import xml.etree.ElementTree as ElementTree
+from pathlib import Path
 
 import chart
 import columns
@@ -27,7 +31,15 @@ EXPECTED = {
     "edcan_sender_stops_after_partial.nodes.log": "buslog.py scenarios/edcan_sender_stops_after_partial.report --nodes --direction",
     "three_services.asc": "buslog.py scenarios/three_services.report --asc --bitrate 250000",
     "one_message_no_fault.jsonl": "report.py scenarios/one_message_no_fault.report",
+    "three_services.numbers": "measure.py scenarios/three_services.report --scenario scenarios/three_services.toml",
+    "restart_joins.numbers": "measure.py scenarios/restart_joins.report --bitrate 500000 --window 50",
+    "silent_omission_is_outside.numbers": "measure.py scenarios/silent_omission_is_outside.report --check tools/expected/silent_omission_is_outside.check",
+    "twelve_nodes.params": "params.py --nodes 12",
+    "lag.params": "params.py --nodes 3 --lag 1 --omit 2 --cycle 240ms --bitrate 125000",
+    "forty_nodes.params": "params.py --nodes 40 --silence 30000 --toml",
 }
+# The scripts whose examples in the page call the program.
+WITH_PROGRAM = ("tools/sweep.py", "tools/shrink.py", "tools/judge.py")
 WIDTHS = (40, 57, 80, 132)
 SVG = "{http://www.w3.org/2000/svg}"
 MOST_PICTURE_BYTES = 100_000
@@ -96,21 +108,34 @@ def check_pictures(root, tally):
     tally.check(not others, f"docs/pictures has what nothing makes: {', '.join(others)}")
 
 
-def check_page(root, tally):
-    """The commands that docs/tools.md shows write what stands below them."""
+@contextlib.contextmanager
+def on_the_path(built):
+    """The environment in which `canely` is the built program."""
+    with tempfile.TemporaryDirectory() as folder:
+        for program in built:
+            Path(folder, "canely").symlink_to(program)
+        yield {**os.environ, "PATH": f"{folder}{os.pathsep}{os.environ['PATH']}"}
+
+
+def check_page(root, tally, built):
+    """The commands that docs/tools.md shows write what stands below them. What they write in /tmp goes elsewhere."""
     page = (root / "docs/tools.md").read_text(encoding="utf-8")
     found = re.findall(r"(?m)^```\n\$ (\S+)( .*)\n((?:.*\n)*?)```", page)
     tally.check(len(found) > 3, "docs/tools.md shows no commands with what they write")
-    for name, words, text in found:
-        if "/" not in name and not shutil.which(name):
-            print(f"drawing: {name} is not here, so its example in docs/tools.md is not tried")
-            continue
-        ran = subprocess.run(["bash", "-c", name + words], cwd=root, stdin=subprocess.DEVNULL, stdout=subprocess.PIPE, stderr=subprocess.PIPE, timeout=LIMIT)
-        tally.check(ran.stdout.decode() == text, f"docs/tools.md: {name}{words} writes something else: {ran.stderr.decode()[-300:]}")
+    with on_the_path(built) as environment, tempfile.TemporaryDirectory() as folder:
+        for name, words, text in found:
+            is_here = "/" in name or shutil.which(name, path=environment["PATH"])
+            if not is_here or name in WITH_PROGRAM and not built:
+                print(f"drawing: the example of {name} in docs/tools.md needs what is not here, and is not tried")
+                continue
+            line = (name + words).replace("/tmp/", f"{folder}/")
+            ran = subprocess.run(["bash", "-c", line], cwd=root, env=environment, stdin=subprocess.DEVNULL, stdout=subprocess.PIPE, stderr=subprocess.PIPE, timeout=LIMIT)
+            wrote = ran.stdout.decode().replace(f"{folder}/", "/tmp/")
+            tally.check(wrote == text, f"docs/tools.md: {name}{words} writes something else: {wrote[-300:]} {ran.stderr.decode()[-300:]}")
 
 
-def check(root, tally):
+def check(root, tally, built):
     check_expected(root, tally)
     check_charts(root, tally)
     check_pictures(root, tally)
-    check_page(root, tally)
+    check_page(root, tally, built)

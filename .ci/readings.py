@@ -27,9 +27,9 @@ def at_once(calls, work):
 
 
 def stored(root):
-    """The reports of scenarios/, by name, without the refusals."""
+    """The reports of scenarios/, by name, without the refusals and what other commands write."""
     texts = {it.stem: it.read_bytes() for it in sorted(root.glob("scenarios/*.report"))}
-    return {name: text for name, text in texts.items() if not text.startswith(b"refused ")}
+    return {name: text for name, text in texts.items() if text.startswith(b"canely report ")}
 
 
 def check_round(root, tally):

@@ -148,7 +148,7 @@ def check_all(view):
     """Every report of scenarios/ is read, and drawn near and far."""
     for file in sorted(view.root.glob("scenarios/*.report")):
         text = file.read_text(encoding="utf-8")
-        if text.startswith("refused "):
+        if not text.startswith("canely report "):
             continue
         view.opens(file.stem)
         view.page.click_on("#whole")

@@ -61,7 +61,7 @@ fn of_args(alloc: Global, args: &[String]) -> Result<String, AllocError> {
         [arg, rest @ ..] => match arg.as_str() {
             "storm" => of_storm(alloc, rest),
             "media" => String::from_str(alloc, OF_MEDIA),
-            "replay" | "run" | "replica" | "--help" | "--version" => {
+            "replay" | "run" | "replica" | "tail" | "--help" | "--version" => {
                 format!(in alloc; "canely: {arg} takes no arguments; see canely --help\n")
             }
             _ => of_command(alloc, arg.as_str()),

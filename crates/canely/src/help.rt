@@ -17,6 +17,7 @@ usage: canely replay < SCENARIO > REPORT
        canely storm NUMBER > SUMMARY
        canely replica < SCENARIO > TABLES
        canely media [FAULT ..] < SCENARIO > REPORT
+       canely tail < SCENARIO > TAIL
        canely --help
        canely --version
 
@@ -37,6 +38,9 @@ media runs a scenario as replay does, but over two lines, 0 and 1. A FAULT is LI
 LINE:FROM-TO:split:NODE,.. by which a line is down, or cut into these nodes and the others, from one
 slot to another; in a slot in which neither line is whole the frame is lost. It writes a line for each
 FAULT, and then the report of the run.
+
+tail runs a scenario as replay does, and tells whether the run went on long enough after its last
+event (a send, a fault, a stop, a frame of a message) that every message has to be settled.
 
 A scenario is a TOML document; slots, nodes and entries are counted from 0:
   format, nodes, slots       required; format 1 has up to 32 nodes, format 2 up to 64

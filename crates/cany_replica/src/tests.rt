@@ -39,8 +39,8 @@ key 05 xaa
 end
 ";
 
-fn payload(bytes: &[u8]) -> Payload {
-    Payload::of(bytes).unwrap()
+fn payload(bytes: &[u8]) -> Result<Payload, Fail> {
+    Ok(Payload::of(bytes).ok_or("at most eight bytes")?)
 }
 
 /// A call with one word, where some writes fail: the status, and whether the sink took the answer.
@@ -59,15 +59,15 @@ fn call(
 }
 
 #[test]
-fn replies(rt: HostRuntime) {
+fn replies(rt: HostRuntime) -> Result<(), Fail> {
     let mut table = Table::empty();
     let replies = [
-        table.apply(&payload(&[1, 5, 0xaa])),
-        table.apply(&payload(&[3, 5, 0xaa, 1])),
-        table.apply(&payload(&[3, 5, 0xaa, 2])),
-        table.apply(&payload(&[2, 5])),
-        table.apply(&payload(&[2, 5])),
-        table.apply(&payload(&[4, 5])),
+        table.apply(&payload(&[1, 5, 0xaa])?),
+        table.apply(&payload(&[3, 5, 0xaa, 1])?),
+        table.apply(&payload(&[3, 5, 0xaa, 2])?),
+        table.apply(&payload(&[2, 5])?),
+        table.apply(&payload(&[2, 5])?),
+        table.apply(&payload(&[4, 5])?),
     ];
     let wanted = [
         Reply::Stored,
@@ -78,10 +78,11 @@ fn replies(rt: HostRuntime) {
         Reply::Ignored,
     ];
     assert_eq!(rt; replies, wanted);
+    Ok(())
 }
 
 #[test]
-fn tables(rt: HostRuntime) {
+fn tables(rt: HostRuntime) -> Result<(), Fail> {
     let log = [LogEntry::Deliver {
         slot: 7,
         service: Service::Tot,
@@ -89,10 +90,11 @@ fn tables(rt: HostRuntime) {
             origin: NodeId::of_index(0),
             seq: 0,
         },
-        payload: payload(&[1, 5, 0xaa, 0xbb]),
+        payload: payload(&[1, 5, 0xaa, 0xbb])?,
     }];
-    let value = table_of(&log).get(5).unwrap();
+    let value = table_of(&log).get(5).ok_or("the key has a value")?;
     assert!(rt; value.as_slice() == [0xaa, 0xbb].as_slice());
+    Ok(())
 }
 
 #[test]

@@ -1,0 +1,16 @@
+pub mod AccuracyFacts
+pub mod Accused
+pub mod CorrectLogs
+pub mod Decided
+pub mod FateFacts
+pub mod FatesOfRun
+pub mod HolderFacts
+pub mod InOrderFacts
+pub mod IntegrityOfRun
+pub mod OrderOfRun
+pub mod PartingFacts
+pub mod RowWords
+pub mod Rows
+pub mod StatusOfRun
+pub mod ViewsOfRun
+pub mod Within

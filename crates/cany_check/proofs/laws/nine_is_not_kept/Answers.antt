@@ -1,0 +1,12 @@
+use Rattle.std.specs.Prelude.{nat_le}
+use Rattle.std.proofs.lemmas.Bool.{and_parts}
+use Rattle.cany_base.proofs.ParamsFacts.{few_nodes}
+use Rattle.cany_model.specs.Bus.State.{slots_run}
+use Rattle.cany_model.specs.Runs.Run.{all_read, run}
+use Rattle.cany_check.proofs.StatusOfRun.{nine_where}
+use Rattle.cany_check.proofs.laws.nine_is_not_kept.Goals as goal
+
+pub returns : goal.returns
+returns c scenario journal legal whole =
+    nine_where scenario journal (few_nodes scenario.params legal.in_range)
+    (and_parts (nat_le scenario.params.slots (slots_run (run scenario journal))) (all_read (run scenario journal)) whole).1

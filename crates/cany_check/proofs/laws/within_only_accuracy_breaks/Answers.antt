@@ -1,0 +1,13 @@
+use Rattle.std.specs.Prelude.{nat_le}
+use Rattle.std.proofs.lemmas.Bool.{and_parts}
+use Rattle.cany_base.proofs.ParamsFacts.{few_nodes}
+use Rattle.cany_model.specs.Bus.State.{slots_run}
+use Rattle.cany_model.specs.Runs.Run.{all_read, run}
+use Rattle.cany_model.proofs.Promises.Safety.{safe}
+use Rattle.cany_check.proofs.Within.{only_accuracy, safe_keeps}
+use Rattle.cany_check.proofs.laws.within_only_accuracy_breaks.Goals as goal
+
+pub returns : goal.returns
+returns c scenario journal legal whole within part broken =
+    only_accuracy scenario journal (few_nodes scenario.params legal.in_range)
+    (and_parts (nat_le scenario.params.slots (slots_run (run scenario journal))) (all_read (run scenario journal)) whole).1 (safe_keeps scenario journal (few_nodes scenario.params legal.in_range) (safe scenario legal journal within)) part broken

@@ -1,0 +1,14 @@
+pub mod Account
+pub mod AccountFields
+pub mod Accuracy
+pub mod Fates
+pub mod Holders
+pub mod InOrder
+pub mod Integrity
+pub mod OneOrder
+pub mod Orderly
+pub mod Promise
+pub mod Unused
+pub mod Verdict
+pub mod Views
+pub mod Words

@@ -1,0 +1,85 @@
+//! The account of a run: all that a verdict needs of it.
+ghost use Rattle.std.specs.Prelude.{◌≡◌, map};
+ghost use Rattle.cany_check.specs.AccountFields.{log_parts};
+ghost use Rattle.cany_check.specs.Orderly.{IsOrderly};
+
+use crate::record::{LogRecord, MessageRecord, SignRecord};
+use cany_base::Params;
+use std::marker::Model;
+
+/// What the messages, the logs and the failure signs of a run came to.
+///
+/// It may also be made of logs that were recorded elsewhere: a verdict looks at nothing else.
+#[derive(Drop)]
+pub struct Account<'a> {
+    params: Params,
+    messages: Vec<MessageRecord>,
+    logs: Vec<LogRecord<'a>>,
+    signs: Vec<SignRecord>,
+}
+
+impl<'a> Model for Account<'a> {
+    ghost use Rattle.cany_check.specs.Account.{AccountParts};
+
+    ghost Value = { AccountParts };
+
+    ghost use Rattle.cany_check.specs.AccountFields.{account_parts, IsOrderlyInside};
+
+    ghost view = { account_parts };
+
+    ghost invariant = { IsOrderlyInside };
+}
+
+impl<'a> Account<'a> {
+    ghost use Rattle.cany_check.specs.Account.{AccountParts};
+
+    /// The account of these parts: the messages in file order, the logs by ascending node and then
+    /// incarnation, and the signs that running logs tell of, by ascending cycle and then node.
+    pub fn of_parts(
+        params: Params,
+        messages: Vec<MessageRecord>,
+        logs: Vec<LogRecord<'a>>,
+        signs: Vec<SignRecord>,
+    ) -> Account<'a>
+        requires { IsOrderly (record { params = params; messages = messages.items; logs = map log_parts logs.items; signs = signs.items }) }
+        ensures { result ≡ record { params = params; messages = messages.items; logs = map log_parts logs.entry.items; signs = signs.items } }
+    {
+        Account {
+            params,
+            messages,
+            logs,
+            signs,
+        }
+    }
+
+    /// The parameters of the run.
+    pub fn params(&self) -> &Params
+        ensures { result.now ≡ self.now.params }
+    {
+        &self.params
+    }
+
+    /// The messages of the scenario, in file order.
+    pub fn messages(&self) -> &[MessageRecord]
+        ensures messages { result.now ≡ self.now.messages }
+        ensures orderly { IsOrderly self.now }
+    {
+        self.messages.as_slice()
+    }
+
+    /// The logs of the incarnations of the nodes, by ascending node and then incarnation.
+    pub fn logs(&self) -> &[LogRecord<'a>]
+        ensures logs { map log_parts result.now ≡ self.now.logs }
+        ensures orderly { IsOrderly self.now }
+    {
+        self.logs.as_slice()
+    }
+
+    /// The failure signs that running logs tell of, by ascending cycle and then node.
+    pub fn signs(&self) -> &[SignRecord]
+        ensures signs { result.now ≡ self.now.signs }
+        ensures orderly { IsOrderly self.now }
+    {
+        self.signs.as_slice()
+    }
+}

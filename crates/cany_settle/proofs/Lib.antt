@@ -1,0 +1,13 @@
+pub mod Asked
+pub mod Backlogs
+pub mod LastEventFacts
+pub mod LastSlotFacts
+pub mod LongEnough
+pub mod Resting
+pub mod Rests
+pub mod Rows
+pub mod Settles
+pub mod TextBegins
+pub mod TextFacts
+pub mod TopFacts
+pub mod Turns

@@ -1,0 +1,4 @@
+pub mod LastEvent
+pub mod LongEnough
+pub mod TailText
+pub mod Top

@@ -1,0 +1,45 @@
+//! Whether a run was long enough.
+ghost use Rattle.std.specs.Prelude.{◌≡◌, ◌≤◌, ◌↔◌, true, IsTrue};
+ghost use Rattle.cany_model.specs.Promises.Hypothesis.{IsWithin};
+ghost use Rattle.cany_model.specs.Runs.Run.{has_ended};
+ghost use Rattle.cany_settle.specs.LongEnough as enough;
+ghost use Rattle.cany_settle.specs.LongEnough.{AllSettled, IsLongEnough};
+ghost use Rattle.cany_world.specs.World.{state_of};
+
+use crate::events::last_event;
+use cany_base::{Params, Scenario};
+use cany_world::World;
+
+fn tail_of(params: &Params) -> u64
+    ensures tail { result ≡ enough.tail params.now }
+    ensures most { result ≤ 8000000 }
+{
+    2 * params.cycle
+}
+
+/// How many slots a run of the scenario is to go on after its last event, so that every message is
+/// settled: two membership cycles. At most 8,000,000.
+pub fn tail(scenario: &Scenario) -> u64
+    ensures tail { result ≡ enough.tail scenario.now.params }
+    ensures most { result ≤ 8000000 }
+{
+    tail_of(scenario.params())
+}
+
+/// How many slots the run would have to have, to be long enough.
+pub(crate) fn needed(world: &World) -> u64
+    ensures { result ≡ enough.needed world.now.scenario (state_of world.now) }
+{
+    let params = world.scenario().params();
+    last_event(world) + tail_of(params)
+}
+
+/// Whether an ended run went on for the tail after its last event. If it did, and is within the
+/// fault hypothesis, every message is settled.
+pub fn long_enough(world: &World) -> bool
+    requires ended { has_ended world.now.scenario (state_of world.now) ≡ true }
+    ensures exact { IsTrue result ↔ IsLongEnough world.now.scenario (state_of world.now) }
+    ensures settled { result ≡ true → IsWithin world.now.scenario.params (state_of world.now).trace → AllSettled world.now.scenario (state_of world.now) }
+{
+    needed(world) <= world.scenario().params().slots
+}

@@ -1,0 +1,125 @@
+//! The text of a run: whether it was long enough.
+ghost use Rattle.std.specs.Prelude.{◌≡◌, ◌≤◌, length};
+ghost use Rattle.std.specs.List.{concat};
+ghost use Rattle.cany_log.specs.Summary.{open_count, settled_count, settled_line};
+ghost use Rattle.cany_log.specs.Written.{IsWritten};
+ghost use Rattle.cany_settle.specs.TailText as text;
+ghost use Rattle.cany_settle.specs.TailText.{tail_text};
+ghost use Rattle.cany_world.specs.World.{state_of};
+
+use crate::events::last_event;
+use crate::length::{needed, tail};
+use crate::row::Row;
+use cany_io::{Failed, Sink};
+use cany_log::write_hypothesis;
+use cany_world::World;
+
+/// Writes a line of a word.
+#[tactic(auto, unfolding(crate::specs::TailText::word_line, cany_text::specs::ReportLines::line_of))]
+fn write_word<K: Sink>(word: &'static str, sink: &mut K) -> Result<(), Failed>
+    requires { length word.now ≤ 16 }
+    ensures { IsWritten (text.word_line word.now) result
+        (K.taken sink.old) (K.taken sink.new) (K.faults sink.old) (K.faults sink.new) }
+{
+    Row::new(word).write(sink)
+}
+
+/// Writes a line of a word and a number.
+#[tactic(auto, unfolding(crate::specs::TailText::number_line, cany_text::specs::ReportLines::line_of))]
+fn write_number<K: Sink>(word: &'static str, number: u64, sink: &mut K) -> Result<(), Failed>
+    requires { length word.now ≤ 16 }
+    ensures { IsWritten (text.number_line word.now number) result
+        (K.taken sink.old) (K.taken sink.new) (K.faults sink.old) (K.faults sink.new) }
+{
+    let mut row = Row::new(word);
+    row.number(number);
+    row.write(sink)
+}
+
+/// How many messages are settled.
+fn settled_count(world: &World) -> usize
+    ensures count { result ≡ settled_count world.now.scenario (state_of world.now) }
+    ensures few { result ≤ length world.now.scenario.sends }
+{
+    let mut settled = 0usize;
+    for i in 0..world.scenario().sends().len() {
+        settled += usize::from(world.settled(i));
+    }
+    settled
+}
+
+/// How many messages are not settled.
+fn open_count(world: &World) -> usize
+    ensures { result ≡ open_count world.now.scenario (state_of world.now) }
+{
+    world.scenario().sends().len() - settled_count(world)
+}
+
+/// Writes how many messages are settled, and how many are not.
+fn write_settled<K: Sink>(world: &World, sink: &mut K) -> Result<(), Failed>
+    ensures { IsWritten (settled_line world.now.scenario (state_of world.now)) result
+        (K.taken sink.old) (K.taken sink.new) (K.faults sink.old) (K.faults sink.new) }
+{
+    let mut row = Row::new("settled");
+    row.number(settled_count(world) as u64);
+    row.word("open");
+    row.number(open_count(world) as u64);
+    row.write(sink)
+}
+
+/// Writes whether the run was long enough, or how long it would have to be.
+fn write_enough<K: Sink>(world: &World, sink: &mut K) -> Result<(), Failed>
+    ensures { IsWritten (text.enough_line world.now.scenario (state_of world.now)) result
+        (K.taken sink.old) (K.taken sink.new) (K.faults sink.old) (K.faults sink.new) }
+{
+    let needed = needed(world);
+    if needed <= world.scenario().params().slots {
+        write_word("enough", sink)
+    } else {
+        write_number("short", needed, sink)
+    }
+}
+
+/// Writes the same, where the scenario has no restarts: of one that has, nothing is claimed.
+fn write_claim<K: Sink>(world: &World, sink: &mut K) -> Result<(), Failed>
+    ensures { IsWritten (text.claim_line world.now.scenario (state_of world.now)) result
+        (K.taken sink.old) (K.taken sink.new) (K.faults sink.old) (K.faults sink.new) }
+{
+    if world.scenario().restarts().is_empty() {
+        write_enough(world, sink)
+    } else {
+        write_word("unclaimed", sink)
+    }
+}
+
+/// Writes the lengths: the tail, the last event and the slots.
+fn write_lengths<K: Sink>(world: &World, sink: &mut K) -> Result<(), Failed>
+    ensures { IsWritten (concat (text.lengths_lines world.now.scenario (state_of world.now))) result
+        (K.taken sink.old) (K.taken sink.new) (K.faults sink.old) (K.faults sink.new) }
+{
+    write_number("tail", tail(world.scenario()), sink)?;
+    write_number("last", last_event(world), sink)?;
+    write_number("slots", world.scenario().params().slots, sink)
+}
+
+/// Writes what became of the messages and of the fault hypothesis, and the end.
+fn write_ending<K: Sink>(world: &World, sink: &mut K) -> Result<(), Failed>
+    ensures { IsWritten (concat (text.ending_lines world.now.scenario (state_of world.now))) result
+        (K.taken sink.old) (K.taken sink.new) (K.faults sink.old) (K.faults sink.new) }
+{
+    write_settled(world, sink)?;
+    write_hypothesis(world.hypothesis(), sink)?;
+    write_word("end", sink)
+}
+
+/// Writes the text of the world's run, line by line: how long it has to go on after its last event,
+/// which slot that was, and whether it did. It takes no memory. A run that has not ended has a text
+/// too: of what happened so far.
+pub fn write_tail<K: Sink>(world: &World, sink: &mut K) -> Result<(), Failed>
+    ensures { IsWritten (tail_text world.now.scenario world.now.journal) result
+        (K.taken sink.old) (K.taken sink.new) (K.faults sink.old) (K.faults sink.new) }
+{
+    write_lengths(world, sink)?;
+    write_claim(world, sink)?;
+    write_ending(world, sink)
+}

@@ -1,0 +1,125 @@
+"""Scenarios that are smaller than one: without some of its entries or nodes, with smaller sets, fewer slots, or earlier entries."""
+from scenario import TABLES
+
+# The classes whose frames are those of a message, which removing an earlier send of its origin renumbers.
+OF_MESSAGES = ("ed", "rel", "tot", "accept", "confirm")
+OPTIONAL = ("journal", "members", "confirm", "silence", "life", "cycle", "bound", "errors", "omit", "lag")
+LEAST_NODES = 2
+
+
+def changed(scenario, **tables):
+    """The scenario with other tables or keys; one that is None or an empty table goes."""
+    found = {**scenario, **tables}
+    return {key: it for key, it in found.items() if it is not None and not (key in TABLES and not it)}
+
+
+def without_send(scenario, place):
+    """Later messages of the origin are renumbered, also in the fault rules; rules for frames of this one go."""
+    sends = scenario["send"]
+    origin = sends[place]["node"]
+    seq = sum(it["node"] == origin for it in sends[:place])
+    rules = []
+    for rule in scenario.get("fault", []):
+        if rule.get("class") in OF_MESSAGES and rule["node"] == origin and rule["number"] >= seq:
+            if rule["number"] == seq:
+                continue
+            rule = {**rule, "number": rule["number"] - 1}
+        rules.append(rule)
+    return changed(scenario, send=sends[:place] + sends[place + 1 :], fault=rules)
+
+
+def without_entries(scenario, table, first, last):
+    if table != "send":
+        return changed(scenario, **{table: scenario[table][:first] + scenario[table][last:]})
+    for place in reversed(range(first, last)):
+        scenario = without_send(scenario, place)
+    return scenario
+
+
+def fewer_entries(scenario):
+    """Large parts of a table go first, then smaller ones."""
+    for table in TABLES:
+        count = len(scenario.get(table, []))
+        size = count
+        while size:
+            for first in reversed(range(0, count, size)):
+                yield without_entries(scenario, table, first, min(first + size, count))
+            size //= 2
+
+
+def with_entry(scenario, table, place, entry):
+    entries = scenario[table]
+    return changed(scenario, **{table: entries[:place] + [entry] + entries[place + 1 :]})
+
+
+def smaller_sets(scenario):
+    for place, rule in enumerate(scenario.get("fault", [])):
+        for name in ("reject", "stop"):
+            nodes = rule.get(name, [])
+            for node in nodes:
+                left = [it for it in nodes if it != node]
+                others = {key: it for key, it in rule.items() if key != name}
+                yield with_entry(scenario, "fault", place, {**others, **({name: left} if left else {})})
+
+
+def without_node(scenario, node):
+    """The nodes above have numbers one less. None where an entry is of the node itself."""
+    less = lambda it: it - 1 if it > node else it
+    tables = {}
+    for table in TABLES:
+        entries = [dict(it) for it in scenario.get(table, [])]
+        if any(it.get("node") == node for it in entries):
+            return None
+        for entry in entries:
+            if "node" in entry:
+                entry["node"] = less(entry["node"])
+            for name in ("reject", "stop"):
+                nodes = [less(it) for it in entry.pop(name, []) if it != node]
+                entry.update({name: nodes} if nodes else {})
+        tables[table] = entries
+    members = [less(it) for it in scenario["members"] if it != node] if "members" in scenario else None
+    return changed(scenario, nodes=scenario["nodes"] - 1, members=members, **tables)
+
+
+def fewer_nodes(scenario):
+    if scenario["nodes"] > LEAST_NODES:
+        yield from filter(None, (without_node(scenario, node) for node in reversed(range(scenario["nodes"]))))
+
+
+def below(number, least):
+    """Numbers below one, the farthest first and each nearer than the one before."""
+    step = number - least
+    while step > 0:
+        yield number - step
+        step //= 2
+
+
+def fewer_slots(scenario):
+    """Entries that would then lie behind the end go too."""
+    for slots in below(scenario["slots"], 1):
+        tables = {table: [it for it in scenario.get(table, []) if it.get("slot", 0) < slots] for table in TABLES}
+        if all(len(tables[table]) == len(scenario.get(table, [])) for table in TABLES):
+            yield changed(scenario, slots=slots, **tables)
+
+
+def earlier_slots(scenario):
+    for table in TABLES:
+        for place, entry in enumerate(scenario.get(table, [])):
+            yield from (with_entry(scenario, table, place, {**entry, "slot": slot}) for slot in below(entry.get("slot", 0), 0))
+            yield from (with_entry(scenario, table, place, {**entry, "nth": nth}) for nth in below(entry.get("nth", 1), 1))
+
+
+def shorter_payloads(scenario):
+    """A send without the key has no bytes."""
+    for place, send in enumerate(scenario.get("send", [])):
+        if "data" in send:
+            yield with_entry(scenario, "send", place, {key: it for key, it in send.items() if key != "data"})
+
+
+def fewer_keys(scenario):
+    """A parameter that is left out has its default."""
+    yield from (changed(scenario, **{key: None}) for key in OPTIONAL if key in scenario)
+
+
+# What is tried, in this order, again and again until nothing helps.
+WAYS = (fewer_keys, fewer_entries, fewer_slots, fewer_nodes, smaller_sets, earlier_slots, shorter_payloads)
