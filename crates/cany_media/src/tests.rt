@@ -63,9 +63,16 @@ fn plans(rt: HostRuntime) -> Result<(), Fail> {
             state: Line::Down,
         },
     ];
-    let plan = MediaPlan::build(alloc, &faults).unwrap();
-    let scenario = scenario_in(alloc, TEXT.as_bytes().to_vec(alloc)?).unwrap();
-    let one = single(alloc, &scenario, &plan).unwrap();
+    let plan = MediaPlan::build(alloc, &faults)
+        .ok()
+        .ok_or("no two share a slot")?;
+    let text = TEXT.as_bytes().to_vec(alloc)?;
+    let scenario = scenario_in(alloc, text)
+        .ok()
+        .ok_or("the text has a scenario")?;
+    let one = single(alloc, &scenario, &plan)
+        .ok()
+        .ok_or("there are few rules")?;
     let seen = (plan.lines(3), plan.lines(4), one.rules().len());
     assert!(rt; seen == ((Line::Down, Line::Down), (Line::Whole, Line::Down), 1));
     Ok(())
