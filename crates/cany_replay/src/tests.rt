@@ -8,6 +8,7 @@ use std::alloc::{AllocError, Global};
 use std::test::Fail;
 
 mod journals;
+mod stops;
 mod storms;
 mod streams;
 mod words;
