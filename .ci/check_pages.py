@@ -9,6 +9,7 @@ from pathlib import Path
 sys.dont_write_bytecode = True
 ROOT = Path(__file__).resolve().parent.parent
 
+import answers
 import calls
 import counts
 import examples
@@ -29,6 +30,7 @@ def main():
         "words and links": lambda: words.check(ROOT, tally),
         "examples": lambda: examples.check(ROOT, tally, built),
         "counts": lambda: counts.check(ROOT, tally),
+        "answers": lambda: answers.check(ROOT, tally),
     }
     for subject, check in subjects.items():
         passed, failed = tally.passed, tally.failed
