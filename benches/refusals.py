@@ -170,6 +170,9 @@ def main():
             ("`storm 7`", ["storm", "7"], b""),
             ("`run` of `one_message_no_fault`", ["run"], scenarios["one_message_no_fault"]),
             ("`run` with a lag and a stop", ["run"], LAGGING),
+            ("`replica` of `table_order_decides`", ["replica"], scenarios["table_order_decides"]),
+            ("`media` of `blind_slot`", ["media", "0:1-1:down", "1:0-2:split:0"], scenarios["blind_slot"]),
+            ("`tail` of `tail_enough`", ["tail"], scenarios["tail_enough"]),
         ]:
             print(f"| {name} | {refusals.allocations(name, words, text):,} |", flush=True)
             refusals.streams(name, words, text)
