@@ -3,7 +3,7 @@ ghost use Rattle.cany_base.specs.Limits.{most_nodes};
 
 use crate::nodes::nodes_of;
 use crate::status::HELD;
-use crate::{CrewFault, Gate, crew_run, free_gates, run_top};
+use crate::{CrewFault, Gate, crew_run, free_gates, free_run, run_top};
 use cany_base::limits::MOST_NODES;
 use cany_base::{NodeId, Slot, Step};
 use cany_command::status::{DONE, OTHER_WORDS, READ_FAULT, REFUSED, WRITE_FAULT};

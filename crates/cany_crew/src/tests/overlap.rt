@@ -106,7 +106,8 @@ fn a_gate_refuses(rt: HostRuntime) -> Result<(), Fail> {
 #[test]
 fn free_gates_pass(rt: HostRuntime) -> Result<(), Fail> {
     let mut gates = free_gates(rt.alloc())?;
-    let outcome = work(&rt, rt.alloc(), &mut gates)?;
-    assert!(rt; gates.len() == 64 && outcome == WHOLE);
+    let world = world_of(rt.alloc(), ONE_MESSAGE)?;
+    let run = free_run(&rt, rt.alloc(), world, &mut gates);
+    assert!(rt; gates.len() == 64 && outcome_of(&run) == WHOLE);
     Ok(())
 }
