@@ -48,14 +48,32 @@ fn words_and_given_journal(rt: HostRuntime) -> Result<(), Fail> {
     Ok(())
 }
 
-/// The first line is taken where the second write fails.
+/// Whether so many lines were written, and the first of them is that of a report.
+fn begins_a_report(taken: &[u8], lines: u32) -> bool {
+    let ends = taken.iter().filter(|byte| **byte == b'\n').count();
+    ends == lines as usize && (lines == 0 || taken.starts_with(b"canely report 1\n"))
+}
+
+/// The text is read in one piece, and a second read finds the end.
 #[test]
-fn a_read_or_a_write_fails(rt: HostRuntime) -> Result<(), Fail> {
-    let alloc = rt.alloc();
-    let unread = Streams::failing(alloc, ONE_MESSAGE, &[1], &[])?;
-    let is_unread = comes_to(&rt, alloc, unread, READ_FAULT, b"")?;
-    let unwritten = Streams::failing(alloc, ONE_MESSAGE, &[], &[2])?;
-    let is_unwritten = comes_to(&rt, alloc, unwritten, WRITE_FAULT, b"canely report 1\n")?;
-    assert!(rt; is_unread && is_unwritten);
+fn each_read_fails_in_turn(rt: HostRuntime) -> Result<(), Fail> {
+    for k in 1..3u32 {
+        let streams = Streams::failing(rt.alloc(), ONE_MESSAGE, &[k], &[])?;
+        let is_unread = comes_to(&rt, rt.alloc(), streams, READ_FAULT, b"")?;
+        assert!(rt; is_unread, "at {k}");
+    }
+    Ok(())
+}
+
+/// A line is one write, and the report has 14.
+#[test]
+fn each_write_fails_in_turn(rt: HostRuntime) -> Result<(), Fail> {
+    for k in 1..16u32 {
+        let mut streams = Streams::failing(rt.alloc(), ONE_MESSAGE, &[], &[k])?;
+        let status = free_status(&rt, rt.alloc(), &["run"], &mut streams)?;
+        let wanted = if k < 15 { WRITE_FAULT } else { DONE };
+        let is_start = begins_a_report(streams.taken(), k - 1);
+        assert!(rt; status == wanted && is_start, "at {k}");
+    }
     Ok(())
 }
