@@ -14,7 +14,7 @@ use Rattle.cany_check.specs.Words.{counting, counting_for_sign, delivers, entry_
 
 -- ---- slots of entries
 
--- and one slot more
+-- these slots, and one more
 abbrev pub with_slot : Option Slots → ℕ → Option Slots
 with_slot None slot = Some (record { first = slot; last = slot })
 with_slot (Some slots) slot = Some (record { first = min slot slots.first; last = max slot slots.last })

@@ -78,7 +78,7 @@ unused_ask scenario s c ask = carried_or_not (is_carried_later scenario s c ask)
 
 -- ---- fault rules
 
--- the note of the slot that carried the frame as its attempt of this number: of slots newest first
+-- the slot that carried the frame as its attempt of this number: of slots newest first
 unfoldable pub attempt_slot : Identity → ℕ → List SlotNote → Option ℕ
 attempt_slot x nth [] = None
 attempt_slot x nth (note ∷ before) =
@@ -110,7 +110,7 @@ is_receiver s note i = ran_in s note.slot i && not (has note.senders i)
 abbrev pub some_node_of : Nodes → (ℕ → Bool) → Bool
 some_node_of nodes test = list_any (λ i. has nodes i && test i) (range_with_len 0 most_nodes)
 
--- what the verdict of a rule that acts in this slot did nothing of
+-- why the verdict of a rule that acts in this slot had no effect, where it had none
 abbrev pub unused_verdict : RunState → ℕ → Verdict → Option SlotNote → List NoFault
 unused_verdict s slot verdict note =
     if not (is_clean_verdict verdict) && is_idle note then Idle slot ∷ []
@@ -119,7 +119,7 @@ unused_verdict s slot verdict note =
     then RejectsNobody slot ∷ []
     else []
 
--- and what its stops did nothing of
+-- and why its stops had none
 abbrev pub unused_stops : ℕ → Nodes → Option SlotNote → List NoFault
 unused_stops slot stop note =
     if not (is_nobody stop) && not (some_node_of stop (λ i. option_map_or (λ n. has n.stops i) note false)) then StopsNobody slot ∷ [] else []

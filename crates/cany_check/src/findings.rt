@@ -29,7 +29,8 @@ pub enum Fate {
     All,
     /// None of them has it, and none had to.
     Nobody,
-    /// Some lack what others have, or what one of them sent.
+    /// Some lack what others have, or what one of them was to send; or all know a sign that was
+    /// never carried.
     Apart,
     /// More may come of it.
     Open,

@@ -11,6 +11,7 @@ mod findings;
 pub mod laws;
 mod record;
 mod signs;
+mod threads;
 mod unused;
 
 pub use account::Account;
