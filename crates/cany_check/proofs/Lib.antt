@@ -7,6 +7,7 @@ pub mod FatesOfRun
 pub mod HolderFacts
 pub mod InOrderFacts
 pub mod IntegrityOfRun
+pub mod IntegrityRows
 pub mod OrderOfRun
 pub mod PartingFacts
 pub mod RowWords
