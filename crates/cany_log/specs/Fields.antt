@@ -3,9 +3,9 @@ use Rattle.std.specs.Prelude.{ℕ, ◌+◌, List, [], ◌∷◌, Option, Some, N
 use Rattle.std.specs.List.{flat_map}
 use Rattle.cany_base.specs.Nodes.{Nodes}
 use Rattle.cany_log.specs.declared.field.Field.{Field}
-use Rattle.cany_log.specs.declared.field.Field.TheVariants.{Text, Number, Count, SignedNumber, Node, Bytes, Set, NumberIfAny, SetIfAny}
+use Rattle.cany_log.specs.declared.field.Field.TheVariants.{Text, Number, Count, SignedNumber, Node, Byte, Bytes, Set, NumberIfAny, SetIfAny}
 use Rattle.cany_text.specs.RefusalLines.{signed_decimal}
-use Rattle.cany_text.specs.ReportLines.{has_any, node_text, payload_text, set_text}
+use Rattle.cany_text.specs.ReportLines.{byte_text, has_any, node_text, payload_text, set_text}
 
 -- the word and the number, where there is one
 abbrev pub number_if_any : List ℕ → Option ℕ → List (List ℕ)
@@ -23,6 +23,7 @@ texts_of (Number n) = decimal n ∷ []
 texts_of (Count n) = decimal n ∷ []
 texts_of (SignedNumber n) = signed_decimal n ∷ []
 texts_of (Node node inc) = node_text node inc ∷ []
+texts_of (Byte byte) = byte_text byte ∷ []
 texts_of (Bytes payload) = payload_text payload ∷ []
 texts_of (Set nodes) = set_text nodes ∷ []
 texts_of (NumberIfAny word n) = number_if_any word.now n
@@ -46,6 +47,10 @@ most_count_bytes = 39
 abbrev pub most_node_bytes : ℕ
 most_node_bytes = 6
 
+-- a byte in hexadecimal
+abbrev pub most_byte_bytes : ℕ
+most_byte_bytes = 2
+
 -- a payload of 8 bytes
 abbrev pub most_payload_bytes : ℕ
 most_payload_bytes = 17
@@ -61,6 +66,7 @@ most_bytes (Number n) = 1 + most_number_bytes
 most_bytes (Count n) = 1 + most_count_bytes
 most_bytes (SignedNumber n) = 1 + most_number_bytes
 most_bytes (Node node inc) = 1 + most_node_bytes
+most_bytes (Byte byte) = 1 + most_byte_bytes
 most_bytes (Bytes payload) = 1 + most_payload_bytes
 most_bytes (Set nodes) = 1 + most_set_bytes
 most_bytes (NumberIfAny word n) = (1 + length word.now) + (1 + most_number_bytes)

@@ -1,8 +1,9 @@
 use cany_base::{NodeId, NodeSet, Payload};
 
-/// A piece of a line: one field of it, or two that stand there together or not at all.
+/// A piece of a line: one field of it, or two that stand there together or not at all. Fields stand
+/// a space apart.
 #[derive(Clone, Copy, Debug)]
-pub(crate) enum Field {
+pub enum Field {
     /// Fixed words.
     Text(&'static str),
     /// A number, in decimal.
@@ -13,6 +14,8 @@ pub(crate) enum Field {
     SignedNumber(i64),
     /// A node by its number, with that of its incarnation where it is not the first.
     Node(NodeId, u8),
+    /// A byte, as two hexadecimal digits.
+    Byte(u8),
     /// The bytes of a data frame or of a message, in hexadecimal.
     Bytes(Payload),
     Set(NodeSet),

@@ -19,10 +19,12 @@ mod scenario_refusal;
 mod summary;
 
 pub use entries::write_entry;
+pub use field::Field;
 pub use hypothesis::write_hypothesis;
+pub use line::{SHORT_LINE_BYTES, write_line, write_short_line};
 pub use refusal::{Refusal, write_refusal};
 pub use report::write_report;
-pub use summary::write_summary;
+pub use summary::{write_settled, write_summary};
 
 #[cfg(test)]
 mod tests;

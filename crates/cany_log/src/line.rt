@@ -11,8 +11,8 @@ use cany_base::limits::MOST_LINE_BYTES;
 use cany_base::{NodeSet, Step};
 use cany_io::{Failed, Sink, write_whole};
 
-/// How many bytes a short line has at most.
-const SHORT_LINE_BYTES: usize = 256;
+/// How many bytes a short line has at most, its line feed included.
+pub const SHORT_LINE_BYTES: usize = 256;
 
 /// How many bytes a line of the journal has at most: its word, 64 letters and the line feed.
 const JOURNAL_LINE_BYTES: usize = 73;
@@ -66,6 +66,7 @@ fn put_field<const ROOM: usize>(line_buffer: &mut LineBuffer<ROOM>, field: &Fiel
         Field::Count(number) => line_buffer.put_count(number),
         Field::SignedNumber(number) => line_buffer.put_signed(number),
         Field::Node(node, inc) => line_buffer.put_node(node, inc),
+        Field::Byte(byte) => line_buffer.put_octet(byte),
         Field::Bytes(payload) => line_buffer.put_payload(&payload),
         Field::Set(set) => line_buffer.put_set(set),
         Field::NumberIfAny(word, number) => put_number_if_any(line_buffer, word, number),
@@ -96,8 +97,10 @@ fn write_row<const ROOM: usize, K: Sink>(
     write_whole(sink, line_buffer.as_slice())
 }
 
-/// Writes a line that begins with these words.
-pub(crate) fn write_line<K: Sink>(
+/// Writes a line that begins with these words, by one call of the sink where it takes all. A line
+/// has at most [`MOST_LINE_BYTES`] bytes, its line feed included. It takes no memory. `Failed` comes
+/// only where the sink fails; what it took then is a beginning of the line.
+pub fn write_line<K: Sink>(
     words: &'static str,
     fields: &[Field],
     sink: &mut K,
@@ -109,10 +112,10 @@ pub(crate) fn write_line<K: Sink>(
     write_row::<MOST_LINE_BYTES, K>(words, fields, sink)
 }
 
-/// Writes a short line that begins with these words. Lines that a report has many of are short: the
-/// bytes of a line buffer are cleared before it is filled, which for a long one costs as much as
-/// filling it.
-pub(crate) fn write_short_line<K: Sink>(
+/// As [`write_line`], of a line of at most [`SHORT_LINE_BYTES`] bytes. Lines that a text has many of
+/// are short: the bytes of a line buffer are cleared before it is filled, which for a long one costs
+/// as much as filling it.
+pub fn write_short_line<K: Sink>(
     words: &'static str,
     fields: &[Field],
     sink: &mut K,

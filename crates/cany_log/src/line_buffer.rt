@@ -3,7 +3,7 @@
 //! the space before it.
 ghost use Rattle.std.specs.Prelude.{◌≡◌, ◌+◌, ◌≤◌, ◌∷◌, ◌++◌, ◌==◌, [], if◌then◌else◌, codes, length, map, decimal};
 ghost use Rattle.cany_base.specs.Limits.{most_line_bytes};
-ghost use Rattle.cany_log.specs.Fields.{most_count_bytes, most_node_bytes, most_number_bytes, most_payload_bytes, most_set_bytes};
+ghost use Rattle.cany_log.specs.Fields.{most_byte_bytes, most_count_bytes, most_node_bytes, most_number_bytes, most_payload_bytes, most_set_bytes};
 ghost use Rattle.cany_text.specs.RefusalLines.{signed_decimal};
 ghost use Rattle.cany_text.specs.ReportLines.{byte_text, node_text, payload_text, set_text, step_letter};
 
@@ -155,6 +155,16 @@ impl<const ROOM: usize> LineBuffer<ROOM> {
         let mut digits = [0u8; 2];
         hex::encode_to_slice([byte], &mut digits).unwrap();
         self.put_bytes(&digits);
+    }
+
+    /// Puts a byte in hexadecimal.
+    pub(crate) fn put_octet(&mut self, byte: u8)
+        requires { length self.old + (1 + most_byte_bytes) ≤ ROOM }
+        ensures text { self.new ≡ (32 ∷ byte_text byte) ++ self.old }
+        ensures short { length (byte_text byte) ≤ most_byte_bytes }
+    {
+        self.put_hexadecimal(byte);
+        self.put_byte(b' ');
     }
 
     /// Puts the bytes of a payload in hexadecimal.

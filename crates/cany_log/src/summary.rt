@@ -123,9 +123,10 @@ fn open_count(world: &World) -> usize
     world.scenario().sends().len() - settled_count(world)
 }
 
-/// Writes how many messages are settled, and how many are not.
+/// Writes how many messages are settled, and how many are not. It takes no memory. `Failed` comes
+/// only where the sink fails; what it took then is a beginning of the line.
 #[tactic(auto, unfolding(crate::specs::Summary::settled_line))]
-fn write_settled<K: Sink>(world: &World, sink: &mut K) -> Result<(), Failed>
+pub fn write_settled<K: Sink>(world: &World, sink: &mut K) -> Result<(), Failed>
     ensures { IsWritten (summary.settled_line world.now.scenario (state_of world.now)) result
         (K.taken sink.old) (K.taken sink.new) (K.faults sink.old) (K.faults sink.new) }
 {

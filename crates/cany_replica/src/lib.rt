@@ -8,7 +8,6 @@ mod fold;
 pub mod laws;
 mod lines;
 mod reply;
-mod row;
 mod table;
 mod text;
 mod top;

@@ -6,7 +6,7 @@ use Rattle.std.proofs.lemmas.Bool.{eqb-true, false≢true, le-leb, lt-leb}
 use Rattle.cany_base.specs.declared.message.NodeAsk.{NodeAsk}
 use Rattle.cany_base.specs.declared.step.Step.{Step}
 use Rattle.cany_base.specs.Scenario.{ScenarioParts}
-use Rattle.cany_log.specs.Summary.{open_count, settled_count, settled_line}
+use Rattle.cany_log.specs.Summary.{settled_line}
 use Rattle.cany_model.specs.declared.breaks.Break.{Break}
 use Rattle.cany_model.specs.Bus.State.{RunState}
 use Rattle.cany_model.specs.Promises.Hypothesis.{first_break}
@@ -14,19 +14,7 @@ use Rattle.cany_model.specs.Runs.Run.{run}
 use Rattle.cany_settle.specs.LastEvent.{last_event}
 use Rattle.cany_settle.specs.LongEnough.{needed, tail}
 use Rattle.cany_settle.specs.TailText.{claim_line, ending_lines, enough_line, lengths_lines, number_line, tail_lines, tail_text, word_line}
-use Rattle.cany_text.specs.ReportLines.{hypothesis_line, line_of}
-
-three_fields : (word a b c : List ℕ) → ((word ++ 32 ∷ a) ++ 32 ∷ b) ++ 32 ∷ c ≡ word ++ 32 ∷ (a ++ 32 ∷ (b ++ 32 ∷ c))
-three_fields word a b c = simp append_assoc
-
-pub settled_text : (scenario : ScenarioParts) (s : RunState) (settled left : ℕ) (row : List ℕ) → settled ≡ settled_count scenario s
-    → left ≡ open_count scenario s → row ≡ ((codes "settled" ++ 32 ∷ decimal settled) ++ 32 ∷ codes "open") ++ 32 ∷ decimal left
-    → settled_line scenario s ≡ row ++ 10 ∷ []
-unfolding settled_line line_of
-settled_text scenario s settled left row a b is =
-    sym (ap (λ r. r ++ 10 ∷ []) (is ∙ three_fields (codes "settled") (decimal settled) (codes "open") (decimal left))
-    ∙ ap (λ n. (codes "settled" ++ 32 ∷ (decimal n ++ 32 ∷ (codes "open" ++ 32 ∷ decimal left))) ++ 10 ∷ []) a
-    ∙ ap (λ n. (codes "settled" ++ 32 ∷ (decimal (settled_count scenario s) ++ 32 ∷ (codes "open" ++ 32 ∷ decimal n))) ++ 10 ∷ []) b)
+use Rattle.cany_text.specs.ReportLines.{hypothesis_line}
 
 pub lengths-is : (scenario : ScenarioParts) (s : RunState) (t last slots : ℕ) → t ≡ tail scenario.params → last ≡ last_event scenario s
     → slots ≡ scenario.params.slots

@@ -5,7 +5,6 @@
 mod events;
 pub mod laws;
 mod length;
-mod row;
 mod text;
 mod top;
 

@@ -1,7 +1,6 @@
 //! The text of a run: whether it was long enough.
 ghost use Rattle.std.specs.Prelude.{◌≡◌, ◌≤◌, length};
 ghost use Rattle.std.specs.List.{concat};
-ghost use Rattle.cany_log.specs.Summary.{open_count, settled_count, settled_line};
 ghost use Rattle.cany_log.specs.Written.{IsWritten};
 ghost use Rattle.cany_settle.specs.TailText as text;
 ghost use Rattle.cany_settle.specs.TailText.{tail_text};
@@ -9,9 +8,8 @@ ghost use Rattle.cany_world.specs.World.{state_of};
 
 use crate::events::last_event;
 use crate::length::{needed, tail};
-use crate::row::Row;
 use cany_io::{Failed, Sink};
-use cany_log::write_hypothesis;
+use cany_log::{Field, write_hypothesis, write_settled, write_short_line};
 use cany_world::World;
 
 /// Writes a line of a word.
@@ -21,7 +19,7 @@ fn write_word<K: Sink>(word: &'static str, sink: &mut K) -> Result<(), Failed>
     ensures { IsWritten (text.word_line word.now) result
         (K.taken sink.old) (K.taken sink.new) (K.faults sink.old) (K.faults sink.new) }
 {
-    Row::new(word).write(sink)
+    write_short_line(word, &[], sink)
 }
 
 /// Writes a line of a word and a number.
@@ -31,40 +29,7 @@ fn write_number<K: Sink>(word: &'static str, number: u64, sink: &mut K) -> Resul
     ensures { IsWritten (text.number_line word.now number) result
         (K.taken sink.old) (K.taken sink.new) (K.faults sink.old) (K.faults sink.new) }
 {
-    let mut row = Row::new(word);
-    row.number(number);
-    row.write(sink)
-}
-
-/// How many messages are settled.
-fn settled_count(world: &World) -> usize
-    ensures count { result ≡ settled_count world.now.scenario (state_of world.now) }
-    ensures few { result ≤ length world.now.scenario.sends }
-{
-    let mut settled = 0usize;
-    for i in 0..world.scenario().sends().len() {
-        settled += usize::from(world.settled(i));
-    }
-    settled
-}
-
-/// How many messages are not settled.
-fn open_count(world: &World) -> usize
-    ensures { result ≡ open_count world.now.scenario (state_of world.now) }
-{
-    world.scenario().sends().len() - settled_count(world)
-}
-
-/// Writes how many messages are settled, and how many are not.
-fn write_settled<K: Sink>(world: &World, sink: &mut K) -> Result<(), Failed>
-    ensures { IsWritten (settled_line world.now.scenario (state_of world.now)) result
-        (K.taken sink.old) (K.taken sink.new) (K.faults sink.old) (K.faults sink.new) }
-{
-    let mut row = Row::new("settled");
-    row.number(settled_count(world) as u64);
-    row.word("open");
-    row.number(open_count(world) as u64);
-    row.write(sink)
+    write_short_line(word, &[Field::Number(number)], sink)
 }
 
 /// Writes whether the run was long enough, or how long it would have to be.
