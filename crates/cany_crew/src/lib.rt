@@ -15,8 +15,6 @@ mod lending;
 mod nodes;
 mod signals;
 pub mod status;
-#[cfg(test)]
-mod tests;
 mod threads;
 mod top;
 mod worker;

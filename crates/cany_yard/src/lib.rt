@@ -10,8 +10,6 @@ mod deck;
 mod locked;
 mod seat;
 mod seating;
-#[cfg(test)]
-mod tests;
 mod threads;
 mod yard;
 

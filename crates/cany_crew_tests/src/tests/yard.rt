@@ -1,8 +1,9 @@
+//! Seats that are worked by hand.
 ghost use Rattle.std.specs.Prelude.{◌≡◌, ◌<◌, [], IfOk};
 
-use crate::{Course, StepReply, TurnReply, Yard};
 use cany_base::{Memory, NodeId, NodeSet, Params, Scenario, Step};
 use cany_world::World;
+use cany_yard::{Course, StepReply, TurnReply, Yard};
 use std::alloc::Global;
 use std::marker::Brand;
 use std::sync::Wait;

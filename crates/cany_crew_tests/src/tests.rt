@@ -1,12 +1,11 @@
 ghost use Rattle.std.specs.Prelude.{◌≡◌, ◌≤◌, [], IfOk, vec_len};
 ghost use Rattle.cany_base.specs.Limits.{most_nodes};
 
-use crate::nodes::nodes_of;
-use crate::status::HELD;
-use crate::{CrewFault, Gate, crew_run, free_gates, free_run, run_top};
 use cany_base::limits::MOST_NODES;
-use cany_base::{NodeId, Slot, Step};
+use cany_base::{NodeId, Scenario, Slot, Step};
 use cany_command::status::{DONE, OTHER_WORDS, READ_FAULT, REFUSED, WRITE_FAULT};
+use cany_crew::status::HELD;
+use cany_crew::{CrewFault, Gate, crew_run, free_gates, free_run, run_top};
 use cany_scenario::read_scenario;
 use cany_world::World;
 use std::alloc::{AllocError, Global};
@@ -19,6 +18,7 @@ mod overlap;
 mod reports;
 mod streams;
 mod words;
+mod yard;
 
 const ONE_MESSAGE: &str = "format = 1
 nodes = 3
@@ -30,6 +30,14 @@ node = 0
 service = \"ed\"
 data = \"01\"
 ";
+
+/// The number of the scenario's nodes, of which there are no more than gates.
+fn nodes_of(scenario: &Scenario) -> u8
+    ensures count { result ≡ scenario.now.params.nodes }
+    ensures few { result ≤ most_nodes }
+{
+    scenario.params().nodes
+}
 
 /// The world of a text before its first step.
 fn world_of(alloc: Global, text: &str) -> Result<World, Fail>

@@ -1,4 +1,4 @@
-use Rattle.cany_yard.proofs.tests.a_seat_is_missing.Given as goal
+use Rattle.cany_crew_tests.proofs.tests.yard.a_seat_is_missing.Given as goal
 
 abbrev pub ghosts-without_one-L-Course : goal.ghosts-without_one-L-Course
 ghosts-without_one-L-Course g a = record { scenario = a.world.scenario }

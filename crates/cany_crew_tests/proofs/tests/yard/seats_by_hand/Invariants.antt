@@ -1,4 +1,4 @@
-use Rattle.cany_yard.proofs.tests.seats_by_hand.Given as goal
+use Rattle.cany_crew_tests.proofs.tests.yard.seats_by_hand.Given as goal
 
 abbrev pub ghosts-worked-L-Course : goal.ghosts-worked-L-Course
 ghosts-worked-L-Course g a = record { scenario = a.world.scenario }

@@ -1,0 +1,6 @@
+//! Tests of the command `run` and of the seats that it works, by their public calls. They stand in a
+//! crate of their own, so that a changed test has no worker proved anew. No crate stands on it.
+#![tactic(auto)]
+
+#[cfg(test)]
+mod tests;
