@@ -1,4 +1,5 @@
-//! What the program says on standard error: one line, where the status is neither success nor that of a refusal.
+//! What the program says on standard error: one line, where the status is neither that of a text that was written nor that of a
+//! refusal.
 use cany_command::MOST_TEXT_BYTES;
 use cany_command::status::{NO_MEMORY, OTHER_WORDS, READ_FAULT, TOO_LONG, WRITE_FAULT};
 use cany_crew::status::HELD;
@@ -61,7 +62,7 @@ fn of_args(alloc: Global, args: &[String]) -> Result<String, AllocError> {
         [arg, rest @ ..] => match arg.as_str() {
             "storm" => of_storm(alloc, rest),
             "media" => String::from_str(alloc, OF_MEDIA),
-            "replay" | "run" | "replica" | "tail" | "--help" | "--version" => {
+            "replay" | "check" | "run" | "replica" | "tail" | "--help" | "--version" => {
                 format!(in alloc; "canely: {arg} takes no arguments; see canely --help\n")
             }
             _ => of_command(alloc, arg.as_str()),

@@ -1,4 +1,5 @@
 //! The text of `--help`.
+use cany_check::status::{BROKEN, OPEN};
 use cany_command::MOST_TEXT_BYTES;
 use cany_command::status::{
     DONE, NO_MEMORY, OTHER_WORDS, READ_FAULT, REFUSED, TOO_LONG, WRITE_FAULT,
@@ -13,6 +14,7 @@ pub(crate) fn help(alloc: Global) -> Result<String, AllocError> {
 Runs scenarios of reliable broadcast on one CAN bus.
 
 usage: canely replay < SCENARIO > REPORT
+       canely check < SCENARIO > VERDICT
        canely run < SCENARIO > REPORT
        canely storm NUMBER > SUMMARY
        canely replica < SCENARIO > TABLES
@@ -23,6 +25,10 @@ usage: canely replay < SCENARIO > REPORT
 
 replay reads a scenario, runs it by its own journal or, where it has none, by the round robin
 journal, and writes the report of the run.
+
+check runs a scenario as replay does, and writes what became of the promise in this run: of each part
+whether it held, with a witness where it did not; who has each message and each failure sign; and
+which entries of the scenario did nothing.
 
 run reads a scenario that has no journal, runs it by a thread for each node and one for the bus,
 and writes the report of the run, with the journal that the threads made.
@@ -61,6 +67,8 @@ exit status: {DONE}  success
              {NO_MEMORY}  out of memory; nothing was written
              {TOO_LONG}  the scenario has more than {MOST_TEXT_BYTES} bytes; nothing was written
              {HELD}  a gate held the run, and nothing was written; no gate of this program does
+             {BROKEN}  check: a part of the promise is broken; the whole verdict was written
+            {OPEN}  check: no part is broken, and one is open: a longer run can tell
 ",
         u32::MAX
     )

@@ -4,6 +4,7 @@
 mod complaint;
 mod help;
 
+use cany_check::check_top;
 use cany_command::status::{DONE, NO_MEMORY, OTHER_WORDS, WRITE_FAULT};
 use cany_crew::{free_gates, run_top};
 use cany_io::{Failed, Sink, Source, StdSink, StdSource, write_whole};
@@ -88,6 +89,7 @@ fn command<R: Threads + Wait + Sync, K: Sink>(
     let alloc = rt.alloc();
     let mut source = StdSource::new(rt.stdin());
     match args {
+        [arg, ..] if arg.as_str() == "check" => check_top(alloc, args, &mut source, sink),
         [arg, ..] if arg.as_str() == "storm" => storm_top(alloc, args, sink),
         [arg, ..] if arg.as_str() == "media" => media_top(alloc, args, &mut source, sink),
         [arg, ..] if arg.as_str() == "run" => run_freely(threads, alloc, args, &mut source, sink),

@@ -1,13 +1,19 @@
 -- The accusations of an account, one log after another.
-use Rattle.std.proofs.Common.{◌≡◌, ◌&&◌, List, [], ◌∷◌, ◌++◌, refl, ap, sym, ◌∙◌, inl, inr}
-use Rattle.std.specs.Prelude.{filter, filter_map, if◌then◌else◌, Option, Some, None}
+use Rattle.std.proofs.Common.{◌≡◌, ℕ, ◌<◌, ◌&&◌, Bool, true, false, List, [], ◌∷◌, ◌++◌, refl, ap, sym, ◌∙◌, inl, inr}
+use Rattle.std.specs.Prelude.{filter, filter_map, if◌then◌else◌, slice_index_or, Option, Some, None, option_map}
 use Rattle.std.specs.List.{cons_option}
 use Rattle.std.proofs.lemmas.Bool.{cases_Bool}
 use Rattle.std.proofs.lemmas.List.Elements.{filter-append}
+use Rattle.std.proofs.lemmas.Option.{get_or_from_slice_get}
+use Rattle.cany_base.specs.Limits.{most_nodes}
 use Rattle.cany_check.specs.declared.findings.Accusation.{Accusation}
+use Rattle.cany_check.specs.declared.holders.Holders.{Holders}
+use Rattle.cany_check.specs.declared.record.Slots.{Slots}
 use Rattle.cany_check.specs.Account.{AccountParts, LogParts, running}
-use Rattle.cany_check.specs.Accuracy.{accusation_of}
-use Rattle.cany_check.specs.Words.{takes_part}
+use Rattle.cany_check.specs.Accuracy.{accusation_of, accuses, is_failure_of}
+use Rattle.cany_check.specs.Fates.{slots_where}
+use Rattle.cany_check.specs.Holders.{AreHolders, counts_since, holders_in, since_ever}
+use Rattle.cany_check.specs.Words.{nodes_of, takes_part}
 
 map_append : {X Y : Type 0} (f : X → Option Y) (xs ys : List X) → filter_map f (xs ++ ys) ≡ filter_map f xs ++ filter_map f ys
 map_append f [] ys = refl
@@ -37,3 +43,26 @@ module _ (a : AccountParts) where
       ∙ sym (map_append (accusation_of a) (filter (takes_part 0) (running logs)) (filter (takes_part 0) (running (x ∷ []))))
       ∙ ap (filter_map (accusation_of a)) (sym (filter-append (takes_part 0) (running logs) (running (x ∷ []))))
       ∙ ap (λ l. filter_map (accusation_of a) (filter (takes_part 0) l)) (sym (filter-append (λ (y : LogParts). y.runs) logs (x ∷ [])))
+
+-- ---- the accusation of one node
+
+all_that_run : (logs : List LogParts) → filter (counts_since None) logs ≡ running logs
+all_that_run [] = refl
+all_that_run (x ∷ logs) = by_test x.runs (filter (counts_since None) logs) (running logs) (all_that_run logs)
+  where
+    by_test : (runs : Bool) (ps qs : List LogParts) → ps ≡ qs → (if runs && true then x ∷ ps else ps) ≡ (if runs then x ∷ qs else qs)
+    by_test true ps qs same = ap (λ l. x ∷ l) same
+    by_test false ps qs same = same
+
+abbrev pub accusation_by : (node : ℕ) → Holders → Option Accusation
+accusation_by node h = option_map (λ slots. record { node = node; by = h.has; first = slots.first }) h.slots
+
+pub accused_by : (a : AccountParts) (log : LogParts) (accusers : List Holders) (i : ℕ) (h : Holders) → AreHolders most_nodes is_failure_of since_ever a.logs accusers
+    → i ≡ log.node → log.node < most_nodes → h ≡ slice_index_or accusers i h → accusation_by log.node h ≡ accusation_of a log
+unfolding holders_in
+accused_by a log accusers i h are here below is =
+    let of_all = holders_in (is_failure_of log.node) None a.logs in
+    let same : h ≡ of_all = is ∙ ap (λ k. slice_index_or accusers k h) here ∙ get_or_from_slice_get accusers log.node of_all h (are.each log.node below) in
+    ap (accusation_by log.node) same
+    ∙ ap (λ logs. option_map (λ (slots : Slots). record { node = log.node; by = nodes_of (filter (accuses log.node) logs); first = slots.first }) (slots_where (is_failure_of log.node) (filter (accuses log.node) logs)))
+    (all_that_run a.logs)

@@ -70,7 +70,7 @@ module _ (scenario : ScenarioParts) (s : RunState) (short : (i : ℕ) → (node_
       ∙ ap (log_from (scenario_for scenario (node_at s.nodes i).present) i) (ended_history-present i s (short i)) in
       λ k. record { node = i; from = from k; runs = runs_here k; entries = entries k }
 
-  record_is : (i number : ℕ) → (log_record scenario s i number).runs ≡ true → (runs (node_at s.nodes i) ≡ true) × (log_record scenario s i number ≡ log_at scenario s i)
+  pub record_is : (i number : ℕ) → (log_record scenario s i number).runs ≡ true → (runs (node_at s.nodes i) ≡ true) × (log_record scenario s i number ≡ log_at scenario s i)
   record_is i number h =
       let parts = and_parts (runs (node_at s.nodes i)) (number == (node_at s.nodes i).present.number) h in
       let here : number ≡ (node_at s.nodes i).present.number = eqb-true number (node_at s.nodes i).present.number parts.1 in

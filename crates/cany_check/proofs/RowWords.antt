@@ -55,7 +55,7 @@ use Rattle.cany_check.specs.declared.findings.Judgement.TheVariants.{Held}
 use Rattle.cany_check.specs.declared.findings.Parting.{Parting}
 use Rattle.cany_check.specs.declared.findings.Told.{Told}
 use Rattle.cany_check.specs.declared.findings.ViewParting.{ViewParting}
-use Rattle.cany_check.specs.declared.unused.Unused.{Unused}
+use Rattle.cany_check.specs.declared.unused_entry.Unused.{Unused}
 use Rattle.cany_check.specs.Account.{AccountParts, account_of, first_where, last_carried}
 use Rattle.cany_check.specs.Accuracy.{accusations}
 use Rattle.cany_check.specs.Fates.{least_and_greatest, message_fate, message_told, sign_fate, sign_told}

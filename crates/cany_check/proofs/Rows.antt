@@ -6,9 +6,9 @@ use Rattle.cany_base.specs.declared.rule.Verdict.TheVariants.{Clean, Lost, Parti
 use Rattle.cany_model.specs.declared.breaks.BreakKind.TheVariants as kind
 use Rattle.cany_check.specs.declared.findings.Fate.TheVariants.{All, Nobody, Apart, Open}
 use Rattle.cany_check.specs.declared.findings.Judgement.TheVariants as judged
-use Rattle.cany_check.specs.declared.unused.NoAsk.TheVariants.{From, Stopped, NeverCarried}
-use Rattle.cany_check.specs.declared.unused.NoFault.TheVariants.{Attempts, Ruled, Idle, RejectsNobody, StopsNobody}
-use Rattle.cany_check.specs.declared.unused.UnusedEntry.TheVariants as entry
+use Rattle.cany_check.specs.declared.unused_entry.NoAsk.TheVariants.{From, Stopped, NeverCarried}
+use Rattle.cany_check.specs.declared.unused_entry.NoFault.TheVariants.{Attempts, Ruled, Idle, RejectsNobody, StopsNobody}
+use Rattle.cany_check.specs.declared.unused_entry.UnusedEntry.TheVariants as entry
 use Rattle.cany_check.proofs.RowWords.{all_held, asks, delivered, found_of, frame_rule, never_sent, row, send, set, settled, slot_rule, slots, tells, three}
 
 -- ---- runs in which nothing is amiss, or more may come

@@ -1,33 +1,65 @@
--- Who of the nodes of some logs knows a sign, who lacks it, and who takes a node for failed.
-use Rattle.std.specs.Prelude.{◌≡◌, ◌==◌, ◌&&◌, ℕ, Bool, not, List, filter, map, Option, None}
-use Rattle.std.specs.List.{flat_map, fold, list_any}
-use Rattle.cany_base.specs.Nodes.{Nodes, has}
-use Rattle.cany_check.specs.declared.record.SignRecord.{SignRecord}
-use Rattle.cany_check.specs.declared.record.Slots.{Slots}
+-- Who has what entries of logs tell of: a message, a failure sign, or that a node failed.
+use Rattle.std.specs.Prelude.{◌≡◌, ◌<◌, ◌==◌, ◌&&◌, ℕ, Bool, true, false, if◌then◌else◌, List, filter, length, slice_get, Option, None, Some, IfSome}
+use Rattle.std.specs.List.{list_any}
+use Rattle.std.specs.Option.{option_map_or}
+use Rattle.cany_base.specs.declared.log_entry.LogEntry.{LogEntry}
+use Rattle.cany_base.specs.Nodes.{nobody, with_node}
+use Rattle.cany_check.specs.declared.holders.Holders.{Holders}
 use Rattle.cany_check.specs.Account.{LogParts}
-use Rattle.cany_check.specs.Accuracy.{accuses, is_failure_of}
-use Rattle.cany_check.specs.Fates.{with_slot}
-use Rattle.cany_check.specs.Words.{counts_for_sign, entry_slot, knows, tells_sign}
+use Rattle.cany_check.specs.Fates.{slots_where, with_slot}
+use Rattle.cany_check.specs.Words.{nodes_of, takes_part}
 
-abbrev pub counts_and_knows : SignRecord → LogParts → Bool
-counts_and_knows sign log = counts_for_sign sign log && knows sign log
+-- whether the log is that of a node that counts, where a node has to take part since this slot
+abbrev pub counts_since : Option ℕ → LogParts → Bool
+counts_since since log = log.runs && option_map_or (λ slot. takes_part slot log) since true
 
-abbrev pub counts_and_lacks : SignRecord → LogParts → Bool
-counts_and_lacks sign log = counts_for_sign sign log && not (knows sign log)
+-- whether an entry of the log tells of it
+abbrev pub tells_in : (LogEntry → Bool) → LogParts → Bool
+tells_in tells log = list_any tells log.entries
 
-abbrev pub is_among : ℕ → List LogParts → Bool
-is_among k logs = list_any (λ log. log.node == k) logs
+-- who has it by these logs: of those that count the nodes whose logs tell of it, the nodes of which some log does, and the slots
+-- of the entries by which the logs of the former do
+unfoldable pub holders_in : (tells : LogEntry → Bool) (since : Option ℕ) → List LogParts → Holders
+holders_in tells since logs = record {
+  has = nodes_of (filter (tells_in tells) (filter (counts_since since) logs));
+  had = nodes_of (filter (tells_in tells) logs);
+  slots = slots_where tells (filter (tells_in tells) (filter (counts_since since) logs));
+}
 
--- these sets have the nodes of the logs that count for the sign and know it, and that lack it; and the slots are those of its entries
-pub record AreHolders (sign : SignRecord) (logs : List LogParts) (knowing lacking : Nodes) (slots : Option Slots) : Type 0 where
-  pub knowing_is : (k : ℕ) → has knowing k ≡ is_among k (filter (counts_and_knows sign) logs)
-  pub lacking_is : (k : ℕ) → has lacking k ≡ is_among k (filter (counts_and_lacks sign) logs)
-  pub slots_is : slots ≡ fold with_slot None (flat_map (λ log. map entry_slot (filter (tells_sign sign) log.entries)) (filter (counts_and_knows sign) logs))
+-- ---- several, each under an index
 
-abbrev pub runs_and_accuses : ℕ → LogParts → Bool
-runs_and_accuses r log = log.runs && accuses r log
+-- whether this one is found
+abbrev pub is_found : ℕ → Option ℕ → Bool
+is_found k None = false
+is_found k (Some index) = k == index
 
--- the set has the nodes of the running logs that say that the node failed; and the slots are those of its entries
-pub record AreAccusers (r : ℕ) (logs : List LogParts) (by : Nodes) (slots : Option Slots) : Type 0 where
-  pub by_is : (k : ℕ) → has by k ≡ is_among k (filter (runs_and_accuses r) logs)
-  pub slots_is : slots ≡ fold with_slot None (flat_map (λ log. map entry_slot (filter (is_failure_of r) log.entries)) (filter (runs_and_accuses r) logs))
+-- of those below the number the test holds of the one that is found, and of no other
+pub record IsOnly (number : ℕ) (test : ℕ → Bool) (found : Option ℕ) : Type 0 where
+  pub within : IfSome found (λ index. index < number)
+  pub only : (k : ℕ) → k < number → test k ≡ is_found k found
+
+-- these are the holders of each, by these logs
+pub record AreHolders (number : ℕ) (tells : ℕ → LogEntry → Bool) (since : ℕ → Option ℕ) (logs : List LogParts) (holders : List Holders) : Type 0 where
+  pub count : length holders ≡ number
+  pub each : (k : ℕ) → k < number → slice_get holders k ≡ Some (holders_in (tells k) (since k) logs)
+
+-- of none of them a node has to take part since a slot
+abbrev pub since_ever : ℕ → Option ℕ
+since_ever k = None
+
+-- ---- one entry after another
+
+-- the log, with these entries alone
+abbrev pub cut : LogParts → List LogEntry → LogParts
+cut log entries = record { node = log.node; from = log.from; runs = log.runs; entries = entries }
+
+-- with one more entry of the log, which tells of it
+abbrev pub with_entry : Holders → Option ℕ → LogParts → ℕ → Holders
+with_entry holders since log slot = record {
+  has = if counts_since since log then with_node log.node holders.has else holders.has;
+  had = with_node log.node holders.had;
+  slots = if counts_since since log then with_slot holders.slots slot else holders.slots;
+}
+
+abbrev pub no_holders : Holders
+no_holders = record { has = nobody; had = nobody; slots = None }

@@ -20,13 +20,13 @@ use Rattle.cany_model.specs.Bus.Restart.{restarted_in}
 use Rattle.cany_model.specs.Bus.Slot.{attempts, carried, slot_rule}
 use Rattle.cany_model.specs.Bus.State.{EndedIncarnation, RunState}
 use Rattle.cany_model.specs.Runs.Incarnations.{incarnations}
-use Rattle.cany_check.specs.declared.unused.NoAsk.{NoAsk}
-use Rattle.cany_check.specs.declared.unused.NoAsk.TheVariants.{From, Stopped, NeverCarried}
-use Rattle.cany_check.specs.declared.unused.NoFault.{NoFault}
-use Rattle.cany_check.specs.declared.unused.NoFault.TheVariants.{Attempts, Ruled, Idle, RejectsNobody, StopsNobody}
-use Rattle.cany_check.specs.declared.unused.Unused.{Unused}
-use Rattle.cany_check.specs.declared.unused.UnusedEntry.{UnusedEntry}
-use Rattle.cany_check.specs.declared.unused.UnusedEntry.TheVariants as entry
+use Rattle.cany_check.specs.declared.unused_entry.NoAsk.{NoAsk}
+use Rattle.cany_check.specs.declared.unused_entry.NoAsk.TheVariants.{From, Stopped, NeverCarried}
+use Rattle.cany_check.specs.declared.unused_entry.NoFault.{NoFault}
+use Rattle.cany_check.specs.declared.unused_entry.NoFault.TheVariants.{Attempts, Ruled, Idle, RejectsNobody, StopsNobody}
+use Rattle.cany_check.specs.declared.unused_entry.Unused.{Unused}
+use Rattle.cany_check.specs.declared.unused_entry.UnusedEntry.{UnusedEntry}
+use Rattle.cany_check.specs.declared.unused_entry.UnusedEntry.TheVariants as entry
 use Rattle.cany_check.specs.Words.{is_nobody}
 
 -- ---- what a node did in a slot

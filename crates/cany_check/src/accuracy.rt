@@ -1,124 +1,70 @@
 //! Who was taken for failed, of the nodes of an account that ran all the time.
-ghost use Rattle.std.specs.Prelude.{◌≡◌, ◌==◌, ◌&&◌, ◌||◌, ◌<◌, ℕ, if◌then◌else◌, map, filter, option_map, slice_get, Some, None, IfOk};
-ghost use Rattle.std.specs.List.{fold, list_any};
+ghost use Rattle.std.specs.Prelude.{◌≡◌, ◌&&◌, if◌then◌else◌, length, None, IfOk};
 ghost use Rattle.cany_base.specs.Limits.{most_nodes};
-ghost use Rattle.cany_base.specs.Nodes.{has};
-ghost use Rattle.cany_check.specs.declared.record.LogRecord.{LogRecord as AnyLog};
+ghost use Rattle.cany_check.specs.Account.{AccountParts};
 ghost use Rattle.cany_check.specs.AccountFields.{log_parts};
-ghost use Rattle.cany_check.specs.Accuracy.{accusation_of, accusations, accuses, is_failure_of};
-ghost use Rattle.cany_check.specs.Fates.{with_slot};
-ghost use Rattle.cany_check.specs.Holders.{AreAccusers, runs_and_accuses};
-ghost use Rattle.cany_check.specs.Words.{entry_slot, takes_part};
+ghost use Rattle.cany_check.specs.Accuracy.{accusation_of, accusations, is_failure_of};
+ghost use Rattle.cany_check.specs.Holders.{AreHolders, since_ever};
+ghost use Rattle.cany_check.specs.Words.{takes_part};
 
 use crate::account::Account;
-use crate::entries::{entry_slot, with_slot};
 use crate::findings::Accusation;
-use crate::record::{LogRecord, Slots};
-use cany_base::{LogEntry, Memory, NodeId, NodeSet};
+use crate::holders::{Holders, Subjects, holders_of};
+use crate::record::LogRecord;
+use cany_base::{LogEntry, Memory, NodeId, Slot};
 use std::alloc::Global;
 
-/// Whether the entry says that the node failed.
-fn is_failure_of(node: NodeId, entry: &LogEntry) -> bool
-    ensures { result ≡ is_failure_of node entry.now }
-{
-    match entry {
-        LogEntry::Failed { node: failed, .. } => *failed == node,
-        LogEntry::Deliver { .. } => false,
-        LogEntry::View { .. } => false,
-    }
-}
+/// The nodes that there can be, as what entries take for failed.
+struct FailedNodes;
 
-/// Whether an entry of the log says that the node failed.
-fn accuses(node: NodeId, log: &LogRecord<'_>) -> bool
-    ensures { result ≡ accuses node (log_parts log.now) }
-{
-    for entry in log.entries {
-        if is_failure_of(node, entry) {
-            return true;
+impl Subjects for FailedNodes {
+    ghost number = { λ nodes. most_nodes };
+
+    ghost tells = { λ nodes. is_failure_of };
+
+    ghost since = { λ nodes. since_ever };
+
+    fn count(&self) -> usize {
+        usize::from(NodeId::COUNT)
+    }
+
+    fn since(&self, _index: usize) -> Option<Slot> {
+        None
+    }
+
+    fn told_by(&self, entry: &LogEntry) -> Option<usize> {
+        match entry {
+            LogEntry::Failed { node, .. } => Some(usize::from(node.get())),
+            LogEntry::Deliver { .. } => None,
+            LogEntry::View { .. } => None,
         }
     }
-    false
 }
 
-/// The slots so far, with that of the entry, if it says that the node failed.
-fn with_entry(node: NodeId, slots: Option<Slots>, entry: &LogEntry) -> Option<Slots>
-    ensures { result ≡ (if is_failure_of node entry.now then with_slot slots (entry_slot entry.now) else slots) }
+/// The accusation of the node of a log, if there is one, where these are the accusers of each node.
+fn accusation_of(accusers: &[Holders], log: &LogRecord<'_>) -> Option<Accusation>
+    requires { length accusers.now ≡ most_nodes }
+    ensures { (a : AccountParts) → AreHolders most_nodes is_failure_of since_ever a.logs accusers.now → result ≡ accusation_of a (log_parts log.now) }
 {
-    if is_failure_of(node, entry) {
-        return with_slot(slots, entry_slot(entry));
-    }
-    slots
-}
-
-/// The slots so far, with those of the entries of the log that say that the node failed.
-fn with_entries(node: NodeId, slots: Option<Slots>, log: &LogRecord<'_>) -> Option<Slots>
-    ensures { result ≡ fold with_slot slots (map entry_slot (filter (is_failure_of node) (log_parts log.now).entries)) }
-{
-    let mut so_far = slots;
-    for entry in log.entries {
-        so_far = with_entry(node, so_far, entry);
-    }
-    so_far
-}
-
-/// The correct nodes that took a node for failed, and the slots of their entries.
-#[derive(Clone, Copy)]
-struct Accusers {
-    by: NodeSet,
-    slots: Option<Slots>,
-}
-
-/// The accusers so far, with the node of one more log.
-fn with_log(node: NodeId, so_far: Accusers, log: &LogRecord<'_>) -> Accusers
-    requires { log.now.node < most_nodes }
-    ensures by { (k : ℕ) → has result.by k ≡ (has so_far.by k || (runs_and_accuses node (log_parts log.now) && k == log.now.node)) }
-    ensures slots { result.slots ≡ (if runs_and_accuses node (log_parts log.now)
-        then fold with_slot so_far.slots (map entry_slot (filter (is_failure_of node) (log_parts log.now).entries)) else so_far.slots) }
-{
-    let mut accusers = so_far;
-    if log.runs && accuses(node, log) {
-        accusers.by.insert(log.node);
-        accusers.slots = with_entries(node, so_far.slots, log);
-    }
-    accusers
-}
-
-/// Who of the nodes of these logs took the node for failed.
-fn find_accusers(node: NodeId, logs: &[LogRecord<'_>]) -> Accusers
-    requires { (i : ℕ) (log : AnyLog) → slice_get logs.now i ≡ Some log → log.node < most_nodes }
-    ensures { AreAccusers node (map log_parts logs.now) result.by result.slots }
-{
-    let mut accusers = Accusers {
-        by: NodeSet::empty(),
-        slots: None,
-    };
-    for i in 0..logs.len() {
-        accusers = with_log(node, accusers, &logs[i]);
-    }
-    accusers
-}
-
-/// The accusation of the node of a log, if there is one.
-fn accusation_of(account: &Account<'_>, log: &LogRecord<'_>) -> Option<Accusation>
-    ensures { result ≡ accusation_of account.now (log_parts log.now) }
-{
-    let accusers = find_accusers(log.node, account.logs());
+    let accusers = accusers[usize::from(log.node.get())];
     match accusers.slots {
         None => None,
         Some(slots) => Some(Accusation {
             node: log.node,
-            by: accusers.by,
+            by: accusers.has,
             first: slots.first,
         }),
     }
 }
 
 /// The accusation of the node of a log, if it ran all the time and there is one.
-fn judged_accusation(account: &Account<'_>, log: &LogRecord<'_>) -> Option<Accusation>
-    ensures { result ≡ (if log.now.runs && takes_part 0 (log_parts log.now) then accusation_of account.now (log_parts log.now) else None) }
+fn judged_accusation(accusers: &[Holders], log: &LogRecord<'_>) -> Option<Accusation>
+    requires { length accusers.now ≡ most_nodes }
+    ensures { (a : AccountParts) → AreHolders most_nodes is_failure_of since_ever a.logs accusers.now
+        → result ≡ (if log.now.runs && takes_part 0 (log_parts log.now) then accusation_of a (log_parts log.now) else None) }
 {
     if log.runs && log.from == 0 {
-        return accusation_of(account, log);
+        return accusation_of(accusers, log);
     }
     None
 }
@@ -128,9 +74,10 @@ pub fn accusations(alloc: Global, account: &Account<'_>) -> Result<Vec<Accusatio
     ensures { IfOk result (λ found. found.items ≡ accusations account.now) }
 {
     let logs = account.logs();
+    let accusers = holders_of(alloc, &FailedNodes, logs)?;
     let mut found = Vec::new(alloc);
     for i in 0..logs.len() {
-        match judged_accusation(account, &logs[i]) {
+        match judged_accusation(&accusers, &logs[i]) {
             Some(accusation) => found.push(accusation)?,
             None => {}
         }

@@ -85,6 +85,15 @@ pub struct ViewParting {
     pub others: NodeSet,
 }
 
+/// What is found of the views that correct nodes hold.
+#[derive(Debug, Drop)]
+pub struct Views {
+    /// Of how many numbers one of them holds a view.
+    pub numbers: usize,
+    /// The numbers of which two of them hold unequal views, ascending.
+    pub apart: Vec<ViewParting>,
+}
+
 /// A node that ran all the time, and was taken for failed.
 #[derive(Clone, Copy, Debug, PartialEq, Eq)]
 pub struct Accusation {

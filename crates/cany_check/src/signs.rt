@@ -1,134 +1,96 @@
 //! What became of the failure signs of an account.
-ghost use Rattle.std.specs.Prelude.{◌≡◌, ◌==◌, ◌&&◌, ◌||◌, ◌<◌, ℕ, true, not, if◌then◌else◌, is_none, map, filter, slice_get, Some, IfOk};
-ghost use Rattle.std.specs.List.{fold, list_any};
-ghost use Rattle.std.specs.Option.{option_map_or};
-ghost use Rattle.cany_base.specs.Limits.{most_nodes};
-ghost use Rattle.cany_base.specs.Nodes.{has};
-ghost use Rattle.cany_check.specs.AccountFields.{log_parts};
-ghost use Rattle.cany_check.specs.declared.record.LogRecord.{LogRecord as AnyLog};
-ghost use Rattle.cany_check.specs.Fates.{sign_fate_by, sign_fates, sign_told, with_slot};
-ghost use Rattle.cany_check.specs.Holders.{AreHolders};
-ghost use Rattle.cany_check.specs.Words.{counts_for_sign, entry_slot, is_nobody, knows, tells_sign};
+ghost use Rattle.std.specs.Prelude.{◌≡◌, not, is_none, length, IfOk};
+ghost use Rattle.cany_check.specs.Fates.{sign_fate_by, sign_fates, sign_told};
+ghost use Rattle.cany_check.specs.Holders.{IsOnly, holders_in};
+ghost use Rattle.cany_check.specs.SignSubjects.{DoAscend, names_at, sign_since};
+ghost use Rattle.cany_check.specs.Words.{is_nobody, tells_sign};
 
 use crate::account::Account;
-use crate::entries::{entry_slot, with_slot};
 use crate::findings::{Fate, Told};
-use crate::record::{LogRecord, SignRecord, Slots};
-use cany_base::{LogEntry, Memory, NodeSet};
+use crate::holders::{Holders, Subjects, counting, holders_of};
+use crate::record::SignRecord;
+use crate::sets::is_nobody;
+use cany_base::{LogEntry, Memory, NodeId, NodeSet, Slot};
 use std::alloc::Global;
+use std::marker::Model;
 
-/// Whether the entry tells of the sign.
-fn tells_sign(sign: &SignRecord, entry: &LogEntry) -> bool
-    ensures { result ≡ tells_sign sign.now entry.now }
-{
-    match entry {
-        LogEntry::Failed { node, cycle, .. } => *node == sign.node && *cycle == sign.cycle,
-        LogEntry::Deliver { .. } => false,
-        LogEntry::View { .. } => false,
-    }
+/// The signs of an account, by ascending cycle and then node.
+#[derive(Drop)]
+struct Signs<'a> {
+    signs: &'a [SignRecord],
 }
 
-/// Whether an entry of the log tells of the sign.
-fn knows(sign: &SignRecord, log: &LogRecord<'_>) -> bool
-    ensures { result ≡ knows sign.now (log_parts log.now) }
-{
-    for entry in log.entries {
-        if tells_sign(sign, entry) {
-            return true;
-        }
-    }
-    false
+impl<'a> Model for Signs<'a> {
+    ghost use Rattle.std.specs.Prelude.{List};
+    ghost use Rattle.cany_check.specs.declared.record.SignRecord.{SignRecord};
+    ghost use Rattle.cany_check.specs.SignSubjects.{DoAscend};
+
+    ghost Value = { List SignRecord };
+
+    ghost view = { λ v. v.signs.now };
+
+    ghost invariant = { λ v. DoAscend v.signs.now };
 }
 
-/// The slots so far, with that of the entry, if it tells of the sign.
-fn with_entry(sign: &SignRecord, slots: Option<Slots>, entry: &LogEntry) -> Option<Slots>
-    ensures { result ≡ (if tells_sign sign.now entry.now then with_slot slots (entry_slot entry.now) else slots) }
+/// The first slot that carried the frame of the sign, if there is one.
+fn since(sign: &SignRecord) -> Option<Slot>
+    ensures { result ≡ sign_since sign.now }
 {
-    if tells_sign(sign, entry) {
-        return with_slot(slots, entry_slot(entry));
-    }
-    slots
-}
-
-/// The slots so far, with those of the entries of the log that tell of the sign.
-fn with_entries(sign: &SignRecord, slots: Option<Slots>, log: &LogRecord<'_>) -> Option<Slots>
-    ensures { result ≡ fold with_slot slots (map entry_slot (filter (tells_sign sign.now) (log_parts log.now).entries)) }
-{
-    let mut so_far = slots;
-    for entry in log.entries {
-        so_far = with_entry(sign, so_far, entry);
-    }
-    so_far
-}
-
-/// Whether the node of the log counts for the sign.
-fn counts(sign: &SignRecord, log: &LogRecord<'_>) -> bool
-    ensures { result ≡ counts_for_sign sign.now (log_parts log.now) }
-{
-    if !log.runs {
-        return false;
-    }
     match sign.carried {
-        None => true,
-        Some(slots) => log.from <= slots.first,
+        None => None,
+        Some(slots) => Some(slots.first),
     }
 }
 
-/// Who of the nodes that count for a sign knows it and who lacks it, and the slots of its entries.
-#[derive(Clone, Copy)]
-struct SignHolders {
-    has: NodeSet,
-    lacks: NodeSet,
-    slots: Option<Slots>,
+/// The index of the sign of a node and a cycle.
+fn index_of(signs: &[SignRecord], node: NodeId, cycle: u16) -> Option<usize>
+    requires { DoAscend signs.now }
+    ensures { IsOnly (length signs.now) (λ index. names_at signs.now index node cycle) result }
+{
+    match signs.binary_search_by_key(&(cycle, node), |sign| (sign.cycle, sign.node)) {
+        Ok(index) => Some(index),
+        Err(_) => None,
+    }
 }
 
-/// The holders so far, with the node of one more log.
-fn with_log(sign: &SignRecord, so_far: SignHolders, log: &LogRecord<'_>) -> SignHolders
-    requires { log.now.node < most_nodes }
-    ensures has { (k : ℕ) → has result.has k ≡
-        (has so_far.has k || ((counts_for_sign sign.now (log_parts log.now) && knows sign.now (log_parts log.now)) && k == log.now.node)) }
-    ensures lacks { (k : ℕ) → has result.lacks k ≡
-        (has so_far.lacks k || ((counts_for_sign sign.now (log_parts log.now) && not (knows sign.now (log_parts log.now))) && k == log.now.node)) }
-    ensures slots { result.slots ≡ (if counts_for_sign sign.now (log_parts log.now) && knows sign.now (log_parts log.now)
-        then fold with_slot so_far.slots (map entry_slot (filter (tells_sign sign.now) (log_parts log.now).entries)) else so_far.slots) }
-{
-    let mut holders = so_far;
-    if counts(sign, log) {
-        if knows(sign, log) {
-            holders.has.insert(log.node);
-            holders.slots = with_entries(sign, so_far.slots, log);
-        } else {
-            holders.lacks.insert(log.node);
+impl<'a> Signs<'a> {
+    fn all(&self) -> &[SignRecord]
+        ensures signs { result.now ≡ self.now }
+        ensures ascending { DoAscend self.now }
+    {
+        self.signs
+    }
+}
+
+impl<'a> Subjects for Signs<'a> {
+    ghost use Rattle.std.specs.Prelude.{length};
+    ghost use Rattle.cany_check.specs.SignSubjects.{since_at, tells_at};
+
+    ghost number = { λ signs. length signs };
+
+    ghost tells = { λ signs. tells_at signs };
+
+    ghost since = { λ signs. since_at signs };
+
+    fn count(&self) -> usize {
+        self.all().len()
+    }
+
+    fn since(&self, index: usize) -> Option<Slot> {
+        since(&self.all()[index])
+    }
+
+    fn told_by(&self, entry: &LogEntry) -> Option<usize> {
+        match entry {
+            LogEntry::Failed { node, cycle, .. } => index_of(self.all(), *node, *cycle),
+            LogEntry::Deliver { .. } => None,
+            LogEntry::View { .. } => None,
         }
     }
-    holders
 }
 
-/// Who of the nodes of these logs that count for the sign knows it and who lacks it.
-fn holders(sign: &SignRecord, logs: &[LogRecord<'_>]) -> SignHolders
-    requires { (i : ℕ) (log : AnyLog) → slice_get logs.now i ≡ Some log → log.node < most_nodes }
-    ensures { AreHolders sign.now (map log_parts logs.now) result.has result.lacks result.slots }
-{
-    let mut holders = SignHolders {
-        has: NodeSet::empty(),
-        lacks: NodeSet::empty(),
-        slots: None,
-    };
-    for i in 0..logs.len() {
-        holders = with_log(sign, holders, &logs[i]);
-    }
-    holders
-}
-
-/// Whether the set is empty.
-fn is_nobody(nodes: NodeSet) -> bool
-    ensures { result ≡ is_nobody nodes }
-{
-    nodes.bits() == 0
-}
-
-/// What became of the sign, where these nodes know it and lack it.
-fn sign_fate(sign: &SignRecord, has: NodeSet, lacks: NodeSet) -> Fate
+/// The fate of the sign, where these of the nodes that count know it and those lack it.
+fn fate(sign: &SignRecord, has: NodeSet, lacks: NodeSet) -> Fate
     ensures { result ≡ sign_fate_by (not (is_nobody sign.now.waits)) (not (is_none sign.now.carried)) has lacks }
 {
     if !is_nobody(sign.waits) {
@@ -143,15 +105,16 @@ fn sign_fate(sign: &SignRecord, has: NodeSet, lacks: NodeSet) -> Fate
     Fate::Nobody
 }
 
-/// What is told of a sign of the account.
-fn sign_told(account: &Account<'_>, sign: &SignRecord) -> Told
+/// What is told of a sign of the account, of which these are the holders.
+fn told(account: &Account<'_>, sign: &SignRecord, holders: Holders) -> Told
+    requires { holders ≡ holders_in (tells_sign sign.now) (sign_since sign.now) account.now.logs }
     ensures { result ≡ sign_told account.now sign.now }
 {
-    let holders = holders(sign, account.logs());
+    let lacks = counting(since(sign), account.logs()).minus(holders.has);
     Told {
-        fate: sign_fate(sign, holders.has, holders.lacks),
+        fate: fate(sign, holders.has, lacks),
         has: holders.has,
-        lacks: holders.lacks,
+        lacks,
         had: NodeSet::empty(),
         slots: holders.slots,
     }
@@ -162,9 +125,10 @@ pub fn sign_fates(alloc: Global, account: &Account<'_>) -> Result<Vec<Told>, Mem
     ensures { IfOk result (λ told. told.items ≡ sign_fates account.now) }
 {
     let signs = account.signs();
-    let mut told = Vec::with_capacity(alloc, signs.len())?;
+    let holders = holders_of(alloc, &Signs { signs }, account.logs())?;
+    let mut all = Vec::with_capacity(alloc, signs.len())?;
     for i in 0..signs.len() {
-        told.push(sign_told(account, &signs[i]))?;
+        all.push(told(account, &signs[i], holders[i]))?;
     }
-    Ok(told)
+    Ok(all)
 }

@@ -3,7 +3,7 @@
 use crate::account::Account;
 use crate::findings::{Accusation, Parting, Told, ViewParting};
 use crate::record::{LogRecord, MessageRecord, SignRecord};
-use crate::unused::Unused;
+use crate::unused_entry::Unused;
 
 fn is_thread_safe<T: Send + Sync>() {}
 

@@ -1,12 +1,14 @@
-use Rattle.std.proofs.Common.{Vec, Global, ◌≡◌, ◌+◌, List, [], ◌∷◌, ◌++◌, map, take, ap, sym, ◌∙◌}
+use Rattle.std.proofs.Common.{Vec, Global, ◌≡◌, ◌+◌, List, [], ◌∷◌, ◌++◌, map, take, ap, sym, subst, ◌∙◌}
 use Rattle.std.proofs.lemmas.List.{append-nil, map-append, take_more}
 use Rattle.std.specs.Prelude.{filter, filter_map}
 use Rattle.std.specs.List.{cons_option}
+use Rattle.cany_base.specs.Limits.{most_nodes}
 use Rattle.cany_check.specs.declared.findings.Accusation.{Accusation}
 use Rattle.cany_check.specs.declared.record.LogRecord.{LogRecord}
 use Rattle.cany_check.specs.Account.{LogParts, running}
 use Rattle.cany_check.specs.AccountFields.{log_parts}
-use Rattle.cany_check.specs.Accuracy.{accusation_of}
+use Rattle.cany_check.specs.Accuracy.{accusation_of, is_failure_of}
+use Rattle.cany_check.specs.Holders.{AreHolders, since_ever}
 use Rattle.cany_check.specs.Words.{takes_part}
 use Rattle.cany_check.proofs.AccuracyFacts.{found_more}
 use Rattle.cany_check.proofs.accuracy.accusations.Goals as goal
@@ -15,6 +17,9 @@ use Rattle.cany_check.proofs.accuracy.accusations.Goals.{in-Some+in_ok-push-in-S
 pub loop-i-preserved : goal.loop-i-preserved
 loop-i-preserved c =
     let a = c.args.account.now in
+    let accusers : AreHolders most_nodes is_failure_of since_ever a.logs c.deref.result.now =
+    subst (AreHolders most_nodes is_failure_of since_ever a.logs) (sym c.deref.ensures.value)
+    (subst (λ l. AreHolders most_nodes is_failure_of since_ever l c.in_ok-accusers.accusers.items) c.logs-logs.ensures.logs c.in_ok-accusers.ensures) in
     let logs : List LogRecord = c.logs-logs.result.now in
     let x : LogRecord = c.index-logs-i.result in
     let more : take (c.loop-i.i + 1) logs ≡ take c.loop-i.i logs ++ x ∷ [] =
@@ -30,5 +35,5 @@ loop-i-preserved c =
           ap (λ (v : Vec Accusation Global). v.items) w.found-is ∙ sym (append-nil c.loop-i.found.items) ∙ ap (λ o. c.loop-i.found.items ++ cons_option o []) (sym w.in-None.is)
     ] in
     found_more a (map log_parts (take c.loop-i.i logs)) (log_parts x) c.loop-i.found.items c.match-judged_accusation.found.items c.judged_accusation.result
-    c.loop-i.invariant c.judged_accusation.ensures found
+    c.loop-i.invariant (c.judged_accusation.ensures a accusers) found
     ∙ ap (λ (l : List LogParts). filter_map (accusation_of a) (filter (takes_part 0) (running l))) (sym all)

@@ -3,6 +3,7 @@ use Rattle.std.proofs.lemmas.List.{map-append, take_more}
 use Rattle.cany_check.specs.declared.record.SignRecord.{SignRecord}
 use Rattle.cany_check.specs.declared.findings.Told.{Told}
 use Rattle.cany_check.specs.Fates.{sign_told}
+use Rattle.cany_check.proofs.SignFacts.{signs_ascend}
 use Rattle.cany_check.proofs.signs.sign_fates.Goals as goal
 
 pub loop-i-preserved : goal.loop-i-preserved
@@ -14,6 +15,9 @@ loop-i-preserved c =
     let all : map (sign_told c.args.account.now) (take (c.loop-i.i + 1) signs) ≡ map (sign_told c.args.account.now) (take c.loop-i.i signs) ++ sign_told c.args.account.now x ∷ [] =
     ap (map (sign_told c.args.account.now)) more ∙ map-append (sign_told c.args.account.now) (take c.loop-i.i signs) (x ∷ []) in
     c.in_ok-push.ensures.items
-    ∙ ap (λ (l : List Told). l ++ c.sign_told.result ∷ []) c.loop-i.invariant
-    ∙ ap (λ (t : Told). map (sign_told c.args.account.now) (take c.loop-i.i signs) ++ t ∷ []) c.sign_told.ensures
+    ∙ ap (λ (l : List Told). l ++ c.told.result ∷ []) c.loop-i.invariant
+    ∙ ap (λ (t : Told). map (sign_told c.args.account.now) (take c.loop-i.i signs) ++ t ∷ []) c.told.ensures
     ∙ sym all
+
+pub invariant_of-holders_of : goal.invariant_of-holders_of
+invariant_of-holders_of c = signs_ascend c.args.account.now c.signs-signs.ensures.orderly c.signs-signs.result.now c.signs-signs.ensures.signs

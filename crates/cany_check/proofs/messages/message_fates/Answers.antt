@@ -1,0 +1,18 @@
+use Rattle.std.proofs.Common.{◌≡◌, ◌+◌, List, [], ◌∷◌, ◌++◌, map, take, ap, sym, ◌∙◌}
+use Rattle.std.proofs.lemmas.List.{map_more}
+use Rattle.cany_check.specs.declared.record.MessageRecord.{MessageRecord}
+use Rattle.cany_check.specs.declared.findings.Told.{Told}
+use Rattle.cany_check.specs.Fates.{message_told}
+use Rattle.cany_check.proofs.messages.message_fates.Goals as goal
+
+pub loop-i-preserved : goal.loop-i-preserved
+loop-i-preserved c =
+    let messages : List MessageRecord = c.messages-messages.result.now in
+    let m : MessageRecord = c.index-messages-i.result in
+    let tell : MessageRecord → Told = message_told c.args.account.now in
+    let more : map tell (take (c.loop-i.i + 1) messages) ≡ map tell (take c.loop-i.i messages) ++ tell m ∷ [] =
+    map_more tell messages c.loop-i.i m c.loop-i-test.true ∙ ap (λ (y : MessageRecord). map tell (take c.loop-i.i messages) ++ tell y ∷ []) (sym c.index-messages-i.is) in
+    c.in_ok-push.ensures.items
+    ∙ ap (λ (l : List Told). l ++ c.told.result ∷ []) c.loop-i.invariant
+    ∙ ap (λ (t : Told). map tell (take c.loop-i.i messages) ++ t ∷ []) c.told.ensures
+    ∙ sym more

@@ -1,0 +1,11 @@
+use Rattle.std.proofs.Common.{◌≡◌, ◌++◌, take}
+use Rattle.cany_base.specs.declared.class.Class.TheVariants.{Leave}
+use Rattle.cany_world.specs.World.{state_of}
+use Rattle.cany_check.specs.declared.unused_entry.UnusedEntry.TheVariants as entry
+use Rattle.cany_check.specs.Unused.{as_list, unused_ask, with_places}
+use Rattle.cany_check.proofs.unused_asks.push_leaves.Given as goal
+
+abbrev pub invariant-loop-place : goal.invariant-loop-place
+invariant-loop-place l =
+    l.found.items ≡ l.fn.found.items
+    ++ with_places (λ ask. as_list (unused_ask l.world.scenario (state_of l.world) Leave ask)) (λ why. entry.Leave why) 0 (take l.place l.leaves)

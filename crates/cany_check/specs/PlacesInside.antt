@@ -1,0 +1,12 @@
+-- What the fields of a table of places stand for.
+use Rattle.std.specs.Prelude.{List}
+use Rattle.cany_check.specs.declared.places.Places.TheInside.{Inside}
+use Rattle.cany_check.specs.declared.record.MessageRecord.{MessageRecord}
+use Rattle.cany_check.specs.Places.{AreNumbered, AreRows, items_of}
+
+abbrev pub messages_of : Inside → List MessageRecord
+messages_of v = v.messages.now
+
+pub record AreKept (v : Inside) : Type 0 where
+  pub numbered : AreNumbered v.messages.now
+  pub rows : AreRows v.messages.now (items_of v.of_origin.items)

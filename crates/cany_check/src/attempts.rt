@@ -1,0 +1,176 @@
+//! The attempts to carry the frames that entries of a scenario name.
+ghost use Rattle.std.specs.Prelude.{◌≡◌, ◌∷◌, ◌||◌, ◌<◌, ◌+◌, ◌^◌, [], ℕ, Bool, true, List, All, IfOk, OnOk, length, option_map, if◌then◌else◌};
+ghost use Rattle.std.specs.BTreeMap.{get};
+ghost use Rattle.std.specs.Ordering.{is_eq};
+ghost use Rattle.cany_base.specs.declared.slot_note.SlotNote.{SlotNote as AnyNote};
+ghost use Rattle.cany_base.specs.Cycles.{cycle_of};
+ghost use Rattle.cany_base.specs.Limits.{most_numbers};
+ghost use Rattle.cany_model.specs.Bus.Frames.{Identity};
+ghost use Rattle.cany_model.specs.Bus.Slot.{attempts};
+ghost use Rattle.cany_check.specs.declared.frame_name.FrameName.{FrameName as AnyName};
+ghost use Rattle.cany_check.specs.Attempts.{AreAttempts, AreAttemptsOf, AreZero, asked_frame, is_asked, is_named, is_ruled, raised};
+ghost use Rattle.cany_check.specs.FrameNames.{frame_name, name_cmp};
+ghost use Rattle.cany_check.specs.Unused.{attempt_slot};
+
+use crate::frame_name::{Attempt, FrameName};
+use cany_base::cycle::cycle_of;
+use cany_base::{Class, Memory, NodeAsk, Params, Place, Rule, Scenario, Slot, SlotNote};
+use cany_world::World;
+use std::alloc::Global;
+use std::collections::BTreeMap;
+
+/// How often each frame that a rule, a join or a leave of a scenario names was carried, and in
+/// which slots.
+#[derive(Debug, Drop)]
+pub(crate) struct Attempts {
+    counts: BTreeMap<FrameName, u64>,
+    slots: BTreeMap<Attempt, Slot>,
+}
+
+impl Attempts {
+    /// The attempts in the slots of a run.
+    pub(crate) fn of_run(alloc: Global, world: &World) -> Result<Attempts, Memory>
+        ensures { IfOk result (AreAttemptsOf world.now) }
+    {
+        let mut attempts = Attempts {
+            counts: named_counts(alloc, world.scenario())?,
+            slots: BTreeMap::new(alloc),
+        };
+        let trace = world.trace();
+        for i in 0..trace.len() {
+            attempts.note(&trace[i])?;
+        }
+        Ok(attempts)
+    }
+
+    /// Notes one more slot.
+    fn note(&mut self, note: &SlotNote) -> Result<(), Memory>
+        ensures { (named : Identity → Bool) (trace : List AnyNote) → length trace + 1 < 2 ^ 64 → AreAttempts named trace self.old
+            → OnOk result (AreAttempts named (note.now ∷ trace) self.new) }
+    {
+        let Some(frame) = note.frame else {
+            return Ok(());
+        };
+        let name = FrameName::of(&frame);
+        let Some(nth) = raise(&mut self.counts, &name) else {
+            return Ok(());
+        };
+        self.slots.insert(Attempt { name, nth }, note.slot)?;
+        Ok(())
+    }
+
+    /// How many attempts there were to carry a frame that is named.
+    pub(crate) fn count(&self, name: &FrameName) -> u64
+        ensures { (named : Identity → Bool) (trace : List AnyNote) (x : Identity) → AreAttempts named trace self.now → named x ≡ true
+            → name.now ≡ frame_name x → result ≡ attempts x trace }
+    {
+        self.counts.get(name).copied().unwrap_or(0)
+    }
+
+    /// The slot of an attempt to carry a frame that is named, if there was that attempt.
+    pub(crate) fn slot(&self, name: &FrameName, nth: u64) -> Option<Slot>
+        ensures { (named : Identity → Bool) (trace : List AnyNote) (x : Identity) → AreAttempts named trace self.now → named x ≡ true
+            → name.now ≡ frame_name x → result ≡ attempt_slot x nth trace }
+    {
+        self.slots.get(&Attempt { name: *name, nth }).copied()
+    }
+
+    /// The slot of the last attempt to carry a frame that is named, if there was one.
+    pub(crate) fn last(&self, name: &FrameName) -> Option<Slot>
+        ensures { (named : Identity → Bool) (trace : List AnyNote) (x : Identity) → AreAttempts named trace self.now → named x ≡ true
+            → name.now ≡ frame_name x → result ≡ attempt_slot x (attempts x trace) trace }
+    {
+        self.slot(name, self.count(name))
+    }
+}
+
+/// Raises the count of a frame by one, where there is one, and gives it.
+fn raise(counts: &mut BTreeMap<FrameName, u64>, name: &FrameName) -> Option<u64>
+    ensures answer { result ≡ option_map raised (get name_cmp counts.old name.now) }
+    ensures raised { (other : AnyName) → get name_cmp counts.new other
+        ≡ (if is_eq (name_cmp name.now other) then option_map raised (get name_cmp counts.old other) else get name_cmp counts.old other) }
+{
+    let count = counts.get_mut(name)?;
+    *count = count.saturating_add(1);
+    Some(*count)
+}
+
+/// The count 0 for each frame that a rule, a join or a leave names.
+fn named_counts(alloc: Global, scenario: &Scenario) -> Result<BTreeMap<FrameName, u64>, Memory>
+    ensures { IfOk result (λ counts. AreZero (is_named scenario.now) counts.entries) }
+{
+    let params = scenario.params();
+    let mut counts = BTreeMap::new(alloc);
+    enter_rules(&mut counts, scenario.rules())?;
+    enter_asks(&mut counts, params, Class::Join, scenario.joins())?;
+    enter_asks(&mut counts, params, Class::Leave, scenario.leaves())?;
+    Ok(counts)
+}
+
+/// Enters the frames that rules name.
+fn enter_rules(counts: &mut BTreeMap<FrameName, u64>, rules: &[Rule]) -> Result<(), Memory>
+    ensures { (named : Identity → Bool) → AreZero named counts.old.entries
+        → OnOk result (AreZero (λ x. named x || is_ruled rules.now x) counts.new.entries) }
+{
+    for i in 0..rules.len() {
+        enter_rule(counts, &rules[i])?;
+    }
+    Ok(())
+}
+
+/// Enters the frame that a rule names, if it names one.
+fn enter_rule(counts: &mut BTreeMap<FrameName, u64>, rule: &Rule) -> Result<(), Memory>
+    ensures { (named : Identity → Bool) → AreZero named counts.old.entries
+        → OnOk result (AreZero (λ x. named x || is_ruled (rule.now ∷ []) x) counts.new.entries) }
+{
+    match rule.place {
+        Place::At { .. } => Ok(()),
+        Place::FrameNth {
+            class,
+            number,
+            node,
+            ..
+        } => {
+            counts.insert(
+                FrameName {
+                    class,
+                    number,
+                    node,
+                },
+                0,
+            )?;
+            Ok(())
+        }
+    }
+}
+
+/// The frame by which a node asks to join or to leave.
+pub(crate) fn asked_name(params: &Params, class: Class, ask: &NodeAsk) -> FrameName
+    requires some { 0 < params.now.cycle }
+    requires number { cycle_of params.now ask.now.slot < most_numbers }
+    ensures { result ≡ frame_name (asked_frame params.now class ask.now) }
+{
+    FrameName {
+        class,
+        number: cycle_of(params, ask.slot),
+        node: ask.node,
+    }
+}
+
+/// Enters the frames by which nodes ask to join or to leave.
+fn enter_asks(
+    counts: &mut BTreeMap<FrameName, u64>,
+    params: &Params,
+    class: Class,
+    asks: &[NodeAsk],
+) -> Result<(), Memory>
+    requires some { 0 < params.now.cycle }
+    requires numbers { All (λ ask. cycle_of params.now ask.slot < most_numbers) asks.now }
+    ensures { (named : Identity → Bool) → AreZero named counts.old.entries
+        → OnOk result (AreZero (λ x. named x || is_asked params.now class asks.now x) counts.new.entries) }
+{
+    for i in 0..asks.len() {
+        counts.insert(asked_name(params, class, &asks[i]), 0)?;
+    }
+    Ok(())
+}

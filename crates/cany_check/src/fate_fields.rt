@@ -1,0 +1,121 @@
+//! The pieces of the lines of messages and signs that are not the same in every line.
+ghost use Rattle.std.specs.Prelude.{◌≡◌, ◌+◌, ◌≤◌, ◌∷◌, [], length, option_map};
+ghost use Rattle.cany_check.specs.CheckLines as line;
+ghost use Rattle.cany_check.specs.FateParts as parts;
+ghost use Rattle.cany_check.specs.FateParts.{fate_room, fate_texts, most_fate_bytes};
+ghost use Rattle.cany_log.specs.Fields.{most_bytes, texts_of};
+ghost use Rattle.cany_text.specs.ReportLines.{set_text};
+
+use crate::findings::Told;
+use crate::record::Slots;
+use cany_base::{NodeSet, Slot};
+use cany_log::Field;
+
+/// No field.
+const NOTHING: Field = Field::NumberIfAny("", None);
+
+/// The pieces of a fate, one after another.
+#[derive(Clone, Copy, Debug)]
+pub(crate) struct FateFields {
+    pub(crate) first: Field,
+    pub(crate) second: Field,
+    pub(crate) third: Field,
+    pub(crate) fourth: Field,
+    pub(crate) fifth: Field,
+}
+
+/// A fate of these words.
+pub(crate) fn named(words: &'static str) -> FateFields
+    requires { length words.now ≤ 16 }
+    ensures texts { fate_texts result ≡ words.now ∷ [] }
+    ensures short { fate_room result ≤ most_fate_bytes }
+{
+    FateFields {
+        first: Field::Text(words),
+        second: NOTHING,
+        third: NOTHING,
+        fourth: NOTHING,
+        fifth: NOTHING,
+    }
+}
+
+/// A fate of these words and a set.
+pub(crate) fn named_set(words: &'static str, nodes: NodeSet) -> FateFields
+    requires { length words.now ≤ 16 }
+    ensures texts { fate_texts result ≡ words.now ∷ set_text nodes ∷ [] }
+    ensures short { fate_room result ≤ most_fate_bytes }
+{
+    FateFields {
+        first: Field::Text(words),
+        second: Field::Set(nodes),
+        third: NOTHING,
+        fourth: NOTHING,
+        fifth: NOTHING,
+    }
+}
+
+/// The fate of what some have and others lack.
+pub(crate) fn apart_fields(told: &Told) -> FateFields
+    ensures texts { fate_texts result ≡ line.apart_fields told.now }
+    ensures short { fate_room result ≤ most_fate_bytes }
+{
+    FateFields {
+        first: Field::Text("apart has"),
+        second: Field::Set(told.has),
+        third: Field::Text("lacks"),
+        fourth: Field::Set(told.lacks),
+        fifth: NOTHING,
+    }
+}
+
+/// The word, where the test holds.
+pub(crate) fn text_if(test: bool, word: &'static str) -> Field
+    ensures texts { texts_of result ≡ line.text_if test word.now }
+    ensures short { most_bytes result ≤ 22 + length word.now }
+{
+    if test { Field::Text(word) } else { NOTHING }
+}
+
+/// The word and the set, where it has a node.
+pub(crate) fn set_if_any(word: &'static str, nodes: NodeSet) -> Field
+    ensures texts { texts_of result ≡ line.set_if_any word.now nodes }
+    ensures short { most_bytes result ≤ 183 + length word.now }
+{
+    if nodes.bits() == 0 {
+        NOTHING
+    } else {
+        Field::SetIfAny(word, nodes)
+    }
+}
+
+/// The first slot, or a dash.
+pub(crate) fn first_or_dash(slots: Option<Slots>) -> Field
+    ensures texts { texts_of result ≡ parts.first_or_dash slots }
+    ensures short { most_bytes result ≤ 22 }
+{
+    match slots {
+        Some(slots) => Field::Number(slots.first),
+        None => Field::Text("-"),
+    }
+}
+
+/// The last slot, where there is one.
+pub(crate) fn last_if_any(slots: Option<Slots>) -> Field
+    ensures texts { texts_of result ≡ parts.last_if_any slots }
+    ensures short { most_bytes result ≤ 22 }
+{
+    match slots {
+        Some(slots) => Field::Number(slots.last),
+        None => NOTHING,
+    }
+}
+
+/// The first slot, where there is one.
+pub(crate) fn first_of(slots: Option<Slots>) -> Option<Slot>
+    ensures { result ≡ option_map (λ s. s.first) slots }
+{
+    match slots {
+        Some(slots) => Some(slots.first),
+        None => None,
+    }
+}

@@ -1,0 +1,34 @@
+//! Which entries of the scenario of a run did nothing.
+ghost use Rattle.std.specs.Prelude.{◌≡◌, true, IfOk};
+ghost use Rattle.cany_model.specs.Runs.Run.{has_ended};
+ghost use Rattle.cany_world.specs.World.{state_of};
+ghost use Rattle.cany_check.specs.Unused.{unused};
+
+use crate::attempts::Attempts;
+use crate::unused_asks::{push_joins, push_leaves};
+use crate::unused_entry::Unused;
+use crate::unused_faults::push_faults;
+use crate::unused_restarts::push_restarts;
+use crate::unused_sends::push_sends;
+use cany_base::Memory;
+use cany_world::World;
+use std::alloc::Global;
+
+/// The entries of the scenario that had no effect on the run, which has ended: sends, fault rules,
+/// joins, leaves and restarts, each in file order. A fault rule may have two: of its verdict, and
+/// then of its stops.
+///
+/// An entry that is not among them need not have had an effect.
+pub fn unused(alloc: Global, world: &World) -> Result<Vec<Unused>, Memory>
+    requires { has_ended world.now.scenario (state_of world.now) ≡ true }
+    ensures { IfOk result (λ found. found.items ≡ unused world.now.scenario (state_of world.now)) }
+{
+    let attempts = Attempts::of_run(alloc, world)?;
+    let mut found = Vec::new(alloc);
+    push_sends(world, &mut found)?;
+    push_faults(alloc, world, &attempts, &mut found)?;
+    push_joins(world, &attempts, &mut found)?;
+    push_leaves(world, &attempts, &mut found)?;
+    push_restarts(world, &mut found)?;
+    Ok(found)
+}

@@ -1,0 +1,173 @@
+//! Which entry of an account is wrong.
+ghost use Rattle.std.specs.Prelude.{◌≡◌, ◌+◌, ◌<◌, ◌≤◌, ◌||◌, ◌∷◌, ◌++◌, [], List, true, false, not, None, length, if◌then◌else◌, IfOk};
+ghost use Rattle.std.specs.List.{list_any};
+ghost use Rattle.std.specs.Option.{option_map_or};
+ghost use Rattle.cany_base.specs.declared.log_entry.LogEntry.{LogEntry as AnyEntry};
+ghost use Rattle.cany_model.specs.Promises.Entries.{delivers_key};
+ghost use Rattle.cany_check.specs.AccountFields.{log_parts};
+ghost use Rattle.cany_check.specs.Integrity as integrity;
+ghost use Rattle.cany_check.specs.Marks.{AreBelow, AreMarked};
+ghost use Rattle.cany_check.specs.Places.{AreNumbered};
+ghost use Rattle.cany_check.specs.Words.{is_delivery};
+
+use crate::account::Account;
+use crate::entries::entry_slot;
+use crate::findings::EntryAt;
+use crate::places::{Places, places_of};
+use crate::record::{LogRecord, MessageRecord};
+use cany_base::{LogEntry, Memory, MsgKey, Slot};
+use std::alloc::Global;
+
+/// Whether the entry delivers the message.
+#[tactic(auto, unfolding(cany_model::specs::Rules::Messages::is_service, cany_model::specs::Bus::Frames::same_class))]
+fn is_delivery(message: &MessageRecord, entry: &LogEntry) -> bool
+    ensures { result ≡ is_delivery message.now entry.now }
+{
+    match entry {
+        LogEntry::Deliver {
+            service,
+            msg,
+            payload,
+            ..
+        } => message.key == *msg && message.service == *service && message.payload == *payload,
+        LogEntry::Failed { .. } => false,
+        LogEntry::View { .. } => false,
+    }
+}
+
+/// Whether the message is what the entry delivers, and was sent by then.
+fn was_sent_by_then(message: &MessageRecord, entry: &LogEntry) -> bool
+    ensures { result ≡ integrity.was_sent_by_then entry.now message.now }
+{
+    match message.sent {
+        Some(sent) => is_delivery(message, entry) && sent <= entry_slot(entry),
+        None => false,
+    }
+}
+
+/// Whether the entry, which delivers this key, delivers what an earlier one of its log does, or
+/// what was not sent by then. If neither, the message is marked.
+fn is_wrong_delivery(
+    messages: &[MessageRecord],
+    places: &Places<'_>,
+    entry: &LogEntry,
+    msg: MsgKey,
+    number: usize,
+    marks: &mut [usize],
+) -> bool
+    requires places { places.now ≡ messages.now }
+    requires numbered { AreNumbered messages.now }
+    requires count { length marks.old ≡ length messages.now }
+    requires key { delivers_key msg entry.now ≡ true }
+    ensures wrong { (earlier : List AnyEntry) → AreMarked messages.now number earlier marks.old
+        → result ≡ (list_any (delivers_key msg) earlier || not (list_any (integrity.was_sent_by_then entry.now) messages.now)) }
+    ensures marked { (earlier : List AnyEntry) → AreMarked messages.now number earlier marks.old
+        → result ≡ false → AreMarked messages.now number (earlier ++ entry.now ∷ []) marks.new }
+{
+    match places.find(msg) {
+        Some(place) => {
+            let message = &messages[place];
+            if marks[place] == number || !was_sent_by_then(message, entry) {
+                return true;
+            }
+            marks[place] = number;
+            false
+        }
+        None => true,
+    }
+}
+
+/// Whether the entry is wrong after the earlier ones of its log. If it is not, and delivers a
+/// message, the message is marked.
+fn is_wrong(
+    account: &Account<'_>,
+    places: &Places<'_>,
+    entry: &LogEntry,
+    number: usize,
+    marks: &mut [usize],
+) -> bool
+    requires places { places.now ≡ account.now.messages }
+    requires count { length marks.old ≡ length account.now.messages }
+    ensures wrong { (earlier : List AnyEntry) → AreMarked account.now.messages number earlier marks.old
+        → result ≡ integrity.is_wrong account.now earlier entry.now }
+    ensures marked { (earlier : List AnyEntry) → AreMarked account.now.messages number earlier marks.old
+        → result ≡ false → AreMarked account.now.messages number (earlier ++ entry.now ∷ []) marks.new }
+{
+    let params = account.params();
+    match *entry {
+        LogEntry::Deliver { msg, .. } => {
+            is_wrong_delivery(account.messages(), places, entry, msg, number, marks)
+        }
+        LogEntry::Failed { slot, node, cycle } => {
+            node.get() >= params.nodes || u64::from(cycle) > slot / params.cycle
+        }
+        LogEntry::View { slot, number, .. } => u64::from(number) != slot / params.cycle,
+    }
+}
+
+/// The place of the first wrong entry of a log.
+fn first_wrong(
+    account: &Account<'_>,
+    places: &Places<'_>,
+    entries: &[LogEntry],
+    number: usize,
+    marks: &mut [usize],
+) -> Option<usize>
+    requires places { places.now ≡ account.now.messages }
+    requires marks { AreMarked account.now.messages number [] marks.old }
+    ensures place { result ≡ integrity.first_wrong account.now [] entries.now }
+    ensures marks { result ≡ None → AreMarked account.now.messages number entries.now marks.new }
+{
+    for i in 0..entries.len() {
+        if is_wrong(account, places, &entries[i], number, marks) {
+            return Some(i);
+        }
+    }
+    None
+}
+
+/// The first wrong entry of a log, if it runs.
+fn wrong_in(
+    account: &Account<'_>,
+    places: &Places<'_>,
+    log: &LogRecord<'_>,
+    number: usize,
+    marks: &mut [usize],
+) -> Option<EntryAt>
+    requires places { places.now ≡ account.now.messages }
+    requires marks { AreBelow account.now.messages number marks.old }
+    ensures entry { result ≡ (if log.now.runs then integrity.wrong_in account.now (log_parts log.now) else None) }
+    ensures marks { result ≡ None → AreBelow account.now.messages (number + 1) marks.new }
+{
+    if !log.runs {
+        return None;
+    }
+    match first_wrong(account, places, log.entries, number, marks) {
+        Some(place) => Some(EntryAt {
+            node: log.node,
+            place,
+        }),
+        None => None,
+    }
+}
+
+/// The first wrong entry of the log of a correct node, by ascending node and then place: a second
+/// delivery of a message, a delivery of what was not sent by then, a failure sign of a node that
+/// is not there or of a cycle to come, or a view of another cycle. In the account of a run there
+/// is none.
+pub fn wrong_entry(alloc: Global, account: &Account<'_>) -> Result<Option<EntryAt>, Memory>
+    ensures { IfOk result (λ found. found ≡ integrity.wrong_entry account.now) }
+{
+    let messages = account.messages();
+    let places = places_of(alloc, messages)?;
+    let mut numbers = vec![in alloc; 0usize; messages.len()]?;
+    let marks = numbers.as_mut_slice();
+    let logs = account.logs();
+    for i in 0..logs.len() {
+        let found = wrong_in(account, &places, &logs[i], i + 1, marks);
+        if found.is_some() {
+            return Ok(found);
+        }
+    }
+    Ok(None)
+}

@@ -1,0 +1,156 @@
+//! What became of the messages of an account.
+ghost use Rattle.std.specs.Prelude.{◌≡◌, ◌&&◌, ℕ, Bool, Option, Some, map, IfOk};
+ghost use Rattle.std.specs.Str.{bytes_eq};
+ghost use Rattle.cany_model.specs.Rules.Messages.{is_service};
+ghost use Rattle.cany_check.specs.Fates.{fate_by, message_fates, message_told};
+ghost use Rattle.cany_check.specs.Holders.{holders_in};
+ghost use Rattle.cany_check.specs.MessageSubjects.{place_named};
+ghost use Rattle.cany_check.specs.Words.{is_delivery, is_nobody, is_settled, same_key, since};
+
+use crate::account::Account;
+use crate::findings::{Fate, Told};
+use crate::holders::{Holders, Subjects, counting, holders_of};
+use crate::places::{Places, places_of};
+use crate::record::MessageRecord;
+use crate::sets::is_nobody;
+use cany_base::{LogEntry, Memory, MsgKey, NodeSet, Payload, Service, Slot};
+use std::alloc::Global;
+
+#[tactic(auto, unfolding(cany_model::specs::Rules::Messages::is_service, cany_model::specs::Bus::Frames::same_class))]
+fn same_service(a: Service, b: Service) -> bool
+    ensures { result ≡ is_service a b }
+{
+    a == b
+}
+
+/// Whether these are the service, the key and the payload of the message.
+fn is_message(message: &MessageRecord, service: Service, key: MsgKey, payload: Payload) -> bool
+    ensures { result ≡ (same_key message.now.key key && is_service message.now.service service && bytes_eq message.now.payload payload) }
+{
+    message.key == key && same_service(message.service, service) && message.payload == payload
+}
+
+/// Whether the entry delivers the message.
+fn is_delivery(message: &MessageRecord, entry: &LogEntry) -> bool
+    ensures { result ≡ is_delivery message.now entry.now }
+{
+    match entry {
+        LogEntry::Deliver {
+            service,
+            msg,
+            payload,
+            ..
+        } => is_message(message, *service, *msg, *payload),
+        LogEntry::Failed { .. } => false,
+        LogEntry::View { .. } => false,
+    }
+}
+
+/// The first slot that carried its data frame, or else its scripted slot.
+fn since(message: &MessageRecord) -> Slot
+    ensures { result ≡ since message.now }
+{
+    match message.carried {
+        None => message.slot,
+        Some(slots) => slots.first,
+    }
+}
+
+/// The place of the message of which the entry has the key.
+fn place_named(places: &Places<'_>, entry: &LogEntry) -> Option<usize>
+    ensures { result ≡ place_named places.now entry.now }
+{
+    match entry {
+        LogEntry::Deliver { msg, .. } => places.find(*msg),
+        LogEntry::Failed { .. } => None,
+        LogEntry::View { .. } => None,
+    }
+}
+
+impl<'a> Subjects for Places<'a> {
+    ghost use Rattle.std.specs.Prelude.{length};
+    ghost use Rattle.cany_check.specs.MessageSubjects.{delivers_at, since_at};
+
+    ghost number = { λ messages. length messages };
+
+    ghost tells = { λ messages. delivers_at messages };
+
+    ghost since = { λ messages. since_at messages };
+
+    fn count(&self) -> usize {
+        self.messages().len()
+    }
+
+    fn since(&self, index: usize) -> Option<Slot> {
+        Some(since(&self.messages()[index]))
+    }
+
+    fn told_by(&self, entry: &LogEntry) -> Option<usize> {
+        let messages = self.messages();
+        match place_named(self, entry) {
+            None => None,
+            Some(place) => {
+                if is_delivery(&messages[place], entry) {
+                    Some(place)
+                } else {
+                    None
+                }
+            }
+        }
+    }
+}
+
+/// Whether nobody waits with the message or has it ahead, and its origin has not yet to ask for it.
+fn is_settled(message: &MessageRecord) -> bool
+    ensures { result ≡ is_settled message.now }
+{
+    !message.queued && is_nobody(message.waits) && is_nobody(message.ahead)
+}
+
+/// The fate of a message, where these of the nodes that count have it and those lack it, and its
+/// origin counts or not.
+fn fate(settled: bool, has: NodeSet, lacks: NodeSet, origin: bool) -> Fate
+    ensures { result ≡ fate_by settled has lacks origin }
+{
+    if !settled {
+        return Fate::Open;
+    }
+    if !is_nobody(lacks) && (!is_nobody(has) || origin) {
+        return Fate::Apart;
+    }
+    if is_nobody(lacks) && !is_nobody(has) {
+        return Fate::All;
+    }
+    Fate::Nobody
+}
+
+/// What is told of a message of the account, of which these are the holders.
+fn told(account: &Account<'_>, message: &MessageRecord, holders: Holders) -> Told
+    requires { holders ≡ holders_in (is_delivery message.now) (Some (since message.now)) account.now.logs }
+    ensures { result ≡ message_told account.now message.now }
+{
+    let counting = counting(Some(since(message)), account.logs());
+    let lacks = counting.minus(holders.has);
+    let origin = counting.has(message.key.origin);
+    Told {
+        fate: fate(is_settled(message), holders.has, lacks, origin),
+        has: holders.has,
+        lacks,
+        had: holders.had,
+        slots: holders.slots,
+    }
+}
+
+/// What is told of each message of the account, in its order.
+pub fn message_fates(alloc: Global, account: &Account<'_>) -> Result<Vec<Told>, Memory>
+    ensures { IfOk result (λ told. told.items ≡ message_fates account.now) }
+{
+    let messages = account.messages();
+    let places = places_of(alloc, messages)?;
+    let holders = holders_of(alloc, &places, account.logs())?;
+    let mut all = Vec::with_capacity(alloc, messages.len())?;
+    for i in 0..messages.len() {
+        all.push(told(account, &messages[i], holders[i]))?;
+    }
+    Ok(all)
+}

@@ -1,0 +1,83 @@
+//! The text of a verdict.
+ghost use Rattle.std.specs.List.{concat};
+ghost use Rattle.cany_check.specs.CheckText.{verdict_text};
+ghost use Rattle.cany_check.specs.Findings.{AreFindings};
+ghost use Rattle.cany_check.specs.TextParts as parts;
+ghost use Rattle.cany_log.specs.Written.{IsWritten};
+
+use crate::account::Account;
+use crate::head::write_head;
+use crate::judging::Findings;
+use crate::message_lines::write_messages;
+use crate::sign_lines::write_signs;
+use crate::unused_entry::Unused;
+use crate::unused_lines::write_unused;
+use crate::witness_lines::{
+    write_accusations, write_parting, write_view_partings, write_wrong_entry,
+};
+use cany_io::{Failed, Sink};
+use cany_log::write_short_line;
+use cany_model::Break;
+
+/// Writes the wrong entry, the messages and where two nodes part.
+fn write_deliveries<K: Sink>(
+    account: &Account<'_>,
+    findings: &Findings,
+    sink: &mut K,
+) -> Result<(), Failed>
+    requires { AreFindings account.now findings.now }
+    ensures { IsWritten (concat (parts.delivery_lines account.now)) result
+        (K.taken sink.old) (K.taken sink.new) (K.faults sink.old) (K.faults sink.new) }
+{
+    write_wrong_entry(findings.wrong_entry(), sink)?;
+    write_messages(account, findings.messages(), sink)?;
+    write_parting(findings.parting(), sink)
+}
+
+/// Writes the views that are apart, the signs, and who was taken for failed.
+fn write_membership<K: Sink>(
+    account: &Account<'_>,
+    findings: &Findings,
+    sink: &mut K,
+) -> Result<(), Failed>
+    requires { AreFindings account.now findings.now }
+    ensures { IsWritten (concat (parts.membership_lines account.now)) result
+        (K.taken sink.old) (K.taken sink.new) (K.faults sink.old) (K.faults sink.new) }
+{
+    write_view_partings(findings.views().apart.as_slice(), sink)?;
+    write_signs(account, findings.signs(), sink)?;
+    write_accusations(findings.accusations(), sink)
+}
+
+/// Writes the entries of the scenario that did nothing, and the end.
+fn write_ending<K: Sink>(unused: &[Unused], sink: &mut K) -> Result<(), Failed>
+    ensures { IsWritten (concat (parts.ending_lines unused.now)) result
+        (K.taken sink.old) (K.taken sink.new) (K.faults sink.old) (K.faults sink.new) }
+{
+    write_unused(unused, sink)?;
+    write_short_line("end", &[], sink)
+}
+
+/// Writes the verdict on an account, line by line: the findings are those of the account, `found`
+/// is where the run leaves the fault hypothesis first, and `unused` are the entries of its scenario
+/// that did nothing. It takes no memory.
+///
+/// # Errors
+///
+/// `Failed` only where the sink failed. What it took is then the start of the text.
+pub fn write_check<K: Sink>(
+    account: &Account<'_>,
+    findings: &Findings,
+    found: Option<Break>,
+    unused: &[Unused],
+    sink: &mut K,
+) -> Result<(), Failed>
+    requires { AreFindings account.now findings.now }
+    ensures { IsWritten (verdict_text account.now found unused.now) result
+        (K.taken sink.old) (K.taken sink.new) (K.faults sink.old) (K.faults sink.new) }
+{
+    write_head(account, findings, found, sink)?;
+    write_deliveries(account, findings, sink)?;
+    write_membership(account, findings, sink)?;
+    write_ending(unused, sink)
+}

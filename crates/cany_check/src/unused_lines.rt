@@ -1,0 +1,111 @@
+//! The lines of the entries of a scenario that did nothing.
+ghost use Rattle.std.specs.Prelude.{◌≤◌, ◌∷◌, [], length, map, codes, decimal};
+ghost use Rattle.std.specs.List.{concat};
+ghost use Rattle.cany_check.specs.CheckLines as line;
+ghost use Rattle.cany_check.specs.CheckLines.{ask_fields, fault_fields};
+ghost use Rattle.cany_log.specs.Written.{IsWritten};
+ghost use Rattle.cany_text.specs.ReportLines.{line_of};
+
+use crate::unused_entry::{NoAsk, NoFault, Unused, UnusedEntry};
+use cany_base::Slot;
+use cany_io::{Failed, Sink};
+use cany_log::{Field, write_short_line};
+
+/// Writes the line of a send, a join or a leave, by the words that it begins with.
+fn write_ask<K: Sink>(
+    words: &'static str,
+    place: u64,
+    why: NoAsk,
+    sink: &mut K,
+) -> Result<(), Failed>
+    requires { length words.now ≤ 16 }
+    ensures { IsWritten (line_of (words.now ∷ decimal place ∷ ask_fields why)) result
+        (K.taken sink.old) (K.taken sink.new) (K.faults sink.old) (K.faults sink.new) }
+{
+    let place = Field::Number(place);
+    match why {
+        NoAsk::From(slot) => write_short_line(
+            words,
+            &[place, Field::Text("from"), Field::Number(slot)],
+            sink,
+        ),
+        NoAsk::Stopped => write_short_line(words, &[place, Field::Text("stopped")], sink),
+        NoAsk::NeverCarried => write_short_line(words, &[place, Field::Text("carried -")], sink),
+    }
+}
+
+/// Writes the line of a fault rule that would act in a slot.
+fn write_fault_in<K: Sink>(
+    place: u64,
+    slot: Slot,
+    why: &'static str,
+    sink: &mut K,
+) -> Result<(), Failed>
+    requires { length why.now ≤ 16 }
+    ensures { IsWritten (line_of (codes "unused fault" ∷ decimal place ∷ codes "slot" ∷ decimal slot ∷ why.now ∷ [])) result
+        (K.taken sink.old) (K.taken sink.new) (K.faults sink.old) (K.faults sink.new) }
+{
+    write_short_line(
+        "unused fault",
+        &[
+            Field::Number(place),
+            Field::Text("slot"),
+            Field::Number(slot),
+            Field::Text(why),
+        ],
+        sink,
+    )
+}
+
+/// Writes the line of a fault rule.
+fn write_fault<K: Sink>(place: u64, why: NoFault, sink: &mut K) -> Result<(), Failed>
+    ensures { IsWritten (line_of (codes "unused fault" ∷ decimal place ∷ fault_fields why)) result
+        (K.taken sink.old) (K.taken sink.new) (K.faults sink.old) (K.faults sink.new) }
+{
+    match why {
+        NoFault::Attempts(attempts) => write_short_line(
+            "unused fault",
+            &[
+                Field::Number(place),
+                Field::Text("attempts"),
+                Field::Number(attempts),
+            ],
+            sink,
+        ),
+        NoFault::Ruled(slot) => write_fault_in(place, slot, "ruled", sink),
+        NoFault::Idle(slot) => write_fault_in(place, slot, "idle", sink),
+        NoFault::RejectsNobody(slot) => write_fault_in(place, slot, "rejects -", sink),
+        NoFault::StopsNobody(slot) => write_fault_in(place, slot, "stops -", sink),
+    }
+}
+
+/// Writes the line of an entry.
+#[tactic(auto, unfolding(crate::specs::CheckLines::unused_line))]
+fn write_entry<K: Sink>(unused: &Unused, sink: &mut K) -> Result<(), Failed>
+    ensures { IsWritten (line.unused_line unused.now) result
+        (K.taken sink.old) (K.taken sink.new) (K.faults sink.old) (K.faults sink.new) }
+{
+    let place = unused.place as u64;
+    match unused.entry {
+        UnusedEntry::Send(why) => write_ask("unused send", place, why, sink),
+        UnusedEntry::Fault(why) => write_fault(place, why, sink),
+        UnusedEntry::Join(why) => write_ask("unused join", place, why, sink),
+        UnusedEntry::Leave(why) => write_ask("unused leave", place, why, sink),
+        UnusedEntry::Restart => write_short_line(
+            "unused restart",
+            &[Field::Number(place), Field::Text("runs")],
+            sink,
+        ),
+    }
+}
+
+/// Writes the lines of these entries.
+pub(crate) fn write_unused<K: Sink>(entries: &[Unused], sink: &mut K) -> Result<(), Failed>
+    ensures { IsWritten (concat (map line.unused_line entries.now)) result
+        (K.taken sink.old) (K.taken sink.new) (K.faults sink.old) (K.faults sink.new) }
+{
+    for unused in entries {
+        write_entry(unused, sink)?;
+    }
+    Ok(())
+}
