@@ -1,0 +1,164 @@
+-- What the worked rows of the laws are written with: small runs, and what each incarnation of their nodes came to.
+use Rattle.std.specs.Prelude.{ℕ, zero, suc, ◌-◌, ◌==◌, ◌++◌, Bool, if◌then◌else◌, List, [], ◌∷◌, Option, None, map, take}
+use Rattle.std.specs.List.{range_with_len}
+use Rattle.cany_base.specs.declared.format.Format.TheVariants.{One}
+use Rattle.cany_base.specs.declared.log_entry.LogEntry.{LogEntry}
+use Rattle.cany_base.specs.declared.log_entry.LogEntry.TheVariants.{Deliver}
+use Rattle.cany_base.specs.declared.message.MsgKey.{MsgKey}
+use Rattle.cany_base.specs.declared.message.NodeAsk.{NodeAsk}
+use Rattle.cany_base.specs.declared.message.SendAsk.{SendAsk}
+use Rattle.cany_base.specs.declared.message.Service.{Service}
+use Rattle.cany_base.specs.declared.rule.Place.TheVariants.{At}
+use Rattle.cany_base.specs.declared.rule.Rule.{Rule}
+use Rattle.cany_base.specs.declared.rule.Verdict.{Verdict}
+use Rattle.cany_base.specs.declared.step.Step.{Step}
+use Rattle.cany_base.specs.declared.step.Step.TheVariants.{Slot, Turn}
+use Rattle.cany_base.specs.Nodes.{Nodes, has, bits_where, those_where}
+use Rattle.cany_base.specs.Scenario.{ScenarioParts}
+use Rattle.cany_model.specs.declared.breaks.Break.{Break}
+use Rattle.cany_model.specs.Bus.Frames.{same_class, same_identity, same_frame, is_before}
+use Rattle.cany_model.specs.Bus.History.{is_hidden, as_seen, history, copies, has_own, ended_history}
+use Rattle.cany_model.specs.Bus.Restart.{names_restart, after_entries, nodes_after_entries, after_restarts}
+use Rattle.cany_model.specs.Bus.Slot.{least_frame, winner, script, share_of, after_share, slot_note_of, node_after, nodes_after, after_slot}
+use Rattle.cany_model.specs.Bus.State.{EndedIncarnation, RunState, node_at}
+use Rattle.cany_model.specs.Bus.Waiting.{put_in_order}
+use Rattle.cany_model.specs.Promises.Hypothesis.{break_at, first_break, count_together}
+use Rattle.cany_model.specs.Promises.OneView.{installed_of}
+use Rattle.cany_model.specs.Promises.Order.{order_by}
+use Rattle.cany_model.specs.Promises.Settled.{is_settled}
+use Rattle.cany_model.specs.Rules.Backlog.{backlog, asked, backlog_effects}
+use Rattle.cany_model.specs.Rules.Delivery.{delivery_effects}
+use Rattle.cany_model.specs.Rules.Eager.{eager_effects}
+use Rattle.cany_model.specs.Rules.Edcan.{edcan_at, edcan_effects}
+use Rattle.cany_model.specs.Rules.Effect.{waiting_after, entered}
+use Rattle.cany_model.specs.Rules.Knowledge.{shows_life, after_life, with_signs, told, found}
+use Rattle.cany_model.specs.Rules.KnowledgeOf.{after_notice, knowledge_of}
+use Rattle.cany_model.specs.Rules.Life.{sign_effects, fda_copy_effects, failure_effects, failures_at, life_signs_sent, life_effects}
+use Rattle.cany_model.specs.Rules.Log.{log_from}
+use Rattle.cany_model.specs.Rules.Membership.{exchange_effects, install_effects, ask_effects}
+use Rattle.cany_model.specs.Rules.Messages.{Message, messages_after, is_service}
+use Rattle.cany_model.specs.Rules.Relcan.{fell_back, relcan_at, timer_effects, relcan_effects}
+use Rattle.cany_model.specs.Rules.Sends.{send_effects}
+use Rattle.cany_model.specs.Rules.Totcan.{tot_in, is_recent, after_place, is_heard, is_accepted, accept_effects, closing_effects, is_clear, done_from, delivered as delivered_tot, delivered_now, totcan_effects}
+use Rattle.cany_model.specs.Rules.Turn.{has_asked, turn_effects}
+use Rattle.cany_model.specs.Rules.Vectors.{brought, met, is_just, is_covered, is_new, vector_effects, end_effects, start_effects, exchange_at}
+use Rattle.cany_model.specs.Rules.Views.{after_ask, with_ended, view_effects}
+use Rattle.cany_model.specs.Runs.Incarnations.{incarnation_of, incarnations}
+use Rattle.cany_model.specs.Runs.RoundRobin.{round, rounds, round_robin}
+use Rattle.cany_model.specs.Runs.Run.{first_lagging, reply, is_legal_from, after_turn, proceed, after_step, run_from, run}
+use Rattle.cany_laws.specs.Logs.{log_as}
+
+-- ---- scenarios
+
+abbrev pub set : ℕ → Nodes
+set bits = record { bits = bits }
+
+unfoldable pub send : Service → ℕ → ℕ → List ℕ → SendAsk
+send by slot node payload = record { slot = slot; node = node; service = by; payload = payload }
+
+unfoldable pub slot_rule : ℕ → Verdict → ℕ → Rule
+slot_rule slot verdict stop = record { place = At slot; verdict = verdict; stop = set stop }
+
+unfoldable pub again : ℕ → ℕ → NodeAsk
+again slot node = record { slot = slot; node = node }
+
+-- So many nodes, all members, at lag 0, with one omission and two errors. The other parameters are the least: of two nodes a cycle has 38 slots and ends in its slot
+-- 19, and a member has failed after 39 slots without life; of three these are 72, 36 and 73.
+unfoldable pub two : ℕ → List SendAsk → List Rule → List NodeAsk → ScenarioParts
+two slots sends rules restarts = record {
+  params = record { format = One; nodes = 2; lag = 0; omit = 1; errors = 2; bound = 19; cycle = 38; life = 19; silence = 39; confirm = 10; slots = slots };
+  members = set 3;
+  sends = sends;
+  rules = rules;
+  joins = [];
+  leaves = [];
+  restarts = restarts;
+  from = 0;
+  inc = 0;
+  journal = None;
+}
+
+unfoldable pub three_by : (silence confirm : ℕ) → ℕ → List SendAsk → List Rule → List NodeAsk → ScenarioParts
+three_by silence confirm slots sends rules restarts = record {
+  params = record { format = One; nodes = 3; lag = 0; omit = 1; errors = 2; bound = 36; cycle = 72; life = 36; silence = silence; confirm = confirm; slots = slots };
+  members = set 7;
+  sends = sends;
+  rules = rules;
+  joins = [];
+  leaves = [];
+  restarts = restarts;
+  from = 0;
+  inc = 0;
+  journal = None;
+}
+
+unfoldable pub three : ℕ → List SendAsk → List Rule → List NodeAsk → ScenarioParts
+unfolding three_by
+three = three_by 73 10
+
+-- the same three with a lag of one slot
+unfoldable pub three_at_lag_1 : ℕ → List SendAsk → List Rule → ScenarioParts
+unfolding three
+three_at_lag_1 slots sends rules =
+    let sc = three slots sends rules [] in
+    record sc { params = record { format = One; nodes = 3; lag = 1; omit = 1; errors = 2; bound = 75; cycle = 152; life = 76; silence = 153; confirm = 10; slots = slots } }
+
+-- ---- journals, as reports have them: a point is a slot, and a digit the turn of that node
+
+unfoldable pub steps : List ℕ → List Step
+steps [] = []
+steps (c ∷ cs) = (if c == 46 then Slot else Turn (c - 48)) ∷ steps cs
+
+unfoldable pub repeated : ℕ → List ℕ → List ℕ
+repeated zero cs = []
+repeated (suc n) cs = cs ++ repeated n cs
+
+-- ---- what is found
+
+-- an incarnation: since which slot it takes part, the next slot that it would read, and its log
+pub record Lived : Type 0 where
+  pub from : ℕ
+  pub next : ℕ
+  pub log : List LogEntry
+
+-- what was asked of each incarnation of each node, by node and the newest first
+abbrev pub of_nodes : {A : Type 0} → (RunState → ℕ → EndedIncarnation → A) → ℕ → RunState → List (List A)
+of_nodes ask nodes s = map (λ i. map (ask s i) (incarnations s i)) (range_with_len 0 nodes)
+
+abbrev lived_in : ScenarioParts → RunState → ℕ → EndedIncarnation → Lived
+lived_in sc s i e = record { from = e.incarnation.from; next = e.next; log = log_as sc s i e }
+
+pub record Found : Type 0 where
+  pub broken : Option Break
+  pub lives : List (List Lived)
+
+-- Of the run of a scenario by a journal: where it leaves the hypothesis, and what each incarnation of its nodes came to. What computes a run is opened here, once
+-- for all rows.
+unfoldable pub found_by : ScenarioParts → List Step → Found
+unfolding has bits_where those_where same_class same_identity same_frame is_before messages_after node_at put_in_order least_frame winner script share_of after_share slot_note_of node_after nodes_after after_slot names_restart after_entries nodes_after_entries after_restarts is_hidden as_seen history copies has_own waiting_after entered eager_effects delivery_effects edcan_at edcan_effects fell_back relcan_at timer_effects relcan_effects send_effects tot_in is_recent after_place is_heard is_accepted accept_effects closing_effects is_clear done_from delivered_tot delivered_now totcan_effects shows_life after_life with_signs told found after_notice knowledge_of sign_effects fda_copy_effects failure_effects failures_at life_signs_sent life_effects brought met is_just is_covered is_new vector_effects end_effects start_effects exchange_at exchange_effects after_ask with_ended view_effects install_effects ask_effects backlog asked backlog_effects is_service turn_effects has_asked log_from first_lagging reply is_legal_from after_turn proceed after_step run_from round rounds break_at first_break count_together is_settled ended_history incarnation_of installed_of order_by
+found_by sc journal =
+    let s = run sc journal in
+    record { broken = first_break sc.params s.trace; lives = of_nodes (lived_in sc) sc.params.nodes s }
+
+-- by the round robin journal
+unfoldable pub found_of : ScenarioParts → Found
+unfolding found_by
+found_of sc = found_by sc (round_robin sc)
+
+-- whether a message is settled after so many steps of it
+unfoldable pub settled_after : ℕ → ScenarioParts → Message → Bool
+unfolding found_by
+settled_after n sc m = is_settled sc (run sc (take n (round_robin sc))) m
+
+abbrev pub lived : ℕ → ℕ → List LogEntry → Lived
+lived from next log = record { from = from; next = next; log = log }
+
+abbrev pub delivers : ℕ → Service → ℕ → ℕ → List ℕ → LogEntry
+delivers slot by origin seq payload = Deliver slot by (record { origin = origin; seq = seq }) payload
+
+abbrev pub key : ℕ → ℕ → MsgKey
+key origin seq = record { origin = origin; seq = seq }
+
+unfoldable pub row : Unit {0}
+unfolding found_by found_of settled_after send slot_rule again two three_by three three_at_lag_1 steps repeated
+row = tt

@@ -1,0 +1,31 @@
+-- A worked row of one sequence: a node that stopped has delivered a message that nobody else delivers, and after it one that all deliver.
+use Rattle.std.specs.Prelude.{◌≡◌, ◌++◌, List, [], ◌∷◌, codes, refl}
+use Rattle.cany_base.specs.declared.message.Service.TheVariants.{Tot}
+use Rattle.cany_base.specs.declared.rule.Verdict.TheVariants.{Lost}
+use Rattle.cany_base.specs.declared.step.Step.{Step}
+use Rattle.cany_base.specs.Scenario.{ScenarioParts}
+use Rattle.cany_model.specs.Runs.Run.{run}
+use Rattle.cany_laws.specs.Logs.{log_as}
+use Rattle.cany_model.specs.Promises.Order.{Content, tot_deliveries}
+use Rattle.cany_laws.specs.Sequence.{clean_sequence}
+use Rattle.cany_laws.proofs.RowWords.{key, of_nodes, repeated, row, send, slot_rule, steps, three_at_lag_1}
+
+-- At a lag of one slot node 2 delivers its own message in slot 1 and that of node 1 in slot 3, and stops in slot 5. The other two deliver that of node 1 alone. So what a
+-- stopped node has delivered is not the order of the others with one message more at its end: it is part of one sequence.
+unfoldable at_lag_1 : ScenarioParts
+at_lag_1 = three_at_lag_1 100 (send Tot 0 2 (1 ∷ []) ∷ send Tot 1 1 (2 ∷ []) ∷ []) (slot_rule 5 Lost 4 ∷ [])
+
+unfoldable its_journal : List Step
+its_journal = steps (codes ".012.01.0122.012.012" ++ repeated 95 (codes ".01"))
+
+one_between :
+    of_nodes {A = List Content} (λ s i e. tot_deliveries (log_as at_lag_1 s i e)) 3 (run at_lag_1 its_journal)
+    ≡ ((record { msg = key 1 0; payload = 2 ∷ [] } ∷ []) ∷ []) ∷ ((record { msg = key 1 0; payload = 2 ∷ [] } ∷ []) ∷ [])
+    ∷ ((record { msg = key 2 0; payload = 1 ∷ [] } ∷ record { msg = key 1 0; payload = 2 ∷ [] } ∷ []) ∷ []) ∷ []
+unfolding row at_lag_1 its_journal
+one_between = refl
+
+both_stand_in_it :
+    clean_sequence 0 (run at_lag_1 its_journal).trace ≡ record { msg = key 2 0; payload = 1 ∷ [] } ∷ record { msg = key 1 0; payload = 2 ∷ [] } ∷ []
+unfolding row at_lag_1 its_journal
+both_stand_in_it = refl

@@ -1,0 +1,181 @@
+-- A member that is not heard for as long as the silence has failed, unless the sign of this cycle was known before.
+use Rattle.std.proofs.Common.{◌≡◌, ℕ, ◌+◌, ◌-◌, ◌<◌, ◌≤◌, ◌&&◌, ◌||◌, ◌==◌, ◌⊎◌, inl, inr, Bool, true, false, not, nat_le, List, [], ◌∷◌, filter, map, length, Option, Some, None, refl, ap, sym, ◌∙◌, subst, arith}
+use Rattle.std.specs.List.{range_with_len}
+use Rattle.std.proofs.lemmas.Bool.{and_from, and_parts, both_ways, cases_Bool, cond-false, cond_both, eq-eqb, false_from_ne_true, le-leb, ne_eqb, not-true, not_from_false, or_cases, or_left, or_right}
+use Rattle.std.proofs.lemmas.List.FromFn.{get_or-range_with_len, length-range_with_len}
+use Rattle.cany_base.specs.Limits.{most_nodes}
+use Rattle.cany_base.specs.declared.notice.NoticeKind.{NoticeKind}
+use Rattle.cany_base.specs.declared.notice.NoticeKind.TheVariants.{Idle, Got, Sent, Bad}
+use Rattle.cany_base.specs.Nodes.{Nodes, has, minus}
+use Rattle.cany_base.specs.Params.{Parameters}
+use Rattle.cany_base.specs.Scenario.{ScenarioParts}
+use Rattle.cany_model.specs.Rules.Knowledge.{FailureSign, Knowledge, after_finding, after_hearing, after_learning, after_life, found, found_in, has_timed_out, knows, same_sign, shows_life, sign_in, told_in, with_shown, with_sign, with_signs}
+use Rattle.cany_model.specs.Rules.KnowledgeOf.{knowledge_of}
+use Rattle.cany_model.proofs.Among.{Among, Among-append_cases, Among-from_any, Among-get_or, Among-map, Among-weaker}
+use Rattle.cany_model.proofs.Bus.Notes.{has_where, those_where_pass}
+use Rattle.cany_model.proofs.Rules.KnowledgeFacts.{known_after, knows_heard, knows_with, newly, same_sign-true, tells}
+use Rattle.cany_model.proofs.Rules.KnowledgeSteps.{failed_after, failed_by, is_admitted, learnt_keeps, life_keeps, shown_after}
+use Rattle.cany_model.proofs.Timed.Common.KnowledgeAges.{ended_at}
+use Rattle.cany_model.proofs.Timed.Detector.SilentNode.{found_still, learnt_still}
+use Rattle.cany_laws.specs.Detection.{hears_life}
+
+-- ---- life that is not shown
+
+no_life : (i slot r : ℕ) (e : NoticeKind) (st : Knowledge) → hears_life r e ≡ false → (after_hearing i slot e st).shown r ≡ st.shown r
+unfolding after_life
+no_life i slot r Idle st h = refl
+no_life i slot r Bad st h = refl
+no_life i slot r (Sent f) st h =
+    cond_both (shows_life f && f.node == i) (record st { last = slot }) st (λ s. s.shown r ≡ st.shown r) (λ _. refl) (λ _. refl)
+no_life i slot r (Got f) st h =
+    cond_both (shows_life f) (with_shown f.node slot st) st (λ s. s.shown r ≡ st.shown r)
+    (λ life. rw (ne_eqb r f.node (λ e. both_ways (shows_life f && f.node == r) h (and_from (shows_life f) (f.node == r) life (eq-eqb f.node r (sym e))))) refl)
+    (λ _. refl)
+
+learnt_no_life : (i slot r : ℕ) (e : NoticeKind) (st : Knowledge) → hears_life r e ≡ false → (after_learning i slot e st).shown r ≡ st.shown r
+learnt_no_life i slot r e st h = learnt_keeps ℕ (λ s. s.shown r) (λ sign s. refl) i slot e st ∙ no_life i slot r e st h
+
+-- ---- a failure that stays
+
+with_signs_still : (r : ℕ) (signs : List FailureSign) (st : Knowledge) → r < most_nodes → has st.failed r ≡ true → has (with_signs signs st).failed r ≡ true
+unfolding with_signs
+with_signs_still r [] st few h = h
+with_signs_still r (sign ∷ signs) st few h =
+    with_signs_still r signs (with_sign sign st) few (has_where (λ q. has st.failed q || q == sign.node) r few ∙ or_left (has st.failed r) (r == sign.node) h)
+
+with_signs_named : (r : ℕ) (signs : List FailureSign) (st : Knowledge) → r < most_nodes → Among (λ sign. sign.node ≡ r) signs
+    → has (with_signs signs st).failed r ≡ true
+unfolding with_signs
+with_signs_named r [] st few h = absurd h
+with_signs_named r (sign ∷ signs) st few (inl now) =
+    with_signs_still r signs (with_sign sign st) few
+    (has_where (λ q. has st.failed q || q == sign.node) r few ∙ or_right (has st.failed r) (r == sign.node) (eq-eqb r sign.node (sym now)))
+with_signs_named r (sign ∷ signs) st few (inr later) = with_signs_named r signs (with_sign sign st) few later
+
+-- a member is not newly admitted
+not_admitted : (v : Option Nodes) (old : Nodes) (r : ℕ) → has old r ≡ true → is_admitted v old r ≡ false
+not_admitted None old r h = refl
+not_admitted (Some v) old r h = false_from_ne_true (has (minus v old) r) (λ k.
+    both_ways (has old r)
+    (not-true (has old r) (and_parts (has v r) (not (has old r)) (those_where_pass (λ x. has v x && not (has old x)) r k)).1) h)
+
+failed_by_still : (v : Option Nodes) (old failed : Nodes) (r : ℕ) → r < most_nodes → is_admitted v old r ≡ false → has failed r ≡ true
+    → has (failed_by v old failed) r ≡ true
+failed_by_still None old failed r few none h = h
+failed_by_still (Some v) old failed r few none h =
+    has_where (λ q. has failed q && not (has (minus v old) q)) r few
+    ∙ and_from (has failed r) (not (has (minus v old) r)) h (not_from_false (has (minus v old) r) none)
+
+-- ---- one turn, of a node that had r in its view before it
+
+module _ (scenario : ScenarioParts) (i r : ℕ) (e : NoticeKind) (past : List NoticeKind) (few : r < most_nodes)
+    (member : has (knowledge_of scenario i past).members r ≡ true) where
+  abbrev st : Knowledge
+  st = knowledge_of scenario i past
+
+  abbrev slot : ℕ
+  slot = length past
+
+  -- what has failed once it has found, has failed after the turn
+  found_fails : has (after_finding scenario.params i slot e st).failed r ≡ true → has (knowledge_of scenario i (e ∷ past)).failed r ≡ true
+  unfolding knowledge_of
+  found_fails h =
+      ap (λ m. has m r) (failed_after scenario.params i slot e st)
+      ∙ failed_by_still (ended_at scenario i e past) st.members (after_finding scenario.params i slot e st).failed r few
+      (not_admitted (ended_at scenario i e past) st.members r member) h
+
+  pub failed_next : has st.failed r ≡ true → has (knowledge_of scenario i (e ∷ past)).failed r ≡ true
+  failed_next h = found_fails (found_still scenario.params i r slot e st few h)
+
+  pub shown_kept : hears_life r e ≡ false → (knowledge_of scenario i (e ∷ past)).shown r ≡ st.shown r
+  unfolding knowledge_of
+  shown_kept h =
+      shown_after scenario.params i slot e st r
+      ∙ cond-false (is_admitted (ended_at scenario i e past) st.members r) slot ((after_hearing i slot e st).shown r)
+      (not_admitted (ended_at scenario i e past) st.members r member)
+      ∙ no_life i slot r e st h
+
+  -- a sign of it that becomes known makes it fail
+  named_fails : (sign : FailureSign) → sign.node ≡ r → Among (λ s. same_sign sign s ≡ true) (newly scenario.params i slot e st)
+      → has (after_finding scenario.params i slot e st).failed r ≡ true
+  named_fails sign node h =
+      let named : (signs : List FailureSign) → Among (λ s. same_sign sign s ≡ true) signs → Among (λ s. s.node ≡ r) signs =
+      λ signs a. Among-weaker (λ s. same_sign sign s ≡ true) (λ s. s.node ≡ r) (λ s same. ap (λ (x : FailureSign). x.node) (sym (same_sign-true sign s same)) ∙ node) signs a in
+      elim (Among-append_cases (λ s. same_sign sign s ≡ true) (told_in i slot e st) (found_in scenario.params i slot e st) h) [
+        | inl told ↦ learnt_still scenario.params i r slot e st few (with_signs_named r (told_in i slot e st) (after_hearing i slot e st) few (named (told_in i slot e st) told))
+        | inr finds ↦
+            with_signs_named r (found_in scenario.params i slot e st) (after_learning i slot e st) few (named (found_in scenario.params i slot e st) finds)
+      ]
+
+  pub known_or_fails : (sign : FailureSign) → sign.node ≡ r → knows sign (knowledge_of scenario i (e ∷ past)) ≡ true
+      → (knows sign st ≡ true) ⊎ (has (knowledge_of scenario i (e ∷ past)).failed r ≡ true)
+  known_or_fails sign node h = elim (or_cases (tells sign (newly scenario.params i slot e st)) (knows sign st) (sym (known_after scenario i e past sign) ∙ h)) [
+    | inr before ↦ inl before
+    | inl now ↦ inr (found_fails (named_fails sign node (Among-from_any (same_sign sign) (newly scenario.params i slot e st) now)))
+  ]
+
+  -- ---- silence is found
+
+  among_filter : {X : Type 0} (P : X → Type 0) (test : X → Bool) → ((x : X) → P x → test x ≡ true) → (xs : List X) → Among P xs → Among P (filter test xs)
+  among_filter P test passes [] h = h
+  among_filter P test passes (x ∷ xs) (inl now) = rw (passes x now) (inl now)
+  among_filter P test passes (x ∷ xs) (inr later) =
+      cond_both (test x) (x ∷ filter test xs) (filter test xs) (Among P) (λ _. inr (among_filter P test passes xs later)) (λ _. among_filter P test passes xs later)
+
+  in_range : (n : ℕ) → r < n → Among (λ q. q ≡ r) (range_with_len 0 n)
+  in_range n below =
+      let same : 0 + r ≡ r = omega arith in
+      Among-get_or (λ q. q ≡ r) (range_with_len 0 n) r 0 (subst (λ m. r < m) (sym (length-range_with_len 0 n)) below) (get_or-range_with_len 0 n r 0 below ∙ same)
+
+  silence_found : r < scenario.params.nodes → has_timed_out scenario.params i slot (after_learning i slot e st) r ≡ true
+      → knows (sign_in scenario.params slot r) (after_learning i slot e st) ≡ false → has (after_finding scenario.params i slot e st).failed r ≡ true
+  unfolding found
+  silence_found below silent unknown =
+      let p : Parameters = scenario.params in
+      let now : Knowledge = after_learning i slot e st in
+      let quiet : List ℕ = filter (has_timed_out p i slot now) (range_with_len 0 p.nodes) in
+      let this : FailureSign → Type 0 = λ sign. sign ≡ sign_in p slot r in
+      let there : Among (λ q. q ≡ r) quiet =
+      among_filter (λ q. q ≡ r) (has_timed_out p i slot now) (λ q e. ap (has_timed_out p i slot now) e ∙ silent) (range_with_len 0 p.nodes) (in_range p.nodes below) in
+      let named : Among this (map (sign_in p slot) quiet) =
+      Among-map (sign_in p slot) this quiet (Among-weaker (λ q. q ≡ r) (λ q. this (sign_in p slot q)) (λ q e. ap (sign_in p slot) e) quiet there) in
+      let left : Among this (found p i slot now) =
+      among_filter this (λ sign. not (knows sign now)) (λ sign e. not_from_false (knows sign now) (ap (λ x. knows x now) e ∙ unknown))
+      (map (sign_in p slot) quiet) named in
+      with_signs_named r (found p i slot now) now few
+      (Among-weaker this (λ sign. sign.node ≡ r) (λ sign e. ap (λ (s : FailureSign). s.node) e) (found p i slot now) left)
+
+  -- a member that was not heard since a slot, so long before this one, has failed after the turn, unless its sign was known
+  pub silent_fails : r < scenario.params.nodes → (r ≡ i → ⊥) → hears_life r e ≡ false → (last : ℕ) → st.shown r ≤ last → last + scenario.params.silence ≤ slot
+      → knows (sign_in scenario.params slot r) st ≡ false → has (knowledge_of scenario i (e ∷ past)).failed r ≡ true
+  silent_fails below other nothing last old late unknown =
+      let p : Parameters = scenario.params in
+      let now : Knowledge = after_learning i slot e st in
+      found_fails (elim (cases_Bool (has now.failed r)) [
+        | inl failed ↦ learnt_still p i r slot e st few failed
+        | inr standing ↦
+            let there : has now.members r ≡ true =
+            ap (λ m. has m r) (learnt_keeps Nodes (λ s. s.members) (λ sign s. refl) i slot e st
+            ∙ life_keeps Nodes (λ s. s.members) (record { shown = λ f s. refl; last = λ n s. refl }) i slot e st) ∙ member in
+            let long : nat_le p.silence (slot - now.shown r) ≡ true =
+            le-leb p.silence (slot - now.shown r) (omega (arith, learnt_no_life i slot r e st nothing, old, late)) in
+            let silent : has_timed_out p i slot now r ≡ true =
+            and_from (has now.members r && not (r == i) && not (has now.failed r)) (nat_le p.silence (slot - now.shown r))
+            (and_from (has now.members r && not (r == i)) (not (has now.failed r))
+            (and_from (has now.members r) (not (r == i)) there (not_from_false (r == i) (ne_eqb r i other)))
+            (not_from_false (has now.failed r) standing)) long in
+            silence_found below silent (learnt_unknown standing)
+      ])
+    where
+      learnt_unknown : has (after_learning i slot e st).failed r ≡ false → knows (sign_in scenario.params slot r) (after_learning i slot e st) ≡ false
+      learnt_unknown standing =
+          let sign : FailureSign = sign_in scenario.params slot r in
+          false_from_ne_true (knows sign (after_learning i slot e st)) (λ h.
+          elim (or_cases (tells sign (told_in i slot e st)) (knows sign (after_hearing i slot e st))
+          (sym (knows_with sign (told_in i slot e st) (after_hearing i slot e st)) ∙ h)) [
+            | inr before ↦ both_ways (knows sign st) unknown (sym (knows_heard sign i slot e st) ∙ before)
+            | inl now ↦ both_ways (has (after_learning i slot e st).failed r) standing
+                (with_signs_named r (told_in i slot e st) (after_hearing i slot e st) few
+                (Among-weaker (λ s. same_sign sign s ≡ true) (λ s. s.node ≡ r) (λ s same. ap (λ (x : FailureSign). x.node) (sym (same_sign-true sign s same)))
+                (told_in i slot e st) (Among-from_any (same_sign sign) (told_in i slot e st) now)))
+          ])

@@ -1,0 +1,5 @@
+use Rattle.cany_laws.proofs.EqualMembers.{one_membership}
+use Rattle.cany_laws.proofs.incarnations.one_membership.Goals as goal
+
+pub returns : goal.returns
+returns c scenario journal legal within = one_membership scenario legal journal within

@@ -1,0 +1,5 @@
+use Rattle.cany_laws.proofs.OneSequence.{one_sequence}
+use Rattle.cany_laws.proofs.incarnations.one_sequence.Goals as goal
+
+pub returns : goal.returns
+returns c scenario journal legal within = one_sequence scenario legal journal within

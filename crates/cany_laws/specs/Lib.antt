@@ -1,0 +1,7 @@
+pub mod Acceptance
+pub mod Detection
+pub mod Final
+pub mod Logs
+pub mod Membership
+pub mod Sequence
+pub mod Views
