@@ -21,6 +21,8 @@ WRONG_ARGUMENTS = [
     (["two lines\n"], f"unknown command; {SEE_HELP}"),
     (["x" * 41], f"unknown command; {SEE_HELP}"),
     (["replay", "scenario.toml"], f"replay takes no arguments; {SEE_HELP}"),
+    (["check", "now"], f"check takes no arguments; {SEE_HELP}"),
+    (["Check"], f"unknown command 'Check'; {SEE_HELP}"),
     (["run", "now"], f"run takes no arguments; {SEE_HELP}"),
     (["replica", "now"], f"replica takes no arguments; {SEE_HELP}"),
     (["tail", "now"], f"tail takes no arguments; {SEE_HELP}"),
@@ -56,13 +58,13 @@ def opened_folder(path):
 
 def check_streams(tally, program, scenario):
     """A folder as standard input, a full disk as standard output, and a text that is too long."""
-    for command in ("replay", "run", "replica", "tail", "media"):
+    for command in ("replay", "check", "run", "replica", "tail", "media"):
         with opened_folder(scenario.parent) as source:
             found = programs.call(program, [command], source)
         check_call(tally, f"canely {command} < FOLDER", found, 4, b"", "cannot read the scenario from standard input")
         found = programs.call(program, [command], b"#" * (MOST_TEXT_BYTES + 1))
         check_call(tally, f"canely {command} < LONG", found, 7, b"", f"the scenario has more than {MOST_TEXT_BYTES} bytes")
-    for arguments in (["replay"], ["run"], ["replica"], ["tail"], ["media"], ["media", "0:0-4:down"], ["storm", "7"], ["--help"], ["--version"]):
+    for arguments in (["replay"], ["check"], ["run"], ["replica"], ["tail"], ["media"], ["media", "0:0-4:down"], ["storm", "7"], ["--help"], ["--version"]):
         with open("/dev/full", "wb") as sink:
             found = programs.call(program, arguments, scenario.read_bytes(), sink)
         check_call(tally, f"canely {' '.join(arguments)} > /dev/full", found, 5, None, "cannot write to standard output")
@@ -73,9 +75,9 @@ def check_texts(tally, program):
     found = programs.call(program, ["--help"])
     check_call(tally, "canely --help", found, 0, None, "")
     text = found[1].decode()
-    for command in ("replay", "run", "replica", "tail", "media", "storm NUMBER", "--help", "--version"):
+    for command in ("replay", "check", "run", "replica", "tail", "media", "storm NUMBER", "--help", "--version"):
         tally.check(f" canely {command}" in text, f"canely --help does not show the command {command}")
-    for status in (0, *range(2, 9)):
+    for status in (0, *range(2, 11)):
         tally.check(re.search(rf"(?m)^(exit status:|\s+)\s*{status}  \w", text), f"canely --help does not say when the exit status is {status}")
 
 

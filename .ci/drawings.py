@@ -39,7 +39,7 @@ EXPECTED = {
     "forty_nodes.params": "params.py --nodes 40 --silence 30000 --toml",
 }
 # The scripts whose examples in the page call the program.
-WITH_PROGRAM = ("tools/sweep.py", "tools/shrink.py", "tools/judge.py")
+WITH_PROGRAM = ("tools/sweep.py", "tools/shrink.py")
 WIDTHS = (40, 57, 80, 132)
 SVG = "{http://www.w3.org/2000/svg}"
 MOST_PICTURE_BYTES = 100_000

@@ -10,7 +10,7 @@ REMARK = r"\s{2,}.*"
 
 
 # A text of a run begins so, of whichever command.
-BEGIN = ("canely report ", "canely replica ", "medium ")
+BEGIN = ("canely report ", "canely check ", "canely replica ", "medium ")
 
 
 def is_part(lines, whole):
@@ -32,7 +32,7 @@ def check_block(place, lines, reports, texts, built, tally):
     text = "\n".join(lines)
     if not lines:
         return
-    if lines[0].startswith(BEGIN) or all(re.match(r"(bus|node|deliver|view|failed|message|hypothesis|reply|key) ", it) for it in lines):
+    if lines[0].startswith(BEGIN) or all(re.match(r"(bus|node|deliver|view|failed|message|hypothesis|reply|key|integrity|agreement|order|views|signs|accuracy|parted|sign|accused|unused) ", it) for it in lines):
         check_report(place, lines, reports, tally)
     elif re.match(r"(#.*\n)*format = ", text):
         tally.check(tomllib.loads(text) in texts, f"{place}: the scenario is none of scenarios/")

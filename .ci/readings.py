@@ -54,6 +54,9 @@ def check_verdict(root, tally):
         found = verdict.read_check(text)
         count = len(list(verdict.facts(found)))
         tally.check(count == text.count(b"\n"), f"{file.name}: {count} objects of JSON for its lines")
+        head = verdict.read_outline(text)
+        same = (head.format, head.first_break, head.parts, head.unused) == (found.format, found.first_break, found.parts, found.unused)
+        tally.check(same, f"{file.name}: a sweep reads it in another way")
     every = verdict.read_check((root / "tools/expected/every_line.check").read_bytes())
     fates = [it.fate.word for it in every.messages]
     tally.check(fates == ["all", "apart", "none", "open", "open"], f"every_line.check: its messages are {fates}")

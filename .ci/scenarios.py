@@ -7,7 +7,10 @@ import tomllib
 
 import program as programs
 
-DONE, REFUSED = 0, 3
+DONE, REFUSED, BROKEN, OPEN = 0, 3, 9, 10
+
+# The lines of the head of a verdict that judge a part of the promise.
+JUDGED = re.compile(rb"(?m)^(?:integrity|agreement \w+|order|views|signs|accuracy) (held|broken|open)\b")
 
 
 def words_of(root, name):
@@ -17,8 +20,11 @@ def words_of(root, name):
 
 
 def wanted_status(report):
-    """A report that is the line of a refusal goes with its status, and any other with success."""
-    return REFUSED if report.startswith(b"refused ") else DONE
+    """The line of a refusal goes with its status, a verdict with the worst of what it judges, and any other text with success."""
+    if report.startswith(b"refused "):
+        return REFUSED
+    judged = JUDGED.findall(report) if report.startswith(b"canely check ") else []
+    return BROKEN if b"broken" in judged else OPEN if b"open" in judged else DONE
 
 
 def first_difference(wanted, found):

@@ -1,4 +1,5 @@
-"""Sweeps, shrinking, judging and the texts of storms. Where no program was built, one that stands in for it answers by the words of a text."""
+"""Sweeps, shrinking and the texts of storms. What cuts off a sweep is tried with a program that stands in for the built one and answers by
+the words of a text; verdicts are those of the built one, where there is one."""
 import hashlib
 import os
 import re
@@ -12,24 +13,27 @@ import xml.etree.ElementTree as ElementTree
 from collections import Counter
 from pathlib import Path
 
-import judge
 import program as programs
 import report as reports
 import scenario as scenarios
 import storm_text
+import verdict
 from readings import LIMIT, at_once, stored, tool
 from report import Delivery, Failure, View
 
-SWEEP, SHRINK, JUDGE, STORM = "sweep.py", "shrink.py", "judge.py", "storm_text.py"
+SWEEP, SHRINK, STORM = "sweep.py", "shrink.py", "storm_text.py"
 
 # Replays whatever it is given as one scenario. Of a text it judges: a silent fault breaks the order, a partial one with a stop does within
-# the hypothesis, a lost one is refused, anything else holds. Each text that it has judged it notes.
+# the hypothesis, a lost one is refused, anything else holds, but what has a payload is open. Each text that it has judged it notes.
 STAND_IN = """#!{python}
 import hashlib, sys, time
 text = sys.stdin.buffer.read()
 if sys.argv[1] == "replay":
     sys.stdout.buffer.write(open("{report}", "rb").read())
     sys.exit(0)
+if not text:
+    print("refused missing key format in top 0")
+    sys.exit(3)
 time.sleep(0.02)
 with open("{log}", "a") as log:
     log.write(hashlib.sha256(text).hexdigest() + "\\n")
@@ -41,8 +45,9 @@ broken = held.replace("order held", "order broken")
 outside = broken.replace("hypothesis within", "hypothesis outside silent 1")
 is_silent = b'"silent"' in text and b"reject" in text and b"[[send]]" in text
 is_broken = b'"partial"' in text and b"stop" in text
-sys.stdout.write(outside if is_silent else broken if is_broken else held)
-sys.exit(9 if is_silent or is_broken else 0)
+is_open = b"data" in text and not (is_silent or is_broken)
+sys.stdout.write(outside if is_silent else broken if is_broken else held.replace("signs held", "signs open") if is_open else held)
+sys.exit(9 if is_silent or is_broken else 10 if is_open else 0)
 """
 HELD = """canely check 1
 hypothesis within
@@ -54,6 +59,8 @@ order held shortest 0 longest 0
 views held numbers 0 apart 0
 signs held all 0 none 0 apart 0 open 0
 accuracy held
+message ed 0 0 slot 0 all carried 1 2 delivered 1 1
+unused send 0 stopped
 unused fault 0 attempts 0
 end
 """
@@ -92,56 +99,17 @@ slots = 1
 
 [[send]]
 slot = 0
-node = 1
+node = 0
 service = "ed"
 
 [[fault]]
 class = "ed"
 number = 0
-node = 1
+node = 0
 nth = 1
 verdict = "silent"
 reject = [0]
 """
-
-
-# Scenarios that show what a verdict counts, each with lines of its text of check: a node that takes part late and an earlier incarnation
-# that was found silent; an origin that delivered before it stopped, and an ask that it could not make; a sign that one node alone knows.
-ROWS = {
-    """format = 1
-nodes = 3
-slots = 100
-send = [{slot = 0, node = 0, service = "tot", data = "0a"}, {slot = 60, node = 1, service = "tot", data = "0b"}]
-fault = [{slot = 5, stop = [2]}]
-restart = [{slot = 10, node = 2}]
-""": [
-        "order held shortest 1 longest 2",
-        "accuracy held",
-        "message tot 0 0 slot 0 all carried 1 1 delivered 1 2",
-        "sign 2 1 all carried 75 76 known 73 75",
-    ],
-    """format = 1
-nodes = 3
-slots = 45
-send = [{slot = 0, node = 0, service = "tot", data = "01"}, {slot = 20, node = 0, service = "ed", data = "02"}]
-fault = [{slot = 2, verdict = "partial", reject = [1, 2], stop = [0]}]
-""": [
-        "message tot 0 0 slot 0 none had 0 carried 1 1",
-        "message ed 0 1 slot 20 none had - carried -",
-        "unused send 1 stopped",
-    ],
-    """format = 1
-nodes = 3
-slots = 80
-send = [{slot = 10, node = 1, service = "tot", data = "01"}]
-fault = [{slot = 11, verdict = "silent", reject = [2]}, {slot = 20, stop = [1]}, {class = "fda", number = 1, node = 1, nth = 1, verdict = "silent", reject = [0]}]
-""": [
-        "order held shortest 0 longest 1",
-        "signs broken all 0 none 0 apart 1 open 0",
-        "sign 1 1 apart has 2 lacks 0 carried 75 75 known 73 73",
-    ],
-}
-
 
 class StandIn:
     def __init__(self, root, folder):
@@ -160,46 +128,101 @@ def all_cases(folder, suffix):
     return sorted(folder.glob(f"*/*{suffix}"))
 
 
-def check_killed(root, tally, stand_in, folder):
-    """A run that is killed is gone on with: what was done is not done again, and nothing is left out."""
+def all_done(folder):
+    return [it for it in all_cases(folder, ".status") if it.stat().st_size]
+
+
+def cut_off(root, stand_in, folder, end):
+    """Starts a run, ends it by a signal after five more cases, and returns its status and what it said."""
     words = [sys.executable, root / "tools" / SWEEP, "run", folder, "--program", stand_in.path, "--jobs", "2"]
-    killed = subprocess.Popen(words, stdout=subprocess.DEVNULL, stderr=subprocess.DEVNULL)
-    limit = time.monotonic() + LIMIT
-    while len(all_cases(folder, ".status")) < 5 and time.monotonic() < limit:
-        time.sleep(0.01)
-    os.kill(killed.pid, signal.SIGKILL)
-    killed.wait()
-    # its workers end with the case that they are at
+    wanted, limit = len(all_done(folder)) + 5, time.monotonic() + LIMIT
+    with tempfile.TemporaryFile() as said:
+        # a shell lets what runs in its background ignore interrupts
+        heed = lambda: signal.signal(signal.SIGINT, signal.default_int_handler)
+        running = subprocess.Popen(words, stdout=subprocess.DEVNULL, stderr=said, preexec_fn=heed)
+        while len(all_done(folder)) < wanted and time.monotonic() < limit:
+            time.sleep(0.01)
+        os.kill(running.pid, end)
+        status = running.wait()
+        said.seek(0)
+        lines = said.read().decode()
+    # the workers of one that was killed end with the case that they are at
     before = -1
-    while before != len(all_cases(folder, ".status")):
-        before = len(all_cases(folder, ".status"))
+    while before != len(all_done(folder)):
+        before = len(all_done(folder))
         time.sleep(0.5)
-    cases = all_cases(folder, ".toml")
-    tally.check(5 <= before < len(cases), f"sweep.py run was not killed in the middle: {before} of {len(cases)} cases were done")
-    done = [hashlib.sha256(it.with_suffix(".toml").read_bytes()).hexdigest() for it in all_cases(folder, ".status") if it.stat().st_size]
+    return status, lines
+
+
+def check_cut_off(root, tally, stand_in, folder):
+    """A run that is interrupted or killed is gone on with: what was done is not done again, and nothing is left out."""
+    status, said = cut_off(root, stand_in, folder, signal.SIGINT)
+    wanted = re.fullmatch(r"\d+ of 20 cases, .*\nsweep\.py: interrupted; \d+ cases were run, and the same command goes on\n", said)
+    tally.check(status == 130 and wanted, f"sweep.py run, interrupted, ends with {status} and says {said!r}")
+    tally.check(cut_off(root, stand_in, folder, signal.SIGKILL)[0] == -signal.SIGKILL, "sweep.py run ended before it was killed")
+    cases, before = all_cases(folder, ".toml"), all_done(folder)
+    tally.check(10 <= len(before) < len(cases), f"sweep.py run was not cut off in the middle: {len(before)} of {len(cases)} cases were done")
+    tally.check(tool(root, SWEEP, "sum", str(folder))[0] in (3, 9), "sweep.py sum of what was refused or broken ends as if nothing were")
+    done = [hashlib.sha256(it.with_suffix(".toml").read_bytes()).hexdigest() for it in before]
     again = ["run", str(folder), "--program", str(stand_in.path), "--jobs", "2"]
-    ended = [tool(root, SWEEP, *again, *part)[0] for part in (["--part", "0/2"], [])]
-    tally.check(ended == [0, 0], f"sweep.py run, gone on with, ends with {ended}")
+    # two at once, one of them at a part that the other does too
+    ended = [it for _, it in at_once([["--part", "0/2"], []], lambda *part: tool(root, SWEEP, *again, *part))]
+    tally.check([it[0] for it in ended] == [0, 0], f"sweep.py run, gone on with, ends with {ended}")
+    tally.check(ended[1][2].startswith("20 of 20 cases, ") and ended[1][2].endswith(" 12 broken, 4 ended otherwise\n"), f"sweep.py run says at its end {ended[1][2]!r}")
     judged = stand_in.judged()
     tally.check(all(judged[it] == 1 for it in done), "sweep.py run judged a case again that was done")
-    tally.check(len(all_cases(folder, ".status")) == len(cases) == len(judged), "sweep.py run left out a case")
+    tally.check(len(all_done(folder)) == len(cases) == len(judged), "sweep.py run left out a case")
+    tally.check(judged.total() == len(cases), f"two runs at once judged {judged.total()} times, {len(cases)} cases")
 
 
 def check_sweep(root, tally, stand_in, folder):
     made = tool(root, SWEEP, "faults", "scenarios/one_message_no_fault.toml", str(folder), "--program", str(stand_in.path), "--reject", "all")
     tally.check(made == (0, f"20 cases in {folder}\n".encode(), ""), f"sweep.py faults makes {made}, and not 20 cases")
-    check_killed(root, tally, stand_in, folder)
+    check_cut_off(root, tally, stand_in, folder)
     ended, wrote, said = tool(root, SWEEP, "sum", str(folder))
     lines = wrote.decode().splitlines()
-    wanted = ["cases 20 judged 16 otherwise 4 left 0", "unused entries 16 in 16 cases", "hypothesis within 8 silent 8 omit 0 errors 0"]
-    tally.check(set(wanted) <= set(lines), f"sweep.py sum writes {lines[:8]}")
-    tally.check("order                4       0       4         0       0       8  000/000003" in lines, f"sweep.py sum has another row for order: {lines}")
+    wanted = ["cases 20 judged 16 otherwise 4 left 0", "unused given 16 in 16 cases", "unused made 16 in 16 cases", "unused given send stopped 16"]
+    wanted += ["unused made fault attempts 16", "hypothesis within 8 silent 8 omit 0 errors 0"]
+    wanted += ["order                4       0       4         0       0       8  000/000003"]
+    wanted += ["signs                4       4       0         8       0       0", "run                  0       4       4         0       0       8"]
+    tally.check(set(wanted) <= set(lines), f"sweep.py sum writes {lines}, without {set(wanted) - set(lines)}")
     tally.check((ended, said) == (9, ""), f"sweep.py sum ends with {ended}, and not with 9, of a case that is broken within the hypothesis")
     found = ElementTree.fromstring(tool(root, SWEEP, "sum", str(folder), "--junit")[1])[0]
     counts = {name: found.get(name) for name in ("tests", "failures", "errors", "skipped")}
     tally.check(counts == {"tests": "20", "failures": "4", "errors": "4", "skipped": "0"}, f"the JUnit XML counts {counts}")
     kinds = Counter(it.tag for case in found for it in case)
     tally.check(len(found) == 20 and kinds == {"failure": 4, "error": 4}, f"the JUnit XML has {kinds} in {len(found)} cases")
+
+
+def check_damaged(root, tally, stand_in, folder):
+    """Sums of cases that are left or that ended otherwise, and a case that went away."""
+    words = ["--program", str(stand_in.path)]
+    tool(root, SWEEP, "faults", "scenarios/one_message_no_fault.toml", str(folder), *words, "--verdicts", "silent", "--stop", "none")
+    left = tool(root, SWEEP, "sum", str(folder))
+    tally.check(left[0] == 10 and left[1].startswith(b"cases 3 judged 0 otherwise 0 left 3\n") and not left[2], f"sweep.py sum of what is not judged: {left}")
+    tool(root, SWEEP, "run", str(folder), *words)
+    tally.check(tool(root, SWEEP, "sum", str(folder))[0] == 0, "sweep.py sum of runs outside the hypothesis does not end with 0")
+    first, second, third = all_cases(folder, ".check")
+    first.write_bytes(b"")
+    first.with_suffix(".status").write_text("5 canely: cannot write\n")
+    tally.check(tool(root, SWEEP, "sum", str(folder))[0] == 3, "sweep.py sum does not end with 3 where a case could not be written")
+    tool(root, SWEEP, "run", str(folder), *words)
+    tally.check(tool(root, SWEEP, "sum", str(folder))[0] == 0, "sweep.py run does not try again a case that could not be written")
+    first.write_bytes(first.read_bytes()[:-9])
+    second.write_bytes(HELD.encode())
+    third.with_suffix(".status").unlink()
+    third.with_suffix(".toml").unlink()
+    ended, wrote, said = tool(root, SWEEP, "sum", str(folder))
+    wanted = [
+        "cases 3 judged 0 otherwise 2 left 1",
+        "otherwise 000/000000 its text of check: line 13: is cut off",
+        "otherwise 000/000001 status 9, and its text is that of 0",
+    ]
+    tally.check(wrote.decode().splitlines()[:3] == wanted, f"sweep.py sum of a damaged folder writes {wrote.decode()}")
+    tally.check((ended, said) == (3, "sweep.py: 2 cases ended otherwise than judged\n"), f"sweep.py sum of a damaged folder ends with {ended}, {said!r}")
+    ended, _, said = tool(root, SWEEP, "run", str(folder), *words)
+    wanted = f"sweep.py: cannot go on: {third.with_suffix('.toml')}: no such file or directory; the same command does, where it was"
+    tally.check(ended == 5 and said.splitlines()[-1] == wanted and said.count("\n") == 2, f"sweep.py run without a case ends with {ended}, {said!r}")
 
 
 def check_seeds(root, tally, folder):
@@ -221,22 +244,6 @@ def check_shrink(root, tally, stand_in, folder):
     tally.check((ended, text, said) == (0, SMALL, ""), f"shrink.py ends with {ended}, says {said!r}, and writes {text}")
     first = wrote.decode().partition("\n")[0]
     tally.check(re.fullmatch(r"# order is broken, hypothesis outside silent 1; \d+ runs made this of 5 nodes, 90 slots, 2 send, 2 fault, 1 leave", first), f"shrink.py says {first}")
-
-
-def check_judge(root, tally):
-    """Of each stored run within the hypothesis nothing is broken that is promised; the text of check is that which is stored."""
-    for name, text in stored(root).items():
-        report = reports.read_report(text)
-        scenario = scenarios.read_scenario((root / f"scenarios/{name}.toml").read_bytes(), name)
-        status, lines = judge.judge(scenario, report)
-        broken = [line.split(" broken")[0] for line in lines[2:10] if " broken" in line]
-        promised = broken if not report.first_break else []
-        promised = [it for it in promised if not (it == "accuracy" and "restart" in scenario)]
-        tally.check(not promised, f"judge.py: {name} is within the hypothesis, and {', '.join(promised)} is broken")
-        tally.check((status == 9) == bool(broken), f"judge.py: the status of {name} is {status}")
-        file = root / f"tools/expected/{name}.check"
-        if file.is_file():
-            tally.check("".join(f"{it}\n" for it in lines) == file.read_text(), f"judge.py writes not tools/expected/{name}.check: {lines}")
 
 
 def check_words(tally):
@@ -271,34 +278,31 @@ def check_storms(root, tally, program):
             tally.check(found == wanted, f"the text of storm {number} gives another summary: {found}")
 
 
-def check_rows(root, tally, program):
-    """The verdicts of judge.py on runs of the program; where the program has the command, they are those of `canely check`."""
-    for text, lines in ROWS.items():
-        status, wrote, said = tool(root, JUDGE, "--program", str(program), stdin=text.encode())
-        missing = [line for line in lines if line not in wrote.decode().splitlines()]
-        tally.check(not missing, f"judge.py: {status} {said} without {missing} in {wrote.decode()}")
-    if " canely check " not in programs.call(program, ["--help"])[1].decode():
-        return
-    # what an open message waits for is in no report
-    waits = re.compile(r"(?m)^(message .* open)( queued)?( waits [0-9,]+)?( ahead [0-9,]+ by [0-9]+)?(?= carried)")
-    for text in [*(it.encode() for it in ROWS), *((root / f"scenarios/{name}.toml").read_bytes() for name in stored(root))]:
-        status, wrote, said = programs.call(program, ["check"], text)
-        found = tool(root, JUDGE, "--program", str(program), stdin=text)
-        is_same = found[:2] == (status, waits.sub(r"\1", wrote.decode()).encode())
-        tally.check(is_same, f"judge.py and canely check say different things of {text.decode()}")
+def check_verdicts(root, tally, program):
+    """What `canely check` writes of each stored scenario is read whole; of those that are stored as texts it is that text."""
+    for name in stored(root):
+        status, text, _ = programs.call(program, ["check"], (root / f"scenarios/{name}.toml").read_bytes())
+        check = verdict.read_check(text)
+        tally.check(check.status == status, f"canely check of {name} ends with {status}, and its text is that of {check.status}")
+        tally.check(len(list(verdict.facts(check))) == text.count(b"\n"), f"canely check of {name}: its lines are read wrong")
+        head = verdict.read_outline(text)
+        same = (head.first_break, head.parts, head.unused) == (check.first_break, check.parts, check.unused)
+        tally.check(same, f"canely check of {name}: a sweep reads it in another way")
+        file = root / f"tools/expected/{name}.check"
+        tally.check(not file.is_file() or text == file.read_bytes(), f"canely check of {name} writes not tools/expected/{name}.check")
 
 
 def check_with_program(root, tally, program, folder):
-    """A sweep of a scenario by the program, judged by judge.py; one case of it is shrunk."""
-    check = f"{sys.executable} {root}/tools/judge.py --program {program}"
-    words = ["scenarios/totcan_accept_survives_its_sender.toml", str(folder), "--program", str(program), "--class", "tot,accept", "--verdicts", "partial,silent"]
-    made = tool(root, SWEEP, "faults", *words, "--faults", "2", "--sample", "12", "--seed", "3")
+    """A sweep of a scenario, judged by the program; one case of it is shrunk."""
+    words = ["--program", str(program)]
+    shape = ["--class", "tot,accept", "--verdicts", "partial,silent", "--faults", "2", "--sample", "12", "--seed", "3"]
+    made = tool(root, SWEEP, "faults", "scenarios/totcan_accept_survives_its_sender.toml", str(folder), *words, *shape)
     tally.check(made[:2] == (0, f"12 cases in {folder}\n".encode()), f"sweep.py faults with two faults: {made}")
-    tool(root, SWEEP, "run", str(folder), "--check", check)
+    tool(root, SWEEP, "run", str(folder), *words)
     status, wrote, _ = tool(root, SWEEP, "sum", str(folder))
     tally.check(status == 0 and wrote.startswith(b"cases 12 judged 12 otherwise 0 left 0\n"), f"sweep.py sum: {status} {wrote.decode()}")
     text = (root / "scenarios/silent_omission_is_outside.toml").read_bytes()
-    ended, wrote, said = tool(root, SHRINK, "--check", check, "--part", "agreement tot", stdin=text)
+    ended, wrote, said = tool(root, SHRINK, *words, "--part", "agreement tot", stdin=text)
     lines = wrote.decode().splitlines()
     is_small = ended == 0 and "nodes = 2" in lines and lines.count("[[send]]") == lines.count("[[fault]]") == 1
     tally.check(is_small, f"shrink.py with {program.name}: {ended} {said} {lines}")
@@ -321,9 +325,11 @@ def ends(stand_in, folder):
     yield [SHRINK, *program], SMALL.replace("silent", "clean"), 3, "shrink.py: standard input: nothing is broken"
     yield [SHRINK, *program, "--part", "views"], SMALL, 3, "shrink.py: standard input: views is not broken, but order"
     yield [SHRINK, *program], SMALL.replace("silent", "lost"), 3, "shrink.py: standard input: refused not toml"
-    yield [SHRINK, "--program", "no-such-program"], SMALL, 2, "shrink.py: cannot run no-such-program: no such file or directory"
-    yield [JUDGE, "--program", "no-such-program"], SMALL, 2, "judge.py: cannot run no-such-program: no such file or directory"
-    yield [JUDGE, *program], "nodes = ", 3, "judge.py: standard input: is no scenario: Invalid value (at end of document)"
+    yield [SHRINK, "--program", "no-such-program"], SMALL, 2, "shrink.py: there is no program 'no-such-program' here"
+    yield [SHRINK, "--program", "echo no"], SMALL, 2, "shrink.py: echo no has no command check: no check"
+    yield [SHRINK, "--program", "'"], SMALL, 2, """shrink.py: "'" is no command: no closing quotation"""
+    yield [SWEEP, "run", str(folder), "--program", "false"], "", 2, "sweep.py: false has no command check"
+    yield [SWEEP, "faults", "-", f"{folder}/new", *program], "nodes = ", 3, "sweep.py: standard input: is no scenario: Invalid value (at end of document)"
     yield [STORM, "4294967296"], "", 2, "storm_text.py: argument NUMBER: '4294967296' is no number from 0 to 4294967295; see storm_text.py --help"
     other = "scenarios/three_services.toml"
     wanted = f"measure.py: {other}: its messages are not those of the report"
@@ -341,15 +347,15 @@ def check_ends(root, tally, stand_in, folder):
 
 def check(root, tally, built):
     check_words(tally)
-    check_judge(root, tally)
     with tempfile.TemporaryDirectory() as folder:
         folder = Path(folder)
         stand_in = StandIn(root, folder)
         check_sweep(root, tally, stand_in, folder / "faults")
+        check_damaged(root, tally, stand_in, folder / "damaged")
         check_seeds(root, tally, folder / "seeds")
         check_shrink(root, tally, stand_in, folder)
         check_ends(root, tally, stand_in, folder / "faults")
         for program in built:
             check_storms(root, tally, program)
-            check_rows(root, tally, program)
+            check_verdicts(root, tally, program)
             check_with_program(root, tally, program, folder / f"sweep-{program.name}")

@@ -11,6 +11,7 @@ EXCEPTIONS = {
     "the kit that proved it, as `rt version` prints it": "rattle-kit-13f logic dac8208d650f15bf",
     "a key with a value that is none": "eth",
     "a tool that shows the frames of a CAN bus": "candump",
+    "tools that spread work over machines": "parallel scancel",
 }
 ALLOWED = {it for words in EXCEPTIONS.values() for it in words.split()}
 

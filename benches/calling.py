@@ -40,7 +40,7 @@ class Ended(NamedTuple):
         return self.status == 3 and self.is_silent and self.out.startswith(b"refused ") and self.out.find(b"\n") == len(self.out) - 1
 
     def is_complaint(self, status):
-        """Whether it ended with this status and one line on standard error, as every status but 0 and 3 has."""
+        """Whether it ended with this status and one line on standard error, as every status but 0, 3, 9 and 10 has."""
         return self.status == status and self.err.startswith(b"canely: ") and self.err.find(b"\n") == len(self.err) - 1
 
 

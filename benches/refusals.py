@@ -75,7 +75,7 @@ class Refusals:
             for k in range(1, allocations + 1):
                 ended = self.call(words, text, allocation=k, rest=rest)
                 holds = ended.is_complaint(6) and not ended.out or self.is_same(words, text, plain, ended)
-                if plain.status not in (0, 3, 6):
+                if not plain.is_silent:
                     # the line on standard error says less where there is no memory for it
                     holds = ended.is_complaint(6) and not ended.out or ended.is_complaint(plain.status) and ended.out == plain.out
                 self.note("allocations", f"{name}: {k} of {allocations}, rest {rest}", ended, holds)
@@ -106,7 +106,8 @@ class Refusals:
 def try_streams(refusals, long_text):
     """Standard streams that are closed, full, or given up by who reads."""
     program, text = refusals.program, (TOP / "scenarios/one_message_no_fault.toml").read_bytes()
-    commands = [(["replay"], text), (["run"], text), (["storm", "7"], b""), (["--help"], b""), (["--version"], b"")]
+    readers = [["replay"], ["run"], ["check"]]
+    commands = [(words, text) for words in readers] + [(["storm", "7"], b""), (["--help"], b""), (["--version"], b"")]
 
     def try_shell(subject, what, line, holds, given=text):
         # a shell closes streams, and starts the program as a user does
@@ -125,12 +126,12 @@ def try_streams(refusals, long_text):
         ended = run(program, words, input=given, stdout=write)
         os.close(write)
         refusals.note("pipes given up", name, ended, ended.is_complaint(5))
-    for word in ("replay", "run"):
-        try_shell("closed streams", f"{word} <&-", f'"$0" {word} <&-', lambda it: it.is_complaint(4) and not it.out)
-        try_shell("closed streams", f"{word} < .", f'"$0" {word} < .', lambda it: it.is_complaint(4) and not it.out)
+    for name in map(" ".join, readers):
+        try_shell("closed streams", f"{name} <&-", f'"$0" {name} <&-', lambda it: it.is_complaint(4) and not it.out)
+        try_shell("closed streams", f"{name} < .", f'"$0" {name} < .', lambda it: it.is_complaint(4) and not it.out)
         for lines in (1, 10):
-            line = f'"$0" {word} | head -{lines} > /dev/null; exit ${{PIPESTATUS[0]}}'
-            try_shell("pipes given up", f"{word} | head -{lines}", line, lambda it: it.is_complaint(5), long_text)
+            line = f'"$0" {name} | head -{lines} > /dev/null; exit ${{PIPESTATUS[0]}}'
+            try_shell("pipes given up", f"{name} | head -{lines}", line, lambda it: it.is_complaint(5), long_text)
     try_shell("closed streams", "storm 7 <&-", '"$0" storm 7 <&-', lambda it: it.status == 0 and it.is_silent)
     try_shell("closed streams", "play 2>&-", '"$0" play 2>&-', lambda it: it.status == 2)
 
@@ -139,7 +140,8 @@ def try_words(refusals):
     """Words that are no text, that are many, or long."""
     odd = [b"", b"\xff", b"\xc3\x28", b"\xed\xa0\x80", b"\xf5\x80\x80\x80", b"replay\xff", b"-", b"--", b"--help=", b"-h", b"replay\n", "réplay".encode()]
     odd += [b"\x1b[2J", b"x" * 131_000, b"\xff" * 131_000]
-    lists = [[it] for it in odd] + [["storm", it] for it in [*odd, b"1" * 131_000, "٧".encode()]] + [["replay", it] for it in odd] + [["run", it] for it in odd]
+    lists = [[it] for it in odd] + [["storm", it] for it in [*odd, b"1" * 131_000, "٧".encode()]]
+    lists += [[word, it] for word in ("replay", "run", "check") for it in odd]
     lists += [[word] * 100_000 for word in ("replay", "storm", "", "--help", b"\xff")] + [["storm"] + ["7"] * 99_999, [], ["storm"]]
     for words in lists:
         ended = run(refusals.program, words, input=b"")
@@ -173,6 +175,8 @@ def main():
             ("`replica` of `table_order_decides`", ["replica"], scenarios["table_order_decides"]),
             ("`media` of `blind_slot`", ["media", "0:1-1:down", "1:0-2:split:0"], scenarios["blind_slot"]),
             ("`tail` of `tail_enough`", ["tail"], scenarios["tail_enough"]),
+            ("`check` of `brake_commands`", ["check"], scenarios["brake_commands"]),
+            ("`check` of `silent_omission_is_outside`", ["check"], scenarios["silent_omission_is_outside"]),
         ]:
             print(f"| {name} | {refusals.allocations(name, words, text):,} |", flush=True)
             refusals.streams(name, words, text)

@@ -17,6 +17,9 @@ import world
 # The calls whose cost is shown: reading the scenario, and running it. What is left is written.
 PARTS = {"reading": "cany_command::reading::scenario_in", "running": "cany_command::running::run"}
 
+# The exit statuses with which a run is made: `canely check` has others for what is broken or open.
+ENDED = (0, 9, 10)
+
 # What the messages ask for in rotation.
 PAYLOADS = ["01{:02x}aabbccddeeff", "03{:02x}0102", "01{:02x}01", "03{:02x}0102", "02{:02x}"]
 
@@ -34,7 +37,9 @@ def counted(command, text):
     """The instructions of a run, in all and of each part."""
     with tempfile.NamedTemporaryFile() as out:
         tool = ["valgrind", "--tool=callgrind", f"--callgrind-out-file={out.name}"]
-        subprocess.run([*tool, *command], input=text.encode(), stdout=subprocess.DEVNULL, stderr=subprocess.DEVNULL, check=True)
+        ran = subprocess.run([*tool, *command], input=text.encode(), stdout=subprocess.DEVNULL, stderr=subprocess.DEVNULL, check=False)
+        if ran.returncode not in ENDED:
+            sys.exit(f"{' '.join(command)}: status {ran.returncode}")
         words = ["callgrind_annotate", "--inclusive=yes", out.name]
         found = subprocess.run(words, stdout=subprocess.PIPE, text=True, check=True).stdout
     count = lambda name: int(re.search(rf"(?m)^\s*([0-9,]+) .*{re.escape(name)}", found)[1].replace(",", ""))

@@ -1,5 +1,7 @@
-"""A folder of cases: FOLDER/000/000123.toml is the scenario of case 123, beside it .check the text that was written of it, and .status the
-exit status of what wrote it. A case is done once its status stands there, so a run that was cut off goes on where it was."""
+"""A folder of cases: FOLDER/000/000123.toml is the scenario of case 123, beside it .check the text that `canely check` wrote of it, and
+.status its exit status. A case is done once it was judged or refused, so a run that was cut off goes on where it was."""
+import errno
+import fcntl
 import multiprocessing
 import os
 import signal
@@ -10,10 +12,12 @@ from pathlib import Path
 from typing import NamedTuple
 
 import command
-from scenario import scenario_text
+from scenario import TABLES, scenario_text
+from verdict import BROKEN, HELD, OPEN
 
 CASES_IN_FOLDER = 1000
-HELD, BROKEN, OPEN = 0, 9, 10
+# The exit statuses that a case has for good. One that ended otherwise, as where memory or the disk was full, is tried again.
+DONE = (HELD, BROKEN, OPEN, command.REFUSED)
 # How long the progress line stands, in seconds, on a terminal and elsewhere.
 PAUSE, LONG_PAUSE = 0.5, 30
 KILLED = 128
@@ -23,8 +27,16 @@ def folder_failure(error, folder):
     return command.Failure(command.WRITE_FAILED, f"cannot write to {folder}: {command.cause(error)}")
 
 
-def write_cases(folder, scenarios, made_by):
-    """Writes the scenarios, and at last by which words they were made. Returns how many there are."""
+class Made(NamedTuple):
+    """How the cases of a folder were made."""
+
+    count: int
+    given: dict
+    """By table how many entries each case has of the scenario that was given; the entries after them were made. None where none was."""
+
+
+def write_cases(folder, scenarios, made_by, given=None):
+    """Writes the scenarios, and at last by which words they were made, and how many entries of each table the given scenario has."""
     folder = Path(folder)
     count = -1
     try:
@@ -35,27 +47,52 @@ def write_cases(folder, scenarios, made_by):
             path = folder / f"{count // CASES_IN_FOLDER:03}" / f"{count:06}.toml"
             path.parent.mkdir(exist_ok=True)
             path.write_text(scenario_text(scenario), encoding="ascii")
-        (folder / "made").write_text(f"{count + 1} {' '.join(made_by)}\n", encoding="utf-8")
+        words = " ".join(f"{table} {len(given.get(table, []))}" for table in TABLES) if given else "none"
+        (folder / "made").write_text(f"cases {count + 1}\ngiven {words}\nby {' '.join(made_by)}\n", encoding="utf-8")
     except OSError as error:
         raise folder_failure(error, folder) from None
     return count + 1
 
 
-def case_paths(folder):
-    """The paths of all cases without their suffix, in their order."""
+def read_made(folder):
+    """How the cases of a folder were made."""
     try:
-        made = (Path(folder) / "made").read_text(encoding="utf-8")
-        count = int(made.split(" ", 1)[0])
+        first, second = (Path(folder) / "made").read_text(encoding="utf-8").splitlines()[:2]
+        words = second.removeprefix("given ").split()
+        given = dict(zip(words[::2], map(int, words[1::2])))
+        return Made(int(first.removeprefix("cases ")), given)
     except (OSError, ValueError):
         raise command.Failure(command.READ_FAILED, f"{folder} is no folder of cases, or was not made to its end") from None
-    return [f"{folder}/{number // CASES_IN_FOLDER:03}/{number:06}" for number in range(count)]
 
 
-def is_done(path):
+def case_paths(folder):
+    """The paths of all cases without their suffix, in their order."""
+    return [f"{folder}/{number // CASES_IN_FOLDER:03}/{number:06}" for number in range(read_made(folder).count)]
+
+
+def status_of(path):
+    """The exit status with which a case was judged, and what was said beside it; None where it is not done."""
     try:
-        return os.stat(f"{path}.status").st_size > 0
-    except OSError:
-        return False
+        with open(f"{path}.status", encoding="utf-8", errors="replace") as source:
+            status, _, said = source.readline().strip().partition(" ")
+    except FileNotFoundError:
+        return None
+    return (int(status), said) if status.isdecimal() else None
+
+
+def done_status(path):
+    """The exit status of a case that is done, or None."""
+    found = status_of(path)
+    return found[0] if found and found[0] in DONE else None
+
+
+def wait_for(file):
+    """Takes the file of a case for this process, and waits while another run has it. Not all file systems can do that."""
+    try:
+        fcntl.flock(file, fcntl.LOCK_EX)
+    except OSError as error:
+        if error.errno not in (errno.ENOLCK, errno.ENOTSUP, errno.ENOSYS):
+            raise
 
 
 class Counts(NamedTuple):
@@ -67,6 +104,14 @@ class Counts(NamedTuple):
     failed: object
     stop: object
 
+    def note(self, status):
+        """Counts a case that ended with a status."""
+        add(self.done)
+        if status == BROKEN:
+            add(self.broken)
+        elif status not in (HELD, OPEN):
+            add(self.failed)
+
 
 def add(value):
     with value.get_lock():
@@ -75,39 +120,49 @@ def add(value):
 
 
 class Worker:
-    """Runs cases, one at a time, until there are no more."""
+    """Runs cases, one at a time, until there are no more. What keeps it from going on it says by a pipe."""
 
-    def __init__(self, words, paths, limit, counts):
-        self.words, self.paths, self.limit, self.counts = words, paths, limit, counts
+    def __init__(self, words, paths, limit, counts, complaints):
+        self.words, self.paths, self.limit, self.counts, self.complaints = words, paths, limit, counts, complaints
         self.parent, self.child = os.getpid(), None
 
     def __call__(self):
         # an interrupt is for the parent, which lets the cases that run come to their end
         signal.signal(signal.SIGINT, signal.SIG_IGN)
         signal.signal(signal.SIGALRM, lambda *_: self.child.kill())
-        while not self.counts.stop.value and os.getppid() == self.parent:
-            place = add(self.counts.next)
-            if place >= len(self.paths):
-                return
-            self.run(self.paths[place])
+        try:
+            while not self.counts.stop.value and os.getppid() == self.parent:
+                place = add(self.counts.next)
+                if place >= len(self.paths):
+                    return
+                self.counts.note(self.run(self.paths[place]))
+        except OSError as error:
+            self.counts.stop.value = 1
+            self.complaints.send(f"{error.filename or 'a case'}: {command.cause(error)}")
 
     def run(self, path):
-        with open(f"{path}.toml", "rb") as source, open(f"{path}.check", "wb") as sink:
-            self.child = subprocess.Popen(self.words, stdin=source, stdout=sink, stderr=subprocess.PIPE, start_new_session=True)
-            signal.setitimer(signal.ITIMER_REAL, self.limit)
-            said = self.child.stderr.read().decode(errors="replace")
-            status = self.child.wait()
-            signal.setitimer(signal.ITIMER_REAL, 0)
-            self.child.stderr.close()
+        """Judges a case, unless another run has done it by now, and returns its status."""
+        with open(f"{path}.toml", "rb") as source, open(f"{path}.check", "ab") as sink:
+            wait_for(sink)
+            done = done_status(path)
+            if done is None:
+                sink.truncate(0)
+                done = self.judge(source, sink, path)
+        return done
+
+    def judge(self, source, sink, path):
+        """Has the program judge a case, and leaves its text and its status. The status is written last and by one call."""
+        self.child = subprocess.Popen(self.words, stdin=source, stdout=sink, stderr=subprocess.PIPE, start_new_session=True)
+        signal.setitimer(signal.ITIMER_REAL, self.limit)
+        said = self.child.stderr.read().decode(errors="replace")
+        status = self.child.wait()
+        signal.setitimer(signal.ITIMER_REAL, 0)
+        self.child.stderr.close()
         status = status if status >= 0 else KILLED - status
         line = "" if status in (HELD, BROKEN, OPEN) else f" {' '.join(said.split())[:200]}".rstrip()
         with open(f"{path}.status", "w", encoding="utf-8") as sink:
             sink.write(f"{status}{line}\n")
-        add(self.counts.done)
-        if status == BROKEN:
-            add(self.counts.broken)
-        elif status not in (HELD, OPEN):
-            add(self.counts.failed)
+        return status
 
 
 def clock(seconds):
@@ -115,12 +170,13 @@ def clock(seconds):
 
 
 def progress(counts, before, total, seconds):
+    """How far a run is; what was done before it counts, but for the rate."""
     done = counts.done.value
-    rate = done / seconds if seconds else 0
-    left = total - before - done
+    rate = (done - before) / seconds if seconds else 0
+    left = total - done
     time_left = f", {clock(left / rate) if rate else 'unknown time'} left" if left else ""
     failed = f", {counts.failed.value} ended otherwise" if counts.failed.value else ""
-    return f"{before + done} of {total} cases, {rate:.0f} a second, {counts.broken.value} broken{failed}{time_left}"
+    return f"{done} of {total} cases, {rate:.0f} a second, {counts.broken.value} broken{failed}{time_left}"
 
 
 def show(line, is_last=False):
@@ -145,18 +201,24 @@ def watch(workers, counts, before, total):
 
 def run_cases(words, paths, jobs, limit):
     """Runs the command on each case that is not done, so many at a time."""
-    left = [path for path in paths if not is_done(path)]
     context = multiprocessing.get_context("fork")
     counts = Counts(*(context.Value("q", 0) for _ in Counts._fields))
-    workers = [context.Process(target=Worker(words, left, limit, counts)) for _ in range(max(1, min(jobs, len(left))))]
+    left = []
+    for path in paths:
+        done = done_status(path)
+        left.append(path) if done is None else counts.note(done)
+    before = counts.done.value
+    said, complaints = context.Pipe(False)
+    workers = [context.Process(target=Worker(words, left, limit, counts, complaints)) for _ in range(max(1, min(jobs, len(left))))]
     for it in workers:
         it.start()
     try:
-        watch(workers, counts, len(paths) - len(left), len(paths))
+        watch(workers, counts, before, len(paths))
     except KeyboardInterrupt:
         counts.stop.value = 1
         for it in workers:
             it.join()
-        raise command.Failure(130, f"interrupted; {counts.done.value} cases were run, and the same command goes on") from None
-    if any(it.exitcode for it in workers):
-        raise command.Failure(command.WRITE_FAILED, "a worker failed; the same command goes on where it was")
+        raise command.Failure(130, f"interrupted; {counts.done.value - before} cases were run, and the same command goes on") from None
+    if said.poll() or any(it.exitcode for it in workers):
+        why = said.recv() if said.poll() else "a worker was ended"
+        raise command.Failure(command.WRITE_FAILED, f"cannot go on: {why}; the same command does, where it was")

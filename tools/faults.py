@@ -1,6 +1,7 @@
 """The faults that a run can meet: for each attempt of a frame in it the rules of a scenario that one can lay on it."""
 import itertools
 import math
+from bisect import bisect_right
 from collections import Counter
 from typing import NamedTuple
 
@@ -64,6 +65,30 @@ def rules(attempt, shape):
             if stop == "senders":
                 rule["stop"] = list(attempt.senders)
             yield rule
+
+
+class Rules:
+    """The rules for attempts, each with its attempt's slot: they are counted, and made when they are taken."""
+
+    def __init__(self, attempts, shape):
+        self.attempts, self.shape = list(attempts), shape
+        self.ends = list(itertools.accumulate(count_of(it, shape) for it in self.attempts))
+
+    def __len__(self):
+        return self.ends[-1] if self.ends else 0
+
+    def __getitem__(self, place):
+        at = bisect_right(self.ends, place)
+        first = self.ends[at - 1] if at else 0
+        return self.attempts[at].slot, next(itertools.islice(rules(self.attempts[at], self.shape), place - first, None))
+
+    def __iter__(self):
+        return ((it.slot, rule) for it in self.attempts for rule in rules(it, self.shape))
+
+
+def rules_of(scenario, report, shape, after=-1):
+    """The rules that can be laid on the run of a scenario, of attempts after a slot."""
+    return Rules((it for it in attempts(report, shape) if it.slot > after and is_free(it, scenario)), shape)
 
 
 def with_rule(scenario, rule):

@@ -82,6 +82,11 @@ class Lines:
         while self.begins(word):
             yield self.match(pattern, form)
 
+    def skip_to(self, *words):
+        """Takes the next lines up to one that begins with one of the words."""
+        while self.taken < len(self.lines) and not any(map(self.begins, words)):
+            self.taken += 1
+
     def end(self):
         """The line 'end' has to come next, and nothing after it."""
         if self.take() != "end":

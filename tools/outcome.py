@@ -4,9 +4,9 @@ from pathlib import Path
 from typing import NamedTuple, Optional
 from xml.sax.saxutils import escape, quoteattr
 
-from cases import BROKEN, HELD, OPEN, case_paths
+from cases import case_paths, status_of
 from lines import Malformed
-from verdict import HEAD, read_check
+from verdict import BROKEN, HEAD, HELD, OPEN, Outline, read_outline
 
 JUDGEMENTS = ("held", "open", "broken")
 
@@ -15,7 +15,7 @@ class Outcome(NamedTuple):
     """A case that was judged, or why it was not."""
 
     path: str
-    check: object
+    check: Optional[Outline]
     failure: Optional[str]
     """What is told of a case that ended otherwise; None also where it is not done."""
     has_restarts: bool
@@ -29,28 +29,25 @@ class Outcome(NamedTuple):
         return self.check.first_break is None
 
     @property
-    def broken(self):
-        """The parts of the promise that are broken."""
-        return [name for name, part in self.check.parts.items() if part.judgement == "broken"]
-
-    @property
     def is_promised(self):
         """Whether something is broken that is promised of the run: within the hypothesis all but accuracy after restarts."""
-        return self.is_within and bool([it for it in self.broken if not (it == "accuracy" and self.has_restarts)])
+        return self.is_within and bool([it for it in self.check.broken if not (it == "accuracy" and self.has_restarts)])
 
 
 def outcome(path):
     try:
-        status, _, said = Path(f"{path}.status").read_text(encoding="utf-8").strip().partition(" ")
-        if not status:
+        found = status_of(path)
+        if not found:
             return Outcome(path, None, None, False)
+        status, said = found
         text = Path(f"{path}.check").read_bytes()
-        if status not in map(str, (HELD, BROKEN, OPEN)):
+        if status not in (HELD, BROKEN, OPEN):
             first = text.decode(errors="replace").partition("\n")[0]
             return Outcome(path, None, f"status {status} {said or first}".rstrip(), False)
-        return Outcome(path, read_check(text), None, b"[[restart]]" in Path(f"{path}.toml").read_bytes())
-    except FileNotFoundError:
-        return Outcome(path, None, None, False)
+        check = read_outline(text)
+        if check.status != status:
+            return Outcome(path, None, f"status {status}, and its text is that of {check.status}", False)
+        return Outcome(path, check, None, b"[[restart]]" in Path(f"{path}.toml").read_bytes())
     except (OSError, Malformed) as error:
         return Outcome(path, None, f"its text of check: {error}", False)
 
@@ -59,13 +56,23 @@ def outcomes(folder):
     return [outcome(path) for path in case_paths(folder)]
 
 
-def unused_lines(judged):
-    """The entries without an effect, by what their lines say beside numbers."""
-    words = lambda it: " ".join([it.table, *(word for word in it.why.split() if not word.isdecimal())])
-    found = Counter(words(it) for one in judged for it in one.check.unused)
-    cases = sum(bool(one.check.unused) for one in judged)
-    yield f"unused entries {sum(found.values())} in {cases} cases"
-    yield from (f"unused {kind} {count}" for kind, count in sorted(found.items()))
+def words_of(unused, given):
+    """Whose an entry without an effect is, and what its line says beside numbers."""
+    whose = "given" if unused.place < given.get(unused.table, 0) else "made"
+    return " ".join([whose, unused.table, *(word for word in unused.why.split() if not word.isdecimal())])
+
+
+def unused_lines(judged, given):
+    """The entries without an effect: those of the scenario that was given, and those that the sweep made."""
+    entries, cases = Counter(), Counter()
+    for one in judged:
+        words = [words_of(it, given) for it in one.check.unused]
+        entries.update(words)
+        cases.update({it.split()[0] for it in words})
+    for whose in ("given", "made"):
+        count = sum(number for words, number in entries.items() if words.startswith(whose))
+        yield f"unused {whose} {count} in {cases[whose]} cases"
+    yield from (f"unused {words} {count}" for words, count in sorted(entries.items()))
 
 
 def part_rows(judged):
@@ -86,13 +93,13 @@ def part_rows(judged):
         yield f"{name:14}{cells}  {first.get(name, '')}".rstrip()
 
 
-def table(found):
-    """The summary."""
+def table(found, given):
+    """The summary of the cases, each of which has so many entries of the scenario that was given."""
     judged = [it for it in found if it.check]
     failed = [it for it in found if it.failure]
     yield f"cases {len(found)} judged {len(judged)} otherwise {len(failed)} left {len(found) - len(judged) - len(failed)}"
     yield from (f"otherwise {it.name} {it.failure}" for it in failed[:10])
-    yield from unused_lines(judged)
+    yield from unused_lines(judged, given)
     kinds = Counter(it.check.first_break[0] for it in judged if it.check.first_break)
     yield f"hypothesis within {sum(it.is_within for it in judged)} " + " ".join(f"{kind} {kinds[kind]}" for kind in ("silent", "omit", "errors"))
     yield ""
@@ -113,7 +120,7 @@ def junit(found, name):
         elif it.check is None:
             inside = "<skipped/>"
         elif it.is_promised:
-            words = f"broken within the hypothesis: {', '.join(it.broken)}"
+            words = f"broken within the hypothesis: {', '.join(it.check.broken)}"
             inside = f"<failure message={quoteattr(words)}>{escape(Path(f'{it.path}.check').read_text(encoding='ascii'))}</failure>"
         else:
             inside = ""

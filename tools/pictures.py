@@ -21,6 +21,7 @@ TITLES = {
     "relcan_falls_back": "RELCAN: no confirmation comes, and a receiver sends the message",
     "totcan_accept_survives_its_sender": "TOTCAN: the sender crashes, and a relay says that the message is accepted",
     "silent_omission_is_outside": "Outside the hypothesis: no sender sees that node 2 rejects",
+    "two_orders": "Outside the hypothesis: node 1 rejects a command, and delivers its own alone",
     "restart_joins": "A node crashes, leaves the views, starts again, and joins",
     "thirty_two_nodes": "32 nodes, of which those that do the same share a lane",
 }

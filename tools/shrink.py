@@ -1,35 +1,28 @@
 #!/usr/bin/env python3
 """Makes the smallest scenario in which the same part of the promise is broken, and writes it:
 
-    tools/shrink.py [SCENARIO] [--part PART] [--program COMMAND | --check COMMAND]
+    tools/shrink.py [SCENARIO] [--part PART] [--program COMMAND]
 
-Whatever can go goes: entries, nodes of sets, nodes, slots, and what is left comes earlier, until nothing more helps. The hypothesis is
-broken in the same way, or holds, throughout.
+Whatever can go goes: entries, nodes of sets, nodes, slots; what is left comes earlier and from lower nodes, until nothing more helps. The
+hypothesis is broken in the same way, or holds, throughout.
 """
-import shlex
-import subprocess
 import sys
 from typing import NamedTuple
 
 sys.dont_write_bytecode = True
 
 import command
-from cases import BROKEN, HELD, OPEN, show
+from canely import called, check_words, said_by
+from cases import show
 from lines import Malformed
 from scenario import TABLES, read_scenario, scenario_lines, scenario_text
 from smaller import WAYS
-from verdict import HEAD, Check, read_check
-
-HEAD_LINES = 2 + len(HEAD)
+from verdict import BROKEN, HEAD, HEAD_LINES, HELD, OPEN, Check, read_check
 
 
 class Verdict(NamedTuple):
     check: Check
     lines: list
-
-    @property
-    def broken(self):
-        return [name for name, part in self.check.parts.items() if part.judgement == "broken"]
 
     @property
     def kind(self):
@@ -44,19 +37,16 @@ class Verdict(NamedTuple):
 
 
 class Judge:
-    """Judges scenarios by a command, each text once."""
+    """Judges scenarios by the program's command `check`, each text once."""
 
     def __init__(self, words):
         self.words, self.known, self.runs = words, {}, 0
 
     def verdict(self, text):
         """The verdict on a text, or why there is none."""
-        try:
-            ran = subprocess.run(self.words, input=text, stdout=subprocess.PIPE, stderr=subprocess.PIPE)
-        except OSError as error:
-            raise command.Failure(command.WRONG_ARGUMENTS, f"cannot run {self.words[0]}: {command.cause(error)}") from None
+        ran = called(self.words, text)
         if ran.returncode not in (HELD, BROKEN, OPEN):
-            return " ".join((ran.stdout[:200] or ran.stderr[:200]).decode(errors="replace").split())
+            return said_by(ran)
         try:
             return Verdict(read_check(ran.stdout), ran.stdout.decode().splitlines())
         except Malformed as error:
@@ -67,7 +57,7 @@ class Judge:
         if text not in self.known:
             self.runs += 1
             found = self.verdict(text)
-            self.known[text] = isinstance(found, Verdict) and part in found.broken and found.kind == kind
+            self.known[text] = isinstance(found, Verdict) and part in found.check.broken and found.kind == kind
         return self.known[text]
 
 
@@ -99,17 +89,18 @@ def smallest(scenario, judge, part, kind):
 
 def part_of(verdict, given, place):
     """The part that is to stay broken."""
-    if given.part and given.part not in verdict.broken:
-        raise command.Failure(command.REFUSED, f"{place}: {given.part} is not broken, but {', '.join(verdict.broken) or 'nothing'}")
-    if not verdict.broken:
+    broken = verdict.check.broken
+    if given.part and given.part not in broken:
+        raise command.Failure(command.REFUSED, f"{place}: {given.part} is not broken, but {', '.join(broken) or 'nothing'}")
+    if not broken:
         raise command.Failure(command.REFUSED, f"{place}: nothing is broken")
-    return given.part or verdict.broken[0]
+    return given.part or broken[0]
 
 
 def shrink(given):
-    place = given.file or "standard input"
+    place = "standard input" if given.file in (None, "-") else given.file
     data = command.read_bytes(given.file)
-    judge = Judge(shlex.split(given.check) if given.check else [*shlex.split(given.program), "check"])
+    judge = Judge(check_words(given.program))
     verdict = judge.verdict(data)
     if not isinstance(verdict, Verdict):
         raise command.Failure(command.REFUSED, f"{place}: {verdict}")
@@ -134,7 +125,6 @@ def main():
     parser.add_argument("file", nargs="?", metavar="SCENARIO", help="the scenario; without it standard input")
     parser.add_argument("--part", choices=tuple(HEAD), metavar="PART", help="the part, as in the text of check; without it the first that is broken")
     parser.add_argument("--program", default="canely", metavar="COMMAND", help="the program, canely where not given")
-    parser.add_argument("--check", metavar="COMMAND", help="what judges a scenario on standard input; without it the program's command check")
     given = parser.parse_args()
     return command.run("shrink.py", lambda: shrink(given))
 

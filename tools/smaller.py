@@ -1,7 +1,7 @@
-"""Scenarios that are smaller than one: without some of its entries or nodes, with smaller sets, fewer slots, or earlier entries."""
-from scenario import TABLES
+"""Scenarios that are smaller than one: without some of its entries or nodes, with smaller sets, fewer slots, lower or earlier entries."""
+from scenario import TABLES, keys_of
 
-# The classes whose frames are those of a message, which removing an earlier send of its origin renumbers.
+# The classes whose frames are those of a message, which another send of its origin may renumber.
 OF_MESSAGES = ("ed", "rel", "tot", "accept", "confirm")
 OPTIONAL = ("journal", "members", "confirm", "silence", "life", "cycle", "bound", "errors", "omit", "lag")
 LEAST_NODES = 2
@@ -13,27 +13,26 @@ def changed(scenario, **tables):
     return {key: it for key, it in found.items() if it is not None and not (key in TABLES and not it)}
 
 
-def without_send(scenario, place):
-    """Later messages of the origin are renumbered, also in the fault rules; rules for frames of this one go."""
-    sends = scenario["send"]
-    origin = sends[place]["node"]
-    seq = sum(it["node"] == origin for it in sends[:place])
+def with_sends(scenario, sends, places):
+    """The scenario with other sends, each with the place of the one that it was. Rules for the frames of a message go with it, or go."""
+    before = [key[1:] for key in keys_of(scenario["send"])]
+    after = {before[place]: key[1:] for place, key in zip(places, keys_of(sends))}
     rules = []
     for rule in scenario.get("fault", []):
-        if rule.get("class") in OF_MESSAGES and rule["node"] == origin and rule["number"] >= seq:
-            if rule["number"] == seq:
+        if rule.get("class") in OF_MESSAGES and (rule["node"], rule["number"]) in before:
+            if (rule["node"], rule["number"]) not in after:
                 continue
-            rule = {**rule, "number": rule["number"] - 1}
+            node, number = after[rule["node"], rule["number"]]
+            rule = {**rule, "node": node, "number": number}
         rules.append(rule)
-    return changed(scenario, send=sends[:place] + sends[place + 1 :], fault=rules)
+    return changed(scenario, send=sends, fault=rules)
 
 
 def without_entries(scenario, table, first, last):
     if table != "send":
         return changed(scenario, **{table: scenario[table][:first] + scenario[table][last:]})
-    for place in reversed(range(first, last)):
-        scenario = without_send(scenario, place)
-    return scenario
+    places = [place for place in range(len(scenario["send"])) if not first <= place < last]
+    return with_sends(scenario, [scenario["send"][place] for place in places], places)
 
 
 def fewer_entries(scenario):
@@ -86,6 +85,14 @@ def fewer_nodes(scenario):
         yield from filter(None, (without_node(scenario, node) for node in reversed(range(scenario["nodes"]))))
 
 
+def lower_origins(scenario):
+    """What a node sends one of a lower number does, so that the node itself may go."""
+    sends = scenario.get("send", [])
+    for place, send in enumerate(sends):
+        for node in range(send["node"]):
+            yield with_sends(scenario, [*sends[:place], {**send, "node": node}, *sends[place + 1 :]], range(len(sends)))
+
+
 def below(number, least):
     """Numbers below one, the farthest first and each nearer than the one before."""
     step = number - least
@@ -122,4 +129,4 @@ def fewer_keys(scenario):
 
 
 # What is tried, in this order, again and again until nothing helps.
-WAYS = (fewer_keys, fewer_entries, fewer_slots, fewer_nodes, smaller_sets, earlier_slots, shorter_payloads)
+WAYS = (fewer_keys, fewer_entries, fewer_slots, fewer_nodes, lower_origins, smaller_sets, earlier_slots, shorter_payloads)

@@ -4,31 +4,33 @@
     tools/sweep.py faults SCENARIO FOLDER   one scenario with each fault that its run can meet, or with two
     tools/sweep.py seeds FOLDER             small scenarios that are drawn from numbers
     tools/sweep.py storms FOLDER            the scenarios of storms
-    tools/sweep.py run FOLDER               judges each that is not judged yet
+    tools/sweep.py run FOLDER               has the program judge each that is not judged yet
     tools/sweep.py sum FOLDER               a table by part of the promise, or JUnit XML
 """
 import argparse
+import functools
 import os
 import re
-import shlex
-import shutil
 import sys
 
 sys.dont_write_bytecode = True
 
 import command
-from cases import BROKEN, case_paths, run_cases, write_cases
-from faults import STOPS, VERDICTS, Shape, attempts, count_of, is_free, rules, with_rule
-from judge import replayed
+from canely import check_words, replayed
+from cases import case_paths, read_made, run_cases, write_cases
+from faults import STOPS, VERDICTS, Shape, rules_of, with_rule
 from outcome import junit, outcomes, table
 from report import CLASSES, MOST_NODES
 from scenario import read_scenario, scenario_text
 from seeds import Draw, Shapes, scenario_of
 from storm_text import storm
+from verdict import BROKEN, OPEN
 
 MOST_CASES, MOST_NUMBER, MOST_JOBS = 1_000_000, 0xFFFF_FFFF, 1024
 # How often a pair of faults is drawn anew that was drawn before, until there seem to be no more.
 MOST_DRAWS = 1000
+# Of how many runs with a first fault the second ones are kept at a time.
+MOST_RUNS = 4096
 # The counts of a drawn scenario: the argument, the range where it is not given, and the most.
 RANGES = {
     "nodes": ((2, 4), MOST_NODES[2]),
@@ -76,61 +78,49 @@ def rejects(text):
 # ---- making
 
 
-def singles_of(scenario, report, shape):
-    """The rules that can be laid on the run of a scenario, each with its attempt's slot."""
-    found = [it for it in attempts(report, shape) if is_free(it, scenario)]
-    count = sum(count_of(it, shape) for it in found)
-    if count > MOST_CASES:
-        raise command.Failure(command.REFUSED, f"{count} cases are more than {MOST_CASES}; --reject, --verdicts, --stop and --class make fewer")
-    return [(it.slot, rule) for it in found for rule in rules(it, shape)]
-
-
 class Pairs:
     """Two faults: the second is one that the run with the first can meet after it, since before it nothing has changed."""
 
     def __init__(self, scenario, singles, shape, program):
         self.scenario, self.singles, self.shape, self.program = scenario, singles, shape, program
-        self.known = {}
+        self.seconds = functools.lru_cache(MOST_RUNS)(self.seconds)
 
     def seconds(self, place):
-        if place not in self.known:
-            slot, rule = self.singles[place]
-            scenario = with_rule(self.scenario, rule)
-            report = replayed(self.program, scenario_text(scenario).encode())
-            self.known[place] = [second for later, second in singles_of(scenario, report, self.shape) if later > slot]
-        return self.known[place]
+        slot, rule = self.singles[place]
+        scenario = with_rule(self.scenario, rule)
+        report = replayed(self.program, scenario_text(scenario).encode())
+        return rules_of(scenario, report, self.shape, slot)
 
     def scenario_of(self, place, second):
         return with_rule(with_rule(self.scenario, self.singles[place][1]), second)
 
     def all(self):
         for place in range(len(self.singles)):
-            yield from (self.scenario_of(place, second) for second in self.seconds(place))
-            self.known.clear()
+            yield from (self.scenario_of(place, second) for _, second in self.seconds(place))
 
     def sample(self, count, seed):
         """So many different pairs, or fewer where there seem to be no more."""
         draw, drawn = Draw(seed), set()
         while len(drawn) < count:
-            for _ in range(MOST_DRAWS):
+            for _ in range(MOST_DRAWS if self.singles else 0):
                 place = draw.between(0, len(self.singles) - 1)
                 seconds = self.seconds(place)
                 pair = place, draw.between(0, len(seconds) - 1) if seconds else None
                 if seconds and pair not in drawn:
                     drawn.add(pair)
-                    yield self.scenario_of(place, seconds[pair[1]])
+                    yield self.scenario_of(place, seconds[pair[1]][1])
                     break
             else:
                 return
 
 
-def sampled(things, count, seed):
-    """So many of the things, each at most once, in their order."""
-    draw, left = Draw(seed), list(range(len(things)))
-    for first in range(min(count, len(left))):
-        other = draw.between(first, len(left) - 1)
+def sampled(count, of, seed):
+    """So many of the numbers below one, each at most once, in their order."""
+    draw, left = Draw(seed), list(range(of))
+    for first in range(min(count, of)):
+        other = draw.between(first, of - 1)
         left[first], left[other] = left[other], left[first]
-    return [things[place] for place in sorted(left[:count])]
+    return sorted(left[:count])
 
 
 def limited(scenarios):
@@ -143,16 +133,18 @@ def limited(scenarios):
 def make_faults(given):
     data = command.read_bytes(given.scenario)
     report = replayed(given.program, data)
-    scenario = read_scenario(data, given.scenario)
+    scenario = read_scenario(data, "standard input" if given.scenario == "-" else given.scenario)
     shape = Shape(given.verdicts, given.reject, given.stop, given.classes)
-    singles = singles_of(scenario, report, shape)
+    singles = rules_of(scenario, report, shape)
+    if len(singles) > MOST_CASES:
+        raise command.Failure(command.REFUSED, f"{len(singles)} cases are more than {MOST_CASES}; --reject, --verdicts, --stop and --class make fewer")
     if given.faults == 1:
-        chosen = sampled(singles, given.sample, given.seed) if given.sample else singles
-        scenarios = (with_rule(scenario, rule) for _, rule in chosen)
+        chosen = sampled(given.sample, len(singles), given.seed) if given.sample else range(len(singles))
+        scenarios = (with_rule(scenario, singles[place][1]) for place in chosen)
     else:
         pairs = Pairs(scenario, singles, shape, given.program)
         scenarios = pairs.sample(given.sample, given.seed) if given.sample else pairs.all()
-    made(given, limited(scenarios))
+    made(given, limited(scenarios), scenario)
 
 
 def make_seeds(given):
@@ -164,8 +156,8 @@ def make_storms(given):
     made(given, (storm(given.first + number & MOST_NUMBER) for number in range(given.count)))
 
 
-def made(given, scenarios):
-    count = write_cases(given.folder, scenarios, sys.argv[1:])
+def made(given, scenarios, scenario=None):
+    count = write_cases(given.folder, scenarios, sys.argv[1:], scenario)
     command.write([f"{count} cases in {given.folder}"])
 
 
@@ -173,9 +165,7 @@ def made(given, scenarios):
 
 
 def run(given):
-    words = shlex.split(given.check) if given.check else [*shlex.split(given.program), "check"]
-    if not words or not shutil.which(words[0]):
-        raise command.Failure(command.WRONG_ARGUMENTS, f"there is no program {words[0] if words else ''!r} here")
+    words = check_words(given.program)
     part, parts = given.part
     run_cases(words, case_paths(given.folder)[part::parts], given.jobs, given.limit)
 
@@ -188,9 +178,15 @@ def part_of(text):
 
 
 def sum_up(given):
+    """Broken is what is promised and broken, open what is not judged yet."""
     found = outcomes(given.folder)
-    command.write(junit(found, given.folder.rstrip("/")) if given.junit else table(found))
-    return BROKEN if any(it.check and it.is_promised for it in found) else 0
+    command.write(junit(found, given.folder.rstrip("/")) if given.junit else table(found, read_made(given.folder).given))
+    if any(it.check and it.is_promised for it in found):
+        return BROKEN
+    failed = sum(it.failure is not None for it in found)
+    if failed:
+        raise command.Failure(command.REFUSED, f"{failed} cases ended otherwise than judged")
+    return 0 if all(it.check for it in found) else OPEN
 
 
 # ---- arguments
@@ -240,7 +236,6 @@ def seeds_arguments(parser):
 def run_arguments(parser):
     folder(parser)
     program(parser)
-    parser.add_argument("--check", metavar="COMMAND", help="what judges a scenario on standard input; without it the program's command check")
     parser.add_argument("--jobs", type=command.number_between(1, MOST_JOBS), default=os.cpu_count() or 1, metavar="N", help="how many at a time, all processors where not given")
     parser.add_argument("--part", type=part_of, default=(0, 1), metavar="I/N", help="every N-th case alone, from case I on")
     parser.add_argument("--limit", type=command.number_between(1, 86_400), default=60, metavar="SECONDS", help="how long a case may take, 60 where not given")
@@ -259,7 +254,7 @@ def arguments():
     faults_arguments(parts.add_parser("faults", help="one scenario with each fault that its run can meet, or with two"))
     seeds_arguments(parts.add_parser("seeds", help="small scenarios that are drawn from numbers"))
     drawn_arguments(parts.add_parser("storms", help="the scenarios of storms"), make_storms)
-    run_arguments(parts.add_parser("run", help="judges each that is not judged yet"))
+    run_arguments(parts.add_parser("run", help="has the program judge each that is not judged yet"))
     sum_arguments(parts.add_parser("sum", help="a table by part of the promise, or JUnit XML"))
     return parser.parse_args()
 

@@ -5,6 +5,8 @@ from typing import NamedTuple, Optional
 
 from lines import HYPOTHESIS, NUMBER, SERVICE, SET, Lines, nodes_of, number, shown
 
+# The exit statuses with which a text of check is written: nothing is broken or open, a part is broken, and none is but one is open.
+HELD, BROKEN, OPEN = 0, 9, 10
 JUDGEMENT = r"(?P<judgement>held|broken|open)"
 COUNTS = " ".join(rf"{fate} (?P<{fate}>{NUMBER})" for fate in ("all", "none", "apart", "open"))
 # The lines at the head of the text, after the first two: each the words before the verdict, and what counts stand after it.
@@ -19,6 +21,8 @@ HEAD = {
     "accuracy": "",
 }
 
+HEAD_LINES = 2 + len(HEAD)
+PARTS = {name: re.compile(f"{name} {JUDGEMENT}{' ' if counts else ''}{counts}") for name, counts in HEAD.items()}
 FIRST = re.compile(r"canely check (?P<format>[1-9][0-9]*)")
 # The nodes that have a message or know a sign, those that lack it, those that had it and do not count, and what it waits for.
 FATE = (
@@ -113,12 +117,34 @@ class Unused(NamedTuple):
 
 
 @dataclass
-class Check:
+class Head:
+    """The lines at the head of the text, of which it always has the same."""
+
     format: int
     first_break: Optional[tuple]
     """Kind and slot; None where the run is within the hypothesis."""
     parts: dict
     """By the words of its line each part of the promise."""
+
+    @property
+    def broken(self):
+        """The names of the parts that are broken."""
+        return [name for name, part in self.parts.items() if part.judgement == "broken"]
+
+    @property
+    def status(self):
+        """The exit status that is written with it."""
+        judgements = {part.judgement for part in self.parts.values()}
+        return BROKEN if "broken" in judgements else OPEN if "open" in judgements else HELD
+
+
+@dataclass
+class Outline(Head):
+    unused: list
+
+
+@dataclass
+class Check(Head):
     wrong_entry: Optional[tuple]
     """Node and place."""
     messages: list
@@ -147,22 +173,41 @@ def fate(lines, found):
     return Fate(word, has, lacks, had, bool(found["queued"]), waits, ahead, number(found["by"]), slots(found["carried"]), slots(found["told"]))
 
 
-def part(lines, name, counts):
+def part(lines, name, pattern):
     """A line of the head."""
-    found = lines.match(re.compile(f"{name} {JUDGEMENT}{' ' if counts else ''}{counts}"), f"{name} VERDICT ...")
+    found = lines.match(pattern, f"{name} VERDICT ...")
     counted = {word: int(text) for word, text in found.groupdict().items() if word != "judgement"}
     return Part(name, found["judgement"], counted)
 
 
-def read_check(data):
-    """The text of check whose bytes these are. Raises Malformed, with the line, where they are none."""
-    lines = Lines(data)
+def head(lines):
+    """Format, first break and parts."""
     first = lines.match(FIRST, "canely check FORMAT")
     if int(first["format"]) not in (1, 2):
         raise lines.fault(f"the text is of format {first['format']}, and this tool knows 1 and 2")
     found = lines.match(HYPOTHESIS, "hypothesis within' or 'hypothesis outside KIND SLOT")
     first_break = (found["kind"], int(found["slot"])) if found["kind"] else None
-    parts = {name: part(lines, name, counts) for name, counts in HEAD.items()}
+    return int(first["format"]), first_break, {name: part(lines, name, pattern) for name, pattern in PARTS.items()}
+
+
+def unused_entries(lines):
+    return [Unused(it["table"], int(it["place"]), it["why"]) for it in lines.all_of("unused", UNUSED, "unused TABLE PLACE WHY")]
+
+
+def read_outline(data):
+    """The head of a text of check and its unused entries; what stands between them is not read. Raises Malformed as read_check does."""
+    lines = Lines(data)
+    found = head(lines)
+    lines.skip_to("unused", "end")
+    unused = unused_entries(lines)
+    lines.end()
+    return Outline(*found, unused)
+
+
+def read_check(data):
+    """The text of check whose bytes these are. Raises Malformed, with the line, where they are none."""
+    lines = Lines(data)
+    found = head(lines)
     wrong = [(int(it["node"]), int(it["place"])) for it in lines.all_of("entry", ENTRY, "entry node NODE place PLACE")]
     messages = [
         MessageFate(it["service"], int(it["origin"]), int(it["seq"]), int(it["slot"]), fate(lines, it))
@@ -181,10 +226,10 @@ def read_check(data):
         Accusation(int(it["node"]), nodes(lines, it["by"]), int(it["slot"]))
         for it in lines.all_of("accused", ACCUSED, "accused NODE by SET first SLOT")
     ]
-    unused = [Unused(it["table"], int(it["place"]), it["why"]) for it in lines.all_of("unused", UNUSED, "unused TABLE PLACE WHY")]
+    unused = unused_entries(lines)
     lines.end()
     only = lambda found: found[0] if found else None
-    return Check(int(first["format"]), first_break, parts, only(wrong), messages, only(partings), views, signs, accusations, unused)
+    return Check(*found, only(wrong), messages, only(partings), views, signs, accusations, unused)
 
 
 def fact(thing):
