@@ -1,0 +1,11 @@
+pub mod Adding
+pub mod Beginnings
+pub mod Cuts
+pub mod LineFacts
+pub mod PublishFacts
+pub mod Rows
+pub mod Showing
+pub mod Waiting
+pub mod WatchFacts
+pub mod WatchWordFacts
+pub mod TopFacts

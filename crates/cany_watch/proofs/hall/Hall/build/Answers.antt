@@ -1,0 +1,21 @@
+use Rattle.std.proofs.Common.{◌≡◌, ℕ, List, ap, subst, sym, ◌∙◌, arith, slice_get, Some}
+use Rattle.cany_base.specs.Params.{Parameters}
+use Rattle.cany_watch.specs.Halls.{AreFirst, publisher_at}
+use Rattle.cany_watch.specs.Lines.{nodes_of}
+use Rattle.cany_watch.specs.Notes.{NoteParts}
+use Rattle.cany_watch.specs.Publishers.{note_of}
+use Rattle.cany_watch.proofs.PublishFacts.{first_of, note_there}
+use Rattle.cany_watch.proofs.hall.Hall.build.Goals as goal
+
+pub invariant_of-result : goal.invariant_of-result
+invariant_of-result g c =
+    let count : c.from-nodes.result ≡ c.args.scenario.now.params.nodes = c.from-nodes.ensures ∙ ap (λ (p : Parameters). p.nodes) (c.behind-scenario.view_is ∙ c.params.ensures.params) in
+    let nodes : nodes_of c.in_ok-world.world ≡ c.args.scenario.now.params.nodes = ap nodes_of c.in_ok-world.ensures in
+    first_of c.in_ok-world.world c.in_ok-publishers.publishers.items c.in_ok-publishers.readings.items
+    (subst (λ (n : ℕ). AreFirst n c.in_ok-publishers.publishers.items c.in_ok-publishers.readings.items) (count ∙ sym nodes) c.in_ok-publishers.ensures)
+
+pub returns-clause-readings : goal.returns-clause-readings
+returns-clause-readings g c i less =
+    let count : c.from-nodes.result ≡ c.args.scenario.now.params.nodes = c.from-nodes.ensures ∙ ap (λ (p : Parameters). p.nodes) (c.behind-scenario.view_is ∙ c.params.ensures.params) in
+    subst (λ (l : List NoteParts). slice_get l i ≡ Some (note_of (publisher_at c.in_ok-publishers.publishers.items i))) (sym c.in_ok-publishers.ensures.notes)
+    (note_there c.in_ok-publishers.publishers.items i (omega (arith, c.in_ok-publishers.ensures.count, count, less)))

@@ -1,0 +1,10 @@
+pub mod Notes
+pub mod Book
+pub mod Halls
+pub mod Lines
+pub mod Readers
+pub mod Publishers
+pub mod Shown
+pub mod Top
+pub mod WatchText
+pub mod WatchWords

@@ -1,0 +1,124 @@
+//! The writer's side: a world, and what is published of it.
+ghost use Rattle.std.specs.Prelude.{◌≡◌, ◌<◌, ℕ, [], ◌∷◌, ◌++◌, vec_len, slice_get, Some, IfOk, true, if◌then◌else◌};
+ghost use mathlib.Core.List.{IsPrefix};
+ghost use Rattle.cany_model.specs.Runs.Run.{after_step, is_done, reply};
+ghost use Rattle.cany_world.specs.World.{state_of};
+ghost use Rattle.cany_watch.specs.declared.hall.Shown.TheVariants as shown;
+ghost use Rattle.cany_watch.specs.Halls.{HallParts, published_of, publisher_at};
+ghost use Rattle.cany_watch.specs.Lines.{line_of, nodes_of};
+ghost use Rattle.cany_watch.specs.Publishers.{note_of};
+
+use crate::note::Note;
+use crate::publisher::Publisher;
+use crate::publishing::{end_all, publish_lines, publishers_of};
+use crate::reading::Reading;
+use cany_base::{Memory, NodeId, Scenario, Step};
+use cany_model::StepReply;
+use cany_world::World;
+use std::alloc::Global;
+use std::marker::Model;
+use std::sync::Wait;
+
+/// Whether the line of each node is published whole.
+#[derive(Clone, Copy, Debug, PartialEq, Eq)]
+pub enum Shown {
+    /// The published list of every node is its line.
+    All,
+    /// Memory was wanting: of some nodes a beginning of the line is published, and the next step
+    /// tries again.
+    Memory,
+}
+
+/// A world, and what is published of it. Readers in other threads read the line of a node, which is
+/// the logs of its incarnations one after the other, while the world goes on.
+///
+/// A hall is not `Drop`: every hall ends by `end`.
+pub struct Hall {
+    world: World,
+    publishers: Vec<Publisher>,
+}
+
+impl Model for Hall {
+    ghost use Rattle.cany_watch.specs.Halls.{ArePublishersOf, HallParts};
+
+    ghost Value = { HallParts };
+
+    ghost view = { λ h. record { world = h.world; publishers = h.publishers.items } };
+
+    ghost invariant = { λ h. ArePublishersOf h.world h.publishers.items };
+}
+
+impl Hall {
+    /// The hall of the world of the scenario before its first step, of which nothing is published
+    /// yet, and a reading for each node, in node order. All memory of the world is taken here, and
+    /// none for what will be published.
+    ///
+    /// # Errors
+    ///
+    /// `Memory` for want of memory. The writers that were made by then are ended, so it may wait.
+    pub fn build<R: Wait>(
+        rt: &R,
+        alloc: Global,
+        scenario: &Scenario,
+    ) -> Result<(Hall, Vec<Reading>), Memory>
+        ensures world { IfOk result (λ t. t.0.world ≡ record { scenario = scenario.now; journal = [] }) }
+        ensures nothing { IfOk result (λ t. (i : ℕ) → published_of t.0 i ≡ []) }
+        ensures count { IfOk result (λ t. vec_len t.1 ≡ scenario.now.params.nodes) }
+        ensures readings { IfOk result (λ t. (i : ℕ) → i < scenario.now.params.nodes →
+            slice_get t.1.items i ≡ Some (note_of (publisher_at t.0.publishers i))) }
+    {
+        let world = World::build(alloc, scenario)?;
+        let nodes = usize::from(scenario.params().nodes);
+        let (publishers, readings) = publishers_of(rt, alloc, nodes)?;
+        Ok((Hall { world, publishers }, readings))
+    }
+
+    pub fn world(&self) -> &World
+        ensures { result.now ≡ self.now.world }
+    {
+        &self.world
+    }
+
+    /// Makes the step, as `World::step` does, and publishes the line of each node. It may wait for
+    /// readers.
+    pub fn step<R: Wait>(&mut self, rt: &R, step: Step) -> (StepReply, Shown)
+        // The step is that of the world.
+        ensures reply { result.0 ≡ reply self.old.world.scenario (state_of self.old.world) step }
+        ensures new { self.new.world ≡ (if is_done result.0 then record self.old.world { journal = self.old.world.journal ++ step ∷ [] } else self.old.world) }
+        ensures run { result.0 ≡ StepReply.Done → state_of self.new.world ≡ after_step self.old.world.scenario (state_of self.old.world) step }
+
+        // What is published of a node is a beginning of its line, never shorter than before, and
+        // with `All` it is the line. Lines only grow.
+        ensures lines { (i : ℕ) → i < nodes_of self.old.world → IsPrefix (line_of self.old.world i) (line_of self.new.world i) }
+        ensures grows { (i : ℕ) → IsPrefix (published_of self.old i) (published_of self.new i) }
+        ensures begins { (i : ℕ) → i < nodes_of self.old.world → IsPrefix (published_of self.new i) (line_of self.new.world i) }
+        ensures all { result.1 ≡ shown.All → (i : ℕ) → i < nodes_of self.old.world → published_of self.new i ≡ line_of self.new.world i }
+        ensures books { (i : ℕ) → (publisher_at self.new.publishers i).book ≡ (publisher_at self.old.publishers i).book }
+    {
+        let reply = self.world.step(step);
+        if publish_lines(rt, &self.world, &mut self.publishers) {
+            return (reply, Shown::All);
+        }
+        (reply, Shown::Memory)
+    }
+
+    /// A note of the list that is published for a node. It takes no memory.
+    pub fn tell(&mut self, node: NodeId) -> Note
+        requires { node < nodes_of self.old.world }
+        ensures note { result ≡ note_of (publisher_at self.old.publishers node) }
+        ensures same { self.new ≡ self.old }
+    {
+        let publishers = self.publishers.as_slice();
+        publishers[usize::from(node.get())].tell()
+    }
+
+    /// Ends the writers, and hands back the world as it stands. It may wait for readers. A read
+    /// that begins after it need not return.
+    pub fn end<R: Wait>(self, rt: &R) -> World
+        ensures { result ≡ self.world }
+    {
+        let Hall { world, publishers } = self;
+        end_all(rt, publishers);
+        world
+    }
+}

@@ -1,0 +1,126 @@
+ghost use Rattle.std.specs.Prelude.{◌≡◌, ◌⊎◌, ◌+◌, ◌-◌, ◌≤◌, ◌++◌, length, map, take, drop, IfSome, IfNone};
+ghost use Rattle.cany_base.specs.declared.actions.Action.TheVariants.{Enter};
+ghost use Rattle.left_right.specs.Sides.{view as view_of};
+ghost use Rattle.cany_watch.specs.Notes.{Follows};
+ghost use Rattle.cany_watch.specs.Readers.{IsOfNode};
+
+use crate::note::Note;
+use crate::rule::{LineReader, Show};
+use cany_base::{Action, Actions, LogEntry};
+use std::marker::Model;
+use std::sync::Wait;
+use std::thread;
+
+/// What a thread reads the line of a node with. Contracts see what it knows of the line: the longest
+/// list that it entered or learnt of.
+#[derive(Drop)]
+pub struct Reading {
+    reader: Option<LineReader>,
+    known: Note,
+}
+
+impl Model for Reading {
+    ghost use Rattle.cany_watch.specs.Notes.{NoteParts};
+
+    ghost Value = { NoteParts };
+
+    ghost use Rattle.std.specs.Prelude.{IsSomeAnd};
+    ghost use Rattle.left_right.specs.Sides.{view as view_of};
+    ghost use Rattle.cany_watch.specs.Readers.{IsOfNode};
+
+    ghost view = { λ r. r.known };
+
+    ghost invariant = { λ r. IsSomeAnd r.reader (λ reader. IsOfNode r.known (view_of reader.place)) };
+}
+
+/// Appends the entries, as `Enter`.
+fn append_all(entries: &[LogEntry], out: &mut Actions)
+    requires { length out.old.items + length entries.now ≤ out.old.room }
+    ensures { out.new ≡ record { items = out.old.items ++ map Enter entries.now; room = out.old.room } }
+{
+    for entry in entries {
+        out.push(Action::Enter(*entry));
+    }
+}
+
+/// Appends the entries from this place on, as `Enter`, while there is room.
+fn append(entries: &[LogEntry], from: usize, out: &mut Actions)
+    ensures { out.new ≡ record { items = out.old.items ++ take (out.old.room - length out.old.items) (map Enter (drop from entries.now)); room = out.old.room } }
+{
+    let rest = &entries[from.min(entries.len())..];
+    let count = (out.room() - out.len()).min(rest.len());
+    append_all(&rest[..count], out);
+}
+
+impl Reading {
+    /// The reading of a line of which this note is known, by a reader of it.
+    pub(crate) fn new(reader: LineReader, known: Note) -> Reading
+        requires { IsOfNode known (view_of reader.place) }
+        ensures { result ≡ known }
+    {
+        Reading {
+            reader: Some(reader),
+            known,
+        }
+    }
+
+    /// Takes in a note. From now on each read begins with what it tells.
+    pub fn learn(&mut self, note: Note)
+        requires { note.book ≡ self.old.book }
+        ensures old { Follows self.old self.new }
+        ensures note { Follows note self.new }
+        ensures one { (self.new ≡ self.old) ⊎ (self.new ≡ note) }
+    {
+        if self.known.is_followed_by(&note) {
+            self.known = note;
+        }
+    }
+
+    /// Enters one list that is published, appends its entries from the place `from` on, counted from
+    /// 0, as `Enter`, while there is room, and answers how many entries the list has. The list begins
+    /// with all that was known before. It takes no memory. It tries again where it cannot enter, so
+    /// it may wait.
+    pub fn read<R: Wait>(&mut self, rt: &R, from: usize, out: &mut Actions) -> usize
+        ensures list { Follows self.old self.new }
+        ensures len { result ≡ length self.new.entries }
+        ensures out { out.new ≡ record { items = out.old.items ++ take (out.old.room - length out.old.items) (map Enter (drop from self.new.entries)); room = out.old.room } }
+    {
+        for _ in rt.forever() {
+            if let Some(len) = self.try_read(from, out) {
+                return len;
+            }
+            thread::yield_now();
+        }
+        unreachable!()
+    }
+
+    /// The same, or none where the reader came back, or the list is shorter than what is known. No
+    /// clause of `left_right` excludes that.
+    fn try_read(&mut self, from: usize, out: &mut Actions) -> Option<usize>
+        ensures list { IfSome result (λ _. Follows self.old self.new) }
+        ensures len { IfSome result (λ len. len ≡ length self.new.entries) }
+        ensures out { IfSome result (λ _. out.new ≡ record { items = out.old.items ++ take (out.old.room - length out.old.items) (map Enter (drop from self.new.entries)); room = out.old.room }) }
+        ensures none { IfNone result ((self.new ≡ self.old) × (out.new ≡ out.old)) }
+    {
+        let Some(reader) = self.reader.take() else {
+            unreachable!()
+        };
+        match reader.enter_as::<Show>() {
+            Ok(reading) => {
+                let published = reading.get();
+                let len = published.entries.len();
+                let follows = self.known.is_followed_by(&published.front);
+                if follows {
+                    self.known = published.front.again();
+                    append(published.entries.as_slice(), from, out);
+                }
+                self.reader = Some(reading.leave());
+                if follows { Some(len) } else { None }
+            }
+            Err(reader) => {
+                self.reader = Some(reader);
+                None
+            }
+        }
+    }
+}

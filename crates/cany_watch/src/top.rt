@@ -1,0 +1,235 @@
+//! The call behind the command `watch`.
+ghost use Rattle.std.specs.Prelude.{◌≡◌, ◌⊎◌, ◌↔◌, ◌<◌, ◌≤◌, ℕ, List, map, length, string_bytes, Some, None, Ok, Err, IfErr, IfOk, IfSome, IsOkAnd, IsSomeAnd, MatchOption, OnOk};
+ghost use Rattle.cany_base.specs.Limits.{most_text_bytes};
+ghost use Rattle.cany_command.specs.Answers.{IsAnswered, OfChosen, answer_for, answer_if};
+ghost use Rattle.cany_command.specs.Refused.{chosen_refusal, own_fault};
+ghost use Rattle.cany_command.specs.Status.{HasAnswered, HasNoAnswer};
+ghost use Rattle.cany_command.specs.declared.command_fault.AnswerFault.TheVariants as answer;
+ghost use Rattle.cany_io.specs.Faults.{HasRisen, StandsStill};
+ghost use Rattle.cany_io.specs.Sink.{Takes, TakesPrefix};
+ghost use Rattle.cany_io.specs.Source.{IsAtEnd};
+ghost use Rattle.cany_text.specs.RefusalLines.{journal_refusal_line};
+ghost use Rattle.cany_watch.specs.Lines.{nodes_of};
+ghost use Rattle.cany_watch.specs.Top as watch;
+ghost use Rattle.cany_watch.specs.Top.{AreWatch, answer_of, refusal_of};
+ghost use Rattle.cany_watch.specs.WatchText.{no_node_line};
+ghost use Rattle.cany_watch.specs.WatchWords.{watched_node};
+
+use crate::text::{write_no_node, write_watched};
+use crate::watching::watched;
+use crate::words::watched_node;
+use cany_base::{NodeId, Scenario};
+use cany_command::status::{
+    DONE, NO_MEMORY, OTHER_WORDS, READ_FAULT, REFUSED, TOO_LONG, WRITE_FAULT,
+};
+use cany_command::{
+    AnswerFault, RefusalLine, RunFault, is_memory, refuse, run, scenario_in, text_from,
+};
+use cany_io::{Failed, Sink, Source};
+use cany_log::Refusal;
+use cany_world::World;
+use std::alloc::Global;
+use std::sync::Wait;
+use std::thread::Threads;
+
+/// The refusal of a node that the scenario does not have.
+#[derive(Clone, Copy, Debug, PartialEq, Eq)]
+struct NoNode {
+    node: u8,
+}
+
+impl RefusalLine for NoNode {
+    ghost use Rattle.cany_watch.specs.WatchText.{no_node_line};
+
+    ghost line = { λ refusal. no_node_line refusal.node };
+
+    fn write_line<K: Sink>(&self, sink: &mut K) -> Result<(), Failed> {
+        write_no_node(self.node, sink)
+    }
+}
+
+/// The node of this number, or the refusal of one that the scenario does not have.
+#[tactic(auto, using(crate::proofs::TopFacts::has_node, crate::proofs::TopFacts::lacks_node))]
+fn node_of(node: u8, scenario: &Scenario) -> Result<NodeId, NoNode>
+    ensures same { IfOk result (λ found. found ≡ node) }
+    ensures below { IfOk result (λ found. found < scenario.now.params.nodes) }
+    ensures chosen { OnOk result ((words : List (List ℕ)) → watched_node words ≡ Some node → watch.choose words scenario.now ≡ Ok scenario.now) }
+    ensures refused { IfErr result (λ refusal. (words : List (List ℕ)) → watched_node words ≡ Some node
+        → watch.choose words scenario.now ≡ Err (no_node_line refusal.node)) }
+{
+    if node < scenario.params().nodes {
+        Ok(NodeId::new(node).unwrap())
+    } else {
+        Err(NoNode { node })
+    }
+}
+
+/// Watches the node in the run of a world, which is made again, and writes its line. Nothing is
+/// written before that run has ended.
+fn watch_world<R: Threads + Wait + Sync, K: Sink>(
+    rt: &R,
+    alloc: Global,
+    node: NodeId,
+    world: &World,
+    sink: &mut K,
+) -> Result<(), AnswerFault>
+    requires { node < nodes_of world.now }
+    ensures written { OnOk result ((words : List (List ℕ)) → watched_node words ≡ Some node
+        → Takes (K.taken sink.old) (watch.text words world.now.scenario world.now.journal) (K.taken sink.new)) }
+    ensures failed { IfErr result (λ fault. fault ≡ answer.Failed → HasRisen (K.faults sink.old) (K.faults sink.new)) }
+    ensures prefix { IfErr result (λ fault. fault ≡ answer.Failed → (words : List (List ℕ)) → watched_node words ≡ Some node
+        → TakesPrefix (K.taken sink.old) (watch.text words world.now.scenario world.now.journal) (K.taken sink.new)) }
+    ensures untouched { IfErr result (λ fault. fault ≡ answer.Memory → sink.new ≡ sink.old) }
+{
+    let reads = watched(rt, alloc, node, world)?;
+    write_watched(node.get(), reads.as_slice(), sink)?;
+    Ok(())
+}
+
+/// Runs a scenario and watches the node in its run, or refuses the journal of the scenario.
+fn watch_run<R: Threads + Wait + Sync, K: Sink>(
+    rt: &R,
+    alloc: Global,
+    node: NodeId,
+    scenario: Scenario,
+    sink: &mut K,
+) -> Result<(), u8>
+    requires { node < scenario.params.nodes }
+    ensures done { OnOk result ((words : List (List ℕ)) → watched_node words ≡ Some node
+        → IsAnswered (watch.text words) scenario (K.taken sink.old) (K.taken sink.new)) }
+    ensures followed { OnOk result (own_fault scenario ≡ None) }
+    ensures refused { IfErr result (λ status. status ≡ REFUSED → IsSomeAnd (own_fault scenario) (λ fault.
+        Takes (K.taken sink.old) (journal_refusal_line fault) (K.taken sink.new))) }
+    ensures write_fault { IfErr result (λ status. status ≡ WRITE_FAULT → HasRisen (K.faults sink.old) (K.faults sink.new)) }
+    ensures prefix { IfErr result (λ status. status ≡ WRITE_FAULT → (words : List (List ℕ)) → watched_node words ≡ Some node
+        → TakesPrefix (K.taken sink.old) (answer_for (watch.text words) scenario) (K.taken sink.new)) }
+    ensures untouched { IfErr result (λ status. status ≡ NO_MEMORY → sink.new ≡ sink.old) }
+    ensures other { IfErr result (λ status. (status ≡ REFUSED) ⊎ (status ≡ WRITE_FAULT) ⊎ (status ≡ NO_MEMORY)) }
+{
+    match run(alloc, scenario) {
+        Ok(world) => match watch_world(rt, alloc, node, &world, sink) {
+            Ok(()) => Ok(()),
+            Err(AnswerFault::Failed) => Err(WRITE_FAULT),
+            Err(AnswerFault::Memory) => Err(NO_MEMORY),
+        },
+        Err(RunFault::Journal(fault)) => Err(refuse(&Refusal::Journal(fault), sink)),
+        Err(RunFault::Memory) => Err(NO_MEMORY),
+    }
+}
+
+/// Runs a scenario and watches the node in its run, or refuses the scenario for the node that it
+/// does not have, or for its journal.
+fn watch_scenario<R: Threads + Wait + Sync, K: Sink>(
+    rt: &R,
+    alloc: Global,
+    node: u8,
+    scenario: Scenario,
+    sink: &mut K,
+) -> Result<(), u8>
+    ensures done { OnOk result ((words : List (List ℕ)) → watched_node words ≡ Some node → IsOkAnd (watch.choose words scenario) (λ chosen.
+        IsAnswered (watch.text words) chosen (K.taken sink.old) (K.taken sink.new))) }
+    ensures accepted { OnOk result ((words : List (List ℕ)) → watched_node words ≡ Some node
+        → chosen_refusal (watch.choose words scenario) ≡ None) }
+    ensures refused { IfErr result (λ status. status ≡ REFUSED → (words : List (List ℕ)) → watched_node words ≡ Some node
+        → IsSomeAnd (chosen_refusal (watch.choose words scenario)) (λ line. Takes (K.taken sink.old) line (K.taken sink.new))) }
+    ensures write_fault { IfErr result (λ status. status ≡ WRITE_FAULT → HasRisen (K.faults sink.old) (K.faults sink.new)) }
+    ensures prefix { IfErr result (λ status. status ≡ WRITE_FAULT → (words : List (List ℕ)) → watched_node words ≡ Some node
+        → TakesPrefix (K.taken sink.old) (answer_if (watch.text words) (watch.choose words scenario)) (K.taken sink.new)) }
+    ensures untouched { IfErr result (λ status. status ≡ NO_MEMORY → sink.new ≡ sink.old) }
+    ensures other { IfErr result (λ status. (status ≡ REFUSED) ⊎ (status ≡ WRITE_FAULT) ⊎ (status ≡ NO_MEMORY)) }
+{
+    match node_of(node, &scenario) {
+        Ok(found) => watch_run(rt, alloc, found, scenario, sink),
+        Err(refusal) => Err(refuse(&refusal, sink)),
+    }
+}
+
+/// Runs the scenario of a text and watches the node in its run, or refuses the text, the scenario
+/// for the node that it does not have, or its journal.
+fn watch_text<R: Threads + Wait + Sync, K: Sink>(
+    rt: &R,
+    alloc: Global,
+    node: u8,
+    text: Vec<u8>,
+    sink: &mut K,
+) -> Result<(), u8>
+    ensures done { OnOk result ((words : List (List ℕ)) → watched_node words ≡ Some node → OfChosen (watch.choose words) text.items (λ chosen.
+        IsAnswered (watch.text words) chosen (K.taken sink.old) (K.taken sink.new))) }
+    ensures accepted { OnOk result ((words : List (List ℕ)) → watched_node words ≡ Some node → refusal_of words text.items ≡ None) }
+    ensures refused { IfErr result (λ status. status ≡ REFUSED → (words : List (List ℕ)) → watched_node words ≡ Some node
+        → IsSomeAnd (refusal_of words text.items) (λ line. Takes (K.taken sink.old) line (K.taken sink.new))) }
+    ensures write_fault { IfErr result (λ status. status ≡ WRITE_FAULT → HasRisen (K.faults sink.old) (K.faults sink.new)) }
+    ensures prefix { IfErr result (λ status. status ≡ WRITE_FAULT → (words : List (List ℕ)) → watched_node words ≡ Some node
+        → TakesPrefix (K.taken sink.old) (answer_of words text.items) (K.taken sink.new)) }
+    ensures untouched { IfErr result (λ status. status ≡ NO_MEMORY → sink.new ≡ sink.old) }
+    ensures other { IfErr result (λ status. (status ≡ REFUSED) ⊎ (status ≡ WRITE_FAULT) ⊎ (status ≡ NO_MEMORY)) }
+{
+    match scenario_in(alloc, text) {
+        Ok(scenario) => watch_scenario(rt, alloc, node, scenario, sink),
+        Err(fault) if is_memory(&fault) => Err(NO_MEMORY),
+        Err(fault) => Err(refuse(&Refusal::Scenario(fault), sink)),
+    }
+}
+
+/// Watches a node: reads a scenario text from the source, runs the scenario by its own journal or,
+/// where it has none, by its round robin journal, while a second thread reads what is published of
+/// the node, and writes the logs of its incarnations, one after the other, to the sink, a line at a
+/// time. It answers the status of the program, one of those in `cany_command::status`. The words
+/// are the word `watch` and the number of a node, in 1 or 2 digits; causes are looked at in this
+/// order: the words, the reading, the text, the node, the journal, the writing. It may wait.
+pub fn watch_top<R: Threads + Wait + Sync, S: Source, K: Sink>(
+    rt: &R,
+    alloc: Global,
+    words: &[String],
+    source: &mut S,
+    sink: &mut K,
+) -> u8
+    // The words alone decide on this status.
+    ensures words { (result ≡ OTHER_WORDS) ↔ (AreWatch (map string_bytes words.now) → ⊥) }
+    ensures unread { result ≡ OTHER_WORDS → source.new ≡ source.old }
+
+    // Success. Here and below, `bytes` are all that the source had, and `said` are the words.
+    ensures done { let said = map string_bytes words.now in result ≡ DONE → IfSome (S.left source.old) (λ bytes.
+        OfChosen (watch.choose said) bytes (λ scenario. IsAnswered (watch.text said) scenario (K.taken sink.old) (K.taken sink.new))) }
+
+    // The text, the node or the journal is refused.
+    ensures refused { result ≡ REFUSED → IfSome (S.left source.old) (λ bytes. IsSomeAnd (refusal_of (map string_bytes words.now) bytes) (λ line.
+        Takes (K.taken sink.old) line (K.taken sink.new))) }
+
+    // The streams fail.
+    ensures read_fault { result ≡ READ_FAULT → HasRisen (S.faults source.old) (S.faults source.new) }
+    ensures write_fault { result ≡ WRITE_FAULT → HasRisen (K.faults sink.old) (K.faults sink.new) }
+    ensures prefix { result ≡ WRITE_FAULT → IfSome (S.left source.old) (λ bytes.
+        TakesPrefix (K.taken sink.old) (answer_of (map string_bytes words.now) bytes) (K.taken sink.new)) }
+
+    // The source has too many bytes, or all of them were read.
+    ensures too_long { result ≡ TOO_LONG → IfSome (S.left source.old) (λ bytes. most_text_bytes < length bytes) }
+    ensures fits { HasAnswered result → IfSome (S.left source.old) (λ bytes. length bytes ≤ most_text_bytes) }
+    ensures drained { HasAnswered result → IsAtEnd (S.left source.new) }
+
+    // Nothing else writes.
+    ensures unwritten { HasNoAnswer result → sink.new ≡ sink.old }
+    ensures status { HasAnswered result ⊎ HasNoAnswer result }
+
+    // Where neither stream fails, the words and the text decide, but for want of memory.
+    ensures complete { AreWatch (map string_bytes words.now)
+        → StandsStill (S.faults source.old) (S.faults source.new)
+        → StandsStill (K.faults sink.old) (K.faults sink.new)
+        → IfSome (S.left source.old) (λ bytes. length bytes ≤ most_text_bytes
+        → (result ≡ NO_MEMORY) ⊎ MatchOption (refusal_of (map string_bytes words.now) bytes) (result ≡ DONE) (λ _. result ≡ REFUSED)) }
+    ensures complete_too_long { AreWatch (map string_bytes words.now)
+        → StandsStill (S.faults source.old) (S.faults source.new)
+        → IfSome (S.left source.old) (λ bytes. most_text_bytes < length bytes → (result ≡ NO_MEMORY) ⊎ (result ≡ TOO_LONG)) }
+{
+    let Some(node) = watched_node(words) else {
+        return OTHER_WORDS;
+    };
+    let text = match text_from(alloc, source) {
+        Ok(text) => text,
+        Err(status) => return status,
+    };
+    match watch_text(rt, alloc, node, text, sink) {
+        Ok(()) => DONE,
+        Err(status) => status,
+    }
+}

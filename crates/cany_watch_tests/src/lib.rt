@@ -1,0 +1,6 @@
+//! Tests of the readers of logs, by their public calls. They stand in a
+//! crate of their own, so that a changed test has no reader proved anew. No crate stands on it.
+#![tactic(auto)]
+
+#[cfg(test)]
+mod tests;
