@@ -7,8 +7,6 @@ mod laws;
 mod least;
 mod levels;
 mod offers;
-#[cfg(test)]
-mod tests;
 mod threads;
 
 pub use arbitration::{Outcome, arbitrate};

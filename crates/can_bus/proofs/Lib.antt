@@ -1,6 +1,5 @@
 pub mod AfterFacts
 pub mod ContestFacts
-pub mod ControllersFor
 pub mod EachFacts
 pub mod KeptFacts
 pub mod NodeFacts

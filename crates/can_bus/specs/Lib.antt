@@ -4,3 +4,4 @@ pub mod Contest
 pub mod Controllers
 pub mod Each
 pub mod Rest
+pub mod Seeing

@@ -4,7 +4,7 @@ ghost use Rattle.cany_model.specs.Bus.Slot.{script as script_of, slot_note_of};
 ghost use Rattle.cany_base.specs.declared.rule.Rule.{Rule};
 ghost use Rattle.cany_model.specs.Bus.State.{NodeState};
 ghost use Rattle.can_bus.specs.Bus.{Follows};
-ghost use Rattle.can_bus.specs.Rest.{idle_note, idle_trace};
+ghost use Rattle.can_bus.specs.Rest.{idle_trace};
 ghost use Rattle.can_bus.specs.Controllers.{AreAfter, AreControllersFor, NoneLags, StandFor};
 
 use crate::slot::run_slot;
@@ -99,21 +99,10 @@ impl Bus {
         ensures params { self.new.params ≡ self.old.params }
         ensures follows { (rules : List Rule) → Follows rules self.old → Follows rules self.new }
     {
-        for _slot in 0..slots {
-            self.pass();
+        push_idle(&mut self.trace, slots);
+        if slots > 0 {
+            self.tally.rest(self.trace.len() as Slot - 1);
         }
-    }
-
-    /// Runs the next slot, in which no controller offers a frame and none stops.
-    fn pass(&mut self)
-        requires { length self.old.trace < self.old.params.slots }
-        ensures trace { self.new.trace ≡ idle_note (length self.old.trace) ∷ self.old.trace }
-        ensures params { self.new.params ≡ self.old.params }
-        ensures follows { (rules : List Rule) → Follows rules self.old → Follows rules self.new }
-    {
-        let idle = idle_note(self.trace.len() as Slot);
-        self.tally.note(&idle);
-        self.trace.push_copy(&idle);
     }
 
     /// The notes of the slots that ran, oldest first.
@@ -129,5 +118,17 @@ impl Bus {
         ensures within { (result ≡ None) ↔ IsWithin self.now.params self.now.trace }
     {
         self.tally.first_break()
+    }
+}
+
+/// Appends the notes of so many idle slots.
+fn push_idle(trace: &mut BoundedVec<SlotNote>, slots: u64)
+    requires { length trace.old.items + slots ≤ trace.old.room }
+    ensures items { reverse trace.new.items ≡ idle_trace slots (reverse trace.old.items) }
+    ensures room { trace.new.room ≡ trace.old.room }
+{
+    for _slot in 0..slots {
+        let idle = idle_note(trace.len() as Slot);
+        trace.push_copy(&idle);
     }
 }

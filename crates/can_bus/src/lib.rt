@@ -9,8 +9,6 @@ mod offers;
 mod ruling;
 mod seeing;
 mod slot;
-#[cfg(test)]
-mod tests;
 mod threads;
 mod transmission;
 

@@ -24,6 +24,10 @@ pub(crate) fn ruling(
     ensures counts { (trace : List SlotNote) (note : SlotNote) → AreCountsOf script.now trace attempts.old
         → note.frame ≡ frame_of outcome.now → AreCountsOf script.now (note ∷ trace) attempts.new }
 {
+    // Most runs have no rule.
+    if script.is_empty() {
+        return (Verdict::Clean, NodeSet::empty());
+    }
     match outcome {
         Outcome::Won { frame, .. } => {
             // So no count of a run stands still at the end of its type.

@@ -1,15 +1,13 @@
 //! What comes of the frame of a slot.
-ghost use Rattle.std.specs.Prelude.{◌≡◌, ◌<◌, ◌&&◌, not, ℕ, List};
-ghost use Rattle.cany_base.specs.Limits.{most_nodes};
+ghost use Rattle.std.specs.Prelude.{◌≡◌, ◌&&◌, not, ℕ, List};
 ghost use Rattle.cany_base.specs.Nodes.{has};
-ghost use Rattle.cany_model.specs.Bus.Slot.{transmission, lets_accept, is_success, share_of, winner};
+ghost use Rattle.cany_model.specs.Bus.Slot.{transmission, lets_accept, is_success, winner};
 ghost use Rattle.cany_model.specs.Bus.State.{NodeState};
 ghost use Rattle.can_bus.specs.Contest.{IsContestOf, running_nodes};
 ghost use Rattle.can_bus.specs.Rest.{idle_note};
 
 use can_arbiter::Outcome;
-use can_controller::Share;
-use cany_base::{NodeId, NodeSet, Slot, SlotNote, Verdict};
+use cany_base::{NodeSet, Slot, SlotNote, Verdict};
 
 /// Those of the running nodes that accept the frame.
 fn takers(running: NodeSet, senders: NodeSet, verdict: &Verdict) -> NodeSet
@@ -61,34 +59,12 @@ pub(crate) fn idle_note(slot: Slot) -> SlotNote
     }
 }
 
-fn is_success(verdict: &Verdict) -> bool
+/// Whether the senders see success.
+pub(crate) fn is_success(verdict: &Verdict) -> bool
     ensures { result ≡ is_success verdict.now }
 {
     match verdict {
         Verdict::Clean | Verdict::Silent(_) => true,
         Verdict::Lost | Verdict::Partial(_) => false,
-    }
-}
-
-/// What running node i did in the slot.
-#[tactic(auto, unfolding(cany_model::specs::Bus::Slot::share_of))]
-pub(crate) fn share_of(i: usize, note: &SlotNote) -> Share
-    requires { i < most_nodes }
-    ensures { result ≡ share_of i note.now }
-{
-    let Some(frame) = note.frame else {
-        return Share::Idle;
-    };
-    let node = NodeId::of_index(i);
-    if note.senders.has(node) {
-        if is_success(&note.verdict) {
-            Share::Confirmed(frame)
-        } else {
-            Share::Errored
-        }
-    } else if note.takers.has(node) {
-        Share::Took(frame)
-    } else {
-        Share::Rejected
     }
 }

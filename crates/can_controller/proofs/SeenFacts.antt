@@ -1,22 +1,27 @@
 -- What a share in a slot leaves of a controller.
-use Rattle.std.proofs.Common.{◌≡◌, ℕ, ◌+◌, ◌<◌, ◌≤◌, Bool, true, false, List, [], ◌∷◌, ◌++◌, length, refl, ap, sym, ◌∙◌, arith, length-append}
+use Rattle.std.proofs.Common.{◌≡◌, ℕ, ◌+◌, ◌-◌, ◌<◌, ◌≤◌, Bool, true, false, List, [], ◌∷◌, ◌++◌, length, refl, ap, sym, ◌∙◌, arith, length-append}
 use Rattle.std.specs.Prelude.{Option, Some, None, Result, Ok, Err, IsOk, OnOk, ◌↔◌, ◌||◌, nat_lt, unwrap_or, is_none, if◌then◌else◌}
+use Rattle.std.proofs.lemmas.Bool.{le-ltb}
 use Rattle.std.proofs.lemmas.Bool.Decides.{nat_tests}
 use Rattle.circular_buffer.specs.Buffer.{Buffer, buffer}
 use Rattle.cany_base.specs.declared.notice.Notice.{Notice}
 use Rattle.cany_base.specs.declared.notice.NoticeKind.{NoticeKind}
+use Rattle.cany_base.specs.declared.notice.NoticeKind.TheVariants.{Got, Sent}
 use Rattle.cany_base.specs.declared.slot_note.SlotNote.{SlotNote}
+use Rattle.cany_base.specs.Frame.{FrameParts}
 use Rattle.cany_base.specs.Limits.{greatest_error_counter}
 use Rattle.cany_base.specs.Nodes.{has}
 use Rattle.cany_model.specs.declared.share.Share.{Share}
 use Rattle.cany_model.specs.declared.share.Share.TheVariants as share
+use Rattle.cany_model.specs.Bus.Frames.{identity_of}
 use Rattle.cany_model.specs.Bus.History.{notice_of}
 use Rattle.cany_model.specs.Bus.Slot.{after_share, exceeds, node_after, share_of}
 use Rattle.cany_model.specs.Bus.State.{NodeState}
+use Rattle.cany_model.specs.Bus.Waiting.{without}
 use Rattle.can_controller.specs.declared.controller.Controller.TheInside.{Inside}
 use Rattle.can_controller.specs.declared.counters.Counters.{Counters}
 use Rattle.can_controller.specs.Controller.{ControllerState, SeenIsNodeAfter, node_state, seen, stopped_at}
-use Rattle.can_controller.specs.ControllerFields.{controller_state}
+use Rattle.can_controller.specs.ControllerFields.{IsSound, controller_state}
 use Rattle.can_controller.specs.Waiting.{WaitingFrames}
 
 on_ok : {T E : Type 0} (r : Result T E) (P : Type 0) → IsOk r → OnOk r P → P
@@ -48,6 +53,33 @@ pub state_seen : (slot : ℕ) (share : Share) (old : Inside) (waiting : WaitingF
     → controller_state (record old { waiting = waiting; counters = counters; notices = notices; stopped = stopped }) ≡ seen slot share (controller_state old)
 state_seen slot share old waiting counters notices kind stopped same_frames same_room same_transmit same_receive same_notices same_kind same_stop =
     rw (same_frames, same_room, same_transmit, same_receive, ap (λ (b : Buffer Notice). b.items) same_notices, same_kind, same_stop) refl
+
+lower : (a b limit : ℕ) → a ≤ limit → b ≤ limit → (nat_lt limit a || nat_lt limit b) ≡ false
+lower a b limit low also = rw (le-ltb limit a low, le-ltb limit b also) refl
+
+-- a running controller that took the frame of a slot, and has the notice of it
+pub taken_seen : (old : Inside) (frame : FrameParts) (notice : Notice) (counters : Counters) (notices : Buffer Notice) → IsSound old → old.stopped ≡ None
+    → notice.kind ≡ Got frame → counters ≡ record old.counters { receive = old.counters.receive - 1 } → notices ≡ buffer (old.notices.items ++ notice ∷ []) old.notices.capacity
+    → controller_state (record old { counters = counters; notices = notices }) ≡ seen notice.slot (share.Took frame) (controller_state old)
+unfolding after_share
+taken_seen old frame notice counters notices sound running brings less kept =
+    let within = sound.counting running in
+    state_seen notice.slot (share.Took frame) old old.waiting counters notices notice.kind old.stopped refl refl
+    (ap (λ (n : Counters). n.transmit) less) (ap (λ (n : Counters). n.receive) less) kept brings
+    (running ∙ ap (λ b. if b then Some notice.slot else None) (sym (lower old.counters.transmit (old.counters.receive - 1) greatest_error_counter within.0 (omega (arith, within.1)))))
+
+-- a running controller that sent the frame of a slot with success, and has the notice of it
+pub sent_seen : (old : Inside) (frame : FrameParts) (notice : Notice) (waiting : WaitingFrames) (counters : Counters) (notices : Buffer Notice) → IsSound old → old.stopped ≡ None
+    → notice.kind ≡ Sent frame → waiting ≡ record old.waiting { frames = without (identity_of frame) old.waiting.frames }
+    → counters ≡ record old.counters { transmit = old.counters.transmit - 1 } → notices ≡ buffer (old.notices.items ++ notice ∷ []) old.notices.capacity
+    → controller_state (record old { waiting = waiting; counters = counters; notices = notices }) ≡ seen notice.slot (share.Confirmed frame) (controller_state old)
+unfolding after_share
+sent_seen old frame notice waiting counters notices sound running brings dropped less kept =
+    let within = sound.counting running in
+    state_seen notice.slot (share.Confirmed frame) old waiting counters notices notice.kind old.stopped
+    (ap (λ (w : WaitingFrames). w.frames) dropped) (ap (λ (w : WaitingFrames). w.room) dropped)
+    (ap (λ (n : Counters). n.transmit) less) (ap (λ (n : Counters). n.receive) less) kept brings
+    (running ∙ ap (λ b. if b then Some notice.slot else None) (sym (lower (old.counters.transmit - 1) old.counters.receive greatest_error_counter (omega (arith, within.0)) within.1)))
 
 stop_kept : (b : Bool) (slot : ℕ) → unwrap_or (if b then Some slot else None) slot ≡ slot
 stop_kept true slot = refl

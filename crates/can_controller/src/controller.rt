@@ -1,12 +1,15 @@
-ghost use Rattle.std.specs.Prelude.{◌≡◌, ◌≤◌, ◌<◌, ◌+◌, ◌==◌, ◌↔◌, ◌⊎◌, true, false, not, min, [], length, drop, filter, slice_get, All, None, IfOk, OnSome, IfSome, IfNone, IsNone};
+ghost use Rattle.std.specs.Prelude.{◌≡◌, ◌≤◌, ◌<◌, ◌+◌, ◌-◌, ◌==◌, ◌↔◌, ◌⊎◌, true, false, not, min, [], ◌∷◌, ◌++◌, length, drop, filter, slice_get, All, None, IfOk, OnSome, IfSome, IfNone, IsNone};
 ghost use Rattle.std.specs.List.{list_any};
+ghost use Rattle.cany_base.specs.declared.notice.NoticeKind.TheVariants.{Got, Sent};
 ghost use Rattle.cany_base.specs.Frame.{FrameParts, has_incarnation, identifier_of, key_of};
+ghost use Rattle.cany_model.specs.declared.share.Share.TheVariants.{Confirmed, Took};
 ghost use Rattle.cany_model.specs.Bus.Frames.{identity_of};
 ghost use Rattle.cany_model.specs.Bus.Slot.{exceeds, least_frame};
 ghost use Rattle.cany_model.specs.Bus.Waiting.{waits, with_frame, without};
 ghost use Rattle.can_frame.specs.Identifier.{FitsFormat, FitsIdentifier};
 ghost use Rattle.can_controller.specs.Controller.{HasStoppedBy, fresh_controller, node_state, restarted_at, seen, stopped_at};
 ghost use Rattle.can_controller.specs.Waiting.{HasRoomFor};
+ghost use Rattle.circular_buffer.specs.Buffer.{buffer};
 
 use crate::counters::Counters;
 use crate::notice::notice_of;
@@ -141,11 +144,38 @@ impl Controller {
         self.counters = self.counters.after(&share);
         self.waiting.settle(&share);
         let kind = notice_of(share);
-        // The ring has room, as this call requires.
-        let _ = self.notices.try_push_back(Notice { slot, kind });
+        keep(&mut self.notices, &Notice { slot, kind });
         if self.counters.exceed_limit() {
             self.stopped = Some(slot);
         }
+    }
+
+    /// What `see` does where the controller took the frame that the notice brings.
+    // A hint, since a run makes most of these calls in one place. So is that of the next.
+    #[inline(always)]
+    pub fn see_taken(&mut self, notice: &Notice)
+        requires running { self.old.stopped ≡ None }
+        requires room { length self.old.unread < self.old.params.lag + 1 }
+        ensures parts { let unread = self.old.unread ++ notice.now ∷ [] in
+            self.new ≡ record self.old { receive = self.old.receive - 1; unread = unread } }
+        ensures seen { (frame : FrameParts) → notice.now.kind ≡ Got frame →
+            self.new ≡ seen notice.now.slot (Took frame) self.old }
+    {
+        self.counters = self.counters.after_receipt();
+        keep(&mut self.notices, notice);
+    }
+
+    /// What `see` does where the controller sent the frame with success, as the notice says.
+    #[inline(always)]
+    pub fn see_sent(&mut self, frame: &Frame, notice: &Notice)
+        requires running { self.old.stopped ≡ None }
+        requires room { length self.old.unread < self.old.params.lag + 1 }
+        requires sent { notice.now.kind ≡ Sent frame.now }
+        ensures { self.new ≡ seen notice.now.slot (Confirmed frame.now) self.old }
+    {
+        self.counters = self.counters.after_success();
+        self.waiting.drop_frame(frame);
+        keep(&mut self.notices, notice);
     }
 
     /// The controller stops at the end of the slot. One that has stopped stays as it is.
@@ -234,4 +264,13 @@ impl Controller {
         // A read of a field gives the proof what holds of all fields.
         let _counters = &self.counters;
     }
+}
+
+/// Appends a copy of the item to a ring that has room for it.
+#[inline(always)]
+fn keep<T: Copy>(ring: &mut HeapCircularBuffer<T>, item: &T)
+    requires { length ring.old.items < ring.old.capacity }
+    ensures { ring.new ≡ buffer (ring.old.items ++ item.now ∷ []) ring.old.capacity }
+{
+    let _ = ring.try_push_back(*item);
 }

@@ -1,4 +1,4 @@
-ghost use Rattle.std.specs.Prelude.{◌≡◌, ◌≤◌};
+ghost use Rattle.std.specs.Prelude.{◌≡◌, ◌-◌, ◌≤◌};
 ghost use Rattle.cany_base.specs.Limits.{greatest_error_counter};
 ghost use Rattle.cany_model.specs.Bus.State.{NodeState};
 ghost use Rattle.cany_model.specs.Bus.Slot.{after_share, exceeds};
@@ -22,6 +22,26 @@ impl Counters {
         self.receive = 0;
     }
 
+    /// The counters after a frame was taken.
+    pub(crate) fn after_receipt(self) -> Counters
+        ensures { result ≡ record self { receive = self.receive - 1 } }
+    {
+        Counters {
+            receive: self.receive.saturating_sub(1),
+            ..self
+        }
+    }
+
+    /// The counters after a frame was sent with success.
+    pub(crate) fn after_success(self) -> Counters
+        ensures { result ≡ record self { transmit = self.transmit - 1 } }
+    {
+        Counters {
+            transmit: self.transmit.saturating_sub(1),
+            ..self
+        }
+    }
+
     /// The counters of a running node after its share in a slot (CAN Specification 2.0 Part B, 8).
     #[tactic(auto, unfolding(cany_model::specs::Bus::Slot::after_share))]
     pub(crate) fn after(self, share: &Share) -> Counters
@@ -35,18 +55,12 @@ impl Counters {
         let Counters { transmit, receive } = self;
         match share {
             Share::Idle => self,
-            Share::Took(_) => Counters {
-                transmit,
-                receive: receive.saturating_sub(1),
-            },
+            Share::Took(_) => self.after_receipt(),
             Share::Rejected => Counters {
                 transmit,
                 receive: receive + 1,
             },
-            Share::Confirmed(_) => Counters {
-                transmit: transmit.saturating_sub(1),
-                receive,
-            },
+            Share::Confirmed(_) => self.after_success(),
             Share::Errored => Counters {
                 transmit: transmit + 8,
                 receive,

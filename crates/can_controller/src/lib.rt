@@ -7,8 +7,6 @@ mod counters;
 mod identity;
 pub mod laws;
 mod notice;
-#[cfg(test)]
-mod tests;
 mod threads;
 mod waiting;
 

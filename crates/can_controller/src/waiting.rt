@@ -44,6 +44,15 @@ fn identity_number(format: Format, frame: &Frame) -> u32
     identifier(format, frame) - u32::from(frame.inc)
 }
 
+/// A frame that fits the format fits an identifier.
+fn fits_identifier(format: Format, frame: &Frame)
+    requires { FitsFormat format frame.now }
+    ensures { FitsIdentifier format frame.now }
+{
+    // A read of a field gives the proof what holds of all fields.
+    let _inc = frame.inc;
+}
+
 /// The place of the frame of this identity, or else the place at which it would stand.
 ///
 /// It is written by hand since std's search may ask for the key of any frame, and only one that
@@ -105,7 +114,23 @@ impl Waiting {
     }
 
     /// Puts the frame in, in place of the one of its identity if there is one.
+    #[inline(always)]
     pub(crate) fn ask(&mut self, frame: Frame)
+        requires fits { FitsFormat self.old.format frame }
+        requires room { HasRoomFor frame self.old.frames self.old.room }
+        ensures { self.new ≡ record self.old { frames = with_frame frame self.old.frames } }
+    {
+        // Mostly nothing waits.
+        if self.frames.is_empty() {
+            fits_identifier(self.format, &frame);
+            self.frames.push_reserved(frame);
+        } else {
+            self.ask_among(frame);
+        }
+    }
+
+    /// The same, where others may wait.
+    fn ask_among(&mut self, frame: Frame)
         requires fits { FitsFormat self.old.format frame }
         requires room { HasRoomFor frame self.old.frames self.old.room }
         ensures { self.new ≡ record self.old { frames = with_frame frame self.old.frames } }
@@ -156,7 +181,21 @@ impl Waiting {
 
     /// Removes the frame of this frame's identity, if there is one. This frame may be one that fits
     /// no identifier.
-    fn drop_frame(&mut self, frame: &Frame)
+    #[inline(always)]
+    pub(crate) fn drop_frame(&mut self, frame: &Frame)
+        ensures { let others = without (identity_of frame.now) self.old.frames in
+            self.new ≡ record self.old { frames = others } }
+    {
+        // Mostly a node waits with the frame alone that it sends.
+        if self.frames.len() == 1 && same_identity(frame, &self.frames[0]) {
+            self.frames.clear();
+        } else {
+            self.drop_among(frame);
+        }
+    }
+
+    /// The same, where others may wait.
+    fn drop_among(&mut self, frame: &Frame)
         ensures { let others = without (identity_of frame.now) self.old.frames in
             self.new ≡ record self.old { frames = others } }
     {

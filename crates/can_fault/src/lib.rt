@@ -10,8 +10,6 @@ pub mod laws;
 mod script;
 mod table;
 mod tally;
-#[cfg(test)]
-mod tests;
 mod threads;
 mod window;
 

@@ -1,4 +1,4 @@
-ghost use Rattle.std.specs.Prelude.{◌≡◌, ℕ, List, length, Err, IfOk, OnOk, is_some, option_map};
+ghost use Rattle.std.specs.Prelude.{◌≡◌, ◌↔◌, ℕ, true, List, [], length, Err, IfOk, OnOk, is_some, option_map};
 ghost use Rattle.cany_base.specs.declared.slot_note.SlotNote.{SlotNote};
 ghost use Rattle.cany_model.specs.Bus.Slot.{ruling_of, script, slot_rule};
 ghost use Rattle.cany_base.specs.Scenario.{HaveDistinctPlaces};
@@ -113,6 +113,13 @@ impl Script {
             Some(rule) => (rule.verdict, rule.stop),
             None => (Verdict::Clean, NodeSet::empty()),
         }
+    }
+
+    /// Whether there is no rule.
+    pub fn is_empty(&self) -> bool
+        ensures { (result ≡ true) ↔ (self.now ≡ []) }
+    {
+        self.rules.is_empty()
     }
 
     /// Whether there is a rule for the slot, whatever the slot carries.

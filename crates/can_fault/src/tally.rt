@@ -1,9 +1,10 @@
-ghost use Rattle.std.specs.Prelude.{◌≡◌, ◌+◌, ◌<◌, ◌≤◌, ◌↔◌, ◌∷◌, [], true, List, None, length, IfOk, if◌then◌else◌};
+ghost use Rattle.std.specs.Prelude.{◌≡◌, ◌+◌, ◌<◌, ◌≤◌, ◌↔◌, ◌∷◌, ◌++◌, [], true, List, All, None, length, IfOk, if◌then◌else◌};
 ghost use Rattle.cany_base.specs.declared.slot_note.SlotNote.{SlotNote};
 ghost use Rattle.cany_base.specs.Params.{Parameters};
 ghost use Rattle.cany_model.specs.Promises.Hypothesis.{IsWithin, first_break};
 ghost use Rattle.can_fault.specs.Breaks.{IsKeptOf, HasLimitsOf};
 ghost use Rattle.can_fault.specs.Tally.{is_partial_slot, IsTallyOf};
+ghost use Rattle.can_fault.specs.Window.{IsNumbered};
 
 use crate::breaks::Breaks;
 use cany_base::{Memory, Params, Slot, SlotNote, Verdict};
@@ -70,6 +71,18 @@ impl Tally {
         self.newest = Some(note.slot);
         self.first = next_break(self.first, &mut self.breaks, note);
         self.partials += usize::from(is_partial_slot(note));
+    }
+
+    /// Notes slots that carried no frame, of which the last has this number.
+    pub fn rest(&mut self, last: Slot)
+        ensures run { (idle trace : List SlotNote) → All (λ note. note.frame ≡ None) idle → IsNumbered (idle ++ trace)
+            → length (idle ++ trace) ≡ last + 1 → IsTallyOf trace self.old → IsTallyOf (idle ++ trace) self.new }
+        ensures slots { self.new.slots ≡ last + 1 }
+        ensures partials { self.new.partials ≡ self.old.partials }
+        ensures params { self.new.params ≡ self.old.params }
+        ensures rules { self.new.rules ≡ self.old.rules }
+    {
+        self.newest = Some(last);
     }
 
     /// The first slot at which the run leaves the hypothesis.

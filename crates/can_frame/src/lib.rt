@@ -8,8 +8,6 @@ mod encoding;
 mod field;
 mod laws;
 mod layout;
-#[cfg(test)]
-mod tests;
 mod threads;
 
 pub use class::{class_of, has_incarnation, is_of_site, is_remote, shows_life, tells_incarnation};

@@ -2,4 +2,5 @@ pub mod NodesFacts
 pub mod ParamsFacts
 pub mod PayloadFacts
 pub mod PlaceFacts
+pub mod SendCountsFacts
 pub mod SetFacts

@@ -10,3 +10,4 @@ pub mod Payload
 pub mod PayloadBytes
 pub mod Scenario
 pub mod ScenarioFields
+pub mod SendCounts

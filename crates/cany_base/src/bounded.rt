@@ -98,6 +98,15 @@ impl<T: Copy> BoundedVec<T> {
         self.push(*item);
     }
 
+    /// Appends copies of items.
+    pub fn extend(&mut self, items: &[T])
+        requires { length self.old.items + length items.now ≤ self.old.room }
+        ensures { self.new ≡ record self.old { items = self.old.items ++ items.now } }
+    {
+        // The room was made when the list was built, so this takes no memory.
+        let _ = self.items.extend_from_slice(items);
+    }
+
     pub fn get(&self, i: usize) -> T
         requires { i < length self.now.items }
         ensures { slice_get self.now.items i ≡ Some result }

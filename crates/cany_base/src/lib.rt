@@ -19,10 +19,9 @@ mod params;
 mod payload;
 mod rule;
 mod scenario;
+mod send_counts;
 mod slot_note;
 mod step;
-#[cfg(test)]
-mod tests;
 mod threads;
 
 pub use actions::{Action, Actions};

@@ -1,11 +1,13 @@
-ghost use Rattle.std.specs.Prelude.{◌≡◌, IfOk, Option, option_map};
+ghost use Rattle.std.specs.Prelude.{◌≡◌, IfOk, Option, count_by, option_map};
 ghost use Rattle.std.specs.Option.{option_copied};
 
 use crate::memory::Memory;
-use crate::message::{NodeAsk, SendAsk};
+use crate::message::{NodeAsk, SendAsk, Service};
+use crate::node::NodeId;
 use crate::node_set::NodeSet;
 use crate::params::Params;
 use crate::rule::Rule;
+use crate::send_counts::SendCounts;
 use crate::step::Step;
 use std::alloc::Global;
 use std::marker::Model;
@@ -22,6 +24,8 @@ pub struct Scenario {
     leaves: Vec<NodeAsk>,
     restarts: Vec<NodeAsk>,
     journal: Option<Vec<Step>>,
+    /// Those of `sends`.
+    counts: SendCounts,
 }
 
 impl Model for Scenario {
@@ -30,14 +34,16 @@ impl Model for Scenario {
     ghost Value = { ScenarioParts };
 
     ghost use Rattle.cany_base.specs.ScenarioFields.{parts_of};
+    ghost use Rattle.cany_base.specs.SendCounts.{AreCountsOf};
 
     ghost view = { parts_of };
 
-    ghost invariant = { λ s. IsLegalScenario (parts_of s) };
+    ghost invariant = { λ s. IsLegalScenario (parts_of s) × AreCountsOf s.sends.items s.counts };
 }
 
 impl Scenario {
     ghost use Rattle.cany_base.specs.Scenario.{ScenarioParts, IsLegalScenario};
+    ghost use Rattle.cany_base.specs.SendCounts.{is_send_by, is_send_of};
 
     /// The scenario of these parts.
     pub fn of_parts(
@@ -75,6 +81,7 @@ impl Scenario {
           journal = option_map (λ steps. steps.items) journal;
         } }
     {
+        let counts = SendCounts::of(sends.as_slice());
         Scenario {
             params,
             members,
@@ -84,6 +91,7 @@ impl Scenario {
             leaves,
             restarts,
             journal,
+            counts,
         }
     }
 
@@ -110,6 +118,20 @@ impl Scenario {
         ensures { result.now ≡ self.now.sends }
     {
         self.sends.as_slice()
+    }
+
+    /// How many of the sends are by a service.
+    pub fn sends_by(&self, service: Service) -> usize
+        ensures { result ≡ count_by (is_send_by service) self.now.sends }
+    {
+        self.counts.by(service)
+    }
+
+    /// How many of the sends are of a node.
+    pub fn sends_of(&self, node: NodeId) -> usize
+        ensures { result ≡ count_by (is_send_of node) self.now.sends }
+    {
+        self.counts.of_node(node)
     }
 
     /// The fault rules, in file order.
@@ -168,6 +190,7 @@ impl Scenario {
             leaves: Vec::from_slice(alloc, self.leaves.as_slice())?,
             restarts: Vec::from_slice(alloc, self.restarts.as_slice())?,
             journal,
+            counts: self.counts,
         })
     }
 }

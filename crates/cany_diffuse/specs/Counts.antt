@@ -1,11 +1,11 @@
 -- What is noted of keys, as it is kept.
 use Rattle.std.specs.Prelude.{◌≡◌, ℕ, ◌+◌, ◌<◌, ◌≤◌, ◌==◌, ◌⊎◌, false, nat_eq, if◌then◌else◌, IsTrue, List, length, Option, Some, is_some, option_map, unwrap_or}
 use Rattle.std.specs.Map.{lookup}
-use Rattle.std.specs.declared.hash.FoldHasher.{FoldHasher}
 use Rattle.std.specs.declared.hash.BuildHasherDefault.{BuildHasherDefault}
 use Rattle.indexmap.specs.IndexMap.{IndexMap, IsUnique, index_map_len, spare}
 use Rattle.cany_base.specs.Bounded.{Bounded}
 use Rattle.cany_diffuse.specs.declared.counts.Noted.{Noted}
+use Rattle.cany_diffuse.specs.declared.series.SeriesHasher.{SeriesHasher}
 
 -- what is noted of a key that is not there, and of one that was forgotten
 abbrev pub nothing : Noted
@@ -24,7 +24,7 @@ abbrev pub MayEnter : ℕ → Bounded (ℕ × Noted) → Type 0
 MayEnter key counts = (length counts.items < counts.room) ⊎ IsTrue (is_some (entry_in counts.items key))
 
 -- each key is there once, there are no more than there is room for, and the memory for all of them is taken
-pub record HasRoomMade (room : ℕ) (map : IndexMap ℕ Noted (BuildHasherDefault FoldHasher)) : Type 0 where
+pub record HasRoomMade (room : ℕ) (map : IndexMap ℕ Noted (BuildHasherDefault SeriesHasher)) : Type 0 where
   pub once : IsUnique nat_eq map
   pub fits : index_map_len map ≤ room
   pub made : room ≤ index_map_len map + spare map

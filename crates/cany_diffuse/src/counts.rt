@@ -4,9 +4,11 @@ ghost use Rattle.std.specs.Map.{keys_of};
 ghost use Rattle.cany_diffuse.specs.Counts.{noted_in, MayEnter, IsEntered, IsCleared};
 ghost use Rattle.cany_diffuse.specs.Eager.{raised};
 
+use crate::series::SeriesHasher;
 use cany_base::Memory;
 use indexmap::IndexMap;
 use std::alloc::Global;
+use std::hash::BuildHasherDefault;
 use std::marker::Model;
 
 /// What is noted of a key.
@@ -40,7 +42,7 @@ impl Noted {
 /// might give no room back, so a key that came stays.
 #[derive(Debug, Drop)]
 pub(crate) struct Counts {
-    entries: IndexMap<u64, Noted>,
+    entries: IndexMap<u64, Noted, BuildHasherDefault<SeriesHasher>>,
     room: usize,
 }
 
@@ -62,7 +64,7 @@ impl Counts {
     pub(crate) fn build(alloc: Global, room: usize) -> Result<Counts, Memory>
         ensures { IfOk result (λ counts. counts ≡ record { items = []; room = room }) }
     {
-        let entries = IndexMap::with_capacity(alloc, room)?;
+        let entries = IndexMap::with_capacity_and_hasher(alloc, room, BuildHasherDefault::new())?;
         Ok(Counts { entries, room })
     }
 

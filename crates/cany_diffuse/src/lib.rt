@@ -6,8 +6,7 @@ mod counts;
 mod diffused;
 mod eager;
 mod learnt;
-#[cfg(test)]
-mod tests;
+mod series;
 mod threads;
 
 pub use diffused::Diffused;

@@ -5,8 +5,6 @@
 mod data;
 mod edcan;
 mod laws;
-#[cfg(test)]
-mod tests;
 mod threads;
 
 pub use edcan::Edcan;

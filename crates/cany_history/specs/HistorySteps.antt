@@ -1,5 +1,5 @@
 -- What a notice, the end of a cycle and the start of one do to a value of reception history vectors, and the actions that they call for.
-use Rattle.std.specs.Prelude.{◌≡◌, ℕ, ◌+◌, ◌<◌, ◌≤◌, ◌==◌, ◌&&◌, ◌||◌, Bool, true, false, nat_lt, if◌then◌else◌, List, [], ◌∷◌, length, Option, Some, None}
+use Rattle.std.specs.Prelude.{◌≡◌, ℕ, ◌+◌, ◌<◌, ◌≤◌, ◌==◌, ◌&&◌, ◌||◌, Bool, true, false, nat_lt, if◌then◌else◌, List, [], ◌∷◌, Option, Some, None}
 use Rattle.cany_base.specs.declared.actions.Action.{Action}
 use Rattle.cany_base.specs.declared.actions.Action.TheVariants.{Ask, Withdraw}
 use Rattle.cany_base.specs.declared.notice.NoticeKind.{NoticeKind}
@@ -9,11 +9,10 @@ use Rattle.cany_base.specs.Layout.{layout}
 use Rattle.cany_base.specs.Limits.{most_numbers}
 use Rattle.cany_base.specs.Nodes.{Nodes}
 use Rattle.cany_base.specs.Params.{Parameters}
-use Rattle.cany_base.specs.Scenario.{ScenarioParts}
 use Rattle.cany_model.specs.Rules.Actions.{ident_of}
 use Rattle.cany_model.specs.Rules.Vectors.{brought, is_just, is_new, met_with, rha_frame, rha_of, vector_in}
 use Rattle.cany_base.specs.Cycles.{cycle_of, is_end, is_start}
-use Rattle.cany_history.specs.History.{HistoryParts, IsHistoryOf}
+use Rattle.cany_history.specs.History.{HistoryParts}
 
 -- The node is one of the bus, which has not too many for the format, and the cycle of the slot has a number that frames have room for.
 pub record IsInRun (slot : ℕ) (v : HistoryParts) : Type 0 where
@@ -107,11 +106,3 @@ start_actions slot v (Some own) = ask_at slot v own ∷ []
 
 abbrev pub IsPlain : Parameters → ℕ → Type 0
 IsPlain p slot = (is_start p slot ≡ false) × (is_end p slot ≡ false)
-
--- ---- so many slots
-
--- the value stands for the notices of so many slots
-pub record HasReadSlots (scenario : ScenarioParts) (slots : ℕ) (v : HistoryParts) : Type 0 where
-  pub past : List NoticeKind
-  pub stands : IsHistoryOf scenario v.node past v.vector v
-  pub read : length past ≡ slots

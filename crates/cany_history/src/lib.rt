@@ -4,8 +4,6 @@
 mod cycle;
 mod ended;
 mod history;
-#[cfg(test)]
-mod tests;
 mod threads;
 
 pub use ended::Ended;

@@ -17,6 +17,3 @@ pub use sink::Sink;
 pub use source::Source;
 pub use standard::{StdSink, StdSource};
 pub use whole::{ReadFault, read_all, write_whole};
-
-#[cfg(test)]
-mod tests;

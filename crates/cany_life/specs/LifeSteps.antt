@@ -17,7 +17,7 @@ use Rattle.cany_model.specs.Rules.Life.{life_signs_sent}
 use Rattle.cany_model.specs.Rules.Notices.{HasFewSigns, IsNextNotice}
 use Rattle.cany_model.specs.Rules.Rooms.{cycles}
 use Rattle.cany_model.specs.Rules.Knowledge.{FailureSign, Knowledge, fda_frame, knows, shows_life, sign_in}
-use Rattle.cany_life.specs.Life.{AreCopies, IsLifeOf, IsSignOf, LifeParts, known_in, sign_number}
+use Rattle.cany_life.specs.Life.{AreCopies, IsSignOf, LifeParts, known_in, sign_number}
 
 -- ---- who shows life
 
@@ -116,10 +116,3 @@ pub record CanLearn (v : LifeParts) (notice : Notice) : Type 0 where
   pub knowledge : Knowledge
   pub stands : IsReading scenario v.node past (notice.kind ∷ past) knowledge v
   pub next : IsNextNotice scenario past notice
-
--- the value stands for the notices of so many slots
-pub record HasReadSlots (scenario : ScenarioParts) (slots : ℕ) (v : LifeParts) : Type 0 where
-  pub past : List NoticeKind
-  pub knowledge : Knowledge
-  pub stands : IsLifeOf scenario v.node past knowledge v
-  pub read : length past ≡ slots

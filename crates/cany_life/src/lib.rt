@@ -4,8 +4,6 @@
 
 mod frames;
 mod life;
-#[cfg(test)]
-mod tests;
 mod threads;
 
 pub use life::Life;

@@ -1,11 +1,12 @@
 -- The pieces of a line, the last one first.
-use Rattle.std.proofs.Common.{◌≡◌, ℕ, suc, ◌+◌, ◌-◌, ◌<◌, ◌≤◌, List, [], ◌∷◌, ◌++◌, length, take, drop, get_or, refl, sym, ◌∙◌, ap, append_assoc, append-nil, arith}
+use Rattle.std.proofs.Common.{◌≡◌, ℕ, suc, ◌+◌, ◌-◌, ◌<◌, ◌≤◌, List, [], ◌∷◌, ◌++◌, length, take, drop, get_or, refl, sym, ◌∙◌, ap, append_assoc, arith}
 use Rattle.std.specs.List.{flat_map, join_with_byte}
 use Rattle.std.proofs.lemmas.List.{take-append-drop}
 use Rattle.std.proofs.lemmas.List.Concat.{flat_map-append}
 use Rattle.std.proofs.Math.Seq.{drop-cons, drop-length}
 use Rattle.cany_log.specs.declared.field.Field.{Field}
 use Rattle.cany_log.specs.Fields.{most_bytes, room_of, spaced, texts_of}
+use Rattle.cany_log.proofs.LineFacts.{joined}
 use Rattle.cany_text.specs.ReportLines.{line_of}
 
 room_of-append : (xs ys : List Field) → room_of (xs ++ ys) ≡ room_of xs + room_of ys
@@ -46,10 +47,6 @@ pub HasFields-room : (fields : List Field) (i : ℕ) (row : List ℕ) (f : Field
     → length row + most_bytes f ≤ room_of fields + 1
 HasFields-room fields i row f h some is =
     omega (arith, h.short, next_room fields i f some h.within is, room_of-drop-le fields (i - 1))
-
-joined : (x : List ℕ) (xs : List (List ℕ)) → join_with_byte 32 (x ∷ xs) ≡ x ++ spaced xs
-joined x [] = sym (append-nil x)
-joined x (y ∷ ys) = ap (λ r. x ++ 32 ∷ r) (joined y ys)
 
 spaced-texts : (fields : List Field) → spaced (flat_map texts_of fields) ≡ flat_map bytes_of fields
 spaced-texts [] = refl

@@ -1,11 +1,14 @@
 pub mod AnyFacts
 pub mod CountFacts
 pub mod FieldFacts
+pub mod LineFacts
 pub mod NodeLineFacts
 pub mod NumberFacts
+pub mod PageFacts
 pub mod ReportFacts
 pub mod SetTextFacts
 pub mod SummaryFacts
 pub mod TableFacts
 pub mod TextFacts
+pub mod UpToFacts
 pub mod WrittenFacts

@@ -1,12 +1,13 @@
 -- The parts of the report, item by item.
-use Rattle.std.proofs.Common.{◌≡◌, ℕ, suc, Option, Some, slice_get, ◌+◌, ◌*◌, ◌/◌, ◌<◌, ◌≤◌, min, Bool, true, false, cond, List, [], ◌∷◌, ◌++◌, map, take, drop, reverse, get_or, length, refl, sym, ◌∙◌, ap, append_assoc, append-nil, length-append, length-drop, arith}
+use Rattle.std.proofs.Common.{◌≡◌, ℕ, suc, Option, Some, slice_get, ◌+◌, ◌*◌, ◌-◌, ◌<◌, ◌≤◌, min, inl, inr, Bool, true, false, cond, List, [], ◌∷◌, ◌++◌, map, take, drop, reverse, get_or, length, refl, sym, ◌∙◌, ap, append_assoc, append-nil, length-drop, arith}
 use Rattle.std.specs.Prelude.{filter, if◌then◌else◌, codes, IsSomeAnd}
 use Rattle.std.specs.List.{concat, flat_map, range_with_len}
 use Rattle.std.specs.Option.{option_map_or}
 use Rattle.std.proofs.lemmas.Option.{get_or_from_slice_get, slice_get_read}
-use Rattle.std.proofs.lemmas.List.{take_all, take-append-le, take-append-drop, append_cancel_left, drop-drop}
+use Rattle.std.proofs.lemmas.Bool.{cases_lt}
+use Rattle.std.proofs.lemmas.List.{take_all}
 use Rattle.std.proofs.lemmas.List.Folds.{concat-append}
-use Rattle.std.proofs.lemmas.List.FromFn.{length-range_with_len, get_or-range_with_len}
+use Rattle.std.proofs.lemmas.List.FromFn.{length-range_with_len, get_or-range_with_len, take-map-range_with_len}
 use Rattle.cany_base.specs.declared.log_entry.LogEntry.{LogEntry}
 use Rattle.cany_base.specs.declared.message.MsgKey.{MsgKey}
 use Rattle.cany_base.specs.declared.message.SendAsk.{SendAsk}
@@ -28,7 +29,9 @@ use Rattle.cany_text.specs.Report.{bus_lines, incarnation_lines, node_lines, mes
 use Rattle.cany_text.specs.ReportLines.{line_of, first_line, params_line, hypothesis_line, bus_line, is_shown, journal_line, journal_lines, node_line, entry_line, message_line}
 -- a send has one message: of the model's own words
 use Rattle.cany_model.proofs.Rules.MessageKeys.{message_at}
+use Rattle.cany_log.specs.ReportItems.{journal_text, line_count, message_text, shown_line}
 use Rattle.cany_log.specs.ReportParts.{heading_text, bus_text, nodes_and_messages_text}
+use Rattle.cany_log.proofs.PageFacts.{next_items}
 use Rattle.cany_log.proofs.WrittenFacts.{concat-map}
 
 -- items of which some are written: the lines of those are what is written of each
@@ -41,10 +44,6 @@ shown_text : {X : Type 0} (shown : X → Bool) (f : X → List ℕ) (xs : List X
 shown_text shown f [] = refl
 shown_text shown f (x ∷ xs) =
     shown_first (shown x) f x (filter shown xs) (flat_map (λ x. if shown x then f x else []) xs) (shown_text shown f xs)
-
--- what is written of a slot
-abbrev pub shown_line : RunState → SlotNote → List ℕ
-shown_line s note = if is_shown note (restarted_in s note.slot) then bus_line note (restarted_in s note.slot) else []
 
 pub bus_lines_text : (s : RunState) (trace : List SlotNote) → trace ≡ reverse s.trace → concat (bus_lines s) ≡ flat_map (shown_line s) trace
 unfolding bus_lines
@@ -64,6 +63,14 @@ shown_line-hidden s note again b are test hidden =
     ap (λ (nodes : Nodes). if is_shown note nodes then bus_line note nodes else []) (sym are)
     ∙ ap (λ b. if b then bus_line note again else []) (sym test ∙ hidden)
 
+-- the first of the numbers below n
+take-range_with_len : (j n : ℕ) → j ≤ n → take j (range_with_len 0 n) ≡ range_with_len 0 j
+take-range_with_len j n within = ap (take j) (sym (map_same (range_with_len 0 n))) ∙ take-map-range_with_len (λ k. k) 0 n j within ∙ map_same (range_with_len 0 j)
+  where
+    map_same : (xs : List ℕ) → map (λ k. k) xs ≡ xs
+    map_same [] = refl
+    map_same (x ∷ xs) = ap (λ r. x ∷ r) (map_same xs)
+
 -- the numbers below n, as a loop meets them
 pub at_number : (n i : ℕ) → i < n → i ≡ get_or (range_with_len 0 n) i i
 at_number n i inside = sym (get_or-range_with_len 0 n i i inside ∙ omega arith)
@@ -74,46 +81,32 @@ below_length n i inside = omega (arith, length-range_with_len 0 n)
 pub past_length : (n i : ℕ) → n ≤ i → length (range_with_len 0 n) ≤ i
 past_length n i past = omega (arith, length-range_with_len 0 n)
 
--- how many lines the journal takes
-abbrev pub line_count : List Step → ℕ
-line_count journal = (length journal + 63) / 64
-
--- the line of the steps from 64 * k on
-abbrev pub journal_text : List Step → ℕ → List ℕ
-journal_text journal k = journal_line (take 64 (drop (64 * k) journal))
-
 pub journal_lines_text : (journal : List Step) → concat (journal_lines journal) ≡ flat_map (journal_text journal) (range_with_len 0 (line_count journal))
 unfolding journal_lines
 journal_lines_text journal = concat-map (journal_text journal) (range_with_len 0 (line_count journal))
 
--- at most 64 steps that come off the front are the first 64, where they are fewer only at the end
-first_steps : (x rest' : List Step) → length x ≡ min 64 (length (x ++ rest')) → take 64 (x ++ rest') ≡ x
-first_steps x [] len = ap (take 64) (append-nil x) ∙ take_all 64 x (omega (arith, len))
-first_steps x (y ∷ ys) len =
-    let full : 64 ≤ length x = omega (arith, len, length-append x (y ∷ ys)) in
-    take-append-le 64 x (y ∷ ys) full ∙ take_all 64 x (omega (arith, len))
+-- the steps of a line, cut out of the journal
+pub steps_of_line : (journal : List Step) (k start end : ℕ) → start ≡ k * 64 → start ≤ length journal → end ≡ min (start + 64) (length journal)
+    → journal_line (take (end - start) (drop start journal)) ≡ journal_text journal k
+steps_of_line journal k start end start_is inside end_is =
+    let at : start ≡ 64 * k = omega (arith, start_is) in
+    let left : length (drop start journal) ≡ length journal - start = length-drop start journal in
+    let same : take (end - start) (drop start journal) ≡ take 64 (drop start journal) = elim (cases_lt (length journal) (start + 64)) [
+      | inl last ↦
+          take_all (end - start) (drop start journal) (omega (arith, left, end_is, last))
+          ∙ sym (take_all 64 (drop start journal) (omega (arith, left, last)))
+      | inr more ↦
+          let full : end - start ≡ 64 = omega (arith, end_is, more) in
+          ap (λ n. take n (drop start journal)) full
+    ] in
+    ap journal_line same ∙ ap (λ n. journal_line (take 64 (drop n journal))) at
 
-pub record IsPiece (journal : List Step) (k : ℕ) (x rest' : List Step) : Type 0 where
-  pub line : journal_text journal k ≡ journal_line x
-  pub rest : rest' ≡ drop (64 * (k + 1)) journal
-  pub inside : k < line_count journal
-  pub short : length x ≤ 64
-
-pub next_piece : (journal rest rest' x : List Step) (k : ℕ) → rest ≡ drop (64 * k) journal → rest ≡ x ++ rest' → length x ≡ min 64 (length rest) → 0 < length rest
-    → IsPiece journal k x rest'
-next_piece journal rest rest' x k at_k cut len some =
-    let here : take 64 rest ≡ x = ap (take 64) cut ∙ first_steps x rest' (len ∙ ap (λ r. min 64 (length r)) cut) in
-    let after : drop 64 rest ≡ rest' = append_cancel_left x (drop 64 rest) rest' (ap (λ t. t ++ drop 64 rest) (sym here) ∙ take-append-drop 64 rest ∙ cut) in
-    let next : 64 * k + 64 ≡ 64 * (k + 1) = omega arith in
-    record {
-      line = ap (λ r. journal_line (take 64 r)) (sym at_k) ∙ ap journal_line here;
-      rest = sym after ∙ ap (drop 64) at_k ∙ drop-drop 64 (64 * k) journal ∙ ap (λ n. drop n journal) next;
-      inside = omega (arith, some, ap length at_k, length-drop (64 * k) journal);
-      short = omega (arith, len);
-    }
-
-pub no_more_pieces : (journal rest : List Step) (k : ℕ) → rest ≡ drop (64 * k) journal → length rest ≡ 0 → line_count journal ≤ k
-no_more_pieces journal rest k at_k none = omega (arith, none, ap length at_k, length-drop (64 * k) journal)
+-- the lines from one number on to before another, and then those after them
+pub next_lines : (f : ℕ → List ℕ) (i j n : ℕ) → i ≤ j → j ≤ n
+    → flat_map f (drop i (range_with_len 0 n)) ≡ flat_map f (drop i (range_with_len 0 j)) ++ flat_map f (drop j (range_with_len 0 n))
+next_lines f i j n order within =
+    next_items f (range_with_len 0 n) i j order (omega (arith, within, length-range_with_len 0 n))
+    ∙ ap (λ r. flat_map f (drop i r) ++ flat_map f (drop j (range_with_len 0 n))) (take-range_with_len j n within)
 
 -- lines of lists of lines
 pub concat-flat_map : {X : Type 0} (f : X → List (List ℕ)) (xs : List X) → concat (flat_map f xs) ≡ flat_map (λ x. concat (f x)) xs
@@ -140,10 +133,6 @@ unfolding node_lines
 node_lines_text scenario journal i count is =
     concat-flat_map (incarnation_lines scenario (run scenario journal) i) (range_with_len 0 (suc (node_at (run scenario journal).nodes i).present.number))
     ∙ ap (λ n. flat_map (incarnation_part scenario journal i) (range_with_len 0 n)) (sym is)
-
--- what is written of a message
-abbrev pub message_text : ScenarioParts → RunState → Message → List ℕ
-message_text scenario s m = message_line m (is_settled scenario s m)
 
 pub message_lines_text : (scenario : ScenarioParts) (s : RunState) → concat (message_lines scenario s) ≡ flat_map (message_text scenario s) (messages_of scenario.sends)
 unfolding message_lines

@@ -1,6 +1,8 @@
 pub mod Counted
 pub mod Fields
+pub mod Pages
 pub mod Refusals
+pub mod ReportItems
 pub mod ReportParts
 pub mod Summary
 pub mod SummaryParts

@@ -1,7 +1,9 @@
 //! The report and the summary of a run, and the lines of refusals, written to a sink. Each line is
-//! put together before the sink is given any of it, and no call takes memory.
+//! put together before the sink is given any of it, in a report some lines together, and no call
+//! takes memory.
 #![tactic(auto)]
 
+mod bus_line;
 mod bus_lines;
 mod entries;
 mod entry_counts;
@@ -11,8 +13,10 @@ mod hypothesis;
 mod journal_refusal;
 mod line;
 mod line_buffer;
+mod message_line;
 mod messages;
 mod node_lines;
+mod page;
 mod refusal;
 mod report;
 mod scenario_refusal;
@@ -25,6 +29,3 @@ pub use line::{SHORT_LINE_BYTES, write_line, write_short_line};
 pub use refusal::{Refusal, write_refusal};
 pub use report::write_report;
 pub use summary::{write_settled, write_summary};
-
-#[cfg(test)]
-mod tests;

@@ -15,7 +15,7 @@ use cany_io::{Failed, Sink, write_whole};
 pub const SHORT_LINE_BYTES: usize = 256;
 
 /// How many bytes a line of the journal has at most: its word, 64 letters and the line feed.
-const JOURNAL_LINE_BYTES: usize = 73;
+pub(crate) const JOURNAL_LINE_BYTES: usize = 73;
 
 /// Whether the set has a node.
 pub(crate) fn has_any(nodes: NodeSet) -> bool
@@ -39,7 +39,7 @@ fn put_number_if_any<const ROOM: usize>(
     }
 }
 
-fn put_set_if_any<const ROOM: usize>(
+pub(crate) fn put_set_if_any<const ROOM: usize>(
     line_buffer: &mut LineBuffer<ROOM>,
     word: &'static str,
     nodes: NodeSet,
@@ -127,16 +127,14 @@ pub fn write_short_line<K: Sink>(
     write_row::<SHORT_LINE_BYTES, K>(words, fields, sink)
 }
 
-/// Writes the line of some steps of a journal, of which there are at most 64.
-#[tactic(auto, unfolding(cany_text::specs::ReportLines::journal_line, cany_text::specs::ReportLines::line_of))]
-pub(crate) fn write_steps<K: Sink>(steps: &[Step], sink: &mut K) -> Result<(), Failed>
-    requires { length steps.now ≤ 64 }
-    ensures { IsWritten (report.journal_line steps.now) result
-        (K.taken sink.old) (K.taken sink.new) (K.faults sink.old) (K.faults sink.new) }
+/// Puts the line of some steps of a journal, of which there are at most 64.
+pub(crate) fn put_steps<const ROOM: usize>(line_buffer: &mut LineBuffer<ROOM>, steps: &[Step])
+    requires few { length steps.now ≤ 64 }
+    requires room { length line_buffer.old + JOURNAL_LINE_BYTES ≤ ROOM }
+    ensures text { line_buffer.new ≡ report.journal_line steps.now ++ line_buffer.old }
+    ensures short { length line_buffer.new ≤ length line_buffer.old + JOURNAL_LINE_BYTES }
 {
-    let mut line_buffer: LineBuffer<JOURNAL_LINE_BYTES> = LineBuffer::new();
     line_buffer.put_bytes(b"\n");
     line_buffer.put_steps(steps);
     line_buffer.put_bytes(b"journal ");
-    write_whole(sink, line_buffer.as_slice())
 }

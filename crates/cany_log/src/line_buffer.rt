@@ -1,13 +1,14 @@
-//! The bytes of a line, from the last one to the first: so the digits of a number, of which the
+//! The bytes of a line, or of some lines, from the last one to the first: so the digits of a number, of which the
 //! last is known first, are written where they stay. A field is put before the others together with
 //! the space before it.
 ghost use Rattle.std.specs.Prelude.{◌≡◌, ◌+◌, ◌≤◌, ◌∷◌, ◌++◌, ◌==◌, [], if◌then◌else◌, codes, length, map, decimal};
-ghost use Rattle.cany_base.specs.Limits.{most_line_bytes};
 ghost use Rattle.cany_log.specs.Fields.{most_byte_bytes, most_count_bytes, most_node_bytes, most_number_bytes, most_payload_bytes, most_set_bytes};
+ghost use Rattle.cany_log.specs.Pages.{most_page_bytes, most_service_bytes};
 ghost use Rattle.cany_text.specs.RefusalLines.{signed_decimal};
 ghost use Rattle.cany_text.specs.ReportLines.{byte_text, node_text, payload_text, set_text, step_letter};
+ghost use Rattle.cany_text.specs.TextNames.{service_name};
 
-use cany_base::{NodeId, NodeSet, Payload, Step};
+use cany_base::{NodeId, NodeSet, Payload, Service, Step};
 use itoa::{Buffer, write_digits};
 use std::marker::Model;
 
@@ -18,7 +19,8 @@ const LETTERS: &[u8; SLOT_PLACE + 1] =
 
 const SLOT_PLACE: usize = NodeId::COUNT as usize;
 
-/// The bytes of the end of a line, as many as there are so far, with room for so many in all.
+/// The bytes of the end of a line, or of some lines, as many as there are so far, with room for so
+/// many in all.
 #[derive(Drop)]
 pub(crate) struct LineBuffer<const ROOM: usize> {
     bytes: [u8; ROOM],
@@ -38,7 +40,7 @@ impl<const ROOM: usize> Model for LineBuffer<ROOM> {
 impl<const ROOM: usize> LineBuffer<ROOM> {
     /// No bytes yet.
     pub(crate) fn new() -> LineBuffer<ROOM>
-        requires { ROOM ≤ most_line_bytes }
+        requires { ROOM ≤ most_page_bytes }
         ensures { result ≡ [] }
     {
         LineBuffer {
@@ -53,6 +55,13 @@ impl<const ROOM: usize> LineBuffer<ROOM> {
     {
         let whole = &self.bytes[..];
         &whole[self.start..]
+    }
+
+    /// Takes all bytes away.
+    pub(crate) fn clear(&mut self)
+        ensures { self.new ≡ [] }
+    {
+        self.start = ROOM;
     }
 
     /// Puts a byte before the others.
@@ -90,6 +99,21 @@ impl<const ROOM: usize> LineBuffer<ROOM> {
     {
         self.put_bytes(text.as_bytes());
         self.put_byte(b' ');
+    }
+
+    /// Puts the name of a service.
+    // Each name is of a known length, so its bytes are put in one piece.
+    #[tactic(auto, unfolding(cany_text::specs::TextNames::service_name))]
+    pub(crate) fn put_service(&mut self, service: Service)
+        requires { length self.old + (1 + most_service_bytes) ≤ ROOM }
+        ensures text { self.new ≡ (32 ∷ service_name service) ++ self.old }
+        ensures short { length (service_name service) ≤ most_service_bytes }
+    {
+        match service {
+            Service::Ed => self.put_bytes(b" ed"),
+            Service::Rel => self.put_bytes(b" rel"),
+            Service::Tot => self.put_bytes(b" tot"),
+        }
     }
 
     /// Puts a number in decimal.

@@ -1,54 +1,52 @@
 //! The messages, in the order of their sends.
-ghost use Rattle.std.specs.List.{concat};
+ghost use Rattle.std.specs.Prelude.{◌≡◌, ◌+◌, ◌-◌, ◌*◌, ◌≤◌, ◌++◌, [], drop, length, take};
+ghost use Rattle.std.specs.List.{concat, flat_map};
+ghost use Rattle.cany_model.specs.Rules.Messages.{messages_of};
 ghost use Rattle.cany_text.specs.Report.{message_lines};
-ghost use Rattle.cany_text.specs.ReportLines.{message_line};
+ghost use Rattle.cany_log.specs.ReportItems.{message_text};
 ghost use Rattle.cany_log.specs.Written.{IsWritten};
 ghost use Rattle.cany_world.specs.World.{state_of};
 
-use crate::field::Field;
-use crate::line::write_short_line;
-use cany_base::SendAsk;
+use crate::line::SHORT_LINE_BYTES;
+use crate::message_line::put_message;
+use crate::page::{PAGE_BYTES, Page, SHORT_LINES, write_page};
 use cany_io::{Failed, Sink};
-use cany_text::names::service_name;
 use cany_world::World;
 
-/// Writes the line of the message of a send, which has this sequence number.
-#[tactic(auto, unfolding(cany_text::specs::ReportLines::message_line))]
-pub(crate) fn write_message<K: Sink>(
-    send: &SendAsk,
-    seq: u64,
-    is_settled: bool,
-    sink: &mut K,
-) -> Result<(), Failed>
-    ensures { IsWritten (message_line (record {
-      slot = send.now.slot;
-      origin = send.now.node;
-      seq = seq;
-      service = send.now.service;
-      payload = send.now.payload;
-    }) is_settled) result
-        (K.taken sink.old) (K.taken sink.new) (K.faults sink.old) (K.faults sink.new) }
+/// Puts the lines of the messages whose sends stand in the file from one place on to before another.
+fn put_messages(world: &World, first: usize, end: usize, page: &mut Page)
+    requires order { (first ≤ end) × (end ≤ length world.now.scenario.sends) }
+    requires room { length page.old + SHORT_LINE_BYTES * (end - first) ≤ PAGE_BYTES }
+    ensures { page.new ≡ flat_map (message_text world.now.scenario (state_of world.now))
+        (drop first (take end (messages_of world.now.scenario.sends))) ++ page.old }
 {
-    write_short_line(
-        "message",
-        &[
-            Field::Text(service_name(send.service)),
-            Field::Number(u64::from(send.node.get())),
-            Field::Number(seq),
-            Field::Text(if is_settled { "settled" } else { "open" }),
-        ],
-        sink,
-    )
+    let sends = world.scenario().sends();
+    let mut place = end;
+    while place > first {
+        place -= 1;
+        let seq = u64::from(world.key(place).seq);
+        put_message(&sends[place], seq, world.settled(place), page);
+    }
 }
 
-/// Writes the messages of the world's scenario.
-pub(crate) fn write_messages<K: Sink>(world: &World, sink: &mut K) -> Result<(), Failed>
-    ensures { IsWritten (concat (message_lines world.now.scenario (state_of world.now))) result
+/// Writes the messages of the world's scenario. The page is empty before and after.
+pub(crate) fn write_messages<K: Sink>(
+    world: &World,
+    page: &mut Page,
+    sink: &mut K,
+) -> Result<(), Failed>
+    requires { page.old ≡ [] }
+    ensures written { IsWritten (concat (message_lines world.now.scenario (state_of world.now))) result
         (K.taken sink.old) (K.taken sink.new) (K.faults sink.old) (K.faults sink.new) }
+    ensures empty { page.new ≡ [] }
 {
-    for (i, send) in world.scenario().sends().iter().enumerate() {
-        let seq = u64::from(world.key(i).seq);
-        write_message(send, seq, world.settled(i), sink)?;
+    let count = world.scenario().sends().len();
+    let mut first = 0;
+    while first < count {
+        let end = (first + SHORT_LINES).min(count);
+        put_messages(world, first, end, page);
+        write_page(page, sink)?;
+        first = end;
     }
     Ok(())
 }

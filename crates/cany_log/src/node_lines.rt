@@ -1,5 +1,5 @@
 //! What the nodes came to: of each its incarnations, the first one first, and their logs.
-ghost use Rattle.std.specs.Prelude.{◌≡◌, ◌==◌, ◌<◌, ◌≤◌, if◌then◌else◌, Some, None};
+ghost use Rattle.std.specs.Prelude.{◌≡◌, ◌==◌, ◌<◌, ◌≤◌, [], if◌then◌else◌, Some, None};
 ghost use Rattle.std.specs.List.{concat, flat_map, range_with_len};
 ghost use Rattle.cany_model.specs.Bus.State.{node_at};
 ghost use Rattle.cany_text.specs.Report.{incarnation_lines, node_lines};
@@ -7,9 +7,10 @@ ghost use Rattle.cany_text.specs.ReportLines.{node_line};
 ghost use Rattle.cany_log.specs.Written.{IsWritten};
 ghost use Rattle.cany_world.specs.World.{state_of};
 
-use crate::entries::write_entry;
+use crate::entries::write_entries;
 use crate::field::Field;
 use crate::line::write_line;
+use crate::page::Page;
 use cany_base::NodeId;
 use cany_io::{Failed, Sink};
 use cany_model::Span;
@@ -63,40 +64,53 @@ fn write_incarnation<K: Sink>(
     world: &World,
     node: NodeId,
     inc: u8,
+    page: &mut Page,
     sink: &mut K,
 ) -> Result<(), Failed>
+    requires page { page.old ≡ [] }
     requires node { node < world.now.scenario.params.nodes }
     requires inc { inc ≤ (node_at (state_of world.now).nodes node).present.number }
-    ensures { IsWritten (concat (incarnation_lines world.now.scenario (state_of world.now) node inc)) result
+    ensures written { IsWritten (concat (incarnation_lines world.now.scenario (state_of world.now) node inc)) result
         (K.taken sink.old) (K.taken sink.new) (K.faults sink.old) (K.faults sink.new) }
+    ensures empty { page.new ≡ [] }
 {
     write_node_line(node, inc, &world.span(node, inc), sink)?;
-    for entry in world.log_of(node, inc) {
-        write_entry(entry, sink)?;
-    }
-    Ok(())
+    write_entries(world.log_of(node, inc), page, sink)
 }
 
 /// Writes the incarnations of a node.
-fn write_node<K: Sink>(world: &World, node: NodeId, sink: &mut K) -> Result<(), Failed>
-    requires { node < world.now.scenario.params.nodes }
-    ensures { IsWritten (concat (node_lines world.now.scenario (state_of world.now) node)) result
+fn write_node<K: Sink>(
+    world: &World,
+    node: NodeId,
+    page: &mut Page,
+    sink: &mut K,
+) -> Result<(), Failed>
+    requires page { page.old ≡ [] }
+    requires node { node < world.now.scenario.params.nodes }
+    ensures written { IsWritten (concat (node_lines world.now.scenario (state_of world.now) node)) result
         (K.taken sink.old) (K.taken sink.new) (K.faults sink.old) (K.faults sink.new) }
+    ensures empty { page.new ≡ [] }
 {
     for inc in 0..=world.incarnation(node) {
-        write_incarnation(world, node, inc, sink)?;
+        write_incarnation(world, node, inc, page, sink)?;
     }
     Ok(())
 }
 
 /// Writes the nodes.
-pub(crate) fn write_nodes<K: Sink>(world: &World, sink: &mut K) -> Result<(), Failed>
-    ensures { IsWritten (concat (flat_map (node_lines world.now.scenario (state_of world.now))
+pub(crate) fn write_nodes<K: Sink>(
+    world: &World,
+    page: &mut Page,
+    sink: &mut K,
+) -> Result<(), Failed>
+    requires { page.old ≡ [] }
+    ensures written { IsWritten (concat (flat_map (node_lines world.now.scenario (state_of world.now))
         (range_with_len 0 world.now.scenario.params.nodes))) result
         (K.taken sink.old) (K.taken sink.new) (K.faults sink.old) (K.faults sink.new) }
+    ensures empty { page.new ≡ [] }
 {
     for number in 0..world.scenario().params().nodes {
-        write_node(world, NodeId::new(number).unwrap(), sink)?;
+        write_node(world, NodeId::new(number).unwrap(), page, sink)?;
     }
     Ok(())
 }

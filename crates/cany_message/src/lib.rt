@@ -9,8 +9,6 @@ mod keys;
 mod number;
 mod sends;
 mod sequence;
-#[cfg(test)]
-mod tests;
 mod threads;
 
 pub use actions::{deliver, relay, withdraw};

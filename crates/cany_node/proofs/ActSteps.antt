@@ -24,10 +24,10 @@ use Rattle.cany_totcan.specs.Totcan.{IsTotcanOf, TotcanParts}
 use Rattle.cany_node.specs.Agenda.{IsAgendaOf}
 use Rattle.cany_node.specs.Apply.{AreAskable, AreDone, CanApply, NamesAskable, all_stamped, asks_sign, is_sign}
 use Rattle.cany_node.specs.Asks.{AreAsksOf}
-use Rattle.cany_node.specs.Node.{NodeParts, IsNodeOf}
+use Rattle.cany_node.specs.Node.{NodeParts, IsNodeOf, CanAct}
 use Rattle.cany_node.specs.Membership.{IsNextOf}
 use Rattle.cany_node.specs.Stamping.{AreStamped}
-use Rattle.cany_node.specs.Turning.{CanScript, HasHeard, HasScripted, heard_effects, plain_effects, script_effects}
+use Rattle.cany_node.specs.Turning.{CanScript, HasHeard, HasScripted, IsActed, heard_effects, plain_effects, script_effects}
 use Rattle.cany_node.proofs.Askable.{turn_names}
 use Rattle.cany_node.proofs.NextAction.{signs_asked}
 use Rattle.cany_node.proofs.RoomsSuffice.{log_within}
@@ -39,6 +39,7 @@ pub record IsSame (v w : NodeParts) : Type 0 where
   pub node : w.node ≡ v.node
   pub inc : w.inc ≡ v.inc
   pub from : w.from ≡ v.from
+  pub cycle : w.cycle ≡ v.cycle
   pub log : w.log ≡ v.log
   pub room : w.room ≡ v.room
 
@@ -48,6 +49,7 @@ same_after v u w one two = record {
   node = ap (λ (x : NodeParts). x.node) two ∙ ap (λ (x : NodeParts). x.node) one;
   inc = ap (λ (x : NodeParts). x.inc) two ∙ ap (λ (x : NodeParts). x.inc) one;
   from = ap (λ (x : NodeParts). x.from) two ∙ ap (λ (x : NodeParts). x.from) one;
+  cycle = ap (λ (x : NodeParts). x.cycle) two ∙ ap (λ (x : NodeParts). x.cycle) one;
   log = ap (λ (x : NodeParts). x.log) two ∙ ap (λ (x : NodeParts). x.log) one;
   room = ap (λ (x : NodeParts). x.room) two ∙ ap (λ (x : NodeParts). x.room) one;
 }
@@ -215,3 +217,62 @@ module _ (scenario : ScenarioParts) (past : List NoticeKind) (notice : Notice) (
     where
       more : length past + 1 ≡ length read
       more = omega arith
+
+-- ---- the turn, whatever the node has heard
+
+-- What the rules say of the notice is listed. `w` is the node after it, but that its TOTCAN is `t`, which has asked for the next message
+-- of the backlog too.
+pub record IsListed (scenario : ScenarioParts) (past : List NoticeKind) (notice : Notice) (v w : NodeParts) (t : TotcanParts) (actions : List Action) : Type 0 where
+  pub same : IsSame v w
+  pub scripted : HasScripted scenario past notice.kind w
+  pub listed : actions ≡ actions_of scenario.params.format (plain_effects scenario v.node (notice.kind ∷ past))
+  pub asks : IsTotcanOf scenario w.totcan.node (notice.kind ∷ past) (backlog scenario w.node (notice.kind ∷ past))
+      (asked_after scenario.params (notice.kind ∷ past) (backlog scenario w.node (notice.kind ∷ past)) (asked scenario w.node past)) t
+
+abbrev pub AlwaysListed : Notice → NodeParts → NodeParts → TotcanParts → List Action → Type 0
+AlwaysListed notice v w t actions =
+    (scenario : ScenarioParts) (past : List NoticeKind) → IsNodeOf scenario past v → IsNextOf scenario v.node past notice → IsListed scenario past notice v w t actions
+
+module _ (notice : Notice) (u v w : NodeParts) (viewed : v ≡ u) (t : TotcanParts) (actions : List Action) (ctl : ControllerState) (out : Bounded Action)
+    (acts : CanAct u notice ctl out) (all : AlwaysListed notice v w t actions) where
+  acts_now : CanAct v notice ctl out
+  acts_now = subst (λ (x : NodeParts). CanAct x notice ctl out) (sym viewed) acts
+
+  pub listed_apply : w.inc ≤ most_restarts_of_node → CanApply w.inc actions ctl (record { items = w.log; room = w.room })
+  listed_apply number =
+      let is = all acts_now.scenario acts_now.past acts_now.stands acts_now.next in
+      can_apply acts_now.scenario acts_now.past notice v w acts_now.stands acts_now.next is.same is.scripted actions ctl is.listed number
+      acts_now.format acts_now.room acts_now.askable acts_now.stamped acts_now.signs
+
+  module _ (ctl' : ControllerState) (log log' : Bounded LogEntry) (items : log.items ≡ w.log) (room : log.room ≡ w.room)
+      (applied : (s : ScenarioParts) (i : ℕ) (es : List Effect) → IsLegalScenario s → ctl.params.format ≡ s.params.format → actions ≡ actions_of s.params.format es
+      → AllByRecursion (NamesAskable s i) es → AreStamped w.inc ctl.waiting → AreDone (all_stamped w.inc es) ctl ctl' log log') where
+    abbrev after : NodeParts
+    after = record w { totcan = t; log = log'.items; room = log'.room; read = notice.slot + 1 }
+
+    turn_done : (scenario : ScenarioParts) (past : List NoticeKind) (stands : IsNodeOf scenario past v) (next : IsNextOf scenario v.node past notice)
+        → AreDone (turn_effects scenario v.node (notice.kind ∷ past)) ctl ctl' log log'
+    turn_done scenario past stands next =
+        let is = all scenario past stands next in
+        done scenario past notice v w stands next is.same is.scripted actions ctl ctl' log log' applied
+        (acts_now.format ∙ sym acts_now.stands.edcan.format ∙ stands.edcan.format) is.listed acts_now.stamped
+
+    acted_now : IsActed notice v after ctl ctl' out out
+    acted_now =
+        let acts = acts_now in
+        let is = all acts.scenario acts.past acts.stands acts.next in
+        record {
+          controller = λ scenario past stands next. (turn_done scenario past stands next).controller;
+          stands = λ scenario past stands next.
+              let is = all scenario past stands next in
+              let turn = turn_done scenario past stands next in
+              stands_after scenario past notice v w stands next is.same is.scripted t log'
+              (turn.entries ∙ ap (λ l. l ++ entered (turn_effects scenario v.node (notice.kind ∷ past))) items) (turn.room ∙ room) is.asks;
+          node = is.same.node;
+          inc = is.same.inc;
+          cycle = is.same.cycle;
+          out = refl;
+        }
+
+    pub listed_acted : IsActed notice u (record w { totcan = t; log = log'.items; room = log'.room; read = notice.slot + 1 }) ctl ctl' out out
+    listed_acted = subst (λ (x : NodeParts). IsActed notice x after ctl ctl' out out) viewed acted_now

@@ -1,7 +1,6 @@
 -- What a data frame of EDCAN is to the other protocols: to RELCAN it is as an idle slot.
 use Rattle.std.specs.Prelude.{slice_index_or}
-use Rattle.std.specs.List.{list_any}
-use Rattle.std.proofs.Common.{◌≡◌, ℕ, zero, suc, ◌+◌, ◌&&◌, ◌||◌, inl, inr, Bool, true, false, not, nat_le, if◌then◌else◌, List, [], ◌∷◌, ◌++◌, drop, None, refl, ap, sym, ◌∙◌}
+use Rattle.std.proofs.Common.{◌≡◌, ℕ, zero, suc, ◌+◌, ◌&&◌, ◌||◌, inl, inr, Bool, true, false, not, nat_le, if◌then◌else◌, List, [], ◌∷◌, ◌++◌, drop, refl, ap, sym, ◌∙◌}
 use Rattle.std.proofs.lemmas.Bool.{cases_Bool}
 use Rattle.cany_base.specs.declared.class.Class.{Class}
 use Rattle.cany_base.specs.declared.class.Class.TheVariants as class
@@ -13,15 +12,14 @@ use Rattle.cany_base.specs.Params.{Parameters}
 use Rattle.cany_base.specs.Scenario.{ScenarioParts}
 use Rattle.cany_message.specs.Table.{IsTableOf, frame_identity}
 use Rattle.cany_model.specs.Bus.Frames.{Identity, identity_of, same_class, same_identity}
-use Rattle.cany_model.specs.Bus.History.{copies, has_own, is_got, is_sent}
+use Rattle.cany_model.specs.Bus.History.{is_got, is_sent}
 use Rattle.cany_model.specs.Rules.Effect.{Ask}
 use Rattle.cany_model.specs.Rules.Relcan.{confirm_of, fall_back_effects, falls_back, fell_back, has_copy, is_first_got, is_timed, relcan_at, relcan_effects, timer_effects}
-use Rattle.cany_model.specs.Rules.Totcan.{accept_effects, tot_in}
-use Rattle.cany_model.proofs.Among.{count-no}
 use Rattle.cany_model.proofs.Bus.Identities.{same_class-true}
 use Rattle.cany_relcan.specs.Relcan.{IsRelcanOf, RelcanParts, data_identity}
 use Rattle.cany_relcan.specs.Timers.{started_by, started_since}
 use Rattle.cany_node.specs.Resting.{is_of_edcan}
+use Rattle.cany_node.proofs.UnreadFrames.{copies_unread, copy_unread, own_unread}
 
 -- ---- what a protocol finds in the notice
 
@@ -31,38 +29,32 @@ IsOther c = same_class c class.Ed ≡ false
 other_than : (c d : Class) → same_class c d ≡ true → same_class d class.Ed ≡ false → IsOther c
 other_than c d same other = rw (same_class-true c d same) other
 
--- no frame of another class, so that nothing comes of it: no confirmation, no timer, no place and no acceptance
+-- no frame of another class, so that nothing comes of it: no confirmation and no timer
 pub record IsEdcanOnly (e : NoticeKind) : Type 0 where
   pub got : (x : Identity) → IsOther x.class → is_got x e ≡ false
   pub sent : (x : Identity) → IsOther x.class → is_sent x e ≡ false
   pub relcan : (p : Parameters) (i : ℕ) (before : List NoticeKind) → relcan_at p i e before ≡ []
   pub timer : (i : ℕ) (before : List NoticeKind) → started_by i e before ≡ []
   pub fall_back : (p : Parameters) (i : ℕ) (past : List NoticeKind) → fall_back_effects p i past e ≡ []
-  pub accept : (p : Parameters) (i : ℕ) (before : List NoticeKind) → accept_effects p i e before ≡ []
-  pub tot : tot_in e ≡ None
 
 only_got : (f : FrameParts) → f.class ≡ class.Ed → IsEdcanOnly (Got f)
-unfolding same_class same_identity relcan_at accept_effects tot_in
+unfolding same_class same_identity relcan_at
 only_got f is = record {
   got = λ x other. rw (is, other) refl;
   sent = λ x other. refl;
   relcan = λ p i before. rw is refl;
   timer = λ i before. rw is refl;
   fall_back = λ p i past. rw is refl;
-  accept = λ p i before. rw is refl;
-  tot = rw is refl;
 }
 
 only_sent : (f : FrameParts) → f.class ≡ class.Ed → IsEdcanOnly (Sent f)
-unfolding same_class same_identity relcan_at accept_effects tot_in
+unfolding same_class same_identity relcan_at
 only_sent f is = record {
   got = λ x other. refl;
   sent = λ x other. rw (is, other) refl;
   relcan = λ p i before. rw is refl;
   timer = λ i before. refl;
   fall_back = λ p i past. refl;
-  accept = λ p i before. rw is refl;
-  tot = rw is refl;
 }
 
 pub edcan_only : (e : NoticeKind) → is_of_edcan e ≡ true → IsEdcanOnly e
@@ -72,26 +64,12 @@ edcan_only (Sent f) is = only_sent f (same_class-true f.class class.Ed is)
 edcan_only Bad is = absurd (cc)
 
 module _ (e : NoticeKind) (only : IsEdcanOnly e) where
-  -- ---- what is counted
-
-  module _ (x : Identity) (other : IsOther x.class) (past : List NoticeKind) where
-    pub copy_same : has_copy x (e ∷ past) ≡ has_copy x (Idle ∷ past)
-    copy_same = ap (λ b. b || list_any (is_got x) past) (only.got x other)
-
-    pub own_same : has_own x (e ∷ past) ≡ has_own x (Idle ∷ past)
-    unfolding has_own
-    own_same = ap (λ b. b || list_any (is_sent x) past) (only.sent x other)
-
-    pub copies_same : copies x (e ∷ past) ≡ copies x (Idle ∷ past)
-    unfolding copies
-    copies_same = count-no (is_got x) e past (only.got x other) ∙ sym (count-no (is_got x) Idle past refl)
-
   module _ (past : List NoticeKind) where
     -- ---- RELCAN
 
     confirm_same : (x : Identity) → has_copy (confirm_of x) (e ∷ past) ≡ has_copy (confirm_of x) (Idle ∷ past)
     unfolding same_class
-    confirm_same x = copy_same (confirm_of x) refl past
+    confirm_same x = copy_unread (confirm_of x) e past (only.got (confirm_of x) refl)
 
     first_same : (x : Identity) → IsOther x.class → (n : ℕ) → is_first_got x (drop n (e ∷ past)) ≡ is_first_got x (drop n (Idle ∷ past))
     first_same x other zero = ap (λ b. b && not (has_copy x past)) (only.got x other)
@@ -117,7 +95,7 @@ module _ (e : NoticeKind) (only : IsEdcanOnly e) where
     fall_back_same p i (Sent f) = refl
     fall_back_same p i (Got f) = elim (cases_Bool (same_class f.class class.Rel)) [
       | inl is ↦ λ j.
-          if falls_same p.confirm i (identity_of f) j && not (nat_le (p.omit + 1) (copies_same (identity_of f) (of_relcan f.class is) past j)) then Ask f ∷ [] else []
+          if falls_same p.confirm i (identity_of f) j && not (nat_le (p.omit + 1) (copies_unread (identity_of f) e past (only.got (identity_of f) (of_relcan f.class is)) j)) then Ask f ∷ [] else []
       | inr none ↦ rw none refl
     ]
 
@@ -143,9 +121,9 @@ module _ (e : NoticeKind) (only : IsEdcanOnly e) where
     table_same scenario c notes table other h = record {
       omit = h.omit;
       room = h.room;
-      copies = λ seq origin below. h.copies seq origin below ∙ sym (copies_same (frame_identity c seq origin) other past);
+      copies = λ seq origin below. h.copies seq origin below ∙ sym (copies_unread (frame_identity c seq origin) e past (only.got (frame_identity c seq origin) other));
       owned = λ seq origin below.
-          h.owned seq origin below ∙ sym (ap (λ b. notes origin && b) (own_same (frame_identity c seq origin) other past));
+          h.owned seq origin below ∙ sym (ap (λ b. notes origin && b) (own_unread (frame_identity c seq origin) e past (only.sent (frame_identity c seq origin) other)));
       there = h.there;
       messages = h.messages;
     }
@@ -158,7 +136,7 @@ module _ (e : NoticeKind) (only : IsEdcanOnly e) where
       tables = record {
         data_frames = table_same scenario class.Rel _ v.copies refl h.tables.data_frames;
         confirmations = table_same scenario class.Confirm _ v.confirms refl h.tables.confirmations;
-        named = λ f is copy. h.tables.named f is (sym (copy_same (identity_of f) (rw is refl) past) ∙ copy);
+        named = λ f is copy. h.tables.named f is (sym (copy_unread (identity_of f) e past (only.got (identity_of f) (rw is refl))) ∙ copy);
       };
       timers = h.timers ∙ sym (started_same i scenario.params.confirm);
       fallen = record {

@@ -1,57 +1,29 @@
 -- The turn of a data frame of EDCAN in a slot in which the node would rest: only EDCAN does something.
-use Rattle.std.specs.List.{flat_map}
-use Rattle.std.proofs.Common.{◌≡◌, ℕ, ◌+◌, true, List, [], ◌∷◌, ◌++◌, length, Option, Some, None, refl, ap, sym, ◌∙◌, subst, arith, append-nil}
+use Rattle.std.proofs.Common.{◌≡◌, ◌+◌, true, false, List, [], ◌∷◌, ◌++◌, refl, ap, sym, ◌∙◌, subst, append-nil, arith}
 use Rattle.can_frame.specs.Classes.{is_of_site}
 use Rattle.cany_base.specs.declared.actions.Action.{Action}
 use Rattle.cany_base.specs.declared.class.Class.TheVariants as class
+use Rattle.cany_base.specs.declared.notice.Notice.{Notice}
 use Rattle.cany_base.specs.declared.notice.NoticeKind.{NoticeKind}
 use Rattle.cany_base.specs.declared.notice.NoticeKind.TheVariants.{Idle, Got, Sent, Bad}
 use Rattle.cany_base.specs.Scenario.{ScenarioParts}
 use Rattle.cany_edcan.specs.Edcan.{EdcanParts, IsEdcanOf}
+use Rattle.cany_model.specs.Bus.Frames.{same_class}
 use Rattle.cany_model.specs.Rules.Actions.{actions_of}
-use Rattle.cany_model.specs.Rules.Backlog.{ask_for, asked, asked_after, backlog, backlog_effects, next_after, one_more}
 use Rattle.cany_model.specs.Rules.Edcan.{edcan_effects}
-use Rattle.cany_model.specs.Rules.Effect.{Effect}
-use Rattle.cany_model.specs.Rules.Membership.{asks_in}
-use Rattle.cany_model.specs.Rules.Messages.{Message}
 use Rattle.cany_model.specs.Rules.Relcan.{relcan_effects}
-use Rattle.cany_model.specs.Rules.Sends.{send_effects}
-use Rattle.cany_model.specs.Rules.Knowledge.{Knowledge}
-use Rattle.cany_model.specs.Rules.Totcan.{totcan_effects}
-use Rattle.cany_model.specs.Rules.Views.{join_asked, leave_asked}
+use Rattle.cany_model.specs.Rules.Notices.{IsNextNotice}
 use Rattle.cany_model.proofs.Bus.Identities.{same_class-true}
-use Rattle.cany_totcan.specs.Totcan.{IsTotcanOf}
-use Rattle.cany_node.specs.Agenda.{IsAgendaOf}
-use Rattle.cany_node.specs.Apply.{all_stamped}
-use Rattle.cany_node.specs.Asks.{AreAsksOf}
 use Rattle.cany_node.specs.Node.{IsNodeOf, NodeParts}
-use Rattle.cany_node.specs.Resting.{Rests, is_of_edcan}
-use Rattle.cany_node.specs.Membership.{membership_effects}
-use Rattle.cany_node.specs.Turning.{HasScripted, asks_plain, heard_effects, plain_effects, script_effects}
-use Rattle.cany_node.proofs.ActSteps.{IsSame}
+use Rattle.cany_node.specs.Resting.{Rests, RestsUntil, is_of_edcan}
+use Rattle.cany_node.specs.Turning.{HasScripted, plain_effects}
+use Rattle.cany_node.proofs.ActSteps.{AlwaysListed}
 use Rattle.cany_node.proofs.EdcanFrames.{IsEdcanOnly, edcan_only, relcan_same, relcan_unheard}
-use Rattle.cany_node.proofs.EdcanPlaces.{next_same, totcan_same, totcan_unheard}
-use Rattle.cany_node.proofs.Idle.MembershipRest.{both_none}
-use Rattle.cany_node.proofs.StampedEffects.{turn_stamped}
-use Rattle.cany_node.proofs.TellsNothingOfTheSite.{IsUnheard, site_same, site_unheard, knowledge_same, unheard}
-
--- ---- lists of effects
-
-none_left : (xs ys : List Effect) → xs ++ ys ≡ [] → xs ≡ []
-none_left [] ys none = refl
-none_left (x ∷ xs) ys none = absurd (cc)
-
-none_right : (xs ys : List Effect) → xs ++ ys ≡ [] → ys ≡ []
-none_right [] ys none = none
-none_right (x ∷ xs) ys none = absurd (cc)
-
-none_stamped : (inc : ℕ) (es : List Effect) → all_stamped inc es ≡ [] → es ≡ []
-none_stamped inc [] none = refl
-none_stamped inc (e ∷ es) none = absurd (cc)
-
-none_asked : (next : Option Message) → ask_for next ≡ [] → next ≡ None
-none_asked None none = refl
-none_asked (Some m) none = absurd (cc)
+use Rattle.cany_node.proofs.FrameTurn.{after_none, idle_relcan, later_none, listed_alone, none_asked_for, scripted_with}
+use Rattle.cany_node.proofs.HeardTurn.{edcan_stands}
+use Rattle.cany_node.proofs.Idle.RestFacts.{rests_in}
+use Rattle.cany_node.proofs.TellsNothingOfPlaces.{IsUnplaced, is_of_totcan, unplaced_got, unplaced_sent}
+use Rattle.cany_node.proofs.TellsNothingOfTheSite.{IsUnheard, unheard}
 
 -- the site hears nothing of it
 tells_nothing : (e : NoticeKind) → is_of_edcan e ≡ true → IsUnheard e
@@ -60,123 +32,64 @@ tells_nothing (Got f) is = unheard (Got f) (ap is_of_site (same_class-true f.cla
 tells_nothing (Sent f) is = unheard (Sent f) (ap is_of_site (same_class-true f.class class.Ed is))
 tells_nothing Bad is = absurd (cc)
 
--- ---- the turn
+-- nor does TOTCAN
+not_totcan : is_of_totcan class.Ed ≡ false
+unfolding same_class
+not_totcan = refl
+
+places_nothing : (e : NoticeKind) → is_of_edcan e ≡ true → IsUnplaced e
+places_nothing Idle is = absurd (cc)
+places_nothing (Got f) is = unplaced_got f (ap is_of_totcan (same_class-true f.class class.Ed is) ∙ not_totcan)
+places_nothing (Sent f) is = unplaced_sent f (ap is_of_totcan (same_class-true f.class class.Ed is) ∙ not_totcan)
+places_nothing Bad is = absurd (cc)
 
 module _ (scenario : ScenarioParts) (past : List NoticeKind) (e : NoticeKind) (is : is_of_edcan e ≡ true) (v : NodeParts)
     (stands : IsNodeOf scenario past v) (rests : Rests scenario past v) where
-  abbrev i : ℕ
-  i = v.node
-
-  abbrev idle : List NoticeKind
-  idle = Idle ∷ past
-
   abbrev read : List NoticeKind
   read = e ∷ past
 
   only : IsEdcanOnly e
   only = edcan_only e is
 
-  -- ---- an idle slot would lead to nothing
+  places : IsUnplaced e
+  places = places_nothing e is
 
-  idle_plain : plain_effects scenario i idle ≡ []
-  idle_plain = none_stamped scenario.inc (plain_effects scenario i idle) (turn_stamped scenario i Idle past ∙ rests.effects)
+  site : IsUnheard e
+  site = tells_nothing e is
 
-  idle_heard : relcan_effects scenario i idle ++ (totcan_effects scenario i idle ++ membership_effects scenario i idle) ≡ []
-  idle_heard = none_right (edcan_effects scenario i idle) _ (none_left (heard_effects scenario i idle) _ idle_plain)
+  relcan_none : relcan_effects scenario v.node read ≡ []
+  relcan_none = relcan_same e only past scenario v.node ∙ idle_relcan scenario past e places site v stands rests
 
-  idle_later : totcan_effects scenario i idle ++ membership_effects scenario i idle ≡ []
-  idle_later = none_right (relcan_effects scenario i idle) _ idle_heard
-
-  idle_after : script_effects scenario i idle ++ backlog_effects scenario i idle ≡ []
-  idle_after = none_right (heard_effects scenario i idle) _ idle_plain
-
-  idle_script : script_effects scenario i idle ≡ []
-  idle_script = none_left (script_effects scenario i idle) (backlog_effects scenario i idle) idle_after
-
-  -- ---- so that the frame leads to what EDCAN does
-
-  asks_same : asks_plain scenario i read ≡ asks_plain scenario i idle
-  asks_same = ap (λ (st : Knowledge).
-      flat_map (λ ask. join_asked scenario.params 0 i (length past) st.members) (asks_in scenario i (length past) scenario.joins)
-      ++ flat_map (λ ask. leave_asked scenario.params 0 i (length past) st.members) (asks_in scenario i (length past) scenario.leaves))
-      (knowledge_same scenario i past e (tells_nothing e is))
-
-  script_none : script_effects scenario i read ≡ []
-  unfolding send_effects
-  script_none = ap (λ es. send_effects scenario i idle ++ es) asks_same ∙ idle_script
-
-  idle_next : next_after scenario.params idle (backlog scenario i idle) (asked scenario i past) ≡ None
-  unfolding backlog_effects
-  idle_next = none_asked _ (none_right (script_effects scenario i idle) (backlog_effects scenario i idle) idle_after)
-
-  none_next : next_after scenario.params read (backlog scenario i read) (asked scenario i past) ≡ None
-  unfolding backlog
-  none_next = next_same e only past scenario i (backlog scenario i idle) (asked scenario i past) rests.stands.totcan.backlog.are_own ∙ idle_next
-
-  backlog_none : backlog_effects scenario i read ≡ []
-  unfolding backlog_effects
-  backlog_none = ap ask_for none_next
-
-  others_none : relcan_effects scenario i read ++ (totcan_effects scenario i read ++ membership_effects scenario i read) ≡ []
-  others_none =
-      both_none (relcan_effects scenario i read) _
-      (relcan_same e only past scenario i ∙ none_left (relcan_effects scenario i idle) _ idle_heard)
-      (both_none (totcan_effects scenario i read) (membership_effects scenario i read)
-      (totcan_same e only past scenario i ∙ none_left (totcan_effects scenario i idle) _ idle_later)
-      (site_same scenario i past e (tells_nothing e is) ∙ none_right (totcan_effects scenario i idle) _ idle_later))
-
-  pub edcan_alone : plain_effects scenario i read ≡ edcan_effects scenario i read
+  edcan_alone : plain_effects scenario v.node read ≡ edcan_effects scenario v.node read
   edcan_alone =
-      ap (λ es. (edcan_effects scenario i read ++ es) ++ (script_effects scenario i read ++ backlog_effects scenario i read)) others_none
-      ∙ ap (λ es. (edcan_effects scenario i read ++ []) ++ es)
-      (both_none (script_effects scenario i read) (backlog_effects scenario i read) script_none backlog_none)
-      ∙ append-nil (edcan_effects scenario i read ++ []) ∙ append-nil (edcan_effects scenario i read)
+      (λ j. (edcan_effects scenario v.node read ++ (relcan_none j ++ later_none scenario past e places site v stands rests j))
+      ++ after_none scenario past e places site v stands rests j)
+      ∙ append-nil (edcan_effects scenario v.node read ++ []) ∙ append-nil (edcan_effects scenario v.node read)
 
-  pub edcan_listed : (start after : List Action) → start ≡ []
-      → after ≡ start ++ actions_of scenario.params.format (edcan_effects scenario v.edcan.node (e ∷ past))
-      → after ≡ actions_of scenario.params.format (plain_effects scenario v.node (e ∷ past))
-  edcan_listed start after none acts =
-      acts ∙ ap (λ xs. xs ++ actions_of scenario.params.format (edcan_effects scenario v.edcan.node read)) none
-      ∙ ap (λ n. actions_of scenario.params.format (edcan_effects scenario n read)) stands.edcan.node
-      ∙ ap (actions_of scenario.params.format) (sym edcan_alone)
+  edcan_scripted : (edcan : EdcanParts) → IsEdcanOf scenario v.edcan.node (e ∷ past) edcan → HasScripted scenario past e (record v { edcan = edcan })
+  edcan_scripted edcan heard =
+      scripted_with scenario past e places site v stands rests edcan v.relcan
+      (subst (λ n. IsEdcanOf scenario n read edcan) stands.edcan.node heard)
+      (relcan_unheard e only past scenario v.node v.relcan rests.stands.relcan)
 
-  -- ---- and EDCAN alone changes
-
-  same_asked : asked scenario i idle ≡ asked scenario i past
-  unfolding asked
-  same_asked = ap (one_more (asked scenario i past)) idle_next
-
-  still_asked : asked_after scenario.params read (backlog scenario i read) (asked scenario i past) ≡ asked scenario i past
-  still_asked = ap (one_more (asked scenario i past)) none_next
-
-  totcan_stands : IsTotcanOf scenario i read (backlog scenario i read) (asked scenario i past) v.totcan
-  unfolding backlog
-  totcan_stands =
-      totcan_unheard e only past scenario i (backlog scenario i idle) (asked scenario i past) v.totcan
-      (subst (λ n. IsTotcanOf scenario i idle (backlog scenario i idle) n v.totcan) same_asked rests.stands.totcan)
-
-  -- the backlog asks for nothing
-  pub edcan_asked : IsTotcanOf scenario v.totcan.node (e ∷ past) (backlog scenario v.node (e ∷ past))
-      (asked_after scenario.params (e ∷ past) (backlog scenario v.node (e ∷ past)) (asked scenario v.node past)) v.totcan
-  edcan_asked =
-      subst (λ n. IsTotcanOf scenario n read (backlog scenario i read) (asked_after scenario.params read (backlog scenario i read) (asked scenario i past)) v.totcan)
-      (sym stands.totcan.limits.node)
-      (subst (λ n. IsTotcanOf scenario i read (backlog scenario i read) n v.totcan) (sym still_asked) totcan_stands)
-
-  pub edcan_scripted : (edcan : EdcanParts) → IsEdcanOf scenario v.edcan.node (e ∷ past) edcan → HasScripted scenario past e (record v { edcan = edcan })
-  edcan_scripted edcan heard = record {
-    edcan = subst (λ n. IsEdcanOf scenario n read edcan) stands.edcan.node heard;
-    relcan = relcan_unheard e only past scenario i v.relcan rests.stands.relcan;
-    totcan = totcan_stands;
-    membership = site_unheard scenario i past e (tells_nothing e is) v.membership rests.stands.membership;
-    agenda = subst (λ n. IsAgendaOf scenario i n v.agenda) one_more_read rests.stands.agenda;
-    joins = subst (λ n. AreAsksOf scenario i n scenario.joins v.joins) one_more_read rests.stands.joins;
-    leaves = subst (λ n. AreAsksOf scenario i n scenario.leaves v.leaves) one_more_read rests.stands.leaves;
-    room_to_give = stands.room_to_give;
-  }
-    where
-      one_more_read : length idle ≡ length past + 1
-      one_more_read = omega arith
-
-pub edcan_same : (v : NodeParts) (edcan : EdcanParts) → IsSame v (record v { edcan = edcan })
-edcan_same v edcan = record { node = refl; inc = refl; from = refl; log = refl; room = refl }
+-- what EDCAN lists is all of the turn
+pub edcan_turn : (notice : Notice) (u v : NodeParts) → v ≡ u → is_of_edcan notice.kind ≡ true → RestsUntil (notice.slot + 1) u
+    → (edcan : EdcanParts) (start after : List Action) → start ≡ []
+    → ((scenario : ScenarioParts) (past : List NoticeKind) → IsEdcanOf scenario v.edcan.node past v.edcan → IsNextNotice scenario past notice
+    → after ≡ start ++ actions_of scenario.params.format (edcan_effects scenario v.edcan.node (notice.kind ∷ past)))
+    → ((scenario : ScenarioParts) (past : List NoticeKind) → IsEdcanOf scenario v.edcan.node past v.edcan → IsNextNotice scenario past notice
+    → IsEdcanOf scenario v.edcan.node (notice.kind ∷ past) edcan)
+    → AlwaysListed notice v (record v { edcan = edcan }) v.totcan after
+edcan_turn notice u v viewed is until edcan start after none acts heard = λ scenario past stands next.
+    let rests = rests_in scenario past notice v (notice.slot + 1) (subst (RestsUntil (notice.slot + 1)) (sym viewed) until) (omega arith) stands next in
+    let ours = edcan_stands scenario past notice v stands in
+    let places = places_nothing notice.kind is in
+    let site = tells_nothing notice.kind is in
+    record {
+      same = record { node = refl; inc = refl; from = refl; cycle = refl; log = refl; room = refl };
+      scripted = edcan_scripted scenario past notice.kind is v stands rests edcan (heard scenario past ours next.next);
+      listed =
+          listed_alone scenario past notice.kind places site v stands rests edcan_effects v.edcan.node start after stands.edcan.node
+          (edcan_alone scenario past notice.kind is v stands rests) none (acts scenario past ours next.next);
+      asks = none_asked_for scenario past notice.kind places site v stands rests;
+    }

@@ -7,8 +7,8 @@ pub mod AskedFacts
 pub mod BacklogFacts
 pub mod Beginning
 pub mod EdcanFrames
-pub mod EdcanPlaces
 pub mod EdcanTurn
+pub mod FrameTurn
 pub mod GiveFacts
 pub mod HeardTurn
 pub mod Idle
@@ -18,10 +18,13 @@ pub mod MembershipFacts
 pub mod MembershipSteps
 pub mod MessageLists
 pub mod NextAction
+pub mod RelcanTurn
 pub mod RoomsSuffice
 pub mod ScriptSteps
 pub mod SendFacts
 pub mod StampedEffects
 pub mod StampedIdentifiers
+pub mod TellsNothingOfPlaces
 pub mod TellsNothingOfTheSite
+pub mod UnreadFrames
 pub mod WholeTurn

@@ -1,5 +1,5 @@
 -- What a node keeps of the site: life signs and failure signs, the exchange of vectors, and the view.
-use Rattle.std.specs.Prelude.{◌≡◌, ℕ, ◌+◌, ◌*◌, ◌<◌, Bool, true, false, [], ◌∷◌, ◌++◌, List, length, Option, None, IfSome, option_map, replicate}
+use Rattle.std.specs.Prelude.{◌≡◌, ℕ, ◌+◌, ◌*◌, ◌<◌, Bool, false, [], ◌∷◌, ◌++◌, List, length, Option, None, IfSome, option_map, replicate}
 use Rattle.cany_base.specs.declared.notice.Notice.{Notice}
 use Rattle.cany_base.specs.declared.notice.NoticeKind.{NoticeKind}
 use Rattle.cany_base.specs.declared.notice.NoticeKind.TheVariants.{Idle, Got, Sent, Bad}

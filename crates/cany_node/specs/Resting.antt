@@ -1,6 +1,6 @@
--- The turns of idle slots in which a node has nothing to do: it stands for them as it is. At a data frame of EDCAN it then has nothing
--- to do but what EDCAN does.
-use Rattle.std.specs.Prelude.{◌≡◌, ◌+◌, ◌<◌, ◌≤◌, ℕ, Bool, false, List, [], ◌∷◌, length}
+-- The turns of idle slots in which a node has nothing to do: it stands for them as it is. At a frame of EDCAN or
+-- of RELCAN it then has nothing to do but what that protocol does.
+use Rattle.std.specs.Prelude.{◌≡◌, ◌+◌, ◌<◌, ◌≤◌, ◌||◌, ℕ, Bool, false, List, [], ◌∷◌, length}
 use Rattle.cany_base.specs.declared.class.Class.TheVariants as class
 use Rattle.cany_base.specs.declared.notice.NoticeKind.{NoticeKind}
 use Rattle.cany_base.specs.declared.notice.NoticeKind.TheVariants.{Idle, Got, Sent, Bad}
@@ -42,6 +42,13 @@ is_of_edcan Idle = false
 is_of_edcan (Got f) = same_class f.class class.Ed
 is_of_edcan (Sent f) = same_class f.class class.Ed
 is_of_edcan Bad = false
+
+-- whether the notice brings a frame of RELCAN, which nothing else hears
+abbrev pub is_of_relcan : NoticeKind → Bool
+is_of_relcan Idle = false
+is_of_relcan (Got f) = same_class f.class class.Rel || same_class f.class class.Confirm
+is_of_relcan (Sent f) = same_class f.class class.Rel || same_class f.class class.Confirm
+is_of_relcan Bad = false
 
 -- In an idle slot before this one, from which the node has read on, no part of it but EDCAN has anything to do; EDCAN has nothing to
 -- do in any.

@@ -13,7 +13,7 @@ ghost use Rattle.cany_model.specs.Rules.Effect.{waiting_after};
 ghost use Rattle.cany_node.specs.Node.{IsNodeOf, IsWaiting, CanBegin, CanTurn, CanAct, Reads, IsTurnOf, IsRefused, heard_by, reply_of};
 ghost use Rattle.cany_node.specs.Asks.{AreAsksPassed, IsRisingFrom};
 ghost use Rattle.cany_node.specs.Agenda.{ArePassed, IsRising};
-ghost use Rattle.cany_node.specs.Resting.{IsIdleUntil, RestsUntil, is_of_edcan};
+ghost use Rattle.cany_node.specs.Resting.{IsIdleUntil, RestsUntil, is_of_edcan, is_of_relcan};
 ghost use Rattle.cany_node.specs.Membership.{IsNextOf};
 ghost use Rattle.cany_node.specs.Turning.{CanHearNext, CanScript, HasHeard, HasScripted, IsActed, heard_effects, heard_room, script_effects, script_room};
 
@@ -21,7 +21,7 @@ use crate::agenda::Agenda;
 use crate::apply::apply_all;
 use crate::asks::{AskKind, AskPlan, ask_due};
 use crate::membership::Membership;
-use crate::notices::{is_early, is_error, is_idle, is_of_edcan};
+use crate::notices::{is_early, is_error, is_idle, is_of_edcan, is_of_relcan};
 use crate::plan::{Plan, build_plan};
 use crate::protocols::{Protocols, build_protocols};
 use crate::reply::TurnReply;
@@ -177,30 +177,28 @@ impl Node {
         if let Some(slot) = ctl.stopped() {
             return TurnReply::Stopped { slot };
         }
-        let Some(given) = ctl.next_notice() else {
+        let Some(mut notice) = ctl.next_notice() else {
             return TurnReply::NothingYet { now: ctl.read() };
         };
-        let slot = given.slot;
-        let notice = self.heard(given);
+        let slot = notice.slot;
+        self.heard(&mut notice);
         self.act(&notice, ctl, out);
         TurnReply::Turned { slot }
     }
 
-    /// The notice as the incarnation hears it.
-    fn heard(&self, notice: Notice) -> Notice
-        ensures { result ≡ heard_by self.now notice }
+    /// The notice becomes what the incarnation hears of it.
+    fn heard(&self, notice: &mut Notice)
+        ensures { notice.new ≡ heard_by self.now notice.old }
     {
         let is_hidden = self.inc != 0
             && (notice.slot < self.from || is_early(self.cycle, &notice.kind));
-        let mut heard = notice;
         if is_hidden || is_error(&notice.kind) {
-            heard.kind = NoticeKind::Idle;
+            notice.kind = NoticeKind::Idle;
         }
-        heard
     }
 
     /// Does what the rules say of a notice, as it is heard. Before `wake` that is nothing in an
-    /// idle slot, and at a data frame of EDCAN only what EDCAN does.
+    /// idle slot, and at a frame of EDCAN or of RELCAN only what that protocol does.
     fn act(&mut self, notice: &Notice, ctl: &mut Controller, out: &mut Actions)
         requires { CanAct self.old notice.now ctl.old out.old }
         ensures { IsActed notice.now self.old self.new ctl.old ctl.new out.old out.new }
@@ -209,6 +207,8 @@ impl Node {
             self.read = notice.slot + 1;
         } else if is_of_edcan(&notice.kind) && notice.slot < self.wake() {
             self.follow_edcan(notice, ctl, out);
+        } else if is_of_relcan(&notice.kind) && notice.slot < self.wake() {
+            self.follow_relcan(notice, ctl, out);
         } else {
             self.follow_rules(notice, ctl, out);
         }
@@ -226,6 +226,21 @@ impl Node {
         apply_all(out, self.inc, ctl, &mut self.log);
         out.clear();
         self.read = notice.slot + 1;
+    }
+
+    /// Does what RELCAN does with a frame of its own in a slot in which the node would rest: nothing
+    /// else hears the frame, and nothing is due. The timer that the frame may start is due later.
+    fn follow_relcan(&mut self, notice: &Notice, ctl: &mut Controller, out: &mut Actions)
+        requires acts { CanAct self.old notice.now ctl.old out.old }
+        requires brings { is_of_relcan notice.now.kind ≡ true }
+        requires rests { RestsUntil (notice.now.slot + 1) self.old }
+        ensures { IsActed notice.now self.old self.new ctl.old ctl.new out.old out.new }
+    {
+        self.relcan.on(notice, out);
+        apply_all(out, self.inc, ctl, &mut self.log);
+        out.clear();
+        self.read = notice.slot + 1;
+        self.idle_until = self.idle_until.min(self.relcan.wake());
     }
 
     /// Does what the rules say of a notice, rule by rule.

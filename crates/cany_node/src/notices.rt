@@ -3,7 +3,7 @@
 ghost use Rattle.std.specs.Prelude.{◌≡◌, ◌↔◌, false, true};
 ghost use Rattle.cany_base.specs.declared.notice.NoticeKind.TheVariants.{Idle};
 ghost use Rattle.cany_model.specs.Rules.Notices.{error_as_idle, is_early, is_early_frame};
-ghost use Rattle.cany_node.specs.Resting.{is_of_edcan};
+ghost use Rattle.cany_node.specs.Resting.{is_of_edcan, is_of_relcan};
 ghost use Rattle.cany_node.specs.Membership.{tells_of_site};
 
 use can_frame::is_of_site;
@@ -50,6 +50,18 @@ pub(crate) fn is_of_edcan(kind: &NoticeKind) -> bool
 {
     match kind {
         NoticeKind::Got(frame) | NoticeKind::Sent(frame) => is_of_class(frame, Class::Ed),
+        NoticeKind::Idle | NoticeKind::Bad => false,
+    }
+}
+
+/// Whether a notice brings a data frame of RELCAN or a confirmation.
+pub(crate) fn is_of_relcan(kind: &NoticeKind) -> bool
+    ensures { result ≡ is_of_relcan kind.now }
+{
+    match kind {
+        NoticeKind::Got(frame) | NoticeKind::Sent(frame) => {
+            is_of_class(frame, Class::Rel) || is_of_class(frame, Class::Confirm)
+        }
         NoticeKind::Idle | NoticeKind::Bad => false,
     }
 }

@@ -12,11 +12,11 @@ pub(crate) fn with_incarnation(frame: &Frame, inc: u8) -> Frame
     requires { inc ≤ most_restarts_of_node }
     ensures { result ≡ with_incarnation inc frame.now }
 {
+    let mut stamped = *frame;
     if has_incarnation(frame.class) {
-        Frame { inc, ..*frame }
-    } else {
-        *frame
+        stamped.inc = inc;
     }
+    stamped
 }
 
 /// The identifier with this incarnation in its lowest bits, if frames of its class tell one.

@@ -1,26 +1,30 @@
 -- Which messages have a timer ahead.
-use Rattle.std.specs.Prelude.{nat_lt, Contains}
-use Rattle.std.proofs.Common.{◌≡◌, ◌≢◌, ℕ, zero, suc, ◌<◌, ◌==◌, ◌&&◌, ◌||◌, Bool, true, false, not, List, [], ◌∷◌, drop, refl, ap, sym, ◌∙◌, arith}
-use Rattle.std.proofs.lemmas.Bool.{false_from_ne_true}
+use Rattle.std.specs.Prelude.{nat_lt, is_some, Contains}
+use Rattle.std.proofs.Common.{◌≡◌, ◌≢◌, ℕ, zero, suc, ◌<◌, ◌==◌, ◌&&◌, ◌||◌, Bool, true, false, if◌then◌else◌, not, inl, inr, List, [], ◌∷◌, ◌++◌, drop, length, Option, Some, None, refl, ap, subst, sym, ◌∙◌, arith}
+use Rattle.std.proofs.lemmas.Bool.{cases_Bool, false_from_ne_true, false≢true}
 use Rattle.std.proofs.lemmas.Bool.Decides.{nat_tests}
 use Rattle.cany_base.specs.declared.class.Class.TheVariants as class
 use Rattle.cany_base.specs.declared.message.MsgKey.{MsgKey}
 use Rattle.cany_base.specs.declared.message.Service.{Service}
 use Rattle.cany_base.specs.declared.message.Service.TheVariants as service
 use Rattle.cany_base.specs.declared.notice.NoticeKind.{NoticeKind}
+use Rattle.cany_base.specs.declared.notice.NoticeKind.TheVariants.{Idle, Got, Sent, Bad}
 use Rattle.cany_base.specs.Frame.{data_class}
 use Rattle.cany_base.specs.Scenario.{ScenarioParts}
 use Rattle.cany_base.specs.Limits.{most_nodes}
 use Rattle.cany_message.proofs.HistoryFacts.{has_copy-counted}
-use Rattle.cany_model.specs.Bus.Frames.{Identity, identity_of, same_class}
+use Rattle.cany_model.specs.Bus.Frames.{Identity, identity_of, is_of, same_class}
 use Rattle.cany_model.specs.Bus.History.{is_got}
 use Rattle.cany_model.specs.Rules.Messages.{Message, messages_of, message_key, data_frame}
 use Rattle.cany_model.specs.Rules.Notices.{NamesMessage}
 use Rattle.cany_model.specs.Rules.Relcan.{fell_back, has_confirm, has_copy, has_timer_ahead, is_first_got, is_timed}
 use Rattle.cany_model.proofs.Among.{Among-from_Contains}
+use Rattle.cany_model.proofs.Bus.Identities.{same_identity-true}
 use Rattle.cany_model.proofs.Rules.MessageKeys.{same_message}
+use Rattle.cany_relcan.specs.declared.timers.Timer.{Timer}
 use Rattle.cany_relcan.specs.Relcan.{RelcanParts, IsRelcanOf, data_identity}
 use Rattle.cany_relcan.specs.RelcanSteps.{is_awaited}
+use Rattle.cany_relcan.specs.Timers.{oldest_start, started_by, started_since}
 use Rattle.cany_relcan.proofs.TablesFacts.{confirmed_is}
 
 abbrev pub data_of : MsgKey → Identity
@@ -42,10 +46,10 @@ first_or_before : (x : Identity) (newest : List NoticeKind) → (is_first_got x 
 first_or_before x [] = refl
 first_or_before x (notice ∷ before) = go (is_got x notice) (has_copy x before)
   where
-    go : (now then : Bool) → ((now && not then) || then) ≡ (now || then)
+    go : (now before : Bool) → ((now && not before) || before) ≡ (now || before)
     go true true = refl
     go true false = refl
-    go false then = refl
+    go false before = refl
 
 unconfirmed : (timed first confirmed fell before whole : Bool) → confirmed ≡ false → fell ≡ (timed && before) → (first || before) ≡ whole
     → (((timed && first) && not confirmed) || fell) ≡ (timed && whole)
@@ -134,3 +138,56 @@ module _ (scenario : ScenarioParts) (i : ℕ) (past : List NoticeKind) (v : Relc
 
     pub ahead_is : is_awaited v msg ≡ has_timer_ahead scenario m i past
     ahead_is = ahead_by m.service refl
+
+-- ---- where no timer runs
+
+pub none_given : (given : Option ℕ) → is_some given ≡ false → given ≡ None
+none_given None none = refl
+none_given (Some first) none = absurd (false≢true (sym none))
+
+both_none : (timers more : List Timer) → timers ++ more ≡ [] → (timers ≡ []) × (more ≡ [])
+both_none [] more none = (refl, none)
+both_none (timer ∷ timers) more none = absurd (cc)
+
+none_oldest : (timers : List Timer) → oldest_start timers ≡ None → timers ≡ []
+none_oldest [] none = refl
+none_oldest (timer ∷ timers) none = absurd (cc)
+
+first_read : (timed now before : Bool) (timer : Timer) → timed ≡ true → (if timed && not before then timer ∷ [] else []) ≡ [] → (now || before) ≡ before
+first_read timed true true timer is none = refl
+first_read timed false before timer is none = refl
+first_read true true false timer is none = absurd (cc)
+first_read false true false timer is none = absurd (false≢true is)
+
+-- a copy that starts no timer is not the first
+copied_before : (i : ℕ) (x : Identity) (notice : NoticeKind) (before : List NoticeKind) → is_timed i x ≡ true → started_by i notice before ≡ []
+    → has_copy x (notice ∷ before) ≡ has_copy x before
+copied_before i x Idle before timed none = refl
+copied_before i x Bad before timed none = refl
+copied_before i x (Sent f) before timed none = refl
+copied_before i x (Got f) before timed none = elim (cases_Bool (is_of x f)) [
+  | inl is ↦
+      let same : identity_of f ≡ x = sym (same_identity-true x (identity_of f) is) in
+      let timer : Timer = record { frame = f; first = length before } in
+      first_read (is_timed i x) (is_of x f) (has_copy x before) timer timed
+      (subst (λ y. (if is_timed i y && not (has_copy y before) then timer ∷ [] else []) ≡ []) same none)
+  | inr other ↦ ap (λ b. b || has_copy x before) other
+]
+
+copied_late : (i n : ℕ) (x : Identity) (past : List NoticeKind) → is_timed i x ≡ true → started_since i n past ≡ [] → has_copy x past ≡ has_copy x (drop n past)
+unfolding started_since
+copied_late i zero x past timed none = refl
+copied_late i (suc n) x [] timed none = refl
+copied_late i (suc n) x (notice ∷ before) timed none =
+    let parts = both_none (started_since i n before) (started_by i notice before) none in
+    copied_before i x notice before timed parts.1 ∙ copied_late i n x before timed parts.0
+
+none_of : (timed now late confirmed : Bool) → (timed ≡ true → now ≡ late) → ((timed && now) && not late) && not confirmed ≡ false
+none_of timed now late confirmed same = grind (arith, nat_tests, same)
+
+pub none_ahead : (scenario : ScenarioParts) (i : ℕ) (past : List NoticeKind) (v : RelcanParts) → IsRelcanOf scenario i past v → oldest_start v.timers.running ≡ None
+    → (m : Message) → has_timer_ahead scenario m i past ≡ false
+none_ahead scenario i past v h oldest m =
+    let x = identity_of (data_frame m) in
+    none_of (is_timed i x) (has_copy x past) (has_copy x (drop scenario.params.confirm past)) (has_confirm x past)
+    (λ timed. copied_late i scenario.params.confirm x past timed (sym h.timers ∙ none_oldest v.timers.running oldest))

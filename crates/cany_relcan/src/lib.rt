@@ -4,8 +4,6 @@
 
 mod frames;
 mod relcan;
-#[cfg(test)]
-mod tests;
 mod threads;
 mod timers;
 

@@ -11,14 +11,10 @@ use Rattle.cany_base.specs.declared.actions.Action.{Action}
 use Rattle.cany_base.specs.declared.message.Service.TheVariants as service
 use Rattle.cany_base.specs.Frame.{FrameParts}
 use Rattle.cany_base.specs.Limits.{most_nodes}
-use Rattle.cany_base.specs.Scenario.{ScenarioParts}
 use Rattle.cany_message.specs.Actions.{delivery_actions}
-use Rattle.cany_model.specs.Rules.Messages.{IsOfMessage}
-use Rattle.cany_model.specs.Rules.Notices.{NamesMessage}
-use Rattle.cany_model.specs.Rules.Totcan.{message_in, tot_of_key}
 use Rattle.cany_model.proofs.Among.{Each-drop}
 use Rattle.cany_totcan.specs.declared.queue.Placed.{Placed}
-use Rattle.cany_totcan.specs.Deliveries.{DeliveriesParts, HasRoomOf, was_delivered}
+use Rattle.cany_totcan.specs.MessageSet.{MessageSetParts, has_message}
 use Rattle.cany_totcan.specs.Queue.{AreOnce, OpenParts, is_at}
 use Rattle.cany_totcan.specs.Totcan.{TotcanParts}
 use Rattle.cany_totcan.specs.TotcanSteps.{AreAdded, HaveGone, accepted_first, due, first_of, fresh_of, is_accepted_by, is_named, tot_actions}
@@ -33,32 +29,29 @@ each-right P (x ∷ xs) ys each = each-right P xs ys each.1
 
 -- ---- what is added to the deliveries
 
-pub added_none : (v : DeliveriesParts) → AreAdded [] v v
-added_none v = record { delivered = λ s o near. refl; room = λ scenario named room. room }
+pub added_none : (v : MessageSetParts) → AreAdded [] v v
+added_none v = record { delivered = λ s o near. refl; numbers = refl }
 
 -- a message that was delivered before
-pub added_again : (f : FrameParts) (v : DeliveriesParts) → was_delivered v f.number f.node ≡ true → AreAdded (f ∷ []) v v
+pub added_again : (f : FrameParts) (v : MessageSetParts) → has_message v f.number f.node ≡ true → AreAdded (f ∷ []) v v
 added_again f v was = record {
   delivered = λ s o near. elim (cases_Bool (is_named s o f)) [
     | inl here ↦
         let same = and_parts (s == f.number) (o == f.node) here in
-        ap (λ n. was_delivered v n o) (eqb-true s f.number same.0) ∙ ap (was_delivered v f.number) (eqb-true o f.node same.1) ∙ was
-        ∙ sym (ap (λ b. (b || false) || was_delivered v s o) here)
-    | inr other ↦ sym (ap (λ b. (b || false) || was_delivered v s o) other)
+        ap (λ n. has_message v n o) (eqb-true s f.number same.0) ∙ ap (has_message v f.number) (eqb-true o f.node same.1) ∙ was
+        ∙ sym (ap (λ b. (b || false) || has_message v s o) here)
+    | inr other ↦ sym (ap (λ b. (b || false) || has_message v s o) other)
   ];
-  room = λ scenario named room. room;
+  numbers = refl;
 }
 
 -- one that was not
-pub added_one : (f : FrameParts) (v w : DeliveriesParts)
-    → ((s o : ℕ) → o < most_nodes → was_delivered w s o ≡ (s == f.number && o == f.node || was_delivered v s o))
-    → ((scenario : ScenarioParts) → IsOfMessage scenario service.Tot (tot_of_key (message_in f)) → HasRoomOf scenario v → HasRoomOf scenario w)
-    → AreAdded (f ∷ []) v w
-added_one f v w delivered room = record {
-  delivered = λ s o near. delivered s o near ∙ ap (λ b. b || was_delivered v s o) (or_none (is_named s o f));
-  room = λ scenario named.
-      let this = named.0 in
-      room scenario (record { message = this.message; stands = this.stands; sent_by = this.sent_by; number = this.number; origin = this.origin });
+pub added_one : (f : FrameParts) (v w : MessageSetParts)
+    → ((s o : ℕ) → has_message w s o ≡ (s == f.number && o == f.node || has_message v s o))
+    → length w.origins ≡ length v.origins → AreAdded (f ∷ []) v w
+added_one f v w delivered numbers = record {
+  delivered = λ s o near. delivered s o ∙ ap (λ b. b || has_message v s o) (or_none (is_named s o f));
+  numbers = numbers;
 }
   where
     or_none : (b : Bool) → b ≡ (b || false)
@@ -66,9 +59,9 @@ added_one f v w delivered room = record {
     or_none false = refl
 
 -- the actions of a delivery, if the message was not delivered before
-pub delivery_is : (slot : ℕ) (v : DeliveriesParts) (f : FrameParts) (new : Bool) → new ≡ not (was_delivered v f.number f.node)
+pub delivery_is : (slot : ℕ) (v : MessageSetParts) (f : FrameParts) (new : Bool) → new ≡ not (has_message v f.number f.node)
     → delivery_actions service.Tot slot new f ≡ tot_actions slot (fresh_of v (f ∷ []))
-delivery_is slot v f new is = ap (λ b. delivery_actions service.Tot slot b f) is ∙ go (not (was_delivered v f.number f.node))
+delivery_is slot v f new is = ap (λ b. delivery_actions service.Tot slot b f) is ∙ go (not (has_message v f.number f.node))
   where
     go : (b : Bool) → delivery_actions service.Tot slot b f ≡ tot_actions slot (if b then f ∷ [] else [])
     go true = refl
@@ -80,15 +73,13 @@ or_mid true false c = refl
 or_mid false true c = refl
 or_mid false false c = refl
 
-pub added_more : (xs ys : List FrameParts) (u v w : DeliveriesParts) → AreAdded xs u v → AreAdded ys v w → AreAdded (xs ++ ys) u w
+pub added_more : (xs ys : List FrameParts) (u v w : MessageSetParts) → AreAdded xs u v → AreAdded ys v w → AreAdded (xs ++ ys) u w
 added_more xs ys u v w first second = record {
   delivered = λ s o near.
       second.delivered s o near ∙ ap (λ b. list_any (is_named s o) ys || b) (first.delivered s o near)
-      ∙ or_mid (list_any (is_named s o) xs) (list_any (is_named s o) ys) (was_delivered u s o)
-      ∙ ap (λ b. b || was_delivered u s o) (sym (list_any-append (is_named s o) xs ys));
-  room = λ scenario named room.
-      second.room scenario (each-right (NamesMessage scenario service.Tot) xs ys named)
-      (first.room scenario (each-left (NamesMessage scenario service.Tot) xs ys named) room);
+      ∙ or_mid (list_any (is_named s o) xs) (list_any (is_named s o) ys) (has_message u s o)
+      ∙ ap (λ b. b || has_message u s o) (sym (list_any-append (is_named s o) xs ys));
+  numbers = second.numbers ∙ first.numbers;
 }
 
 -- ---- which are to be done
@@ -247,15 +238,15 @@ once-left (x ∷ xs) ys once =
 
 -- ---- those that were not delivered
 
-pub fresh-append : (v : DeliveriesParts) (xs ys : List FrameParts) → fresh_of v (xs ++ ys) ≡ fresh_of v xs ++ fresh_of v ys
-fresh-append v xs ys = filter-append (λ f. not (was_delivered v f.number f.node)) xs ys
+pub fresh-append : (v : MessageSetParts) (xs ys : List FrameParts) → fresh_of v (xs ++ ys) ≡ fresh_of v xs ++ fresh_of v ys
+fresh-append v xs ys = filter-append (λ f. not (has_message v f.number f.node)) xs ys
 
-pub fresh-same : (u v : DeliveriesParts) (xs ys : List FrameParts) → AreAdded xs u v → AllByRecursion (λ f. f.node < most_nodes) ys
+pub fresh-same : (u v : MessageSetParts) (xs ys : List FrameParts) → AreAdded xs u v → AllByRecursion (λ f. f.node < most_nodes) ys
     → AllByRecursion (λ f. list_any (is_named f.number f.node) xs ≡ false) ys → fresh_of v ys ≡ fresh_of u ys
 fresh-same u v xs [] added small apart = refl
 fresh-same u v xs (y ∷ ys) added small apart =
-    let same : was_delivered v y.number y.node ≡ was_delivered u y.number y.node =
-    added.delivered y.number y.node small.0 ∙ ap (λ b. b || was_delivered u y.number y.node) apart.0 in
+    let same : has_message v y.number y.node ≡ has_message u y.number y.node =
+    added.delivered y.number y.node small.0 ∙ ap (λ b. b || has_message u y.number y.node) apart.0 in
     rw (same, fresh-same u v xs ys added small.1 apart.1) refl
 
 pub actions-append : (slot : ℕ) (xs ys : List FrameParts) → tot_actions slot (xs ++ ys) ≡ tot_actions slot xs ++ tot_actions slot ys

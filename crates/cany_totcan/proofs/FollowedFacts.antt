@@ -23,7 +23,7 @@ module _ (scenario : ScenarioParts) (inc : Incarnation) where
     bound = h.bound;
     spacing = h.spacing;
     room = h.room;
-    deliveries = record { room = h.deliveries.room; messages = h.deliveries.messages };
+    deliveries = h.deliveries;
   }
 
   acceptances_for : (newest : ℕ) (past : List NoticeKind) (table : EagerParts) → AreAcceptances scenario newest past table

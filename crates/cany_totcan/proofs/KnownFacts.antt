@@ -1,5 +1,5 @@
 -- What is known of the open messages of a value, and that it stays so.
-use Rattle.std.proofs.Common.{◌≡◌, ℕ, ◌+◌, ◌-◌, ◌<◌, ◌≤◌, ◌==◌, Bool, true, false, if◌then◌else◌, List, [], ◌∷◌, count_by, length, drop, Option, Some, None, refl, ap, sym, subst, ◌∙◌, arith}
+use Rattle.std.proofs.Common.{◌≡◌, ℕ, ◌+◌, ◌-◌, ◌<◌, ◌≤◌, ◌==◌, Bool, true, false, if◌then◌else◌, List, [], ◌∷◌, count_by, length, Option, Some, None, refl, ap, sym, subst, ◌∙◌, arith}
 use Rattle.std.specs.Prelude.{nat_lt}
 use Rattle.std.proofs.lemmas.Bool.Decides.{nat_tests}
 use Rattle.std.specs.List.{AllByRecursion}
@@ -16,15 +16,15 @@ use Rattle.cany_base.specs.Scenario.{ScenarioParts, IsLegalScenario}
 use Rattle.cany_model.specs.Bus.Frames.{identity_of}
 use Rattle.cany_model.specs.Rules.Messages.{Message, is_from}
 use Rattle.cany_model.specs.Rules.Notices.{NamesMessage}
-use Rattle.cany_model.specs.Rules.Totcan.{message_in}
-use Rattle.cany_model.proofs.Among.{Each-drop, Each-weaker}
+use Rattle.cany_model.proofs.Among.{Each-weaker}
 use Rattle.cany_model.proofs.Rules.NumberFacts.{message_is_small}
 use Rattle.cany_totcan.specs.declared.queue.Placed.{Placed}
-use Rattle.cany_totcan.specs.Deliveries.{CanDeliver, DeliveriesParts, HasRoomOf}
+use Rattle.cany_totcan.specs.MessageSet.{MessageSetParts, HasRoomOf}
 use Rattle.cany_totcan.specs.Queue.{AreOnce, OpenParts, oldest_from, without_oldest, without_oldest_from}
 use Rattle.cany_totcan.specs.Totcan.{HasHeard, TotcanParts}
 use Rattle.cany_totcan.specs.TotcanSteps.{AreAdded, AreKnown, HaveGone, IsKnown, due, first_of, closing_accepted, closing_frame, is_accepted_by, without_closing}
-use Rattle.cany_totcan.proofs.DueFacts.{due-first, each-due, each-left, each_frame_at}
+use Rattle.cany_totcan.proofs.DueFacts.{due-first, each_frame_at}
+use Rattle.cany_totcan.proofs.MessageSetFacts.{below_numbers}
 use Rattle.cany_totcan.proofs.OwnFacts.{seq_below}
 use Rattle.cany_totcan.proofs.PlaceFacts.{placed_once}
 use Rattle.cany_totcan.proofs.QueueFacts.{few_named}
@@ -53,13 +53,10 @@ module _ (scenario : ScenarioParts) (f : FrameParts) (legal : IsLegalScenario sc
       let origin : named.message.origin ≡ i = named.origin ∙ own in
       omega (arith, below, ap (λ n. count_by (is_from n) scenario.sends) origin, named.number)
 
-  pub can_deliver : (v : DeliveriesParts) → HasRoomOf scenario v → CanDeliver (message_in f) v
-  can_deliver v room = record {
-    scenario = scenario;
-    legal = legal;
-    message = record { message = named.message; stands = named.stands; sent_by = named.sent_by; number = named.number; origin = named.origin };
-    room = room;
-  }
+  pub can_deliver : (v : MessageSetParts) → HasRoomOf scenario v → f.number < length v.origins
+  can_deliver v room =
+      let small = message_is_small scenario service.Tot (identity_of f) legal named in
+      omega (arith, below_numbers scenario (identity_of f) named small.node, room)
 
 -- ---- after a notice
 
@@ -146,7 +143,7 @@ known_closed slot v w h state added = subst AreKnown (sym state) (record {
   scenario = h.scenario;
   legal = h.legal;
   format = h.format;
-  room = added.room h.scenario (accepted_each (NamesMessage h.scenario service.Tot) slot v (Each-weaker _ _ (λ x known. known.message) v.queue.items h.known)) h.room;
+  room = added.numbers ∙ h.room;
   known = closing_with (λ items. AllByRecursion (λ x. IsKnown h.scenario v.node (length v.backlog.own) x.frame) items) slot v h.known (λ x rest all. all.1);
   once = closing_with AreOnce slot v h.once (λ x rest all. all.1);
 })
@@ -155,19 +152,14 @@ known_closed slot v w h state added = subst AreKnown (sym state) (record {
 
 -- the values that the walk leads to are known too
 pub known_gone : (slot : ℕ) (v w : TotcanParts) (a b : List Action) → AreKnown v → HaveGone slot v w a b → AreKnown w
-known_gone slot v w a b h gone =
-    let named : AllByRecursion (NamesMessage h.scenario service.Tot) (due v) =
-    each-due (NamesMessage h.scenario service.Tot) v (drop v.queue.done v.queue.items)
-    (Each-drop (λ x. NamesMessage h.scenario service.Tot x.frame) v.queue.done v.queue.items (Each-weaker _ _ (λ x known. known.message) v.queue.items h.known)) in
-    subst AreKnown (sym gone.state) (record {
-      scenario = h.scenario;
-      legal = h.legal;
-      format = h.format;
-      room = gone.added.room h.scenario
-          (each-left (NamesMessage h.scenario service.Tot) gone.gone (due w) (subst (AllByRecursion (NamesMessage h.scenario service.Tot)) gone.rest named)) h.room;
-      known = h.known;
-      once = h.once;
-    })
+known_gone slot v w a b h gone = subst AreKnown (sym gone.state) (record {
+  scenario = h.scenario;
+  legal = h.legal;
+  format = h.format;
+  room = gone.added.numbers ∙ h.room;
+  known = h.known;
+  once = h.once;
+})
 
 pub near_known : (v : TotcanParts) → AreKnown v → AllByRecursion (λ x. x.frame.node < most_nodes) v.queue.items
 near_known v h = Each-weaker _ _ (λ x known. near_named h.scenario x.frame h.legal known.message) v.queue.items h.known
@@ -176,7 +168,7 @@ pub own_known : (v : TotcanParts) → AreKnown v → AllByRecursion (λ x. x.fra
 own_known v h = Each-weaker _ _ (λ x known. known.own) v.queue.items h.known
 
 -- the first that is to be done can be delivered
-pub first_can_deliver : (v : TotcanParts) (f : FrameParts) → AreKnown v → first_of (due v) ≡ Some f → CanDeliver (message_in f) v.deliveries
+pub first_can_deliver : (v : TotcanParts) (f : FrameParts) → AreKnown v → first_of (due v) ≡ Some f → f.number < length v.deliveries.origins
 first_can_deliver v f h is =
     let first = due-first v v.queue.done v.queue.items f is in
     can_deliver h.scenario f h.legal
@@ -184,7 +176,8 @@ first_can_deliver v f h is =
     v.deliveries h.room
 
 -- so can the one that closes
-pub closing_can_deliver : (slot : ℕ) (v : TotcanParts) (f : FrameParts) → AreKnown v → closing_frame slot v ≡ Some f → CanDeliver (message_in f) v.deliveries
+pub closing_can_deliver : (slot : ℕ) (v : TotcanParts) (f : FrameParts) → AreKnown v → closing_frame slot v ≡ Some f
+    → f.number < length v.deliveries.origins
 closing_can_deliver slot v f h is =
     can_deliver h.scenario f h.legal (closing_is_each (NamesMessage h.scenario service.Tot) slot v f (Each-weaker _ _ (λ x known. known.message) v.queue.items h.known) is)
     v.deliveries h.room

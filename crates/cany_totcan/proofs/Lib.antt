@@ -1,7 +1,7 @@
 pub mod AcceptanceFacts
 pub mod AcceptedFacts
 pub mod ClosedFacts
-pub mod DeliveriesFacts
+pub mod MessageSetFacts
 pub mod DoneFacts
 pub mod DueFacts
 pub mod FollowedFacts
@@ -14,4 +14,3 @@ pub mod PlaceFacts
 pub mod QueueFacts
 pub mod RestFacts
 pub mod TurnFacts
-pub mod TwoSendsFacts

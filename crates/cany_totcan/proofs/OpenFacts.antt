@@ -16,7 +16,6 @@ use Rattle.cany_model.specs.Rules.Totcan.{delivered, done, has_closing_ahead, ca
 use Rattle.cany_model.proofs.Among.{Among-from_Contains}
 use Rattle.cany_model.proofs.Rules.MessageKeys.{same_message}
 use Rattle.cany_totcan.specs.declared.queue.Placed.{Placed}
-use Rattle.cany_totcan.specs.Deliveries.{DeliveriesParts, HasRoomOf, IsNothingDelivered, most_exceptions}
 use Rattle.cany_totcan.specs.Queue.{is_at, placed_from, placed_in}
 use Rattle.cany_totcan.specs.Totcan.{IsTotcanOf, TotcanParts}
 use Rattle.cany_totcan.proofs.DoneFacts.{done_is, done_of}
@@ -103,9 +102,3 @@ pub none_delivered : (p : Parameters) (i n : ℕ) → delivered p i (replicate n
 unfolding delivered
 none_delivered p i zero = refl
 none_delivered p i (suc n) = λ k. with_new (none_delivered p i n k) (none_done p i (suc n) k)
-
-pub room_fresh : (scenario : ScenarioParts) (room : ℕ) (v : DeliveriesParts) → IsNothingDelivered room v → room ≡ most_exceptions scenario → HasRoomOf scenario v
-room_fresh scenario room v fresh is = record {
-  room = fresh.room ∙ is;
-  messages = λ number there. absurd (false≢true (sym (fresh.there number) ∙ there));
-}

@@ -27,7 +27,7 @@ use Rattle.cany_model.specs.Rules.Totcan.{accept_effects, closing_effects, deliv
 use Rattle.cany_model.proofs.Among.{Each-append, Each-drop, Each-weaker}
 use Rattle.cany_model.proofs.Bus.Identities.{same_identity-true, same_identity_self}
 use Rattle.cany_totcan.specs.declared.queue.Placed.{Placed}
-use Rattle.cany_totcan.specs.Deliveries.{DeliveriesParts, was_delivered}
+use Rattle.cany_totcan.specs.MessageSet.{MessageSetParts, has_message}
 use Rattle.cany_totcan.specs.Queue.{OpenParts, placed_in, without_oldest, without_oldest_from}
 use Rattle.cany_totcan.specs.Totcan.{AreDelivered, AreDone, HasHeard, IsFirstPending, IsTotcanOf, TotcanParts, key_of}
 use Rattle.cany_totcan.specs.TotcanSteps.{AreAdded, HaveGone, accepted_first, closing_accepted, closing_actions, closing_frame, due, fresh_of, is_accepted_by, is_named, tot_actions, without_closing}
@@ -112,17 +112,17 @@ each_among (f ∷ frames) = (
     or_true false b h = h
 
 -- those that the deliveries have not are the new ones
-fresh_is : (frames : List FrameParts) (v : DeliveriesParts) (new : List FrameParts) → AreDelivered frames v
+fresh_is : (frames : List FrameParts) (v : MessageSetParts) (new : List FrameParts) → AreDelivered frames v
     → AllByRecursion (λ f. IsTot f × (f.node < most_nodes)) new
     → fresh_of v new ≡ new_among frames new
 fresh_is frames v [] delivered each = refl
 fresh_is frames v (f ∷ new) delivered each =
-    let same : was_delivered v f.number f.node ≡ is_one_of frames f =
+    let same : has_message v f.number f.node ≡ is_one_of frames f =
     delivered f.number f.node each.0.1 ∙ ap (λ x. has_frame x frames) (sym (identity_is class.Tot f each.0.0)) in
     rw (same, fresh_is frames v new delivered each.1) refl
 
 -- the deliveries after these frames
-delivered_added : (frames new : List FrameParts) (v w : DeliveriesParts) → AreDelivered frames v → AreAdded new v w → AllByRecursion IsTot new
+delivered_added : (frames new : List FrameParts) (v w : MessageSetParts) → AreDelivered frames v → AreAdded new v w → AllByRecursion IsTot new
     → AreDelivered (with_new frames new) w
 delivered_added frames new v w delivered added tot = λ s o near.
     added.delivered s o near
@@ -179,7 +179,7 @@ mixed false false false false h = refl
 
 module _ (scenario : ScenarioParts) (i : ℕ) (notice : NoticeKind) (before : List NoticeKind) (messages : List Message) (count : ℕ) (v : TotcanParts)
     (h : HasHeard scenario i notice before messages count v) (slot : ℕ) (at : slot ≡ length before)
-    (d : DeliveriesParts) (added : AreAdded (closing_accepted v (closing_frame slot v)) v.deliveries d)
+    (d : MessageSetParts) (added : AreAdded (closing_accepted v (closing_frame slot v)) v.deliveries d)
     (x : TotcanParts) (b c : List Action) (gone : HaveGone slot (record (without_closing slot v) { deliveries = d }) x b c) (all : due x ≡ []) where
   -- the value after the closing
   abbrev w : TotcanParts
@@ -238,18 +238,10 @@ module _ (scenario : ScenarioParts) (i : ℕ) (notice : NoticeKind) (before : Li
   closed_tot : AllByRecursion (λ f. IsTot f × (f.node < most_nodes)) closed
   closed_tot = accepted_each (λ f. IsTot f × (f.node < most_nodes)) slot v (Each-weaker _ _ (λ y is. (is.tot, is.near)) v.queue.items heard)
 
-  closed_named : AllByRecursion (NamesMessage scenario service.Tot) closed
-  closed_named = accepted_each (NamesMessage scenario service.Tot) slot v (Each-weaker _ _ (λ y is. is.named) v.queue.items heard)
-
   due_tot : AllByRecursion (λ f. IsTot f × (f.node < most_nodes)) (due w)
   due_tot =
       each-due (λ f. IsTot f × (f.node < most_nodes)) w rest
       (Each-drop (λ y. IsTot y.frame × (y.frame.node < most_nodes)) w.queue.done w.queue.items (Each-weaker _ _ (λ y is. (is.tot, is.near)) w.queue.items open_heard))
-
-  due_named : AllByRecursion (NamesMessage scenario service.Tot) (due w)
-  due_named =
-      each-due (NamesMessage scenario service.Tot) w rest
-      (Each-drop (λ y. NamesMessage scenario service.Tot y.frame) w.queue.done w.queue.items (Each-weaker _ _ (λ y is. is.named) w.queue.items open_heard))
 
   tots : (frames : List FrameParts) → AllByRecursion (λ f. IsTot f × (f.node < most_nodes)) frames → AllByRecursion IsTot frames
   tots frames each = Each-weaker _ _ (λ f is. is.0) frames each
@@ -388,7 +380,7 @@ module _ (scenario : ScenarioParts) (i : ℕ) (notice : NoticeKind) (before : Li
       bound = h.limits.bound;
       spacing = h.limits.spacing;
       room = closing_room slot v ∙ h.limits.room;
-      deliveries = gone_added.room scenario due_named (added.room scenario closed_named h.limits.deliveries);
+      deliveries = gone_added.numbers ∙ added.numbers ∙ h.limits.deliveries;
     };
     queue = record {
       places = closed_items scenario i notice before messages count v h slot at;

@@ -1,5 +1,5 @@
 pub mod Backlog
-pub mod Deliveries
+pub mod MessageSet
 pub mod Queue
 pub mod Rests
 pub mod Totcan

@@ -21,7 +21,7 @@ use Rattle.cany_model.specs.Rules.Totcan.{after_place, delivered, holds, is_acce
 use Rattle.cany_totcan.specs.declared.backlog.Given.{Given}
 use Rattle.cany_totcan.specs.declared.queue.Placed.{Placed}
 use Rattle.cany_totcan.specs.Backlog.{BacklogParts, own_at}
-use Rattle.cany_totcan.specs.Deliveries.{DeliveriesParts, HasRoomOf, was_delivered}
+use Rattle.cany_totcan.specs.MessageSet.{MessageSetParts, HasRoomOf, has_message}
 use Rattle.cany_totcan.specs.Queue.{OpenParts, placed_in}
 
 -- the node, the format of identifiers, how long a message stays open, how far the places of the node's own messages lie apart, the
@@ -33,7 +33,7 @@ pub record TotcanParts : Type 0 where
   pub spacing : ℕ
   pub queue : OpenParts
   pub acceptances : EagerParts
-  pub deliveries : DeliveriesParts
+  pub deliveries : MessageSetParts
   pub backlog : BacklogParts
 
 abbrev pub key_of : (seq origin : ℕ) → MsgKey
@@ -70,8 +70,8 @@ abbrev pub is_carried : MsgKey → List FrameParts → Bool
 is_carried key frames = list_any (λ g. same_identity (tot_of_key key) (identity_of g)) frames
 
 -- what was delivered are the messages of these frames
-abbrev pub AreDelivered : List FrameParts → DeliveriesParts → Type 0
-AreDelivered frames v = (seq origin : ℕ) → origin < most_nodes → was_delivered v seq origin ≡ is_carried (key_of seq origin) frames
+abbrev pub AreDelivered : List FrameParts → MessageSetParts → Type 0
+AreDelivered frames v = (seq origin : ℕ) → origin < most_nodes → has_message v seq origin ≡ is_carried (key_of seq origin) frames
 
 -- the first of the open messages are done: they are accepted, and were delivered
 abbrev pub AreDone : Parameters → ℕ → List NoticeKind → List FrameParts → List Placed → Type 0

@@ -17,7 +17,7 @@ use Rattle.cany_model.specs.Rules.Notices.{NamesMessage}
 use Rattle.cany_model.specs.Rules.Totcan.{accept_frame, message_in}
 use Rattle.cany_totcan.specs.declared.queue.Placed.{Placed}
 use Rattle.cany_totcan.specs.Backlog.{BacklogParts, own_at}
-use Rattle.cany_totcan.specs.Deliveries.{DeliveriesParts, HasRoomOf, was_delivered}
+use Rattle.cany_totcan.specs.MessageSet.{MessageSetParts, HasRoomOf, has_message}
 use Rattle.cany_totcan.specs.Queue.{AreOnce, is_at, oldest_from, without_oldest}
 use Rattle.cany_totcan.specs.Totcan.{TotcanParts}
 
@@ -64,8 +64,8 @@ first_of [] = None
 first_of (f ∷ frames) = Some f
 
 -- those of these frames whose messages were not delivered
-abbrev pub fresh_of : DeliveriesParts → List FrameParts → List FrameParts
-fresh_of v frames = filter (λ f. not (was_delivered v f.number f.node)) frames
+abbrev pub fresh_of : MessageSetParts → List FrameParts → List FrameParts
+fresh_of v frames = filter (λ f. not (has_message v f.number f.node)) frames
 
 abbrev pub tot_actions : ℕ → List FrameParts → List Action
 tot_actions slot frames = map (λ f. Enter (delivery slot service.Tot f)) frames
@@ -74,10 +74,10 @@ abbrev pub is_named : (seq origin : ℕ) → FrameParts → Bool
 is_named seq origin f = seq == f.number && origin == f.node
 
 -- the messages of these frames were delivered besides
-pub record AreAdded (frames : List FrameParts) (old new : DeliveriesParts) : Type 0 where
+pub record AreAdded (frames : List FrameParts) (old new : MessageSetParts) : Type 0 where
   pub delivered : (seq origin : ℕ) → origin < most_nodes →
-      was_delivered new seq origin ≡ (list_any (is_named seq origin) frames || was_delivered old seq origin)
-  pub room : (scenario : ScenarioParts) → AllByRecursion (NamesMessage scenario service.Tot) frames → HasRoomOf scenario old → HasRoomOf scenario new
+      has_message new seq origin ≡ (list_any (is_named seq origin) frames || has_message old seq origin)
+  pub numbers : length new.origins ≡ length old.origins
 
 -- the frames up to the first that is due were done, and their messages delivered that were not
 pub record HaveGone (slot : ℕ) (old new : TotcanParts) (before after : List Action) : Type 0 where

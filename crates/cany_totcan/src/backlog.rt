@@ -193,9 +193,5 @@ fn past_from(place: Option<Slot>, slots: Slot) -> Slot
 fn count_of(node: NodeId, scenario: &Scenario) -> usize
     ensures { result ≡ count_by (is_from node) scenario.now.sends }
 {
-    scenario
-        .sends()
-        .iter()
-        .filter(|send| send.node.get() == node.get())
-        .count()
+    scenario.sends_of(node)
 }

@@ -4,11 +4,9 @@
 #![tactic(auto)]
 
 mod backlog;
-mod deliveries;
 mod frames;
+mod message_set;
 mod queue;
-#[cfg(test)]
-mod tests;
 mod threads;
 mod totcan;
 

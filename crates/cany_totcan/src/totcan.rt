@@ -17,15 +17,14 @@ ghost use Rattle.cany_model.specs.Rules.Backlog.{ask_for, asked_after, next_afte
 ghost use Rattle.cany_model.specs.Rules.Messages.{Message, messages_of, message_key};
 ghost use Rattle.cany_model.specs.Rules.Notices.{IsNextNotice};
 ghost use Rattle.cany_model.specs.Rules.Totcan.{accept_effects, accept_frame, has_closing_ahead, message_in, totcan_effects};
-ghost use Rattle.cany_totcan.specs.Deliveries.{CanDeliver};
 ghost use Rattle.cany_totcan.specs.Queue.{moved, without_key};
 ghost use Rattle.cany_totcan.specs.Rests.{Rests};
 ghost use Rattle.cany_totcan.specs.Totcan.{CanRead, HasHeard, IsOwnTot, IsTotcanOf, has_seq};
 ghost use Rattle.cany_totcan.specs.TotcanSteps.{AreAdded, AreKnown, HaveGone, closing_accepted, closing_actions, closing_frame, due, first_of, fresh_of, has_open, if_accepted, is_accepted_by, noted_if, origin_actions, tot_actions, without_closing};
 
 use crate::backlog::Backlog;
-use crate::deliveries::{Deliveries, most_exceptions};
 use crate::frames::{Acceptance, Data, acceptance_of, is_acceptance, is_data};
+use crate::message_set::{MessageSet, numbers_of};
 use crate::queue::OpenMessages;
 use cany_base::{
     Action, Actions, Format, Frame, Memory, MsgKey, NodeId, Notice, NoticeKind, Payload, Scenario,
@@ -58,7 +57,8 @@ pub struct Totcan {
     queue: OpenMessages,
     /// The copies of acceptances since the places of their messages.
     acceptances: Eager<Acceptance>,
-    deliveries: Deliveries,
+    /// Those that the node has delivered.
+    deliveries: MessageSet,
     backlog: Backlog,
 }
 
@@ -90,7 +90,7 @@ impl Totcan {
         let room = sends_by(scenario, Service::Tot);
         let queue = OpenMessages::build(alloc, room)?;
         let acceptances = Eager::build(alloc, params.omit, room)?;
-        let deliveries = Deliveries::build(alloc, most_exceptions(scenario))?;
+        let deliveries = MessageSet::build(alloc, numbers_of(scenario))?;
         let backlog = Backlog::build(alloc, node, scenario)?;
         Ok(Totcan {
             node,
@@ -348,7 +348,7 @@ impl Totcan {
     /// A message closes: no frame that accepts it waits any longer. If it is accepted and was not
     /// delivered, it is delivered now, since nothing before it is open.
     fn on_closed(&mut self, slot: Slot, frame: &Frame, out: &mut Actions)
-        requires deliver { CanDeliver (message_in frame.now) self.old.deliveries }
+        requires deliver { frame.now.number < length self.old.deliveries.origins }
         requires own { frame.now.node ≡ self.old.node → frame.now.number < length self.old.backlog.own }
         requires small { HasSmallNumbers self.old.format frame.now }
         requires room { length out.old.items + 2 ≤ out.old.room }
@@ -385,7 +385,7 @@ impl Totcan {
     /// it was before.
     fn deliver_next(&mut self, slot: Slot, frame: &Frame, out: &mut Actions)
         requires next { first_of (due self.old) ≡ Some frame.now }
-        requires deliver { CanDeliver (message_in frame.now) self.old.deliveries }
+        requires deliver { frame.now.number < length self.old.deliveries.origins }
         requires room { length out.old.items < out.old.room }
         ensures gone { HaveGone slot self.old self.new out.old.items out.new.items }
         ensures fewer { length (due self.old) ≡ length (due self.new) + 1 }
@@ -411,7 +411,7 @@ impl Totcan {
 
     /// Delivers the message of a data frame, unless it was delivered before.
     fn deliver(&mut self, slot: Slot, frame: &Frame, out: &mut Actions)
-        requires deliver { CanDeliver (message_in frame.now) self.old.deliveries }
+        requires deliver { frame.now.number < length self.old.deliveries.origins }
         requires room { length out.old.items < out.old.room }
         ensures added { AreAdded (frame.now ∷ []) self.old.deliveries self.new.deliveries }
         ensures in_range { frame.now.node < most_nodes }
@@ -424,7 +424,7 @@ impl Totcan {
         let is_new = !self.deliveries.has(&msg);
         deliver(Service::Tot, slot, frame, is_new, out);
         if is_new {
-            self.deliveries.deliver(msg);
+            self.deliveries.insert(&msg);
         }
     }
 

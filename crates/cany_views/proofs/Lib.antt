@@ -1,5 +1,4 @@
 pub mod ActionFacts
 pub mod AskFacts
 pub mod HeardFacts
-pub mod SmallFacts
 pub mod ViewFacts

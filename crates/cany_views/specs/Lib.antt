@@ -1,4 +1,3 @@
-pub mod Small
 pub mod Views
 pub mod ViewsFields
 pub mod ViewsSteps

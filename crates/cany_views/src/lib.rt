@@ -2,8 +2,6 @@
 #![tactic(auto)]
 
 mod asks;
-#[cfg(test)]
-mod tests;
 mod threads;
 mod views;
 

@@ -11,6 +11,7 @@ pub mod JournalFacts
 pub mod NodeFacts
 pub mod OpeningFacts
 pub mod PlaceFacts
+pub mod QuietFacts
 pub mod RestartFacts
 pub mod RestartsOneByOne
 pub mod RoundFacts

@@ -28,6 +28,10 @@ pub(crate) fn free_slots(script: &Script, restarts: &[NodeAsk], next: Slot, most
     ensures free { (scenario : ScenarioParts) → script.now ≡ scenario.rules → restarts.now ≡ scenario.restarts →
         (slot : ℕ) → next ≤ slot → slot < next + result → IsFree scenario slot }
 {
+    // Most scenarios have neither.
+    if script.is_empty() && restarts.is_empty() {
+        return most;
+    }
     let mut slots = 0;
     while slots < most && is_free(script, restarts, next + slots) {
         slots += 1;

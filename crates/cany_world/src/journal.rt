@@ -27,15 +27,6 @@ fn round_of(controllers: &[Controller]) -> ([Step; MOST_STEPS], usize)
     (steps, count)
 }
 
-fn push_steps(journal: &mut BoundedVec<Step>, steps: &[Step])
-    requires { length journal.old.items + length steps.now ≤ journal.old.room }
-    ensures { journal.new ≡ record journal.old { items = journal.old.items ++ steps.now } }
-{
-    for step in steps {
-        journal.push_copy(step);
-    }
-}
-
 /// Appends the steps of so many rounds: each the slot, and the turns of the nodes whose controllers
 /// run, in ascending order.
 pub(crate) fn push_rounds(journal: &mut BoundedVec<Step>, controllers: &[Controller], slots: u64)
@@ -45,6 +36,6 @@ pub(crate) fn push_rounds(journal: &mut BoundedVec<Step>, controllers: &[Control
 {
     let (steps, count) = round_of(controllers);
     for _slot in 0..slots {
-        push_steps(journal, &steps[..count]);
+        journal.extend(&steps[..count]);
     }
 }

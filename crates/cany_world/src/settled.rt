@@ -14,7 +14,7 @@ ghost use Rattle.cany_world.specs.Kept.{IsKeptAs, IsKeptAt};
 ghost use Rattle.cany_world.specs.Settled.{IsAbout, is_asked, has_ahead};
 
 use crate::incarnations::Incarnations;
-use crate::unread::all_read;
+use crate::unread::{all_read, none_has_anything_to_do};
 use can_controller::Controller;
 use can_frame::{identifier, small_numbers_fit};
 use cany_base::{Class, Format, Frame, MsgKey, Payload, SendAsk, Service, Slot};
@@ -84,7 +84,9 @@ fn nobody_waits_and_all_read(
     requires format { HaveFormat format controllers.now }
     ensures { result ≡ (not (list_any (awaits (frames_named service key.now)) controllers.now) && list_all has_read controllers.now) }
 {
-    !is_awaited(format, service, key, controllers) && all_read(controllers)
+    // At the end of most runs none has anything to do.
+    none_has_anything_to_do(controllers)
+        || (!is_awaited(format, service, key, controllers) && all_read(controllers))
 }
 
 /// Whether the node is the origin of the message and has asked for it, has stopped, or came too

@@ -7,6 +7,7 @@ ghost use Rattle.cany_world.specs.Resting.{HaveNothingToDo, CanAllPass, CanPass,
 
 use crate::free_slots::free_slots;
 use crate::incarnations::Incarnations;
+use crate::unread::none_has_anything_to_do;
 use can_controller::Controller;
 use can_controller::laws::counters_within;
 use can_fault::Script;
@@ -18,19 +19,6 @@ use cany_base::{NodeAsk, NodeId, NodeSet, Slot};
 pub(crate) struct Stretch {
     pub(crate) slots: u64,
     pub(crate) due: NodeSet,
-}
-
-/// Whether no controller that runs waits with a frame or has a notice that is unread.
-fn none_has_anything_to_do(controllers: &[Controller]) -> bool
-    ensures { result ≡ true → HaveNothingToDo controllers.now }
-{
-    for i in 0..controllers.len() {
-        let controller = &controllers[i];
-        if controller.stopped().is_none() && !controller.has_nothing_to_do() {
-            return false;
-        }
-    }
-    true
 }
 
 /// How many slots from the next one on the node can pass. One that has stopped can pass as many as

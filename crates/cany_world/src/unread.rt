@@ -1,5 +1,5 @@
 //! What the running nodes have not read yet.
-ghost use Rattle.std.specs.Prelude.{◌≡◌, ◌≤◌, List, length};
+ghost use Rattle.std.specs.Prelude.{◌≡◌, ◌≤◌, List, length, true};
 ghost use Rattle.std.specs.List.{list_all};
 ghost use Rattle.cany_base.specs.declared.step.Step.{Step};
 ghost use Rattle.cany_base.specs.Limits.{most_nodes};
@@ -7,6 +7,7 @@ ghost use Rattle.cany_base.specs.Scenario.{ScenarioParts};
 ghost use Rattle.cany_model.specs.Runs.Run.{first_lagging, run};
 ghost use Rattle.cany_world.specs.Controllers.{has_read, lags};
 ghost use Rattle.cany_world.specs.Kept.{AreControllersOf};
+ghost use Rattle.cany_world.specs.Resting.{HaveNothingToDo};
 
 use can_controller::Controller;
 use cany_base::NodeId;
@@ -45,4 +46,17 @@ pub(crate) fn all_read(controllers: &[Controller]) -> bool
     ensures { result ≡ list_all has_read controllers.now }
 {
     controllers.iter().all(has_read)
+}
+
+/// Whether no controller that runs waits with a frame or has a notice that is unread.
+pub(crate) fn none_has_anything_to_do(controllers: &[Controller]) -> bool
+    ensures { result ≡ true → HaveNothingToDo controllers.now }
+{
+    for i in 0..controllers.len() {
+        let controller = &controllers[i];
+        if controller.stopped().is_none() && !controller.has_nothing_to_do() {
+            return false;
+        }
+    }
+    true
 }

@@ -80,12 +80,13 @@ impl World {
         let params = scenario.params();
         let script = Script::of_scenario(alloc, scenario)?;
         let bus = Bus::build(alloc, scenario)?;
-        // The nodes come first: they fill most of their room, and the controllers little of theirs,
-        // so that the memory which the reading of the text gave back is used again.
+        // The journal, which a run fills, comes first, then the nodes, which fill most of their
+        // room, and last the controllers, which fill little of theirs: so the memory which the
+        // reading of the text gave back is used again.
+        let journal = BoundedVec::build(alloc, journal_room(params))?;
         let nodes = nodes_of(alloc, scenario)?;
         let controllers = controllers_of(alloc, scenario)?;
         let actions = Actions::build(alloc, actions_room(scenario))?;
-        let journal = BoundedVec::build(alloc, journal_room(params))?;
         let keys = keys_of(alloc, scenario.sends())?;
         let scenario = scenario.copy(alloc)?;
         Ok(World {

@@ -1,10 +1,12 @@
 -- A node that is idle until a slot rests until then.
-use Rattle.std.proofs.Common.{ℕ, ◌≤◌, List, length, arith}
+use Rattle.std.proofs.Common.{ℕ, ◌≤◌, ◌<◌, List, length, arith}
 use Rattle.cany_base.specs.declared.log_entry.LogEntry.{LogEntry}
 use Rattle.cany_base.specs.declared.notice.NoticeKind.{NoticeKind}
 use Rattle.cany_base.specs.Scenario.{ScenarioParts}
 use Rattle.cany_edcan.specs.Edcan as edcan
 use Rattle.cany_edcan.specs.Edcan.{EdcanParts, IsEdcanOf}
+use Rattle.cany_relcan.specs.Relcan as relcan
+use Rattle.cany_relcan.specs.Relcan.{IsRelcanOf, RelcanParts}
 use Rattle.cany_node.specs.Node.{IsNodeOf, NodeParts}
 use Rattle.cany_node.specs.Resting.{IsIdleUntil, RestsUntil}
 use Rattle.cany_node.proofs.Idle.IdleTurn.{edcan_now, node_rests, relcan_now, totcan_now}
@@ -37,4 +39,18 @@ idle_later idle_until read room e log v is more = record {
   sends = is.sends;
   joins = is.joins;
   leaves = is.leaves;
+}
+
+-- and when RELCAN changed, until its oldest timer is due
+pub idle_sooner : (idle_until sooner read room : ℕ) (r : RelcanParts) (log : List LogEntry) (v : NodeParts) → IsIdleUntil idle_until v → v.read ≤ read
+    → sooner ≤ idle_until
+    → ((scenario : ScenarioParts) (past : List NoticeKind) → IsRelcanOf scenario r.node past r → length past < sooner → relcan.Rests scenario r.node past r)
+    → IsIdleUntil sooner (record v { read = read; relcan = r; log = log; room = room })
+idle_sooner idle_until sooner read room r log v is more less rests = record {
+  relcan = rests;
+  totcan = λ scenario past messages count h early. is.totcan scenario past messages count h (omega (arith, less, early));
+  membership = λ scenario i past h later early within. is.membership scenario i past h (omega (arith, more, later)) (omega (arith, less, early)) within;
+  sends = λ n early. is.sends n (omega (arith, less, early));
+  joins = λ n early. is.joins n (omega (arith, less, early));
+  leaves = λ n early. is.leaves n (omega (arith, less, early));
 }

@@ -47,3 +47,11 @@ one_more_free rules restarts next slots so here scenario same also slot from bel
   | inl last ↦ subst (IsFree scenario) (sym last) (here scenario same also)
   | inr other ↦ so scenario same also slot from (omega arith)
 ]
+
+-- without a rule and a restart entry every slot is free
+pub all_free : (rules : List Rule) (restarts : List NodeAsk) (next slots : ℕ) → rules ≡ [] → restarts ≡ [] → AreFree rules restarts next slots
+unfolding names_restart
+all_free rules restarts next slots no_rules no_restarts scenario same also slot from below = record {
+  rules = ap (λ (r : List Rule). slot_rule r slot) (sym same ∙ no_rules);
+  restarts = λ i. ap (λ (r : List NodeAsk). names_restart r slot i) (sym also ∙ no_restarts);
+}

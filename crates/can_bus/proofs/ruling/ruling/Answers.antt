@@ -1,4 +1,10 @@
-use Rattle.std.proofs.Common.{◌≡◌, ◌≤◌, ◌+◌, ℕ, min, sym, ap, subst, ◌∙◌, arith}
+use Rattle.std.proofs.Common.{◌≡◌, ◌≤◌, ◌+◌, ℕ, List, [], min, refl, sym, ap, subst, ◌∙◌, arith}
+use Rattle.std.specs.Prelude.{Option, Some, None}
+use Rattle.cany_base.specs.declared.rule.Rule.{Rule}
+use Rattle.cany_base.specs.declared.rule.Verdict.TheVariants.{Clean}
+use Rattle.cany_base.specs.declared.slot_note.SlotNote.{SlotNote}
+use Rattle.cany_base.specs.Frame.{FrameParts}
+use Rattle.cany_base.specs.Nodes.{Nodes, nobody}
 use Rattle.cany_base.specs.Limits.{most_slots}
 use Rattle.cany_model.specs.Bus.Slot.{script}
 use Rattle.can_arbiter.specs.declared.arbitration.Outcome.{Outcome}
@@ -6,6 +12,17 @@ use Rattle.can_fault.specs.Rules.{next_attempt}
 use Rattle.can_fault.specs.Attempts.{greatest}
 use Rattle.can_bus.specs.Contest.{frame_of}
 use Rattle.can_bus.proofs.ruling.ruling.Goals as goal
+
+-- without rules a slot is Clean and stops nobody
+unruled : (rules : List Rule) (trace : List SlotNote) (frame : Option FrameParts) (stop : Nodes) → rules ≡ [] → stop ≡ nobody
+    → record { verdict = Clean; stop = stop } ≡ script rules trace frame
+unfolding script
+unruled rules trace None stop none nobody_stops = rw (none, nobody_stops) refl
+unruled rules trace (Some f) stop none nobody_stops = rw (none, nobody_stops) refl
+
+pub returns-then-is_empty-clause-ruling : goal.returns-then-is_empty-clause-ruling
+returns-then-is_empty-clause-ruling c = λ trace counts at short.
+    unruled c.args.script.now trace (frame_of c.args.outcome.now) c.empty.result (c.is_empty.ensures.0 c.if-is_empty.true) c.empty.ensures.set
 
 -- a count that no run reaches
 counted_low : (count slots : ℕ) → count ≤ slots + 1 → slots ≤ most_slots → min count greatest ≡ count

@@ -1,14 +1,17 @@
-use Rattle.std.proofs.Common.{◌≡◌, ◌*◌, length, take, drop, Ok}
-use Rattle.std.specs.List.{flat_map, range_with_len}
-use Rattle.std.specs.Slice.Iter.{chunks_rest, chunks_size}
-use Rattle.cany_log.proofs.ReportFacts.{journal_text, line_count}
-use Rattle.cany_log.specs.Written.{IsWritten}
+use Rattle.std.proofs.Common.{◌≡◌, ◌-◌, ◌≤◌, [], drop}
+use Rattle.std.specs.List.{concat, flat_map, range_with_len}
+use Rattle.cany_text.specs.ReportLines.{journal_lines}
+use Rattle.cany_log.specs.ReportItems.{journal_text}
+use Rattle.cany_log.proofs.UpToFacts.{IsWrittenUpTo}
 use Rattle.cany_log.proofs.heading.write_journal.Given as goal
 
-abbrev pub invariant-loop-steps : goal.invariant-loop-steps
-invariant-loop-steps g l = record {
-  written : IsWritten (flat_map (journal_text l.journal) (take (length l.yielded) (range_with_len 0 (line_count l.journal)))) (Ok tt)
+abbrev pub invariant-loop-first : goal.invariant-loop-first
+invariant-loop-first g l = record {
+  written : IsWrittenUpTo (concat (journal_lines l.journal)) (flat_map (journal_text l.journal) (drop l.first (range_with_len 0 l.lines)))
       (g.K.Sink.taken l.initial.sink) (g.K.Sink.taken l.sink) (g.K.Sink.faults l.initial.sink) (g.K.Sink.faults l.sink);
-  rest : chunks_rest l.steps-iterator ≡ drop (64 * length l.yielded) l.journal;
-  size : chunks_size l.steps-iterator ≡ 64;
+  within : l.first ≤ l.lines;
+  empty : l.page ≡ [];
 }
+
+abbrev pub decreases-loop-first : goal.decreases-loop-first
+decreases-loop-first g l = l.lines - l.first

@@ -7,8 +7,8 @@ use Rattle.cany_world.specs.Resting.{rounds_of}
 use Rattle.cany_world.proofs.Idle.JournalRounds.{round_room, rounds_pushed_all, rounds_pushed_next}
 use Rattle.cany_world.proofs.journal.push_rounds.Goals as goal
 
-pub push_steps-requires : goal.push_steps-requires
-push_steps-requires c =
+pub extend-requires : goal.extend-requires
+extend-requires c =
     let row : List ControllerState = c.args.controllers.now in
     let whole : List Step = c.args.journal.now.items ++ rounds_of c.args.slots row in
     let left : c.args.slots - c.loop-slot._slot ≡ suc (c.args.slots - (c.loop-slot._slot + 1)) = omega (arith, c.loop-slot-test.true) in
@@ -21,10 +21,10 @@ pub loop-slot-preserved : goal.loop-slot-preserved
 loop-slot-preserved c =
     let row : List ControllerState = c.args.controllers.now in
     let left : c.args.slots - c.loop-slot._slot ≡ suc (c.args.slots - (c.loop-slot._slot + 1)) = omega (arith, c.loop-slot-test.true) in (
-      rounds_pushed_next row (c.args.journal.now.items ++ rounds_of c.args.slots row) c.loop-slot.journal.items c.push_steps.new.journal.items
+      rounds_pushed_next row (c.args.journal.now.items ++ rounds_of c.args.slots row) c.loop-slot.journal.items c.extend.new.self.items
           (c.args.slots - c.loop-slot._slot) (c.args.slots - (c.loop-slot._slot + 1)) c.loop-slot.invariant.0 left
-          (ap (λ (b : Bounded Step). b.items) c.push_steps.ensures ∙ ap (λ (l : List Step). c.loop-slot.journal.items ++ l) c.round_of-steps.ensures.steps),
-      ap (λ (b : Bounded Step). b.room) c.push_steps.ensures ∙ c.loop-slot.invariant.1,
+          (ap (λ (b : Bounded Step). b.items) c.extend.ensures ∙ ap (λ (l : List Step). c.loop-slot.journal.items ++ l) c.round_of-steps.ensures.steps),
+      ap (λ (b : Bounded Step). b.room) c.extend.ensures ∙ c.loop-slot.invariant.1,
     )
 
 pub returns : goal.returns

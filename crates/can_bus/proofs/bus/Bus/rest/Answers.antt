@@ -1,19 +1,40 @@
-use Rattle.std.proofs.Common.{◌≡◌, ◌+◌, List, length, ap, ◌∙◌, arith}
+use Rattle.std.proofs.Common.{◌≡◌, ◌+◌, ◌≤◌, List, length, reverse, ap, refl, subst, sym, ◌∙◌, arith}
+use Rattle.std.proofs.lemmas.List.{length-reverse}
 use Rattle.cany_base.specs.declared.slot_note.SlotNote.{SlotNote}
-use Rattle.cany_base.specs.Params.{Parameters}
-use Rattle.can_bus.proofs.RestFacts.{length-idle_trace, rest_begins, rest_next}
+use Rattle.can_fault.specs.Tally.{IsTallyOf}
+use Rattle.can_bus.specs.Bus.{Follows}
+use Rattle.can_bus.specs.BusFields.{parts_of}
+use Rattle.can_bus.specs.Rest.{idle_trace}
+use Rattle.can_bus.proofs.RestFacts.{follows_idle, length_rested, length-idle_trace, none_more, sound_rested, tally_idle}
 use Rattle.can_bus.proofs.bus.Bus.rest.Goals as goal
 
-pub loop-slot-init : goal.loop-slot-init
-loop-slot-init c = rest_begins c.args.self.now
+pub overflow_sub-len : goal.overflow_sub-len
+overflow_sub-len c =
+    omega (arith, c.len.ensures.len, length_rested c.args.slots c.self.inside c.push_idle.new.trace c.push_idle.ensures.items, c.if-slots-gt0.true)
 
-pub pass-requires : goal.pass-requires
-pass-requires c =
-    let ran : length c.loop-slot.self.trace ≡ c.loop-slot._slot + length c.args.self.now.trace =
-    ap (λ (t : List SlotNote). length t) c.loop-slot.invariant.trace ∙ length-idle_trace c.loop-slot._slot c.args.self.now.trace in
-    let slots = ap (λ (p : Parameters). p.slots) c.loop-slot.invariant.params in
-    omega (arith, ran, slots, c.requires, c.loop-slot-test.true)
+pub invariant_of-self : goal.invariant_of-self
+invariant_of-self c =
+    let before : List SlotNote = reverse c.self.inside.trace.items in
+    let left : length c.self.inside.trace.items + c.args.slots ≤ c.self.inside.params.slots = omega (arith, length-reverse c.self.inside.trace.items, rw (← c.self.view_is) at c.requires) in
+    let long : length (idle_trace c.args.slots before) ≡ c.len.result =
+    ap (λ (t : List SlotNote). length t) (sym c.push_idle.ensures.items) ∙ length-reverse c.push_idle.new.trace.items ∙ sym c.len.ensures.len in
+    let all : length (idle_trace c.args.slots before) ≡ c.args.slots + length before = length-idle_trace c.args.slots before in
+    sound_rested c.args.slots c.self.inside c.push_idle.new.trace c.push_idle.ensures.items c.rest.new.self c.self.invariant c.push_idle.ensures.room left
+    (tally_idle c.args.slots _ before c.self.inside.tally c.rest.new.self c.rest.ensures.run (omega (arith, long, all, c.if-slots-gt0.true)) c.self.invariant.tally) c.rest.ensures.params
 
-pub loop-slot-preserved : goal.loop-slot-preserved
-loop-slot-preserved c =
-    rest_next c.args.self.now c.loop-slot.self c.pass.new.self c.loop-slot._slot c.loop-slot.invariant c.pass.ensures.trace c.pass.ensures.params c.pass.ensures.follows
+pub invariant_of-self-else-slots-gt0 : goal.invariant_of-self-else-slots-gt0
+invariant_of-self-else-slots-gt0 c =
+    let before : List SlotNote = reverse c.self.inside.trace.items in
+    let left : length c.self.inside.trace.items + c.args.slots ≤ c.self.inside.params.slots = omega (arith, length-reverse c.self.inside.trace.items, rw (← c.self.view_is) at c.requires) in
+    sound_rested c.args.slots c.self.inside c.push_idle.new.trace c.push_idle.ensures.items c.self.inside.tally c.self.invariant c.push_idle.ensures.room left
+    (subst (λ (t : List SlotNote). IsTallyOf t c.self.inside.tally) (none_more c.args.slots before (omega (arith, c.if-slots-gt0.false))) c.self.invariant.tally) refl
+
+pub returns-then-slots-gt0-clause-follows : goal.returns-then-slots-gt0-clause-follows
+returns-then-slots-gt0-clause-follows c = λ rules was.
+    follows_idle rules c.args.slots (parts_of c.self.inside) (parts_of (record c.self.inside { trace = c.push_idle.new.trace; tally = c.rest.new.self }))
+    c.push_idle.ensures.items refl c.rest.ensures.rules (subst (Follows rules) (sym c.self.view_is) was)
+
+pub returns-else-slots-gt0-clause-follows : goal.returns-else-slots-gt0-clause-follows
+returns-else-slots-gt0-clause-follows c = λ rules was.
+    follows_idle rules c.args.slots (parts_of c.self.inside) (parts_of (record c.self.inside { trace = c.push_idle.new.trace }))
+    c.push_idle.ensures.items refl refl (subst (Follows rules) (sym c.self.view_is) was)

@@ -34,3 +34,7 @@ returns-then-notice-wake c = record {
 pub follow_edcan-requires-clause-rests : goal.follow_edcan-requires-clause-rests
 follow_edcan-requires-clause-rests c = λ scenario past stands later early within.
     c.wake-then-is_of_edcan.ensures.rests scenario past stands later (omega (arith, early)) within
+
+pub follow_relcan-requires-clause-rests : goal.follow_relcan-requires-clause-rests
+follow_relcan-requires-clause-rests c = λ scenario past stands later early within.
+    c.wake-then-is_of_relcan.ensures.rests scenario past stands later (omega (arith, early)) within

@@ -1,4 +1,7 @@
-use Rattle.std.proofs.Common.{ap, ◌∙◌, refl, replicate, subst, sym, arith, take, []}
+use Rattle.std.proofs.Common.{ap, ◌∙◌, length, refl, replicate, subst, sym, arith, take, []}
+use Rattle.std.proofs.lemmas.List.{length-replicate}
+use Rattle.cany_base.specs.Nodes.{nobody}
+use Rattle.cany_totcan.proofs.MessageSetFacts.{has_no_message}
 use Rattle.std.specs.Prelude.{slice_get}
 use Rattle.cany_base.specs.declared.notice.NoticeKind.TheVariants.{Idle}
 use Rattle.cany_base.specs.Params.{Parameters}
@@ -7,7 +10,7 @@ use Rattle.cany_totcan.specs.Backlog.{BacklogParts}
 use Rattle.cany_totcan.specs.Queue.{OpenParts}
 use Rattle.cany_totcan.specs.Totcan.{AreDone, AreOpen, IsBacklogOf, IsFirstPending, is_carried, key_of}
 use Rattle.cany_totcan.proofs.AcceptanceFacts.{acceptances_fresh}
-use Rattle.cany_totcan.proofs.OpenFacts.{none_delivered, none_placed, none_recent, room_fresh}
+use Rattle.cany_totcan.proofs.OpenFacts.{none_delivered, none_placed, none_recent}
 use Rattle.cany_totcan.proofs.OwnFacts.{backlog_fresh}
 use Rattle.cany_totcan.proofs.totcan.Totcan.build.Goals as goal
 
@@ -25,13 +28,13 @@ returns c = λ n.
         bound = ap (λ (q : Parameters). q.bound) params;
         spacing = omega (arith, ap (λ (q : Parameters). q.bound) params, ap (λ (q : Parameters). q.lag) params, c.from.ensures);
         room = ap (λ (q : OpenParts). q.room) c.in_ok-queue.ensures ∙ room;
-        deliveries = room_fresh scenario _ c.in_ok-deliveries.deliveries c.in_ok-deliveries.ensures c.most_exceptions.ensures;
+        deliveries = ap length c.in_ok-deliveries.ensures ∙ length-replicate c.numbers_of.result nobody ∙ c.numbers_of.ensures;
       };
       queue =
           subst (λ (q : OpenParts). AreOpen scenario p.bound (replicate n Idle) q.items) (sym c.in_ok-queue.ensures)
           (record { places = sym (none_placed p.bound n); messages = tt });
       acceptances = acceptances_fresh scenario p.bound n c.params.inside.omit _ _ c.in_ok-acceptances.ensures (ap (λ (q : Parameters). q.omit) params) room (none_recent p.bound n);
-      are_delivered = λ s o near. c.in_ok-deliveries.ensures.none s o ∙ sym (ap (is_carried (key_of s o)) (none_delivered p c.args.node n));
+      are_delivered = λ s o near. has_no_message _ c.in_ok-deliveries.deliveries c.in_ok-deliveries.ensures s o ∙ sym (ap (is_carried (key_of s o)) (none_delivered p c.args.node n));
       done =
           subst (λ (q : OpenParts). AreDone p c.args.node (replicate n Idle) (delivered p c.args.node (replicate n Idle)) (take q.done q.items)) (sym c.in_ok-queue.ensures) tt;
       pending = subst (λ (q : OpenParts). IsFirstPending p c.args.node (replicate n Idle) (slice_get q.items q.done)) (sym c.in_ok-queue.ensures) tt;

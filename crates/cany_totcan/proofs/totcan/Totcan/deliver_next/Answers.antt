@@ -1,6 +1,4 @@
 use Rattle.std.proofs.Common.{◌<◌, ◌∷◌, [], ◌++◌, length, ap, subst, sym, ◌∙◌, arith}
-use Rattle.cany_model.specs.Rules.Totcan.{message_in}
-use Rattle.cany_totcan.specs.Deliveries.{CanDeliver}
 use Rattle.cany_totcan.specs.Totcan.{TotcanParts}
 use Rattle.cany_totcan.specs.TotcanSteps.{AreAdded, fresh_of, tot_actions}
 use Rattle.cany_totcan.proofs.DueFacts.{due-first, due_one, gone_one, state_one}
@@ -12,7 +10,7 @@ advance-requires c =
     subst (λ (v : TotcanParts). v.queue.done < length v.queue.items) (sym c.self.view_is) first.within
 
 pub deliver-requires-clause-deliver : goal.deliver-requires-clause-deliver
-deliver-requires-clause-deliver c = subst (λ (v : TotcanParts). CanDeliver (message_in c.args.frame.now) v.deliveries) (sym c.self.view_is) c.requires.deliver
+deliver-requires-clause-deliver c = subst (λ (v : TotcanParts). c.args.frame.now.number < length v.deliveries.origins) (sym c.self.view_is) c.requires.deliver
 
 pub returns-clause-gone : goal.returns-clause-gone
 returns-clause-gone c =

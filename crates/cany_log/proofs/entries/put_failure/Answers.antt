@@ -1,0 +1,14 @@
+use Rattle.cany_text.specs.ReportLines.{entry_line}
+use Rattle.cany_log.proofs.LineFacts.{field_put, fields_none, word_put}
+use Rattle.cany_log.proofs.entries.put_failure.Goals as goal
+
+pub returns-clause-text : goal.returns-clause-text
+unfolding entry_line
+returns-clause-text g c =
+    word_put _ _ _ _ _
+    (field_put _ _ _ _ _
+    (field_put _ _ _ _ _
+    (field_put _ _ _ _ _ (fields_none _ _ c.put_bytes.ensures) (rw c.from.ensures at c.put_number.ensures.text))
+    (rw (c.from-2.ensures, c.get.ensures.value) at c.put_number-2.ensures.text))
+    c.put_number-3.ensures.text)
+    c.put_bytes-2.ensures
