@@ -51,6 +51,23 @@ fn of_storm(alloc: Global, rest: &[String]) -> Result<String, AllocError> {
     }
 }
 
+fn of_node(alloc: Global, arg: &str) -> Result<String, AllocError> {
+    let shown = quoted(alloc, arg)?;
+    format!(in alloc; "canely: invalid node{shown}: watch takes 1 or 2 digits\n")
+}
+
+/// What is wrong with the arguments after `watch`.
+fn of_watch(alloc: Global, rest: &[String]) -> Result<String, AllocError> {
+    match rest {
+        [] => String::from_str(alloc, "canely: watch needs a node; see canely --help\n"),
+        [arg] => of_node(alloc, arg.as_str()),
+        _ => String::from_str(
+            alloc,
+            "canely: watch takes one node alone; see canely --help\n",
+        ),
+    }
+}
+
 /// What the arguments after `media` have to be.
 const OF_MEDIA: &str =
     "canely: media takes faults of lines, as 0:5-9:down or 1:5-9:split:0,2; see canely --help\n";
@@ -62,6 +79,7 @@ fn of_args(alloc: Global, args: &[String]) -> Result<String, AllocError> {
         [arg, rest @ ..] => match arg.as_str() {
             "storm" => of_storm(alloc, rest),
             "media" => String::from_str(alloc, OF_MEDIA),
+            "watch" => of_watch(alloc, rest),
             "replay" | "check" | "run" | "replica" | "tail" | "--help" | "--version" => {
                 format!(in alloc; "canely: {arg} takes no arguments; see canely --help\n")
             }

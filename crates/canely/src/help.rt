@@ -20,6 +20,7 @@ usage: canely replay < SCENARIO > REPORT
        canely replica < SCENARIO > TABLES
        canely media [FAULT ..] < SCENARIO > REPORT
        canely tail < SCENARIO > TAIL
+       canely watch NODE < SCENARIO > LOG
        canely --help
        canely --version
 
@@ -47,6 +48,9 @@ FAULT, and then the report of the run.
 
 tail runs a scenario as replay does, and tells whether the run went on long enough after its last
 event (a send, a fault, a stop, a frame of a message) that every message has to be settled.
+
+watch runs a scenario as replay does, while a second thread reads the log of the node, whose number
+has 1 or 2 digits, and writes that log: the logs of the node's incarnations, one after the other.
 
 A scenario is a TOML document; slots, nodes and entries are counted from 0:
   format, nodes, slots       required; format 1 has up to 32 nodes, format 2 up to 64

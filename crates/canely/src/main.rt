@@ -12,6 +12,7 @@ use cany_media::media_top;
 use cany_replay::{replay_top, storm_top};
 use cany_replica::replica_top;
 use cany_settle::tail_top;
+use cany_watch::watch_top;
 use std::alloc::{AllocError, Global};
 use std::io::{BufWriter, Write};
 use std::process::ExitCode;
@@ -95,6 +96,7 @@ fn command<R: Threads + Wait + Sync, K: Sink>(
         [arg, ..] if arg.as_str() == "run" => run_freely(threads, alloc, args, &mut source, sink),
         [arg, ..] if arg.as_str() == "replica" => replica_top(alloc, args, &mut source, sink),
         [arg, ..] if arg.as_str() == "tail" => tail_top(alloc, args, &mut source, sink),
+        [arg, ..] if arg.as_str() == "watch" => watch_top(threads, alloc, args, &mut source, sink),
         _ => replay_top(alloc, args, &mut source, sink),
     }
 }

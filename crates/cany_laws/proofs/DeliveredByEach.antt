@@ -30,11 +30,12 @@ use Rattle.cany_model.proofs.Promises.OwnSlotsAlone.{run_numbered}
 use Rattle.cany_model.proofs.Runs.Runs.{orderly}
 use Rattle.cany_model.proofs.Timed.Guarantees.{accepted_by_all_or_none, ordered}
 use Rattle.cany_model.proofs.Timed.Order.OrderLog.{delivered_content}
+use Rattle.cany_model.proofs.Timed.Detector.DetectorLaws.{within_front}
 use Rattle.cany_laws.specs.Acceptance.{IsDeliveredByEachOrNone, accepted_in_time_as}
 use Rattle.cany_laws.specs.Logs.{HasReadClosingAs, log_as}
 use Rattle.cany_laws.proofs.DeliveredInTime.{accepted_delivers}
 use Rattle.cany_laws.proofs.EachView.{accepted_by_each, clean_older}
-use Rattle.cany_laws.proofs.Fronts.{front_split, within_front}
+use Rattle.cany_laws.proofs.Fronts.{front_split}
 use Rattle.cany_laws.proofs.IntegralLogs.{lived_correct, lived_log}
 use Rattle.cany_laws.proofs.Lives.{lived}
 

@@ -20,12 +20,13 @@ use Rattle.cany_model.proofs.Bus.EachRead.{EachRead, each_dropped}
 use Rattle.cany_model.proofs.Bus.Seen.{history-is}
 use Rattle.cany_model.proofs.Timed.Detector.SilentNode.{known_begun, shown_by}
 use Rattle.cany_model.proofs.Timed.Views.VectorBudget.{run_readable}
+use Rattle.cany_model.proofs.Timed.Detector.SilentNode.{failed_next}
 use Rattle.cany_laws.specs.Detection.{HasFailedBy, HearsNothingOf, IsDetected, hears_life}
 use Rattle.cany_laws.specs.Logs.{followed_by, past_of, past_to}
 use Rattle.cany_laws.proofs.EqualMembers.{first_read, first_read-length, first_read-more, next_read}
 use Rattle.cany_laws.proofs.EachView.{past_length}
 use Rattle.cany_laws.proofs.Lives.{Lived, lived}
-use Rattle.cany_laws.proofs.Silence.{failed_next, known_or_fails, shown_kept, silent_fails}
+use Rattle.cany_laws.proofs.Silence.{known_or_fails, shown_kept, silent_fails}
 
 -- ---- what an incarnation has read
 
@@ -116,7 +117,7 @@ module _ (scenario : ScenarioParts) (journal : List Step) (few : scenario.params
       let member = member_at n after (omega (arith, until)) in
       let quiet = quiet_at n after (omega (arith, until)) in
       elim f [
-        | inl failed ↦ inl (ap (λ (k : Knowledge). has k.failed r) (more n short) ∙ failed_next sc i r notice past below member failed)
+        | inl failed ↦ inl (ap (λ (k : Knowledge). has k.failed r) (more n short) ∙ failed_next sc i r notice past member below failed)
         | inr both ↦ elim (cases_Bool (has (knowledge_of sc i (notice ∷ past)).failed r)) [
           | inl fails ↦ inl (ap (λ (k : Knowledge). has k.failed r) (more n short) ∙ fails)
           | inr stands ↦ inr (
@@ -147,7 +148,7 @@ module _ (scenario : ScenarioParts) (journal : List Step) (few : scenario.params
       let same : K (u + 1) ≡ knowledge_of sc i (notice ∷ past) = more u read in
       let slot : length past ≡ u = size u (omega (arith, read)) in
       elim now [
-        | inl failed ↦ inl (ap (λ (k : Knowledge). has k.failed r) same ∙ failed_next sc i r notice past below member failed)
+        | inl failed ↦ inl (ap (λ (k : Knowledge). has k.failed r) same ∙ failed_next sc i r notice past member below failed)
         | inr both ↦ elim (cases_Bool (knows sign (K u))) [
           | inl known ↦ inr (both.1 known)
           | inr unknown ↦ inl (ap (λ (k : Knowledge). has k.failed r) same

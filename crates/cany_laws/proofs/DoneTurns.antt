@@ -1,10 +1,9 @@
 -- A turn in which no frame of a message is asked for, once it was dealt with: nothing of it is ahead at the node, its notice brings no frame of it, its scripted slot
 -- was read, and its origin has asked for it or came too late.
-use Rattle.std.proofs.Common.{◌≡◌, ℕ, zero, suc, ◌+◌, ◌<◌, ◌≤◌, ◌&&◌, ◌||◌, ◌==◌, ◌⊎◌, inl, inr, Bool, true, false, not, List, [], ◌∷◌, ◌++◌, filter, map, length, take, drop, slice_index_or, Option, Some, None, refl, ap, sym, ◌∙◌, subst, arith, length-drop}
+use Rattle.std.proofs.Common.{◌≡◌, ℕ, zero, suc, ◌+◌, ◌<◌, ◌≤◌, ◌&&◌, ◌==◌, ◌⊎◌, inl, inr, Bool, true, false, not, List, [], ◌∷◌, ◌++◌, filter, map, length, take, drop, slice_index_or, Option, Some, None, refl, ap, sym, ◌∙◌, subst, arith, length-drop}
 use Rattle.std.specs.List.{AllByRecursion, list_any}
 use Rattle.std.proofs.lemmas.Bool.{and_from, and_parts, both_ways, cond_both, eqb-true, false_from_ne_true, false≢true, not-true, not_from_false, or_cases, or_left, or_right}
 use Rattle.std.proofs.lemmas.List.{get_or-drop, get_or-take}
-use Rattle.cany_base.specs.declared.class.Class.{Class}
 use Rattle.cany_base.specs.declared.class.Class.TheVariants as class
 use Rattle.cany_base.specs.declared.message.MsgKey.{MsgKey}
 use Rattle.cany_base.specs.declared.message.Service.{Service}
@@ -23,12 +22,11 @@ use Rattle.cany_model.specs.Rules.Effect.{Effect, Ask, Withdraw, Enter}
 use Rattle.cany_model.specs.Rules.Life.{failure_signs, life_signs}
 use Rattle.cany_model.specs.Rules.Membership.{scripted_asks, vectors, views}
 use Rattle.cany_model.specs.Rules.Messages.{Message, accept_of_key, confirm_of_key, data_frame, data_id, frames_of, is_service, message_key, messages_of}
-use Rattle.cany_model.specs.Rules.Protocol.{Protocol}
 use Rattle.cany_model.specs.Rules.Relcan.{confirm_effects, confirm_frame, fall_back_effects, falls_back, fell_back, has_confirm, has_copy, has_timer_ahead, is_first_got, is_timed, late_copy_effects, relcan_at, relcan_effects, timer_effects}
 use Rattle.cany_model.specs.Rules.Sends.{is_sent_in, send_effects, sendable}
 use Rattle.cany_model.specs.Rules.Totcan.{accept_effects, accept_frame, after_place, can_be_accepted, closing_effects, closing_of, delivered_now, has_closing_ahead, holds, is_recent, message_in, tot_delivery, tot_in, tot_of_key, totcan_effects}
 use Rattle.cany_model.specs.Rules.Turn.{asks_for, has_asked, origin_effects, protocols, turn_effects}
-use Rattle.cany_model.proofs.Among.{Among, Among-from_any, Among-place, Among-weaker, Each-append, Each-flat_map, Each-weaker}
+use Rattle.cany_model.proofs.Among.{Among, Among-from_any, Among-place, Among-weaker, Each-append, Each-flat_map}
 use Rattle.cany_model.proofs.Bus.Carried.{Has}
 use Rattle.cany_model.proofs.Bus.Identities.{same_class-true, same_identity-true}
 use Rattle.cany_model.proofs.Promises.Sources.{carries_data}
@@ -37,7 +35,7 @@ use Rattle.cany_model.proofs.Rules.BacklogFacts.{HasJoined, asked-few, backlog_j
 use Rattle.cany_model.proofs.Rules.Begun.{AreIdle, IsBegun, begun_copy}
 use Rattle.cany_model.proofs.Rules.LifeFacts.{failures_are_lawful, life_is_lawful}
 use Rattle.cany_model.proofs.Rules.MessageKeys.{IsOneOf, is_service-true, same_message}
-use Rattle.cany_model.proofs.Rules.ProtocolFacts.{IsFounded, IsLawful}
+use Rattle.cany_model.proofs.Rules.MessageClasses.{data_of_message, is_of_message, others_of, request_other, same_other}
 use Rattle.cany_model.proofs.Rules.SendFacts.{is_sent_in-true, sendable_one}
 use Rattle.cany_model.proofs.Rules.VectorFacts.{vectors_are_lawful}
 use Rattle.cany_model.proofs.Rules.ViewFacts.{asks_are_lawful, views_are_lawful}
@@ -60,29 +58,11 @@ abbrev pub IsSourcedNotice : ScenarioParts → NoticeKind → Type 0
 IsSourcedNotice scenario e =
     (f : FrameParts) → Has f e → carries_data f.class ≡ true → (k : Message) × IsOneOf (messages_of scenario.sends) k × (data_frame k ≡ f)
 
--- the classes of the frames of messages
-abbrev is_of_message : Class → Bool
-is_of_message class.Accept = true
-is_of_message class.Rha = false
-is_of_message class.Els = false
-is_of_message class.Fda = false
-is_of_message class.Join = false
-is_of_message class.Leave = false
-is_of_message class.Confirm = true
-is_of_message class.Tot = true
-is_of_message class.Rel = true
-is_of_message class.Ed = true
-
-data_is : (by : Service) → is_of_message (data_class by) ≡ true
-data_is Ed = refl
-data_is Rel = refl
-data_is Tot = refl
-
 class_of : (f : FrameParts) (x : Identity) → x ≡ identity_of f → x.class ≡ f.class
 class_of f x h = ap (λ (y : Identity). y.class) h
 
 other_free : (m : Message) (f : FrameParts) → is_of_message f.class ≡ false → Free m f
-other_free m f other (inl h) = false≢true (sym other ∙ ap is_of_message (sym (class_of f (data_id m) h)) ∙ data_is m.service)
+other_free m f other (inl h) = false≢true (sym other ∙ ap is_of_message (sym (class_of f (data_id m) h)) ∙ data_of_message m.service)
 other_free m f other (inr (inl h)) = false≢true (sym other ∙ ap is_of_message (sym (class_of f (confirm_of_key (message_key m)) h)))
 other_free m f other (inr (inr (inl h))) = false≢true (sym other ∙ ap is_of_message (sym (class_of f (accept_of_key (message_key m)) h)))
 other_free m f other (inr (inr (inr never))) = never
@@ -126,27 +106,6 @@ answer_free scenario m e f g is free sourced has_f carries other node number h =
 
 abbrev AskFree : Message → List Effect → Type 0
 AskFree m effects = AllByRecursion (AsksOnly (Free m)) effects
-
-founded_other : (m : Message) (p : Protocol) (scenario : ScenarioParts) (i : ℕ) (past : List NoticeKind) → ((c : Class) → p.names c ≡ true → is_of_message c ≡ false)
-    → (e : Effect) → IsFounded scenario p i past e → AsksOnly (Free m) e
-founded_other m p scenario i past other (Ask f) h = other_free m f (other f.class h.1)
-founded_other m p scenario i past other (Withdraw x) h = tt
-founded_other m p scenario i past other (Enter entry) h = tt
-
-others_of : (m : Message) (p : Protocol) → IsLawful p → ((c : Class) → p.names c ≡ true → is_of_message c ≡ false) → (scenario : ScenarioParts) (i : ℕ)
-    (past : List NoticeKind) → AskFree m (p.effects scenario i past)
-others_of m p lawful other scenario i past =
-    Each-weaker (IsFounded scenario p i past) (AsksOnly (Free m)) (founded_other m p scenario i past other) (p.effects scenario i past)
-    (lawful.founded scenario i past)
-
-same_other : (c d : Class) → is_of_message d ≡ false → same_class c d ≡ true → is_of_message c ≡ false
-same_other c d other same = ap is_of_message (same_class-true c d same) ∙ other
-
-request_other : (c : Class) → (same_class c class.Join || same_class c class.Leave) ≡ true → is_of_message c ≡ false
-request_other c h = elim (or_cases (same_class c class.Join) (same_class c class.Leave) h) [
-  | inl join ↦ same_other c class.Join refl join
-  | inr leave ↦ same_other c class.Leave refl leave
-]
 
 -- ---- deliveries and relays
 
@@ -513,16 +472,16 @@ module _ (scenario : ScenarioParts) (m : Message) (is : IsOneOf (messages_of sce
           (
             totcan_free e before free sourced,
             (
-              others_of m failure_signs failures_are_lawful (λ c h. same_other c class.Fda refl h) scenario i past,
+              others_of (Free m) (other_free m) failure_signs (λ c h. same_other c class.Fda refl h) scenario i past failures_are_lawful,
               (
-                others_of m vectors vectors_are_lawful (λ c h. same_other c class.Rha refl h) scenario i past,
+                others_of (Free m) (other_free m) vectors (λ c h. same_other c class.Rha refl h) scenario i past vectors_are_lawful,
                 (
-                  others_of m views views_are_lawful request_other scenario i past,
+                  others_of (Free m) (other_free m) views request_other scenario i past views_are_lawful,
                   (
-                    others_of m life_signs life_is_lawful (λ c h. same_other c class.Els refl h) scenario i past,
+                    others_of (Free m) (other_free m) life_signs (λ c h. same_other c class.Els refl h) scenario i past life_is_lawful,
                     (
                       sends_free e before late,
-                      (others_of m scripted_asks asks_are_lawful request_other scenario i past, (backlog_free e before done, tt)),
+                      (others_of (Free m) (other_free m) scripted_asks request_other scenario i past asks_are_lawful, (backlog_free e before done, tt)),
                     ),
                   ),
                 ),

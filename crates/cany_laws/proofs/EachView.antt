@@ -26,10 +26,10 @@ use Rattle.cany_model.proofs.Timed.Guarantees.{accepted_by_all_or_none, one_vect
 use Rattle.cany_model.proofs.Timed.Views.LoggedViews.{installed_read, view_installed}
 use Rattle.cany_model.proofs.Timed.Views.OneVector.{installed_before}
 use Rattle.cany_model.proofs.Timed.Windows.QuietSlots.{within_dropped}
+use Rattle.cany_model.proofs.Timed.Detector.DetectorLaws.{within_front}
 use Rattle.cany_laws.specs.Acceptance.{IsAcceptedByEachOrNone, accepted_in_time_as}
 use Rattle.cany_laws.specs.Logs.{IsIncarnation, followed_by, past_of}
 use Rattle.cany_laws.specs.Views.{EachHasOneView, EachInstallsOneVector, HasReadEndAs, installed_as}
-use Rattle.cany_laws.proofs.Fronts.{within_front}
 use Rattle.cany_laws.proofs.IntegralLogs.{lived_correct}
 use Rattle.cany_laws.proofs.Lives.{Lived, lived}
 use Rattle.cany_laws.proofs.Since.{begins}

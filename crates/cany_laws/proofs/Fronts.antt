@@ -14,12 +14,10 @@ use Rattle.cany_model.specs.Bus.Restart.{after_restarts}
 use Rattle.cany_model.specs.Bus.Slot.{FaultScript, after_share, after_slot, node_after, script, share_of, slot_note_of}
 use Rattle.cany_model.specs.Bus.State.{EndedIncarnation, NodeState, RunState, node_at, opening, runs}
 use Rattle.cany_model.specs.Runs.Run.{after_turn, is_done, proceed, reply, run}
-use Rattle.cany_model.specs.Promises.Hypothesis.{IsWithin}
 use Rattle.cany_model.proofs.Among.{Among-append_right, Among-from_Contains, Contains-from_Among}
 use Rattle.cany_model.proofs.Runs.Journals.{run_push, run_then, step_is, step_refused}
 use Rattle.cany_model.proofs.Runs.Runs.{MaySlot, orderly, slot_done, turn_done, turn_is_done}
 use Rattle.cany_model.proofs.Runs.SlotStates.{trace_grows}
-use Rattle.cany_model.proofs.Timed.Windows.QuietSlots.{front_trace, within_dropped}
 use Rattle.cany_model.proofs.Runs.Steps.{MayTurn, after_slot-node, after_turn-node, after_turn-other}
 
 -- ---- along a journal
@@ -116,15 +114,6 @@ pub front_split : (scenario : ScenarioParts) (journal front rest : List Step) �
 front_split scenario journal front rest whole =
     let grows = trace_grows scenario (run scenario front) rest in
     (grows.0, ap (λ j. (run scenario j).trace) whole ∙ ap (λ (r : RunState). r.trace) (run_then scenario (opening scenario.params.nodes) front rest) ∙ grows.1)
-
--- and within the hypothesis where that is
-pub within_front : (scenario : ScenarioParts) (journal front rest : List Step) → journal ≡ front ++ rest → IsWithin scenario.params (run scenario journal).trace
-    → IsWithin scenario.params (run scenario front).trace
-within_front scenario journal front rest whole within =
-    let part = front_trace scenario front rest in
-    subst (IsWithin scenario.params) (sym part.1)
-    (within_dropped scenario.params (run scenario (front ++ rest)).trace part.0
-    (subst (λ steps. IsWithin scenario.params (run scenario steps).trace) whole within))
 
 -- what stands in an older trace stands in the newer one
 pub stands_later : {X : Type 0} (newer older : List X) (x : X) → Contains older x → Contains (newer ++ older) x

@@ -1,29 +1,25 @@
 -- A node that has failed at a member when a cycle starts is in no vector that is installed in it.
-use Rattle.std.proofs.Common.{◌≡◌, ℕ, zero, suc, ◌+◌, ◌-◌, ◌*◌, ◌<◌, ◌≤◌, ◌==◌, ◌&&◌, nat_lt, not, inl, inr, true, false, if◌then◌else◌, List, [], ◌∷◌, length, Option, Some, None, refl, ap, sym, ◌∙◌, subst, arith}
-use Rattle.std.proofs.lemmas.Bool.{and_from, and_parts, both_ways, cond-false, cond-true, cond_both, eq-eqb, eqb-true, lt-ltb, false_from_ne_true, not-true, or_cases}
-use Rattle.cany_base.proofs.NodesFacts.{has_none}
+use Rattle.std.proofs.Common.{◌≡◌, ℕ, zero, suc, ◌+◌, ◌-◌, ◌*◌, ◌<◌, ◌≤◌, ◌==◌, nat_lt, inl, inr, true, false, List, ◌∷◌, length, Option, Some, None, refl, ap, sym, ◌∙◌, subst, arith}
+use Rattle.std.proofs.lemmas.Bool.{and_from, both_ways, cond-false, cond-true, eq-eqb, lt-ltb, false_from_ne_true}
 use Rattle.cany_base.proofs.ParamsFacts.{few_nodes}
 use Rattle.cany_base.specs.Cycles.{cycle_of, is_end, is_start}
-use Rattle.cany_base.specs.declared.class.Class.TheVariants as class
 use Rattle.cany_base.specs.declared.notice.NoticeKind.{NoticeKind}
-use Rattle.cany_base.specs.declared.notice.NoticeKind.TheVariants.{Idle, Got, Sent, Bad}
 use Rattle.cany_base.specs.declared.step.Step.{Step}
-use Rattle.cany_base.specs.Nodes.{Nodes, has, meet, minus, with_node}
+use Rattle.cany_base.specs.Nodes.{Nodes, has, meet}
 use Rattle.cany_base.specs.Params.{Parameters}
 use Rattle.cany_base.specs.Scenario.{IsLegalScenario, ScenarioParts}
-use Rattle.cany_model.specs.Bus.Frames.{same_class}
 use Rattle.cany_model.specs.Bus.State.{EndedIncarnation, RunState}
 use Rattle.cany_model.specs.Promises.Hypothesis.{IsWithin}
 use Rattle.cany_model.specs.Rules.Knowledge.{Knowledge, after_finding}
-use Rattle.cany_model.specs.Rules.KnowledgeOf.{after_asking, after_installing, after_meeting, knowledge_of, met_in, start_in}
+use Rattle.cany_model.specs.Rules.KnowledgeOf.{after_installing, after_meeting, knowledge_of, met_in, start_in}
 use Rattle.cany_model.specs.Rules.Vectors.{after_exchange, brought, met, met_with}
-use Rattle.cany_model.specs.Rules.Views.{after_ask, start_of, start_vector, with_ended, with_joiner, with_leaver}
+use Rattle.cany_model.specs.Rules.Views.{start_of, start_vector, with_ended}
 use Rattle.cany_model.specs.Runs.Run.{run}
-use Rattle.cany_model.proofs.Bus.Notes.{those_where_pass}
 use Rattle.cany_model.proofs.Rules.CycleFacts.{in_exchange, in_start}
-use Rattle.cany_model.proofs.Rules.KnowledgeSteps.{failed_after, failed_by, joiners_after, joiners_by, members_by, vector_after}
+use Rattle.cany_model.proofs.Rules.KnowledgeSteps.{failed_after, failed_by, members_by, vector_after}
 use Rattle.cany_model.proofs.Timed.Common.KnowledgeAges.{ended_at, members_next}
-use Rattle.cany_model.proofs.Timed.Detector.SilentNode.{asked_members, found_joiners, found_members, lacks_says}
+use Rattle.cany_model.proofs.Timed.Detector.Removal.{asked_none, member_no_joiner}
+use Rattle.cany_model.proofs.Timed.Detector.SilentNode.{asked_members, lacks_says}
 use Rattle.cany_model.proofs.Timed.Detector.VectorsAgreeOn.{Says}
 use Rattle.cany_model.proofs.Timed.Views.StartViews.{start_no_end}
 use Rattle.cany_model.proofs.Timed.Views.VectorLastEffect.{IsCycle, at_end, at_place}
@@ -37,71 +33,6 @@ use Rattle.cany_laws.proofs.Detected.{detected}
 use Rattle.cany_laws.proofs.EachView.{each_installs_one, view_read}
 use Rattle.cany_laws.proofs.EqualMembers.{ended_as, ended_installs, ended_none, first_read, first_read-length, first_read-more, members_more, next_read}
 use Rattle.cany_laws.proofs.Lives.{Lived, lived}
-
--- ---- a member is no joiner
-
-leaver_joiners : (r q : ℕ) (st : Knowledge) → has st.joiners r ≡ false → has (with_leaver q st).joiners r ≡ false
-leaver_joiners r q st h =
-    cond_both (has st.members q) (record st { leavers = with_node q st.leavers }) st (λ s. has s.joiners r ≡ false) (λ _. h) (λ _. h)
-
-asks_none : (r : ℕ) (e : NoticeKind) (st : Knowledge) → has st.members r ≡ true → has st.joiners r ≡ false → has (after_ask e st).joiners r ≡ false
-unfolding after_ask
-asks_none r Idle st member h = h
-asks_none r Bad st member h = h
-asks_none r (Sent f) st member h =
-    cond_both (same_class f.class class.Leave) (with_leaver f.node st) st (λ s. has s.joiners r ≡ false) (λ _. leaver_joiners r f.node st h) (λ _. h)
-asks_none r (Got f) st member h =
-    cond_both (same_class f.class class.Join) (with_joiner f.node st) (if same_class f.class class.Leave then with_leaver f.node st else st)
-    (λ s. has s.joiners r ≡ false)
-    (λ _. cond_both (has st.members f.node) st (record st { joiners = with_node f.node st.joiners }) (λ s. has s.joiners r ≡ false) (λ _. h)
-    (λ out. false_from_ne_true (has (with_node f.node st.joiners) r) (λ k.
-    elim (or_cases (has st.joiners r) (r == f.node) (those_where_pass _ r k)) [
-      | inl old ↦ both_ways (has st.joiners r) h old
-      | inr new ↦ both_ways (has st.members f.node) out (subst (λ q. has st.members q ≡ true) (eqb-true r f.node new) member)
-    ])))
-    (λ _. cond_both (same_class f.class class.Leave) (with_leaver f.node st) st (λ s. has s.joiners r ≡ false)
-    (λ _. leaver_joiners r f.node st h) (λ _. h))
-
-pub asked_none : (p : Parameters) (i r slot : ℕ) (e : NoticeKind) (st : Knowledge) → has st.members r ≡ true → has st.joiners r ≡ false
-    → has (after_asking p i slot e st).joiners r ≡ false
-asked_none p i r slot e st member h =
-    asks_none r e (after_finding p i slot e st) (ap (λ m. has m r) (found_members p i slot e st) ∙ member)
-    (ap (λ m. has m r) (found_joiners p i slot e st) ∙ h)
-
-joiners_less : (v : Nodes) (joiners : Nodes) (r : ℕ) → has v r ≡ true → has (minus joiners v) r ≡ false
-joiners_less v joiners r there = false_from_ne_true (has (minus joiners v) r) (λ k.
-    both_ways (has v r)
-    (not-true (has v r) (and_parts (has joiners r) (not (has v r)) (those_where_pass (λ q. has joiners q && not (has v q)) r k)).1) there)
-
-joiners_first : (scenario : ScenarioParts) (i r : ℕ) → has (knowledge_of scenario i []).joiners r ≡ false
-unfolding knowledge_of
-joiners_first scenario i r = has_none r
-
-joiners_next : (scenario : ScenarioParts) (i r : ℕ) (e : NoticeKind) (past : List NoticeKind) (v : Option Nodes) → ended_at scenario i e past ≡ v
-    → (knowledge_of scenario i (e ∷ past)).joiners ≡ joiners_by v (after_asking scenario.params i (length past) e (knowledge_of scenario i past)).joiners
-unfolding knowledge_of
-joiners_next scenario i r e past v is =
-    joiners_after scenario.params i (length past) e (knowledge_of scenario i past)
-    ∙ ap (λ o. joiners_by o (after_asking scenario.params i (length past) e (knowledge_of scenario i past)).joiners) is
-
-pub member_no_joiner : (scenario : ScenarioParts) (i r : ℕ) (past : List NoticeKind) → has (knowledge_of scenario i past).members r ≡ true
-    → has (knowledge_of scenario i past).joiners r ≡ false
-member_no_joiner scenario i r [] member = joiners_first scenario i r
-member_no_joiner scenario i r (e ∷ past) member = by_ended (member_no_joiner scenario i r past) (ended_at scenario i e past) refl
-  where
-    st : Knowledge
-    st = knowledge_of scenario i past
-
-    by_ended : (has (knowledge_of scenario i past).members r ≡ true → has (knowledge_of scenario i past).joiners r ≡ false)
-        → (v : Option Nodes) → ended_at scenario i e past ≡ v → has (knowledge_of scenario i (e ∷ past)).joiners r ≡ false
-    by_ended before None is =
-        let old : has st.members r ≡ true =
-        ap (λ m. has m r) (sym (members_next scenario i e past ∙ ap (λ v. members_by v st.members) is)) ∙ member in
-        ap (λ m. has m r) (joiners_next scenario i r e past None is) ∙ asked_none scenario.params i r (length past) e st old (before old)
-    by_ended before (Some v) is =
-        let there : has v r ≡ true = ap (λ m. has m r) (sym (members_next scenario i e past ∙ ap (λ w. members_by w st.members) is)) ∙ member in
-        ap (λ m. has m r) (joiners_next scenario i r e past (Some v) is)
-        ∙ joiners_less v (after_asking scenario.params i (length past) e st).joiners r there
 
 -- ---- the vector of a member
 
@@ -167,7 +98,7 @@ module _ (scenario : ScenarioParts) (i : ℕ) (e : NoticeKind) (past : List Noti
       let old : has st.members r ≡ true = ap (λ m. has m r) (sym same_members) ∙ member in
       let fails : has (after_finding p i slot e st).failed r ≡ true = ap (λ m. has m r) (sym (failed_next none)) ∙ failed in
       let says : Says r false (start_in p i slot e st) =
-      lacks_says p i r slot e st no_end (inr fails) (asked_none p i r slot e st old (member_no_joiner scenario i r past old)) in
+      lacks_says p i r slot e st no_end (inr fails) (asked_none p i r slot e st (inl old) (member_no_joiner scenario i r past old)) in
       let now : (knowledge_of scenario i (e ∷ past)).vector ≡ start_in p i slot e st =
       vector_next ∙ cond-true (is_start p slot) (start_in p i slot e st) _ start in
       let some = starts (ap (λ m. has m i) (sym same_members) ∙ own) start no_end in

@@ -1,5 +1,5 @@
 -- What the worked rows of the laws are written with: small runs, and what each incarnation of their nodes came to.
-use Rattle.std.specs.Prelude.{ℕ, zero, suc, ◌-◌, ◌==◌, ◌++◌, Bool, if◌then◌else◌, List, [], ◌∷◌, Option, None, map, take}
+use Rattle.std.specs.Prelude.{ℕ, zero, suc, ◌-◌, ◌==◌, ◌++◌, Bool, if◌then◌else◌, List, [], ◌∷◌, Option, map, take}
 use Rattle.std.specs.List.{range_with_len}
 use Rattle.cany_base.specs.declared.format.Format.TheVariants.{One}
 use Rattle.cany_base.specs.declared.log_entry.LogEntry.{LogEntry}
@@ -8,89 +8,39 @@ use Rattle.cany_base.specs.declared.message.MsgKey.{MsgKey}
 use Rattle.cany_base.specs.declared.message.NodeAsk.{NodeAsk}
 use Rattle.cany_base.specs.declared.message.SendAsk.{SendAsk}
 use Rattle.cany_base.specs.declared.message.Service.{Service}
-use Rattle.cany_base.specs.declared.rule.Place.TheVariants.{At}
 use Rattle.cany_base.specs.declared.rule.Rule.{Rule}
-use Rattle.cany_base.specs.declared.rule.Verdict.{Verdict}
 use Rattle.cany_base.specs.declared.step.Step.{Step}
 use Rattle.cany_base.specs.declared.step.Step.TheVariants.{Slot, Turn}
-use Rattle.cany_base.specs.Nodes.{Nodes, has, bits_where, those_where}
+use Rattle.cany_base.specs.Params.{default_parameters}
 use Rattle.cany_base.specs.Scenario.{ScenarioParts}
+use Rattle.cany_model.proofs.RowWords.{run_words, scenario_of}
 use Rattle.cany_model.specs.declared.breaks.Break.{Break}
-use Rattle.cany_model.specs.Bus.Frames.{same_class, same_identity, same_frame, is_before}
-use Rattle.cany_model.specs.Bus.History.{is_hidden, as_seen, history, copies, has_own, ended_history}
-use Rattle.cany_model.specs.Bus.Restart.{names_restart, after_entries, nodes_after_entries, after_restarts}
-use Rattle.cany_model.specs.Bus.Slot.{least_frame, winner, script, share_of, after_share, slot_note_of, node_after, nodes_after, after_slot}
-use Rattle.cany_model.specs.Bus.State.{EndedIncarnation, RunState, node_at}
-use Rattle.cany_model.specs.Bus.Waiting.{put_in_order}
-use Rattle.cany_model.specs.Promises.Hypothesis.{break_at, first_break, count_together}
+use Rattle.cany_model.specs.Bus.History.{ended_history}
+use Rattle.cany_model.specs.Bus.State.{EndedIncarnation, RunState}
+use Rattle.cany_model.specs.Promises.Hypothesis.{first_break}
 use Rattle.cany_model.specs.Promises.OneView.{installed_of}
 use Rattle.cany_model.specs.Promises.Order.{order_by}
 use Rattle.cany_model.specs.Promises.Settled.{is_settled}
-use Rattle.cany_model.specs.Rules.Backlog.{backlog, asked, backlog_effects}
-use Rattle.cany_model.specs.Rules.Delivery.{delivery_effects}
-use Rattle.cany_model.specs.Rules.Eager.{eager_effects}
-use Rattle.cany_model.specs.Rules.Edcan.{edcan_at, edcan_effects}
-use Rattle.cany_model.specs.Rules.Effect.{waiting_after, entered}
-use Rattle.cany_model.specs.Rules.Knowledge.{shows_life, after_life, with_signs, told, found}
-use Rattle.cany_model.specs.Rules.KnowledgeOf.{after_notice, knowledge_of}
-use Rattle.cany_model.specs.Rules.Life.{sign_effects, fda_copy_effects, failure_effects, failures_at, life_signs_sent, life_effects}
-use Rattle.cany_model.specs.Rules.Log.{log_from}
-use Rattle.cany_model.specs.Rules.Membership.{exchange_effects, install_effects, ask_effects}
-use Rattle.cany_model.specs.Rules.Messages.{Message, messages_after, is_service}
-use Rattle.cany_model.specs.Rules.Relcan.{fell_back, relcan_at, timer_effects, relcan_effects}
-use Rattle.cany_model.specs.Rules.Sends.{send_effects}
-use Rattle.cany_model.specs.Rules.Totcan.{tot_in, is_recent, after_place, is_heard, is_accepted, accept_effects, closing_effects, is_clear, done_from, delivered as delivered_tot, delivered_now, totcan_effects}
-use Rattle.cany_model.specs.Rules.Turn.{has_asked, turn_effects}
-use Rattle.cany_model.specs.Rules.Vectors.{brought, met, is_just, is_covered, is_new, vector_effects, end_effects, start_effects, exchange_at}
-use Rattle.cany_model.specs.Rules.Views.{after_ask, with_ended, view_effects}
+use Rattle.cany_model.specs.Rules.Messages.{Message}
 use Rattle.cany_model.specs.Runs.Incarnations.{incarnation_of, incarnations}
-use Rattle.cany_model.specs.Runs.RoundRobin.{round, rounds, round_robin}
-use Rattle.cany_model.specs.Runs.Run.{first_lagging, reply, is_legal_from, after_turn, proceed, after_step, run_from, run}
+use Rattle.cany_model.specs.Runs.RoundRobin.{round_robin}
+use Rattle.cany_model.specs.Runs.Run.{run}
 use Rattle.cany_laws.specs.Logs.{log_as}
-
 -- ---- scenarios
 
-abbrev pub set : ℕ → Nodes
-set bits = record { bits = bits }
-
-unfoldable pub send : Service → ℕ → ℕ → List ℕ → SendAsk
-send by slot node payload = record { slot = slot; node = node; service = by; payload = payload }
-
-unfoldable pub slot_rule : ℕ → Verdict → ℕ → Rule
-slot_rule slot verdict stop = record { place = At slot; verdict = verdict; stop = set stop }
-
-unfoldable pub again : ℕ → ℕ → NodeAsk
-again slot node = record { slot = slot; node = node }
+pub use Rattle.cany_model.proofs.RowWords.{set}
+unfoldable pub use Rattle.cany_model.proofs.RowWords.{ask as again, send, slot_rule}
 
 -- So many nodes, all members, at lag 0, with one omission and two errors. The other parameters are the least: of two nodes a cycle has 38 slots and ends in its slot
 -- 19, and a member has failed after 39 slots without life; of three these are 72, 36 and 73.
 unfoldable pub two : ℕ → List SendAsk → List Rule → List NodeAsk → ScenarioParts
-two slots sends rules restarts = record {
-  params = record { format = One; nodes = 2; lag = 0; omit = 1; errors = 2; bound = 19; cycle = 38; life = 19; silence = 39; confirm = 10; slots = slots };
-  members = set 3;
-  sends = sends;
-  rules = rules;
-  joins = [];
-  leaves = [];
-  restarts = restarts;
-  from = 0;
-  inc = 0;
-  journal = None;
-}
+unfolding scenario_of
+two slots sends rules restarts = scenario_of (default_parameters 2 slots) 3 sends rules restarts
 
 unfoldable pub three_by : (silence confirm : ℕ) → ℕ → List SendAsk → List Rule → List NodeAsk → ScenarioParts
-three_by silence confirm slots sends rules restarts = record {
-  params = record { format = One; nodes = 3; lag = 0; omit = 1; errors = 2; bound = 36; cycle = 72; life = 36; silence = silence; confirm = confirm; slots = slots };
-  members = set 7;
-  sends = sends;
-  rules = rules;
-  joins = [];
-  leaves = [];
-  restarts = restarts;
-  from = 0;
-  inc = 0;
-  journal = None;
-}
+unfolding scenario_of
+three_by silence confirm slots sends rules restarts =
+    scenario_of (record (default_parameters 3 slots) { silence = silence; confirm = confirm }) 7 sends rules restarts
 
 unfoldable pub three : ℕ → List SendAsk → List Rule → List NodeAsk → ScenarioParts
 unfolding three_by
@@ -135,7 +85,7 @@ pub record Found : Type 0 where
 -- Of the run of a scenario by a journal: where it leaves the hypothesis, and what each incarnation of its nodes came to. What computes a run is opened here, once
 -- for all rows.
 unfoldable pub found_by : ScenarioParts → List Step → Found
-unfolding has bits_where those_where same_class same_identity same_frame is_before messages_after node_at put_in_order least_frame winner script share_of after_share slot_note_of node_after nodes_after after_slot names_restart after_entries nodes_after_entries after_restarts is_hidden as_seen history copies has_own waiting_after entered eager_effects delivery_effects edcan_at edcan_effects fell_back relcan_at timer_effects relcan_effects send_effects tot_in is_recent after_place is_heard is_accepted accept_effects closing_effects is_clear done_from delivered_tot delivered_now totcan_effects shows_life after_life with_signs told found after_notice knowledge_of sign_effects fda_copy_effects failure_effects failures_at life_signs_sent life_effects brought met is_just is_covered is_new vector_effects end_effects start_effects exchange_at exchange_effects after_ask with_ended view_effects install_effects ask_effects backlog asked backlog_effects is_service turn_effects has_asked log_from first_lagging reply is_legal_from after_turn proceed after_step run_from round rounds break_at first_break count_together is_settled ended_history incarnation_of installed_of order_by
+unfolding run_words ended_history incarnation_of installed_of order_by
 found_by sc journal =
     let s = run sc journal in
     record { broken = first_break sc.params s.trace; lives = of_nodes (lived_in sc) sc.params.nodes s }

@@ -1,22 +1,21 @@
 -- A member that is not heard for as long as the silence has failed, unless the sign of this cycle was known before.
-use Rattle.std.proofs.Common.{◌≡◌, ℕ, ◌+◌, ◌-◌, ◌<◌, ◌≤◌, ◌&&◌, ◌||◌, ◌==◌, ◌⊎◌, inl, inr, Bool, true, false, not, nat_le, List, [], ◌∷◌, filter, map, length, Option, Some, None, refl, ap, sym, ◌∙◌, subst, arith}
+use Rattle.std.proofs.Common.{◌≡◌, ℕ, ◌+◌, ◌-◌, ◌<◌, ◌≤◌, ◌&&◌, ◌==◌, ◌⊎◌, inl, inr, Bool, true, false, not, nat_le, List, [], ◌∷◌, filter, map, length, refl, ap, sym, ◌∙◌, subst, arith}
 use Rattle.std.specs.List.{range_with_len}
-use Rattle.std.proofs.lemmas.Bool.{and_from, and_parts, both_ways, cases_Bool, cond-false, cond_both, eq-eqb, false_from_ne_true, le-leb, ne_eqb, not-true, not_from_false, or_cases, or_left, or_right}
+use Rattle.std.proofs.lemmas.Bool.{and_from, both_ways, cases_Bool, cond-false, cond_both, eq-eqb, false_from_ne_true, le-leb, ne_eqb, not_from_false, or_cases}
 use Rattle.std.proofs.lemmas.List.FromFn.{get_or-range_with_len, length-range_with_len}
 use Rattle.cany_base.specs.Limits.{most_nodes}
 use Rattle.cany_base.specs.declared.notice.NoticeKind.{NoticeKind}
 use Rattle.cany_base.specs.declared.notice.NoticeKind.TheVariants.{Idle, Got, Sent, Bad}
-use Rattle.cany_base.specs.Nodes.{Nodes, has, minus}
+use Rattle.cany_base.specs.Nodes.{Nodes, has}
 use Rattle.cany_base.specs.Params.{Parameters}
 use Rattle.cany_base.specs.Scenario.{ScenarioParts}
-use Rattle.cany_model.specs.Rules.Knowledge.{FailureSign, Knowledge, after_finding, after_hearing, after_learning, after_life, found, found_in, has_timed_out, knows, same_sign, shows_life, sign_in, told_in, with_shown, with_sign, with_signs}
+use Rattle.cany_model.specs.Rules.Knowledge.{FailureSign, Knowledge, after_finding, after_hearing, after_learning, after_life, found, found_in, has_timed_out, knows, same_sign, shows_life, sign_in, told_in, with_shown}
 use Rattle.cany_model.specs.Rules.KnowledgeOf.{knowledge_of}
 use Rattle.cany_model.proofs.Among.{Among, Among-append_cases, Among-from_any, Among-get_or, Among-map, Among-weaker}
-use Rattle.cany_model.proofs.Bus.Notes.{has_where, those_where_pass}
 use Rattle.cany_model.proofs.Rules.KnowledgeFacts.{known_after, knows_heard, knows_with, newly, same_sign-true, tells}
-use Rattle.cany_model.proofs.Rules.KnowledgeSteps.{failed_after, failed_by, is_admitted, learnt_keeps, life_keeps, shown_after}
+use Rattle.cany_model.proofs.Rules.KnowledgeSteps.{failed_after, is_admitted, learnt_keeps, life_keeps, shown_after}
 use Rattle.cany_model.proofs.Timed.Common.KnowledgeAges.{ended_at}
-use Rattle.cany_model.proofs.Timed.Detector.SilentNode.{found_still, learnt_still}
+use Rattle.cany_model.proofs.Timed.Detector.SilentNode.{failed_by_still, learnt_still, not_admitted, with_signs_named}
 use Rattle.cany_laws.specs.Detection.{hears_life}
 
 -- ---- life that is not shown
@@ -37,35 +36,6 @@ learnt_no_life i slot r e st h = learnt_keeps ℕ (λ s. s.shown r) (λ sign s. 
 
 -- ---- a failure that stays
 
-with_signs_still : (r : ℕ) (signs : List FailureSign) (st : Knowledge) → r < most_nodes → has st.failed r ≡ true → has (with_signs signs st).failed r ≡ true
-unfolding with_signs
-with_signs_still r [] st few h = h
-with_signs_still r (sign ∷ signs) st few h =
-    with_signs_still r signs (with_sign sign st) few (has_where (λ q. has st.failed q || q == sign.node) r few ∙ or_left (has st.failed r) (r == sign.node) h)
-
-with_signs_named : (r : ℕ) (signs : List FailureSign) (st : Knowledge) → r < most_nodes → Among (λ sign. sign.node ≡ r) signs
-    → has (with_signs signs st).failed r ≡ true
-unfolding with_signs
-with_signs_named r [] st few h = absurd h
-with_signs_named r (sign ∷ signs) st few (inl now) =
-    with_signs_still r signs (with_sign sign st) few
-    (has_where (λ q. has st.failed q || q == sign.node) r few ∙ or_right (has st.failed r) (r == sign.node) (eq-eqb r sign.node (sym now)))
-with_signs_named r (sign ∷ signs) st few (inr later) = with_signs_named r signs (with_sign sign st) few later
-
--- a member is not newly admitted
-not_admitted : (v : Option Nodes) (old : Nodes) (r : ℕ) → has old r ≡ true → is_admitted v old r ≡ false
-not_admitted None old r h = refl
-not_admitted (Some v) old r h = false_from_ne_true (has (minus v old) r) (λ k.
-    both_ways (has old r)
-    (not-true (has old r) (and_parts (has v r) (not (has old r)) (those_where_pass (λ x. has v x && not (has old x)) r k)).1) h)
-
-failed_by_still : (v : Option Nodes) (old failed : Nodes) (r : ℕ) → r < most_nodes → is_admitted v old r ≡ false → has failed r ≡ true
-    → has (failed_by v old failed) r ≡ true
-failed_by_still None old failed r few none h = h
-failed_by_still (Some v) old failed r few none h =
-    has_where (λ q. has failed q && not (has (minus v old) q)) r few
-    ∙ and_from (has failed r) (not (has (minus v old) r)) h (not_from_false (has (minus v old) r) none)
-
 -- ---- one turn, of a node that had r in its view before it
 
 module _ (scenario : ScenarioParts) (i r : ℕ) (e : NoticeKind) (past : List NoticeKind) (few : r < most_nodes)
@@ -83,9 +53,6 @@ module _ (scenario : ScenarioParts) (i r : ℕ) (e : NoticeKind) (past : List No
       ap (λ m. has m r) (failed_after scenario.params i slot e st)
       ∙ failed_by_still (ended_at scenario i e past) st.members (after_finding scenario.params i slot e st).failed r few
       (not_admitted (ended_at scenario i e past) st.members r member) h
-
-  pub failed_next : has st.failed r ≡ true → has (knowledge_of scenario i (e ∷ past)).failed r ≡ true
-  failed_next h = found_fails (found_still scenario.params i r slot e st few h)
 
   pub shown_kept : hears_life r e ≡ false → (knowledge_of scenario i (e ∷ past)).shown r ≡ st.shown r
   unfolding knowledge_of

@@ -13,8 +13,6 @@ mod refusal;
 mod single_bus;
 mod stretches;
 mod tables;
-#[cfg(test)]
-mod tests;
 mod threads;
 mod top;
 

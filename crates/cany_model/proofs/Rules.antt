@@ -17,6 +17,7 @@ pub mod LifeCounts
 pub mod LifeFacts
 pub mod LogFacts
 pub mod MembershipEntries
+pub mod MessageClasses
 pub mod MessageKeys
 pub mod MutedFacts
 pub mod NumberFacts

@@ -10,6 +10,3 @@ mod top;
 pub use storm::storm_scenario;
 pub use storm_run::storm_top;
 pub use top::replay_top;
-
-#[cfg(test)]
-mod tests;

@@ -20,6 +20,3 @@ pub use table::Table;
 pub use text::write_replica;
 pub use top::replica_top;
 pub use value::Value;
-
-#[cfg(test)]
-mod tests;

@@ -1,5 +1,5 @@
 -- Worked rows of eager diffusion, also at a lag.
-use Rattle.std.specs.Prelude.{ℕ, ◌≡◌, true, List, [], ◌∷◌, Some, None, refl, codes}
+use Rattle.std.specs.Prelude.{ℕ, ◌≡◌, true, List, [], ◌∷◌, Some, refl, codes}
 use Rattle.cany_base.specs.declared.notice.NoticeKind.{NoticeKind}
 use Rattle.cany_base.specs.declared.notice.NoticeKind.TheVariants.{Idle, Got, Sent, Bad}
 use Rattle.cany_base.specs.declared.rule.Verdict.TheVariants.{Clean, Partial}
@@ -12,20 +12,15 @@ use Rattle.cany_model.specs.Rules.Effect.{Effect, Ask, Withdraw, Enter}
 use Rattle.cany_model.specs.Bus.Frames.{identity_of, same_class, same_identity}
 use Rattle.cany_model.specs.Bus.History.{copies, has_own}
 use Rattle.cany_model.specs.Runs.RoundRobin.{round_robin}
-use Rattle.cany_rows.proofs.RowWords.{lag_1, carries, delivered, delivers, ed, first_frame, one_message, report, row, scenario, set, slot_rule, steps, three}
+use Rattle.cany_rows.proofs.RowWords.{lag_1, carries, delivered, delivers, ed, first_frame, one_message, report, row, scenario, set, slot_rule, steps, three, running_node, stopped_node, whole_run}
 
 -- with omit 0 the first copy is already enough: nobody relays
 one_copy_is_enough :
-    (let s = scenario (three 4 0 2) one_message [] in report s (round_robin s)) ≡ record {
-      journal = steps (codes ".012.012.012.012");
-      bus = carries 1 first_frame 1 6 Clean 0 ∷ [];
-      broken = None;
-      nodes = record { stopped = None; read = 4; log = delivered 1 } ∷ record { stopped = None; read = 4; log = delivered 1 }
-          ∷ record { stopped = None; read = 4; log = delivered 1 } ∷ [];
-      settled = true ∷ [];
-      legal = true;
-      ended = true;
-    }
+    (let s = scenario (three 4 0 2) one_message [] in report s (round_robin s)) ≡ whole_run (steps (codes ".012.012.012.012"))
+    (carries 1 first_frame 1 6 Clean 0 ∷ [])
+    (running_node 4 (delivered 1) ∷ running_node 4 (delivered 1)
+    ∷ running_node 4 (delivered 1) ∷ [])
+    (true ∷ [])
 unfolding row
 one_copy_is_enough = refl
 
@@ -35,8 +30,8 @@ omit_comes_before_errors :
       journal = steps (codes ".012.012.012.012");
       bus = carries 1 first_frame 1 2 (Partial (set 4)) 0 ∷ carries 2 first_frame 1 6 Clean 0 ∷ [];
       broken = Some (record { kind = kind.Omit; slot = 1 });
-      nodes = record { stopped = None; read = 4; log = delivered 2 } ∷ record { stopped = None; read = 4; log = delivered 1 }
-          ∷ record { stopped = None; read = 4; log = delivered 2 } ∷ [];
+      nodes = running_node 4 (delivered 2) ∷ running_node 4 (delivered 1)
+          ∷ running_node 4 (delivered 2) ∷ [];
       settled = true ∷ [];
       legal = true;
       ended = true;
@@ -109,8 +104,8 @@ too_many_partial_copies_lose_a_message : report (twice_partial 1) (steps (codes 
   journal = steps (codes ".012.02.112.12.12");
   bus = carries 1 first_frame 1 2 (Partial (set 4)) 0 ∷ carries 2 first_frame 1 2 (Partial (set 4)) 1 ∷ [];
   broken = Some (record { kind = kind.Omit; slot = 2 });
-  nodes = record { stopped = Some 2; read = 2; log = [] } ∷ record { stopped = None; read = 5; log = delivered 1 }
-      ∷ record { stopped = None; read = 5; log = [] } ∷ [];
+  nodes = stopped_node 2 2 [] ∷ running_node 5 (delivered 1)
+      ∷ running_node 5 [] ∷ [];
   settled = true ∷ [];
   legal = true;
   ended = true;
@@ -119,15 +114,10 @@ unfolding row lag_1 twice_partial
 too_many_partial_copies_lose_a_message = refl
 
 -- with omit 2 the same run is within the hypothesis, and node 1 relays
-two_partial_copies_within : report (twice_partial 2) (steps (codes ".012.02.112.12.12")) ≡ record {
-  journal = steps (codes ".012.02.112.12.12");
-  bus = carries 1 first_frame 1 2 (Partial (set 4)) 0 ∷ carries 2 first_frame 1 2 (Partial (set 4)) 1 ∷ carries 3 first_frame 2 4 Clean 0 ∷ carries 4 first_frame 4 2 Clean 0 ∷ [];
-  broken = None;
-  nodes = record { stopped = Some 2; read = 2; log = [] } ∷ record { stopped = None; read = 5; log = delivered 1 }
-      ∷ record { stopped = None; read = 5; log = delivered 3 } ∷ [];
-  settled = true ∷ [];
-  legal = true;
-  ended = true;
-}
+two_partial_copies_within : report (twice_partial 2) (steps (codes ".012.02.112.12.12")) ≡ whole_run (steps (codes ".012.02.112.12.12"))
+    (carries 1 first_frame 1 2 (Partial (set 4)) 0 ∷ carries 2 first_frame 1 2 (Partial (set 4)) 1 ∷ carries 3 first_frame 2 4 Clean 0 ∷ carries 4 first_frame 4 2 Clean 0 ∷ [])
+    (stopped_node 2 2 [] ∷ running_node 5 (delivered 1)
+    ∷ running_node 5 (delivered 3) ∷ [])
+    (true ∷ [])
 unfolding row lag_1 twice_partial
 two_partial_copies_within = refl

@@ -1,28 +1,18 @@
 -- A worked report of more nodes than format one has.
-use Rattle.std.specs.Prelude.{ℕ, ◌≡◌, ◌++◌, List, [], ◌∷◌, None, codes, decimal, refl}
+use Rattle.std.specs.Prelude.{ℕ, ◌≡◌, ◌++◌, List, [], ◌∷◌, codes, decimal, refl}
 use Rattle.std.specs.List.{concat, flat_map, range_with_len}
 use Rattle.std.specs.Fmt.{digits}
 use Rattle.cany_base.specs.declared.format.Format.TheVariants.{Two}
 use Rattle.cany_base.specs.Params.{default_parameters_of}
 use Rattle.cany_base.specs.Scenario.{ScenarioParts}
+use Rattle.cany_model.proofs.RowWords.{scenario_of}
 use Rattle.cany_rows.proofs.ReportRows.{text_of}
-use Rattle.cany_rows.proofs.RowWords.{send, set}
+use Rattle.cany_rows.proofs.RowWords.{send}
 
 -- two slots of forty nodes, which are all members, and one EDCAN message of the last node, without data
 unfoldable forty : ScenarioParts
-unfolding send
-forty = record {
-  params = default_parameters_of Two 40 2;
-  members = set 1099511627775;
-  sends = send 0 39 [] ∷ [];
-  rules = [];
-  joins = [];
-  leaves = [];
-  restarts = [];
-  from = 0;
-  inc = 0;
-  journal = None;
-}
+unfolding send scenario_of
+forty = scenario_of (default_parameters_of Two 40 2) 1099511627775 (send 0 39 [] ∷ []) [] []
 
 -- what a node tells
 unfoldable section : ℕ → List ℕ

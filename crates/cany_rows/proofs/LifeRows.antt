@@ -30,7 +30,7 @@ use Rattle.cany_model.specs.Rules.KnowledgeOf.{knowledge_of}
 use Rattle.cany_model.specs.Rules.Knowledge.{FailureSign, Knowledge, after_life, fda_of, found as found_by_silence, after_admitting, knowledge_at_first, told}
 use Rattle.cany_model.specs.Rules.Turn.{effects_for, scenario_for, turn_effects}
 use Rattle.cany_model.proofs.Promises.BreakFacts.{first_break_exact}
-use Rattle.cany_rows.proofs.RowWords.{accept, carries, delivers, delivers_rel, delivers_tot, confirm, ed, first_accept, first_tot, idle, one_tot, rel, report, row, scenario, send, send_rel, send_tot, set, slot_rule, steps, three, tot}
+use Rattle.cany_rows.proofs.RowWords.{accept, carries, delivers, delivers_rel, delivers_tot, confirm, ed, first_accept, first_tot, idle, one_tot, rel, report, row, scenario, send, send_rel, send_tot, set, slot_rule, steps, three, tot, running_node, stopped_node, whole_run}
 
 -- ---- what a row is written with
 
@@ -81,17 +81,12 @@ unfoldable node_1_stops : ScenarioParts
 node_1_stops = of_members 7 (scenario (record (three 100 1 2) { cycle = 200 }) [] (slot_rule 5 Clean 2 ∷ []))
 
 failure_sign_before_any_cycle :
-    (let s = node_1_stops in report s (round_robin s)) ≡ record {
-      journal = steps (rounds_of 5 (codes ".012") ++ rounds_of 95 (codes ".02"));
-      bus = idle 5 2 ∷ carries 37 (els 0 0) 1 4 Clean 0 ∷ carries 38 (els 2 0) 4 1 Clean 0 ∷ carries 74 (els 0 1) 1 4 Clean 0
-          ∷ carries 75 (els 2 1) 4 1 Clean 0 ∷ carries 76 (fda 1 0) 5 0 Clean 0 ∷ [];
-      broken = None;
-      nodes = record { stopped = None; read = 100; log = Failed 73 1 0 ∷ [] } ∷ record { stopped = Some 5; read = 5; log = [] }
-          ∷ record { stopped = None; read = 100; log = Failed 73 1 0 ∷ [] } ∷ [];
-      settled = [];
-      legal = true;
-      ended = true;
-    }
+    (let s = node_1_stops in report s (round_robin s)) ≡ whole_run (steps (rounds_of 5 (codes ".012") ++ rounds_of 95 (codes ".02")))
+    (idle 5 2 ∷ carries 37 (els 0 0) 1 4 Clean 0 ∷ carries 38 (els 2 0) 4 1 Clean 0 ∷ carries 74 (els 0 1) 1 4 Clean 0
+    ∷ carries 75 (els 2 1) 4 1 Clean 0 ∷ carries 76 (fda 1 0) 5 0 Clean 0 ∷ [])
+    (running_node 100 (Failed 73 1 0 ∷ []) ∷ stopped_node 5 5 []
+    ∷ running_node 100 (Failed 73 1 0 ∷ []) ∷ [])
+    []
 unfolding life_run node_1_stops
 failure_sign_before_any_cycle = refl
 
@@ -99,16 +94,11 @@ unfoldable unaccepted : ScenarioParts
 unaccepted = of_members 7 (scenario (three 45 1 2) one_tot (slot_rule 1 (Partial (set 4)) 1 ∷ []))
 
 totcan_unaccepted_is_dropped :
-    (let s = unaccepted in report s (round_robin s)) ≡ record {
-      journal = steps (codes ".012" ++ rounds_of 44 (codes ".12"));
-      bus = carries 1 first_tot 1 2 (Partial (set 4)) 1 ∷ carries 37 (els 1 0) 2 4 Clean 0 ∷ carries 38 (els 2 0) 4 2 Clean 0 ∷ [];
-      broken = None;
-      nodes = record { stopped = Some 1; read = 1; log = [] } ∷ record { stopped = None; read = 45; log = [] }
-          ∷ record { stopped = None; read = 45; log = [] } ∷ [];
-      settled = true ∷ [];
-      legal = true;
-      ended = true;
-    }
+    (let s = unaccepted in report s (round_robin s)) ≡ whole_run (steps (codes ".012" ++ rounds_of 44 (codes ".12")))
+    (carries 1 first_tot 1 2 (Partial (set 4)) 1 ∷ carries 37 (els 1 0) 2 4 Clean 0 ∷ carries 38 (els 2 0) 4 2 Clean 0 ∷ [])
+    (stopped_node 1 1 [] ∷ running_node 45 []
+    ∷ running_node 45 [] ∷ [])
+    (true ∷ [])
 unfolding life_run unaccepted
 totcan_unaccepted_is_dropped = refl
 
@@ -116,17 +106,12 @@ unfoldable accept_is_partial : ScenarioParts
 accept_is_partial = of_members 7 (scenario (three 45 1 2) one_tot (slot_rule 2 (Partial (set 4)) 1 ∷ []))
 
 totcan_accept_survives_its_sender :
-    (let s = accept_is_partial in report s (round_robin s)) ≡ record {
-      journal = steps (codes ".012.012" ++ rounds_of 43 (codes ".12"));
-      bus = carries 1 first_tot 1 6 Clean 0 ∷ carries 2 first_accept 1 2 (Partial (set 4)) 1 ∷ carries 3 first_accept 2 4 Clean 0
-          ∷ carries 4 first_accept 4 2 Clean 0 ∷ carries 37 (els 1 0) 2 4 Clean 0 ∷ carries 38 (els 2 0) 4 2 Clean 0 ∷ [];
-      broken = None;
-      nodes = record { stopped = Some 2; read = 2; log = delivered 1 } ∷ record { stopped = None; read = 45; log = delivered 2 }
-          ∷ record { stopped = None; read = 45; log = delivered 3 } ∷ [];
-      settled = true ∷ [];
-      legal = true;
-      ended = true;
-    }
+    (let s = accept_is_partial in report s (round_robin s)) ≡ whole_run (steps (codes ".012.012" ++ rounds_of 43 (codes ".12")))
+    (carries 1 first_tot 1 6 Clean 0 ∷ carries 2 first_accept 1 2 (Partial (set 4)) 1 ∷ carries 3 first_accept 2 4 Clean 0
+    ∷ carries 4 first_accept 4 2 Clean 0 ∷ carries 37 (els 1 0) 2 4 Clean 0 ∷ carries 38 (els 2 0) 4 2 Clean 0 ∷ [])
+    (stopped_node 2 2 (delivered 1) ∷ running_node 45 (delivered 2)
+    ∷ running_node 45 (delivered 3) ∷ [])
+    (true ∷ [])
 unfolding life_run accept_is_partial
 totcan_accept_survives_its_sender = refl
 
@@ -140,8 +125,8 @@ silent_omission_is_outside :
       bus = carries 1 first_tot 1 2 (Silent (set 4)) 0 ∷ carries 2 first_accept 1 6 Clean 0 ∷ carries 3 first_accept 2 5 Clean 0
           ∷ carries 37 (els 1 0) 2 5 Clean 0 ∷ carries 38 (els 0 0) 1 6 Clean 0 ∷ carries 39 (els 2 0) 4 3 Clean 0 ∷ [];
       broken = Some (record { kind = kind.Silent; slot = 1 });
-      nodes = record { stopped = None; read = 45; log = delivered 1 } ∷ record { stopped = None; read = 45; log = delivered 2 }
-          ∷ record { stopped = None; read = 45; log = [] } ∷ [];
+      nodes = running_node 45 (delivered 1) ∷ running_node 45 (delivered 2)
+          ∷ running_node 45 [] ∷ [];
       settled = true ∷ [];
       legal = true;
       ended = true;
@@ -159,18 +144,13 @@ late_reader =
 unfoldable one_behind : List ℕ
 one_behind = codes ".012.0123" ++ rounds_of 138 (codes ".123") ++ codes "3"
 
-totcan_accept_under_lag : report late_reader (steps one_behind) ≡ record {
-  journal = steps one_behind;
-  bus = carries 1 first_tot 1 14 Clean 0 ∷ carries 2 first_accept 1 8 (Partial (set 6)) 1 ∷ carries 4 first_accept 8 6 Clean 0
-      ∷ carries 5 first_accept 6 8 Clean 0 ∷ carries 124 (els 1 0) 2 12 Clean 0 ∷ carries 125 (els 2 0) 4 10 Clean 0
-      ∷ carries 126 (els 3 0) 8 6 Clean 0 ∷ [];
-  broken = None;
-  nodes = record { stopped = Some 2; read = 2; log = delivered 1 } ∷ record { stopped = None; read = 140; log = delivered 4 }
-      ∷ record { stopped = None; read = 140; log = delivered 4 } ∷ record { stopped = None; read = 140; log = delivered 2 } ∷ [];
-  settled = true ∷ [];
-  legal = true;
-  ended = true;
-}
+totcan_accept_under_lag : report late_reader (steps one_behind) ≡ whole_run (steps one_behind)
+    (carries 1 first_tot 1 14 Clean 0 ∷ carries 2 first_accept 1 8 (Partial (set 6)) 1 ∷ carries 4 first_accept 8 6 Clean 0
+    ∷ carries 5 first_accept 6 8 Clean 0 ∷ carries 124 (els 1 0) 2 12 Clean 0 ∷ carries 125 (els 2 0) 4 10 Clean 0
+    ∷ carries 126 (els 3 0) 8 6 Clean 0 ∷ [])
+    (stopped_node 2 2 (delivered 1) ∷ running_node 140 (delivered 4)
+    ∷ running_node 140 (delivered 4) ∷ running_node 140 (delivered 2) ∷ [])
+    (true ∷ [])
 unfolding life_run late_reader one_behind
 totcan_accept_under_lag = refl
 
@@ -184,16 +164,11 @@ silence_at_lag_1 = of_members 2 (scenario (record (soon 1) { lag = 1; cycle = 10
 unfoldable one_reads_late : List ℕ
 one_reads_late = rounds_of 6 (codes ".02") ++ codes ".2.0.0022.02.02"
 
-found_twice_and_asked_once : report silence_at_lag_1 (steps one_reads_late) ≡ record {
-  journal = steps one_reads_late;
-  bus = idle 0 2 ∷ carries 7 (fda 1 0) 4 1 Clean 0 ∷ carries 8 (fda 1 0) 1 4 Clean 0 ∷ [];
-  broken = None;
-  nodes = record { stopped = None; read = 11; log = Failed 6 1 0 ∷ [] } ∷ record { stopped = Some 0; read = 0; log = [] }
-      ∷ record { stopped = None; read = 11; log = Failed 6 1 0 ∷ [] } ∷ [];
-  settled = [];
-  legal = true;
-  ended = true;
-}
+found_twice_and_asked_once : report silence_at_lag_1 (steps one_reads_late) ≡ whole_run (steps one_reads_late)
+    (idle 0 2 ∷ carries 7 (fda 1 0) 4 1 Clean 0 ∷ carries 8 (fda 1 0) 1 4 Clean 0 ∷ [])
+    (running_node 11 (Failed 6 1 0 ∷ []) ∷ stopped_node 0 0 []
+    ∷ running_node 11 (Failed 6 1 0 ∷ []) ∷ [])
+    []
 unfolding life_run silence_at_lag_1 one_reads_late
 found_twice_and_asked_once = refl
 
@@ -206,8 +181,8 @@ accused_by_mistake : (let s = accused 1 in report s (round_robin s)) ≡ record 
   bus = carries 5 (els 1 0) 2 4 (Silent (set 1)) 0 ∷ carries 7 (fda 1 0) 1 6 Clean 0 ∷ carries 8 (fda 1 0) 6 1 Clean 0
       ∷ carries 10 (els 1 1) 2 5 Clean 0 ∷ [];
   broken = Some (record { kind = kind.Silent; slot = 5 });
-  nodes = record { stopped = None; read = 12; log = Failed 6 1 0 ∷ [] } ∷ record { stopped = None; read = 12; log = Failed 7 1 0 ∷ [] }
-      ∷ record { stopped = None; read = 12; log = Failed 7 1 0 ∷ [] } ∷ [];
+  nodes = running_node 12 (Failed 6 1 0 ∷ []) ∷ running_node 12 (Failed 7 1 0 ∷ [])
+      ∷ running_node 12 (Failed 7 1 0 ∷ []) ∷ [];
   settled = [];
   legal = true;
   ended = true;
@@ -229,16 +204,11 @@ unfoldable stopped_and_back : ScenarioParts
 stopped_and_back =
     with_restart 10 0 (of_members 7 (scenario (three 60 1 2) (send 50 1 (1 ∷ []) ∷ []) (slot_rule 5 Clean 1 ∷ [])))
 
-restart_hears_again_with_life_signs : (let s = stopped_and_back in report s (round_robin s)) ≡ record {
-  journal = steps (rounds_of 5 (codes ".012") ++ rounds_of 6 (codes ".12") ++ rounds_of 49 (codes ".012"));
-  bus = idle 5 1 ∷ carries 37 (els 1 0) 2 5 Clean 0 ∷ carries 38 (els 2 0) 4 3 Clean 0 ∷ carries 51 (ed 1 0 (1 ∷ [])) 2 5 Clean 0
-      ∷ carries 52 (ed 1 0 (1 ∷ [])) 5 2 Clean 0 ∷ [];
-  broken = None;
-  nodes = replicate 3 (record { stopped = None; read = 60; log = delivers 51 1 0 (1 ∷ []) ∷ [] });
-  settled = true ∷ [];
-  legal = true;
-  ended = true;
-}
+restart_hears_again_with_life_signs : (let s = stopped_and_back in report s (round_robin s)) ≡ whole_run (steps (rounds_of 5 (codes ".012") ++ rounds_of 6 (codes ".12") ++ rounds_of 49 (codes ".012")))
+    (idle 5 1 ∷ carries 37 (els 1 0) 2 5 Clean 0 ∷ carries 38 (els 2 0) 4 3 Clean 0 ∷ carries 51 (ed 1 0 (1 ∷ [])) 2 5 Clean 0
+    ∷ carries 52 (ed 1 0 (1 ∷ [])) 5 2 Clean 0 ∷ [])
+    (replicate 3 (running_node 60 (delivers 51 1 0 (1 ∷ []) ∷ [])))
+    (true ∷ [])
 unfolding life_run stopped_and_back
 restart_hears_again_with_life_signs = refl
 
@@ -247,17 +217,12 @@ unfoldable two_stop : ℕ → ScenarioParts
 two_stop slot = with_restart slot 0 (of_members 7 (scenario (record (soon 1) { bound = 2; cycle = 100; slots = 13 }) [] (slot_rule 0 Clean 3 ∷ [])))
 
 -- it learns both signs, one of which accuses its own number, and relays them: the life signs of node 2 win over these
-signs_reach_a_restarted_node : (let s = two_stop 0 in report s (round_robin s)) ≡ record {
-  journal = steps (codes ".2" ++ rounds_of 12 (codes ".02"));
-  bus = idle 0 3 ∷ carries 5 (els 2 0) 4 1 Clean 0 ∷ carries 7 (fda 0 0) 4 1 Clean 0 ∷ carries 8 (fda 0 0) 1 4 Clean 0
-      ∷ carries 9 (fda 1 0) 4 1 Clean 0 ∷ carries 10 (els 2 1) 4 1 Clean 0 ∷ carries 11 (fda 1 0) 1 4 Clean 0 ∷ [];
-  broken = None;
-  nodes = record { stopped = None; read = 13; log = Failed 7 0 0 ∷ Failed 9 1 0 ∷ [] } ∷ record { stopped = Some 0; read = 0; log = [] }
-      ∷ record { stopped = None; read = 13; log = Failed 6 0 0 ∷ Failed 6 1 0 ∷ [] } ∷ [];
-  settled = [];
-  legal = true;
-  ended = true;
-}
+signs_reach_a_restarted_node : (let s = two_stop 0 in report s (round_robin s)) ≡ whole_run (steps (codes ".2" ++ rounds_of 12 (codes ".02")))
+    (idle 0 3 ∷ carries 5 (els 2 0) 4 1 Clean 0 ∷ carries 7 (fda 0 0) 4 1 Clean 0 ∷ carries 8 (fda 0 0) 1 4 Clean 0
+    ∷ carries 9 (fda 1 0) 4 1 Clean 0 ∷ carries 10 (els 2 1) 4 1 Clean 0 ∷ carries 11 (fda 1 0) 1 4 Clean 0 ∷ [])
+    (running_node 13 (Failed 7 0 0 ∷ Failed 9 1 0 ∷ []) ∷ stopped_node 0 0 []
+    ∷ running_node 13 (Failed 6 0 0 ∷ Failed 6 1 0 ∷ []) ∷ [])
+    []
 unfolding life_run two_stop
 signs_reach_a_restarted_node = refl
 
@@ -298,20 +263,15 @@ two_delivered = delivers 13 2 0 (135 ∷ []) ∷ delivers_rel 19 2 1 (229 ∷ 60
 unfoldable their_log : List LogEntry
 their_log = two_delivered ++ delivers 143 1 0 (88 ∷ []) ∷ Failed 149 0 0 ∷ []
 
-simulated_with_a_restart : report failed_before_it_started_again (steps its_journal) ≡ record {
-  journal = steps its_journal;
-  bus = carries 13 (ed 2 0 (135 ∷ [])) 4 3 Clean 0 ∷ carries 14 (ed 2 0 (135 ∷ [])) 2 5 Clean 0 ∷ carries 15 (ed 2 0 (135 ∷ [])) 1 6 Clean 0
-      ∷ carries 19 (rel 2 1 (229 ∷ 60 ∷ [])) 4 3 Clean 0 ∷ carries 21 (confirm 2 1) 4 3 Clean 0 ∷ idle 32 1 ∷ carries 75 (els 1 0) 2 5 Clean 0
-      ∷ carries 76 (els 2 0) 4 3 Clean 0 ∷ carries 143 (ed 1 0 (88 ∷ [])) 2 5 Clean 0 ∷ carries 144 (ed 1 0 (88 ∷ [])) 5 2 Clean 0
-      ∷ carries 150 (els 1 1) 2 5 Clean 0 ∷ carries 151 (els 2 1) 4 3 Clean 0 ∷ carries 152 (fda 0 0) 6 1 Clean 0 ∷ carries 153 (fda 0 0) 1 6 Clean 0
-      ∷ carries 174 (tot 0 0 (204 ∷ [])) 1 6 Clean 0 ∷ [];
-  broken = None;
-  nodes = record { stopped = None; read = 176; log = delivers 143 1 0 (88 ∷ []) ∷ Failed 152 0 0 ∷ delivers_tot 174 0 0 (204 ∷ []) ∷ [] }
-      ∷ record { stopped = None; read = 176; log = their_log } ∷ record { stopped = None; read = 176; log = their_log } ∷ [];
-  settled = false ∷ true ∷ true ∷ true ∷ [];
-  legal = true;
-  ended = true;
-}
+simulated_with_a_restart : report failed_before_it_started_again (steps its_journal) ≡ whole_run (steps its_journal)
+    (carries 13 (ed 2 0 (135 ∷ [])) 4 3 Clean 0 ∷ carries 14 (ed 2 0 (135 ∷ [])) 2 5 Clean 0 ∷ carries 15 (ed 2 0 (135 ∷ [])) 1 6 Clean 0
+    ∷ carries 19 (rel 2 1 (229 ∷ 60 ∷ [])) 4 3 Clean 0 ∷ carries 21 (confirm 2 1) 4 3 Clean 0 ∷ idle 32 1 ∷ carries 75 (els 1 0) 2 5 Clean 0
+    ∷ carries 76 (els 2 0) 4 3 Clean 0 ∷ carries 143 (ed 1 0 (88 ∷ [])) 2 5 Clean 0 ∷ carries 144 (ed 1 0 (88 ∷ [])) 5 2 Clean 0
+    ∷ carries 150 (els 1 1) 2 5 Clean 0 ∷ carries 151 (els 2 1) 4 3 Clean 0 ∷ carries 152 (fda 0 0) 6 1 Clean 0 ∷ carries 153 (fda 0 0) 1 6 Clean 0
+    ∷ carries 174 (tot 0 0 (204 ∷ [])) 1 6 Clean 0 ∷ [])
+    (running_node 176 (delivers 143 1 0 (88 ∷ []) ∷ Failed 152 0 0 ∷ delivers_tot 174 0 0 (204 ∷ []) ∷ [])
+    ∷ running_node 176 their_log ∷ running_node 176 their_log ∷ [])
+    (false ∷ true ∷ true ∷ true ∷ [])
 unfolding life_run failed_before_it_started_again its_journal two_delivered their_log
 simulated_with_a_restart = refl
 

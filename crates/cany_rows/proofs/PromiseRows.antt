@@ -25,7 +25,7 @@ use Rattle.cany_model.specs.Rules.Messages.{Message}
 use Rattle.cany_model.specs.Rules.Knowledge.{fda_of}
 use Rattle.cany_model.proofs.Promises.BreakFacts.{first_break_exact}
 use Rattle.cany_rows.proofs.OrderRows.{content, first_origin, order_report, order_row, silent_to_node_2, two_is_not_one}
-use Rattle.cany_rows.proofs.RowWords.{NodeReport, carries, delivers, delivers_rel, delivers_tot, ed, accept, confirm, idle, rel, report, scenario, send, send_rel, send_tot, set, slot_rule, three, tot}
+use Rattle.cany_rows.proofs.RowWords.{NodeReport, carries, delivers, delivers_rel, delivers_tot, ed, accept, confirm, idle, rel, report, scenario, send, send_rel, send_tot, set, slot_rule, three, tot, running_node, stopped_node, whole_run}
 use Rattle.cany_rows.proofs.SiteWords.{asks_at, els, fda, join, leave, of_members, rha, short_cycles, sign, site_row, with_asks}
 
 -- ---- a run that keeps the whole promise
@@ -52,22 +52,17 @@ promise_is_kept :
     let signs = Failed 71 1 1 ∷ View 105 1 (set 5) ∷ [] in
     let first : ℕ → LogEntry = λ slot. delivers_tot slot 0 0 (1 ∷ []) in
     let second : ℕ → LogEntry = λ slot. delivers_tot slot 2 1 (4 ∷ []) in
-    record r { journal = [] } ≡ record {
-      journal = [];
-      bus = carries 1 (tot 0 0 (1 ∷ [])) 1 2 (Partial (set 4)) 0 ∷ carries 2 (tot 0 0 (1 ∷ [])) 1 6 Clean 0 ∷ carries 3 (accept 0 0) 1 6 Clean 0
-          ∷ carries 4 (accept 0 0) 6 1 Clean 0 ∷ carries 5 (tot 2 1 (4 ∷ [])) 4 3 Clean 0 ∷ carries 6 (accept 2 1) 4 3 Clean 0
-          ∷ carries 7 (accept 2 1) 3 4 Clean 0 ∷ carries 8 (rel 1 0 (2 ∷ [])) 2 5 Clean 0 ∷ carries 9 (confirm 1 0) 2 5 Clean 0
-          ∷ carries 10 (ed 2 0 (3 ∷ [])) 4 3 Clean 0 ∷ carries 11 (join 2 0) 4 3 Clean 0 ∷ carries 12 (ed 2 0 (3 ∷ [])) 3 4 Clean 0
-          ∷ carries 21 (leave 1 0) 2 5 Clean 0 ∷ idle 22 2 ∷ carries 38 (els 0 0) 1 4 Clean 0
-          ∷ carries 71 (rha 0 1 5) 1 4 Clean 0 ∷ carries 72 (rha 2 1 5) 4 1 Clean 0 ∷ carries 73 (fda 1 1) 5 0 Clean 0 ∷ [];
-      broken = None;
-      nodes = record { stopped = None; read = 106; log = first 2 ∷ second 6 ∷ delivers_rel 8 1 0 (2 ∷ []) ∷ delivers 10 2 0 (3 ∷ []) ∷ signs }
-          ∷ record { stopped = Some 22; read = 22; log = first 3 ∷ second 6 ∷ delivers_rel 8 1 0 (2 ∷ []) ∷ delivers 10 2 0 (3 ∷ []) ∷ [] }
-          ∷ record { stopped = None; read = 106; log = first 3 ∷ second 5 ∷ delivers_rel 8 1 0 (2 ∷ []) ∷ delivers 10 2 0 (3 ∷ []) ∷ signs } ∷ [];
-      settled = true ∷ true ∷ true ∷ true ∷ [];
-      legal = true;
-      ended = true;
-    })
+    record r { journal = [] } ≡ whole_run []
+    (carries 1 (tot 0 0 (1 ∷ [])) 1 2 (Partial (set 4)) 0 ∷ carries 2 (tot 0 0 (1 ∷ [])) 1 6 Clean 0 ∷ carries 3 (accept 0 0) 1 6 Clean 0
+    ∷ carries 4 (accept 0 0) 6 1 Clean 0 ∷ carries 5 (tot 2 1 (4 ∷ [])) 4 3 Clean 0 ∷ carries 6 (accept 2 1) 4 3 Clean 0
+    ∷ carries 7 (accept 2 1) 3 4 Clean 0 ∷ carries 8 (rel 1 0 (2 ∷ [])) 2 5 Clean 0 ∷ carries 9 (confirm 1 0) 2 5 Clean 0
+    ∷ carries 10 (ed 2 0 (3 ∷ [])) 4 3 Clean 0 ∷ carries 11 (join 2 0) 4 3 Clean 0 ∷ carries 12 (ed 2 0 (3 ∷ [])) 3 4 Clean 0
+    ∷ carries 21 (leave 1 0) 2 5 Clean 0 ∷ idle 22 2 ∷ carries 38 (els 0 0) 1 4 Clean 0
+    ∷ carries 71 (rha 0 1 5) 1 4 Clean 0 ∷ carries 72 (rha 2 1 5) 4 1 Clean 0 ∷ carries 73 (fda 1 1) 5 0 Clean 0 ∷ [])
+    (running_node 106 (first 2 ∷ second 6 ∷ delivers_rel 8 1 0 (2 ∷ []) ∷ delivers 10 2 0 (3 ∷ []) ∷ signs)
+    ∷ stopped_node 22 22 (first 3 ∷ second 6 ∷ delivers_rel 8 1 0 (2 ∷ []) ∷ delivers 10 2 0 (3 ∷ []) ∷ [])
+    ∷ running_node 106 (first 3 ∷ second 5 ∷ delivers_rel 8 1 0 (2 ∷ []) ∷ delivers 10 2 0 (3 ∷ []) ∷ signs) ∷ [])
+    (true ∷ true ∷ true ∷ true ∷ []))
 unfolding promise_row whole
 promise_is_kept = refl
 

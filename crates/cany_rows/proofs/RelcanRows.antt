@@ -1,5 +1,5 @@
 -- Worked rows of RELCAN.
-use Rattle.std.specs.Prelude.{ℕ, ◌≡◌, true, false, List, [], ◌∷◌, Some, None, refl, codes}
+use Rattle.std.specs.Prelude.{ℕ, ◌≡◌, true, false, List, [], ◌∷◌, refl, codes}
 use Rattle.std.proofs.Common.{lit<}
 use Rattle.cany_base.specs.declared.class.Class.TheVariants as class
 use Rattle.cany_base.specs.declared.log_entry.LogEntry.{LogEntry}
@@ -13,7 +13,7 @@ use Rattle.cany_model.specs.Runs.Run.{run}
 use Rattle.cany_model.specs.Promises.Entries.{HasDelivered}
 use Rattle.cany_model.specs.Promises.Settled.{IsCorrect, is_settled}
 use Rattle.cany_model.proofs.Promises.BreakFacts.{first_break_exact}
-use Rattle.cany_rows.proofs.RowWords.{carries, delivers_rel, first_confirm, first_rel, frame_rule, one_rel, report, row, scenario, set, slot_rule, steps, three}
+use Rattle.cany_rows.proofs.RowWords.{carries, delivers_rel, first_confirm, first_rel, frame_rule, one_rel, report, row, scenario, set, slot_rule, steps, three, running_node, stopped_node, whole_run}
 
 unfoldable delivered : ℕ → List LogEntry
 delivered slot = delivers_rel slot 0 0 (1 ∷ []) ∷ []
@@ -24,31 +24,21 @@ unfoldable sender_stops_after_partial : ℕ → ScenarioParts
 sender_stops_after_partial slots = scenario (three slots 1 2) one_rel (slot_rule 1 (Partial (set 4)) 1 ∷ [])
 
 relcan_falls_back :
-    (let s = sender_stops_after_partial 30 in report s (round_robin s)) ≡ record {
-      journal = steps (codes ".012.12.12.12.12.12.12.12.12.12.12.12.12.12.12.12.12.12.12.12.12.12.12.12.12.12.12.12.12.12");
-      bus = carries 1 first_rel 1 2 (Partial (set 4)) 1 ∷ carries 12 first_rel 2 4 Clean 0 ∷ carries 23 first_rel 4 2 Clean 0 ∷ [];
-      broken = None;
-      nodes = record { stopped = Some 1; read = 1; log = [] } ∷ record { stopped = None; read = 30; log = delivered 1 }
-          ∷ record { stopped = None; read = 30; log = delivered 12 } ∷ [];
-      settled = true ∷ [];
-      legal = true;
-      ended = true;
-    }
+    (let s = sender_stops_after_partial 30 in report s (round_robin s)) ≡ whole_run (steps (codes ".012.12.12.12.12.12.12.12.12.12.12.12.12.12.12.12.12.12.12.12.12.12.12.12.12.12.12.12.12.12"))
+    (carries 1 first_rel 1 2 (Partial (set 4)) 1 ∷ carries 12 first_rel 2 4 Clean 0 ∷ carries 23 first_rel 4 2 Clean 0 ∷ [])
+    (stopped_node 1 1 [] ∷ running_node 30 (delivered 1)
+    ∷ running_node 30 (delivered 12) ∷ [])
+    (true ∷ [])
 unfolding row delivered sender_stops_after_partial
 relcan_falls_back = refl
 
 -- so long as the timer of node 1 is ahead the message is open, and node 2 has not delivered it
 open_while_a_timer_is_ahead :
-    (let s = sender_stops_after_partial 11 in report s (round_robin s)) ≡ record {
-      journal = steps (codes ".012.12.12.12.12.12.12.12.12.12.12");
-      bus = carries 1 first_rel 1 2 (Partial (set 4)) 1 ∷ [];
-      broken = None;
-      nodes = record { stopped = Some 1; read = 1; log = [] } ∷ record { stopped = None; read = 11; log = delivered 1 }
-          ∷ record { stopped = None; read = 11; log = [] } ∷ [];
-      settled = false ∷ [];
-      legal = true;
-      ended = true;
-    }
+    (let s = sender_stops_after_partial 11 in report s (round_robin s)) ≡ whole_run (steps (codes ".012.12.12.12.12.12.12.12.12.12.12"))
+    (carries 1 first_rel 1 2 (Partial (set 4)) 1 ∷ [])
+    (stopped_node 1 1 [] ∷ running_node 11 (delivered 1)
+    ∷ running_node 11 [] ∷ [])
+    (false ∷ [])
 unfolding row delivered sender_stops_after_partial
 open_while_a_timer_is_ahead = refl
 
@@ -73,16 +63,11 @@ premises_are_met = (
 
 -- without a fault the message is confirmed, and settled once the confirmation was read: no timer runs out
 confirmed_in_time :
-    (let s = scenario (three 14 1 2) one_rel [] in report s (round_robin s)) ≡ record {
-      journal = steps (codes ".012.012.012.012.012.012.012.012.012.012.012.012.012.012");
-      bus = carries 1 first_rel 1 6 Clean 0 ∷ carries 2 first_confirm 1 6 Clean 0 ∷ [];
-      broken = None;
-      nodes = record { stopped = None; read = 14; log = delivered 1 } ∷ record { stopped = None; read = 14; log = delivered 1 }
-          ∷ record { stopped = None; read = 14; log = delivered 1 } ∷ [];
-      settled = true ∷ [];
-      legal = true;
-      ended = true;
-    }
+    (let s = scenario (three 14 1 2) one_rel [] in report s (round_robin s)) ≡ whole_run (steps (codes ".012.012.012.012.012.012.012.012.012.012.012.012.012.012"))
+    (carries 1 first_rel 1 6 Clean 0 ∷ carries 2 first_confirm 1 6 Clean 0 ∷ [])
+    (running_node 14 (delivered 1) ∷ running_node 14 (delivered 1)
+    ∷ running_node 14 (delivered 1) ∷ [])
+    (true ∷ [])
 unfolding row delivered
 confirmed_in_time = refl
 
@@ -101,31 +86,21 @@ unfoldable confirm_lost_to_node_2 : ℕ → ScenarioParts
 confirm_lost_to_node_2 stop = scenario (three 16 1 2) one_rel (frame_rule class.Confirm 0 0 1 (Partial (set 4)) stop ∷ [])
 
 one_node_reads_no_confirmation :
-    (let s = confirm_lost_to_node_2 1 in report s (round_robin s)) ≡ record {
-      journal = steps (codes ".012.012.12.12.12.12.12.12.12.12.12.12.12.12.12.12");
-      bus = carries 1 first_rel 1 6 Clean 0 ∷ carries 2 first_confirm 1 2 (Partial (set 4)) 1 ∷ carries 12 first_rel 4 2 Clean 0 ∷ [];
-      broken = None;
-      nodes = record { stopped = Some 2; read = 2; log = delivered 1 } ∷ record { stopped = None; read = 16; log = delivered 1 }
-          ∷ record { stopped = None; read = 16; log = delivered 1 } ∷ [];
-      settled = true ∷ [];
-      legal = true;
-      ended = true;
-    }
+    (let s = confirm_lost_to_node_2 1 in report s (round_robin s)) ≡ whole_run (steps (codes ".012.012.12.12.12.12.12.12.12.12.12.12.12.12.12.12"))
+    (carries 1 first_rel 1 6 Clean 0 ∷ carries 2 first_confirm 1 2 (Partial (set 4)) 1 ∷ carries 12 first_rel 4 2 Clean 0 ∷ [])
+    (stopped_node 2 2 (delivered 1) ∷ running_node 16 (delivered 1)
+    ∷ running_node 16 (delivered 1) ∷ [])
+    (true ∷ [])
 unfolding row delivered confirm_lost_to_node_2
 one_node_reads_no_confirmation = refl
 
 -- if its sender does not stop, it is sent again
 confirmation_is_sent_again :
-    (let s = confirm_lost_to_node_2 0 in report s (round_robin s)) ≡ record {
-      journal = steps (codes ".012.012.012.012.012.012.012.012.012.012.012.012.012.012.012.012");
-      bus = carries 1 first_rel 1 6 Clean 0 ∷ carries 2 first_confirm 1 2 (Partial (set 4)) 0 ∷ carries 3 first_confirm 1 6 Clean 0 ∷ [];
-      broken = None;
-      nodes = record { stopped = None; read = 16; log = delivered 1 } ∷ record { stopped = None; read = 16; log = delivered 1 }
-          ∷ record { stopped = None; read = 16; log = delivered 1 } ∷ [];
-      settled = true ∷ [];
-      legal = true;
-      ended = true;
-    }
+    (let s = confirm_lost_to_node_2 0 in report s (round_robin s)) ≡ whole_run (steps (codes ".012.012.012.012.012.012.012.012.012.012.012.012.012.012.012.012"))
+    (carries 1 first_rel 1 6 Clean 0 ∷ carries 2 first_confirm 1 2 (Partial (set 4)) 0 ∷ carries 3 first_confirm 1 6 Clean 0 ∷ [])
+    (running_node 16 (delivered 1) ∷ running_node 16 (delivered 1)
+    ∷ running_node 16 (delivered 1) ∷ [])
+    (true ∷ [])
 unfolding row delivered confirm_lost_to_node_2
 confirmation_is_sent_again = refl
 
@@ -135,16 +110,11 @@ unfoldable nobody_confirms : ℕ → ℕ → ScenarioParts
 nobody_confirms slots omit = scenario (three slots omit 2) one_rel (slot_rule 1 Clean 1 ∷ [])
 
 one_copy_is_enough :
-    (let s = nobody_confirms 14 0 in report s (round_robin s)) ≡ record {
-      journal = steps (codes ".012.12.12.12.12.12.12.12.12.12.12.12.12.12");
-      bus = carries 1 first_rel 1 6 Clean 1 ∷ [];
-      broken = None;
-      nodes = record { stopped = Some 1; read = 1; log = [] } ∷ record { stopped = None; read = 14; log = delivered 1 }
-          ∷ record { stopped = None; read = 14; log = delivered 1 } ∷ [];
-      settled = true ∷ [];
-      legal = true;
-      ended = true;
-    }
+    (let s = nobody_confirms 14 0 in report s (round_robin s)) ≡ whole_run (steps (codes ".012.12.12.12.12.12.12.12.12.12.12.12.12.12"))
+    (carries 1 first_rel 1 6 Clean 1 ∷ [])
+    (stopped_node 1 1 [] ∷ running_node 14 (delivered 1)
+    ∷ running_node 14 (delivered 1) ∷ [])
+    (true ∷ [])
 unfolding row delivered nobody_confirms
 one_copy_is_enough = refl
 
@@ -158,15 +128,10 @@ timer_run_out_at_omit_0 = refl
 
 -- with omit 1 both fall back in the same turn, and send together
 both_fall_back_together :
-    (let s = nobody_confirms 14 1 in report s (round_robin s)) ≡ record {
-      journal = steps (codes ".012.12.12.12.12.12.12.12.12.12.12.12.12.12");
-      bus = carries 1 first_rel 1 6 Clean 1 ∷ carries 12 first_rel 6 0 Clean 0 ∷ [];
-      broken = None;
-      nodes = record { stopped = Some 1; read = 1; log = [] } ∷ record { stopped = None; read = 14; log = delivered 1 }
-          ∷ record { stopped = None; read = 14; log = delivered 1 } ∷ [];
-      settled = true ∷ [];
-      legal = true;
-      ended = true;
-    }
+    (let s = nobody_confirms 14 1 in report s (round_robin s)) ≡ whole_run (steps (codes ".012.12.12.12.12.12.12.12.12.12.12.12.12.12"))
+    (carries 1 first_rel 1 6 Clean 1 ∷ carries 12 first_rel 6 0 Clean 0 ∷ [])
+    (stopped_node 1 1 [] ∷ running_node 14 (delivered 1)
+    ∷ running_node 14 (delivered 1) ∷ [])
+    (true ∷ [])
 unfolding row delivered nobody_confirms
 both_fall_back_together = refl

@@ -6,7 +6,7 @@ use Rattle.cany_base.specs.Scenario.{ScenarioParts}
 use Rattle.cany_model.specs.declared.reply.StepReply.TheVariants.{Lagging, Over, NothingYet, Stopped, NoNode}
 use Rattle.cany_model.specs.Runs.RoundRobin.{round_robin}
 use Rattle.cany_model.specs.Runs.Run.{run}
-use Rattle.cany_rows.proofs.RowWords.{lag_1, Followed-all, Refused, Unfinished, follow, one_message, report, row, scenario, send, slot_rule, steps, three}
+use Rattle.cany_rows.proofs.RowWords.{lag_1, Followed-all, Refused, Unfinished, follow, one_message, report, row, scenario, send, slot_rule, steps, three, running_node, whole_run}
 
 unfoldable quiet : ℕ → List Rule → ScenarioParts
 quiet slots rules = scenario (lag_1 slots 1) [] rules
@@ -77,14 +77,9 @@ not_asked_for = refl
 
 -- a one_message of the last slot is asked for and never carried
 open_at_the_end :
-    (let s = scenario (three 1 1 2) one_message [] in report s (round_robin s)) ≡ record {
-      journal = steps (codes ".012");
-      bus = [];
-      broken = None;
-      nodes = record { stopped = None; read = 1; log = [] } ∷ record { stopped = None; read = 1; log = [] } ∷ record { stopped = None; read = 1; log = [] } ∷ [];
-      settled = false ∷ [];
-      legal = true;
-      ended = true;
-    }
+    (let s = scenario (three 1 1 2) one_message [] in report s (round_robin s)) ≡ whole_run (steps (codes ".012"))
+    []
+    (running_node 1 [] ∷ running_node 1 [] ∷ running_node 1 [] ∷ [])
+    (false ∷ [])
 unfolding row
 open_at_the_end = refl

@@ -15,7 +15,7 @@ use Rattle.cany_base.specs.declared.step.Step.TheVariants.{Slot, Turn}
 use Rattle.cany_model.specs.declared.breaks.BreakKind.TheVariants as kind
 use Rattle.cany_model.specs.declared.span.Span.{Span}
 use Rattle.cany_base.specs.Nodes.{Nodes, has}
-use Rattle.cany_base.specs.Params.{Parameters}
+use Rattle.cany_base.specs.Params.{default_parameters}
 use Rattle.cany_base.specs.Scenario.{ScenarioParts}
 use Rattle.cany_text.specs.Report.{bus_lines, incarnation_lines, node_lines, message_lines, report_lines, report}
 use Rattle.cany_text.specs.ReportLines.{line_of, break_name, payload_text, set_text, step_letter, first_line, params_line, journal_line, journal_lines, node_text, has_any, bus_line, is_shown, hypothesis_line, node_line, entry_line, message_line}
@@ -24,38 +24,13 @@ use Rattle.cany_model.specs.Bus.History.{ended_history}
 use Rattle.cany_model.specs.Runs.Incarnations.{incarnation_of}
 use Rattle.cany_model.specs.Bus.Restart.{restarted_in}
 use Rattle.cany_model.specs.Runs.RoundRobin.{round_robin}
-use Rattle.cany_rows.proofs.RowWords.{report as run_report}
-
--- the parameters of three nodes, with everything else by default, at lag 0
-unfoldable params : ℕ → Parameters
-params slots = record {
-  format = One;
-  nodes = 3;
-  lag = 0;
-  omit = 1;
-  errors = 2;
-  bound = 36;
-  cycle = 72;
-  life = 36;
-  silence = 73;
-  confirm = 10;
-  slots = slots;
-}
+use Rattle.cany_model.proofs.RowWords.{scenario_of}
+use Rattle.cany_rows.proofs.RowWords.{report as run_report, send}
 
 -- one EDCAN message of node 0 at slot 0, with one byte
 unfoldable one_send : ℕ → List Rule → ScenarioParts
-one_send slots rules = record {
-  params = params slots;
-  members = record { bits = 7 };
-  sends = record { slot = 0; node = 0; service = service.Ed; payload = 1 ∷ [] } ∷ [];
-  rules = rules;
-  joins = [];
-  leaves = [];
-  restarts = [];
-  from = 0;
-  inc = 0;
-  journal = None;
-}
+unfolding send scenario_of
+one_send slots rules = scenario_of (default_parameters 3 slots) 7 (send 0 0 (1 ∷ []) ∷ []) rules []
 
 unfoldable pub text_of : ScenarioParts → List ℕ
 unfolding run_report ended_history incarnation_of restarted_in digits line_of class_name service_name verdict_name break_name payload_text set_text step_letter first_line params_line journal_line journal_lines node_text has_any bus_line is_shown hypothesis_line node_line entry_line message_line bus_lines incarnation_lines node_lines message_lines report_lines report
@@ -77,7 +52,7 @@ one_message_no_fault : text_of (one_send 5 []) ≡ concat (
     ∷ codes "deliver 1 ed 0 0 x01\n"
     ∷ codes "message ed 0 0 settled\n"
     ∷ codes "end\n" ∷ [])
-unfolding text_of params one_send
+unfolding text_of one_send
 one_message_no_fault = refl
 
 -- the sender stops after only node 1 accepted its frame: node 1 relays it
@@ -97,7 +72,7 @@ edcan_sender_stops_after_partial :
     ∷ codes "deliver 2 ed 0 0 x01\n"
     ∷ codes "message ed 0 0 settled\n"
     ∷ codes "end\n" ∷ [])
-unfolding text_of params one_send
+unfolding text_of one_send
 edcan_sender_stops_after_partial = refl
 
 -- Lines that these runs do not have.

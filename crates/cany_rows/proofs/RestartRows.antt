@@ -34,7 +34,7 @@ use Rattle.cany_model.specs.Rules.Log.{log}
 use Rattle.cany_model.specs.Rules.Messages.{Message, data_id, messages_of}
 use Rattle.cany_model.specs.Rules.Turn.{scenario_for}
 use Rattle.cany_model.proofs.Promises.BreakFacts.{first_break_exact}
-use Rattle.cany_rows.proofs.RowWords.{Followed-all, Refused, carries, delivers, delivers_rel, ed, first_frame, first_rel, follow, idle, insides, lag_1, one_message, one_rel, rel, report, row, scenario, send, set, shown, slot_rule, steps, three}
+use Rattle.cany_rows.proofs.RowWords.{Followed-all, Refused, carries, delivers, delivers_rel, ed, first_frame, first_rel, follow, idle, insides, lag_1, one_message, one_rel, rel, report, row, scenario, send, set, shown, slot_rule, steps, three, running_node, whole_run}
 
 -- ---- what a row is written with
 
@@ -185,15 +185,10 @@ after_the_restart = refl
 
 -- so the message that the earlier incarnation asked for is lost, and settled
 message_of_an_earlier_incarnation :
-    (let sc = stops_with_a_frame (again 2 0 ∷ again 2 2 ∷ []) in report sc (round_robin sc)) ≡ record {
-      journal = steps (codes ".012.1.1.012.012");
-      bus = carries 1 first_frame 1 0 Lost 5 ∷ [];
-      broken = None;
-      nodes = record { stopped = None; read = 5; log = [] } ∷ record { stopped = None; read = 5; log = [] } ∷ record { stopped = None; read = 5; log = [] } ∷ [];
-      settled = true ∷ [];
-      legal = true;
-      ended = true;
-    }
+    (let sc = stops_with_a_frame (again 2 0 ∷ again 2 2 ∷ []) in report sc (round_robin sc)) ≡ whole_run (steps (codes ".012.1.1.012.012"))
+    (carries 1 first_frame 1 0 Lost 5 ∷ [])
+    (running_node 5 [] ∷ running_node 5 [] ∷ running_node 5 [] ∷ [])
+    (true ∷ [])
 unfolding restart_row stops_with_a_frame
 message_of_an_earlier_incarnation = refl
 

@@ -1,14 +1,12 @@
 -- What a worked row is written with, and what a run shows.
-use Rattle.std.specs.Prelude.{ℕ, ◌+◌, ◌-◌, ◌*◌, ◌==◌, Bool, not, ◌||◌, ◌&&◌, nat_lt, if◌then◌else◌, List, [], ◌∷◌, ◌++◌, length, Option, Some, None, is_some, find, map}
+use Rattle.std.specs.Prelude.{ℕ, ◌+◌, ◌-◌, ◌*◌, ◌==◌, Bool, not, ◌||◌, ◌&&◌, nat_lt, if◌then◌else◌, List, [], ◌∷◌, ◌++◌, length, Option, Some, None, is_some, find, map, true}
 use Rattle.std.specs.List.{range_with_len}
-use Rattle.cany_base.specs.declared.class.Class.{Class}
 use Rattle.cany_base.specs.declared.class.Class.TheVariants as class
 use Rattle.cany_base.specs.declared.format.Format.TheVariants.{One}
 use Rattle.cany_base.specs.declared.log_entry.LogEntry.{LogEntry}
 use Rattle.cany_base.specs.declared.log_entry.LogEntry.TheVariants.{Deliver}
 use Rattle.cany_base.specs.declared.message.SendAsk.{SendAsk}
 use Rattle.cany_base.specs.declared.message.Service.TheVariants as service
-use Rattle.cany_base.specs.declared.rule.Place.TheVariants.{At, FrameNth}
 use Rattle.cany_base.specs.declared.rule.Rule.{Rule}
 use Rattle.cany_base.specs.declared.rule.Verdict.{Verdict}
 use Rattle.cany_base.specs.declared.rule.Verdict.TheVariants.{Clean}
@@ -16,59 +14,35 @@ use Rattle.cany_base.specs.declared.slot_note.SlotNote.{SlotNote}
 use Rattle.cany_base.specs.declared.step.Step.{Step}
 use Rattle.cany_base.specs.declared.step.Step.TheVariants.{Slot, Turn}
 use Rattle.cany_base.specs.Frame.{FrameParts}
-use Rattle.cany_base.specs.Nodes.{Nodes, has, bits_where, those_where}
 use Rattle.cany_base.specs.Params.{Parameters}
 use Rattle.cany_base.specs.Scenario.{ScenarioParts}
 use Rattle.cany_model.specs.declared.breaks.Break.{Break}
 use Rattle.cany_model.specs.declared.reply.StepReply.{StepReply}
-use Rattle.cany_model.specs.Rules.Backlog.{backlog, asked, backlog_effects}
-use Rattle.cany_model.specs.Rules.Delivery.{delivery_effects}
-use Rattle.cany_model.specs.Rules.Eager.{eager_effects}
-use Rattle.cany_model.specs.Rules.Edcan.{edcan_at, edcan_effects}
-use Rattle.cany_model.specs.Rules.Effect.{waiting_after, entered}
-use Rattle.cany_model.specs.Bus.Frames.{same_class, same_identity, same_frame, is_before}
-use Rattle.cany_model.specs.Bus.History.{is_hidden, as_seen, history, copies, has_own}
-use Rattle.cany_model.specs.Promises.Hypothesis.{break_at, first_break, count_together}
-use Rattle.cany_model.specs.Rules.Life.{sign_effects, fda_copy_effects, failure_effects, failures_at, life_signs_sent, life_effects}
-use Rattle.cany_model.specs.Rules.Log.{log, log_from}
-use Rattle.cany_model.specs.Rules.Membership.{exchange_effects, install_effects, ask_effects}
-use Rattle.cany_model.specs.Rules.Messages.{messages_after, messages_of, is_service}
-use Rattle.cany_model.specs.Rules.Relcan.{fell_back, relcan_at, timer_effects, relcan_effects}
-use Rattle.cany_model.specs.Bus.Restart.{names_restart, after_entries, nodes_after_entries, after_restarts}
-use Rattle.cany_model.specs.Runs.RoundRobin.{round, rounds}
-use Rattle.cany_model.specs.Runs.Run.{first_lagging, reply, is_done, is_legal_from, has_ended, after_turn, proceed, after_step, run_from, run}
+use Rattle.cany_model.specs.Promises.Hypothesis.{first_break}
+use Rattle.cany_model.specs.Rules.Log.{log}
+use Rattle.cany_model.specs.Rules.Messages.{messages_of}
+use Rattle.cany_model.proofs.RowWords.{run_words, scenario_of, send as send_by}
+use Rattle.cany_model.specs.Runs.Run.{reply, is_done, is_legal_from, has_ended, after_step, run}
 use Rattle.cany_model.specs.Promises.Settled.{is_settled}
-use Rattle.cany_model.specs.Bus.Slot.{least_frame, winner, script, share_of, after_share, slot_note_of, node_after, nodes_after, after_slot}
 use Rattle.cany_model.specs.Bus.State.{RunState, node_at, opening, reads}
-use Rattle.cany_model.specs.Rules.Sends.{send_effects}
-use Rattle.cany_model.specs.Rules.KnowledgeOf.{after_notice, knowledge_of}
-use Rattle.cany_model.specs.Rules.Knowledge.{shows_life, after_life, with_signs, told, found}
-use Rattle.cany_model.specs.Rules.Totcan.{tot_in, is_recent, after_place, is_heard, is_accepted, accept_effects, closing_effects, is_clear, done_from, delivered as delivered_tot, delivered_now, totcan_effects}
-use Rattle.cany_model.specs.Rules.Turn.{has_asked, turn_effects}
-use Rattle.cany_model.specs.Rules.Vectors.{brought, met, is_just, is_covered, is_new, vector_effects, end_effects, start_effects, exchange_at}
-use Rattle.cany_model.specs.Rules.Views.{after_ask, with_ended, view_effects}
-use Rattle.cany_model.specs.Bus.Waiting.{put_in_order}
-
-abbrev pub set : ℕ → Nodes
-set bits = record { bits = bits }
+pub use Rattle.cany_model.proofs.RowWords.{set}
+unfoldable pub use Rattle.cany_model.proofs.RowWords.{frame_rule, slot_rule}
 
 unfoldable pub send : ℕ → ℕ → List ℕ → SendAsk
-send slot node payload = record { slot = slot; node = node; service = service.Ed; payload = payload }
+unfolding send_by
+send = send_by service.Ed
 
 unfoldable pub send_rel : ℕ → ℕ → List ℕ → SendAsk
-send_rel slot node payload = record { slot = slot; node = node; service = service.Rel; payload = payload }
+unfolding send_by
+send_rel = send_by service.Rel
 
 unfoldable pub send_tot : ℕ → ℕ → List ℕ → SendAsk
-send_tot slot node payload = record { slot = slot; node = node; service = service.Tot; payload = payload }
-
-unfoldable pub slot_rule : ℕ → Verdict → ℕ → Rule
-slot_rule slot verdict stop = record { place = At slot; verdict = verdict; stop = set stop }
-
-unfoldable pub frame_rule : Class → ℕ → ℕ → ℕ → Verdict → ℕ → Rule
-frame_rule class number node nth verdict stop = record { place = FrameNth class number node nth; verdict = verdict; stop = set stop }
+unfolding send_by
+send_tot = send_by service.Tot
 
 unfoldable pub scenario : Parameters → List SendAsk → List Rule → ScenarioParts
-scenario p sends rules = record { params = p; members = set 0; sends = sends; rules = rules; joins = []; leaves = []; restarts = []; from = 0; inc = 0; journal = None }
+unfolding scenario_of
+scenario p sends rules = scenario_of p 0 sends rules []
 
 -- a journal in its alphabet: a dot is a slot, and a digit or a letter is the turn of a node
 abbrev pub step_of : ℕ → Step
@@ -135,12 +109,24 @@ pub record RunReport : Type 0 where
   pub legal : Bool
   pub ended : Bool
 
+-- of a run that is legal, has ended and is within the hypothesis
+abbrev pub whole_run : List Step → List SlotNote → List NodeReport → List Bool → RunReport
+whole_run journal bus nodes settled =
+    record { journal = journal; bus = bus; broken = None; nodes = nodes; settled = settled; legal = true; ended = true }
+
+-- of a node that runs, and of one that stopped in a slot
+abbrev pub running_node : ℕ → List LogEntry → NodeReport
+running_node read log = record { stopped = None; read = read; log = log }
+
+abbrev pub stopped_node : ℕ → ℕ → List LogEntry → NodeReport
+stopped_node slot read log = record { stopped = Some slot; read = read; log = log }
+
 abbrev pub node_report : ScenarioParts → RunState → ℕ → NodeReport
 node_report sc s i = record { stopped = (node_at s.nodes i).stopped; read = reads s i; log = log sc s i }
 
 -- that of a scenario by a journal; what computes it is opened here, once for all rows
 unfoldable pub report : ScenarioParts → List Step → RunReport
-unfolding shown has bits_where those_where same_class same_identity same_frame is_before messages_after node_at put_in_order least_frame winner script share_of after_share slot_note_of node_after nodes_after after_slot names_restart after_entries nodes_after_entries after_restarts is_hidden as_seen history copies has_own waiting_after entered eager_effects delivery_effects edcan_at edcan_effects fell_back relcan_at timer_effects relcan_effects send_effects tot_in is_recent after_place is_heard is_accepted accept_effects closing_effects is_clear done_from delivered_tot delivered_now totcan_effects shows_life after_life with_signs told found after_notice knowledge_of sign_effects fda_copy_effects failure_effects failures_at life_signs_sent life_effects brought met is_just is_covered is_new vector_effects end_effects start_effects exchange_at exchange_effects after_ask with_ended view_effects install_effects ask_effects backlog asked backlog_effects is_service turn_effects has_asked log_from first_lagging reply is_legal_from after_turn proceed after_step run_from round rounds break_at first_break count_together is_settled
+unfolding run_words shown
 report sc journal =
     let s = run sc journal in
     record {

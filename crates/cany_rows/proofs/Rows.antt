@@ -1,5 +1,5 @@
 -- The worked runs that the scenarios of this repository show.
-use Rattle.std.specs.Prelude.{ℕ, zero, suc, ◌≡◌, ◌+◌, true, List, [], ◌∷◌, ◌++◌, Some, None, refl, codes}
+use Rattle.std.specs.Prelude.{ℕ, zero, suc, ◌≡◌, ◌+◌, true, List, [], ◌∷◌, ◌++◌, Some, refl, codes}
 use Rattle.cany_base.specs.declared.format.Format.TheVariants.{One}
 use Rattle.cany_base.specs.declared.rule.Rule.{Rule}
 use Rattle.cany_base.specs.declared.rule.Verdict.TheVariants.{Clean, Lost, Partial}
@@ -7,48 +7,33 @@ use Rattle.cany_base.specs.declared.slot_note.SlotNote.{SlotNote}
 use Rattle.cany_base.specs.Params.{Parameters}
 use Rattle.cany_model.specs.declared.breaks.BreakKind.TheVariants as kind
 use Rattle.cany_model.specs.Runs.RoundRobin.{round_robin}
-use Rattle.cany_rows.proofs.RowWords.{carries, delivered, first_frame, one_message, report, row, scenario, set, slot_rule, steps, three}
+use Rattle.cany_rows.proofs.RowWords.{carries, delivered, first_frame, one_message, report, row, scenario, set, slot_rule, steps, three, running_node, stopped_node, whole_run}
 
 -- one message, no fault: all deliver it, and the others relay it together
 one_message_no_fault :
-    (let s = scenario (three 5 1 2) one_message [] in report s (round_robin s)) ≡ record {
-      journal = steps (codes ".012.012.012.012.012");
-      bus = carries 1 first_frame 1 6 Clean 0 ∷ carries 2 first_frame 6 1 Clean 0 ∷ [];
-      broken = None;
-      nodes = record { stopped = None; read = 5; log = delivered 1 } ∷ record { stopped = None; read = 5; log = delivered 1 }
-          ∷ record { stopped = None; read = 5; log = delivered 1 } ∷ [];
-      settled = true ∷ [];
-      legal = true;
-      ended = true;
-    }
+    (let s = scenario (three 5 1 2) one_message [] in report s (round_robin s)) ≡ whole_run (steps (codes ".012.012.012.012.012"))
+    (carries 1 first_frame 1 6 Clean 0 ∷ carries 2 first_frame 6 1 Clean 0 ∷ [])
+    (running_node 5 (delivered 1) ∷ running_node 5 (delivered 1)
+    ∷ running_node 5 (delivered 1) ∷ [])
+    (true ∷ [])
 unfolding row
 one_message_no_fault = refl
 
 nothing_sent :
-    (let s = scenario (three 1 1 2) [] [] in report s (round_robin s)) ≡ record {
-      journal = steps (codes ".012");
-      bus = [];
-      broken = None;
-      nodes = record { stopped = None; read = 1; log = [] } ∷ record { stopped = None; read = 1; log = [] } ∷ record { stopped = None; read = 1; log = [] } ∷ [];
-      settled = [];
-      legal = true;
-      ended = true;
-    }
+    (let s = scenario (three 1 1 2) [] [] in report s (round_robin s)) ≡ whole_run (steps (codes ".012"))
+    []
+    (running_node 1 [] ∷ running_node 1 [] ∷ running_node 1 [] ∷ [])
+    []
 unfolding row
 nothing_sent = refl
 
 -- the sender stops after only node 1 accepted its frame: node 1 relays it
 edcan_sender_stops_after_partial :
-    (let s = scenario (three 6 1 2) one_message (slot_rule 1 (Partial (set 4)) 1 ∷ []) in report s (round_robin s)) ≡ record {
-      journal = steps (codes ".012.12.12.12.12.12");
-      bus = carries 1 first_frame 1 2 (Partial (set 4)) 1 ∷ carries 2 first_frame 2 4 Clean 0 ∷ carries 3 first_frame 4 2 Clean 0 ∷ [];
-      broken = None;
-      nodes = record { stopped = Some 1; read = 1; log = [] } ∷ record { stopped = None; read = 6; log = delivered 1 }
-          ∷ record { stopped = None; read = 6; log = delivered 2 } ∷ [];
-      settled = true ∷ [];
-      legal = true;
-      ended = true;
-    }
+    (let s = scenario (three 6 1 2) one_message (slot_rule 1 (Partial (set 4)) 1 ∷ []) in report s (round_robin s)) ≡ whole_run (steps (codes ".012.12.12.12.12.12"))
+    (carries 1 first_frame 1 2 (Partial (set 4)) 1 ∷ carries 2 first_frame 2 4 Clean 0 ∷ carries 3 first_frame 4 2 Clean 0 ∷ [])
+    (stopped_node 1 1 [] ∷ running_node 6 (delivered 1)
+    ∷ running_node 6 (delivered 2) ∷ [])
+    (true ∷ [])
 unfolding row
 edcan_sender_stops_after_partial = refl
 
@@ -66,8 +51,8 @@ sixteen_lost_slots :
       journal = steps (codes ".012.012.012.012.012.012.012.012.012.012.012.012.012.012.012.012.12.12.12.12");
       bus = lost_slots 15 ++ carries 16 first_frame 1 0 Lost 1 ∷ [];
       broken = Some (record { kind = kind.Errors; slot = 3 });
-      nodes = record { stopped = Some 16; read = 16; log = [] } ∷ record { stopped = None; read = 20; log = [] }
-          ∷ record { stopped = None; read = 20; log = [] } ∷ [];
+      nodes = stopped_node 16 16 [] ∷ running_node 20 []
+          ∷ running_node 20 [] ∷ [];
       settled = true ∷ [];
       legal = true;
       ended = true;
@@ -78,15 +63,10 @@ sixteen_lost_slots = refl
 -- at lag 2 node 2 reads two copies in a row: it asks, and withdraws before its frame is carried
 copies_read_in_a_row :
     (let p : Parameters = record { format = One; nodes = 3; lag = 2; omit = 1; errors = 2; bound = 114; cycle = 232; life = 116; silence = 233; confirm = 10; slots = 6 } in
-    report (scenario p one_message []) (steps (codes ".012.01.0122.012.012.012"))) ≡ record {
-      journal = steps (codes ".012.01.0122.012.012.012");
-      bus = carries 1 first_frame 1 6 Clean 0 ∷ carries 2 first_frame 2 5 Clean 0 ∷ [];
-      broken = None;
-      nodes = record { stopped = None; read = 6; log = delivered 1 } ∷ record { stopped = None; read = 6; log = delivered 1 }
-          ∷ record { stopped = None; read = 6; log = delivered 1 } ∷ [];
-      settled = true ∷ [];
-      legal = true;
-      ended = true;
-    }
+    report (scenario p one_message []) (steps (codes ".012.01.0122.012.012.012"))) ≡ whole_run (steps (codes ".012.01.0122.012.012.012"))
+    (carries 1 first_frame 1 6 Clean 0 ∷ carries 2 first_frame 2 5 Clean 0 ∷ [])
+    (running_node 6 (delivered 1) ∷ running_node 6 (delivered 1)
+    ∷ running_node 6 (delivered 1) ∷ [])
+    (true ∷ [])
 unfolding row
 copies_read_in_a_row = refl

@@ -1,22 +1,17 @@
 -- Worked rows of a fault script, and of arbitration between two origins.
-use Rattle.std.specs.Prelude.{◌≡◌, true, [], ◌∷◌, Some, None, refl, codes}
+use Rattle.std.specs.Prelude.{◌≡◌, true, [], ◌∷◌, refl, codes}
 use Rattle.cany_base.specs.declared.class.Class.TheVariants as class
 use Rattle.cany_base.specs.declared.rule.Verdict.TheVariants.{Clean, Lost, Partial}
 use Rattle.cany_model.specs.Runs.RoundRobin.{round_robin}
-use Rattle.cany_rows.proofs.RowWords.{carries, delivered, delivers, ed, first_frame, frame_rule, insides, one_message, report, row, scenario, send, set, slot_rule, steps, three}
+use Rattle.cany_rows.proofs.RowWords.{carries, delivered, delivers, ed, first_frame, frame_rule, insides, one_message, report, row, scenario, send, set, slot_rule, steps, three, running_node, stopped_node, whole_run}
 
 -- the rule for the second attempt: that is the relay of nodes 1 and 2, in which node 2 stops; it keeps its waiting frame
 second_attempt :
-    (let s = scenario (three 6 1 2) one_message (frame_rule class.Ed 0 0 2 (Partial (set 1)) 4 ∷ []) in report s (round_robin s)) ≡ record {
-      journal = steps (codes ".012.012.01.01.01.01");
-      bus = carries 1 first_frame 1 6 Clean 0 ∷ carries 2 first_frame 6 0 (Partial (set 1)) 4 ∷ carries 3 first_frame 2 1 Clean 0 ∷ [];
-      broken = None;
-      nodes = record { stopped = None; read = 6; log = delivered 1 } ∷ record { stopped = None; read = 6; log = delivered 1 }
-          ∷ record { stopped = Some 2; read = 2; log = delivered 1 } ∷ [];
-      settled = true ∷ [];
-      legal = true;
-      ended = true;
-    }
+    (let s = scenario (three 6 1 2) one_message (frame_rule class.Ed 0 0 2 (Partial (set 1)) 4 ∷ []) in report s (round_robin s)) ≡ whole_run (steps (codes ".012.012.01.01.01.01"))
+    (carries 1 first_frame 1 6 Clean 0 ∷ carries 2 first_frame 6 0 (Partial (set 1)) 4 ∷ carries 3 first_frame 2 1 Clean 0 ∷ [])
+    (running_node 6 (delivered 1) ∷ running_node 6 (delivered 1)
+    ∷ stopped_node 2 2 (delivered 1) ∷ [])
+    (true ∷ [])
 unfolding row
 second_attempt = refl
 
@@ -30,16 +25,11 @@ counters_after_second_attempt = refl
 -- a rule for the slot is used alone, also where it says Clean; the slot counts as an attempt all the same
 slot_rule_is_used_alone :
     (let s = scenario (three 5 1 2) one_message (frame_rule class.Ed 0 0 1 Lost 1 ∷ frame_rule class.Ed 0 0 2 Lost 0 ∷ slot_rule 1 Clean 0 ∷ []) in
-    report s (round_robin s)) ≡ record {
-      journal = steps (codes ".012.012.012.012.012");
-      bus = carries 1 first_frame 1 6 Clean 0 ∷ carries 2 first_frame 6 0 Lost 0 ∷ carries 3 first_frame 6 1 Clean 0 ∷ [];
-      broken = None;
-      nodes = record { stopped = None; read = 5; log = delivered 1 } ∷ record { stopped = None; read = 5; log = delivered 1 }
-          ∷ record { stopped = None; read = 5; log = delivered 1 } ∷ [];
-      settled = true ∷ [];
-      legal = true;
-      ended = true;
-    }
+    report s (round_robin s)) ≡ whole_run (steps (codes ".012.012.012.012.012"))
+    (carries 1 first_frame 1 6 Clean 0 ∷ carries 2 first_frame 6 0 Lost 0 ∷ carries 3 first_frame 6 1 Clean 0 ∷ [])
+    (running_node 5 (delivered 1) ∷ running_node 5 (delivered 1)
+    ∷ running_node 5 (delivered 1) ∷ [])
+    (true ∷ [])
 unfolding row
 slot_rule_is_used_alone = refl
 
@@ -70,17 +60,12 @@ edcan_sender_stops_after_partial_attempt = refl
 
 -- Two origins: the lower number wins, and of one number the lower node; a node's own frame waits meanwhile.
 number_comes_before_node :
-    (let s = scenario (three 8 1 2) (send 0 0 (1 ∷ []) ∷ send 0 0 (2 ∷ []) ∷ send 0 1 (3 ∷ []) ∷ []) [] in report s (round_robin s)) ≡ record {
-      journal = steps (codes ".012.012.012.012.012.012.012.012");
-      bus = carries 1 first_frame 1 6 Clean 0 ∷ carries 2 first_frame 6 1 Clean 0
-          ∷ carries 3 (ed 1 0 (3 ∷ [])) 2 5 Clean 0 ∷ carries 4 (ed 1 0 (3 ∷ [])) 5 2 Clean 0
-          ∷ carries 5 (ed 0 1 (2 ∷ [])) 1 6 Clean 0 ∷ carries 6 (ed 0 1 (2 ∷ [])) 6 1 Clean 0 ∷ [];
-      broken = None;
-      nodes = (let log = delivers 1 0 0 (1 ∷ []) ∷ delivers 3 1 0 (3 ∷ []) ∷ delivers 5 0 1 (2 ∷ []) ∷ [] in
-          record { stopped = None; read = 8; log = log } ∷ record { stopped = None; read = 8; log = log } ∷ record { stopped = None; read = 8; log = log } ∷ []);
-      settled = true ∷ true ∷ true ∷ [];
-      legal = true;
-      ended = true;
-    }
+    (let s = scenario (three 8 1 2) (send 0 0 (1 ∷ []) ∷ send 0 0 (2 ∷ []) ∷ send 0 1 (3 ∷ []) ∷ []) [] in report s (round_robin s)) ≡ whole_run (steps (codes ".012.012.012.012.012.012.012.012"))
+    (carries 1 first_frame 1 6 Clean 0 ∷ carries 2 first_frame 6 1 Clean 0
+    ∷ carries 3 (ed 1 0 (3 ∷ [])) 2 5 Clean 0 ∷ carries 4 (ed 1 0 (3 ∷ [])) 5 2 Clean 0
+    ∷ carries 5 (ed 0 1 (2 ∷ [])) 1 6 Clean 0 ∷ carries 6 (ed 0 1 (2 ∷ [])) 6 1 Clean 0 ∷ [])
+    (let log = delivers 1 0 0 (1 ∷ []) ∷ delivers 3 1 0 (3 ∷ []) ∷ delivers 5 0 1 (2 ∷ []) ∷ [] in
+    running_node 8 log ∷ running_node 8 log ∷ running_node 8 log ∷ [])
+    (true ∷ true ∷ true ∷ [])
 unfolding row
 number_comes_before_node = refl

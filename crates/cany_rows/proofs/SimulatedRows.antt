@@ -1,12 +1,12 @@
 -- Runs that an independent simulator computed.
-use Rattle.std.specs.Prelude.{ℕ, ◌≡◌, true, false, List, [], ◌∷◌, Some, None, refl, codes}
+use Rattle.std.specs.Prelude.{ℕ, ◌≡◌, true, false, List, [], ◌∷◌, Some, refl, codes}
 use Rattle.cany_base.specs.declared.format.Format.TheVariants.{One}
 use Rattle.cany_base.specs.declared.log_entry.LogEntry.{LogEntry}
 use Rattle.cany_base.specs.declared.rule.Verdict.TheVariants.{Clean, Lost, Partial, Silent}
 use Rattle.cany_model.specs.declared.breaks.BreakKind.TheVariants as kind
 use Rattle.cany_model.specs.declared.reply.StepReply.TheVariants.{Lagging}
 use Rattle.cany_model.specs.Runs.RoundRobin.{round_robin}
-use Rattle.cany_rows.proofs.RowWords.{Refused, carries, delivers, ed, follow, idle, report, row, scenario, send, set, slot_rule, steps, three}
+use Rattle.cany_rows.proofs.RowWords.{Refused, carries, delivers, ed, follow, idle, report, row, scenario, send, set, slot_rule, steps, three, running_node, stopped_node, whole_run}
 
 -- round robin at errors 1: slot 1 stops a receiver, later rules name it again or fall on idle slots and do nothing, and slot 7 is
 -- the second error
@@ -22,7 +22,7 @@ one_error_too_many :
           ∷ carries 7 (ed 2 0 long) 4 0 (Partial (set 6)) 0 ∷ carries 8 (ed 2 0 long) 4 2 Clean 0 ∷ carries 9 (ed 2 0 long) 2 4 Clean 0
           ∷ carries 10 (ed 1 1 (5 ∷ [])) 4 2 Clean 0 ∷ [];
       broken = Some (record { kind = kind.Errors; slot = 7 });
-      nodes = record { stopped = Some 1; read = 1; log = [] } ∷ record { stopped = None; read = 15; log = log } ∷ record { stopped = None; read = 15; log = log } ∷ [];
+      nodes = stopped_node 1 1 [] ∷ running_node 15 log ∷ running_node 15 log ∷ [];
       settled = true ∷ true ∷ true ∷ true ∷ true ∷ [];
       legal = true;
       ended = true;
@@ -41,8 +41,8 @@ silent_by_a_journal :
       journal = steps (codes ".10.10.10.01.0.0.0.0.0.0.0.0.0.0...");
       bus = carries 2 (ed 0 1 first) 1 2 Clean 0 ∷ carries 3 (ed 0 1 first) 2 1 Clean 0 ∷ carries 4 (ed 0 2 second) 1 2 (Silent (set 1)) 2 ∷ idle 14 1 ∷ [];
       broken = Some (record { kind = kind.Silent; slot = 4 });
-      nodes = record { stopped = Some 14; read = 14; log = delivers 2 0 1 first ∷ delivers 4 0 2 second ∷ [] }
-          ∷ record { stopped = Some 4; read = 4; log = delivers 2 0 1 first ∷ [] } ∷ [];
+      nodes = stopped_node 14 14 (delivers 2 0 1 first ∷ delivers 4 0 2 second ∷ [])
+          ∷ stopped_node 4 4 (delivers 2 0 1 first ∷ []) ∷ [];
       settled = true ∷ true ∷ true ∷ true ∷ true ∷ [];
       legal = true;
       ended = true;
@@ -55,15 +55,10 @@ stops_at_lag_1 :
     (let s = scenario (record { format = One; nodes = 3; lag = 1; omit = 1; errors = 8; bound = 87; cycle = 176; life = 88; silence = 177; confirm = 10; slots = 19 })
     (send 18 2 (154 ∷ 111 ∷ 60 ∷ 130 ∷ 116 ∷ 65 ∷ 239 ∷ 2 ∷ []) ∷ send 17 1 [] ∷ [])
     (slot_rule 3 (Partial (set 2)) 1 ∷ slot_rule 10 Clean 4 ∷ slot_rule 18 (Partial (set 0)) 0 ∷ []) in
-    report s (steps (codes "..21210.2100..12.1122.2.12.1.211..1.1.1.11..1.1.11"))) ≡ record {
-      journal = steps (codes "..21210.2100..12.1122.2.12.1.211..1.1.1.11..1.1.11");
-      bus = idle 3 1 ∷ idle 10 4 ∷ [];
-      broken = None;
-      nodes = record { stopped = Some 3; read = 3; log = [] } ∷ record { stopped = None; read = 19; log = [] } ∷ record { stopped = Some 10; read = 9; log = [] } ∷ [];
-      settled = true ∷ false ∷ [];
-      legal = true;
-      ended = true;
-    }
+    report s (steps (codes "..21210.2100..12.1122.2.12.1.211..1.1.1.11..1.1.11"))) ≡ whole_run (steps (codes "..21210.2100..12.1122.2.12.1.211..1.1.1.11..1.1.11"))
+    (idle 3 1 ∷ idle 10 4 ∷ [])
+    (stopped_node 3 3 [] ∷ running_node 19 [] ∷ stopped_node 10 9 [] ∷ [])
+    (true ∷ false ∷ [])
 unfolding row
 stops_at_lag_1 = refl
 

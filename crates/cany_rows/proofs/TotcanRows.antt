@@ -1,5 +1,5 @@
 -- Worked rows of TOTCAN.
-use Rattle.std.specs.Prelude.{ℕ, ◌≡◌, ◌++◌, true, false, List, [], ◌∷◌, Some, None, map, replicate, refl, codes}
+use Rattle.std.specs.Prelude.{ℕ, ◌≡◌, ◌++◌, true, false, List, [], ◌∷◌, Some, map, replicate, refl, codes}
 use Rattle.std.specs.List.{concat}
 use Rattle.cany_base.specs.declared.format.Format.TheVariants.{One}
 use Rattle.cany_base.specs.declared.log_entry.LogEntry.{LogEntry}
@@ -8,7 +8,7 @@ use Rattle.cany_base.specs.Params.{Parameters}
 use Rattle.cany_base.specs.Scenario.{ScenarioParts}
 use Rattle.cany_model.specs.declared.breaks.BreakKind.TheVariants as kind
 use Rattle.cany_model.specs.Runs.RoundRobin.{round_robin}
-use Rattle.cany_rows.proofs.RowWords.{accept, carries, confirm, delivers, delivers_rel, delivers_tot, ed, first_accept, first_tot, one_tot, rel, report, row, scenario, send, send_rel, send_tot, set, slot_rule, steps, three, tot}
+use Rattle.cany_rows.proofs.RowWords.{accept, carries, confirm, delivers, delivers_rel, delivers_tot, ed, first_accept, first_tot, one_tot, rel, report, row, scenario, send, send_rel, send_tot, set, slot_rule, steps, three, tot, running_node, stopped_node, whole_run}
 
 unfoldable delivered : ℕ → List LogEntry
 delivered slot = delivers_tot slot 0 0 (1 ∷ []) ∷ []
@@ -26,16 +26,11 @@ unfoldable sender_stops_after_partial : ℕ → ScenarioParts
 sender_stops_after_partial slots = scenario (calm slots) one_tot (slot_rule 1 (Partial (set 4)) 1 ∷ [])
 
 totcan_unaccepted_is_dropped :
-    (let s = sender_stops_after_partial 45 in report s (round_robin s)) ≡ record {
-      journal = steps (codes ".012" ++ rounds_of 44 (codes ".12"));
-      bus = carries 1 first_tot 1 2 (Partial (set 4)) 1 ∷ [];
-      broken = None;
-      nodes = record { stopped = Some 1; read = 1; log = [] } ∷ record { stopped = None; read = 45; log = [] }
-          ∷ record { stopped = None; read = 45; log = [] } ∷ [];
-      settled = true ∷ [];
-      legal = true;
-      ended = true;
-    }
+    (let s = sender_stops_after_partial 45 in report s (round_robin s)) ≡ whole_run (steps (codes ".012" ++ rounds_of 44 (codes ".12")))
+    (carries 1 first_tot 1 2 (Partial (set 4)) 1 ∷ [])
+    (stopped_node 1 1 [] ∷ running_node 45 []
+    ∷ running_node 45 [] ∷ [])
+    (true ∷ [])
 unfolding row sender_stops_after_partial calm rounds_of
 totcan_unaccepted_is_dropped = refl
 
@@ -51,17 +46,12 @@ unfoldable accept_is_partial : ScenarioParts
 accept_is_partial = scenario (calm 45) one_tot (slot_rule 2 (Partial (set 4)) 1 ∷ [])
 
 totcan_accept_survives_its_sender :
-    (let s = accept_is_partial in report s (round_robin s)) ≡ record {
-      journal = steps (codes ".012.012" ++ rounds_of 43 (codes ".12"));
-      bus = carries 1 first_tot 1 6 Clean 0 ∷ carries 2 first_accept 1 2 (Partial (set 4)) 1 ∷ carries 3 first_accept 2 4 Clean 0
-          ∷ carries 4 first_accept 4 2 Clean 0 ∷ [];
-      broken = None;
-      nodes = record { stopped = Some 2; read = 2; log = delivered 1 } ∷ record { stopped = None; read = 45; log = delivered 2 }
-          ∷ record { stopped = None; read = 45; log = delivered 3 } ∷ [];
-      settled = true ∷ [];
-      legal = true;
-      ended = true;
-    }
+    (let s = accept_is_partial in report s (round_robin s)) ≡ whole_run (steps (codes ".012.012" ++ rounds_of 43 (codes ".12")))
+    (carries 1 first_tot 1 6 Clean 0 ∷ carries 2 first_accept 1 2 (Partial (set 4)) 1 ∷ carries 3 first_accept 2 4 Clean 0
+    ∷ carries 4 first_accept 4 2 Clean 0 ∷ [])
+    (stopped_node 2 2 (delivered 1) ∷ running_node 45 (delivered 2)
+    ∷ running_node 45 (delivered 3) ∷ [])
+    (true ∷ [])
 unfolding row delivered accept_is_partial calm rounds_of
 totcan_accept_survives_its_sender = refl
 
@@ -71,19 +61,14 @@ totcan_late_copy_moves_the_place :
     (let early = tot 1 0 (10 ∷ []) in
     let late = tot 0 0 (11 ∷ []) in
     let s = scenario (three 10 1 2) (send_tot 0 1 (10 ∷ []) ∷ send_tot 1 0 (11 ∷ []) ∷ []) (slot_rule 1 (Partial (set 4)) 0 ∷ []) in
-    report s (round_robin s) ≡ record {
-      journal = steps (codes ".012.012.012.012.012.012.012.012.012.012");
-      bus = carries 1 early 2 1 (Partial (set 4)) 0 ∷ carries 2 late 1 6 Clean 0 ∷ carries 3 (accept 0 0) 1 6 Clean 0
-          ∷ carries 4 (accept 0 0) 6 1 Clean 0 ∷ carries 5 early 2 5 Clean 0 ∷ carries 6 (accept 1 0) 2 5 Clean 0
-          ∷ carries 7 (accept 1 0) 5 2 Clean 0 ∷ [];
-      broken = None;
-      nodes = record { stopped = None; read = 10; log = delivers_tot 5 0 0 (11 ∷ []) ∷ delivers_tot 6 1 0 (10 ∷ []) ∷ [] }
-          ∷ record { stopped = None; read = 10; log = delivers_tot 3 0 0 (11 ∷ []) ∷ delivers_tot 5 1 0 (10 ∷ []) ∷ [] }
-          ∷ record { stopped = None; read = 10; log = delivers_tot 3 0 0 (11 ∷ []) ∷ delivers_tot 6 1 0 (10 ∷ []) ∷ [] } ∷ [];
-      settled = false ∷ false ∷ [];
-      legal = true;
-      ended = true;
-    })
+    report s (round_robin s) ≡ whole_run (steps (codes ".012.012.012.012.012.012.012.012.012.012"))
+    (carries 1 early 2 1 (Partial (set 4)) 0 ∷ carries 2 late 1 6 Clean 0 ∷ carries 3 (accept 0 0) 1 6 Clean 0
+    ∷ carries 4 (accept 0 0) 6 1 Clean 0 ∷ carries 5 early 2 5 Clean 0 ∷ carries 6 (accept 1 0) 2 5 Clean 0
+    ∷ carries 7 (accept 1 0) 5 2 Clean 0 ∷ [])
+    (running_node 10 (delivers_tot 5 0 0 (11 ∷ []) ∷ delivers_tot 6 1 0 (10 ∷ []) ∷ [])
+    ∷ running_node 10 (delivers_tot 3 0 0 (11 ∷ []) ∷ delivers_tot 5 1 0 (10 ∷ []) ∷ [])
+    ∷ running_node 10 (delivers_tot 3 0 0 (11 ∷ []) ∷ delivers_tot 6 1 0 (10 ∷ []) ∷ []) ∷ [])
+    (false ∷ false ∷ []))
 unfolding row
 totcan_late_copy_moves_the_place = refl
 
@@ -96,8 +81,8 @@ silent_omission_is_outside :
       journal = steps (rounds_of 45 (codes ".012"));
       bus = carries 1 first_tot 1 2 (Silent (set 4)) 0 ∷ carries 2 first_accept 1 6 Clean 0 ∷ carries 3 first_accept 2 5 Clean 0 ∷ [];
       broken = Some (record { kind = kind.Silent; slot = 1 });
-      nodes = record { stopped = None; read = 45; log = delivered 1 } ∷ record { stopped = None; read = 45; log = delivered 2 }
-          ∷ record { stopped = None; read = 45; log = [] } ∷ [];
+      nodes = running_node 45 (delivered 1) ∷ running_node 45 (delivered 2)
+          ∷ running_node 45 [] ∷ [];
       settled = true ∷ [];
       legal = true;
       ended = true;
@@ -110,18 +95,13 @@ three_services :
     (let p : Parameters = record { format = One; nodes = 4; lag = 0; omit = 1; errors = 2; bound = 59; cycle = 118; life = 59; silence = 119; confirm = 10; slots = 20 } in
     let log : ℕ → List LogEntry = λ first. delivers_tot first 0 0 (192 ∷ 1 ∷ []) ∷ delivers_rel 4 1 0 (34 ∷ []) ∷ delivers 6 3 0 (51 ∷ []) ∷ [] in
     let s = scenario p (send_tot 0 0 (192 ∷ 1 ∷ []) ∷ send_rel 0 1 (34 ∷ []) ∷ send 0 3 (51 ∷ []) ∷ []) [] in
-    report s (round_robin s) ≡ record {
-      journal = steps (rounds_of 20 (codes ".0123"));
-      bus = carries 1 (tot 0 0 (192 ∷ 1 ∷ [])) 1 14 Clean 0 ∷ carries 2 (accept 0 0) 1 14 Clean 0 ∷ carries 3 (accept 0 0) 14 1 Clean 0
-          ∷ carries 4 (rel 1 0 (34 ∷ [])) 2 13 Clean 0 ∷ carries 5 (confirm 1 0) 2 13 Clean 0
-          ∷ carries 6 (ed 3 0 (51 ∷ [])) 8 7 Clean 0 ∷ carries 7 (ed 3 0 (51 ∷ [])) 7 8 Clean 0 ∷ [];
-      broken = None;
-      nodes = record { stopped = None; read = 20; log = log 1 } ∷ record { stopped = None; read = 20; log = log 2 }
-          ∷ record { stopped = None; read = 20; log = log 2 } ∷ record { stopped = None; read = 20; log = log 2 } ∷ [];
-      settled = false ∷ true ∷ true ∷ [];
-      legal = true;
-      ended = true;
-    })
+    report s (round_robin s) ≡ whole_run (steps (rounds_of 20 (codes ".0123")))
+    (carries 1 (tot 0 0 (192 ∷ 1 ∷ [])) 1 14 Clean 0 ∷ carries 2 (accept 0 0) 1 14 Clean 0 ∷ carries 3 (accept 0 0) 14 1 Clean 0
+    ∷ carries 4 (rel 1 0 (34 ∷ [])) 2 13 Clean 0 ∷ carries 5 (confirm 1 0) 2 13 Clean 0
+    ∷ carries 6 (ed 3 0 (51 ∷ [])) 8 7 Clean 0 ∷ carries 7 (ed 3 0 (51 ∷ [])) 7 8 Clean 0 ∷ [])
+    (running_node 20 (log 1) ∷ running_node 20 (log 2)
+    ∷ running_node 20 (log 2) ∷ running_node 20 (log 2) ∷ [])
+    (false ∷ true ∷ true ∷ []))
 unfolding row rounds_of
 three_services = refl
 
@@ -135,17 +115,12 @@ second_waits_in_the_backlog :
     (let s = two_of_one_origin 42 in
     let second = tot 0 1 (2 ∷ []) in
     let log : ℕ → ℕ → List LogEntry = λ a b. delivers_tot a 0 0 (1 ∷ []) ∷ delivers_tot b 0 1 (2 ∷ []) ∷ [] in
-    report s (round_robin s) ≡ record {
-      journal = steps (rounds_of 42 (codes ".012"));
-      bus = carries 1 first_tot 1 6 Clean 0 ∷ carries 2 first_accept 1 6 Clean 0 ∷ carries 3 first_accept 6 1 Clean 0
-          ∷ carries 38 second 1 6 Clean 0 ∷ carries 39 (accept 0 1) 1 6 Clean 0 ∷ carries 40 (accept 0 1) 6 1 Clean 0 ∷ [];
-      broken = None;
-      nodes = record { stopped = None; read = 42; log = log 1 38 } ∷ record { stopped = None; read = 42; log = log 2 39 }
-          ∷ record { stopped = None; read = 42; log = log 2 39 } ∷ [];
-      settled = true ∷ false ∷ [];
-      legal = true;
-      ended = true;
-    })
+    report s (round_robin s) ≡ whole_run (steps (rounds_of 42 (codes ".012")))
+    (carries 1 first_tot 1 6 Clean 0 ∷ carries 2 first_accept 1 6 Clean 0 ∷ carries 3 first_accept 6 1 Clean 0
+    ∷ carries 38 second 1 6 Clean 0 ∷ carries 39 (accept 0 1) 1 6 Clean 0 ∷ carries 40 (accept 0 1) 6 1 Clean 0 ∷ [])
+    (running_node 42 (log 1 38) ∷ running_node 42 (log 2 39)
+    ∷ running_node 42 (log 2 39) ∷ [])
+    (true ∷ false ∷ []))
 unfolding row two_of_one_origin calm rounds_of
 second_waits_in_the_backlog = refl
 
@@ -168,18 +143,13 @@ origin_starts_again slots =
 backlog_of_an_earlier_incarnation :
     (let s = origin_starts_again 8 in
     let third = tot 0 2 (3 ∷ []) in
-    report s (round_robin s) ≡ record {
-      journal = steps (codes ".012.012.12.012.012.012.012.012");
-      bus = carries 1 first_tot 1 6 Clean 0 ∷ carries 2 first_accept 1 6 Clean 1 ∷ carries 3 first_accept 6 1 Clean 0
-          ∷ carries 6 third 1 6 Clean 0 ∷ carries 7 (accept 0 2) 1 6 Clean 0 ∷ [];
-      broken = None;
-      nodes = record { stopped = None; read = 8; log = delivers_tot 6 0 2 (3 ∷ []) ∷ [] }
-          ∷ record { stopped = None; read = 8; log = delivers_tot 2 0 0 (1 ∷ []) ∷ delivers_tot 7 0 2 (3 ∷ []) ∷ [] }
-          ∷ record { stopped = None; read = 8; log = delivers_tot 2 0 0 (1 ∷ []) ∷ delivers_tot 7 0 2 (3 ∷ []) ∷ [] } ∷ [];
-      settled = true ∷ true ∷ false ∷ [];
-      legal = true;
-      ended = true;
-    })
+    report s (round_robin s) ≡ whole_run (steps (codes ".012.012.12.012.012.012.012.012"))
+    (carries 1 first_tot 1 6 Clean 0 ∷ carries 2 first_accept 1 6 Clean 1 ∷ carries 3 first_accept 6 1 Clean 0
+    ∷ carries 6 third 1 6 Clean 0 ∷ carries 7 (accept 0 2) 1 6 Clean 0 ∷ [])
+    (running_node 8 (delivers_tot 6 0 2 (3 ∷ []) ∷ [])
+    ∷ running_node 8 (delivers_tot 2 0 0 (1 ∷ []) ∷ delivers_tot 7 0 2 (3 ∷ []) ∷ [])
+    ∷ running_node 8 (delivers_tot 2 0 0 (1 ∷ []) ∷ delivers_tot 7 0 2 (3 ∷ []) ∷ []) ∷ [])
+    (true ∷ true ∷ false ∷ []))
 unfolding row origin_starts_again
 backlog_of_an_earlier_incarnation = refl
 
@@ -195,16 +165,11 @@ late_reader =
 unfoldable one_behind : List ℕ
 one_behind = codes ".012.0123" ++ rounds_of 138 (codes ".123") ++ codes "3"
 
-totcan_accept_under_lag : report late_reader (steps one_behind) ≡ record {
-  journal = steps one_behind;
-  bus = carries 1 first_tot 1 14 Clean 0 ∷ carries 2 first_accept 1 8 (Partial (set 6)) 1 ∷ carries 4 first_accept 8 6 Clean 0
-      ∷ carries 5 first_accept 6 8 Clean 0 ∷ [];
-  broken = None;
-  nodes = record { stopped = Some 2; read = 2; log = delivered 1 } ∷ record { stopped = None; read = 140; log = delivered 4 }
-      ∷ record { stopped = None; read = 140; log = delivered 4 } ∷ record { stopped = None; read = 140; log = delivered 2 } ∷ [];
-  settled = true ∷ [];
-  legal = true;
-  ended = true;
-}
+totcan_accept_under_lag : report late_reader (steps one_behind) ≡ whole_run (steps one_behind)
+    (carries 1 first_tot 1 14 Clean 0 ∷ carries 2 first_accept 1 8 (Partial (set 6)) 1 ∷ carries 4 first_accept 8 6 Clean 0
+    ∷ carries 5 first_accept 6 8 Clean 0 ∷ [])
+    (stopped_node 2 2 (delivered 1) ∷ running_node 140 (delivered 4)
+    ∷ running_node 140 (delivered 4) ∷ running_node 140 (delivered 2) ∷ [])
+    (true ∷ [])
 unfolding row delivered late_reader one_behind rounds_of
 totcan_accept_under_lag = refl

@@ -16,23 +16,18 @@ use Rattle.cany_model.specs.Promises.FirstSlots.{first_carried}
 use Rattle.cany_model.specs.Promises.Safe.{IsAgreedOn}
 use Rattle.cany_model.specs.Bus.Slot.{script, after_slot}
 use Rattle.cany_model.specs.Bus.State.{NodeState, original}
-use Rattle.cany_rows.proofs.RowWords.{carries, delivered, ed, first_frame, frame_rule, idle, insides, one_message, report, row, scenario, send, set, slot_rule, steps, three}
+use Rattle.cany_rows.proofs.RowWords.{carries, delivered, ed, first_frame, frame_rule, idle, insides, one_message, report, row, scenario, send, set, slot_rule, steps, three, running_node, stopped_node, whole_run}
 
 not-below-zero : (k : ℕ) → k < 0 → ⊥
 not-below-zero k below = omega (arith, below)
 
 -- a sender in the set of a Partial slot sees an error as any sender does: it is not a receiver that rejects
 partial_set_names_the_sender :
-    (let s = scenario (three 5 1 2) one_message (slot_rule 1 (Partial (set 5)) 0 ∷ []) in report s (round_robin s)) ≡ record {
-      journal = steps (codes ".012.012.012.012.012");
-      bus = carries 1 first_frame 1 2 (Partial (set 5)) 0 ∷ carries 2 first_frame 3 4 Clean 0 ∷ carries 3 first_frame 4 3 Clean 0 ∷ [];
-      broken = None;
-      nodes = record { stopped = None; read = 5; log = delivered 2 } ∷ record { stopped = None; read = 5; log = delivered 1 }
-          ∷ record { stopped = None; read = 5; log = delivered 2 } ∷ [];
-      settled = true ∷ [];
-      legal = true;
-      ended = true;
-    }
+    (let s = scenario (three 5 1 2) one_message (slot_rule 1 (Partial (set 5)) 0 ∷ []) in report s (round_robin s)) ≡ whole_run (steps (codes ".012.012.012.012.012"))
+    (carries 1 first_frame 1 2 (Partial (set 5)) 0 ∷ carries 2 first_frame 3 4 Clean 0 ∷ carries 3 first_frame 4 3 Clean 0 ∷ [])
+    (running_node 5 (delivered 2) ∷ running_node 5 (delivered 1)
+    ∷ running_node 5 (delivered 2) ∷ [])
+    (true ∷ [])
 unfolding row
 partial_set_names_the_sender = refl
 
@@ -57,8 +52,8 @@ silent_set_names_the_sender :
       journal = steps (codes ".012.012.012.012.012");
       bus = carries 1 first_frame 1 2 (Silent (set 5)) 0 ∷ carries 2 first_frame 2 5 Clean 0 ∷ carries 3 first_frame 4 3 Clean 0 ∷ [];
       broken = Some (record { kind = kind.Silent; slot = 1 });
-      nodes = record { stopped = None; read = 5; log = delivered 1 } ∷ record { stopped = None; read = 5; log = delivered 1 }
-          ∷ record { stopped = None; read = 5; log = delivered 2 } ∷ [];
+      nodes = running_node 5 (delivered 1) ∷ running_node 5 (delivered 1)
+          ∷ running_node 5 (delivered 2) ∷ [];
       settled = true ∷ [];
       legal = true;
       ended = true;
@@ -79,8 +74,8 @@ silent_omission_loses_a_message :
       journal = steps (codes ".012.02.02");
       bus = carries 1 first_frame 1 2 (Silent (set 4)) 2 ∷ [];
       broken = Some (record { kind = kind.Silent; slot = 1 });
-      nodes = record { stopped = None; read = 3; log = delivered 1 } ∷ record { stopped = Some 1; read = 1; log = [] }
-          ∷ record { stopped = None; read = 3; log = [] } ∷ [];
+      nodes = running_node 3 (delivered 1) ∷ stopped_node 1 1 []
+          ∷ running_node 3 [] ∷ [];
       settled = true ∷ [];
       legal = true;
       ended = true;
@@ -101,31 +96,21 @@ agreement_is_refuted agreed =
 
 -- a receiver that stops in the slot accepted the frame, and reads nothing of it
 taker_stops :
-    (let s = scenario (three 4 1 2) one_message (slot_rule 1 Clean 2 ∷ []) in report s (round_robin s)) ≡ record {
-      journal = steps (codes ".012.02.02.02");
-      bus = carries 1 first_frame 1 6 Clean 2 ∷ carries 2 first_frame 4 1 Clean 0 ∷ [];
-      broken = None;
-      nodes = record { stopped = None; read = 4; log = delivered 1 } ∷ record { stopped = Some 1; read = 1; log = [] }
-          ∷ record { stopped = None; read = 4; log = delivered 1 } ∷ [];
-      settled = true ∷ [];
-      legal = true;
-      ended = true;
-    }
+    (let s = scenario (three 4 1 2) one_message (slot_rule 1 Clean 2 ∷ []) in report s (round_robin s)) ≡ whole_run (steps (codes ".012.02.02.02"))
+    (carries 1 first_frame 1 6 Clean 2 ∷ carries 2 first_frame 4 1 Clean 0 ∷ [])
+    (running_node 4 (delivered 1) ∷ stopped_node 1 1 []
+    ∷ running_node 4 (delivered 1) ∷ [])
+    (true ∷ [])
 unfolding row
 taker_stops = refl
 
 -- in an idle slot the verdict has no effect, the scripted stop acts, and a rule for an attempt of a frame does not
 idle_slot_stops :
-    (let s = scenario (three 3 0 0) [] (slot_rule 1 (Silent (set 6)) 4 ∷ frame_rule class.Ed 0 0 1 Lost 7 ∷ []) in report s (round_robin s)) ≡ record {
-      journal = steps (codes ".012.01.01");
-      bus = idle 1 4 ∷ [];
-      broken = None;
-      nodes = record { stopped = None; read = 3; log = [] } ∷ record { stopped = None; read = 3; log = [] }
-          ∷ record { stopped = Some 1; read = 1; log = [] } ∷ [];
-      settled = [];
-      legal = true;
-      ended = true;
-    }
+    (let s = scenario (three 3 0 0) [] (slot_rule 1 (Silent (set 6)) 4 ∷ frame_rule class.Ed 0 0 1 Lost 7 ∷ []) in report s (round_robin s)) ≡ whole_run (steps (codes ".012.01.01"))
+    (idle 1 4 ∷ [])
+    (running_node 3 [] ∷ running_node 3 []
+    ∷ stopped_node 1 1 [] ∷ [])
+    []
 unfolding row
 idle_slot_stops = refl
 

@@ -14,8 +14,6 @@ mod rule_place;
 mod rules;
 mod scenario;
 mod sends;
-#[cfg(test)]
-mod tests;
 
 pub use cany_text::{KeyName, ScenarioFault, TableName};
 pub use scenario::read_scenario;

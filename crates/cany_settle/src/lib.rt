@@ -12,6 +12,3 @@ pub use events::last_event;
 pub use length::{long_enough, tail};
 pub use text::write_tail;
 pub use top::tail_top;
-
-#[cfg(test)]
-mod tests;

@@ -66,26 +66,14 @@ near_bound : (default bound : ℕ) → (1 ≤ default) × (default ≤ greatest_
 near_bound default bound d near = (omega arith, omega arith)
 
 -- each from the values before it
-in_range : (format : Format) (nodes slots lag omit errors bound cycle life silence confirm : ℕ)
-    → (2 ≤ nodes) × (nodes ≤ (layout format).nodes) → (1 ≤ slots) × (slots ≤ greatest_slots format) → IsNear 0 greatest_lag 0 lag
-    → IsNear 0 greatest_omit 1 omit
-    → IsNear 0 greatest_errors 2 errors → (1 ≤ bound) × (bound ≤ greatest_given) → IsNear 1 greatest_given (least_cycle lag bound) cycle
-    → IsNear 1 greatest_given (least_life lag bound) life → IsNear 1 greatest_given (least_silence lag bound life) silence
-    → IsNear 1 cycle 10 confirm
-    → IsInRange (record {
-      format = format;
-      nodes = nodes;
-      lag = lag;
-      omit = omit;
-      errors = errors;
-      bound = bound;
-      cycle = cycle;
-      life = life;
-      silence = silence;
-      confirm = confirm;
-      slots = slots;
-    })
-in_range format nodes slots lag omit errors bound cycle life silence confirm n s l j e b c f g r = record {
+in_range : (p : Parameters)
+    → (2 ≤ p.nodes) × (p.nodes ≤ (layout p.format).nodes) → (1 ≤ p.slots) × (p.slots ≤ greatest_slots p.format) → IsNear 0 greatest_lag 0 p.lag
+    → IsNear 0 greatest_omit 1 p.omit
+    → IsNear 0 greatest_errors 2 p.errors → (1 ≤ p.bound) × (p.bound ≤ greatest_given) → IsNear 1 greatest_given (least_cycle p.lag p.bound) p.cycle
+    → IsNear 1 greatest_given (least_life p.lag p.bound) p.life → IsNear 1 greatest_given (least_silence p.lag p.bound p.life) p.silence
+    → IsNear 1 p.cycle 10 p.confirm
+    → IsInRange p
+in_range p n s l j e b c f g r = record {
   nodes = n;
   lag = omega (arith, l);
   omit = omega (arith, j);
@@ -124,8 +112,7 @@ given_params-range top p h =
     let f = optional-near 1 greatest_given (least_life lag.0 bound.0) key.Life top life.0 life.1 in
     let g = optional-near 1 greatest_given (least_silence lag.0 bound.0 life.0) key.Silence top silence.0 silence.1 in
     let r = optional-near 1 cycle.0 10 key.Confirm top confirm.0 confirm.1 in
-    rw (← made) (in_range format.0 nodes.0 slots.0 lag.0 omit.0 errors.0 bound.0 cycle.0 life.0 silence.0 confirm.0 n s l j e
-    (near_bound _ bound.0 least b) c f g r)
+    rw (← made) (in_range _ n s l j e (near_bound _ bound.0 least b) c f g r)
 
 not_refused : (test : Bool) (fault : ParamFault) (rest : Result (Unit {0}) ParamFault) (unit : Unit {0})
     → (if test then Err fault else rest) ≡ Ok unit
@@ -191,9 +178,10 @@ sends_of-legal p r top sends h = entries_of-few (IsSendOf p) table.Send most_sen
 
 -- ---- the scenario
 
-pub scenario_from-legal : (top : Entry) (s : ScenarioParts) → scenario_from top ≡ Ok s → IsLegalScenario s
+-- it is legal, and each of its scripted asks is made
+scenario_from-read : (top : Entry) (s : ScenarioParts) → scenario_from top ≡ Ok s → IsLegalScenario s × (s.from ≡ 0)
 unfolding scenario_from
-scenario_from-legal top s h =
+scenario_from-read top s h =
     let known = fault_unless-true (has_only top_keys top.members) (UnknownKey top.table top.place) _ s h in
     let params = bind_ok (params_of top) _ s known.1 in
     let members = bind_ok (optional (nodes_from params.0) (all_nodes params.0) key.Members top) _ s params.2 in
@@ -210,23 +198,29 @@ scenario_from-legal top s h =
     let legal_joins = joins_of-legal params.0 legal.0 top joins.0 joins.1 in
     let legal_leaves = leaves_of-legal params.0 legal.0 top leaves.0 leaves.1 in
     let legal_restarts = restarts_of-legal params.0 legal.0 top restarts.0 restarts.1 in
-    rw (← made) (record {
-      in_range = legal.0;
-      formulas = legal.1;
-      members = nodes_at-below params.0 legal.0 (all_nodes params.0) (all_nodes-below params.0) key.Members top members.0 members.1;
-      sends = legal_sends.0;
-      rules = legal_rules.all;
-      joins = legal_joins.0;
-      leaves = legal_leaves.0;
-      restarts = legal_restarts.all;
-      few_sends = legal_sends.1;
-      few_rules = legal_rules.few;
-      few_joins = legal_joins.1;
-      few_leaves = legal_leaves.1;
-      few_restarts = legal_restarts.few;
-      few_of_node = legal_restarts.few_of_node;
-      places = legal_rules.apart;
-    })
+    rw (← made) ((
+      record {
+        in_range = legal.0;
+        formulas = legal.1;
+        members = nodes_at-below params.0 legal.0 (all_nodes params.0) (all_nodes-below params.0) key.Members top members.0 members.1;
+        sends = legal_sends.0;
+        rules = legal_rules.all;
+        joins = legal_joins.0;
+        leaves = legal_leaves.0;
+        restarts = legal_restarts.all;
+        few_sends = legal_sends.1;
+        few_rules = legal_rules.few;
+        few_joins = legal_joins.1;
+        few_leaves = legal_leaves.1;
+        few_restarts = legal_restarts.few;
+        few_of_node = legal_restarts.few_of_node;
+        places = legal_rules.apart;
+      },
+      refl,
+    ))
+
+pub scenario_from-legal : (top : Entry) (s : ScenarioParts) → scenario_from top ≡ Ok s → IsLegalScenario s
+scenario_from-legal top s h = (scenario_from-read top s h).0
 
 -- a text stands for a legal scenario alone
 pub scenario_of-legal : (bytes : List ℕ) (s : ScenarioParts) → scenario_of bytes ≡ Ok s → IsLegalScenario s
@@ -234,3 +228,10 @@ unfolding scenario_of
 scenario_of-legal bytes s h =
     let members = bind_ok (document_of bytes) (λ m. scenario_from (top_table m)) s h in
     scenario_from-legal (top_table members.0) s members.2
+
+-- and for one as it is read
+pub scenario_of-begins : (bytes : List ℕ) (s : ScenarioParts) → scenario_of bytes ≡ Ok s → s.from ≡ 0
+unfolding scenario_of
+scenario_of-begins bytes s h =
+    let members = bind_ok (document_of bytes) (λ m. scenario_from (top_table m)) s h in
+    (scenario_from-read (top_table members.0) s members.2).1

@@ -108,10 +108,10 @@ origin_owed scenario m owes s rules g correct =
         (ltb-true m.slot (length past) read.1, ltb-false m.slot sc.from (not-true (nat_lt m.slot sc.from) outer.1))
 
 -- the origin was among the senders of a slot that carried it
-origin_sent : (scenario : ScenarioParts) (m : Message) (s : RunState) → IsSourced scenario s → (first : ℕ) → first_carried (data_id m) s.trace ≡ Some first
+pub origin_sent : (scenario : ScenarioParts) (m : Message) (s : RunState) → IsSourced scenario s → Among (Carries (data_id m)) s.trace
     → Among (SentBy m.origin (data_id m)) s.trace
-origin_sent scenario m s sourced first is =
-    let w = Among-which (Carries (data_id m)) s.trace (first_some (data_id m) s.trace first is) in
+origin_sent scenario m s sourced carried =
+    let w = Among-which (Carries (data_id m)) s.trace carried in
     let sent = sourced.carried w.0 w.2.what w.1 w.2.frame (ap (λ (y : Identity). carries_data y.class) (sym w.2.identity) ∙ data_carries m.service) in
     let id : data_id m ≡ identity_of (data_frame sent.message) = w.2.identity ∙ sym (ap identity_of sent.is) in
     let origin : m.origin ≡ sent.message.origin = ap (λ (y : Identity). y.node) id in
@@ -126,7 +126,7 @@ origin_clean : (scenario : ScenarioParts) (m : Message) (owes : Owes) (s : RunSt
     → first_carried (data_id m) s.trace ≡ Some first → (i : ℕ) → IsCorrectFrom scenario s first i → i ≡ m.origin → Among (CarriesClean (data_id m)) s.trace
 origin_clean scenario m owes s g first is i correct origin =
     sent_carried scenario (data_id m) (duty_of m owes) s g.rest first is i correct
-    (subst (λ k. Among (SentBy k (data_id m)) s.trace) (sym origin) (origin_sent scenario m s g.sourced first is))
+    (subst (λ k. Among (SentBy k (data_id m)) s.trace) (sym origin) (origin_sent scenario m s g.sourced (first_some (data_id m) s.trace first is)))
 
 -- the frame of what a log delivers was got, or sent
 read_either : (x : Identity) (f : FrameParts) (past : List NoticeKind) → x ≡ identity_of f → Among (Has f) past → (0 < copies x past) ⊎ (has_own x past ≡ true)

@@ -1,8 +1,8 @@
 -- While vectors of a cycle are exchanged, each vector of the cycle that a node waits with or has sent has all nodes of its present one:
 -- the node sends the one that it has after a turn, and that only loses nodes.
-use Rattle.std.proofs.Common.{◌≡◌, ℕ, suc, ◌*◌, ◌≤◌, ◌⊎◌, inl, inr, true, false, ◌&&◌, List, ◌∷◌, drop, length, Option, Some, None, ap, sym, ◌∙◌, subst, arith}
+use Rattle.std.proofs.Common.{◌≡◌, ℕ, suc, ◌*◌, ◌≤◌, ◌⊎◌, inl, inr, true, false, ◌&&◌, List, ◌∷◌, drop, length, Option, Some, None, ap, sym, subst, arith}
 use Rattle.std.specs.List.{AllByRecursion}
-use Rattle.std.proofs.lemmas.Bool.{and_parts, cases_lt, false≢true}
+use Rattle.std.proofs.lemmas.Bool.{and_parts, cases_lt}
 use Rattle.cany_base.specs.declared.class.Class.TheVariants as class
 use Rattle.cany_base.specs.declared.notice.NoticeKind.{NoticeKind}
 use Rattle.cany_base.specs.declared.notice.NoticeKind.TheVariants.{Sent}
@@ -28,7 +28,7 @@ use Rattle.cany_model.proofs.Promises.Diffusion.{Lived, Turned, past_of}
 use Rattle.cany_model.proofs.Promises.EachNode.{EachRunning, IsNew, IsNodes, each_running}
 use Rattle.cany_model.proofs.Promises.LateVectors.{asks_in_cycle}
 use Rattle.cany_model.proofs.Rules.CycleFacts.{IsExchangeOf, in_exchange, in_start}
-use Rattle.cany_model.proofs.Rules.ProtocolFacts.{MayAsk, accepts, confirms, data_exchanges_none, exchanges, is_relayed, lives, originates, relays, request_class, requests, signals}
+use Rattle.cany_model.proofs.Rules.ProtocolFacts.{MayAsk, vector_asked}
 use Rattle.cany_model.proofs.Rules.TurnFacts.{turn_only}
 use Rattle.cany_model.proofs.Rules.VectorFacts.{vector_met}
 
@@ -144,24 +144,11 @@ carries_met scenario i e past (Some v) (Some w) f h = record {
 asked_covers : (scenario : ScenarioParts) (i : ℕ) (past : List NoticeKind)
     → ((slot : ℕ) → length past ≡ suc slot → (is_start scenario.params slot ≡ true) ⊎ (is_end scenario.params slot ≡ false))
     → (k : ℕ) (f : FrameParts) → MayAsk scenario i past f → CoversVector scenario k i past f
-asked_covers scenario i past goes k f may rha number = by_reason may
-  where
-    other : (g : FrameParts) → g ≡ f → (g.class ≡ class.Rha → ⊥) → CarriesVector scenario i past (vector_at scenario i past) f
-    other g frame none = absurd (none (ap (λ (h : FrameParts). h.class) frame ∙ rha))
-
-    by_reason : MayAsk scenario i past f → CarriesVector scenario i past (vector_at scenario i past) f
-    by_reason (relays relayed got) = absurd (false≢true (ap is_relayed (sym rha) ∙ relayed))
-    by_reason (originates m is origin slot late frame) = other _ frame (data_exchanges_none m.service)
-    by_reason (confirms g sent rel own frame) = other _ frame (λ c. cc)
-    by_reason (accepts g sent tot own frame) = other _ frame (λ c. cc)
-    by_reason (signals sign slot now known frame) = other _ frame (λ c. cc)
-    by_reason (lives slot now due frame) = other _ frame (λ c. cc)
-    by_reason (requests slot c request frame) =
-        other _ frame (λ is. elim (request_class scenario i past slot c request) [ inl join ↦ cc | inr leave ↦ cc ])
-    by_reason (exchanges slot v sends frame) =
-        let now = sends.vector (goes slot sends.now) in
-        subst (λ o. CarriesVector scenario i past o f) (sym now)
-        (record { what = v; payload = ap (λ (g : FrameParts). g.payload) (sym frame); part = λ r h. h; place = 0; had = now })
+asked_covers scenario i past goes k f may rha number =
+    let asks = vector_asked scenario i past f may rha in
+    let now = asks.sends.vector (goes asks.slot asks.sends.now) in
+    subst (λ o. CarriesVector scenario i past o f) (sym now)
+    (record { what = asks.what; payload = ap (λ (g : FrameParts). g.payload) (sym asks.frame); part = λ r h. h; place = 0; had = now })
 
 -- ---- along a run
 

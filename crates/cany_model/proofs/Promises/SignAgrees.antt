@@ -79,7 +79,7 @@ founded_known sign scenario p i past (Failed slot node cycle) is k =
 founded_known sign scenario p i past (View slot number members) is k = absurd is
 
 -- a sign that stands in a log is known
-signed_known : (scenario : ScenarioParts) (s : RunState) (i : ℕ) (sign : FailureSign) → HasSigned scenario s i sign
+pub signed_known : (scenario : ScenarioParts) (s : RunState) (i : ℕ) (sign : FailureSign) → HasSigned scenario s i sign
     → knows sign (knowledge_of (scenario_at scenario s i) i (history i s)) ≡ true
 signed_known scenario s i sign h =
     let sc : ScenarioParts = scenario_at scenario s i in

@@ -19,7 +19,7 @@ use Rattle.cany_base.specs.Cycles.{cycle_of, is_end, is_exchange, is_start}
 use Rattle.cany_model.specs.Rules.Views.{start_of, start_vector}
 use Rattle.cany_model.proofs.Among.{Each-of}
 use Rattle.cany_model.proofs.Bus.Identities.{same_class-true, same_class_self}
-use Rattle.cany_model.proofs.Rules.ProtocolFacts.{IsExchanged, MayAsk, accepts, confirms, data_exchanges_none, exchanges, is_relayed, lives, originates, relays, request_class, requests, signals}
+use Rattle.cany_model.proofs.Rules.ProtocolFacts.{IsExchanged, MayAsk, vector_asked}
 use Rattle.cany_model.proofs.Rules.SignRooms.{div_grows}
 use Rattle.cany_model.proofs.Rules.KnowledgeSteps.{members_after, members_by, start_keeps, vector_after}
 use Rattle.cany_model.proofs.Rules.VectorFacts.{carries_vector}
@@ -127,18 +127,6 @@ pub asks_late : (scenario : ScenarioParts) (cycle i : ℕ) (past : List NoticeKi
 asks_late scenario cycle i past f outside plain may =
     false_from_ne_true (is_early_frame cycle f) (λ early.
     let parts = and_parts (same_class f.class class.Rha) (nat_lt f.number cycle) early in
-    absurd (omega (arith, ltb-true f.number cycle parts.1, by_reason may (same_class-true f.class class.Rha parts.0))))
-  where
-    by_reason : MayAsk scenario i past f → f.class ≡ class.Rha → cycle ≤ f.number
-    by_reason (relays relayed got) rha = absurd (false≢true (ap is_relayed (sym rha) ∙ relayed))
-    by_reason (originates m is origin slot late frame) rha =
-        absurd (data_exchanges_none m.service (ap (λ (g : FrameParts). g.class) frame ∙ rha))
-    by_reason (confirms g sent rel own frame) rha = let class = ap (λ (g : FrameParts). g.class) frame in absurd (cc)
-    by_reason (accepts g sent tot own frame) rha = let class = ap (λ (g : FrameParts). g.class) frame in absurd (cc)
-    by_reason (signals sign slot now known frame) rha = let class = ap (λ (g : FrameParts). g.class) frame in absurd (cc)
-    by_reason (lives slot now due frame) rha = let class = ap (λ (g : FrameParts). g.class) frame in absurd (cc)
-    by_reason (requests slot c request frame) rha =
-        let class = ap (λ (g : FrameParts). g.class) frame in
-        elim (request_class scenario i past slot c request) [ inl join ↦ absurd (cc) | inr leave ↦ absurd (cc) ]
-    by_reason (exchanges slot v sends frame) rha =
-        omega (arith, sends_late scenario cycle i past slot v outside plain sends, ap (λ (g : FrameParts). g.number) frame)
+    let asks = vector_asked scenario i past f may (same_class-true f.class class.Rha parts.0) in
+    let late = sends_late scenario cycle i past asks.slot asks.what outside plain asks.sends in
+    absurd (omega (arith, ltb-true f.number cycle parts.1, late, ap (λ (g : FrameParts). g.number) asks.frame)))

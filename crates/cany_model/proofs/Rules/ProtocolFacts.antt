@@ -274,6 +274,32 @@ pub request_class : (scenario : ScenarioParts) (i : ℕ) (past : List NoticeKind
 request_class scenario i past slot c (inl join) = inl join.0
 request_class scenario i past slot c (inr leave) = inr leave.0
 
+-- the frame carries a vector that the node sends in the turn
+pub record AsksVector (scenario : ScenarioParts) (i : ℕ) (past : List NoticeKind) (f : FrameParts) : Type 0 where
+  pub slot : ℕ
+  pub what : Nodes
+  pub sends : IsExchanged scenario i past slot what
+  pub frame : rha_frame scenario.params.format scenario.inc (cycle_of scenario.params slot) i what ≡ f
+
+-- for no other reason may a node ask for the frame of a vector
+pub vector_asked : (scenario : ScenarioParts) (i : ℕ) (past : List NoticeKind) (f : FrameParts) → MayAsk scenario i past f → f.class ≡ class.Rha
+    → AsksVector scenario i past f
+vector_asked scenario i past f may rha = by_reason may
+  where
+    other : (g : FrameParts) → g ≡ f → (g.class ≡ class.Rha → ⊥) → AsksVector scenario i past f
+    other g frame none = absurd (none (ap (λ (h : FrameParts). h.class) frame ∙ rha))
+
+    by_reason : MayAsk scenario i past f → AsksVector scenario i past f
+    by_reason (relays relayed got) = absurd (false≢true (ap is_relayed (sym rha) ∙ relayed))
+    by_reason (originates m is origin slot late frame) = other _ frame (data_exchanges_none m.service)
+    by_reason (confirms g sent rel own frame) = other _ frame (λ c. cc)
+    by_reason (accepts g sent tot own frame) = other _ frame (λ c. cc)
+    by_reason (signals sign slot now known frame) = other _ frame (λ c. cc)
+    by_reason (lives slot now due frame) = other _ frame (λ c. cc)
+    by_reason (requests slot c request frame) =
+        other _ frame (λ is. elim (request_class scenario i past slot c request) [ inl join ↦ cc | inr leave ↦ cc ])
+    by_reason (exchanges slot v sends frame) = record { slot = slot; what = v; sends = sends; frame = frame }
+
 -- and its slot
 pub request_now : (scenario : ScenarioParts) (i : ℕ) (past : List NoticeKind) (slot : ℕ) (c : Class) → MayRequest scenario i past slot c
     → length past ≡ suc slot

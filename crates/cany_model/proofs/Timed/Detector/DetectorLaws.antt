@@ -19,7 +19,7 @@ use Rattle.cany_model.proofs.Timed.Detector.Removal.{removed}
 use Rattle.cany_model.proofs.Timed.Detector.Staying.{stays}
 
 -- what a front of the journal has led to is within the hypothesis too
-within_front : (scenario : ScenarioParts) (journal front rest : List Step) → journal ≡ front ++ rest → IsWithin scenario.params (run scenario journal).trace
+pub within_front : (scenario : ScenarioParts) (journal front rest : List Step) → journal ≡ front ++ rest → IsWithin scenario.params (run scenario journal).trace
     → IsWithin scenario.params (run scenario front).trace
 within_front scenario journal front rest whole within =
     let part = front_trace scenario front rest in
@@ -29,29 +29,29 @@ within_front scenario journal front rest whole within =
 
 module _ (scenario : ScenarioParts) (legal : IsLegalScenario scenario) (none : scenario.restarts ≡ []) (journal : List Step)
     (within : IsWithin scenario.params (run scenario journal).trace) where
-  quiet : (front rest : List Step) → journal ≡ front ++ rest → HasQuietSlots scenario front
-  quiet front rest whole =
+  pub quiet_fronts : (front rest : List Step) → journal ≡ front ++ rest → HasQuietSlots scenario front
+  quiet_fronts front rest whole =
       slots_are_quiet scenario front (few_nodes scenario.params legal.in_range) legal.formulas legal.members
       (within_front scenario journal front rest whole within)
 
-  one : (front rest : List Step) → journal ≡ front ++ rest → (k : ℕ) → InstallsOneVector scenario (run scenario front) k
-  one front rest whole = one_vector_each scenario legal front (within_front scenario journal front rest whole within)
+  pub one_vector_fronts : (front rest : List Step) → journal ≡ front ++ rest → (k : ℕ) → InstallsOneVector scenario (run scenario front) k
+  one_vector_fronts front rest whole = one_vector_each scenario legal front (within_front scenario journal front rest whole within)
 
   pub none_is_thrown_out : (r : ℕ) → IsCorrect scenario (run scenario journal) r → HasNotFailed scenario (run scenario journal) r
   none_is_thrown_out =
-      not_failed scenario none (few_nodes scenario.params legal.in_range) legal.formulas journal within quiet one
+      not_failed scenario none (few_nodes scenario.params legal.in_range) legal.formulas journal within quiet_fronts one_vector_fronts
 
   pub members_remain : (r t : ℕ) → IsCorrect scenario (run scenario journal) r → AsksNoLeave scenario (run scenario journal) r
       → StandsAfter scenario (run scenario journal) r t → StaysInViews scenario (run scenario journal) r t
-  members_remain = stays scenario none legal.in_range.nodes.1 legal.formulas legal.members journal within quiet one
+  members_remain = stays scenario none legal.in_range.nodes.1 legal.formulas legal.members journal within quiet_fronts one_vector_fronts
 
   pub stopped_are_removed : (r t : ℕ) → r < scenario.params.nodes → (node_at (run scenario journal).nodes r).stopped ≡ Some t
       → StandsAfter scenario (run scenario journal) r t → IsRemoved scenario (run scenario journal) r t
-  stopped_are_removed = removed scenario legal.in_range.nodes.1 legal.formulas legal.members none journal one
+  stopped_are_removed = removed scenario legal.in_range.nodes.1 legal.formulas legal.members none journal one_vector_fronts
 
   pub joiners_are_admitted : (r k : ℕ) → r < scenario.params.nodes → JoinWasCarried scenario (run scenario journal) r k
       → IsAdmitted scenario (run scenario journal) r k
-  joiners_are_admitted = admitted scenario legal.in_range.nodes.1 legal.formulas legal.members none journal one
+  joiners_are_admitted = admitted scenario legal.in_range.nodes.1 legal.formulas legal.members none journal one_vector_fronts
 
   -- all of it
   pub keeps_members : KeepsMembers scenario (run scenario journal)

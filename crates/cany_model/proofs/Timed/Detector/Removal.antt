@@ -80,7 +80,7 @@ asks_none r (Got f) st why h =
     (λ _. cond_both (same_class f.class class.Leave) (with_leaver f.node st) st (λ s. has s.joiners r ≡ false)
     (λ _. leaver_joiners r f.node st h) (λ _. h))
 
-asked_none : (p : Parameters) (i r slot : ℕ) (e : NoticeKind) (st : Knowledge) → (has st.members r ≡ true) ⊎ NothingOf r e → has st.joiners r ≡ false
+pub asked_none : (p : Parameters) (i r slot : ℕ) (e : NoticeKind) (st : Knowledge) → (has st.members r ≡ true) ⊎ NothingOf r e → has st.joiners r ≡ false
     → has (after_asking p i slot e st).joiners r ≡ false
 asked_none p i r slot e st why h =
     asks_none r e (after_finding p i slot e st)
@@ -114,7 +114,7 @@ unfolding knowledge_of
 joiners_first scenario i r = has_none r
 
 -- a member is no joiner
-member_no_joiner : (scenario : ScenarioParts) (i r : ℕ) (past : List NoticeKind) → has (knowledge_of scenario i past).members r ≡ true
+pub member_no_joiner : (scenario : ScenarioParts) (i r : ℕ) (past : List NoticeKind) → has (knowledge_of scenario i past).members r ≡ true
     → has (knowledge_of scenario i past).joiners r ≡ false
 member_no_joiner scenario i r [] member = joiners_first scenario i r
 member_no_joiner scenario i r (e ∷ past) member = by_ended (member_no_joiner scenario i r past) (ended_at scenario i e past) refl

@@ -137,14 +137,14 @@ shown_by scenario i r e past = elim (shown_either scenario i e past r) [
 
 -- ---- a failure that stays
 
-with_signs_still : (r : ℕ) (signs : List FailureSign) (st : Knowledge) → r < most_nodes → has st.failed r ≡ true → has (with_signs signs st).failed r ≡ true
+pub with_signs_still : (r : ℕ) (signs : List FailureSign) (st : Knowledge) → r < most_nodes → has st.failed r ≡ true → has (with_signs signs st).failed r ≡ true
 unfolding with_signs
 with_signs_still r [] st few h = h
 with_signs_still r (sign ∷ signs) st few h =
     with_signs_still r signs (with_sign sign st) few (has_where (λ q. has st.failed q || q == sign.node) r few ∙ or_left (has st.failed r)
     (r == sign.node) h)
 
-with_signs_named : (r : ℕ) (signs : List FailureSign) (st : Knowledge) → r < most_nodes → Among (λ sign. sign.node ≡ r) signs
+pub with_signs_named : (r : ℕ) (signs : List FailureSign) (st : Knowledge) → r < most_nodes → Among (λ sign. sign.node ≡ r) signs
     → has (with_signs signs st).failed r ≡ true
 unfolding with_signs
 with_signs_named r [] st few h = absurd h
@@ -163,13 +163,13 @@ module _ (p : Parameters) (i r slot : ℕ) (e : NoticeKind) (st : Knowledge) (fe
       (ap (λ m. has m r) (life_keeps Nodes (λ s. s.failed) (record { shown = λ f s. refl; last = λ n s. refl }) i slot e st) ∙ h))
 
 -- a member is not newly admitted
-not_admitted : (v : Option Nodes) (old : Nodes) (r : ℕ) → has old r ≡ true → is_admitted v old r ≡ false
+pub not_admitted : (v : Option Nodes) (old : Nodes) (r : ℕ) → has old r ≡ true → is_admitted v old r ≡ false
 not_admitted None old r h = refl
 not_admitted (Some v) old r h = false_from_ne_true (has (minus v old) r) (λ k.
     both_ways (has old r)
     (not-true (has old r) (and_parts (has v r) (not (has old r)) (those_where_pass (λ x. has v x && not (has old x)) r k)).1) h)
 
-failed_by_still : (v : Option Nodes) (old failed : Nodes) (r : ℕ) → r < most_nodes → is_admitted v old r ≡ false → has failed r ≡ true
+pub failed_by_still : (v : Option Nodes) (old failed : Nodes) (r : ℕ) → r < most_nodes → is_admitted v old r ≡ false → has failed r ≡ true
     → has (failed_by v old failed) r ≡ true
 failed_by_still None old failed r few none h = h
 failed_by_still (Some v) old failed r few none h =
@@ -178,7 +178,7 @@ failed_by_still (Some v) old failed r few none h =
 
 module _ (scenario : ScenarioParts) (i r : ℕ) (e : NoticeKind) (past : List NoticeKind)
     (member : has (knowledge_of scenario i past).members r ≡ true) where
-  failed_next : r < most_nodes → has (knowledge_of scenario i past).failed r ≡ true → has (knowledge_of scenario i (e ∷ past)).failed r ≡ true
+  pub failed_next : r < most_nodes → has (knowledge_of scenario i past).failed r ≡ true → has (knowledge_of scenario i (e ∷ past)).failed r ≡ true
   unfolding knowledge_of
   failed_next few h =
       let st : Knowledge = knowledge_of scenario i past in

@@ -11,7 +11,6 @@ use Rattle.cany_base.specs.declared.slot_note.SlotNote.{SlotNote}
 use Rattle.cany_base.specs.declared.step.Step.{Step}
 use Rattle.cany_base.specs.Frame.{data_class}
 use Rattle.cany_base.specs.Limits.{most_nodes}
-use Rattle.cany_base.specs.Nodes.{has}
 use Rattle.cany_base.specs.Scenario.{ScenarioParts}
 use Rattle.cany_model.specs.Bus.Frames.{Identity, identity_of, same_class}
 use Rattle.cany_model.specs.Bus.History.{has_own, history, is_got, is_sent}
@@ -35,19 +34,20 @@ use Rattle.cany_model.specs.Rules.Turn.{asks_for, has_asked, origin_effects, pro
 use Rattle.cany_base.specs.Cycles.{cycle_of}
 use Rattle.cany_model.specs.Rules.Views.{ask_of as ask_id}
 use Rattle.cany_model.proofs.Among.{Among, Among-append_left, Among-flat_map, Among-from_Contains, Among-from_flat_map, Among-weaker, Among-which, Among-with, Contains-from_Among, any-from_Among}
-use Rattle.cany_model.proofs.Bus.Carried.{Carries, CarriesClean, SentBy}
+use Rattle.cany_model.proofs.Bus.Carried.{Carries, CarriesClean}
 use Rattle.cany_model.proofs.Bus.Identities.{same_class_self, same_identity-from, same_identity-true}
 use Rattle.cany_model.proofs.Runs.Runs.{orderly}
 use Rattle.cany_model.proofs.Bus.Seen.{history-is}
 use Rattle.cany_model.proofs.Runs.Waits.{Asks, Withdraws}
+use Rattle.cany_model.proofs.Promises.Agrees.{origin_sent}
 use Rattle.cany_model.proofs.Promises.Agreement.{IsAtRest, carried_read, owed_carried, sent_carried}
 use Rattle.cany_model.proofs.Promises.Diffusion.{Duty, IsDiffused}
 use Rattle.cany_model.proofs.Promises.DiffusionRun.{run_diffuses}
 use Rattle.cany_model.proofs.Promises.OwnSlotsAlone.{run_numbered}
 use Rattle.cany_model.proofs.Promises.Firsts.{carried_has_first, first_is_first, first_some}
-use Rattle.cany_model.proofs.Promises.OneFrame.{data_carries, only_frame}
+use Rattle.cany_model.proofs.Promises.OneFrame.{only_frame}
 use Rattle.cany_model.proofs.Promises.SettledFacts.{settled_asked_or_late, settled_read, settled_waits}
-use Rattle.cany_model.proofs.Promises.Sources.{IsSourced, carries_data, sourced}
+use Rattle.cany_model.proofs.Promises.Sources.{IsSourced, sourced}
 use Rattle.cany_model.proofs.Rules.Begun.{IsBegun, begun_before, begun_copies, begun_short}
 use Rattle.cany_model.proofs.Rules.MessageKeys.{IsOneOf}
 use Rattle.cany_model.proofs.Rules.ProtocolFacts.{IsFounded, IsLawful, MayWithdraw, answered, asks_named, closes, enough, enough_accept, is_diffused, settles}
@@ -224,20 +224,6 @@ at_rest scenario journal few within m stands tot settled =
       gone = settled_waits scenario s m settled;
       read = settled_read scenario s m settled;
     }
-
--- the origin was among the senders of a slot that carried the data frame
-origin_sent : (scenario : ScenarioParts) (m : Message) (s : RunState) → IsSourced scenario s → Among (Carries (data_id m)) s.trace
-    → Among (SentBy m.origin (data_id m)) s.trace
-origin_sent scenario m s sources carried =
-    let w = Among-which (Carries (data_id m)) s.trace carried in
-    let sent = sources.carried w.0 w.2.what w.1 w.2.frame (ap (λ (y : Identity). carries_data y.class) (sym w.2.identity) ∙ data_carries m.service) in
-    let id : data_id m ≡ identity_of (data_frame sent.message) = w.2.identity ∙ sym (ap identity_of sent.is) in
-    let origin : m.origin ≡ sent.message.origin = ap (λ (y : Identity). y.node) id in
-    Among-weaker (λ n. n ≡ sent.sent.note) (SentBy m.origin (data_id m))
-    (λ n e. subst (SentBy m.origin (data_id m)) (sym e) (record {
-      carries = record { what = data_frame sent.message; frame = sent.sent.frame; identity = id };
-      sender = subst (λ r. has sent.sent.note.senders r ≡ true) (sym origin) sent.sent.sender;
-    })) s.trace (Among-from_Contains s.trace sent.sent.note sent.sent.stands)
 
 -- an origin that takes part since the first slot that carried it, has accepted it: it has read its own transmission
 origin_accepts : (scenario : ScenarioParts) (m : Message) (s : RunState) → Ground scenario s → m.service ≡ Tot → AtRest scenario m s → (first : ℕ)

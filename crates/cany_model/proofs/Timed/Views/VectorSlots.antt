@@ -3,7 +3,7 @@
 use Rattle.std.proofs.Common.{◌≡◌, ℕ, zero, suc, ◌+◌, ◌-◌, ◌*◌, ◌<◌, ◌≤◌, inl, inr, true, List, [], ◌∷◌, ◌++◌, drop, length, Some, ap, sym, ◌∙◌, subst, arith, length-append}
 use Rattle.std.specs.List.{AllByRecursion}
 use Rattle.std.proofs.Math.Seq.{drop-append_seam}
-use Rattle.std.proofs.lemmas.Bool.{cases_lt, false≢true}
+use Rattle.std.proofs.lemmas.Bool.{cases_lt}
 use Rattle.std.proofs.lemmas.List.{nil_from_length}
 use Rattle.cany_base.specs.Limits.{most_nodes}
 use Rattle.cany_base.specs.declared.class.Class.TheVariants as class
@@ -29,7 +29,7 @@ use Rattle.cany_model.proofs.Runs.SlotStates.{slot_has_state, slot_state-trace, 
 use Rattle.cany_model.proofs.Bus.States.{note_at, runs_within}
 use Rattle.cany_model.proofs.Promises.Diffusion.{past_of}
 use Rattle.cany_model.proofs.Promises.EachNode.{each_running, waiting_has}
-use Rattle.cany_model.proofs.Rules.ProtocolFacts.{MayAsk, accepts, confirms, data_exchanges_none, exchanges, is_relayed, lives, originates, relays, request_class, requests, signals}
+use Rattle.cany_model.proofs.Rules.ProtocolFacts.{MayAsk, vector_asked}
 use Rattle.cany_model.proofs.Timed.Views.VectorBudget.{BudgetKept, budget_kept}
 use Rattle.cany_model.proofs.Timed.Views.VectorHeld.{held_some}
 use Rattle.cany_model.proofs.Timed.Views.VectorLastEffect.{IsCycle}
@@ -42,23 +42,10 @@ abbrev pub IsOwnVector : ℕ → FrameParts → Type 0
 IsOwnVector i f = f.class ≡ class.Rha → (f.node ≡ i) × (0 < f.number)
 
 asks_own : (scenario : ScenarioParts) (i : ℕ) (past : List NoticeKind) (f : FrameParts) → MayAsk scenario i past f → IsOwnVector i f
-asks_own scenario i past f may rha = by_reason may
-  where
-    other : (g : FrameParts) → g ≡ f → (g.class ≡ class.Rha → ⊥) → (f.node ≡ i) × (0 < f.number)
-    other g frame none = absurd (none (ap (λ (h : FrameParts). h.class) frame ∙ rha))
-
-    by_reason : MayAsk scenario i past f → (f.node ≡ i) × (0 < f.number)
-    by_reason (relays relayed got) = absurd (false≢true (ap is_relayed (sym rha) ∙ relayed))
-    by_reason (originates m is origin slot late frame) = other _ frame (data_exchanges_none m.service)
-    by_reason (confirms g sent rel own frame) = other _ frame (λ c. cc)
-    by_reason (accepts g sent tot own frame) = other _ frame (λ c. cc)
-    by_reason (signals sign slot now known frame) = other _ frame (λ c. cc)
-    by_reason (lives slot now due frame) = other _ frame (λ c. cc)
-    by_reason (requests slot c request frame) =
-        other _ frame (λ is. elim (request_class scenario i past slot c request) [ inl join ↦ cc | inr leave ↦ cc ])
-    by_reason (exchanges slot v sends frame) =
-        let number = ap (λ (g : FrameParts). g.number) frame in
-        (sym (ap (λ (g : FrameParts). g.node) frame), omega (arith, number, sends.cycle))
+asks_own scenario i past f may rha =
+    let asks = vector_asked scenario i past f may rha in
+    let number = ap (λ (g : FrameParts). g.number) asks.frame in
+    (sym (ap (λ (g : FrameParts). g.node) asks.frame), omega (arith, number, asks.sends.cycle))
 
 pub own_vectors : (scenario : ScenarioParts) (journal : List Step) (i : ℕ) → runs (node_at (run scenario journal).nodes i) ≡ true
     → AllByRecursion (IsOwnVector i) (node_at (run scenario journal).nodes i).waiting

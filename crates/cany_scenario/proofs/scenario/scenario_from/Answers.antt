@@ -1,4 +1,4 @@
-use Rattle.std.proofs.Common.{◌≡◌, Global, Vec, rules}
+use Rattle.std.proofs.Common.{◌≡◌, Global, Vec, refl, rules}
 use Rattle.std.specs.Prelude.{option_map, Ok}
 use Rattle.cany_base.specs.declared.step.Step.{Step}
 use Rattle.cany_text.specs.declared.scenario_fault.KeyName.TheVariants as key
@@ -23,6 +23,5 @@ of_parts-requires c =
     let named : optional (nodes_from params) (all_nodes params) key.Members top ≡ Ok c.in_ok-members.members = search rules in
     let given : journal_of_text params.format top ≡ Ok journal = search rules in
     scenario_from-legal top _
-    (scenario_from-parts top params c.in_ok-members.members c.in_ok-sends.sends.items c.in_ok-rules.rules.items c.in_ok-joins.joins.items
-    c.in_ok-leaves.leaves.items c.in_ok-restarts.restarts.items journal known read named c.in_ok-sends.ensures.ok c.in_ok-rules.ensures.ok
-    c.in_ok-joins.ensures.ok c.in_ok-leaves.ensures.ok c.in_ok-restarts.ensures.ok given)
+    (scenario_from-parts top _ known read named c.in_ok-sends.ensures.ok c.in_ok-rules.ensures.ok c.in_ok-joins.ensures.ok c.in_ok-leaves.ensures.ok
+    c.in_ok-restarts.ensures.ok given refl refl)

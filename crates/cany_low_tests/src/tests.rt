@@ -1,0 +1,3 @@
+mod frames;
+mod plain;
+mod streams;

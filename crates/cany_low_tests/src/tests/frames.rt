@@ -1,0 +1,110 @@
+//! Frames and their identifiers, as they are on a bus.
+use can_frame::{
+    FrameFault, class_of, frame_of, has_incarnation, identifier, is_remote, key, tells_incarnation,
+};
+use cany_base::Class::{Accept, Confirm, Ed, Els, Fda, Join, Leave, Rel, Rha, Tot};
+use cany_base::Format::{One, Two};
+use cany_base::{Class, Format, Payload};
+use std::test::Fail;
+
+/// A format, the class of a frame, the kind of such frames, number, node and incarnation of the
+/// frame, its bytes, and its identifier.
+type Example = (Format, Class, bool, (u16, u8, u8), &'static [u8], u32);
+
+const REMOTE: bool = true;
+
+const DATA: bool = false;
+
+/// The frame is made of its identifier, kind and bytes, and has this identifier, and the key that
+/// goes with it. Of the other kind there is none, and the identifier tells the class.
+fn is_right(example: &Example) -> Result<bool, Fail> {
+    let (format, class, remote, (number, node, inc), bytes, ident) = *example;
+    let payload = Payload::of(bytes).ok_or("more than 8 bytes")?;
+    let frame = frame_of(format, ident, remote, payload)?;
+    let encoded = identifier(format, &frame);
+    let order = key(format, &frame);
+    Ok(
+        encoded == ident
+            && order == 2 * u64::from(ident) + u64::from(remote)
+            && frame.class == class
+            && frame.number == number
+            && frame.node.get() == node
+            && frame.inc == inc
+            && frame.payload == payload
+            && frame_of(format, ident, !remote, payload) == Err(FrameFault::Kind)
+            && is_remote(class) == remote
+            && class_of(ident) == Some(class)
+            && tells_incarnation(ident) == has_incarnation(class),
+    )
+}
+
+const FOUR: &[u8] = b"\x00\x00\x00\x07";
+
+const EIGHT: &[u8] = b"\x80\x00\x00\x00\x00\x00\x00\x07";
+
+const EXAMPLES: [Example; 29] = [
+    (One, Accept, REMOTE, (5, 3, 0), b"", 0x0000_0a30),
+    (Two, Accept, REMOTE, (5, 3, 0), b"", 0x0000_1430),
+    (One, Rha, DATA, (5, 3, 0), FOUR, 0x0200_0a30),
+    (Two, Rha, DATA, (5, 3, 0), EIGHT, 0x0200_1430),
+    (One, Els, REMOTE, (5, 3, 0), b"", 0x0400_0a30),
+    (Two, Els, REMOTE, (5, 3, 0), b"", 0x0400_1430),
+    (One, Fda, REMOTE, (5, 3, 0), b"", 0x0600_0a30),
+    (Two, Fda, REMOTE, (5, 3, 0), b"", 0x0600_1430),
+    (One, Join, REMOTE, (5, 3, 0), b"", 0x0800_0a30),
+    (Two, Join, REMOTE, (5, 3, 0), b"", 0x0800_1430),
+    (One, Leave, REMOTE, (5, 3, 0), b"", 0x0a00_0a30),
+    (Two, Leave, REMOTE, (5, 3, 0), b"", 0x0a00_1430),
+    (One, Confirm, REMOTE, (5, 3, 0), b"", 0x0c00_0a30),
+    (Two, Confirm, REMOTE, (5, 3, 0), b"", 0x0c00_1430),
+    (One, Tot, DATA, (5, 3, 0), b"12345678", 0x0e00_0a30),
+    (Two, Tot, DATA, (5, 3, 0), b"12345678", 0x0e00_1430),
+    (One, Rel, DATA, (5, 3, 0), b"", 0x1000_0a30),
+    (Two, Rel, DATA, (5, 3, 0), b"", 0x1000_1430),
+    (One, Ed, DATA, (5, 3, 0), b"\x01", 0x1200_0a30),
+    (Two, Ed, DATA, (5, 3, 0), b"\x01", 0x1200_1430),
+    // The first and the last of the fields.
+    (One, Ed, DATA, (0, 1, 0), b"", 0x1200_0010),
+    (One, Ed, DATA, (65535, 31, 0), b"", 0x13ff_fff0),
+    (Two, Ed, DATA, (32767, 63, 0), b"", 0x13ff_fff0),
+    // An incarnation stands in the lowest four bits, and four classes tell one.
+    (One, Join, REMOTE, (2, 1, 1), b"", 0x0800_0411),
+    (Two, Join, REMOTE, (2, 1, 1), b"", 0x0800_0811),
+    (One, Rha, DATA, (5, 3, 15), FOUR, 0x0200_0a3f),
+    (One, Els, REMOTE, (5, 3, 15), b"", 0x0400_0a3f),
+    (One, Join, REMOTE, (5, 3, 15), b"", 0x0800_0a3f),
+    (One, Leave, REMOTE, (5, 3, 15), b"", 0x0a00_0a3f),
+];
+
+#[test]
+fn frames_of_every_class(rt: HostRuntime) -> Result<(), Fail> {
+    for example in &EXAMPLES {
+        assert!(rt; is_right(example)?);
+    }
+    Ok(())
+}
+
+/// A format, an identifier, the kind and the bytes of no frame, and why it is none.
+const REFUSED: [(Format, u32, bool, &[u8], FrameFault); 12] = [
+    (One, 0x1400_0000, DATA, b"", FrameFault::Class),
+    (One, 0x0000_0a31, REMOTE, b"", FrameFault::Pad),
+    (One, 0x0000_0a3f, REMOTE, b"", FrameFault::Pad),
+    (One, 0x0600_0a3f, REMOTE, b"", FrameFault::Pad),
+    (One, 0x0c00_0a3f, REMOTE, b"", FrameFault::Pad),
+    (One, 0x0e00_0a3f, DATA, b"1", FrameFault::Pad),
+    (One, 0x1000_0a3f, DATA, b"", FrameFault::Pad),
+    (One, 0x1200_0a3f, DATA, b"", FrameFault::Pad),
+    (One, 0x0000_0a30, DATA, b"", FrameFault::Kind),
+    (One, 0x0200_0200, DATA, b"abc", FrameFault::Length),
+    (One, 0x0200_0200, DATA, b"abcdefgh", FrameFault::Length),
+    (Two, 0x0200_0200, DATA, b"abcd", FrameFault::Length),
+];
+
+#[test]
+fn refusals(rt: HostRuntime) -> Result<(), Fail> {
+    for (format, ident, remote, bytes, fault) in REFUSED {
+        let payload = Payload::of(bytes).ok_or("more than 8 bytes")?;
+        assert_eq!(rt; frame_of(format, ident, remote, payload), Err(fault));
+    }
+    Ok(())
+}
