@@ -9,7 +9,7 @@ HEAD = ["call", "answer, and when", "clauses", "shown by"]
 # The types of answers that stand for more than a value: what is refused, what is not there, what was chosen.
 TELLS = r"\b(Result<|Option<|bool\b|Outcome\b|StepReply\b|TurnReply\b|Learnt\b)"
 # The crates whose u8 is an exit status.
-OF_STATUSES = ("cany_check", "cany_command", "cany_crew", "cany_media", "cany_replay", "cany_replica", "cany_settle")
+OF_STATUSES = ("cany_check", "cany_command", "cany_crew", "cany_media", "cany_replay", "cany_replica", "cany_settle", "cany_watch")
 
 ITEM = re.compile(r"(?m)^(?:pub )?(?P<kind>impl|trait)\b(?P<head>[^{;]*)\{(?P<body>.*?)^\}", re.S)
 SIGNATURE = r"fn (\w+)(?:<[^(]*>)?\([^{};]*?\)\s*->\s*([^{};]*?)\s*(?:\brequires\b|\bensures\b|[{;]|$)"

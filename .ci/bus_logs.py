@@ -33,10 +33,10 @@ def ran(*words, stdin=None):
 
 
 def check_identifiers(root, tally):
-    """The rows of the tests of can_frame, and those of docs/can.md."""
-    tests = (root / "crates/can_frame/src/tests.rt").read_text(encoding="utf-8")
+    """The rows of the tests of frames, and those of docs/can.md."""
+    tests = (root / "crates/cany_low_tests/src/tests/frames.rt").read_text(encoding="utf-8")
     rows = re.findall(r"\((One|Two), (\w+), (?:REMOTE|DATA), \((\d+), (\d+), (\d+)\), [^\n]*, 0x([0-9a-f_]+)\)", tests)
-    tally.check(len(rows) > 20, "crates/can_frame/src/tests.rt has no rows of identifiers")
+    tally.check(len(rows) > 20, "crates/cany_low_tests/src/tests/frames.rt has no rows of identifiers")
     for version, kind, number, node, incarnation, wanted in rows:
         frame = reports.Frame(kind.lower(), int(node), int(incarnation), int(number), None)
         found = wire.identifier(FORMATS[version], frame)

@@ -14,7 +14,9 @@ import calls
 import counts
 import examples
 import program as programs
+import refusals
 import scenarios
+import stops
 import words
 from tally import Tally
 
@@ -27,6 +29,8 @@ def main():
     subjects = {
         "scenarios": lambda: scenarios.check(ROOT, tally, built),
         "calls": lambda: calls.check(ROOT, tally, built),
+        "refusals": lambda: refusals.check(tally, built),
+        "stops": lambda: stops.check(tally, built),
         "words and links": lambda: words.check(ROOT, tally),
         "examples": lambda: examples.check(ROOT, tally, built),
         "counts": lambda: counts.check(ROOT, tally),

@@ -10,7 +10,7 @@ REMARK = r"\s{2,}.*"
 
 
 # A text of a run begins so, of whichever command.
-BEGIN = ("canely report ", "canely check ", "canely replica ", "medium ")
+BEGIN = ("canely report ", "canely check ", "canely replica ", "canely watch ", "medium ")
 
 
 def is_part(lines, whole):

@@ -9,7 +9,7 @@ import report as reports
 import verdict
 from lines import Malformed
 
-LIMIT = 60
+LIMIT = 240
 REPORT, DRAW, BUSLOG = "report.py", "draw.py", "buslog.py"
 
 

@@ -106,7 +106,7 @@ class Refusals:
 def try_streams(refusals, long_text):
     """Standard streams that are closed, full, or given up by who reads."""
     program, text = refusals.program, (TOP / "scenarios/one_message_no_fault.toml").read_bytes()
-    readers = [["replay"], ["run"], ["check"]]
+    readers = [["replay"], ["run"], ["check"], ["watch", "0"]]
     commands = [(words, text) for words in readers] + [(["storm", "7"], b""), (["--help"], b""), (["--version"], b"")]
 
     def try_shell(subject, what, line, holds, given=text):
@@ -141,7 +141,7 @@ def try_words(refusals):
     odd = [b"", b"\xff", b"\xc3\x28", b"\xed\xa0\x80", b"\xf5\x80\x80\x80", b"replay\xff", b"-", b"--", b"--help=", b"-h", b"replay\n", "réplay".encode()]
     odd += [b"\x1b[2J", b"x" * 131_000, b"\xff" * 131_000]
     lists = [[it] for it in odd] + [["storm", it] for it in [*odd, b"1" * 131_000, "٧".encode()]]
-    lists += [[word, it] for word in ("replay", "run", "check") for it in odd]
+    lists += [[word, it] for word in ("replay", "run", "check", "watch") for it in odd]
     lists += [[word] * 100_000 for word in ("replay", "storm", "", "--help", b"\xff")] + [["storm"] + ["7"] * 99_999, [], ["storm"]]
     for words in lists:
         ended = run(refusals.program, words, input=b"")
@@ -175,6 +175,7 @@ def main():
             ("`replica` of `table_order_decides`", ["replica"], scenarios["table_order_decides"]),
             ("`media` of `blind_slot`", ["media", "0:1-1:down", "1:0-2:split:0"], scenarios["blind_slot"]),
             ("`tail` of `tail_enough`", ["tail"], scenarios["tail_enough"]),
+            ("`watch 2` of `one_message_no_fault`", ["watch", "2"], scenarios["one_message_no_fault"]),
             ("`check` of `brake_commands`", ["check"], scenarios["brake_commands"]),
             ("`check` of `silent_omission_is_outside`", ["check"], scenarios["silent_omission_is_outside"]),
         ]:
