@@ -30,7 +30,7 @@ use crate::sending::send_due;
 use can_controller::Controller;
 use cany_base::{
     Actions, BoundedVec, LogEntry, Memory, MsgKey, NodeId, Notice, NoticeKind, Params, Scenario,
-    Slot,
+    Service, Slot,
 };
 use cany_edcan::{Edcan, rests};
 use cany_relcan::Relcan;
@@ -402,6 +402,19 @@ impl Node {
             seq: msg.seq,
         };
         self.totcan.ahead(key) || self.relcan.ahead(msg)
+    }
+
+    /// The same of a message of this service, which is found at the protocol of the service alone.
+    pub fn ahead_by(&self, service: Service, msg: MsgKey) -> bool
+        ensures { (scenario : ScenarioParts) (past : List NoticeKind) → IsNodeOf scenario past self.now →
+            (m : Message) → Contains (messages_of scenario.sends) m → message_key m ≡ msg → m.service ≡ service →
+            result ≡ is_ahead_at scenario m self.now.node past }
+    {
+        match service {
+            Service::Ed => false,
+            Service::Rel => self.relcan.ahead(msg),
+            Service::Tot => self.totcan.ahead(msg),
+        }
     }
 }
 

@@ -8,7 +8,7 @@ use Rattle.cany_model.specs.Bus.Frames.{Identity}
 use Rattle.cany_model.specs.Bus.Waiting.{waits}
 use Rattle.can_controller.specs.Controller.{ControllerState}
 use Rattle.cany_world.specs.Controllers.{awaits, has_read}
-use Rattle.cany_world.specs.Resting.{HasNothingToDoIfItRuns, HaveNothingToDo}
+use Rattle.cany_world.specs.Resting.{HaveNothingToDo}
 
 none_is_named : (frames : List Identity) → list_any (λ x. waits x []) frames ≡ false
 none_is_named [] = refl

@@ -96,12 +96,12 @@ module _ (scenario : ScenarioParts) (s : RunState) (i : ℕ) (m : Message) (key 
   -- whether it has something of the message ahead
   pub ahead_is : (c : ControllerState) (ahead : Bool) → IsKeptAs scenario s.trace i (node_at s.nodes i) c → is_none c.stopped ≡ true
       → ((follows : ScenarioParts) (past : List NoticeKind) → IsNodeOf follows past it → (x : Message) → Contains (messages_of follows.sends) x → message_key x ≡ key
-      → ahead ≡ is_ahead_at follows x it.node past)
+      → x.service ≡ m.service → ahead ≡ is_ahead_at follows x it.node past)
       → ahead ≡ has_ahead scenario s m i
   ahead_is c ahead ctl running law =
       let follows : ScenarioParts = scenario_at scenario s i in
       let runs_here : runs (node_at s.nodes i) ≡ true = sym (ap is_none ctl.stopped) ∙ running in
-      law follows (heard_of i s.trace (node_at s.nodes i)) node_of m stands named
+      law follows (heard_of i s.trace (node_at s.nodes i)) node_of m stands named refl
       ∙ ap (λ k. is_ahead_at follows m k (heard_of i s.trace (node_at s.nodes i))) number
       ∙ error_ahead follows m i (past_of i s.trace (node_at s.nodes i))
       ∙ ap (λ past. is_ahead_at follows m i past) (sym (history-is i s))
@@ -136,24 +136,24 @@ any_of_three scenario s m c asked late ctl a b =
 -- ---- what is ahead, at one node after another
 
 -- of the nodes before i none has anything of the message ahead: those from i on decide
-abbrev pub IsLeftTo : ℕ → MsgKey → List ControllerState → List IncarnationsParts → Type 0
-IsLeftTo i key controllers nodes =
-    (scenario : ScenarioParts) (journal : List Step) (m : Message) → IsAbout scenario journal m key controllers nodes
+abbrev pub IsLeftTo : ℕ → Service → MsgKey → List ControllerState → List IncarnationsParts → Type 0
+IsLeftTo i service key controllers nodes =
+    (scenario : ScenarioParts) (journal : List Step) (m : Message) → IsAbout scenario journal m key controllers nodes → m.service ≡ service
     → list_any (has_ahead scenario (run scenario journal) m) (range_with_len i (length controllers - i)) ≡ is_ahead scenario (run scenario journal) m
 
-pub left_to_all : (key : MsgKey) (controllers : List ControllerState) (nodes : List IncarnationsParts) → IsLeftTo 0 key controllers nodes
-left_to_all key controllers nodes scenario journal m about =
+pub left_to_all : (service : Service) (key : MsgKey) (controllers : List ControllerState) (nodes : List IncarnationsParts) → IsLeftTo 0 service key controllers nodes
+left_to_all service key controllers nodes scenario journal m about by =
     let all : length controllers - 0 ≡ scenario.params.nodes = omega (arith, about.controllers.whole) in
     ap (λ n. list_any (has_ahead scenario (run scenario journal) m) (range_with_len 0 n)) all
 
-module _ (i : ℕ) (key : MsgKey) (controllers : List ControllerState) (nodes : List IncarnationsParts) (left : IsLeftTo i key controllers nodes)
-    (scenario : ScenarioParts) (journal : List Step) (m : Message) (about : IsAbout scenario journal m key controllers nodes) where
+module _ (i : ℕ) (service : Service) (key : MsgKey) (controllers : List ControllerState) (nodes : List IncarnationsParts) (left : IsLeftTo i service key controllers nodes)
+    (scenario : ScenarioParts) (journal : List Step) (m : Message) (about : IsAbout scenario journal m key controllers nodes) (by : m.service ≡ service) where
   by_this : i < length controllers
       → (has_ahead scenario (run scenario journal) m i || list_any (has_ahead scenario (run scenario journal) m) (range_with_len (i + 1) (length controllers - (i + 1))))
       ≡ is_ahead scenario (run scenario journal) m
   by_this within =
       let more : length controllers - i ≡ suc (length controllers - (i + 1)) = omega (arith, within) in
-      sym (ap (λ n. list_any (has_ahead scenario (run scenario journal) m) (range_with_len i n)) more) ∙ left scenario journal m about
+      sym (ap (λ n. list_any (has_ahead scenario (run scenario journal) m) (range_with_len i n)) more) ∙ left scenario journal m about by
 
   pub one_ahead : i < length controllers → has_ahead scenario (run scenario journal) m i ≡ true → true ≡ is_ahead scenario (run scenario journal) m
   one_ahead within here = rw here at by_this within
@@ -165,7 +165,7 @@ module _ (i : ℕ) (key : MsgKey) (controllers : List ControllerState) (nodes : 
   pub none_ahead : length controllers ≤ i → false ≡ is_ahead scenario (run scenario journal) m
   none_ahead past =
       let over : length controllers - i ≡ 0 = omega (arith, past) in
-      sym (ap (λ n. list_any (has_ahead scenario (run scenario journal) m) (range_with_len i n)) over) ∙ left scenario journal m about
+      sym (ap (λ n. list_any (has_ahead scenario (run scenario journal) m) (range_with_len i n)) over) ∙ left scenario journal m about by
 
 -- ---- the message of a scripted send
 
@@ -225,17 +225,3 @@ has_message scenario index sends_read send key legal within same is names = reco
 
     below : IsBelow most_sends scenario.params.slots scenario.params.nodes m
     below = message_below scenario m legal (contains_at (messages_of scenario.sends) index m message.1)
-
--- the message of a place, where its key is all that is asked of it
-pub record IsNamed (scenario : ScenarioParts) (index : ℕ) (key : MsgKey) : Type 0 where
-  pub message : Message
-  pub at : slice_get (messages_of scenario.sends) index ≡ Some message
-  pub stands : Contains (messages_of scenario.sends) message
-  pub named : message_key message ≡ key
-
-pub is_named : (scenario : ScenarioParts) (index : ℕ) (key : MsgKey) → IsSomeAnd (slice_get (messages_of scenario.sends) index) (λ m. key ≡ message_key m) → IsNamed scenario index key
-is_named scenario index key names = by_place (slice_get (messages_of scenario.sends) index) refl names
-  where
-    by_place : (o : Option Message) → slice_get (messages_of scenario.sends) index ≡ o → IsSomeAnd o (λ m. key ≡ message_key m) → IsNamed scenario index key
-    by_place None at h = absurd h
-    by_place (Some m) at h = record { message = m; at = at; stands = contains_at (messages_of scenario.sends) index m at; named = sym h }

@@ -119,22 +119,32 @@ pub(crate) fn is_asked(
 }
 
 /// Whether the node runs and has something of the message ahead.
-pub(crate) fn has_ahead(key: &MsgKey, controller: &Controller, node: &Incarnations) -> bool
+pub(crate) fn has_ahead(
+    service: Service,
+    key: &MsgKey,
+    controller: &Controller,
+    node: &Incarnations,
+) -> bool
     ensures { (scenario : ScenarioParts) (s : RunState) (i : ℕ) (m : Message) → IsKeptAs scenario s.trace i (node_at s.nodes i) controller.now
         → IsKeptAt scenario s.trace i (node_at s.nodes i) node.now → Contains (messages_of scenario.sends) m → message_key m ≡ key.now
-        → result ≡ has_ahead scenario s m i }
+        → m.service ≡ service → result ≡ has_ahead scenario s m i }
 {
-    controller.stopped().is_none() && node.node().ahead(*key)
+    controller.stopped().is_none() && node.node().ahead_by(service, *key)
 }
 
 /// Whether a running node has something of the message ahead.
-fn is_ahead(key: &MsgKey, controllers: &[Controller], nodes: &[Incarnations]) -> bool
+fn is_ahead(
+    service: Service,
+    key: &MsgKey,
+    controllers: &[Controller],
+    nodes: &[Incarnations],
+) -> bool
     requires { length controllers.now ≡ length nodes.now }
     ensures { (scenario : ScenarioParts) (journal : List Step) (m : Message) → IsAbout scenario journal m key.now controllers.now nodes.now
-        → result ≡ is_ahead scenario (run scenario journal) m }
+        → m.service ≡ service → result ≡ is_ahead scenario (run scenario journal) m }
 {
     for i in 0..controllers.len() {
-        if has_ahead(key, &controllers[i], &nodes[i]) {
+        if has_ahead(service, key, &controllers[i], &nodes[i]) {
             return true;
         }
     }
@@ -162,5 +172,5 @@ pub(crate) fn is_settled(
         return false;
     }
     nobody_waits_and_all_read(format, send.service, key, controllers)
-        && !is_ahead(key, controllers, nodes)
+        && !is_ahead(send.service, key, controllers, nodes)
 }

@@ -52,6 +52,7 @@ pub(crate) fn waiting_nodes(
 
 /// The running nodes that have something of the message ahead.
 pub(crate) fn nodes_ahead(
+    service: Service,
     key: &MsgKey,
     controllers: &[Controller],
     nodes: &[Incarnations],
@@ -59,11 +60,15 @@ pub(crate) fn nodes_ahead(
     requires count { length controllers.now ≡ length nodes.now }
     requires few { length controllers.now ≤ most_nodes }
     ensures { (scenario : ScenarioParts) (journal : List Step) (m : Message) → IsAbout scenario journal m key.now controllers.now nodes.now
-        → result ≡ nodes_ahead scenario (run scenario journal) m }
+        → m.service ≡ service → result ≡ nodes_ahead scenario (run scenario journal) m }
 {
     let mut set = NodeSet::empty();
     for i in 0..controllers.len() {
-        insert_if(&mut set, i, has_ahead(key, &controllers[i], &nodes[i]));
+        insert_if(
+            &mut set,
+            i,
+            has_ahead(service, key, &controllers[i], &nodes[i]),
+        );
     }
     set
 }

@@ -342,7 +342,8 @@ impl World {
     {
         let controllers = self.controllers.as_slice();
         let nodes = self.nodes.as_slice();
-        nodes_ahead(&self.key(index), controllers, nodes)
+        let sends = self.scenario.sends();
+        nodes_ahead(sends[index].service, &self.key(index), controllers, nodes)
     }
 
     /// The running nodes that wait with the frame of the sign that the node failed, as it was found

@@ -11,7 +11,7 @@ returns-then-not-is_asked c scenario journal m about by slot =
 pub returns-then-nobody_waits_and_all_read : goal.returns-then-nobody_waits_and_all_read
 returns-then-nobody_waits_and_all_read c scenario journal m about by slot =
     let is = settled_by scenario journal m c.args.send.now.service c.args.key.now c.args.controllers.now c.args.nodes.now c.is_asked.result c.nobody_waits_and_all_read.result c.is_ahead.result about by
-    (c.is_asked.ensures scenario journal m about slot) c.nobody_waits_and_all_read.ensures (c.is_ahead.ensures scenario journal m about) in
+    (c.is_asked.ensures scenario journal m about slot) c.nobody_waits_and_all_read.ensures (c.is_ahead.ensures scenario journal m about by) in
     rw (c.if-not-is_asked.false, c.if-nobody_waits_and_all_read.true) at is
 
 pub returns-else-nobody_waits_and_all_read : goal.returns-else-nobody_waits_and_all_read
