@@ -11,6 +11,10 @@ pub mod LeftOut
 pub mod Lives
 pub mod NoLateDelivery
 pub mod OneSequence
+pub mod OrderLists
+pub mod OrderOfEach
+pub mod OrderReading
+pub mod OrderRows
 pub mod RestartRows
 pub mod RowWords
 pub mod SequenceRows

@@ -5,4 +5,5 @@
 
 pub mod incarnations;
 pub mod membership;
+pub mod order;
 pub mod settled;

@@ -1,0 +1,236 @@
+-- A running node reads all that there is, and no other node changes: so what it has accepted, each incarnation accepts that has read the closing.
+use Rattle.std.proofs.Common.{◌≡◌, ℕ, zero, suc, ◌+◌, ◌-◌, ◌<◌, ◌≤◌, ◌&&◌, inl, inr, Bool, true, false, List, [], ◌∷◌, ◌++◌, length, map, drop, refl, ap, sym, ◌∙◌, subst, arith, append-nil, append_assoc, Contains}
+use Rattle.std.specs.List.{list_any, range_with_len}
+use Rattle.std.proofs.lemmas.Bool.{and_parts, cases_eq, cases_lt, both_ways, or_cases}
+use Rattle.cany_base.proofs.ParamsFacts.{few_nodes}
+use Rattle.cany_base.specs.declared.message.MsgKey.{MsgKey}
+use Rattle.cany_base.specs.declared.slot_note.SlotNote.{SlotNote}
+use Rattle.cany_base.specs.declared.step.Step.{Step}
+use Rattle.cany_base.specs.declared.step.Step.TheVariants as step
+use Rattle.cany_base.specs.Limits.{most_nodes}
+use Rattle.cany_base.specs.Scenario.{IsLegalScenario, ScenarioParts}
+use Rattle.cany_model.specs.Bus.History.{ended_history, given, history, is_hidden, seen}
+use Rattle.cany_model.specs.Bus.State.{EndedIncarnation, Incarnation, NodeState, RunState, node_at, reads, runs}
+use Rattle.cany_model.specs.Promises.Acceptance.{WasCarriedClean}
+use Rattle.cany_model.specs.Promises.Hypothesis.{IsWithin}
+use Rattle.cany_model.specs.Promises.Order.{has_accepted, is_accepted_by_some}
+use Rattle.cany_model.specs.Promises.Settled.{IsCorrect}
+use Rattle.cany_model.specs.Rules.Totcan.{is_accepted}
+use Rattle.cany_model.specs.Runs.Incarnations.{incarnations}
+use Rattle.cany_model.specs.Runs.Run.{after_turn, run}
+use Rattle.cany_model.proofs.Among.{Among, Among-from_Contains, Contains-from_Among, Contains-head}
+use Rattle.cany_model.proofs.Bus.Seen.{early_hidden, ended_history-present, history-is}
+use Rattle.cany_model.proofs.Bus.States.{note_at, runs_within}
+use Rattle.cany_model.proofs.Runs.Runs.{orderly}
+use Rattle.cany_model.proofs.Runs.Steps.{MayTurn, after_turn-node, after_turn-other, after_turn-present, after_turn-runs, after_turn-trace, next_notice, node_after_turn}
+use Rattle.cany_model.proofs.Timed.Common.Ages.{past}
+use Rattle.cany_model.proofs.Timed.Common.SeenAges.{done_from}
+use Rattle.cany_model.proofs.Timed.Guarantees.{accepted_by_all_or_none}
+use Rattle.cany_model.proofs.Timed.Order.Accepted.{accepted_done, accepted_on}
+use Rattle.cany_model.proofs.Timed.Order.OrderAt.{one_done}
+use Rattle.cany_model.proofs.Timed.Order.TotCount.{within_silent}
+use Rattle.cany_model.proofs.Timed.Order.TotRun.{tot_kept}
+use Rattle.cany_laws.specs.Acceptance.{accepted_in_time_as}
+use Rattle.cany_laws.specs.Logs.{HasReadClosingAs, IsIncarnation, past_of, present_of}
+use Rattle.cany_laws.proofs.DeliveredInTime.{clean_age}
+use Rattle.cany_laws.proofs.EachView.{accepted_by_each}
+use Rattle.cany_laws.proofs.Fronts.{after_turn-ended, turn_made}
+use Rattle.cany_laws.proofs.Lives.{lived}
+use Rattle.cany_laws.proofs.Since.{begins_now}
+
+-- ---- a node reads all that there is
+
+-- some turns of node j more, after which it has read all; and the other nodes are as they were
+pub record CaughtUp (scenario : ScenarioParts) (journal : List Step) (j : ℕ) : Type 0 where
+  pub turns : List Step
+  pub trace : (run scenario (journal ++ turns)).trace ≡ (run scenario journal).trace
+  pub unread : (node_at (run scenario (journal ++ turns)).nodes j).unread ≡ 0
+  pub present : (node_at (run scenario (journal ++ turns)).nodes j).present ≡ (node_at (run scenario journal).nodes j).present
+  pub running : runs (node_at (run scenario (journal ++ turns)).nodes j) ≡ true
+  pub ended : (i : ℕ) → (node_at (run scenario (journal ++ turns)).nodes i).ended ≡ (node_at (run scenario journal).nodes i).ended
+  pub other : (i : ℕ) → (i ≡ j → ⊥) → node_at (run scenario (journal ++ turns)).nodes i ≡ node_at (run scenario journal).nodes i
+
+pub caught_up : (scenario : ScenarioParts) (j n : ℕ) (journal : List Step) → runs (node_at (run scenario journal).nodes j) ≡ true
+    → (node_at (run scenario journal).nodes j).unread ≡ n → CaughtUp scenario journal j
+caught_up scenario j zero journal running unread = record {
+  turns = [];
+  trace = ap (λ x. (run scenario x).trace) (append-nil journal);
+  unread = ap (λ x. (node_at (run scenario x).nodes j).unread) (append-nil journal) ∙ unread;
+  present = ap (λ x. (node_at (run scenario x).nodes j).present) (append-nil journal);
+  running = ap (λ x. runs (node_at (run scenario x).nodes j)) (append-nil journal) ∙ running;
+  ended = λ i. ap (λ x. (node_at (run scenario x).nodes i).ended) (append-nil journal);
+  other = λ i _. ap (λ x. node_at (run scenario x).nodes i) (append-nil journal);
+}
+caught_up scenario j (suc n) journal running unread =
+    let s : RunState = run scenario journal in
+    let o = orderly scenario journal in
+    let may : MayTurn s j = record { there = runs_within s.nodes j running; running = running; unread = omega (arith, unread) } in
+    let next : List Step = journal ++ step.Turn j ∷ [] in
+    let is : run scenario next ≡ after_turn scenario j s = turn_made scenario journal j may in
+    let node : node_at (after_turn scenario j s).nodes j ≡ node_after_turn scenario j (next_notice s j ∷ history j s) (node_at s.nodes j) =
+    after_turn-node scenario j s may (o.unread j) in
+    let one : (node_at (run scenario next).nodes j).unread ≡ n =
+    ap (λ (r : RunState). (node_at r.nodes j).unread) is ∙ ap (λ (m : NodeState). m.unread) node ∙ omega (arith, unread) in
+    let runs_on : runs (node_at (run scenario next).nodes j) ≡ true =
+    ap (λ (r : RunState). runs (node_at r.nodes j)) is ∙ after_turn-runs scenario j s j may (o.unread j) ∙ running in
+    let rest = caught_up scenario j n next runs_on one in
+    let whole : journal ++ (step.Turn j ∷ rest.turns) ≡ next ++ rest.turns = sym (append_assoc journal (step.Turn j ∷ []) rest.turns) in
+    record {
+      turns = step.Turn j ∷ rest.turns;
+      trace = ap (λ x. (run scenario x).trace) whole ∙ rest.trace ∙ ap (λ (r : RunState). r.trace) is ∙ after_turn-trace scenario j s;
+      unread = ap (λ x. (node_at (run scenario x).nodes j).unread) whole ∙ rest.unread;
+      present = ap (λ x. (node_at (run scenario x).nodes j).present) whole ∙ rest.present ∙ ap (λ (r : RunState). (node_at r.nodes j).present) is
+          ∙ after_turn-present scenario j s j may (o.unread j);
+      running = ap (λ x. runs (node_at (run scenario x).nodes j)) whole ∙ rest.running;
+      ended = λ i. ap (λ x. (node_at (run scenario x).nodes i).ended) whole ∙ rest.ended i ∙ ap (λ (r : RunState). (node_at r.nodes i).ended) is
+          ∙ after_turn-ended scenario j s i may (o.unread j);
+      other = λ i apart. ap (λ x. node_at (run scenario x).nodes i) whole ∙ rest.other i apart ∙ ap (λ (r : RunState). node_at r.nodes i) is
+          ∙ after_turn-other scenario j s i apart;
+    }
+
+-- ---- what a running node has accepted
+
+some_number : (test : ℕ → Bool) (l : List ℕ) → list_any test l ≡ true → (i : ℕ) × (test i ≡ true)
+some_number test [] h = absurd (cc)
+some_number test (i ∷ l) h = elim (or_cases (test i) (list_any test l) h) [
+  | inl here ↦ (i, here)
+  | inr later ↦ some_number test l later
+]
+
+module _ (scenario : ScenarioParts) (legal : IsLegalScenario scenario) where
+  few : scenario.params.nodes ≤ most_nodes
+  few = few_nodes scenario.params legal.in_range
+
+  -- a slot that an incarnation sees is not before the first in which it takes part
+  pub sees_late : (journal : List Step) (i : ℕ) (note : SlotNote) → is_hidden (node_at (run scenario journal).nodes i).present note ≡ false
+      → (node_at (run scenario journal).nodes i).present.from ≤ note.slot
+  sees_late journal i note sees =
+      let inc : Incarnation = (node_at (run scenario journal).nodes i).present in
+      let b = begins_now scenario journal i in
+      elim (cases_lt note.slot inc.from) [
+        | inr late ↦ late
+        | inl early ↦ elim (cases_lt 0 inc.number) [
+          | inl later ↦ absurd (both_ways (is_hidden inc note) sees (early_hidden inc note later early))
+          | inr never ↦ let zero_from = b.first (omega (arith, never)) in omega (arith, zero_from)
+        ]
+      ]
+
+  module _ (journal : List Step) (within : IsWithin scenario.params (run scenario journal).trace) where
+    abbrev s : RunState
+    s = run scenario journal
+
+    someone : (key : MsgKey) → is_accepted_by_some scenario (run scenario journal) key ≡ true
+        → (j : ℕ) × IsCorrect scenario (run scenario journal) j × (has_accepted scenario (run scenario journal) key j ≡ true)
+    someone key some =
+        let j = some_number (λ n. runs (node_at s.nodes n) && has_accepted scenario s key n) (range_with_len 0 scenario.params.nodes) some in
+        let parts = and_parts (runs (node_at s.nodes j.0)) (has_accepted scenario s key j.0) j.1 in
+        let below = runs_within s.nodes j.0 parts.0 in
+        let count = (orderly scenario journal).count in
+        (j.0, record { there = omega (arith, below, count); running = parts.0 }, parts.1)
+
+    read_now : (j : ℕ) → history j (run scenario journal)
+        ≡ past j (seen (node_at (run scenario journal).nodes j).present (run scenario journal).trace) (node_at (run scenario journal).nodes j).unread
+    read_now j = history-is j (run scenario journal)
+
+    -- who has accepted a message takes part since the slot that carried its data frame Clean
+    took_part : (key : MsgKey) (c : ℕ) → WasCarriedClean (run scenario journal).trace key c → (j : ℕ)
+        → has_accepted scenario (run scenario journal) key j ≡ true → (node_at (run scenario journal).nodes j).present.from ≤ c
+    took_part key c clean j h =
+        let inc : Incarnation = (node_at s.nodes j).present in
+        let o = orderly scenario journal in
+        let plain = within_silent scenario s.trace within in
+        let kept = tot_kept scenario few journal plain in
+        let there = accepted_done scenario s.trace inc plain o.numbered kept.trace j (node_at s.nodes j).unread key
+        (ap (is_accepted scenario.params.bound j key) (sym (read_now j)) ∙ h) in
+        let from = done_from inc s.trace there.0 key there.2 in
+        let age = clean_age s.trace scenario.params.nodes s o refl key c clean in
+        let same : age.0 ≡ there.0 = one_done s.trace kept.trace.data_first key age.0 there.0 age.2 from.1 in
+        let late = sees_late journal j (note_at s.trace there.0) from.0 in
+        let number = o.numbered there.0 (omega (arith, same, age.1)) in
+        omega (arith, late, number, same, age.1)
+
+    still_accepted : (key : MsgKey) (j : ℕ) (up : CaughtUp scenario journal j) → has_accepted scenario (run scenario journal) key j ≡ true
+        → has_accepted scenario (run scenario (journal ++ up.turns)) key j ≡ true
+    still_accepted key j up h =
+        let inc : Incarnation = (node_at s.nodes j).present in
+        let later : RunState = run scenario (journal ++ up.turns) in
+        let plain = within_silent scenario s.trace within in
+        let all : history j later ≡ past j (seen inc s.trace) 0 =
+        history-is j later
+        ∙ ap (λ n. map (given j) (drop n (seen (node_at later.nodes j).present later.trace))) up.unread
+        ∙ ap (λ (x : Incarnation). map (given j) (seen x later.trace)) up.present
+        ∙ ap (λ t. map (given j) (seen inc t)) up.trace in
+        ap (is_accepted scenario.params.bound j key) all
+        ∙ accepted_on scenario s.trace inc plain (orderly scenario journal).numbered (tot_kept scenario few journal plain).trace j 0 (node_at s.nodes j).unread key
+        (omega arith) (ap (is_accepted scenario.params.bound j key) (sym (read_now j)) ∙ h)
+
+    -- once it has read all
+    module _ (key : MsgKey) (c j : ℕ) (clean : WasCarriedClean (run scenario journal).trace key c) (correct : IsCorrect scenario (run scenario journal) j)
+        (h : has_accepted scenario (run scenario journal) key j ≡ true) (up : CaughtUp scenario journal j) where
+      abbrev later : RunState
+      later = run scenario (journal ++ up.turns)
+
+      then_in_time : (i : ℕ) (e : EndedIncarnation) → HasReadClosingAs scenario (run scenario journal) c i e → IsIncarnation scenario (run scenario (journal ++ up.turns)) i e
+          → accepted_in_time_as scenario (run scenario journal) key c i e ≡ true
+      then_in_time i e hi is =
+          let t : ℕ = c + scenario.params.bound in
+          let within' : IsWithin scenario.params later.trace = subst (IsWithin scenario.params) (sym up.trace) within in
+          let clean' : WasCarriedClean later.trace key c = subst (λ x. WasCarriedClean x key c) (sym up.trace) clean in
+          let now : IsCorrect scenario later j = record { there = correct.there; running = up.running } in
+          let from : (node_at later.nodes j).present.from ≤ c =
+          subst (λ (x : Incarnation). x.from ≤ c) (sym up.present) (took_part key c clean j h) in
+          let short = (lived scenario journal i e hi.is).short in
+          let read : t < reads later j = omega (arith, hi.read, short, up.unread, ap length up.trace) in
+          let all = (accepted_by_all_or_none scenario (journal ++ up.turns) few legal.formulas legal.members within' key c clean').by_all j now
+          (still_accepted key j up h) j (record { correct = record { correct = now; took_part = from }; read = read }) in
+          let its : past_of later j (present_of later j) ≡ history j later = ended_history-present j later ((orderly scenario (journal ++ up.turns)).unread j) in
+          let hj : HasReadClosingAs scenario later c j (present_of later j) =
+          record { is = record { there = correct.there; stands = Contains-head (present_of later j) (node_at later.nodes j).ended }; took_part = from; read = read } in
+          let hi' : HasReadClosingAs scenario later c i e = record { is = is; took_part = hi.took_part; read = hi.read } in
+          ap (λ x. is_accepted scenario.params.bound i key (drop (e.next - (t + 1)) (ended_history i x e))) (sym up.trace)
+          ∙ accepted_by_each scenario legal (journal ++ up.turns) within' key c clean' i j e (present_of later j) hi' hj
+          ∙ ap (λ x. is_accepted scenario.params.bound j key (drop (reads later j - (t + 1)) x)) its
+          ∙ all
+
+      ended_stands : (i : ℕ) (e : EndedIncarnation) → Among (λ x. x ≡ e) (node_at (run scenario journal).nodes i).ended
+          → Contains (incarnations (run scenario (journal ++ up.turns)) i) e
+      ended_stands i e h =
+          Contains-from_Among (incarnations later i) e (inr (subst (Among (λ x. x ≡ e)) (sym (up.ended i)) h))
+
+      other_stands : (i : ℕ) (e : EndedIncarnation) → (i ≡ j → ⊥) → Contains (incarnations (run scenario journal) i) e
+          → Contains (incarnations (run scenario (journal ++ up.turns)) i) e
+      other_stands i e apart h =
+          let of : NodeState → List SlotNote → List EndedIncarnation = λ node t.
+          record { incarnation = node.present; next = length t - node.unread; stopped = node.stopped } ∷ node.ended in
+          subst (λ l. Contains l e) (ap (of (node_at s.nodes i)) (sym up.trace) ∙ ap (λ node. of node later.trace) (sym (up.other i apart))) h
+
+      -- its own present incarnation
+      present_in_time : (e : EndedIncarnation) → present_of (run scenario journal) j ≡ e → HasReadClosingAs scenario (run scenario journal) c j e
+          → accepted_in_time_as scenario (run scenario journal) key c j e ≡ true
+      present_in_time e same hj =
+          let own : HasReadClosingAs scenario s c j (present_of s j) = subst (HasReadClosingAs scenario s c j) (sym same) hj in
+          let all = (accepted_by_all_or_none scenario journal few legal.formulas legal.members within key c clean).by_all j correct h j
+          (record { correct = record { correct = correct; took_part = own.took_part }; read = own.read }) in
+          let its : past_of s j (present_of s j) ≡ history j s = ended_history-present j s ((orderly scenario journal).unread j) in
+          subst (λ x. accepted_in_time_as scenario s key c j x ≡ true) same
+          (ap (λ x. is_accepted scenario.params.bound j key (drop (reads s j - (c + scenario.params.bound + 1)) x)) its ∙ all)
+
+      each_in_time : (i : ℕ) (e : EndedIncarnation) → HasReadClosingAs scenario (run scenario journal) c i e
+          → accepted_in_time_as scenario (run scenario journal) key c i e ≡ true
+      each_in_time i e hi = elim (cases_eq i j) [
+        | inr other ↦ then_in_time i e hi (record { there = hi.is.there; stands = other_stands i e other hi.is.stands })
+        | inl this ↦ elim (Among-from_Contains (incarnations s i) e hi.is.stands) [
+          | inr old ↦ then_in_time i e hi (record { there = hi.is.there; stands = ended_stands i e old })
+          | inl now ↦
+              subst (λ k. accepted_in_time_as scenario s key c k e ≡ true) (sym this)
+              (present_in_time e (ap (present_of s) (sym this) ∙ now) (subst (λ k. HasReadClosingAs scenario s c k e) this hi))
+        ]
+      ]
+
+    -- what a running node has accepted by now, each incarnation that takes part since its data frame was carried Clean, and has read the closing, accepted in time
+    pub accepted_in_time_by_each : (key : MsgKey) (c : ℕ) → WasCarriedClean (run scenario journal).trace key c
+        → is_accepted_by_some scenario (run scenario journal) key ≡ true → (i : ℕ) (e : EndedIncarnation) → HasReadClosingAs scenario (run scenario journal) c i e
+        → accepted_in_time_as scenario (run scenario journal) key c i e ≡ true
+    accepted_in_time_by_each key c clean some i e hi =
+        let j = someone key some in
+        each_in_time key c j.0 clean j.1 j.2 (caught_up scenario j.0 (node_at s.nodes j.0).unread journal j.1.running refl) i e hi
