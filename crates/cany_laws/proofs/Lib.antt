@@ -1,3 +1,10 @@
+pub mod CarriedBare
+pub mod CarriedCounts
+pub mod CarriedFew
+pub mod CarriedFresh
+pub mod CarriedRows
+pub mod CarriedSigns
+pub mod CarriedTogether
 pub mod DeliveredByEach
 pub mod DeliveredInTime
 pub mod Detected

@@ -3,6 +3,7 @@
 //! of when silence is detected. No crate stands on it.
 #![tactic(auto)]
 
+pub mod carried;
 pub mod incarnations;
 pub mod membership;
 pub mod order;
