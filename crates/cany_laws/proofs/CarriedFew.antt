@@ -12,6 +12,7 @@ use Rattle.cany_model.specs.Rules.Messages.{accept_of_key}
 use Rattle.cany_model.specs.Runs.Run.{run}
 use Rattle.cany_model.proofs.Timed.Order.TotCount.{within_silent}
 use Rattle.cany_laws.specs.Carried.{CarriesFewOf, CarriesFewOfSign}
+use Rattle.cany_laws.proofs.CarriedAlone.{accepts_once}
 use Rattle.cany_laws.proofs.CarriedCounts.{accepts_few, data_once, incarnations_few, signs_few}
 use Rattle.cany_laws.proofs.CarriedFresh.{accept_fresh, sign_fresh}
 use Rattle.cany_laws.proofs.CarriedTogether.{few_times}
@@ -25,6 +26,7 @@ module _ (scenario : ScenarioParts) (journal : List Step) (few : scenario.params
         tot_data = data_once scenario journal few plain key;
         accepts_by_nodes = accepts_few scenario journal few plain key;
         accepts_by_lag = few_times scenario few (accept_of_key key) refl (accept_fresh scenario few key) journal plain;
+        accepts_once = λ none. accepts_once scenario none key journal few plain;
       }
 
   pub few_of_sign : (sign : FailureSign) → CarriesFewOfSign scenario (run scenario journal) sign

@@ -1,3 +1,4 @@
+pub mod CarriedAlone
 pub mod CarriedBare
 pub mod CarriedCounts
 pub mod CarriedFew

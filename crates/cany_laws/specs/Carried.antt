@@ -20,11 +20,13 @@ unfoldable pub incarnations_of_first : RunState → ℕ → ℕ
 incarnations_of_first s zero = 0
 incarnations_of_first s (suc n) = incarnations_of_first s n + length (incarnations s n)
 
--- Of a TOTCAN message the bus has carried the data frame Clean once at most, and the frame that accepts it once at most for each node, and at most lag + 2 times.
+-- Of a TOTCAN message the bus has carried the data frame Clean once at most, and the frame that accepts it once at most for each node, and at most lag + 2 times;
+-- where no omission may be, once at most.
 pub record CarriesFewOf (scenario : ScenarioParts) (s : RunState) (key : MsgKey) : Type 0 where
   pub tot_data : times_clean (tot_of_key key) s.trace ≤ 1
   pub accepts_by_nodes : times_clean (accept_of_key key) s.trace ≤ scenario.params.nodes
   pub accepts_by_lag : times_clean (accept_of_key key) s.trace ≤ scenario.params.lag + 2
+  pub accepts_once : scenario.params.omit ≡ 0 → times_clean (accept_of_key key) s.trace ≤ 1
 
 -- The frame of a failure sign it has carried Clean once at most for each incarnation that there has been of a node. Where no node can start again, that is once for
 -- each node, and it has carried it at most lag + 2 times.

@@ -12,7 +12,8 @@ ghost use Rattle.cany_laws.specs.Carried.{CarriesFewOf, CarriesFewOfSign};
 /// Frames of a TOTCAN message: in every run within the fault hypothesis, of at most 64 nodes, the bus
 /// carries the data frame of a TOTCAN message Clean once at most in the whole run, and the frame that
 /// accepts the message at most as often as there are nodes, and at most `lag` + 2 times: nodes that
-/// wait with one frame send it in one slot.
+/// wait with one frame send it in one slot. Where `omit` is 0 the origin alone sends that frame, and it
+/// is carried Clean once at most.
 ///
 /// It holds of every journal, with restarts, and asks for no formula of the parameters. That a node
 /// starts again brings no frame more. It counts Clean slots alone: errors and omissions make the bus
