@@ -1,3 +1,10 @@
+pub mod AlarmGap
+pub mod AlarmLaws
+pub mod AlarmLife
+pub mod AlarmNotices
+pub mod AlarmRows
+pub mod AlarmSigns
+pub mod AlarmStops
 pub mod CarriedAlone
 pub mod CarriedBare
 pub mod CarriedCounts
@@ -32,4 +39,8 @@ pub mod SilenceRows
 pub mod Since
 pub mod SlotRead
 pub mod StaySettled
+pub mod StayingAsked
+pub mod StayingLaws
+pub mod StayingVectors
+pub mod StayingViews
 pub mod StopRows

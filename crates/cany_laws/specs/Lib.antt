@@ -1,4 +1,5 @@
 pub mod Acceptance
+pub mod Alarms
 pub mod Carried
 pub mod Detection
 pub mod Final

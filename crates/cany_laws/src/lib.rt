@@ -1,8 +1,10 @@
 //! What holds of every run besides the promise: laws of the definitions, each a function without a
-//! body whose clauses say it. They speak of every incarnation of every node, of what is final, and
-//! of when silence is detected. No crate stands on it.
+//! body whose clauses say it. They speak of every incarnation of every node, of the one order, of
+//! what is final, of failures that are told and of silence that is detected, of members, and of what
+//! the bus carries. No crate stands on it.
 #![tactic(auto)]
 
+pub mod alarms;
 pub mod carried;
 pub mod incarnations;
 pub mod membership;
