@@ -1,3 +1,12 @@
+pub mod AdmissionAsked
+pub mod AdmissionHeard
+pub mod AdmissionJoined
+pub mod AdmissionKnown
+pub mod AdmissionLives
+pub mod AdmissionRows
+pub mod AdmissionTaken
+pub mod AdmissionTurns
+pub mod AdmissionVectors
 pub mod AlarmGap
 pub mod AlarmLaws
 pub mod AlarmLife
@@ -30,6 +39,11 @@ pub mod OrderLists
 pub mod OrderOfEach
 pub mod OrderReading
 pub mod OrderRows
+pub mod RemovalJoiners
+pub mod RemovalMembers
+pub mod RemovalOut
+pub mod RemovalRows
+pub mod RemovalStop
 pub mod RestartRows
 pub mod RowWords
 pub mod SequenceRows

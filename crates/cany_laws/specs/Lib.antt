@@ -1,4 +1,5 @@
 pub mod Acceptance
+pub mod Admission
 pub mod Alarms
 pub mod Carried
 pub mod Detection
@@ -6,5 +7,6 @@ pub mod Final
 pub mod Logs
 pub mod Membership
 pub mod Order
+pub mod Removal
 pub mod Sequence
 pub mod Views

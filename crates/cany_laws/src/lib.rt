@@ -4,9 +4,11 @@
 //! the bus carries. No crate stands on it.
 #![tactic(auto)]
 
+pub mod admission;
 pub mod alarms;
 pub mod carried;
 pub mod incarnations;
 pub mod membership;
 pub mod order;
+pub mod removal;
 pub mod settled;

@@ -1,0 +1,71 @@
+-- Worked rows of nodes that are heard no more: one that stays out of the views, and one that an old JOIN brings back.
+use Rattle.std.specs.Prelude.{◌≡◌, false, [], ◌∷◌, Some, None, take, refl}
+use Rattle.std.specs.List.{list_any}
+use Rattle.cany_base.specs.declared.rule.Verdict.TheVariants.{Clean}
+use Rattle.cany_base.specs.Scenario.{ScenarioParts}
+use Rattle.cany_model.specs.Bus.State.{RunState}
+use Rattle.cany_model.specs.Promises.Hypothesis.{first_break}
+use Rattle.cany_model.specs.Runs.RoundRobin.{round_robin}
+use Rattle.cany_model.specs.Runs.Run.{run}
+use Rattle.cany_laws.specs.Detection.{hears_life}
+use Rattle.cany_laws.specs.Logs.{past_to, present_of}
+use Rattle.cany_laws.specs.Membership.{members_as}
+use Rattle.cany_laws.specs.Removal.{hears_join}
+use Rattle.cany_laws.specs.Views.{installed_as}
+use Rattle.cany_laws.proofs.RowWords.{again, row, set, slot_rule, three, two}
+
+-- Node 1 stops in slot 5 and starts again in slot 60, but does not ask to join. Cycle 2 starts in slot 76 without it, and so does cycle 3 in slot
+-- 114, before which it has been in the view of node 0 for less than the silence.
+unfoldable does_not_ask : ScenarioParts
+does_not_ask = two 134 [] (slot_rule 5 Clean 2 ∷ []) (again 60 1 ∷ [])
+
+unfoldable its_run : RunState
+unfolding row
+its_run = run does_not_ask (round_robin does_not_ask)
+
+-- node 0 hears no life of it in the slots after 5 and up to 114, and no JOIN in any
+not_heard :
+    list_any (hears_life 1) (take 109 (past_to 114 its_run 0 (present_of its_run 0))) ∷ list_any (hears_join 1) (past_to 114 its_run 0
+    (present_of its_run 0)) ∷ []
+    ≡ false ∷ false ∷ []
+unfolding row does_not_ask its_run
+not_heard = refl
+
+out_from_cycle_2_on :
+    installed_as does_not_ask its_run 0 (present_of its_run 0) 1 ∷ installed_as does_not_ask its_run 0 (present_of its_run 0) 2
+    ∷ installed_as does_not_ask its_run 0 (present_of its_run 0) 3 ∷ [] ≡ Some (set 3) ∷ Some (set 1) ∷ Some (set 1) ∷ []
+unfolding row does_not_ask its_run
+out_from_cycle_2_on = refl
+
+-- Nodes 0 and 2 are members at first. Node 2 asks to leave; nodes 1 and 2 stop in slot 2 and start again, and both ask to join: their JOINs are
+-- carried in slots 40 and 41, and node 2 stops for good in slot 42. Node 0 has it in its view until cycle 1 ends, so it does not count its JOIN; node
+-- 1 has nobody in its view, and does. Node 0 asks to leave too, is out in cycle 1, which starts in slot 68, and asks to join again. So node 1 alone
+-- starts cycle 2, in slot 136, with both, and node 2 is in the vector of this cycle: more than the silence of 69 slots after its stop, after which
+-- node 0 had it in its view. The law on removal asks of the observer that it stands in its own view when the cycle starts, as node 0 does not; and
+-- that no JOIN was heard for so long before slot 42, for as a member node 0 starts the next cycle with node 2 as well.
+unfoldable an_old_ask : ScenarioParts
+unfolding three
+an_old_ask =
+    let sc = three 171 [] (slot_rule 2 Clean 6 ∷ slot_rule 42 Clean 4 ∷ []) (again 3 1 ∷ again 3 2 ∷ []) in
+    record sc {
+      params = record sc.params { errors = 0; bound = 34; cycle = 68; life = 34; silence = 69 };
+      members = set 5;
+      joins = again 39 1 ∷ again 39 2 ∷ again 104 0 ∷ [];
+      leaves = again 0 2 ∷ again 60 0 ∷ [];
+    }
+
+unfoldable run_of_the_old_ask : RunState
+unfolding row
+run_of_the_old_ask = run an_old_ask (round_robin an_old_ask)
+
+-- of node 0 its view after slot 42, that before cycle 2 starts, and the vector of cycle 2
+stopped_and_admitted :
+    Some (members_as an_old_ask run_of_the_old_ask 42 0 (present_of run_of_the_old_ask 0))
+    ∷ Some (members_as an_old_ask run_of_the_old_ask 135 0 (present_of run_of_the_old_ask 0))
+    ∷ installed_as an_old_ask run_of_the_old_ask 0 (present_of run_of_the_old_ask 0) 2 ∷ [] ≡ Some (set 5) ∷ Some (set 2) ∷ Some (set 7) ∷ []
+unfolding row an_old_ask run_of_the_old_ask
+stopped_and_admitted = refl
+
+it_is_within : first_break an_old_ask.params run_of_the_old_ask.trace ≡ None
+unfolding row an_old_ask run_of_the_old_ask
+it_is_within = refl

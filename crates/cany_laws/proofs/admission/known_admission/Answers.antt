@@ -1,0 +1,5 @@
+use Rattle.cany_laws.proofs.AdmissionKnown.{known_taken_in}
+use Rattle.cany_laws.proofs.admission.known_admission.Goals as goal
+
+pub returns : goal.returns
+returns c scenario journal legal within r k slot j f there carried knows = known_taken_in scenario legal journal within r k slot j f there carried knows
