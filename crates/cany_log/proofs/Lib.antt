@@ -4,11 +4,12 @@ pub mod FieldFacts
 pub mod LineFacts
 pub mod NodeLineFacts
 pub mod NumberFacts
+pub mod NumbersFacts
 pub mod PageFacts
 pub mod ReportFacts
+pub mod RunFacts
 pub mod SetTextFacts
 pub mod SummaryFacts
-pub mod TableFacts
 pub mod TextFacts
 pub mod UpToFacts
 pub mod WrittenFacts

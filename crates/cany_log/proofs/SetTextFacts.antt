@@ -1,18 +1,16 @@
--- A set of nodes as text, number by number, the greatest one first.
-use Rattle.std.proofs.Common.{◌≡◌, ℕ, zero, suc, ◌+◌, ◌*◌, ◌-◌, ◌^◌, ◌<◌, ◌≤◌, Bool, true, false, cond, List, [], ◌∷◌, ◌++◌, length, refl, sym, ◌∙◌, ap, subst, append_assoc, append-nil, length-append, arith, inl, inr}
+-- A set of nodes as text, run by run, the greatest one first.
+use Rattle.std.proofs.Common.{◌≡◌, ℕ, zero, suc, ◌+◌, ◌*◌, ◌-◌, ◌<◌, ◌≤◌, true, false, cond, List, [], ◌∷◌, ◌++◌, length, refl, sym, ◌∙◌, ap, append_assoc, length-append, drop, arith, inl, inr}
 use Rattle.std.specs.Prelude.{filter, decimal}
 use Rattle.std.specs.List.{flat_map, range_with_len}
-use Rattle.std.proofs.lemmas.Bool.{cases_Bool, cases_lt}
+use Rattle.std.proofs.lemmas.Bool.{cases_lt}
 use Rattle.std.proofs.lemmas.Fmt.{length-decimal-le}
 use Rattle.cany_base.specs.Limits.{most_nodes}
-use Rattle.std.specs.Int.Count.{count_leading_zeros}
-use Rattle.std.proofs.lemmas.Nat.{leading_length}
-use Rattle.cany_base.proofs.NodesFacts.{AllBelow-bits, bits-lt}
-use Rattle.cany_base.specs.Nodes.{AllBelow, Nodes, has}
+use Rattle.std.proofs.lemmas.List.Concat.{flat_map-append}
+use Rattle.std.proofs.lemmas.List.Elements.{filter-append}
+use Rattle.cany_base.specs.Nodes.{Nodes, has}
+use Rattle.cany_log.specs.Numbers.{with_comma}
+use Rattle.cany_log.proofs.NumbersFacts.{numbers_text-cons, range_split, with_commas}
 use Rattle.cany_text.specs.ReportLines.{set_text, numbers_text}
-
-abbrev with_comma : ℕ → List ℕ
-with_comma n = 44 ∷ decimal n
 
 -- the nodes of the set among the n numbers from k on
 abbrev pub nodes_from : Nodes → ℕ → ℕ → List ℕ
@@ -22,14 +20,6 @@ nodes_from nodes k n = filter (has nodes) (range_with_len k n)
 abbrev pub some_text : List ℕ → List ℕ
 some_text [] = []
 some_text (n ∷ ns) = numbers_text (n ∷ ns)
-
-abbrev pub is_nil : List ℕ → Bool
-is_nil [] = true
-is_nil (n ∷ ns) = false
-
-numbers_text-cons : (n : ℕ) (ns : List ℕ) → numbers_text (n ∷ ns) ≡ decimal n ++ flat_map with_comma ns
-numbers_text-cons n [] = sym (append-nil (decimal n))
-numbers_text-cons n (m ∷ ns) = ap (λ r. decimal n ++ (44 ∷ r)) (numbers_text-cons m ns)
 
 -- ---- how long a set's text is
 
@@ -63,91 +53,105 @@ set_text-short nodes = of_numbers (nodes_from nodes 0 most_nodes) (some_text-sho
 
 -- ---- a row that had some bytes, and before them the numbers of the set were put from k on
 
-pub record HasListed (nodes : Nodes) (k : ℕ) (is_last : Bool) (after row : List ℕ) : Type 0 where
-  pub text : row ≡ some_text (nodes_from nodes k (most_nodes - k)) ++ after
-  -- the next number is the last one of the text
-  pub last : is_last ≡ is_nil (nodes_from nodes k (most_nodes - k))
+-- the numbers of the set from k on, each with a comma before it
+abbrev pub listed : Nodes → ℕ → List ℕ
+listed nodes k = flat_map with_comma (nodes_from nodes k (most_nodes - k))
 
--- a set has no node above its highest bit
-pub below_highest : (nodes : Nodes) (bits : ℕ) → bits ≡ nodes.bits → AllBelow most_nodes nodes → AllBelow (64 - count_leading_zeros 64 bits) nodes
-below_highest nodes bits is below =
-    let (m, whole, short, rest) = leading_length 64 bits (omega (arith, is, bits-lt most_nodes nodes below)) in
-    let same : m ≡ 64 - count_leading_zeros 64 bits = omega (arith, whole) in
-    subst (λ n. AllBelow n nodes) same (AllBelow-bits m nodes (subst (λ a. a < 2 ^ m) is short))
+-- the comma before them is there too, where there are more to come
+pub record HasListed (nodes : Nodes) (k : ℕ) (after row : List ℕ) : Type 0 where
+  pub more : 0 < k → row ≡ listed nodes k ++ after
+  pub all : k ≡ 0 → row ≡ set_text nodes ++ after
 
--- no node is at k or after it
-none_from : (nodes : Nodes) (k n : ℕ) → AllBelow k nodes → nodes_from nodes k n ≡ []
-none_from nodes k n below = outside k n (omega arith)
-  where
-    outside : (i n : ℕ) → k ≤ i → nodes_from nodes i n ≡ []
-    outside i zero past = refl
-    outside i (suc n) past = elim (cases_Bool (has nodes i)) [
-      | inl there ↦ absurd (omega (arith, past, below i there))
-      | inr missing ↦ ap (λ b. cond b (i ∷ nodes_from nodes (i + 1) n) (nodes_from nodes (i + 1) n)) missing ∙ outside (i + 1) n (omega (arith, past))
-    ]
+pub listed-short : (nodes : Nodes) (k : ℕ) → k ≤ most_nodes → length (listed nodes k) + (10 - k) ≤ 3 * (most_nodes - k)
+listed-short nodes k few = omega (arith, with_commas-short nodes k (most_nodes - k) (omega (arith, few)))
 
-pub HasListed-start : (nodes : Nodes) (k : ℕ) (after : List ℕ) → AllBelow k nodes → HasListed nodes k true after after
-HasListed-start nodes k after below =
-    let none = sym (none_from nodes k (most_nodes - k) below) in
-    record { text = ap (λ ns. some_text ns ++ after) none; last = ap is_nil none }
+nodes_split : (nodes : Nodes) (k m n : ℕ) → nodes_from nodes k (m + n) ≡ nodes_from nodes k m ++ nodes_from nodes (k + m) n
+nodes_split nodes k m n = ap (filter (has nodes)) (range_split k m n) ∙ filter-append (has nodes) (range_with_len k m) (range_with_len (k + m) n)
 
-pub HasListed-next : (nodes : Nodes) (n : ℕ) (e : Bool) (after row : List ℕ) → HasListed nodes n e after row → 0 < n → HasListed nodes (n - 1 + 1) e after row
-HasListed-next nodes n e after row h some =
-    let same : n ≡ n - 1 + 1 = omega arith in
-    subst (λ n. HasListed nodes n e after row) same h
+-- a part of which the set has all, or none
+all_from : (nodes : Nodes) (k n : ℕ) → ((i : ℕ) → k ≤ i → i < k + n → has nodes i ≡ true) → nodes_from nodes k n ≡ range_with_len k n
+all_from nodes k zero has_all = refl
+all_from nodes k (suc n) has_all =
+    ap (λ b. cond b (k ∷ nodes_from nodes (k + 1) n) (nodes_from nodes (k + 1) n)) (has_all k (omega arith) (omega arith))
+    ∙ ap (λ r. k ∷ r) (all_from nodes (k + 1) n (λ i past near. has_all i (omega (arith, past)) (omega (arith, near))))
 
--- the nodes after node k
-abbrev later : Nodes → ℕ → List ℕ
-later nodes k = nodes_from nodes (k + 1) (most_nodes - (k + 1))
+none_from : (nodes : Nodes) (k n : ℕ) → ((i : ℕ) → k ≤ i → i < k + n → has nodes i ≡ false) → nodes_from nodes k n ≡ []
+none_from nodes k zero has_none = refl
+none_from nodes k (suc n) has_none =
+    ap (λ b. cond b (k ∷ nodes_from nodes (k + 1) n) (nodes_from nodes (k + 1) n)) (has_none k (omega arith) (omega arith))
+    ∙ none_from nodes (k + 1) n (λ i past near. has_none i (omega (arith, past)) (omega (arith, near)))
 
-from_node : (nodes : Nodes) (k : ℕ) (b : Bool) → k < most_nodes → has nodes k ≡ b → nodes_from nodes k (most_nodes - k) ≡ cond b (k ∷ later nodes k) (later nodes k)
-from_node nodes k b small is =
-    let more : most_nodes - k ≡ suc (most_nodes - (k + 1)) = omega arith in
-    ap (nodes_from nodes k) more ∙ ap (λ b. cond b (k ∷ later nodes k) (later nodes k)) is
+-- from k on, by the part before e
+listed-split : (nodes : Nodes) (k e : ℕ) → k ≤ e → e ≤ most_nodes → listed nodes k ≡ flat_map with_comma (nodes_from nodes k (e - k)) ++ listed nodes e
+listed-split nodes k e order few =
+    let sum_is : most_nodes - k ≡ (e - k) + (most_nodes - e) = omega (arith, order, few) in
+    let at : k + (e - k) ≡ e = omega (arith, order) in
+    ap (λ n. flat_map with_comma (nodes_from nodes k n)) sum_is
+    ∙ ap (flat_map with_comma) (nodes_split nodes k (e - k) (most_nodes - e))
+    ∙ flat_map-append with_comma (nodes_from nodes k (e - k)) (nodes_from nodes (k + (e - k)) (most_nodes - e))
+    ∙ ap (λ p. flat_map with_comma (nodes_from nodes k (e - k)) ++ flat_map with_comma (nodes_from nodes p (most_nodes - e))) at
 
--- a row with the comma after the next number, where there is one
-abbrev pub with_separator : Bool → List ℕ → List ℕ
-with_separator is_last row = cond is_last row (44 ∷ row)
+pub listed-none : (nodes : Nodes) (k e : ℕ) → k ≤ e → e ≤ most_nodes → ((i : ℕ) → k ≤ i → i < e → has nodes i ≡ false) → listed nodes k ≡ listed nodes e
+listed-none nodes k e order few has_none =
+    listed-split nodes k e order few
+    ∙ ap (λ ns. flat_map with_comma ns ++ listed nodes e) (none_from nodes k (e - k) (λ i past near. has_none i past (omega (arith, near, order))))
 
-next_text : (ns after : List ℕ) (k : ℕ) → decimal k ++ with_separator (is_nil ns) (some_text ns ++ after) ≡ some_text (k ∷ ns) ++ after
-next_text [] after k = refl
-next_text (n ∷ ns) after k = sym (append_assoc (decimal k) (44 ∷ numbers_text (n ∷ ns)) after)
+listed-run : (nodes : Nodes) (k e : ℕ) → k < e → e ≤ most_nodes → ((i : ℕ) → k ≤ i → i < e → has nodes i ≡ true)
+    → listed nodes k ≡ 44 ∷ (numbers_text (range_with_len k (e - k)) ++ listed nodes e)
+listed-run nodes k e order few has_all =
+    listed-split nodes k e (omega (arith, order)) few
+    ∙ ap (λ ns. flat_map with_comma ns ++ listed nodes e) (all_from nodes k (e - k) (λ i past near. has_all i past (omega (arith, near, order))))
+    ∙ ap (λ r. r ++ listed nodes e) (with_commas k (e - k) (omega (arith, order)))
 
--- it is in the set: its number is put
-pub HasListed-more : (nodes : Nodes) (k : ℕ) (e : Bool) (after row : List ℕ) → HasListed nodes (k + 1) e after row → k < most_nodes → has nodes k ≡ true
-    → HasListed nodes k false after (decimal k ++ with_separator e row)
-HasListed-more nodes k e after row h small there =
-    let more = sym (from_node nodes k true small there) in
-    record {
-      text =
-          ap (λ r. decimal k ++ with_separator e r) h.text
-          ∙ ap (λ e. decimal k ++ with_separator e (some_text (later nodes k) ++ after)) h.last
-          ∙ next_text (later nodes k) after k
-          ∙ ap (λ ns. some_text ns ++ after) more;
-      last = ap is_nil more;
+-- nothing is put yet
+pub HasListed-start : (nodes : Nodes) (e : ℕ) (after : List ℕ) → e ≤ most_nodes → 0 < e → ((i : ℕ) → e ≤ i → i < most_nodes → has nodes i ≡ false) → HasListed nodes e after after
+HasListed-start nodes e after few some has_none = record {
+  more = λ (h : 0 < e). ap (λ r. r ++ after) (sym (listed-none nodes e most_nodes few (omega arith) has_none));
+  all = λ (h : e ≡ 0). absurd (omega (arith, h, some));
+}
+
+-- no number of the set is put, where it has none
+pub nobody_text : (nodes : Nodes) → ((i : ℕ) → 0 ≤ i → i < most_nodes → has nodes i ≡ false) → set_text nodes ≡ 45 ∷ []
+unfolding set_text
+nobody_text nodes has_none = ap numbers_text (none_from nodes 0 most_nodes has_none)
+
+-- a run is put before what is there
+pub record HasRun (nodes : Nodes) (k : ℕ) (after row : List ℕ) : Type 0 where
+  pub text : List ℕ
+  pub listed_is : listed nodes k ≡ 44 ∷ text
+  pub row_is : row ≡ text ++ after
+
+pub HasListed-run : (nodes : Nodes) (k e : ℕ) (after row row' : List ℕ) → HasListed nodes e after row → k < e → e ≤ most_nodes
+    → ((i : ℕ) → k ≤ i → i < e → has nodes i ≡ true) → row' ≡ numbers_text (range_with_len k (e - k)) ++ row → HasRun nodes k after row'
+HasListed-run nodes k e after row row' h order few has_all put =
+    let run = numbers_text (range_with_len k (e - k)) in record {
+      text = run ++ listed nodes e;
+      listed_is = listed-run nodes k e order few has_all;
+      row_is = put ∙ ap (λ r. run ++ r) (h.more (omega (arith, order))) ∙ sym (append_assoc run (listed nodes e) after);
     }
 
--- and there is room for it
-pub HasListed-room : (nodes : Nodes) (k : ℕ) (e : Bool) (after row : List ℕ) → HasListed nodes (k + 1) e after row → k < most_nodes → has nodes k ≡ true
-    → length (decimal k) + length (with_separator e row) ≤ length after + 181
-HasListed-room nodes k e after row h small there =
-    let more = HasListed-more nodes k e after row h small there in
-    omega (
-      arith,
-      ap length more.text,
-      some_text-short (nodes_from nodes k (most_nodes - k)) (omega (arith, with_commas-short nodes k (most_nodes - k) (omega arith))),
-      length-append (decimal k) (with_separator e row),
-      length-append (some_text (nodes_from nodes k (most_nodes - k))) after,
-    )
+pub HasRun-short : (nodes : Nodes) (k : ℕ) (after row : List ℕ) → HasRun nodes k after row → k ≤ most_nodes → length row + 1 + (10 - k) ≤ length after + 3 * (most_nodes - k)
+HasRun-short nodes k after row h few = omega (arith, ap length h.row_is, ap length h.listed_is, length-append h.text after, listed-short nodes k few)
 
--- all numbers were looked at: the text is there, or `-` is to be put where there were none
-pub HasListed-all : (nodes : Nodes) (k : ℕ) (e : Bool) (after row : List ℕ) → HasListed nodes k e after row → k ≡ 0
-    → cond e (45 ∷ row) row ≡ set_text nodes ++ after
+-- there are more to come: a comma
+pub HasListed-comma : (nodes : Nodes) (k e : ℕ) (after row : List ℕ) → HasRun nodes k after row → 0 < e → e ≤ k → k ≤ most_nodes
+    → ((i : ℕ) → e ≤ i → i < k → has nodes i ≡ false) → HasListed nodes e after (44 ∷ row)
+HasListed-comma nodes k e after row h some order few has_none = record {
+  more = λ (more : 0 < e). ap (λ r. 44 ∷ r) h.row_is ∙ ap (λ r. r ++ after) (sym h.listed_is) ∙ ap (λ r. r ++ after) (sym (listed-none nodes e k order few has_none));
+  all = λ (none : e ≡ 0). absurd (omega (arith, none, some));
+}
+
+-- there are none
+pub HasListed-last : (nodes : Nodes) (k e : ℕ) (after row : List ℕ) → HasRun nodes k after row → e ≡ 0 → k ≤ most_nodes
+    → ((i : ℕ) → e ≤ i → i < k → has nodes i ≡ false) → HasListed nodes e after row
 unfolding set_text
-HasListed-all nodes k e after row h first =
-    let h' : HasListed nodes 0 e after row = rw (sym first) h in
-    ap (λ e. cond e (45 ∷ row) row) h'.last ∙ ap (λ row. cond (is_nil (nodes_from nodes 0 most_nodes)) (45 ∷ row) row) h'.text ∙ of_numbers (nodes_from nodes 0 most_nodes)
+HasListed-last nodes k e after row h first few has_none =
+    let whole : listed nodes 0 ≡ 44 ∷ h.text = ap (listed nodes) (sym first) ∙ listed-none nodes e k (omega (arith, first)) few has_none ∙ h.listed_is in
+    record {
+      more = λ (some : 0 < e). absurd (omega (arith, some, first));
+      all = λ (none : e ≡ 0). h.row_is ∙ ap (λ r. r ++ after) (sym (of_numbers (nodes_from nodes 0 most_nodes) h.text whole));
+    }
   where
-    of_numbers : (ns : List ℕ) → cond (is_nil ns) (45 ∷ (some_text ns ++ after)) (some_text ns ++ after) ≡ numbers_text ns ++ after
-    of_numbers [] = refl
-    of_numbers (n ∷ ns) = refl
+    of_numbers : (ns text : List ℕ) → flat_map with_comma ns ≡ 44 ∷ text → numbers_text ns ≡ text
+    of_numbers [] text e = absurd (cc)
+    of_numbers (n ∷ ns) text e = numbers_text-cons n ns ∙ ap (drop 1) e

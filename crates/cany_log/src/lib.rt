@@ -15,6 +15,7 @@ mod line;
 mod line_buffer;
 mod message_line;
 mod messages;
+mod neighbours;
 mod node_lines;
 mod page;
 mod refusal;

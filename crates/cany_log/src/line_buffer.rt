@@ -1,23 +1,19 @@
 //! The bytes of a line, or of some lines, from the last one to the first: so the digits of a number, of which the
 //! last is known first, are written where they stay. A field is put before the others together with
 //! the space before it.
-ghost use Rattle.std.specs.Prelude.{◌≡◌, ◌+◌, ◌≤◌, ◌∷◌, ◌++◌, ◌==◌, [], if◌then◌else◌, codes, length, map, decimal};
+ghost use Rattle.std.specs.Prelude.{◌≡◌, ◌+◌, ◌<◌, ◌≤◌, ◌∷◌, ◌++◌, ◌==◌, [], if◌then◌else◌, codes, length, map, decimal};
+ghost use Rattle.cany_base.specs.Limits.{most_nodes};
+ghost use Rattle.cany_base.specs.declared.step.Step.TheVariants.{Turn};
 ghost use Rattle.cany_log.specs.Fields.{most_byte_bytes, most_count_bytes, most_node_bytes, most_number_bytes, most_payload_bytes, most_set_bytes};
 ghost use Rattle.cany_log.specs.Pages.{most_page_bytes, most_service_bytes};
 ghost use Rattle.cany_text.specs.RefusalLines.{signed_decimal};
 ghost use Rattle.cany_text.specs.ReportLines.{byte_text, node_text, payload_text, set_text, step_letter};
 ghost use Rattle.cany_text.specs.TextNames.{service_name};
 
+use crate::neighbours::{end_of_run, numbers_from_to, start_of_run};
 use cany_base::{NodeId, NodeSet, Payload, Service, Step};
 use itoa::{Buffer, write_digits};
 use std::marker::Model;
-
-/// The letters of a journal: those of the turns of the nodes, from node 0 on, and then that of a
-/// slot.
-const LETTERS: &[u8; SLOT_PLACE + 1] =
-    b"0123456789abcdefghijklmnopqrstuvwxyzABCDEFGHIJKLMNOPQRSTUVWXYZ+-.";
-
-const SLOT_PLACE: usize = NodeId::COUNT as usize;
 
 /// The bytes of the end of a line, or of some lines, as many as there are so far, with room for so
 /// many in all.
@@ -220,21 +216,19 @@ impl<const ROOM: usize> LineBuffer<ROOM> {
         ensures text { self.new ≡ set_text set ++ self.old }
         ensures short { length (set_text set) ≤ most_set_bytes }
     {
-        let mut is_last = true;
-        // No number is greater than that of the highest bit.
-        let mut number = (64 - set.bits().leading_zeros()) as u8;
-        while number > 0 {
-            number -= 1;
-            if set.has(NodeId::new(number).unwrap()) {
-                if !is_last {
-                    self.put_byte(b',');
-                }
-                self.put_digits(u64::from(number));
-                is_last = false;
-            }
-        }
-        if is_last {
+        let mut end = end_of_run(set, NodeId::COUNT);
+        if end == 0 {
             self.put_byte(b'-');
+            return;
+        }
+        // Neighbours stand side by side in the text of all numbers.
+        while end > 0 {
+            let start = start_of_run(set, end);
+            self.put_bytes(numbers_from_to(start, end));
+            end = end_of_run(set, start);
+            if end > 0 {
+                self.put_byte(b',');
+            }
         }
     }
 
@@ -257,9 +251,27 @@ impl<const ROOM: usize> LineBuffer<ROOM> {
 fn letter(step: Step) -> u8
     ensures { result ≡ step_letter step }
 {
-    let place = match step {
-        Step::Slot => SLOT_PLACE,
-        Step::Turn(node) => usize::from(node.get()),
-    };
-    LETTERS[place]
+    match step {
+        Step::Slot => b'.',
+        Step::Turn(node) => node_letter(node.get()),
+    }
+}
+
+/// The letter of a node's turn. It is found by comparisons and not looked up, so that LLVM makes
+/// many letters at a time.
+fn node_letter(number: u8) -> u8
+    requires { number < most_nodes }
+    ensures { result ≡ step_letter (Turn number) }
+{
+    if number < 10 {
+        b'0' + number
+    } else if number < 36 {
+        b'a' - 10 + number
+    } else if number < 62 {
+        b'A' - 36 + number
+    } else if number == 62 {
+        b'+'
+    } else {
+        b'-'
+    }
 }

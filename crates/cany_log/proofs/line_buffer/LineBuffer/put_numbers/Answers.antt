@@ -1,44 +1,66 @@
-use Rattle.std.proofs.Common.{◌≡◌, ◌-◌, true, length, sym, ◌∙◌, ap, arith, rules}
-use Rattle.std.specs.Prelude.{decimal}
-use Rattle.cany_base.specs.Nodes.{has}
-use Rattle.cany_log.proofs.SetTextFacts.{below_highest, HasListed-start, HasListed-next, HasListed-room, HasListed-all, set_text-short}
+use Rattle.std.proofs.Common.{◌-◌, ◌≤◌, ◌++◌, length, length-append, refl, sym, ◌∙◌, ap, arith, rules}
+use Rattle.std.specs.List.{range_with_len}
+use Rattle.cany_text.specs.ReportLines.{numbers_text}
+use Rattle.cany_log.proofs.SetTextFacts.{HasListed-start, HasListed-run, HasListed-comma, HasListed-last, HasRun-short, nobody_text, set_text-short}
 use Rattle.cany_log.proofs.line_buffer.LineBuffer.put_numbers.Goals as goal
-use Rattle.cany_log.proofs.line_buffer.LineBuffer.put_numbers.Goals.{then-not-is_last, else-not-is_last}
 
-pub loop-number-init : goal.loop-number-init
-loop-number-init g c = record {
-  listed = HasListed-start _ _ _ (below_highest c.args.set c.bits.result c.bits.ensures.bits c.bits.ensures.below);
-  few = omega arith;
+pub returns-then-end-eq0-clause-text : goal.returns-then-end-eq0-clause-text
+returns-then-end-eq0-clause-text g c =
+    let none = nobody_text c.args.set (λ i past near. c.end_of_run-end.ensures.none i (omega (arith, c.if-end-eq0.true)) near) in
+    c.put_byte.ensures ∙ ap (λ r. r ++ c.args.self.now) (sym none)
+
+pub returns-then-end-eq0-clause-short : goal.returns-then-end-eq0-clause-short
+returns-then-end-eq0-clause-short g c = set_text-short c.args.set
+
+pub loop-end-init : goal.loop-end-init
+loop-end-init g c = record {
+  listed = HasListed-start _ _ _ c.end_of_run-end.ensures.within (omega (arith, c.if-end-eq0.false)) c.end_of_run-end.ensures.none;
+  few = c.end_of_run-end.ensures.within;
+  last = c.end_of_run-end.ensures.last;
 }
 
-pub put_byte-requires : goal.put_byte-requires
-put_byte-requires g c =
-    let there : has c.args.set (c.loop-number.number - 1) ≡ true = ap (has c.args.set) (sym (rw c.unwrap.ensures at c.new.ensures.value)) ∙ sym c.has.ensures ∙ c.if-has.true in
-    let next = HasListed-next _ _ _ _ _ c.loop-number.invariant.listed (omega arith) in
-    let room = HasListed-room _ _ _ _ _ next (omega (arith, c.loop-number.invariant.few)) there in
-    (search rules, omega (arith, rw c.if-not-is_last.true at room))
+pub put_bytes-requires : goal.put_bytes-requires
+put_bytes-requires g c =
+    let text = numbers_text (range_with_len c.start_of_run-start.result (c.loop-end.end - c.start_of_run-start.result)) in
+    let run = HasListed-run c.args.set _ _ c.args.self.now c.loop-end.self (text ++ c.loop-end.self) c.loop-end.invariant.listed c.start_of_run-start.ensures.before c.loop-end.invariant.few
+    c.start_of_run-start.ensures.all refl in
+    (search rules, omega (arith, HasRun-short _ _ _ _ run (omega (arith, c.start_of_run-start.ensures.before, c.loop-end.invariant.few)), ap length c.numbers_from_to.ensures, length-append text c.loop-end.self))
 
-pub put_digits-requires : goal.put_digits-requires
-put_digits-requires g c =
-    let there : has c.args.set (c.loop-number.number - 1) ≡ true = ap (has c.args.set) (sym (rw c.unwrap.ensures at c.new.ensures.value)) ∙ sym c.has.ensures ∙ c.if-has.true in
-    let next = HasListed-next _ _ _ _ _ c.loop-number.invariant.listed (omega arith) in
-    let room = HasListed-room _ _ _ _ _ next (omega (arith, c.loop-number.invariant.few)) there in
-    let same = ap (λ n. length (decimal n)) c.from.ensures in
-    elim c.if-not-is_last.branch [
-      | then-not-is_last w ↦
-          (search rules, omega (arith, rw w.if-not-is_last.true at room, same, ap (λ (line_buffer : _). length line_buffer) w.self-is, ap length w.put_byte.ensures))
-      | else-not-is_last w ↦ (search rules, omega (arith, rw w.if-not-is_last.false at room, same, ap (λ (line_buffer : _). length line_buffer) w.self-is))
-    ]
+pub put_byte-requires-then-end-gt0 : goal.put_byte-requires-then-end-gt0
+put_byte-requires-then-end-gt0 g c =
+    let put = c.put_bytes.ensures ∙ ap (λ r. r ++ c.loop-end.self) c.numbers_from_to.ensures in
+    let run = HasListed-run c.args.set _ _ c.args.self.now c.loop-end.self _ c.loop-end.invariant.listed c.start_of_run-start.ensures.before c.loop-end.invariant.few
+    c.start_of_run-start.ensures.all put in
+    (search rules, omega (arith, HasRun-short _ _ _ _ run (omega (arith, c.start_of_run-start.ensures.before, c.loop-end.invariant.few)), c.end_of_run-end-in-loop-end.ensures.within))
 
-pub returns-then-is_last-clause-text : goal.returns-then-is_last-clause-text
-returns-then-is_last-clause-text g c =
-    c.put_byte-then-is_last.ensures ∙ (rw c.if-is_last.true at (HasListed-all _ _ _ _ _ c.loop-number.invariant.listed (omega arith)))
+pub loop-end-preserved-then-end-gt0 : goal.loop-end-preserved-then-end-gt0
+loop-end-preserved-then-end-gt0 g c =
+    let put = c.put_bytes.ensures ∙ ap (λ r. r ++ c.loop-end.self) c.numbers_from_to.ensures in
+    let few : c.start_of_run-start.result ≤ 64 = omega (arith, c.start_of_run-start.ensures.before, c.loop-end.invariant.few) in
+    let next = c.end_of_run-end-in-loop-end.ensures in
+    let run = HasListed-run c.args.set _ _ c.args.self.now c.loop-end.self _ c.loop-end.invariant.listed c.start_of_run-start.ensures.before c.loop-end.invariant.few
+    c.start_of_run-start.ensures.all put in
+    record {
+      listed = rw c.put_byte-then-end-gt0.ensures (HasListed-comma _ _ _ _ _ run c.if-end-gt0.true next.within few next.none);
+      few = omega (arith, next.within, few);
+      last = next.last;
+    }
 
-pub returns-then-is_last-clause-short : goal.returns-then-is_last-clause-short
-returns-then-is_last-clause-short g c = set_text-short c.args.set
+pub loop-end-preserved : goal.loop-end-preserved
+loop-end-preserved g c =
+    let put = c.put_bytes.ensures ∙ ap (λ r. r ++ c.loop-end.self) c.numbers_from_to.ensures in
+    let few : c.start_of_run-start.result ≤ 64 = omega (arith, c.start_of_run-start.ensures.before, c.loop-end.invariant.few) in
+    let next = c.end_of_run-end-in-loop-end.ensures in
+    let run = HasListed-run c.args.set _ _ c.args.self.now c.loop-end.self _ c.loop-end.invariant.listed c.start_of_run-start.ensures.before c.loop-end.invariant.few
+    c.start_of_run-start.ensures.all put in
+    record {
+      listed = HasListed-last _ _ _ _ _ run (omega (arith, c.if-end-gt0.false)) few next.none;
+      few = omega (arith, next.within, few);
+      last = next.last;
+    }
 
-pub returns-else-is_last-clause-text : goal.returns-else-is_last-clause-text
-returns-else-is_last-clause-text g c = rw c.if-is_last.false at (HasListed-all _ _ _ _ _ c.loop-number.invariant.listed (omega arith))
+pub returns-clause-text : goal.returns-clause-text
+returns-clause-text g c = c.loop-end.invariant.listed.all (omega (arith, c.loop-end-test.false))
 
-pub returns-else-is_last-clause-short : goal.returns-else-is_last-clause-short
-returns-else-is_last-clause-short g c = set_text-short c.args.set
+pub returns-clause-short : goal.returns-clause-short
+returns-clause-short g c = set_text-short c.args.set

@@ -1,12 +1,14 @@
-use Rattle.std.proofs.Common.{◌≤◌}
+use Rattle.std.proofs.Common.{◌≡◌, ◌-◌, ◌<◌, ◌≤◌, true}
+use Rattle.cany_base.specs.Nodes.{has}
 use Rattle.cany_log.proofs.SetTextFacts.{HasListed}
 use Rattle.cany_log.proofs.line_buffer.LineBuffer.put_numbers.Given as goal
 
-abbrev pub invariant-loop-number : goal.invariant-loop-number
-invariant-loop-number g l = record {
-  listed : HasListed l.set l.number l.is_last l.initial.self l.self;
-  few : l.number ≤ 64;
+abbrev pub invariant-loop-end : goal.invariant-loop-end
+invariant-loop-end g l = record {
+  listed : HasListed l.set l.end l.initial.self l.self;
+  few : l.end ≤ 64;
+  last : 0 < l.end → has l.set (l.end - 1) ≡ true;
 }
 
-abbrev pub decreases-loop-number : goal.decreases-loop-number
-decreases-loop-number g l = l.number
+abbrev pub decreases-loop-end : goal.decreases-loop-end
+decreases-loop-end g l = l.end
