@@ -2,40 +2,13 @@
 use Rattle.std.specs.Prelude.{ℕ, ◌≡◌, List, [], ◌∷◌, Option, None, Some, codes, refl}
 use Rattle.std.specs.Fmt.{digits}
 use Rattle.std.specs.List.{concat}
-use Rattle.cany_base.specs.declared.format.Format.TheVariants.{One}
 use Rattle.cany_base.specs.declared.message.SendAsk.{SendAsk}
-use Rattle.cany_base.specs.declared.message.Service.{Service}
 use Rattle.cany_base.specs.declared.message.Service.TheVariants.{Ed, Tot}
+use Rattle.cany_base.specs.Params.{default_parameters}
 use Rattle.cany_base.specs.Scenario.{ScenarioParts}
+use Rattle.cany_model.proofs.RowWords.{run_words, scenario_of, send}
 use Rattle.cany_model.specs.Runs.RoundRobin.{round_robin}
 use Rattle.cany_text.specs.ReportLines.{hypothesis_line, line_of, payload_text}
-use Rattle.cany_base.specs.Nodes.{has, bits_where, those_where}
-use Rattle.cany_model.specs.Rules.Backlog.{backlog, asked, backlog_effects}
-use Rattle.cany_model.specs.Rules.Delivery.{delivery_effects}
-use Rattle.cany_model.specs.Rules.Eager.{eager_effects}
-use Rattle.cany_model.specs.Rules.Edcan.{edcan_at, edcan_effects}
-use Rattle.cany_model.specs.Rules.Effect.{waiting_after, entered}
-use Rattle.cany_model.specs.Bus.Frames.{same_class, same_identity, same_frame, is_before}
-use Rattle.cany_model.specs.Bus.History.{is_hidden, as_seen, history, copies, has_own}
-use Rattle.cany_model.specs.Promises.Hypothesis.{break_at, first_break, count_together}
-use Rattle.cany_model.specs.Rules.Life.{sign_effects, fda_copy_effects, failure_effects, failures_at, life_signs_sent, life_effects}
-use Rattle.cany_model.specs.Rules.Log.{log_from}
-use Rattle.cany_model.specs.Rules.Membership.{exchange_effects, install_effects, ask_effects}
-use Rattle.cany_model.specs.Rules.Messages.{messages_after, is_service}
-use Rattle.cany_model.specs.Rules.Relcan.{fell_back, relcan_at, timer_effects, relcan_effects}
-use Rattle.cany_model.specs.Bus.Restart.{names_restart, after_entries, nodes_after_entries, after_restarts}
-use Rattle.cany_model.specs.Runs.RoundRobin.{round, rounds}
-use Rattle.cany_model.specs.Runs.Run.{first_lagging, reply, after_turn, proceed, after_step, run_from}
-use Rattle.cany_model.specs.Bus.Slot.{least_frame, winner, script, share_of, after_share, slot_note_of, node_after, nodes_after, after_slot}
-use Rattle.cany_model.specs.Bus.State.{node_at}
-use Rattle.cany_model.specs.Rules.Sends.{send_effects}
-use Rattle.cany_model.specs.Rules.KnowledgeOf.{after_notice, knowledge_of}
-use Rattle.cany_model.specs.Rules.Knowledge.{shows_life, after_life, with_signs, told, found}
-use Rattle.cany_model.specs.Rules.Totcan.{tot_in, is_recent, after_place, is_heard, is_accepted, accept_effects, closing_effects, is_clear, done_from, delivered as delivered_tot, delivered_now, totcan_effects}
-use Rattle.cany_model.specs.Rules.Turn.{has_asked, turn_effects}
-use Rattle.cany_model.specs.Rules.Vectors.{brought, met, is_just, is_covered, is_new, vector_effects, end_effects, start_effects, exchange_at}
-use Rattle.cany_model.specs.Rules.Views.{after_ask, with_ended, view_effects}
-use Rattle.cany_model.specs.Bus.Waiting.{put_in_order}
 use Rattle.cany_replica.specs.declared.reply.Reply.{Reply}
 use Rattle.cany_replica.specs.declared.reply.Reply.TheVariants.{Stored, Removed, Absent, Swapped, Kept, Ignored}
 use Rattle.cany_replica.specs.Fold.{replies_after, table_after}
@@ -44,29 +17,16 @@ use Rattle.cany_replica.specs.Table.{apply, change_of, empty_table, make_change,
 
 -- ten slots of three nodes, with everything else by default
 unfoldable ten_slots : List SendAsk → ScenarioParts
-ten_slots sends = record {
-  params = record { format = One; nodes = 3; lag = 0; omit = 1; errors = 2; bound = 36; cycle = 72; life = 36; silence = 73; confirm = 10; slots = 10 };
-  members = record { bits = 7 };
-  sends = sends;
-  rules = [];
-  joins = [];
-  leaves = [];
-  restarts = [];
-  from = 0;
-  inc = 0;
-  journal = None;
-}
-
-unfoldable send : ℕ → ℕ → Service → List ℕ → SendAsk
-send slot node service payload = record { slot = slot; node = node; service = service; payload = payload }
+unfolding scenario_of
+ten_slots sends = scenario_of (default_parameters 3 10) 7 sends [] []
 
 -- the text of the run by round robin
 unfoldable text_of : List SendAsk → List ℕ
-unfolding ten_slots digits line_of hypothesis_line payload_text table_after replies_after change_of make_change first_line last_line node_line reply_line reply_name key_line key_lines node_lines replica_lines replica_text has bits_where those_where same_class same_identity same_frame is_before messages_after node_at put_in_order least_frame winner script share_of after_share slot_note_of node_after nodes_after after_slot names_restart after_entries nodes_after_entries after_restarts is_hidden as_seen history copies has_own waiting_after entered eager_effects delivery_effects edcan_at edcan_effects fell_back relcan_at timer_effects relcan_effects send_effects tot_in is_recent after_place is_heard is_accepted accept_effects closing_effects is_clear done_from delivered_tot delivered_now totcan_effects shows_life after_life with_signs told found after_notice knowledge_of sign_effects fda_copy_effects failure_effects failures_at life_signs_sent life_effects brought met is_just is_covered is_new vector_effects end_effects start_effects exchange_at exchange_effects after_ask with_ended view_effects install_effects ask_effects backlog asked backlog_effects is_service turn_effects has_asked log_from first_lagging reply after_turn proceed after_step run_from round rounds break_at first_break count_together
+unfolding run_words ten_slots digits line_of hypothesis_line payload_text table_after replies_after change_of make_change first_line last_line node_line reply_line reply_name key_line key_lines node_lines replica_lines replica_text
 text_of sends = replica_text (ten_slots sends) (round_robin (ten_slots sends))
 
 -- a message of TOTCAN gives a key its value, at each node
-table_stores : text_of (send 0 0 Tot (1 ∷ 5 ∷ 170 ∷ []) ∷ []) ≡ concat (
+table_stores : text_of (send Tot 0 0 (1 ∷ 5 ∷ 170 ∷ []) ∷ []) ≡ concat (
     codes "canely replica 1\n"
     ∷ codes "hypothesis within\n"
     ∷ codes "node 0 correct applied 1\n"
@@ -83,7 +43,7 @@ unfolding text_of send
 table_stores = refl
 
 -- a key that had no value has none: there is no line for it
-table_removes_nothing : text_of (send 0 0 Tot (2 ∷ 255 ∷ []) ∷ []) ≡ concat (
+table_removes_nothing : text_of (send Tot 0 0 (2 ∷ 255 ∷ []) ∷ []) ≡ concat (
     codes "canely replica 1\n"
     ∷ codes "hypothesis within\n"
     ∷ codes "node 0 correct applied 1\n"
@@ -98,7 +58,7 @@ table_removes_nothing = refl
 
 -- the message of node 1 comes before that of node 0 in the order, and a message of another service changes no table
 table_order_decides : text_of (
-    send 0 1 Tot (1 ∷ 10 ∷ 17 ∷ []) ∷ send 1 0 Tot (1 ∷ 10 ∷ 34 ∷ []) ∷ send 0 2 Ed (1 ∷ 10 ∷ 51 ∷ []) ∷ []) ≡ concat (
+    send Tot 0 1 (1 ∷ 10 ∷ 17 ∷ []) ∷ send Tot 1 0 (1 ∷ 10 ∷ 34 ∷ []) ∷ send Ed 0 2 (1 ∷ 10 ∷ 51 ∷ []) ∷ []) ≡ concat (
     codes "canely replica 1\n"
     ∷ codes "hypothesis within\n"
     ∷ codes "node 0 correct applied 2\n"
