@@ -7,7 +7,6 @@ pub mod Resting
 pub mod Rests
 pub mod Rows
 pub mod Settles
-pub mod TextBegins
 pub mod TextFacts
 pub mod TopFacts
 pub mod Turns

@@ -7,7 +7,7 @@ use Rattle.cany_base.specs.declared.message.Service.{Service}
 use Rattle.cany_base.specs.declared.message.Service.TheVariants.{Ed, Rel, Tot}
 use Rattle.cany_base.specs.declared.notice.NoticeKind.{NoticeKind}
 use Rattle.cany_base.specs.declared.slot_note.SlotNote.{SlotNote}
-use Rattle.cany_base.specs.Frame.{FrameParts, data_class}
+use Rattle.cany_base.specs.Frame.{FrameParts}
 use Rattle.cany_base.specs.Scenario.{ScenarioParts}
 use Rattle.cany_model.specs.Bus.Frames.{Identity, identity_of, same_class}
 use Rattle.cany_model.specs.Bus.History.{history, is_got, seen}
@@ -31,20 +31,16 @@ use Rattle.cany_model.proofs.Promises.SettledFacts.{each_has_read}
 use Rattle.cany_model.proofs.Rules.AskedFacts.{asked_at_once, asked_of_backlog}
 use Rattle.cany_model.proofs.Rules.MessageKeys.{IsOneOf, is_service-from}
 use Rattle.cany_model.proofs.Runs.Runs.{IsOrderly, history-length}
+use Rattle.cany_model.proofs.Rules.MessageClasses.{data_of_message, is_of_message}
 use Rattle.cany_model.proofs.Timed.Common.Ages.{any_past, gave, past, some_past}
 use Rattle.cany_model.proofs.Timed.Order.TotBacklog.{past_dropped}
 use Rattle.cany_model.proofs.Timed.Order.TotSlots.{waiting_frame}
 use Rattle.cany_model.proofs.Timed.Order.TotTurn.{AreNumbered}
 use Rattle.cany_settle.specs.LongEnough.{settling_time}
 use Rattle.cany_settle.proofs.Resting.{AreScriptedBy, IsCalmAfter, Resting, greater-left, greater-right, low_at, none_low}
-use Rattle.cany_settle.proofs.Turns.{AllAsked, IsOther, is_low, is_of_message, not_recent, top_rel}
+use Rattle.cany_settle.proofs.Turns.{AllAsked, IsOther, is_low, not_recent, top_rel}
 
 -- ---- nobody waits
-
-data_of_message : (by : Service) → is_of_message (data_class by) ≡ true
-data_of_message Ed = refl
-data_of_message Rel = refl
-data_of_message Tot = refl
 
 -- a node that waits with no frame of a message waits with none of this one
 waits_not : (w : List FrameParts) → AllByRecursion IsOther w → (x : Identity) → is_of_message x.class ≡ true → waits x w ≡ true → ⊥

@@ -14,10 +14,9 @@ use Rattle.cany_settle.specs.LongEnough.{AllSettled}
 use Rattle.cany_settle.specs.TailText.{tail_text}
 use Rattle.cany_settle.specs.Top.{IsTail}
 use Rattle.cany_settle.proofs.LongEnough.{settles_in_the_end}
-use Rattle.cany_settle.proofs.TextBegins.{scenario_of-begins}
 use Rattle.cany_text.specs.ScenarioText.{scenario_of}
 use Rattle.cany_text.specs.TomlKeys.{Read}
-use Rattle.cany_text.proofs.ScenarioTextLegal.{scenario_of-legal}
+use Rattle.cany_text.proofs.ScenarioTextLegal.{scenario_of-begins, scenario_of-legal}
 
 none_counted : (test : Message → Bool) (messages : List Message) → ((m : Message) → Contains messages m → test m ≡ false) → count_by test messages ≡ 0
 none_counted test [] h = refl

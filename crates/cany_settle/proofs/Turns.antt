@@ -1,6 +1,6 @@
 -- A turn in which no frame of a message is asked for: its notice, the one that may run out a timer, and those within which a message can be accepted carry no
 -- frame of the lower classes, nothing is scripted to be sent in it, and all of the backlog was asked for.
-use Rattle.std.proofs.Common.{◌≡◌, ℕ, ◌<◌, ◌&&◌, ◌||◌, ◌==◌, inl, inr, Bool, true, false, not, List, [], ◌∷◌, ◌++◌, filter, map, length, take, drop, slice_index_or, Option, Some, None, refl, ap, sym, ◌∙◌, arith, append-nil}
+use Rattle.std.proofs.Common.{◌≡◌, ℕ, ◌<◌, ◌&&◌, ◌==◌, inl, inr, Bool, true, false, not, List, [], ◌∷◌, ◌++◌, filter, map, length, take, drop, slice_index_or, Option, Some, None, refl, ap, sym, ◌∙◌, arith, append-nil}
 use Rattle.std.specs.List.{AllByRecursion, list_any}
 use Rattle.std.proofs.lemmas.Bool.{and_parts, both_ways, cond_both, eqb-true, false_from_ne_true, false≢true, or_cases, or_left, or_right}
 use Rattle.cany_base.specs.declared.class.Class.{Class}
@@ -16,39 +16,25 @@ use Rattle.cany_model.specs.Bus.Frames.{Identity, identity_of, is_of, same_class
 use Rattle.cany_model.specs.Promises.Quiet.{is_top}
 use Rattle.cany_model.specs.Rules.Backlog.{asked, backlog, backlog_effects, joins_in, next_after, next_of}
 use Rattle.cany_model.specs.Rules.Edcan.{edcan_at, edcan_effects}
-use Rattle.cany_model.specs.Rules.Effect.{Effect, Ask, Withdraw, Enter}
+use Rattle.cany_model.specs.Rules.Effect.{Effect, Ask}
 use Rattle.cany_model.specs.Rules.Life.{failure_signs, life_signs}
 use Rattle.cany_model.specs.Rules.Membership.{scripted_asks, vectors, views}
 use Rattle.cany_model.specs.Rules.Messages.{Message, is_service, messages_of}
-use Rattle.cany_model.specs.Rules.Protocol.{Protocol}
 use Rattle.cany_model.specs.Rules.Relcan.{fall_back_effects, falls_back, has_confirm, is_first_got, is_timed, relcan_at, relcan_effects, timer_effects}
 use Rattle.cany_model.specs.Rules.Sends.{is_sent_in, send_effects, sendable}
 use Rattle.cany_model.specs.Rules.Totcan.{accept_effects, can_be_accepted, closing_effects, closing_of, delivered_now, holds, is_recent, message_in, tot_delivery, tot_in, tot_of_key, totcan_effects}
 use Rattle.cany_model.specs.Rules.Turn.{protocols, turn_effects}
-use Rattle.cany_model.proofs.Among.{Each-append, Each-flat_map, Each-weaker}
+use Rattle.cany_model.proofs.Among.{Each-append, Each-flat_map}
 use Rattle.cany_model.proofs.Bus.Identities.{same_class-true, same_identity-true}
 use Rattle.cany_model.proofs.Rules.LifeFacts.{failures_are_lawful, life_is_lawful}
 use Rattle.cany_model.proofs.Rules.MessageKeys.{IsOneOf}
-use Rattle.cany_model.proofs.Rules.ProtocolFacts.{IsFounded, IsLawful}
+use Rattle.cany_model.proofs.Rules.MessageClasses.{is_of_message, others_of, request_other, same_other}
 use Rattle.cany_model.proofs.Rules.SendFacts.{is_sent_in-true, sendable_one}
 use Rattle.cany_model.proofs.Rules.VectorFacts.{vectors_are_lawful}
 use Rattle.cany_model.proofs.Rules.ViewFacts.{asks_are_lawful, views_are_lawful}
 use Rattle.cany_model.proofs.Runs.Waits.{AsksOnly}
 
 -- ---- classes
-
--- the classes of the frames of messages
-abbrev pub is_of_message : Class → Bool
-is_of_message class.Accept = true
-is_of_message class.Rha = false
-is_of_message class.Els = false
-is_of_message class.Fda = false
-is_of_message class.Join = false
-is_of_message class.Leave = false
-is_of_message class.Confirm = true
-is_of_message class.Tot = true
-is_of_message class.Rel = true
-is_of_message class.Ed = true
 
 abbrev pub IsOther : FrameParts → Type 0
 IsOther f = is_of_message f.class ≡ false
@@ -81,27 +67,6 @@ not_lower f c lower top same =
 
 abbrev Others : List Effect → Type 0
 Others effects = AllByRecursion (AsksOnly IsOther) effects
-
-founded_other : (p : Protocol) (scenario : ScenarioParts) (i : ℕ) (past : List NoticeKind) → ((c : Class) → p.names c ≡ true → is_of_message c ≡ false)
-    → (e : Effect) → IsFounded scenario p i past e → AsksOnly IsOther e
-founded_other p scenario i past other (Ask f) h = other f.class h.1
-founded_other p scenario i past other (Withdraw x) h = tt
-founded_other p scenario i past other (Enter entry) h = tt
-
-others_of : (p : Protocol) → IsLawful p → ((c : Class) → p.names c ≡ true → is_of_message c ≡ false) → (scenario : ScenarioParts) (i : ℕ)
-    (past : List NoticeKind) → Others (p.effects scenario i past)
-others_of p lawful other scenario i past =
-    Each-weaker (IsFounded scenario p i past) (AsksOnly IsOther) (founded_other p scenario i past other) (p.effects scenario i past)
-    (lawful.founded scenario i past)
-
-same_other : (c d : Class) → is_of_message d ≡ false → same_class c d ≡ true → is_of_message c ≡ false
-same_other c d other same = ap is_of_message (same_class-true c d same) ∙ other
-
-request_other : (c : Class) → (same_class c class.Join || same_class c class.Leave) ≡ true → is_of_message c ≡ false
-request_other c h = elim (or_cases (same_class c class.Join) (same_class c class.Leave) h) [
-  | inl join ↦ same_other c class.Join refl join
-  | inr leave ↦ same_other c class.Leave refl leave
-]
 
 -- ---- EDCAN
 
@@ -295,16 +260,16 @@ turn_others scenario i e before plain none timer all done =
         (
           totcan_others scenario i e before plain none,
           (
-            others_of failure_signs failures_are_lawful (λ c h. same_other c class.Fda refl h) scenario i past,
+            others_of IsOther (λ f h. h) failure_signs (λ c h. same_other c class.Fda refl h) scenario i past failures_are_lawful,
             (
-              others_of vectors vectors_are_lawful (λ c h. same_other c class.Rha refl h) scenario i past,
+              others_of IsOther (λ f h. h) vectors (λ c h. same_other c class.Rha refl h) scenario i past vectors_are_lawful,
               (
-                others_of views views_are_lawful request_other scenario i past,
+                others_of IsOther (λ f h. h) views request_other scenario i past views_are_lawful,
                 (
-                  others_of life_signs life_is_lawful (λ c h. same_other c class.Els refl h) scenario i past,
+                  others_of IsOther (λ f h. h) life_signs (λ c h. same_other c class.Els refl h) scenario i past life_is_lawful,
                   (
                     sends_others scenario i e before all,
-                    (others_of scripted_asks asks_are_lawful request_other scenario i past, (backlog_others scenario i e before all done, tt)),
+                    (others_of IsOther (λ f h. h) scripted_asks request_other scenario i past asks_are_lawful, (backlog_others scenario i e before all done, tt)),
                   ),
                 ),
               ),
