@@ -1,89 +1,48 @@
 -- Nobody is accused in the account of a run exactly where no log of a correct node has a failure entry of one that ran all the time; and in
 -- a run within the fault hypothesis of a scenario without restart entries none has one of a node that runs.
-use Rattle.std.proofs.Common.{◌≡◌, ℕ, ◌≤◌, ◌↔◌, true, false, List, [], ◌∷◌, ◌++◌, drop, map, length, refl, ap, sym, subst, ◌∙◌, inl, inr}
+use Rattle.std.proofs.Common.{◌≡◌, ℕ, ◌↔◌, true, false, List, [], ◌∷◌, ◌++◌, map, refl, ap, sym, subst, ◌∙◌, inl, inr}
 use Rattle.std.specs.Prelude.{min, max, filter, filter_map, option_map, Option, Some, None}
 use Rattle.std.specs.List.{AllByRecursion, cons_option, flat_map, fold, list_any}
 use Rattle.std.proofs.lemmas.Bool.{cases_Bool, eq-eqb, eqb-true, false≢true, le-leb, leb-true}
 use Rattle.cany_base.specs.declared.log_entry.LogEntry.{LogEntry}
 use Rattle.cany_base.specs.declared.log_entry.LogEntry.TheVariants.{Deliver, Failed, View}
-use Rattle.cany_base.specs.declared.notice.NoticeKind.{NoticeKind}
 use Rattle.cany_base.specs.declared.step.Step.{Step}
 use Rattle.cany_base.specs.Scenario.{IsLegalScenario, ScenarioParts}
 use Rattle.cany_base.proofs.ParamsFacts.{few_nodes}
 use Rattle.cany_model.specs.Bus.History.{history}
 use Rattle.cany_model.specs.Bus.State.{RunState, node_at}
-use Rattle.cany_model.specs.Promises.Entries.{HasSigned, tells_of}
 use Rattle.cany_model.specs.Promises.Hypothesis.{IsWithin}
-use Rattle.cany_model.specs.Promises.OneView.{InstallsOneVector}
-use Rattle.cany_model.specs.Promises.Quiet.{HasQuietSlots}
 use Rattle.cany_model.specs.Promises.Settled.{IsCorrect, IsCorrectFrom}
 use Rattle.cany_model.specs.Rules.Knowledge.{FailureSign, knows}
 use Rattle.cany_model.specs.Rules.KnowledgeOf.{knowledge_of}
 use Rattle.cany_model.specs.Rules.Log.{log}
-use Rattle.cany_model.specs.Rules.Protocol.{Protocol}
 use Rattle.cany_model.specs.Rules.Turn.{scenario_at}
 use Rattle.cany_model.specs.Runs.Run.{run}
 use Rattle.cany_model.proofs.Among.{Among, Among-flat_map, Among-from_Contains, Among-map, Among-weaker, Contains-from_Among, Each-of, any-from_Among}
-use Rattle.cany_model.proofs.Rules.KnowledgeFacts.{known_since}
-use Rattle.cany_model.proofs.Rules.LogFacts.{log_split, made_by}
-use Rattle.cany_model.proofs.Rules.ProtocolFacts.{IsFoundedEntry}
-use Rattle.cany_model.proofs.Runs.Runs.{orderly}
+use Rattle.cany_model.proofs.Promises.SignAgrees.{signed_known}
 use Rattle.cany_model.proofs.Timed.Detector.Accuracy.{NoSign, no_sign, timely_front}
+use Rattle.cany_model.proofs.Timed.Detector.DetectorLaws.{one_vector_fronts, quiet_fronts}
 use Rattle.cany_model.proofs.Timed.Detector.NoRestarts.{all_original, follows, history_all}
-use Rattle.cany_model.proofs.Timed.Guarantees.{one_vector_each, slots_are_quiet}
-use Rattle.cany_model.proofs.Timed.Windows.QuietSlots.{front_trace, within_dropped}
 use Rattle.cany_check.specs.declared.record.Slots.{Slots}
 use Rattle.cany_check.specs.Account.{AccountParts, LogParts, account_of}
 use Rattle.cany_check.specs.Accuracy.{accusation_of, accusations, accusers, is_failure_of}
 use Rattle.cany_check.specs.Fates.{least_and_greatest, slots_where, with_slot}
 use Rattle.cany_check.specs.Promise.{StandsInNone}
 use Rattle.cany_check.specs.Words.{correct, entry_slot, nodes_of, takes_part}
-use Rattle.cany_check.proofs.CorrectLogs.{IsLogOfCorrect, among_filter, each_correct, each_filter, has_correct, log_at}
-
--- ---- a sign that stands in a log is known
-
-founded_known : (sign : FailureSign) (scenario : ScenarioParts) (p : Protocol) (i : ℕ) (past : List NoticeKind) (entry : LogEntry) → tells_of sign entry
-    → IsFoundedEntry scenario p i past entry → knows sign (knowledge_of scenario i past) ≡ true
-founded_known sign scenario p i past (Deliver slot by msg payload) is k = absurd is
-founded_known sign scenario p i past (Failed slot node cycle) is k =
-    let same : record { node = node; cycle = cycle } ≡ sign = λ j. record { node = is.0 j; cycle = is.1 j } in
-    ap (λ s. knows s (knowledge_of scenario i past)) (sym same) ∙ k.known
-founded_known sign scenario p i past (View slot number members) is k = absurd is
-
-signed_known : (scenario : ScenarioParts) (s : RunState) (i : ℕ) (sign : FailureSign) → HasSigned scenario s i sign
-    → knows sign (knowledge_of (scenario_at scenario s i) i (history i s)) ≡ true
-signed_known scenario s i sign h =
-    let sc : ScenarioParts = scenario_at scenario s i in
-    let split = log_split (λ y. y ≡ h.entry) sc i (history i s) (Among-from_Contains (log scenario s i) h.entry h.stands) in
-    let made = made_by (λ y. y ≡ h.entry) sc split.0 split.1 i (history i s) split.2 in
-    known_since sc i sign made.place (history i s)
-    (founded_known sign sc split.0 i (drop made.place (history i s)) made.entry (subst (tells_of sign) (sym made.is) h.tells) made.founded)
+use Rattle.cany_check.proofs.CorrectLogs.{IsLogOfCorrect, among_filter, each_correct, each_filter, has_correct, log_at, unread_fits}
 
 -- ---- within the hypothesis, without restarts
 
 module _ (scenario : ScenarioParts) (legal : IsLegalScenario scenario) (none : scenario.restarts ≡ []) (journal : List Step)
     (within : IsWithin scenario.params (run scenario journal).trace) where
-  -- what a front of the journal has led to is within the hypothesis too
-  within_front : (front rest : List Step) → journal ≡ front ++ rest → IsWithin scenario.params (run scenario front).trace
-  within_front front rest whole =
-      let part = front_trace scenario front rest in
-      subst (IsWithin scenario.params) (sym part.1)
-      (within_dropped scenario.params (run scenario (front ++ rest)).trace part.0
-      (subst (λ steps. IsWithin scenario.params (run scenario steps).trace) whole within))
-
-  quiet : (front rest : List Step) → journal ≡ front ++ rest → HasQuietSlots scenario front
-  quiet front rest whole = slots_are_quiet scenario front (few_nodes scenario.params legal.in_range) legal.formulas legal.members (within_front front rest whole)
-
-  one : (front rest : List Step) → journal ≡ front ++ rest → (k : ℕ) → InstallsOneVector scenario (run scenario front) k
-  one front rest whole = one_vector_each scenario legal front (within_front front rest whole)
-
   pub runs_unaccused : (r : ℕ) → IsCorrect scenario (run scenario journal) r → StandsInNone scenario (run scenario journal) r
   runs_unaccused r correct_r i c slot cycle stands =
       let s : RunState = run scenario journal in
       let all = all_original scenario none journal in
       let sign : FailureSign = record { node = r; cycle = cycle } in
       let h : NoSign scenario r s =
-      no_sign scenario none (few_nodes scenario.params legal.in_range) legal.formulas journal (timely_front scenario journal within quiet one) r correct_r.running in
+      no_sign scenario none (few_nodes scenario.params legal.in_range) legal.formulas journal (timely_front scenario journal within (quiet_fronts scenario legal none journal within)
+      (one_vector_fronts scenario legal none journal within)) r correct_r.running in
       let known : knows sign (knowledge_of (scenario_at scenario s i) i (history i s)) ≡ true =
       signed_known scenario s i sign (record { entry = Failed slot r cycle; stands = stands; tells = (refl, refl) }) in
       let unknown : knows sign (knowledge_of (scenario_at scenario s i) i (history i s)) ≡ false =
@@ -146,9 +105,6 @@ module _ (scenario : ScenarioParts) (journal : List Step) where
   abbrev a : AccountParts
   a = account_of scenario s
 
-  short : (i : ℕ) → (node_at s.nodes i).unread ≤ length s.trace
-  short i = (orderly scenario journal).unread i
-
   abbrev failure_slots : ℕ → List LogParts → List ℕ
   failure_slots r logs = flat_map (λ (l : LogParts). map entry_slot (filter (is_failure_of r) l.entries)) logs
 
@@ -164,9 +120,9 @@ module _ (scenario : ScenarioParts) (journal : List Step) where
   unaccused r none =
       ap (option_map (λ (slots : Slots). record { node = r; by = nodes_of (accusers a r); first = slots.first }))
       (no_slots (failure_slots r (accusers a r)) (all_empty (λ (l : LogParts). map entry_slot (filter (is_failure_of r) l.entries)) (accusers a r)
-      (each_filter (λ (l : LogParts). map entry_slot (filter (is_failure_of r) l.entries) ≡ []) (λ (l : LogParts). list_any (is_failure_of r) l.entries) (correct a) (along (correct a) (each_correct scenario s short)))))
+      (each_filter (λ (l : LogParts). map entry_slot (filter (is_failure_of r) l.entries) ≡ []) (λ (l : LogParts). list_any (is_failure_of r) l.entries) (correct a) (along (correct a) (each_correct scenario s (unread_fits scenario journal))))))
     where
-      along : (logs : List LogParts) → AllByRecursion (IsLogOfCorrect scenario s short) logs
+      along : (logs : List LogParts) → AllByRecursion (IsLogOfCorrect scenario s (unread_fits scenario journal)) logs
           → AllByRecursion (λ (l : LogParts). list_any (is_failure_of r) l.entries ≡ true → map entry_slot (filter (is_failure_of r) l.entries) ≡ []) logs
       along [] h = tt
       along (x ∷ logs) h = (
@@ -195,7 +151,7 @@ module _ (scenario : ScenarioParts) (journal : List Step) where
       (Among-weaker (λ x. x ≡ log_at scenario s i) (λ (l : LogParts). Among (λ n. n ≡ slot) (map entry_slot (filter (is_failure_of r) l.entries)))
       (λ x e. subst (λ (l : LogParts). Among (λ n. n ≡ slot) (map entry_slot (filter (is_failure_of r) l.entries))) (sym e) here) (accusers a r)
       (among_filter (λ x. x ≡ log_at scenario s i) (λ (l : LogParts). list_any (is_failure_of r) l.entries) (correct a)
-      (λ x e. ap (λ (l : LogParts). list_any (is_failure_of r) l.entries) e ∙ tells) (has_correct scenario s short i c))))
+      (λ x e. ap (λ (l : LogParts). list_any (is_failure_of r) l.entries) e ∙ tells) (has_correct scenario s (unread_fits scenario journal) i c))))
 
   pub nobody_accused : (accusations a ≡ []) ↔ ((r : ℕ) → IsCorrectFrom scenario s 0 r → StandsInNone scenario s r)
   nobody_accused = (to, from)
@@ -204,14 +160,14 @@ module _ (scenario : ScenarioParts) (journal : List Step) where
       to none r c =
           accused r (Each-of (λ x. accusation_of a x ≡ None) (log_at scenario s r) (filter (takes_part 0) (correct a)) (made_none (accusation_of a) (filter (takes_part 0) (correct a)) none)
           (among_filter (λ x. x ≡ log_at scenario s r) (takes_part 0) (correct a)
-          (λ x e. ap (takes_part 0) e ∙ le-leb (node_at s.nodes r).present.from 0 c.took_part) (has_correct scenario s short r c.correct)))
+          (λ x e. ap (takes_part 0) e ∙ le-leb (node_at s.nodes r).present.from 0 c.took_part) (has_correct scenario s (unread_fits scenario journal) r c.correct)))
 
       from : ((r : ℕ) → IsCorrectFrom scenario s 0 r → StandsInNone scenario s r) → accusations a ≡ []
       from none =
           none_made (accusation_of a) (filter (takes_part 0) (correct a))
-          (each_filter (λ x. accusation_of a x ≡ None) (takes_part 0) (correct a) (along (correct a) (each_correct scenario s short)))
+          (each_filter (λ x. accusation_of a x ≡ None) (takes_part 0) (correct a) (along (correct a) (each_correct scenario s (unread_fits scenario journal))))
         where
-          along : (logs : List LogParts) → AllByRecursion (IsLogOfCorrect scenario s short) logs → AllByRecursion (λ x. takes_part 0 x ≡ true → accusation_of a x ≡ None) logs
+          along : (logs : List LogParts) → AllByRecursion (IsLogOfCorrect scenario s (unread_fits scenario journal)) logs → AllByRecursion (λ x. takes_part 0 x ≡ true → accusation_of a x ≡ None) logs
           along [] h = tt
           along (x ∷ logs) h = (
             λ since.

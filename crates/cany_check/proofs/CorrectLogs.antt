@@ -5,6 +5,7 @@ use Rattle.std.specs.Prelude.{filter, option_map, unwrap_or, Some}
 use Rattle.std.specs.List.{AllByRecursion, range_with_len}
 use Rattle.std.specs.Option.{option_map_or}
 use Rattle.std.proofs.lemmas.Bool.{and_from, and_parts, cases_Bool, cases_eq, eq-eqb, eqb-true}
+use Rattle.cany_base.specs.declared.step.Step.{Step}
 use Rattle.cany_base.specs.Scenario.{ScenarioParts}
 use Rattle.cany_model.specs.Bus.History.{ended_history}
 use Rattle.cany_model.specs.Bus.State.{EndedIncarnation, RunState, node_at, reads, runs}
@@ -12,8 +13,10 @@ use Rattle.cany_model.specs.Promises.Settled.{IsCorrect}
 use Rattle.cany_model.specs.Rules.Log.{log, log_from}
 use Rattle.cany_model.specs.Rules.Turn.{scenario_for}
 use Rattle.cany_model.specs.Runs.Incarnations.{incarnation_of}
+use Rattle.cany_model.specs.Runs.Run.{run}
 use Rattle.cany_model.proofs.Among.{Among, Among-flat_map, Among-map, Each-flat_map, Each-map}
 use Rattle.cany_model.proofs.Bus.Seen.{ended_history-present}
+use Rattle.cany_model.proofs.Runs.Runs.{orderly}
 use Rattle.cany_check.specs.Account.{LogParts, account_of, log_record, logs_of, logs_of_node, running}
 use Rattle.cany_check.specs.Words.{correct}
 
@@ -46,6 +49,11 @@ among_filter P p (x ∷ xs) f (inr later) = elim (cases_Bool (p x)) [
 ]
 
 -- ---- one node
+
+-- no node of a run has more unread than slots ran
+pub unread_fits : (scenario : ScenarioParts) (journal : List Step) (i : ℕ)
+    → (node_at (run scenario journal).nodes i).unread ≤ length (run scenario journal).trace
+unread_fits scenario journal = (orderly scenario journal).unread
 
 -- the log of a node that runs
 abbrev pub log_at : ScenarioParts → RunState → ℕ → LogParts

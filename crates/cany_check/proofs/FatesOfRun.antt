@@ -1,6 +1,6 @@
 -- The fates in the account of a run are what is promised: a message is open exactly where it is not settled, and apart exactly where the
 -- run does not agree on it; a sign is apart exactly where the run does not agree on it.
-use Rattle.std.proofs.Common.{◌≡◌, ℕ, ◌<◌, ◌≤◌, ◌↔◌, ◌==◌, ◌&&◌, ◌||◌, Bool, true, false, not, List, [], ◌∷◌, length, refl, ap, sym, subst, ◌∙◌, arith, ◌⊎◌, inl, inr, Contains}
+use Rattle.std.proofs.Common.{◌≡◌, ℕ, ◌<◌, ◌≤◌, ◌↔◌, ◌==◌, ◌&&◌, ◌||◌, Bool, true, false, not, List, [], ◌∷◌, refl, ap, sym, subst, ◌∙◌, arith, ◌⊎◌, inl, inr, Contains}
 use Rattle.std.specs.Prelude.{filter, nat_lt, is_none, Option, Some, None}
 use Rattle.std.specs.List.{AllByRecursion, flat_map, list_any}
 use Rattle.std.specs.Option.{option_map_or, option_or}
@@ -27,7 +27,6 @@ use Rattle.cany_model.proofs.Among.{Among, Among-flat_map, Among-from_Contains, 
 use Rattle.cany_model.proofs.Bus.Carried.{Carries}
 use Rattle.cany_model.proofs.Promises.Firsts.{carried_has_first}
 use Rattle.cany_model.proofs.Promises.Integrity.{integral}
-use Rattle.cany_model.proofs.Runs.Runs.{orderly}
 use Rattle.cany_world.specs.Settled.{is_asked, nodes_ahead, waiting_nodes}
 use Rattle.cany_world.proofs.UnsettledFacts.{nobody_has_ahead, nobody_waits}
 use Rattle.cany_check.specs.declared.record.MessageRecord.{MessageRecord}
@@ -40,7 +39,7 @@ use Rattle.cany_check.specs.Fates.{message_fate, sign_fate, sign_has, sign_lacks
 use Rattle.cany_check.specs.Verdict.{is_apart, is_open}
 use Rattle.cany_check.specs.Words as words
 use Rattle.cany_check.specs.Words.{correct, delivers, is_nobody, knows, nodes_of, takes_part}
-use Rattle.cany_check.proofs.CorrectLogs.{IsLogOfCorrect, among_filter, each_correct, each_filter, has_correct, has_running, log_at}
+use Rattle.cany_check.proofs.CorrectLogs.{IsLogOfCorrect, among_filter, each_correct, each_filter, has_correct, has_running, log_at, unread_fits}
 use Rattle.cany_check.proofs.Decided.{delivers_from, has_delivered, has_signed, is_nobody-from, is_nobody-true, knows_from}
 use Rattle.cany_check.proofs.InOrderFacts.{among_ascending}
 use Rattle.cany_check.proofs.FateFacts.{AreLogsOf, IsApartBy, IsSignApartBy, all_have, apart_by, apart_if, apart_only, fate_of, has_it, not_open, one_has, one_lacks, open_if, open_only, sign_apart_if, sign_apart_only, sign_fate_of}
@@ -114,19 +113,16 @@ module _ (scenario : ScenarioParts) (journal : List Step) (few : scenario.params
   abbrev a : AccountParts
   a = account_of scenario s
 
-  short : (i : ℕ) → (node_at s.nodes i).unread ≤ length s.trace
-  short i = (orderly scenario journal).unread i
-
   -- ---- those that count
 
   counts_from : (slot : ℕ) → AreLogsOf scenario s (IsCorrectFrom scenario s slot) (filter (takes_part slot) (correct a))
   counts_from slot = record {
-    each = each_filter (λ x. (i : ℕ) × IsCorrectFrom scenario s slot i × (x ≡ log_at scenario s i)) (takes_part slot) (correct a) (passing (correct a) (each_correct scenario s short));
+    each = each_filter (λ x. (i : ℕ) × IsCorrectFrom scenario s slot i × (x ≡ log_at scenario s i)) (takes_part slot) (correct a) (passing (correct a) (each_correct scenario s (unread_fits scenario journal)));
     there = λ i c. among_filter (λ x. x ≡ log_at scenario s i) (takes_part slot) (correct a)
-        (λ x e. ap (takes_part slot) e ∙ le-leb (node_at s.nodes i).present.from slot c.took_part) (has_correct scenario s short i c.correct);
+        (λ x e. ap (takes_part slot) e ∙ le-leb (node_at s.nodes i).present.from slot c.took_part) (has_correct scenario s (unread_fits scenario journal) i c.correct);
   }
     where
-      passing : (xs : List LogParts) → AllByRecursion (IsLogOfCorrect scenario s short) xs
+      passing : (xs : List LogParts) → AllByRecursion (IsLogOfCorrect scenario s (unread_fits scenario journal)) xs
           → AllByRecursion (λ x. takes_part slot x ≡ true → (i : ℕ) × IsCorrectFrom scenario s slot i × (x ≡ log_at scenario s i)) xs
       passing [] all = tt
       passing (x ∷ xs) all = (
@@ -384,11 +380,11 @@ module _ (scenario : ScenarioParts) (journal : List Step) (few : scenario.params
     -- all correct nodes count
     all_count : AreLogsOf scenario s (IsCorrect scenario s) (filter (λ log. true) (correct a))
     all_count = record {
-      each = each_filter (λ x. (i : ℕ) × IsCorrect scenario s i × (x ≡ log_at scenario s i)) (λ log. true) (correct a) (passing (correct a) (each_correct scenario s short));
-      there = λ i c. among_filter (λ x. x ≡ log_at scenario s i) (λ log. true) (correct a) (λ x e. refl) (has_correct scenario s short i c);
+      each = each_filter (λ x. (i : ℕ) × IsCorrect scenario s i × (x ≡ log_at scenario s i)) (λ log. true) (correct a) (passing (correct a) (each_correct scenario s (unread_fits scenario journal)));
+      there = λ i c. among_filter (λ x. x ≡ log_at scenario s i) (λ log. true) (correct a) (λ x e. refl) (has_correct scenario s (unread_fits scenario journal) i c);
     }
       where
-        passing : (xs : List LogParts) → AllByRecursion (IsLogOfCorrect scenario s short) xs
+        passing : (xs : List LogParts) → AllByRecursion (IsLogOfCorrect scenario s (unread_fits scenario journal)) xs
             → AllByRecursion (λ x. true ≡ true → (i : ℕ) × IsCorrect scenario s i × (x ≡ log_at scenario s i)) xs
         passing [] all = tt
         passing (x ∷ xs) all = (λ _. all.0, passing xs all.1)
@@ -497,7 +493,7 @@ module _ (scenario : ScenarioParts) (journal : List Step) (few : scenario.params
       (Among-weaker (λ y. y ≡ had.entry) (λ y. Among (λ z. z ≡ sign) (sign_in y))
       (λ y e'. subst (λ entry. Among (λ z. z ≡ sign) (sign_in entry)) (sym e') (told_in had.entry had.tells)) (log scenario s i)
       (Among-from_Contains (log scenario s i) had.entry had.stands))))
-      (running (logs_of scenario s)) (has_running scenario s short i c)))
+      (running (logs_of scenario s)) (has_running scenario s (unread_fits scenario journal) i c)))
     where
       told_in : (entry : LogEntry) → tells_of sign entry → Among (λ z. z ≡ sign) (sign_in entry)
       told_in (Deliver slot by msg payload) is = absurd is

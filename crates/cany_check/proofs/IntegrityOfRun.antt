@@ -18,7 +18,7 @@ use Rattle.cany_base.specs.Nodes.{has}
 use Rattle.cany_base.specs.Scenario.{ScenarioParts}
 use Rattle.cany_model.specs.Bus.Frames.{same_frame}
 use Rattle.cany_model.specs.Bus.Slot.{carried}
-use Rattle.cany_model.specs.Bus.State.{RunState, node_at}
+use Rattle.cany_model.specs.Bus.State.{RunState}
 use Rattle.cany_model.specs.Promises.Entries.{delivers_key}
 use Rattle.cany_model.specs.Promises.Safe.{IsIntegral, IsSound, WasSent}
 use Rattle.cany_model.specs.Promises.Settled.{IsCorrect}
@@ -34,7 +34,7 @@ use Rattle.cany_model.proofs.Runs.Runs.{orderly}
 use Rattle.cany_check.specs.Account.{AccountParts, LogParts, account_of, first_where, message_record, sends_data}
 use Rattle.cany_check.specs.Integrity.{first_wrong, first_wrong_of, is_wrong, was_sent_by_then, wrong_entry, wrong_in}
 use Rattle.cany_check.specs.Words.{correct, is_delivery, same_key}
-use Rattle.cany_check.proofs.CorrectLogs.{IsLogOfCorrect, each_correct}
+use Rattle.cany_check.proofs.CorrectLogs.{IsLogOfCorrect, each_correct, unread_fits}
 use Rattle.cany_check.proofs.Decided.{is_service-self, same_key-self}
 
 -- ---- the first slot that passes a test
@@ -94,9 +94,6 @@ module _ (scenario : ScenarioParts) (journal : List Step) (few : scenario.params
 
   whole : IsIntegral scenario s
   whole = integral scenario journal few
-
-  short : (i : ℕ) → (node_at s.nodes i).unread ≤ length s.trace
-  short i = (orderly scenario journal).unread i
 
   -- the message that an entry delivers was sent by then
   sent_message : (m : Message) (slot : ℕ) → WasSent s.trace m slot → option_map_or (λ t. nat_le t slot) (message_record scenario s m).sent false ≡ true
@@ -167,7 +164,7 @@ module _ (scenario : ScenarioParts) (journal : List Step) (few : scenario.params
         subst (λ l. Contains l entry) (sym is) (Contains-from_Among (earlier ++ entry ∷ entries) entry (Among-append_right (λ y. y ≡ entry) earlier (entry ∷ entries) (inl refl))) in
         rw (not_wrong earlier entry entries is (whole.sent i c entry stands)) (none_wrong (earlier ++ entry ∷ []) entries (is ∙ sym (append_assoc earlier (entry ∷ []) entries)))
 
-  of_logs : (logs : List LogParts) → AllByRecursion (IsLogOfCorrect scenario s short) logs → first_wrong_of a logs ≡ None
+  of_logs : (logs : List LogParts) → AllByRecursion (IsLogOfCorrect scenario s (unread_fits scenario journal)) logs → first_wrong_of a logs ≡ None
   unfolding first_wrong_of
   of_logs [] h = refl
   of_logs (x ∷ logs) h =
@@ -177,4 +174,4 @@ module _ (scenario : ScenarioParts) (journal : List Step) (few : scenario.params
       ap (λ o. option_or o (first_wrong_of a logs)) here ∙ of_logs logs h.1
 
   pub nothing_wrong : wrong_entry a ≡ None
-  nothing_wrong = of_logs (correct a) (each_correct scenario s short)
+  nothing_wrong = of_logs (correct a) (each_correct scenario s (unread_fits scenario journal))

@@ -1,10 +1,10 @@
 -- Worked rows of integrity, on accounts that no run has: which entry of a log is the first wrong one.
 use Rattle.std.specs.Prelude.{◌≡◌, ℕ, true, false, Bool, List, [], ◌∷◌, Option, Some, None, map, option_map, refl}
-use Rattle.cany_base.specs.declared.format.Format.TheVariants.{One}
 use Rattle.cany_base.specs.declared.log_entry.LogEntry.{LogEntry}
 use Rattle.cany_base.specs.declared.log_entry.LogEntry.TheVariants.{Deliver, Failed, View}
 use Rattle.cany_base.specs.declared.message.Service.TheVariants.{Ed, Rel}
 use Rattle.cany_base.specs.Nodes.{nobody}
+use Rattle.cany_base.specs.Params.{default_parameters}
 use Rattle.cany_model.specs.Bus.Frames.{same_class}
 use Rattle.cany_model.specs.Rules.Messages.{is_service}
 use Rattle.cany_check.specs.Account.{AccountParts}
@@ -13,7 +13,7 @@ use Rattle.cany_check.specs.Integrity.{first_wrong, first_wrong_of, wrong_entry}
 -- three nodes, one EDCAN message of node 0 that was first carried in slot 1, and one log, of node 1
 account_with : Bool → List LogEntry → AccountParts
 account_with runs entries = record {
-  params = record { format = One; nodes = 3; lag = 0; omit = 1; errors = 2; bound = 36; cycle = 72; life = 36; silence = 73; confirm = 10; slots = 200 };
+  params = default_parameters 3 200;
   messages = record {
     key = record { origin = 0; seq = 0 };
     service = Ed;

@@ -1,5 +1,5 @@
 -- Where correct nodes follow one order, no two of them part in the account of the run.
-use Rattle.std.proofs.Common.{◌≡◌, ℕ, ◌<◌, ◌≤◌, ◌&&◌, Bool, true, false, List, [], ◌∷◌, ◌++◌, map, length, refl, ap, sym, ◌∙◌, arith, inl, inr, Contains}
+use Rattle.std.proofs.Common.{◌≡◌, ℕ, ◌<◌, ◌≤◌, ◌&&◌, Bool, true, false, List, [], ◌∷◌, ◌++◌, map, refl, ap, sym, ◌∙◌, arith, inl, inr, Contains}
 use Rattle.std.specs.Prelude.{filter, find, max, nat_le, if◌then◌else◌, option_map, Option, Some, None}
 use Rattle.std.specs.List.{AllByRecursion, flat_map}
 use Rattle.std.specs.Option.{option_map_or}
@@ -40,7 +40,7 @@ use Rattle.cany_check.specs.declared.findings.Delivery.{Delivery}
 use Rattle.cany_check.specs.Account.{AccountParts, LogParts, account_of, first_and_last, last_carried, message_record, slots_of}
 use Rattle.cany_check.specs.OneOrder.{deliveries, deliveries_from, delivery_in, difference, is_carried_from, one_later, parting, parting_of}
 use Rattle.cany_check.specs.Words.{same_key}
-use Rattle.cany_check.proofs.CorrectLogs.{IsLogOfCorrect, each_correct, log_at}
+use Rattle.cany_check.proofs.CorrectLogs.{IsLogOfCorrect, each_correct, log_at, unread_fits}
 use Rattle.cany_check.proofs.PartingFacts.{none_of_all}
 use Rattle.cany_check.proofs.Decided.{same_key-self, same_key-true}
 
@@ -125,9 +125,6 @@ module _ (scenario : ScenarioParts) (journal : List Step) (few : scenario.params
 
   abbrev a : AccountParts
   a = account_of scenario s
-
-  short : (i : ℕ) → (node_at s.nodes i).unread ≤ length s.trace
-  short i = (orderly scenario journal).unread i
 
   -- whether a delivery of the key is kept where what was first carried before slot t is left out
   abbrev keeps : ℕ → MsgKey → Bool
@@ -251,9 +248,9 @@ module _ (scenario : ScenarioParts) (journal : List Step) (few : scenario.params
       difference_none (deliveries_from a t first) (deliveries_from a t second) (filter (keeps t) (content_keys (order scenario s t))) here.0 there.0 here.1 there.1 in
       ap (λ o. option_map (λ d. record { first = i; second = j; place = d.place; here = d.here; there = d.there }) o) none
 
-  both_part_not : (x y : LogParts) → IsLogOfCorrect scenario s short x → IsLogOfCorrect scenario s short y → parting_of a x y ≡ None
+  both_part_not : (x y : LogParts) → IsLogOfCorrect scenario s (unread_fits scenario journal) x → IsLogOfCorrect scenario s (unread_fits scenario journal) y → parting_of a x y ≡ None
   both_part_not x y p q =
       ap (λ (z : LogParts). parting_of a z y) p.2 ∙ ap (λ (z : LogParts). parting_of a (log_at scenario s p.0) z) q.2 ∙ together p.0 q.0 p.1 q.1
 
   pub nobody_parts : parting a ≡ None
-  nobody_parts = none_of_all a (IsLogOfCorrect scenario s short) both_part_not (each_correct scenario s short)
+  nobody_parts = none_of_all a (IsLogOfCorrect scenario s (unread_fits scenario journal)) both_part_not (each_correct scenario s (unread_fits scenario journal))

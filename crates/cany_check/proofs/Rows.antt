@@ -97,7 +97,7 @@ order_since_a_restart = refl
 
 -- Row `views_apart`: node 1 keeps node 2 in its view, and finds it silent.
 views_apart :
-    found_of (record (three 115 [] (slot_rule 72 (Silent (set 2)) 0 ∷ frame_rule class.Rha 1 0 1 (Silent (set 2)) ∷ frame_rule class.Rha 1 2 1 (Silent (set 2)) ∷ [])) { leaves = asks 71 2 ∷ [] }) ≡ record all_held {
+    found_of (record (three 115 [] (slot_rule 72 (Silent (set 2)) 0 ∷ frame_rule class.Rha 1 0 1 (Silent (set 2)) 0 ∷ frame_rule class.Rha 1 2 1 (Silent (set 2)) 0 ∷ [])) { leaves = asks 71 2 ∷ [] }) ≡ record all_held {
       broken = Some (record { kind = kind.Silent; slot = 72 });
       status = 9;
       judgements = judged.Held ∷ judged.Held ∷ judged.Held ∷ judged.Held ∷ judged.Held ∷ judged.Broken ∷ judged.Held ∷ judged.Broken ∷ [];
@@ -111,7 +111,7 @@ views_apart = refl
 
 -- Row `sign_at_one_node`: the frame of the sign does not reach node 0.
 sign_at_one_node :
-    found_of (three 80 (send Tot 10 1 (1 ∷ []) ∷ []) (slot_rule 11 (Silent (set 4)) 0 ∷ slot_rule 20 Clean 2 ∷ frame_rule class.Fda 1 1 1 (Silent (set 1)) ∷ [])) ≡ record all_held {
+    found_of (three 80 (send Tot 10 1 (1 ∷ []) ∷ []) (slot_rule 11 (Silent (set 4)) 0 ∷ slot_rule 20 Clean 2 ∷ frame_rule class.Fda 1 1 1 (Silent (set 1)) 0 ∷ [])) ≡ record all_held {
       broken = Some (record { kind = kind.Silent; slot = 11 });
       status = 9;
       judgements = judged.Held ∷ judged.Held ∷ judged.Held ∷ judged.Broken ∷ judged.Held ∷ judged.Held ∷ judged.Broken ∷ judged.Held ∷ [];
@@ -136,7 +136,7 @@ sign_is_waited_with = refl
 -- Row `entries_that_did_nothing`.
 entries_that_did_nothing :
     found_of (record (three 40 (send Ed 0 0 (1 ∷ []) ∷ send Ed 20 1 (2 ∷ []) ∷ send Ed 35 2 (3 ∷ []) ∷ [])
-    (frame_rule class.Ed 1 0 1 Lost ∷ slot_rule 1 (Partial (set 1)) 0 ∷ frame_rule class.Ed 0 0 1 Lost ∷ slot_rule 9 Lost 2 ∷ slot_rule 12 Clean 2 ∷ slot_rule 13 Clean 4 ∷ []))
+    (frame_rule class.Ed 1 0 1 Lost 0 ∷ slot_rule 1 (Partial (set 1)) 0 ∷ frame_rule class.Ed 0 0 1 Lost 0 ∷ slot_rule 9 Lost 2 ∷ slot_rule 12 Clean 2 ∷ slot_rule 13 Clean 4 ∷ []))
     { joins = asks 3 0 ∷ []; leaves = asks 15 1 ∷ []; restarts = asks 14 2 ∷ asks 30 0 ∷ [] }) ≡ record all_held {
       messages = settled 1 (slots 1 2) (tells All 1 0 7 (slots 2 2)) ∷ never_sent (tells Nobody 0 1 0 None) ∷ never_sent (tells Nobody 0 1 0 None) ∷ [];
       unused = record { place = 1; entry = entry.Send Stopped } ∷ record { place = 2; entry = entry.Send (From 51) }

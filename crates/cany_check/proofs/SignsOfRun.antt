@@ -1,5 +1,5 @@
 -- The running logs of a run tell of failures of nodes of the bus alone.
-use Rattle.std.proofs.Common.{◌≡◌, ℕ, zero, suc, ◌+◌, ◌<◌, ◌≤◌, true, List, [], ◌∷◌, length, map, sym, subst, arith, All, Contains}
+use Rattle.std.proofs.Common.{◌≡◌, ℕ, zero, suc, ◌+◌, ◌<◌, true, List, [], ◌∷◌, map, sym, subst, arith, All, Contains}
 use Rattle.std.specs.Prelude.{Some, slice_get}
 use Rattle.std.specs.List.{AllByRecursion, range_with_len}
 use Rattle.std.proofs.lemmas.List.Elements.{All-contains_itself, All-weaker}
@@ -15,12 +15,11 @@ use Rattle.cany_model.specs.Rules.Log.{log}
 use Rattle.cany_model.specs.Runs.Run.{run}
 use Rattle.cany_model.proofs.Among.{Each-flat_map, Each-map}
 use Rattle.cany_model.proofs.Promises.Integrity.{integral}
-use Rattle.cany_model.proofs.Runs.Runs.{orderly}
 use Rattle.cany_check.specs.declared.record.LogRecord.{LogRecord}
 use Rattle.cany_check.specs.Account.{LogParts, log_record, logs_of, logs_of_node}
 use Rattle.cany_check.specs.AccountFields.{log_parts}
 use Rattle.cany_check.specs.Records.{TellsWithin}
-use Rattle.cany_check.proofs.CorrectLogs.{each_range, record_is}
+use Rattle.cany_check.proofs.CorrectLogs.{each_range, record_is, unread_fits}
 
 module _ (scenario : ScenarioParts) (journal : List Step) (legal : IsLegalScenario scenario) where
   abbrev s : RunState
@@ -37,15 +36,12 @@ module _ (scenario : ScenarioParts) (journal : List Step) (legal : IsLegalScenar
       (λ entry stands. sound_within entry ((integral scenario journal (few_nodes scenario.params legal.in_range)).sent i c entry stands))
       (log scenario s i) (All-contains_itself (log scenario s i))
 
-  short : (i : ℕ) → (node_at s.nodes i).unread ≤ length s.trace
-  short i = (orderly scenario journal).unread i
-
   abbrev IsWithin : LogParts → Type 0
   IsWithin x = x.runs ≡ true → All (TellsWithin scenario.params.nodes) x.entries
 
   record_within : (i number : ℕ) → i < scenario.params.nodes → IsWithin (log_record scenario s i number)
   record_within i number below h =
-      let is = record_is scenario s short i number h in
+      let is = record_is scenario s (unread_fits scenario journal) i number h in
       subst (λ (x : LogParts). All (TellsWithin scenario.params.nodes) x.entries) (sym is.1) (log_within i (record { there = below; running = is.0 }))
 
   all_within : AllByRecursion IsWithin (logs_of scenario s)

@@ -1,5 +1,5 @@
 -- The status of the verdict on a run: 9 exactly where the promise is not kept, 10 exactly where it is and something is open.
-use Rattle.std.proofs.Common.{◌≡◌, ℕ, ◌≤◌, ◌↔◌, ◌⊎◌, ◌==◌, Bool, true, false, List, [], ◌∷◌, map, length, refl, ap, sym, subst, ◌∙◌, arith, inl, inr, Contains}
+use Rattle.std.proofs.Common.{◌≡◌, ℕ, ◌≤◌, ◌↔◌, ◌⊎◌, ◌==◌, Bool, true, false, List, [], ◌∷◌, map, refl, ap, sym, subst, ◌∙◌, arith, inl, inr, Contains}
 use Rattle.std.specs.Prelude.{filter, is_some, if◌then◌else◌, Option, Some, None}
 use Rattle.std.specs.List.{AllByRecursion, flat_map, list_any}
 use Rattle.std.proofs.lemmas.Bool.{and_from, cases_Bool, eq-eqb, false≢true}
@@ -10,7 +10,7 @@ use Rattle.cany_base.specs.declared.message.Service.TheVariants as service
 use Rattle.cany_base.specs.declared.step.Step.{Step}
 use Rattle.cany_base.specs.Limits.{most_nodes}
 use Rattle.cany_base.specs.Scenario.{ScenarioParts}
-use Rattle.cany_model.specs.Bus.State.{RunState, node_at}
+use Rattle.cany_model.specs.Bus.State.{RunState}
 use Rattle.cany_model.specs.Promises.Entries.{HasSigned}
 use Rattle.cany_model.specs.Promises.Safe.{IsSignAgreedOn}
 use Rattle.cany_model.specs.Promises.Settled.{IsCorrect}
@@ -20,7 +20,6 @@ use Rattle.cany_model.specs.Rules.Messages.{Message, is_service, messages_of}
 use Rattle.cany_model.specs.Runs.Run.{all_read, run}
 use Rattle.cany_model.proofs.Among.{Among, Among-from_Contains, Among-from_any, Among-from_map, Among-map, Among-weaker, Among-which, Among-with, Contains-from_Among, Each-filter, Each-flat_map, Each-map, Each-weaker, any-from_Among}
 use Rattle.cany_model.proofs.Rules.KnowledgeFacts.{same_sign-true}
-use Rattle.cany_model.proofs.Runs.Runs.{orderly}
 use Rattle.cany_check.specs.declared.record.MessageRecord.{MessageRecord}
 use Rattle.cany_check.specs.declared.record.SignRecord.{SignRecord}
 use Rattle.cany_check.specs.declared.findings.Fate.{Fate}
@@ -38,7 +37,7 @@ use Rattle.cany_check.specs.Promise.{HasOpenMessage, HasOpenSign, IsOpen, KeepsP
 use Rattle.cany_check.specs.Verdict.{broken_if, fates_of_service, is_apart, is_broken_judgement, is_open, is_open_judgement, is_some_of, judgement, of_fates, parts, status}
 use Rattle.cany_check.specs.Views.{view_partings}
 use Rattle.cany_check.proofs.Accused.{nobody_accused}
-use Rattle.cany_check.proofs.CorrectLogs.{IsLogOfCorrect, among_filter, each_running}
+use Rattle.cany_check.proofs.CorrectLogs.{IsLogOfCorrect, among_filter, each_running, unread_fits}
 use Rattle.cany_check.proofs.InOrderFacts.{each_ascending}
 use Rattle.cany_check.proofs.Decided.{is_service-self}
 use Rattle.cany_check.proofs.FatesOfRun.{agreed_unless_apart, open_where, sign_agreed, sign_open_where, signs_are_told, unlisted_agreed}
@@ -136,9 +135,6 @@ module _ (scenario : ScenarioParts) (journal : List Step) (few : scenario.params
 
   abbrev a : AccountParts
   a = account_of scenario s
-
-  short : (i : ℕ) → (node_at s.nodes i).unread ≤ length s.trace
-  short i = (orderly scenario journal).unread i
 
   -- the account has the record of a message, and of a sign
   message_there : (m : Message) → Contains (messages_of scenario.sends) m → Among (λ r. r ≡ message_record scenario s m) a.messages
@@ -273,7 +269,7 @@ module _ (scenario : ScenarioParts) (journal : List Step) (few : scenario.params
   told_signs =
       each_ascending is_sign_before (λ sign. (i : ℕ) × IsCorrect scenario s i × HasSigned scenario s i sign) (flat_map (λ (l : LogParts). flat_map sign_in l.entries) (running (logs_of scenario s)))
       (Each-flat_map (λ (l : LogParts). flat_map sign_in l.entries) (λ sign. (i : ℕ) × IsCorrect scenario s i × HasSigned scenario s i sign) (running (logs_of scenario s))
-      (along (running (logs_of scenario s)) (each_running scenario s short)))
+      (along (running (logs_of scenario s)) (each_running scenario s (unread_fits scenario journal))))
     where
       of_entry : (i : ℕ) → IsCorrect scenario s i → (entry : LogEntry) → Contains (log scenario s i) entry
           → AllByRecursion (λ sign. (j : ℕ) × IsCorrect scenario s j × HasSigned scenario s j sign) (sign_in entry)
@@ -281,7 +277,7 @@ module _ (scenario : ScenarioParts) (journal : List Step) (few : scenario.params
       of_entry i c (Failed slot node cycle) stands = ((i, c, record { entry = Failed slot node cycle; stands = stands; tells = (refl, refl) }), tt)
       of_entry i c (View slot number members) stands = tt
 
-      along : (logs : List LogParts) → AllByRecursion (IsLogOfCorrect scenario s short) logs
+      along : (logs : List LogParts) → AllByRecursion (IsLogOfCorrect scenario s (unread_fits scenario journal)) logs
           → AllByRecursion (λ (l : LogParts). AllByRecursion (λ sign. (i : ℕ) × IsCorrect scenario s i × HasSigned scenario s i sign) (flat_map sign_in l.entries)) logs
       along [] h = tt
       along (x ∷ logs) h = (

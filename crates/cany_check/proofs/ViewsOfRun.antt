@@ -1,5 +1,5 @@
 -- No number is apart in the account of a run exactly where correct nodes hold one view of each number.
-use Rattle.std.proofs.Common.{◌≡◌, ℕ, ◌≤◌, ◌↔◌, ◌==◌, true, false, not, List, [], ◌∷◌, map, length, refl, ap, sym, subst, ◌∙◌, arith, inl, inr, Contains}
+use Rattle.std.proofs.Common.{◌≡◌, ℕ, ◌↔◌, ◌==◌, true, false, not, List, [], ◌∷◌, map, refl, ap, sym, subst, ◌∙◌, arith, inl, inr, Contains}
 use Rattle.std.specs.Prelude.{filter_map, find, nat_lt, option_map, Option, Some, None}
 use Rattle.std.specs.List.{AllByRecursion, cons_option, flat_map}
 use Rattle.std.proofs.lemmas.Bool.{cases_Bool, eq-eqb, eqb-true, ltb-false}
@@ -8,18 +8,17 @@ use Rattle.cany_base.specs.declared.log_entry.LogEntry.TheVariants.{Deliver, Fai
 use Rattle.cany_base.specs.declared.step.Step.{Step}
 use Rattle.cany_base.specs.Nodes.{Nodes}
 use Rattle.cany_base.specs.Scenario.{ScenarioParts}
-use Rattle.cany_model.specs.Bus.State.{RunState, node_at}
+use Rattle.cany_model.specs.Bus.State.{RunState}
 use Rattle.cany_model.specs.Promises.OneView.{HasOneView}
 use Rattle.cany_model.specs.Promises.Settled.{IsCorrect}
 use Rattle.cany_model.specs.Rules.Log.{log}
 use Rattle.cany_model.specs.Runs.Run.{run}
 use Rattle.cany_model.proofs.Among.{Among, Among-flat_map, Among-from_Contains, Among-map, Among-weaker, Contains-from_Among, Each-flat_map, Each-of}
-use Rattle.cany_model.proofs.Runs.Runs.{orderly}
 use Rattle.cany_check.specs.declared.findings.ViewParting.{ViewParting}
 use Rattle.cany_check.specs.Account.{AccountParts, LogParts, account_of}
 use Rattle.cany_check.specs.Views.{HeldView, as_parting, held_views, parting_in, same_members, view_in, view_numbers, view_partings, views_of_number}
 use Rattle.cany_check.specs.Words.{correct}
-use Rattle.cany_check.proofs.CorrectLogs.{IsLogOfCorrect, among_filter, each_correct, each_filter, has_correct, log_at}
+use Rattle.cany_check.proofs.CorrectLogs.{IsLogOfCorrect, among_filter, each_correct, each_filter, has_correct, log_at, unread_fits}
 use Rattle.cany_check.proofs.InOrderFacts.{among_ascending}
 
 -- ---- one number
@@ -74,9 +73,6 @@ module _ (scenario : ScenarioParts) (journal : List Step) where
   abbrev a : AccountParts
   a = account_of scenario s
 
-  short : (i : ℕ) → (node_at s.nodes i).unread ≤ length s.trace
-  short i = (orderly scenario journal).unread i
-
   -- it is in the log of this node
   record IsHeld (v : HeldView) : Type 0 where
     correct_is : IsCorrect scenario s v.node
@@ -97,9 +93,9 @@ module _ (scenario : ScenarioParts) (journal : List Step) where
 
   each_held : AllByRecursion IsHeld (held_views a)
   each_held =
-      Each-flat_map (λ (log : LogParts). flat_map (view_in log.node) log.entries) IsHeld (correct a) (of_logs (correct a) (each_correct scenario s short))
+      Each-flat_map (λ (log : LogParts). flat_map (view_in log.node) log.entries) IsHeld (correct a) (of_logs (correct a) (each_correct scenario s (unread_fits scenario journal)))
     where
-      of_logs : (logs : List LogParts) → AllByRecursion (IsLogOfCorrect scenario s short) logs → AllByRecursion (λ (x : LogParts). AllByRecursion IsHeld (flat_map (view_in x.node) x.entries)) logs
+      of_logs : (logs : List LogParts) → AllByRecursion (IsLogOfCorrect scenario s (unread_fits scenario journal)) logs → AllByRecursion (λ (x : LogParts). AllByRecursion IsHeld (flat_map (view_in x.node) x.entries)) logs
       of_logs [] h = tt
       of_logs (x ∷ logs) h = (
         subst (λ (y : LogParts). AllByRecursion IsHeld (flat_map (view_in y.node) y.entries)) (sym h.0.2)
@@ -119,7 +115,7 @@ module _ (scenario : ScenarioParts) (journal : List Step) where
       (Among-weaker (λ y. y ≡ View slot number members) (λ y. Among (λ w. w ≡ v) (view_in i y))
       (λ y e'. subst (λ entry. Among (λ w. w ≡ v) (view_in i entry)) (sym e') (inl refl)) (log scenario s i)
       (Among-from_Contains (log scenario s i) (View slot number members) stands))))
-      (correct a) (has_correct scenario s short i c))
+      (correct a) (has_correct scenario s (unread_fits scenario journal) i c))
 
   -- of a number
   each_of_number : (number : ℕ) → AllByRecursion (λ v. IsHeld v × (v.number ≡ number)) (views_of_number a number)
