@@ -18,7 +18,6 @@ class Outcome(NamedTuple):
     check: Optional[Outline]
     failure: Optional[str]
     """What is told of a case that ended otherwise; None also where it is not done."""
-    has_restarts: bool
 
     @property
     def name(self):
@@ -30,26 +29,26 @@ class Outcome(NamedTuple):
 
     @property
     def is_promised(self):
-        """Whether something is broken that is promised of the run: within the hypothesis all but accuracy after restarts."""
-        return self.is_within and bool([it for it in self.check.broken if not (it == "accuracy" and self.has_restarts)])
+        """Whether something is broken that is promised of the run: within the hypothesis all is."""
+        return self.is_within and bool(self.check.broken)
 
 
 def outcome(path):
     try:
         found = status_of(path)
         if not found:
-            return Outcome(path, None, None, False)
+            return Outcome(path, None, None)
         status, said = found
         text = Path(f"{path}.check").read_bytes()
         if status not in (HELD, BROKEN, OPEN):
             first = text.decode(errors="replace").partition("\n")[0]
-            return Outcome(path, None, f"status {status} {said or first}".rstrip(), False)
+            return Outcome(path, None, f"status {status} {said or first}".rstrip())
         check = read_outline(text)
         if check.status != status:
-            return Outcome(path, None, f"status {status}, and its text is that of {check.status}", False)
-        return Outcome(path, check, None, b"[[restart]]" in Path(f"{path}.toml").read_bytes())
+            return Outcome(path, None, f"status {status}, and its text is that of {check.status}")
+        return Outcome(path, check, None)
     except (OSError, Malformed) as error:
-        return Outcome(path, None, f"its text of check: {error}", False)
+        return Outcome(path, None, f"its text of check: {error}")
 
 
 def outcomes(folder):

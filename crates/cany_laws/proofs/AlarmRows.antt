@@ -1,4 +1,4 @@
--- Worked rows of wrong signs: a running node that others take for failed since it had stopped before, and one that runs all the time beside it.
+-- Worked rows of failures that are told: of a node that stopped, started again and stopped again, and of one that runs, beside one that runs all the time.
 use Rattle.std.specs.Prelude.{Bool, ◌≡◌, true, false, List, [], ◌∷◌, Some, None, Option, ℕ, refl}
 use Rattle.cany_base.specs.declared.log_entry.LogEntry.TheVariants.{Failed, View}
 use Rattle.cany_base.specs.declared.rule.Verdict.TheVariants.{Clean}
@@ -9,31 +9,29 @@ use Rattle.cany_model.specs.Runs.Run.{run}
 use Rattle.cany_laws.specs.Membership.{knowledge_as}
 use Rattle.cany_laws.proofs.RowWords.{again, found_of, lived, of_nodes, row, set, slot_rule, two}
 
--- Node 1 stops in slot 5, starts again at the end of slot 6, and takes part since slot 26. It runs when the logs of both nodes tell that it has failed: an
--- alarm names a node of which an incarnation stopped, and not one that is stopped. Here `silence` is 39, and `life` and `bound` are 19, so the stop lies more
--- than one slot before.
-unfoldable stopped_once : ScenarioParts
-stopped_once = two 60 [] (slot_rule 5 Clean 2 ∷ []) (again 6 1 ∷ [])
+-- Node 1 stops in slot 5, starts again at the end of slot 6, takes part since slot 26, and stops again in slot 38. Node 0 tells in slot 39 that it has failed:
+-- one of its stops, that in slot 5, lies more than one slot before, and not each. Here `silence` is 39, and `life` and `bound` are 19.
+unfoldable stopped_twice : ScenarioParts
+stopped_twice = two 60 [] (slot_rule 5 Clean 2 ∷ slot_rule 38 Clean 2 ∷ []) (again 6 1 ∷ [])
 
-alarms_of_a_stop : found_of stopped_once ≡ record {
+alarm_of_the_first_stop : found_of stopped_twice ≡ record {
   broken = None;
-  lives = (lived 0 60 (Failed 39 1 1 ∷ View 57 1 (set 3) ∷ []) ∷ [])
-      ∷ (lived 26 60 (Failed 41 1 1 ∷ View 57 1 (set 3) ∷ []) ∷ lived 0 5 [] ∷ []) ∷ [];
+  lives = (lived 0 60 (Failed 39 1 1 ∷ View 57 1 (set 3) ∷ []) ∷ []) ∷ (lived 26 38 [] ∷ lived 0 5 [] ∷ []) ∷ [];
 }
-unfolding row stopped_once
-alarms_of_a_stop = refl
+unfolding row stopped_twice
+alarm_of_the_first_stop = refl
 
-the_stop :
-    of_nodes {A = Option ℕ} (λ s i e. e.stopped) 2 (run stopped_once (round_robin stopped_once)) ≡ (None ∷ []) ∷ (None ∷ Some 5 ∷ []) ∷ []
-unfolding row stopped_once
-the_stop = refl
+the_stops :
+    of_nodes {A = Option ℕ} (λ s i e. e.stopped) 2 (run stopped_twice (round_robin stopped_twice)) ≡ (None ∷ []) ∷ (Some 38 ∷ Some 5 ∷ []) ∷ []
+unfolding row stopped_twice
+the_stops = refl
 
--- node 0 is in its first incarnation, and has failed nowhere although node 1 started again; node 1 runs too, and counts as failed at both
+-- node 0 is in its first incarnation, and has failed nowhere although node 1 started again
 who_counts_as_failed :
-    of_nodes {A = List Bool} (λ s i e. has (knowledge_as stopped_once s 50 i e).failed 0 ∷ has (knowledge_as stopped_once s 50 i e).failed 1 ∷ []) 2
-    (run stopped_once (round_robin stopped_once))
-    ≡ ((false ∷ true ∷ []) ∷ []) ∷ ((false ∷ true ∷ []) ∷ (false ∷ false ∷ []) ∷ []) ∷ []
-unfolding row stopped_once
+    of_nodes {A = List Bool} (λ s i e. has (knowledge_as stopped_twice s 50 i e).failed 0 ∷ has (knowledge_as stopped_twice s 50 i e).failed 1 ∷ []) 2
+    (run stopped_twice (round_robin stopped_twice))
+    ≡ ((false ∷ true ∷ []) ∷ []) ∷ ((false ∷ false ∷ []) ∷ (false ∷ false ∷ []) ∷ []) ∷ []
+unfolding row stopped_twice
 who_counts_as_failed = refl
 
 -- ---- staying

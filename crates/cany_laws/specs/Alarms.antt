@@ -13,21 +13,21 @@ use Rattle.cany_laws.specs.Logs.{IsIncarnation, log_as}
 use Rattle.cany_laws.specs.Membership.{knowledge_as, members_as}
 use Rattle.cany_laws.specs.Views.{installed_as}
 
--- An incarnation of node r stopped in a slot that lies before slot u by more than the silence less the life interval, the lag and the bound.
-pub record HasStoppedLongBefore (scenario : ScenarioParts) (s : RunState) (r u : ℕ) : Type 0 where
+-- an incarnation of node r stopped more than `silence` - `life` - `lag` - `bound` slots before slot u
+pub record HasStoppedBefore (scenario : ScenarioParts) (s : RunState) (r u : ℕ) : Type 0 where
   pub which : EndedIncarnation
   pub is : IsIncarnation scenario s r which
   pub slot : ℕ
   pub stopped : which.stopped ≡ Some slot
   pub long : slot + scenario.params.silence < u + (scenario.params.life + scenario.params.lag + scenario.params.bound)
 
--- each failure that the log of an incarnation tells of, of whatever node, is that of a node of which an incarnation stopped long before the entry
+-- each failure that the log of an incarnation tells of, of whatever node, is that of a node of which an incarnation stopped so many slots before the entry
 abbrev pub RaisesNoFalseAlarm : ScenarioParts → RunState → Type 0
 RaisesNoFalseAlarm scenario s =
     (i : ℕ) (e : EndedIncarnation) → IsIncarnation scenario s i e → (u r cycle : ℕ) → Contains (log_as scenario s i e) (Failed u r cycle)
-    → HasStoppedLongBefore scenario s r u
+    → HasStoppedBefore scenario s r u
 
--- node r has failed at no incarnation, of whatever node, after any of its turns, and no log tells that it has
+-- node r has failed at no incarnation, of whatever node, after any turn of that incarnation, and no log tells that it has
 pub record IsTakenForFailedNowhere (scenario : ScenarioParts) (s : RunState) (r : ℕ) : Type 0 where
   pub counted : (i : ℕ) (e : EndedIncarnation) → IsIncarnation scenario s i e → (t : ℕ) → t < e.next → has (knowledge_as scenario s t i e).failed r ≡ false
   pub told : (i : ℕ) (e : EndedIncarnation) → IsIncarnation scenario s i e → (u cycle : ℕ) → Contains (log_as scenario s i e) (Failed u r cycle) → ⊥

@@ -15,8 +15,9 @@ ghost use Rattle.cany_laws.specs.Alarms.{HadInView, IsTakenForFailedNowhere, NoL
 /// that of a node of which an incarnation stopped in a slot t with
 /// t + (`silence` - `life` - `lag` - `bound`) < u.
 ///
-/// So a greater `silence` tells how old a stop is at least when it is told. It does not say that the
-/// node is still stopped: it may have started again, and run as a member.
+/// So at least one stop of the node is older than that many slots, and a greater `silence` makes
+/// this number greater. The node may have started again since, and run as a member, and it may have
+/// stopped again later.
 pub fn no_false_alarm()
     ensures { (scenario : ScenarioParts) (journal : List Step) → IsLegalScenario scenario
         → IsWithin scenario.params (run scenario journal).trace → RaisesNoFalseAlarm scenario (run scenario journal) }
@@ -24,7 +25,8 @@ pub fn no_false_alarm()
 
 /// Accuracy where others start again: in such a run a running node that is in its first incarnation
 /// has failed at no incarnation of whatever node after any of its turns, and no log tells that it
-/// has. It rests on no view, and on nothing that the other nodes do.
+/// has. It holds whether the node is in a view or not, and whichever other nodes stop or start
+/// again.
 pub fn accuracy()
     ensures { (scenario : ScenarioParts) (journal : List Step) → IsLegalScenario scenario
         → IsWithin scenario.params (run scenario journal).trace → (r : ℕ) → IsCorrect scenario (run scenario journal) r
