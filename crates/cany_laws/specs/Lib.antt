@@ -10,3 +10,4 @@ pub mod Order
 pub mod Removal
 pub mod Sequence
 pub mod Views
+pub mod Waits

@@ -12,3 +12,4 @@ pub mod membership;
 pub mod order;
 pub mod removal;
 pub mod settled;
+pub mod waits;
