@@ -72,7 +72,6 @@ pub mod WaitRel
 pub mod WaitRows
 pub mod WaitSlots
 pub mod WaitTimes
-pub mod WaitTot
 pub mod WaitTotals
 pub mod WaitUnsent
 pub mod WaitWindows

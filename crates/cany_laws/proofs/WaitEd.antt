@@ -31,7 +31,7 @@ use Rattle.cany_model.proofs.Promises.OwnSlotsAlone.{AllWaitForOwnSlots, own_slo
 use Rattle.cany_model.proofs.Rules.MessageKeys.{IsOneOf}
 use Rattle.cany_model.proofs.Runs.Runs.{IsOrderly, along_run}
 use Rattle.cany_model.proofs.Runs.Steps.{MayTurn, after_slot-history, after_slot-present, after_slot-trace, after_slot-waiting, after_turn-history, next_notice, running_before_slot}
-use Rattle.cany_laws.specs.Waits.{incarnations_below, times_carried}
+use Rattle.cany_laws.specs.Carried.{incarnations_of_first, times_clean}
 use Rattle.cany_laws.proofs.WaitAsksOnce.{AtFirstCopy, AtItsSlot}
 use Rattle.cany_laws.proofs.WaitNodes.{IsSame, has_sent, kept_waits, new_lives, same_after_turn, same_history, sent_waits, slot_lives, turn_lives}
 use Rattle.cany_laws.proofs.WaitTimes.{IsLeft, few_times, lives}
@@ -264,7 +264,7 @@ module _ (scenario : ScenarioParts) (few : scenario.params.nodes ≤ most_nodes)
   }
 
   pub ed_times : (journal : List Step)
-      → times_carried (data_id m) (run scenario journal).trace ≤ incarnations_below scenario.params.nodes (run scenario journal)
+      → times_clean (data_id m) (run scenario journal).trace ≤ incarnations_of_first (run scenario journal) scenario.params.nodes
   ed_times journal =
       let h = few_times scenario (data_id m) (Known m) (left m) ed_left 0 known (omega (arith, first_left)) journal in
       omega (arith, h)

@@ -26,7 +26,7 @@ use Rattle.cany_model.proofs.Rules.MessageKeys.{IsOneOf}
 use Rattle.cany_model.proofs.Runs.Runs.{IsOrderly, history-length}
 use Rattle.cany_model.proofs.Runs.Steps.{MayTurn, after_slot-history, after_slot-waiting, after_turn-history, after_turn-node, next_notice, running_before_slot}
 use Rattle.cany_model.proofs.Runs.Waits.{waits-from_after}
-use Rattle.cany_laws.specs.Waits.{incarnations_below, times_carried}
+use Rattle.cany_laws.specs.Carried.{incarnations_of_first, times_clean}
 use Rattle.cany_laws.proofs.WaitAsksOnce.{AtItsSlot}
 use Rattle.cany_laws.proofs.WaitFallBack.{FallsBackNow, copy_dropped, rel_asked}
 use Rattle.cany_laws.proofs.WaitNodes.{IsSame, has_sent, kept_waits, new_lives, same_after_turn, same_history, same_reads, sent_waits, slot_lives, slot_reads, turn_lives, turn_reads}
@@ -265,7 +265,7 @@ module _ (scenario : ScenarioParts) (few : scenario.params.nodes ≤ most_nodes)
       ))
 
   pub rel_times : (journal : List Step)
-      → times_carried (data_id m) (run scenario journal).trace ≤ incarnations_below scenario.params.nodes (run scenario journal)
+      → times_clean (data_id m) (run scenario journal).trace ≤ incarnations_of_first (run scenario journal) scenario.params.nodes
   rel_times journal =
       let h = few_times scenario (data_id m) (λ s. Unit {0}) (left wait m) rel_left 0 (λ front. tt) (omega (arith, first_left)) journal in
       omega (arith, h)

@@ -18,7 +18,8 @@ use Rattle.cany_model.specs.Rules.Messages.{Message, data_id}
 use Rattle.cany_model.specs.Rules.Turn.{has_asked, scenario_at}
 use Rattle.cany_model.specs.Runs.RoundRobin.{round_robin}
 use Rattle.cany_model.specs.Runs.Run.{run, slot_state, slot_state_from}
-use Rattle.cany_laws.specs.Waits.{incarnations_below, least_left, most_taken, overtaken, times_carried, waits_since, window}
+use Rattle.cany_laws.specs.Carried.{incarnations_of_first, times_clean}
+use Rattle.cany_laws.specs.Waits.{least_left, most_taken, overtaken, waits_since, window}
 use Rattle.cany_laws.proofs.RowWords.{again, delivers, row, set, send, slot_rule, two}
 
 -- of two nodes a window has 19 slots, of which 18 may be taken and one is left
@@ -103,8 +104,8 @@ in_slots_4_and_5 = refl
 -- ---- how often a message is carried
 
 -- in a run without restarts as often as there are nodes, which are as many incarnations
-as_often_as_nodes : times_carried (data_id second) its_run.trace ∷ incarnations_below 2 its_run ∷ [] ≡ 2 ∷ 2 ∷ []
-unfolding row its_run in_a_row second
+as_often_as_nodes : times_clean (data_id second) its_run.trace ∷ incarnations_of_first its_run 2 ∷ [] ≡ 2 ∷ 2 ∷ []
+unfolding row its_run in_a_row second incarnations_of_first
 as_often_as_nodes = refl
 
 -- With a restart it may be carried more often than there are nodes. Node 0 sends in slot 1, stops, and starts again; the relay of node 1 is lost in slot 2
@@ -126,8 +127,8 @@ in_slots_1_3_and_4 : carried_in its_restart_run first_message ≡ 1 ∷ 3 ∷ 4 
 unfolding row its_restart_run with_restart first_message
 in_slots_1_3_and_4 = refl
 
-as_often_as_incarnations : times_carried (data_id first_message) its_restart_run.trace ∷ incarnations_below 2 its_restart_run ∷ [] ≡ 3 ∷ 3 ∷ []
-unfolding row its_restart_run with_restart first_message
+as_often_as_incarnations : times_clean (data_id first_message) its_restart_run.trace ∷ incarnations_of_first its_restart_run 2 ∷ [] ≡ 3 ∷ 3 ∷ []
+unfolding row its_restart_run with_restart first_message incarnations_of_first
 as_often_as_incarnations = refl
 
 -- A RELCAN message as often as there are nodes: its origin stops before it has confirmed it, and the other node falls back.

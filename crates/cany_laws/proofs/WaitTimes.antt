@@ -21,7 +21,7 @@ use Rattle.cany_model.proofs.Runs.Runs.{IsOrderly, MaySlot, orderly}
 use Rattle.cany_model.proofs.Runs.Journals.{run_none}
 use Rattle.cany_model.proofs.Runs.Steps.{MayTurn, after_slot-trace, after_turn-trace}
 use Rattle.cany_model.proofs.Timed.Windows.TopFrames.{carried_frame}
-use Rattle.cany_laws.specs.Waits.{incarnations_below, times_carried}
+use Rattle.cany_laws.specs.Carried.{incarnations_of_first, times_clean}
 use Rattle.cany_laws.proofs.Fronts.{along_pushes, pushed}
 use Rattle.cany_laws.proofs.WaitSlots.{is_clean_frame}
 use Rattle.cany_laws.proofs.WaitTotals.{total, total_both, total_less, total_most}
@@ -46,9 +46,10 @@ pub record IsLeft (scenario : ScenarioParts) (x : Identity) (Q : RunState → Ty
   pub turn_lives : (s : RunState) (i : ℕ) → IsOrderly scenario.params.nodes s → MayTurn s i → (j : ℕ) → j < scenario.params.nodes
       → lives (after_turn scenario i s) j ≡ lives s j
 
-pub below_is : (n : ℕ) (s : RunState) → incarnations_below n s ≡ total (lives s) n
+pub below_is : (n : ℕ) (s : RunState) → incarnations_of_first s n ≡ total (lives s) n
+unfolding incarnations_of_first
 below_is zero s = refl
-below_is (suc n) s = ap (λ k. lives s n + k) (below_is n s)
+below_is (suc n) s = omega (arith, below_is n s)
 
 total_same : (f g : ℕ → ℕ) (n : ℕ) → ((i : ℕ) → i < n → f i ≡ g i) → total f n ≡ total g n
 total_same f g zero h = refl
@@ -63,14 +64,14 @@ module _ (scenario : ScenarioParts) (x : Identity) (Q : RunState → Type 0) (le
 
   -- the times that it was carried and those that are left, beside the incarnations
   abbrev Few : RunState → Type 0
-  Few s = times_carried x s.trace + total (left s) n ≤ total (lives s) n + more
+  Few s = times_clean x s.trace + total (left s) n ≤ total (lives s) n + more
 
   few_slot : (s : RunState) → IsOrderly n s → MaySlot scenario s → Q s → Few s → Few (after_slot (script scenario.rules) s)
   few_slot s o may q h =
       let t : RunState = after_slot (script scenario.rules) s in
       let note : SlotNote = slot_note_of (script scenario.rules) s in
       let same = total_same (lives t) (lives s) n (is.slot_lives s o) in
-      subst (λ trace. times_carried x trace + total (left t) n ≤ total (lives t) n + more) (sym (after_slot-trace (script scenario.rules) s))
+      subst (λ trace. times_clean x trace + total (left t) n ≤ total (lives t) n + more) (sym (after_slot-trace (script scenario.rules) s))
       (elim (cases_Bool (is_clean_frame x note)) [
         | inr other ↦
             let most = total_most (left t) (left s) n (is.slot s o may q) in
@@ -89,18 +90,18 @@ module _ (scenario : ScenarioParts) (x : Identity) (Q : RunState → Type 0) (le
   few_restarts s h =
       let t : RunState = after_restarts scenario s in
       let both = total_both (left t) (lives s) (left s) (lives t) n (is.restarts s) in
-      subst (λ trace. times_carried x trace + total (left t) n ≤ total (lives t) n + more) (sym (after_restarts-trace scenario s)) (omega (arith, h, both))
+      subst (λ trace. times_clean x trace + total (left t) n ≤ total (lives t) n + more) (sym (after_restarts-trace scenario s)) (omega (arith, h, both))
 
   few_turn : (s : RunState) (i : ℕ) → IsOrderly n s → MayTurn s i → Q s → Few s → Few (after_turn scenario i s)
   few_turn s i o may q h =
       let t : RunState = after_turn scenario i s in
       let most = total_most (left t) (left s) n (is.turn s i o may q) in
       let same = total_same (lives t) (lives s) n (is.turn_lives s i o may) in
-      subst (λ trace. times_carried x trace + total (left t) n ≤ total (lives t) n + more) (sym (after_turn-trace scenario i s)) (omega (arith, h, most, same))
+      subst (λ trace. times_clean x trace + total (left t) n ≤ total (lives t) n + more) (sym (after_turn-trace scenario i s)) (omega (arith, h, most, same))
 
   -- so it is carried at most so often
   pub few_times : ((journal : List Step) → Q (run scenario journal)) → Few (opening n) → (journal : List Step)
-      → times_carried x (run scenario journal).trace ≤ incarnations_below n (run scenario journal) + more
+      → times_clean x (run scenario journal).trace ≤ incarnations_of_first (run scenario journal) n + more
   few_times known few journal =
       let h = along_pushes (λ front. Few (run scenario front)) (subst Few (sym (run_none scenario (opening n))) few)
       (λ front next h. elim (pushed scenario front next).is [

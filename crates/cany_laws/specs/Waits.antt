@@ -1,6 +1,5 @@
--- How long a frame waits: the slots in which a running node waited with it, those in which another frame was carried before it, the slot that
--- carried it, and how many did in the whole run.
-use Rattle.std.specs.Prelude.{zero, suc, length, ◌≡◌, ℕ, ◌+◌, ◌-◌, ◌<◌, ◌≤◌, ◌&&◌, Bool, true, not, List, Contains, Some, count_by, drop, take}
+-- How long a frame waits: the slots in which a running node waited with it, those in which another frame was carried before it, and the slot that carried it.
+use Rattle.std.specs.Prelude.{◌≡◌, ℕ, ◌+◌, ◌-◌, ◌<◌, ◌≤◌, ◌&&◌, Bool, true, not, List, Contains, Some, count_by, drop, take}
 use Rattle.cany_base.specs.declared.log_entry.LogEntry.TheVariants.{Deliver}
 use Rattle.cany_base.specs.declared.slot_note.SlotNote.{SlotNote}
 use Rattle.cany_base.specs.declared.step.Step.{Step}
@@ -17,7 +16,6 @@ use Rattle.cany_model.specs.Promises.Settled.{IsCorrectFrom}
 use Rattle.cany_model.specs.Rules.Log.{log}
 use Rattle.cany_model.specs.Rules.Messages.{Message, message_key, messages_of}
 use Rattle.cany_model.specs.Rules.Turn.{has_asked, scenario_at}
-use Rattle.cany_model.specs.Runs.Incarnations.{incarnations}
 use Rattle.cany_model.specs.Runs.Run.{slot_state}
 
 -- the notes of n consecutive slots that ran, from slot first on, newest first
@@ -77,17 +75,6 @@ pub record HasAskedBy (scenario : ScenarioParts) (s : RunState) (m : Message) (t
 -- the first slot that is run only when the origin has read slot t
 abbrev pub waits_since : Parameters → ℕ → ℕ
 waits_since p t = t + p.lag + 1
-
--- ---- how often a frame is carried
-
--- how many slots carried a frame of the identity Clean
-abbrev pub times_carried : Identity → List SlotNote → ℕ
-times_carried x trace = count_by (λ note. carried (is_of x) note && is_clean note.verdict) trace
-
--- how many incarnations the nodes below this number have had, with the present ones
-abbrev pub incarnations_below : ℕ → RunState → ℕ
-incarnations_below zero s = 0
-incarnations_below (suc n) s = length (incarnations s n) + incarnations_below n s
 
 -- ---- delivery
 

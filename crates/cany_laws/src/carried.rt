@@ -1,13 +1,15 @@
 //! Laws of how often the bus carries the frames that one cause brings.
-ghost use Rattle.std.specs.Prelude.{◌≤◌, List};
+ghost use Rattle.std.specs.Prelude.{◌≡◌, ◌≤◌, List, Contains};
 ghost use Rattle.cany_base.specs.Limits.{most_nodes};
 ghost use Rattle.cany_base.specs.declared.message.MsgKey.{MsgKey};
+ghost use Rattle.cany_base.specs.declared.message.Service.TheVariants.{Ed, Rel};
 ghost use Rattle.cany_base.specs.declared.step.Step.{Step};
 ghost use Rattle.cany_base.specs.Scenario.{ScenarioParts};
 ghost use Rattle.cany_model.specs.Promises.Hypothesis.{IsWithin};
 ghost use Rattle.cany_model.specs.Rules.Knowledge.{FailureSign};
+ghost use Rattle.cany_model.specs.Rules.Messages.{Message, data_id, messages_of};
 ghost use Rattle.cany_model.specs.Runs.Run.{run};
-ghost use Rattle.cany_laws.specs.Carried.{CarriesFewOf, CarriesFewOfSign};
+ghost use Rattle.cany_laws.specs.Carried.{CarriesFewOf, CarriesFewOfSign, incarnations_of_first, times_clean};
 
 /// Frames of a TOTCAN message: in every run within the fault hypothesis, of at most 64 nodes, the bus
 /// carries the data frame of a TOTCAN message Clean once at most in the whole run, and the frame that
@@ -32,4 +34,20 @@ pub fn few_frames_of_a_message()
 pub fn few_frames_of_a_sign()
     ensures { (scenario : ScenarioParts) (journal : List Step) → scenario.params.nodes ≤ most_nodes
         → IsWithin scenario.params (run scenario journal).trace → (sign : FailureSign) → CarriesFewOfSign scenario (run scenario journal) sign }
+{}
+
+/// How often a message is carried: the data frame of a message of EDCAN or RELCAN is carried Clean at
+/// most once for each incarnation that the nodes have had, ended or present. So in a run in which no
+/// node starts again that is at most once for each node.
+///
+/// It holds of every journal, at any lag and under any faults, within the hypothesis or not, and asks
+/// for at most 64 nodes. How often that of a message of TOTCAN is carried `few_frames_of_a_message`
+/// says.
+pub fn few_data_frames()
+    ensures edcan { (scenario : ScenarioParts) (journal : List Step) → scenario.params.nodes ≤ most_nodes
+        → (m : Message) → Contains (messages_of scenario.sends) m → m.service ≡ Ed
+        → times_clean (data_id m) (run scenario journal).trace ≤ incarnations_of_first (run scenario journal) scenario.params.nodes }
+    ensures relcan { (scenario : ScenarioParts) (journal : List Step) → scenario.params.nodes ≤ most_nodes
+        → (m : Message) → Contains (messages_of scenario.sends) m → m.service ≡ Rel
+        → times_clean (data_id m) (run scenario journal).trace ≤ incarnations_of_first (run scenario journal) scenario.params.nodes }
 {}

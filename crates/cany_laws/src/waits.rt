@@ -1,7 +1,6 @@
-//! Laws of waiting: how soon a frame that waits is carried, and how often one is.
+//! Laws of waiting: how soon a frame that waits is carried, and by when a message is delivered.
 ghost use Rattle.std.specs.Prelude.{◌≡◌, ◌+◌, ◌*◌, ◌<◌, ◌≤◌, ℕ, true, List, Contains};
 ghost use Rattle.cany_base.specs.Limits.{most_nodes};
-ghost use Rattle.cany_base.specs.declared.message.Service.TheVariants.{Ed, Rel, Tot};
 ghost use Rattle.cany_base.specs.declared.step.Step.{Step};
 ghost use Rattle.cany_base.specs.Scenario.{IsLegalScenario, ScenarioParts};
 ghost use Rattle.cany_model.specs.Bus.Frames.{Identity};
@@ -11,7 +10,7 @@ ghost use Rattle.cany_model.specs.Promises.Settled.{IsCorrect, IsCorrectFrom, or
 ghost use Rattle.cany_model.specs.Rules.Messages.{Message, data_id, messages_of};
 ghost use Rattle.cany_model.specs.Rules.Sends.{is_sent_at_once};
 ghost use Rattle.cany_model.specs.Runs.Run.{run};
-ghost use Rattle.cany_laws.specs.Waits.{HasAskedBy, HasDeliveredBy, IsAwaitedThrough, WasCarriedIn, incarnations_below, least_left, most_taken, overtaken, times_carried, waits_since, window};
+ghost use Rattle.cany_laws.specs.Waits.{HasAskedBy, HasDeliveredBy, IsAwaitedThrough, WasCarriedIn, least_left, most_taken, overtaken, waits_since, window};
 
 /// How long a frame waits: in every run within the fault hypothesis of a legal scenario, if running
 /// nodes wait with a frame of one identity in n consecutive slots, none of which carries it Clean,
@@ -82,24 +81,4 @@ pub fn delivered_when_carried()
         → (m : Message) → Contains (messages_of scenario.sends) m → is_sent_at_once m.service ≡ true → (c i : ℕ)
         → WasCarriedIn (run scenario journal).trace (data_id m) c 1 → IsCorrectFrom scenario (run scenario journal) c i
         → c < reads (run scenario journal) i → HasDeliveredBy scenario (run scenario journal) m c i }
-{}
-
-/// How often a message is carried: the data frame of a message of EDCAN or RELCAN is carried Clean at
-/// most once for each incarnation that the nodes have had, ended or present. So in a run in which no
-/// node starts again that is at most once for each node. That of a message of TOTCAN is carried Clean
-/// at most once, within the fault hypothesis.
-///
-/// It holds of every journal, at any lag, and asks for at most 64 nodes. Of EDCAN and RELCAN it holds
-/// under any faults, within the hypothesis or not.
-pub fn few_data_frames()
-    ensures edcan { (scenario : ScenarioParts) (journal : List Step) → scenario.params.nodes ≤ most_nodes
-        → (m : Message) → Contains (messages_of scenario.sends) m → m.service ≡ Ed
-        → times_carried (data_id m) (run scenario journal).trace ≤ incarnations_below scenario.params.nodes (run scenario journal) }
-    ensures relcan { (scenario : ScenarioParts) (journal : List Step) → scenario.params.nodes ≤ most_nodes
-        → (m : Message) → Contains (messages_of scenario.sends) m → m.service ≡ Rel
-        → times_carried (data_id m) (run scenario journal).trace ≤ incarnations_below scenario.params.nodes (run scenario journal) }
-    ensures totcan { (scenario : ScenarioParts) (journal : List Step) → scenario.params.nodes ≤ most_nodes
-        → IsWithin scenario.params (run scenario journal).trace
-        → (m : Message) → Contains (messages_of scenario.sends) m → m.service ≡ Tot
-        → times_carried (data_id m) (run scenario journal).trace ≤ 1 }
 {}
