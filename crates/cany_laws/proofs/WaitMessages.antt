@@ -34,7 +34,7 @@ use Rattle.cany_model.proofs.Runs.Runs.{history-length, slot_done}
 use Rattle.cany_model.proofs.Runs.SlotStates.{slot_has_state, slot_state_is}
 use Rattle.cany_model.proofs.Timed.Windows.QuietSlots.{front_trace, within_dropped}
 use Rattle.cany_model.proofs.Timed.Windows.TopFrames.{is_carried}
-use Rattle.cany_laws.specs.Waits.{HasAskedBy, IsAwaitedThrough, WasAwaited, WasCarriedIn, least_left, overtaken, waits_since, window}
+use Rattle.cany_laws.specs.Waits.{HasAskedBy, IsAwaitedThrough, WasAwaited, WasCarriedIn, least_left, interference, waits_since, window}
 use Rattle.cany_laws.proofs.Fronts.{front_split}
 use Rattle.cany_laws.proofs.Since.{begins_now}
 use Rattle.cany_laws.proofs.WaitAsked.{WaitsOrGone, asked_since, keeps_asked}
@@ -126,7 +126,7 @@ module _ (scenario : ScenarioParts) (journal : List Step) (within : IsWithin sce
       newer_slots newer old size number = omega (arith, size, number)
 
   pub carried_by : IsLegalScenario scenario → (times : ℕ) → waits_since scenario.params t + times * window scenario.params ≤ slots_run s
-      → overtaken (data_id m) s (waits_since scenario.params t) (times * window scenario.params) < times * least_left scenario.params
+      → interference (data_id m) s (waits_since scenario.params t) (times * window scenario.params) < times * least_left scenario.params
       → WasCarriedIn s.trace (data_id m) 0 (waits_since scenario.params t + times * window scenario.params)
   carried_by legal times ran few = elim (cases_Bool (list_any (is_clean_frame (data_id m)) old)) [
     | inl some ↦

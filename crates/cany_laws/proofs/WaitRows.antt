@@ -19,7 +19,7 @@ use Rattle.cany_model.specs.Rules.Turn.{has_asked, scenario_at}
 use Rattle.cany_model.specs.Runs.RoundRobin.{round_robin}
 use Rattle.cany_model.specs.Runs.Run.{run, slot_state, slot_state_from}
 use Rattle.cany_laws.specs.Carried.{incarnations_of_first, times_clean}
-use Rattle.cany_laws.specs.Waits.{least_left, most_taken, overtaken, waits_since, window}
+use Rattle.cany_laws.specs.Waits.{least_left, most_taken, interference, waits_since, window}
 use Rattle.cany_laws.proofs.RowWords.{again, delivers, row, set, send, slot_rule, two}
 
 -- of two nodes a window has 19 slots, of which 18 may be taken and one is left
@@ -53,8 +53,8 @@ unfoldable its_run : RunState
 unfolding row
 its_run = run in_a_row (round_robin in_a_row)
 
--- two frames of 57 slots win over it, fewer than are left of three windows: the law says that it is carried Clean before slot 58
-behind_two : overtaken (data_id second) its_run (waits_since in_a_row.params 0) 57 ≡ 2
+-- two of the 57 slots carried a frame that wins over it; of three windows at least three slots are left: the law says that it is carried Clean before slot 58
+behind_two : interference (data_id second) its_run (waits_since in_a_row.params 0) 57 ≡ 2
 unfolding row its_run in_a_row second
 behind_two = refl
 
@@ -81,7 +81,7 @@ delivered_in_slot_3 = refl
 
 -- ---- a disturbed slot
 
--- The same with slot 1 lost, which the hypothesis allows. It waits behind two frames all the same, and for a slot more: the slots that are taken count too.
+-- The same with slot 1 lost, which the hypothesis allows. The second message waits behind two frames all the same, and a slot longer: a lost slot counts too.
 unfoldable disturbed : ScenarioParts
 disturbed = two 58 (send Ed 0 0 (1 ∷ []) ∷ send Ed 0 0 (2 ∷ []) ∷ []) (slot_rule 1 Lost 0 ∷ []) []
 
@@ -93,7 +93,7 @@ is_within : first_break disturbed.params its_disturbed_run.trace ≡ None
 unfolding row its_disturbed_run disturbed
 is_within = refl
 
-still_behind_two : overtaken (data_id second) its_disturbed_run (waits_since disturbed.params 0) 3 ≡ 2
+still_behind_two : interference (data_id second) its_disturbed_run (waits_since disturbed.params 0) 3 ≡ 2
 unfolding row its_disturbed_run disturbed second
 still_behind_two = refl
 

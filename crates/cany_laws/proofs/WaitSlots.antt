@@ -30,7 +30,7 @@ use Rattle.cany_model.proofs.Timed.Common.Counting.{window_at, window_back}
 use Rattle.cany_model.proofs.Timed.Guarantees.{accepts_are_few, signs_are_few}
 use Rattle.cany_model.proofs.Timed.Windows.FewVectors.{few_vectors}
 use Rattle.cany_model.proofs.Timed.Windows.TopFrames.{clean_or_error, is_carried, is_carried_clean, never_silent}
-use Rattle.cany_laws.specs.Waits.{IsAwaitedThrough, WasAwaited, WasCarriedIn, least_left, most_taken, overtaken, overtakes, slots_from, window}
+use Rattle.cany_laws.specs.Waits.{IsAwaitedThrough, WasAwaited, WasCarriedIn, least_left, most_taken, interference, interferes, slots_from, window}
 use Rattle.cany_laws.proofs.WaitOrder.{NotAfterIt, carried_while}
 use Rattle.cany_laws.proofs.WaitWindows.{few_taken, is_taken, waits_at_most}
 
@@ -55,9 +55,9 @@ taken_clean note f frame top clean =
     ])
 
 -- a slot that carried no frame of the identity Clean, while a running node waited with one, is taken, or carried Clean one that wins over it
-taken_or_overtakes : (x : Identity) (note : SlotNote) → is_silent_slot note ≡ false → is_clean_frame x note ≡ false → NotAfterIt x note
-    → (is_taken note ≡ true) ⊎ (overtakes x note ≡ true)
-taken_or_overtakes x note plain not_clean w = elim (clean_or_error note w.what w.frame plain) [
+taken_or_interferes : (x : Identity) (note : SlotNote) → is_silent_slot note ≡ false → is_clean_frame x note ≡ false → NotAfterIt x note
+    → (is_taken note ≡ true) ⊎ (interferes x note ≡ true)
+taken_or_interferes x note plain not_clean w = elim (clean_or_error note w.what w.frame plain) [
   | inr error ↦ inl (or_left (is_error_slot note) _ error)
   | inl clean ↦ elim (cases_Bool (is_top w.what.class)) [
     | inl top ↦ inl (taken_clean note w.what w.frame top clean)
@@ -170,30 +170,30 @@ module _ (scenario : ScenarioParts) (journal : List Step) (legal : IsLegalScenar
 
   each_age : (x : Identity) (first n : ℕ) → first + n ≤ slots_run s → IsAwaitedThrough scenario journal x first n
       → IsNotCarriedIn s.trace x (slots_run s - (first + n)) n → (age : ℕ) → slots_run s - (first + n) ≤ age → age < slots_run s - (first + n) + n
-      → (is_taken (note_at s.trace age) ≡ true) ⊎ (overtakes x (note_at s.trace age) ≡ true)
+      → (is_taken (note_at s.trace age) ≡ true) ⊎ (interferes x (note_at s.trace age) ≡ true)
   each_age x first n ran awaited none age from to =
       let t : ℕ = slots_run s - suc age in
       let w = awaited t (omega (arith, ran, from, to)) (omega (arith, ran, from, to)) in
       let note = note_of scenario journal x t w in
       let same : note.age ≡ age = omega (arith, note.place, ran, from, to) in
       let is : note_at s.trace age ≡ slot_note_of (script scenario.rules) w.state = ap (λ a. note_at s.trace a) (sym same) ∙ note.is in
-      taken_or_overtakes x (note_at s.trace age) (never_silent scenario.params s.trace within age) (none age from to)
+      taken_or_interferes x (note_at s.trace age) (never_silent scenario.params s.trace within age) (none age from to)
       (subst (NotAfterIt x) (sym is) (carried_while (script scenario.rules) w.state x w.node w.running w.waits))
 
   pub few_waits : (x : Identity) (first n times : ℕ) → first + n ≤ slots_run s → IsAwaitedThrough scenario journal x first n
       → IsNotCarriedIn s.trace x (slots_run s - (first + n)) n → n ≤ times * window scenario.params
-      → n ≤ overtaken x s first n + times * most_taken scenario.params
+      → n ≤ interference x s first n + times * most_taken scenario.params
   few_waits x first n times ran awaited none short =
       let p : Parameters = scenario.params in
       let few = few_nodes p legal.in_range in
       waits_at_most p is_taken (most_taken p) s.trace refl
       (few_taken p s.trace within (accepts_are_few scenario journal few within) (few_vectors scenario journal few legal.formulas legal.members)
       (signs_are_few scenario journal few legal.formulas legal.members within))
-      (overtakes x) refl (slots_run s - (first + n)) n times short (each_age x first n ran awaited none)
+      (interferes x) refl (slots_run s - (first + n)) n times short (each_age x first n ran awaited none)
 
   -- where none of the slots carried it Clean
   pub few_slots_of_waiting : (x : Identity) (first n times : ℕ) → first + n ≤ slots_run s → IsAwaitedThrough scenario journal x first n
-      → (WasCarriedIn s.trace x first n → ⊥) → n ≤ times * window scenario.params → n ≤ overtaken x s first n + times * most_taken scenario.params
+      → (WasCarriedIn s.trace x first n → ⊥) → n ≤ times * window scenario.params → n ≤ interference x s first n + times * most_taken scenario.params
   few_slots_of_waiting x first n times ran awaited never short =
       few_waits x first n times ran awaited (λ age from to.
       false_from_ne_true (is_clean_frame x (note_at s.trace age)) (λ clean.
@@ -202,7 +202,7 @@ module _ (scenario : ScenarioParts) (journal : List Step) (legal : IsLegalScenar
   -- so one of so many windows did, where fewer frames win over it than slots are left
   pub carried_in_windows : (x : Identity) (first times : ℕ) → first + times * window scenario.params ≤ slots_run s
       → IsAwaitedThrough scenario journal x first (times * window scenario.params)
-      → overtaken x s first (times * window scenario.params) < times * least_left scenario.params
+      → interference x s first (times * window scenario.params) < times * least_left scenario.params
       → WasCarriedIn s.trace x first (times * window scenario.params)
   carried_in_windows x first times ran awaited few =
       let p : Parameters = scenario.params in
@@ -211,7 +211,7 @@ module _ (scenario : ScenarioParts) (journal : List Step) (legal : IsLegalScenar
         | inl some ↦ carried_in_window scenario journal x first n ran some
         | inr none ↦
             let most = few_waits x first n times ran awaited (none_in_window s x first n none) (omega arith) in
-            absurd (too_many (window p) (most_taken p) times (overtaken x s first n) most few)
+            absurd (too_many (window p) (most_taken p) times (interference x s first n) most few)
       ]
     where
       too_many : (size most times others : ℕ) → times * size ≤ others + times * most → others < times * (size - most) → ⊥

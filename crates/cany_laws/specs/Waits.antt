@@ -18,7 +18,7 @@ use Rattle.cany_model.specs.Rules.Messages.{Message, message_key, messages_of}
 use Rattle.cany_model.specs.Rules.Turn.{has_asked, scenario_at}
 use Rattle.cany_model.specs.Runs.Run.{slot_state}
 
--- the notes of n consecutive slots that ran, from slot first on, newest first
+-- the notes of n consecutive slots, from slot first on, newest first, where these slots ran
 abbrev pub slots_from : RunState → (first n : ℕ) → List SlotNote
 slots_from s first n = take n (drop (slots_run s - (first + n)) s.trace)
 
@@ -43,19 +43,19 @@ pub record WasCarriedIn (trace : List SlotNote) (x : Identity) (first n : ℕ) :
   pub frame : carried (is_of x) note ≡ true
   pub clean : note.verdict ≡ Clean
 
--- whether the slot carried Clean a frame that wins over those of this identity, and is of none of the classes that win over all others
-abbrev pub overtakes : Identity → SlotNote → Bool
-overtakes x note = carried (λ f. not (is_top f.class) && is_before f (bare x)) note && is_clean note.verdict
+-- whether the slot carried Clean a frame that interferes: it wins over those of this identity, and is of none of the classes that win over all others
+abbrev pub interferes : Identity → SlotNote → Bool
+interferes x note = carried (λ f. not (is_top f.class) && is_before f (bare x)) note && is_clean note.verdict
 
 -- how many of these slots did
-abbrev pub overtaken : Identity → RunState → (first n : ℕ) → ℕ
-overtaken x s first n = count_by (overtakes x) (slots_from s first n)
+abbrev pub interference : Identity → RunState → (first n : ℕ) → ℕ
+interference x s first n = count_by (interferes x) (slots_from s first n)
 
 -- a window of slots, as the fault hypothesis counts errors
 abbrev pub window : Parameters → ℕ
 window p = p.bound + p.lag
 
--- at most so many slots of a window are disturbed, or carry a frame of the classes that win over all others
+-- at most so many slots of a window are Lost or Partial, or carry Clean a frame of the classes that win over all others
 abbrev pub most_taken : Parameters → ℕ
 most_taken p = top_frames p.nodes + p.errors
 

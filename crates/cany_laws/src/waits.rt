@@ -1,4 +1,4 @@
-//! Laws of waiting: how soon a frame that waits is carried, and by when a message is delivered.
+//! Laws of waiting: by when a frame that waits is carried, and by when a message is delivered.
 ghost use Rattle.std.specs.Prelude.{◌≡◌, ◌+◌, ◌*◌, ◌<◌, ◌≤◌, ℕ, true, List, Contains};
 ghost use Rattle.cany_base.specs.Limits.{most_nodes};
 ghost use Rattle.cany_base.specs.declared.step.Step.{Step};
@@ -10,52 +10,53 @@ ghost use Rattle.cany_model.specs.Promises.Settled.{IsCorrect, IsCorrectFrom, or
 ghost use Rattle.cany_model.specs.Rules.Messages.{Message, data_id, messages_of};
 ghost use Rattle.cany_model.specs.Rules.Sends.{is_sent_at_once};
 ghost use Rattle.cany_model.specs.Runs.Run.{run};
-ghost use Rattle.cany_laws.specs.Waits.{HasAskedBy, HasDeliveredBy, IsAwaitedThrough, WasCarriedIn, least_left, most_taken, overtaken, waits_since, window};
+ghost use Rattle.cany_laws.specs.Waits.{HasAskedBy, HasDeliveredBy, IsAwaitedThrough, WasCarriedIn, least_left, most_taken, interference, waits_since, window};
 
-/// How long a frame waits: in every run within the fault hypothesis of a legal scenario, if running
-/// nodes wait with a frame of one identity in n consecutive slots, none of which carries it Clean,
-/// then n is at most the number of them that carry Clean a frame that wins over it, of the classes
-/// from the failure signs on, and `most_taken` for each window of `bound` + `lag` slots that they
-/// fill or begin.
+/// How long a frame waits: in every run within the fault hypothesis of a legal scenario, let running
+/// nodes wait with a frame of one identity in n consecutive slots, none of which carries it Clean.
+/// Then n is at most the sum of two numbers: how many of these slots carry Clean a frame that wins
+/// over it and is of the classes FDA to ED; and `most_taken` times the number of windows of
+/// `bound` + `lag` slots that n slots need, the last one perhaps in part.
 ///
-/// `most_taken` is how many slots of a window can carry a frame that accepts, a vector or a life
-/// sign Clean, or are disturbed: 3N² + 2N and `errors`, with N nodes. No slot is idle while a frame
-/// waits. It may be another node that waits in another slot.
+/// `most_taken` is 3N² + 2N + `errors`, with N nodes: at most so many slots of a window carry an
+/// ACCEPT, RHA or ELS Clean, or are Lost or Partial. No slot is idle while a frame waits. The node
+/// that waits need not be the same in each slot.
 pub fn few_slots_of_waiting()
     ensures { (scenario : ScenarioParts) (journal : List Step) → IsLegalScenario scenario
         → IsWithin scenario.params (run scenario journal).trace → (x : Identity) (first n windows : ℕ)
         → first + n ≤ slots_run (run scenario journal) → IsAwaitedThrough scenario journal x first n
         → (WasCarriedIn (run scenario journal).trace x first n → ⊥) → n ≤ windows * window scenario.params
-        → n ≤ overtaken x (run scenario journal) first n + windows * most_taken scenario.params }
+        → n ≤ interference x (run scenario journal) first n + windows * most_taken scenario.params }
 {}
 
-/// A frame that waits is carried: in such a run, if running nodes wait with a frame of one identity
-/// in each slot of so many windows of `bound` + `lag` slots, one after another, and fewer of these
-/// slots carry Clean a frame that wins over it, of the classes from the failure signs on, than
-/// `least_left` for each window, then one of them carries it Clean.
+/// A frame that waits is carried: in every run within the fault hypothesis of a legal scenario, let
+/// running nodes wait with a frame of one identity in each slot of w windows of `bound` + `lag`
+/// slots, one after another. If fewer than w times `least_left` of these slots carry Clean a frame
+/// that wins over it and is of the classes FDA to ED, one of these slots carries it Clean.
 ///
-/// `least_left` is what a window has beside the slots that `most_taken` counts. In a legal scenario
-/// that is at least one slot.
+/// `least_left` is `bound` + `lag` less `most_taken`. In a legal scenario it is at least 1. Against
+/// an ACCEPT, RHA or ELS no slot is counted, so one window is enough.
 pub fn carried_in_windows()
     ensures some_left { (scenario : ScenarioParts) → IsLegalScenario scenario → 0 < least_left scenario.params }
     ensures carried { (scenario : ScenarioParts) (journal : List Step) → IsLegalScenario scenario
         → IsWithin scenario.params (run scenario journal).trace → (x : Identity) (first windows : ℕ)
         → first + windows * window scenario.params ≤ slots_run (run scenario journal)
         → IsAwaitedThrough scenario journal x first (windows * window scenario.params)
-        → overtaken x (run scenario journal) first (windows * window scenario.params) < windows * least_left scenario.params
+        → interference x (run scenario journal) first (windows * window scenario.params) < windows * least_left scenario.params
         → WasCarriedIn (run scenario journal).trace x first (windows * window scenario.params) }
 {}
 
-/// A message is carried: in such a run, if the origin of a message runs, and had asked for its data
-/// frame by its turn of slot t, in its present incarnation, then the frame is carried Clean by slot
-/// t + `lag` + the slots of so many windows, if fewer of these windows' slots, from slot
-/// t + `lag` + 1 on, carry Clean a frame that wins over it, of the classes from the failure signs
-/// on, than `least_left` for each window.
+/// A message is carried: in every run within the fault hypothesis of a legal scenario, let the
+/// origin of a message run and, in its present incarnation, have asked for the data frame by its
+/// turn of slot t. Let w windows of `bound` + `lag` slots have run from slot t + `lag` + 1 on. If
+/// fewer than w times `least_left` of their slots carry Clean a frame that wins over it and is of
+/// the classes FDA to ED, the frame is carried Clean by slot t + `lag` + w * (`bound` + `lag`),
+/// perhaps before the first window.
 ///
-/// It holds of the messages of all three protocols. An origin that has asked for one of EDCAN or
-/// RELCAN had asked for it by its turn of the scripted slot, so that t is that slot. One of TOTCAN
-/// is asked for once those before it in the backlog have been sent, the last of them `bound` + `lag`
-/// slots before; the law does not say when that is.
+/// It holds of the messages of all three protocols. For EDCAN and RELCAN t may be the scripted slot:
+/// an origin that has asked had asked by its turn of it. A message of TOTCAN is asked for only when
+/// the origin has read its own transmission of each one before it in the backlog, and
+/// `bound` + `lag` slots have passed since the last of them; the law does not say when that is.
 pub fn message_is_carried()
     ensures asked { (scenario : ScenarioParts) (journal : List Step) (m : Message) → Contains (messages_of scenario.sends) m
         → is_sent_at_once m.service ≡ true → IsCorrect scenario (run scenario journal) m.origin
@@ -64,7 +65,7 @@ pub fn message_is_carried()
         → IsWithin scenario.params (run scenario journal).trace → (m : Message) (t windows : ℕ)
         → HasAskedBy scenario (run scenario journal) m t
         → waits_since scenario.params t + windows * window scenario.params ≤ slots_run (run scenario journal)
-        → overtaken (data_id m) (run scenario journal) (waits_since scenario.params t) (windows * window scenario.params)
+        → interference (data_id m) (run scenario journal) (waits_since scenario.params t) (windows * window scenario.params)
         < windows * least_left scenario.params
         → WasCarriedIn (run scenario journal).trace (data_id m) 0 (waits_since scenario.params t + windows * window scenario.params) }
 {}
@@ -73,9 +74,11 @@ pub fn message_is_carried()
 /// carried Clean in a slot c has been delivered in slot c or an earlier one by each correct node that
 /// takes part since c and has read slot c.
 ///
-/// So where `message_is_carried` says by when its frame is carried Clean, each of them delivers it by
-/// then. It holds of every journal, at any lag and under any faults, within the hypothesis or not,
-/// and asks for at most 64 nodes. When a message of TOTCAN is delivered `delivery_in_time` says.
+/// So if a node takes part since slot 0, and `message_is_carried` says by when the frame is carried
+/// Clean, the node delivers the message by then, once it has read that far. Of a node that takes
+/// part only since later one must know that it does so since c. It holds of every journal, at any
+/// lag and under any faults, within the hypothesis or not, and asks for at most 64 nodes. When a
+/// message of TOTCAN is delivered `incarnations::delivery_in_time` says.
 pub fn delivered_when_carried()
     ensures { (scenario : ScenarioParts) (journal : List Step) → scenario.params.nodes ≤ most_nodes
         → (m : Message) → Contains (messages_of scenario.sends) m → is_sent_at_once m.service ≡ true → (c i : ℕ)
