@@ -9,15 +9,15 @@ use Rattle.cany_model.specs.Bus.Frames.{same_class}
 use Rattle.cany_model.specs.Bus.Slot.{is_clean}
 use Rattle.cany_model.specs.Promises.Order.{Content, order_by, ordered_in}
 use Rattle.cany_model.specs.Rules.Totcan.{message_in}
-use Rattle.cany_laws.specs.Order.{IsFrontOf}
+use Rattle.cany_laws.specs.Order.{IsPrefixOf}
 
--- ---- fronts
+-- ---- prefixes
 
-pub front_more : (front all more : List Content) → IsFrontOf front all → IsFrontOf front (all ++ more)
-front_more front all more h = (h.0 ++ more, ap (λ l. l ++ more) h.1 ∙ append_assoc front h.0 more)
+pub prefix_more : (first all more : List Content) → IsPrefixOf first all → IsPrefixOf first (all ++ more)
+prefix_more first all more h = (h.0 ++ more, ap (λ l. l ++ more) h.1 ∙ append_assoc first h.0 more)
 
-pub front_filter : (test : Content → Bool) (front all : List Content) → IsFrontOf front all → IsFrontOf (filter test front) (filter test all)
-front_filter test front all h = (filter test h.0, ap (filter test) h.1 ∙ filter-append test front h.0)
+pub prefix_filter : (test : Content → Bool) (first all : List Content) → IsPrefixOf first all → IsPrefixOf (filter test first) (filter test all)
+prefix_filter test first all h = (filter test h.0, ap (filter test) h.1 ∙ filter-append test first h.0)
 
 -- later slots put their messages behind
 pub order_longer : (test : MsgKey → Bool) (from : ℕ) (newer older : List SlotNote)

@@ -1,4 +1,4 @@
--- What each incarnation has delivered by TOTCAN is a front of the order of the messages that it or a running node has accepted.
+-- What each incarnation has delivered by TOTCAN is a prefix of the order of the messages that it or a running node has accepted.
 use Rattle.std.proofs.Common.{◌≡◌, ℕ, suc, ◌+◌, ◌-◌, ◌<◌, ◌≤◌, inl, inr, Bool, true, List, ◌++◌, length, map, drop, refl, ap, sym, ◌∙◌, subst, arith, Contains, drop-drop}
 use Rattle.std.proofs.lemmas.Bool.{and_parts, false≢true, or_cases, or_left}
 use Rattle.std.proofs.lemmas.List.{drop-map, get_or_default, map-append}
@@ -34,10 +34,10 @@ use Rattle.cany_model.proofs.Timed.Order.OrderLog.{content_in, log_delivers}
 use Rattle.cany_model.proofs.Timed.Order.TotCount.{within_silent}
 use Rattle.cany_model.proofs.Timed.Order.TotRun.{tot_kept}
 use Rattle.cany_laws.specs.Logs.{IsIncarnation, followed_by, past_of}
-use Rattle.cany_laws.specs.Order.{EachFollowsOrder, FollowsOrderAs, IsFrontOf, deliveries_as, is_accepted_by_it_or_some}
+use Rattle.cany_laws.specs.Order.{EachFollowsOrder, FollowsOrderAs, IsPrefixOf, deliveries_as, is_accepted_by_it_or_some}
 use Rattle.cany_laws.proofs.Fronts.{front_split, stands_later}
 use Rattle.cany_laws.proofs.Lives.{Lived, lived}
-use Rattle.cany_laws.proofs.OrderLists.{front_filter, front_more, order_filter, order_longer}
+use Rattle.cany_laws.proofs.OrderLists.{order_filter, order_longer, prefix_filter, prefix_more}
 use Rattle.cany_laws.proofs.OrderReading.{accepted_in_time_by_each, sees_late}
 use Rattle.cany_laws.proofs.Since.{begins_now}
 
@@ -129,33 +129,33 @@ module _ (scenario : ScenarioParts) (legal : IsLegalScenario scenario) (journal 
         ];
       }
 
-  whole : IsFrontOf (deliveries_as scenario (run scenario journal) i e)
+  whole : IsPrefixOf (deliveries_as scenario (run scenario journal) i e)
       (order_by (is_accepted_by_it_or_some scenario (run scenario journal) i e) e.incarnation.from (run scenario journal).trace)
   whole =
       let test : MsgKey → Bool = is_accepted_by_it_or_some scenario s i e in
       let short = (orderly scenario l.front).unread i in
       let first = seen_first scenario then.trace inc ground.plain ground.orderly.numbered ground.tot.trace in
-      let front = delivered_first scenario.params T i u test first its_reads (omega (arith, short, length-seen inc then.trace)) in
+      let first_part = delivered_first scenario.params T i u test first its_reads (omega (arith, short, length-seen inc then.trace)) in
       let entries : deliveries_as scenario s i e ≡ map content_in (delivered scenario.params i (past i T u)) =
       log_delivers (followed_by scenario e) i (past_of s i e) ∙ ap (λ x. map content_in (delivered scenario.params i x)) past_is in
-      let its_order : order_by test e.incarnation.from then.trace ≡ deliveries_as scenario s i e ++ map content_in front.0 =
+      let its_order : order_by test e.incarnation.from then.trace ≡ deliveries_as scenario s i e ++ map content_in first_part.0 =
       ap (λ (x : Incarnation). order_by test x.from then.trace) (sym l.present)
       ∙ order_seen test inc (begins_now scenario l.front i).first then.trace
-      ∙ ap (map content_in) front.1
-      ∙ map-append content_in (delivered scenario.params i (past i T u)) front.0
-      ∙ ap (λ x. x ++ map content_in front.0) (sym entries) in
+      ∙ ap (map content_in) first_part.1
+      ∙ map-append content_in (delivered scenario.params i (past i T u)) first_part.0
+      ∙ ap (λ x. x ++ map content_in first_part.0) (sym entries) in
       let split = front_split scenario journal l.front l.rest l.whole in
       let longer = order_longer test e.incarnation.from split.0 then.trace in
-      subst (IsFrontOf (deliveries_as scenario s i e)) (sym (ap (order_by test e.incarnation.from) split.1 ∙ longer.1))
-      (front_more (deliveries_as scenario s i e) (order_by test e.incarnation.from then.trace) longer.0 (map content_in front.0, its_order))
+      subst (IsPrefixOf (deliveries_as scenario s i e)) (sym (ap (order_by test e.incarnation.from) split.1 ∙ longer.1))
+      (prefix_more (deliveries_as scenario s i e) (order_by test e.incarnation.from then.trace) longer.0 (map content_in first_part.0, its_order))
 
   pub follows_order : FollowsOrderAs scenario (run scenario journal) i e
   follows_order =
       let own : MsgKey → Bool = λ m. is_accepted scenario.params.bound i m (past_of s i e) in
       let some : MsgKey → Bool = is_accepted_by_some scenario s in
       record {
-        shared = subst (IsFrontOf _) (order_filter own some e.incarnation.from s.trace)
-            (front_filter (λ c. some c.msg) (deliveries_as scenario s i e) (order_by (is_accepted_by_it_or_some scenario s i e) e.incarnation.from s.trace) whole);
+        ordered = subst (IsPrefixOf _) (order_filter own some e.incarnation.from s.trace)
+            (prefix_filter (λ c. some c.msg) (deliveries_as scenario s i e) (order_by (is_accepted_by_it_or_some scenario s i e) e.incarnation.from s.trace) whole);
         whole = whole;
       }
 

@@ -9,14 +9,14 @@ use Rattle.cany_model.specs.Promises.Hypothesis.{first_break}
 use Rattle.cany_model.specs.Promises.Order.{Content, order, order_by}
 use Rattle.cany_model.specs.Runs.RoundRobin.{round_robin}
 use Rattle.cany_model.specs.Runs.Run.{run}
-use Rattle.cany_laws.specs.Order.{deliveries_as, is_accepted_by_it_or_some, shared_deliveries}
+use Rattle.cany_laws.specs.Order.{deliveries_as, is_accepted_by_it_or_some, ordered_deliveries}
 use Rattle.cany_laws.proofs.RowWords.{again, key, of_nodes, repeated, row, send, slot_rule, steps, three_at_lag_1, two}
 
 -- since which slot it takes part, what it has delivered, of this what a running node has accepted, and the two orders from that slot on
 record Parts : Type 0 where
   from : ℕ
   delivered : List Content
-  shared : List Content
+  ordered : List Content
   order : List Content
   longer : List Content
 
@@ -24,7 +24,7 @@ abbrev parts_of : ScenarioParts → RunState → ℕ → EndedIncarnation → Pa
 parts_of sc s i e = record {
   from = e.incarnation.from;
   delivered = deliveries_as sc s i e;
-  shared = shared_deliveries sc s i e;
+  ordered = ordered_deliveries sc s i e;
   order = order sc s e.incarnation.from;
   longer = order_by (is_accepted_by_it_or_some sc s i e) e.incarnation.from s.trace;
 }
@@ -34,43 +34,46 @@ content origin seq byte = record { msg = key origin seq; payload = byte ∷ [] }
 
 -- ---- a node that stopped
 
--- At a lag of one slot node 2 delivers its own message in slot 1 and that of node 1 in slot 3, and stops in slot 5. The other two deliver that of node 1 and a later one
--- of node 0. What node 2 has delivered is no front of the order, also not without its last message: what it alone has accepted comes first. Without that one it is.
+-- At a lag of one slot node 2 delivers the message of node 0 in slot 2, its own in slot 4 and that of node 1 in slot 6, and stops in slot 8. The other two
+-- deliver those of node 0 and node 1. What node 2 has delivered is no prefix of the order, also not without its last message: between two messages of the
+-- order it has one that it alone has accepted. Without that one it is.
 unfoldable at_lag_1 : ScenarioParts
-at_lag_1 = three_at_lag_1 90 (send Tot 0 2 (1 ∷ []) ∷ send Tot 1 1 (2 ∷ []) ∷ send Tot 9 0 (3 ∷ []) ∷ []) (slot_rule 5 Lost 4 ∷ [])
+at_lag_1 = three_at_lag_1 90 (send Tot 0 0 (3 ∷ []) ∷ send Tot 3 2 (1 ∷ []) ∷ send Tot 4 1 (2 ∷ []) ∷ []) (slot_rule 8 Lost 4 ∷ [])
 
 unfoldable its_journal : List Step
-its_journal = steps (codes ".012.01.0122.012.012" ++ repeated 85 (codes ".01"))
+its_journal = steps (codes ".012.012.012.012.01.0122.012.012" ++ repeated 82 (codes ".01"))
 
-abbrev both_share : Parts
-both_share = record {
+abbrev of_the_others : Parts
+of_the_others = record {
   from = 0;
-  delivered = content 1 0 2 ∷ content 0 0 3 ∷ [];
-  shared = content 1 0 2 ∷ content 0 0 3 ∷ [];
-  order = content 1 0 2 ∷ content 0 0 3 ∷ [];
-  longer = content 1 0 2 ∷ content 0 0 3 ∷ [];
+  delivered = content 0 0 3 ∷ content 1 0 2 ∷ [];
+  ordered = content 0 0 3 ∷ content 1 0 2 ∷ [];
+  order = content 0 0 3 ∷ content 1 0 2 ∷ [];
+  longer = content 0 0 3 ∷ content 1 0 2 ∷ [];
 }
 
-abbrev stopped_shares : Parts
-stopped_shares = record {
+abbrev of_the_stopped : Parts
+of_the_stopped = record {
   from = 0;
-  delivered = content 2 0 1 ∷ content 1 0 2 ∷ [];
-  shared = content 1 0 2 ∷ [];
-  order = content 1 0 2 ∷ content 0 0 3 ∷ [];
-  longer = content 2 0 1 ∷ content 1 0 2 ∷ content 0 0 3 ∷ [];
+  delivered = content 0 0 3 ∷ content 2 0 1 ∷ content 1 0 2 ∷ [];
+  ordered = content 0 0 3 ∷ content 1 0 2 ∷ [];
+  order = content 0 0 3 ∷ content 1 0 2 ∷ [];
+  longer = content 0 0 3 ∷ content 2 0 1 ∷ content 1 0 2 ∷ [];
 }
 
 it_is_within : first_break at_lag_1.params (run at_lag_1 its_journal).trace ≡ None
 unfolding row at_lag_1 its_journal
 it_is_within = refl
 
-no_front_but_for_the_shared : of_nodes (parts_of at_lag_1) 3 (run at_lag_1 its_journal) ≡ (both_share ∷ []) ∷ (both_share ∷ []) ∷ (stopped_shares ∷ []) ∷ []
+a_prefix_without_the_lone_one : of_nodes (parts_of at_lag_1) 3 (run at_lag_1 its_journal)
+    ≡ (of_the_others ∷ []) ∷ (of_the_others ∷ []) ∷ (of_the_stopped ∷ []) ∷ []
 unfolding row at_lag_1 its_journal
-no_front_but_for_the_shared = refl
+a_prefix_without_the_lone_one = refl
 
 -- ---- a node that started again
 
--- Node 1 stops in slot 5, starts again at the end of slot 6, and takes part since slot 26. Each of its two incarnations has a front of the order from its own first slot on.
+-- Node 1 stops in slot 5, starts again at the end of slot 6, and takes part since slot 26. Each of its two incarnations has a prefix of the order from the
+-- first slot in which it takes part.
 unfoldable restarted : ScenarioParts
 restarted = two 60 (send Tot 0 0 (1 ∷ []) ∷ send Tot 30 0 (2 ∷ []) ∷ []) (slot_rule 5 Clean 2 ∷ []) (again 6 1 ∷ [])
 
@@ -78,7 +81,7 @@ abbrev all : Parts
 all = record {
   from = 0;
   delivered = content 0 0 1 ∷ content 0 1 2 ∷ [];
-  shared = content 0 0 1 ∷ content 0 1 2 ∷ [];
+  ordered = content 0 0 1 ∷ content 0 1 2 ∷ [];
   order = content 0 0 1 ∷ content 0 1 2 ∷ [];
   longer = content 0 0 1 ∷ content 0 1 2 ∷ [];
 }
@@ -87,7 +90,7 @@ abbrev earlier : Parts
 earlier = record {
   from = 0;
   delivered = content 0 0 1 ∷ [];
-  shared = content 0 0 1 ∷ [];
+  ordered = content 0 0 1 ∷ [];
   order = content 0 0 1 ∷ content 0 1 2 ∷ [];
   longer = content 0 0 1 ∷ content 0 1 2 ∷ [];
 }
@@ -96,7 +99,7 @@ abbrev again_there : Parts
 again_there = record {
   from = 26;
   delivered = content 0 1 2 ∷ [];
-  shared = content 0 1 2 ∷ [];
+  ordered = content 0 1 2 ∷ [];
   order = content 0 1 2 ∷ [];
   longer = content 0 1 2 ∷ [];
 }
@@ -105,6 +108,6 @@ that_too_is_within : first_break restarted.params (run restarted (round_robin re
 unfolding row restarted
 that_too_is_within = refl
 
-each_from_its_first_slot : of_nodes (parts_of restarted) 2 (run restarted (round_robin restarted)) ≡ (all ∷ []) ∷ (again_there ∷ earlier ∷ []) ∷ []
+each_since_it_takes_part : of_nodes (parts_of restarted) 2 (run restarted (round_robin restarted)) ≡ (all ∷ []) ∷ (again_there ∷ earlier ∷ []) ∷ []
 unfolding row restarted
-each_from_its_first_slot = refl
+each_since_it_takes_part = refl

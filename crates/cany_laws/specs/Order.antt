@@ -8,8 +8,8 @@ use Rattle.cany_model.specs.Rules.Totcan.{is_accepted}
 use Rattle.cany_laws.specs.Logs.{IsIncarnation, log_as, past_of}
 
 -- the second list begins with the first
-abbrev pub IsFrontOf : List Content → List Content → Type 0
-IsFrontOf front all = (rest : List Content) × (all ≡ front ++ rest)
+abbrev pub IsPrefixOf : List Content → List Content → Type 0
+IsPrefixOf first all = (rest : List Content) × (all ≡ first ++ rest)
 
 -- whether an incarnation of node i has accepted the message, or a running node has by now
 abbrev pub is_accepted_by_it_or_some : ScenarioParts → RunState → (i : ℕ) → EndedIncarnation → MsgKey → Bool
@@ -20,15 +20,15 @@ is_accepted_by_it_or_some scenario s i e key =
 abbrev pub deliveries_as : ScenarioParts → RunState → (i : ℕ) → EndedIncarnation → List Content
 deliveries_as scenario s i e = tot_deliveries (log_as scenario s i e)
 
--- of this, without the messages that no running node has accepted by now
-abbrev pub shared_deliveries : ScenarioParts → RunState → (i : ℕ) → EndedIncarnation → List Content
-shared_deliveries scenario s i e = filter (λ c. is_accepted_by_some scenario s c.msg) (deliveries_as scenario s i e)
+-- of these, the messages that a running node has accepted by now
+abbrev pub ordered_deliveries : ScenarioParts → RunState → (i : ℕ) → EndedIncarnation → List Content
+ordered_deliveries scenario s i e = filter (λ c. is_accepted_by_some scenario s c.msg) (deliveries_as scenario s i e)
 
--- Of an incarnation of node i. What it has delivered that a running node has accepted is a front of the order, from its first slot on. All that it has delivered is
--- a front of the longer order which has besides what it alone has accepted, at the slots in which the data frames were carried Clean.
+-- Of an incarnation of node i, from the first slot in which it takes part. Of what it has delivered, the messages that a running node has accepted are a
+-- prefix of the order. All that it has delivered is a prefix of the longer order, which also has what this incarnation has accepted.
 pub record FollowsOrderAs (scenario : ScenarioParts) (s : RunState) (i : ℕ) (e : EndedIncarnation) : Type 0 where
-  pub shared : IsFrontOf (shared_deliveries scenario s i e) (order scenario s e.incarnation.from)
-  pub whole : IsFrontOf (deliveries_as scenario s i e) (order_by (is_accepted_by_it_or_some scenario s i e) e.incarnation.from s.trace)
+  pub ordered : IsPrefixOf (ordered_deliveries scenario s i e) (order scenario s e.incarnation.from)
+  pub whole : IsPrefixOf (deliveries_as scenario s i e) (order_by (is_accepted_by_it_or_some scenario s i e) e.incarnation.from s.trace)
 
 abbrev pub EachFollowsOrder : ScenarioParts → RunState → Type 0
 EachFollowsOrder scenario s = (i : ℕ) (e : EndedIncarnation) → IsIncarnation scenario s i e → FollowsOrderAs scenario s i e

@@ -2,4 +2,4 @@ use Rattle.cany_laws.proofs.CarriedFew.{few_of_message}
 use Rattle.cany_laws.proofs.carried.few_frames_of_a_message.Goals as goal
 
 pub returns : goal.returns
-returns c scenario journal few within key = few_of_message scenario journal few within key
+returns c scenario journal few none_silent key = few_of_message scenario journal few none_silent key

@@ -2,4 +2,4 @@ use Rattle.cany_laws.proofs.CarriedFew.{few_of_sign}
 use Rattle.cany_laws.proofs.carried.few_frames_of_a_sign.Goals as goal
 
 pub returns : goal.returns
-returns c scenario journal few within sign = few_of_sign scenario journal few within sign
+returns c scenario journal few none_silent sign = few_of_sign scenario journal few none_silent sign
