@@ -16,10 +16,14 @@ pub mod AlarmSigns
 pub mod AlarmStops
 pub mod CarriedAlone
 pub mod CarriedBare
+pub mod CarriedConfirmed
 pub mod CarriedCounts
 pub mod CarriedFew
 pub mod CarriedFresh
+pub mod CarriedRelcan
+pub mod CarriedRequests
 pub mod CarriedRows
+pub mod CarriedSends
 pub mod CarriedSigns
 pub mod CarriedTogether
 pub mod DeliveredByEach
@@ -44,6 +48,7 @@ pub mod RemovalMembers
 pub mod RemovalOut
 pub mod RemovalRows
 pub mod RemovalStop
+pub mod RequestRows
 pub mod RestartRows
 pub mod RowWords
 pub mod SequenceRows

@@ -8,6 +8,7 @@ pub mod Logs
 pub mod Membership
 pub mod Order
 pub mod Removal
+pub mod Requests
 pub mod Sequence
 pub mod Views
 pub mod Waits

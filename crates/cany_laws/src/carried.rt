@@ -1,15 +1,16 @@
-//! How often the bus carries the data frame of a message, the frame that accepts one, and that of a
-//! failure sign.
-ghost use Rattle.std.specs.Prelude.{◌≡◌, ◌≤◌, List, Contains};
+//! How often the bus carries the data frame of a message, the frames that accept and confirm one, that
+//! of a failure sign, and those that ask to join and to leave.
+ghost use Rattle.std.specs.Prelude.{◌≡◌, ◌≤◌, ℕ, List, Contains};
 ghost use Rattle.cany_base.specs.Limits.{most_nodes};
 ghost use Rattle.cany_base.specs.declared.message.MsgKey.{MsgKey};
 ghost use Rattle.cany_base.specs.declared.message.Service.TheVariants.{Ed, Rel};
 ghost use Rattle.cany_base.specs.declared.step.Step.{Step};
 ghost use Rattle.cany_base.specs.Scenario.{ScenarioParts};
 ghost use Rattle.cany_model.specs.Rules.Knowledge.{FailureSign};
-ghost use Rattle.cany_model.specs.Rules.Messages.{Message, data_id, messages_of};
+ghost use Rattle.cany_model.specs.Rules.Messages.{Message, confirm_of_key, data_id, messages_of};
 ghost use Rattle.cany_model.specs.Runs.Run.{run};
 ghost use Rattle.cany_laws.specs.Carried.{CarriesFewOf, CarriesFewOfSign, HasNoSilentSlot, incarnations_of_first, times_clean};
+ghost use Rattle.cany_laws.specs.Requests.{CarriesFewRequests};
 
 /// Frames of a TOTCAN message: in every run of at most 64 nodes in which no Silent slot carried a
 /// frame, the bus carries the data frame of a TOTCAN message Clean at most once in the whole run, and
@@ -51,4 +52,29 @@ pub fn few_data_frames()
     ensures relcan { (scenario : ScenarioParts) (journal : List Step) → scenario.params.nodes ≤ most_nodes
         → (m : Message) → Contains (messages_of scenario.sends) m → m.service ≡ Rel
         → times_clean (data_id m) (run scenario journal).trace ≤ incarnations_of_first (run scenario journal) scenario.params.nodes }
+{}
+
+/// A message is confirmed once: in every run of at most 64 nodes the bus carries the frame that
+/// confirms a RELCAN message Clean at most once in the whole run, with restarts too. The origin alone
+/// sends it, for its own transmission of the data frame, and it sends that frame at most once, whatever
+/// incarnations it has.
+///
+/// It holds of every journal, at any lag and under any faults, within the hypothesis or not. How often
+/// the data frame is carried `few_data_frames` says.
+pub fn confirmed_once()
+    ensures { (scenario : ScenarioParts) (journal : List Step) → scenario.params.nodes ≤ most_nodes
+        → (key : MsgKey) → times_clean (confirm_of_key key) (run scenario journal).trace ≤ 1 }
+{}
+
+/// Frames that ask to join and to leave: in every run of at most 64 nodes the bus carries the frame
+/// by which a node asks in a cycle to join Clean at most once for each join entry of this node in a slot
+/// of the cycle, and so the frame by which it asks to leave, for its leave entries. No other node sends
+/// these frames, and a node that starts again asks anew by a further entry alone.
+///
+/// One frame stands for the asks of one node in one cycle, so it is carried once for each of them, or
+/// less often: entries that are made while the frame still waits make one frame. It holds of the same
+/// journals and faults.
+pub fn few_requests()
+    ensures { (scenario : ScenarioParts) (journal : List Step) → scenario.params.nodes ≤ most_nodes
+        → (node cycle : ℕ) → CarriesFewRequests scenario (run scenario journal) node cycle }
 {}
