@@ -83,3 +83,20 @@ delivered_by_two_incarnations : found_of sent_again ≡ record {
 }
 unfolding row sent_again
 delivered_by_two_incarnations = refl
+
+-- ---- no member is left
+
+-- Both nodes stop and start again, and take part since slot 26. Each asks to join, and each ask is carried, but neither stands in its own view: nobody starts a
+-- vector in the two cycles that follow, and there is no view any more.
+unfoldable no_member_is_left : ScenarioParts
+unfolding two
+no_member_is_left =
+    let sc = two 97 [] (slot_rule 5 Clean 3 ∷ []) (again 6 0 ∷ again 6 1 ∷ []) in
+    record sc { joins = again 30 0 ∷ again 31 1 ∷ [] }
+
+without_a_view : found_of no_member_is_left ≡ record {
+  broken = None;
+  lives = (lived 26 97 [] ∷ lived 0 5 [] ∷ []) ∷ (lived 26 97 [] ∷ lived 0 5 [] ∷ []) ∷ [];
+}
+unfolding row no_member_is_left
+without_a_view = refl
