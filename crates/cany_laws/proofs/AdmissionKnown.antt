@@ -8,12 +8,12 @@ use Rattle.cany_model.specs.Bus.State.{EndedIncarnation, RunState}
 use Rattle.cany_model.specs.Promises.Hypothesis.{IsWithin}
 use Rattle.cany_model.specs.Rules.KnowledgeOf.{knowledge_of}
 use Rattle.cany_model.specs.Runs.Run.{run}
-use Rattle.cany_laws.specs.Admission.{IsTakenIn, JoinIsCarried, KnowsItOutside}
+use Rattle.cany_laws.specs.Admission.{IsAdmittedByEach, JoinIsCarried, KnowsItOutside}
 use Rattle.cany_laws.specs.Logs.{IsIncarnation, followed_by}
 use Rattle.cany_laws.specs.Membership.{members_as}
 use Rattle.cany_laws.specs.Views.{installed_as}
 use Rattle.cany_laws.proofs.AdmissionJoined.{has_view}
-use Rattle.cany_laws.proofs.AdmissionTaken.{taken_in}
+use Rattle.cany_laws.proofs.AdmissionTaken.{admitted_by_each}
 use Rattle.cany_laws.proofs.EachView.{view_read}
 use Rattle.cany_laws.proofs.EqualMembers.{equal_installed, equal_original, first_read}
 use Rattle.cany_laws.proofs.Lives.{Lived, lived}
@@ -90,7 +90,7 @@ module _ (scenario : ScenarioParts) (legal : IsLegalScenario scenario) (journal 
 
 pub known_taken_in : (scenario : ScenarioParts) → IsLegalScenario scenario → (journal : List Step) → IsWithin scenario.params (run scenario journal).trace
     → (r k slot j : ℕ) (f : EndedIncarnation) → r < scenario.params.nodes → JoinIsCarried scenario (run scenario journal) r k slot
-    → KnowsItOutside scenario (run scenario journal) r slot j f → IsTakenIn scenario (run scenario journal) r k
+    → KnowsItOutside scenario (run scenario journal) r slot j f → IsAdmittedByEach scenario (run scenario journal) r k
 known_taken_in scenario legal journal within r k slot j f below carried knows =
-    taken_in scenario legal journal within r k slot below carried (λ i e is part read.
+    admitted_by_each scenario legal journal within r k slot below carried (λ i e is part read.
     is_outside scenario legal journal within r slot j f (omega (arith, carried.after)) knows i e is (omega (arith, carried.by_start, read)))

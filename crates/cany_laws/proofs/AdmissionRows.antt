@@ -1,4 +1,4 @@
--- Worked rows of nodes that ask to join: one that started again and is taken in, and JOINs that do not help.
+-- Worked rows of nodes that ask to join: one that started again and is admitted, and JOINs that do not help.
 use Rattle.std.specs.Prelude.{◌≡◌, ℕ, List, [], ◌∷◌, Option, Some, None, refl}
 use Rattle.cany_base.specs.declared.log_entry.LogEntry.TheVariants.{Failed, View}
 use Rattle.cany_base.specs.declared.message.NodeAsk.{NodeAsk}
@@ -34,18 +34,22 @@ comes_into_the_next_vector :
 unfolding row joining asks_when_it_knows
 comes_into_the_next_vector = refl
 
+it_is_within : (found_of asks_when_it_knows).broken ≡ None
+unfolding row joining asks_when_it_knows
+it_is_within = refl
+
 -- Node 1, a member, stops in slot 5, starts again and takes part since slot 26. It counts as failed at node 0, so cycle 1 starts without it in slot
--- 60. Its JOIN is carried in slot 66, while node 0 has it in its view yet: nobody hears it, and node 1 is in no vector of cycle 1 or of cycle 2. Once
--- cycle 1 has ended it knows.
+-- 60. Its JOIN is carried in slot 66: node 0 still has it in its view, so the JOIN has no effect, and node 1 is in no vector of cycle 1 or of cycle 2.
+-- Once cycle 1 has ended it knows that it is outside.
 unfoldable asks_too_early : ScenarioParts
 asks_too_early = joining 140 60 (set 3) (again 65 1 ∷ []) (slot_rule 5 Clean 2 ∷ []) (again 6 1 ∷ [])
 
-heard_by_nobody : found_of asks_too_early ≡ record {
+without_effect : found_of asks_too_early ≡ record {
   broken = None;
   lives = (lived 0 140 (Failed 39 1 0 ∷ View 79 1 (set 1) ∷ View 139 2 (set 1) ∷ []) ∷ []) ∷ (lived 26 140 (Failed 41 1 0 ∷ []) ∷ lived 0 5 [] ∷ []) ∷ [];
 }
 unfolding row joining asks_too_early
-heard_by_nobody = refl
+without_effect = refl
 
 -- Node 1 is no member, asks to join in slot 5, and stops in slot 45. Its next incarnation takes part since slot 66, and so not since cycle 1 starts
 -- in slot 60. The vector of cycle 1 has the node by its first JOIN, and is installed in slot 79. The JOIN of the new incarnation, which is carried in

@@ -19,7 +19,7 @@ use Rattle.cany_model.proofs.Runs.Runs.{history-length, orderly}
 use Rattle.cany_model.proofs.Timed.Detector.VectorsAgreeOn.{Says, none_says}
 use Rattle.cany_model.proofs.Timed.Views.VectorLastEffect.{IsCycle}
 use Rattle.cany_model.proofs.Timed.Views.VectorSlots.{cycle_of_formulas}
-use Rattle.cany_laws.specs.Admission.{HadItBefore, IsOutsideAtEach, IsTakenIn, JoinIsCarried}
+use Rattle.cany_laws.specs.Admission.{InstalledItBefore, IsOutsideAtEach, IsAdmittedByEach, JoinIsCarried}
 use Rattle.cany_laws.specs.Logs.{IsIncarnation, followed_by}
 use Rattle.cany_laws.specs.Views.{installed_as}
 use Rattle.cany_laws.proofs.AdmissionJoined.{joined, some}
@@ -107,7 +107,7 @@ module _ (scenario : ScenarioParts) (legal : IsLegalScenario scenario) (journal 
 
   since : (i : ℕ) (e : EndedIncarnation) → IsIncarnation scenario s i e → e.incarnation.from ≤ (k - 1) * T → (v : Nodes)
       → installed_as scenario s i e k ≡ Some v
-      → (has v r ≡ true) ⊎ HadItBefore scenario s r k i e
+      → (has v r ≡ true) ⊎ InstalledItBefore scenario s r k i e
   since i e is part v installs = elim (cases_lt 1 k) [
     | inr first ↦ inl (taken (λ j f jf fpart read later. absurd (omega (arith, later, first))) i e is v installs)
     | inl later ↦ by_former later (installed_as scenario s i e (k - 1)) refl
@@ -125,7 +125,7 @@ module _ (scenario : ScenarioParts) (legal : IsLegalScenario scenario) (journal 
           (record { is = jf; took_part = fpart; read = omega (arith, read, next, same, long) }) in
           subst (Says r false) (sym is_o ∙ alike) says
 
-      by_former : 1 < k → (o : Option Nodes) → installed_as scenario s i e (k - 1) ≡ o → (has v r ≡ true) ⊎ HadItBefore scenario s r k i e
+      by_former : 1 < k → (o : Option Nodes) → installed_as scenario s i e (k - 1) ≡ o → (has v r ≡ true) ⊎ InstalledItBefore scenario s r k i e
       by_former later None q = inl (taken (former_is None q (none_says r false) later) i e is v installs)
       by_former later (Some w) q = elim (cases_Bool (has w r)) [
         | inl there ↦ inr (later, (w, q, there))
@@ -134,7 +134,7 @@ module _ (scenario : ScenarioParts) (legal : IsLegalScenario scenario) (journal 
       ]
 
   each : (i : ℕ) (e : EndedIncarnation) → IsIncarnation scenario s i e → (v : Nodes) → installed_as scenario s i e k ≡ Some v
-      → (has v r ≡ true) ⊎ ((j : ℕ) × (f : EndedIncarnation) × IsIncarnation scenario s j f × HadItBefore scenario s r k j f)
+      → (has v r ≡ true) ⊎ ((j : ℕ) × (f : EndedIncarnation) × IsIncarnation scenario s j f × InstalledItBefore scenario s r k j f)
   each i e is v installs = elim (cases_lt 1 k) [
     | inr first ↦ inl (taken (λ j f jf fpart read later. absurd (omega (arith, later, first))) i e is v installs)
     | inl later ↦ elim (seek_all (λ j f. installed_as scenario s j f (k - 1)) r s scenario.params.nodes) [
@@ -150,5 +150,5 @@ module _ (scenario : ScenarioParts) (legal : IsLegalScenario scenario) (journal 
     ]
   ]
 
-  pub taken_in : IsTakenIn scenario s r k
-  taken_in = record { since = since; each = each }
+  pub admitted_by_each : IsAdmittedByEach scenario s r k
+  admitted_by_each = record { since = since; each = each }

@@ -1,4 +1,4 @@
--- A node that is heard to ask to join by nobody asks at nobody, once its earlier asks were answered.
+-- A node of which nobody gets a JOIN asks at nobody, once its earlier asks were answered.
 use Rattle.std.proofs.Common.{◌≡◌, ℕ, zero, suc, ◌+◌, ◌<◌, ◌≤◌, ◌⊎◌, ◌==◌, ◌&&◌, ◌||◌, not, if◌then◌else◌, inl, inr, false, List, [], ◌∷◌, ◌++◌, length, Option, Some, None, Contains, refl, ap, sym, ◌∙◌, subst, arith}
 use Rattle.std.proofs.lemmas.Bool.{and_from, and_parts, both_ways, cases_Bool, cases_lt, cond_both, eq-eqb, eqb-true, false_from_ne_true, or_cases}
 use Rattle.cany_base.proofs.NodesFacts.{has_none}
@@ -26,7 +26,7 @@ use Rattle.cany_model.proofs.Runs.Runs.{orderly}
 use Rattle.cany_model.proofs.Timed.Common.KnowledgeAges.{ended_at}
 use Rattle.cany_model.proofs.Timed.Detector.SilentNode.{found_joiners}
 use Rattle.cany_laws.specs.Logs.{IsIncarnation, followed_by}
-use Rattle.cany_laws.specs.Removal.{NobodyHearsJoin, hears_join}
+use Rattle.cany_laws.specs.Removal.{NobodyGotJoin, got_join}
 use Rattle.cany_laws.proofs.AdmissionHeard.{notice_is}
 use Rattle.cany_laws.proofs.EqualMembers.{first_read, first_read-more, first_read-none, next_read}
 use Rattle.cany_laws.proofs.Lives.{Lived, lived}
@@ -38,7 +38,7 @@ leaver_joiners : (r q : ℕ) (st : Knowledge) → has st.joiners r ≡ false →
 leaver_joiners r q st h =
     cond_both (has st.members q) (record st { leavers = with_node q st.leavers }) st (λ s. has s.joiners r ≡ false) (λ _. h) (λ _. h)
 
-no_ask : (r : ℕ) (e : NoticeKind) (st : Knowledge) → hears_join r e ≡ false → has st.joiners r ≡ false → has (after_ask e st).joiners r ≡ false
+no_ask : (r : ℕ) (e : NoticeKind) (st : Knowledge) → got_join r e ≡ false → has st.joiners r ≡ false → has (after_ask e st).joiners r ≡ false
 unfolding after_ask
 no_ask r Idle st none h = h
 no_ask r Bad st none h = h
@@ -57,7 +57,7 @@ no_ask r (Got f) st none h =
     ])))
     (λ _. cond_both (same_class f.class class.Leave) (with_leaver f.node st) st (λ s. has s.joiners r ≡ false) (λ _. leaver_joiners r f.node st h) (λ _. h))
 
-pub asks_not : (p : Parameters) (i r slot : ℕ) (e : NoticeKind) (st : Knowledge) → hears_join r e ≡ false → has st.joiners r ≡ false
+pub asks_not : (p : Parameters) (i r slot : ℕ) (e : NoticeKind) (st : Knowledge) → got_join r e ≡ false → has st.joiners r ≡ false
     → has (after_asking p i slot e st).joiners r ≡ false
 asks_not p i r slot e st none h = no_ask r e (after_finding p i slot e st) none (ap (λ m. has m r) (found_joiners p i slot e st) ∙ h)
 
@@ -66,7 +66,7 @@ joiners_less None joiners r h = h
 joiners_less (Some v) joiners r h = false_from_ne_true (has (minus joiners v) r) (λ k.
     both_ways (has joiners r) h (and_parts (has joiners r) (not (has v r)) (those_where_pass (λ q. has joiners q && not (has v q)) r k)).0)
 
-asks_not_after : (scenario : ScenarioParts) (i r : ℕ) (e : NoticeKind) (past : List NoticeKind) → hears_join r e ≡ false
+asks_not_after : (scenario : ScenarioParts) (i r : ℕ) (e : NoticeKind) (past : List NoticeKind) → got_join r e ≡ false
     → has (knowledge_of scenario i past).joiners r ≡ false → has (knowledge_of scenario i (e ∷ past)).joiners r ≡ false
 unfolding knowledge_of
 asks_not_after scenario i r e past none h =
@@ -109,9 +109,9 @@ note_of (note ∷ trace) n numbered below = elim (cases_lt n (length trace)) [
       record { newer = []; note = note; older = trace; place = refl; size = same; stands = Contains-head note trace; slot = numbered.0 ∙ same }
 ]
 
--- ---- an incarnation that hears none
+-- ---- an incarnation that gets none
 
-module _ (scenario : ScenarioParts) (journal : List Step) (r t until : ℕ) (silent : NobodyHearsJoin scenario (run scenario journal) r t until)
+module _ (scenario : ScenarioParts) (journal : List Step) (r t until : ℕ) (silent : NobodyGotJoin scenario (run scenario journal) r t until)
     (i : ℕ) (e : EndedIncarnation) (is : IsIncarnation scenario (run scenario journal) i e) where
   abbrev s : RunState
   s = run scenario journal
@@ -123,16 +123,16 @@ module _ (scenario : ScenarioParts) (journal : List Step) (r t until : ℕ) (sil
   window = scenario.params.cycle + scenario.params.bound
 
   -- in a slot up to the last, near the first or later, or before it takes part
-  pub hears_none : (n : ℕ) → n < e.next → n ≤ until → (t < n + (scenario.params.cycle + scenario.params.bound)) ⊎ (n < e.incarnation.from)
-      → hears_join r (next_read n (run scenario journal) i e) ≡ false
-  hears_none n read before why =
+  pub gets_none : (n : ℕ) → n < e.next → n ≤ until → (t < n + (scenario.params.cycle + scenario.params.bound)) ⊎ (n < e.incarnation.from)
+      → got_join r (next_read n (run scenario journal) i e) ≡ false
+  gets_none n read before why =
       let inc : Incarnation = e.incarnation in
       let w = note_of s.trace n (run_numbered scenario.params.nodes s (orderly scenario journal)) (omega (arith, read, l.short)) in
       let is_given : next_read n s i e ≡ given i (as_seen inc w.note) =
       ap (λ m. next_read m s i e) (sym w.size) ∙ notice_is scenario journal i e l w.newer w.note w.older w.place (omega (arith, w.size, read)) in
-      ap (hears_join r) is_given ∙ elim (cases_Bool (is_hidden inc w.note)) [
-        | inl hidden ↦ ap (hears_join r) (seen_idle i inc w.note hidden)
-        | inr plain ↦ ap (λ (m : SlotNote). hears_join r (given i m)) (seen_plain inc w.note plain) ∙ elim why [
+      ap (got_join r) is_given ∙ elim (cases_Bool (is_hidden inc w.note)) [
+        | inl hidden ↦ ap (got_join r) (seen_idle i inc w.note hidden)
+        | inr plain ↦ ap (λ (m : SlotNote). got_join r (given i m)) (seen_plain inc w.note plain) ∙ elim why [
           | inl near ↦ silent w.note w.stands (omega (arith, near, w.slot)) (omega (arith, before, w.slot)) i
           | inr early ↦ elim (cases_lt 0 inc.number) [
             | inl later ↦ absurd (both_ways (is_hidden inc w.note) plain (early_hidden inc w.note later (omega (arith, early, w.slot))))
@@ -146,7 +146,7 @@ module _ (scenario : ScenarioParts) (journal : List Step) (r t until : ℕ) (sil
 
   -- it asks at no slot since one at which it did not ask
   pub still_none : (m : ℕ) → has (knowledge_of (followed_by scenario e) i (first_read m (run scenario journal) i e)).joiners r ≡ false
-      → ((n : ℕ) → m ≤ n → n < e.next → n < until → hears_join r (next_read n (run scenario journal) i e) ≡ false)
+      → ((n : ℕ) → m ≤ n → n < e.next → n < until → got_join r (next_read n (run scenario journal) i e) ≡ false)
       → (d : ℕ) → m + d ≤ e.next → m + d ≤ until
       → has (knowledge_of (followed_by scenario e) i (first_read (m + d) (run scenario journal) i e)).joiners r ≡ false
   still_none m first none zero read before =

@@ -1,4 +1,4 @@
--- A node of whom a member hears nothing for a silence, and whom nobody hears ask to join, is out of the vector of the cycle that starts then.
+-- A node of whom a member hears nothing for a silence, and of whom nobody got a JOIN, is out of the vector of the cycle that starts then.
 use Rattle.std.proofs.Common.{◌≡◌, ℕ, zero, suc, ◌+◌, ◌-◌, ◌*◌, ◌/◌, ◌%◌, ◌<◌, ◌≤◌, ◌⊎◌, inl, inr, Bool, true, false, List, length, Option, Some, None, refl, ap, sym, ◌∙◌, subst, arith, div-mul-le_self}
 use Rattle.std.proofs.Math.Nat.{mul-le-mul_right}
 use Rattle.std.proofs.lemmas.Bool.{both_ways, cases_Bool, cases_eq, cases_lt}
@@ -28,7 +28,7 @@ use Rattle.cany_laws.specs.Admission.{HasViewBefore, KnowsItOutside}
 use Rattle.cany_laws.specs.Detection.{HearsNothingOf, IsLeftOut}
 use Rattle.cany_laws.specs.Logs.{IsIncarnation, followed_by}
 use Rattle.cany_laws.specs.Membership.{members_as}
-use Rattle.cany_laws.specs.Removal.{HadItInView, HearsNoLifeOf, NobodyHearsJoin}
+use Rattle.cany_laws.specs.Removal.{HadItLongBefore, HearsNoLifeOf, NobodyGotJoin}
 use Rattle.cany_laws.specs.Views.{installed_as}
 use Rattle.cany_laws.proofs.AdmissionJoined.{has_view}
 use Rattle.cany_laws.proofs.AdmissionKnown.{is_outside}
@@ -39,7 +39,7 @@ use Rattle.cany_laws.proofs.EachView.{each_installs_one, view_read}
 use Rattle.cany_laws.proofs.EqualMembers.{ended_as, ended_installs, ended_none, equal_installed, equal_original, first_read, first_read-length, first_read-more, members_more, next_read}
 use Rattle.cany_laws.proofs.LeftOut.{left_out}
 use Rattle.cany_laws.proofs.Lives.{Lived, lived}
-use Rattle.cany_laws.proofs.RemovalJoiners.{asks_not, hears_none, none_first, still_none}
+use Rattle.cany_laws.proofs.RemovalJoiners.{asks_not, gets_none, none_first, still_none}
 use Rattle.cany_laws.proofs.RemovalMembers.{NobodyInstalls, member_installs, nobody_next, view_changes}
 use Rattle.cany_laws.proofs.Since.{begins, of_present}
 
@@ -59,9 +59,9 @@ first_start T from some =
     (n / T, omega (arith, whole, some), omega (arith, low, some))
 
 module _ (scenario : ScenarioParts) (legal : IsLegalScenario scenario) (journal : List Step) (within : IsWithin scenario.params (run scenario journal).trace)
-    (i r t k : ℕ) (e : EndedIncarnation) (below : r < scenario.params.nodes) (h : HadItInView scenario (run scenario journal) r t k i e)
+    (i r t k : ℕ) (e : EndedIncarnation) (below : r < scenario.params.nodes) (h : HadItLongBefore scenario (run scenario journal) r t k i e)
     (quiet : HearsNoLifeOf scenario (run scenario journal) r t (k * scenario.params.cycle) i e)
-    (silent : NobodyHearsJoin scenario (run scenario journal) r t (k * scenario.params.cycle)) where
+    (silent : NobodyGotJoin scenario (run scenario journal) r t (k * scenario.params.cycle)) where
   abbrev s : RunState
   s = run scenario journal
 
@@ -222,7 +222,7 @@ module _ (scenario : ScenarioParts) (legal : IsLegalScenario scenario) (journal 
       ]
     ]
 
-  -- ---- at the start of a cycle after slot t, nobody hears the node ask
+  -- ---- at the start of a cycle after slot t, the node asks at nobody
 
   module _ (x : ℕ) (g : EndedIncarnation) (is : IsIncarnation scenario (run scenario journal) x g) (n : ℕ) (after : t < n)
       (until : n ≤ k * scenario.params.cycle)
@@ -233,7 +233,7 @@ module _ (scenario : ScenarioParts) (legal : IsLegalScenario scenario) (journal 
           let all : 0 + n ≡ n = omega arith in
           subst (λ m. has (knowledge_of (followed_by scenario g) x (first_read m s x g)).joiners r ≡ false) all
           (still_none scenario journal r t (k * T) silent x g is 0 (none_first scenario journal r t (k * T) silent x g is)
-          (λ m from short before. hears_none scenario journal r t (k * T) silent x g is m short (omega (arith, before)) (elim (cases_lt m g.incarnation.from) [
+          (λ m from short before. gets_none scenario journal r t (k * T) silent x g is m short (omega (arith, before)) (elim (cases_lt m g.incarnation.from) [
             | inl early ↦ inr early
             | inr part ↦ inl (omega (arith, near, part))
           ])) n (omega (arith, reads)) (omega (arith, until)))
@@ -243,7 +243,7 @@ module _ (scenario : ScenarioParts) (legal : IsLegalScenario scenario) (journal 
           subst (λ m. has (knowledge_of (followed_by scenario g) x (first_read m s x g)).joiners r ≡ false) all
           (still_none scenario journal r t (k * T) silent x g is (t + 1)
           (member_no_joiner (followed_by scenario g) x r (first_read (t + 1) s x g) (agrees x g is ran far))
-          (λ m from short before. hears_none scenario journal r t (k * T) silent x g is m short (omega (arith, before)) (inl (omega (arith, from))))
+          (λ m from short before. gets_none scenario journal r t (k * T) silent x g is m short (omega (arith, before)) (inl (omega (arith, from))))
           (n - (t + 1)) (omega (arith, all, reads)) (omega (arith, all, until)))
     ]
 
@@ -251,7 +251,7 @@ module _ (scenario : ScenarioParts) (legal : IsLegalScenario scenario) (journal 
         (knowledge_of (followed_by scenario g) x (first_read n (run scenario journal) x g))).joiners r ≡ false
     asks_none =
         asks_not scenario.params x r (length (first_read n s x g)) (next_read n s x g) (knowledge_of (followed_by scenario g) x (first_read n s x g))
-        (hears_none scenario journal r t (k * T) silent x g is n reads until (inl (omega (arith, after)))) no_joiner
+        (gets_none scenario journal r t (k * T) silent x g is n reads until (inl (omega (arith, after)))) no_joiner
 
   -- ---- a cycle that starts without the node
 

@@ -1,21 +1,21 @@
--- Worked rows of nodes that are heard no more: one that stays out of the views, and one that an old JOIN brings back.
+-- Worked rows of nodes that are heard no more: two that stay out of the views, and one that an old JOIN brings back.
 use Rattle.std.specs.Prelude.{◌≡◌, false, [], ◌∷◌, Some, None, take, refl}
 use Rattle.std.specs.List.{list_any}
 use Rattle.cany_base.specs.declared.rule.Verdict.TheVariants.{Clean}
 use Rattle.cany_base.specs.Scenario.{ScenarioParts}
-use Rattle.cany_model.specs.Bus.State.{RunState}
+use Rattle.cany_model.specs.Bus.State.{RunState, node_at}
 use Rattle.cany_model.specs.Promises.Hypothesis.{first_break}
 use Rattle.cany_model.specs.Runs.RoundRobin.{round_robin}
 use Rattle.cany_model.specs.Runs.Run.{run}
 use Rattle.cany_laws.specs.Detection.{hears_life}
 use Rattle.cany_laws.specs.Logs.{past_to, present_of}
 use Rattle.cany_laws.specs.Membership.{members_as}
-use Rattle.cany_laws.specs.Removal.{hears_join}
+use Rattle.cany_laws.specs.Removal.{got_join}
 use Rattle.cany_laws.specs.Views.{installed_as}
 use Rattle.cany_laws.proofs.RowWords.{again, row, set, slot_rule, three, two}
 
 -- Node 1 stops in slot 5 and starts again in slot 60, but does not ask to join. Cycle 2 starts in slot 76 without it, and so does cycle 3 in slot
--- 114, before which it has been in the view of node 0 for less than the silence.
+-- 114: of the 39 slots before, node 0 had it in its view after the first 20 alone.
 unfoldable does_not_ask : ScenarioParts
 does_not_ask = two 134 [] (slot_rule 5 Clean 2 ∷ []) (again 60 1 ∷ [])
 
@@ -23,13 +23,24 @@ unfoldable its_run : RunState
 unfolding row
 its_run = run does_not_ask (round_robin does_not_ask)
 
--- node 0 hears no life of it in the slots after 5 and up to 114, and no JOIN in any
+-- node 0 hears no life of it in the slots after 5 and up to 114, and gets no JOIN in any
 not_heard :
-    list_any (hears_life 1) (take 109 (past_to 114 its_run 0 (present_of its_run 0))) ∷ list_any (hears_join 1) (past_to 114 its_run 0
+    list_any (hears_life 1) (take 109 (past_to 114 its_run 0 (present_of its_run 0))) ∷ list_any (got_join 1) (past_to 114 its_run 0
     (present_of its_run 0)) ∷ []
     ≡ false ∷ false ∷ []
 unfolding row does_not_ask its_run
 not_heard = refl
+
+-- its view after slot 5, and before cycles 2 and 3 start
+in_its_own_view :
+    members_as does_not_ask its_run 5 0 (present_of its_run 0) ∷ members_as does_not_ask its_run 75 0 (present_of its_run 0)
+    ∷ members_as does_not_ask its_run 113 0 (present_of its_run 0) ∷ [] ≡ set 3 ∷ set 3 ∷ set 1 ∷ []
+unfolding row does_not_ask its_run
+in_its_own_view = refl
+
+its_run_is_within : first_break does_not_ask.params its_run.trace ≡ None
+unfolding row does_not_ask its_run
+its_run_is_within = refl
 
 out_from_cycle_2_on :
     installed_as does_not_ask its_run 0 (present_of its_run 0) 1 ∷ installed_as does_not_ask its_run 0 (present_of its_run 0) 2
@@ -37,12 +48,39 @@ out_from_cycle_2_on :
 unfolding row does_not_ask its_run
 out_from_cycle_2_on = refl
 
+-- Node 1 stops in slot 5, and node 2, which stops in slot 6, starts again. Nobody asks to join. Both are in the vector of cycle 1, and neither in
+-- that of cycle 2, which starts in slot 144, a silence of 73 slots or more after slot 5: node 0 is in its own view and reads cycle 2 to its end.
+unfoldable stops_for_good : ScenarioParts
+stops_for_good = three 182 [] (slot_rule 5 Clean 2 ∷ slot_rule 6 Clean 4 ∷ []) (again 7 2 ∷ [])
+
+unfoldable run_of_the_stop : RunState
+unfolding row
+run_of_the_stop = run stops_for_good (round_robin stops_for_good)
+
+-- of node 0 its view after slot 5 and that before cycle 2 starts, and the vectors of cycles 1 and 2
+stopped_and_out :
+    Some (members_as stops_for_good run_of_the_stop 5 0 (present_of run_of_the_stop 0))
+    ∷ Some (members_as stops_for_good run_of_the_stop 143 0 (present_of run_of_the_stop 0))
+    ∷ installed_as stops_for_good run_of_the_stop 0 (present_of run_of_the_stop 0) 1
+    ∷ installed_as stops_for_good run_of_the_stop 0 (present_of run_of_the_stop 0) 2 ∷ [] ≡ Some (set 7) ∷ Some (set 7) ∷ Some (set 7) ∷ Some (set 1) ∷ []
+unfolding row stops_for_good run_of_the_stop
+stopped_and_out = refl
+
+stopped_in_slot_5 : (node_at run_of_the_stop.nodes 1).stopped ≡ Some 5
+unfolding row stops_for_good run_of_the_stop
+stopped_in_slot_5 = refl
+
+run_of_the_stop_is_within : first_break stops_for_good.params run_of_the_stop.trace ≡ None
+unfolding row stops_for_good run_of_the_stop
+run_of_the_stop_is_within = refl
+
 -- Nodes 0 and 2 are members at first. Node 2 asks to leave; nodes 1 and 2 stop in slot 2 and start again, and both ask to join: their JOINs are
 -- carried in slots 40 and 41, and node 2 stops for good in slot 42. Node 0 has it in its view until cycle 1 ends, so it does not count its JOIN; node
 -- 1 has nobody in its view, and does. Node 0 asks to leave too, is out in cycle 1, which starts in slot 68, and asks to join again. So node 1 alone
 -- starts cycle 2, in slot 136, with both, and node 2 is in the vector of this cycle: more than the silence of 69 slots after its stop, after which
--- node 0 had it in its view. The law on removal asks of the observer that it stands in its own view when the cycle starts, as node 0 does not; and
--- that no JOIN was heard for so long before slot 42, for as a member node 0 starts the next cycle with node 2 as well.
+-- node 0 had it in its view. The law on removal asks of the observer that it stands in its own view when the cycle starts, as node 0 does not, and
+-- that nobody got a JOIN of node 2 in the `cycle` + `bound` slots before slot 42: two premises that cycle 2 breaks both. Cycle 3 breaks the second
+-- alone, for as a member node 0 starts it with node 2 as well: the scenario `kept_by_a_join_before_the_stop` shows it.
 unfoldable an_old_ask : ScenarioParts
 unfolding three
 an_old_ask =

@@ -33,7 +33,7 @@ use Rattle.cany_model.proofs.Runs.Steps.{MayTurn, after_slot-node, after_slot-tr
 use Rattle.cany_model.proofs.Timed.Detector.Stopped.{IsOwn, own_waits}
 use Rattle.cany_laws.specs.Detection.{IsLeftOut, hears_life}
 use Rattle.cany_laws.specs.Logs.{past_of, past_to}
-use Rattle.cany_laws.specs.Removal.{HadItInView, HearsNoLifeOf, NobodyHearsJoin, hears_join}
+use Rattle.cany_laws.specs.Removal.{HadItLongBefore, HearsNoLifeOf, NobodyGotJoin, got_join}
 use Rattle.cany_laws.proofs.AdmissionHeard.{notice_is}
 use Rattle.cany_laws.proofs.EachView.{past_length}
 use Rattle.cany_laws.proofs.EqualMembers.{next_read}
@@ -156,17 +156,17 @@ life_heard r Bad h = absurd (false≢true h)
 life_heard r (Sent f) h = absurd (false≢true h)
 life_heard r (Got f) h = let parts = and_parts (shows_life f) (f.node == r) h in (f, refl, inl parts.0, eqb-true f.node r parts.1)
 
-join_heard : (r : ℕ) (e : NoticeKind) → hears_join r e ≡ true → (f : FrameParts) × (e ≡ Got f) × IsOwn f × (f.node ≡ r)
-join_heard r Idle h = absurd (false≢true h)
-join_heard r Bad h = absurd (false≢true h)
-join_heard r (Sent f) h = absurd (false≢true h)
-join_heard r (Got f) h =
+join_got : (r : ℕ) (e : NoticeKind) → got_join r e ≡ true → (f : FrameParts) × (e ≡ Got f) × IsOwn f × (f.node ≡ r)
+join_got r Idle h = absurd (false≢true h)
+join_got r Bad h = absurd (false≢true h)
+join_got r (Sent f) h = absurd (false≢true h)
+join_got r (Got f) h =
     let parts = and_parts (same_class f.class class.Join) (f.node == r) h in
     (f, refl, inr (same_class-true f.class class.Join parts.0), eqb-true f.node r parts.1)
 
 module _ (scenario : ScenarioParts) (legal : IsLegalScenario scenario) (journal : List Step) (within : IsWithin scenario.params (run scenario journal).trace)
     (i r t k : ℕ) (e : EndedIncarnation) (below : r < scenario.params.nodes) (stopped : (node_at (run scenario journal).nodes r).stopped ≡ Some t)
-    (h : HadItInView scenario (run scenario journal) r t k i e) (silent : NobodyHearsJoin scenario (run scenario journal) r t t) where
+    (h : HadItLongBefore scenario (run scenario journal) r t k i e) (silent : NobodyGotJoin scenario (run scenario journal) r t t) where
   abbrev s : RunState
   s = run scenario journal
 
@@ -199,11 +199,11 @@ module _ (scenario : ScenarioParts) (legal : IsLegalScenario scenario) (journal 
       ap (hears_life r) (get_or-drop drops (past_of s i e) m Idle ∙ ap (λ n. get_or (past_of s i e) n Idle) place)
       ∙ no_life (u - m) (omega (arith, few)) (omega (arith, read)))
 
-  nobody : NobodyHearsJoin scenario s r t (k * scenario.params.cycle)
+  nobody : NobodyGotJoin scenario s r t (k * scenario.params.cycle)
   nobody note stands near until j = elim (cases_lt t note.slot) [
     | inr early ↦ silent note stands near early j
-    | inl late ↦ false_from_ne_true (hears_join r (given j note)) (λ heard.
-        let got = join_heard r (given j note) heard in
+    | inl late ↦ false_from_ne_true (got_join r (given j note)) (λ heard.
+        let got = join_got r (given j note) heard in
         after note stands late got.0 (given-Got j note got.0 got.1).0 got.2 got.3)
   ]
 

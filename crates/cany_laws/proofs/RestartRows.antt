@@ -54,8 +54,8 @@ delivered_by_both = refl
 -- ---- a stopped node that stays
 
 -- Node 1 starts again while the others run, and installs the vector of cycle 1 in slot 108: before that it has no node in its view. Node 2 stops in slot 40, and is in
--- the vector of cycle 2, which starts in slot 144, so more than the silence of 73 slots later: the law on removal asks for an incarnation that has it in its view all
--- that time.
+-- the vector of cycle 2, which starts in slot 144, so more than the silence of 73 slots later: the laws ask for an incarnation that had it in its view a silence or
+-- more before the cycle starts, and reads the cycle to its end.
 unfoldable stays_after_its_stop : ScenarioParts
 stays_after_its_stop = three 182 [] (slot_rule 3 Clean 2 ∷ slot_rule 40 Clean 4 ∷ slot_rule 74 Clean 1 ∷ []) (again 4 1 ∷ [])
 

@@ -40,7 +40,7 @@ out_of_the_next_view :
 unfolding row never_heard its_run
 out_of_the_next_view = refl
 
--- ---- what the law on removal asks for
+-- ---- what the laws on silent nodes ask for
 
 -- Node 2 stops in slot 76. Node 0 counts it as failed in slot 144, in which cycle 2 starts, and stops in the next slot, in which its vector without node 2 reaches
 -- nobody. Node 1, which heard node 2 later, installs a vector with it: a member that has not read the cycle to its end does not count.
@@ -55,7 +55,8 @@ unfolding row stops_with_what_it_found
 the_others_have_it = refl
 
 -- Node 2, which is no member at first, asks to join in slot 10, and the vector of cycle 1, which is installed in slot 108, has it. Nobody hears life of it up to slot
--- 144, in which cycle 2 starts, and it is in the vector of that cycle too: a silence counts only while the node is in the view.
+-- 144, in which cycle 2 starts, and it is in the vector of that cycle too: a silence counts only from a slot on after which the node is in
+-- the view.
 unfoldable joins_and_is_silent : ScenarioParts
 unfolding three_by
 joins_and_is_silent =

@@ -1,4 +1,4 @@
--- A node outside the view that asks to join it, and the vectors that take it in.
+-- A node outside the view that asks to join it, and the vectors that admit it.
 use Rattle.std.specs.Prelude.{◌≡◌, ℕ, ◌+◌, ◌-◌, ◌*◌, ◌<◌, ◌≤◌, ◌⊎◌, true, false, Some, Contains}
 use Rattle.cany_base.specs.declared.class.Class.TheVariants as class
 use Rattle.cany_base.specs.declared.rule.Verdict.TheVariants.{Clean}
@@ -31,7 +31,7 @@ IsOutsideAtEach scenario s r k slot =
     (i : ℕ) (e : EndedIncarnation) → IsIncarnation scenario s i e → e.incarnation.from ≤ (k - 1) * scenario.params.cycle
     → k * scenario.params.cycle < e.next → has (members_as scenario s (slot - 1) i e) r ≡ false
 
--- the incarnation has a view by then: it is that of the opening, or it has installed a vector in a cycle that ended before the slot
+-- the incarnation has a view by then: it is an incarnation of the opening, or it has installed a vector in a cycle that ended before the slot
 abbrev pub HasViewBefore : ScenarioParts → RunState → (slot i : ℕ) → EndedIncarnation → Type 0
 HasViewBefore scenario s slot i e =
     (e.incarnation.number ≡ 0)
@@ -45,13 +45,13 @@ pub record KnowsItOutside (scenario : ScenarioParts) (s : RunState) (r slot i : 
   pub outside : has (members_as scenario s (slot - 1) i e) r ≡ false
 
 -- it installed a vector with node r in the cycle before cycle k
-abbrev pub HadItBefore : ScenarioParts → RunState → (r k i : ℕ) → EndedIncarnation → Type 0
-HadItBefore scenario s r k i e = (1 < k) × ((w : Nodes) × (installed_as scenario s i e (k - 1) ≡ Some w) × (has w r ≡ true))
+abbrev pub InstalledItBefore : ScenarioParts → RunState → (r k i : ℕ) → EndedIncarnation → Type 0
+InstalledItBefore scenario s r k i e = (1 < k) × ((w : Nodes) × (installed_as scenario s i e (k - 1) ≡ Some w) × (has w r ≡ true))
 
 -- Each incarnation that installs a vector in cycle k has node r in it, or, if it takes part since the cycle before started, in the one that it
 -- installed in that cycle; and if it takes part only since later, some incarnation had it there.
-pub record IsTakenIn (scenario : ScenarioParts) (s : RunState) (r k : ℕ) : Type 0 where
+pub record IsAdmittedByEach (scenario : ScenarioParts) (s : RunState) (r k : ℕ) : Type 0 where
   pub since : (i : ℕ) (e : EndedIncarnation) → IsIncarnation scenario s i e → e.incarnation.from ≤ (k - 1) * scenario.params.cycle
-      → (v : Nodes) → installed_as scenario s i e k ≡ Some v → (has v r ≡ true) ⊎ HadItBefore scenario s r k i e
+      → (v : Nodes) → installed_as scenario s i e k ≡ Some v → (has v r ≡ true) ⊎ InstalledItBefore scenario s r k i e
   pub each : (i : ℕ) (e : EndedIncarnation) → IsIncarnation scenario s i e → (v : Nodes) → installed_as scenario s i e k ≡ Some v
-      → (has v r ≡ true) ⊎ ((j : ℕ) × (f : EndedIncarnation) × IsIncarnation scenario s j f × HadItBefore scenario s r k j f)
+      → (has v r ≡ true) ⊎ ((j : ℕ) × (f : EndedIncarnation) × IsIncarnation scenario s j f × InstalledItBefore scenario s r k j f)

@@ -1,4 +1,4 @@
--- A node that is heard no more, and does not ask to join again.
+-- A node that is heard no more, and has not asked lately to join.
 use Rattle.std.specs.Prelude.{◌≡◌, ℕ, ◌+◌, ◌-◌, ◌*◌, ◌<◌, ◌≤◌, ◌==◌, ◌&&◌, Bool, true, false, take, Contains}
 use Rattle.std.specs.List.{list_any}
 use Rattle.cany_base.specs.declared.class.Class.TheVariants as class
@@ -15,21 +15,21 @@ use Rattle.cany_laws.specs.Logs.{IsIncarnation, past_to}
 use Rattle.cany_laws.specs.Membership.{members_as}
 
 -- whether the notice is that the node got a JOIN of node r
-abbrev pub hears_join : ℕ → NoticeKind → Bool
-hears_join r Idle = false
-hears_join r (Got f) = same_class f.class class.Join && f.node == r
-hears_join r (Sent f) = false
-hears_join r Bad = false
+abbrev pub got_join : ℕ → NoticeKind → Bool
+got_join r Idle = false
+got_join r (Got f) = same_class f.class class.Join && f.node == r
+got_join r (Sent f) = false
+got_join r Bad = false
 
 -- no node got a JOIN of node r in a slot up to the second of these, but for those that lie a cycle and the bound or more before the first
-abbrev pub NobodyHearsJoin : ScenarioParts → RunState → (r from until : ℕ) → Type 0
-NobodyHearsJoin scenario s r from until =
-    (note : SlotNote) → Contains s.trace note → from < note.slot + (scenario.params.cycle + scenario.params.bound) → note.slot ≤ until
-    → (j : ℕ) → hears_join r (given j note) ≡ false
+abbrev pub NobodyGotJoin : ScenarioParts → RunState → (r t until : ℕ) → Type 0
+NobodyGotJoin scenario s r t until =
+    (note : SlotNote) → Contains s.trace note → t < note.slot + (scenario.params.cycle + scenario.params.bound) → note.slot ≤ until
+    → (j : ℕ) → got_join r (given j note) ≡ false
 
 -- An incarnation of node i has another node r in its view after its turn of slot t. Cycle k starts a silence or more after slot t: before its turn of
 -- the slot in which it starts the incarnation stands in its own view, and it has read the cycle to its end.
-pub record HadItInView (scenario : ScenarioParts) (s : RunState) (r t k i : ℕ) (e : EndedIncarnation) : Type 0 where
+pub record HadItLongBefore (scenario : ScenarioParts) (s : RunState) (r t k i : ℕ) (e : EndedIncarnation) : Type 0 where
   pub is : IsIncarnation scenario s i e
   pub other : r ≡ i → ⊥
   pub late : t + scenario.params.silence ≤ k * scenario.params.cycle

@@ -6,25 +6,25 @@ ghost use Rattle.cany_model.specs.Bus.State.{EndedIncarnation, node_at};
 ghost use Rattle.cany_model.specs.Promises.Hypothesis.{IsWithin};
 ghost use Rattle.cany_model.specs.Runs.Run.{run};
 ghost use Rattle.cany_laws.specs.Detection.{IsLeftOut};
-ghost use Rattle.cany_laws.specs.Removal.{HadItInView, HearsNoLifeOf, NobodyHearsJoin};
+ghost use Rattle.cany_laws.specs.Removal.{HadItLongBefore, HearsNoLifeOf, NobodyGotJoin};
 
 /// Removal with restarts: in every run within the fault hypothesis of a legal scenario, let an
 /// incarnation have another node in its view after its turn of slot t, hear no life of it in the
 /// slots after t and up to that in which cycle k starts, which is `silence` or more after t, stand in
-/// its own view before its turn of that slot, and read the cycle to its end. If no node got a JOIN of
+/// its own view before its turn of the slot in which the cycle starts, and read the cycle to its end. If no node got a JOIN of
 /// the other node in a slot after t − `cycle` − `bound` and not after the start of cycle k, then no
 /// incarnation, of whatever node, installs a vector with that node in cycle k.
 ///
 /// It asks for nothing of the node that is heard no more: whether it stopped, runs, or started again.
-/// Nor has it to be in the view until the cycle starts: it may leave it before, and does not come
-/// back. A JOIN that was heard before slot t counts for so long, since an incarnation that began
+/// The node need not stay in the view until the cycle starts: if it leaves before, it does not come
+/// back. A JOIN from before slot t counts for `cycle` + `bound` slots, since an incarnation that began
 /// lately may have kept it while the others had the node in their views.
 pub fn removal()
     ensures { (scenario : ScenarioParts) (journal : List Step) → IsLegalScenario scenario
         → IsWithin scenario.params (run scenario journal).trace → (i r t k : ℕ) (e : EndedIncarnation) → r < scenario.params.nodes
-        → HadItInView scenario (run scenario journal) r t k i e
+        → HadItLongBefore scenario (run scenario journal) r t k i e
         → HearsNoLifeOf scenario (run scenario journal) r t (k * scenario.params.cycle) i e
-        → NobodyHearsJoin scenario (run scenario journal) r t (k * scenario.params.cycle) → IsLeftOut scenario (run scenario journal) r k }
+        → NobodyGotJoin scenario (run scenario journal) r t (k * scenario.params.cycle) → IsLeftOut scenario (run scenario journal) r k }
 {}
 
 /// Removal of a stopped node: the same of a node that stopped in slot t and has not started again,
@@ -33,6 +33,6 @@ pub fn removal()
 pub fn stopped_removal()
     ensures { (scenario : ScenarioParts) (journal : List Step) → IsLegalScenario scenario
         → IsWithin scenario.params (run scenario journal).trace → (i r t k : ℕ) (e : EndedIncarnation) → r < scenario.params.nodes
-        → (node_at (run scenario journal).nodes r).stopped ≡ Some t → HadItInView scenario (run scenario journal) r t k i e
-        → NobodyHearsJoin scenario (run scenario journal) r t t → IsLeftOut scenario (run scenario journal) r k }
+        → (node_at (run scenario journal).nodes r).stopped ≡ Some t → HadItLongBefore scenario (run scenario journal) r t k i e
+        → NobodyGotJoin scenario (run scenario journal) r t t → IsLeftOut scenario (run scenario journal) r k }
 {}

@@ -1,5 +1,5 @@
-use Rattle.cany_laws.proofs.AdmissionTaken.{taken_in}
+use Rattle.cany_laws.proofs.AdmissionTaken.{admitted_by_each}
 use Rattle.cany_laws.proofs.admission.admission.Goals as goal
 
 pub returns : goal.returns
-returns c scenario journal legal within r k slot there carried outside = taken_in scenario legal journal within r k slot there carried outside
+returns c scenario journal legal within r k slot there carried outside = admitted_by_each scenario legal journal within r k slot there carried outside
