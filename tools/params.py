@@ -80,17 +80,18 @@ BOUNDS = {
     ),
     "detect": Bound(
         lambda p: p.silence + p.lag,
-        "at most, from the stop of a node to its failure sign at each node that takes part and has it in its view",
-        "rule of silence",
+        "at most, from the stop of a node until it counts as failed at each node that has had it in its view since; "
+        "with restarts only where silence is longer than cycle",
+        "law silence_is_detected",
     ),
     "remove": Bound(
         lambda p: p.silence + p.cycle + p.bound + p.lag,
-        "at most, from the stop of a node that all have in their views to the first views without it; no restarts",
+        "at most, from the stop of a node that all have in their views to the first views without it; no restarts, else see stopped_removal",
         "law removal",
     ),
     "admit": Bound(
         lambda p: p.cycle - 1 + p.bound + p.lag,
-        "at most, from a JOIN that was carried clean to the first views with its sender; no restarts",
+        "at most, from a JOIN that was carried clean to the first views with its sender; no restarts, else see known_admission",
         "law admission",
     ),
     "take-part": Bound(
