@@ -39,7 +39,7 @@ use Rattle.cany_model.proofs.Timed.Order.TotEffects.{asked_then, copies_more, go
 use Rattle.cany_model.proofs.Timed.Order.TotKept.{NoSilent}
 use Rattle.cany_model.proofs.Timed.Order.TotRun.{tot_kept}
 use Rattle.cany_laws.specs.Carried.{times_clean}
-use Rattle.cany_laws.proofs.CarriedCounts.{kept_waits}
+use Rattle.cany_laws.proofs.WaitNodes.{kept_waits}
 
 -- ---- a copy is enough
 

@@ -1,16 +1,15 @@
 -- How often the bus carries one frame Clean: no more often than nodes, or their incarnations, send it.
-use Rattle.std.proofs.Common.{◌≡◌, ℕ, zero, suc, ◌+◌, ◌<◌, ◌≤◌, inl, inr, Bool, true, false, not, List, [], ◌∷◌, drop, length, map, count_by, refl, ap, sym, ◌∙◌, subst, arith}
-use Rattle.std.proofs.lemmas.Bool.{cases_Bool, cases_eq, cases_lt, cond_both, false≢true, not-true}
+use Rattle.std.proofs.Common.{◌≡◌, ℕ, zero, suc, ◌+◌, ◌<◌, ◌≤◌, inl, inr, Bool, true, false, List, [], ◌∷◌, drop, length, map, count_by, refl, ap, sym, ◌∙◌, subst, arith}
+use Rattle.std.proofs.lemmas.Bool.{cases_Bool, cases_eq, cases_lt, false≢true}
 use Rattle.std.proofs.lemmas.List.{length-replicate}
 use Rattle.cany_base.specs.declared.message.MsgKey.{MsgKey}
 use Rattle.cany_base.specs.declared.notice.NoticeKind.{NoticeKind}
-use Rattle.cany_base.specs.declared.notice.NoticeKind.TheVariants.{Idle, Got, Sent, Bad}
 use Rattle.cany_base.specs.declared.slot_note.SlotNote.{SlotNote}
 use Rattle.cany_base.specs.declared.step.Step.{Step}
 use Rattle.cany_base.specs.Frame.{FrameParts}
 use Rattle.cany_base.specs.Limits.{most_nodes}
 use Rattle.cany_base.specs.Scenario.{ScenarioParts}
-use Rattle.cany_model.specs.Bus.Frames.{Identity, identity_of, is_of}
+use Rattle.cany_model.specs.Bus.Frames.{Identity}
 use Rattle.cany_model.specs.Bus.History.{given, history, is_sent, seen}
 use Rattle.cany_model.specs.Bus.Restart.{after_restarts}
 use Rattle.cany_model.specs.Bus.Slot.{FaultScript, after_slot, script, slot_note_of}
@@ -34,13 +33,14 @@ use Rattle.cany_model.proofs.Rules.SignFacts.{asked_is_known}
 use Rattle.cany_model.proofs.Rules.TurnFacts.{fda_cause}
 use Rattle.cany_model.proofs.Runs.Runs.{along_run, opening_within}
 use Rattle.cany_model.proofs.Runs.Steps.{MayTurn, after_slot-history, after_slot-length, after_slot-present, after_slot-trace, after_slot-waiting, after_turn-history, after_turn-node, after_turn-other, after_turn-other_history, after_turn-present, after_turn-trace, kept_at, next_notice, running_before_slot}
-use Rattle.cany_model.proofs.Runs.Waits.{waits-from_after, waits-from_with, waits-from_without}
+use Rattle.cany_model.proofs.Runs.Waits.{waits-from_after, waits-from_with}
 use Rattle.cany_model.proofs.Timed.Common.Ages.{carries_clean, clean_carried}
 use Rattle.cany_model.proofs.Timed.Common.Counting.{Passes, at_most_1}
 use Rattle.cany_model.proofs.Timed.Detector.NoRestarts.{restarts_none}
 use Rattle.cany_model.proofs.Timed.Order.TotKept.{NoSilent, TraceKept}
 use Rattle.cany_model.proofs.Timed.Order.TotRun.{tot_kept}
 use Rattle.cany_laws.specs.Carried.{incarnations_of_first, times_clean}
+use Rattle.cany_laws.proofs.WaitNodes.{kept_waits, without_none}
 use Rattle.cany_laws.proofs.CarriedSigns.{asked_is_new}
 use Rattle.cany_laws.proofs.Fronts.{after_slot-ended, after_turn-ended}
 
@@ -104,22 +104,10 @@ module _ (scenario : ScenarioParts) (T : List SlotNote) (t : TraceKept scenario 
 
 -- ---- what waits
 
-pub without_none : (x : Identity) (w : List FrameParts) → waits x (without x w) ≡ false
-without_none x [] = refl
-without_none x (g ∷ w) =
-    cond_both (not (is_of x g)) (g ∷ without x w) (without x w) (λ v. waits x v ≡ false)
-    (λ other. rw (not-true (is_of x g) other) (without_none x w)) (λ _. without_none x w)
-
 fewer_if : (a b : Bool) → (a ≡ true → b ≡ true) → one_if a ≤ one_if b
 fewer_if true true h = omega arith
 fewer_if true false h = absurd (false≢true (h refl))
 fewer_if false b h = omega arith
-
-pub kept_waits : (x : Identity) (e : NoticeKind) (w : List FrameParts) → waits x (kept_at e w) ≡ true → waits x w ≡ true
-kept_waits x Idle w h = h
-kept_waits x (Got f) w h = h
-kept_waits x (Sent f) w h = waits-from_without x (identity_of f) w h
-kept_waits x Bad w h = h
 
 -- ---- the frame of a failure sign
 

@@ -31,7 +31,8 @@ use Rattle.cany_model.proofs.Timed.Order.TotSlots.{carries-true}
 use Rattle.cany_laws.specs.Carried.{times_clean}
 use Rattle.cany_laws.proofs.WaitNodes.{has_sent, new_reads, same_after_turn, same_reads, turn_reads}
 use Rattle.cany_laws.proofs.WaitTotals.{one_if_weaker}
-use Rattle.cany_laws.proofs.CarriedCounts.{kept_waits, sent_by, without_none}
+use Rattle.cany_laws.proofs.CarriedCounts.{sent_by}
+use Rattle.cany_laws.proofs.WaitNodes.{kept_waits, without_none}
 
 -- ---- a number that no step makes smaller, and that each turn of node i that asks for the frame makes larger
 

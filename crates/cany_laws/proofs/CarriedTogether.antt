@@ -1,9 +1,7 @@
 -- Nodes that wait with one frame send it together: so one that no node asks for after it has read it is carried Clean at most lag + 2 times.
-use Rattle.std.proofs.Common.{◌≡◌, ℕ, zero, suc, ◌+◌, ◌<◌, ◌≤◌, ◌⊎◌, inl, inr, Bool, true, false, List, [], ◌∷◌, count_by, refl, ap, sym, ◌∙◌, subst, arith, Contains}
+use Rattle.std.proofs.Common.{◌≡◌, ℕ, zero, suc, ◌+◌, ◌<◌, ◌≤◌, ◌⊎◌, inl, inr, Bool, true, false, List, [], ◌∷◌, count_by, ap, sym, ◌∙◌, subst, arith, Contains}
 use Rattle.std.proofs.lemmas.Bool.{and_parts, both_ways, cases_Bool, cases_eq, cases_lt, false≢true}
 use Rattle.std.proofs.lemmas.List.Elements.{All-contains, All-from_recursion}
-use Rattle.cany_base.specs.declared.rule.Verdict.{Verdict}
-use Rattle.cany_base.specs.declared.rule.Verdict.TheVariants as verdict
 use Rattle.cany_base.specs.declared.notice.NoticeKind.TheVariants.{Sent}
 use Rattle.cany_base.specs.declared.slot_note.SlotNote.{SlotNote}
 use Rattle.cany_base.specs.declared.step.Step.{Step}
@@ -13,7 +11,7 @@ use Rattle.cany_base.specs.Scenario.{ScenarioParts}
 use Rattle.cany_model.specs.Bus.Frames.{Identity, bare, identity_of}
 use Rattle.cany_model.specs.Bus.History.{given}
 use Rattle.cany_model.specs.Bus.Restart.{after_restarts}
-use Rattle.cany_model.specs.Bus.Slot.{FaultScript, after_slot, is_clean, is_success, script, slot_note_of}
+use Rattle.cany_model.specs.Bus.Slot.{FaultScript, after_slot, is_clean, script, slot_note_of}
 use Rattle.cany_model.specs.Bus.State.{NodeState, RunState, node_at, opening, runs}
 use Rattle.cany_model.specs.Bus.Waiting.{waits, without}
 use Rattle.cany_model.specs.Runs.Run.{after_turn, run}
@@ -31,7 +29,7 @@ use Rattle.cany_model.proofs.Timed.Order.TotKept.{NoSilent}
 use Rattle.cany_model.proofs.Timed.Order.TotRun.{IsOfRun, along_states, run_orderly}
 use Rattle.cany_model.proofs.Timed.Order.TotSlots.{carries-true, waiting_frame}
 use Rattle.cany_laws.proofs.CarriedBare.{HasBareFrames, IsBare, bare_run, is_bare_class}
-use Rattle.cany_laws.proofs.CarriedCounts.{kept_waits, without_none}
+use Rattle.cany_laws.proofs.WaitNodes.{clean_success, kept_waits, without_none}
 
 -- ---- counts
 
@@ -77,12 +75,6 @@ IsFresh scenario x =
     (s : RunState) → IsOfRun scenario s → NoSilent s.trace → (i : ℕ) → MayTurn s i → waits x (node_at (after_turn scenario i s).nodes i).waiting ≡ true
     → (waits x (node_at s.nodes i).waiting ≡ true) ⊎ ((p : ℕ) → (node_at s.nodes i).unread ≤ p → Clean s.trace p x → ⊥)
 
-success_of : (v : Verdict) → is_clean v ≡ true → is_success v ≡ true
-success_of verdict.Clean h = refl
-success_of verdict.Lost h = absurd (false≢true h)
-success_of (verdict.Partial reject) h = absurd (false≢true h)
-success_of (verdict.Silent reject) h = absurd (false≢true h)
-
 module _ (scenario : ScenarioParts) (few : scenario.params.nodes ≤ most_nodes) (x : Identity) (small : is_bare_class x.class ≡ true) (fresh : IsFresh scenario x) where
   abbrev lag : ℕ
   lag = scenario.params.lag
@@ -118,7 +110,7 @@ module _ (scenario : ScenarioParts) (few : scenario.params.nodes ≤ most_nodes)
       let below = runs_within s.nodes i running in
       let count = (run_orderly scenario s of).count in
       let sender = waiting_sends rules s c.what i (omega (arith, below, count, few)) c.frame running (subst (Contains (node_at s.nodes i).waiting) same mine.1) in
-      let sent : given i note ≡ Sent c.what = given_sender i note c.what c.frame sender (success_of note.verdict parts.1) in
+      let sent : given i note ≡ Sent c.what = given_sender i note c.what c.frame sender (clean_success note.verdict parts.1) in
       ap (waits x)
       (after_slot-waiting rules s i running ∙ ap (λ n. kept_at n (node_at s.nodes i).waiting) sent ∙ ap (λ y. without y (node_at s.nodes i).waiting) (sym c.identity))
       ∙ without_none x (node_at s.nodes i).waiting

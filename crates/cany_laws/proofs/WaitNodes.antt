@@ -34,16 +34,16 @@ kept_waits x (Got f) w h = h
 kept_waits x (Sent f) w h = waits-from_without x (identity_of f) w h
 kept_waits x Bad w h = h
 
-gone : (x : Identity) (w : List FrameParts) → waits x (without x w) ≡ false
-gone x [] = refl
-gone x (g ∷ w) =
+pub without_none : (x : Identity) (w : List FrameParts) → waits x (without x w) ≡ false
+without_none x [] = refl
+without_none x (g ∷ w) =
     cond_both (not (is_of x g)) (g ∷ without x w) (without x w) (λ v. waits x v ≡ false)
-    (λ other. neither (is_of x g) (waits x (without x w)) (not-true (is_of x g) other) (gone x w)) (λ _. gone x w)
+    (λ other. neither (is_of x g) (waits x (without x w)) (not-true (is_of x g) other) (without_none x w)) (λ _. without_none x w)
   where
     neither : (a b : Bool) → a ≡ false → b ≡ false → (a || b) ≡ false
     neither a b first second = rw first second
 
-clean_success : (v : Verdict) → is_clean v ≡ true → is_success v ≡ true
+pub clean_success : (v : Verdict) → is_clean v ≡ true → is_success v ≡ true
 clean_success Clean h = refl
 clean_success Lost h = h
 clean_success (Partial reject) h = h
@@ -61,7 +61,7 @@ pub sent_waits : (rules : FaultScript) (s : RunState) (x : Identity) (f : FrameP
 sent_waits rules s x f same i running sent =
     ap (waits x) (after_slot-waiting rules s i running ∙ ap (λ e. kept_at e (node_at s.nodes i).waiting) sent)
     ∙ ap (λ y. waits x (without y (node_at s.nodes i).waiting)) (sym (same_identity-true x (identity_of f) same))
-    ∙ gone x (node_at s.nodes i).waiting
+    ∙ without_none x (node_at s.nodes i).waiting
 
 -- ---- what a step leaves as it is
 
