@@ -1,5 +1,5 @@
 -- A JOIN that was carried Clean is got by each incarnation that reads its slot and takes part in it, but for the node that it names.
-use Rattle.std.proofs.Common.{◌≡◌, ◌≢◌, ℕ, ◌+◌, ◌-◌, ◌<◌, ◌≤◌, inl, inr, false, List, [], ◌∷◌, ◌++◌, length, map, drop, Some, None, refl, ap, sym, ◌∙◌, subst, arith, drop-drop, length-append}
+use Rattle.std.proofs.Common.{◌≡◌, ◌≢◌, ℕ, ◌+◌, ◌-◌, ◌<◌, ◌≤◌, inl, inr, false, List, [], ◌∷◌, ◌++◌, length, map, drop, Some, refl, ap, sym, ◌∙◌, subst, arith, drop-drop, length-append}
 use Rattle.std.specs.List.{AllByRecursion}
 use Rattle.std.proofs.Math.Seq.{drop-append_seam}
 use Rattle.cany_base.specs.declared.class.Class.TheVariants as class
@@ -15,21 +15,22 @@ use Rattle.cany_model.specs.Bus.History.{as_seen, ended_history, given, seen}
 use Rattle.cany_model.specs.Bus.Slot.{FaultScript, after_slot, script}
 use Rattle.cany_model.specs.Bus.State.{EndedIncarnation, Incarnation, RunState, node_at, opening}
 use Rattle.cany_model.specs.Runs.Run.{run}
-use Rattle.cany_model.proofs.Among.{Among, Each-weaker}
+use Rattle.cany_model.proofs.Among.{Among}
 use Rattle.cany_model.proofs.Bus.Notes.{given-Sent, sender_waits}
 use Rattle.cany_model.proofs.Bus.Restarts.{after_restarts-trace}
 use Rattle.cany_model.proofs.Bus.Seen.{Numbered, carries_other, drop_seen, hidden_not, seen_plain}
 use Rattle.cany_model.proofs.Promises.Diffusion.{Heard}
-use Rattle.cany_model.proofs.Promises.EachNode.{IsNodes, blank_heard, each_running}
+use Rattle.cany_model.proofs.Promises.EachNode.{each_running}
 use Rattle.cany_model.proofs.Runs.Journals.{run_none}
 use Rattle.cany_model.proofs.Runs.Steps.{after_slot-trace, after_turn-trace}
 use Rattle.cany_model.proofs.Timed.Detector.Stopped.{SentItself, own_waits}
 use Rattle.cany_model.proofs.Timed.Views.SameView.{end_of}
-use Rattle.cany_model.proofs.Timed.Views.StartViews.{each_left}
+use Rattle.cany_model.proofs.Timed.Views.StartViews.{each_left, front_split}
 use Rattle.cany_laws.specs.Logs.{IsIncarnation}
 use Rattle.cany_laws.proofs.EqualMembers.{first_read, first_read-more, next_read}
-use Rattle.cany_laws.proofs.Fronts.{along_pushes, drop-map, front_split, pushed}
+use Rattle.cany_laws.proofs.Fronts.{along_pushes, drop-map, pushed}
 use Rattle.cany_laws.proofs.Lives.{Lived, lived}
+use Rattle.cany_model.proofs.Timed.Detector.HeardWithin.{heard_kept}
 
 -- ---- the slot of a note
 
@@ -65,13 +66,6 @@ sent_itself scenario some =
           (λ i f frame sender mine. let w = sender_waits rules s f i frame sender in own_waits scenario some front i w.0 f w.1 mine, before)
     ])
 
-heard_nodes : (scenario : ScenarioParts) → IsNodes scenario (λ trace i node. AllByRecursion (Heard i) trace)
-heard_nodes scenario = record {
-  new = λ trace i node new. Each-weaker (λ note. note.frame ≡ None) (Heard i) (λ note none. blank_heard i note none) trace new.blank;
-  slot = λ note trace i node after same l h. (l.heard, h);
-  turn = λ trace i node after same t h. h;
-}
-
 -- ---- what an incarnation reads of a slot
 
 module _ (scenario : ScenarioParts) (journal : List Step) (i : ℕ) (e : EndedIncarnation) (l : Lived scenario journal i e) (newer : List SlotNote)
@@ -100,7 +94,7 @@ module _ (scenario : ScenarioParts) (journal : List Step) (i : ℕ) (e : EndedIn
       let inside : length base ≤ length front.trace = omega (arith, short, l.next) in
       let mid = end_of newer base way.0 front.trace (sym split ∙ way.1) inside in
       let all : AllByRecursion (Heard i) (seen (node_at front.nodes i).present front.trace) =
-      each_running scenario (λ trace i node. AllByRecursion (Heard i) trace) (heard_nodes scenario) l.front i l.running in
+      each_running scenario (λ trace i node. AllByRecursion (Heard i) trace) (heard_kept scenario) l.front i l.running in
       let same : seen (node_at front.nodes i).present front.trace ≡ seen e.incarnation mid.0 ++ seen e.incarnation base =
       ap (λ (inc : Incarnation). seen inc front.trace) l.present ∙ ap (seen e.incarnation) mid.1 ∙ map_append (as_seen e.incarnation) mid.0 base in
       each_left (Heard i) (seen e.incarnation mid.0) (seen e.incarnation base) (subst (AllByRecursion (Heard i)) same all)

@@ -1,5 +1,5 @@
 -- A node whose JOIN counts comes into each vector with which a member starts the next cycle, if no vector of the cycle before has it.
-use Rattle.std.proofs.Common.{◌≡◌, ◌≢◌, ℕ, zero, suc, ◌+◌, ◌-◌, ◌*◌, ◌<◌, ◌≤◌, ◌⊎◌, inl, inr, true, false, List, [], ◌∷◌, length, Option, Some, None, refl, ap, sym, ◌∙◌, subst, arith}
+use Rattle.std.proofs.Common.{◌≡◌, ◌≢◌, ℕ, zero, suc, ◌+◌, ◌-◌, ◌*◌, ◌<◌, ◌≤◌, ◌⊎◌, inl, inr, true, false, List, ◌∷◌, length, Option, Some, None, refl, ap, sym, ◌∙◌, subst, arith}
 use Rattle.std.proofs.Math.Nat.{mul-le-mul_right}
 use Rattle.std.proofs.lemmas.Bool.{both_ways, cases_Bool, cases_eq, cases_lt}
 use Rattle.cany_base.proofs.NodesFacts.{has_none}
@@ -32,17 +32,13 @@ use Rattle.cany_laws.specs.Admission.{IsOutsideAtEach, JoinIsCarried}
 use Rattle.cany_laws.specs.Logs.{IsIncarnation, followed_by}
 use Rattle.cany_laws.specs.Views.{installed_as}
 use Rattle.cany_laws.proofs.AdmissionHeard.{NotePlace, join_got, note_place}
-use Rattle.cany_laws.proofs.AdmissionTurns.{asks_after, asks_now, asks_on, starts_with_it}
 use Rattle.cany_laws.proofs.EachView.{view_read}
-use Rattle.cany_laws.proofs.EqualMembers.{ended_as, ended_installs, ended_none, first_read, first_read-length, first_read-more, first_read-none, members_more, next_read}
+use Rattle.cany_laws.proofs.EqualMembers.{ended_as, ended_installs, ended_none, first_read, first_read-length, first_read-more, first_read-none, members_first, members_more, next_read}
 use Rattle.cany_laws.proofs.Lives.{Lived, lived}
 use Rattle.cany_laws.proofs.Since.{begins}
+use Rattle.cany_model.proofs.Timed.Detector.Joining.{asked_joiner, asked_joins, joiner_next, joiner_says}
 
 -- ---- an incarnation's view
-
-members_first : (sc : ScenarioParts) (i : ℕ) → (knowledge_of sc i []).members ≡ sc.members
-unfolding knowledge_of
-members_first sc i = refl
 
 module _ (scenario : ScenarioParts) (journal : List Step) (i : ℕ) (e : EndedIncarnation) (l : Lived scenario journal i e) where
   abbrev View : ℕ → Nodes
@@ -197,18 +193,18 @@ module _ (scenario : ScenarioParts) (legal : IsLegalScenario scenario) (journal 
     unfolding ended_as
     asks_next n from to asked =
         ap (λ (st : Knowledge). has st.joiners r) (more n (omega (arith, to)))
-        ∙ asks_after sc i r (next_read n s i e) (first_read n s i e) few (ended_out n from to) asked
+        ∙ joiner_next sc i r (next_read n s i e) (first_read n s i e) few (ended_out n from to) asked
 
     asked_at : r ≢ i → (d : ℕ) → slot + d ≤ k * T → Asked (slot + d)
     asked_at other zero until =
         let same : slot ≡ slot + 0 = omega arith in
         subst Asked same
-        (asks_now p i r (length (first_read slot s i e)) (next_read slot s i e) (K slot) few carried.what (got other) carried.join carried.asker
+        (asked_joins p i r (length (first_read slot s i e)) (next_read slot s i e) (K slot) few carried.what (got other) carried.join carried.asker
         (out_until slot (omega arith) (omega (arith, until))))
     asked_at other (suc d) until =
         let next : slot + d + 1 ≡ slot + suc d = omega arith in
         subst Asked next
-        (asks_on p i r (length (first_read (slot + d + 1) s i e)) (next_read (slot + d + 1) s i e) (K (slot + d + 1)) few
+        (asked_joiner p i r (length (first_read (slot + d + 1) s i e)) (next_read (slot + d + 1) s i e) (K (slot + d + 1)) few
         (asks_next (slot + d) (omega (arith, carried.after)) (omega (arith, until)) (asked_at other d (omega (arith, until)))))
 
     joined_since : Says r true (K (k * T + 1)).vector
@@ -221,7 +217,7 @@ module _ (scenario : ScenarioParts) (legal : IsLegalScenario scenario) (journal 
         let starts = (turn_starts sc k i (record { some = c.some; exchanged = c.exchanged; long = c.long }) notice past at).vector in
         let all : slot + (n - slot) ≡ n = omega (arith, carried.by_start) in
         subst (Says r true) (sym (ap (λ (st : Knowledge). st.vector) (more n (omega arith)) ∙ starts))
-        (starts_with_it p i r (length past) notice (K n) few no_end (λ member. elim (cases_eq r i) [
+        (joiner_says p i r (length past) notice (K n) few no_end (λ member. elim (cases_eq r i) [
           | inl same ↦ absurd (both_ways (has (K n).members r) (out_until n carried.by_start (omega arith)) (ap (has (K n).members) same ∙ member))
           | inr other ↦ subst Asked all (asked_at other (n - slot) (omega (arith, carried.by_start)))
         ]))
@@ -263,6 +259,6 @@ module _ (scenario : ScenarioParts) (legal : IsLegalScenario scenario) (journal 
         let starts = (turn_starts (followed_by scenario e) k i (record { some = c.some; exchanged = c.exchanged; long = c.long }) notice past at).vector in
         let more' = ap (knowledge_of (followed_by scenario e) i) (first_read-more scenario journal i n e l' read) in
         subst (Says r true) (sym (ap (λ (st : Knowledge). st.vector) more' ∙ starts))
-        (starts_with_it p i r (length past) notice (knowledge_of (followed_by scenario e) i past) few no_end (λ member.
+        (joiner_says p i r (length past) notice (knowledge_of (followed_by scenario e) i past) few no_end (λ member.
         absurd (both_ways (has (knowledge_of (followed_by scenario e) i past).members i) (none_later i e is read late) member)))
   ]

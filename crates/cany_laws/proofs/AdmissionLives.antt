@@ -20,8 +20,9 @@ use Rattle.cany_model.proofs.Runs.Runs.{orderly}
 use Rattle.cany_model.proofs.Runs.Steps.{MayTurn, after_slot-present, after_slot-trace, after_turn-present}
 use Rattle.cany_laws.specs.Logs.{IsIncarnation}
 use Rattle.cany_laws.proofs.EqualMembers.{first_read}
-use Rattle.cany_laws.proofs.Fronts.{after_slot-ended, after_turn-ended, along_rest, drop-map, front_split, pushed}
+use Rattle.cany_laws.proofs.Fronts.{after_slot-ended, after_turn-ended, along_rest, drop-map, pushed}
 use Rattle.cany_laws.proofs.Lives.{lived}
+use Rattle.cany_model.proofs.Timed.Views.StartViews.{front_split}
 
 -- one of the node's incarnations is this one, and has read as many slots at least
 abbrev GoesOn : ℕ → Incarnation → ℕ → RunState → Type 0

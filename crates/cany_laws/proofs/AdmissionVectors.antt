@@ -1,11 +1,10 @@
 -- Where the vectors with which members start a cycle agree on a node, all vectors of the cycle do, and so does what any incarnation installs at its end.
-use Rattle.std.proofs.Common.{◌≡◌, ℕ, suc, ◌+◌, ◌-◌, ◌*◌, ◌<◌, ◌≤◌, ◌==◌, ◌&&◌, inl, inr, Bool, true, false, List, [], ◌∷◌, ◌++◌, length, drop, Some, None, Contains, refl, ap, sym, ◌∙◌, subst, arith, drop-drop, length-drop, append_assoc}
+use Rattle.std.proofs.Common.{◌≡◌, ℕ, suc, ◌+◌, ◌-◌, ◌*◌, ◌<◌, ◌≤◌, ◌==◌, ◌&&◌, inl, inr, Bool, true, false, List, [], ◌∷◌, ◌++◌, length, drop, Some, None, Contains, ap, sym, ◌∙◌, subst, arith, drop-drop, length-drop, append_assoc}
 use Rattle.std.proofs.lemmas.Bool.{and_from, both_ways, cases_Bool, cases_eq, cases_lt, cond-true, eq-eqb}
 use Rattle.cany_base.specs.Cycles.{cycle_of, is_end}
 use Rattle.cany_base.specs.declared.class.Class.TheVariants as class
 use Rattle.cany_base.specs.declared.format.Format.{Format}
 use Rattle.cany_base.specs.declared.notice.NoticeKind.{NoticeKind}
-use Rattle.cany_base.specs.declared.notice.NoticeKind.TheVariants.{Idle, Got, Sent, Bad}
 use Rattle.cany_base.specs.declared.slot_note.SlotNote.{SlotNote}
 use Rattle.cany_base.specs.declared.step.Step.{Step}
 use Rattle.cany_base.specs.Frame.{FrameParts}
@@ -27,7 +26,7 @@ use Rattle.cany_model.specs.Runs.Run.{run}
 use Rattle.cany_model.proofs.Among.{Among-from_Contains, Contains-cons_cases, Contains-none, Each-of}
 use Rattle.cany_model.proofs.Bus.EachRead.{EachRead, each_dropped, each_of_history}
 use Rattle.cany_model.proofs.Bus.Identities.{same_class_self}
-use Rattle.cany_model.proofs.Bus.Notes.{given-Got, note_of-offered, note_of-slot}
+use Rattle.cany_model.proofs.Bus.Notes.{note_of-offered, note_of-slot}
 use Rattle.cany_model.proofs.Bus.Restarts.{after_restarts-trace}
 use Rattle.cany_model.proofs.Bus.Seen.{history-is, seen_idle, seen_plain}
 use Rattle.cany_model.proofs.Promises.KeptVectors.{vector_at}
@@ -39,7 +38,7 @@ use Rattle.cany_model.proofs.Rules.VectorFacts.{carries_vector}
 use Rattle.cany_model.proofs.Runs.Journals.{run_none}
 use Rattle.cany_model.proofs.Runs.Runs.{history-length, orderly}
 use Rattle.cany_model.proofs.Runs.Steps.{after_slot-trace, after_turn-trace}
-use Rattle.cany_model.proofs.Timed.Detector.VectorsAgreeOn.{FrameSays, Says, met_says, none_says, some_says}
+use Rattle.cany_model.proofs.Timed.Detector.VectorsAgreeOn.{FrameSays, Says, brings_says, met_says, none_says, some_says}
 use Rattle.cany_model.proofs.Timed.Views.OneVector.{installed_before, installed_here}
 use Rattle.cany_model.proofs.Timed.Views.VectorBudget.{first_members, run_readable}
 use Rattle.cany_model.proofs.Timed.Views.VectorLastEffect.{IsCycle, at_place, brings, no_end}
@@ -131,9 +130,9 @@ module _ (scenario : ScenarioParts) (k r : ℕ) (b : Bool) (few : r < most_nodes
       no_end p k slot (slot - start) (at_place p k slot (slot - start) (omega (arith, begun)) (omega (arith, begun, now, until, long)))
       (λ e. omega (arith, e, begun, now, until)) in
       let had = is.vector (inr none) in
-      let said : has v r ≡ b = vector_says past read says (omega (arith, begun, now)) until v had in
+      let brings_says : has v r ≡ b = vector_says past read says (omega (arith, begun, now)) until v had in
       let bus : AllBelow p.nodes v = subst (IsVectorOfBus p) had (knowledge_of_bus scenario i first past readable).vector in
-      rha_says scenario.inc (cycle_of p slot) v (λ q h. omega (arith, bus q h, fits)) number said u (ap (vector_in p.format k) frame ∙ carried)
+      rha_says scenario.inc (cycle_of p slot) v (λ q h. omega (arith, bus q h, fits)) number brings_says u (ap (vector_in p.format k) frame ∙ carried)
   asked_says past f fits first readable read says until (relays relayed got) = λ u carried.
       absurd (both_ways (is_relayed f.class) (ap is_relayed (carries_vector p.format k f u carried).0) relayed)
   asked_says past f fits first readable read says until (originates m is origin late from frame) = λ u carried.
@@ -152,18 +151,12 @@ module _ (scenario : ScenarioParts) (k r : ℕ) (b : Bool) (few : r < most_nodes
 
 -- ---- of what was carried
 
-brings_says : (format : Format) (k r : ℕ) (b : Bool) (i : ℕ) (inc : Incarnation) (note : SlotNote)
+seen_brings : (format : Format) (k r : ℕ) (b : Bool) (i : ℕ) (inc : Incarnation) (note : SlotNote)
     → ((f : FrameParts) → note.frame ≡ Some f → FrameSays format k r b f) → Says r b (brings format k (given i (as_seen inc note)))
-brings_says format k r b i inc note says = elim (cases_Bool (is_hidden inc note)) [
+seen_brings format k r b i inc note says = elim (cases_Bool (is_hidden inc note)) [
   | inl hidden ↦ subst (λ e. Says r b (brings format k e)) (sym (seen_idle i inc note hidden)) (none_says r b)
-  | inr plain ↦ subst (λ (n : SlotNote). Says r b (brings format k (given i n))) (sym (seen_plain inc note plain)) (by_notice (given i note) refl)
+  | inr plain ↦ subst (λ (n : SlotNote). Says r b (brings format k (given i n))) (sym (seen_plain inc note plain)) (brings_says format k r b i note says)
 ]
-  where
-    by_notice : (e : NoticeKind) → given i note ≡ e → Says r b (brings format k e)
-    by_notice Idle h = none_says r b
-    by_notice Bad h = none_says r b
-    by_notice (Sent f) h = none_says r b
-    by_notice (Got f) h = says f (given-Got i note f h).0
 
 -- each frame that a slot up to the end of the cycle carried
 abbrev NotesSaid : ScenarioParts → (k r : ℕ) → Bool → List SlotNote → Type 0
@@ -185,7 +178,7 @@ module _ (scenario : ScenarioParts) (fits : scenario.params.nodes ≤ (layout sc
   read_says front notes i =
       let s : RunState = run scenario front in
       each_of_history (BringsSaid scenario.params k r b) i s (run_numbered scenario.params.nodes s (orderly scenario front))
-      (λ note stands until. brings_says scenario.params.format k r b i (node_at s.nodes i).present note (λ f. notes note stands until f))
+      (λ note stands until. seen_brings scenario.params.format k r b i (node_at s.nodes i).present note (λ f. notes note stands until f))
 
   start_dropped : (sc : ScenarioParts) (i n : ℕ) (past : List NoticeKind) → StartSaid sc k r b i past → StartSaid sc k r b i (drop n past)
   start_dropped sc i n past says after =
@@ -253,9 +246,9 @@ module _ (scenario : ScenarioParts) (fits : scenario.params.nodes ≤ (layout sc
       let l = lived scenario journal i e is in
       let s : RunState = run scenario l.front in
       let sc : ScenarioParts = scenario_at scenario s i in
-      let said : Says r b (installed_of sc i k (history i s)) =
+      let brings_says : Says r b (installed_of sc i k (history i s)) =
       installed_says sc k r b few below (record { some = c.some; exchanged = c.exchanged; long = c.long }) i (history i s)
       (read_says l.front (notes_before l.front l.rest l.whole) i) (starts l.front l.rest l.whole i l.running) in
       subst (Says r b)
       (ap (λ (inc : Incarnation). installed_of (scenario_for scenario inc) i k (history i s)) l.present
-      ∙ ap (installed_of (scenario_for scenario e.incarnation) i k) l.past) said
+      ∙ ap (installed_of (scenario_for scenario e.incarnation) i k) l.past) brings_says

@@ -33,8 +33,8 @@ use Rattle.cany_laws.proofs.AlarmLife.{HasReason, has_reason, hears_since, known
 use Rattle.cany_laws.proofs.AlarmNotices.{note_in, note_older}
 use Rattle.cany_laws.proofs.AlarmStops.{stays_among}
 use Rattle.cany_laws.proofs.EqualMembers.{first_read}
-use Rattle.cany_laws.proofs.Fronts.{front_split}
 use Rattle.cany_laws.proofs.Lives.{Lived, lived}
+use Rattle.cany_model.proofs.Timed.Views.StartViews.{front_split}
 
 -- ---- an incarnation goes on
 

@@ -1,35 +1,29 @@
 -- What each slot gave the incarnations that have read it: one that takes part hears the life that another node has shown in it.
-use Rattle.std.proofs.Common.{◌≡◌, ℕ, zero, suc, ◌+◌, ◌-◌, ◌*◌, ◌<◌, ◌≤◌, inl, inr, true, false, List, [], ◌∷◌, ◌++◌, length, drop, Some, None, refl, ap, sym, ◌∙◌, subst, arith, length-append, length-drop, get_or, nat_lt, ltb-true}
+use Rattle.std.proofs.Common.{◌≡◌, ℕ, zero, suc, ◌+◌, ◌-◌, ◌*◌, ◌<◌, ◌≤◌, inl, inr, false, List, [], ◌∷◌, ◌++◌, length, drop, Some, refl, ap, sym, ◌∙◌, subst, arith, length-append, length-drop, get_or, nat_lt, ltb-true}
 use Rattle.std.specs.List.{AllByRecursion}
 use Rattle.std.proofs.Math.Nat.{mul-le-mul_right}
 use Rattle.std.proofs.Math.Seq.{drop-append_seam}
-use Rattle.std.proofs.lemmas.Bool.{and_parts, cases_eq, eq-eqb, false_from_ne_true, false≢true}
+use Rattle.std.proofs.lemmas.Bool.{and_parts, cases_eq, eq-eqb, false_from_ne_true}
 use Rattle.std.proofs.lemmas.List.{get_or-drop, get_or-map, length-map}
 use Rattle.std.proofs.lemmas.List.Elements.{recursion_from_All}
 use Rattle.cany_base.proofs.ParamsFacts.{few_nodes}
 use Rattle.cany_base.specs.declared.class.Class.TheVariants as class
 use Rattle.cany_base.specs.declared.notice.NoticeKind.TheVariants.{Idle}
-use Rattle.cany_base.specs.declared.rule.Verdict.{Verdict}
-use Rattle.cany_base.specs.declared.rule.Verdict.TheVariants.{Clean, Lost, Partial, Silent}
 use Rattle.cany_base.specs.declared.slot_note.SlotNote.{SlotNote}
 use Rattle.cany_base.specs.declared.step.Step.{Step}
 use Rattle.cany_base.specs.Frame.{FrameParts}
-use Rattle.cany_base.specs.Limits.{most_nodes}
 use Rattle.cany_base.specs.Scenario.{IsLegalScenario, ScenarioParts}
-use Rattle.cany_model.specs.Bus.Frames.{identity_of, same_class}
+use Rattle.cany_model.specs.Bus.Frames.{same_class}
 use Rattle.cany_model.specs.Bus.History.{as_seen, carries_early, ended_history, given, is_hidden, seen}
-use Rattle.cany_model.specs.Bus.Slot.{is_success}
 use Rattle.cany_model.specs.Bus.State.{EndedIncarnation, Incarnation, RunState, node_at}
-use Rattle.cany_model.specs.Promises.Hypothesis.{IsWithin, is_silent, is_silent_slot}
+use Rattle.cany_model.specs.Promises.Hypothesis.{IsWithin, is_silent_slot}
 use Rattle.cany_model.specs.Runs.Run.{run}
-use Rattle.cany_model.proofs.Bus.Carried.{Carries}
-use Rattle.cany_model.proofs.Bus.Counting.{verdict_not_silent}
 use Rattle.cany_model.proofs.Bus.Identities.{same_class-true}
 use Rattle.cany_model.proofs.Bus.Notes.{given-Sent}
 use Rattle.cany_model.proofs.Bus.Seen.{carries_frame, hidden_not, seen_plain}
 use Rattle.cany_model.proofs.Bus.States.{no_note, note_at}
 use Rattle.cany_model.proofs.Promises.Diffusion.{Heard}
-use Rattle.cany_model.proofs.Promises.EachNode.{IsNodes, blank_heard, each_running}
+use Rattle.cany_model.proofs.Promises.EachNode.{each_running}
 use Rattle.cany_model.proofs.Runs.Runs.{orderly}
 use Rattle.cany_model.proofs.Timed.Common.KnowledgeAges.{IsLifeOf, IsOwnLife}
 use Rattle.cany_model.proofs.Timed.Detector.ShowsInTime.{SentOwn, sent_own}
@@ -37,8 +31,9 @@ use Rattle.cany_model.proofs.Timed.Views.NoLateVectors.{sees_cycle}
 use Rattle.cany_model.proofs.Timed.Views.VectorQuiet.{SeesCycle}
 use Rattle.cany_model.proofs.Timed.Views.VectorSlots.{cycle_age}
 use Rattle.cany_laws.proofs.EqualMembers.{next_read}
-use Rattle.cany_laws.proofs.Fronts.{front_split}
 use Rattle.cany_laws.proofs.Lives.{Lived}
+use Rattle.cany_model.proofs.Timed.Detector.HeardWithin.{heard_kept, life_heard}
+use Rattle.cany_model.proofs.Timed.Views.StartViews.{front_split}
 
 pub each_at : {X : Type 0} (P : X → Type 0) (xs : List X) (k : ℕ) (d : X) → k < length xs → AllByRecursion P xs → P (get_or xs k d)
 each_at P [] k d within h = absurd (omega arith)
@@ -56,35 +51,6 @@ note_older trace newer older n split early =
     let at : length newer + (length older - (n + 1)) ≡ length trace - (n + 1) = omega (arith, size, early) in
     let left : drop (length newer) trace ≡ older = ap (drop (length newer)) split ∙ drop-append_seam newer older in
     ap (λ t. note_at t (length older - (n + 1))) (sym left) ∙ get_or-drop (length newer) trace (length older - (n + 1)) no_note ∙ ap (note_at trace) at
-
-heard_kept : (scenario : ScenarioParts) → IsNodes scenario (λ trace i node. AllByRecursion (Heard i) trace)
-heard_kept scenario = record {
-  new = λ trace i node new. blank trace i new.blank;
-  slot = λ note trace i node after same l h. (l.heard, h);
-  turn = λ trace i node after same t h. h;
-}
-  where
-    blank : (trace : List SlotNote) (i : ℕ) → AllByRecursion (λ note. note.frame ≡ None) trace → AllByRecursion (Heard i) trace
-    blank [] i none = tt
-    blank (note ∷ trace) i none = (blank_heard i note none.0, blank trace i none.1)
-
-clean_sent : (verdict : Verdict) → is_success verdict ≡ true → is_silent verdict ≡ false → verdict ≡ Clean
-clean_sent Clean success loud = refl
-clean_sent Lost success loud = absurd (false≢true success)
-clean_sent (Partial reject) success loud = absurd (false≢true success)
-clean_sent (Silent reject) success loud = absurd (false≢true (sym loud))
-
--- of a node that sees the slot
-life_heard : (r j : ℕ) → (r ≡ j → ⊥) → j < most_nodes → (note : SlotNote) → is_silent_slot note ≡ false → Heard j note → SentOwn note
-    → IsOwnLife r (given r note) → IsLifeOf r (given j note)
-life_heard r j other few note quiet heard own (f, sent, life, mine) =
-    let parts = given-Sent r note f sent in
-    let carries : Carries (identity_of f) note = record { what = f; frame = parts.0; identity = refl } in
-    let clean : note.verdict ≡ Clean = clean_sent note.verdict parts.2 (verdict_not_silent (identity_of f) note carries quiet) in
-    elim (heard.clean few f parts.0 clean) [
-      | inl got ↦ (f, got, life, mine)
-      | inr too ↦ absurd (other (sym mine ∙ own j f parts.0 (given-Sent j note f too).1 life))
-    ]
 
 pub plain_original : (inc : Incarnation) (note : SlotNote) → inc.number ≡ 0 → is_hidden inc note ≡ false
 unfolding is_hidden

@@ -1,10 +1,8 @@
 -- A failure sign of a node is known to an incarnation only where an incarnation of that node stopped long before. By induction on slots: a sign comes by a
 -- frame, which one sent that knew it before, or by silence.
-use Rattle.std.proofs.Common.{◌≡◌, ℕ, zero, suc, ◌+◌, ◌-◌, ◌<◌, ◌≤◌, ◌⊎◌, ◌&&◌, ◌==◌, not, nat_le, inl, inr, Bool, true, false, List, [], ◌∷◌, ◌++◌, length, Option, Some, None, refl, ap, sym, ◌∙◌, subst, arith, get_or, leb-true}
+use Rattle.std.proofs.Common.{◌≡◌, ℕ, zero, suc, ◌+◌, ◌-◌, ◌<◌, ◌≤◌, ◌⊎◌, ◌&&◌, ◌==◌, not, nat_le, inl, inr, Bool, true, false, List, ◌∷◌, ◌++◌, length, Some, refl, ap, sym, ◌∙◌, subst, arith, get_or, leb-true}
 use Rattle.std.specs.Prelude.{Contains}
-use Rattle.std.specs.List.{AllByRecursion}
-use Rattle.std.proofs.lemmas.Bool.{and_from, and_parts, both_ways, cases_Bool, eq-eqb, eqb-true, false_from_ne_true, not-true, or_from}
-use Rattle.cany_base.proofs.NodesFacts.{has_none}
+use Rattle.std.proofs.lemmas.Bool.{and_from, and_parts, both_ways, cases_Bool, eq-eqb, eqb-true, not-true}
 use Rattle.cany_base.proofs.ParamsFacts.{few_nodes}
 use Rattle.cany_base.specs.declared.class.Class.TheVariants as class
 use Rattle.cany_base.specs.declared.notice.NoticeKind.{NoticeKind}
@@ -13,7 +11,7 @@ use Rattle.cany_base.specs.declared.slot_note.SlotNote.{SlotNote}
 use Rattle.cany_base.specs.declared.step.Step.{Step}
 use Rattle.cany_base.specs.declared.step.Step.TheVariants as step
 use Rattle.cany_base.specs.Frame.{FrameParts}
-use Rattle.cany_base.specs.Nodes.{Nodes, has, minus}
+use Rattle.cany_base.specs.Nodes.{has}
 use Rattle.cany_base.specs.Params.{Parameters}
 use Rattle.cany_base.specs.Scenario.{IsLegalScenario, ScenarioParts}
 use Rattle.cany_model.specs.Bus.Frames.{Identity, identity_of, same_class}
@@ -22,26 +20,24 @@ use Rattle.cany_model.specs.Bus.Slot.{script, slot_note_of}
 use Rattle.cany_model.specs.Bus.State.{EndedIncarnation, Incarnation, NodeState, RunState, node_at, reads}
 use Rattle.cany_model.specs.Bus.Waiting.{waits}
 use Rattle.cany_model.specs.Promises.Hypothesis.{IsWithin}
-use Rattle.cany_model.specs.Rules.Knowledge.{FailureSign, Knowledge, after_finding, after_hearing, after_learning, fda_of, found_in, has_timed_out, knows, same_sign, sign_of, told_in}
-use Rattle.cany_model.specs.Rules.KnowledgeOf.{ended_in, knowledge_of}
+use Rattle.cany_model.specs.Rules.Knowledge.{FailureSign, Knowledge, after_finding, after_hearing, after_learning, fda_of, has_timed_out, knows, sign_of}
+use Rattle.cany_model.specs.Rules.KnowledgeOf.{knowledge_of}
 use Rattle.cany_model.specs.Rules.Turn.{scenario_for}
 use Rattle.cany_model.specs.Runs.Incarnations.{incarnations}
 use Rattle.cany_model.specs.Runs.Run.{run}
-use Rattle.cany_model.proofs.Among.{Among, Among-which, Each-append}
+use Rattle.cany_model.proofs.Among.{Among, Among-which}
 use Rattle.cany_model.proofs.Bus.Identities.{same_class-true, same_class_self}
-use Rattle.cany_model.proofs.Bus.Notes.{IsOffered, given-Got, note_of-offered, those_where_pass, waits_with-from_Contains}
+use Rattle.cany_model.proofs.Bus.Notes.{IsOffered, given-Got, note_of-offered, waits_with-from_Contains}
 use Rattle.cany_model.proofs.Bus.Seen.{history-is}
 use Rattle.cany_model.proofs.Bus.States.{no_note, runs_within}
 use Rattle.cany_model.proofs.Promises.Diffusion.{past_of}
 use Rattle.cany_model.proofs.Promises.DiffusionRun.{run_diffuses}
 use Rattle.cany_model.proofs.Promises.SignAgrees.{sign_duty, sign_is_diffused}
-use Rattle.cany_model.proofs.Rules.KnowledgeFacts.{known_after, newly, same_sign-true, tells}
-use Rattle.cany_model.proofs.Rules.KnowledgeSteps.{failed_after, failed_by}
 use Rattle.cany_model.proofs.Runs.Runs.{orderly}
 use Rattle.cany_model.proofs.Runs.Waits.{waits-from_with}
 use Rattle.cany_model.proofs.Runs.SlotStates.{slot_has_state, slot_state-trace, slot_state_is}
 use Rattle.cany_model.proofs.Timed.Common.KnowledgeAges.{learnt_members, learnt_shown}
-use Rattle.cany_model.proofs.Timed.Detector.Accuracy.{HearsNone, IsUnsigned, NotOf, found_failed, found_other, told_other}
+use Rattle.cany_model.proofs.Timed.Detector.Accuracy.{HearsNone, IsUnsigned, found_failed, found_other, next_unsigned, told_other, unsigned_first}
 use Rattle.cany_model.proofs.Timed.Guarantees.{slots_are_quiet}
 use Rattle.cany_model.proofs.Timed.Views.NoLateVectors.{seen_frame}
 use Rattle.cany_laws.specs.Logs.{IsIncarnation, followed_by}
@@ -53,43 +49,6 @@ use Rattle.cany_laws.proofs.EqualMembers.{first_read, first_read-length, first_r
 use Rattle.cany_laws.proofs.Lives.{Lived, lived}
 
 -- ---- a turn that learns and finds nothing of the node
-
-none_told : (r : ℕ) (sign : FailureSign) → sign.node ≡ r → (signs : List FailureSign) → AllByRecursion (NotOf r) signs → tells sign signs ≡ false
-none_told r sign of [] h = refl
-none_told r sign of (other ∷ signs) h =
-    or_from (same_sign sign other) (tells sign signs)
-    (false_from_ne_true (same_sign sign other) (λ same. h.0 (ap (λ (s : FailureSign). s.node) (sym (same_sign-true sign other same)) ∙ of)))
-    (none_told r sign of signs h.1)
-
-ended_failed : (r : ℕ) (o : Option Nodes) (old failed : Nodes) → has failed r ≡ false → has (failed_by o old failed) r ≡ false
-ended_failed r None old failed before = before
-ended_failed r (Some v) old failed before =
-    false_from_ne_true (has (failed_by (Some v) old failed) r) (λ now.
-    both_ways (has failed r) before
-    (and_parts (has failed r) (not (has (minus v old) r)) (those_where_pass (λ q. has failed q && not (has (minus v old) q)) r now)).0)
-
-next_unsigned : (scenario : ScenarioParts) (i r : ℕ) (e : NoticeKind) (past : List NoticeKind)
-    → AllByRecursion (NotOf r) (told_in i (length past) e (knowledge_of scenario i past))
-    → AllByRecursion (NotOf r) (found_in scenario.params i (length past) e (knowledge_of scenario i past))
-    → IsUnsigned r (knowledge_of scenario i past) → IsUnsigned r (knowledge_of scenario i (e ∷ past))
-unfolding knowledge_of
-next_unsigned scenario i r e past learns finds before =
-    let p : Parameters = scenario.params in
-    let slot : ℕ = length past in
-    let st : Knowledge = knowledge_of scenario i past in
-    record {
-      failed = ap (λ f. has f r) (failed_after p i slot e st)
-          ∙ ended_failed r (ended_in p slot e st) st.members (after_finding p i slot e st).failed
-          (found_failed p i slot e st r learns finds before.failed);
-      unknown = λ sign of. known_after scenario i e past sign
-          ∙ or_from (tells sign (newly p i slot e st)) (knows sign st)
-          (none_told r sign of (newly p i slot e st) (Each-append (NotOf r) (told_in i slot e st) (found_in p i slot e st) learns finds))
-          (before.unknown sign of);
-    }
-
-unsigned_first : (scenario : ScenarioParts) (i r : ℕ) → IsUnsigned r (knowledge_of scenario i [])
-unfolding knowledge_of
-unsigned_first scenario i r = record { failed = has_none r; unknown = λ sign of. refl }
 
 -- ---- a frame that tells of a sign
 

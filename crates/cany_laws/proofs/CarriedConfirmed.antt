@@ -34,9 +34,10 @@ use Rattle.cany_model.proofs.Timed.Common.SeenAges.{sends_from}
 use Rattle.cany_laws.specs.Carried.{times_clean}
 use Rattle.cany_laws.proofs.CarriedCounts.{sent_by}
 use Rattle.cany_laws.proofs.CarriedRelcan.{confirm_reason, data_reason, not_origin}
-use Rattle.cany_laws.proofs.CarriedSends.{absent_never_sends, by_one_node, never_sent, reads_restart, reads_turn, sent_so_often}
+use Rattle.cany_laws.proofs.CarriedSends.{absent_never_sends, by_one_node, never_sent, reads_turn, sent_so_often}
 use Rattle.cany_laws.proofs.WaitNodes.{slot_reads, turn_reads}
 use Rattle.cany_laws.proofs.WaitTotals.{one_at_most, one_if_weaker}
+use Rattle.cany_model.proofs.Runs.Journals.{reads_restarts}
 
 -- ---- the message of a scripted send
 
@@ -145,7 +146,7 @@ module _ (scenario : ScenarioParts) (key : MsgKey) where
         (record {
           slot = λ rules s o.
               let r = slot_reads scenario rules s o key.origin below in read_more s (after_slot rules s) (omega (arith, r));
-          restarts = λ s o. read_more s (after_restarts scenario s) (reads_restart scenario s key.origin);
+          restarts = λ s o. read_more s (after_restarts scenario s) (reads_restarts scenario s key.origin);
           turn = λ s j o may. read_more s (after_turn scenario j s) (reads_turn scenario s key.origin j may (o.unread j));
           asks = origin_asks;
         })

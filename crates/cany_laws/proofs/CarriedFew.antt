@@ -14,9 +14,10 @@ use Rattle.cany_model.specs.Runs.Run.{run}
 use Rattle.cany_model.proofs.Timed.Order.TotKept.{NoSilent}
 use Rattle.cany_laws.specs.Carried.{CarriesFewOf, CarriesFewOfSign, HasNoSilentSlot}
 use Rattle.cany_laws.proofs.CarriedAlone.{accepts_once}
-use Rattle.cany_laws.proofs.CarriedCounts.{accepts_few, data_once, incarnations_few, signs_few}
+use Rattle.cany_laws.proofs.CarriedCounts.{accepts_few, data_once, incarnations_few}
 use Rattle.cany_laws.proofs.CarriedFresh.{accept_fresh, sign_fresh}
 use Rattle.cany_laws.proofs.CarriedTogether.{few_times}
+use Rattle.cany_laws.proofs.SignsSent.{signs_few}
 
 module _ (scenario : ScenarioParts) (journal : List Step) (few : scenario.params.nodes ≤ most_nodes)
     (none_silent : HasNoSilentSlot (run scenario journal).trace) where
@@ -38,6 +39,6 @@ module _ (scenario : ScenarioParts) (journal : List Step) (few : scenario.params
       let by = signs_few scenario sign journal few plain in
       record {
         by_incarnations = by;
-        by_nodes = λ none. let all = incarnations_few scenario sign none journal scenario.params.nodes in omega (arith, by, all);
+        by_nodes = λ none. let all = incarnations_few scenario none journal scenario.params.nodes in omega (arith, by, all);
         by_lag = λ none. few_times scenario few (fda_of sign) refl (sign_fresh scenario few none sign) journal plain;
       }

@@ -2,7 +2,7 @@
 -- it when the origin reads that it has sent the data frame.
 use Rattle.std.specs.Prelude.{slice_index_or}
 use Rattle.std.proofs.Common.{◌≡◌, ℕ, ◌==◌, ◌&&◌, ◌⊎◌, inl, inr, true, false, not, List, [], ◌∷◌, drop, refl, ap, sym, ◌∙◌, subst}
-use Rattle.std.proofs.lemmas.Bool.{and_parts, cond_both, eqb-true, false≢true, not-true}
+use Rattle.std.proofs.lemmas.Bool.{and_parts, cond_both, eqb-true, not-true}
 use Rattle.cany_base.specs.declared.class.Class.{Class}
 use Rattle.cany_base.specs.declared.class.Class.TheVariants as class
 use Rattle.cany_base.specs.declared.message.Service.TheVariants.{Rel}
@@ -19,7 +19,6 @@ use Rattle.cany_model.specs.Rules.Edcan.{edcan}
 use Rattle.cany_model.specs.Rules.Effect.{Ask, Withdraw}
 use Rattle.cany_model.specs.Rules.Life.{failure_signs, life_signs}
 use Rattle.cany_model.specs.Rules.Membership.{scripted_asks, vectors, views}
-use Rattle.cany_model.specs.Rules.Protocol.{Protocol}
 use Rattle.cany_model.specs.Rules.Relcan.{confirm_effects, confirm_frame, fall_back_effects, falls_back, fell_back, has_confirm, is_first_got, is_timed, late_copy_effects, relcan_at, relcan_effects, timer_effects}
 use Rattle.cany_model.specs.Rules.Sends.{scripted_sends, send_effects}
 use Rattle.cany_model.specs.Rules.Totcan.{totcan}
@@ -29,12 +28,12 @@ use Rattle.cany_model.proofs.Bus.Identities.{same_class-true}
 use Rattle.cany_model.proofs.Rules.BacklogFacts.{backlog_is_lawful}
 use Rattle.cany_model.proofs.Rules.EdcanFacts.{edcan_is_lawful}
 use Rattle.cany_model.proofs.Rules.LifeFacts.{failures_are_lawful, life_is_lawful}
-use Rattle.cany_model.proofs.Rules.ProtocolFacts.{IsLawful, asks_named}
 use Rattle.cany_model.proofs.Rules.SendFacts.{sends_are_lawful}
 use Rattle.cany_model.proofs.Rules.TotcanFacts.{totcan_is_lawful}
 use Rattle.cany_model.proofs.Rules.VectorFacts.{vectors_are_lawful}
 use Rattle.cany_model.proofs.Rules.ViewFacts.{asks_are_lawful, views_are_lawful}
 use Rattle.cany_model.proofs.Runs.Waits.{Asks}
+use Rattle.cany_model.proofs.Rules.TurnFacts.{not_asked}
 
 -- ---- which protocol asks
 
@@ -56,10 +55,6 @@ rel_class = record { ed = refl; tot = refl; fda = refl; rha = refl; view = refl;
 confirm_class : IsOfRelcan class.Confirm
 unfolding same_class
 confirm_class = record { ed = refl; tot = refl; fda = refl; rha = refl; view = refl; els = refl; ask = refl; next = refl }
-
-not_asked : (scenario : ScenarioParts) (p : Protocol) → IsLawful p → (i : ℕ) (past : List NoticeKind) (x : Identity) → p.names x.class ≡ false
-    → Among (Asks x) (p.effects scenario i past) → ⊥
-not_asked scenario p lawful i past x other h = false≢true (sym other ∙ asks_named p lawful scenario i x past h)
 
 of_relcan : (scenario : ScenarioParts) (i : ℕ) (past : List NoticeKind) (x : Identity) → IsOfRelcan x.class → Among (Asks x) (turn_effects scenario i past)
     → Among (Asks x) (relcan_effects scenario i past) ⊎ Among (Asks x) (send_effects scenario i past)
@@ -93,7 +88,7 @@ no_delivery : (x : Identity) (i : ℕ) (f : FrameParts) (e : NoticeKind) (past :
 unfolding delivery_effects
 no_delivery x i f e past h = cond_both (is_delivery i f e past) _ [] (λ es. Among (Asks x) es → ⊥) (λ _ k. elim k [ inl a ↦ a | inr none ↦ none ]) (λ _ k. k) h
 
-no_late : (x : Identity) (p : Parameters) (i : ℕ) (f : FrameParts) (past : List NoticeKind) → Among (Asks x) (late_copy_effects p i f past) → ⊥
+pub no_late : (x : Identity) (p : Parameters) (i : ℕ) (f : FrameParts) (past : List NoticeKind) → Among (Asks x) (late_copy_effects p i f past) → ⊥
 no_late x p i f past h =
     cond_both (fell_back p.confirm i (identity_of f) past && has_enough p.omit (identity_of f) (Got f ∷ past)) (Withdraw (identity_of f) ∷ []) []
     (λ es. Among (Asks x) es → ⊥) (λ _ k. elim k [ inl a ↦ a | inr none ↦ none ]) (λ _ k. k) h

@@ -27,8 +27,9 @@ use Rattle.cany_model.proofs.Runs.Waits.{Asks}
 use Rattle.cany_laws.specs.Requests.{CarriesFewRequests, entries_of}
 use Rattle.cany_laws.specs.Carried.{times_clean}
 use Rattle.cany_laws.proofs.CarriedCounts.{sent_by}
-use Rattle.cany_laws.proofs.CarriedSends.{absent_never_sends, by_one_node, never_sent, reads_restart, reads_turn, sent_so_often}
+use Rattle.cany_laws.proofs.CarriedSends.{absent_never_sends, by_one_node, never_sent, reads_turn, sent_so_often}
 use Rattle.cany_laws.proofs.WaitNodes.{slot_reads, turn_reads}
+use Rattle.cany_model.proofs.Runs.Journals.{reads_restarts}
 
 -- ---- counts
 
@@ -157,7 +158,7 @@ module _ (scenario : ScenarioParts) (c : Class) (ask : IsAsk c) (asks : List Nod
           slot = λ rules s o.
               let r = slot_reads scenario rules s o node below in
               read_more s (after_slot rules s) (omega (arith, r));
-          restarts = λ s o. read_more s (after_restarts scenario s) (reads_restart scenario s node);
+          restarts = λ s o. read_more s (after_restarts scenario s) (reads_restarts scenario s node);
           turn = λ s j o may. read_more s (after_turn scenario j s) (reads_turn scenario s node j may (o.unread j));
           asks = new_entry;
         })

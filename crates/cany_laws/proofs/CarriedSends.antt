@@ -29,10 +29,11 @@ use Rattle.cany_model.proofs.Timed.Common.Ages.{carries, carries_clean, carried_
 use Rattle.cany_model.proofs.Timed.Common.Counting.{Passes}
 use Rattle.cany_model.proofs.Timed.Order.TotSlots.{carries-true}
 use Rattle.cany_laws.specs.Carried.{times_clean}
-use Rattle.cany_laws.proofs.WaitNodes.{has_sent, new_reads, same_after_turn, same_reads, turn_reads}
+use Rattle.cany_laws.proofs.WaitNodes.{has_sent, same_after_turn, same_reads, turn_reads}
 use Rattle.cany_laws.proofs.WaitTotals.{one_if_weaker}
 use Rattle.cany_laws.proofs.CarriedCounts.{sent_by}
 use Rattle.cany_laws.proofs.WaitNodes.{kept_waits, without_none}
+use Rattle.cany_model.proofs.Timed.Windows.FewVectors.{count_weaker}
 
 -- ---- a number that no step makes smaller, and that each turn of node i that asks for the frame makes larger
 
@@ -193,12 +194,6 @@ absent_never_sends scenario x i past =
 
 -- ---- how many slots a node has read
 
-pub reads_restart : (scenario : ScenarioParts) (s : RunState) (i : ℕ) → reads s i ≤ reads (after_restarts scenario s) i
-reads_restart scenario s i = elim (restarts_or_stays scenario s i) [
-  | inl new ↦ new_reads scenario s i new
-  | inr stays ↦ omega (arith, same_reads s (after_restarts scenario s) i (record { node = stays; trace = after_restarts-trace scenario s }))
-]
-
 pub reads_turn : (scenario : ScenarioParts) (s : RunState) (i j : ℕ) → MayTurn s j → (node_at s.nodes j).unread ≤ length s.trace
     → reads s i ≤ reads (after_turn scenario j s) i
 reads_turn scenario s i j may short = elim (cases_eq i j) [
@@ -207,18 +202,6 @@ reads_turn scenario s i j may short = elim (cases_eq i j) [
 ]
 
 -- ---- each slot that carries it Clean has a sender
-
-fewer : (t u : SlotNote → Bool) (T : List SlotNote) → ((p : ℕ) → Passes t T p → Passes u T p) → count_by t T ≤ count_by u T
-fewer t u [] h = omega arith
-fewer t u (note ∷ T) h =
-    let rest = fewer t u T (λ p. h (suc p)) in
-    elim (cases_Bool (t note)) [
-      | inl passes ↦ omega (arith, rest, count-yes t note T passes, count-yes u note T (h 0 passes))
-      | inr none ↦ elim (cases_Bool (u note)) [
-        | inl more ↦ omega (arith, rest, count-no t note T none, count-yes u note T more)
-        | inr neither ↦ omega (arith, rest, count-no t note T none, count-no u note T neither)
-      ]
-    ]
 
 passes_counts : (t : SlotNote → Bool) (T : List SlotNote) (p : ℕ) → p < length T → Passes t T p → 0 < count_by t T
 passes_counts t T p below h = count-from_Among t T (Among-get_or (λ note. t note ≡ true) T p no_note below h)
@@ -256,7 +239,7 @@ module _ (scenario : ScenarioParts) (few : scenario.params.nodes ≤ most_nodes)
       → times_clean x (run scenario journal).trace ≤ count_by (sent_by x at) (run scenario journal).trace
   by_one_node journal at never =
       let T : List SlotNote = (run scenario journal).trace in
-      fewer (carries_clean x) (sent_by x at) T (λ p clean.
+      count_weaker (carries_clean x) (sent_by x at) T (λ p clean.
       let w = senders journal p clean in
       elim (cases_eq w.0 at) [
         | inl same ↦ subst (λ i. Passes (sent_by x i) T p) same w.2

@@ -7,15 +7,15 @@ use Rattle.cany_base.specs.declared.notice.NoticeKind.{NoticeKind}
 use Rattle.cany_base.specs.declared.notice.NoticeKind.TheVariants.{Idle, Got, Sent, Bad}
 use Rattle.cany_base.specs.Params.{Parameters}
 use Rattle.cany_base.specs.Scenario.{ScenarioParts}
-use Rattle.cany_model.specs.Bus.Frames.{Identity, identity_of, same_class}
-use Rattle.cany_model.specs.Rules.Eager.{has_enough}
-use Rattle.cany_model.specs.Rules.Effect.{Effect, Ask, Withdraw}
-use Rattle.cany_model.specs.Rules.Knowledge.{FailureSign, Knowledge, after_hearing, after_learning, fda_frame, fda_of, found, found_in, has_timed_out, knows, same_sign, sign_in, sign_of, told, told_in}
+use Rattle.cany_model.specs.Bus.Frames.{same_class}
+use Rattle.cany_model.specs.Rules.Effect.{Effect}
+use Rattle.cany_model.specs.Rules.Knowledge.{FailureSign, Knowledge, after_hearing, after_learning, fda_of, found, found_in, has_timed_out, knows, same_sign, sign_in, sign_of, told, told_in}
 use Rattle.cany_model.specs.Rules.KnowledgeOf.{knowledge_of}
 use Rattle.cany_model.specs.Rules.Life.{failure_effects, failures_at, fda_copy_effects, sign_effects}
 use Rattle.cany_model.proofs.Among.{Among, Among-append_cases, Among-from_flat_map}
 use Rattle.cany_model.proofs.Runs.Waits.{Asks}
-use Rattle.cany_model.proofs.Rules.KnowledgeFacts.{fda_one, knows_heard, knows_with}
+use Rattle.cany_model.proofs.Rules.KnowledgeFacts.{knows_heard, knows_with}
+use Rattle.cany_model.proofs.Rules.SignFacts.{asks_of_sign, copy_asks}
 
 -- ---- a node asks for the frame in the turn in which the sign becomes known
 
@@ -45,22 +45,6 @@ found_new : (sign : FailureSign) (p : Parameters) (i slot : ℕ) (st : Knowledge
 unfolding found
 found_new sign p i slot st h = kept_new sign st (map (sign_in p slot) (filter (has_timed_out p i slot st) (range_with_len 0 p.nodes))) h
 
-asks_for_sign : (omit slot : ℕ) (past : List NoticeKind) (a b : FailureSign) → Among (Asks (fda_of a)) (sign_effects omit slot past b) → a ≡ b
-unfolding sign_effects
-asks_for_sign omit slot past a b (inl none) = absurd none
-asks_for_sign omit slot past a b (inr rest) =
-    cond_both (has_enough omit (fda_of b) past) [] (Ask (fda_frame b) ∷ []) (λ es. Among (Asks (fda_of a)) es → a ≡ b)
-    (λ _ k. absurd k) (λ _ k. elim k [ inl e ↦ fda_one a b e | inr none ↦ absurd none ]) rest
-
-copy_asks_none : (x : Identity) (omit : ℕ) (e : NoticeKind) (past : List NoticeKind) → Among (Asks x) (fda_copy_effects omit e past) → ⊥
-unfolding fda_copy_effects
-copy_asks_none x omit Idle past h = h
-copy_asks_none x omit Bad past h = h
-copy_asks_none x omit (Sent f) past h = h
-copy_asks_none x omit (Got f) past h =
-    cond_both (same_class f.class class.Fda && has_enough omit (identity_of f) past) (Withdraw (identity_of f) ∷ []) [] (λ es. Among (Asks x) es → ⊥)
-    (λ _ k. elim k [ inl e ↦ e | inr none ↦ none ]) (λ _ k. k) h
-
 or_false : (a b : Bool) → (a || b) ≡ false → b ≡ false
 or_false true b h = absurd (false≢true (sym h))
 or_false false b h = h
@@ -82,7 +66,7 @@ asked_is_new scenario i e past sign h =
         | inl now ↦
             sym (knows_heard sign i (length past) e st)
             ∙ told_new sign e (after_hearing i (length past) e st) (named told_now (Among-from_flat_map each (Asks (fda_of sign)) told_now now))
-        | inr copy ↦ absurd (copy_asks_none (fda_of sign) p.omit e (e ∷ past) copy)
+        | inr copy ↦ absurd (copy_asks (fda_of sign) p.omit e (e ∷ past) copy)
       ]
       | inr late ↦
           let new = found_new sign p i (length past) (after_learning i (length past) e st) (named found_now (Among-from_flat_map each (Asks (fda_of sign)) found_now late)) in
@@ -93,5 +77,5 @@ asked_is_new scenario i e past sign h =
   where
     weaker : (signs : List FailureSign) → Among (λ b. Among (Asks (fda_of sign)) (sign_effects scenario.params.omit (length past) (e ∷ past) b)) signs → Among (λ b. sign ≡ b) signs
     weaker [] k = k
-    weaker (b ∷ signs) (inl k) = inl (asks_for_sign scenario.params.omit (length past) (e ∷ past) sign b k)
+    weaker (b ∷ signs) (inl k) = inl (asks_of_sign scenario.params.omit (length past) (e ∷ past) sign b k)
     weaker (b ∷ signs) (inr k) = inr (weaker signs k)

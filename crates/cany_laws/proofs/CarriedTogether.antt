@@ -27,9 +27,9 @@ use Rattle.cany_model.proofs.Timed.Common.Ages.{Clean, carried_there, carries, c
 use Rattle.cany_model.proofs.Timed.Common.Counting.{Passes, at_most_0}
 use Rattle.cany_model.proofs.Timed.Order.TotKept.{NoSilent}
 use Rattle.cany_model.proofs.Timed.Order.TotRun.{IsOfRun, along_states, run_orderly}
-use Rattle.cany_model.proofs.Timed.Order.TotSlots.{carries-true, waiting_frame}
+use Rattle.cany_model.proofs.Timed.Order.TotSlots.{carries-true, clean_success, waiting_frame}
 use Rattle.cany_laws.proofs.CarriedBare.{HasBareFrames, IsBare, bare_run, is_bare_class}
-use Rattle.cany_laws.proofs.WaitNodes.{clean_success, kept_waits, without_none}
+use Rattle.cany_laws.proofs.WaitNodes.{kept_waits, without_none}
 
 -- ---- counts
 

@@ -1,7 +1,7 @@
 -- A TOTCAN message is delivered by the incarnations of all nodes that have read its closing, or by none of them.
 use Rattle.std.proofs.Common.{◌≡◌, ℕ, ◌+◌, ◌-◌, ◌≤◌, ◌&&◌, inl, inr, Bool, true, nat_le, if◌then◌else◌, List, [], ◌∷◌, drop, Option, Some, None, refl, ap, sym, ◌∙◌, subst, arith, Contains}
-use Rattle.std.specs.List.{list_any, range_with_len}
-use Rattle.std.proofs.lemmas.Bool.{and_parts, cond_both, or_cases}
+use Rattle.std.specs.List.{range_with_len}
+use Rattle.std.proofs.lemmas.Bool.{and_parts, cond_both}
 use Rattle.cany_base.proofs.ParamsFacts.{few_nodes}
 use Rattle.cany_base.specs.declared.class.Class.TheVariants as class
 use Rattle.cany_base.specs.declared.log_entry.LogEntry.TheVariants.{Deliver}
@@ -35,9 +35,10 @@ use Rattle.cany_laws.specs.Acceptance.{IsDeliveredByEachOrNone, accepted_in_time
 use Rattle.cany_laws.specs.Logs.{HasReadClosingAs, log_as}
 use Rattle.cany_laws.proofs.DeliveredInTime.{accepted_delivers}
 use Rattle.cany_laws.proofs.EachView.{accepted_by_each, clean_older}
-use Rattle.cany_laws.proofs.Fronts.{front_split}
 use Rattle.cany_laws.proofs.IntegralLogs.{lived_correct, lived_log}
 use Rattle.cany_laws.proofs.Lives.{lived}
+use Rattle.cany_model.proofs.Timed.Views.StartViews.{front_split}
+use Rattle.cany_model.proofs.Timed.Order.Accepts.{some_number}
 
 -- ---- what stands in an order passes its test
 
@@ -63,13 +64,6 @@ order_passes test from c (note ∷ before) h =
           (cond_both (nat_le from note.slot) (ordered_in test note note.frame) [] (λ l. Among (λ d. d ≡ c) l → Among (λ d. d ≡ c) (ordered_in test note note.frame))
           (λ _ k. k) (λ _ k. absurd k) new)
     ]
-
-some_number : (test : ℕ → Bool) (l : List ℕ) → list_any test l ≡ true → (i : ℕ) × (test i ≡ true)
-some_number test [] h = absurd (cc)
-some_number test (i ∷ l) h = elim (or_cases (test i) (list_any test l) h) [
-  | inl here ↦ (i, here)
-  | inr later ↦ some_number test l later
-]
 
 -- ---- each incarnation
 

@@ -40,8 +40,9 @@ use Rattle.cany_model.proofs.Rules.SendFacts.{is_sent_in-true, sendable_one}
 use Rattle.cany_model.proofs.Rules.VectorFacts.{vectors_are_lawful}
 use Rattle.cany_model.proofs.Rules.ViewFacts.{asks_are_lawful, views_are_lawful}
 use Rattle.cany_model.proofs.Runs.Waits.{AsksOnly}
-use Rattle.cany_model.proofs.Timed.Order.TotBacklog.{at_place, backlog_same, one_place}
+use Rattle.cany_model.proofs.Timed.Order.TotBacklog.{any_dropped, at_place, backlog_same, one_place}
 use Rattle.cany_model.proofs.Timed.Order.TotKept.{no_message}
+use Rattle.cany_model.proofs.Timed.Order.OneOrder.{tot_id}
 
 -- ---- frames of the message
 
@@ -122,10 +123,10 @@ eager_free m omit f past free =
 
 -- ---- lists
 
-any_dropped : {X : Type 0} (test : X → Bool) (n : ℕ) (xs : List X) → list_any test (drop n xs) ≡ true → list_any test xs ≡ true
-any_dropped test zero xs h = h
-any_dropped test (suc n) [] h = h
-any_dropped test (suc n) (x ∷ xs) h = or_right (test x) (list_any test xs) (any_dropped test n xs h)
+any_left : {X : Type 0} (test : X → Bool) (n : ℕ) (xs : List X) → list_any test (drop n xs) ≡ true → list_any test xs ≡ true
+any_left test zero xs h = h
+any_left test (suc n) [] h = h
+any_left test (suc n) (x ∷ xs) h = or_right (test x) (list_any test xs) (any_left test n xs h)
 
 any_taken : {X : Type 0} (test : X → Bool) (n : ℕ) (xs : List X) → list_any test (take n xs) ≡ true → list_any test (take (suc n) xs) ≡ true
 any_taken test zero [] h = h
@@ -135,12 +136,6 @@ any_taken test (suc n) (x ∷ xs) h = elim (or_cases (test x) (list_any test (ta
   | inl now ↦ or_left (test x) (list_any test (take (suc n) xs)) now
   | inr later ↦ or_right (test x) (list_any test (take (suc n) xs)) (any_taken test n xs later)
 ]
-
-any_dropped_one : {X : Type 0} (test : X → Bool) (n : ℕ) (xs : List X) → list_any test (drop (suc n) xs) ≡ true → list_any test (drop n xs) ≡ true
-any_dropped_one test zero [] h = h
-any_dropped_one test zero (x ∷ xs) h = or_right (test x) (list_any test xs) h
-any_dropped_one test (suc n) [] h = h
-any_dropped_one test (suc n) (x ∷ xs) h = any_dropped_one test n xs h
 
 -- ---- what is ahead
 
@@ -164,12 +159,9 @@ no_sent m (Got f) free x among = refl
 no_sent m (Sent f) free x among = false_from_ne_true (is_of x f) (λ h.
     free f (inr refl) (Among-weaker (λ y. y ≡ x) (λ y. y ≡ identity_of f) (λ y e. e ∙ same_identity-true x (identity_of f) h) (frames_of m) among))
 
-pub tot_named : (m : Message) → m.service ≡ Tot → data_id m ≡ tot_of_key (message_key m)
-tot_named m tot = λ k. record { class = ap data_class tot k; number = m.seq; node = m.origin }
-
 pub no_holds : (m : Message) (e : NoticeKind) → FreeNotice m e → m.service ≡ Tot → holds (message_key m) e ≡ false
 no_holds m e free tot =
-    let among : Among (λ y. y ≡ tot_of_key (message_key m)) (frames_of m) = inl (tot_named m tot) in
+    let among : Among (λ y. y ≡ tot_of_key (message_key m)) (frames_of m) = inl (tot_id m tot) in
     rw (no_got m e free (tot_of_key (message_key m)) among, no_sent m e free (tot_of_key (message_key m)) among) refl
 
 -- a timer that is ahead after the turn was ahead before it
@@ -183,7 +175,7 @@ timer_before (suc t) i x e past some none h =
     let first = and_parts (is_timed i x) (has_copy x (e ∷ past)) inner.0 in
     let copy : has_copy x past ≡ true = elim (or_cases (is_got x e) (has_copy x past) first.1) [ inl now ↦ absurd (both_ways (is_got x e) none now) | inr before ↦ before ] in
     let old : has_copy x (drop (suc t) past) ≡ false =
-    false_from_ne_true (has_copy x (drop (suc t) past)) (λ k. both_ways (has_copy x (drop t past)) (not-true (has_copy x (drop t past)) inner.1) (any_dropped_one (is_got x) t past k)) in
+    false_from_ne_true (has_copy x (drop (suc t) past)) (λ k. both_ways (has_copy x (drop t past)) (not-true (has_copy x (drop t past)) inner.1) (any_dropped (is_got x) t past k)) in
     let unconfirmed : has_confirm x past ≡ false =
     false_from_ne_true (has_confirm x past) (λ k. both_ways (has_confirm x (e ∷ past)) (not-true (has_confirm x (e ∷ past)) outer.1) (or_right _ (has_confirm x past) k)) in
     and_from (is_timed i x && has_copy x past && not (has_copy x (drop (suc t) past))) (not (has_confirm x past))
@@ -305,7 +297,7 @@ module _ (scenario : ScenarioParts) (m : Message) (is : IsOneOf (messages_of sce
       let old : has_copy x (drop (suc t) before) ≡ false = ap (has_copy x) (sym (drop_one t before)) ∙ first.1 in
       and_from (is_timed i x && has_copy x before && not (has_copy x (drop (suc t) before))) (not (has_confirm x before))
       (and_from (is_timed i x && has_copy x before) (not (has_copy x (drop (suc t) before)))
-      (and_from (is_timed i x) (has_copy x before) inner.0 (any_dropped (is_got x) t before first.0))
+      (and_from (is_timed i x) (has_copy x before) inner.0 (any_left (is_got x) t before first.0))
       (not_from_false (has_copy x (drop (suc t) before)) old)) (not_from_false (has_confirm x before) unconfirmed)
 
   rel_free : (f : FrameParts) → f.class ≡ class.Rel → (data_id m ≡ identity_of f → ⊥) → Free m f

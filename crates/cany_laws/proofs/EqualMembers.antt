@@ -53,7 +53,8 @@ pub first_read-none : (scenario : ScenarioParts) (journal : List Step) (i : ℕ)
     → first_read 0 (run scenario journal) i e ≡ []
 first_read-none scenario journal i e l = drop_all (e.next - 0) (past_of (run scenario journal) i e) (omega (arith, past_length scenario journal i e l))
 
-members_first : (sc : ScenarioParts) (i : ℕ) → (knowledge_of sc i []).members ≡ sc.members
+-- and its view is then that of the first members
+pub members_first : (sc : ScenarioParts) (i : ℕ) → (knowledge_of sc i []).members ≡ sc.members
 unfolding knowledge_of
 members_first sc i = refl
 

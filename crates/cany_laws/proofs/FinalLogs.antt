@@ -37,11 +37,12 @@ use Rattle.cany_model.proofs.Runs.Runs.{history-length, orderly, orderly_slot}
 use Rattle.cany_model.proofs.Runs.Steps.{MayTurn, after_slot-history, after_slot-present, after_slot-trace, after_turn-history, after_turn-other_history, after_turn-present, after_turn-runs, next_notice, running_before_slot}
 use Rattle.cany_laws.specs.Final.{IsFinal}
 use Rattle.cany_laws.specs.Logs.{IsIncarnation, log_as}
-use Rattle.cany_laws.proofs.Fronts.{along_rest, front_split, pushed}
+use Rattle.cany_laws.proofs.Fronts.{along_rest, pushed}
 use Rattle.cany_laws.proofs.IntegralLogs.{lived_log, sent_as}
 use Rattle.cany_laws.proofs.Lives.{lived}
 use Rattle.cany_laws.proofs.NoLateDelivery.{DeliversIt, EntersNot, turn_not}
 use Rattle.cany_laws.proofs.StaySettled.{IsDoneSince, done_is_settled, done_is_silent, done_step, next_free, settled_is_done}
+use Rattle.cany_model.proofs.Timed.Views.StartViews.{front_split}
 
 -- ---- entries in time
 

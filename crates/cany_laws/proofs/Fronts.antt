@@ -1,24 +1,20 @@
 -- What holds of each front of a journal, and what each step changes at one node.
-use Rattle.std.proofs.Common.{◌≡◌, ℕ, zero, suc, ◌+◌, ◌-◌, ◌<◌, ◌≤◌, ◌⊎◌, inl, inr, Bool, true, false, if◌then◌else◌, List, [], ◌∷◌, ◌++◌, length, map, drop, refl, ap, sym, ◌∙◌, subst, arith, append-nil, append_assoc}
-use Rattle.std.specs.Prelude.{Contains, Some, None}
+use Rattle.std.proofs.Common.{◌≡◌, ℕ, zero, suc, ◌-◌, ◌<◌, ◌≤◌, ◌⊎◌, inl, inr, true, List, [], ◌∷◌, ◌++◌, length, map, drop, refl, ap, sym, ◌∙◌, subst, arith, append-nil, append_assoc}
+use Rattle.std.specs.Prelude.{Contains}
 use Rattle.std.proofs.lemmas.Bool.{cases_Bool, cases_eq}
 use Rattle.cany_base.specs.declared.slot_note.SlotNote.{SlotNote}
 use Rattle.cany_base.specs.declared.step.Step.{Step}
 use Rattle.cany_base.specs.declared.step.Step.TheVariants as step
-use Rattle.cany_base.specs.Nodes.{has}
 use Rattle.cany_base.specs.Scenario.{ScenarioParts}
-use Rattle.cany_model.specs.declared.share.Share.{Share}
-use Rattle.cany_model.specs.declared.share.Share.TheVariants as share
 use Rattle.cany_model.specs.Bus.History.{ended_history, given, seen}
 use Rattle.cany_model.specs.Bus.Restart.{after_restarts}
-use Rattle.cany_model.specs.Bus.Slot.{FaultScript, after_share, after_slot, node_after, script, share_of, slot_note_of}
-use Rattle.cany_model.specs.Bus.State.{EndedIncarnation, NodeState, RunState, node_at, opening, runs}
+use Rattle.cany_model.specs.Bus.Slot.{FaultScript, after_slot, script, slot_note_of}
+use Rattle.cany_model.specs.Bus.State.{EndedIncarnation, NodeState, RunState, node_at, opening}
 use Rattle.cany_model.specs.Runs.Run.{after_turn, is_done, proceed, reply, run}
 use Rattle.cany_model.proofs.Among.{Among-append_right, Among-from_Contains, Contains-from_Among}
-use Rattle.cany_model.proofs.Runs.Journals.{run_push, run_then, step_is, step_refused}
+use Rattle.cany_model.proofs.Runs.Journals.{run_push, step_is, step_refused}
 use Rattle.cany_model.proofs.Runs.Runs.{MaySlot, orderly, slot_done, turn_done, turn_is_done}
-use Rattle.cany_model.proofs.Runs.SlotStates.{trace_grows}
-use Rattle.cany_model.proofs.Runs.Steps.{MayTurn, after_slot-node, after_turn-node, after_turn-other}
+use Rattle.cany_model.proofs.Runs.Steps.{MayTurn, after_slot-node, after_turn-node, after_turn-other, node_after-ended}
 
 -- ---- along a journal
 
@@ -67,20 +63,6 @@ turn_made scenario front i may =
 
 -- ---- the ended incarnations of a node
 
-node_after-ended : (i : ℕ) (note : SlotNote) (node : NodeState) → (node_after i note node).ended ≡ node.ended
-unfolding node_after after_share
-node_after-ended i note node = either (runs node) (share_of i note)
-  where
-    either : (b : Bool) (share : Share)
-        → (if b then record (after_share share node) { unread = node.unread + 1; stopped = if has note.stops i then Some note.slot else None }
-        else record node { unread = node.unread + 1 }).ended ≡ node.ended
-    either true share.Idle = refl
-    either true (share.Took f) = refl
-    either true share.Rejected = refl
-    either true (share.Confirmed f) = refl
-    either true share.Errored = refl
-    either false share = refl
-
 -- a slot ends none
 pub after_slot-ended : (rules : FaultScript) (s : RunState) (i : ℕ) → i < length s.nodes → (node_at (after_slot rules s).nodes i).ended ≡ (node_at s.nodes i).ended
 after_slot-ended rules s i h =
@@ -107,13 +89,6 @@ ended_history-longer i note trace e short =
     ap (λ n. map (given i) (drop n (seen e.incarnation (note ∷ trace)))) more
 
 -- ---- the trace
-
--- that of a front is what is left of the journal's without its newest notes
-pub front_split : (scenario : ScenarioParts) (journal front rest : List Step) → journal ≡ front ++ rest
-    → (newer : List SlotNote) × ((run scenario journal).trace ≡ newer ++ (run scenario front).trace)
-front_split scenario journal front rest whole =
-    let grows = trace_grows scenario (run scenario front) rest in
-    (grows.0, ap (λ j. (run scenario j).trace) whole ∙ ap (λ (r : RunState). r.trace) (run_then scenario (opening scenario.params.nodes) front rest) ∙ grows.1)
 
 -- what stands in an older trace stands in the newer one
 pub stands_later : {X : Type 0} (newer older : List X) (x : X) → Contains older x → Contains (newer ++ older) x

@@ -11,15 +11,15 @@ use Rattle.cany_base.specs.Scenario.{IsLegalScenario, ScenarioParts}
 use Rattle.cany_model.specs.Bus.State.{EndedIncarnation, RunState}
 use Rattle.cany_model.specs.Promises.Hypothesis.{IsWithin}
 use Rattle.cany_model.specs.Rules.Knowledge.{Knowledge, after_finding}
-use Rattle.cany_model.specs.Rules.KnowledgeOf.{after_installing, after_meeting, knowledge_of, met_in, start_in}
+use Rattle.cany_model.specs.Rules.KnowledgeOf.{after_installing, knowledge_of, met_in, start_in}
 use Rattle.cany_model.specs.Rules.Vectors.{after_exchange, brought, met, met_with}
-use Rattle.cany_model.specs.Rules.Views.{start_of, start_vector, with_ended}
+use Rattle.cany_model.specs.Rules.Views.{start_of, start_vector}
 use Rattle.cany_model.specs.Runs.Run.{run}
 use Rattle.cany_model.proofs.Rules.CycleFacts.{in_exchange, in_start}
 use Rattle.cany_model.proofs.Rules.KnowledgeSteps.{failed_after, failed_by, members_by, vector_after}
 use Rattle.cany_model.proofs.Timed.Common.KnowledgeAges.{ended_at, members_next}
 use Rattle.cany_model.proofs.Timed.Detector.Removal.{asked_none, member_no_joiner}
-use Rattle.cany_model.proofs.Timed.Detector.SilentNode.{asked_members, lacks_says}
+use Rattle.cany_model.proofs.Timed.Detector.SilentNode.{asked_members, lacks_says, no_installed}
 use Rattle.cany_model.proofs.Timed.Detector.VectorsAgreeOn.{Says}
 use Rattle.cany_model.proofs.Timed.Views.StartViews.{start_no_end}
 use Rattle.cany_model.proofs.Timed.Views.VectorLastEffect.{IsCycle, at_end, at_place}
@@ -50,10 +50,6 @@ met_lacks p r old (Some w) h = record {
   is = ap (λ o. Some (met_with p o w)) h.is;
   out = false_from_ne_true (has (meet h.set w) r) (λ k. both_ways (has h.set r) h.out (meet_left h.set w r k));
 }
-
-no_installed : (p : Parameters) (i slot : ℕ) (e : NoticeKind) (st : Knowledge) → is_end p slot ≡ false → after_installing p i slot e st ≡ after_meeting p i slot e st
-unfolding with_ended
-no_installed p i slot e st no_end = ap (λ w. with_ended i slot w (after_meeting p i slot e st)) (cond-false (is_end p slot) (met_in p slot e st) None no_end)
 
 module _ (scenario : ScenarioParts) (i : ℕ) (e : NoticeKind) (past : List NoticeKind) where
   abbrev p : Parameters

@@ -5,7 +5,6 @@ pub mod AdmissionKnown
 pub mod AdmissionLives
 pub mod AdmissionRows
 pub mod AdmissionTaken
-pub mod AdmissionTurns
 pub mod AdmissionVectors
 pub mod AlarmGap
 pub mod AlarmLaws
@@ -26,6 +25,7 @@ pub mod CarriedRows
 pub mod CarriedSends
 pub mod CarriedSigns
 pub mod CarriedTogether
+pub mod CaughtUp
 pub mod DeliveredByEach
 pub mod DeliveredInTime
 pub mod Detected
@@ -53,6 +53,7 @@ pub mod RestartRows
 pub mod RowWords
 pub mod SequenceRows
 pub mod SettledRows
+pub mod SignsSent
 pub mod Silence
 pub mod SilenceRows
 pub mod Since

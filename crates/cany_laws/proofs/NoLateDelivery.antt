@@ -40,7 +40,8 @@ use Rattle.cany_model.proofs.Rules.SendFacts.{sends_are_lawful}
 use Rattle.cany_model.proofs.Rules.TotcanFacts.{all_tot, delivered_brought, done_brought, not_new}
 use Rattle.cany_model.proofs.Rules.VectorFacts.{vectors_are_lawful}
 use Rattle.cany_model.proofs.Rules.ViewFacts.{asks_are_lawful, views_are_lawful}
-use Rattle.cany_laws.proofs.DoneTurns.{Free, FreeNotice, IsDone, no_got, no_holds, no_sent, tot_named}
+use Rattle.cany_laws.proofs.DoneTurns.{Free, FreeNotice, IsDone, no_got, no_holds, no_sent}
+use Rattle.cany_model.proofs.Timed.Order.OneOrder.{tot_id}
 
 -- the entry delivers this message by its own service
 abbrev pub DeliversIt : Message → LogEntry → Type 0
@@ -152,7 +153,7 @@ unfolding is_heard has_own is_accepted
 accepted_on m bound i e before tot free =
     let key : MsgKey = message_key m in
     let accept : is_got (accept_of_key key) e ≡ false = no_got m e free (accept_of_key key) (inr (inr (inl refl))) in
-    let own : is_sent (tot_of_key key) e ≡ false = no_sent m e free (tot_of_key key) (inl (tot_named m tot)) in
+    let own : is_sent (tot_of_key key) e ≡ false = no_sent m e free (tot_of_key key) (inl (tot_id m tot)) in
     rw (no_holds m e free tot, accept, own) (or_no (is_heard bound key before) _)
   where
     or_no : (a b : Bool) → ((a || false) || b) ≡ (a || b)

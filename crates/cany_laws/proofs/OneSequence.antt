@@ -28,9 +28,9 @@ use Rattle.cany_model.specs.Rules.Totcan.{tot_of_key}
 use Rattle.cany_model.proofs.Timed.Detector.DetectorLaws.{within_front}
 use Rattle.cany_laws.specs.Logs.{log_as}
 use Rattle.cany_laws.specs.Sequence.{HasOneSequence, IsSubsequence, clean_sequence, is_content_of}
-use Rattle.cany_laws.proofs.Fronts.{front_split}
 use Rattle.cany_laws.proofs.IntegralLogs.{lived_correct, lived_log}
 use Rattle.cany_laws.proofs.Lives.{lived}
+use Rattle.cany_model.proofs.Timed.Views.StartViews.{front_split}
 
 -- ---- parts of lists
 

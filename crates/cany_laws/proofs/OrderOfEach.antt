@@ -1,11 +1,9 @@
 -- What each incarnation has delivered by TOTCAN is a prefix of the order of the messages that it or a running node has accepted.
-use Rattle.std.proofs.Common.{◌≡◌, ℕ, suc, ◌+◌, ◌-◌, ◌<◌, ◌≤◌, inl, inr, Bool, true, List, ◌++◌, length, map, drop, refl, ap, sym, ◌∙◌, subst, arith, Contains, drop-drop}
-use Rattle.std.proofs.lemmas.Bool.{and_parts, false≢true, or_cases, or_left}
+use Rattle.std.proofs.Common.{◌≡◌, ℕ, suc, ◌+◌, ◌-◌, ◌<◌, ◌≤◌, inl, inr, Bool, true, List, ◌++◌, length, map, drop, ap, sym, ◌∙◌, subst, arith, Contains, drop-drop}
+use Rattle.std.proofs.lemmas.Bool.{and_parts, or_cases, or_left}
 use Rattle.std.proofs.lemmas.List.{drop-map, get_or_default, map-append}
 use Rattle.cany_base.proofs.ParamsFacts.{few_nodes}
 use Rattle.cany_base.specs.declared.message.MsgKey.{MsgKey}
-use Rattle.cany_base.specs.declared.rule.Verdict.{Verdict}
-use Rattle.cany_base.specs.declared.rule.Verdict.TheVariants.{Clean, Lost, Partial, Silent}
 use Rattle.cany_base.specs.declared.slot_note.SlotNote.{SlotNote}
 use Rattle.cany_base.specs.declared.step.Step.{Step}
 use Rattle.cany_base.specs.Limits.{most_nodes}
@@ -35,17 +33,13 @@ use Rattle.cany_model.proofs.Timed.Order.TotCount.{within_silent}
 use Rattle.cany_model.proofs.Timed.Order.TotRun.{tot_kept}
 use Rattle.cany_laws.specs.Logs.{IsIncarnation, followed_by, past_of}
 use Rattle.cany_laws.specs.Order.{EachFollowsOrder, FollowsOrderAs, IsPrefixOf, deliveries_as, is_accepted_by_it_or_some}
-use Rattle.cany_laws.proofs.Fronts.{front_split, stands_later}
+use Rattle.cany_laws.proofs.Fronts.{stands_later}
 use Rattle.cany_laws.proofs.Lives.{Lived, lived}
 use Rattle.cany_laws.proofs.OrderLists.{order_filter, order_longer, prefix_filter, prefix_more}
 use Rattle.cany_laws.proofs.OrderReading.{accepted_in_time_by_each, sees_late}
 use Rattle.cany_laws.proofs.Since.{begins_now}
-
-clean_is : (v : Verdict) → is_clean v ≡ true → v ≡ Clean
-clean_is Clean h = refl
-clean_is Lost h = absurd (false≢true h)
-clean_is (Partial reject) h = absurd (false≢true h)
-clean_is (Silent reject) h = absurd (false≢true h)
+use Rattle.cany_model.proofs.Timed.Views.StartViews.{front_split}
+use Rattle.cany_model.proofs.Timed.Windows.FewVectors.{clean_is}
 
 module _ (scenario : ScenarioParts) (legal : IsLegalScenario scenario) (journal : List Step) (within : IsWithin scenario.params (run scenario journal).trace)
     (i : ℕ) (e : EndedIncarnation) (is : IsIncarnation scenario (run scenario journal) i e) (l : Lived scenario journal i e) where

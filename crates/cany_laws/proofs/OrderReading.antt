@@ -1,12 +1,11 @@
 -- A running node reads all that there is, and no other node changes: so what it has accepted, each incarnation accepts that has read the closing.
-use Rattle.std.proofs.Common.{◌≡◌, ℕ, zero, suc, ◌+◌, ◌-◌, ◌<◌, ◌≤◌, ◌&&◌, inl, inr, Bool, true, false, List, [], ◌∷◌, ◌++◌, length, map, drop, refl, ap, sym, ◌∙◌, subst, arith, append-nil, append_assoc, Contains}
-use Rattle.std.specs.List.{list_any, range_with_len}
-use Rattle.std.proofs.lemmas.Bool.{and_parts, cases_eq, cases_lt, both_ways, or_cases}
+use Rattle.std.proofs.Common.{◌≡◌, ℕ, ◌+◌, ◌-◌, ◌<◌, ◌≤◌, ◌&&◌, inl, inr, true, false, List, ◌∷◌, ◌++◌, length, map, drop, refl, ap, sym, ◌∙◌, subst, arith, Contains}
+use Rattle.std.specs.List.{range_with_len}
+use Rattle.std.proofs.lemmas.Bool.{and_parts, cases_eq, cases_lt, both_ways}
 use Rattle.cany_base.proofs.ParamsFacts.{few_nodes}
 use Rattle.cany_base.specs.declared.message.MsgKey.{MsgKey}
 use Rattle.cany_base.specs.declared.slot_note.SlotNote.{SlotNote}
 use Rattle.cany_base.specs.declared.step.Step.{Step}
-use Rattle.cany_base.specs.declared.step.Step.TheVariants as step
 use Rattle.cany_base.specs.Limits.{most_nodes}
 use Rattle.cany_base.specs.Scenario.{IsLegalScenario, ScenarioParts}
 use Rattle.cany_model.specs.Bus.History.{ended_history, given, history, is_hidden, seen}
@@ -17,12 +16,11 @@ use Rattle.cany_model.specs.Promises.Order.{has_accepted, is_accepted_by_some}
 use Rattle.cany_model.specs.Promises.Settled.{IsCorrect}
 use Rattle.cany_model.specs.Rules.Totcan.{is_accepted}
 use Rattle.cany_model.specs.Runs.Incarnations.{incarnations}
-use Rattle.cany_model.specs.Runs.Run.{after_turn, run}
+use Rattle.cany_model.specs.Runs.Run.{run}
 use Rattle.cany_model.proofs.Among.{Among, Among-from_Contains, Contains-from_Among, Contains-head}
 use Rattle.cany_model.proofs.Bus.Seen.{early_hidden, ended_history-present, history-is}
 use Rattle.cany_model.proofs.Bus.States.{note_at, runs_within}
 use Rattle.cany_model.proofs.Runs.Runs.{orderly}
-use Rattle.cany_model.proofs.Runs.Steps.{MayTurn, after_turn-node, after_turn-other, after_turn-present, after_turn-runs, after_turn-trace, next_notice, node_after_turn}
 use Rattle.cany_model.proofs.Timed.Common.Ages.{past}
 use Rattle.cany_model.proofs.Timed.Common.SeenAges.{done_from}
 use Rattle.cany_model.proofs.Timed.Guarantees.{accepted_by_all_or_none}
@@ -34,68 +32,12 @@ use Rattle.cany_laws.specs.Acceptance.{accepted_in_time_as}
 use Rattle.cany_laws.specs.Logs.{HasReadClosingAs, IsIncarnation, past_of, present_of}
 use Rattle.cany_laws.proofs.DeliveredInTime.{clean_age}
 use Rattle.cany_laws.proofs.EachView.{accepted_by_each}
-use Rattle.cany_laws.proofs.Fronts.{after_turn-ended, turn_made}
 use Rattle.cany_laws.proofs.Lives.{lived}
 use Rattle.cany_laws.proofs.Since.{begins_now}
-
--- ---- a node reads all that there is
-
--- some turns of node j more, after which it has read all; and the other nodes are as they were
-pub record CaughtUp (scenario : ScenarioParts) (journal : List Step) (j : ℕ) : Type 0 where
-  pub turns : List Step
-  pub trace : (run scenario (journal ++ turns)).trace ≡ (run scenario journal).trace
-  pub unread : (node_at (run scenario (journal ++ turns)).nodes j).unread ≡ 0
-  pub present : (node_at (run scenario (journal ++ turns)).nodes j).present ≡ (node_at (run scenario journal).nodes j).present
-  pub running : runs (node_at (run scenario (journal ++ turns)).nodes j) ≡ true
-  pub ended : (i : ℕ) → (node_at (run scenario (journal ++ turns)).nodes i).ended ≡ (node_at (run scenario journal).nodes i).ended
-  pub other : (i : ℕ) → (i ≡ j → ⊥) → node_at (run scenario (journal ++ turns)).nodes i ≡ node_at (run scenario journal).nodes i
-
-pub caught_up : (scenario : ScenarioParts) (j n : ℕ) (journal : List Step) → runs (node_at (run scenario journal).nodes j) ≡ true
-    → (node_at (run scenario journal).nodes j).unread ≡ n → CaughtUp scenario journal j
-caught_up scenario j zero journal running unread = record {
-  turns = [];
-  trace = ap (λ x. (run scenario x).trace) (append-nil journal);
-  unread = ap (λ x. (node_at (run scenario x).nodes j).unread) (append-nil journal) ∙ unread;
-  present = ap (λ x. (node_at (run scenario x).nodes j).present) (append-nil journal);
-  running = ap (λ x. runs (node_at (run scenario x).nodes j)) (append-nil journal) ∙ running;
-  ended = λ i. ap (λ x. (node_at (run scenario x).nodes i).ended) (append-nil journal);
-  other = λ i _. ap (λ x. node_at (run scenario x).nodes i) (append-nil journal);
-}
-caught_up scenario j (suc n) journal running unread =
-    let s : RunState = run scenario journal in
-    let o = orderly scenario journal in
-    let may : MayTurn s j = record { there = runs_within s.nodes j running; running = running; unread = omega (arith, unread) } in
-    let next : List Step = journal ++ step.Turn j ∷ [] in
-    let is : run scenario next ≡ after_turn scenario j s = turn_made scenario journal j may in
-    let node : node_at (after_turn scenario j s).nodes j ≡ node_after_turn scenario j (next_notice s j ∷ history j s) (node_at s.nodes j) =
-    after_turn-node scenario j s may (o.unread j) in
-    let one : (node_at (run scenario next).nodes j).unread ≡ n =
-    ap (λ (r : RunState). (node_at r.nodes j).unread) is ∙ ap (λ (m : NodeState). m.unread) node ∙ omega (arith, unread) in
-    let runs_on : runs (node_at (run scenario next).nodes j) ≡ true =
-    ap (λ (r : RunState). runs (node_at r.nodes j)) is ∙ after_turn-runs scenario j s j may (o.unread j) ∙ running in
-    let rest = caught_up scenario j n next runs_on one in
-    let whole : journal ++ (step.Turn j ∷ rest.turns) ≡ next ++ rest.turns = sym (append_assoc journal (step.Turn j ∷ []) rest.turns) in
-    record {
-      turns = step.Turn j ∷ rest.turns;
-      trace = ap (λ x. (run scenario x).trace) whole ∙ rest.trace ∙ ap (λ (r : RunState). r.trace) is ∙ after_turn-trace scenario j s;
-      unread = ap (λ x. (node_at (run scenario x).nodes j).unread) whole ∙ rest.unread;
-      present = ap (λ x. (node_at (run scenario x).nodes j).present) whole ∙ rest.present ∙ ap (λ (r : RunState). (node_at r.nodes j).present) is
-          ∙ after_turn-present scenario j s j may (o.unread j);
-      running = ap (λ x. runs (node_at (run scenario x).nodes j)) whole ∙ rest.running;
-      ended = λ i. ap (λ x. (node_at (run scenario x).nodes i).ended) whole ∙ rest.ended i ∙ ap (λ (r : RunState). (node_at r.nodes i).ended) is
-          ∙ after_turn-ended scenario j s i may (o.unread j);
-      other = λ i apart. ap (λ x. node_at (run scenario x).nodes i) whole ∙ rest.other i apart ∙ ap (λ (r : RunState). node_at r.nodes i) is
-          ∙ after_turn-other scenario j s i apart;
-    }
+use Rattle.cany_model.proofs.Timed.Order.Accepts.{some_number}
+use Rattle.cany_laws.proofs.CaughtUp.{CaughtUp, caught_up}
 
 -- ---- what a running node has accepted
-
-some_number : (test : ℕ → Bool) (l : List ℕ) → list_any test l ≡ true → (i : ℕ) × (test i ≡ true)
-some_number test [] h = absurd (cc)
-some_number test (i ∷ l) h = elim (or_cases (test i) (list_any test l) h) [
-  | inl here ↦ (i, here)
-  | inr later ↦ some_number test l later
-]
 
 module _ (scenario : ScenarioParts) (legal : IsLegalScenario scenario) where
   few : scenario.params.nodes ≤ most_nodes

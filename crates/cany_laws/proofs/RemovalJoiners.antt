@@ -1,13 +1,12 @@
 -- A node of which nobody gets a JOIN asks at nobody, once its earlier asks were answered.
-use Rattle.std.proofs.Common.{◌≡◌, ℕ, zero, suc, ◌+◌, ◌<◌, ◌≤◌, ◌⊎◌, ◌==◌, ◌&&◌, ◌||◌, not, if◌then◌else◌, inl, inr, false, List, [], ◌∷◌, ◌++◌, length, Option, Some, None, Contains, refl, ap, sym, ◌∙◌, subst, arith}
-use Rattle.std.proofs.lemmas.Bool.{and_from, and_parts, both_ways, cases_Bool, cases_lt, cond_both, eq-eqb, eqb-true, false_from_ne_true, or_cases}
-use Rattle.cany_base.proofs.NodesFacts.{has_none}
+use Rattle.std.proofs.Common.{◌≡◌, ℕ, zero, suc, ◌+◌, ◌<◌, ◌≤◌, ◌⊎◌, ◌==◌, ◌&&◌, inl, inr, false, List, [], ◌∷◌, ◌++◌, length, Contains, refl, ap, sym, ◌∙◌, subst, arith}
+use Rattle.std.proofs.lemmas.Bool.{and_from, both_ways, cases_Bool, cases_lt, cond_both, eq-eqb}
 use Rattle.cany_base.specs.declared.class.Class.TheVariants as class
 use Rattle.cany_base.specs.declared.notice.NoticeKind.{NoticeKind}
 use Rattle.cany_base.specs.declared.notice.NoticeKind.TheVariants.{Idle, Got, Sent, Bad}
 use Rattle.cany_base.specs.declared.slot_note.SlotNote.{SlotNote}
 use Rattle.cany_base.specs.declared.step.Step.{Step}
-use Rattle.cany_base.specs.Nodes.{Nodes, has, minus, with_node}
+use Rattle.cany_base.specs.Nodes.{has}
 use Rattle.cany_base.specs.Params.{Parameters}
 use Rattle.cany_base.specs.Scenario.{ScenarioParts}
 use Rattle.cany_model.specs.Bus.Frames.{same_class}
@@ -15,15 +14,12 @@ use Rattle.cany_model.specs.Bus.History.{as_seen, given, is_hidden}
 use Rattle.cany_model.specs.Bus.State.{EndedIncarnation, Incarnation, RunState}
 use Rattle.cany_model.specs.Rules.Knowledge.{Knowledge, after_finding}
 use Rattle.cany_model.specs.Rules.KnowledgeOf.{after_asking, knowledge_of}
-use Rattle.cany_model.specs.Rules.Views.{after_ask, with_joiner, with_leaver}
+use Rattle.cany_model.specs.Rules.Views.{after_ask, with_leaver}
 use Rattle.cany_model.specs.Runs.Run.{run}
 use Rattle.cany_model.proofs.Among.{Contains-cons, Contains-head}
-use Rattle.cany_model.proofs.Bus.Notes.{those_where_pass}
 use Rattle.cany_model.proofs.Bus.Seen.{Numbered, early_hidden, seen_idle, seen_plain}
 use Rattle.cany_model.proofs.Promises.OwnSlotsAlone.{run_numbered}
-use Rattle.cany_model.proofs.Rules.KnowledgeSteps.{joiners_after, joiners_by}
 use Rattle.cany_model.proofs.Runs.Runs.{orderly}
-use Rattle.cany_model.proofs.Timed.Common.KnowledgeAges.{ended_at}
 use Rattle.cany_model.proofs.Timed.Detector.SilentNode.{found_joiners}
 use Rattle.cany_laws.specs.Logs.{IsIncarnation, followed_by}
 use Rattle.cany_laws.specs.Removal.{NobodyGotJoin, got_join}
@@ -31,12 +27,10 @@ use Rattle.cany_laws.proofs.AdmissionHeard.{notice_is}
 use Rattle.cany_laws.proofs.EqualMembers.{first_read, first_read-more, first_read-none, next_read}
 use Rattle.cany_laws.proofs.Lives.{Lived, lived}
 use Rattle.cany_laws.proofs.Since.{begins}
+use Rattle.cany_model.proofs.Timed.Detector.Removal.{asks_none, joiners_first, leaver_joiners, none_next}
+use Rattle.cany_base.specs.Frame.{FrameParts}
 
 -- ---- one turn
-
-leaver_joiners : (r q : ℕ) (st : Knowledge) → has st.joiners r ≡ false → has (with_leaver q st).joiners r ≡ false
-leaver_joiners r q st h =
-    cond_both (has st.members q) (record st { leavers = with_node q st.leavers }) st (λ s. has s.joiners r ≡ false) (λ _. h) (λ _. h)
 
 no_ask : (r : ℕ) (e : NoticeKind) (st : Knowledge) → got_join r e ≡ false → has st.joiners r ≡ false → has (after_ask e st).joiners r ≡ false
 unfolding after_ask
@@ -44,40 +38,24 @@ no_ask r Idle st none h = h
 no_ask r Bad st none h = h
 no_ask r (Sent f) st none h =
     cond_both (same_class f.class class.Leave) (with_leaver f.node st) st (λ s. has s.joiners r ≡ false) (λ _. leaver_joiners r f.node st h) (λ _. h)
-no_ask r (Got f) st none h =
-    cond_both (same_class f.class class.Join) (with_joiner f.node st) (if same_class f.class class.Leave then with_leaver f.node st else st)
-    (λ s. has s.joiners r ≡ false)
-    (λ join. cond_both (has st.members f.node) st (record st { joiners = with_node f.node st.joiners }) (λ s. has s.joiners r ≡ false) (λ _. h)
-    (λ out. false_from_ne_true (has (with_node f.node st.joiners) r) (λ k.
-    elim (or_cases (has st.joiners r) (r == f.node) (those_where_pass (λ q. has st.joiners q || q == f.node) r k)) [
-      | inl old ↦ both_ways (has st.joiners r) h old
-      | inr new ↦
-          both_ways (same_class f.class class.Join && f.node == r) none
-          (and_from (same_class f.class class.Join) (f.node == r) join (eq-eqb f.node r (sym (eqb-true r f.node new))))
-    ])))
-    (λ _. cond_both (same_class f.class class.Leave) (with_leaver f.node st) st (λ s. has s.joiners r ≡ false) (λ _. leaver_joiners r f.node st h) (λ _. h))
+no_ask r (Got f) st none h = elim (cases_Bool (same_class f.class class.Join)) [
+  | inl join ↦ asks_none r (Got f) st (inr (λ g same own mine.
+      let is : f ≡ g = cc in
+      both_ways (same_class f.class class.Join && f.node == r) none
+      (and_from (same_class f.class class.Join) (f.node == r) join (eq-eqb f.node r (ap (λ (k : FrameParts). k.node) is ∙ mine))))) h
+  | inr other ↦
+      rw other
+      (cond_both (same_class f.class class.Leave) (with_leaver f.node st) st (λ s. has s.joiners r ≡ false) (λ _. leaver_joiners r f.node st h) (λ _. h))
+]
 
 pub asks_not : (p : Parameters) (i r slot : ℕ) (e : NoticeKind) (st : Knowledge) → got_join r e ≡ false → has st.joiners r ≡ false
     → has (after_asking p i slot e st).joiners r ≡ false
 asks_not p i r slot e st none h = no_ask r e (after_finding p i slot e st) none (ap (λ m. has m r) (found_joiners p i slot e st) ∙ h)
 
-joiners_less : (v : Option Nodes) (joiners : Nodes) (r : ℕ) → has joiners r ≡ false → has (joiners_by v joiners) r ≡ false
-joiners_less None joiners r h = h
-joiners_less (Some v) joiners r h = false_from_ne_true (has (minus joiners v) r) (λ k.
-    both_ways (has joiners r) h (and_parts (has joiners r) (not (has v r)) (those_where_pass (λ q. has joiners q && not (has v q)) r k)).0)
-
 asks_not_after : (scenario : ScenarioParts) (i r : ℕ) (e : NoticeKind) (past : List NoticeKind) → got_join r e ≡ false
     → has (knowledge_of scenario i past).joiners r ≡ false → has (knowledge_of scenario i (e ∷ past)).joiners r ≡ false
-unfolding knowledge_of
 asks_not_after scenario i r e past none h =
-    let st : Knowledge = knowledge_of scenario i past in
-    ap (λ m. has m r) (joiners_after scenario.params i (length past) e st)
-    ∙ joiners_less (ended_at scenario i e past) (after_asking scenario.params i (length past) e st).joiners r
-    (asks_not scenario.params i r (length past) e st none h)
-
-joiners_first : (scenario : ScenarioParts) (i r : ℕ) → has (knowledge_of scenario i []).joiners r ≡ false
-unfolding knowledge_of
-joiners_first scenario i r = has_none r
+    none_next scenario i r e past (inl (asks_not scenario.params i r (length past) e (knowledge_of scenario i past) none h))
 
 -- ---- the note of a slot
 

@@ -1,7 +1,7 @@
 -- A member that starts a cycle and reads it to its end installs a vector; and where nobody installs one in a cycle, nobody does in the next.
 use Rattle.std.proofs.Common.{◌≡◌, ℕ, zero, suc, ◌+◌, ◌-◌, ◌*◌, ◌<◌, ◌≤◌, ◌⊎◌, inl, inr, Bool, true, false, List, ◌∷◌, length, Option, Some, None, refl, ap, sym, ◌∙◌, subst, arith}
 use Rattle.std.proofs.Math.Nat.{mul-le-mul_right}
-use Rattle.std.proofs.lemmas.Bool.{both_ways, cases_Bool, cases_lt, cond-false, cond-true}
+use Rattle.std.proofs.lemmas.Bool.{both_ways, cases_Bool, cases_lt, cond-true}
 use Rattle.cany_base.proofs.ParamsFacts.{few_nodes}
 use Rattle.cany_base.specs.Cycles.{cycle_of, is_end, is_start}
 use Rattle.cany_base.specs.declared.notice.NoticeKind.{NoticeKind}
@@ -12,14 +12,14 @@ use Rattle.cany_base.specs.Scenario.{IsLegalScenario, ScenarioParts}
 use Rattle.cany_model.specs.Bus.State.{EndedIncarnation, RunState}
 use Rattle.cany_model.specs.Promises.Hypothesis.{IsWithin}
 use Rattle.cany_model.specs.Rules.Knowledge.{Knowledge}
-use Rattle.cany_model.specs.Rules.KnowledgeOf.{after_installing, after_meeting, knowledge_of, met_in, start_in}
+use Rattle.cany_model.specs.Rules.KnowledgeOf.{after_installing, knowledge_of, start_in}
 use Rattle.cany_model.specs.Rules.Vectors.{met, met_with}
-use Rattle.cany_model.specs.Rules.Views.{start_of, start_vector, with_ended}
+use Rattle.cany_model.specs.Rules.Views.{start_of, start_vector}
 use Rattle.cany_model.specs.Runs.Run.{run}
 use Rattle.cany_model.proofs.Promises.KeptVectors.{vector_at}
 use Rattle.cany_model.proofs.Rules.CycleFacts.{in_start}
 use Rattle.cany_model.proofs.Rules.KnowledgeSteps.{members_by}
-use Rattle.cany_model.proofs.Timed.Detector.SilentNode.{asked_members, start_says}
+use Rattle.cany_model.proofs.Timed.Detector.SilentNode.{asked_members, no_installed, start_says}
 use Rattle.cany_model.proofs.Timed.Detector.VectorsAgreeOn.{Says}
 use Rattle.cany_model.proofs.Timed.Views.SameView.{end_place}
 use Rattle.cany_model.proofs.Timed.Views.StartViews.{start_no_end}
@@ -78,11 +78,6 @@ met_has : (p : Parameters) (old got : Option Nodes) → HasVector old → HasVec
 unfolding met
 met_has p old None h = h
 met_has p old (Some w) h = (met_with p old w, refl)
-
-no_installed : (p : Parameters) (i slot : ℕ) (e : NoticeKind) (st : Knowledge) → is_end p slot ≡ false
-    → after_installing p i slot e st ≡ after_meeting p i slot e st
-unfolding with_ended
-no_installed p i slot e st no_end = ap (λ w. with_ended i slot w (after_meeting p i slot e st)) (cond-false (is_end p slot) (met_in p slot e st) None no_end)
 
 starts_some : (p : Parameters) (i slot : ℕ) (e : NoticeKind) (st : Knowledge) → is_start p slot ≡ true → is_end p slot ≡ false → has st.members i ≡ true
     → HasVector (start_in p i slot e st)

@@ -15,7 +15,7 @@ use Rattle.cany_base.specs.Scenario.{IsLegalScenario, ScenarioParts}
 use Rattle.cany_model.specs.Bus.Frames.{same_class}
 use Rattle.cany_model.specs.Bus.History.{as_seen, given, is_hidden}
 use Rattle.cany_model.specs.Bus.Restart.{after_restarts}
-use Rattle.cany_model.specs.Bus.Slot.{FaultScript, after_slot, node_after, script, slot_note_of}
+use Rattle.cany_model.specs.Bus.Slot.{FaultScript, after_slot, script, slot_note_of}
 use Rattle.cany_model.specs.Bus.State.{EndedIncarnation, NodeState, RunState, node_at, opening, runs}
 use Rattle.cany_model.specs.Promises.Hypothesis.{IsWithin}
 use Rattle.cany_model.specs.Rules.Knowledge.{shows_life}
@@ -30,7 +30,7 @@ use Rattle.cany_model.proofs.Runs.FrameInvariants.{slot_of_note}
 use Rattle.cany_model.proofs.Runs.Journals.{run_none}
 use Rattle.cany_model.proofs.Runs.Runs.{orderly}
 use Rattle.cany_model.proofs.Runs.Steps.{MayTurn, after_slot-node, after_slot-trace, after_turn-other, after_turn-runs, after_turn-trace, stopped_after_slot}
-use Rattle.cany_model.proofs.Timed.Detector.Stopped.{IsOwn, own_waits}
+use Rattle.cany_model.proofs.Timed.Detector.Stopped.{IsOwn, node_after-stops, own_waits}
 use Rattle.cany_laws.specs.Detection.{IsLeftOut, hears_life}
 use Rattle.cany_laws.specs.Logs.{past_of, past_to}
 use Rattle.cany_laws.specs.Removal.{HadItLongBefore, HearsNoLifeOf, NobodyGotJoin, got_join}
@@ -50,11 +50,6 @@ SilentAfter r t trace = (note : SlotNote) → Contains trace note → t < note.s
 
 not_both : (node : NodeState) (t : ℕ) → runs node ≡ true → node.stopped ≡ Some t → ⊥
 not_both node t running stopped = false≢true (sym (ap is_none stopped) ∙ running)
-
-node_after-stops : (i : ℕ) (note : SlotNote) (node : NodeState) → runs node ≡ true
-    → (node_after i note node).stopped ≡ (if has note.stops i then Some note.slot else None)
-unfolding node_after
-node_after-stops i note node h = rw h refl
 
 module _ (scenario : ScenarioParts) (life : 0 < scenario.params.life) (r : ℕ) (there : r < scenario.params.nodes) where
   abbrev Kept : RunState → Type 0

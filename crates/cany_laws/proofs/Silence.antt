@@ -1,21 +1,19 @@
 -- A member that is not heard for as long as the silence has failed, unless the sign of this cycle was known before.
-use Rattle.std.proofs.Common.{◌≡◌, ℕ, ◌+◌, ◌-◌, ◌<◌, ◌≤◌, ◌&&◌, ◌==◌, ◌⊎◌, inl, inr, Bool, true, false, not, nat_le, List, [], ◌∷◌, filter, map, length, refl, ap, sym, ◌∙◌, subst, arith}
-use Rattle.std.specs.List.{range_with_len}
-use Rattle.std.proofs.lemmas.Bool.{and_from, both_ways, cases_Bool, cond-false, cond_both, eq-eqb, false_from_ne_true, le-leb, ne_eqb, not_from_false, or_cases}
-use Rattle.std.proofs.lemmas.List.FromFn.{get_or-range_with_len, length-range_with_len}
+use Rattle.std.proofs.Common.{◌≡◌, ℕ, ◌+◌, ◌-◌, ◌<◌, ◌≤◌, ◌&&◌, ◌==◌, ◌⊎◌, inl, inr, true, false, not, nat_le, List, ◌∷◌, length, refl, ap, sym, ◌∙◌, arith}
+use Rattle.std.proofs.lemmas.Bool.{and_from, both_ways, cases_Bool, cond-false, cond_both, eq-eqb, le-leb, ne_eqb, not_from_false, or_cases}
 use Rattle.cany_base.specs.Limits.{most_nodes}
 use Rattle.cany_base.specs.declared.notice.NoticeKind.{NoticeKind}
 use Rattle.cany_base.specs.declared.notice.NoticeKind.TheVariants.{Idle, Got, Sent, Bad}
 use Rattle.cany_base.specs.Nodes.{Nodes, has}
 use Rattle.cany_base.specs.Params.{Parameters}
 use Rattle.cany_base.specs.Scenario.{ScenarioParts}
-use Rattle.cany_model.specs.Rules.Knowledge.{FailureSign, Knowledge, after_finding, after_hearing, after_learning, after_life, found, found_in, has_timed_out, knows, same_sign, shows_life, sign_in, told_in, with_shown}
+use Rattle.cany_model.specs.Rules.Knowledge.{FailureSign, Knowledge, after_finding, after_hearing, after_learning, after_life, found_in, has_timed_out, knows, same_sign, shows_life, sign_in, told_in, with_shown}
 use Rattle.cany_model.specs.Rules.KnowledgeOf.{knowledge_of}
-use Rattle.cany_model.proofs.Among.{Among, Among-append_cases, Among-from_any, Among-get_or, Among-map, Among-weaker}
-use Rattle.cany_model.proofs.Rules.KnowledgeFacts.{known_after, knows_heard, knows_with, newly, same_sign-true, tells}
+use Rattle.cany_model.proofs.Among.{Among, Among-append_cases, Among-from_any, Among-weaker}
+use Rattle.cany_model.proofs.Rules.KnowledgeFacts.{known_after, newly, same_sign-true, tells}
 use Rattle.cany_model.proofs.Rules.KnowledgeSteps.{failed_after, is_admitted, learnt_keeps, life_keeps, shown_after}
 use Rattle.cany_model.proofs.Timed.Common.KnowledgeAges.{ended_at}
-use Rattle.cany_model.proofs.Timed.Detector.SilentNode.{failed_by_still, learnt_still, not_admitted, with_signs_named}
+use Rattle.cany_model.proofs.Timed.Detector.SilentNode.{failed_by_still, learnt_still, learnt_unknown, not_admitted, silence_found, with_signs_named}
 use Rattle.cany_laws.specs.Detection.{hears_life}
 
 -- ---- life that is not shown
@@ -81,37 +79,6 @@ module _ (scenario : ScenarioParts) (i r : ℕ) (e : NoticeKind) (past : List No
     | inl now ↦ inr (found_fails (named_fails sign node (Among-from_any (same_sign sign) (newly scenario.params i slot e st) now)))
   ]
 
-  -- ---- silence is found
-
-  among_filter : {X : Type 0} (P : X → Type 0) (test : X → Bool) → ((x : X) → P x → test x ≡ true) → (xs : List X) → Among P xs → Among P (filter test xs)
-  among_filter P test passes [] h = h
-  among_filter P test passes (x ∷ xs) (inl now) = rw (passes x now) (inl now)
-  among_filter P test passes (x ∷ xs) (inr later) =
-      cond_both (test x) (x ∷ filter test xs) (filter test xs) (Among P) (λ _. inr (among_filter P test passes xs later)) (λ _. among_filter P test passes xs later)
-
-  in_range : (n : ℕ) → r < n → Among (λ q. q ≡ r) (range_with_len 0 n)
-  in_range n below =
-      let same : 0 + r ≡ r = omega arith in
-      Among-get_or (λ q. q ≡ r) (range_with_len 0 n) r 0 (subst (λ m. r < m) (sym (length-range_with_len 0 n)) below) (get_or-range_with_len 0 n r 0 below ∙ same)
-
-  silence_found : r < scenario.params.nodes → has_timed_out scenario.params i slot (after_learning i slot e st) r ≡ true
-      → knows (sign_in scenario.params slot r) (after_learning i slot e st) ≡ false → has (after_finding scenario.params i slot e st).failed r ≡ true
-  unfolding found
-  silence_found below silent unknown =
-      let p : Parameters = scenario.params in
-      let now : Knowledge = after_learning i slot e st in
-      let quiet : List ℕ = filter (has_timed_out p i slot now) (range_with_len 0 p.nodes) in
-      let this : FailureSign → Type 0 = λ sign. sign ≡ sign_in p slot r in
-      let there : Among (λ q. q ≡ r) quiet =
-      among_filter (λ q. q ≡ r) (has_timed_out p i slot now) (λ q e. ap (has_timed_out p i slot now) e ∙ silent) (range_with_len 0 p.nodes) (in_range p.nodes below) in
-      let named : Among this (map (sign_in p slot) quiet) =
-      Among-map (sign_in p slot) this quiet (Among-weaker (λ q. q ≡ r) (λ q. this (sign_in p slot q)) (λ q e. ap (sign_in p slot) e) quiet there) in
-      let left : Among this (found p i slot now) =
-      among_filter this (λ sign. not (knows sign now)) (λ sign e. not_from_false (knows sign now) (ap (λ x. knows x now) e ∙ unknown))
-      (map (sign_in p slot) quiet) named in
-      with_signs_named r (found p i slot now) now few
-      (Among-weaker this (λ sign. sign.node ≡ r) (λ sign e. ap (λ (s : FailureSign). s.node) e) (found p i slot now) left)
-
   -- a member that was not heard since a slot, so long before this one, has failed after the turn, unless its sign was known
   pub silent_fails : r < scenario.params.nodes → (r ≡ i → ⊥) → hears_life r e ≡ false → (last : ℕ) → st.shown r ≤ last → last + scenario.params.silence ≤ slot
       → knows (sign_in scenario.params slot r) st ≡ false → has (knowledge_of scenario i (e ∷ past)).failed r ≡ true
@@ -131,18 +98,5 @@ module _ (scenario : ScenarioParts) (i r : ℕ) (e : NoticeKind) (past : List No
             (and_from (has now.members r && not (r == i)) (not (has now.failed r))
             (and_from (has now.members r) (not (r == i)) there (not_from_false (r == i) (ne_eqb r i other)))
             (not_from_false (has now.failed r) standing)) long in
-            silence_found below silent (learnt_unknown standing)
+            silence_found p i r slot e st few below silent (learnt_unknown p i r slot e st few standing unknown)
       ])
-    where
-      learnt_unknown : has (after_learning i slot e st).failed r ≡ false → knows (sign_in scenario.params slot r) (after_learning i slot e st) ≡ false
-      learnt_unknown standing =
-          let sign : FailureSign = sign_in scenario.params slot r in
-          false_from_ne_true (knows sign (after_learning i slot e st)) (λ h.
-          elim (or_cases (tells sign (told_in i slot e st)) (knows sign (after_hearing i slot e st))
-          (sym (knows_with sign (told_in i slot e st) (after_hearing i slot e st)) ∙ h)) [
-            | inr before ↦ both_ways (knows sign st) unknown (sym (knows_heard sign i slot e st) ∙ before)
-            | inl now ↦ both_ways (has (after_learning i slot e st).failed r) standing
-                (with_signs_named r (told_in i slot e st) (after_hearing i slot e st) few
-                (Among-weaker (λ s. same_sign sign s ≡ true) (λ s. s.node ≡ r) (λ s same. ap (λ (x : FailureSign). x.node) (sym (same_sign-true sign s same)))
-                (told_in i slot e st) (Among-from_any (same_sign sign) (told_in i slot e st) now)))
-          ])

@@ -1,6 +1,6 @@
 -- Which incarnations read a slot: those that ran when it had been run, with the restarts at its end. Each of them has then read the same up to that slot,
 -- whenever it reads it.
-use Rattle.std.proofs.Common.{◌≡◌, ℕ, zero, suc, ◌+◌, ◌-◌, ◌<◌, ◌≤◌, ◌⊎◌, inl, inr, true, List, [], ◌∷◌, ◌++◌, length, map, drop, refl, ap, sym, ◌∙◌, subst, arith, append_assoc, append-nil, drop-drop, length-append}
+use Rattle.std.proofs.Common.{◌≡◌, ℕ, suc, ◌+◌, ◌-◌, ◌<◌, ◌≤◌, ◌⊎◌, inl, inr, true, List, [], ◌∷◌, ◌++◌, length, map, drop, refl, ap, sym, ◌∙◌, subst, arith, append_assoc, drop-drop, length-append}
 use Rattle.std.specs.List.{AllByRecursion}
 use Rattle.std.proofs.Math.Seq.{drop-append_seam}
 use Rattle.std.proofs.lemmas.Bool.{cases_eq}
@@ -18,14 +18,15 @@ use Rattle.cany_model.specs.Runs.Run.{after_turn, is_done, proceed, reply, run}
 use Rattle.cany_model.proofs.Among.{Among-from_Contains, Each-of, Each-weaker}
 use Rattle.cany_model.proofs.Bus.Restarts.{after_restarts-trace, restarts_or_stays}
 use Rattle.cany_model.proofs.Bus.Seen.{drop_seen, history-is}
-use Rattle.cany_model.proofs.Bus.States.{runs_within}
 use Rattle.cany_model.proofs.Runs.Journals.{run_push, step_is}
 use Rattle.cany_model.proofs.Runs.Runs.{orderly}
 use Rattle.cany_model.proofs.Runs.SlotStates.{slot_has_state, slot_state_is}
-use Rattle.cany_model.proofs.Runs.Steps.{MayTurn, after_slot-present, after_slot-trace, after_slot-unread, after_turn-node, after_turn-other, after_turn-present, after_turn-runs, after_turn-trace, next_notice, node_after_turn, running_before_slot}
+use Rattle.cany_model.proofs.Runs.Steps.{MayTurn, after_slot-present, after_slot-trace, after_slot-unread, after_turn-other, after_turn-present, after_turn-runs, after_turn-trace, running_before_slot}
 use Rattle.cany_laws.specs.Logs.{IsIncarnation, past_to}
-use Rattle.cany_laws.proofs.Fronts.{after_slot-ended, after_turn-ended, along_rest, drop-map, front_split, pushed, turn_made}
+use Rattle.cany_laws.proofs.Fronts.{after_slot-ended, after_turn-ended, along_rest, drop-map, pushed}
 use Rattle.cany_laws.proofs.Lives.{Lived, each_lived, lived}
+use Rattle.cany_model.proofs.Timed.Views.StartViews.{front_split}
+use Rattle.cany_laws.proofs.CaughtUp.{CaughtUp, caught_up, still_present, still_read, still_runs}
 
 -- the incarnation began later, or it was the present one of a node that ran
 abbrev pub LaterOrThen : RunState → ℕ → ℕ → Incarnation → Type 0
@@ -201,56 +202,6 @@ ran_then scenario journal t i e is read begun f =
       | inr then ↦ then
     ]
 
--- ---- a node reads all that there is
-
--- some turns of node i more, after which it has read all, and nothing else has changed
-pub record ReadUp (scenario : ScenarioParts) (front : List Step) (i : ℕ) : Type 0 where
-  pub turns : List Step
-  pub trace : (run scenario (front ++ turns)).trace ≡ (run scenario front).trace
-  pub unread : (node_at (run scenario (front ++ turns)).nodes i).unread ≡ 0
-  pub fewer : (j : ℕ) → (node_at (run scenario (front ++ turns)).nodes j).unread ≤ (node_at (run scenario front).nodes j).unread
-  pub present : (j : ℕ) → (node_at (run scenario (front ++ turns)).nodes j).present ≡ (node_at (run scenario front).nodes j).present
-  pub running : (j : ℕ) → runs (node_at (run scenario (front ++ turns)).nodes j) ≡ runs (node_at (run scenario front).nodes j)
-
-pub read_up : (scenario : ScenarioParts) (i n : ℕ) (front : List Step) → runs (node_at (run scenario front).nodes i) ≡ true
-    → (node_at (run scenario front).nodes i).unread ≡ n → ReadUp scenario front i
-read_up scenario i zero front running unread = record {
-  turns = [];
-  trace = ap (λ j. (run scenario j).trace) (append-nil front);
-  unread = ap (λ j. (node_at (run scenario j).nodes i).unread) (append-nil front) ∙ unread;
-  fewer = λ j. omega (arith, ap (λ k. (node_at (run scenario k).nodes j).unread) (append-nil front));
-  present = λ j. ap (λ k. (node_at (run scenario k).nodes j).present) (append-nil front);
-  running = λ j. ap (λ k. runs (node_at (run scenario k).nodes j)) (append-nil front);
-}
-read_up scenario i (suc n) front running unread =
-    let s : RunState = run scenario front in
-    let o = orderly scenario front in
-    let may : MayTurn s i = record { there = runs_within s.nodes i running; running = running; unread = omega (arith, unread) } in
-    let next : List Step = front ++ step.Turn i ∷ [] in
-    let is : run scenario next ≡ after_turn scenario i s = turn_made scenario front i may in
-    let node : node_at (after_turn scenario i s).nodes i ≡ node_after_turn scenario i (next_notice s i ∷ history i s) (node_at s.nodes i) =
-    after_turn-node scenario i s may (o.unread i) in
-    let one : (node_at (run scenario next).nodes i).unread ≡ n =
-    ap (λ (r : RunState). (node_at r.nodes i).unread) is ∙ ap (λ (m : NodeState). m.unread) node ∙ omega (arith, unread) in
-    let still : (j : ℕ) → runs (node_at (run scenario next).nodes j) ≡ runs (node_at s.nodes j) = λ j.
-    ap (λ (r : RunState). runs (node_at r.nodes j)) is ∙ after_turn-runs scenario i s j may (o.unread i) in
-    let less : (j : ℕ) → (node_at (run scenario next).nodes j).unread ≤ (node_at s.nodes j).unread = λ j. elim (cases_eq j i) [
-      | inl this ↦ subst (λ k. (node_at (run scenario next).nodes k).unread ≤ (node_at s.nodes k).unread) (sym this) (omega (arith, one, unread))
-      | inr other ↦
-          omega (arith, ap (λ (r : RunState). (node_at r.nodes j).unread) is, ap (λ (m : NodeState). m.unread) (after_turn-other scenario i s j other))
-    ] in
-    let rest = read_up scenario i n next (still i ∙ running) one in
-    let whole : front ++ (step.Turn i ∷ rest.turns) ≡ next ++ rest.turns = sym (append_assoc front (step.Turn i ∷ []) rest.turns) in
-    record {
-      turns = step.Turn i ∷ rest.turns;
-      trace = ap (λ j. (run scenario j).trace) whole ∙ rest.trace ∙ ap (λ (r : RunState). r.trace) is ∙ after_turn-trace scenario i s;
-      unread = ap (λ j. (node_at (run scenario j).nodes i).unread) whole ∙ rest.unread;
-      fewer = λ j. omega (arith, ap (λ k. (node_at (run scenario k).nodes j).unread) whole, rest.fewer j, less j);
-      present = λ j. ap (λ k. (node_at (run scenario k).nodes j).present) whole ∙ rest.present j ∙ ap (λ (r : RunState). (node_at r.nodes j).present) is
-          ∙ after_turn-present scenario i s j may (o.unread i);
-      running = λ j. ap (λ k. runs (node_at (run scenario k).nodes j)) whole ∙ rest.running j ∙ still j;
-    }
-
 -- ---- both have read the slot
 
 -- what an incarnation had read after its turn of slot t
@@ -308,7 +259,7 @@ by_turns : (scenario : ScenarioParts) (journal : List Step) (t i j : ℕ) (e f :
     → IsIncarnation scenario (run scenario journal) j f → t < e.next → t < f.next → (front : FrontOf scenario journal t)
     → (runs (node_at (run scenario front.front).nodes i) ≡ true) × (e.incarnation ≡ (node_at (run scenario front.front).nodes i).present)
     → (runs (node_at (run scenario front.front).nodes j) ≡ true) × (f.incarnation ≡ (node_at (run scenario front.front).nodes j).present)
-    → (one : ReadUp scenario front.front i) → ReadUp scenario (front.front ++ one.turns) j → BothRead scenario journal t i j e f
+    → (one : CaughtUp scenario front.front i) → CaughtUp scenario (front.front ++ one.turns) j → BothRead scenario journal t i j e f
 by_turns scenario journal t i j e f ie jf re rf front he hf one two =
     let to : List Step = (front.front ++ one.turns) ++ two.turns in
     let trace : (run scenario to).trace ≡ (run scenario front.front).trace = two.trace ∙ one.trace in
@@ -318,10 +269,12 @@ by_turns scenario journal t i j e f ie jf re rf front he hf one two =
       newer = split.0;
       split = split.1 ∙ ap (λ tr. split.0 ++ tr) (sym trace);
       size = ap length trace ∙ front.size;
-      one = had_read scenario journal to t front trace i e ie re (lived scenario journal i e ie).short (two.running i ∙ one.running i ∙ he.0)
-          (two.present i ∙ one.present i ∙ sym he.1) (omega (arith, two.fewer i, one.unread));
-      other = had_read scenario journal to t front trace j f jf rf (lived scenario journal j f jf).short (two.running j ∙ one.running j ∙ hf.0)
-          (two.present j ∙ one.present j ∙ sym hf.1) two.unread;
+      one = had_read scenario journal to t front trace i e ie re (lived scenario journal i e ie).short
+          (still_runs scenario (front.front ++ one.turns) j two i one.running)
+          (still_present scenario (front.front ++ one.turns) j two i ∙ one.present ∙ sym he.1)
+          (still_read scenario (front.front ++ one.turns) j two i one.unread);
+      other = had_read scenario journal to t front trace j f jf rf (lived scenario journal j f jf).short two.running
+          (two.present ∙ still_present scenario front.front i one j ∙ sym hf.1) two.unread;
     }
 
 pub both_read : (scenario : ScenarioParts) (journal : List Step) (t i j : ℕ) (e f : EndedIncarnation) → IsIncarnation scenario (run scenario journal) i e
@@ -331,6 +284,7 @@ both_read scenario journal t i j e f ie jf re rf be bf =
     let front = front_of scenario journal t (omega (arith, re, (lived scenario journal i e ie).short)) in
     let he = ran_then scenario journal t i e ie re be front in
     let hf = ran_then scenario journal t j f jf rf bf front in
-    let one = read_up scenario i (node_at (run scenario front.front).nodes i).unread front.front he.0 refl in
+    let one = caught_up scenario i (node_at (run scenario front.front).nodes i).unread front.front he.0 refl in
     by_turns scenario journal t i j e f ie jf re rf front he hf one
-    (read_up scenario j (node_at (run scenario (front.front ++ one.turns)).nodes j).unread (front.front ++ one.turns) (one.running j ∙ hf.0) refl)
+    (caught_up scenario j (node_at (run scenario (front.front ++ one.turns)).nodes j).unread (front.front ++ one.turns)
+    (still_runs scenario front.front i one j hf.0) refl)

@@ -1,8 +1,8 @@
 -- A message that is settled stays settled: along the rest of the journal nobody waits with a frame of it, no later slot carries one, and nothing of it is ahead.
-use Rattle.std.proofs.Common.{◌≡◌, ℕ, zero, suc, ◌+◌, ◌-◌, ◌<◌, ◌≤◌, ◌&&◌, ◌||◌, ◌==◌, ◌⊎◌, inl, inr, Bool, true, false, not, List, [], ◌∷◌, ◌++◌, length, map, drop, Option, Some, None, refl, ap, sym, ◌∙◌, subst, arith, Contains, length-append}
+use Rattle.std.proofs.Common.{◌≡◌, ℕ, ◌+◌, ◌-◌, ◌<◌, ◌≤◌, ◌&&◌, ◌||◌, ◌==◌, ◌⊎◌, inl, inr, Bool, true, false, not, List, [], ◌∷◌, ◌++◌, length, map, drop, Option, Some, None, refl, ap, sym, ◌∙◌, subst, arith, Contains, length-append}
 use Rattle.std.specs.List.{AllByRecursion, list_any, range_with_len}
 use Rattle.std.specs.Option.{option_map_or}
-use Rattle.std.proofs.lemmas.Bool.{and_from, and_parts, both_ways, cases_Bool, cases_eq, cond-false, ne_eqb, false_from_ne_true, false≢true, lt-ltb, not-true, not_from_false, or_cases, or_left, or_right}
+use Rattle.std.proofs.lemmas.Bool.{and_from, and_parts, both_ways, cases_Bool, cases_eq, cond-false, ne_eqb, false_from_ne_true, false≢true, lt-ltb, not_from_false, or_cases, or_left, or_right}
 use Rattle.std.proofs.lemmas.List.{get_or-map}
 use Rattle.std.proofs.lemmas.List.Elements.{Contains-get_or}
 use Rattle.std.proofs.lemmas.List.Folds.{list_any_at}
@@ -29,11 +29,11 @@ use Rattle.cany_model.proofs.Bus.Carried.{Has, frame_of_notice}
 use Rattle.cany_model.proofs.Bus.Notes.{note_of-offered}
 use Rattle.cany_model.proofs.Bus.Restarts.{after_restarts-trace, restarts_or_stays}
 use Rattle.cany_model.proofs.Bus.Identities.{same_identity-from, same_identity-true}
-use Rattle.cany_model.proofs.Bus.Seen.{Numbered, history-is, seen_one}
+use Rattle.cany_model.proofs.Bus.Seen.{Numbered, history-is}
 use Rattle.cany_model.proofs.Bus.States.{no_note, note_at, runs_within}
 use Rattle.cany_model.proofs.Promises.Diffusion.{past_of}
 use Rattle.cany_model.proofs.Promises.EachNode.{restarted_new}
-use Rattle.cany_model.proofs.Promises.SettledFacts.{settled_asked_or_late, settled_none_ahead, settled_read}
+use Rattle.cany_model.proofs.Promises.SettledFacts.{parts, settled_asked_or_late, settled_none_ahead, settled_read}
 use Rattle.cany_model.proofs.Promises.Sources.{IsSourced, sourced}
 use Rattle.cany_model.proofs.Rules.MessageKeys.{IsOneOf}
 use Rattle.cany_model.proofs.Rules.Protocols.{relcan_is_one, totcan_is_one}
@@ -45,6 +45,8 @@ use Rattle.cany_laws.specs.Final.{is_frame_of}
 use Rattle.cany_laws.proofs.DoneTurns.{Free, FreeNotice, IsDone, IsSourcedNotice, asked_on, done_begun, done_next, turn_free}
 use Rattle.cany_laws.proofs.Fronts.{along_rest, pushed}
 use Rattle.cany_laws.proofs.Since.{begins_now}
+use Rattle.cany_model.proofs.Timed.Detector.Removal.{each_in_front}
+use Rattle.cany_model.proofs.Timed.Views.NoLateVectors.{seen_frame}
 
 -- ---- one node
 
@@ -73,17 +75,6 @@ later_from scenario inc slot later late =
 
 -- ---- a notice that was not read then
 
-seen_frame : (inc : Incarnation) (note : SlotNote) (f : FrameParts) → (as_seen inc note).frame ≡ Some f → note.frame ≡ Some f
-seen_frame inc note f h = (seen_one (λ n. n.frame ≡ Some f) idle inc note h).1
-  where
-    idle : (n : SlotNote) → n.frame ≡ None → n.frame ≡ Some f → ⊥
-    idle n none some = cc
-
-at_newer : (P : SlotNote → Type 0) (newer old : List SlotNote) (age : ℕ) → AllByRecursion P newer → age < length newer → P (note_at (newer ++ old) age)
-at_newer P [] old age all below = absurd (omega (arith, below))
-at_newer P (note ∷ newer) old zero all below = all.0
-at_newer P (note ∷ newer) old (suc age) all below = at_newer P newer old age all.1 (omega (arith, below))
-
 module _ (scenario : ScenarioParts) (m : Message) (old : List SlotNote) (s : RunState) (o : IsOrderly scenario.params.nodes s) (h : IsDoneSince scenario m old s)
     (i : ℕ) (may : MayTurn s i) where
   abbrev note : SlotNote
@@ -99,7 +90,7 @@ module _ (scenario : ScenarioParts) (m : Message) (old : List SlotNote) (s : Run
   note_free : FreeNote m note
   note_free =
       subst (λ t. FreeNote m (note_at t ((node_at s.nodes i).unread - 1))) (sym h.split)
-      (at_newer (FreeNote m) h.newer old ((node_at s.nodes i).unread - 1) h.free below)
+      (each_in_front (FreeNote m) h.newer old ((node_at s.nodes i).unread - 1) h.free below)
 
   of_note : (f : FrameParts) → Has f (next_notice s i) → note.frame ≡ Some f
   of_note f has_f =
@@ -273,19 +264,6 @@ module _ (scenario : ScenarioParts) (m : Message) (is : IsOneOf (messages_of sce
   done_since few = along_rest (λ journal. IsDoneSince scenario m old (run scenario journal)) (done_step few)
 
 -- ---- a settled message
-
--- the parts of what is said of it
-record Parts (scenario : ScenarioParts) (s : RunState) (m : Message) : Type 0 where
-  quiet : is_awaited (frames_of m) s ≡ false
-  read : all_read s ≡ true
-
-parts : (scenario : ScenarioParts) (s : RunState) (m : Message) → is_settled scenario s m ≡ true → Parts scenario s m
-unfolding is_settled
-parts scenario s m h =
-    let asked : Bool = origin_has_asked scenario s m || not (runs (node_at s.nodes m.origin)) || came_too_late s m in
-    let whole = and_parts (asked && not (is_awaited (frames_of m) s) && all_read s) (not (is_ahead scenario s m)) h in
-    let outer = and_parts (asked && not (is_awaited (frames_of m) s)) (all_read s) whole.0 in
-    record { quiet = not-true (is_awaited (frames_of m) s) (and_parts asked (not (is_awaited (frames_of m) s)) outer.0).1; read = outer.1 }
 
 -- a frame that waits
 waits_with_its_identity : (f : FrameParts) (w : List FrameParts) → Among (λ g. g ≡ f) w → (x : Identity) → x ≡ identity_of f → waits x w ≡ true

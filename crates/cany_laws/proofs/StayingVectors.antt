@@ -3,8 +3,7 @@
 use Rattle.std.proofs.Common.{◌≡◌, ℕ, zero, suc, ◌+◌, ◌-◌, ◌*◌, ◌<◌, ◌≤◌, ◌&&◌, ◌==◌, inl, inr, Bool, true, false, List, [], ◌∷◌, length, drop, Option, Some, None, refl, ap, sym, ◌∙◌, subst, arith}
 use Rattle.std.specs.List.{AllByRecursion}
 use Rattle.std.proofs.Math.Nat.{mul-le-mul_right}
-use Rattle.std.proofs.lemmas.Bool.{and_from, both_ways, cases_Bool, cases_lt, cond-false, cond-true, cond_both, eq-eqb}
-use Rattle.cany_base.proofs.NodesFacts.{has_none}
+use Rattle.std.proofs.lemmas.Bool.{and_from, cases_Bool, cases_lt, cond-false, cond-true, cond_both, eq-eqb}
 use Rattle.cany_base.proofs.ParamsFacts.{few_nodes}
 use Rattle.cany_base.specs.Cycles.{cycle_of, is_end, is_start}
 use Rattle.cany_base.specs.declared.class.Class.TheVariants as class
@@ -24,11 +23,11 @@ use Rattle.cany_model.specs.Bus.History.{as_seen, seen}
 use Rattle.cany_model.specs.Bus.State.{EndedIncarnation, Incarnation, NodeState, RunState, node_at, reads}
 use Rattle.cany_model.specs.Promises.Hypothesis.{IsWithin}
 use Rattle.cany_model.specs.Rules.Knowledge.{Knowledge, after_finding}
-use Rattle.cany_model.specs.Rules.KnowledgeOf.{after_installing, after_meeting, knowledge_of, met_in, start_in}
+use Rattle.cany_model.specs.Rules.KnowledgeOf.{after_installing, knowledge_of, start_in}
 use Rattle.cany_model.specs.Rules.Notices.{IsReadAfterStart, IsReadable}
 use Rattle.cany_model.specs.Rules.Turn.{scenario_for}
 use Rattle.cany_model.specs.Rules.Vectors.{met, vector_in}
-use Rattle.cany_model.specs.Rules.Views.{start_of, start_vector, with_ended}
+use Rattle.cany_model.specs.Rules.Views.{start_of, start_vector}
 use Rattle.cany_model.specs.Runs.Run.{run}
 use Rattle.cany_model.proofs.Among.{Among-from_Contains, Each-drop, Each-of}
 use Rattle.cany_model.proofs.Bus.EachRead.{EachRead, each_dropped}
@@ -43,12 +42,12 @@ use Rattle.cany_model.proofs.Rules.KnowledgeNodes.{IsVectorOfBus, knowledge_of_b
 use Rattle.cany_model.proofs.Rules.VectorFacts.{carries_vector}
 use Rattle.cany_model.proofs.Runs.Runs.{history-length, orderly}
 use Rattle.cany_model.proofs.Timed.Detector.Leaving.{HeedsNone, NoLeaveIn, asked_leavers, heeds_none, no_leaver, start_stays}
-use Rattle.cany_model.proofs.Timed.Detector.SilentNode.{asked_members}
+use Rattle.cany_model.proofs.Timed.Detector.SilentNode.{asked_members, no_installed}
 use Rattle.cany_model.proofs.Timed.Detector.VectorsAgreeOn.{Says, met_says, none_says}
 use Rattle.cany_model.proofs.Timed.Views.NoLateVectors.{seen_frame}
 use Rattle.cany_model.proofs.Timed.Views.StartViews.{no_end_within, start_no_end}
 use Rattle.cany_model.proofs.Timed.Views.SameView.{end_place}
-use Rattle.cany_model.proofs.Timed.Views.VectorBudget.{run_readable}
+use Rattle.cany_model.proofs.Timed.Views.VectorBudget.{first_members, run_readable}
 use Rattle.cany_model.proofs.Timed.Views.VectorLastEffect.{IsCycle, brings}
 use Rattle.cany_model.proofs.Timed.Views.VectorSets.{vector_again}
 use Rattle.cany_model.proofs.Timed.Views.VectorSlots.{cycle_of_formulas}
@@ -72,11 +71,6 @@ seen_no_leave r inc (note ∷ trace) h = (λ f frame. h.0 f (seen_frame inc note
 
 -- ---- a node that is no member starts a cycle with nothing
 
-no_installed : (p : Parameters) (i slot : ℕ) (e : NoticeKind) (st : Knowledge) → is_end p slot ≡ false
-    → after_installing p i slot e st ≡ after_meeting p i slot e st
-unfolding with_ended
-no_installed p i slot e st no_end = ap (λ w. with_ended i slot w (after_meeting p i slot e st)) (cond-false (is_end p slot) (met_in p slot e st) None no_end)
-
 outsider_says : (p : Parameters) (i r slot : ℕ) (b : Bool) (e : NoticeKind) (st : Knowledge) → is_end p slot ≡ false → has st.members i ≡ false
     → Says r b (start_in p i slot e st)
 outsider_says p i r slot b e st no_end out =
@@ -94,13 +88,6 @@ brings_says p k r i b Idle h = none_says r b
 brings_says p k r i b Bad h = none_says r b
 brings_says p k r i b (Sent f) h = none_says r b
 brings_says p k r i b (Got f) h = h f refl
-
--- first members are nodes of the bus
-members_of_bus : (scenario : ScenarioParts) (inc : Incarnation) → AllBelow scenario.params.nodes scenario.members
-    → AllBelow scenario.params.nodes (scenario_for scenario inc).members
-members_of_bus scenario inc first =
-    cond_both (inc.number == 0) scenario.members (record { bits = 0 }) (AllBelow scenario.params.nodes) (λ _. first)
-    (λ _ q h. absurd (both_ways (has (record { bits = 0 }) q) (has_none q) h))
 
 module _ (scenario : ScenarioParts) (legal : IsLegalScenario scenario) (journal : List Step) (within : IsWithin scenario.params (run scenario journal).trace)
     (r : ℕ) (there : r < scenario.params.nodes) (never : (n : ℕ) → StoppedFor scenario legal journal within r there n → ⊥)
@@ -167,7 +154,7 @@ module _ (scenario : ScenarioParts) (legal : IsLegalScenario scenario) (journal 
         ∙ ap (λ (i : Incarnation). (knowledge_of (scenario_for scenario i) j past).vector) g.same in
         let own : Says r true (vector_at sc j past) = subst (Says r true) same (have m early after j g.to g.is g.more) in
         let readable : EachRead (IsReadable sc) past = run_readable scenario from.front (few_nodes p legal.in_range) j in
-        by_vector sc j past (members_of_bus scenario inc legal.members) readable (vector_at sc j past) own covers rha v is legal.in_range.nodes.1
+        by_vector sc j past (first_members scenario inc legal.members) readable (vector_at sc j past) own covers rha v is legal.in_range.nodes.1
       where
         by_vector : (sc : ScenarioParts) (j : ℕ) (past : List NoticeKind) → AllBelow sc.params.nodes sc.members → EachRead (IsReadable sc) past
             → (o : Option Nodes) → Says r true o

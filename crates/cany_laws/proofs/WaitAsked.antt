@@ -1,8 +1,8 @@
 -- The data frame of a message that its origin has asked for waits there, unless a slot sent it with success, or the origin has read enough copies of it.
-use Rattle.std.proofs.Common.{◌≡◌, ℕ, zero, suc, ◌<◌, ◌⊎◌, inl, inr, Bool, true, false, if◌then◌else◌, List, [], ◌∷◌, drop, refl, ap, sym, ◌∙◌, subst, arith}
+use Rattle.std.proofs.Common.{◌≡◌, ℕ, zero, suc, ◌<◌, ◌⊎◌, inl, inr, true, List, [], ◌∷◌, drop, refl, ap, sym, ◌∙◌, subst, arith}
 use Rattle.std.specs.Prelude.{None}
 use Rattle.std.specs.List.{AllByRecursion, list_any}
-use Rattle.std.proofs.lemmas.Bool.{false≢true, or_cases, or_right}
+use Rattle.std.proofs.lemmas.Bool.{or_cases, or_right}
 use Rattle.cany_base.specs.declared.class.Class.TheVariants as class
 use Rattle.cany_base.specs.declared.message.Service.{Service}
 use Rattle.cany_base.specs.declared.message.Service.TheVariants.{Ed, Rel, Tot}
@@ -18,65 +18,25 @@ use Rattle.cany_model.specs.Bus.Waiting.{waits}
 use Rattle.cany_model.specs.Rules.Effect.{Effect, Ask, Enter, Withdraw}
 use Rattle.cany_model.specs.Rules.Messages.{Message, data_id, messages_of}
 use Rattle.cany_model.specs.Rules.Protocol.{Protocol}
-use Rattle.cany_model.specs.Rules.Turn.{asks_for, has_asked, origin_effects, protocols, scenario_for, turn_effects}
+use Rattle.cany_model.specs.Rules.Turn.{asks_for, has_asked, origin_effects, scenario_for, turn_effects}
 use Rattle.cany_model.specs.Runs.Run.{run}
-use Rattle.cany_model.proofs.Among.{Among, Among-flat_map, Among-from_flat_map, Among-weaker, Each-weaker}
+use Rattle.cany_model.proofs.Among.{Among, Each-weaker}
 use Rattle.cany_model.proofs.Bus.Carried.{Succeeds, Succeeds-from_sent, is_sent-from}
-use Rattle.cany_model.proofs.Bus.Identities.{same_identity-true}
 use Rattle.cany_model.proofs.Promises.Diffusion.{Heard, Lived, Turned, copies_grow, past_of}
 use Rattle.cany_model.proofs.Promises.EachNode.{EachRunning, IsNew, blank_heard, each_running}
-use Rattle.cany_model.proofs.Rules.Begun.{IsBegun, begun_before, begun_copies, begun_short}
 use Rattle.cany_model.proofs.Rules.MessageKeys.{IsOneOf}
-use Rattle.cany_model.proofs.Rules.ProtocolFacts.{IsFounded, MayWithdraw, answered, closes, enough, enough_accept, settles}
-use Rattle.cany_model.proofs.Rules.TurnFacts.{turn_cause_data, turn_effect}
+use Rattle.cany_model.proofs.Rules.ProtocolFacts.{IsFounded, MayWithdraw, answered, closes, data_accepts_none, data_exchanges_none, enough, enough_accept, settles}
+use Rattle.cany_model.proofs.Rules.TurnFacts.{turn_effect}
 use Rattle.cany_model.proofs.Runs.Waits.{Asks, Withdraws, waits-without, waits_after}
+use Rattle.cany_model.proofs.Timed.Detector.Leaving.{data_never}
+use Rattle.cany_model.proofs.Timed.Order.TotSettled.{asks_true, has_started, turn_of_origin}
 
 -- ---- what a turn asks for and withdraws
-
-asks_true : (x : Identity) (effects : List Effect) → list_any (asks_for x) effects ≡ true → Among (Asks x) effects
-asks_true x [] h = absurd (false≢true h)
-asks_true x (Ask f ∷ effects) h = elim (or_cases (asks_for x (Ask f)) (list_any (asks_for x) effects) h) [
-  | inl here ↦ inl (same_identity-true x (identity_of f) here)
-  | inr later ↦ inr (asks_true x effects later)
-]
-asks_true x (Withdraw y ∷ effects) h = inr (asks_true x effects h)
-asks_true x (Enter entry ∷ effects) h = inr (asks_true x effects h)
-
--- what an origin asks for its own messages, its turn asks for
-turn_of_origin : (P : Effect → Type 0) (scenario : ScenarioParts) (i : ℕ) (past : List NoticeKind) → Among P (origin_effects scenario i past)
-    → Among P (turn_effects scenario i past)
-unfolding turn_effects
-turn_of_origin P scenario i past h =
-    Among-flat_map (λ p. p.effects scenario i past) P protocols
-    (Among-weaker (λ p. Among P (by_origin p)) (λ p. Among P (p.effects scenario i past))
-    (λ p a. either p.originates (p.effects scenario i past) a) protocols (Among-from_flat_map by_origin P protocols h))
-  where
-    by_origin : Protocol → List Effect
-    by_origin p = if p.originates then p.effects scenario i past else []
-
-    either : (b : Bool) (effects : List Effect) → Among P (if b then effects else []) → Among P effects
-    either true effects a = a
-    either false effects a = absurd a
-
-data_accepts_none : (by : Service) → data_class by ≡ class.Accept → ⊥
-data_accepts_none Ed e = cc
-data_accepts_none Rel e = cc
-data_accepts_none Tot e = cc
-
-data_is_no_vector : (by : Service) → data_class by ≡ class.Rha → ⊥
-data_is_no_vector Ed e = cc
-data_is_no_vector Rel e = cc
-data_is_no_vector Tot e = cc
 
 data_joins_none : (by : Service) → data_class by ≡ class.Join → ⊥
 data_joins_none Ed e = cc
 data_joins_none Rel e = cc
 data_joins_none Tot e = cc
-
-data_leaves_none : (by : Service) → data_class by ≡ class.Leave → ⊥
-data_leaves_none Ed e = cc
-data_leaves_none Rel e = cc
-data_leaves_none Tot e = cc
 
 -- a data frame is withdrawn only with more than omit copies
 data_withdrawn : (scenario : ScenarioParts) (i : ℕ) (past : List NoticeKind) (by : Service) (x : Identity) → x.class ≡ data_class by
@@ -85,11 +45,11 @@ data_withdrawn scenario i past by x of (enough diffused many) = many
 data_withdrawn scenario i past by x of (enough_accept f got accept same many) =
     absurd (data_accepts_none by (sym of ∙ sym (ap (λ (y : Identity). y.class) same) ∙ accept))
 data_withdrawn scenario i past by x of (closes f read tot same closed) = absurd (data_accepts_none by (sym of ∙ sym (ap (λ (y : Identity). y.class) same)))
-data_withdrawn scenario i past by x of (settles slot may same) = absurd (data_is_no_vector by (sym of ∙ sym (ap (λ (y : Identity). y.class) same)))
+data_withdrawn scenario i past by x of (settles slot may same) = absurd (data_exchanges_none by (sym of ∙ sym (ap (λ (y : Identity). y.class) same)))
 data_withdrawn scenario i past by x of (answered slot c ask now ends (inl join) own same) =
     absurd (data_joins_none by (sym of ∙ sym (ap (λ (y : Identity). y.class) same) ∙ join.0))
 data_withdrawn scenario i past by x of (answered slot c ask now ends (inr leave) own same) =
-    absurd (data_leaves_none by (sym of ∙ sym (ap (λ (y : Identity). y.class) same) ∙ leave.0))
+    absurd (data_never by (sym of ∙ sym (ap (λ (y : Identity). y.class) same) ∙ leave.0))
 
 founded_withdrawn : (scenario : ScenarioParts) (p : Protocol) (i : ℕ) (past : List NoticeKind) (m : Message) (e : Effect) → Withdraws (data_id m) e
     → IsFounded scenario p i past e → scenario.params.omit < copies (data_id m) past
@@ -124,19 +84,6 @@ asked_since scenario m i (suc n) [] h = h
 asked_since scenario m i (suc n) (e ∷ past) h =
     or_right (list_any (asks_for (data_id m)) (origin_effects scenario i (e ∷ past))) (has_asked scenario m i past) (asked_since scenario m i n past h)
 
--- a node that has only begun has asked for nothing
-none_asked : (scenario : ScenarioParts) (m : Message) → IsOneOf (messages_of scenario.sends) m → (i : ℕ) (past : List NoticeKind) → IsBegun scenario past
-    → has_asked scenario m i past ≡ true → ⊥
-unfolding has_asked
-none_asked scenario m is i [] begun h = false≢true h
-none_asked scenario m is i (e ∷ past) begun h = elim (asked_now scenario m i e past h) [
-  | inr before ↦ none_asked scenario m is i past (begun_before scenario e past begun) before
-  | inl now ↦ elim (turn_cause_data scenario i m (e ∷ past) is now) [
-    | inl may ↦ begun_short scenario (e ∷ past) begun m.slot may.1 may.2
-    | inr some ↦ let none = begun_copies scenario (data_id m) (e ∷ past) begun in omega (arith, some, none)
-  ]
-]
-
 -- ---- every running node
 
 -- it waits with the frame, or the frame was sent with success, or it has read enough copies
@@ -150,7 +97,7 @@ pub record KeepsAsked (scenario : ScenarioParts) (m : Message) (trace : List Slo
 module _ (scenario : ScenarioParts) (m : Message) (is : IsOneOf (messages_of scenario.sends) m) where
   new_node : (trace : List SlotNote) (i : ℕ) (node : NodeState) → IsNew scenario trace i node → KeepsAsked scenario m trace i node
   new_node trace i node new = record {
-    kept = λ asked. absurd (none_asked (scenario_for scenario node.present) m is i (past_of i trace node) new.past asked);
+    kept = λ asked. absurd (has_started (scenario_for scenario node.present) m is i (past_of i trace node) new.past asked);
     heard = Each-weaker (λ note. note.frame ≡ None) (Heard i) (λ note none. blank_heard i note none) trace new.blank;
   }
 

@@ -1,5 +1,5 @@
 -- Why a node asks for the data frame of an EDCAN message: it has got the first copy, or it is the origin, in its turn of the scripted slot.
-use Rattle.std.proofs.Common.{◌≡◌, ℕ, suc, ◌==◌, ◌⊎◌, ◌++◌, inl, inr, true, false, not, List, [], ◌∷◌, length, refl, ap, sym, ◌∙◌, arith}
+use Rattle.std.proofs.Common.{◌≡◌, ℕ, ◌==◌, ◌⊎◌, ◌++◌, inl, inr, true, false, not, List, [], ◌∷◌, length, refl, ap, sym, ◌∙◌, arith}
 use Rattle.std.specs.List.{AllByRecursion}
 use Rattle.std.proofs.lemmas.Bool.{and_parts, cond_both, eqb-true, false≢true, not-true}
 use Rattle.cany_base.specs.declared.class.Class.TheVariants as class
@@ -19,13 +19,14 @@ use Rattle.cany_model.specs.Rules.Messages.{Message, data_id, messages_of}
 use Rattle.cany_model.specs.Rules.Protocol.{Protocol}
 use Rattle.cany_model.specs.Rules.Sends.{scripted_sends, send_effects, sendable}
 use Rattle.cany_model.specs.Rules.Turn.{protocols, turn_effects}
-use Rattle.cany_model.proofs.Among.{Among, Among-append_cases, Among-from_flat_map, Among-gives, Among-with, count-yes}
+use Rattle.cany_model.proofs.Among.{Among, Among-append_cases, Among-from_flat_map, Among-gives, Among-with}
 use Rattle.cany_model.proofs.Bus.Identities.{same_identity-from}
 use Rattle.cany_model.proofs.Rules.MessageKeys.{IsOneOf}
 use Rattle.cany_model.proofs.Rules.ProtocolFacts.{IsLawful, asks_named}
 use Rattle.cany_model.proofs.Rules.Protocols.{are_lawful}
 use Rattle.cany_model.proofs.Rules.SendFacts.{is_sent_in-true, sendable_one, sent_of}
 use Rattle.cany_model.proofs.Runs.Waits.{Asks}
+use Rattle.cany_model.proofs.Promises.EdcanAgrees.{copies_got}
 
 -- the newest notice brought the first copy, and the node has not read an own transmission of the frame
 pub record AtFirstCopy (x : Identity) (e : NoticeKind) (past : List NoticeKind) : Type 0 where
@@ -47,10 +48,6 @@ unfolding delivery_effects
 no_delivery x by i f e past h =
     cond_both (is_delivery i f e past) (Enter (delivery (length past) by f) ∷ []) [] (λ effects. Among (Asks x) effects → ⊥)
     (λ _ a. elim a [ inl never ↦ never | inr never ↦ never ]) (λ _ never. never) h
-
-copies_got : (x : Identity) (e : NoticeKind) (past : List NoticeKind) → is_got x e ≡ true → copies x (e ∷ past) ≡ suc (copies x past)
-unfolding copies
-copies_got x e past h = count-yes (is_got x) e past h
 
 own_before : (x : Identity) (f : FrameParts) (past : List NoticeKind) → has_own x (Got f ∷ past) ≡ false → has_own x past ≡ false
 unfolding has_own

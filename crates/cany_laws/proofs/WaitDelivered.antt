@@ -1,6 +1,6 @@
 -- A message of EDCAN or RELCAN is delivered in the slot that carried its data frame Clean, or before: a node that took part got the frame then, or it sent
 -- it, and then it is the origin or had got a copy.
-use Rattle.std.proofs.Common.{◌≡◌, ℕ, zero, suc, ◌+◌, ◌-◌, ◌<◌, ◌≤◌, ◌==◌, ◌&&◌, ◌⊎◌, inl, inr, true, false, List, [], ◌∷◌, ◌++◌, Contains, drop, length, map, refl, ap, sym, ◌∙◌, subst, arith, add-zero, length-append, length-drop}
+use Rattle.std.proofs.Common.{◌≡◌, ℕ, zero, suc, ◌+◌, ◌-◌, ◌<◌, ◌≤◌, ◌==◌, ◌&&◌, ◌⊎◌, inl, inr, true, List, [], ◌∷◌, ◌++◌, Contains, drop, length, map, refl, ap, sym, ◌∙◌, subst, arith, add-zero, length-append, length-drop}
 use Rattle.std.specs.Prelude.{Some}
 use Rattle.std.proofs.Math.Seq.{drop-append_seam}
 use Rattle.std.proofs.lemmas.Bool.{and_from, cases_Bool, eq-eqb, false≢true, or_left, or_right}
@@ -13,18 +13,17 @@ use Rattle.cany_base.specs.declared.message.Service.{Service}
 use Rattle.cany_base.specs.declared.message.Service.TheVariants.{Ed, Rel, Tot}
 use Rattle.cany_base.specs.declared.notice.NoticeKind.{NoticeKind}
 use Rattle.cany_base.specs.declared.notice.NoticeKind.TheVariants.{Got, Sent}
-use Rattle.cany_base.specs.declared.rule.Verdict.{Verdict}
 use Rattle.cany_base.specs.declared.rule.Verdict.TheVariants.{Clean}
 use Rattle.cany_base.specs.declared.slot_note.SlotNote.{SlotNote}
 use Rattle.cany_base.specs.declared.step.Step.{Step}
 use Rattle.cany_base.specs.declared.step.Step.TheVariants as step
-use Rattle.cany_base.specs.Frame.{FrameParts, data_class}
+use Rattle.cany_base.specs.Frame.{FrameParts}
 use Rattle.cany_base.specs.Limits.{most_nodes}
 use Rattle.cany_base.specs.Nodes.{has}
 use Rattle.cany_base.specs.Scenario.{ScenarioParts}
 use Rattle.cany_model.specs.Bus.Frames.{Identity, identity_of, is_of, same_class}
 use Rattle.cany_model.specs.Bus.History.{as_seen, copies, given, history, is_got, is_sent, seen}
-use Rattle.cany_model.specs.Bus.Slot.{FaultScript, is_success, lets_accept, script, slot_note_of}
+use Rattle.cany_model.specs.Bus.Slot.{FaultScript, lets_accept, script, slot_note_of}
 use Rattle.cany_model.specs.Bus.State.{Incarnation, NodeState, RunState, node_at, reads, runs, slots_run}
 use Rattle.cany_model.specs.Bus.Waiting.{waits}
 use Rattle.cany_model.specs.Promises.Acceptance.{history_to}
@@ -44,7 +43,7 @@ use Rattle.cany_model.proofs.Bus.Notes.{given_sender, given_taker, running_takes
 use Rattle.cany_model.proofs.Bus.Seen.{carries_other, history-is, hidden_not, seen_plain}
 use Rattle.cany_model.proofs.Bus.States.{no_note, note_at}
 use Rattle.cany_model.proofs.Promises.Diffusion.{copies_grow, past_of}
-use Rattle.cany_model.proofs.Promises.EachNode.{EachRunning, each_running}
+use Rattle.cany_model.proofs.Promises.EachNode.{EachRunning, clean_success, each_running}
 use Rattle.cany_model.proofs.Promises.OneFrame.{only_frame}
 use Rattle.cany_model.proofs.Promises.Sources.{sourced}
 use Rattle.cany_model.proofs.Bus.Carried.{Has}
@@ -65,6 +64,7 @@ use Rattle.cany_laws.proofs.FinalLogs.{entry_read}
 use Rattle.cany_laws.proofs.Since.{begins_now}
 use Rattle.cany_laws.proofs.WaitFronts.{ran_in, read_to}
 use Rattle.cany_laws.proofs.WaitNodes.{kept_waits}
+use Rattle.cany_model.proofs.Promises.Agrees.{data_is_heard}
 
 -- ---- why a node waits with a data frame
 
@@ -97,15 +97,6 @@ has_cause scenario m is journal =
 
 -- ---- what the slot brought
 
-data_no_vector : (by : Service) → same_class (data_class by) class.Rha ≡ false
-unfolding same_class
-data_no_vector Ed = refl
-data_no_vector Rel = refl
-data_no_vector Tot = refl
-
-clean_succeeds : (v : Verdict) → v ≡ Clean → is_success v ≡ true
-clean_succeeds v e = ap is_success e
-
 brought_now : (m : Message) (rules : FaultScript) (s : RunState) (i : ℕ) (f : FrameParts) → i < most_nodes → runs (node_at s.nodes i) ≡ true
     → (slot_note_of rules s).frame ≡ Some f → is_of (data_id m) f ≡ true → (slot_note_of rules s).verdict ≡ Clean
     → (waits (data_id m) (node_at s.nodes i).waiting ≡ true → (m.origin ≡ i) ⊎ (0 < copies (data_id m) (history i s)))
@@ -119,7 +110,7 @@ brought_now m rules s i f few running frame same clean why =
           given_taker i note f frame silent (running_takes rules s f i few frame running silent (ap (λ v. lets_accept v i) clean)) in
           inl (or_left (is_got x (given i note)) (x.node == i && is_sent x (given i note)) (ap (is_got x) got ∙ same))
       | inl sent ↦
-          let own : given i note ≡ Sent f = given_sender i note f frame sent (clean_succeeds note.verdict clean) in
+          let own : given i note ≡ Sent f = given_sender i note f frame sent (clean_success note.verdict clean) in
           let waited = (sender_waits rules s f i frame sent).1 in
           let waiting : waits x (node_at s.nodes i).waiting ≡ true =
           any-from_Among (is_of x) (node_at s.nodes i).waiting
@@ -202,7 +193,7 @@ module _ (scenario : ScenarioParts) (journal : List Step) (few : scenario.params
       let plain : as_seen inc note ≡ note =
       seen_plain inc note (hidden_not inc note (omega (arith, took_part, ap (λ (k : SlotNote). k.slot) this, w.from))
       (carries_other inc.cycle note f.what frame
-      (ap (λ (y : Identity). same_class y.class class.Rha) (sym (same_identity-true x (identity_of f.what) f.passes)) ∙ data_no_vector m.service))) in
+      (ap (λ (y : Identity). same_class y.class class.Rha) (sym (same_identity-true x (identity_of f.what) f.passes)) ∙ data_is_heard m.service))) in
       let history_is : history_to c j s ≡ given j (as_seen inc note) ∷ map (given j) (seen inc then.trace) =
       read_to j s c short read
       ∙ ap (λ n. map (given j) (seen inc (drop n s.trace))) (newer_slots (length split.0) (length then.trace) size number)

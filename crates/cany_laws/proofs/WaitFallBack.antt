@@ -14,10 +14,10 @@ use Rattle.cany_model.specs.Bus.Frames.{Identity, identity_of, same_class}
 use Rattle.cany_model.specs.Bus.History.{is_got}
 use Rattle.cany_model.specs.Rules.Delivery.{delivery_effects}
 use Rattle.cany_model.specs.Rules.Eager.{has_enough}
-use Rattle.cany_model.specs.Rules.Effect.{Ask, Withdraw}
+use Rattle.cany_model.specs.Rules.Effect.{Ask}
 use Rattle.cany_model.specs.Rules.Messages.{Message, data_id, messages_of}
 use Rattle.cany_model.specs.Rules.Protocol.{Protocol}
-use Rattle.cany_model.specs.Rules.Relcan.{confirm_effects, confirm_frame, fall_back_effects, falls_back, fell_back, has_confirm, has_copy, is_first_got, is_timed, late_copy_effects, relcan_at, relcan_effects, timer_effects}
+use Rattle.cany_model.specs.Rules.Relcan.{confirm_effects, confirm_frame, fall_back_effects, falls_back, has_confirm, has_copy, is_first_got, is_timed, late_copy_effects, relcan_at, relcan_effects, timer_effects}
 use Rattle.cany_model.specs.Rules.Sends.{scripted_sends}
 use Rattle.cany_model.specs.Rules.Turn.{protocols, turn_effects}
 use Rattle.cany_model.proofs.Among.{Among, Among-append_cases, Among-from_flat_map, Among-gives, Among-with}
@@ -26,6 +26,7 @@ use Rattle.cany_model.proofs.Rules.ProtocolFacts.{IsLawful, asks_named}
 use Rattle.cany_model.proofs.Rules.Protocols.{are_lawful}
 use Rattle.cany_model.proofs.Runs.Waits.{Asks}
 use Rattle.cany_laws.proofs.WaitAsksOnce.{AtItsSlot, no_delivery, sends_in_slot}
+use Rattle.cany_laws.proofs.CarriedRelcan.{no_late}
 
 -- the first copy is so many notices old as the timer takes, and the node is not the origin
 pub record FallsBackNow (timer : ℕ) (m : Message) (i : ℕ) (e : NoticeKind) (past : List NoticeKind) : Type 0 where
@@ -62,11 +63,6 @@ falls_now timer m i e past h =
 
 -- ---- what RELCAN asks for
 
-no_late_copy : (x : Identity) (p : Parameters) (i : ℕ) (f : FrameParts) (past : List NoticeKind) → Among (Asks x) (late_copy_effects p i f past) → ⊥
-no_late_copy x p i f past h =
-    cond_both (fell_back p.confirm i (identity_of f) past && has_enough p.omit (identity_of f) (Got f ∷ past)) (Withdraw (identity_of f) ∷ []) []
-    (λ effects. Among (Asks x) effects → ⊥) (λ _ a. elim a [ inl never ↦ never | inr never ↦ never ]) (λ _ never. never) h
-
 no_confirm : (x : Identity) (i : ℕ) (f : FrameParts) → x.class ≡ class.Rel → Among (Asks x) (confirm_effects i f) → ⊥
 no_confirm x i f rel h =
     cond_both (f.node == i) (Ask (confirm_frame f) ∷ []) [] (λ effects. Among (Asks x) effects → ⊥)
@@ -84,7 +80,7 @@ at_asks_none p x i (Got f) past rel h =
     cond_both (same_class f.class class.Rel) (delivery_effects Rel i f (Got f) past ++ late_copy_effects p i f past) [] (λ effects. Among (Asks x) effects → ⊥)
     (λ _ a. elim (Among-append_cases (Asks x) (delivery_effects Rel i f (Got f) past) (late_copy_effects p i f past) a) [
       | inl first ↦ no_delivery x Rel i f (Got f) past first
-      | inr late ↦ no_late_copy x p i f past late
+      | inr late ↦ no_late x p i f past late
     ]) (λ _ never. never) h
 at_asks_none p x i (Sent f) past rel h =
     cond_both (same_class f.class class.Rel) (delivery_effects Rel i f (Sent f) past ++ confirm_effects i f) [] (λ effects. Among (Asks x) effects → ⊥)

@@ -13,7 +13,8 @@ use Rattle.cany_model.proofs.Bus.Restarts.{after_restarts-trace, restarts_or_sta
 use Rattle.cany_model.proofs.Bus.Seen.{drop_seen, history-is}
 use Rattle.cany_model.proofs.Runs.Runs.{orderly}
 use Rattle.cany_model.proofs.Runs.Steps.{MayTurn, after_slot-present, after_slot-trace, after_turn-present, after_turn-runs, after_turn-trace, running_before_slot}
-use Rattle.cany_laws.proofs.Fronts.{along_rest, drop-map, front_split, pushed}
+use Rattle.cany_laws.proofs.Fronts.{along_rest, drop-map, pushed}
+use Rattle.cany_model.proofs.Timed.Views.StartViews.{front_split}
 
 -- node i began again since then, or is in the incarnation that it was in, and ran then if it runs
 pub record IsSince (then : RunState) (i : ℕ) (s : RunState) : Type 0 where

@@ -35,11 +35,11 @@ use Rattle.cany_model.proofs.Runs.SlotStates.{slot_has_state, slot_state_is}
 use Rattle.cany_model.proofs.Timed.Windows.QuietSlots.{front_trace, within_dropped}
 use Rattle.cany_model.proofs.Timed.Windows.TopFrames.{is_carried}
 use Rattle.cany_laws.specs.Waits.{HasAskedBy, IsAwaitedThrough, WasAwaited, WasCarriedIn, least_left, interference, waits_since, window}
-use Rattle.cany_laws.proofs.Fronts.{front_split}
 use Rattle.cany_laws.proofs.Since.{begins_now}
 use Rattle.cany_laws.proofs.WaitAsked.{WaitsOrGone, asked_since, keeps_asked}
 use Rattle.cany_laws.proofs.WaitFronts.{ran_in, same_to}
 use Rattle.cany_laws.proofs.WaitSlots.{carried_at, carried_in_windows, is_clean_frame}
+use Rattle.cany_model.proofs.Timed.Views.StartViews.{front_split}
 
 -- ---- one state
 

@@ -4,15 +4,13 @@ use Rattle.std.specs.Prelude.{Some}
 use Rattle.std.proofs.lemmas.Bool.{cond_both, not-true}
 use Rattle.cany_base.specs.declared.notice.NoticeKind.{NoticeKind}
 use Rattle.cany_base.specs.declared.notice.NoticeKind.TheVariants.{Idle, Got, Sent, Bad}
-use Rattle.cany_base.specs.declared.rule.Verdict.{Verdict}
-use Rattle.cany_base.specs.declared.rule.Verdict.TheVariants.{Clean, Lost, Partial, Silent}
 use Rattle.cany_base.specs.Frame.{FrameParts}
 use Rattle.cany_base.specs.Limits.{most_nodes}
 use Rattle.cany_base.specs.Scenario.{ScenarioParts}
 use Rattle.cany_model.specs.Bus.Frames.{Identity, identity_of, is_of}
 use Rattle.cany_model.specs.Bus.History.{given, history, seen}
 use Rattle.cany_model.specs.Bus.Restart.{after_restarts}
-use Rattle.cany_model.specs.Bus.Slot.{FaultScript, after_slot, is_clean, is_success, slot_note_of}
+use Rattle.cany_model.specs.Bus.Slot.{FaultScript, after_slot, is_clean, slot_note_of}
 use Rattle.cany_model.specs.Bus.State.{NodeState, RunState, node_at, reads, runs}
 use Rattle.cany_model.specs.Bus.Waiting.{waits, without}
 use Rattle.cany_model.specs.Runs.Run.{after_turn}
@@ -25,6 +23,7 @@ use Rattle.cany_model.proofs.Runs.Steps.{MayTurn, after_slot-trace, after_slot-u
 use Rattle.cany_model.proofs.Runs.Waits.{waits-from_without}
 use Rattle.cany_laws.proofs.Fronts.{after_slot-ended, after_turn-ended}
 use Rattle.cany_laws.proofs.WaitTimes.{lives}
+use Rattle.cany_model.proofs.Timed.Order.TotSlots.{clean_success}
 
 -- ---- the frames that wait
 
@@ -42,12 +41,6 @@ without_none x (g ∷ w) =
   where
     neither : (a b : Bool) → a ≡ false → b ≡ false → (a || b) ≡ false
     neither a b first second = rw first second
-
-pub clean_success : (v : Verdict) → is_clean v ≡ true → is_success v ≡ true
-clean_success Clean h = refl
-clean_success Lost h = h
-clean_success (Partial reject) h = h
-clean_success (Silent reject) h = refl
 
 -- a node that waits with the frame that is carried Clean has sent it, and does not wait with it after the slot
 pub has_sent : (rules : FaultScript) (s : RunState) (f : FrameParts) → (slot_note_of rules s).frame ≡ Some f → is_clean (slot_note_of rules s).verdict ≡ true

@@ -1,5 +1,5 @@
 -- The frame of a slot does not come after a frame that a running node waits with: it is of the same identity, or wins over those of it.
-use Rattle.std.proofs.Common.{◌≡◌, ℕ, ◌⊎◌, ◌==◌, ◌&&◌, inl, inr, Bool, true, false, not, nat_lt, if◌then◌else◌, List, [], ◌∷◌, Option, Some, None, refl, sym, subst, arith}
+use Rattle.std.proofs.Common.{◌≡◌, ℕ, ◌⊎◌, ◌==◌, ◌&&◌, inl, inr, Bool, true, false, nat_lt, List, [], ◌∷◌, Option, Some, None, refl, sym, subst, arith}
 use Rattle.std.specs.List.{flat_map}
 use Rattle.std.proofs.lemmas.Bool.{and_from, cases_eq, cond_both, eq-eqb}
 use Rattle.std.proofs.lemmas.Bool.Decides.{nat_tests}
@@ -13,19 +13,9 @@ use Rattle.cany_model.proofs.Among.{Among, Among-flat_map, Among-from_Contains, 
 use Rattle.cany_model.proofs.Bus.Identities.{same_identity-true}
 use Rattle.cany_model.proofs.Bus.Notes.{note_of-frame}
 use Rattle.cany_model.proofs.Bus.States.{runs_within}
+use Rattle.cany_model.proofs.Promises.FewLifeSignsOrder.{compared, is_not_before, not_before_itself}
 
 -- ---- two numbers are compared, and where they are equal the rest decides
-
-abbrev compared : ℕ → ℕ → Bool → Bool
-compared a b rest = if not (a == b) then nat_lt a b else rest
-
-not_before : (a b c : ℕ) (r s t : Bool) → (r ≡ false → s ≡ false → t ≡ false) → compared a b r ≡ false → compared b c s ≡ false → compared a c t ≡ false
-not_before a b c false false t rest first second = let least : t ≡ false = rest refl refl in grind (arith, nat_tests)
-not_before a b c false true t rest first second = grind (arith, nat_tests)
-not_before a b c true s t rest first second = grind (arith, nat_tests)
-
-not_less : (a b c : ℕ) → nat_lt a b ≡ false → nat_lt b c ≡ false → nat_lt a c ≡ false
-not_less a b c first second = grind (arith, nat_tests)
 
 not_both : (a b : ℕ) (r s : Bool) → (s ≡ true → r ≡ false) → compared b a s ≡ true → compared a b r ≡ false
 not_both a b false s rest h = grind (arith, nat_tests)
@@ -55,26 +45,10 @@ last a b r s h = elim (cases_eq a b) [ inl same ↦ inl same | inr other ↦ inr
 
 -- ---- the order of frames
 
-is_not_before : (f g h : FrameParts) → is_before f g ≡ false → is_before g h ≡ false → is_before f h ≡ false
-unfolding is_before same_class
-is_not_before f g h =
-    not_before (class_number f.class) (class_number g.class) (class_number h.class) _ _ _
-    (not_before f.number g.number h.number _ _ _ (not_before f.node g.node h.node _ _ _ (not_less f.inc g.inc h.inc)))
-
 not_back : (f g : FrameParts) → is_before g f ≡ true → is_before f g ≡ false
 unfolding is_before same_class
 not_back f g =
     not_both (class_number f.class) (class_number g.class) _ _ (not_both f.number g.number _ _ (not_both f.node g.node _ _ (not_more f.inc g.inc)))
-
-not_itself : (f : FrameParts) → is_before f f ≡ false
-unfolding is_before same_class
-not_itself f = itself (class_number f.class) _ (itself f.number _ (itself f.node _ (least f.inc)))
-  where
-    itself : (a : ℕ) (r : Bool) → r ≡ false → compared a a r ≡ false
-    itself a r h = grind (arith, nat_tests)
-
-    least : (a : ℕ) → nat_lt a a ≡ false
-    least a = grind (arith, nat_tests)
 
 -- a frame that does not come after one of the identity is of the identity, or wins over those of it
 of_its_own : (f g : FrameParts) → is_before f g ≡ false → (is_of (identity_of f) g ≡ true) ⊎ (is_before g (bare (identity_of f)) ≡ true)
@@ -117,7 +91,7 @@ least_not_after : (f : FrameParts) (fs : List FrameParts) → Among (λ g. g ≡
 unfolding least_frame
 least_not_after f [] h = absurd h
 least_not_after f (g ∷ fs) (inl same) =
-    better_first f g (least_frame fs) (subst (λ k. is_before f k ≡ false) (sym same) (not_itself f))
+    better_first f g (least_frame fs) (subst (λ k. is_before f k ≡ false) (sym same) (not_before_itself f))
 least_not_after f (g ∷ fs) (inr h) = by_rest (least_frame fs) (least_not_after f fs h)
   where
     by_rest : (o : Option FrameParts) → NotAfter f o → is_before f (better g o) ≡ false

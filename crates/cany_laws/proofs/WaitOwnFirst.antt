@@ -20,7 +20,7 @@ use Rattle.cany_model.specs.Rules.Messages.{Message, data_id, messages_of}
 use Rattle.cany_model.specs.Runs.Run.{after_turn, run}
 use Rattle.cany_model.proofs.Among.{Among, Among-from_Contains, Among-weaker, any-from_Among}
 use Rattle.cany_model.proofs.Bus.Carried.{Carries, Carries-from_got}
-use Rattle.cany_model.proofs.Bus.Identities.{same_identity-from, same_identity-true}
+use Rattle.cany_model.proofs.Bus.Identities.{same_identity-from}
 use Rattle.cany_model.proofs.Bus.Notes.{note_of-offered, waiting_sends}
 use Rattle.cany_model.proofs.Bus.Restarts.{after_restarts-trace, restarts_or_stays}
 use Rattle.cany_model.proofs.Bus.Seen.{Among-seen, seen_plain}
@@ -39,7 +39,7 @@ use Rattle.cany_base.specs.Frame.{data_class}
 use Rattle.cany_base.specs.Nodes.{has}
 use Rattle.cany_model.specs.Bus.History.{is_hidden}
 use Rattle.cany_model.specs.Rules.Messages.{data_frame}
-use Rattle.cany_model.proofs.Among.{Among-from_any, Among-which, Each-of}
+use Rattle.cany_model.proofs.Among.{Each-of}
 use Rattle.cany_model.proofs.Bus.Carried.{is_got-true, is_sent-true}
 use Rattle.cany_model.proofs.Bus.Notes.{given-Got, given-Sent, sender_waits}
 use Rattle.cany_model.proofs.Bus.Seen.{seen_idle}
@@ -50,6 +50,7 @@ use Rattle.cany_model.proofs.Runs.Journals.{run_none}
 use Rattle.cany_model.proofs.Runs.Runs.{orderly, orderly_slot}
 use Rattle.cany_laws.proofs.Fronts.{along_pushes, pushed}
 use Rattle.cany_laws.proofs.WaitUnsent.{IsReadOrUnsent, IsUnsent, read_or_unsent, waited_or_asked}
+use Rattle.cany_model.proofs.Timed.Order.TotSlots.{waiting_frame}
 
 -- ---- what a node has read, and what it will have read
 
@@ -121,11 +122,6 @@ own_frame scenario m is ed s sourced i running f there same =
 own_parts : (x : Identity) (e : NoticeKind) (past : List NoticeKind) → has_own x (e ∷ past) ≡ true → (is_sent x e ≡ true) ⊎ (has_own x past ≡ true)
 unfolding has_own
 own_parts x e past h = or_cases (is_sent x e) (list_any (is_sent x) past) h
-
-waiting_frame : (x : Identity) (w : List FrameParts) → waits x w ≡ true → (f : FrameParts) × Contains w f × (x ≡ identity_of f)
-waiting_frame x w h =
-    let found = Among-which (λ f. is_of x f ≡ true) w (Among-from_any (is_of x) w h) in
-    (found.0, found.1, same_identity-true x (identity_of found.0) found.2)
 
 module _ (scenario : ScenarioParts) (m : Message) (is : IsOneOf (messages_of scenario.sends) m) (ed : m.service ≡ Ed) (rules : FaultScript) (s : RunState)
     (o : IsOrderly scenario.params.nodes s) (few : scenario.params.nodes ≤ most_nodes) (sourced : IsSourced scenario s)

@@ -7,8 +7,6 @@ use Rattle.std.proofs.lemmas.List.{get_or-append-add, get_or_past}
 use Rattle.std.proofs.lemmas.List.Elements.{Contains-get_or}
 use Rattle.cany_base.specs.declared.class.Class.{Class}
 use Rattle.cany_base.specs.declared.class.Class.TheVariants as class
-use Rattle.cany_base.specs.declared.rule.Verdict.{Verdict}
-use Rattle.cany_base.specs.declared.rule.Verdict.TheVariants.{Clean, Lost, Partial, Silent}
 use Rattle.cany_base.specs.declared.slot_note.SlotNote.{SlotNote}
 use Rattle.cany_base.specs.declared.step.Step.{Step}
 use Rattle.cany_base.specs.Frame.{FrameParts}
@@ -28,7 +26,7 @@ use Rattle.cany_model.proofs.Runs.Runs.{orderly}
 use Rattle.cany_model.proofs.Runs.SlotStates.{slot_state-trace, slot_state_is}
 use Rattle.cany_model.proofs.Timed.Common.Counting.{window_at, window_back}
 use Rattle.cany_model.proofs.Timed.Guarantees.{accepts_are_few, signs_are_few}
-use Rattle.cany_model.proofs.Timed.Windows.FewVectors.{few_vectors}
+use Rattle.cany_model.proofs.Timed.Windows.FewVectors.{clean_is, few_vectors}
 use Rattle.cany_model.proofs.Timed.Windows.TopFrames.{clean_or_error, is_carried, is_carried_clean, never_silent}
 use Rattle.cany_laws.specs.Waits.{IsAwaitedThrough, WasAwaited, WasCarriedIn, least_left, most_taken, interference, interferes, slots_from, window}
 use Rattle.cany_laws.proofs.WaitOrder.{NotAfterIt, carried_while}
@@ -97,12 +95,6 @@ note_of scenario journal x t w =
 
 -- ---- one of these slots
 
-carried_verdict : (v : Verdict) → is_clean v ≡ true → v ≡ Clean
-carried_verdict Clean h = refl
-carried_verdict Lost h = absurd (false≢true h)
-carried_verdict (Partial reject) h = absurd (false≢true h)
-carried_verdict (Silent reject) h = absurd (false≢true h)
-
 -- the slot of an age carried it Clean
 pub carried_at : (scenario : ScenarioParts) (journal : List Step) (x : Identity) (first n age : ℕ)
     → is_clean_frame x (note_at (run scenario journal).trace age) ≡ true → first + suc age ≤ slots_run (run scenario journal)
@@ -118,7 +110,7 @@ carried_at scenario journal x first n age clean from to =
       from = omega (arith, number, from);
       to = omega (arith, number, from, to);
       frame = parts.0;
-      clean = carried_verdict note.verdict parts.1;
+      clean = clean_is note.verdict parts.1;
     }
 
 -- a window that has such a slot

@@ -50,7 +50,7 @@ use Rattle.cany_model.proofs.Rules.ProtocolFacts.{IsFoundedEntry, MayStart}
 use Rattle.cany_model.proofs.Rules.Protocols.{IsProtocol}
 
 -- a data frame carries no vector
-data_is_heard : (by : Service) → same_class (data_class by) class.Rha ≡ false
+pub data_is_heard : (by : Service) → same_class (data_class by) class.Rha ≡ false
 unfolding same_class
 data_is_heard Ed = refl
 data_is_heard Rel = refl

@@ -147,7 +147,7 @@ within_opening p = record {
     empty_window (suc w) zero = omega arith
     empty_window (suc w) (suc age) = omega arith
 
-within_from_none : (p : Parameters) (trace : List SlotNote) → first_break p trace ≡ None → IsWithin p trace
+pub within_from_none : (p : Parameters) (trace : List SlotNote) → first_break p trace ≡ None → IsWithin p trace
 unfolding first_break
 within_from_none p [] h = within_opening p
 within_from_none p (note ∷ before) h =

@@ -44,7 +44,7 @@ kept_cases (Got f) w v e = inl e
 kept_cases (Sent f) w v e = inr (f, refl, e)
 kept_cases Bad w v e = inl e
 
-clean_success : (v : Verdict) → v ≡ Clean → is_success v ≡ true
+pub clean_success : (v : Verdict) → v ≡ Clean → is_success v ≡ true
 clean_success v e = rw e refl
 
 clean_lets : (v : Verdict) (i : ℕ) → v ≡ Clean → lets_accept v i ≡ true

@@ -35,11 +35,11 @@ use Rattle.cany_model.proofs.Rules.Protocols.{edcan_is_one}
 abbrev pub OwesEd : Message → Owes
 OwesEd m scenario i past = (0 < copies (data_id m) past) ⊎ MayStart scenario m i past
 
-copies_got : (x : Identity) (e : NoticeKind) (past : List NoticeKind) → is_got x e ≡ true → copies x (e ∷ past) ≡ suc (copies x past)
+pub copies_got : (x : Identity) (e : NoticeKind) (past : List NoticeKind) → is_got x e ≡ true → copies x (e ∷ past) ≡ suc (copies x past)
 unfolding copies
 copies_got x e past h = count-yes (is_got x) e past h
 
-copies_other : (x : Identity) (e : NoticeKind) (past : List NoticeKind) → is_got x e ≡ false → copies x (e ∷ past) ≡ copies x past
+pub copies_other : (x : Identity) (e : NoticeKind) (past : List NoticeKind) → is_got x e ≡ false → copies x (e ∷ past) ≡ copies x past
 unfolding copies
 copies_other x e past h = count-no (is_got x) e past h
 

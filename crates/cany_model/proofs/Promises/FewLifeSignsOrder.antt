@@ -14,16 +14,16 @@ use Rattle.cany_model.proofs.Bus.Notes.{note_of-frame}
 -- ---- the order of frames
 
 -- two numbers are compared, and where they are equal the rest decides
-abbrev compared : ℕ → ℕ → Bool → Bool
+abbrev pub compared : ℕ → ℕ → Bool → Bool
 compared a b rest = if not (a == b) then nat_lt a b else rest
 
-not_before : (a b c : ℕ) (r s t : Bool) → (r ≡ false → s ≡ false → t ≡ false) → compared a b r ≡ false → compared b c s ≡ false
+pub not_before : (a b c : ℕ) (r s t : Bool) → (r ≡ false → s ≡ false → t ≡ false) → compared a b r ≡ false → compared b c s ≡ false
     → compared a c t ≡ false
 not_before a b c false false t rest first second = let least : t ≡ false = rest refl refl in grind (arith, nat_tests)
 not_before a b c false true t rest first second = grind (arith, nat_tests)
 not_before a b c true s t rest first second = grind (arith, nat_tests)
 
-not_less : (a b c : ℕ) → nat_lt a b ≡ false → nat_lt b c ≡ false → nat_lt a c ≡ false
+pub not_less : (a b c : ℕ) → nat_lt a b ≡ false → nat_lt b c ≡ false → nat_lt a c ≡ false
 not_less a b c first second = grind (arith, nat_tests)
 
 not_both : (a b : ℕ) (r s : Bool) → (r ≡ true → s ≡ false) → compared a b r ≡ true → compared b a s ≡ false
@@ -33,13 +33,13 @@ not_both a b false s rest h = grind (arith, nat_tests)
 less_one_way : (a b : ℕ) → nat_lt a b ≡ true → nat_lt b a ≡ false
 less_one_way a b h = grind (arith, nat_tests)
 
-not_itself : (a : ℕ) (r : Bool) → r ≡ false → compared a a r ≡ false
+pub not_itself : (a : ℕ) (r : Bool) → r ≡ false → compared a a r ≡ false
 not_itself a r rest = grind (arith, nat_tests)
 
 not_less_itself : (a : ℕ) → nat_lt a a ≡ false
 not_less_itself a = grind (arith, nat_tests)
 
-is_not_before : (f g h : FrameParts) → is_before f g ≡ false → is_before g h ≡ false → is_before f h ≡ false
+pub is_not_before : (f g h : FrameParts) → is_before f g ≡ false → is_before g h ≡ false → is_before f h ≡ false
 unfolding is_before same_class
 is_not_before f g h =
     not_before (class_number f.class) (class_number g.class) (class_number h.class) _ _ _
@@ -51,7 +51,7 @@ before_one_way f g =
     not_both (class_number f.class) (class_number g.class) _ _
     (not_both f.number g.number _ _ (not_both f.node g.node _ _ (less_one_way f.inc g.inc)))
 
-not_before_itself : (f : FrameParts) → is_before f f ≡ false
+pub not_before_itself : (f : FrameParts) → is_before f f ≡ false
 unfolding is_before same_class
 not_before_itself f =
     not_itself (class_number f.class) _ (not_itself f.number _ (not_itself f.node _ (not_less_itself f.inc)))
@@ -62,7 +62,7 @@ not_before_itself f =
 abbrev pub NoneBefore : FrameParts → List FrameParts → Type 0
 NoneBefore f w = AllByRecursion (λ g. is_before g f ≡ false) w
 
-least_none : (fs : List FrameParts) → least_frame fs ≡ None → fs ≡ []
+pub least_none : (fs : List FrameParts) → least_frame fs ≡ None → fs ≡ []
 unfolding least_frame
 least_none [] h = refl
 least_none (f ∷ fs) h = absurd (some_is_none (better f (least_frame fs)) h)

@@ -66,7 +66,7 @@ asked_slot scenario m is rel i e past may = elim (cases_lt m.slot (length past))
 ]
 
 -- RELCAN diffuses the frames of its messages
-rel_is_diffused : (scenario : ScenarioParts) (m : Message) → IsOneOf (messages_of scenario.sends) m → m.service ≡ Rel
+pub rel_is_diffused : (scenario : ScenarioParts) (m : Message) → IsOneOf (messages_of scenario.sends) m → m.service ≡ Rel
     → IsDiffused (turn_effects scenario) scenario.params.omit (data_id m) (duty_of m (OwesRel m) scenario)
 rel_is_diffused scenario m is rel = record {
   at_first = λ i past begun owes. elim owes [

@@ -20,13 +20,13 @@ use Rattle.cany_model.proofs.Bus.States.{runs_within}
 use Rattle.cany_model.proofs.Rules.Protocols.{IsProtocol}
 
 -- the parts of what is said of a settled message
-record Parts (scenario : ScenarioParts) (s : RunState) (m : Message) : Type 0 where
-  asked : (origin_has_asked scenario s m || not (runs (node_at s.nodes m.origin)) || came_too_late s m) ≡ true
-  quiet : is_awaited (frames_of m) s ≡ false
-  read : all_read s ≡ true
-  none_ahead : is_ahead scenario s m ≡ false
+pub record Parts (scenario : ScenarioParts) (s : RunState) (m : Message) : Type 0 where
+  pub asked : (origin_has_asked scenario s m || not (runs (node_at s.nodes m.origin)) || came_too_late s m) ≡ true
+  pub quiet : is_awaited (frames_of m) s ≡ false
+  pub read : all_read s ≡ true
+  pub none_ahead : is_ahead scenario s m ≡ false
 
-parts : (scenario : ScenarioParts) (s : RunState) (m : Message) → is_settled scenario s m ≡ true → Parts scenario s m
+pub parts : (scenario : ScenarioParts) (s : RunState) (m : Message) → is_settled scenario s m ≡ true → Parts scenario s m
 unfolding is_settled
 parts scenario s m h =
     let asked : Bool = origin_has_asked scenario s m || not (runs (node_at s.nodes m.origin)) || came_too_late s m in

@@ -100,7 +100,7 @@ of_message scenario by g f number node h = record {
   origin = ap (λ (x : FrameParts). x.node) h.frame ∙ node;
 }
 
-of_data : (scenario : ScenarioParts) (by : Service) (f : FrameParts) → IsDataOf scenario by f → IsOfMessage scenario by (identity_of f)
+pub of_data : (scenario : ScenarioParts) (by : Service) (f : FrameParts) → IsDataOf scenario by f → IsOfMessage scenario by (identity_of f)
 of_data scenario by f h = of_message scenario by f f refl refl h
 
 -- a frame that is relayed may be asked for by each node, where it can be read

@@ -50,7 +50,7 @@ module _ (n : ℕ) where
         | inr same ↦ omega (arith, eqb-true r q same, small)
       ]
 
-everybody_below : (p : Parameters) → AllBelow p.nodes (everybody p)
+pub everybody_below : (p : Parameters) → AllBelow p.nodes (everybody p)
 everybody_below p = where_below p.nodes (λ r. nat_lt r p.nodes) (λ r h. ltb-true r p.nodes h)
 
 -- ---- a vector

@@ -31,7 +31,7 @@ use Rattle.cany_model.proofs.Rules.KnowledgeFacts.{found_none, newly_known, begu
 
 -- ---- lists
 
-numbers_below : (a n : ℕ) → AllByRecursion (λ r. r < a + n) (range_with_len a n)
+pub numbers_below : (a n : ℕ) → AllByRecursion (λ r. r < a + n) (range_with_len a n)
 numbers_below a zero = tt
 numbers_below a (suc n) =
     (omega arith, Each-weaker (λ r. r < a + 1 + n) (λ r. r < a + suc n) (λ r h. omega (arith, h)) (range_with_len (a + 1) n) (numbers_below (a + 1) n))
@@ -152,11 +152,11 @@ Each-both : {X : Type 0} (P Q : X → Type 0) (xs : List X) → AllByRecursion P
 Each-both P Q [] a b = tt
 Each-both P Q (x ∷ xs) a b = ((a.0, b.0), Each-both P Q xs a.1 b.1)
 
-Each-first : {X : Type 0} (P : X → Type 0) (xs ys : List X) → AllByRecursion P (xs ++ ys) → AllByRecursion P xs
+pub Each-first : {X : Type 0} (P : X → Type 0) (xs ys : List X) → AllByRecursion P (xs ++ ys) → AllByRecursion P xs
 Each-first P [] ys h = tt
 Each-first P (x ∷ xs) ys h = (h.0, Each-first P xs ys h.1)
 
-Each-second : {X : Type 0} (P : X → Type 0) (xs ys : List X) → AllByRecursion P (xs ++ ys) → AllByRecursion P ys
+pub Each-second : {X : Type 0} (P : X → Type 0) (xs ys : List X) → AllByRecursion P (xs ++ ys) → AllByRecursion P ys
 Each-second P [] ys h = h
 Each-second P (x ∷ xs) ys h = Each-second P xs ys h.1
 

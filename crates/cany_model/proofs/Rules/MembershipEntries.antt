@@ -20,7 +20,7 @@ use Rattle.cany_model.specs.Rules.Views.{ask_frame, ask_of, join_asked, leave_as
 use Rattle.cany_model.proofs.Among.{Each-append, Each-flat_map, Each-map}
 use Rattle.cany_model.proofs.Rules.DeliveryFacts.{EntersNone, entered-none}
 
-each : {X : Type 0} (P : X → Type 0) → ((x : X) → P x) → (xs : List X) → AllByRecursion P xs
+pub each : {X : Type 0} (P : X → Type 0) → ((x : X) → P x) → (xs : List X) → AllByRecursion P xs
 each P all [] = tt
 each P all (x ∷ xs) = (all x, each P all xs)
 

@@ -68,7 +68,7 @@ intervals_few slot slots interval number h few long n =
     omega (arith, below, n)
 
 -- the bound of a legal scenario has 17 slots at least, and so have its cycle and its interval of life signs
-bound_long : (scenario : ScenarioParts) → IsLegalScenario scenario → 17 ≤ scenario.params.bound
+pub bound_long : (scenario : ScenarioParts) → IsLegalScenario scenario → 17 ≤ scenario.params.bound
 bound_long scenario legal =
     let nodes : 2 ≤ scenario.params.nodes = legal.in_range.nodes.0 in
     let square : 3 * scenario.params.nodes * 2 ≤ 3 * scenario.params.nodes * scenario.params.nodes = mul-le-mul_left (3 * scenario.params.nodes) nodes in

@@ -79,7 +79,7 @@ none_hit (x ∷ xs) = omega (arith, none_hit xs, count-cons (λ y. false) x xs)
 -- ---- sends and messages
 
 -- there are as many messages of a service as sends by it
-count_messages : (by : Service) (earlier sends : List SendAsk)
+pub count_messages : (by : Service) (earlier sends : List SendAsk)
     → count_by (λ m. is_service by m.service) (messages_after earlier sends) ≡ count_by (λ send. is_service by send.service) sends
 unfolding messages_after
 count_messages by earlier [] = refl

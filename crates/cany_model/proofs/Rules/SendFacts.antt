@@ -42,7 +42,7 @@ sendable_one scenario slot m h =
     cond_both (nat_lt slot scenario.from) [] (messages_of scenario.sends) (λ ms. IsOneOf ms m → IsOneOf (messages_of scenario.sends) m × (scenario.from ≤ slot))
     (λ _ none. absurd none) (λ late is. (is, ltb-false slot scenario.from late)) h
 
-sendable_late : (scenario : ScenarioParts) (slot : ℕ) → scenario.from ≤ slot → sendable scenario slot ≡ messages_of scenario.sends
+pub sendable_late : (scenario : ScenarioParts) (slot : ℕ) → scenario.from ≤ slot → sendable scenario slot ≡ messages_of scenario.sends
 sendable_late scenario slot late = rw (le-ltb slot scenario.from late) refl
 
 sends_founded : (scenario : ScenarioParts) (i : ℕ) (e : NoticeKind) (past : List NoticeKind) (messages : List Message)

@@ -59,7 +59,7 @@ module _ (P : Effect → Type 0) (scenario : ScenarioParts) (i : ℕ) (e : Notic
     | inr late ↦ Among-append_right P (flat_map each told_now ++ copied) (flat_map each found_now) (Among-flat_map each P found_now late)
   ]
 
-asks_of_sign : (omit slot : ℕ) (past : List NoticeKind) (a b : FailureSign) → Among (Asks (fda_of a)) (sign_effects omit slot past b) → a ≡ b
+pub asks_of_sign : (omit slot : ℕ) (past : List NoticeKind) (a b : FailureSign) → Among (Asks (fda_of a)) (sign_effects omit slot past b) → a ≡ b
 unfolding sign_effects
 asks_of_sign omit slot past a b (inl none) = absurd none
 asks_of_sign omit slot past a b (inr rest) =
@@ -76,7 +76,7 @@ sign_asked omit slot past a b e =
     inr (omega (arith, same, leb-true (omit + 1) (copies (fda_of b) past) many)))
     (λ _. inl (inr (inl (ap fda_of e))))
 
-copy_asks : (x : Identity) (omit : ℕ) (e : NoticeKind) (past : List NoticeKind) → Among (Asks x) (fda_copy_effects omit e past) → ⊥
+pub copy_asks : (x : Identity) (omit : ℕ) (e : NoticeKind) (past : List NoticeKind) → Among (Asks x) (fda_copy_effects omit e past) → ⊥
 unfolding fda_copy_effects
 copy_asks x omit Idle past h = h
 copy_asks x omit Bad past h = h

@@ -85,7 +85,7 @@ turn_cause_data scenario i m past is h =
     asked_start scenario i past m is asked.0 asked.1 asked.2
 
 -- a protocol asks for no frame of a class that it does not name
-not_asked : (scenario : ScenarioParts) (p : Protocol) → IsLawful p → (i : ℕ) (past : List NoticeKind) (x : Identity) → p.names x.class ≡ false
+pub not_asked : (scenario : ScenarioParts) (p : Protocol) → IsLawful p → (i : ℕ) (past : List NoticeKind) (x : Identity) → p.names x.class ≡ false
     → Among (Asks x) (p.effects scenario i past) → ⊥
 not_asked scenario p lawful i past x other h = false≢true (sym other ∙ asks_named p lawful scenario i x past h)
 

@@ -57,7 +57,7 @@ leads_then scenario P Q s (step ∷ first) rest p q =
 
 -- ---- the turns of a round
 
-abbrev HaveRead : RunState → Type 0
+abbrev pub HaveRead : RunState → Type 0
 HaveRead s = (i : ℕ) → runs (node_at s.nodes i) ≡ true → (node_at s.nodes i).unread ≡ 0
 
 -- the nodes below k have read every notice, and the others all but at most one
@@ -68,7 +68,7 @@ record ReadBelow (k : ℕ) (s : RunState) : Type 0 where
 read_all : (s : RunState) → ReadBelow (length s.nodes) s → HaveRead s
 read_all s h i running = h.below i (runs_within s.nodes i running) running
 
-none_to_read : (node : NodeState) → is_to_read node ≡ false → runs node ≡ true → node.unread ≡ 0
+pub none_to_read : (node : NodeState) → is_to_read node ≡ false → runs node ≡ true → node.unread ≡ 0
 none_to_read node skips running =
     let none : node.unread ≤ 0 = ltb-false 0 node.unread (sym (ap (λ b. b && nat_lt 0 node.unread) running) ∙ skips) in
     omega arith
@@ -188,7 +188,7 @@ opening_between nodes = (
   refl,
 )
 
-all_have_read : (s : RunState) → HaveRead s → all_read s ≡ true
+pub all_have_read : (s : RunState) → HaveRead s → all_read s ≡ true
 unfolding node_at
 all_have_read s h =
     list_all-from_AllPass (λ (node : NodeState). not (runs node) || node.unread == 0) s.nodes (λ i d less.

@@ -67,6 +67,20 @@ node_after-present i note node = either (runs node) (share_of i note)
     either true Errored = refl
     either false share = refl
 
+pub node_after-ended : (i : ℕ) (note : SlotNote) (node : NodeState) → (node_after i note node).ended ≡ node.ended
+unfolding node_after after_share
+node_after-ended i note node = either (runs node) (share_of i note)
+  where
+    either : (b : Bool) (share : Share)
+        → (if b then record (after_share share node) { unread = node.unread + 1; stopped = if has note.stops i then Some note.slot else None }
+        else record node { unread = node.unread + 1 }).ended ≡ node.ended
+    either true share.Idle = refl
+    either true (Took f) = refl
+    either true Rejected = refl
+    either true (Confirmed f) = refl
+    either true Errored = refl
+    either false share = refl
+
 node_after-waiting : (i : ℕ) (note : SlotNote) (node : NodeState) → runs node ≡ true
     → (node_after i note node).waiting ≡ kept_at (given i note) node.waiting
 unfolding node_after

@@ -98,7 +98,7 @@ pub record IsUnsigned (r : ℕ) (st : Knowledge) : Type 0 where
   pub failed : has st.failed r ≡ false
   pub unknown : (sign : FailureSign) → sign.node ≡ r → knows sign st ≡ false
 
-none_told : (r : ℕ) (sign : FailureSign) → sign.node ≡ r → (signs : List FailureSign) → AllByRecursion (NotOf r) signs → tells sign signs ≡ false
+pub none_told : (r : ℕ) (sign : FailureSign) → sign.node ≡ r → (signs : List FailureSign) → AllByRecursion (NotOf r) signs → tells sign signs ≡ false
 none_told r sign of [] h = refl
 none_told r sign of (other ∷ signs) h =
     or_from (same_sign sign other) (tells sign signs)
@@ -117,7 +117,7 @@ with_failed r (sign ∷ signs) st none before =
       | inr new ↦ none.0 (sym (eqb-true r sign.node new))
     ]))
 
-ended_failed : (r : ℕ) (o : Option Nodes) (old failed : Nodes) → has failed r ≡ false → has (failed_by o old failed) r ≡ false
+pub ended_failed : (r : ℕ) (o : Option Nodes) (old failed : Nodes) → has failed r ≡ false → has (failed_by o old failed) r ≡ false
 ended_failed r None old failed before = before
 ended_failed r (Some v) old failed before =
     false_from_ne_true (has (failed_by (Some v) old failed) r) (λ now.
@@ -133,7 +133,7 @@ found_failed p i slot e st r learns finds before =
     with_failed r (found_in p i slot e st) (after_learning i slot e st) finds
     (with_failed r (told_in i slot e st) (after_hearing i slot e st) learns (ap (λ f. has f r) heard ∙ before))
 
-next_unsigned : (scenario : ScenarioParts) (i r : ℕ) (e : NoticeKind) (past : List NoticeKind)
+pub next_unsigned : (scenario : ScenarioParts) (i r : ℕ) (e : NoticeKind) (past : List NoticeKind)
     → AllByRecursion (NotOf r) (told_in i (length past) e (knowledge_of scenario i past))
     → AllByRecursion (NotOf r) (found_in scenario.params i (length past) e (knowledge_of scenario i past))
     → IsUnsigned r (knowledge_of scenario i past) → IsUnsigned r (knowledge_of scenario i (e ∷ past))
@@ -177,7 +177,7 @@ pub record NoSign (scenario : ScenarioParts) (r : ℕ) (s : RunState) : Type 0 w
   pub waits : (i : ℕ) → runs (node_at s.nodes i) ≡ true → AllByRecursion (NoFrame r) (node_at s.nodes i).waiting
   pub unsigned : (i : ℕ) → runs (node_at s.nodes i) ≡ true → IsUnsigned r (knowledge_of scenario i (past_of i s.trace (node_at s.nodes i)))
 
-unsigned_first : (scenario : ScenarioParts) (i r : ℕ) → IsUnsigned r (knowledge_of scenario i [])
+pub unsigned_first : (scenario : ScenarioParts) (i r : ℕ) → IsUnsigned r (knowledge_of scenario i [])
 unfolding knowledge_of
 unsigned_first scenario i r = record { failed = has_none r; unknown = λ sign of. refl }
 

@@ -79,7 +79,7 @@ later_state scenario none journal front rest e =
 
 -- ---- each running node has heard the slots that ran
 
-heard_kept : (scenario : ScenarioParts) → IsNodes scenario (λ trace i node. AllByRecursion (Heard i) trace)
+pub heard_kept : (scenario : ScenarioParts) → IsNodes scenario (λ trace i node. AllByRecursion (Heard i) trace)
 heard_kept scenario = record {
   new = λ trace i node new. blank trace i new.blank;
   slot = λ note trace i node after same l h. (l.heard, h);
@@ -90,14 +90,14 @@ heard_kept scenario = record {
     blank [] i none = tt
     blank (note ∷ trace) i none = (blank_heard i note none.0, blank trace i none.1)
 
-clean_sent : (verdict : Verdict) → is_success verdict ≡ true → is_silent verdict ≡ false → verdict ≡ Clean
+pub clean_sent : (verdict : Verdict) → is_success verdict ≡ true → is_silent verdict ≡ false → verdict ≡ Clean
 clean_sent Clean success loud = refl
 clean_sent Lost success loud = absurd (false≢true success)
 clean_sent (Partial reject) success loud = absurd (false≢true success)
 clean_sent (Silent reject) success loud = absurd (false≢true (sym loud))
 
 -- what a node sent to show its life every other running node got
-life_heard : (r j : ℕ) → r ≢ j → j < most_nodes → (note : SlotNote) → is_silent_slot note ≡ false → Heard j note → SentOwn note
+pub life_heard : (r j : ℕ) → r ≢ j → j < most_nodes → (note : SlotNote) → is_silent_slot note ≡ false → Heard j note → SentOwn note
     → IsOwnLife r (given r note) → IsLifeOf r (given j note)
 life_heard r j other few note quiet heard own (f, sent, life, mine) =
     let parts = given-Sent r note f sent in

@@ -56,7 +56,7 @@ use Rattle.cany_model.proofs.Timed.Views.VectorLastEffect.{IsCycle}
 -- ---- who asks to join
 
 -- a joiner stays one
-asks_keep_joiner : (r : ℕ) (e : NoticeKind) (st : Knowledge) → r < most_nodes → has st.joiners r ≡ true → has (after_ask e st).joiners r ≡ true
+pub asks_keep_joiner : (r : ℕ) (e : NoticeKind) (st : Knowledge) → r < most_nodes → has st.joiners r ≡ true → has (after_ask e st).joiners r ≡ true
 unfolding after_ask
 asks_keep_joiner r Idle st few h = h
 asks_keep_joiner r Bad st few h = h
@@ -74,7 +74,7 @@ asks_keep_joiner r (Got f) st few h =
     (λ _. h))
 
 -- and one that is outside becomes one by its JOIN
-joins : (r : ℕ) (f : FrameParts) (st : Knowledge) → r < most_nodes → f.class ≡ class.Join → f.node ≡ r → has st.members r ≡ false
+pub joins : (r : ℕ) (f : FrameParts) (st : Knowledge) → r < most_nodes → f.class ≡ class.Join → f.node ≡ r → has st.members r ≡ false
     → has (after_ask (Got f) st).joiners r ≡ true
 unfolding after_ask
 joins r f st few c n out =
@@ -84,31 +84,31 @@ joins r f st few c n out =
     (has_where (λ q. has st.joiners q || q == f.node) r few ∙ or_right (has st.joiners r) (r == f.node) (eq-eqb r f.node (sym n)))
 
 module _ (p : Parameters) (i r slot : ℕ) (e : NoticeKind) (st : Knowledge) (few : r < most_nodes) where
-  asked_joiner : has st.joiners r ≡ true → has (after_asking p i slot e st).joiners r ≡ true
+  pub asked_joiner : has st.joiners r ≡ true → has (after_asking p i slot e st).joiners r ≡ true
   asked_joiner h = asks_keep_joiner r e (after_finding p i slot e st) few (ap (λ m. has m r) (found_joiners p i slot e st) ∙ h)
 
-  asked_joins : (f : FrameParts) → e ≡ Got f → f.class ≡ class.Join → f.node ≡ r → has st.members r ≡ false
+  pub asked_joins : (f : FrameParts) → e ≡ Got f → f.class ≡ class.Join → f.node ≡ r → has st.members r ≡ false
       → has (after_asking p i slot e st).joiners r ≡ true
   asked_joins f got c n out =
       subst (λ x. has (after_ask x (after_finding p i slot e st)).joiners r ≡ true) (sym got)
       (joins r f (after_finding p i slot e st) few c n (ap (λ m. has m r) (found_members p i slot e st) ∙ out))
 
   -- a cycle starts with each joiner
-  joiner_says : is_end p slot ≡ false → (has st.members i ≡ true → has (after_asking p i slot e st).joiners r ≡ true)
+  pub joiner_says : is_end p slot ≡ false → (has st.members i ≡ true → has (after_asking p i slot e st).joiners r ≡ true)
       → Says r true (start_in p i slot e st)
   joiner_says no_end h = start_says p i slot e st r true no_end (λ member.
       let now : Knowledge = after_asking p i slot e st in
       let stays : Nodes = minus (minus now.members now.failed) now.leavers in
       has_where (λ q. has stays q || has now.joiners q) r few ∙ or_right (has stays r) (has now.joiners r) (h member))
 
-joiners_left : (v : Option Nodes) (joiners : Nodes) (r : ℕ) → r < most_nodes → Says r false v → has joiners r ≡ true
+pub joiners_left : (v : Option Nodes) (joiners : Nodes) (r : ℕ) → r < most_nodes → Says r false v → has joiners r ≡ true
     → has (joiners_by v joiners) r ≡ true
 joiners_left None joiners r few says h = h
 joiners_left (Some v) joiners r few says h =
     has_where (λ q. has joiners q && not (has v q)) r few ∙ and_from (has joiners r) (not (has v r)) h (not_from_false (has v r) (says v refl))
 
 -- a joiner that does not come into the view is one after the turn
-joiner_next : (scenario : ScenarioParts) (i r : ℕ) (e : NoticeKind) (past : List NoticeKind) → r < most_nodes
+pub joiner_next : (scenario : ScenarioParts) (i r : ℕ) (e : NoticeKind) (past : List NoticeKind) → r < most_nodes
     → Says r false (ended_at scenario i e past)
     → has (after_asking scenario.params i (length past) e (knowledge_of scenario i past)).joiners r ≡ true
     → has (knowledge_of scenario i (e ∷ past)).joiners r ≡ true
@@ -134,13 +134,13 @@ pub record JoinPlace (scenario : ScenarioParts) (s : RunState) (r k : ℕ) : Typ
   pub by_start : length older ≤ k * scenario.params.cycle
   pub outside : (i : ℕ) → runs (node_at s.nodes i) ≡ true → has (full scenario i older).members r ≡ false
 
-record Stands (trace : List SlotNote) (note : SlotNote) : Type 0 where
-  newer : List SlotNote
-  older : List SlotNote
-  place : trace ≡ newer ++ (note ∷ older)
-  slot : note.slot ≡ length older
+pub record Stands (trace : List SlotNote) (note : SlotNote) : Type 0 where
+  pub newer : List SlotNote
+  pub older : List SlotNote
+  pub place : trace ≡ newer ++ (note ∷ older)
+  pub slot : note.slot ≡ length older
 
-stands : (trace : List SlotNote) (note : SlotNote) → Numbered trace → Among (λ n. n ≡ note) trace → Stands trace note
+pub stands : (trace : List SlotNote) (note : SlotNote) → Numbered trace → Among (λ n. n ≡ note) trace → Stands trace note
 stands [] note numbered h = absurd h
 stands (n ∷ trace) note numbered (inl same) = record {
   newer = [];

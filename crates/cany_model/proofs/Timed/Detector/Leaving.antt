@@ -52,16 +52,16 @@ use Rattle.cany_model.proofs.Rules.KnowledgeSteps.{found_keeps, leavers_after, l
 abbrev pub NoLeave : ℕ → FrameParts → Type 0
 NoLeave r f = f.class ≡ class.Leave → f.node ≡ r → ⊥
 
-data_never : (by : Service) → data_class by ≡ class.Leave → ⊥
+pub data_never : (by : Service) → data_class by ≡ class.Leave → ⊥
 data_never Ed e = cc
 data_never Rel e = cc
 data_never Tot e = cc
 
 -- if the frame asks to leave, it is one of node i itself, which has asked to leave
-abbrev LeaveAsked : ScenarioParts → ℕ → List NoticeKind → FrameParts → Type 0
+abbrev pub LeaveAsked : ScenarioParts → ℕ → List NoticeKind → FrameParts → Type 0
 LeaveAsked scenario i past f = f.class ≡ class.Leave → (f.node ≡ i) × (has_asked_leave scenario i past ≡ true)
 
-Among-filter : {X : Type 0} (p : X → Bool) (x : X) (xs : List X) → p x ≡ true → Among (λ y. y ≡ x) xs → Among (λ y. y ≡ x) (filter p xs)
+pub Among-filter : {X : Type 0} (p : X → Bool) (x : X) (xs : List X) → p x ≡ true → Among (λ y. y ≡ x) xs → Among (λ y. y ≡ x) (filter p xs)
 Among-filter p x [] passes h = h
 Among-filter p x (y ∷ xs) passes h =
     cond_both (p y) (y ∷ filter p xs) (filter p xs) (Among (λ z. z ≡ x))
@@ -72,7 +72,7 @@ Among-filter p x (y ∷ xs) passes h =
     ])
 
 -- a scripted leave of a member asks to leave
-leave_asks : (scenario : ScenarioParts) (i : ℕ) (e : NoticeKind) (past : List NoticeKind) (slot : ℕ)
+pub leave_asks : (scenario : ScenarioParts) (i : ℕ) (e : NoticeKind) (past : List NoticeKind) (slot : ℕ)
     → IsScripted scenario scenario.leaves i (e ∷ past) slot → has (knowledge_of scenario i (e ∷ past)).members i ≡ true
     → list_any asks_leave (ask_effects scenario i (e ∷ past)) ≡ true
 unfolding ask_effects same_class
@@ -101,7 +101,7 @@ leave_asks scenario i e past slot scripted member =
     (Among-flat_map leave (λ effect. asks_leave effect ≡ true) (asks_in scenario i now scenario.leaves)
     (Among-weaker (λ a. a ≡ ask) (λ a. Among (λ effect. asks_leave effect ≡ true) (leave a)) (λ a _. asked) (asks_in scenario i now scenario.leaves) made)))
 
-leave_requested : (scenario : ScenarioParts) (i : ℕ) (past : List NoticeKind) (slot : ℕ) (c : Class)
+pub leave_requested : (scenario : ScenarioParts) (i : ℕ) (past : List NoticeKind) (slot : ℕ) (c : Class)
     → MayRequest scenario i past slot c → c ≡ class.Leave → has_asked_leave scenario i past ≡ true
 unfolding has_asked_leave
 leave_requested scenario i past slot c (inl join) is = let e : class.Join ≡ class.Leave = sym join.0 ∙ is in absurd (cc)
@@ -110,7 +110,7 @@ leave_requested scenario i (e ∷ past) slot c (inr leave) is =
     or_left (list_any asks_leave (ask_effects scenario i (e ∷ past))) (has_asked_leave scenario i past)
     (leave_asks scenario i e past slot leave.1 leave.2)
 
-leave_may : (scenario : ScenarioParts) (i : ℕ) (past : List NoticeKind) (f : FrameParts) → MayAsk scenario i past f → LeaveAsked scenario i past f
+pub leave_may : (scenario : ScenarioParts) (i : ℕ) (past : List NoticeKind) (f : FrameParts) → MayAsk scenario i past f → LeaveAsked scenario i past f
 leave_may scenario i past f (relays relayed got) is = absurd (false≢true (sym (ap is_relayed is) ∙ relayed))
 leave_may scenario i past f (originates m stands origin read late frame) is =
     absurd (data_never m.service (ap (λ (g : FrameParts). g.class) frame ∙ is))
@@ -131,16 +131,16 @@ leave_may scenario i past f (requests slot c may frame) is = (
 
 -- ---- so one that waits was asked for by the node at which it waits
 
-asked_later : (scenario : ScenarioParts) (i : ℕ) (e : NoticeKind) (past : List NoticeKind) → has_asked_leave scenario i past ≡ true
+pub asked_later : (scenario : ScenarioParts) (i : ℕ) (e : NoticeKind) (past : List NoticeKind) → has_asked_leave scenario i past ≡ true
     → has_asked_leave scenario i (e ∷ past) ≡ true
 unfolding has_asked_leave
 asked_later scenario i e past h = or_right (list_any asks_leave (ask_effects scenario i (e ∷ past))) (has_asked_leave scenario i past) h
 
-abbrev LeavesAreAsked : ScenarioParts → List SlotNote → ℕ → NodeState → Type 0
+abbrev pub LeavesAreAsked : ScenarioParts → List SlotNote → ℕ → NodeState → Type 0
 LeavesAreAsked scenario trace i node =
     AllByRecursion (LeaveAsked (scenario_for scenario node.present) i (past_of i trace node)) node.waiting
 
-leaves_are_asked : (scenario : ScenarioParts) → IsNodes scenario (LeavesAreAsked scenario)
+pub leaves_are_asked : (scenario : ScenarioParts) → IsNodes scenario (LeavesAreAsked scenario)
 leaves_are_asked scenario = record {
   new = λ trace i node new. rw new.waiting tt;
   slot = λ note trace i node after same l h.

@@ -51,12 +51,12 @@ use Rattle.cany_model.proofs.Timed.Views.VectorLastEffect.{IsCycle, at_place}
 
 -- ---- who does not ask to join
 
-leaver_joiners : (r q : ℕ) (st : Knowledge) → has st.joiners r ≡ false → has (with_leaver q st).joiners r ≡ false
+pub leaver_joiners : (r q : ℕ) (st : Knowledge) → has st.joiners r ≡ false → has (with_leaver q st).joiners r ≡ false
 leaver_joiners r q st h =
     cond_both (has st.members q) (record st { leavers = with_node q st.leavers }) st (λ s. has s.joiners r ≡ false) (λ _. h) (λ _. h)
 
 -- a member that asks to join becomes no joiner, and no other node does without a frame of its own
-asks_none : (r : ℕ) (e : NoticeKind) (st : Knowledge) → (has st.members r ≡ true) ⊎ NothingOf r e → has st.joiners r ≡ false
+pub asks_none : (r : ℕ) (e : NoticeKind) (st : Knowledge) → (has st.members r ≡ true) ⊎ NothingOf r e → has st.joiners r ≡ false
     → has (after_ask e st).joiners r ≡ false
 unfolding after_ask
 asks_none r Idle st why h = h
@@ -88,7 +88,7 @@ asked_none p i r slot e st why h =
     (ap (λ m. has m r) (found_joiners p i slot e st) ∙ h)
 
 -- and one that stands in the new view asks no longer
-joiners_less : (v : Option Nodes) (joiners : Nodes) (r : ℕ)
+pub joiners_less : (v : Option Nodes) (joiners : Nodes) (r : ℕ)
     → (has joiners r ≡ false) ⊎ ((w : Nodes) × (v ≡ Some w) × (has w r ≡ true)) → has (joiners_by v joiners) r ≡ false
 joiners_less None joiners r (inl h) = h
 joiners_less None joiners r (inr (w, e, there)) = absurd (cc)
@@ -99,7 +99,7 @@ joiners_less (Some v) joiners r why = false_from_ne_true (has (minus joiners v) 
       | inr (w, e, there) ↦ both_ways (has v r) (not-true (has v r) both.1) (let same : v ≡ w = cc in ap (λ x. has x r) same ∙ there)
     ])
 
-none_next : (scenario : ScenarioParts) (i r : ℕ) (e : NoticeKind) (past : List NoticeKind)
+pub none_next : (scenario : ScenarioParts) (i r : ℕ) (e : NoticeKind) (past : List NoticeKind)
     → (has (after_asking scenario.params i (length past) e (knowledge_of scenario i past)).joiners r ≡ false)
     ⊎ ((w : Nodes) × (ended_at scenario i e past ≡ Some w) × (has w r ≡ true))
     → has (knowledge_of scenario i (e ∷ past)).joiners r ≡ false
@@ -109,7 +109,7 @@ none_next scenario i r e past why =
     ap (λ m. has m r) (joiners_after scenario.params i (length past) e st)
     ∙ joiners_less (ended_at scenario i e past) (after_asking scenario.params i (length past) e st).joiners r why
 
-joiners_first : (scenario : ScenarioParts) (i r : ℕ) → has (knowledge_of scenario i []).joiners r ≡ false
+pub joiners_first : (scenario : ScenarioParts) (i r : ℕ) → has (knowledge_of scenario i []).joiners r ≡ false
 unfolding knowledge_of
 joiners_first scenario i r = has_none r
 
@@ -144,7 +144,7 @@ still_no_joiner scenario i r (note ∷ mid) base silent h =
 
 -- ---- lists
 
-each_in_front : (P : SlotNote → Type 0) (xs ys : List SlotNote) (age : ℕ) → AllByRecursion P xs → age < length xs → P (note_at (xs ++ ys) age)
+pub each_in_front : (P : SlotNote → Type 0) (xs ys : List SlotNote) (age : ℕ) → AllByRecursion P xs → age < length xs → P (note_at (xs ++ ys) age)
 each_in_front P [] ys age h below = absurd (omega (arith, below))
 each_in_front P (x ∷ xs) ys zero h below = h.0
 each_in_front P (x ∷ xs) ys (suc age) h below = each_in_front P xs ys age h.1 (omega (arith, below))

@@ -53,7 +53,7 @@ module _ (p : Parameters) (i slot : ℕ) (e : NoticeKind) (st : Knowledge) where
   pub asked_failed : (after_asking p i slot e st).failed ≡ (after_finding p i slot e st).failed
   asked_failed = asks_keep Nodes (λ s. s.failed) (record { joiners = λ n s. refl; leavers = λ n s. refl }) e (after_finding p i slot e st)
 
-  no_installed : is_end p slot ≡ false → after_installing p i slot e st ≡ after_meeting p i slot e st
+  pub no_installed : is_end p slot ≡ false → after_installing p i slot e st ≡ after_meeting p i slot e st
   unfolding with_ended
   no_installed no_end = ap (λ w. with_ended i slot w (after_meeting p i slot e st)) (cond-false (is_end p slot) (met_in p slot e st) None no_end)
 
@@ -284,7 +284,7 @@ known_begun scenario i sign (e ∷ past) read h =
 
 -- ---- silence is found
 
-among_filter : {X : Type 0} (P : X → Type 0) (test : X → Bool) → ((x : X) → P x → test x ≡ true) → (xs : List X) → Among P xs
+pub among_filter : {X : Type 0} (P : X → Type 0) (test : X → Bool) → ((x : X) → P x → test x ≡ true) → (xs : List X) → Among P xs
     → Among P (filter test xs)
 among_filter P test passes [] h = h
 among_filter P test passes (x ∷ xs) (inl now) = rw (passes x now) (inl now)
@@ -292,14 +292,14 @@ among_filter P test passes (x ∷ xs) (inr later) =
     cond_both (test x) (x ∷ filter test xs) (filter test xs) (Among P) (λ _. inr (among_filter P test passes xs later))
     (λ _. among_filter P test passes xs later)
 
-in_range : (n r : ℕ) → r < n → Among (λ q. q ≡ r) (range_with_len 0 n)
+pub in_range : (n r : ℕ) → r < n → Among (λ q. q ≡ r) (range_with_len 0 n)
 in_range n r below =
     let same : 0 + r ≡ r = omega arith in
     Among-get_or (λ q. q ≡ r) (range_with_len 0 n) r 0 (subst (λ m. r < m) (sym (length-range_with_len 0 n)) below)
     (get_or-range_with_len 0 n r 0 below ∙ same)
 
 -- a silent member whose sign of this cycle is not known is found to have failed
-silence_found : (p : Parameters) (i r slot : ℕ) (e : NoticeKind) (st : Knowledge) → r < most_nodes → r < p.nodes
+pub silence_found : (p : Parameters) (i r slot : ℕ) (e : NoticeKind) (st : Knowledge) → r < most_nodes → r < p.nodes
     → has_timed_out p i slot (after_learning i slot e st) r ≡ true → knows (sign_in p slot r) (after_learning i slot e st) ≡ false
     → has (after_finding p i slot e st).failed r ≡ true
 unfolding found
@@ -319,7 +319,7 @@ silence_found p i r slot e st few below silent unknown =
     (Among-weaker this (λ sign. sign.node ≡ r) (λ sign e. ap (λ (s : FailureSign). s.node) e) (found p i slot now) left)
 
 -- the sign of this cycle is not known when the cycle starts, where no notice tells of it
-learnt_unknown : (p : Parameters) (i r slot : ℕ) (e : NoticeKind) (st : Knowledge) → r < most_nodes → has (after_learning i slot e st).failed r ≡ false
+pub learnt_unknown : (p : Parameters) (i r slot : ℕ) (e : NoticeKind) (st : Knowledge) → r < most_nodes → has (after_learning i slot e st).failed r ≡ false
     → knows (sign_in p slot r) st ≡ false → knows (sign_in p slot r) (after_learning i slot e st) ≡ false
 learnt_unknown p i r slot e st few standing unknown =
     let sign : FailureSign = sign_in p slot r in

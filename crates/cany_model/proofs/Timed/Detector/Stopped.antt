@@ -99,7 +99,7 @@ none_stopped t e = cc
 some_slot : (a b : ℕ) → Some a ≡ Some b → a ≡ b
 some_slot a b e = cc
 
-node_after-stops : (i : ℕ) (note : SlotNote) (node : NodeState) → runs node ≡ true
+pub node_after-stops : (i : ℕ) (note : SlotNote) (node : NodeState) → runs node ≡ true
     → (node_after i note node).stopped ≡ (if has note.stops i then Some note.slot else None)
 unfolding node_after
 node_after-stops i note node h = rw h refl

@@ -101,7 +101,7 @@ met_says p r b old (Some w) few below h g =
     some_says r b (met_with p old w) (meet_says r b (unwrap_or old (everybody p)) w few (own_says p r b old few below h) (g w refl))
 
 -- what a notice brings, its slot carried
-brings_says : (format : Format) (k r : ℕ) (b : Bool) (i : ℕ) (note : SlotNote) → NoteSays format k r b note
+pub brings_says : (format : Format) (k r : ℕ) (b : Bool) (i : ℕ) (note : SlotNote) → NoteSays format k r b note
     → Says r b (brings format k (given i note))
 brings_says format k r b i note says = by_notice (given i note) refl
   where

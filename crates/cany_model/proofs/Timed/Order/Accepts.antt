@@ -420,7 +420,7 @@ at_quiet scenario journal few within slots m q d late =
     )
 
 -- a running node among those that accept
-some_number : (test : ℕ → Bool) (l : List ℕ) → list_any test l ≡ true → (i : ℕ) × (test i ≡ true)
+pub some_number : (test : ℕ → Bool) (l : List ℕ) → list_any test l ≡ true → (i : ℕ) × (test i ≡ true)
 some_number test [] h = absurd (false≢true h)
 some_number test (x ∷ l) h = elim (or_cases (test x) (list_any test l) h) [ inl here ↦ (x, here) | inr there ↦ some_number test l there ]
 

@@ -269,7 +269,7 @@ order_which test from c (note ∷ T) h =
 among_self : (f : FrameParts) → same_identity (identity_of f) (identity_of f) ≡ true
 among_self f = same_identity-from (identity_of f) (identity_of f) refl
 
-all_among : (l x : List FrameParts) → AllByRecursion (λ f. is_among l f ≡ true) x → new_among l x ≡ []
+pub all_among : (l x : List FrameParts) → AllByRecursion (λ f. is_among l f ≡ true) x → new_among l x ≡ []
 all_among l [] h = refl
 all_among l (f ∷ x) h = rw (not_from_true (is_among l f) h.0) (all_among l x h.1)
 
@@ -277,7 +277,7 @@ none_among : (l x : List FrameParts) → AllByRecursion (λ f. is_among l f ≡ 
 none_among l [] h = refl
 none_among l (f ∷ x) h = rw (not_from_false (is_among l f) h.0) (ap (λ y. f ∷ y) (none_among l x h.1))
 
-new_append : (l a b : List FrameParts) → new_among l (a ++ b) ≡ new_among l a ++ new_among l b
+pub new_append : (l a b : List FrameParts) → new_among l (a ++ b) ≡ new_among l a ++ new_among l b
 new_append l [] b = refl
 new_append l (f ∷ a) b =
     cond_both (not (is_among l f)) (f ∷ new_among l (a ++ b)) (new_among l (a ++ b))

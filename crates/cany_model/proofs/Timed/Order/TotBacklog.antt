@@ -152,7 +152,7 @@ backlog_same scenario i e before place below =
 
 -- ---- what was read long ago
 
-any_dropped : {X : Type 0} (test : X → Bool) (n : ℕ) (xs : List X) → list_any test (drop (suc n) xs) ≡ true → list_any test (drop n xs) ≡ true
+pub any_dropped : {X : Type 0} (test : X → Bool) (n : ℕ) (xs : List X) → list_any test (drop (suc n) xs) ≡ true → list_any test (drop n xs) ≡ true
 any_dropped test n [] h = absurd (false≢true h)
 any_dropped test zero (x ∷ xs) h = or_right (test x) (list_any test xs) h
 any_dropped test (suc n) (x ∷ xs) h = any_dropped test n xs h
@@ -262,7 +262,7 @@ AreLong scenario i past =
     (j : ℕ) → suc j < asked scenario i past
     → IsLongSent (scenario.params.bound + scenario.params.lag) past (data_id (at_place (backlog scenario i past) j))
 
-abbrev next_in : ScenarioParts → ℕ → NoticeKind → List NoticeKind → Option Message
+abbrev pub next_in : ScenarioParts → ℕ → NoticeKind → List NoticeKind → Option Message
 next_in scenario i e before = next_after scenario.params (e ∷ before) (backlog scenario i (e ∷ before)) (asked scenario i before)
 
 long_before : (scenario : ScenarioParts) (i : ℕ) (e : NoticeKind) (before : List NoticeKind) → AreLong scenario i before

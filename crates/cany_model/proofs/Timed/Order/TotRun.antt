@@ -120,7 +120,7 @@ uncarried (note ∷ T) blank (suc p) x h = uncarried T blank.1 p x h
 ungot : (T : List SlotNote) → AllByRecursion (λ note. note.frame ≡ None) T → (i p : ℕ) (x : Identity) → Gets i T p x → ⊥
 ungot T blank i p x h = uncarried T blank p x (got_carried x i (note_at T p) h)
 
-unsent : (T : List SlotNote) → AllByRecursion (λ note. note.frame ≡ None) T → (i p : ℕ) (x : Identity) → Sends i T p x → ⊥
+pub unsent : (T : List SlotNote) → AllByRecursion (λ note. note.frame ≡ None) T → (i p : ℕ) (x : Identity) → Sends i T p x → ⊥
 unsent T blank i p x h = uncarried T blank p x (sent_carried x i (note_at T p) h).0
 
 -- of a trace without frames

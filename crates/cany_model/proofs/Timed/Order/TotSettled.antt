@@ -63,7 +63,7 @@ use Rattle.cany_model.proofs.Timed.Order.TotKept.{TotKept}
 
 -- ---- an origin that asks for a data frame waits with it until it was carried Clean
 
-asks_true : (x : Identity) (effects : List Effect) → list_any (asks_for x) effects ≡ true → Among (Asks x) effects
+pub asks_true : (x : Identity) (effects : List Effect) → list_any (asks_for x) effects ≡ true → Among (Asks x) effects
 asks_true x [] h = absurd (false≢true h)
 asks_true x (Ask f ∷ effects) h = elim (or_cases (asks_for x (Ask f)) (list_any (asks_for x) effects) h) [
   | inl here ↦ inl (same_identity-true x (identity_of f) here)
@@ -85,7 +85,7 @@ asks_from x (Enter entry ∷ effects) (inr later) = asks_from x effects later
 abbrev by_origin : ScenarioParts → ℕ → List NoticeKind → Protocol → List Effect
 by_origin scenario i past p = if p.originates then p.effects scenario i past else []
 
-turn_of_origin : (P : Effect → Type 0) (scenario : ScenarioParts) (i : ℕ) (past : List NoticeKind) → Among P (origin_effects scenario i past)
+pub turn_of_origin : (P : Effect → Type 0) (scenario : ScenarioParts) (i : ℕ) (past : List NoticeKind) → Among P (origin_effects scenario i past)
     → Among P (turn_effects scenario i past)
 unfolding turn_effects
 turn_of_origin P scenario i past h =
@@ -122,7 +122,7 @@ origin_of_turn scenario i past x tot h =
 tot_is : (c : Class) (x y : Identity) → y ≡ x → y.class ≡ c → x.class ≡ class.Tot → c ≡ class.Tot
 tot_is c x y same is tot = sym is ∙ ap (λ (z : Identity). z.class) same ∙ tot
 
-never_withdrawn : (scenario : ScenarioParts) (i : ℕ) (past : List NoticeKind) (x : Identity) → x.class ≡ class.Tot → MayWithdraw scenario i past x → ⊥
+pub never_withdrawn : (scenario : ScenarioParts) (i : ℕ) (past : List NoticeKind) (x : Identity) → x.class ≡ class.Tot → MayWithdraw scenario i past x → ⊥
 never_withdrawn scenario i past x tot (enough diffused many) = false≢true (sym (ap is_diffused tot) ∙ diffused)
 never_withdrawn scenario i past x tot (enough_accept f got accept same many) = let e = tot_is class.Accept x (identity_of f) same accept tot in cc
 never_withdrawn scenario i past x tot (closes f read of same closed) =
@@ -147,7 +147,7 @@ tot_duty m scenario = record {
   begins = IsBegun scenario;
 }
 
-has_started : (scenario : ScenarioParts) (m : Message) → IsOneOf (messages_of scenario.sends) m → (i : ℕ) (past : List NoticeKind)
+pub has_started : (scenario : ScenarioParts) (m : Message) → IsOneOf (messages_of scenario.sends) m → (i : ℕ) (past : List NoticeKind)
     → IsBegun scenario past → has_asked scenario m i past ≡ true → ⊥
 unfolding has_asked
 has_started scenario m is i [] begun h = false≢true h
@@ -162,7 +162,7 @@ has_started scenario m is i (e ∷ past) begun h =
           ]
     ]
 
-asked_more : (scenario : ScenarioParts) (m : Message) (i : ℕ) (e : NoticeKind) (past : List NoticeKind)
+pub asked_more : (scenario : ScenarioParts) (m : Message) (i : ℕ) (e : NoticeKind) (past : List NoticeKind)
     → has_asked scenario m i (e ∷ past) ≡ (list_any (asks_for (data_id m)) (origin_effects scenario i (e ∷ past)) || has_asked scenario m i past)
 unfolding has_asked
 asked_more scenario m i e past = refl

@@ -67,7 +67,7 @@ not_got_sent x y Bad a b = false≢true a
 
 -- ---- verdicts
 
-clean_success : (v : Verdict) → is_clean v ≡ true → is_success v ≡ true
+pub clean_success : (v : Verdict) → is_clean v ≡ true → is_success v ≡ true
 clean_success verdict.Clean h = refl
 clean_success verdict.Lost h = h
 clean_success (verdict.Partial reject) h = h

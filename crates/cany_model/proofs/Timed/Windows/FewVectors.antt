@@ -40,7 +40,7 @@ use Rattle.cany_model.proofs.Timed.Views.VectorSlots.{IsCycleAge, carried_in, cy
 
 -- ---- counts
 
-count_weaker : (t u : SlotNote → Bool) (L : List SlotNote) → ((p : ℕ) → Passes t L p → Passes u L p) → count_by t L ≤ count_by u L
+pub count_weaker : (t u : SlotNote → Bool) (L : List SlotNote) → ((p : ℕ) → Passes t L p → Passes u L p) → count_by t L ≤ count_by u L
 count_weaker t u [] h = omega arith
 count_weaker t u (note ∷ L) h =
     let rest = count_weaker t u L (λ p a. h (suc p) a) in
@@ -199,7 +199,7 @@ record IsCleanVector (note : SlotNote) : Type 0 where
   class : what.class ≡ class.Rha
   clean : note.verdict ≡ Clean
 
-clean_is : (v : Verdict) → is_clean v ≡ true → v ≡ Clean
+pub clean_is : (v : Verdict) → is_clean v ≡ true → v ≡ Clean
 clean_is Clean h = refl
 clean_is Lost h = absurd (false≢true h)
 clean_is (Partial reject) h = absurd (false≢true h)
