@@ -1,3 +1,4 @@
+pub mod EnterFacts
 pub mod LeastFacts
 pub mod OfferFacts
 pub mod OrderFacts

@@ -3,6 +3,7 @@
 #![tactic(auto)]
 
 mod arbitration;
+mod contest;
 mod laws;
 mod least;
 mod levels;

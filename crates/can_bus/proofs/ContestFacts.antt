@@ -17,12 +17,11 @@ use Rattle.cany_model.specs.Bus.Waiting.{waits_with}
 use Rattle.cany_model.proofs.Bus.Identities.{same_frame-true, same_frame_self}
 use Rattle.can_arbiter.specs.declared.arbitration.Outcome.{Outcome}
 use Rattle.can_arbiter.specs.declared.arbitration.Outcome.TheVariants.{Idle, Won}
-use Rattle.can_arbiter.specs.Offers.{OfferTable, offer_at}
-use Rattle.can_arbiter.specs.Outcome.{IsOutcome, IsWinner}
+use Rattle.can_arbiter.specs.Outcome.{AreSendersAmong, IsOutcomeAmong, Wins, frame_of}
 use Rattle.can_controller.specs.Waiting.{LesserKeyWins}
-use Rattle.can_bus.specs.Contest.{AreOffering, AreOffersOf, IsContestOf, StandInOrder, HasSenders, frame_of}
-use Rattle.can_bus.proofs.OfferFacts.{nothing}
-use Rattle.can_bus.proofs.WinnerFacts.{WinsAmong, offer_of, no_offers, no_winner, winner_wins}
+use Rattle.can_bus.specs.Contest.{IsContestOf, StandInOrder, HasSenders}
+use Rattle.can_bus.proofs.WinnerFacts.{offer_of, no_winner, winner_wins}
+use Rattle.can_frame.specs.Identifier.{FitsIdentifier}
 
 clash : (o : Option FrameParts) (f : FrameParts) → o ≡ None → o ≡ Some f → ⊥
 clash o f a b = cc
@@ -90,58 +89,41 @@ below_all nodes f i past = elim (cases_lt i most_nodes) [
 ]
 
 -- one frame wins at most
-one_winner : (offers : OfferTable) (f g : FrameParts) → IsWinner offers f → IsWinner offers g → f ≡ g
-one_winner offers f g first second =
-    let at_most : key_of offers.format f ≤ key_of offers.format g = first.least_key second.node g second.offered in
-    let at_least : key_of offers.format g ≤ key_of offers.format f = second.least_key first.node f first.offered in
+one_winner : (format : Format) (offers : ℕ → Option FrameParts) (f g : FrameParts) → Wins format offers f → Wins format offers g → f ≡ g
+one_winner format offers f g first second =
+    let at_most : key_of format f ≤ key_of format g = first.least_key second.node g second.offered in
+    let at_least : key_of format g ≤ key_of format f = second.least_key first.node f first.offered in
     let one_way : first.node ≤ second.node = first.least_node second.node g second.offered (omega arith) in
     let other_way : second.node ≤ first.node = second.least_node first.node f first.offered (omega arith) in
     let node : first.node ≡ second.node = omega arith in
-    same_Some f g (sym first.offered ∙ ap (offer_at offers) node ∙ second.offered)
-
--- ---- where nobody offers
-
-pub idle : (nodes : List NodeState) (set : Nodes) → AreOffering nodes set → ((i : ℕ) → has set i ≡ false) → IsContestOf nodes Idle
-idle nodes set are none = record {
-  frame = sym (no_offers nodes (λ k. nothing (offer_of nodes k) (sym (are k) ∙ none k)));
-  senders = tt;
-}
+    same_Some f g (sym first.offered ∙ ap offers node ∙ second.offered)
 
 -- ---- of what the nodes offer
 
-module _ (nodes : List NodeState) (offers : OfferTable) (lesser_wins : LesserKeyWins offers.format) (are : AreOffersOf nodes offers) where
-  senders_are : (f : FrameParts) (senders : Nodes) → ((k : ℕ) → most_nodes ≤ k → node_at nodes k ≡ absent) → IsOutcome offers (Won f senders)
-      → senders ≡ those_where (λ i. sends f (node_at nodes i))
+module _ (format : Format) (nodes : List NodeState) (lesser_wins : LesserKeyWins format) (fit : (k : ℕ) (f : FrameParts) → offer_of nodes k ≡ Some f → FitsIdentifier format f)
+    (in_order : (k : ℕ) → StandInOrder format (offered (node_at nodes k))) where
+  senders_are : (f : FrameParts) (senders : Nodes) → ((k : ℕ) → most_nodes ≤ k → node_at nodes k ≡ absent)
+      → Wins format (offer_of nodes) f × AreSendersAmong (offer_of nodes) f senders → senders ≡ those_where (λ i. sends f (node_at nodes i))
   senders_are f senders past outcome =
       same_as_those_where senders (λ i. sends f (node_at nodes i)) (λ i.
       both_ways (has senders i) (sends f (node_at nodes i))
-      (λ h. offers_sends offers.format f (node_at nodes i) (runs (node_at nodes i)) refl (are.in_order i) (sym (are.each i) ∙ (outcome.1 i).0 h))
-      (λ h. (outcome.1 i).1 (are.each i ∙ sends_offers offers.format f (node_at nodes i) (are.in_order i) (λ g at. outcome.0.least_key i g (are.each i ∙ at)) h))
+      (λ h. offers_sends format f (node_at nodes i) (runs (node_at nodes i)) refl (in_order i) ((outcome.1 i).0 h))
+      (λ h. (outcome.1 i).1 (sends_offers format f (node_at nodes i) (in_order i) (λ g at. outcome.0.least_key i g at) h))
       ∙ below_all nodes f i past)
 
-  wins_here : (f : FrameParts) → winner nodes ≡ Some f → IsWinner offers f
-  wins_here f e =
-      let first : WinsAmong offers.format (offer_of nodes) f = winner_wins offers.format lesser_wins nodes f (λ k r at. are.fit k r (are.each k ∙ at)) e in
-      record {
-        node = first.node;
-        offered = are.each first.node ∙ first.offers_it;
-        least_key = λ k g at. first.least_key k g (sym (are.each k) ∙ at);
-        least_node = λ k g at. first.least_node k g (sym (are.each k) ∙ at);
-      }
-
-  frame_is : (outcome : Outcome) (o : Option FrameParts) → IsOutcome offers outcome → winner nodes ≡ o → frame_of outcome ≡ o
+  frame_is : (outcome : Outcome) (o : Option FrameParts) → IsOutcomeAmong format (offer_of nodes) outcome → winner nodes ≡ o → frame_of outcome ≡ o
   frame_is Idle None outcome e = refl
   frame_is Idle (Some f) outcome e =
-      let wins : IsWinner offers f = wins_here f e in
-      absurd (clash (offer_at offers wins.node) f (outcome wins.node) wins.offered)
+      let wins : Wins format (offer_of nodes) f = winner_wins format lesser_wins nodes f fit e in
+      absurd (clash (offer_of nodes wins.node) f (outcome wins.node) wins.offered)
   frame_is (Won f senders) None outcome e =
-      let none : offer_of nodes outcome.0.node ≡ None = no_winner nodes e outcome.0.node in
-      absurd (clash (offer_at offers outcome.0.node) f (are.each outcome.0.node ∙ none) outcome.0.offered)
-  frame_is (Won f senders) (Some g) outcome e = ap Some (one_winner offers f g outcome.0 (wins_here g e))
+      absurd (clash (offer_of nodes outcome.0.node) f (no_winner nodes e outcome.0.node) outcome.0.offered)
+  frame_is (Won f senders) (Some g) outcome e =
+      ap Some (one_winner format (offer_of nodes) f g outcome.0 (winner_wins format lesser_wins nodes g fit e))
 
-  has_senders : (outcome : Outcome) → ((k : ℕ) → most_nodes ≤ k → node_at nodes k ≡ absent) → IsOutcome offers outcome → HasSenders nodes outcome
+  has_senders : (outcome : Outcome) → ((k : ℕ) → most_nodes ≤ k → node_at nodes k ≡ absent) → IsOutcomeAmong format (offer_of nodes) outcome → HasSenders nodes outcome
   has_senders Idle past outcome = tt
   has_senders (Won f senders) past outcome = senders_are f senders past outcome
 
-  pub contested : (outcome : Outcome) → ((k : ℕ) → most_nodes ≤ k → node_at nodes k ≡ absent) → IsOutcome offers outcome → IsContestOf nodes outcome
+  pub contested : (outcome : Outcome) → ((k : ℕ) → most_nodes ≤ k → node_at nodes k ≡ absent) → IsOutcomeAmong format (offer_of nodes) outcome → IsContestOf nodes outcome
   contested outcome past it = record { frame = frame_is outcome (winner nodes) it refl; senders = has_senders outcome past it }

@@ -1,5 +1,6 @@
 -- The note of a slot.
-use Rattle.std.proofs.Common.{◌≡◌, ℕ, ◌&&◌, ◌||◌, not, Bool, true, false, nat_lt, List, length, refl, ap, sym, subst, ◌∙◌}
+use Rattle.std.proofs.Common.{◌≡◌, ◌≤◌, ℕ, ◌&&◌, ◌||◌, not, Bool, true, false, nat_lt, List, length, refl, ap, sym, subst, ◌∙◌, inl, inr}
+use Rattle.std.proofs.lemmas.Bool.{cases_lt, lt-ltb}
 use Rattle.std.specs.Prelude.{Option, Some, None, IfSome}
 use Rattle.cany_base.specs.Limits.{most_nodes}
 use Rattle.cany_base.specs.declared.rule.Verdict.{Verdict}
@@ -15,7 +16,7 @@ use Rattle.can_controller.specs.Controller.{ControllerState}
 use Rattle.can_bus.specs.Contest.{IsContestOf, running_nodes, seen_by}
 use Rattle.can_bus.specs.Each.{each}
 use Rattle.can_bus.specs.Controllers.{nodes_of}
-use Rattle.can_bus.proofs.NodeFacts.{runs_seen}
+use Rattle.can_bus.proofs.NodeFacts.{runs_seen, state_past}
 
 -- ---- the takers
 
@@ -72,6 +73,37 @@ stops_are scripted controllers bare seen before after stops all ran runs_on step
     ∙ ap (λ b. b && not (has after i && not (has scripted i))) (ap (λ s. has s i) ran ∙ has-those_where (λ k. runs (node_at (nodes_of controllers) k)) i)
     ∙ ap (λ b. (nat_lt i most_nodes && runs (node_at (nodes_of controllers) i)) && not (b && not (has scripted i))) still
     ∙ stopping_by (nat_lt i most_nodes) (runs (node_at (nodes_of controllers) i)) (has scripted i) over)
+
+still_running : (l n r x : Bool) → (r ≡ true → n ≡ true) → ((l && r) && not (n && not (r && not x))) ≡ (l && (r && not x))
+still_running l true true true below = elim l as (λ b. ((b && true) && false) ≡ (b && false)) [ true ↦ refl | false ↦ refl ]
+still_running l true true false below = elim l as (λ b. ((b && true) && true) ≡ (b && true)) [ true ↦ refl | false ↦ refl ]
+still_running l true false x below = elim l as (λ b. ((b && false) && false) ≡ (b && false)) [ true ↦ refl | false ↦ refl ]
+still_running l false false x below = elim l as (λ b. ((b && false) && true) ≡ (b && false)) [ true ↦ refl | false ↦ refl ]
+still_running l false true x below = let no : false ≡ true = below refl in cc
+
+-- a node that runs has a controller
+running_below : (controllers : List ControllerState) (k : ℕ) → runs (node_at (nodes_of controllers) k) ≡ true → nat_lt k (length controllers) ≡ true
+running_below controllers k run = elim (cases_lt k (length controllers)) [
+  | inl below ↦ lt-ltb k (length controllers) below
+  | inr past ↦ let stopped : false ≡ true = sym (ap runs (state_past controllers k past)) ∙ run in cc
+]
+
+-- those that ran before the shares but for those that have then stopped
+pub run_on : (bare : SlotNote) (controllers seen : List ControllerState) (before stopped after : Nodes) → seen ≡ each (seen_by bare) 0 controllers
+    → length controllers ≤ most_nodes → before ≡ running_nodes (nodes_of controllers)
+    → ((k : ℕ) → has stopped k ≡ (nat_lt k (length controllers) && not (runs (node_at (nodes_of seen) k))))
+    → ((k : ℕ) → has after k ≡ (has before k && not (has stopped k))) → after ≡ running_nodes (nodes_of seen)
+run_on bare controllers seen before stopped after all few ran stop step =
+    same_as_those_where after (λ k. runs (node_at (nodes_of seen) k)) (λ k.
+    let r : Bool = runs (node_at (nodes_of controllers) k) in
+    let over : Bool = exceeds (after_share (share_of k bare) (node_at (nodes_of controllers) k)) in
+    let still : runs (node_at (nodes_of seen) k) ≡ (r && not over) =
+    ap (λ (cs : List ControllerState). runs (node_at (nodes_of cs) k)) all ∙ runs_seen bare controllers k in
+    step k
+    ∙ ap (λ b. b && not (has stopped k)) (ap (λ s. has s k) ran ∙ has-those_where (λ i. runs (node_at (nodes_of controllers) i)) k)
+    ∙ ap (λ b. (nat_lt k most_nodes && r) && not b) (stop k ∙ ap (λ b. nat_lt k (length controllers) && not b) still)
+    ∙ still_running (nat_lt k most_nodes) (nat_lt k (length controllers)) r over (running_below controllers k)
+    ∙ ap (λ b. nat_lt k most_nodes && b) (sym still))
 
 -- ---- the whole note
 

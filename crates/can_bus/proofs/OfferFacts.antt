@@ -1,19 +1,15 @@
 -- What the controllers offer.
-use Rattle.std.proofs.Common.{◌≡◌, ◌≢◌, ℕ, ◌<◌, ◌==◌, Bool, true, false, IsTrue, cond, List, [], ◌∷◌, length, refl, ap, sym, subst, ◌∙◌, inl, inr}
-use Rattle.std.specs.Prelude.{Option, Some, None, IfSome, is_none, is_some, if◌then◌else◌}
-use Rattle.std.proofs.lemmas.Bool.{cases_lt, cases_eq, eq-eqb, ne_eqb, false≢true}
+use Rattle.std.proofs.Common.{◌≡◌, ◌≢◌, ℕ, ◌<◌, ◌≤◌, ◌+◌, true, false, nat_lt, cond, List, [], refl, ap, sym, subst, ◌∙◌, arith, inl, inr}
+use Rattle.std.specs.Prelude.{Option, Some, None, IfSome, is_none, is_some}
+use Rattle.std.proofs.lemmas.Bool.{cases_lt, lt-ltb, le-ltb}
 use Rattle.cany_base.specs.declared.format.Format.{Format}
 use Rattle.cany_base.specs.Frame.{FrameParts}
-use Rattle.cany_base.specs.Nodes.{Nodes, has}
 use Rattle.cany_model.specs.Bus.Slot.{least_frame, offered}
 use Rattle.cany_model.specs.Bus.State.{NodeState, node_at, absent}
 use Rattle.can_frame.specs.Identifier.{FitsIdentifier}
-use Rattle.can_arbiter.specs.Offers.{OfferTable, offer_at}
-use Rattle.can_arbiter.proofs.RestFacts.{IsWithout, taken_out, left_in, was_in}
-use Rattle.can_controller.specs.Controller.{ControllerState}
-use Rattle.can_bus.specs.Contest.{AreOffering, AreOffersOf, StandInOrder}
-use Rattle.can_bus.specs.Controllers.{nodes_of}
-use Rattle.can_bus.proofs.NodeFacts.{state_past}
+use Rattle.can_arbiter.specs.Outcome.{IsEntered}
+use Rattle.can_bus.specs.Contest.{StandInOrder}
+use Rattle.can_bus.proofs.WinnerFacts.{offer_of}
 
 no_frame_in_order : (format : Format) → StandInOrder format []
 unfolding least_frame
@@ -22,16 +18,6 @@ no_frame_in_order format = record { head = refl; least_key = tt }
 least_of_none : None ≡ least_frame []
 unfolding least_frame
 least_of_none = refl
-
--- where there is no least frame there is none
-none_offered : (xs : List FrameParts) → least_frame xs ≡ None → xs ≡ []
-unfolding least_frame
-none_offered [] e = refl
-none_offered (x ∷ xs) e = cc
-
-pub nothing : (o : Option FrameParts) → is_some o ≡ false → o ≡ None
-nothing None e = refl
-nothing (Some f) e = cc
 
 stops_running : (s : Option ℕ) → is_some s ≡ true → is_none s ≡ false
 stops_running None e = cc
@@ -56,87 +42,60 @@ stopped_in_order format node e = subst (StandInOrder format) (sym (offered_stopp
 pub running_in_order : (format : Format) (node : NodeState) → is_some node.stopped ≡ false → StandInOrder format node.waiting → StandInOrder format (offered node)
 running_in_order format node e order = subst (StandInOrder format) (sym (offered_running node e)) order
 
--- ---- going over the nodes that offer
+-- ---- going over the nodes
 
--- what the nodes offer is put in, but for the rest, which offer too
-pub record OffersSoFar (format : Format) (nodes : List NodeState) (rest : ℕ → Bool) (offers : OfferTable) : Type 0 where
-  pub same_format : offers.format ≡ format
-  pub within : (k : ℕ) → IsTrue (rest k) → is_some (least_frame (offered (node_at nodes k))) ≡ true
-  pub put : (k : ℕ) → rest k ≡ false → offer_at offers k ≡ least_frame (offered (node_at nodes k))
-  pub waits : (k : ℕ) → IsTrue (rest k) → offer_at offers k ≡ None
-  pub fit : (k : ℕ) (f : FrameParts) → offer_at offers k ≡ Some f → FitsIdentifier format f
-  pub in_order : (k : ℕ) → rest k ≡ false → StandInOrder format (offered (node_at nodes k))
+pub absent_offers : least_frame (offered absent) ≡ None
+absent_offers = sym least_of_none
 
-pub none_so_far : (format : Format) (nodes : List NodeState) (set : Nodes) (offers : OfferTable) → offers.format ≡ format → ((k : ℕ) → offer_at offers k ≡ None)
-    → AreOffering nodes set → OffersSoFar format nodes (has set) offers
-none_so_far format nodes set offers same none are = record {
-  same_format = same;
-  within = λ k h. sym (are k) ∙ h;
-  put = λ k out. none k ∙ sym (nothing (least_frame (offered (node_at nodes k))) (sym (are k) ∙ out));
-  waits = λ k h. none k;
-  fit = λ k f e. let no : None ≡ Some f = sym (none k) ∙ e in cc;
-  in_order = λ k out.
-      let empty : offered (node_at nodes k) ≡ [] = none_offered (offered (node_at nodes k)) (nothing (least_frame (offered (node_at nodes k))) (sym (are k) ∙ out)) in
-      subst (StandInOrder format) (sym empty) (no_frame_in_order format);
-}
+pub absent_in_order : (format : Format) → StandInOrder format (offered absent)
+absent_in_order format = no_frame_in_order format
 
-if_here : (k i : ℕ) (x y : Option FrameParts) → k ≡ i → (if k == i then x else y) ≡ x
-if_here k i x y e = ap (λ b. cond b x y) (eq-eqb k i e)
+-- what the nodes below this one offer
+abbrev pub offers_below : List NodeState → ℕ → ℕ → Option FrameParts
+offers_below nodes i k = cond (nat_lt k i) (offer_of nodes k) None
 
-if_elsewhere : (k i : ℕ) (x y : Option FrameParts) → k ≢ i → (if k == i then x else y) ≡ y
-if_elsewhere k i x y e = ap (λ b. cond b x y) (ne_eqb k i e)
+below_here : (nodes : List NodeState) (i k : ℕ) → k < i → offers_below nodes i k ≡ offer_of nodes k
+below_here nodes i k below = ap (λ b. cond b (offer_of nodes k) None) (lt-ltb k i below)
 
-fits_some : (format : Format) (o : Option FrameParts) (f : FrameParts) → IfSome o (FitsIdentifier format) → o ≡ Some f → FitsIdentifier format f
-fits_some format o f fit e = subst (λ (p : Option FrameParts). IfSome p (FitsIdentifier format)) e fit
+pub not_below : (nodes : List NodeState) (i k : ℕ) → i ≤ k → offers_below nodes i k ≡ None
+not_below nodes i k above = ap (λ b. cond b (offer_of nodes k) None) (le-ltb k i above)
 
-pub one_more_offers : (format : Format) (nodes : List NodeState) (rest less : ℕ → Bool) (i : ℕ) (node : NodeState) (old new : OfferTable)
-    → OffersSoFar format nodes rest old → IsWithout rest i less → node ≡ node_at nodes i → new.format ≡ old.format
-    → ((k : ℕ) → offer_at new k ≡ (if k == i then least_frame (offered node) else offer_at old k))
-    → IfSome (least_frame (offered node)) (FitsIdentifier old.format) → StandInOrder old.format (offered node) → OffersSoFar format nodes less new
-one_more_offers format nodes rest less i node old new so out here same put fit in_order =
-    let own : least_frame (offered node) ≡ least_frame (offered (node_at nodes i)) = ap (λ n. least_frame (offered n)) here in
-    let fit_own : IfSome (least_frame (offered node)) (FitsIdentifier format) = subst (λ (f : Format). IfSome (least_frame (offered node)) (FitsIdentifier f)) so.same_format fit in
-    let in_order_own : StandInOrder format (offered node) = subst (λ (f : Format). StandInOrder f (offered node)) so.same_format in_order in
-    record {
-      same_format = same ∙ so.same_format;
-      within = λ k h. so.within k (was_in rest less i k out h);
-      put = λ k none. elim (cases_eq k i) [
-        | inl at ↦ put k ∙ if_here k i (least_frame (offered node)) (offer_at old k) at ∙ own ∙ ap (λ j. least_frame (offered (node_at nodes j))) (sym at)
-        | inr apart ↦ put k ∙ if_elsewhere k i (least_frame (offered node)) (offer_at old k) apart ∙ so.put k (sym (left_in rest less i k out apart) ∙ none)
-      ];
-      waits = λ k h. elim (cases_eq k i) [
-        | inl at ↦ absurd (false≢true (sym (taken_out rest less i out) ∙ sym (ap less at) ∙ h))
-        | inr apart ↦ put k ∙ if_elsewhere k i (least_frame (offered node)) (offer_at old k) apart ∙ so.waits k (was_in rest less i k out h)
-      ];
-      fit = λ k f e. elim (cases_eq k i) [
-        | inl at ↦ fits_some format (least_frame (offered node)) f fit_own (sym (if_here k i (least_frame (offered node)) (offer_at old k) at) ∙ sym (put k) ∙ e)
-        | inr apart ↦ so.fit k f (sym (if_elsewhere k i (least_frame (offered node)) (offer_at old k) apart) ∙ sym (put k) ∙ e)
-      ];
-      in_order = λ k none. elim (cases_eq k i) [
-        | inl at ↦ subst (λ (n : NodeState). StandInOrder format (offered n)) (here ∙ ap (node_at nodes) (sym at)) in_order_own
-        | inr apart ↦ so.in_order k (sym (left_in rest less i k out apart) ∙ none)
-      ];
-    }
-
-pub absent_offers : None ≡ least_frame (offered absent)
-absent_offers = least_of_none
-
--- a node that offers has a controller
-offers_within : (controllers : List ControllerState) (i : ℕ) → is_some (least_frame (offered (node_at (nodes_of controllers) i))) ≡ true → i < length controllers
-offers_within controllers i some = elim (cases_lt i (length controllers)) [
-  | inl below ↦ below
-  | inr past ↦ absurd (false≢true (ap is_some (absent_offers ∙ ap (λ n. least_frame (offered n)) (sym (state_past controllers i past))) ∙ some))
+same_below : (nodes : List NodeState) (i k : ℕ) → k ≢ i → offers_below nodes (i + 1) k ≡ offers_below nodes i k
+same_below nodes i k apart = elim (cases_lt k i) [
+  | inl below ↦ below_here nodes (i + 1) k (omega arith) ∙ sym (below_here nodes i k below)
+  | inr above ↦ not_below nodes (i + 1) k (omega (arith, apart)) ∙ sym (not_below nodes i k above)
 ]
 
-pub rest_within : (format : Format) (controllers : List ControllerState) (rest : ℕ → Bool) (offers : OfferTable) (node i : ℕ)
-    → OffersSoFar format (nodes_of controllers) rest offers → IsTrue (rest node) → i ≡ node → i < length controllers
-rest_within format controllers rest offers node i so there at = rw at (offers_within controllers node (so.within node there))
-
--- the rest is empty
-pub all_offers : (format : Format) (nodes : List NodeState) (rest : ℕ → Bool) (offers : OfferTable) → OffersSoFar format nodes rest offers
-    → ((k : ℕ) → rest k ≡ false) → AreOffersOf nodes offers
-all_offers format nodes rest offers so none = record {
-  each = λ i. so.put i (none i);
-  fit = λ i f e. subst (λ (own : Format). FitsIdentifier own f) (sym so.same_format) (so.fit i f e);
-  in_order = λ i. subst (λ (own : Format). StandInOrder own (offered (node_at nodes i))) (sym so.same_format) (so.in_order i (none i));
+-- the next node enters what it offers
+pub next_entered : (nodes : List NodeState) (i : ℕ) (node : NodeState) → node_at nodes i ≡ node
+    → IsEntered i (least_frame (offered node)) (offers_below nodes i) (offers_below nodes (i + 1))
+next_entered nodes i node at = record {
+  last = λ k above. not_below nodes i k above;
+  here = below_here nodes (i + 1) i (omega arith) ∙ ap (λ n. least_frame (offered n)) at;
+  others = λ k apart. same_below nodes i k apart;
 }
+
+-- what all nodes offer, of which there are so many
+pub all_below : (nodes : List NodeState) (n : ℕ) → ((k : ℕ) → n ≤ k → node_at nodes k ≡ absent) → offers_below nodes n ≡ offer_of nodes
+all_below nodes n past = λ j k. each k j
+  where
+    each : (k : ℕ) → offers_below nodes n k ≡ offer_of nodes k
+    each k = elim (cases_lt k n) [
+      | inl below ↦ below_here nodes n k below
+      | inr above ↦ not_below nodes n k above ∙ sym (ap (λ x. least_frame (offered x)) (past k above) ∙ absent_offers)
+    ]
+
+-- each offer fits an identifier
+pub all_fit : (format : Format) (nodes : List NodeState) (n : ℕ) → ((k : ℕ) → k < n → IfSome (offer_of nodes k) (FitsIdentifier format))
+    → ((k : ℕ) → n ≤ k → node_at nodes k ≡ absent) → (k : ℕ) (f : FrameParts) → offer_of nodes k ≡ Some f → FitsIdentifier format f
+all_fit format nodes n fit past k f e = elim (cases_lt k n) [
+  | inl below ↦ subst (λ (o : Option FrameParts). IfSome o (FitsIdentifier format)) e (fit k below)
+  | inr above ↦ let none : None ≡ Some f = sym (ap (λ x. least_frame (offered x)) (past k above) ∙ absent_offers) ∙ e in cc
+]
+
+pub all_in_order : (format : Format) (nodes : List NodeState) (n : ℕ) → ((k : ℕ) → k < n → StandInOrder format (offered (node_at nodes k)))
+    → ((k : ℕ) → n ≤ k → node_at nodes k ≡ absent) → (k : ℕ) → StandInOrder format (offered (node_at nodes k))
+all_in_order format nodes n order past k = elim (cases_lt k n) [
+  | inl below ↦ order k below
+  | inr above ↦ subst (λ (x : NodeState). StandInOrder format (offered x)) (sym (past k above)) (absent_in_order format)
+]

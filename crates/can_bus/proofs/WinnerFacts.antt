@@ -10,6 +10,7 @@ use Rattle.cany_model.specs.Bus.Frames.{is_before, same_class}
 use Rattle.cany_model.specs.Bus.Slot.{better, least_frame, offered, winner}
 use Rattle.cany_model.specs.Bus.State.{NodeState, node_at}
 use Rattle.can_frame.specs.Identifier.{FitsIdentifier}
+use Rattle.can_arbiter.specs.Outcome.{Wins}
 use Rattle.can_controller.specs.Waiting.{LesserKeyWins}
 
 -- ---- the order of frames
@@ -94,13 +95,6 @@ winner_none = refl
 abbrev pub offer_of : List NodeState → ℕ → Option FrameParts
 offer_of nodes k = least_frame (offered (node_at nodes k))
 
--- a node offers the frame; none offers one of a smaller key, and no node before it offers one of the same key
-pub record WinsAmong (format : Format) (offers : ℕ → Option FrameParts) (f : FrameParts) : Type 0 where
-  pub node : ℕ
-  pub offers_it : offers node ≡ Some f
-  pub least_key : (k : ℕ) (g : FrameParts) → offers k ≡ Some g → key_of format f ≤ key_of format g
-  pub least_node : (k : ℕ) (g : FrameParts) → offers k ≡ Some g → key_of format g ≡ key_of format f → node ≤ k
-
 clash : (o : Option FrameParts) (f : FrameParts) → o ≡ None → o ≡ Some f → ⊥
 clash o f a b = cc
 
@@ -114,11 +108,11 @@ less_false : (a b : ℕ) → nat_lt a b ≡ false → b ≤ a
 less_false a b e = grind (arith, nat_tests)
 
 -- the winner is offered later
-from_rest : (format : Format) (offers : ℕ → Option FrameParts) (f : FrameParts) → WinsAmong format (λ k. offers (suc k)) f
-    → ((g : FrameParts) → offers 0 ≡ Some g → key_of format f < key_of format g) → WinsAmong format offers f
+from_rest : (format : Format) (offers : ℕ → Option FrameParts) (f : FrameParts) → Wins format (λ k. offers (suc k)) f
+    → ((g : FrameParts) → offers 0 ≡ Some g → key_of format f < key_of format g) → Wins format offers f
 from_rest format offers f rest first = record {
   node = suc rest.node;
-  offers_it = rest.offers_it;
+  offered = rest.offered;
   least_key = λ k g. at_least k g;
   least_node = λ k g. no_earlier k g;
 }
@@ -133,10 +127,10 @@ from_rest format offers f rest first = record {
 
 -- the winner is offered first
 from_first : (format : Format) (offers : ℕ → Option FrameParts) (f : FrameParts) → offers 0 ≡ Some f
-    → ((k : ℕ) (g : FrameParts) → offers (suc k) ≡ Some g → key_of format f ≤ key_of format g) → WinsAmong format offers f
+    → ((k : ℕ) (g : FrameParts) → offers (suc k) ≡ Some g → key_of format f ≤ key_of format g) → Wins format offers f
 from_first format offers f first rest = record {
   node = 0;
-  offers_it = first;
+  offered = first;
   least_key = λ k g. at_least k g;
   least_node = λ k g e same. omega arith;
 }
@@ -163,24 +157,24 @@ no_offers [] none = winner_none
 no_offers (n ∷ ns) none = winner_cons n ns ∙ ap (λ o. pick o (winner ns)) (none 0) ∙ no_offers ns (λ k. none (suc k))
 
 module _ (format : Format) (lesser_wins : LesserKeyWins format) where
-  by_order : (offers : ℕ → Option FrameParts) (g h f : FrameParts) (lost : Bool) → offers 0 ≡ Some g → WinsAmong format (λ k. offers (suc k)) h
-      → ((k : ℕ) (r : FrameParts) → offers k ≡ Some r → FitsIdentifier format r) → is_before h g ≡ lost → better g (Some h) ≡ f → WinsAmong format offers f
+  by_order : (offers : ℕ → Option FrameParts) (g h f : FrameParts) (lost : Bool) → offers 0 ≡ Some g → Wins format (λ k. offers (suc k)) h
+      → ((k : ℕ) (r : FrameParts) → offers k ≡ Some r → FitsIdentifier format r) → is_before h g ≡ lost → better g (Some h) ≡ f → Wins format offers f
   by_order offers g h f true first rest fit order e =
-      let key : nat_lt (key_of format h) (key_of format g) ≡ true = sym (lesser_wins h g (fit (suc rest.node) h rest.offers_it) (fit 0 g first)) ∙ order in
+      let key : nat_lt (key_of format h) (key_of format g) ≡ true = sym (lesser_wins h g (fit (suc rest.node) h rest.offered) (fit 0 g first)) ∙ order in
       let less : key_of format h < key_of format g = less_true (key_of format h) (key_of format g) key in
-      let P : FrameParts → Type 0 = WinsAmong format offers in
+      let P : FrameParts → Type 0 = Wins format offers in
       subst P (sym (later_wins g h order) ∙ e)
       (from_rest format offers h rest (λ r at. omega (arith, one_key format g r (same_Some g r (sym first ∙ at)))))
   by_order offers g h f false first rest fit order e =
-      let key : nat_lt (key_of format h) (key_of format g) ≡ false = sym (lesser_wins h g (fit (suc rest.node) h rest.offers_it) (fit 0 g first)) ∙ order in
+      let key : nat_lt (key_of format h) (key_of format g) ≡ false = sym (lesser_wins h g (fit (suc rest.node) h rest.offered) (fit 0 g first)) ∙ order in
       let no_less : key_of format g ≤ key_of format h = less_false (key_of format h) (key_of format g) key in
-      let P : FrameParts → Type 0 = WinsAmong format offers in
+      let P : FrameParts → Type 0 = Wins format offers in
       subst P (sym (earlier_wins g h order) ∙ e)
       (from_first format offers g first (λ k r at. omega (arith, rest.least_key k r at)))
 
   joined : (offers : ℕ → Option FrameParts) (a b : Option FrameParts) (f : FrameParts) → offers 0 ≡ a → pick a b ≡ Some f
       → ((k : ℕ) (r : FrameParts) → offers k ≡ Some r → FitsIdentifier format r)
-      → (b ≡ None → (k : ℕ) → offers (suc k) ≡ None) → ((h : FrameParts) → b ≡ Some h → WinsAmong format (λ k. offers (suc k)) h) → WinsAmong format offers f
+      → (b ≡ None → (k : ℕ) → offers (suc k) ≡ None) → ((h : FrameParts) → b ≡ Some h → Wins format (λ k. offers (suc k)) h) → Wins format offers f
   joined offers None b f first e fit none rest =
       from_rest format offers f (rest f e) (λ g at. absurd (clash (offers 0) g first at))
   joined offers (Some g) None f first e fit none rest =
@@ -189,7 +183,7 @@ module _ (format : Format) (lesser_wins : LesserKeyWins format) where
       by_order offers g h f (is_before h g) first (rest h refl) fit refl (same_Some (better g (Some h)) f e)
 
   pub winner_wins : (nodes : List NodeState) (f : FrameParts) → ((k : ℕ) (r : FrameParts) → offer_of nodes k ≡ Some r → FitsIdentifier format r)
-      → winner nodes ≡ Some f → WinsAmong format (offer_of nodes) f
+      → winner nodes ≡ Some f → Wins format (offer_of nodes) f
   unfolding node_at
   winner_wins [] f fit e = absurd (clash (winner []) f winner_none e)
   winner_wins (n ∷ ns) f fit e =

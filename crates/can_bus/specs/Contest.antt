@@ -1,36 +1,20 @@
--- What arbitration gives, and what is offered to it, in the words of a run.
-use Rattle.std.specs.Prelude.{◌≡◌, ℕ, ◌<◌, ◌⊎◌, if◌then◌else◌, is_none, is_some, Option, Some, None, IfSome, List, All, slice_get}
+-- What arbitration gives, in the words of a run.
+use Rattle.std.specs.Prelude.{◌≡◌, ℕ, ◌<◌, ◌⊎◌, if◌then◌else◌, is_none, IfSome, List, All, slice_get}
 use Rattle.cany_base.specs.declared.format.Format.{Format}
 use Rattle.cany_base.specs.declared.slot_note.SlotNote.{SlotNote}
 use Rattle.cany_base.specs.Frame.{FrameParts, key_of}
 use Rattle.cany_base.specs.Nodes.{Nodes, has, those_where}
-use Rattle.cany_model.specs.Bus.Slot.{least_frame, offered, sends, share_of, winner}
+use Rattle.cany_model.specs.Bus.Slot.{least_frame, sends, share_of, winner}
 use Rattle.cany_model.specs.Bus.State.{NodeState, node_at, runs}
-use Rattle.can_frame.specs.Identifier.{FitsIdentifier}
 use Rattle.can_arbiter.specs.declared.arbitration.Outcome.{Outcome}
 use Rattle.can_arbiter.specs.declared.arbitration.Outcome.TheVariants.{Idle, Won}
-use Rattle.can_arbiter.specs.Offers.{OfferTable, offer_at}
+use Rattle.can_arbiter.specs.Outcome.{frame_of}
 use Rattle.can_controller.specs.Controller.{ControllerState, seen, stopped_at}
 
 -- of the frames that a controller waits with the first wins, and each other has a greater key
 pub record StandInOrder (format : Format) (frames : List FrameParts) : Type 0 where
   pub head : least_frame frames ≡ slice_get frames 0
   pub least_key : IfSome (slice_get frames 0) (λ f. All (λ g. (g ≡ f) ⊎ (key_of format f < key_of format g)) frames)
-
--- the nodes that offer a frame
-abbrev pub AreOffering : List NodeState → Nodes → Type 0
-AreOffering nodes set = (i : ℕ) → has set i ≡ is_some (least_frame (offered (node_at nodes i)))
-
--- each node offers, of the frames that it waits with, the one that wins
-pub record AreOffersOf (nodes : List NodeState) (offers : OfferTable) : Type 0 where
-  pub each : (i : ℕ) → offer_at offers i ≡ least_frame (offered (node_at nodes i))
-  pub fit : (i : ℕ) (f : FrameParts) → offer_at offers i ≡ Some f → FitsIdentifier offers.format f
-  pub in_order : (i : ℕ) → StandInOrder offers.format (offered (node_at nodes i))
-
--- the frame that is carried
-abbrev pub frame_of : Outcome → Option FrameParts
-frame_of Idle = None
-frame_of (Won frame senders) = Some frame
 
 -- the senders of a frame that is carried are the nodes that wait with it
 abbrev pub HasSenders : List NodeState → Outcome → Type 0

@@ -4,7 +4,7 @@ ghost use Rattle.cany_base.specs.declared.slot_note.SlotNote.{SlotNote};
 ghost use Rattle.cany_base.specs.Limits.{most_slots};
 ghost use Rattle.cany_model.specs.Bus.Slot.{script as script_of};
 ghost use Rattle.can_fault.specs.Attempts.{AreCountsOf};
-ghost use Rattle.can_bus.specs.Contest.{frame_of};
+ghost use Rattle.can_arbiter.specs.Outcome.{frame_of};
 
 use can_arbiter::Outcome;
 use can_fault::laws::attempts_are_at_most_slots;

@@ -1,12 +1,14 @@
 //! What the controllers learn of a slot.
-ghost use Rattle.std.specs.Prelude.{◌≡◌, ◌<◌, ◌≤◌, None, length};
+ghost use Rattle.std.specs.Prelude.{◌≡◌, ◌<◌, ◌≤◌, ◌&&◌, ℕ, None, is_none, length, nat_lt, not};
 ghost use Rattle.cany_base.specs.Limits.{most_nodes};
+ghost use Rattle.cany_base.specs.Nodes.{has};
+ghost use Rattle.cany_model.specs.Bus.State.{node_at, runs};
 ghost use Rattle.can_bus.specs.Contest.{running_nodes, seen_by, stopped_by};
 ghost use Rattle.can_bus.specs.Seeing.{AreNoticesOf};
 ghost use Rattle.can_bus.specs.Each.{each};
 ghost use Rattle.can_bus.specs.Controllers.{HaveRoom, nodes_of};
 
-use crate::nodes::insert_running;
+use crate::nodes::insert_unless;
 use crate::transmission::is_success;
 use can_controller::{Controller, Share};
 use cany_base::{NodeId, NodeSet, Notice, NoticeKind, Slot, SlotNote};
@@ -33,36 +35,41 @@ fn notices_of(note: &SlotNote) -> Notices
     }
 }
 
-/// The controller of node i sees its share, if it runs.
+/// The controller of node i sees its share, if it runs. Whether it runs after that.
 #[tactic(auto, unfolding(cany_model::specs::Bus::Slot::share_of))]
-fn see_share(controller: &mut Controller, i: usize, note: &SlotNote, notices: &Notices)
+fn see_share(controller: &mut Controller, i: usize, note: &SlotNote, notices: &Notices) -> bool
     requires node { i < most_nodes }
     requires room { controller.old.stopped ≡ None → length controller.old.unread ≤ controller.old.params.lag }
     requires notices { AreNoticesOf note.now notices.now }
-    ensures { controller.new ≡ seen_by note.now i controller.old }
+    ensures controller { controller.new ≡ seen_by note.now i controller.old }
+    ensures runs { result ≡ is_none controller.new.stopped }
 {
     if controller.stopped().is_some() {
-        return;
+        return false;
     }
     let Some(frame) = &note.frame else {
         controller.see(note.slot, Share::Idle);
-        return;
+        return controller.stopped().is_none();
     };
     let node = NodeId::of_index(i);
     if note.senders.has(node) {
         if is_success(&note.verdict) {
             controller.see_sent(frame, &notices.sent);
-        } else {
-            controller.see(note.slot, Share::Errored);
+            return controller.stopped().is_none();
         }
-    } else if note.takers.has(node) {
-        controller.see_taken(&notices.got);
-    } else {
-        controller.see(note.slot, Share::Rejected);
+        controller.see(note.slot, Share::Errored);
+        return controller.stopped().is_none();
     }
+    if note.takers.has(node) {
+        controller.see_taken(&notices.got);
+        return true;
+    }
+    controller.see(note.slot, Share::Rejected);
+    controller.stopped().is_none()
 }
 
-/// Each running controller sees its share by these notices. Given are the nodes that then still run.
+/// Each running controller sees its share by these notices. Given are the nodes that do not run
+/// after that.
 // It is kept out of line so that each controller gets its notice copied whole. Where the notices are
 // made in the same function, they are taken apart, and each copy is put together piece by piece.
 #[inline(never)]
@@ -71,25 +78,30 @@ fn see_each(controllers: &mut [Controller], note: &SlotNote, notices: &Notices) 
     requires room { HaveRoom controllers.old }
     requires notices { AreNoticesOf note.now notices.now }
     ensures controllers { controllers.new ≡ each (seen_by note.now) 0 controllers.old }
-    ensures running { result ≡ running_nodes (nodes_of controllers.new) }
+    ensures stopped { (k : ℕ) → has result k ≡ (nat_lt k (length controllers.old) && not (runs (node_at (nodes_of controllers.new) k))) }
 {
-    let mut running = NodeSet::empty();
+    // A copy, so that nothing of it is read again for each controller.
+    let note = *note;
+    let mut stopped = NodeSet::empty();
     for i in 0..controllers.len() {
         let controller = &mut controllers[i];
-        see_share(controller, i, note, notices);
-        insert_running(&mut running, i, controller);
+        let runs = see_share(controller, i, &note, notices);
+        insert_unless(&mut stopped, i, runs);
     }
-    running
+    stopped
 }
 
-/// Each running controller sees its share. Given are the nodes that then still run.
-pub(crate) fn see_all(controllers: &mut [Controller], note: &SlotNote) -> NodeSet
+/// Each running controller sees its share. Given are the nodes that then still run; `before` are
+/// those that run before.
+pub(crate) fn see_all(controllers: &mut [Controller], before: NodeSet, note: &SlotNote) -> NodeSet
     requires few { length controllers.old ≤ most_nodes }
     requires room { HaveRoom controllers.old }
+    requires before { before ≡ running_nodes (nodes_of controllers.old) }
     ensures controllers { controllers.new ≡ each (seen_by note.now) 0 controllers.old }
     ensures running { result ≡ running_nodes (nodes_of controllers.new) }
 {
-    see_each(controllers, note, &notices_of(note))
+    let stopped = see_each(controllers, note, &notices_of(note));
+    before.minus(stopped)
 }
 
 /// The controller of node i stops, if the set has it.

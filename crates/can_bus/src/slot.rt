@@ -8,7 +8,7 @@ ghost use Rattle.can_fault.specs.Attempts.{AreCountsOf};
 ghost use Rattle.can_bus.specs.Controllers.{AreAfter, HaveRoom, nodes_of};
 
 use crate::contest::contest;
-use crate::nodes::{running_and_offering, stopping};
+use crate::nodes::stopping;
 use crate::ruling::ruling;
 use crate::seeing::{see_all, stop_all};
 use crate::transmission::transmission;
@@ -33,11 +33,10 @@ pub(crate) fn run_slot(
     ensures counts { (trace : List SlotNote) → AreCountsOf script.now trace attempts.old → AreCountsOf script.now (result ∷ trace) attempts.new }
     ensures controllers { AreAfter result controllers.old controllers.new }
 {
-    let (before, offering) = running_and_offering(controllers);
-    let outcome = contest(params, controllers, offering);
+    let (before, outcome) = contest(params.format, controllers);
     let (verdict, scripted) = ruling(slot, &outcome, attempts, script);
     let note = transmission(slot, before, &outcome, &verdict);
-    let after = see_all(controllers, &note);
+    let after = see_all(controllers, before, &note);
     let stops = stopping(before, after, scripted);
     stop_all(controllers, slot, stops);
     // So each controller that ran is the node after the slot.

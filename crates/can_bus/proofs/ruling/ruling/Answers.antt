@@ -10,7 +10,7 @@ use Rattle.cany_model.specs.Bus.Slot.{script}
 use Rattle.can_arbiter.specs.declared.arbitration.Outcome.{Outcome}
 use Rattle.can_fault.specs.Rules.{next_attempt}
 use Rattle.can_fault.specs.Attempts.{greatest}
-use Rattle.can_bus.specs.Contest.{frame_of}
+use Rattle.can_arbiter.specs.Outcome.{frame_of}
 use Rattle.can_bus.proofs.ruling.ruling.Goals as goal
 
 -- without rules a slot is Clean and stops nobody

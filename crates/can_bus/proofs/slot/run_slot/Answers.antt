@@ -12,24 +12,24 @@ use Rattle.can_bus.proofs.slot.run_slot.Goals as goal
 
 -- the note but for its stops, and its stops
 bare_is : (c : goal.After-seen_is_node_after) → c.transmission-note.result ≡ transmission c.args.slot (nodes_of c.args.controllers.now) c.ruling-verdict.result.0 (winner (nodes_of c.args.controllers.now))
-bare_is c = c.transmission-note.ensures (nodes_of c.args.controllers.now) c.contest-outcome.ensures c.running_and_offering-before.ensures.running
+bare_is c = c.transmission-note.ensures (nodes_of c.args.controllers.now) c.contest-before.ensures.contest c.contest-before.ensures.running
 
 stops_is : (c : goal.After-seen_is_node_after) → c.stopping-stops.result ≡ stopping c.ruling-verdict.result.1 (nodes_of c.args.controllers.now) c.transmission-note.result
 stops_is c =
-    stops_are c.ruling-verdict.result.1 c.args.controllers.now c.transmission-note.result c.see_all-after.new.controllers c.running_and_offering-before.result.0 c.see_all-after.result c.stopping-stops.result
-    c.see_all-after.ensures.controllers c.running_and_offering-before.ensures.running c.see_all-after.ensures.running c.stopping-stops.ensures
+    stops_are c.ruling-verdict.result.1 c.args.controllers.now c.transmission-note.result c.see_all-after.new.controllers c.contest-before.result.0 c.see_all-after.result c.stopping-stops.result
+    c.see_all-after.ensures.controllers c.contest-before.ensures.running c.see_all-after.ensures.running c.stopping-stops.ensures
 
 pub returns-clause-note : goal.returns-clause-note
 returns-clause-note c trace counts at short =
     noted (script c.args.script.now) trace (nodes_of c.args.controllers.now) c.args.slot (record { verdict = c.ruling-verdict.result.0; stop = c.ruling-verdict.result.1 })
     c.transmission-note.result c.stopping-stops.result at
-    (c.ruling-verdict.ensures.ruling trace counts at short ∙ ap (script c.args.script.now trace) c.contest-outcome.ensures.frame) (bare_is c) (stops_is c)
+    (c.ruling-verdict.ensures.ruling trace counts at short ∙ ap (script c.args.script.now trace) c.contest-before.ensures.contest.frame) (bare_is c) (stops_is c)
 
 pub returns-clause-counts : goal.returns-clause-counts
 returns-clause-counts c trace counts =
     let nodes = nodes_of c.args.controllers.now in
     c.ruling-verdict.ensures.counts trace (record c.transmission-note.result { stops = c.stopping-stops.result }) counts
-    (ap (λ (n : SlotNote). n.frame) (bare_is c) ∙ frame_noted c.args.slot nodes c.ruling-verdict.result.0 (winner nodes) ∙ sym c.contest-outcome.ensures.frame)
+    (ap (λ (n : SlotNote). n.frame) (bare_is c) ∙ frame_noted c.args.slot nodes c.ruling-verdict.result.0 (winner nodes) ∙ sym c.contest-before.ensures.contest.frame)
 
 pub returns-clause-controllers : goal.returns-clause-controllers
 returns-clause-controllers c =
