@@ -36,7 +36,7 @@ use Rattle.cany_totcan.specs.Totcan.{AreAcceptances, AreDone, CanRead, HasHeard,
 use Rattle.cany_totcan.specs.TotcanSteps.{has_open, noted_if, origin_actions}
 use Rattle.cany_totcan.proofs.AcceptanceFacts.{AcceptsNone, acceptances_learnt, acceptances_moved, acceptances_owned, acceptances_same, accepts_none-bad, accepts_none-got, accepts_none-got_closed, accepts_none-idle, accepts_none-sent, accepts_none-sent_closed, can_take_acceptance, not_accepting, not_carrying}
 use Rattle.cany_totcan.proofs.AcceptedFacts.{accepted_stays, after_other}
-use Rattle.cany_totcan.proofs.KnownFacts.{own_named}
+use Rattle.cany_totcan.proofs.KnownFacts.{own_named, number_below}
 use Rattle.cany_totcan.proofs.OwnFacts.{IsOfOwn, brings_own, got_own, own_noted, own_other, sent_own}
 use Rattle.cany_totcan.proofs.PlaceFacts.{IsWithin, holds-none, holds-some, is_of_key_back, open_is, placed_kept, placed_moved, placed_once, placed_within, recent_more, tot_in-got, tot_in-got_other, tot_in-sent, tot_in-sent_other}
 use Rattle.cany_totcan.proofs.QueueFacts.{done-moved, named-moved, room_to_place}
@@ -86,6 +86,7 @@ module _ (scenario : ScenarioParts) (i : ℕ) (notice : NoticeKind) (before : Li
       bound = h.limits.bound;
       spacing = h.limits.spacing;
       room = h.limits.room;
+      numbers = h.limits.numbers;
       deliveries = h.limits.deliveries;
     };
     queue = record { places = h.queue.places ∙ sym (placed_kept scenario.params.bound notice before none); messages = h.queue.messages };
@@ -143,6 +144,7 @@ module _ (scenario : ScenarioParts) (i : ℕ) (notice : NoticeKind) (before : Li
         bound = h.limits.bound;
         spacing = h.limits.spacing;
         room = h.limits.room;
+        numbers = h.limits.numbers;
         deliveries = h.limits.deliveries;
       };
       queue = record { places = moved_places; messages = named-moved scenario service.Tot f slot v.queue named h.queue.messages };
@@ -175,6 +177,9 @@ module _ (scenario : ScenarioParts) (i : ℕ) (before : List NoticeKind) (messag
               (subst AreOnce (sym h.queue.places) (placed_once scenario.params.bound before)),
           h.limits.room,
         )
+
+    pub can_number : f.number < v.queue.numbers
+    can_number = omega (arith, number_below scenario f h.limits.legal named, h.limits.numbers)
 
     pub can_note : f.node ≡ v.node → f.number < length v.backlog.own
     can_note own = omega (arith, own_named scenario f h.limits.legal named i (own ∙ h.limits.node), h.backlog.own)

@@ -19,7 +19,7 @@ use Rattle.cany_model.specs.Rules.Notices.{NamesMessage}
 use Rattle.cany_model.proofs.Among.{Each-weaker}
 use Rattle.cany_model.proofs.Rules.NumberFacts.{message_is_small}
 use Rattle.cany_totcan.specs.declared.queue.Placed.{Placed}
-use Rattle.cany_totcan.specs.MessageSet.{MessageSetParts, HasRoomOf}
+use Rattle.cany_totcan.specs.MessageSet.{MessageSetParts, HasRoomOf, numbers_of}
 use Rattle.cany_totcan.specs.Queue.{AreOnce, OpenParts, oldest_from, without_oldest, without_oldest_from}
 use Rattle.cany_totcan.specs.Totcan.{HasHeard, TotcanParts}
 use Rattle.cany_totcan.specs.TotcanSteps.{AreAdded, AreKnown, HaveGone, IsKnown, due, first_of, closing_accepted, closing_frame, is_accepted_by, without_closing}
@@ -53,10 +53,11 @@ module _ (scenario : ScenarioParts) (f : FrameParts) (legal : IsLegalScenario sc
       let origin : named.message.origin ≡ i = named.origin ∙ own in
       omega (arith, below, ap (λ n. count_by (is_from n) scenario.sends) origin, named.number)
 
+  pub number_below : f.number < numbers_of scenario
+  number_below = below_numbers scenario (identity_of f) named (message_is_small scenario service.Tot (identity_of f) legal named).node
+
   pub can_deliver : (v : MessageSetParts) → HasRoomOf scenario v → f.number < length v.origins
-  can_deliver v room =
-      let small = message_is_small scenario service.Tot (identity_of f) legal named in
-      omega (arith, below_numbers scenario (identity_of f) named small.node, room)
+  can_deliver v room = omega (arith, number_below, room)
 
 -- ---- after a notice
 

@@ -9,6 +9,7 @@ pub mod HeardFacts
 pub mod KnownFacts
 pub mod NextFacts
 pub mod OpenFacts
+pub mod OpenSetFacts
 pub mod OwnFacts
 pub mod PlaceFacts
 pub mod QueueFacts

@@ -24,7 +24,8 @@ use Rattle.cany_model.proofs.Among.{Among, Among-from_Contains, Among-weaker, Ea
 use Rattle.cany_model.proofs.Rules.MessageKeys.{is_service-from}
 use Rattle.cany_model.proofs.Rules.RoomFacts.{pigeonhole}
 use Rattle.cany_totcan.specs.declared.queue.Placed.{Placed}
-use Rattle.cany_totcan.specs.Queue.{AreAscending, AreOnce, IsIndexOf, IsKept, OpenParts, is_at, is_removed, moved, without_key}
+use Rattle.cany_totcan.specs.MessageSet.{MessageSetParts, has_message}
+use Rattle.cany_totcan.specs.Queue.{AreAscending, AreOnce, IsIndexOf, IsKept, IsSetOf, OpenParts, is_at, is_removed, moved, without_key}
 
 -- ---- keys
 
@@ -50,6 +51,13 @@ is_at-true key x here = same_key-true key (message_in x.frame) here
 apart_both : (a b : MsgKey) → same_key a b ≡ false → same_key b a ≡ false
 apart_both a b apart = false_from_ne_true (same_key b a) (λ same.
     false≢true (sym apart ∙ ap (λ k. same_key a k) (same_key-true b a same) ∙ same_key_self a))
+
+-- keys are compared the same both ways
+same_key_swap : (a b : MsgKey) → same_key a b ≡ same_key b a
+same_key_swap a b = elim (cases_Bool (same_key a b)) [
+  | inl same ↦ ap (λ k. same_key k b) (same_key-true a b same) ∙ ap (λ k. same_key b k) (sym (same_key-true a b same))
+  | inr apart ↦ apart ∙ sym (apart_both a b apart)
+]
 
 -- ---- which messages are there
 
@@ -99,6 +107,33 @@ without-absent key [] none = refl
 without-absent key (x ∷ items) none =
     let parts = or_parts (is_at key x) (list_any (is_at key) items) none in
     rw parts.0 (ap (λ rest. x ∷ rest) (without-absent key items parts.1))
+
+-- ---- the set of those that are there
+
+-- the key is taken out of the set
+abbrev pub IsTakenOut : MsgKey → MessageSetParts → MessageSetParts → Type 0
+IsTakenOut key old new = (seq origin : ℕ) → has_message new seq origin ≡ (not (seq == key.seq && origin == key.origin) && has_message old seq origin)
+
+-- the key is put into the set
+abbrev pub IsPutIn : MsgKey → MessageSetParts → MessageSetParts → Type 0
+IsPutIn key old new = (seq origin : ℕ) → has_message new seq origin ≡ (seq == key.seq && origin == key.origin || has_message old seq origin)
+
+set-without : (key : MsgKey) (items : List Placed) (old new : MessageSetParts) → IsSetOf items old → IsTakenOut key old new → IsSetOf (without_key key items) new
+set-without key items old new is less = λ seq origin.
+    let other : MsgKey = record { origin = origin; seq = seq } in
+    less seq origin
+    ∙ ap (λ b. not (same_key other key) && b) (is seq origin)
+    ∙ ap (λ b. not b && list_any (is_at other) items) (same_key_swap other key)
+    ∙ sym (any-without other key items)
+
+set-with : (f : FrameParts) (slot : ℕ) (items : List Placed) (old new : MessageSetParts) → IsSetOf items old → IsPutIn (message_in f) old new
+    → IsSetOf (items ++ record { frame = f; place = slot } ∷ []) new
+set-with f slot items old new is more = λ seq origin.
+    let key : MsgKey = record { origin = origin; seq = seq } in
+    more seq origin
+    ∙ ap (λ b. same_key key (message_in f) || b) (is seq origin)
+    ∙ or_swap (same_key key (message_in f)) (list_any (is_at key) items)
+    ∙ sym (any-append_one key items (record { frame = f; place = slot }))
 
 -- ---- each stands there once
 
@@ -250,56 +285,62 @@ parts_absent key v there none = λ k. record {
   items = sym (without-absent key v.items none) k;
   done = sym (done_absent key v.items v.done none there) k;
   room = v.room;
+  numbers = v.numbers;
 }
 
 -- what is left without the message at an index, where it is done, and where it is not
 module _ (key : MsgKey) (index : ℕ) (v : OpenParts) (items : List Placed) (once : AreOnce v.items) (at : IsIndexOf key index v.items)
-    (is : items ≡ remove v.items index) where
-  pub parts_before : index < v.done → v.done ≤ length v.items → record v { items = items; done = v.done - 1 } ≡ is_removed key v
+    (is : items ≡ remove v.items index) (numbers : ℕ) (same : numbers ≡ v.numbers) where
+  pub parts_before : index < v.done → v.done ≤ length v.items → record v { items = items; done = v.done - 1; numbers = numbers } ≡ is_removed key v
   parts_before before there =
       let left : v.done - 1 ≡ length (without_key key (take v.done v.items)) =
       omega (arith, done_before key v.items index v.done once at before there) in
-      λ k. record { items = (is ∙ sym (removed_at key v.items index once at)) k; done = left k; room = v.room }
+      λ k. record { items = (is ∙ sym (removed_at key v.items index once at)) k; done = left k; room = v.room; numbers = same k }
 
-  pub parts_after : v.done ≤ index → record v { items = items } ≡ is_removed key v
+  pub parts_after : v.done ≤ index → record v { items = items; numbers = numbers } ≡ is_removed key v
   parts_after after = λ k. record {
     items = (is ∙ sym (removed_at key v.items index once at)) k;
     done = sym (done_after key v.items index v.done once at after) k;
     room = v.room;
+    numbers = same k;
   }
 
-pub kept-remove : (key : MsgKey) (index : ℕ) (items : List Placed) (done left room capacity : ℕ) → IsKept items done room capacity
-    → IsIndexOf key index items → left < length items → IsKept (remove items index) left room capacity
-kept-remove key index items done left room capacity kept at fewer = record {
+pub kept-remove : (key : MsgKey) (index : ℕ) (items : List Placed) (done left room capacity : ℕ) (old new : MessageSetParts) → IsKept items done room capacity old
+    → IsIndexOf key index items → left < length items → IsTakenOut key old new → IsKept (remove items index) left room capacity new
+kept-remove key index items done left room capacity old new kept at fewer less = record {
   once = subst AreOnce (removed_at key items index kept.once at) (once-without key items kept.once);
   ascending = subst AreAscending (removed_at key items index kept.once at) (ascending-filter (λ x. not (is_at key x)) items kept.ascending);
   there = omega (arith, length-remove items index at.within);
   in_room = omega (arith, length-remove items index at.within, kept.in_room);
   reserved = kept.reserved;
+  is_set = subst (λ xs. IsSetOf xs new) (removed_at key items index kept.once at) (set-without key items old new kept.is_set less);
 }
 
-kept-append_one : (items : List Placed) (x : Placed) (done room capacity : ℕ) → IsKept items done room capacity
-    → list_any (is_at (message_in x.frame)) items ≡ false → AllByRecursion (λ y. y.place < x.place) items → length items < room
-    → IsKept (items ++ x ∷ []) done room capacity
-kept-append_one items x done room capacity kept none later spare = record {
-  once = once-append_one items x kept.once none;
-  ascending = ascending-append_one items x kept.ascending later;
-  there = omega (arith, length-append items (x ∷ []), kept.there);
-  in_room = omega (arith, length-append items (x ∷ []));
+kept-append_one : (items : List Placed) (f : FrameParts) (slot done room capacity : ℕ) (old new : MessageSetParts) → IsKept items done room capacity old
+    → list_any (is_at (message_in f)) items ≡ false → AllByRecursion (λ y. y.place < slot) items → length items < room → IsPutIn (message_in f) old new
+    → IsKept (items ++ record { frame = f; place = slot } ∷ []) done room capacity new
+kept-append_one items f slot done room capacity old new kept none later spare more = record {
+  once = once-append_one items (record { frame = f; place = slot }) kept.once none;
+  ascending = ascending-append_one items (record { frame = f; place = slot }) kept.ascending later;
+  there = omega (arith, length-append items (record { frame = f; place = slot } ∷ []), kept.there);
+  in_room = omega (arith, length-append items (record { frame = f; place = slot } ∷ []));
   reserved = kept.reserved;
+  is_set = set-with f slot items old new kept.is_set more;
 }
 
 -- a message is placed after it was removed from the messages of v
-pub kept-place : (f : FrameParts) (slot : ℕ) (v : OpenParts) (items : List Placed) (done room capacity : ℕ) → IsKept items done room capacity
-    → record { items = items; done = done; room = room } ≡ is_removed (message_in f) v → length (without_key (message_in f) v.items) < v.room
-    → AllByRecursion (λ x. x.place < slot) v.items → IsKept (items ++ record { frame = f; place = slot } ∷ []) done room capacity
-kept-place f slot v items done room capacity kept is spare later =
+pub kept-place : (f : FrameParts) (slot : ℕ) (v : OpenParts) (items : List Placed) (done room capacity : ℕ) (old new : MessageSetParts)
+    → IsKept items done room capacity old
+    → record { items = items; done = done; room = room; numbers = length old.origins } ≡ is_removed (message_in f) v
+    → length (without_key (message_in f) v.items) < v.room → AllByRecursion (λ x. x.place < slot) v.items → IsPutIn (message_in f) old new
+    → IsKept (items ++ record { frame = f; place = slot } ∷ []) done room capacity new
+kept-place f slot v items done room capacity old new kept is spare later more =
     let left : items ≡ without_key (message_in f) v.items = ap (λ (w : OpenParts). w.items) is in
     let same : room ≡ v.room = ap (λ (w : OpenParts). w.room) is in
-    kept-append_one items (record { frame = f; place = slot }) done room capacity kept
+    kept-append_one items f slot done room capacity old new kept
     (ap (list_any (is_at (message_in f))) left ∙ any-without_self (message_in f) v.items)
     (subst (AllByRecursion (λ x. x.place < slot)) (sym left) (each-filter (λ x. x.place < slot) (λ x. not (is_at (message_in f) x)) v.items later))
-    (omega (arith, ap length left))
+    (omega (arith, ap length left)) more
 
 -- ---- those that are done
 

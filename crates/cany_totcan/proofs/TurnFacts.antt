@@ -166,6 +166,21 @@ closing_room slot v = go (nat_lt slot v.bound)
     go true = refl
     go false = room_kept (slot - v.bound) v.queue v.queue.items
 
+numbers_kept : (place : ℕ) (q : OpenParts) (items : List Placed) → (without_oldest_from place q items).numbers ≡ q.numbers
+numbers_kept place q [] = refl
+numbers_kept place q (x ∷ items) = go (x.place == place)
+  where
+    go : (b : Bool) → (if b then record q { items = items; done = q.done - 1 } else q).numbers ≡ q.numbers
+    go true = refl
+    go false = refl
+
+closing_numbers : (slot : ℕ) (v : TotcanParts) → (without_closing slot v).queue.numbers ≡ v.queue.numbers
+closing_numbers slot v = go (nat_lt slot v.bound)
+  where
+    go : (b : Bool) → (if b then v.queue else without_oldest (slot - v.bound) v.queue).numbers ≡ v.queue.numbers
+    go true = refl
+    go false = numbers_kept (slot - v.bound) v.queue v.queue.items
+
 mixed : (before closed passed gone : Bool) → (passed ≡ true → before ≡ true) → (gone || (closed || before)) ≡ (before || (closed || (passed || gone)))
 mixed true true p true h = refl
 mixed true true p false h = refl
@@ -380,6 +395,7 @@ module _ (scenario : ScenarioParts) (i : ℕ) (notice : NoticeKind) (before : Li
       bound = h.limits.bound;
       spacing = h.limits.spacing;
       room = closing_room slot v ∙ h.limits.room;
+      numbers = closing_numbers slot v ∙ h.limits.numbers;
       deliveries = gone_added.numbers ∙ added.numbers ∙ h.limits.deliveries;
     };
     queue = record {

@@ -6,12 +6,15 @@ use Rattle.cany_base.specs.declared.notice.NoticeKind.{NoticeKind}
 use Rattle.cany_base.specs.Frame.{FrameParts}
 use Rattle.cany_model.specs.Rules.Totcan.{is_place, message_in, tot_in}
 use Rattle.cany_totcan.specs.declared.queue.Placed.{Placed}
+use Rattle.cany_totcan.specs.MessageSet.{MessageSetParts, has_message}
 
--- those that are open, the oldest place first; how many of them, from the first on, are done; and how many there may be
+-- those that are open, the oldest place first; how many of them, from the first on, are done; how many there may be; and the number
+-- that theirs are below
 pub record OpenParts : Type 0 where
   pub items : List Placed
   pub done : ℕ
   pub room : ℕ
+  pub numbers : ℕ
 
 abbrev pub is_at : MsgKey → Placed → Bool
 is_at key x = key.seq == x.frame.number && key.origin == x.frame.node
@@ -29,13 +32,18 @@ abbrev pub AreAscending : List Placed → Type 0
 AreAscending [] = Unit {0}
 AreAscending (x ∷ items) = AllByRecursion (λ y. x.place < y.place) items × AreAscending items
 
+-- the set has the messages, and no others
+abbrev pub IsSetOf : List Placed → MessageSetParts → Type 0
+IsSetOf items set = (seq origin : ℕ) → has_message set seq origin ≡ list_any (is_at (record { origin = origin; seq = seq })) items
+
 -- what is true of the messages and of the memory that holds them
-pub record IsKept (items : List Placed) (done room capacity : ℕ) : Type 0 where
+pub record IsKept (items : List Placed) (done room capacity : ℕ) (set : MessageSetParts) : Type 0 where
   pub once : AreOnce items
   pub ascending : AreAscending items
   pub there : done ≤ length items
   pub in_room : length items ≤ room
   pub reserved : room ≤ capacity
+  pub is_set : IsSetOf items set
 
 -- the message stands at this index
 pub record IsIndexOf (key : MsgKey) (index : ℕ) (items : List Placed) : Type 0 where

@@ -21,7 +21,7 @@ use Rattle.cany_model.specs.Rules.Totcan.{after_place, delivered, holds, is_acce
 use Rattle.cany_totcan.specs.declared.backlog.Given.{Given}
 use Rattle.cany_totcan.specs.declared.queue.Placed.{Placed}
 use Rattle.cany_totcan.specs.Backlog.{BacklogParts, own_at}
-use Rattle.cany_totcan.specs.MessageSet.{MessageSetParts, HasRoomOf, has_message}
+use Rattle.cany_totcan.specs.MessageSet.{MessageSetParts, HasRoomOf, has_message, numbers_of}
 use Rattle.cany_totcan.specs.Queue.{OpenParts, placed_in}
 
 -- the node, the format of identifiers, how long a message stays open, how far the places of the node's own messages lie apart, the
@@ -47,6 +47,7 @@ pub record HasLimitsOf (scenario : ScenarioParts) (i : ℕ) (v : TotcanParts) : 
   pub bound : v.bound ≡ scenario.params.bound
   pub spacing : v.spacing ≡ scenario.params.bound + scenario.params.lag
   pub room : v.queue.room ≡ sends_by scenario service.Tot
+  pub numbers : v.queue.numbers ≡ numbers_of scenario
   pub deliveries : HasRoomOf scenario v.deliveries
 
 -- The table has, of each message whose place is one of so many newest notices, the acceptances that were read after the place. All

@@ -1,4 +1,4 @@
-ghost use Rattle.std.specs.Prelude.{◌≡◌, ℕ, ◌<◌, ◌==◌, ◌&&◌, ◌||◌, length, replicate, IfOk};
+ghost use Rattle.std.specs.Prelude.{◌≡◌, ℕ, ◌<◌, ◌==◌, ◌&&◌, ◌||◌, not, length, replicate, IfOk};
 ghost use Rattle.cany_base.specs.Nodes.{nobody};
 ghost use Rattle.cany_totcan.specs.MessageSet.{has_message, most_of_one, numbers_of};
 
@@ -52,6 +52,19 @@ impl MessageSet {
         let place = usize::from(msg.seq);
         let mut origins = self.origins.get(place);
         origins.insert(msg.origin);
+        self.origins.set(place, origins);
+    }
+
+    /// Takes a message out.
+    pub(crate) fn take_out(&mut self, msg: &MsgKey)
+        requires { msg.now.seq < length self.old.origins }
+        ensures has { (seq origin : ℕ) →
+            has_message self.new seq origin ≡ (not (seq == msg.now.seq && origin == msg.now.origin) && has_message self.old seq origin) }
+        ensures numbers { length self.new.origins ≡ length self.old.origins }
+    {
+        let place = usize::from(msg.seq);
+        let mut origins = self.origins.get(place);
+        origins.remove(msg.origin);
         self.origins.set(place, origins);
     }
 }

@@ -1,8 +1,9 @@
 ghost use Rattle.std.specs.Prelude.{◌≡◌, ℕ, ◌<◌, ◌≤◌, ◌+◌, ◌-◌, [], None, length, option_map, slice_get, false, IfOk, IfSome, IfNone};
 ghost use Rattle.std.specs.List.{AllByRecursion, list_any};
 ghost use Rattle.cany_model.specs.Rules.Totcan.{message_in};
-ghost use Rattle.cany_totcan.specs.Queue.{IsIndexOf, is_at, is_removed, moved, oldest_from, without_key, without_oldest};
+ghost use Rattle.cany_totcan.specs.Queue.{AreOnce, IsIndexOf, is_at, is_removed, moved, oldest_from, without_key, without_oldest};
 
+use crate::message_set::MessageSet;
 use cany_base::{Frame, Memory, MsgKey, Slot};
 use std::alloc::Global;
 use std::marker::Model;
@@ -28,33 +29,38 @@ impl Placed {
 /// the first `done` are done.
 ///
 /// All stay open for the same time, so they close in that order, and a turn looks at the first, and
-/// at the first that is not done.
+/// at the first that is not done. Whether a message is open is read off a set, since most messages
+/// are new or closed, and all that are open would have to be looked at.
 #[derive(Drop)]
 pub(crate) struct OpenMessages {
     placed: Vec<Placed>,
+    /// The same messages.
+    members: MessageSet,
     done: usize,
     room: usize,
 }
 
 impl Model for OpenMessages {
-    ghost use Rattle.std.specs.Prelude.{vec_capacity};
+    ghost use Rattle.std.specs.Prelude.{length, vec_capacity};
     ghost use Rattle.cany_totcan.specs.Queue.{OpenParts, IsKept};
 
     ghost Value = { OpenParts };
 
-    ghost view = { λ q. record { items = q.placed.items; done = q.done; room = q.room } };
+    ghost view = { λ q. record { items = q.placed.items; done = q.done; room = q.room; numbers = length q.members.origins } };
 
-    ghost invariant = { λ q. IsKept q.placed.items q.done q.room (vec_capacity q.placed) };
+    ghost invariant = { λ q. IsKept q.placed.items q.done q.room (vec_capacity q.placed) q.members };
 }
 
 impl OpenMessages {
-    /// None are open, and so many may be.
-    pub(crate) fn build(alloc: Global, room: usize) -> Result<OpenMessages, Memory>
-        ensures { IfOk result (λ queue. queue ≡ record { items = []; done = 0; room = room }) }
+    /// None are open, and so many may be, whose numbers are below the other number.
+    pub(crate) fn build(alloc: Global, room: usize, numbers: usize) -> Result<OpenMessages, Memory>
+        ensures { IfOk result (λ queue. queue ≡ record { items = []; done = 0; room = room; numbers = numbers }) }
     {
         let placed = Vec::with_capacity(alloc, room)?;
+        let members = MessageSet::build(alloc, numbers)?;
         Ok(OpenMessages {
             placed,
+            members,
             done: 0,
             room,
         })
@@ -63,6 +69,7 @@ impl OpenMessages {
     /// The data frame of a message was read in a slot, which comes after all places: the message is
     /// the last from now on, and not done.
     pub(crate) fn place(&mut self, frame: &Frame, slot: Slot)
+        requires number { frame.now.number < self.old.numbers }
         requires room { length (without_key (message_in frame.now) self.old.items) < self.old.room }
         requires later { AllByRecursion (λ x. x.place < slot) self.old.items }
         ensures { self.new ≡ moved frame.now slot self.old }
@@ -72,6 +79,7 @@ impl OpenMessages {
             seq: frame.number,
         };
         self.remove(&msg);
+        self.members.insert(&msg);
         self.placed.push_reserved(Placed {
             frame: *frame,
             place: slot,
@@ -82,8 +90,18 @@ impl OpenMessages {
     fn remove(&mut self, msg: &MsgKey)
         ensures { self.new ≡ is_removed msg.now self.old }
     {
+        if self.members.has(msg) {
+            self.remove_open(msg);
+        }
+    }
+
+    /// Removes a message, after a look at those from the oldest to it.
+    fn remove_open(&mut self, msg: &MsgKey)
+        ensures { self.new ≡ is_removed msg.now self.old }
+    {
         if let Some(index) = index_of(self.placed.as_slice(), msg) {
             self.placed.remove(index);
+            self.members.take_out(msg);
             if index < self.done {
                 self.done -= 1;
             }
@@ -95,12 +113,25 @@ impl OpenMessages {
         ensures oldest { result ≡ oldest_from place self.old.items }
         ensures rest { self.new ≡ without_oldest place self.old }
     {
-        let oldest = *self.placed.first()?;
+        let frame = self.oldest_at(place)?;
+        let msg = MsgKey {
+            origin: frame.node,
+            seq: frame.number,
+        };
+        self.remove_open(&msg);
+        Some(frame)
+    }
+
+    /// The data frame of the oldest message, if its place is this slot.
+    fn oldest_at(&self, place: Slot) -> Option<Frame>
+        ensures oldest { result ≡ oldest_from place self.now.items }
+        ensures once { AreOnce self.now.items }
+        ensures there { self.now.done ≤ length self.now.items }
+    {
+        let oldest = self.placed.first()?;
         if oldest.place != place {
             return None;
         }
-        self.placed.remove(0);
-        self.done = self.done.saturating_sub(1);
         Some(oldest.frame)
     }
 
@@ -134,7 +165,7 @@ impl OpenMessages {
     pub(crate) fn has(&self, msg: &MsgKey) -> bool
         ensures { result ≡ list_any (is_at msg.now) self.now.items }
     {
-        index_of(self.placed.as_slice(), msg).is_some()
+        self.members.has(msg)
     }
 }
 

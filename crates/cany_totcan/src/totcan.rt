@@ -88,9 +88,10 @@ impl Totcan {
     {
         let params = *scenario.params();
         let room = sends_by(scenario, Service::Tot);
-        let queue = OpenMessages::build(alloc, room)?;
+        let numbers = numbers_of(scenario);
+        let queue = OpenMessages::build(alloc, room, numbers)?;
         let acceptances = Eager::build(alloc, params.omit, room)?;
-        let deliveries = MessageSet::build(alloc, numbers_of(scenario))?;
+        let deliveries = MessageSet::build(alloc, numbers)?;
         let backlog = Backlog::build(alloc, node, scenario)?;
         Ok(Totcan {
             node,
@@ -240,6 +241,7 @@ impl Totcan {
     /// A data frame was read: its message has its place here, and is accepted by what is read from
     /// now on.
     fn hold(&mut self, slot: Slot, frame: &Frame, is_sent: bool)
+        requires number { frame.now.number < self.old.queue.numbers }
         requires room { length (without_key (message_in frame.now) self.old.queue.items) < self.old.queue.room }
         requires later { AllByRecursion (λ x. x.place < slot) self.old.queue.items }
         requires own { frame.now.node ≡ self.old.node → frame.now.number < length self.old.backlog.own }
@@ -260,6 +262,7 @@ impl Totcan {
 
     /// The node's own transmission of a data frame was read: the origin accepts the message.
     fn on_own_data(&mut self, slot: Slot, frame: &Frame, out: &mut Actions)
+        requires number { frame.now.number < self.old.queue.numbers }
         requires place { length (without_key (message_in frame.now) self.old.queue.items) < self.old.queue.room }
         requires later { AllByRecursion (λ x. x.place < slot) self.old.queue.items }
         requires own { frame.now.node ≡ self.old.node → frame.now.number < length self.old.backlog.own }
@@ -306,7 +309,7 @@ impl Totcan {
     {
         let acceptance = acceptance_of(key_of(frame));
         // Called for what it ensures: no key is there twice, so there is room for this one.
-        let _copies = self.acceptances.copies(&acceptance);
+        let _spare = self.acceptances.spare();
         let learnt = self.acceptances.learn(acceptance);
         relay(self.format, &learnt, frame, out);
     }
@@ -320,7 +323,7 @@ impl Totcan {
     {
         let acceptance = acceptance_of(key_of(frame));
         // Called for what it ensures: no key is there twice, so there is room for this one.
-        let _copies = self.acceptances.copies(&acceptance);
+        let _spare = self.acceptances.spare();
         self.acceptances.own(acceptance);
     }
 

@@ -7,5 +7,5 @@ pub invariant_of-self : goal.invariant_of-self
 invariant_of-self c =
     let q = c.self.inside in
     rw (c.push_reserved.ensures.items, c.push_reserved.ensures.capacity)
-    (kept-place _ c.args.slot c.args.self.now q.placed.items q.done q.room (vec_capacity q.placed) c.self.invariant (c.self.view_is ∙ c.remove.ensures)
-    (rw (← c.frame.view_is) at c.requires.room) c.requires.later)
+    (kept-place _ c.args.slot c.args.self.now q.placed.items q.done q.room (vec_capacity q.placed) q.members c.insert.new.self c.self.invariant (c.self.view_is ∙ c.remove.ensures)
+    (rw (← c.frame.view_is) at c.requires.room) c.requires.later c.insert.ensures.has)

@@ -28,7 +28,8 @@ returns c = λ n.
         bound = ap (λ (q : Parameters). q.bound) params;
         spacing = omega (arith, ap (λ (q : Parameters). q.bound) params, ap (λ (q : Parameters). q.lag) params, c.from.ensures);
         room = ap (λ (q : OpenParts). q.room) c.in_ok-queue.ensures ∙ room;
-        deliveries = ap length c.in_ok-deliveries.ensures ∙ length-replicate c.numbers_of.result nobody ∙ c.numbers_of.ensures;
+        numbers = ap (λ (q : OpenParts). q.numbers) c.in_ok-queue.ensures ∙ c.numbers_of-numbers.ensures;
+        deliveries = ap length c.in_ok-deliveries.ensures ∙ length-replicate c.numbers_of-numbers.result nobody ∙ c.numbers_of-numbers.ensures;
       };
       queue =
           subst (λ (q : OpenParts). AreOpen scenario p.bound (replicate n Idle) q.items) (sym c.in_ok-queue.ensures)

@@ -14,7 +14,7 @@ use Rattle.cany_model.specs.Bus.Frames.{same_class}
 use Rattle.cany_model.proofs.Bus.Identities.{same_class-true}
 use Rattle.cany_totcan.specs.Totcan.{HasHeard}
 use Rattle.cany_totcan.specs.TotcanSteps.{has_open}
-use Rattle.cany_totcan.proofs.HeardFacts.{can_count, can_note, can_place, got_accepts, heard_acceptance, heard_bad, heard_got, heard_got_other, heard_idle, heard_own_acceptance, heard_sent, heard_sent_other, nothing_bad, nothing_data, nothing_got, nothing_idle, nothing_sent, open_now, origin_is, placed_before, relay_is, sent_accepts}
+use Rattle.cany_totcan.proofs.HeardFacts.{can_count, can_note, can_number, can_place, got_accepts, heard_acceptance, heard_bad, heard_got, heard_got_other, heard_idle, heard_own_acceptance, heard_sent, heard_sent_other, nothing_bad, nothing_data, nothing_got, nothing_idle, nothing_sent, open_now, origin_is, placed_before, relay_is, sent_accepts}
 use Rattle.cany_totcan.proofs.totcan.Totcan.hear.Goals as goal
 
 -- ---- what the parts require
@@ -23,6 +23,13 @@ pub hold-requires-clause-room : goal.hold-requires-clause-room
 hold-requires-clause-room c =
     let reads = c.requires.reads in
     can_place reads.scenario c.args.self.now.node reads.past reads.messages reads.count c.args.self.now c.args.self.now reads.stands c.in-Got.frame
+    (got_names reads.scenario reads.past c.args.notice.now c.in-Got.frame reads.next service.Tot c.in-Got.is
+    (same_class-true c.in-Got.frame.class class.Tot (sym c.is_data.ensures ∙ c.if-is_data.true)))
+
+pub hold-requires-clause-number : goal.hold-requires-clause-number
+hold-requires-clause-number c =
+    let reads = c.requires.reads in
+    can_number reads.scenario c.args.self.now.node reads.past reads.messages reads.count c.args.self.now c.args.self.now reads.stands c.in-Got.frame
     (got_names reads.scenario reads.past c.args.notice.now c.in-Got.frame reads.next service.Tot c.in-Got.is
     (same_class-true c.in-Got.frame.class class.Tot (sym c.is_data.ensures ∙ c.if-is_data.true)))
 
@@ -51,6 +58,13 @@ pub on_own_data-requires-clause-place : goal.on_own_data-requires-clause-place
 on_own_data-requires-clause-place c =
     let reads = c.requires.reads in
     can_place reads.scenario c.args.self.now.node reads.past reads.messages reads.count c.args.self.now c.args.self.now reads.stands c.in-Sent.frame
+    (sent_names reads.scenario reads.past c.args.notice.now c.in-Sent.frame reads.next service.Tot c.in-Sent.is
+    (same_class-true c.in-Sent.frame.class class.Tot (sym c.is_data-in-Sent.ensures ∙ c.if-is_data-2.true)))
+
+pub on_own_data-requires-clause-number : goal.on_own_data-requires-clause-number
+on_own_data-requires-clause-number c =
+    let reads = c.requires.reads in
+    can_number reads.scenario c.args.self.now.node reads.past reads.messages reads.count c.args.self.now c.args.self.now reads.stands c.in-Sent.frame
     (sent_names reads.scenario reads.past c.args.notice.now c.in-Sent.frame reads.next service.Tot c.in-Sent.is
     (same_class-true c.in-Sent.frame.class class.Tot (sym c.is_data-in-Sent.ensures ∙ c.if-is_data-2.true)))
 
