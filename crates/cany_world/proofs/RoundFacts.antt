@@ -5,6 +5,7 @@ use Rattle.cany_base.specs.declared.step.Step.{Step}
 use Rattle.cany_base.specs.declared.step.Step.TheVariants.{Slot, Turn}
 use Rattle.cany_base.specs.Scenario.{ScenarioParts}
 use Rattle.cany_model.specs.declared.reply.StepReply.{StepReply}
+use Rattle.cany_model.specs.declared.reply.StepReply.TheVariants.{Done, Lagging, Over, NothingYet, Stopped, NoNode}
 use Rattle.cany_base.specs.declared.slot_note.SlotNote.{SlotNote}
 use Rattle.cany_model.specs.Runs.RoundRobin.{reading_nodes, round, rounds, round_robin}
 use Rattle.cany_model.specs.Runs.Run.{IsLegal, after_step, after_turn, has_ended, is_done, proceed, reply, run, run_from}
@@ -26,12 +27,23 @@ pub record IsInRound (before now : WorldParts) (i : ℕ) : Type 0 where
   pub scenario : now.scenario ≡ before.scenario
   pub steps : RoundSoFar before.scenario before.journal now.journal i
 
-pub round_slot : (before new : WorldParts) (r : StepReply) → IsLegal before.scenario (before.journal ++ round before.scenario (state_of before))
-    → r ≡ reply before.scenario (state_of before) Slot → new ≡ (if is_done r then record before { journal = before.journal ++ Slot ∷ [] } else before) → IsInRound before new 0
-round_slot before new r legal is e =
-    let done : is_done r ≡ true = ap is_done is ∙ round_slot_done before.scenario before.journal legal in
-    let now = made before new (before.journal ++ Slot ∷ []) (is_done r) e in
-    record { scenario = now.0; steps = round_begins before.scenario before.journal new.journal (rw done at now.1) }
+is_done_done : (r : StepReply) → is_done r ≡ true → r ≡ Done
+is_done_done Done e = refl
+is_done_done (Lagging node unread) e = cc
+is_done_done (Over slots) e = cc
+is_done_done (NothingYet now) e = cc
+is_done_done (Stopped slot) e = cc
+is_done_done (NoNode node) e = cc
+
+-- the slot of a round can be made
+pub round_slot_can : (before : WorldParts) → IsLegal before.scenario (before.journal ++ round before.scenario (state_of before)) → reply before.scenario (state_of before) Slot ≡ Done
+round_slot_can before legal = is_done_done (reply before.scenario (state_of before) Slot) (round_slot_done before.scenario before.journal legal)
+
+pub round_slot : (before new : WorldParts) → new ≡ record before { journal = before.journal ++ Slot ∷ [] } → IsInRound before new 0
+round_slot before new e = record {
+  scenario = ap (λ (w : WorldParts). w.scenario) e;
+  steps = round_begins before.scenario before.journal new.journal (ap (λ (w : WorldParts). w.journal) e);
+}
 
 -- the world after the turn of a node, if it can be made
 abbrev pub turn_made : WorldParts → ℕ → WorldParts

@@ -1,5 +1,5 @@
 -- One step of a world, by its reply.
-use Rattle.std.proofs.Common.{◌≡◌, ℕ, ◌+◌, ◌*◌, ◌<◌, ◌≤◌, Bool, true, false, List, [], ◌∷◌, ◌++◌, length, sym, ap, ◌∙◌, subst, arith}
+use Rattle.std.proofs.Common.{◌≡◌, ℕ, ◌+◌, ◌*◌, ◌<◌, ◌≤◌, Bool, true, false, List, [], ◌∷◌, ◌++◌, length, refl, sym, ap, ◌∙◌, subst, arith}
 use Rattle.std.specs.Prelude.{MatchBool}
 use Rattle.std.proofs.lemmas.List.{length-append}
 use Rattle.cany_base.specs.declared.step.Step.{Step}
@@ -92,6 +92,18 @@ step_stands scenario journal step r bus controllers nodes done is h =
     let P : Type 0 = StandFor scenario (proceed scenario (run scenario journal) step) bus controllers nodes in
     subst (λ (t : RunState). StandFor scenario t bus controllers nodes) (sym (step_runs scenario journal step r done is))
     (subst (λ (x : StepReply). IfDone x P (Unit {0})) done h)
+
+-- a slot that can be made
+pub done_slot : (scenario : ScenarioParts) (s : RunState) → reply scenario s Slot ≡ Done → slot_reply scenario s ≡ Done
+unfolding reply
+done_slot scenario s done = done
+
+pub slot_made : (scenario : ScenarioParts) (journal : List Step) (bus : BusParts) (controllers : List ControllerState) (nodes : List IncarnationsParts) → reply scenario (run scenario journal) Slot ≡ Done
+    → StandFor scenario (after_restarts scenario (after_slot (script scenario.rules) (run scenario journal))) bus controllers nodes
+    → StandFor scenario (run scenario (journal ++ Slot ∷ [])) bus controllers nodes
+slot_made scenario journal bus controllers nodes done h =
+    step_stands scenario journal Slot Done bus controllers nodes refl (sym done)
+    (slot_stands scenario (run scenario journal) Slot Done bus controllers nodes refl h)
 
 pub same_stands : (scenario : ScenarioParts) (s t : RunState) (bus bus' : BusParts) (controllers after : List ControllerState) (nodes nodes' : List IncarnationsParts) → s ≡ t → bus' ≡ bus → after ≡ controllers
     → nodes' ≡ nodes → StandFor scenario s bus controllers nodes → StandFor scenario t bus' after nodes'

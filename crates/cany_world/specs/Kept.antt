@@ -15,7 +15,8 @@ use Rattle.cany_model.specs.Runs.Incarnations.{span_from}
 use Rattle.cany_model.specs.Rules.Log.{log_from}
 use Rattle.cany_model.specs.Rules.Notices.{error_as_idle}
 use Rattle.cany_model.specs.Rules.Rooms.{waiting_room, actions_room}
-use Rattle.cany_model.specs.Runs.Run.{run}
+use Rattle.cany_model.specs.declared.reply.StepReply.TheVariants.{Done}
+use Rattle.cany_model.specs.Runs.Run.{run, slot_reply}
 use Rattle.cany_model.specs.Bus.State.{EndedIncarnation, NodeState, RunState, node_at}
 use Rattle.cany_model.specs.Rules.Turn.{scenario_for}
 use Rattle.can_bus.specs.Bus.{BusParts, Follows}
@@ -119,6 +120,11 @@ pub record CanRunSlot (scenario : ScenarioParts) (script : List Rule) (b : BusPa
   pub rules : script ≡ scenario.rules
   pub journal : List Step
   pub stands : StandFor scenario (run scenario journal) b row kept
+
+-- the next slot can run: it can be asked for, and is not refused
+pub record CanRunNextSlot (scenario : ScenarioParts) (script : List Rule) (b : BusParts) (row : List ControllerState) (kept : List IncarnationsParts) : Type 0 where
+  pub asked : CanRunSlot scenario script b row kept
+  pub done : slot_reply scenario (run scenario asked.journal) ≡ Done
 
 -- a step can be asked for: some journal leads to the state that they stand for
 pub record CanStep (scenario : ScenarioParts) (script : List Rule) (bus : BusParts) (controllers : List ControllerState) (nodes : List IncarnationsParts) (actions : Bounded Action) : Type 0 where

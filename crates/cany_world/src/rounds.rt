@@ -6,7 +6,7 @@ ghost use Rattle.cany_model.specs.Bus.State.{slots_run};
 ghost use Rattle.cany_world.specs.World.{WorldParts, state_of};
 
 use crate::world::World;
-use cany_base::{NodeId, Step};
+use cany_base::NodeId;
 
 /// Makes the steps of one slot: the slot, and then the turns of the running nodes that have
 /// something to read, in ascending order.
@@ -15,7 +15,7 @@ fn make_round(world: &mut World)
     ensures { world.new ≡ record world.old { journal = world.old.journal ++ round world.old.scenario (state_of world.old) } }
 {
     let count = usize::from(world.scenario().params().nodes);
-    world.step(Step::Slot);
+    world.make_slot();
     for i in 0..count {
         world.make_turn(NodeId::of_index(i));
     }

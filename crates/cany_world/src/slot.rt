@@ -4,9 +4,10 @@ ghost use Rattle.cany_base.specs.declared.step.Step.{Step};
 ghost use Rattle.cany_base.specs.Limits.{most_nodes};
 ghost use Rattle.cany_base.specs.Scenario.{ScenarioParts};
 ghost use Rattle.cany_model.specs.Bus.Restart.{after_restarts};
+ghost use Rattle.cany_model.specs.declared.reply.StepReply.TheVariants.{Done};
 ghost use Rattle.cany_model.specs.Runs.Run.{run, slot_reply};
 ghost use Rattle.cany_model.specs.Bus.Slot.{after_slot, script as script_of};
-ghost use Rattle.cany_world.specs.Kept.{AreControllersOf, CanRunSlot, StandFor};
+ghost use Rattle.cany_world.specs.Kept.{AreControllersOf, CanRunNextSlot, CanRunSlot, StandFor};
 ghost use Rattle.cany_world.specs.Replies.{IfDone};
 
 use crate::incarnations::Incarnations;
@@ -35,6 +36,26 @@ fn slot_reply(params: &Params, ran: u64, controllers: &[Controller]) -> StepRepl
     }
 }
 
+/// Runs the next slot, which is known to be one that can run, and then the restarts at its end.
+pub(crate) fn run_next_slot(
+    scenario: &Scenario,
+    script: &Script,
+    bus: &mut Bus,
+    controllers: &mut [Controller],
+    nodes: &mut [Incarnations],
+)
+    requires { CanRunNextSlot scenario.now script.now bus.old controllers.old nodes.old }
+
+    // They stand for the state after the slot and its restarts.
+    ensures { (journal : List Step) → let s = run scenario.now journal in
+        StandFor scenario.now s bus.old controllers.old nodes.old → slot_reply scenario.now s ≡ Done
+        → StandFor scenario.now (after_restarts scenario.now (after_slot (script_of scenario.now.rules) s)) bus.new controllers.new nodes.new }
+{
+    let slot = bus.trace().len() as u64;
+    bus.slot(controllers, script);
+    restart_all(scenario.restarts(), slot, controllers, nodes);
+}
+
 /// Runs the next slot, if it can run, and then the restarts at its end.
 pub(crate) fn run_slot(
     scenario: &Scenario,
@@ -58,8 +79,7 @@ pub(crate) fn run_slot(
     let slot = bus.trace().len() as u64;
     match slot_reply(scenario.params(), slot, controllers) {
         StepReply::Done => {
-            bus.slot(controllers, script);
-            restart_all(scenario.restarts(), slot, controllers, nodes);
+            run_next_slot(scenario, script, bus, controllers, nodes);
             StepReply::Done
         }
         refusal => refusal,

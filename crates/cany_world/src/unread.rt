@@ -54,7 +54,7 @@ pub(crate) fn none_has_anything_to_do(controllers: &[Controller]) -> bool
 {
     for i in 0..controllers.len() {
         let controller = &controllers[i];
-        if controller.stopped().is_none() && !controller.has_nothing_to_do() {
+        if !controller.has_nothing_to_do() && controller.stopped().is_none() {
             return false;
         }
     }

@@ -25,6 +25,7 @@ use crate::journal::push_rounds;
 use crate::opening::{controllers_of, journal_room, nodes_of};
 use crate::resting::rest;
 use crate::settled::{is_asked, is_settled};
+use crate::slot::run_next_slot;
 use crate::step::make;
 use crate::stretch::{Stretch, next_stretch};
 use crate::turn::take_turn;
@@ -127,6 +128,21 @@ impl World {
             }
             refusal => refusal,
         }
+    }
+
+    /// Makes the next slot, which is known to be one that can be made, as the step of it does.
+    pub(crate) fn make_slot(&mut self)
+        requires { reply self.old.scenario (state_of self.old) Step.Slot ≡ StepReply.Done }
+        ensures { self.new ≡ record self.old { journal = self.old.journal ++ Step.Slot ∷ [] } }
+    {
+        run_next_slot(
+            &self.scenario,
+            &self.script,
+            &mut self.bus,
+            self.controllers.as_mut_slice(),
+            self.nodes.as_mut_slice(),
+        );
+        self.journal.push_copy(&Step::Slot);
     }
 
     /// Makes the turn of the node, if it runs and has something to read, as the step of this turn

@@ -1,11 +1,14 @@
 use Rattle.std.proofs.Common.{◌≡◌, ap, ◌∙◌, arith}
 use Rattle.cany_base.specs.Params.{Parameters}
 use Rattle.cany_base.specs.Scenario.{ScenarioParts}
-use Rattle.cany_world.proofs.RoundFacts.{as_made, round_slot, round_next, round_whole, turn_made}
+use Rattle.cany_world.proofs.RoundFacts.{as_made, round_slot, round_slot_can, round_next, round_whole, turn_made}
 use Rattle.cany_world.proofs.rounds.make_round.Goals as goal
 
 pub loop-i-init : goal.loop-i-init
-loop-i-init c = round_slot c.args.world.now c.step.new.self c.step.result c.requires c.step.ensures.reply c.step.ensures.new
+loop-i-init c = round_slot c.args.world.now c.make_slot.new.self c.make_slot.ensures
+
+pub make_slot-requires : goal.make_slot-requires
+make_slot-requires c = round_slot_can c.args.world.now c.requires
 
 pub make_turn-requires : goal.make_turn-requires
 make_turn-requires c =
