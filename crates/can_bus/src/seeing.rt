@@ -80,12 +80,10 @@ fn see_each(controllers: &mut [Controller], note: &SlotNote, notices: &Notices) 
     ensures controllers { controllers.new ≡ each (seen_by note.now) 0 controllers.old }
     ensures stopped { (k : ℕ) → has result k ≡ (nat_lt k (length controllers.old) && not (runs (node_at (nodes_of controllers.new) k))) }
 {
-    // A copy, so that nothing of it is read again for each controller.
-    let note = *note;
     let mut stopped = NodeSet::empty();
     for i in 0..controllers.len() {
         let controller = &mut controllers[i];
-        let runs = see_share(controller, i, &note, notices);
+        let runs = see_share(controller, i, note, notices);
         insert_unless(&mut stopped, i, runs);
     }
     stopped
