@@ -1,59 +1,31 @@
--- The turn of a frame of EDCAN or of RELCAN in a slot in which the node would rest: TOTCAN, the site, the script and the backlog have
--- nothing to do.
+-- The turn of a frame of EDCAN or of RELCAN, or of none, in a slot for which nothing is due but a timer of RELCAN: TOTCAN, the site, the
+-- script and the backlog have nothing to do.
 use Rattle.std.specs.List.{flat_map}
-use Rattle.std.proofs.Common.{◌≡◌, ℕ, ◌+◌, List, [], ◌∷◌, ◌++◌, length, Option, Some, None, refl, ap, sym, ◌∙◌, subst, arith}
-use Rattle.cany_base.specs.declared.actions.Action.{Action}
+use Rattle.std.proofs.Common.{◌≡◌, ℕ, List, [], ◌∷◌, ◌++◌, length, None, ap, sym, ◌∙◌, subst}
 use Rattle.cany_base.specs.declared.notice.NoticeKind.{NoticeKind}
 use Rattle.cany_base.specs.declared.notice.NoticeKind.TheVariants.{Idle}
 use Rattle.cany_base.specs.Scenario.{ScenarioParts}
 use Rattle.cany_edcan.specs.Edcan.{EdcanParts, IsEdcanOf}
-use Rattle.cany_model.specs.Rules.Actions.{actions_of}
 use Rattle.cany_model.specs.Rules.Backlog.{ask_for, asked, asked_after, backlog, backlog_effects, next_after, one_more}
-use Rattle.cany_model.specs.Rules.Edcan.{edcan_effects}
-use Rattle.cany_model.specs.Rules.Effect.{Effect, TurnRule}
 use Rattle.cany_model.specs.Rules.Membership.{asks_in}
-use Rattle.cany_model.specs.Rules.Messages.{Message}
-use Rattle.cany_model.specs.Rules.Relcan.{relcan_effects}
 use Rattle.cany_model.specs.Rules.Sends.{send_effects}
 use Rattle.cany_model.specs.Rules.Knowledge.{Knowledge}
 use Rattle.cany_model.specs.Rules.Totcan.{totcan_effects}
 use Rattle.cany_model.specs.Rules.Views.{join_asked, leave_asked}
 use Rattle.cany_relcan.specs.Relcan.{IsRelcanOf, RelcanParts}
 use Rattle.cany_totcan.specs.Totcan.{IsTotcanOf}
-use Rattle.cany_node.specs.Agenda.{IsAgendaOf}
-use Rattle.cany_node.specs.Apply.{all_stamped}
-use Rattle.cany_node.specs.Asks.{AreAsksOf}
 use Rattle.cany_node.specs.Node.{IsNodeOf, NodeParts}
-use Rattle.cany_node.specs.Resting.{Rests}
 use Rattle.cany_node.specs.Membership.{membership_effects}
-use Rattle.cany_node.specs.Turning.{HasScripted, asks_plain, heard_effects, plain_effects, script_effects}
+use Rattle.cany_node.specs.Turning.{HasScripted, asks_plain, script_effects}
+use Rattle.cany_node.proofs.Idle.IdleTurn.{OthersRest, agenda_later, asks_later, no_script, none_next as idle_next, same_count, still_totcan, tot_rests}
 use Rattle.cany_node.proofs.Idle.MembershipRest.{both_none}
-use Rattle.cany_node.proofs.StampedEffects.{turn_stamped}
 use Rattle.cany_node.proofs.TellsNothingOfPlaces.{IsUnplaced, next_same, totcan_same, totcan_unheard}
 use Rattle.cany_node.proofs.TellsNothingOfTheSite.{IsUnheard, site_same, site_unheard, knowledge_same}
-
--- ---- lists of effects
-
-none_left : (xs ys : List Effect) → xs ++ ys ≡ [] → xs ≡ []
-none_left [] ys none = refl
-none_left (x ∷ xs) ys none = absurd (cc)
-
-none_right : (xs ys : List Effect) → xs ++ ys ≡ [] → ys ≡ []
-none_right [] ys none = none
-none_right (x ∷ xs) ys none = absurd (cc)
-
-none_stamped : (inc : ℕ) (es : List Effect) → all_stamped inc es ≡ [] → es ≡ []
-none_stamped inc [] none = refl
-none_stamped inc (e ∷ es) none = absurd (cc)
-
-none_asked : (next : Option Message) → ask_for next ≡ [] → next ≡ None
-none_asked None none = refl
-none_asked (Some m) none = absurd (cc)
 
 -- ---- the turn
 
 module _ (scenario : ScenarioParts) (past : List NoticeKind) (e : NoticeKind) (places : IsUnplaced e) (site : IsUnheard e) (v : NodeParts)
-    (stands : IsNodeOf scenario past v) (rests : Rests scenario past v) where
+    (stands : IsNodeOf scenario past v) (others : OthersRest scenario past v) where
   abbrev i : ℕ
   i = v.node
 
@@ -63,27 +35,7 @@ module _ (scenario : ScenarioParts) (past : List NoticeKind) (e : NoticeKind) (p
   abbrev read : List NoticeKind
   read = e ∷ past
 
-  -- ---- an idle slot would lead to nothing
-
-  idle_plain : plain_effects scenario i idle ≡ []
-  idle_plain = none_stamped scenario.inc (plain_effects scenario i idle) (turn_stamped scenario i Idle past ∙ rests.effects)
-
-  idle_heard : relcan_effects scenario i idle ++ (totcan_effects scenario i idle ++ membership_effects scenario i idle) ≡ []
-  idle_heard = none_right (edcan_effects scenario i idle) _ (none_left (heard_effects scenario i idle) _ idle_plain)
-
-  pub idle_relcan : relcan_effects scenario i idle ≡ []
-  idle_relcan = none_left (relcan_effects scenario i idle) _ idle_heard
-
-  idle_later : totcan_effects scenario i idle ++ membership_effects scenario i idle ≡ []
-  idle_later = none_right (relcan_effects scenario i idle) _ idle_heard
-
-  idle_after : script_effects scenario i idle ++ backlog_effects scenario i idle ≡ []
-  idle_after = none_right (heard_effects scenario i idle) _ idle_plain
-
-  idle_script : script_effects scenario i idle ≡ []
-  idle_script = none_left (script_effects scenario i idle) (backlog_effects scenario i idle) idle_after
-
-  -- ---- so that the script and the backlog ask for nothing
+  -- ---- the script and the backlog ask for nothing
 
   asks_same : asks_plain scenario i read ≡ asks_plain scenario i idle
   asks_same = ap (λ (st : Knowledge).
@@ -93,15 +45,11 @@ module _ (scenario : ScenarioParts) (past : List NoticeKind) (e : NoticeKind) (p
 
   script_none : script_effects scenario i read ≡ []
   unfolding send_effects
-  script_none = ap (λ es. send_effects scenario i idle ++ es) asks_same ∙ idle_script
-
-  idle_next : next_after scenario.params idle (backlog scenario i idle) (asked scenario i past) ≡ None
-  unfolding backlog_effects
-  idle_next = none_asked _ (none_right (script_effects scenario i idle) (backlog_effects scenario i idle) idle_after)
+  script_none = ap (λ es. send_effects scenario i idle ++ es) asks_same ∙ no_script scenario past v stands others
 
   none_next : next_after scenario.params read (backlog scenario i read) (asked scenario i past) ≡ None
   unfolding backlog
-  none_next = next_same e places past scenario i (backlog scenario i idle) (asked scenario i past) rests.stands.totcan.backlog.are_own ∙ idle_next
+  none_next = next_same e places past scenario i (backlog scenario i idle) (asked scenario i past) (still_totcan scenario past v stands others).backlog.are_own ∙ idle_next scenario past v stands others
 
   backlog_none : backlog_effects scenario i read ≡ []
   unfolding backlog_effects
@@ -112,25 +60,11 @@ module _ (scenario : ScenarioParts) (past : List NoticeKind) (e : NoticeKind) (p
   pub later_none : totcan_effects scenario i read ++ membership_effects scenario i read ≡ []
   later_none =
       both_none (totcan_effects scenario i read) (membership_effects scenario i read)
-      (totcan_same e places past scenario i ∙ none_left (totcan_effects scenario i idle) _ idle_later)
-      (site_same scenario i past e site ∙ none_right (totcan_effects scenario i idle) _ idle_later)
+      (totcan_same e places past scenario i ∙ (tot_rests scenario past v stands others).effects)
+      (site_same scenario i past e site ∙ others.membership.effects)
 
   pub after_none : script_effects scenario i read ++ backlog_effects scenario i read ≡ []
   after_none = both_none (script_effects scenario i read) (backlog_effects scenario i read) script_none backlog_none
-
-  -- what the one protocol lists is all of the turn
-  pub listed_alone : (rule : TurnRule) (node : ℕ) (start after : List Action) → node ≡ v.node
-      → plain_effects scenario v.node (e ∷ past) ≡ rule scenario v.node (e ∷ past) → start ≡ []
-      → after ≡ start ++ actions_of scenario.params.format (rule scenario node (e ∷ past))
-      → after ≡ actions_of scenario.params.format (plain_effects scenario v.node (e ∷ past))
-  listed_alone rule node start after same alone none acts =
-      acts ∙ ap (λ xs. xs ++ actions_of scenario.params.format (rule scenario node read)) none
-      ∙ ap (λ n. actions_of scenario.params.format (rule scenario n read)) same
-      ∙ ap (actions_of scenario.params.format) (sym alone)
-
-  same_asked : asked scenario i idle ≡ asked scenario i past
-  unfolding asked
-  same_asked = ap (one_more (asked scenario i past)) idle_next
 
   still_asked : asked_after scenario.params read (backlog scenario i read) (asked scenario i past) ≡ asked scenario i past
   still_asked = ap (one_more (asked scenario i past)) none_next
@@ -139,7 +73,7 @@ module _ (scenario : ScenarioParts) (past : List NoticeKind) (e : NoticeKind) (p
   unfolding backlog
   totcan_stands =
       totcan_unheard e places past scenario i (backlog scenario i idle) (asked scenario i past) v.totcan
-      (subst (λ n. IsTotcanOf scenario i idle (backlog scenario i idle) n v.totcan) same_asked rests.stands.totcan)
+      (subst (λ n. IsTotcanOf scenario i idle (backlog scenario i idle) n v.totcan) (same_count scenario past v stands others) (still_totcan scenario past v stands others))
 
   -- the backlog asks for nothing
   pub none_asked_for : IsTotcanOf scenario v.totcan.node (e ∷ past) (backlog scenario v.node (e ∷ past))
@@ -149,19 +83,16 @@ module _ (scenario : ScenarioParts) (past : List NoticeKind) (e : NoticeKind) (p
       (sym stands.totcan.limits.node)
       (subst (λ n. IsTotcanOf scenario i read (backlog scenario i read) n v.totcan) (sym still_asked) totcan_stands)
 
-  -- the protocol whose frame it is has changed
+  -- the protocols whose frame it may be have changed
   pub scripted_with : (edcan : EdcanParts) (relcan : RelcanParts) → IsEdcanOf scenario i read edcan → IsRelcanOf scenario i read relcan
       → HasScripted scenario past e (record v { edcan = edcan; relcan = relcan })
   scripted_with edcan relcan ed rel = record {
     edcan = ed;
     relcan = rel;
     totcan = totcan_stands;
-    membership = site_unheard scenario i past e site v.membership rests.stands.membership;
-    agenda = subst (λ n. IsAgendaOf scenario i n v.agenda) one_more_read rests.stands.agenda;
-    joins = subst (λ n. AreAsksOf scenario i n scenario.joins v.joins) one_more_read rests.stands.joins;
-    leaves = subst (λ n. AreAsksOf scenario i n scenario.leaves v.leaves) one_more_read rests.stands.leaves;
+    membership = site_unheard scenario i past e site v.membership others.membership.stands;
+    agenda = agenda_later scenario i (length past) v.agenda stands.agenda others.sends;
+    joins = asks_later scenario i (length past) scenario.joins v.joins stands.joins others.joins;
+    leaves = asks_later scenario i (length past) scenario.leaves v.leaves stands.leaves others.leaves;
     room_to_give = stands.room_to_give;
   }
-    where
-      one_more_read : length idle ≡ length past + 1
-      one_more_read = omega arith

@@ -7,7 +7,6 @@ pub mod AskedFacts
 pub mod BacklogFacts
 pub mod Beginning
 pub mod EdcanFrames
-pub mod EdcanTurn
 pub mod FrameTurn
 pub mod GiveFacts
 pub mod HeardTurn
@@ -18,7 +17,7 @@ pub mod MembershipFacts
 pub mod MembershipSteps
 pub mod MessageLists
 pub mod NextAction
-pub mod RelcanTurn
+pub mod RelayTurn
 pub mod RoomsSuffice
 pub mod ScriptSteps
 pub mod SendFacts

@@ -8,7 +8,7 @@ use Rattle.cany_base.specs.declared.class.Class.{Class}
 use Rattle.cany_base.specs.declared.class.Class.TheVariants as class
 use Rattle.cany_base.specs.declared.message.MsgKey.{MsgKey}
 use Rattle.cany_base.specs.declared.notice.NoticeKind.{NoticeKind}
-use Rattle.cany_base.specs.declared.notice.NoticeKind.TheVariants.{Idle, Got, Sent}
+use Rattle.cany_base.specs.declared.notice.NoticeKind.TheVariants.{Idle, Got, Sent, Bad}
 use Rattle.cany_base.specs.Frame.{FrameParts, data_class}
 use Rattle.cany_base.specs.Params.{Parameters}
 use Rattle.cany_base.specs.Scenario.{ScenarioParts}
@@ -63,6 +63,14 @@ unplaced_sent f other = record {
   accept = λ p i before. rw (apart is_of_totcan f.class class.Tot other tot_is) refl;
   tot = rw (apart is_of_totcan f.class class.Tot other tot_is) refl;
 }
+
+pub unplaced_idle : IsUnplaced Idle
+unfolding accept_effects tot_in
+unplaced_idle = record { got = λ x is. refl; sent = λ x is. refl; accept = λ p i before. refl; tot = refl }
+
+pub unplaced_bad : IsUnplaced Bad
+unfolding accept_effects tot_in
+unplaced_bad = record { got = λ x is. refl; sent = λ x is. refl; accept = λ p i before. refl; tot = refl }
 
 module _ (e : NoticeKind) (only : IsUnplaced e) where
   -- ---- places and acceptance

@@ -1,6 +1,7 @@
--- The turns of idle slots in which a node has nothing to do: it stands for them as it is. At a frame of EDCAN or
--- of RELCAN it then has nothing to do but what that protocol does.
-use Rattle.std.specs.Prelude.{◌≡◌, ◌+◌, ◌<◌, ◌≤◌, ◌||◌, ℕ, Bool, false, List, [], ◌∷◌, length}
+-- The turns of idle slots in which a node has nothing to do: it stands for them as it is. In a slot for which nothing but a timer of
+-- RELCAN is due, it does at a frame of EDCAN or of RELCAN no more than what these two do.
+use Rattle.std.specs.Prelude.{◌≡◌, ◌+◌, ◌<◌, ◌≤◌, ◌||◌, ℕ, Bool, true, false, List, [], ◌∷◌, length}
+use Rattle.cany_base.specs.declared.class.Class.{Class}
 use Rattle.cany_base.specs.declared.class.Class.TheVariants as class
 use Rattle.cany_base.specs.declared.notice.NoticeKind.{NoticeKind}
 use Rattle.cany_base.specs.declared.notice.NoticeKind.TheVariants.{Idle, Got, Sent, Bad}
@@ -9,8 +10,6 @@ use Rattle.cany_model.specs.Bus.Frames.{same_class}
 use Rattle.cany_model.specs.Rules.Messages.{Message}
 use Rattle.cany_model.specs.Rules.KnowledgeOf.{knowledge_of}
 use Rattle.cany_model.specs.Rules.Turn.{turn_effects}
-use Rattle.cany_relcan.specs.Relcan as relcan
-use Rattle.cany_relcan.specs.Relcan.{IsRelcanOf}
 use Rattle.cany_totcan.specs.Rests as totcan
 use Rattle.cany_totcan.specs.Totcan.{IsTotcanOf}
 use Rattle.cany_node.specs.Agenda.{IsRising}
@@ -36,25 +35,27 @@ RestsUntil wake v =
     (scenario : ScenarioParts) (past : List NoticeKind) → IsNodeOf scenario past (record v { read = length past })
     → v.read ≤ length past → length past < wake → length past < scenario.params.slots → Rests scenario past v
 
--- whether the notice brings a data frame of EDCAN, which nothing else hears
+-- whether the notice brings a data frame of EDCAN
 abbrev pub is_of_edcan : NoticeKind → Bool
 is_of_edcan Idle = false
 is_of_edcan (Got f) = same_class f.class class.Ed
 is_of_edcan (Sent f) = same_class f.class class.Ed
 is_of_edcan Bad = false
 
--- whether the notice brings a frame of RELCAN, which nothing else hears
-abbrev pub is_of_relcan : NoticeKind → Bool
-is_of_relcan Idle = false
-is_of_relcan (Got f) = same_class f.class class.Rel || same_class f.class class.Confirm
-is_of_relcan (Sent f) = same_class f.class class.Rel || same_class f.class class.Confirm
-is_of_relcan Bad = false
+-- whether frames of the class are of EDCAN or of RELCAN, which nothing else hears
+abbrev pub is_of_relays : Class → Bool
+is_of_relays c = same_class c class.Ed || (same_class c class.Rel || same_class c class.Confirm)
 
--- In an idle slot before this one, from which the node has read on, no part of it but EDCAN has anything to do; EDCAN has nothing to
--- do in any.
+-- whether nothing was heard, or a frame of theirs
+abbrev pub is_for_relays : NoticeKind → Bool
+is_for_relays Idle = true
+is_for_relays (Got f) = is_of_relays f.class
+is_for_relays (Sent f) = is_of_relays f.class
+is_for_relays Bad = true
+
+-- In an idle slot before this one, from which the node has read on, no part of it but EDCAN and RELCAN has anything to do. EDCAN has
+-- nothing to do in any, and RELCAN tells itself when its next timer is due.
 pub record IsIdleUntil (idle_until : ℕ) (v : NodeParts) : Type 0 where
-  pub relcan : (scenario : ScenarioParts) (past : List NoticeKind) → IsRelcanOf scenario v.relcan.node past v.relcan → length past < idle_until
-      → relcan.Rests scenario v.relcan.node past v.relcan
   pub totcan : (scenario : ScenarioParts) (past : List NoticeKind) (messages : List Message) (count : ℕ)
       → IsTotcanOf scenario v.totcan.node past messages count v.totcan → length past < idle_until → totcan.Rests scenario v.totcan.node past messages count v.totcan
   pub membership : (scenario : ScenarioParts) (i : ℕ) (past : List NoticeKind) → IsMembershipOf scenario i past v.membership

@@ -9,11 +9,14 @@ ghost use Rattle.cany_model.specs.Bus.State.{Incarnation};
 ghost use Rattle.cany_model.specs.Rules.Messages.{Message, messages_of, message_key};
 ghost use Rattle.cany_model.specs.Rules.Turn.{has_asked, is_ahead_at, scenario_for, turn_effects};
 ghost use Rattle.cany_model.specs.Rules.Actions.{actions_of};
+ghost use Rattle.cany_model.specs.Rules.Notices.{IsNextNotice};
+ghost use Rattle.cany_model.specs.Rules.Relcan.{relcan_effects};
 ghost use Rattle.cany_model.specs.Rules.Effect.{waiting_after};
+ghost use Rattle.cany_relcan.specs.Relcan.{CanRead, IsRelcanOf};
 ghost use Rattle.cany_node.specs.Node.{IsNodeOf, IsWaiting, CanBegin, CanTurn, CanAct, Reads, IsTurnOf, IsRefused, heard_by, reply_of};
 ghost use Rattle.cany_node.specs.Asks.{AreAsksPassed, IsRisingFrom};
 ghost use Rattle.cany_node.specs.Agenda.{ArePassed, IsRising};
-ghost use Rattle.cany_node.specs.Resting.{IsIdleUntil, RestsUntil, is_of_edcan, is_of_relcan};
+ghost use Rattle.cany_node.specs.Resting.{IsIdleUntil, RestsUntil, is_for_relays};
 ghost use Rattle.cany_node.specs.Membership.{IsNextOf};
 ghost use Rattle.cany_node.specs.Turning.{CanHearNext, CanScript, HasHeard, HasScripted, IsActed, heard_effects, heard_room, script_effects, script_room};
 
@@ -21,7 +24,7 @@ use crate::agenda::Agenda;
 use crate::apply::apply_all;
 use crate::asks::{AskKind, AskPlan, ask_due};
 use crate::membership::Membership;
-use crate::notices::{is_early, is_error, is_idle, is_of_edcan, is_of_relcan};
+use crate::notices::{is_early, is_error, is_for_relays, is_of_edcan};
 use crate::plan::{Plan, build_plan};
 use crate::protocols::{Protocols, build_protocols};
 use crate::reply::TurnReply;
@@ -64,8 +67,8 @@ pub struct Node {
     joins: AskPlan,
     leaves: AskPlan,
     log: BoundedVec<LogEntry>,
-    /// A slot before which an idle notice leads to nothing. It is no part of what the value stands
-    /// for.
+    /// A slot before which an idle notice leads to nothing but what RELCAN does. It is no part of
+    /// what the value stands for.
     idle_until: Slot,
 }
 
@@ -197,53 +200,38 @@ impl Node {
         }
     }
 
-    /// Does what the rules say of a notice, as it is heard. Before `wake` that is nothing in an
-    /// idle slot, and at a frame of EDCAN or of RELCAN only what that protocol does.
+    /// Does what the rules say of a notice, as it is heard. Before `idle_until` a notice that is
+    /// nothing to TOTCAN and tells nothing of the site leads to no more than what EDCAN and RELCAN
+    /// do.
     fn act(&mut self, notice: &Notice, ctl: &mut Controller, out: &mut Actions)
         requires { CanAct self.old notice.now ctl.old out.old }
         ensures { IsActed notice.now self.old self.new ctl.old ctl.new out.old out.new }
     {
-        if is_idle(&notice.kind) && notice.slot < self.wake() {
-            self.read = notice.slot + 1;
-        } else if is_of_edcan(&notice.kind) && notice.slot < self.wake() {
-            self.follow_edcan(notice, ctl, out);
-        } else if is_of_relcan(&notice.kind) && notice.slot < self.wake() {
-            self.follow_relcan(notice, ctl, out);
+        if notice.slot < self.idle_until && is_for_relays(&notice.kind) {
+            self.follow_relays(notice, ctl, out);
         } else {
             self.follow_rules(notice, ctl, out);
         }
     }
 
-    /// Does what EDCAN does with a data frame of its own, its delivery and its relay, in a slot in
-    /// which the node would rest: nothing else hears the frame, and nothing is due.
-    fn follow_edcan(&mut self, notice: &Notice, ctl: &mut Controller, out: &mut Actions)
+    /// Does what EDCAN and RELCAN do at a notice that nothing else hears, in a slot for which
+    /// nothing else is due.
+    fn follow_relays(&mut self, notice: &Notice, ctl: &mut Controller, out: &mut Actions)
         requires acts { CanAct self.old notice.now ctl.old out.old }
-        requires brings { is_of_edcan notice.now.kind ≡ true }
-        requires rests { RestsUntil (notice.now.slot + 1) self.old }
+        requires brings { is_for_relays notice.now.kind ≡ true }
+        requires idle { IsIdleUntil (notice.now.slot + 1) self.old }
         ensures { IsActed notice.now self.old self.new ctl.old ctl.new out.old out.new }
     {
         self.edcan.on(notice, out);
+        hear_relcan(&mut self.relcan, notice, out);
         apply_all(out, self.inc, ctl, &mut self.log);
         out.clear();
         self.read = notice.slot + 1;
-    }
-
-    /// Does what RELCAN does with a frame of its own in a slot in which the node would rest: nothing
-    /// else hears the frame, and nothing is due. The timer that the frame may start is due later.
-    fn follow_relcan(&mut self, notice: &Notice, ctl: &mut Controller, out: &mut Actions)
-        requires acts { CanAct self.old notice.now ctl.old out.old }
-        requires brings { is_of_relcan notice.now.kind ≡ true }
-        requires rests { RestsUntil (notice.now.slot + 1) self.old }
-        ensures { IsActed notice.now self.old self.new ctl.old ctl.new out.old out.new }
-    {
-        self.relcan.on(notice, out);
-        apply_all(out, self.inc, ctl, &mut self.log);
-        out.clear();
-        self.read = notice.slot + 1;
-        self.idle_until = self.idle_until.min(self.relcan.wake());
     }
 
     /// Does what the rules say of a notice, rule by rule.
+    // Out of line, so that a turn in which it is not called stays small.
+    #[inline(never)]
     fn follow_rules(&mut self, notice: &Notice, ctl: &mut Controller, out: &mut Actions)
         requires { CanAct self.old notice.now ctl.old out.old }
         ensures { IsActed notice.now self.old self.new ctl.old ctl.new out.old out.new }
@@ -326,18 +314,17 @@ impl Node {
     {
         // Called for what it ensures: EDCAN has nothing to do in an idle slot.
         rests(&self.edcan);
-        self.idle_until
+        self.idle_until.min(self.relcan.wake())
     }
 
     /// The first slot, from the next one that it reads on, for which the script says something or
-    /// in whose turn an idle notice may lead a protocol to something. It does not look at the
-    /// messages or the nodes one by one.
+    /// in whose turn an idle notice may lead TOTCAN or what is kept of the site to something. It
+    /// does not look at the messages or the nodes one by one.
     fn next_due(&self) -> Slot
         ensures { IsIdleUntil result self.now }
     {
-        let protocols = self.relcan.wake().min(self.totcan.wake());
         let membership = self.membership.wake(self.read);
-        protocols.min(membership).min(self.next_scripted())
+        self.totcan.wake().min(membership).min(self.next_scripted())
     }
 
     /// The first slot for which something of the script is still to come.
@@ -416,6 +403,24 @@ impl Node {
             Service::Tot => self.totcan.ahead(msg),
         }
     }
+}
+
+/// What RELCAN does at a notice. At a data frame of EDCAN it does nothing until its next timer is
+/// due, so it is not asked then.
+fn hear_relcan(relcan: &mut Relcan, notice: &Notice, out: &mut Actions)
+    requires reads { CanRead relcan.old notice.now }
+    requires room { length out.old.items + 3 ≤ out.old.room }
+    ensures actions { (scenario : ScenarioParts) (past : List NoticeKind) → IsRelcanOf scenario relcan.old.node past relcan.old → IsNextNotice scenario past notice.now →
+        out.new.items ≡ out.old.items ++ actions_of scenario.params.format (relcan_effects scenario relcan.old.node (notice.now.kind ∷ past)) }
+    ensures stands { (scenario : ScenarioParts) (past : List NoticeKind) → IsRelcanOf scenario relcan.old.node past relcan.old → IsNextNotice scenario past notice.now →
+        IsRelcanOf scenario relcan.old.node (notice.now.kind ∷ past) relcan.new }
+    ensures few { length out.new.items ≤ length out.old.items + 3 }
+    ensures room { out.new.room ≡ out.old.room }
+{
+    if is_of_edcan(&notice.kind) && notice.slot < relcan.wake() {
+        return;
+    }
+    relcan.on(notice, out);
 }
 
 /// Forgets up to which slot the node is idle. What it keeps is about to change, and what was noted

@@ -1,9 +1,9 @@
 //! What an incarnation hears of a notice.
 
-ghost use Rattle.std.specs.Prelude.{◌≡◌, ◌↔◌, false, true};
+ghost use Rattle.std.specs.Prelude.{◌≡◌, false, true};
 ghost use Rattle.cany_base.specs.declared.notice.NoticeKind.TheVariants.{Idle};
 ghost use Rattle.cany_model.specs.Rules.Notices.{error_as_idle, is_early, is_early_frame};
-ghost use Rattle.cany_node.specs.Resting.{is_of_edcan, is_of_relcan};
+ghost use Rattle.cany_node.specs.Resting.{is_for_relays, is_of_edcan};
 ghost use Rattle.cany_node.specs.Membership.{tells_of_site};
 
 use can_frame::is_of_site;
@@ -37,13 +37,6 @@ pub(crate) fn is_error(kind: &NoticeKind) -> bool
     matches!(kind, NoticeKind::Bad)
 }
 
-/// Whether nothing was heard in the slot.
-pub(crate) fn is_idle(kind: &NoticeKind) -> bool
-    ensures { (result ≡ true) ↔ (kind.now ≡ Idle) }
-{
-    matches!(kind, NoticeKind::Idle)
-}
-
 /// Whether a notice brings a data frame of EDCAN.
 pub(crate) fn is_of_edcan(kind: &NoticeKind) -> bool
     ensures { result ≡ is_of_edcan kind.now }
@@ -54,15 +47,18 @@ pub(crate) fn is_of_edcan(kind: &NoticeKind) -> bool
     }
 }
 
-/// Whether a notice brings a data frame of RELCAN or a confirmation.
-pub(crate) fn is_of_relcan(kind: &NoticeKind) -> bool
-    ensures { result ≡ is_of_relcan kind.now }
+/// Whether a notice is nothing to TOTCAN and tells nothing of the site: nothing was heard, or a
+/// frame of EDCAN or of RELCAN.
+pub(crate) fn is_for_relays(kind: &NoticeKind) -> bool
+    ensures { result ≡ is_for_relays kind.now }
 {
     match kind {
         NoticeKind::Got(frame) | NoticeKind::Sent(frame) => {
-            is_of_class(frame, Class::Rel) || is_of_class(frame, Class::Confirm)
+            is_of_class(frame, Class::Ed)
+                || is_of_class(frame, Class::Rel)
+                || is_of_class(frame, Class::Confirm)
         }
-        NoticeKind::Idle | NoticeKind::Bad => false,
+        NoticeKind::Idle | NoticeKind::Bad => true,
     }
 }
 

@@ -1,6 +1,6 @@
 -- Which messages have a timer ahead.
-use Rattle.std.specs.Prelude.{nat_lt, is_some, Contains}
-use Rattle.std.proofs.Common.{◌≡◌, ◌≢◌, ℕ, zero, suc, ◌<◌, ◌==◌, ◌&&◌, ◌||◌, Bool, true, false, if◌then◌else◌, not, inl, inr, List, [], ◌∷◌, ◌++◌, drop, length, Option, Some, None, refl, ap, subst, sym, ◌∙◌, arith}
+use Rattle.std.specs.Prelude.{nat_lt, Contains}
+use Rattle.std.proofs.Common.{◌≡◌, ◌≢◌, ℕ, zero, suc, ◌<◌, ◌==◌, ◌&&◌, ◌||◌, Bool, true, false, if◌then◌else◌, not, inl, inr, List, [], ◌∷◌, ◌++◌, drop, length, refl, ap, subst, sym, ◌∙◌, arith}
 use Rattle.std.proofs.lemmas.Bool.{cases_Bool, false_from_ne_true, false≢true}
 use Rattle.std.proofs.lemmas.Bool.Decides.{nat_tests}
 use Rattle.cany_base.specs.declared.class.Class.TheVariants as class
@@ -24,7 +24,7 @@ use Rattle.cany_model.proofs.Rules.MessageKeys.{same_message}
 use Rattle.cany_relcan.specs.declared.timers.Timer.{Timer}
 use Rattle.cany_relcan.specs.Relcan.{RelcanParts, IsRelcanOf, data_identity}
 use Rattle.cany_relcan.specs.RelcanSteps.{is_awaited}
-use Rattle.cany_relcan.specs.Timers.{oldest_start, started_by, started_since}
+use Rattle.cany_relcan.specs.Timers.{started_by, started_since}
 use Rattle.cany_relcan.proofs.TablesFacts.{confirmed_is}
 
 abbrev pub data_of : MsgKey → Identity
@@ -141,17 +141,9 @@ module _ (scenario : ScenarioParts) (i : ℕ) (past : List NoticeKind) (v : Relc
 
 -- ---- where no timer runs
 
-pub none_given : (given : Option ℕ) → is_some given ≡ false → given ≡ None
-none_given None none = refl
-none_given (Some first) none = absurd (false≢true (sym none))
-
 both_none : (timers more : List Timer) → timers ++ more ≡ [] → (timers ≡ []) × (more ≡ [])
 both_none [] more none = (refl, none)
 both_none (timer ∷ timers) more none = absurd (cc)
-
-none_oldest : (timers : List Timer) → oldest_start timers ≡ None → timers ≡ []
-none_oldest [] none = refl
-none_oldest (timer ∷ timers) none = absurd (cc)
 
 first_read : (timed now before : Bool) (timer : Timer) → timed ≡ true → (if timed && not before then timer ∷ [] else []) ≡ [] → (now || before) ≡ before
 first_read timed true true timer is none = refl
@@ -185,9 +177,9 @@ copied_late i (suc n) x (notice ∷ before) timed none =
 none_of : (timed now late confirmed : Bool) → (timed ≡ true → now ≡ late) → ((timed && now) && not late) && not confirmed ≡ false
 none_of timed now late confirmed same = grind (arith, nat_tests, same)
 
-pub none_ahead : (scenario : ScenarioParts) (i : ℕ) (past : List NoticeKind) (v : RelcanParts) → IsRelcanOf scenario i past v → oldest_start v.timers.running ≡ None
+pub none_ahead : (scenario : ScenarioParts) (i : ℕ) (past : List NoticeKind) (v : RelcanParts) → IsRelcanOf scenario i past v → v.timers.running ≡ []
     → (m : Message) → has_timer_ahead scenario m i past ≡ false
-none_ahead scenario i past v h oldest m =
+none_ahead scenario i past v h none m =
     let x = identity_of (data_frame m) in
     none_of (is_timed i x) (has_copy x past) (has_copy x (drop scenario.params.confirm past)) (has_confirm x past)
-    (λ timed. copied_late i scenario.params.confirm x past timed (sym h.timers ∙ none_oldest v.timers.running oldest))
+    (λ timed. copied_late i scenario.params.confirm x past timed (sym h.timers ∙ none))

@@ -3,6 +3,7 @@ pub mod AheadFacts
 pub mod EndFacts
 pub mod FollowedFacts
 pub mod MarkFacts
+pub mod OldestFacts
 pub mod OrderFacts
 pub mod ReadFacts
 pub mod RestFacts

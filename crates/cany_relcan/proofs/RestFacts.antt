@@ -1,6 +1,6 @@
 -- Before the oldest timer is due, an idle notice leads to nothing.
 use Rattle.std.specs.Prelude.{nat_lt, min}
-use Rattle.std.proofs.Common.{◌≡◌, ℕ, ◌+◌, ◌-◌, ◌<◌, ◌≤◌, Bool, true, false, if◌then◌else◌, inl, inr, List, [], ◌∷◌, length, Option, Some, None, refl, subst, sym, arith}
+use Rattle.std.proofs.Common.{◌≡◌, ℕ, ◌+◌, ◌-◌, ◌<◌, ◌≤◌, Bool, true, false, if◌then◌else◌, inl, inr, List, [], ◌∷◌, length, Option, None, refl, subst, sym, arith}
 use Rattle.std.proofs.lemmas.Bool.{cases_lt, ne_eqb, lt-ltb, le-ltb}
 use Rattle.std.proofs.lemmas.Bool.Decides.{nat_tests}
 use Rattle.cany_base.specs.declared.format.Format.{Format}
@@ -68,19 +68,12 @@ module _ (scenario : ScenarioParts) (i : ℕ) (past : List NoticeKind) (v : Relc
             (no_actions scenario.params.format [] (relcan_at scenario.params i Idle past) (none_at scenario.params i Idle past tt)) nothing);
       }
 
-  pub rests_without : oldest_start v.timers.running ≡ None → Rests scenario i past v
-  rests_without none = go v.timers.running refl none
+  pub rests_before : (wake : ℕ) → wake ≤ oldest_start v.timers.running + v.confirm → length past < wake → Rests scenario i past v
+  rests_before wake bound before = go v.timers.running refl
     where
-      go : (timers : List Timer) → v.timers.running ≡ timers → oldest_start timers ≡ None → Rests scenario i past v
-      go [] is none = rests (subst (IsNoneDue (length past) v.confirm) (sym is) (no_timers (length past) v.confirm))
-      go (timer ∷ timers) is none = absurd (cc)
-
-  pub rests_before : (first wake : ℕ) → oldest_start v.timers.running ≡ Some first → wake ≤ first + v.confirm → length past < wake → Rests scenario i past v
-  rests_before first wake oldest bound before = go v.timers.running refl oldest
-    where
-      go : (timers : List Timer) → v.timers.running ≡ timers → oldest_start timers ≡ Some first → Rests scenario i past v
-      go [] is at = absurd (cc)
-      go (timer ∷ timers) is at =
-          let same : timer.first ≡ first = cc in
+      go : (timers : List Timer) → v.timers.running ≡ timers → Rests scenario i past v
+      go [] is = rests (subst (IsNoneDue (length past) v.confirm) (sym is) (no_timers (length past) v.confirm))
+      go (timer ∷ timers) is =
+          let due : wake ≤ timer.first + v.confirm = subst (λ ts. wake ≤ oldest_start ts + v.confirm) is bound in
           rests (subst (IsNoneDue (length past) v.confirm) (sym is)
-          (before_oldest (length past) v.confirm timer timers (omega (arith, same, bound, before))))
+          (before_oldest (length past) v.confirm timer timers (omega (arith, due, before))))

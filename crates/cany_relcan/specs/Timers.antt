@@ -1,5 +1,5 @@
 -- The timers of messages: which run at a node, oldest first.
-use Rattle.std.specs.Prelude.{ℕ, zero, suc, ◌<◌, ◌==◌, ◌&&◌, not, if◌then◌else◌, List, [], ◌∷◌, ◌++◌, length, Option, Some, None}
+use Rattle.std.specs.Prelude.{ℕ, zero, suc, ◌<◌, ◌-◌, ◌^◌, ◌==◌, ◌&&◌, not, if◌then◌else◌, List, [], ◌∷◌, ◌++◌, length, Option, Some, None}
 use Rattle.std.specs.List.{AllByRecursion}
 use Rattle.cany_base.specs.declared.notice.NoticeKind.{NoticeKind}
 use Rattle.cany_base.specs.declared.notice.NoticeKind.TheVariants.{Idle, Got, Sent, Bad}
@@ -27,10 +27,15 @@ abbrev pub without_from : ℕ → List Timer → List Timer
 without_from slot [] = []
 without_from slot (timer ∷ timers) = if timer.first == slot then timers else timer ∷ timers
 
--- when the oldest timer was started
-abbrev pub oldest_start : List Timer → Option ℕ
-oldest_start [] = None
-oldest_start (timer ∷ timers) = Some timer.first
+-- the oldest timer's frame
+abbrev pub oldest_frame : List Timer → Option FrameParts
+oldest_frame [] = None
+oldest_frame (timer ∷ timers) = Some timer.frame
+
+-- when the oldest timer was started, and the last slot that there can be where none runs
+abbrev pub oldest_start : List Timer → ℕ
+oldest_start [] = 2 ^ 64 - 1
+oldest_start (timer ∷ timers) = timer.first
 
 -- a timer is started
 abbrev pub with_timer : Timer → TimersParts → TimersParts

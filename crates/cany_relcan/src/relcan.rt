@@ -100,6 +100,9 @@ impl Relcan {
     /// notices of the slots before the first that a value is given count as idle ones.
     ///
     /// At most three actions are appended.
+    // Hints, here and below: at most notices RELCAN has nothing to do, which is then seen without a
+    // call.
+    #[inline(always)]
     pub fn on(&mut self, notice: &Notice, out: &mut Actions)
         requires reads { CanRead self.old notice.now }
         requires room { length out.old.items + 3 ≤ out.old.room }
@@ -124,7 +127,7 @@ impl Relcan {
     {
         // Where no timer runs none lies ahead. This is asked first, since it takes less than to
         // look up what is noted.
-        if self.timers.oldest().is_none() {
+        if self.timers.are_none() {
             return false;
         }
         self.is_awaited(&msg)
@@ -136,13 +139,11 @@ impl Relcan {
         ensures rests { (scenario : ScenarioParts) (past : List NoticeKind) → IsRelcanOf scenario self.now.node past self.now → length past < result
             → Rests scenario self.now.node past self.now }
     {
-        match self.timers.oldest() {
-            Some(first) => first.saturating_add(self.confirm),
-            None => Slot::MAX,
-        }
+        self.timers.oldest().saturating_add(self.confirm)
     }
 
     /// What RELCAN does at a notice, whatever timers are due.
+    #[inline(always)]
     fn on_notice(&mut self, notice: &Notice, out: &mut Actions)
         requires reads { CanRead self.old notice.now }
         requires room { length out.old.items + 2 ≤ out.old.room }
@@ -175,6 +176,7 @@ impl Relcan {
     /// A copy of a data frame: the message is delivered if it was not before, and at a node other
     /// than its origin the first copy starts the timer. With enough copies the frame is withdrawn
     /// if the node fell back.
+    #[inline(never)]
     fn on_copy(&mut self, slot: Slot, frame: &Frame, out: &mut Actions)
         requires small { HasSmallNumbers self.old.format frame.now }
         requires takes { CanTake (frame_number frame.now) self.old.copies }
@@ -222,6 +224,7 @@ impl Relcan {
     }
 
     /// The confirmation of a message is read.
+    #[inline(never)]
     fn on_confirmation(&mut self, frame: &Frame)
         requires { CanTake (frame_number frame.now) self.old.confirms }
         ensures learnt { IsLearnt (frame_number frame.now) self.old.confirms self.new.confirms }
@@ -237,6 +240,7 @@ impl Relcan {
 
     /// The origin reads its own transmission of the data frame: it delivers the message if it did
     /// not before, and asks for the confirmation.
+    #[inline(never)]
     fn on_own(&mut self, slot: Slot, frame: &Frame, out: &mut Actions)
         requires takes { CanTake (frame_number frame.now) self.old.copies }
         requires room { length out.old.items + 2 ≤ out.old.room }
@@ -257,6 +261,7 @@ impl Relcan {
     }
 
     /// The timer ends that is due in the turn of a slot, if one is.
+    #[inline(always)]
     fn end_timer(&mut self, slot: Slot, out: &mut Actions)
         requires takes { IfSome (due_frame slot self.old) (λ f. CanTake (frame_number f) self.old.fallen) }
         requires room { length out.old.items < out.old.room }
@@ -277,6 +282,7 @@ impl Relcan {
     }
 
     /// The timer of a message ends: the node falls back unless the confirmation was read.
+    #[inline(never)]
     fn fall_back(&mut self, frame: &Frame, out: &mut Actions)
         requires takes { CanTake (frame_number frame.now) self.old.fallen }
         requires room { length out.old.items < out.old.room }

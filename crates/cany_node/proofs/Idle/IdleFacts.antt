@@ -1,56 +1,76 @@
--- A node that is idle until a slot rests until then.
+-- A node that is idle until a slot rests until then, or until its next timer.
 use Rattle.std.proofs.Common.{ℕ, ◌≤◌, ◌<◌, List, length, arith}
 use Rattle.cany_base.specs.declared.log_entry.LogEntry.{LogEntry}
+use Rattle.cany_base.specs.declared.notice.Notice.{Notice}
 use Rattle.cany_base.specs.declared.notice.NoticeKind.{NoticeKind}
 use Rattle.cany_base.specs.Scenario.{ScenarioParts}
 use Rattle.cany_edcan.specs.Edcan as edcan
 use Rattle.cany_edcan.specs.Edcan.{EdcanParts, IsEdcanOf}
 use Rattle.cany_relcan.specs.Relcan as relcan
 use Rattle.cany_relcan.specs.Relcan.{IsRelcanOf, RelcanParts}
+use Rattle.cany_node.specs.Membership.{IsNextOf}
 use Rattle.cany_node.specs.Node.{IsNodeOf, NodeParts}
 use Rattle.cany_node.specs.Resting.{IsIdleUntil, RestsUntil}
-use Rattle.cany_node.proofs.Idle.IdleTurn.{edcan_now, node_rests, relcan_now, totcan_now}
+use Rattle.cany_node.proofs.Idle.IdleTurn.{OthersRest, edcan_now, node_rests, relcan_now, totcan_now}
 
--- EDCAN has nothing to do in any idle slot
+-- EDCAN has nothing to do in any idle slot, and RELCAN in none before its next timer is due
 abbrev pub EdcanRests : EdcanParts → Type 0
 EdcanRests e = (scenario : ScenarioParts) (past : List NoticeKind) → IsEdcanOf scenario e.node past e → edcan.Rests scenario e.node past e
 
-pub idle_rests : (idle_until : ℕ) (v : NodeParts) → IsIdleUntil idle_until v → EdcanRests v.edcan → RestsUntil idle_until v
-idle_rests idle_until v is ed = λ scenario past h later early within.
+abbrev pub RelcanRests : ℕ → RelcanParts → Type 0
+RelcanRests wake r =
+    (scenario : ScenarioParts) (past : List NoticeKind) → IsRelcanOf scenario r.node past r → length past < wake → relcan.Rests scenario r.node past r
+
+-- the others have nothing to do
+others_rest : (scenario : ScenarioParts) (past : List NoticeKind) (idle_until : ℕ) (v : NodeParts) → IsIdleUntil idle_until v
+    → IsNodeOf scenario past (record v { read = length past }) → v.read ≤ length past → length past < idle_until → length past < scenario.params.slots
+    → OthersRest scenario past (record v { read = length past })
+others_rest scenario past idle_until v is h later early within = record {
+  totcan = is.totcan scenario past _ _ (totcan_now scenario past _ h) early;
+  membership = is.membership scenario _ past h.membership later early within;
+  sends = is.sends (length past) early h.agenda.rising;
+  joins = is.joins (length past) early h.joins.rising;
+  leaves = is.leaves (length past) early h.leaves.rising;
+}
+
+pub idle_rests : (idle_until wake : ℕ) (v : NodeParts) → IsIdleUntil idle_until v → wake ≤ idle_until → EdcanRests v.edcan → RelcanRests wake v.relcan
+    → RestsUntil wake v
+idle_rests idle_until wake v is less ed rel = λ scenario past h later early within.
     let kept : IsNodeOf scenario past (record v { read = length past }) = h in
-    let now =
-    node_rests scenario past _ kept
+    let others = others_rest scenario past idle_until v is kept later (omega (arith, less, early)) within in
+    let now = node_rests scenario past _ kept others
     (ed scenario past (edcan_now scenario past _ kept))
-    (is.relcan scenario past (relcan_now scenario past _ kept) early)
-    (is.totcan scenario past _ _ (totcan_now scenario past _ kept) early)
-    (is.membership scenario _ past kept.membership later early within)
-    (is.sends (length past) early h.agenda.rising)
-    (is.joins (length past) early h.joins.rising)
-    (is.leaves (length past) early h.leaves.rising) in
+    (rel scenario past (relcan_now scenario past _ kept) early) in
     record { stands = now.stands; effects = now.effects }
 
--- it stays so when it has read more, whatever EDCAN did then and the log says
-pub idle_later : (idle_until read room : ℕ) (e : EdcanParts) (log : List LogEntry) (v : NodeParts) → IsIdleUntil idle_until v → v.read ≤ read
-    → IsIdleUntil idle_until (record v { read = read; edcan = e; log = log; room = room })
-idle_later idle_until read room e log v is more = record {
-  relcan = is.relcan;
+-- in the slot of the notice the others would have nothing to do if it were idle
+pub others_in_turn : (scenario : ScenarioParts) (past : List NoticeKind) (notice : Notice) (idle_until : ℕ) (v : NodeParts) → IsIdleUntil idle_until v
+    → notice.slot < idle_until → (stands : IsNodeOf scenario past v) → IsNextOf scenario v.node past notice → OthersRest scenario past v
+others_in_turn scenario past notice idle_until v is early stands next = record {
+  totcan = is.totcan scenario past _ _ (totcan_now scenario past v stands) (omega (arith, early, next.next.slot));
+  membership = is.membership scenario v.node past stands.membership (omega (arith, stands.read)) (omega (arith, early, next.next.slot)) (omega (arith, next.next.slot, next.next.within));
+  sends = is.sends (length past) (omega (arith, early, next.next.slot)) stands.agenda.rising;
+  joins = is.joins (length past) (omega (arith, early, next.next.slot)) stands.joins.rising;
+  leaves = is.leaves (length past) (omega (arith, early, next.next.slot)) stands.leaves.rising;
+}
+
+-- it is so until an earlier slot
+pub idle_sooner : (idle_until sooner : ℕ) (v : NodeParts) → IsIdleUntil idle_until v → sooner ≤ idle_until → IsIdleUntil sooner v
+idle_sooner idle_until sooner v is less = record {
+  totcan = λ scenario past messages count h early. is.totcan scenario past messages count h (omega (arith, less, early));
+  membership = λ scenario i past h later early within. is.membership scenario i past h later (omega (arith, less, early)) within;
+  sends = λ n early. is.sends n (omega (arith, less, early));
+  joins = λ n early. is.joins n (omega (arith, less, early));
+  leaves = λ n early. is.leaves n (omega (arith, less, early));
+}
+
+-- it stays so when it has read more, whatever EDCAN and RELCAN did then and the log says
+pub idle_later : (idle_until read room : ℕ) (e : EdcanParts) (r : RelcanParts) (log : List LogEntry) (v : NodeParts) → IsIdleUntil idle_until v → v.read ≤ read
+    → IsIdleUntil idle_until (record v { read = read; edcan = e; relcan = r; log = log; room = room })
+idle_later idle_until read room e r log v is more = record {
   totcan = is.totcan;
   membership = λ scenario i past h later early within. is.membership scenario i past h (omega (arith, more, later)) early within;
   sends = is.sends;
   joins = is.joins;
   leaves = is.leaves;
-}
-
--- and when RELCAN changed, until its oldest timer is due
-pub idle_sooner : (idle_until sooner read room : ℕ) (r : RelcanParts) (log : List LogEntry) (v : NodeParts) → IsIdleUntil idle_until v → v.read ≤ read
-    → sooner ≤ idle_until
-    → ((scenario : ScenarioParts) (past : List NoticeKind) → IsRelcanOf scenario r.node past r → length past < sooner → relcan.Rests scenario r.node past r)
-    → IsIdleUntil sooner (record v { read = read; relcan = r; log = log; room = room })
-idle_sooner idle_until sooner read room r log v is more less rests = record {
-  relcan = rests;
-  totcan = λ scenario past messages count h early. is.totcan scenario past messages count h (omega (arith, less, early));
-  membership = λ scenario i past h later early within. is.membership scenario i past h (omega (arith, more, later)) (omega (arith, less, early)) within;
-  sends = λ n early. is.sends n (omega (arith, less, early));
-  joins = λ n early. is.joins n (omega (arith, less, early));
-  leaves = λ n early. is.leaves n (omega (arith, less, early));
 }

@@ -74,6 +74,14 @@ module _ (scenario : ScenarioParts) (i slot : ℕ) (asks : List NodeAsk) (plan :
 
 -- ---- the turn
 
+-- in the next slot, if it is idle, no part of the node but EDCAN and RELCAN has anything to do
+pub record OthersRest (scenario : ScenarioParts) (past : List NoticeKind) (v : NodeParts) : Type 0 where
+  pub totcan : totcan.Rests scenario v.totcan.node past (backlog scenario v.node past) (asked scenario v.node past) v.totcan
+  pub membership : MembershipRests scenario v.node past v.membership
+  pub sends : IsRising (length past + 1) v.agenda.left
+  pub joins : IsRisingFrom (length past + 1) v.joins
+  pub leaves : IsRisingFrom (length past + 1) v.leaves
+
 module _ (scenario : ScenarioParts) (past : List NoticeKind) (v : NodeParts) (h : IsNodeOf scenario past v) where
   abbrev i : ℕ
   i = v.node
@@ -97,42 +105,32 @@ module _ (scenario : ScenarioParts) (past : List NoticeKind) (v : NodeParts) (h 
   pub totcan_now : IsTotcanOf scenario v.totcan.node past (backlog scenario v.node past) (asked scenario v.node past) v.totcan
   totcan_now = subst (λ n. IsTotcanOf scenario n past messages count v.totcan) (sym h.totcan.limits.node) h.totcan
 
-  module _ (ed : edcan.Rests scenario v.edcan.node past v.edcan)
-      (rel : relcan.Rests scenario v.relcan.node past v.relcan)
-      (tot : totcan.Rests scenario v.totcan.node past (backlog scenario v.node past) (asked scenario v.node past) v.totcan)
-      (membership : MembershipRests scenario v.node past v.membership) (sends : IsRising (length past + 1) v.agenda.left)
-      (joins : IsRisingFrom (length past + 1) v.joins) (leaves : IsRisingFrom (length past + 1) v.leaves) where
-    tot_rests : totcan.Rests scenario i past messages count v.totcan
-    tot_rests = subst (λ n. totcan.Rests scenario n past messages count v.totcan) h.totcan.limits.node tot
+  module _ (others : OthersRest scenario past v) where
+    pub tot_rests : totcan.Rests scenario i past messages count v.totcan
+    tot_rests = subst (λ n. totcan.Rests scenario n past messages count v.totcan) h.totcan.limits.node others.totcan
 
     -- ---- the backlog
 
     same_backlog : backlog scenario i idle ≡ messages
     unfolding backlog
-    same_backlog = ap (λ ms. messages ++ ms) (none_join scenario i (length past) v.agenda h.agenda sends) ∙ append-nil messages
+    same_backlog = ap (λ ms. messages ++ ms) (none_join scenario i (length past) v.agenda h.agenda others.sends) ∙ append-nil messages
 
-    none_next : next_after scenario.params idle (backlog scenario i idle) count ≡ None
+    pub none_next : next_after scenario.params idle (backlog scenario i idle) count ≡ None
     none_next = ap (λ ms. next_after scenario.params idle ms count) same_backlog ∙ tot_rests.none
 
-    same_count : asked scenario i idle ≡ count
+    pub same_count : asked scenario i idle ≡ count
     unfolding asked
     same_count = ap (one_more count) none_next
 
-    no_next : backlog_effects scenario i idle ≡ []
+    pub no_next : backlog_effects scenario i idle ≡ []
     unfolding backlog_effects
     no_next = ap ask_for none_next
 
-    -- ---- what is done
-
-    no_heard : heard_effects scenario i idle ≡ []
-    no_heard =
-        both_none (edcan_effects scenario i idle) _ (subst (λ n. edcan_effects scenario n idle ≡ []) h.edcan.node ed.effects)
-        (both_none (relcan_effects scenario i idle) _ (subst (λ n. relcan_effects scenario n idle ≡ []) h.relcan.limits.node rel.effects)
-        (both_none (totcan_effects scenario i idle) (membership_effects scenario i idle) tot_rests.effects membership.effects))
+    -- ---- the script
 
     no_sends : send_effects scenario i idle ≡ []
     unfolding send_effects
-    no_sends = none_sent scenario i (length past) v.agenda h.agenda sends
+    no_sends = none_sent scenario i (length past) v.agenda h.agenda others.sends
 
     no_asks : asks_plain scenario i idle ≡ []
     no_asks =
@@ -140,54 +138,65 @@ module _ (scenario : ScenarioParts) (past : List NoticeKind) (v : NodeParts) (h 
         let join : NodeAsk → List Effect = λ ask. join_asked scenario.params 0 i (length past) members in
         let leave : NodeAsk → List Effect = λ ask. leave_asked scenario.params 0 i (length past) members in
         both_none (flat_map join (asks_in scenario i (length past) scenario.joins)) (flat_map leave (asks_in scenario i (length past) scenario.leaves))
-        (ap (flat_map join) (none_of_slot scenario i (length past) scenario.joins v.joins h.joins joins))
-        (ap (flat_map leave) (none_of_slot scenario i (length past) scenario.leaves v.leaves h.leaves leaves))
+        (ap (flat_map join) (none_of_slot scenario i (length past) scenario.joins v.joins h.joins others.joins))
+        (ap (flat_map leave) (none_of_slot scenario i (length past) scenario.leaves v.leaves h.leaves others.leaves))
 
-    no_script : script_effects scenario i idle ≡ []
+    pub no_script : script_effects scenario i idle ≡ []
     no_script = both_none (send_effects scenario i idle) (asks_plain scenario i idle) no_sends no_asks
 
-    none_plain : plain_effects scenario i idle ≡ []
-    none_plain =
-        both_none (heard_effects scenario i idle) _ no_heard
-        (both_none (script_effects scenario i idle) (backlog_effects scenario i idle) no_script no_next)
+    -- ---- TOTCAN
 
-    none_done : turn_effects scenario i idle ≡ []
-    none_done = sym (turn_stamped scenario i Idle past) ∙ ap (all_stamped scenario.inc) none_plain
-
-    -- ---- the node
-
-    same_log : log_from scenario i idle ≡ log_from scenario i past
-    unfolding log_from entered
-    same_log = ap (λ es. log_from scenario i past ++ entered es) none_done ∙ append-nil (log_from scenario i past)
-
-    still_totcan : IsTotcanOf scenario i idle (backlog scenario i idle) (asked scenario i idle) v.totcan
+    pub still_totcan : IsTotcanOf scenario i idle (backlog scenario i idle) (asked scenario i idle) v.totcan
     still_totcan =
         subst (λ n. IsTotcanOf scenario i idle (backlog scenario i idle) n v.totcan) (sym same_count)
         (subst (λ ms. IsTotcanOf scenario i idle ms count v.totcan) (sym same_backlog) tot_rests.stands)
 
-    still : IsNodeOf scenario idle (record v { read = length past + 1 })
-    still = record {
-      legal = h.legal;
-      inc = h.inc;
-      from = h.from;
-      log = h.log ∙ sym same_log;
-      room = h.room;
-      read = one_more_read;
-      readable = (tt, h.readable);
-      edcan = subst (λ n. IsEdcanOf scenario n idle v.edcan) h.edcan.node ed.stands;
-      relcan = subst (λ n. IsRelcanOf scenario n idle v.relcan) h.relcan.limits.node rel.stands;
-      totcan = still_totcan;
-      membership = membership.stands;
-      agenda = subst (λ n. IsAgendaOf scenario i n v.agenda) one_more_read (agenda_later scenario i (length past) v.agenda h.agenda sends);
-      joins = subst (λ n. AreAsksOf scenario i n scenario.joins v.joins) one_more_read
-          (asks_later scenario i (length past) scenario.joins v.joins h.joins joins);
-      leaves = subst (λ n. AreAsksOf scenario i n scenario.leaves v.leaves) one_more_read
-          (asks_later scenario i (length past) scenario.leaves v.leaves h.leaves leaves);
-      room_to_give = h.room_to_give;
-    }
-      where
-        one_more_read : length past + 1 ≡ length idle
-        one_more_read = omega arith
+    module _ (ed : edcan.Rests scenario v.edcan.node past v.edcan) (rel : relcan.Rests scenario v.relcan.node past v.relcan) where
+      -- ---- what is done
 
-    pub node_rests : Rests scenario past v
-    node_rests = record { stands = still; effects = none_done }
+      no_heard : heard_effects scenario i idle ≡ []
+      no_heard =
+          both_none (edcan_effects scenario i idle) _ (subst (λ n. edcan_effects scenario n idle ≡ []) h.edcan.node ed.effects)
+          (both_none (relcan_effects scenario i idle) _ (subst (λ n. relcan_effects scenario n idle ≡ []) h.relcan.limits.node rel.effects)
+          (both_none (totcan_effects scenario i idle) (membership_effects scenario i idle) tot_rests.effects others.membership.effects))
+
+      none_plain : plain_effects scenario i idle ≡ []
+      none_plain =
+          both_none (heard_effects scenario i idle) _ no_heard
+          (both_none (script_effects scenario i idle) (backlog_effects scenario i idle) no_script no_next)
+
+      none_done : turn_effects scenario i idle ≡ []
+      none_done = sym (turn_stamped scenario i Idle past) ∙ ap (all_stamped scenario.inc) none_plain
+
+      -- ---- the node
+
+      same_log : log_from scenario i idle ≡ log_from scenario i past
+      unfolding log_from entered
+      same_log = ap (λ es. log_from scenario i past ++ entered es) none_done ∙ append-nil (log_from scenario i past)
+
+      still : IsNodeOf scenario idle (record v { read = length past + 1 })
+      still = record {
+        legal = h.legal;
+        inc = h.inc;
+        from = h.from;
+        log = h.log ∙ sym same_log;
+        room = h.room;
+        read = one_more_read;
+        readable = (tt, h.readable);
+        edcan = subst (λ n. IsEdcanOf scenario n idle v.edcan) h.edcan.node ed.stands;
+        relcan = subst (λ n. IsRelcanOf scenario n idle v.relcan) h.relcan.limits.node rel.stands;
+        totcan = still_totcan;
+        membership = others.membership.stands;
+        agenda = subst (λ n. IsAgendaOf scenario i n v.agenda) one_more_read (agenda_later scenario i (length past) v.agenda h.agenda others.sends);
+        joins = subst (λ n. AreAsksOf scenario i n scenario.joins v.joins) one_more_read
+            (asks_later scenario i (length past) scenario.joins v.joins h.joins others.joins);
+        leaves = subst (λ n. AreAsksOf scenario i n scenario.leaves v.leaves) one_more_read
+            (asks_later scenario i (length past) scenario.leaves v.leaves h.leaves others.leaves);
+        room_to_give = h.room_to_give;
+      }
+        where
+          one_more_read : length past + 1 ≡ length idle
+          one_more_read = omega arith
+
+      pub node_rests : Rests scenario past v
+      node_rests = record { stands = still; effects = none_done }

@@ -9,8 +9,7 @@ pub returns : goal.returns
 returns c =
     let same = sym c.self.view_is in
     subst (IsIdleUntil _) c.self.view_is (record {
-      relcan = λ scenario past is early. c.wake.ensures.rests scenario past is (omega (arith, early));
-      totcan = λ scenario past messages count is early. c.wake-2.ensures.rests scenario past messages count is (omega (arith, early));
+      totcan = λ scenario past messages count is early. c.wake.ensures.rests scenario past messages count is (omega (arith, early));
       membership = λ scenario i past is later early within. c.wake-membership.ensures.rests scenario i past is later (omega (arith, early)) within;
       sends = λ n early.
           subst (λ (v : NodeParts). IsRising n v.agenda.left → IsRising (n + 1) v.agenda.left) same (c.next_scripted.ensures.sends n (omega (arith, early)));

@@ -1,15 +1,13 @@
-use Rattle.std.proofs.Common.{◌≡◌, None, not, ap, sym, ◌∙◌}
+use Rattle.std.proofs.Common.{◌≡◌, [], ap, sym, ◌∙◌}
 use Rattle.cany_relcan.specs.Relcan.{RelcanParts}
-use Rattle.cany_relcan.specs.Timers.{oldest_start}
-use Rattle.cany_relcan.proofs.AheadFacts.{ahead_is, none_ahead, none_awaited, none_given}
+use Rattle.cany_relcan.proofs.AheadFacts.{ahead_is, none_ahead, none_awaited}
 use Rattle.cany_relcan.proofs.relcan.Relcan.ahead.Goals as goal
 
-pub returns-then-is_none-clause-message : goal.returns-then-is_none-clause-message
-returns-then-is_none-clause-message c = λ scenario past m h stands key.
-    let none = none_given c.oldest.result (c.is_none.ensures ∙ ap not c.if-is_none.true) in
-    let oldest : oldest_start c.args.self.now.timers.running ≡ None =
-    ap (λ (v : RelcanParts). oldest_start v.timers.running) (sym c.self.view_is) ∙ sym c.oldest.ensures ∙ none in
-    sym (none_ahead scenario c.args.self.now.node past c.args.self.now h oldest m)
+pub returns-then-are_none-clause-message : goal.returns-then-are_none-clause-message
+returns-then-are_none-clause-message c = λ scenario past m h stands key.
+    let none : c.args.self.now.timers.running ≡ [] =
+    ap (λ (v : RelcanParts). v.timers.running) (sym c.self.view_is) ∙ c.are_none.ensures c.if-are_none.true in
+    sym (none_ahead scenario c.args.self.now.node past c.args.self.now h none m)
 
 pub returns-clause-message : goal.returns-clause-message
 returns-clause-message c = λ scenario past m h stands key.

@@ -1,0 +1,133 @@
+-- The turn of a notice that nothing but EDCAN and RELCAN hears, in a slot for which nothing else is due: what these two do is all of it.
+use Rattle.std.proofs.Common.{◌≡◌, ◌+◌, inl, inr, true, false, List, [], ◌∷◌, ◌++◌, refl, ap, sym, ◌∙◌, subst, append-nil, arith}
+use Rattle.std.proofs.lemmas.Bool.{cases_Bool}
+use Rattle.can_frame.specs.Classes.{is_of_site}
+use Rattle.cany_base.specs.declared.actions.Action.{Action}
+use Rattle.cany_base.specs.declared.class.Class.{Class}
+use Rattle.cany_base.specs.declared.class.Class.TheVariants as class
+use Rattle.cany_base.specs.declared.notice.Notice.{Notice}
+use Rattle.cany_base.specs.declared.notice.NoticeKind.{NoticeKind}
+use Rattle.cany_base.specs.declared.notice.NoticeKind.TheVariants.{Idle, Got, Sent, Bad}
+use Rattle.cany_base.specs.Scenario.{ScenarioParts}
+use Rattle.cany_edcan.specs.Edcan.{EdcanParts, IsEdcanOf}
+use Rattle.cany_model.specs.Bus.Frames.{same_class}
+use Rattle.cany_model.specs.Rules.Actions.{actions_of}
+use Rattle.cany_model.specs.Rules.Edcan.{edcan_effects}
+use Rattle.cany_model.specs.Rules.Effect.{Effect}
+use Rattle.cany_model.specs.Rules.Relcan.{relcan_effects}
+use Rattle.cany_model.specs.Rules.Notices.{IsNextNotice}
+use Rattle.cany_model.proofs.Bus.Identities.{same_class-true}
+use Rattle.cany_relcan.specs.Relcan.{IsRelcanOf, RelcanParts}
+use Rattle.cany_node.specs.Node.{IsNodeOf, NodeParts}
+use Rattle.cany_node.specs.Resting.{IsIdleUntil, is_for_relays, is_of_relays}
+use Rattle.cany_node.specs.Turning.{HasScripted, plain_effects}
+use Rattle.cany_node.proofs.ActSteps.{AlwaysListed}
+use Rattle.cany_node.proofs.FrameTurn.{after_none, later_none, none_asked_for, scripted_with}
+use Rattle.cany_node.proofs.HeardTurn.{edcan_stands, listed_more, relcan_stands}
+use Rattle.cany_node.proofs.Idle.IdleFacts.{others_in_turn}
+use Rattle.cany_node.proofs.Idle.IdleTurn.{OthersRest}
+use Rattle.cany_node.proofs.TellsNothingOfPlaces.{IsUnplaced, is_of_totcan, unplaced_bad, unplaced_got, unplaced_idle, unplaced_sent}
+use Rattle.cany_node.proofs.TellsNothingOfTheSite.{IsUnheard, unheard}
+
+-- ---- what the others find in the notice
+
+by_class : (P : Class → Type 0) → P class.Ed → P class.Rel → P class.Confirm → (c : Class) → is_of_relays c ≡ true → P c
+by_class P ed rel confirm c is = elim (cases_Bool (same_class c class.Ed)) [
+  | inl same ↦ subst P (sym (same_class-true c class.Ed same)) ed
+  | inr other ↦ elim (cases_Bool (same_class c class.Rel)) [
+    | inl same ↦ subst P (sym (same_class-true c class.Rel same)) rel
+    | inr neither ↦
+        let same : same_class c class.Confirm ≡ true = rw (other, neither) at is in
+        subst P (sym (same_class-true c class.Confirm same)) confirm
+  ]
+]
+
+not_totcan : (c : Class) → is_of_relays c ≡ true → is_of_totcan c ≡ false
+unfolding same_class
+not_totcan = by_class (λ c. is_of_totcan c ≡ false) refl refl refl
+
+not_site : (c : Class) → is_of_relays c ≡ true → is_of_site c ≡ false
+not_site = by_class (λ c. is_of_site c ≡ false) refl refl refl
+
+tells_nothing : (e : NoticeKind) → is_for_relays e ≡ true → IsUnheard e
+tells_nothing Idle is = unheard Idle refl
+tells_nothing (Got f) is = unheard (Got f) (not_site f.class is)
+tells_nothing (Sent f) is = unheard (Sent f) (not_site f.class is)
+tells_nothing Bad is = unheard Bad refl
+
+places_nothing : (e : NoticeKind) → is_for_relays e ≡ true → IsUnplaced e
+places_nothing Idle is = unplaced_idle
+places_nothing (Got f) is = unplaced_got f (not_totcan f.class is)
+places_nothing (Sent f) is = unplaced_sent f (not_totcan f.class is)
+places_nothing Bad is = unplaced_bad
+
+-- ---- the turn
+
+module _ (scenario : ScenarioParts) (past : List NoticeKind) (e : NoticeKind) (is : is_for_relays e ≡ true) (v : NodeParts)
+    (stands : IsNodeOf scenario past v) (others : OthersRest scenario past v) where
+  abbrev read : List NoticeKind
+  read = e ∷ past
+
+  abbrev relays : List Effect
+  relays = edcan_effects scenario v.node read ++ relcan_effects scenario v.node read
+
+  places : IsUnplaced e
+  places = places_nothing e is
+
+  site : IsUnheard e
+  site = tells_nothing e is
+
+  relays_alone : plain_effects scenario v.node read ≡ edcan_effects scenario v.node read ++ relcan_effects scenario v.node read
+  relays_alone =
+      (λ j. (edcan_effects scenario v.node read ++ (relcan_effects scenario v.node read ++ later_none scenario past e places site v stands others j))
+      ++ after_none scenario past e places site v stands others j)
+      ∙ append-nil (edcan_effects scenario v.node read ++ (relcan_effects scenario v.node read ++ []))
+      ∙ ap (λ es. edcan_effects scenario v.node read ++ es) (append-nil (relcan_effects scenario v.node read))
+
+  relays_listed : (start ed after : List Action) → start ≡ []
+      → ed ≡ start ++ actions_of scenario.params.format (edcan_effects scenario v.edcan.node (e ∷ past))
+      → after ≡ ed ++ actions_of scenario.params.format (relcan_effects scenario v.relcan.node (e ∷ past))
+      → after ≡ actions_of scenario.params.format (plain_effects scenario v.node (e ∷ past))
+  relays_listed start ed after none one two =
+      let edcan_listed : ed ≡ start ++ actions_of scenario.params.format (edcan_effects scenario v.node read) =
+      one ∙ ap (λ n. start ++ actions_of scenario.params.format (edcan_effects scenario n read)) stands.edcan.node in
+      two ∙ ap (λ n. ed ++ actions_of scenario.params.format (relcan_effects scenario n read)) stands.relcan.limits.node
+      ∙ listed_more scenario start ed (edcan_effects scenario v.node read) (relcan_effects scenario v.node read) edcan_listed
+      ∙ ap (λ xs. xs ++ actions_of scenario.params.format relays) none
+      ∙ ap (actions_of scenario.params.format) (sym relays_alone)
+
+  relays_scripted : (edcan : EdcanParts) (relcan : RelcanParts) → IsEdcanOf scenario v.edcan.node (e ∷ past) edcan
+      → IsRelcanOf scenario v.relcan.node (e ∷ past) relcan → HasScripted scenario past e (record v { edcan = edcan; relcan = relcan })
+  relays_scripted edcan relcan ed rel =
+      scripted_with scenario past e places site v stands others edcan relcan
+      (subst (λ n. IsEdcanOf scenario n read edcan) stands.edcan.node ed)
+      (subst (λ n. IsRelcanOf scenario n read relcan) stands.relcan.limits.node rel)
+
+-- what EDCAN and RELCAN list is all of the turn
+pub relay_turn : (notice : Notice) (u v : NodeParts) → v ≡ u → is_for_relays notice.kind ≡ true → IsIdleUntil (notice.slot + 1) u
+    → (edcan : EdcanParts) (relcan : RelcanParts) (start ed after : List Action) → start ≡ []
+    → ((scenario : ScenarioParts) (past : List NoticeKind) → IsEdcanOf scenario v.edcan.node past v.edcan → IsNextNotice scenario past notice
+    → ed ≡ start ++ actions_of scenario.params.format (edcan_effects scenario v.edcan.node (notice.kind ∷ past)))
+    → ((scenario : ScenarioParts) (past : List NoticeKind) → IsEdcanOf scenario v.edcan.node past v.edcan → IsNextNotice scenario past notice
+    → IsEdcanOf scenario v.edcan.node (notice.kind ∷ past) edcan)
+    → ((scenario : ScenarioParts) (past : List NoticeKind) → IsRelcanOf scenario v.relcan.node past v.relcan → IsNextNotice scenario past notice
+    → after ≡ ed ++ actions_of scenario.params.format (relcan_effects scenario v.relcan.node (notice.kind ∷ past)))
+    → ((scenario : ScenarioParts) (past : List NoticeKind) → IsRelcanOf scenario v.relcan.node past v.relcan → IsNextNotice scenario past notice
+    → IsRelcanOf scenario v.relcan.node (notice.kind ∷ past) relcan)
+    → AlwaysListed notice v (record v { edcan = edcan; relcan = relcan }) v.totcan after
+relay_turn notice u v viewed is idle edcan relcan start ed after none ed_acts ed_heard rel_acts rel_heard = λ scenario past stands next.
+    let others =
+    others_in_turn scenario past notice (notice.slot + 1) v (subst (IsIdleUntil (notice.slot + 1)) (sym viewed) idle) (omega arith) stands next in
+    let of_ed = edcan_stands scenario past notice v stands in
+    let of_rel = relcan_stands scenario past notice v stands in
+    let places = places_nothing notice.kind is in
+    let site = tells_nothing notice.kind is in
+    record {
+      same = record { node = refl; inc = refl; from = refl; cycle = refl; log = refl; room = refl };
+      scripted =
+          relays_scripted scenario past notice.kind is v stands others edcan relcan (ed_heard scenario past of_ed next.next) (rel_heard scenario past of_rel next.next);
+      listed =
+          relays_listed scenario past notice.kind is v stands others start ed after none (ed_acts scenario past of_ed next.next)
+          (rel_acts scenario past of_rel next.next);
+      asks = none_asked_for scenario past notice.kind places site v stands others;
+    }

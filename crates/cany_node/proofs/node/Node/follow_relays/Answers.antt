@@ -1,0 +1,44 @@
+use Rattle.std.proofs.Common.{rules, ◌≤◌, ◌+◌, sym, subst, refl, arith}
+use Rattle.cany_base.proofs.ParamsFacts.{few_slots}
+use Rattle.cany_node.specs.Node.{NodeParts}
+use Rattle.cany_node.proofs.ActSteps.{listed_acted, listed_apply}
+use Rattle.cany_node.proofs.Idle.IdleFacts.{idle_later}
+use Rattle.cany_node.proofs.RelayTurn.{relay_turn}
+use Rattle.cany_node.proofs.node.Node.follow_relays.Goals as goal
+
+pub invariant_of-self : goal.invariant_of-self
+invariant_of-self c =
+    let before = subst (λ (v : NodeParts). v.read ≤ c.args.notice.now.slot) (sym c.self.view_is) (omega (arith, c.requires.acts.stands.read, c.requires.acts.next.next.slot)) in
+    record {
+      few = c.self.invariant.few;
+      idle_until = idle_later c.self.inside.idle_until (c.args.notice.now.slot + 1) _ _ _ _ _ c.self.invariant.idle_until (omega (arith, before));
+    }
+
+pub apply_all-requires : goal.apply_all-requires
+apply_all-requires c =
+    let turn =
+    relay_turn c.args.notice.now _ _ c.self.view_is c.requires.brings c.requires.idle c.on.new.self c.hear_relcan.new.relcan c.args.out.now.items c.on.new.out.items
+    c.hear_relcan.new.out.items c.requires.acts.free c.on.ensures.actions c.on.ensures.stands c.hear_relcan.ensures.actions c.hear_relcan.ensures.stands in
+    listed_apply c.args.notice.now _ _ _ c.self.view_is _ c.hear_relcan.new.out.items c.args.ctl.now c.args.out.now c.requires.acts turn c.self.invariant.few
+
+pub overflow_add-self : goal.overflow_add-self
+overflow_add-self c =
+    let acts = c.requires.acts in
+    omega (arith, acts.next.next.within, few_slots acts.scenario.params acts.stands.legal.in_range)
+
+pub returns : goal.returns
+returns c =
+    let turn =
+    relay_turn c.args.notice.now _ _ c.self.view_is c.requires.brings c.requires.idle c.on.new.self c.hear_relcan.new.relcan c.args.out.now.items c.on.new.out.items
+    c.hear_relcan.new.out.items c.requires.acts.free c.on.ensures.actions c.on.ensures.stands c.hear_relcan.ensures.actions c.hear_relcan.ensures.stands in
+    let acted =
+    listed_acted c.args.notice.now _ _ _ c.self.view_is _ c.hear_relcan.new.out.items c.args.ctl.now c.args.out.now c.requires.acts turn c.apply_all.new.ctl c.self.inside.log
+    c.apply_all.new.log refl refl c.apply_all.ensures in
+    record {
+      controller = acted.controller;
+      stands = acted.stands;
+      node = acted.node;
+      inc = acted.inc;
+      cycle = acted.cycle;
+      out = search rules;
+    }
