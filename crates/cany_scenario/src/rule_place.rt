@@ -34,20 +34,6 @@ const FRAME_RULE_KEYS: [KeyName; 7] = [
     KeyName::Stop,
 ];
 
-/// The classes that a rule for a frame can name.
-const CLASSES: [Class; 10] = [
-    Class::Accept,
-    Class::Rha,
-    Class::Els,
-    Class::Fda,
-    Class::Join,
-    Class::Leave,
-    Class::Confirm,
-    Class::Tot,
-    Class::Rel,
-    Class::Ed,
-];
-
 /// Where the rule of an entry acts: at a frame where the entry has the key `class`, whatever that
 /// holds, and at a slot elsewhere.
 #[tactic(auto, unfolding(cany_text::specs::FaultsText::place_from))]
@@ -132,11 +118,39 @@ fn class_from(at: Position, value: &Value) -> Result<Class, ScenarioFault>
 }
 
 /// The class of the name.
+// Test by test, since a closure of `find` takes longer to prove than all of them.
 fn class_named(name: &str) -> Option<Class>
     ensures { result ≡ named class_name classes name.now }
 {
-    CLASSES
-        .iter()
-        .copied()
-        .find(|class| class_name(*class) == name)
+    if class_name(Class::Accept) == name {
+        return Some(Class::Accept);
+    }
+    if class_name(Class::Rha) == name {
+        return Some(Class::Rha);
+    }
+    if class_name(Class::Els) == name {
+        return Some(Class::Els);
+    }
+    if class_name(Class::Fda) == name {
+        return Some(Class::Fda);
+    }
+    if class_name(Class::Join) == name {
+        return Some(Class::Join);
+    }
+    if class_name(Class::Leave) == name {
+        return Some(Class::Leave);
+    }
+    if class_name(Class::Confirm) == name {
+        return Some(Class::Confirm);
+    }
+    if class_name(Class::Tot) == name {
+        return Some(Class::Tot);
+    }
+    if class_name(Class::Rel) == name {
+        return Some(Class::Rel);
+    }
+    if class_name(Class::Ed) == name {
+        return Some(Class::Ed);
+    }
+    None
 }
