@@ -68,6 +68,8 @@ impl OpenMessages {
 
     /// The data frame of a message was read in a slot, which comes after all places: the message is
     /// the last from now on, and not done.
+    // A hint, since a run makes this call in one place. So is that of the next.
+    #[inline(always)]
     pub(crate) fn place(&mut self, frame: &Frame, slot: Slot)
         requires number { frame.now.number < self.old.numbers }
         requires room { length (without_key (message_in frame.now) self.old.items) < self.old.room }
@@ -87,6 +89,7 @@ impl OpenMessages {
     }
 
     /// Removes a message, if it is there.
+    #[inline(always)]
     fn remove(&mut self, msg: &MsgKey)
         ensures { self.new ≡ is_removed msg.now self.old }
     {

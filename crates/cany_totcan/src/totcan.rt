@@ -371,6 +371,8 @@ impl Totcan {
 
     /// Delivers the accepted messages that no open one before them holds back, in the order of
     /// their places.
+    // A hint, since mostly none is, so that one look ends it. The next call stays apart for that.
+    #[inline(always)]
     fn deliver_done(&mut self, slot: Slot, out: &mut Actions)
         requires known { AreKnown self.old }
         requires room { length out.old.items + length self.old.queue.items ≤ out.old.room }
@@ -386,6 +388,7 @@ impl Totcan {
 
     /// The first open message that is not done is accepted: it is done now, and is delivered unless
     /// it was before.
+    #[inline(never)]
     fn deliver_next(&mut self, slot: Slot, frame: &Frame, out: &mut Actions)
         requires next { first_of (due self.old) ≡ Some frame.now }
         requires deliver { frame.now.number < length self.old.deliveries.origins }
