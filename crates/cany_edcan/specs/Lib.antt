@@ -1,2 +1,3 @@
+pub mod Calls
 pub mod Edcan
 pub mod EdcanSteps

@@ -15,18 +15,27 @@ ghost use Rattle.cany_message.specs.Table.{CanTake};
 ghost use Rattle.cany_model.specs.Rules.Actions.{actions_of};
 ghost use Rattle.cany_model.specs.Rules.Edcan.{edcan_effects};
 ghost use Rattle.cany_model.specs.Rules.Notices.{IsNextNotice};
+ghost use Rattle.cany_edcan.specs.declared.calls.Relay.TheVariants as relay;
+ghost use Rattle.cany_edcan.specs.Calls.{actions_called, relayed};
 ghost use Rattle.cany_edcan.specs.Edcan.{IsEdcanOf, CanRead};
 ghost use Rattle.cany_edcan.specs.EdcanSteps.{holds_own, was_delivered};
 
+use crate::calls::{Calls, Relay, put, relay_of};
 use crate::data::{Data, is_data};
 use cany_base::{
     Action, Actions, Format, Frame, Memory, MsgKey, NodeId, Notice, NoticeKind, Payload, Scenario,
-    Service, Slot,
+    Service,
 };
 use cany_diffuse::{Diffused, Eager};
-use cany_message::{deliver, relay, sends_by};
+use cany_message::sends_by;
 use std::alloc::Global;
 use std::marker::Model;
+
+/// What a notice calls for that brings no data frame of EDCAN.
+const NOTHING: Calls = Calls {
+    delivers: false,
+    relay: Relay::Nothing,
+};
 
 /// EDCAN at one node: which messages it delivered, and the copies of each data frame.
 ///
@@ -76,12 +85,9 @@ impl Edcan {
         out.push(Action::Ask(data.form()));
     }
 
-    /// What EDCAN does at a notice. The notices of the slots before the first that a value is given
-    /// count as idle ones.
+    /// What EDCAN does at a notice, as `hear` has it, appended to the actions.
     ///
     /// At most two actions are appended.
-    // A hint, since a node makes most of these calls in one place.
-    #[inline(always)]
     pub fn on(&mut self, notice: &Notice, out: &mut Actions)
         requires reads { CanRead self.old notice.now }
         requires room { length out.old.items + 2 ≤ out.old.room }
@@ -92,60 +98,81 @@ impl Edcan {
         ensures few { length out.new.items ≤ length out.old.items + 2 }
         ensures room { out.new.room ≡ out.old.room }
     {
+        let calls = self.hear(notice);
+        put(&calls, notice, out);
+    }
+
+    /// What a notice calls for. The notices of the slots before the first that a value is given
+    /// count as idle ones.
+    // A hint, since a node makes most of these calls in one place.
+    #[inline(always)]
+    pub fn hear(&mut self, notice: &Notice) -> Calls
+        requires { CanRead self.old notice.now }
+        ensures actions { (scenario : ScenarioParts) (past : List NoticeKind) → IsEdcanOf scenario self.old.node past self.old → IsNextNotice scenario past notice.now
+            → actions_called notice.now result ≡ actions_of scenario.params.format (edcan_effects scenario self.old.node (notice.now.kind ∷ past)) }
+        ensures stands { (scenario : ScenarioParts) (past : List NoticeKind) → IsEdcanOf scenario self.old.node past self.old → IsNextNotice scenario past notice.now
+            → IsEdcanOf scenario self.old.node (notice.now.kind ∷ past) self.new }
+    {
         match &notice.kind {
             NoticeKind::Got(frame) => {
                 if is_data(frame) {
-                    self.on_copy(notice.slot, frame, out);
+                    self.on_copy(frame)
+                } else {
+                    NOTHING
                 }
             }
             NoticeKind::Sent(frame) => {
                 if is_data(frame) {
-                    self.on_own(notice.slot, frame, out);
+                    self.on_own(frame)
+                } else {
+                    NOTHING
                 }
             }
-            NoticeKind::Idle => {}
-            NoticeKind::Bad => {}
+            NoticeKind::Idle => NOTHING,
+            NoticeKind::Bad => NOTHING,
         }
     }
 
     /// A copy of a data frame: the message is delivered if none was before, and the frame is
     /// relayed. A node that is not the origin knows from the count alone.
-    fn on_copy(&mut self, slot: Slot, frame: &Frame, out: &mut Actions)
+    #[inline(always)]
+    fn on_copy(&mut self, frame: &Frame) -> Calls
         requires small { HasSmallNumbers self.old.format frame.now }
         requires takes { CanTake (frame_number frame.now) self.old.copies }
-        requires room { length out.old.items + 2 ≤ out.old.room }
         ensures learnt { IsLearnt (frame_number frame.now) self.old.copies self.new.copies }
         ensures state { self.new ≡ record self.old { copies = self.new.copies } }
         ensures in_range { frame.now.node < most_nodes }
-        ensures actions { let learnt = learnt_of self.old.copies.omit (copies_of self.new.copies (frame_number frame.now)) (is_owned self.old.copies (frame_number frame.now)) in
-            out.new.items ≡ (out.old.items ++ delivery_actions service.Ed slot (not (was_delivered self.old frame.now)) frame.now) ++ relay_actions self.old.format learnt frame.now }
-        ensures few { length out.new.items ≤ length out.old.items + 2 }
-        ensures room { out.new.room ≡ out.old.room }
+        ensures delivers { result.delivers ≡ not (was_delivered self.old frame.now) }
+        ensures relay { let learnt = learnt_of self.old.copies.omit (copies_of self.new.copies (frame_number frame.now)) (is_owned self.old.copies (frame_number frame.now)) in
+            relayed result.relay frame.now ≡ relay_actions self.old.format learnt frame.now }
     {
         let was_held = self.holds_own(frame);
         let learnt = self.copies.learn(Data::of(frame));
         let is_new = learnt.is_first_copy() && !was_held;
-        deliver(Service::Ed, slot, frame, is_new, out);
-        relay(self.format, &learnt, frame, out);
+        Calls {
+            delivers: is_new,
+            relay: relay_of(self.format, &learnt, frame),
+        }
     }
 
     /// The node's own transmission of a data frame: the message is delivered if the node is its
     /// origin and none was before.
-    fn on_own(&mut self, slot: Slot, frame: &Frame, out: &mut Actions)
+    #[inline(always)]
+    fn on_own(&mut self, frame: &Frame) -> Calls
         requires takes { CanTake (frame_number frame.now) self.old.copies }
-        requires room { length out.old.items + 2 ≤ out.old.room }
         ensures owned { IsOwned (frame_number frame.now) self.old.copies self.new.copies }
         ensures state { self.new ≡ record self.old { copies = self.new.copies } }
         ensures in_range { frame.now.node < most_nodes }
-        ensures actions { let delivers = frame.now.node == self.old.node && not (was_delivered self.old frame.now) in
-            out.new.items ≡ out.old.items ++ delivery_actions service.Ed slot delivers frame.now }
-        ensures few { length out.new.items ≤ length out.old.items + 1 }
-        ensures room { out.new.room ≡ out.old.room }
+        ensures delivers { result.delivers ≡ (frame.now.node == self.old.node && not (was_delivered self.old frame.now)) }
+        ensures relay { result.relay ≡ relay.Nothing }
     {
         let was_held = self.holds_own(frame);
         let delivers = frame.node.get() == self.node.get() && !was_held;
-        deliver(Service::Ed, slot, frame, delivers, out);
         self.copies.own(Data::of(frame));
+        Calls {
+            delivers,
+            relay: Relay::Nothing,
+        }
     }
 
     /// Whether the node is the origin of a data frame and has noted a copy or its own transmission.

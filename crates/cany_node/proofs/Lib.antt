@@ -1,12 +1,12 @@
 pub mod ActSteps
 pub mod AgendaFacts
+pub mod AppliedParts
 pub mod Applying
 pub mod AskFacts
 pub mod Askable
 pub mod AskedFacts
 pub mod BacklogFacts
 pub mod Beginning
-pub mod EdcanFrames
 pub mod FrameTurn
 pub mod GiveFacts
 pub mod HeardTurn

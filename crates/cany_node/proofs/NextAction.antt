@@ -43,7 +43,7 @@ asks_askable scenario i inc (Withdraw x ∷ effects) h = (tt, asks_askable scena
 asks_askable scenario i inc (Enter entry ∷ effects) h = (tt, asks_askable scenario i inc effects h.1)
 
 -- it may be asked for
-still_askable : (scenario : ScenarioParts) (i inc : ℕ) (effects : List Effect) (w : List FrameParts)
+pub still_askable : (scenario : ScenarioParts) (i inc : ℕ) (effects : List Effect) (w : List FrameParts)
     → AllByRecursion (NamesAskable scenario i) effects
     → AreAskable scenario i w → AreAskable scenario i (waiting_after (all_stamped inc effects) w)
 still_askable scenario i inc effects w names all =
@@ -59,7 +59,7 @@ asks_tell inc (Withdraw x ∷ effects) = (tt, asks_tell inc effects)
 asks_tell inc (Enter entry ∷ effects) = (tt, asks_tell inc effects)
 
 -- and tells the incarnation
-still_stamped : (inc : ℕ) (effects : List Effect) (w : List FrameParts) → AreStamped inc w → AreStamped inc (waiting_after (all_stamped inc effects) w)
+pub still_stamped : (inc : ℕ) (effects : List Effect) (w : List FrameParts) → AreStamped inc w → AreStamped inc (waiting_after (all_stamped inc effects) w)
 still_stamped inc effects w stamped = Each-after (IsStamped inc) (all_stamped inc effects) w (asks_tell inc effects) stamped
 
 -- what is entered does not depend on it
@@ -78,7 +78,7 @@ signs_asked (Ask f ∷ effects) = omega (arith, count-cons asks_sign (Ask f) eff
 signs_asked (Withdraw x ∷ effects) = omega (arith, count-cons asks_sign (Withdraw x) effects, signs_asked effects)
 signs_asked (Enter entry ∷ effects) = omega (arith, count-cons asks_sign (Enter entry) effects, signs_asked effects)
 
-signs_stamped : (inc : ℕ) (effects : List Effect) → els_asks (all_stamped inc effects) ≡ els_asks effects
+pub signs_stamped : (inc : ℕ) (effects : List Effect) → els_asks (all_stamped inc effects) ≡ els_asks effects
 signs_stamped inc [] = refl
 signs_stamped inc (Ask f ∷ effects) = omega (arith, signs_stamped inc effects)
 signs_stamped inc (Withdraw x ∷ effects) = signs_stamped inc effects

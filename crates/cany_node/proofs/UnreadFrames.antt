@@ -5,13 +5,9 @@ use Rattle.cany_base.specs.declared.notice.NoticeKind.{NoticeKind}
 use Rattle.cany_base.specs.declared.notice.NoticeKind.TheVariants.{Idle}
 use Rattle.cany_model.specs.Bus.Frames.{Identity}
 use Rattle.cany_model.specs.Bus.History.{copies, has_own, is_got, is_sent}
-use Rattle.cany_model.specs.Rules.Relcan.{has_copy}
 use Rattle.cany_model.proofs.Among.{count-no}
 
 module _ (x : Identity) (e : NoticeKind) (past : List NoticeKind) where
-  pub copy_unread : is_got x e ≡ false → has_copy x (e ∷ past) ≡ has_copy x (Idle ∷ past)
-  copy_unread none = ap (λ b. b || list_any (is_got x) past) none
-
   pub copies_unread : is_got x e ≡ false → copies x (e ∷ past) ≡ copies x (Idle ∷ past)
   unfolding copies
   copies_unread none = count-no (is_got x) e past none ∙ sym (count-no (is_got x) Idle past refl)

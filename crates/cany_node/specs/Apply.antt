@@ -52,6 +52,13 @@ pub record AreDone (effects : List Effect) (ctl ctl' : ControllerState) (log log
 abbrev pub all_stamped : ℕ → List Effect → List Effect
 all_stamped inc effects = map (stamped_effect inc) effects
 
+-- The actions are done: the effects that they are those of, each of which tells the incarnation.
+abbrev pub AreApplied : (inc : ℕ) → List Action → (ctl ctl' : ControllerState) (log log' : Bounded LogEntry) → Type 0
+AreApplied inc actions ctl ctl' log log' =
+    (scenario : ScenarioParts) (i : ℕ) (effects : List Effect) → IsLegalScenario scenario → ctl.params.format ≡ scenario.params.format
+    → actions ≡ actions_of scenario.params.format effects → AllByRecursion (NamesAskable scenario i) effects → AreStamped inc ctl.waiting
+    → AreDone (all_stamped inc effects) ctl ctl' log log'
+
 -- The actions are those of effects that an incarnation of node i can do: what they name may be asked for, there is room for all, and
 -- what waits tells the incarnation. The life signs that wait and those that are asked for are three at most.
 pub record CanApply (inc : ℕ) (actions : List Action) (ctl : ControllerState) (log : Bounded LogEntry) : Type 0 where

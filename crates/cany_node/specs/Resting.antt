@@ -1,6 +1,6 @@
 -- The turns of idle slots in which a node has nothing to do: it stands for them as it is. In a slot for which nothing but a timer of
 -- RELCAN is due, it does at a frame of EDCAN or of RELCAN no more than what these two do.
-use Rattle.std.specs.Prelude.{◌≡◌, ◌+◌, ◌<◌, ◌≤◌, ◌||◌, ℕ, Bool, true, false, List, [], ◌∷◌, length}
+use Rattle.std.specs.Prelude.{◌≡◌, ◌+◌, ◌<◌, ◌≤◌, ◌||◌, ℕ, Bool, true, List, [], ◌∷◌, length}
 use Rattle.cany_base.specs.declared.class.Class.{Class}
 use Rattle.cany_base.specs.declared.class.Class.TheVariants as class
 use Rattle.cany_base.specs.declared.notice.NoticeKind.{NoticeKind}
@@ -34,13 +34,6 @@ abbrev pub RestsUntil : ℕ → NodeParts → Type 0
 RestsUntil wake v =
     (scenario : ScenarioParts) (past : List NoticeKind) → IsNodeOf scenario past (record v { read = length past })
     → v.read ≤ length past → length past < wake → length past < scenario.params.slots → Rests scenario past v
-
--- whether the notice brings a data frame of EDCAN
-abbrev pub is_of_edcan : NoticeKind → Bool
-is_of_edcan Idle = false
-is_of_edcan (Got f) = same_class f.class class.Ed
-is_of_edcan (Sent f) = same_class f.class class.Ed
-is_of_edcan Bad = false
 
 -- whether frames of the class are of EDCAN or of RELCAN, which nothing else hears
 abbrev pub is_of_relays : Class → Bool

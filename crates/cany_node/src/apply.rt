@@ -1,17 +1,21 @@
-ghost use Rattle.std.specs.Prelude.{◌≡◌, ◌≤◌, ℕ, [], ◌∷◌, List, All};
-ghost use Rattle.std.specs.List.{AllByRecursion};
+ghost use Rattle.std.specs.Prelude.{◌≡◌, ◌≤◌, [], ◌∷◌, All};
 ghost use Rattle.can_frame.specs.Identifier.{FitsIdentifier};
 ghost use Rattle.cany_base.specs.Limits.{most_restarts_of_node};
-ghost use Rattle.cany_base.specs.Scenario.{ScenarioParts, IsLegalScenario};
-ghost use Rattle.cany_model.specs.Rules.Actions.{action_of, actions_of};
+ghost use Rattle.cany_base.specs.declared.message.Service.TheVariants as service;
+ghost use Rattle.cany_edcan.specs.Calls.{actions_called, frame_actions, relayed};
+ghost use Rattle.cany_message.specs.Actions.{delivery_actions};
+ghost use Rattle.cany_model.specs.Rules.Actions.{action_of};
 ghost use Rattle.cany_model.specs.Rules.Effect.{Effect};
-ghost use Rattle.cany_node.specs.Apply.{NamesAskable, AreDone, CanApply, CanDo, WithdrawsFitting, all_stamped};
+ghost use Rattle.cany_node.specs.Apply.{AreApplied, AreDone, CanApply, CanDo, WithdrawsFitting, all_stamped};
 ghost use Rattle.cany_node.specs.Stamping.{AreStamped};
 
 use crate::stamping::{ident_with, with_incarnation};
 use can_controller::Controller;
 use can_controller::laws::{frames_ascend, frames_fit};
-use cany_base::{Action, Actions, BoundedVec, LogEntry};
+use cany_base::{
+    Action, Actions, BoundedVec, Frame, LogEntry, MsgKey, Notice, NoticeKind, Service, Slot,
+};
+use cany_edcan::{Calls, Relay};
 
 /// Does one action of an incarnation on the controller or the log.
 // A hint, as of `apply_all`.
@@ -30,6 +34,101 @@ fn apply(action: &Action, inc: u8, ctl: &mut Controller, log: &mut BoundedVec<Lo
     }
 }
 
+/// Does one action of an incarnation, as one of a list.
+#[inline(always)]
+fn apply_one(action: &Action, inc: u8, ctl: &mut Controller, log: &mut BoundedVec<LogEntry>)
+    requires { CanApply inc (action.now ∷ []) ctl.old log.old }
+    ensures { AreApplied inc (action.now ∷ []) ctl.old ctl.new log.old log.new }
+{
+    frames_ascend(ctl);
+    frames_fit(ctl);
+    apply(action, inc, ctl, log);
+}
+
+/// Enters the delivery of a message of EDCAN in the log, or does nothing.
+#[inline(always)]
+fn apply_delivery(
+    slot: Slot,
+    frame: &Frame,
+    delivers: bool,
+    inc: u8,
+    ctl: &mut Controller,
+    log: &mut BoundedVec<LogEntry>,
+)
+    requires { CanApply inc (delivery_actions service.Ed slot delivers frame.now) ctl.old log.old }
+    ensures { AreApplied inc (delivery_actions service.Ed slot delivers frame.now) ctl.old ctl.new log.old log.new }
+{
+    if !delivers {
+        return;
+    }
+    let entry = LogEntry::Deliver {
+        slot,
+        service: Service::Ed,
+        msg: MsgKey {
+            origin: frame.node,
+            seq: frame.number,
+        },
+        payload: frame.payload,
+    };
+    apply_one(&Action::Enter(entry), inc, ctl, log);
+}
+
+/// Asks for a frame, withdraws it or does nothing.
+#[inline(always)]
+fn apply_relay(
+    relay: Relay,
+    frame: &Frame,
+    inc: u8,
+    ctl: &mut Controller,
+    log: &mut BoundedVec<LogEntry>,
+)
+    requires { CanApply inc (relayed relay frame.now) ctl.old log.old }
+    ensures { AreApplied inc (relayed relay frame.now) ctl.old ctl.new log.old log.new }
+{
+    match relay {
+        Relay::Nothing => {}
+        Relay::Asks => apply_one(&Action::Ask(*frame), inc, ctl, log),
+        Relay::Withdraws { ident } => apply_one(&Action::Withdraw { ident }, inc, ctl, log),
+    }
+}
+
+/// Does what a frame in a slot calls for.
+#[inline(always)]
+fn apply_frame(
+    calls: &Calls,
+    slot: Slot,
+    frame: &Frame,
+    inc: u8,
+    ctl: &mut Controller,
+    log: &mut BoundedVec<LogEntry>,
+)
+    requires { CanApply inc (frame_actions slot calls.now frame.now) ctl.old log.old }
+    ensures { AreApplied inc (frame_actions slot calls.now frame.now) ctl.old ctl.new log.old log.new }
+{
+    apply_delivery(slot, frame, calls.delivers, inc, ctl, log);
+    apply_relay(calls.relay, frame, inc, ctl, log);
+}
+
+/// Does what a notice calls for, without a list of actions.
+#[inline(always)]
+pub(crate) fn apply_called(
+    calls: &Calls,
+    notice: &Notice,
+    inc: u8,
+    ctl: &mut Controller,
+    log: &mut BoundedVec<LogEntry>,
+)
+    requires { CanApply inc (actions_called notice.now calls.now) ctl.old log.old }
+    ensures { AreApplied inc (actions_called notice.now calls.now) ctl.old ctl.new log.old log.new }
+{
+    match &notice.kind {
+        NoticeKind::Got(frame) => apply_frame(calls, notice.slot, frame, inc, ctl, log),
+        NoticeKind::Sent(frame) => apply_frame(calls, notice.slot, frame, inc, ctl, log),
+        NoticeKind::Idle => {}
+        NoticeKind::Bad => {}
+    }
+}
+
 /// Does the actions of an incarnation in their order. Each frame that they ask for or withdraw
 /// tells it, if frames of its class do.
 // A hint, since a node makes most of these calls in one place.
@@ -41,9 +140,7 @@ pub(crate) fn apply_all(
     log: &mut BoundedVec<LogEntry>,
 )
     requires { CanApply inc out.now.items ctl.old log.old }
-    ensures { (scenario : ScenarioParts) (i : ℕ) (effects : List Effect) → IsLegalScenario scenario → ctl.old.params.format ≡ scenario.params.format →
-        out.now.items ≡ actions_of scenario.params.format effects → AllByRecursion (NamesAskable scenario i) effects → AreStamped inc ctl.old.waiting →
-        AreDone (all_stamped inc effects) ctl.old ctl.new log.old log.new }
+    ensures { AreApplied inc out.now.items ctl.old ctl.new log.old log.new }
 {
     let actions = out.as_slice();
     for action in actions {

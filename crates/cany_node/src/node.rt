@@ -9,10 +9,7 @@ ghost use Rattle.cany_model.specs.Bus.State.{Incarnation};
 ghost use Rattle.cany_model.specs.Rules.Messages.{Message, messages_of, message_key};
 ghost use Rattle.cany_model.specs.Rules.Turn.{has_asked, is_ahead_at, scenario_for, turn_effects};
 ghost use Rattle.cany_model.specs.Rules.Actions.{actions_of};
-ghost use Rattle.cany_model.specs.Rules.Notices.{IsNextNotice};
-ghost use Rattle.cany_model.specs.Rules.Relcan.{relcan_effects};
 ghost use Rattle.cany_model.specs.Rules.Effect.{waiting_after};
-ghost use Rattle.cany_relcan.specs.Relcan.{CanRead, IsRelcanOf};
 ghost use Rattle.cany_node.specs.Node.{IsNodeOf, IsWaiting, CanBegin, CanTurn, CanAct, Reads, IsTurnOf, IsRefused, heard_by, reply_of};
 ghost use Rattle.cany_node.specs.Asks.{AreAsksPassed, IsRisingFrom};
 ghost use Rattle.cany_node.specs.Agenda.{ArePassed, IsRising};
@@ -21,10 +18,10 @@ ghost use Rattle.cany_node.specs.Membership.{IsNextOf};
 ghost use Rattle.cany_node.specs.Turning.{CanHearNext, CanScript, HasHeard, HasScripted, IsActed, heard_effects, heard_room, script_effects, script_room};
 
 use crate::agenda::Agenda;
-use crate::apply::apply_all;
+use crate::apply::{apply_all, apply_called};
 use crate::asks::{AskKind, AskPlan, ask_due};
 use crate::membership::Membership;
-use crate::notices::{is_early, is_error, is_for_relays, is_of_edcan};
+use crate::notices::{is_early, is_error, is_for_relays};
 use crate::plan::{Plan, build_plan};
 use crate::protocols::{Protocols, build_protocols};
 use crate::reply::TurnReply;
@@ -222,8 +219,9 @@ impl Node {
         requires idle { IsIdleUntil (notice.now.slot + 1) self.old }
         ensures { IsActed notice.now self.old self.new ctl.old ctl.new out.old out.new }
     {
-        self.edcan.on(notice, out);
-        hear_relcan(&mut self.relcan, notice, out);
+        let calls = self.edcan.hear(notice);
+        self.relcan.on(notice, out);
+        apply_called(&calls, notice, self.inc, ctl, &mut self.log);
         apply_all(out, self.inc, ctl, &mut self.log);
         out.clear();
         self.read = notice.slot + 1;
@@ -403,24 +401,6 @@ impl Node {
             Service::Tot => self.totcan.ahead(msg),
         }
     }
-}
-
-/// What RELCAN does at a notice. At a data frame of EDCAN it does nothing until its next timer is
-/// due, so it is not asked then.
-fn hear_relcan(relcan: &mut Relcan, notice: &Notice, out: &mut Actions)
-    requires reads { CanRead relcan.old notice.now }
-    requires room { length out.old.items + 3 ≤ out.old.room }
-    ensures actions { (scenario : ScenarioParts) (past : List NoticeKind) → IsRelcanOf scenario relcan.old.node past relcan.old → IsNextNotice scenario past notice.now →
-        out.new.items ≡ out.old.items ++ actions_of scenario.params.format (relcan_effects scenario relcan.old.node (notice.now.kind ∷ past)) }
-    ensures stands { (scenario : ScenarioParts) (past : List NoticeKind) → IsRelcanOf scenario relcan.old.node past relcan.old → IsNextNotice scenario past notice.now →
-        IsRelcanOf scenario relcan.old.node (notice.now.kind ∷ past) relcan.new }
-    ensures few { length out.new.items ≤ length out.old.items + 3 }
-    ensures room { out.new.room ≡ out.old.room }
-{
-    if is_of_edcan(&notice.kind) && notice.slot < relcan.wake() {
-        return;
-    }
-    relcan.on(notice, out);
 }
 
 /// Forgets up to which slot the node is idle. What it keeps is about to change, and what was noted

@@ -3,7 +3,7 @@
 ghost use Rattle.std.specs.Prelude.{◌≡◌, false, true};
 ghost use Rattle.cany_base.specs.declared.notice.NoticeKind.TheVariants.{Idle};
 ghost use Rattle.cany_model.specs.Rules.Notices.{error_as_idle, is_early, is_early_frame};
-ghost use Rattle.cany_node.specs.Resting.{is_for_relays, is_of_edcan};
+ghost use Rattle.cany_node.specs.Resting.{is_for_relays};
 ghost use Rattle.cany_node.specs.Membership.{tells_of_site};
 
 use can_frame::is_of_site;
@@ -35,16 +35,6 @@ pub(crate) fn is_error(kind: &NoticeKind) -> bool
     ensures other { result ≡ false → error_as_idle kind.now ≡ kind.now }
 {
     matches!(kind, NoticeKind::Bad)
-}
-
-/// Whether a notice brings a data frame of EDCAN.
-pub(crate) fn is_of_edcan(kind: &NoticeKind) -> bool
-    ensures { result ≡ is_of_edcan kind.now }
-{
-    match kind {
-        NoticeKind::Got(frame) | NoticeKind::Sent(frame) => is_of_class(frame, Class::Ed),
-        NoticeKind::Idle | NoticeKind::Bad => false,
-    }
 }
 
 /// Whether a notice is nothing to TOTCAN and tells nothing of the site: nothing was heard, or a

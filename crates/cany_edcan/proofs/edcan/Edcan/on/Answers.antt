@@ -1,66 +1,19 @@
-use Rattle.std.proofs.Common.{sym, ◌∙◌}
-use Rattle.cany_base.specs.declared.notice.NoticeKind.TheVariants.{Idle, Got, Sent, Bad}
-use Rattle.cany_edcan.proofs.EdcanFacts.{small_copy, takes_got, takes_sent, got_stands, sent_stands, got_acts, sent_acts, sent_other, other_stands, other_acts}
+use Rattle.std.proofs.Common.{◌++◌, length, ap, ◌∙◌, arith}
+use Rattle.std.proofs.lemmas.List.{length-append}
+use Rattle.cany_edcan.specs.Calls.{actions_called}
+use Rattle.cany_edcan.proofs.CallFacts.{two_called}
 use Rattle.cany_edcan.proofs.edcan.Edcan.on.Goals as goal
 
-pub on_copy-requires-clause-takes : goal.on_copy-requires-clause-takes
-on_copy-requires-clause-takes c =
-    takes_got c.args.self.now c.args.notice.now c.in-Got.frame c.requires.reads c.in-Got.is (sym c.is_data.ensures ∙ c.if-is_data.true)
+pub returns-clause-actions : goal.returns-clause-actions
+returns-clause-actions c = λ scenario past h next.
+    c.put.ensures.actions ∙ ap (λ actions. c.args.out.now.items ++ actions) (c.hear-calls.ensures.actions scenario past h next)
 
-pub on_copy-requires-clause-small : goal.on_copy-requires-clause-small
-on_copy-requires-clause-small c = small_copy c.args.self.now c.args.notice.now c.in-Got.frame c.requires.reads c.in-Got.is
-
-pub on_own-requires-clause-takes : goal.on_own-requires-clause-takes
-on_own-requires-clause-takes c =
-    takes_sent c.args.self.now c.args.notice.now c.in-Sent.frame c.requires.reads c.in-Sent.is (sym c.is_data-in-Sent.ensures ∙ c.if-is_data-2.true)
-
-pub returns-then-is_data-clause-stands : goal.returns-then-is_data-clause-stands
-returns-then-is_data-clause-stands c = λ scenario past h next.
-    got_stands scenario past c.args.self.now c.on_copy.new.self c.args.notice.now c.in-Got.frame h next (sym c.is_data.ensures ∙ c.if-is_data.true)
-    c.on_copy.ensures.in_range c.in-Got.is c.on_copy.ensures.learnt c.on_copy.ensures.state
-
-pub returns-then-is_data-clause-actions : goal.returns-then-is_data-clause-actions
-returns-then-is_data-clause-actions c = λ scenario past h next.
-    got_acts scenario past c.args.self.now c.on_copy.new.self c.args.notice.now c.in-Got.frame h next (sym c.is_data.ensures ∙ c.if-is_data.true)
-    c.on_copy.ensures.in_range c.args.out.now.items c.on_copy.new.out.items c.in-Got.is
-    (returns-then-is_data-clause-stands c scenario past h next) c.on_copy.ensures.actions
-
-pub returns-else-is_data-clause-stands : goal.returns-else-is_data-clause-stands
-returns-else-is_data-clause-stands c = λ scenario past h next.
-    other_stands scenario c.args.self.now.node past c.args.notice.now.kind (Got c.in-Got.frame) c.in-Got.is (sym c.is_data.ensures ∙ c.if-is_data.false) c.args.self.now h
-
-pub returns-else-is_data-clause-actions : goal.returns-else-is_data-clause-actions
-returns-else-is_data-clause-actions c = λ scenario past h next.
-    other_acts scenario c.args.self.now.node past c.args.notice.now.kind (Got c.in-Got.frame) c.in-Got.is (sym c.is_data.ensures ∙ c.if-is_data.false) c.args.out.now.items
-
-pub returns-then-is_data-2-clause-stands : goal.returns-then-is_data-2-clause-stands
-returns-then-is_data-2-clause-stands c = λ scenario past h next.
-    sent_stands scenario past c.args.self.now c.on_own.new.self c.args.notice.now c.in-Sent.frame h next (sym c.is_data-in-Sent.ensures ∙ c.if-is_data-2.true)
-    c.on_own.ensures.in_range c.in-Sent.is c.on_own.ensures.owned c.on_own.ensures.state
-
-pub returns-then-is_data-2-clause-actions : goal.returns-then-is_data-2-clause-actions
-returns-then-is_data-2-clause-actions c = λ scenario past h next.
-    sent_acts scenario past c.args.self.now c.on_own.new.self c.args.notice.now c.in-Sent.frame h next (sym c.is_data-in-Sent.ensures ∙ c.if-is_data-2.true)
-    c.on_own.ensures.in_range c.args.out.now.items c.on_own.new.out.items c.in-Sent.is c.on_own.ensures.actions
-
-pub returns-else-is_data-2-clause-stands : goal.returns-else-is_data-2-clause-stands
-returns-else-is_data-2-clause-stands c = λ scenario past h next.
-    other_stands scenario c.args.self.now.node past c.args.notice.now.kind (Sent c.in-Sent.frame) c.in-Sent.is
-    (sent_other c.in-Sent.frame (sym c.is_data-in-Sent.ensures ∙ c.if-is_data-2.false)) c.args.self.now h
-
-pub returns-else-is_data-2-clause-actions : goal.returns-else-is_data-2-clause-actions
-returns-else-is_data-2-clause-actions c = λ scenario past h next.
-    other_acts scenario c.args.self.now.node past c.args.notice.now.kind (Sent c.in-Sent.frame) c.in-Sent.is
-    (sent_other c.in-Sent.frame (sym c.is_data-in-Sent.ensures ∙ c.if-is_data-2.false)) c.args.out.now.items
-
-pub returns-in-Idle-clause-stands : goal.returns-in-Idle-clause-stands
-returns-in-Idle-clause-stands c = λ scenario past h next. other_stands scenario c.args.self.now.node past c.args.notice.now.kind Idle c.in-Idle.is tt c.args.self.now h
-
-pub returns-in-Idle-clause-actions : goal.returns-in-Idle-clause-actions
-returns-in-Idle-clause-actions c = λ scenario past h next. other_acts scenario c.args.self.now.node past c.args.notice.now.kind Idle c.in-Idle.is tt c.args.out.now.items
-
-pub returns-in-Bad-clause-stands : goal.returns-in-Bad-clause-stands
-returns-in-Bad-clause-stands c = λ scenario past h next. other_stands scenario c.args.self.now.node past c.args.notice.now.kind Bad c.in-Bad.is tt c.args.self.now h
-
-pub returns-in-Bad-clause-actions : goal.returns-in-Bad-clause-actions
-returns-in-Bad-clause-actions c = λ scenario past h next. other_acts scenario c.args.self.now.node past c.args.notice.now.kind Bad c.in-Bad.is tt c.args.out.now.items
+pub returns-clause-few : goal.returns-clause-few
+returns-clause-few c =
+    let calls = c.hear-calls.result in
+    omega (
+      arith,
+      ap length c.put.ensures.actions,
+      length-append c.args.out.now.items (actions_called c.args.notice.now calls),
+      two_called c.args.notice.now calls,
+    )

@@ -1,7 +1,9 @@
-use Rattle.std.proofs.Common.{rules, ◌≤◌, ◌+◌, sym, subst, refl, arith}
+use Rattle.std.proofs.Common.{rules, ◌≤◌, ◌+◌, ◌++◌, [], ap, sym, subst, refl, arith}
 use Rattle.cany_base.proofs.ParamsFacts.{few_slots}
+use Rattle.cany_edcan.specs.Calls.{actions_called}
 use Rattle.cany_node.specs.Node.{NodeParts}
 use Rattle.cany_node.proofs.ActSteps.{listed_acted, listed_apply}
+use Rattle.cany_node.proofs.AppliedParts.{both_applied, can_back, can_front}
 use Rattle.cany_node.proofs.Idle.IdleFacts.{idle_later}
 use Rattle.cany_node.proofs.RelayTurn.{relay_turn}
 use Rattle.cany_node.proofs.node.Node.follow_relays.Goals as goal
@@ -14,12 +16,26 @@ invariant_of-self c =
       idle_until = idle_later c.self.inside.idle_until (c.args.notice.now.slot + 1) _ _ _ _ _ c.self.invariant.idle_until (omega (arith, before));
     }
 
+pub apply_called-requires : goal.apply_called-requires
+apply_called-requires c =
+    let ed = actions_called c.args.notice.now c.hear-calls.result in
+    let turn =
+    relay_turn c.args.notice.now _ _ c.self.view_is c.requires.brings c.requires.idle c.hear-calls.new.self c.on.new.self [] ed (ed ++ c.on.new.out.items) refl
+    c.hear-calls.ensures.actions c.hear-calls.ensures.stands
+    (λ scenario past h next. ap (λ actions. ed ++ actions) (rw c.requires.acts.free at c.on.ensures.actions scenario past h next)) c.on.ensures.stands in
+    can_front c.self.inside.inc ed c.on.new.out.items _ _
+    (listed_apply c.args.notice.now _ _ _ c.self.view_is _ (ed ++ c.on.new.out.items) c.args.ctl.now c.args.out.now c.requires.acts turn c.self.invariant.few)
+
 pub apply_all-requires : goal.apply_all-requires
 apply_all-requires c =
+    let ed = actions_called c.args.notice.now c.hear-calls.result in
     let turn =
-    relay_turn c.args.notice.now _ _ c.self.view_is c.requires.brings c.requires.idle c.on.new.self c.hear_relcan.new.relcan c.args.out.now.items c.on.new.out.items
-    c.hear_relcan.new.out.items c.requires.acts.free c.on.ensures.actions c.on.ensures.stands c.hear_relcan.ensures.actions c.hear_relcan.ensures.stands in
-    listed_apply c.args.notice.now _ _ _ c.self.view_is _ c.hear_relcan.new.out.items c.args.ctl.now c.args.out.now c.requires.acts turn c.self.invariant.few
+    relay_turn c.args.notice.now _ _ c.self.view_is c.requires.brings c.requires.idle c.hear-calls.new.self c.on.new.self [] ed (ed ++ c.on.new.out.items) refl
+    c.hear-calls.ensures.actions c.hear-calls.ensures.stands
+    (λ scenario past h next. ap (λ actions. ed ++ actions) (rw c.requires.acts.free at c.on.ensures.actions scenario past h next)) c.on.ensures.stands in
+    can_back c.self.inside.inc ed c.on.new.out.items _ _
+    (listed_apply c.args.notice.now _ _ _ c.self.view_is _ (ed ++ c.on.new.out.items) c.args.ctl.now c.args.out.now c.requires.acts turn c.self.invariant.few)
+    _ _ c.apply_called.ensures
 
 pub overflow_add-self : goal.overflow_add-self
 overflow_add-self c =
@@ -28,12 +44,14 @@ overflow_add-self c =
 
 pub returns : goal.returns
 returns c =
+    let ed = actions_called c.args.notice.now c.hear-calls.result in
     let turn =
-    relay_turn c.args.notice.now _ _ c.self.view_is c.requires.brings c.requires.idle c.on.new.self c.hear_relcan.new.relcan c.args.out.now.items c.on.new.out.items
-    c.hear_relcan.new.out.items c.requires.acts.free c.on.ensures.actions c.on.ensures.stands c.hear_relcan.ensures.actions c.hear_relcan.ensures.stands in
+    relay_turn c.args.notice.now _ _ c.self.view_is c.requires.brings c.requires.idle c.hear-calls.new.self c.on.new.self [] ed (ed ++ c.on.new.out.items) refl
+    c.hear-calls.ensures.actions c.hear-calls.ensures.stands
+    (λ scenario past h next. ap (λ actions. ed ++ actions) (rw c.requires.acts.free at c.on.ensures.actions scenario past h next)) c.on.ensures.stands in
     let acted =
-    listed_acted c.args.notice.now _ _ _ c.self.view_is _ c.hear_relcan.new.out.items c.args.ctl.now c.args.out.now c.requires.acts turn c.apply_all.new.ctl c.self.inside.log
-    c.apply_all.new.log refl refl c.apply_all.ensures in
+    listed_acted c.args.notice.now _ _ _ c.self.view_is _ (ed ++ c.on.new.out.items) c.args.ctl.now c.args.out.now c.requires.acts turn c.apply_all.new.ctl c.self.inside.log
+    c.apply_all.new.log refl refl (both_applied c.self.inside.inc ed c.on.new.out.items _ _ _ _ _ _ c.apply_called.ensures c.apply_all.ensures) in
     record {
       controller = acted.controller;
       stands = acted.stands;

@@ -1,0 +1,136 @@
+-- Actions in two parts: both can be done, one after the other, where all of them can.
+use Rattle.std.proofs.Common.{◌≡◌, ℕ, ◌+◌, List, [], ◌∷◌, ◌++◌, count_by, length, refl, ap, sym, subst, ◌∙◌, arith}
+use Rattle.std.specs.List.{AllByRecursion}
+use Rattle.std.proofs.lemmas.List.{length-append, map-append}
+use Rattle.cany_base.specs.declared.actions.Action.{Action}
+use Rattle.cany_base.specs.declared.format.Format.{Format}
+use Rattle.cany_base.specs.declared.log_entry.LogEntry.{LogEntry}
+use Rattle.cany_base.specs.Bounded.{Bounded}
+use Rattle.cany_model.specs.Rules.Actions.{action_of, actions_of}
+use Rattle.cany_model.specs.Rules.Effect.{Effect, waiting_after, entered}
+use Rattle.cany_model.proofs.Promises.SignCounts.{asks_more, els_asks, waiting_few}
+use Rattle.cany_model.proofs.Rules.DeliveryFacts.{entered-append}
+use Rattle.can_controller.specs.Controller.{ControllerState}
+use Rattle.cany_node.specs.Apply.{AreApplied, AreAskable, AreDone, CanApply, NamesAskable, all_stamped, asks_sign, is_sign}
+use Rattle.cany_node.specs.Stamping.{AreStamped, stamped_effect}
+use Rattle.cany_node.proofs.Applying.{done-none, done-then, each-front}
+use Rattle.cany_node.proofs.NextAction.{entered_stamped, signs_asked, signs_stamped, still_askable, still_stamped}
+
+-- ---- the effects of each part
+
+record Parts (format : Format) (effects : List Effect) (xs ys : List Action) : Type 0 where
+  front : List Effect
+  back : List Effect
+  whole : effects ≡ front ++ back
+  first : xs ≡ actions_of format front
+  rest : ys ≡ actions_of format back
+
+parts : (format : Format) (effects : List Effect) (xs ys : List Action) → xs ++ ys ≡ actions_of format effects → Parts format effects xs ys
+parts format effects [] ys are = record { front = []; back = effects; whole = refl; first = refl; rest = are }
+parts format [] (x ∷ xs) ys are = absurd (cc)
+parts format (e ∷ effects) (x ∷ xs) ys are =
+    let head : x ≡ action_of format e = cc in
+    let tail : xs ++ ys ≡ actions_of format effects = cc in
+    let more = parts format effects xs ys tail in
+    record {
+      front = e ∷ more.front;
+      back = more.back;
+      whole = ap (λ es. e ∷ es) more.whole;
+      first = λ j. head j ∷ more.first j;
+      rest = more.rest;
+    }
+
+each-back : (P : Effect → Type 0) (front back : List Effect) → AllByRecursion P (front ++ back) → AllByRecursion P back
+each-back P [] back h = h
+each-back P (e ∷ front) back h = each-back P front back h.1
+
+none_of : (format : Format) (effects : List Effect) → [] ≡ actions_of format effects → effects ≡ []
+none_of format [] are = refl
+none_of format (e ∷ effects) are = absurd (cc)
+
+pub none_applied : (inc : ℕ) (ctl : ControllerState) (log : Bounded LogEntry) → AreApplied inc [] ctl ctl log log
+none_applied inc ctl log = λ scenario i effects legal format are names stamped.
+    subst (λ es. AreDone (all_stamped inc es) ctl ctl log log) (sym (none_of scenario.params.format effects are)) (done-none ctl log)
+
+module _ (inc : ℕ) (xs ys : List Action) (start : ControllerState) (before : Bounded LogEntry) (can : CanApply inc (xs ++ ys) start before) where
+  abbrev split : Parts can.scenario.params.format can.effects xs ys
+  split = parts can.scenario.params.format can.effects xs ys can.are
+
+  names_front : AllByRecursion (NamesAskable can.scenario can.node) split.front
+  names_front =
+      each-front (NamesAskable can.scenario can.node) split.front split.back (subst (AllByRecursion (NamesAskable can.scenario can.node)) split.whole can.names)
+
+  signs_all : count_by asks_sign can.effects ≡ els_asks split.front + els_asks split.back
+  signs_all = signs_asked can.effects ∙ ap els_asks split.whole ∙ asks_more split.front split.back
+
+  entered_all : length (entered can.effects) ≡ length (entered split.front) + length (entered split.back)
+  entered_all = ap (λ es. length (entered es)) split.whole ∙ ap length (entered-append split.front split.back) ∙ length-append (entered split.front) (entered split.back)
+
+  pub can_front : CanApply inc xs start before
+  can_front = record {
+    scenario = can.scenario;
+    node = can.node;
+    effects = split.front;
+    legal = can.legal;
+    number = can.number;
+    format = can.format;
+    are = split.first;
+    names = names_front;
+    waiting = can.waiting;
+    stamped = can.stamped;
+    signs = omega (arith, can.signs, signs_all, signs_asked split.front);
+    room = can.room;
+    entries = omega (arith, can.entries, entered_all);
+  }
+
+  module _ (ctl : ControllerState) (log : Bounded LogEntry) (applied : AreApplied inc xs start ctl before log) where
+    done : AreDone (all_stamped inc split.front) start ctl before log
+    done = applied can.scenario can.node split.front can.legal can.format split.first names_front can.stamped
+
+    left : waiting_after (all_stamped inc split.front) start.waiting ≡ ctl.waiting
+    left = sym (ap (λ (s : ControllerState). s.waiting) done.controller)
+
+    made : length log.items ≡ length before.items + length (entered split.front)
+    made =
+        ap length done.entries ∙ length-append before.items (entered (all_stamped inc split.front))
+        ∙ ap (λ entries. length before.items + length entries) (entered_stamped inc split.front)
+
+    pub can_back : CanApply inc ys ctl log
+    can_back = record {
+      scenario = can.scenario;
+      node = can.node;
+      effects = split.back;
+      legal = can.legal;
+      number = can.number;
+      format = ap (λ (s : ControllerState). s.params.format) done.controller ∙ can.format;
+      are = split.rest;
+      names = each-back (NamesAskable can.scenario can.node) split.front split.back (subst (AllByRecursion (NamesAskable can.scenario can.node)) split.whole can.names);
+      waiting = subst (AreAskable can.scenario can.node) left (still_askable can.scenario can.node inc split.front start.waiting names_front can.waiting);
+      stamped = subst (AreStamped inc) left (still_stamped inc split.front start.waiting can.stamped);
+      signs = omega (
+        arith,
+        can.signs,
+        signs_all,
+        signs_asked split.back,
+        ap (count_by is_sign) left,
+        waiting_few (all_stamped inc split.front) start.waiting,
+        signs_stamped inc split.front,
+      );
+      room = ap (λ (s : ControllerState). s.room) done.controller ∙ can.room;
+      entries = omega (arith, can.entries, entered_all, made, done.room);
+    }
+
+-- what is done of each part is done of both
+pub both_applied : (inc : ℕ) (xs ys : List Action) (a b c : ControllerState) (x y z : Bounded LogEntry) → AreApplied inc xs a b x y → AreApplied inc ys b c y z
+    → AreApplied inc (xs ++ ys) a c x z
+both_applied inc xs ys a b c x y z one two = λ scenario i effects legal format are names stamped.
+    let split = parts scenario.params.format effects xs ys are in
+    let named = subst (AllByRecursion (NamesAskable scenario i)) split.whole names in
+    let first = one scenario i split.front legal format split.first (each-front (NamesAskable scenario i) split.front split.back named) stamped in
+    let tells : AreStamped inc b.waiting =
+    subst (AreStamped inc) (sym (ap (λ (s : ControllerState). s.waiting) first.controller)) (still_stamped inc split.front a.waiting stamped) in
+    let rest =
+    two scenario i split.back legal (ap (λ (s : ControllerState). s.params.format) first.controller ∙ format) split.rest
+    (each-back (NamesAskable scenario i) split.front split.back named) tells in
+    subst (λ es. AreDone es a c x z) (sym (ap (all_stamped inc) split.whole ∙ map-append (stamped_effect inc) split.front split.back))
+    (done-then (all_stamped inc split.front) (all_stamped inc split.back) a b c x y z first rest)
