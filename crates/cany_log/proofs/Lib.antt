@@ -1,6 +1,7 @@
 pub mod AnyFacts
 pub mod CountFacts
 pub mod FieldFacts
+pub mod LetterFacts
 pub mod LineFacts
 pub mod NodeLineFacts
 pub mod NumberFacts

@@ -1,4 +1,4 @@
--- The numbers of all nodes in one text, and those of neighbours in it; the letters of turns.
+-- The numbers of all nodes in one text, and those of neighbours in it.
 use Rattle.std.proofs.Common.{◌≡◌, ℕ, zero, suc, ◌+◌, ◌*◌, ◌-◌, ◌<◌, ◌≤◌, List, [], ◌∷◌, ◌++◌, length, map, take, drop, get_or, refl, sym, ◌∙◌, ap, length-append, append-nil, append_assoc, arith, nat_lt, inl, inr}
 use Rattle.std.specs.Prelude.{codes, decimal, if◌then◌else◌}
 use Rattle.std.specs.List.{flat_map, range_with_len}
@@ -7,12 +7,10 @@ use Rattle.std.proofs.lemmas.Bool.{cases_lt, le-ltb, lt-ltb}
 use Rattle.std.proofs.lemmas.Fmt.{decimal_digit}
 use Rattle.std.proofs.Math.Seq.{take-append_seam, drop-append-add}
 use Rattle.std.proofs.lemmas.List.Concat.{flat_map-append}
-use Rattle.std.proofs.lemmas.List.FromFn.{get_or-map-range_with_len}
 use Rattle.cany_base.specs.Limits.{most_nodes}
-use Rattle.cany_base.specs.declared.step.Step.TheVariants.{Turn}
 use Rattle.cany_base.specs.Nodes.{node_numbers}
 use Rattle.cany_log.specs.Numbers.{with_comma}
-use Rattle.cany_text.specs.ReportLines.{numbers_text, step_letter}
+use Rattle.cany_text.specs.ReportLines.{numbers_text}
 
 -- ---- with a comma before each
 
@@ -150,22 +148,3 @@ neighbours-within a b order few =
       omega (arith, up_to, one),
       omega (arith, up_to, one, ap length parts.whole, length-append before (44 ∷ (text ++ parts.rest)), length-append text parts.rest),
     )
-
--- ---- the letters of a journal
-
-abbrev letters : List ℕ
-letters = codes "0123456789abcdefghijklmnopqrstuvwxyzABCDEFGHIJKLMNOPQRSTUVWXYZ+-"
-
-abbrev pub letter_of : ℕ → ℕ
-letter_of n = if nat_lt n 10 then 48 + n else (if nat_lt n 36 then 87 + n else (if nat_lt n 62 then 29 + n else (if nat_lt n 63 then 43 else 45)))
-
-all_letters : map letter_of (range_with_len 0 64) ≡ map (λ n. get_or letters n 0) (range_with_len 0 64)
-all_letters = refl
-
-pub turn_letter : (n : ℕ) → n < 64 → letter_of n ≡ step_letter (Turn n)
-unfolding step_letter
-turn_letter n few =
-    let at : 0 + n ≡ n = omega arith in
-    sym (get_or-map-range_with_len letter_of 0 64 n n 0 few at)
-    ∙ ap (λ xs. get_or xs n 0) all_letters
-    ∙ get_or-map-range_with_len (λ n. get_or letters n 0) 0 64 n n 0 few at

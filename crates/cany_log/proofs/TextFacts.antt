@@ -1,5 +1,5 @@
 -- The bytes of a payload as text.
-use Rattle.std.proofs.Common.{◌≡◌, ℕ, List, ◌∷◌, ◌++◌, drop, ◌∙◌, ap}
+use Rattle.std.proofs.Common.{◌≡◌, ℕ, ◌+◌, ◌*◌, List, [], ◌∷◌, ◌++◌, drop, length, refl, ◌∙◌, ap, arith}
 use Rattle.std.specs.List.{flat_map}
 use Rattle.cany_text.specs.ReportLines.{byte_text, payload_text}
 
@@ -9,3 +9,11 @@ pub payload_text_done : (payload after row row' : List ℕ) (i : ℕ) → row �
 unfolding payload_text
 payload_text_done payload after row row' i row_is first row_is' =
     row_is' ∙ ap (λ r. 32 ∷ 120 ∷ r) (row_is ∙ ap (λ n. flat_map byte_text (drop n payload) ++ after) first)
+
+length-digits : (bytes : List ℕ) → length (flat_map byte_text bytes) ≡ 2 * length bytes
+length-digits [] = refl
+length-digits (byte ∷ bytes) = omega (arith, length-digits bytes)
+
+pub length-payload_text : (bytes : List ℕ) → length (payload_text bytes) ≡ 1 + 2 * length bytes
+unfolding payload_text
+length-payload_text bytes = omega (arith, length-digits bytes)

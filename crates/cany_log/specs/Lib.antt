@@ -1,5 +1,6 @@
 pub mod Counted
 pub mod Fields
+pub mod Letters
 pub mod Numbers
 pub mod Pages
 pub mod Refusals

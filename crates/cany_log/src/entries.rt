@@ -2,37 +2,14 @@
 ghost use Rattle.std.specs.Prelude.{◌≡◌, ◌≤◌, ◌++◌, ◌*◌, ◌+◌, [], length};
 ghost use Rattle.std.specs.List.{flat_map};
 ghost use Rattle.cany_text.specs.ReportLines.{entry_line};
-ghost use Rattle.cany_base.specs.declared.log_entry.LogEntry.TheVariants.{Deliver, Failed as AsFailed, View};
+ghost use Rattle.cany_base.specs.declared.log_entry.LogEntry.TheVariants.{Failed as AsFailed, View};
 ghost use Rattle.cany_log.specs.Written.{IsWritten};
 
 use crate::line::SHORT_LINE_BYTES;
 use crate::line_buffer::LineBuffer;
 use crate::page::{PAGE_BYTES, Page, SHORT_LINES, write_page};
-use cany_base::{LogEntry, MsgKey, NodeId, NodeSet, Payload, Service, Slot};
+use cany_base::{LogEntry, NodeId, NodeSet, Slot};
 use cany_io::{Failed, Sink, write_whole};
-
-/// Puts the line of a delivery. Nearly all lines of a report are those of entries, so they are put
-/// together without a list of their fields.
-#[inline(always)]
-fn put_delivery<const ROOM: usize>(
-    line_buffer: &mut LineBuffer<ROOM>,
-    slot: Slot,
-    service: Service,
-    msg: MsgKey,
-    payload: &Payload,
-)
-    requires { length line_buffer.old + SHORT_LINE_BYTES ≤ ROOM }
-    ensures text { line_buffer.new ≡ entry_line (Deliver slot service msg payload.now) ++ line_buffer.old }
-    ensures short { length line_buffer.new ≤ length line_buffer.old + SHORT_LINE_BYTES }
-{
-    line_buffer.put_bytes(b"\n");
-    line_buffer.put_payload(payload);
-    line_buffer.put_number(u64::from(msg.seq));
-    line_buffer.put_number(u64::from(msg.origin.get()));
-    line_buffer.put_service(service);
-    line_buffer.put_number(slot);
-    line_buffer.put_bytes(b"deliver");
-}
 
 /// Puts the line of a failure.
 fn put_failure<const ROOM: usize>(
@@ -83,7 +60,7 @@ fn put_entry<const ROOM: usize>(line_buffer: &mut LineBuffer<ROOM>, entry: &LogE
             service,
             msg,
             payload,
-        } => put_delivery(line_buffer, slot, service, msg, &payload),
+        } => line_buffer.put_delivery(slot, service, msg, &payload),
         LogEntry::Failed { slot, node, cycle } => put_failure(line_buffer, slot, node, cycle),
         LogEntry::View {
             slot,

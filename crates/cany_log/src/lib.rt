@@ -5,12 +5,14 @@
 
 mod bus_line;
 mod bus_lines;
+mod delivery;
 mod entries;
 mod entry_counts;
 mod field;
 mod heading;
 mod hypothesis;
 mod journal_refusal;
+mod letters;
 mod line;
 mod line_buffer;
 mod message_line;
@@ -22,6 +24,7 @@ mod refusal;
 mod report;
 mod scenario_refusal;
 mod summary;
+mod text_before;
 
 pub use entries::write_entry;
 pub use field::Field;

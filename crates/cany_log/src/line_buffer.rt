@@ -3,15 +3,19 @@
 //! the space before it.
 ghost use Rattle.std.specs.Prelude.{◌≡◌, ◌+◌, ◌<◌, ◌≤◌, ◌∷◌, ◌++◌, ◌==◌, [], if◌then◌else◌, codes, length, map, decimal};
 ghost use Rattle.cany_base.specs.Limits.{most_nodes};
-ghost use Rattle.cany_base.specs.declared.step.Step.TheVariants.{Turn};
+ghost use Rattle.cany_base.specs.declared.log_entry.LogEntry.TheVariants.{Deliver};
 ghost use Rattle.cany_log.specs.Fields.{most_byte_bytes, most_count_bytes, most_node_bytes, most_number_bytes, most_payload_bytes, most_set_bytes};
 ghost use Rattle.cany_log.specs.Pages.{most_page_bytes, most_service_bytes};
 ghost use Rattle.cany_text.specs.RefusalLines.{signed_decimal};
-ghost use Rattle.cany_text.specs.ReportLines.{byte_text, node_text, payload_text, set_text, step_letter};
+ghost use Rattle.cany_text.specs.ReportLines.{byte_text, entry_line, node_text, payload_text, set_text, step_letter};
 ghost use Rattle.cany_text.specs.TextNames.{service_name};
 
+use crate::delivery::delivery_before;
+use crate::letters::letters_before;
+use crate::line::SHORT_LINE_BYTES;
 use crate::neighbours::{end_of_run, numbers_from_to, start_of_run};
-use cany_base::{NodeId, NodeSet, Payload, Service, Step};
+use crate::text_before::{hexadecimal_before, number_before, payload_before, service_before};
+use cany_base::{MsgKey, NodeId, NodeSet, Payload, Service, Slot, Step};
 use itoa::{Buffer, write_digits};
 use std::marker::Model;
 
@@ -98,18 +102,12 @@ impl<const ROOM: usize> LineBuffer<ROOM> {
     }
 
     /// Puts the name of a service.
-    // Each name is of a known length, so its bytes are put in one piece.
-    #[tactic(auto, unfolding(cany_text::specs::TextNames::service_name))]
     pub(crate) fn put_service(&mut self, service: Service)
         requires { length self.old + (1 + most_service_bytes) ≤ ROOM }
         ensures text { self.new ≡ (32 ∷ service_name service) ++ self.old }
         ensures short { length (service_name service) ≤ most_service_bytes }
     {
-        match service {
-            Service::Ed => self.put_bytes(b" ed"),
-            Service::Rel => self.put_bytes(b" rel"),
-            Service::Tot => self.put_bytes(b" tot"),
-        }
+        self.start = service_before(&mut self.bytes, self.start, service);
     }
 
     /// Puts a number in decimal.
@@ -120,8 +118,7 @@ impl<const ROOM: usize> LineBuffer<ROOM> {
         ensures text { self.new ≡ (32 ∷ decimal number) ++ self.old }
         ensures short { length (decimal number) ≤ most_number_bytes }
     {
-        self.put_digits(number);
-        self.put_byte(b' ');
+        self.start = number_before(&mut self.bytes, self.start, number);
     }
 
     /// Puts a number of up to 128 bits in decimal.
@@ -167,14 +164,11 @@ impl<const ROOM: usize> LineBuffer<ROOM> {
     }
 
     /// Puts a byte as two hexadecimal digits.
-    #[tactic(auto, unfolding(hex::specs::Hex::encode_with))]
     fn put_hexadecimal(&mut self, byte: u8)
         requires { length self.old + 2 ≤ ROOM }
         ensures { self.new ≡ byte_text byte ++ self.old }
     {
-        let mut digits = [0u8; 2];
-        hex::encode_to_slice([byte], &mut digits).unwrap();
-        self.put_bytes(&digits);
+        self.start = hexadecimal_before(&mut self.bytes, self.start, byte);
     }
 
     /// Puts a byte in hexadecimal.
@@ -193,12 +187,23 @@ impl<const ROOM: usize> LineBuffer<ROOM> {
         ensures text { self.new ≡ (32 ∷ payload_text payload.now) ++ self.old }
         ensures short { length (payload_text payload.now) ≤ most_payload_bytes }
     {
-        let mut left = payload.len();
-        while left > 0 {
-            left -= 1;
-            self.put_hexadecimal(payload.byte(left));
-        }
-        self.put_bytes(b" x");
+        self.start = payload_before(&mut self.bytes, self.start, payload);
+    }
+
+    /// Puts the line of a delivery, which is a short one.
+    #[inline(always)]
+    pub(crate) fn put_delivery(
+        &mut self,
+        slot: Slot,
+        service: Service,
+        msg: MsgKey,
+        payload: &Payload,
+    )
+        requires { length self.old + SHORT_LINE_BYTES ≤ ROOM }
+        ensures text { self.new ≡ entry_line (Deliver slot service msg payload.now) ++ self.old }
+        ensures short { length self.new ≤ length self.old + SHORT_LINE_BYTES }
+    {
+        self.start = delivery_before(&mut self.bytes, self.start, slot, service, msg, payload);
     }
 
     /// Puts the numbers of the nodes of a set.
@@ -232,46 +237,11 @@ impl<const ROOM: usize> LineBuffer<ROOM> {
         }
     }
 
-    /// Puts the letters of some steps, of which there are at most 64.
+    /// Puts the letters of some steps.
     pub(crate) fn put_steps(&mut self, steps: &[Step])
-        requires few { length steps.now ≤ 64 }
-        requires room { length self.old + length steps.now ≤ ROOM }
+        requires { length self.old + length steps.now ≤ ROOM }
         ensures { self.new ≡ map step_letter steps.now ++ self.old }
     {
-        let mut letters = [b'.'; 64];
-        for i in 0..steps.len() {
-            letters[i] = letter(steps[i]);
-        }
-        self.put_bytes(&letters[..steps.len()]);
-    }
-}
-
-/// The letter of a step in a journal.
-#[tactic(auto, unfolding(cany_text::specs::ReportLines::step_letter))]
-fn letter(step: Step) -> u8
-    ensures { result ≡ step_letter step }
-{
-    match step {
-        Step::Slot => b'.',
-        Step::Turn(node) => node_letter(node.get()),
-    }
-}
-
-/// The letter of a node's turn. It is found by comparisons and not looked up, so that LLVM makes
-/// many letters at a time.
-fn node_letter(number: u8) -> u8
-    requires { number < most_nodes }
-    ensures { result ≡ step_letter (Turn number) }
-{
-    if number < 10 {
-        b'0' + number
-    } else if number < 36 {
-        b'a' - 10 + number
-    } else if number < 62 {
-        b'A' - 36 + number
-    } else if number == 62 {
-        b'+'
-    } else {
-        b'-'
+        self.start = letters_before(&mut self.bytes, self.start, steps);
     }
 }

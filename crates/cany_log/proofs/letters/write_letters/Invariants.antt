@@ -1,9 +1,9 @@
 use Rattle.std.proofs.Common.{◌≡◌, length, map, take}
 use Rattle.cany_text.specs.ReportLines.{step_letter}
-use Rattle.cany_log.proofs.line_buffer.LineBuffer.put_steps.Given as goal
+use Rattle.cany_log.proofs.letters.write_letters.Given as goal
 
 abbrev pub invariant-loop-i : goal.invariant-loop-i
-invariant-loop-i g l = record {
+invariant-loop-i l = record {
   text : take l.i l.letters ≡ map step_letter (take l.i l.steps);
-  len : length l.letters ≡ 64;
+  len : length l.letters ≡ length l.steps;
 }

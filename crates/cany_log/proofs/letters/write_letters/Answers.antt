@@ -1,10 +1,10 @@
 use Rattle.std.proofs.Common.{◌∷◌, [], ◌++◌, map, take, ap, ◌∙◌, sym, arith, length-set}
 use Rattle.std.proofs.lemmas.List.{take_more_set, map_more}
 use Rattle.cany_text.specs.ReportLines.{step_letter}
-use Rattle.cany_log.proofs.line_buffer.LineBuffer.put_steps.Goals as goal
+use Rattle.cany_log.proofs.letters.write_letters.Goals as goal
 
 pub loop-i-preserved : goal.loop-i-preserved
-loop-i-preserved g c = record {
+loop-i-preserved c = record {
   text =
       take_more_set c.loop-i.letters c.loop-i.i c.letter.result (omega (arith, c.loop-i.invariant.len))
       ∙ ap (λ done. done ++ c.letter.result ∷ []) c.loop-i.invariant.text
