@@ -16,26 +16,39 @@ const REMOTE: bool = true;
 const DATA: bool = false;
 
 /// The frame is made of its identifier, kind and bytes, and has this identifier, and the key that
-/// goes with it. Of the other kind there is none, and the identifier tells the class.
-fn is_right(example: &Example) -> Result<bool, Fail> {
-    let (format, class, remote, (number, node, inc), bytes, ident) = *example;
-    let payload = Payload::of(bytes).ok_or("more than 8 bytes")?;
+/// goes with it.
+fn is_made(example: &Example, payload: Payload) -> Result<bool, FrameFault> {
+    let (format, class, remote, (number, node, inc), _, ident) = *example;
     let frame = frame_of(format, ident, remote, payload)?;
     let encoded = identifier(format, &frame);
     let order = key(format, &frame);
-    Ok(
-        encoded == ident
-            && order == 2 * u64::from(ident) + u64::from(remote)
-            && frame.class == class
-            && frame.number == number
-            && frame.node.get() == node
-            && frame.inc == inc
-            && frame.payload == payload
-            && frame_of(format, ident, !remote, payload) == Err(FrameFault::Kind)
-            && is_remote(class) == remote
-            && class_of(ident) == Some(class)
-            && tells_incarnation(ident) == has_incarnation(class),
-    )
+    let found = [
+        u64::from(encoded),
+        order,
+        u64::from(frame.number),
+        u64::from(frame.node.get()),
+        u64::from(frame.inc),
+    ];
+    let wanted = [
+        u64::from(ident),
+        2 * u64::from(ident) + u64::from(remote),
+        u64::from(number),
+        u64::from(node),
+        u64::from(inc),
+    ];
+    Ok(found == wanted && frame.class == class && frame.payload == payload)
+}
+
+/// The identifier tells the class, of which there is no frame of the other kind.
+fn tells_class(example: &Example, payload: Payload) -> bool {
+    let (format, class, remote, _, _, ident) = *example;
+    let is_told = [
+        class_of(ident) == Some(class),
+        is_remote(class) == remote,
+        tells_incarnation(ident) == has_incarnation(class),
+        frame_of(format, ident, !remote, payload) == Err(FrameFault::Kind),
+    ];
+    is_told == [true; 4]
 }
 
 const FOUR: &[u8] = b"\x00\x00\x00\x07";
@@ -79,13 +92,16 @@ const EXAMPLES: [Example; 29] = [
 #[test]
 fn frames_of_every_class(rt: HostRuntime) -> Result<(), Fail> {
     for example in &EXAMPLES {
-        assert!(rt; is_right(example)?);
+        let payload = Payload::of(example.4).ok_or("more than 8 bytes")?;
+        assert!(rt; is_made(example, payload)? && tells_class(example, payload));
     }
     Ok(())
 }
 
 /// A format, an identifier, the kind and the bytes of no frame, and why it is none.
-const REFUSED: [(Format, u32, bool, &[u8], FrameFault); 12] = [
+type Refusal = (Format, u32, bool, &'static [u8], FrameFault);
+
+const REFUSED: [Refusal; 12] = [
     (One, 0x1400_0000, DATA, b"", FrameFault::Class),
     (One, 0x0000_0a31, REMOTE, b"", FrameFault::Pad),
     (One, 0x0000_0a3f, REMOTE, b"", FrameFault::Pad),
@@ -100,11 +116,17 @@ const REFUSED: [(Format, u32, bool, &[u8], FrameFault); 12] = [
     (Two, 0x0200_0200, DATA, b"abcd", FrameFault::Length),
 ];
 
-#[test]
-fn refusals(rt: HostRuntime) -> Result<(), Fail> {
-    for (format, ident, remote, bytes, fault) in REFUSED {
-        let payload = Payload::of(bytes).ok_or("more than 8 bytes")?;
-        assert_eq!(rt; frame_of(format, ident, remote, payload), Err(fault));
+fn is_refused(row: &Refusal) -> bool {
+    let (format, ident, remote, bytes, fault) = *row;
+    match Payload::of(bytes) {
+        Some(payload) => frame_of(format, ident, remote, payload) == Err(fault),
+        None => false,
     }
-    Ok(())
+}
+
+#[test]
+fn refusals(rt: HostRuntime) {
+    for row in &REFUSED {
+        assert!(rt; is_refused(row));
+    }
 }

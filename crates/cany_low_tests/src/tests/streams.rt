@@ -41,29 +41,37 @@ impl io::Write for Broken {
     }
 }
 
-/// The bytes of a source within a limit, or why there are none.
-fn bytes_of<S: Source>(alloc: Global, source: &mut S, limit: usize) -> Result<Vec<u8>, ReadFault> {
-    read_all(alloc, source, limit)
+/// Whether a source gives this text within a limit, or why it does not.
+fn gives<S: Source>(
+    alloc: Global,
+    source: &mut S,
+    limit: usize,
+    text: &[u8],
+) -> Result<bool, ReadFault> {
+    Ok(read_all(alloc, source, limit)?.as_slice() == text)
 }
 
-/// Writes some pieces, and counts those that are taken whole.
-fn wholes<K: Sink>(sink: &mut K) -> usize {
-    let mut count = 0usize;
-    for piece in ["one ", "two ", "three ", "four"] {
-        if write_whole(sink, piece.as_bytes()).is_ok() {
-            count = count.saturating_add(1);
-        }
-    }
-    count
+fn is_taken<K: Sink>(sink: &mut K, piece: &[u8]) -> bool {
+    write_whole(sink, piece).is_ok()
 }
 
-/// How a source is read that may give so many bytes: whole, or why not.
-fn read_within(alloc: Global, text: &[u8], limit: usize) -> Result<bool, AllocError> {
+/// Writes four pieces, and tells which of them are taken whole.
+fn wholes<K: Sink>(sink: &mut K) -> [bool; 4] {
+    [
+        is_taken(sink, b"one "),
+        is_taken(sink, b"two "),
+        is_taken(sink, b"three "),
+        is_taken(sink, b"four"),
+    ]
+}
+
+fn read_within(
+    alloc: Global,
+    text: &[u8],
+    limit: usize,
+) -> Result<Result<bool, ReadFault>, AllocError> {
     let mut source = PlainSource::new(text.to_vec(alloc)?);
-    match bytes_of(alloc, &mut source, limit) {
-        Ok(bytes) => Ok(bytes.as_slice() == text),
-        Err(_) => Ok(false),
-    }
+    Ok(gives(alloc, &mut source, limit, text))
 }
 
 #[test]
@@ -76,7 +84,8 @@ fn texts_within_a_limit_are_read(rt: HostRuntime) -> Result<(), Fail> {
         read_within(alloc, b"", 0)?,
         read_within(alloc, b"o", 0)?,
     ];
-    assert!(rt; found == [true, false, true, true, false]);
+    let too_long = Err(ReadFault::TooLong);
+    assert!(rt; found == [Ok(true), too_long, Ok(true), Ok(true), too_long]);
     Ok(())
 }
 
@@ -85,26 +94,30 @@ fn texts_within_a_limit_are_read(rt: HostRuntime) -> Result<(), Fail> {
 fn the_first_read_fails(rt: HostRuntime) -> Result<(), Fail> {
     let alloc = rt.alloc();
     let mut source = MemSource::new(b"text".to_vec(alloc)?, Vec::from_slice(alloc, &[1])?);
-    let has_failed = matches!(read_all(alloc, &mut source, 100), Err(ReadFault::Failed));
-    let text = read_all(alloc, &mut source, 100)?;
-    assert!(rt; has_failed && text.as_slice() == b"text".as_slice() && source.faults() == 1);
+    let found = [
+        gives(alloc, &mut source, 100, b"text"),
+        gives(alloc, &mut source, 100, b"text"),
+    ];
+    assert!(rt; found == [Err(ReadFault::Failed), Ok(true)] && source.faults() == 1);
     Ok(())
 }
 
 /// What a sink with room for so many bytes took of the pieces, whose third write fails.
-fn taken(alloc: Global, room: usize) -> Result<(usize, u64, Vec<u8>), Fail> {
+fn taken(alloc: Global, room: usize) -> Result<([bool; 4], u64, Vec<u8>), Fail> {
     let mut sink = MemSink::new(alloc, Vec::from_slice(alloc, &[3])?, room)?;
-    let count = wholes(&mut sink);
-    Ok((count, sink.faults(), sink.taken().to_vec(alloc)?))
+    let pieces = wholes(&mut sink);
+    Ok((pieces, sink.faults(), sink.taken().to_vec(alloc)?))
 }
 
 #[test]
 fn the_third_write_fails(rt: HostRuntime) -> Result<(), Fail> {
-    let ample = taken(rt.alloc(), 100)?;
-    let scarce = taken(rt.alloc(), 5)?;
-    let is_right = (ample.0, ample.1, ample.2.as_slice()) == (3, 1, b"one two four".as_slice());
-    let is_full = (scarce.0, scarce.1, scarce.2.as_slice()) == (1, 3, b"one t".as_slice());
-    assert!(rt; is_right && is_full);
+    let (ample, ample_faults, all) = taken(rt.alloc(), 100)?;
+    let (scarce, scarce_faults, some) = taken(rt.alloc(), 5)?;
+    let pieces = [ample, scarce];
+    let is_right = pieces == [[true, true, false, true], [true, false, false, false]]
+        && [ample_faults, scarce_faults] == [1, 3]
+        && [all.as_slice(), some.as_slice()] == [b"one two four".as_slice(), b"one t".as_slice()];
+    assert!(rt; is_right);
     Ok(())
 }
 
@@ -112,14 +125,16 @@ fn the_third_write_fails(rt: HostRuntime) -> Result<(), Fail> {
 fn streams_of_std(rt: HostRuntime) -> Result<(), Fail> {
     let alloc = rt.alloc();
     let mut source = StdSource::new(b"one two".as_slice());
-    let bytes = read_all(alloc, &mut source, 7)?;
     let mut broken = StdSource::new(Broken);
-    let has_failed = matches!(read_all(alloc, &mut broken, 7), Err(ReadFault::Failed));
+    let found = [
+        gives(alloc, &mut source, 7, b"one two"),
+        gives(alloc, &mut broken, 7, b""),
+    ];
     let mut text = Vec::new(alloc);
     let mut sink = StdSink::new(&mut text);
     let mut full = StdSink::new(Full);
     let mut failing = StdSink::new(Broken);
-    let counts = [wholes(&mut sink), wholes(&mut full), wholes(&mut failing)];
+    let pieces = [wholes(&mut sink), wholes(&mut full), wholes(&mut failing)];
     let faults = [
         source.faults(),
         broken.faults(),
@@ -128,8 +143,9 @@ fn streams_of_std(rt: HostRuntime) -> Result<(), Fail> {
         failing.faults(),
     ];
     drop(sink);
-    let is_read = bytes.as_slice() == b"one two".as_slice() && has_failed;
-    let is_written = text.as_slice() == b"one two three four".as_slice() && counts == [4, 0, 0];
-    assert!(rt; is_read && is_written && faults == [0, 1, 0, 4, 4]);
+    let is_right = found == [Ok(true), Err(ReadFault::Failed)]
+        && pieces == [[true; 4], [false; 4], [false; 4]]
+        && faults == [0, 1, 0, 4, 4];
+    assert!(rt; is_right && text.as_slice() == b"one two three four".as_slice());
     Ok(())
 }
