@@ -8,11 +8,13 @@
 mod assigning;
 mod assignment;
 mod crew;
+mod event_count;
 mod finish;
 mod free_gate;
 mod gate;
 mod lending;
 mod nodes;
+mod pace;
 mod signals;
 pub mod status;
 mod threads;

@@ -5,10 +5,13 @@ ghost use Rattle.cany_crew.specs.Gates.{CountsRefusal};
 ghost use Rattle.cany_crew.specs.Assignments.{IsAfterWork, IsWorked};
 
 use crate::assignment::{Assignment, NodeAssignment};
+use crate::event_count::Waited;
 use crate::gate::Gate;
+use crate::nodes::turns_due;
+use crate::pace::Pace;
 use crate::signals::Signals;
 use cany_base::{NodeId, Slot};
-use cany_yard::{BusSeat, Course, Seat, StepReply, TurnReply, Yard};
+use cany_yard::{BusSeat, Course, Deck, Seat, StepReply, TurnReply, Yard};
 use std::sync::Wait;
 use std::sync::ledger::Ledger;
 
@@ -26,10 +29,11 @@ pub(crate) struct Work<'a, L: Course, B: Ledger> {
 
 /// Makes the next turn of the seat's node, and says which slot's notice it read. There is none
 /// where a gate has refused a pass, where no more notices come, or where none came for so long that
-/// the worker gives up.
+/// the worker gives up. The node has no notice to read of a slot before the next.
 fn take_turn<L: Course, B: Ledger, R: Wait>(
     rt: &R,
     work: &Work<'_, L, B>,
+    next: Slot,
     seat: &mut Seat<L, B>,
 ) -> Option<Slot>
     ensures { seat.new.node ≡ seat.old.node }
@@ -43,12 +47,21 @@ fn take_turn<L: Course, B: Ledger, R: Wait>(
         }
         // Looked at before the turn, so that no notice is missed.
         let over = signals.are_over();
-        let reply = work.yard.lock(rt).turn(seat);
-        if let TurnReply::Turned { slot } = reply {
-            signals.turns.advance();
-            return Some(slot);
+        // While the next slot has not run there is nothing to read, and no need of the lock.
+        if over || counted > next {
+            let reply = work.yard.lock(rt).turn(seat);
+            if let TurnReply::Turned { slot } = reply {
+                signals.count_turn();
+                return Some(slot);
+            }
         }
-        if over || !signals.slots.wait_beyond(rt, counted) {
+        if over {
+            return None;
+        }
+        if signals.finds_slot_beyond(counted) {
+            continue;
+        }
+        if signals.slots.wait_beyond(rt, counted) == Waited::InVain {
             return None;
         }
     }
@@ -77,7 +90,7 @@ fn take_turns<L: Course, B: Ledger, G: Gate, R: Wait>(
             work.signals.halt();
             return Some(next);
         }
-        match take_turn(rt, work, seat) {
+        match take_turn(rt, work, next, seat) {
             Some(slot) => next = slot.saturating_add(1),
             None => return None,
         }
@@ -101,26 +114,50 @@ fn work_node<L: Course, B: Ledger, G: Gate, R: Wait>(
     );
 }
 
-/// Runs the next slot, and says whether it ran.
+/// Runs the next slot, if it can run, and says how many turns there have to be at least before
+/// another can.
+fn try_slot<L: Course, B: Ledger>(
+    mut deck: Deck<'_, L, B>,
+    bus: &mut BusSeat<L, B>,
+) -> (StepReply, u64) {
+    let reply = deck.slot(bus);
+    (reply, turns_due(deck.world()))
+}
+
+/// Runs the next slot, and says whether it ran. The lock is taken only once as many turns are
+/// counted as there have to be.
 fn run_slot<L: Course, B: Ledger, R: Wait>(
     rt: &R,
     work: &Work<'_, L, B>,
+    pace: &mut Pace,
     bus: &mut BusSeat<L, B>,
 ) -> bool {
     let signals = work.signals;
+    pace.begin_slot(signals);
     for _ in 0..MOST_TRIES {
-        // First of all, so that the wait misses nothing that comes from here on.
-        let counted = signals.turns.read();
+        // First of all and in this order: a turn that the count misses is made after it, and calls.
+        let called = signals.calls.read();
+        let counted = signals.turns();
         if signals.are_halted() {
             return false;
         }
-        let reply = work.yard.lock(rt).slot(bus);
+        if counted < signals.wanted() {
+            let waited = signals.calls.wait_beyond(rt, called);
+            if waited == Waited::InVain && signals.turns() == counted {
+                return false;
+            }
+            pace.end_wait(signals, waited);
+            continue;
+        }
+        let (reply, due) = try_slot(work.yard.lock(rt), bus);
+        // Counted before the lock was taken, so this is never more than there have to be.
+        signals.want(counted.saturating_add(due));
         match reply {
             StepReply::Done => {
                 signals.slots.advance();
                 return true;
             }
-            StepReply::Lagging { .. } if signals.turns.wait_beyond(rt, counted) => {}
+            StepReply::Lagging { .. } => {}
             _ => return false,
         }
     }
@@ -128,8 +165,9 @@ fn run_slot<L: Course, B: Ledger, R: Wait>(
 }
 
 fn work_bus<L: Course, B: Ledger, R: Wait>(rt: &R, work: &Work<'_, L, B>, bus: &mut BusSeat<L, B>) {
+    let mut pace = Pace::new();
     for _ in 0..work.slots {
-        if !run_slot(rt, work, bus) {
+        if !run_slot(rt, work, &mut pace, bus) {
             break;
         }
     }
