@@ -8,7 +8,7 @@ import subprocess
 EXCEPTIONS = {
     "a flag of rattle, which rt hands on and its help does not list": "--allow-holes",
     "a type of std that was weighed and not taken": "FinSet",
-    "the kit that proved it, as `rt version` prints it": "rattle-kit-13b logic dac8208d650f15bf",
+    "the kit that proved it, as `rt version` prints it": "rattle-kit-13f logic dac8208d650f15bf",
     "a key with a value that is none": "eth",
     "a tool that shows the frames of a CAN bus": "candump",
     "tools that spread work over machines": "parallel scancel",

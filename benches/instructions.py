@@ -55,11 +55,19 @@ def everything():
     return "largest with everything", slots, sends, text + "\n".join(lines) + "\n"
 
 
+def cycles():
+    """A tenth of the largest run, of the three services in turn, with a view in each cycle."""
+    slots, sends = 10000, 2000
+    return "a tenth of largest ed+rel+tot, with cycles", slots, sends, world.scenario(32, slots, sends, ["ed", "rel", "tot"], [])
+
+
 def runs():
     yield idle()
+    yield world.storm_sized(["ed", "rel", "tot"])
     for service in ["ed", "rel", "tot"]:
         for tenths in [1, 10]:
             yield world.largest([service], tenths)
+    yield cycles()
     for tenths in [1, 10]:
         yield second_format(["ed", "rel", "tot"], tenths)
     yield everything()
