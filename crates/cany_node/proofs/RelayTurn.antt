@@ -1,6 +1,7 @@
 -- The turn of a notice that nothing but EDCAN and RELCAN hears, in a slot for which nothing else is due: what these two do is all of it.
 use Rattle.std.proofs.Common.{◌≡◌, ◌+◌, inl, inr, true, false, List, [], ◌∷◌, ◌++◌, refl, ap, sym, ◌∙◌, subst, append-nil, arith}
 use Rattle.std.proofs.lemmas.Bool.{cases_Bool}
+use Rattle.std.proofs.lemmas.List.{map-append}
 use Rattle.can_frame.specs.Classes.{is_of_site}
 use Rattle.cany_base.specs.declared.actions.Action.{Action}
 use Rattle.cany_base.specs.declared.class.Class.{Class}
@@ -11,7 +12,7 @@ use Rattle.cany_base.specs.declared.notice.NoticeKind.TheVariants.{Idle, Got, Se
 use Rattle.cany_base.specs.Scenario.{ScenarioParts}
 use Rattle.cany_edcan.specs.Edcan.{EdcanParts, IsEdcanOf}
 use Rattle.cany_model.specs.Bus.Frames.{same_class}
-use Rattle.cany_model.specs.Rules.Actions.{actions_of}
+use Rattle.cany_model.specs.Rules.Actions.{action_of, actions_of}
 use Rattle.cany_model.specs.Rules.Edcan.{edcan_effects}
 use Rattle.cany_model.specs.Rules.Effect.{Effect}
 use Rattle.cany_model.specs.Rules.Relcan.{relcan_effects}
@@ -23,7 +24,7 @@ use Rattle.cany_node.specs.Resting.{IsIdleUntil, is_for_relays, is_of_relays}
 use Rattle.cany_node.specs.Turning.{HasScripted, plain_effects}
 use Rattle.cany_node.proofs.ActSteps.{AlwaysListed}
 use Rattle.cany_node.proofs.FrameTurn.{after_none, later_none, none_asked_for, scripted_with}
-use Rattle.cany_node.proofs.HeardTurn.{edcan_stands, listed_more, relcan_stands}
+use Rattle.cany_node.proofs.HeardTurn.{edcan_stands, relcan_stands}
 use Rattle.cany_node.proofs.Idle.IdleFacts.{others_in_turn}
 use Rattle.cany_node.proofs.Idle.IdleTurn.{OthersRest}
 use Rattle.cany_node.proofs.TellsNothingOfPlaces.{IsUnplaced, is_of_totcan, unplaced_bad, unplaced_got, unplaced_idle, unplaced_sent}
@@ -84,16 +85,16 @@ module _ (scenario : ScenarioParts) (past : List NoticeKind) (e : NoticeKind) (i
       ∙ append-nil (edcan_effects scenario v.node read ++ (relcan_effects scenario v.node read ++ []))
       ∙ ap (λ es. edcan_effects scenario v.node read ++ es) (append-nil (relcan_effects scenario v.node read))
 
-  relays_listed : (start ed after : List Action) → start ≡ []
-      → ed ≡ start ++ actions_of scenario.params.format (edcan_effects scenario v.edcan.node (e ∷ past))
-      → after ≡ ed ++ actions_of scenario.params.format (relcan_effects scenario v.relcan.node (e ∷ past))
-      → after ≡ actions_of scenario.params.format (plain_effects scenario v.node (e ∷ past))
-  relays_listed start ed after none one two =
-      let edcan_listed : ed ≡ start ++ actions_of scenario.params.format (edcan_effects scenario v.node read) =
-      one ∙ ap (λ n. start ++ actions_of scenario.params.format (edcan_effects scenario n read)) stands.edcan.node in
-      two ∙ ap (λ n. ed ++ actions_of scenario.params.format (relcan_effects scenario n read)) stands.relcan.limits.node
-      ∙ listed_more scenario start ed (edcan_effects scenario v.node read) (relcan_effects scenario v.node read) edcan_listed
-      ∙ ap (λ xs. xs ++ actions_of scenario.params.format relays) none
+  relays_listed : (ed rel : List Action) → ed ≡ actions_of scenario.params.format (edcan_effects scenario v.edcan.node (e ∷ past))
+      → rel ≡ actions_of scenario.params.format (relcan_effects scenario v.relcan.node (e ∷ past))
+      → ed ++ rel ≡ actions_of scenario.params.format (plain_effects scenario v.node (e ∷ past))
+  relays_listed ed rel one two =
+      let edcan_listed : ed ≡ actions_of scenario.params.format (edcan_effects scenario v.node read) =
+      one ∙ ap (λ n. actions_of scenario.params.format (edcan_effects scenario n read)) stands.edcan.node in
+      let relcan_listed : rel ≡ actions_of scenario.params.format (relcan_effects scenario v.node read) =
+      two ∙ ap (λ n. actions_of scenario.params.format (relcan_effects scenario n read)) stands.relcan.limits.node in
+      (λ j. edcan_listed j ++ relcan_listed j)
+      ∙ sym (map-append (action_of scenario.params.format) (edcan_effects scenario v.node read) (relcan_effects scenario v.node read))
       ∙ ap (actions_of scenario.params.format) (sym relays_alone)
 
   relays_scripted : (edcan : EdcanParts) (relcan : RelcanParts) → IsEdcanOf scenario v.edcan.node (e ∷ past) edcan
@@ -105,17 +106,17 @@ module _ (scenario : ScenarioParts) (past : List NoticeKind) (e : NoticeKind) (i
 
 -- what EDCAN and RELCAN list is all of the turn
 pub relay_turn : (notice : Notice) (u v : NodeParts) → v ≡ u → is_for_relays notice.kind ≡ true → IsIdleUntil (notice.slot + 1) u
-    → (edcan : EdcanParts) (relcan : RelcanParts) (start ed after : List Action) → start ≡ []
+    → (edcan : EdcanParts) (relcan : RelcanParts) (ed rel : List Action)
     → ((scenario : ScenarioParts) (past : List NoticeKind) → IsEdcanOf scenario v.edcan.node past v.edcan → IsNextNotice scenario past notice
-    → ed ≡ start ++ actions_of scenario.params.format (edcan_effects scenario v.edcan.node (notice.kind ∷ past)))
+    → ed ≡ actions_of scenario.params.format (edcan_effects scenario v.edcan.node (notice.kind ∷ past)))
     → ((scenario : ScenarioParts) (past : List NoticeKind) → IsEdcanOf scenario v.edcan.node past v.edcan → IsNextNotice scenario past notice
     → IsEdcanOf scenario v.edcan.node (notice.kind ∷ past) edcan)
     → ((scenario : ScenarioParts) (past : List NoticeKind) → IsRelcanOf scenario v.relcan.node past v.relcan → IsNextNotice scenario past notice
-    → after ≡ ed ++ actions_of scenario.params.format (relcan_effects scenario v.relcan.node (notice.kind ∷ past)))
+    → rel ≡ actions_of scenario.params.format (relcan_effects scenario v.relcan.node (notice.kind ∷ past)))
     → ((scenario : ScenarioParts) (past : List NoticeKind) → IsRelcanOf scenario v.relcan.node past v.relcan → IsNextNotice scenario past notice
     → IsRelcanOf scenario v.relcan.node (notice.kind ∷ past) relcan)
-    → AlwaysListed notice v (record v { edcan = edcan; relcan = relcan }) v.totcan after
-relay_turn notice u v viewed is idle edcan relcan start ed after none ed_acts ed_heard rel_acts rel_heard = λ scenario past stands next.
+    → AlwaysListed notice v (record v { edcan = edcan; relcan = relcan }) v.totcan (ed ++ rel)
+relay_turn notice u v viewed is idle edcan relcan ed rel ed_acts ed_heard rel_acts rel_heard = λ scenario past stands next.
     let others =
     others_in_turn scenario past notice (notice.slot + 1) v (subst (IsIdleUntil (notice.slot + 1)) (sym viewed) idle) (omega arith) stands next in
     let of_ed = edcan_stands scenario past notice v stands in
@@ -127,7 +128,7 @@ relay_turn notice u v viewed is idle edcan relcan start ed after none ed_acts ed
       scripted =
           relays_scripted scenario past notice.kind is v stands others edcan relcan (ed_heard scenario past of_ed next.next) (rel_heard scenario past of_rel next.next);
       listed =
-          relays_listed scenario past notice.kind is v stands others start ed after none (ed_acts scenario past of_ed next.next)
+          relays_listed scenario past notice.kind is v stands others ed rel (ed_acts scenario past of_ed next.next)
           (rel_acts scenario past of_rel next.next);
       asks = none_asked_for scenario past notice.kind places site v stands others;
     }

@@ -1,7 +1,6 @@
 ghost use Rattle.std.specs.Prelude.{◌≡◌, ◌≤◌, [], ◌∷◌, All};
 ghost use Rattle.can_frame.specs.Identifier.{FitsIdentifier};
 ghost use Rattle.cany_base.specs.Limits.{most_restarts_of_node};
-ghost use Rattle.cany_base.specs.declared.message.Service.TheVariants as service;
 ghost use Rattle.cany_edcan.specs.Calls.{actions_called, frame_actions, relayed};
 ghost use Rattle.cany_message.specs.Actions.{delivery_actions};
 ghost use Rattle.cany_model.specs.Rules.Actions.{action_of};
@@ -36,7 +35,12 @@ fn apply(action: &Action, inc: u8, ctl: &mut Controller, log: &mut BoundedVec<Lo
 
 /// Does one action of an incarnation, as one of a list.
 #[inline(always)]
-fn apply_one(action: &Action, inc: u8, ctl: &mut Controller, log: &mut BoundedVec<LogEntry>)
+pub(crate) fn apply_one(
+    action: &Action,
+    inc: u8,
+    ctl: &mut Controller,
+    log: &mut BoundedVec<LogEntry>,
+)
     requires { CanApply inc (action.now ∷ []) ctl.old log.old }
     ensures { AreApplied inc (action.now ∷ []) ctl.old ctl.new log.old log.new }
 {
@@ -45,9 +49,10 @@ fn apply_one(action: &Action, inc: u8, ctl: &mut Controller, log: &mut BoundedVe
     apply(action, inc, ctl, log);
 }
 
-/// Enters the delivery of a message of EDCAN in the log, or does nothing.
+/// Enters the delivery of a message in the log, or does nothing.
 #[inline(always)]
-fn apply_delivery(
+pub(crate) fn apply_delivery(
+    by: Service,
     slot: Slot,
     frame: &Frame,
     delivers: bool,
@@ -55,15 +60,15 @@ fn apply_delivery(
     ctl: &mut Controller,
     log: &mut BoundedVec<LogEntry>,
 )
-    requires { CanApply inc (delivery_actions service.Ed slot delivers frame.now) ctl.old log.old }
-    ensures { AreApplied inc (delivery_actions service.Ed slot delivers frame.now) ctl.old ctl.new log.old log.new }
+    requires { CanApply inc (delivery_actions by slot delivers frame.now) ctl.old log.old }
+    ensures { AreApplied inc (delivery_actions by slot delivers frame.now) ctl.old ctl.new log.old log.new }
 {
     if !delivers {
         return;
     }
     let entry = LogEntry::Deliver {
         slot,
-        service: Service::Ed,
+        service: by,
         msg: MsgKey {
             origin: frame.node,
             seq: frame.number,
@@ -92,7 +97,7 @@ fn apply_relay(
     }
 }
 
-/// Does what a frame in a slot calls for.
+/// Does what a frame in a slot calls for by EDCAN.
 #[inline(always)]
 fn apply_frame(
     calls: &Calls,
@@ -105,11 +110,11 @@ fn apply_frame(
     requires { CanApply inc (frame_actions slot calls.now frame.now) ctl.old log.old }
     ensures { AreApplied inc (frame_actions slot calls.now frame.now) ctl.old ctl.new log.old log.new }
 {
-    apply_delivery(slot, frame, calls.delivers, inc, ctl, log);
+    apply_delivery(Service::Ed, slot, frame, calls.delivers, inc, ctl, log);
     apply_relay(calls.relay, frame, inc, ctl, log);
 }
 
-/// Does what a notice calls for, without a list of actions.
+/// Does what a notice calls for by EDCAN, without a list of actions.
 #[inline(always)]
 pub(crate) fn apply_called(
     calls: &Calls,

@@ -3,6 +3,7 @@
 
 mod agenda;
 mod apply;
+mod apply_relcan;
 mod asks;
 mod membership;
 mod node;

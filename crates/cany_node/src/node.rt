@@ -19,6 +19,7 @@ ghost use Rattle.cany_node.specs.Turning.{CanHearNext, CanScript, HasHeard, HasS
 
 use crate::agenda::Agenda;
 use crate::apply::{apply_all, apply_called};
+use crate::apply_relcan::apply_heard;
 use crate::asks::{AskKind, AskPlan, ask_due};
 use crate::membership::Membership;
 use crate::notices::{is_early, is_error, is_for_relays};
@@ -220,8 +221,9 @@ impl Node {
         ensures { IsActed notice.now self.old self.new ctl.old ctl.new out.old out.new }
     {
         let calls = self.edcan.hear(notice);
-        self.relcan.on(notice, out);
+        let heard = self.relcan.hear(notice, out);
         apply_called(&calls, notice, self.inc, ctl, &mut self.log);
+        apply_heard(&heard, notice, self.inc, ctl, &mut self.log);
         apply_all(out, self.inc, ctl, &mut self.log);
         out.clear();
         self.read = notice.slot + 1;

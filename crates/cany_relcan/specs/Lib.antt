@@ -1,3 +1,4 @@
+pub mod Calls
 pub mod Relcan
 pub mod RelcanSteps
 pub mod Timers

@@ -8,7 +8,7 @@ ghost use Rattle.cany_base.specs.declared.notice.NoticeKind.TheVariants.{Idle};
 ghost use Rattle.cany_base.specs.Frame.{FrameParts};
 ghost use Rattle.cany_base.specs.Scenario.{ScenarioParts};
 ghost use Rattle.cany_diffuse.specs.Eager.{copies_of, is_held, is_owned, is_enough, is_there, learnt_of, spare_of, IsCounted, IsLearnt, IsOwned};
-ghost use Rattle.cany_message.specs.Actions.{delivery_actions, withdraw_actions};
+ghost use Rattle.cany_message.specs.Actions.{withdraw_actions};
 ghost use Rattle.cany_base.specs.Limits.{greatest_default, most_nodes};
 ghost use Rattle.can_frame.specs.Identifier.{HasSmallNumbers};
 ghost use Rattle.cany_message.specs.Numbers.{frame_number};
@@ -17,10 +17,13 @@ ghost use Rattle.cany_model.specs.Rules.Actions.{actions_of};
 ghost use Rattle.cany_model.specs.Bus.Frames.{same_class};
 ghost use Rattle.cany_model.specs.Rules.Messages.{Message, messages_of, message_key};
 ghost use Rattle.cany_model.specs.Rules.Notices.{IsNextNotice};
-ghost use Rattle.cany_model.specs.Rules.Relcan.{confirm_frame, has_timer_ahead, relcan_at, relcan_effects};
+ghost use Rattle.cany_model.specs.Rules.Relcan.{has_timer_ahead, relcan_at, relcan_effects};
+ghost use Rattle.cany_relcan.specs.declared.calls.Reply.TheVariants as reply;
+ghost use Rattle.cany_relcan.specs.Calls.{actions_called, replied};
 ghost use Rattle.cany_relcan.specs.Relcan.{IsRelcanOf, HasRead, CanRead, Rests};
 ghost use Rattle.cany_relcan.specs.RelcanSteps.{due_frame, holds_own, is_awaited, is_fallen, starts_timer, timer_actions, timers_with, was_delivered, without_due, AreMarksAfter};
 
+use crate::calls::{Calls, Reply, put, reply_to_copy};
 use crate::frames::{Confirmation, Data, confirmation_of, is_confirmation, is_data};
 use crate::timers::{Timer, Timers};
 use cany_base::{
@@ -28,9 +31,15 @@ use cany_base::{
     Service, Slot,
 };
 use cany_diffuse::{Diffused, Eager, Learnt};
-use cany_message::{deliver, sends_by, withdraw};
+use cany_message::sends_by;
 use std::alloc::Global;
 use std::marker::Model;
+
+/// What a notice calls for that brings no data frame of RELCAN, or another node's own transmission.
+const NOTHING: Calls = Calls {
+    delivers: false,
+    reply: Reply::Nothing,
+};
 
 /// RELCAN at one node: which messages it delivered, which confirmations it read, the timers that
 /// run, and for which messages it fell back.
@@ -96,13 +105,11 @@ impl Relcan {
         out.push(Action::Ask(data.form()));
     }
 
-    /// What RELCAN does at a notice, and when the timer runs out that is due in its slot. The
-    /// notices of the slots before the first that a value is given count as idle ones.
+    /// What RELCAN does at a notice, and when the timer runs out that is due in its slot, appended
+    /// to the actions. The notices of the slots before the first that a value is given count as
+    /// idle ones.
     ///
     /// At most three actions are appended.
-    // Hints, here and below: at most notices RELCAN has nothing to do, which is then seen without a
-    // call.
-    #[inline(always)]
     pub fn on(&mut self, notice: &Notice, out: &mut Actions)
         requires reads { CanRead self.old notice.now }
         requires room { length out.old.items + 3 ≤ out.old.room }
@@ -113,8 +120,29 @@ impl Relcan {
         ensures few { length out.new.items ≤ length out.old.items + 3 }
         ensures room { out.new.room ≡ out.old.room }
     {
-        self.on_notice(notice, out);
+        let calls = self.on_notice(notice);
+        put(&calls, notice, out);
         self.end_timer(notice.slot, out);
+    }
+
+    /// The same, for a list in which there is no action. What the notice calls for is the answer,
+    /// and only what is done when a timer runs out, which comes after it, is appended.
+    // Hints, here and below: a node makes most of these calls in one place, and at most notices
+    // RELCAN has nothing to do, which is then seen without a call.
+    #[inline(always)]
+    pub fn hear(&mut self, notice: &Notice, out: &mut Actions) -> Calls
+        requires reads { CanRead self.old notice.now }
+        requires free { out.old.items ≡ [] }
+        requires room { length out.old.items < out.old.room }
+        ensures actions { (scenario : ScenarioParts) (past : List NoticeKind) → IsRelcanOf scenario self.old.node past self.old → IsNextNotice scenario past notice.now
+            → actions_called notice.now result ++ out.new.items ≡ actions_of scenario.params.format (relcan_effects scenario self.old.node (notice.now.kind ∷ past)) }
+        ensures stands { (scenario : ScenarioParts) (past : List NoticeKind) → IsRelcanOf scenario self.old.node past self.old → IsNextNotice scenario past notice.now
+            → IsRelcanOf scenario self.old.node (notice.now.kind ∷ past) self.new }
+        ensures room { out.new.room ≡ out.old.room }
+    {
+        let calls = self.on_notice(notice);
+        self.end_timer(notice.slot, out);
+        calls
     }
 
     /// Whether a timer of the message lies ahead at this node: it runs, and no confirmation was
@@ -142,64 +170,66 @@ impl Relcan {
         self.timers.oldest().saturating_add(self.confirm)
     }
 
-    /// What RELCAN does at a notice, whatever timers are due.
+    /// What a notice calls for, whatever timers are due.
     #[inline(always)]
-    fn on_notice(&mut self, notice: &Notice, out: &mut Actions)
-        requires reads { CanRead self.old notice.now }
-        requires room { length out.old.items + 2 ≤ out.old.room }
+    fn on_notice(&mut self, notice: &Notice) -> Calls
+        requires { CanRead self.old notice.now }
         ensures actions { (scenario : ScenarioParts) (past : List NoticeKind) → IsRelcanOf scenario self.old.node past self.old → IsNextNotice scenario past notice.now
-            → out.new.items ≡ out.old.items ++ actions_of scenario.params.format (relcan_at scenario.params self.old.node notice.now.kind past) }
+            → actions_called notice.now result ≡ actions_of scenario.params.format (relcan_at scenario.params self.old.node notice.now.kind past) }
         ensures stands { (scenario : ScenarioParts) (past : List NoticeKind) → IsRelcanOf scenario self.old.node past self.old → IsNextNotice scenario past notice.now
             → HasRead scenario self.old.node notice.now.kind past self.new }
         ensures node { self.new.node ≡ self.old.node }
-        ensures room { out.new.room ≡ out.old.room }
-        ensures few { length out.new.items ≤ length out.old.items + 2 }
     {
         match &notice.kind {
             NoticeKind::Got(frame) => {
                 if is_data(frame) {
-                    self.on_copy(notice.slot, frame, out);
+                    self.on_copy(notice.slot, frame)
                 } else if is_confirmation(frame) {
                     self.on_confirmation(frame);
+                    NOTHING
+                } else {
+                    NOTHING
                 }
             }
             NoticeKind::Sent(frame) => {
                 if self.is_own(frame) {
-                    self.on_own(notice.slot, frame, out);
+                    self.on_own(frame)
+                } else {
+                    NOTHING
                 }
             }
-            NoticeKind::Idle => {}
-            NoticeKind::Bad => {}
+            NoticeKind::Idle => NOTHING,
+            NoticeKind::Bad => NOTHING,
         }
     }
 
     /// A copy of a data frame: the message is delivered if it was not before, and at a node other
     /// than its origin the first copy starts the timer. With enough copies the frame is withdrawn
     /// if the node fell back.
-    #[inline(never)]
-    fn on_copy(&mut self, slot: Slot, frame: &Frame, out: &mut Actions)
+    #[inline(always)]
+    fn on_copy(&mut self, slot: Slot, frame: &Frame) -> Calls
         requires small { HasSmallNumbers self.old.format frame.now }
         requires takes { CanTake (frame_number frame.now) self.old.copies }
         requires there { is_there self.old.copies (frame_number frame.now) ≡ is_held self.old.copies (frame_number frame.now) }
         requires own { frame.now.node < most_nodes → (frame.now.node == self.old.node) ≡ false → is_owned self.old.copies (frame_number frame.now) ≡ false }
         requires timers { 0 < spare_of self.old.copies → length self.old.timers.running < self.old.timers.room }
         requires later { AllByRecursion (λ t. t.first < slot) self.old.timers.running }
-        requires room { length out.old.items + 2 ≤ out.old.room }
         ensures learnt { IsLearnt (frame_number frame.now) self.old.copies self.new.copies }
         ensures in_range { frame.now.node < most_nodes }
         ensures state { self.new ≡ record self.old { copies = self.new.copies; timers = timers_with (starts_timer self.old frame.now) slot frame.now self.old.timers } }
-        ensures actions { let learnt = learnt_of self.old.copies.omit (copies_of self.new.copies (frame_number frame.now)) (is_owned self.old.copies (frame_number frame.now)) in
-            out.new.items ≡ (out.old.items ++ delivery_actions service.Rel slot (not (was_delivered self.old frame.now)) frame.now)
-            ++ withdraw_actions self.old.format (is_enough learnt && is_fallen self.old frame.now) frame.now }
-        ensures room { out.new.room ≡ out.old.room }
-        ensures few { length out.new.items ≤ length out.old.items + 2 }
+        ensures delivers { result.delivers ≡ not (was_delivered self.old frame.now) }
+        ensures reply { let learnt = learnt_of self.old.copies.omit (copies_of self.new.copies (frame_number frame.now)) (is_owned self.old.copies (frame_number frame.now)) in
+            replied result.reply frame.now ≡ withdraw_actions self.old.format (is_enough learnt && is_fallen self.old frame.now) frame.now }
     {
         let was_held = self.holds_own(frame);
         let learnt = self.copies.learn(Data::of(frame));
         let is_first = learnt.is_first_copy() && !was_held;
-        deliver(Service::Rel, slot, frame, is_first, out);
         self.start_timer(slot, frame, is_first);
-        withdraw(self.format, frame, self.is_late(&learnt, frame), out);
+        let is_late = self.is_late(&learnt, frame);
+        Calls {
+            delivers: is_first,
+            reply: reply_to_copy(self.format, frame, is_late),
+        }
     }
 
     /// The first copy of a message of another node starts its timer.
@@ -240,24 +270,21 @@ impl Relcan {
 
     /// The origin reads its own transmission of the data frame: it delivers the message if it did
     /// not before, and asks for the confirmation.
-    #[inline(never)]
-    fn on_own(&mut self, slot: Slot, frame: &Frame, out: &mut Actions)
+    fn on_own(&mut self, frame: &Frame) -> Calls
         requires takes { CanTake (frame_number frame.now) self.old.copies }
-        requires room { length out.old.items + 2 ≤ out.old.room }
         ensures owned { IsOwned (frame_number frame.now) self.old.copies self.new.copies }
         ensures in_range { frame.now.node < most_nodes }
         ensures state { self.new ≡ record self.old { copies = self.new.copies } }
-        ensures actions { out.new.items ≡ (out.old.items ++ delivery_actions service.Rel slot (not (was_delivered self.old frame.now)) frame.now)
-            ++ action.Ask (confirm_frame frame.now) ∷ [] }
-        ensures room { out.new.room ≡ out.old.room }
-        ensures few { length out.new.items ≤ length out.old.items + 2 }
+        ensures delivers { result.delivers ≡ not (was_delivered self.old frame.now) }
+        ensures reply { result.reply ≡ reply.Confirms }
     {
         let data = Data::of(frame);
         let delivers = !self.copies.holds(&data);
-        deliver(Service::Rel, slot, frame, delivers, out);
-        let confirmation = confirmation_of(data.msg);
         self.copies.own(data);
-        out.push(Action::Ask(confirmation.form()));
+        Calls {
+            delivers,
+            reply: Reply::Confirms,
+        }
     }
 
     /// The timer ends that is due in the turn of a slot, if one is.

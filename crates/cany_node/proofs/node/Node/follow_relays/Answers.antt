@@ -1,6 +1,7 @@
-use Rattle.std.proofs.Common.{rules, ◌≤◌, ◌+◌, ◌++◌, [], ap, sym, subst, refl, arith}
+use Rattle.std.proofs.Common.{rules, ◌≤◌, ◌+◌, ◌++◌, sym, subst, refl, arith}
 use Rattle.cany_base.proofs.ParamsFacts.{few_slots}
 use Rattle.cany_edcan.specs.Calls.{actions_called}
+use Rattle.cany_relcan.specs.Calls.{actions_called as rel_called}
 use Rattle.cany_node.specs.Node.{NodeParts}
 use Rattle.cany_node.proofs.ActSteps.{listed_acted, listed_apply}
 use Rattle.cany_node.proofs.AppliedParts.{both_applied, can_back, can_front}
@@ -19,23 +20,37 @@ invariant_of-self c =
 pub apply_called-requires : goal.apply_called-requires
 apply_called-requires c =
     let ed = actions_called c.args.notice.now c.hear-calls.result in
+    let rel = rel_called c.args.notice.now c.hear-heard.result in
     let turn =
-    relay_turn c.args.notice.now _ _ c.self.view_is c.requires.brings c.requires.idle c.hear-calls.new.self c.on.new.self [] ed (ed ++ c.on.new.out.items) refl
-    c.hear-calls.ensures.actions c.hear-calls.ensures.stands
-    (λ scenario past h next. ap (λ actions. ed ++ actions) (rw c.requires.acts.free at c.on.ensures.actions scenario past h next)) c.on.ensures.stands in
-    can_front c.self.inside.inc ed c.on.new.out.items _ _
-    (listed_apply c.args.notice.now _ _ _ c.self.view_is _ (ed ++ c.on.new.out.items) c.args.ctl.now c.args.out.now c.requires.acts turn c.self.invariant.few)
+    relay_turn c.args.notice.now _ _ c.self.view_is c.requires.brings c.requires.idle c.hear-calls.new.self c.hear-heard.new.self ed (rel ++ c.hear-heard.new.out.items)
+    c.hear-calls.ensures.actions c.hear-calls.ensures.stands c.hear-heard.ensures.actions c.hear-heard.ensures.stands in
+    can_front c.self.inside.inc ed (rel ++ c.hear-heard.new.out.items) _ _
+    (listed_apply c.args.notice.now _ _ _ c.self.view_is _ (ed ++ (rel ++ c.hear-heard.new.out.items)) c.args.ctl.now c.args.out.now c.requires.acts turn c.self.invariant.few)
+
+pub apply_heard-requires : goal.apply_heard-requires
+apply_heard-requires c =
+    let ed = actions_called c.args.notice.now c.hear-calls.result in
+    let rel = rel_called c.args.notice.now c.hear-heard.result in
+    let turn =
+    relay_turn c.args.notice.now _ _ c.self.view_is c.requires.brings c.requires.idle c.hear-calls.new.self c.hear-heard.new.self ed (rel ++ c.hear-heard.new.out.items)
+    c.hear-calls.ensures.actions c.hear-calls.ensures.stands c.hear-heard.ensures.actions c.hear-heard.ensures.stands in
+    can_front c.self.inside.inc rel c.hear-heard.new.out.items _ _
+    (can_back c.self.inside.inc ed (rel ++ c.hear-heard.new.out.items) _ _
+    (listed_apply c.args.notice.now _ _ _ c.self.view_is _ (ed ++ (rel ++ c.hear-heard.new.out.items)) c.args.ctl.now c.args.out.now c.requires.acts turn c.self.invariant.few)
+    _ _ c.apply_called.ensures)
 
 pub apply_all-requires : goal.apply_all-requires
 apply_all-requires c =
     let ed = actions_called c.args.notice.now c.hear-calls.result in
+    let rel = rel_called c.args.notice.now c.hear-heard.result in
     let turn =
-    relay_turn c.args.notice.now _ _ c.self.view_is c.requires.brings c.requires.idle c.hear-calls.new.self c.on.new.self [] ed (ed ++ c.on.new.out.items) refl
-    c.hear-calls.ensures.actions c.hear-calls.ensures.stands
-    (λ scenario past h next. ap (λ actions. ed ++ actions) (rw c.requires.acts.free at c.on.ensures.actions scenario past h next)) c.on.ensures.stands in
-    can_back c.self.inside.inc ed c.on.new.out.items _ _
-    (listed_apply c.args.notice.now _ _ _ c.self.view_is _ (ed ++ c.on.new.out.items) c.args.ctl.now c.args.out.now c.requires.acts turn c.self.invariant.few)
-    _ _ c.apply_called.ensures
+    relay_turn c.args.notice.now _ _ c.self.view_is c.requires.brings c.requires.idle c.hear-calls.new.self c.hear-heard.new.self ed (rel ++ c.hear-heard.new.out.items)
+    c.hear-calls.ensures.actions c.hear-calls.ensures.stands c.hear-heard.ensures.actions c.hear-heard.ensures.stands in
+    can_back c.self.inside.inc rel c.hear-heard.new.out.items _ _
+    (can_back c.self.inside.inc ed (rel ++ c.hear-heard.new.out.items) _ _
+    (listed_apply c.args.notice.now _ _ _ c.self.view_is _ (ed ++ (rel ++ c.hear-heard.new.out.items)) c.args.ctl.now c.args.out.now c.requires.acts turn c.self.invariant.few)
+    _ _ c.apply_called.ensures)
+    _ _ c.apply_heard.ensures
 
 pub overflow_add-self : goal.overflow_add-self
 overflow_add-self c =
@@ -45,13 +60,15 @@ overflow_add-self c =
 pub returns : goal.returns
 returns c =
     let ed = actions_called c.args.notice.now c.hear-calls.result in
+    let rel = rel_called c.args.notice.now c.hear-heard.result in
     let turn =
-    relay_turn c.args.notice.now _ _ c.self.view_is c.requires.brings c.requires.idle c.hear-calls.new.self c.on.new.self [] ed (ed ++ c.on.new.out.items) refl
-    c.hear-calls.ensures.actions c.hear-calls.ensures.stands
-    (λ scenario past h next. ap (λ actions. ed ++ actions) (rw c.requires.acts.free at c.on.ensures.actions scenario past h next)) c.on.ensures.stands in
+    relay_turn c.args.notice.now _ _ c.self.view_is c.requires.brings c.requires.idle c.hear-calls.new.self c.hear-heard.new.self ed (rel ++ c.hear-heard.new.out.items)
+    c.hear-calls.ensures.actions c.hear-calls.ensures.stands c.hear-heard.ensures.actions c.hear-heard.ensures.stands in
     let acted =
-    listed_acted c.args.notice.now _ _ _ c.self.view_is _ (ed ++ c.on.new.out.items) c.args.ctl.now c.args.out.now c.requires.acts turn c.apply_all.new.ctl c.self.inside.log
-    c.apply_all.new.log refl refl (both_applied c.self.inside.inc ed c.on.new.out.items _ _ _ _ _ _ c.apply_called.ensures c.apply_all.ensures) in
+    listed_acted c.args.notice.now _ _ _ c.self.view_is _ (ed ++ (rel ++ c.hear-heard.new.out.items)) c.args.ctl.now c.args.out.now c.requires.acts turn
+    c.apply_all.new.ctl c.self.inside.log c.apply_all.new.log refl refl
+    (both_applied c.self.inside.inc ed (rel ++ c.hear-heard.new.out.items) _ _ _ _ _ _ c.apply_called.ensures
+    (both_applied c.self.inside.inc rel c.hear-heard.new.out.items _ _ _ _ _ _ c.apply_heard.ensures c.apply_all.ensures)) in
     record {
       controller = acted.controller;
       stands = acted.stands;
