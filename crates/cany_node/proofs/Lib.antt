@@ -25,5 +25,6 @@ pub mod StampedEffects
 pub mod StampedIdentifiers
 pub mod TellsNothingOfPlaces
 pub mod TellsNothingOfTheSite
+pub mod TellsNothingToRelays
 pub mod UnreadFrames
 pub mod WholeTurn

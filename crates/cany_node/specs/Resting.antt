@@ -1,6 +1,6 @@
 -- The turns of idle slots in which a node has nothing to do: it stands for them as it is. In a slot for which nothing but a timer of
 -- RELCAN is due, it does at a frame of EDCAN or of RELCAN no more than what these two do.
-use Rattle.std.specs.Prelude.{◌≡◌, ◌+◌, ◌<◌, ◌≤◌, ◌||◌, ℕ, Bool, true, List, [], ◌∷◌, length}
+use Rattle.std.specs.Prelude.{◌≡◌, ◌+◌, ◌<◌, ◌≤◌, ◌||◌, ℕ, Bool, false, true, List, [], ◌∷◌, length}
 use Rattle.cany_base.specs.declared.class.Class.{Class}
 use Rattle.cany_base.specs.declared.class.Class.TheVariants as class
 use Rattle.cany_base.specs.declared.notice.NoticeKind.{NoticeKind}
@@ -45,6 +45,13 @@ is_for_relays Idle = true
 is_for_relays (Got f) = is_of_relays f.class
 is_for_relays (Sent f) = is_of_relays f.class
 is_for_relays Bad = true
+
+-- whether a frame of EDCAN was heard
+abbrev pub is_for_edcan : NoticeKind → Bool
+is_for_edcan Idle = false
+is_for_edcan (Got f) = same_class f.class class.Ed
+is_for_edcan (Sent f) = same_class f.class class.Ed
+is_for_edcan Bad = false
 
 -- In an idle slot before this one, from which the node has read on, no part of it but EDCAN and RELCAN has anything to do. EDCAN has
 -- nothing to do in any, and RELCAN tells itself when its next timer is due.

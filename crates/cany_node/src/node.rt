@@ -13,7 +13,7 @@ ghost use Rattle.cany_model.specs.Rules.Effect.{waiting_after};
 ghost use Rattle.cany_node.specs.Node.{IsNodeOf, IsWaiting, CanBegin, CanTurn, CanAct, Reads, IsTurnOf, IsRefused, heard_by, reply_of};
 ghost use Rattle.cany_node.specs.Asks.{AreAsksPassed, IsRisingFrom};
 ghost use Rattle.cany_node.specs.Agenda.{ArePassed, IsRising};
-ghost use Rattle.cany_node.specs.Resting.{IsIdleUntil, RestsUntil, is_for_relays};
+ghost use Rattle.cany_node.specs.Resting.{IsIdleUntil, RestsUntil, is_for_edcan, is_for_relays};
 ghost use Rattle.cany_node.specs.Membership.{IsNextOf};
 ghost use Rattle.cany_node.specs.Turning.{CanHearNext, CanScript, HasHeard, HasScripted, IsActed, heard_effects, heard_room, script_effects, script_room};
 
@@ -22,7 +22,7 @@ use crate::apply::{apply_all, apply_called};
 use crate::apply_relcan::apply_heard;
 use crate::asks::{AskKind, AskPlan, ask_due};
 use crate::membership::Membership;
-use crate::notices::{is_early, is_error, is_for_relays};
+use crate::notices::{is_early, is_error, is_for_edcan, is_for_relays};
 use crate::plan::{Plan, build_plan};
 use crate::protocols::{Protocols, build_protocols};
 use crate::reply::TurnReply;
@@ -213,8 +213,43 @@ impl Node {
     }
 
     /// Does what EDCAN and RELCAN do at a notice that nothing else hears, in a slot for which
-    /// nothing else is due.
+    /// nothing else is due: a frame of EDCAN is nothing to RELCAN before its next timer is due, and
+    /// any other notice nothing to EDCAN.
     fn follow_relays(&mut self, notice: &Notice, ctl: &mut Controller, out: &mut Actions)
+        requires acts { CanAct self.old notice.now ctl.old out.old }
+        requires brings { is_for_relays notice.now.kind ≡ true }
+        requires idle { IsIdleUntil (notice.now.slot + 1) self.old }
+        ensures { IsActed notice.now self.old self.new ctl.old ctl.new out.old out.new }
+    {
+        if !is_for_edcan(&notice.kind) {
+            self.follow_relcan(notice, ctl, out);
+        } else if notice.slot >= self.relcan.wake() {
+            self.follow_both(notice, ctl, out);
+        } else {
+            let calls = self.edcan.hear(notice);
+            apply_called(&calls, notice, self.inc, ctl, &mut self.log);
+            self.read = notice.slot + 1;
+        }
+    }
+
+    /// Does what RELCAN does at such a notice, which is none of EDCAN.
+    fn follow_relcan(&mut self, notice: &Notice, ctl: &mut Controller, out: &mut Actions)
+        requires acts { CanAct self.old notice.now ctl.old out.old }
+        requires brings { is_for_relays notice.now.kind ≡ true }
+        requires other { is_for_edcan notice.now.kind ≡ false }
+        requires idle { IsIdleUntil (notice.now.slot + 1) self.old }
+        ensures { IsActed notice.now self.old self.new ctl.old ctl.new out.old out.new }
+    {
+        let heard = self.relcan.hear(notice, out);
+        apply_heard(&heard, notice, self.inc, ctl, &mut self.log);
+        apply_all(out, self.inc, ctl, &mut self.log);
+        out.clear();
+        self.read = notice.slot + 1;
+    }
+
+    /// Does what both do at such a notice, where a timer of RELCAN is due at a frame of EDCAN.
+    #[inline(never)]
+    fn follow_both(&mut self, notice: &Notice, ctl: &mut Controller, out: &mut Actions)
         requires acts { CanAct self.old notice.now ctl.old out.old }
         requires brings { is_for_relays notice.now.kind ≡ true }
         requires idle { IsIdleUntil (notice.now.slot + 1) self.old }

@@ -3,7 +3,7 @@
 ghost use Rattle.std.specs.Prelude.{◌≡◌, false, true};
 ghost use Rattle.cany_base.specs.declared.notice.NoticeKind.TheVariants.{Idle};
 ghost use Rattle.cany_model.specs.Rules.Notices.{error_as_idle, is_early, is_early_frame};
-ghost use Rattle.cany_node.specs.Resting.{is_for_relays};
+ghost use Rattle.cany_node.specs.Resting.{is_for_edcan, is_for_relays};
 ghost use Rattle.cany_node.specs.Membership.{tells_of_site};
 
 use can_frame::is_of_site;
@@ -49,6 +49,16 @@ pub(crate) fn is_for_relays(kind: &NoticeKind) -> bool
                 || is_of_class(frame, Class::Confirm)
         }
         NoticeKind::Idle | NoticeKind::Bad => true,
+    }
+}
+
+/// Whether a notice brings a frame of EDCAN.
+pub(crate) fn is_for_edcan(kind: &NoticeKind) -> bool
+    ensures { result ≡ is_for_edcan kind.now }
+{
+    match kind {
+        NoticeKind::Got(frame) | NoticeKind::Sent(frame) => is_of_class(frame, Class::Ed),
+        NoticeKind::Idle | NoticeKind::Bad => false,
     }
 }
 

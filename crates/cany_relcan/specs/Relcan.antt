@@ -1,18 +1,18 @@
 -- What a RELCAN value stands for.
-use Rattle.std.specs.Prelude.{◌≡◌, ℕ, ◌+◌, ◌<◌, ◌≤◌, ◌==◌, min, Bool, true, false, List, [], ◌∷◌, ◌++◌, length}
+use Rattle.std.specs.Prelude.{◌≡◌, ℕ, ◌+◌, ◌<◌, ◌≤◌, ◌==◌, ◌||◌, min, not, Bool, true, false, List, [], ◌∷◌, ◌++◌, length}
 use Rattle.cany_base.specs.declared.class.Class.TheVariants as class
 use Rattle.cany_base.specs.declared.format.Format.{Format}
 use Rattle.cany_base.specs.declared.message.Service.TheVariants as service
 use Rattle.cany_base.specs.declared.notice.Notice.{Notice}
 use Rattle.cany_base.specs.declared.notice.NoticeKind.{NoticeKind}
-use Rattle.cany_base.specs.declared.notice.NoticeKind.TheVariants.{Idle}
+use Rattle.cany_base.specs.declared.notice.NoticeKind.TheVariants.{Idle, Got, Sent, Bad}
 use Rattle.cany_base.specs.Frame.{FrameParts}
 use Rattle.cany_base.specs.Scenario.{ScenarioParts, IsLegalScenario}
 use Rattle.cany_base.specs.Limits.{most_nodes}
 use Rattle.cany_diffuse.specs.Eager.{EagerParts, is_among, is_held, is_there, spare_of}
 use Rattle.cany_message.specs.Numbers.{message_number, message_numbers}
 use Rattle.cany_message.specs.Table.{IsTableOf, frame_identity}
-use Rattle.cany_model.specs.Bus.Frames.{Identity, identity_of}
+use Rattle.cany_model.specs.Bus.Frames.{Identity, identity_of, same_class}
 use Rattle.cany_model.specs.Rules.Notices.{IsNextNotice, NamesMessage}
 use Rattle.cany_model.specs.Rules.Relcan.{fell_back, has_copy, relcan_effects}
 use Rattle.cany_model.specs.Rules.Rooms.{sends_by}
@@ -79,10 +79,17 @@ pub record HasRead (scenario : ScenarioParts) (i : ℕ) (notice : NoticeKind) (p
   pub timers : v.timers.running ≡ started_since i scenario.params.confirm past ++ started_by i notice past
   pub fallen : AreMarksOf scenario i past v.fallen
 
--- An idle notice leads to nothing: the value as it is stands for the notices and this one too.
-pub record Rests (scenario : ScenarioParts) (i : ℕ) (past : List NoticeKind) (v : RelcanParts) : Type 0 where
-  pub stands : IsRelcanOf scenario i (Idle ∷ past) v
-  pub effects : relcan_effects scenario i (Idle ∷ past) ≡ []
+-- whether the notice brings no frame of RELCAN
+abbrev pub brings_no_relcan : NoticeKind → Bool
+brings_no_relcan Idle = true
+brings_no_relcan (Got f) = not (same_class f.class class.Rel || same_class f.class class.Confirm)
+brings_no_relcan (Sent f) = not (same_class f.class class.Rel || same_class f.class class.Confirm)
+brings_no_relcan Bad = true
+
+-- This notice leads to nothing: the value as it is stands for the notices and this one too.
+pub record Rests (scenario : ScenarioParts) (i : ℕ) (notice : NoticeKind) (past : List NoticeKind) (v : RelcanParts) : Type 0 where
+  pub stands : IsRelcanOf scenario i (notice ∷ past) v
+  pub effects : relcan_effects scenario i (notice ∷ past) ≡ []
 
 -- there are notices that the value stands for, and this one can come after them
 pub record CanRead (v : RelcanParts) (notice : Notice) : Type 0 where

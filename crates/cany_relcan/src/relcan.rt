@@ -1,4 +1,4 @@
-ghost use Rattle.std.specs.Prelude.{◌≡◌, ◌≢◌, ℕ, ◌+◌, ◌-◌, ◌<◌, ◌≤◌, ◌==◌, ◌&&◌, false, [], ◌∷◌, ◌++◌, min, not, length, IsTrue, List, replicate, Contains, Some, IfSome, IfOk};
+ghost use Rattle.std.specs.Prelude.{◌≡◌, ◌≢◌, ℕ, ◌+◌, ◌-◌, ◌<◌, ◌≤◌, ◌==◌, ◌&&◌, false, true, [], ◌∷◌, ◌++◌, min, not, length, IsTrue, List, replicate, Contains, Some, IfSome, IfOk};
 ghost use Rattle.std.specs.List.{AllByRecursion};
 ghost use Rattle.cany_base.specs.declared.actions.Action.TheVariants as action;
 ghost use Rattle.cany_base.specs.declared.class.Class.TheVariants as class;
@@ -20,7 +20,7 @@ ghost use Rattle.cany_model.specs.Rules.Notices.{IsNextNotice};
 ghost use Rattle.cany_model.specs.Rules.Relcan.{has_timer_ahead, relcan_at, relcan_effects};
 ghost use Rattle.cany_relcan.specs.declared.calls.Reply.TheVariants as reply;
 ghost use Rattle.cany_relcan.specs.Calls.{actions_called, replied};
-ghost use Rattle.cany_relcan.specs.Relcan.{IsRelcanOf, HasRead, CanRead, Rests};
+ghost use Rattle.cany_relcan.specs.Relcan.{IsRelcanOf, HasRead, CanRead, Rests, brings_no_relcan};
 ghost use Rattle.cany_relcan.specs.RelcanSteps.{due_frame, holds_own, is_awaited, is_fallen, starts_timer, timer_actions, timers_with, was_delivered, without_due, AreMarksAfter};
 
 use crate::calls::{Calls, Reply, put, reply_to_copy};
@@ -161,11 +161,19 @@ impl Relcan {
         self.is_awaited(&msg)
     }
 
+    /// Whether no timer of any message lies ahead at this node, which is so where none runs.
+    pub fn has_nothing_ahead(&self) -> bool
+        ensures { result ≡ true → (scenario : ScenarioParts) (past : List NoticeKind) (m : Message) → IsRelcanOf scenario self.now.node past self.now
+            → Contains (messages_of scenario.sends) m → has_timer_ahead scenario m self.now.node past ≡ false }
+    {
+        self.timers.are_none()
+    }
+
     /// The slot in whose turn the oldest timer that runs is due, and `Slot::MAX` where none runs.
-    /// An idle notice of an earlier slot leads to nothing.
+    /// A notice of an earlier slot that brings no frame of RELCAN leads to nothing.
     pub fn wake(&self) -> Slot
-        ensures rests { (scenario : ScenarioParts) (past : List NoticeKind) → IsRelcanOf scenario self.now.node past self.now → length past < result
-            → Rests scenario self.now.node past self.now }
+        ensures rests { (scenario : ScenarioParts) (past : List NoticeKind) (notice : NoticeKind) → IsRelcanOf scenario self.now.node past self.now → length past < result
+            → brings_no_relcan notice ≡ true → Rests scenario self.now.node notice past self.now }
     {
         self.timers.oldest().saturating_add(self.confirm)
     }

@@ -3,6 +3,7 @@ use Rattle.std.proofs.Common.{ℕ, ◌≤◌, ◌<◌, List, length, arith}
 use Rattle.cany_base.specs.declared.log_entry.LogEntry.{LogEntry}
 use Rattle.cany_base.specs.declared.notice.Notice.{Notice}
 use Rattle.cany_base.specs.declared.notice.NoticeKind.{NoticeKind}
+use Rattle.cany_base.specs.declared.notice.NoticeKind.TheVariants.{Idle}
 use Rattle.cany_base.specs.Scenario.{ScenarioParts}
 use Rattle.cany_edcan.specs.Edcan as edcan
 use Rattle.cany_edcan.specs.Edcan.{EdcanParts, IsEdcanOf}
@@ -19,7 +20,7 @@ EdcanRests e = (scenario : ScenarioParts) (past : List NoticeKind) → IsEdcanOf
 
 abbrev pub RelcanRests : ℕ → RelcanParts → Type 0
 RelcanRests wake r =
-    (scenario : ScenarioParts) (past : List NoticeKind) → IsRelcanOf scenario r.node past r → length past < wake → relcan.Rests scenario r.node past r
+    (scenario : ScenarioParts) (past : List NoticeKind) → IsRelcanOf scenario r.node past r → length past < wake → relcan.Rests scenario r.node Idle past r
 
 -- the others have nothing to do
 others_rest : (scenario : ScenarioParts) (past : List NoticeKind) (idle_until : ℕ) (v : NodeParts) → IsIdleUntil idle_until v

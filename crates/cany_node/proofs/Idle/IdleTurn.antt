@@ -151,7 +151,7 @@ module _ (scenario : ScenarioParts) (past : List NoticeKind) (v : NodeParts) (h 
         subst (λ n. IsTotcanOf scenario i idle (backlog scenario i idle) n v.totcan) (sym same_count)
         (subst (λ ms. IsTotcanOf scenario i idle ms count v.totcan) (sym same_backlog) tot_rests.stands)
 
-    module _ (ed : edcan.Rests scenario v.edcan.node past v.edcan) (rel : relcan.Rests scenario v.relcan.node past v.relcan) where
+    module _ (ed : edcan.Rests scenario v.edcan.node past v.edcan) (rel : relcan.Rests scenario v.relcan.node Idle past v.relcan) where
       -- ---- what is done
 
       no_heard : heard_effects scenario i idle ≡ []

@@ -1,13 +1,28 @@
-use Rattle.std.proofs.Common.{rules, ◌≤◌, ◌+◌, ◌++◌, sym, subst, refl, arith}
-use Rattle.cany_base.proofs.ParamsFacts.{few_slots}
+use Rattle.std.proofs.Common.{◌≤◌, ◌+◌, ◌++◌, [], sym, subst, refl, arith}
 use Rattle.cany_edcan.specs.Calls.{actions_called}
-use Rattle.cany_relcan.specs.Calls.{actions_called as rel_called}
 use Rattle.cany_node.specs.Node.{NodeParts}
 use Rattle.cany_node.proofs.ActSteps.{listed_acted, listed_apply}
-use Rattle.cany_node.proofs.AppliedParts.{both_applied, can_back, can_front}
+use Rattle.cany_node.proofs.AppliedParts.{both_applied, can_front, none_applied}
 use Rattle.cany_node.proofs.Idle.IdleFacts.{idle_later}
 use Rattle.cany_node.proofs.RelayTurn.{relay_turn}
+use Rattle.cany_node.proofs.TellsNothingToRelays.{edcan_is_no_relcan, relcan_none, relcan_still}
 use Rattle.cany_node.proofs.node.Node.follow_relays.Goals as goal
+
+-- a frame of EDCAN before RELCAN's next timer is due
+
+pub apply_called-requires : goal.apply_called-requires
+apply_called-requires c =
+    let notice = c.args.notice.now in
+    let relcan = c.self.inside.relcan in
+    let other = edcan_is_no_relcan notice.kind (sym c.if-not-is_for_edcan.ensures) in
+    let ed = actions_called notice c.hear-calls.result in
+    let turn =
+    relay_turn notice _ _ c.self.view_is c.requires.brings c.requires.idle c.hear-calls.new.self relcan ed []
+    c.hear-calls.ensures.actions c.hear-calls.ensures.stands
+    (relcan_none notice relcan c.wake.result c.wake.ensures.rests c.if-notice-wake.false other)
+    (relcan_still notice relcan c.wake.result c.wake.ensures.rests c.if-notice-wake.false other) in
+    can_front c.self.inside.inc ed [] _ _
+    (listed_apply notice _ _ _ c.self.view_is _ (ed ++ []) c.args.ctl.now c.args.out.now c.requires.acts turn c.self.invariant.few)
 
 pub invariant_of-self : goal.invariant_of-self
 invariant_of-self c =
@@ -17,63 +32,17 @@ invariant_of-self c =
       idle_until = idle_later c.self.inside.idle_until (c.args.notice.now.slot + 1) _ _ _ _ _ c.self.invariant.idle_until (omega (arith, before));
     }
 
-pub apply_called-requires : goal.apply_called-requires
-apply_called-requires c =
-    let ed = actions_called c.args.notice.now c.hear-calls.result in
-    let rel = rel_called c.args.notice.now c.hear-heard.result in
+pub returns-else-notice-wake : goal.returns-else-notice-wake
+returns-else-notice-wake c =
+    let notice = c.args.notice.now in
+    let relcan = c.self.inside.relcan in
+    let other = edcan_is_no_relcan notice.kind (sym c.if-not-is_for_edcan.ensures) in
+    let ed = actions_called notice c.hear-calls.result in
     let turn =
-    relay_turn c.args.notice.now _ _ c.self.view_is c.requires.brings c.requires.idle c.hear-calls.new.self c.hear-heard.new.self ed (rel ++ c.hear-heard.new.out.items)
-    c.hear-calls.ensures.actions c.hear-calls.ensures.stands c.hear-heard.ensures.actions c.hear-heard.ensures.stands in
-    can_front c.self.inside.inc ed (rel ++ c.hear-heard.new.out.items) _ _
-    (listed_apply c.args.notice.now _ _ _ c.self.view_is _ (ed ++ (rel ++ c.hear-heard.new.out.items)) c.args.ctl.now c.args.out.now c.requires.acts turn c.self.invariant.few)
-
-pub apply_heard-requires : goal.apply_heard-requires
-apply_heard-requires c =
-    let ed = actions_called c.args.notice.now c.hear-calls.result in
-    let rel = rel_called c.args.notice.now c.hear-heard.result in
-    let turn =
-    relay_turn c.args.notice.now _ _ c.self.view_is c.requires.brings c.requires.idle c.hear-calls.new.self c.hear-heard.new.self ed (rel ++ c.hear-heard.new.out.items)
-    c.hear-calls.ensures.actions c.hear-calls.ensures.stands c.hear-heard.ensures.actions c.hear-heard.ensures.stands in
-    can_front c.self.inside.inc rel c.hear-heard.new.out.items _ _
-    (can_back c.self.inside.inc ed (rel ++ c.hear-heard.new.out.items) _ _
-    (listed_apply c.args.notice.now _ _ _ c.self.view_is _ (ed ++ (rel ++ c.hear-heard.new.out.items)) c.args.ctl.now c.args.out.now c.requires.acts turn c.self.invariant.few)
-    _ _ c.apply_called.ensures)
-
-pub apply_all-requires : goal.apply_all-requires
-apply_all-requires c =
-    let ed = actions_called c.args.notice.now c.hear-calls.result in
-    let rel = rel_called c.args.notice.now c.hear-heard.result in
-    let turn =
-    relay_turn c.args.notice.now _ _ c.self.view_is c.requires.brings c.requires.idle c.hear-calls.new.self c.hear-heard.new.self ed (rel ++ c.hear-heard.new.out.items)
-    c.hear-calls.ensures.actions c.hear-calls.ensures.stands c.hear-heard.ensures.actions c.hear-heard.ensures.stands in
-    can_back c.self.inside.inc rel c.hear-heard.new.out.items _ _
-    (can_back c.self.inside.inc ed (rel ++ c.hear-heard.new.out.items) _ _
-    (listed_apply c.args.notice.now _ _ _ c.self.view_is _ (ed ++ (rel ++ c.hear-heard.new.out.items)) c.args.ctl.now c.args.out.now c.requires.acts turn c.self.invariant.few)
-    _ _ c.apply_called.ensures)
-    _ _ c.apply_heard.ensures
-
-pub overflow_add-self : goal.overflow_add-self
-overflow_add-self c =
-    let acts = c.requires.acts in
-    omega (arith, acts.next.next.within, few_slots acts.scenario.params acts.stands.legal.in_range)
-
-pub returns : goal.returns
-returns c =
-    let ed = actions_called c.args.notice.now c.hear-calls.result in
-    let rel = rel_called c.args.notice.now c.hear-heard.result in
-    let turn =
-    relay_turn c.args.notice.now _ _ c.self.view_is c.requires.brings c.requires.idle c.hear-calls.new.self c.hear-heard.new.self ed (rel ++ c.hear-heard.new.out.items)
-    c.hear-calls.ensures.actions c.hear-calls.ensures.stands c.hear-heard.ensures.actions c.hear-heard.ensures.stands in
-    let acted =
-    listed_acted c.args.notice.now _ _ _ c.self.view_is _ (ed ++ (rel ++ c.hear-heard.new.out.items)) c.args.ctl.now c.args.out.now c.requires.acts turn
-    c.apply_all.new.ctl c.self.inside.log c.apply_all.new.log refl refl
-    (both_applied c.self.inside.inc ed (rel ++ c.hear-heard.new.out.items) _ _ _ _ _ _ c.apply_called.ensures
-    (both_applied c.self.inside.inc rel c.hear-heard.new.out.items _ _ _ _ _ _ c.apply_heard.ensures c.apply_all.ensures)) in
-    record {
-      controller = acted.controller;
-      stands = acted.stands;
-      node = acted.node;
-      inc = acted.inc;
-      cycle = acted.cycle;
-      out = search rules;
-    }
+    relay_turn notice _ _ c.self.view_is c.requires.brings c.requires.idle c.hear-calls.new.self relcan ed []
+    c.hear-calls.ensures.actions c.hear-calls.ensures.stands
+    (relcan_none notice relcan c.wake.result c.wake.ensures.rests c.if-notice-wake.false other)
+    (relcan_still notice relcan c.wake.result c.wake.ensures.rests c.if-notice-wake.false other) in
+    listed_acted notice _ _ _ c.self.view_is _ (ed ++ []) c.args.ctl.now c.args.out.now c.requires.acts turn
+    c.apply_called.new.ctl c.self.inside.log c.apply_called.new.log refl refl
+    (both_applied c.self.inside.inc ed [] _ _ _ _ _ _ c.apply_called.ensures (none_applied c.self.inside.inc c.apply_called.new.ctl c.apply_called.new.log))
