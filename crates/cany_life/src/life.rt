@@ -128,7 +128,7 @@ impl Life {
         ensures few { length out.new.items ≤ length out.old.items + 2 * self.old.params.nodes + 3 }
         ensures room { out.new.room ≡ out.old.room }
     {
-        self.hear(notice);
+        self.see(notice);
         self.learn(notice, out);
         self.find(notice.slot, members, out);
     }
@@ -195,9 +195,9 @@ impl Life {
     }
 
     /// Who shows life in a notice: another node, or the node itself, which counts its own life
-    /// signs.
+    /// signs. It is all that `on` does at a notice that tells no more, where silence finds nobody.
     #[tactic(auto, unfolding(crate::specs::LifeSteps::heard))]
-    fn hear(&mut self, notice: &Notice)
+    pub fn see(&mut self, notice: &Notice)
         requires { self.old.sent < most_slots }
         ensures { self.new ≡ heard notice.now.slot notice.now.kind self.old }
     {

@@ -1,26 +1,21 @@
 -- The turn of a frame of EDCAN or of RELCAN, or of none, in a slot for which nothing is due but a timer of RELCAN: TOTCAN, the site, the
 -- script and the backlog have nothing to do.
-use Rattle.std.specs.List.{flat_map}
 use Rattle.std.proofs.Common.{◌≡◌, ℕ, List, [], ◌∷◌, ◌++◌, length, None, ap, sym, ◌∙◌, subst}
 use Rattle.cany_base.specs.declared.notice.NoticeKind.{NoticeKind}
 use Rattle.cany_base.specs.declared.notice.NoticeKind.TheVariants.{Idle}
 use Rattle.cany_base.specs.Scenario.{ScenarioParts}
 use Rattle.cany_edcan.specs.Edcan.{EdcanParts, IsEdcanOf}
 use Rattle.cany_model.specs.Rules.Backlog.{ask_for, asked, asked_after, backlog, backlog_effects, next_after, one_more}
-use Rattle.cany_model.specs.Rules.Membership.{asks_in}
-use Rattle.cany_model.specs.Rules.Sends.{send_effects}
-use Rattle.cany_model.specs.Rules.Knowledge.{Knowledge}
 use Rattle.cany_model.specs.Rules.Totcan.{totcan_effects}
-use Rattle.cany_model.specs.Rules.Views.{join_asked, leave_asked}
 use Rattle.cany_relcan.specs.Relcan.{IsRelcanOf, RelcanParts}
 use Rattle.cany_totcan.specs.Totcan.{IsTotcanOf}
 use Rattle.cany_node.specs.Node.{IsNodeOf, NodeParts}
 use Rattle.cany_node.specs.Membership.{membership_effects}
-use Rattle.cany_node.specs.Turning.{HasScripted, asks_plain, script_effects}
+use Rattle.cany_node.specs.Turning.{HasScripted, script_effects}
 use Rattle.cany_node.proofs.Idle.IdleTurn.{OthersRest, agenda_later, asks_later, no_script, none_next as idle_next, same_count, still_totcan, tot_rests}
 use Rattle.cany_node.proofs.Idle.MembershipRest.{both_none}
 use Rattle.cany_node.proofs.TellsNothingOfPlaces.{IsUnplaced, next_same, totcan_same, totcan_unheard}
-use Rattle.cany_node.proofs.TellsNothingOfTheSite.{IsUnheard, site_same, site_unheard, knowledge_same}
+use Rattle.cany_node.proofs.TellsNothingOfTheSite.{IsUnheard, site_same, site_unheard}
 
 -- ---- the turn
 
@@ -36,16 +31,6 @@ module _ (scenario : ScenarioParts) (past : List NoticeKind) (e : NoticeKind) (p
   read = e ∷ past
 
   -- ---- the script and the backlog ask for nothing
-
-  asks_same : asks_plain scenario i read ≡ asks_plain scenario i idle
-  asks_same = ap (λ (st : Knowledge).
-      flat_map (λ ask. join_asked scenario.params 0 i (length past) st.members) (asks_in scenario i (length past) scenario.joins)
-      ++ flat_map (λ ask. leave_asked scenario.params 0 i (length past) st.members) (asks_in scenario i (length past) scenario.leaves))
-      (knowledge_same scenario i past e site)
-
-  script_none : script_effects scenario i read ≡ []
-  unfolding send_effects
-  script_none = ap (λ es. send_effects scenario i idle ++ es) asks_same ∙ no_script scenario past v stands others
 
   none_next : next_after scenario.params read (backlog scenario i read) (asked scenario i past) ≡ None
   unfolding backlog
@@ -64,7 +49,7 @@ module _ (scenario : ScenarioParts) (past : List NoticeKind) (e : NoticeKind) (p
       (site_same scenario i past e site ∙ others.membership.effects)
 
   pub after_none : script_effects scenario i read ++ backlog_effects scenario i read ≡ []
-  after_none = both_none (script_effects scenario i read) (backlog_effects scenario i read) script_none backlog_none
+  after_none = both_none (script_effects scenario i read) (backlog_effects scenario i read) (no_script scenario past v stands others e) backlog_none
 
   still_asked : asked_after scenario.params read (backlog scenario i read) (asked scenario i past) ≡ asked scenario i past
   still_asked = ap (one_more (asked scenario i past)) none_next

@@ -1,11 +1,13 @@
 pub mod ActSteps
 pub mod AgendaFacts
+pub mod AheadFacts
 pub mod AppliedParts
 pub mod Applying
 pub mod AskFacts
 pub mod Askable
 pub mod AskedFacts
 pub mod BacklogFacts
+pub mod BacklogWaits
 pub mod Beginning
 pub mod FrameTurn
 pub mod GiveFacts
@@ -21,10 +23,12 @@ pub mod RelayTurn
 pub mod RoomsSuffice
 pub mod ScriptSteps
 pub mod SendFacts
+pub mod ShowsLife
 pub mod StampedEffects
 pub mod StampedIdentifiers
 pub mod TellsNothingOfPlaces
 pub mod TellsNothingOfTheSite
 pub mod TellsNothingToRelays
+pub mod TotcanAndLifeTurn
 pub mod UnreadFrames
 pub mod WholeTurn

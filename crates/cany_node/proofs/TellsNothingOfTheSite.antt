@@ -16,6 +16,7 @@ use Rattle.cany_base.specs.Scenario.{ScenarioParts}
 use Rattle.cany_history.specs.History.{HistoryParts, IsExchangeOf, IsHistoryOf, vector_read}
 use Rattle.cany_history.proofs.PastFacts.{more_from_none}
 use Rattle.cany_life.specs.Life.{IsLifeOf, LifeParts}
+use Rattle.cany_life.proofs.LearnFacts.{IsNoCopy}
 use Rattle.cany_model.specs.Bus.Frames.{same_class, same_identity}
 use Rattle.cany_model.specs.Bus.History.{copies, is_got}
 use Rattle.cany_model.specs.Rules.Effect.{Ask, Enter}
@@ -54,21 +55,55 @@ neither : (b : Bool) → (b && false) ≡ false
 neither true = refl
 neither false = refl
 
--- nobody who shows life, no sign, no ask and no vector
-pub record IsUnheard (e : NoticeKind) : Type 0 where
-  pub life : (i slot : ℕ) (st : Knowledge) → after_life i slot e st ≡ st
+-- whether frames of the class tell more of the site than who lives
+abbrev pub tells_more : Class → Bool
+tells_more c = same_class c class.Fda || (same_class c class.Rha || (same_class c class.Join || same_class c class.Leave))
+
+-- no sign, no ask and no vector
+pub record IsLifeAtMost (e : NoticeKind) : Type 0 where
+  pub no_copy : IsNoCopy e
   pub sign : (st : Knowledge) → told e st ≡ []
   pub copy : (omit : ℕ) (past : List NoticeKind) → fda_copy_effects omit e past ≡ []
   pub counted : (sign : FailureSign) → is_got (fda_of sign) e ≡ false
-  pub own : (i : ℕ) → is_own_sign i e ≡ false
   pub ask : (st : Knowledge) → after_ask e st ≡ st
   pub vector : (p : Parameters) (slot : ℕ) → brought p slot e ≡ None
   pub read : (format : Format) (cycle i : ℕ) → vector_read format cycle i e ≡ None
   pub got : (format : Format) (cycle : ℕ) (v : Nodes) → is_vector_got format cycle v e ≡ false
   pub sent : (format : Format) (cycle i : ℕ) (v : Nodes) → is_vector_sent format cycle i v e ≡ false
 
-no_vector : (format : Format) (cycle : ℕ) (f : FrameParts) → is_of_site f.class ≡ false → vector_in format cycle f ≡ None
-no_vector format cycle f other = rw (apart is_of_site f.class class.Rha other refl) refl
+-- and nobody who shows life
+pub record IsUnheard (e : NoticeKind) : Type 0 where
+  pub at_most : IsLifeAtMost e
+  pub life : (i slot : ℕ) (st : Knowledge) → after_life i slot e st ≡ st
+  pub own : (i : ℕ) → is_own_sign i e ≡ false
+
+more_is : (c : Class) → same_class c class.Fda ≡ false → same_class c class.Rha ≡ false → same_class c class.Join ≡ false → same_class c class.Leave ≡ false
+    → tells_more c ≡ false
+more_is c fda rha join leave = rw (fda, rha, join, leave) refl
+
+no_more : (c : Class) → is_of_site c ≡ false → tells_more c ≡ false
+no_more c other =
+    more_is c (apart is_of_site c class.Fda other refl) (apart is_of_site c class.Rha other refl) (apart is_of_site c class.Join other refl)
+    (apart is_of_site c class.Leave other refl)
+
+tells_fda : tells_more class.Fda ≡ true
+unfolding same_class
+tells_fda = refl
+
+tells_rha : tells_more class.Rha ≡ true
+unfolding same_class
+tells_rha = refl
+
+tells_join : tells_more class.Join ≡ true
+unfolding same_class
+tells_join = refl
+
+tells_leave : tells_more class.Leave ≡ true
+unfolding same_class
+tells_leave = refl
+
+no_vector : (format : Format) (cycle : ℕ) (f : FrameParts) → tells_more f.class ≡ false → vector_in format cycle f ≡ None
+no_vector format cycle f other = rw (apart tells_more f.class class.Rha other tells_rha) refl
 
 no_life : (f : FrameParts) → is_of_site f.class ≡ false → shows_life f ≡ false
 unfolding shows_life
@@ -79,30 +114,28 @@ nothing_just : (v : Nodes) (x : Option Nodes) → x ≡ None → is_just v x ≡
 unfolding is_just
 nothing_just v x none = ap (is_just v) none
 
-unheard_got : (f : FrameParts) → is_of_site f.class ≡ false → IsUnheard (Got f)
-unfolding after_life told fda_copy_effects after_ask brought same_identity
-unheard_got f other = record {
-  life = λ i slot st. rw (no_life f other) refl;
-  sign = λ st. rw (apart is_of_site f.class class.Fda other refl) refl;
-  copy = λ omit past. rw (apart is_of_site f.class class.Fda other refl) refl;
-  counted = λ sign. rw (apart_from is_of_site f.class class.Fda other refl) refl;
-  own = λ i. refl;
-  ask = λ st. rw (apart is_of_site f.class class.Join other refl, apart is_of_site f.class class.Leave other refl) refl;
+pub life_at_most_got : (f : FrameParts) → tells_more f.class ≡ false → IsLifeAtMost (Got f)
+unfolding told fda_copy_effects after_ask brought same_identity
+life_at_most_got f other = record {
+  no_copy = apart tells_more f.class class.Fda other tells_fda;
+  sign = λ st. rw (apart tells_more f.class class.Fda other tells_fda) refl;
+  copy = λ omit past. rw (apart tells_more f.class class.Fda other tells_fda) refl;
+  counted = λ sign. rw (apart_from tells_more f.class class.Fda other tells_fda) refl;
+  ask = λ st. rw (apart tells_more f.class class.Join other tells_join, apart tells_more f.class class.Leave other tells_leave) refl;
   vector = λ p slot. rw (no_vector p.format (slot / p.cycle) f other) (either (Option Nodes) (is_exchange p slot) None);
   read = λ format cycle i. no_vector format cycle f other;
   got = λ format cycle v. nothing_just v (vector_in format cycle f) (no_vector format cycle f other);
   sent = λ format cycle i v. refl;
 }
 
-unheard_sent : (f : FrameParts) → is_of_site f.class ≡ false → IsUnheard (Sent f)
-unfolding after_life told fda_copy_effects after_ask brought
-unheard_sent f other = record {
-  life = λ i slot st. rw (no_life f other) refl;
+pub life_at_most_sent : (f : FrameParts) → tells_more f.class ≡ false → IsLifeAtMost (Sent f)
+unfolding told fda_copy_effects after_ask brought
+life_at_most_sent f other = record {
+  no_copy = tt;
   sign = λ st. refl;
   copy = λ omit past. refl;
   counted = λ sign. refl;
-  own = λ i. rw (apart is_of_site f.class class.Els other refl) refl;
-  ask = λ st. rw (apart is_of_site f.class class.Leave other refl) refl;
+  ask = λ st. rw (apart tells_more f.class class.Leave other tells_leave) refl;
   vector = λ p slot. refl;
   read = λ format cycle i. ap (λ w. if f.node == i then w else None) (no_vector format cycle f other) ∙ either (Option Nodes) (f.node == i) None;
   got = λ format cycle v. refl;
@@ -110,45 +143,59 @@ unheard_sent f other = record {
       ap (λ b. f.node == i && b) (nothing_just v (vector_in format cycle f) (no_vector format cycle f other)) ∙ neither (f.node == i);
 }
 
+pub life_at_most_idle : IsLifeAtMost Idle
+unfolding told fda_copy_effects after_ask brought
+life_at_most_idle = record {
+  no_copy = tt;
+  sign = λ st. refl;
+  copy = λ omit past. refl;
+  counted = λ sign. refl;
+  ask = λ st. refl;
+  vector = λ p slot. refl;
+  read = λ format cycle i. refl;
+  got = λ format cycle v. refl;
+  sent = λ format cycle i v. refl;
+}
+
+pub life_at_most_bad : IsLifeAtMost Bad
+unfolding told fda_copy_effects after_ask brought
+life_at_most_bad = record {
+  no_copy = tt;
+  sign = λ st. refl;
+  copy = λ omit past. refl;
+  counted = λ sign. refl;
+  ask = λ st. refl;
+  vector = λ p slot. refl;
+  read = λ format cycle i. refl;
+  got = λ format cycle v. refl;
+  sent = λ format cycle i v. refl;
+}
+
 pub unheard : (e : NoticeKind) → tells_of_site e ≡ false → IsUnheard e
-unfolding after_life told fda_copy_effects after_ask brought
-unheard (Got f) other = unheard_got f other
-unheard (Sent f) other = unheard_sent f other
-unheard Idle other = record {
-  life = λ i slot st. refl;
-  sign = λ st. refl;
-  copy = λ omit past. refl;
-  counted = λ sign. refl;
+unfolding after_life
+unheard (Got f) other = record {
+  at_most = life_at_most_got f (no_more f.class other);
+  life = λ i slot st. rw (no_life f other) refl;
   own = λ i. refl;
-  ask = λ st. refl;
-  vector = λ p slot. refl;
-  read = λ format cycle i. refl;
-  got = λ format cycle v. refl;
-  sent = λ format cycle i v. refl;
 }
-unheard Bad other = record {
-  life = λ i slot st. refl;
-  sign = λ st. refl;
-  copy = λ omit past. refl;
-  counted = λ sign. refl;
-  own = λ i. refl;
-  ask = λ st. refl;
-  vector = λ p slot. refl;
-  read = λ format cycle i. refl;
-  got = λ format cycle v. refl;
-  sent = λ format cycle i v. refl;
+unheard (Sent f) other = record {
+  at_most = life_at_most_sent f (no_more f.class other);
+  life = λ i slot st. rw (no_life f other) refl;
+  own = λ i. rw (apart is_of_site f.class class.Els other refl) refl;
 }
+unheard Idle other = record { at_most = life_at_most_idle; life = λ i slot st. refl; own = λ i. refl }
+unheard Bad other = record { at_most = life_at_most_bad; life = λ i slot st. refl; own = λ i. refl }
 
 -- ---- what the node knows after each step
 
 module _ (p : Parameters) (i slot : ℕ) (e : NoticeKind) (u : IsUnheard e) (st : Knowledge) where
   learnt_same : after_learning i slot e st ≡ after_learning i slot Idle st
   unfolding after_life told
-  learnt_same = λ j. with_signs (u.sign (after_life i slot e st) j) (u.life i slot st j)
+  learnt_same = λ j. with_signs (u.at_most.sign (after_life i slot e st) j) (u.life i slot st j)
 
   pub told_same : told_in i slot e st ≡ told_in i slot Idle st
   unfolding after_life told
-  told_same = u.sign (after_life i slot e st)
+  told_same = u.at_most.sign (after_life i slot e st)
 
   pub found_in_same : found_in p i slot e st ≡ found_in p i slot Idle st
   found_in_same = ap (found p i slot) learnt_same
@@ -158,11 +205,11 @@ module _ (p : Parameters) (i slot : ℕ) (e : NoticeKind) (u : IsUnheard e) (st 
 
   asked_same : after_asking p i slot e st ≡ after_asking p i slot Idle st
   unfolding after_ask
-  asked_same = u.ask (after_finding p i slot e st) ∙ found_same
+  asked_same = u.at_most.ask (after_finding p i slot e st) ∙ found_same
 
   met_same : met_in p slot e st ≡ met_in p slot Idle st
   unfolding brought
-  met_same = ap (met p st.vector) (u.vector p slot)
+  met_same = ap (met p st.vector) (u.at_most.vector p slot)
 
   pub ended_same : ended_in p slot e st ≡ ended_in p slot Idle st
   ended_same = ap (ended p slot) met_same
@@ -176,6 +223,40 @@ module _ (p : Parameters) (i slot : ℕ) (e : NoticeKind) (u : IsUnheard e) (st 
   pub notice_same : after_notice p i slot e st ≡ after_notice p i slot Idle st
   unfolding after_notice
   notice_same = ap (λ (s : Knowledge). if is_start p slot then record s { vector = start_of i s } else s) installed_same
+
+-- ---- the vector of the node
+
+module _ (scenario : ScenarioParts) (i : ℕ) (past : List NoticeKind) (e : NoticeKind) (only : IsLifeAtMost e) where
+  exchanged_same : (cycle : ℕ) (own : Option Nodes) (v : HistoryParts) → IsExchangeOf scenario.params cycle i (Idle ∷ past) own v → IsExchangeOf scenario.params cycle i (e ∷ past) own v
+  exchanged_same cycle own v h = record {
+    more = (more_from_none scenario.params.format cycle i own e (only.read scenario.params.format cycle i), h.more.1);
+    copies = by_copies own h.copies;
+    sent = by_sent own h.sent;
+  }
+    where
+      by_copies : (o : Option Nodes) → IfSome o (λ w. v.copies ≡ count_by (is_vector_got scenario.params.format cycle w) (Idle ∷ past))
+          → IfSome o (λ w. v.copies ≡ count_by (is_vector_got scenario.params.format cycle w) (e ∷ past))
+      by_copies None h = tt
+      by_copies (Some w) h =
+          h ∙ count-no (is_vector_got scenario.params.format cycle w) Idle past refl ∙ sym (count-no (is_vector_got scenario.params.format cycle w) e past (only.got scenario.params.format cycle w))
+
+      by_sent : (o : Option Nodes) → IfSome o (λ w. v.sent ≡ list_any (is_vector_sent scenario.params.format cycle i w) (Idle ∷ past))
+          → IfSome o (λ w. v.sent ≡ list_any (is_vector_sent scenario.params.format cycle i w) (e ∷ past))
+      by_sent None h = tt
+      by_sent (Some w) h = h ∙ sym (ap (λ b. b || list_any (is_vector_sent scenario.params.format cycle i w) past) (only.sent scenario.params.format cycle i w))
+
+  pub history_same : (own : Option Nodes) (v : HistoryParts) → IsHistoryOf scenario i (Idle ∷ past) own v → IsHistoryOf scenario i (e ∷ past) own v
+  history_same own v h = record {
+    legal = h.legal;
+    place = h.place;
+    node = h.node;
+    params = h.params;
+    vector = h.vector;
+    below = h.below;
+    few = h.few;
+    unread = λ cycle early. (only.read scenario.params.format cycle i, (h.unread cycle early).1);
+    exchange = λ exchanged. exchanged_same _ own v (h.exchange exchanged);
+  }
 
 module _ (scenario : ScenarioParts) (i : ℕ) (past : List NoticeKind) (e : NoticeKind) (u : IsUnheard e) where
   abbrev p : Parameters
@@ -192,7 +273,7 @@ module _ (scenario : ScenarioParts) (i : ℕ) (past : List NoticeKind) (e : Noti
 
   copies_same : (sign : FailureSign) → copies (fda_of sign) (e ∷ past) ≡ copies (fda_of sign) (Idle ∷ past)
   unfolding copies
-  copies_same sign = count-no (is_got (fda_of sign)) e past (u.counted sign) ∙ sym (count-no (is_got (fda_of sign)) Idle past refl)
+  copies_same sign = count-no (is_got (fda_of sign)) e past (u.at_most.counted sign) ∙ sym (count-no (is_got (fda_of sign)) Idle past refl)
 
   signs_same : life_signs_sent i (e ∷ past) ≡ life_signs_sent i (Idle ∷ past)
   unfolding life_signs_sent
@@ -209,19 +290,19 @@ module _ (scenario : ScenarioParts) (i : ℕ) (past : List NoticeKind) (e : Noti
   unfolding failure_effects failures_at fda_copy_effects
   failures_same = λ j.
       flat_map (sign_same p.omit (length past) j) (told_same p i (length past) e u before j)
-      ++ u.copy p.omit (e ∷ past) j
+      ++ u.at_most.copy p.omit (e ∷ past) j
       ++ flat_map (sign_same p.omit (length past) j) (found_in_same p i (length past) e u before j)
 
   no_vector_effects : (inc : ℕ) → vector_effects p inc i (length past) (e ∷ past) before.vector (brought p (length past) e) ≡ []
   unfolding vector_effects
-  no_vector_effects inc = ap (vector_effects p inc i (length past) (e ∷ past) before.vector) (u.vector p (length past))
+  no_vector_effects inc = ap (vector_effects p inc i (length past) (e ∷ past) before.vector) (u.at_most.vector p (length past))
 
   pub exchange_same : (inc : ℕ) → exchange_at p inc i e past before.vector (start_in p i (length past) e before)
       ≡ exchange_at p inc i Idle past before.vector (start_in p i (length past) Idle before)
   unfolding exchange_at vector_effects brought
   exchange_same inc = λ j.
       no_vector_effects inc j
-      ++ end_effects p i (length past) (ended p (length past) (met p before.vector (u.vector p (length past) j)))
+      ++ end_effects p i (length past) (ended p (length past) (met p before.vector (u.at_most.vector p (length past) j)))
       ++ start_effects p inc i (length past) (start_same p i (length past) e u before j)
 
   pub install_same : install_effects scenario i (e ∷ past) ≡ install_effects scenario i (Idle ∷ past)
@@ -258,37 +339,6 @@ module _ (scenario : ScenarioParts) (i : ℕ) (past : List NoticeKind) (e : Noti
     few = subst (λ n. n * scenario.params.life ≤ length (e ∷ past)) (sym signs_same) h.few;
   }
 
-  exchanged_same : (cycle : ℕ) (own : Option Nodes) (v : HistoryParts) → IsExchangeOf p cycle i (Idle ∷ past) own v → IsExchangeOf p cycle i (e ∷ past) own v
-  exchanged_same cycle own v h = record {
-    more = (more_from_none p.format cycle i own e (u.read p.format cycle i), h.more.1);
-    copies = by_copies own h.copies;
-    sent = by_sent own h.sent;
-  }
-    where
-      by_copies : (o : Option Nodes) → IfSome o (λ w. v.copies ≡ count_by (is_vector_got p.format cycle w) (Idle ∷ past))
-          → IfSome o (λ w. v.copies ≡ count_by (is_vector_got p.format cycle w) (e ∷ past))
-      by_copies None h = tt
-      by_copies (Some w) h =
-          h ∙ count-no (is_vector_got p.format cycle w) Idle past refl ∙ sym (count-no (is_vector_got p.format cycle w) e past (u.got p.format cycle w))
-
-      by_sent : (o : Option Nodes) → IfSome o (λ w. v.sent ≡ list_any (is_vector_sent p.format cycle i w) (Idle ∷ past))
-          → IfSome o (λ w. v.sent ≡ list_any (is_vector_sent p.format cycle i w) (e ∷ past))
-      by_sent None h = tt
-      by_sent (Some w) h = h ∙ sym (ap (λ b. b || list_any (is_vector_sent p.format cycle i w) past) (u.sent p.format cycle i w))
-
-  history_same : (own : Option Nodes) (v : HistoryParts) → IsHistoryOf scenario i (Idle ∷ past) own v → IsHistoryOf scenario i (e ∷ past) own v
-  history_same own v h = record {
-    legal = h.legal;
-    place = h.place;
-    node = h.node;
-    params = h.params;
-    vector = h.vector;
-    below = h.below;
-    few = h.few;
-    unread = λ cycle early. (u.read p.format cycle i, (h.unread cycle early).1);
-    exchange = λ exchanged. exchanged_same _ own v (h.exchange exchanged);
-  }
-
   -- the value stands for the notice as for an idle slot
   pub site_unheard : (v : MembershipParts) → IsMembershipOf scenario i (Idle ∷ past) v → IsMembershipOf scenario i (e ∷ past) v
   site_unheard v h =
@@ -297,7 +347,7 @@ module _ (scenario : ScenarioParts) (i : ℕ) (past : List NoticeKind) (e : Noti
         params = h.params;
         failed = subst (λ (st : Knowledge). AllBelow p.nodes st.failed) same h.failed;
         life = subst (λ st. IsLifeOf scenario i (e ∷ past) st v.life) same (life_same _ v.life h.life);
-        history = subst (λ (st : Knowledge). IsHistoryOf scenario i (e ∷ past) st.vector v.history) same (history_same _ v.history h.history);
+        history = subst (λ (st : Knowledge). IsHistoryOf scenario i (e ∷ past) st.vector v.history) same (history_same scenario i past e u.at_most _ v.history h.history);
         views = subst (λ st. IsViewsOf scenario i st v.views) same h.views;
       }
 

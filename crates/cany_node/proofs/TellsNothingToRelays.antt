@@ -17,7 +17,7 @@ use Rattle.cany_model.specs.Rules.Relcan.{relcan_effects}
 use Rattle.cany_model.proofs.Bus.Identities.{same_class-true}
 use Rattle.cany_relcan.specs.Relcan as relcan
 use Rattle.cany_relcan.specs.Relcan.{IsRelcanOf, RelcanParts, brings_no_relcan}
-use Rattle.cany_node.specs.Resting.{is_for_edcan}
+use Rattle.cany_node.specs.Resting.{RelcanRestsUntil, is_for_edcan}
 
 -- ---- EDCAN
 
@@ -36,12 +36,6 @@ module _ (notice : Notice) (v : EdcanParts) (other : is_for_edcan notice.kind �
   edcan_still = other_stands scenario v.node past notice.kind notice.kind refl (no_edcan notice.kind other) v h
 
 -- ---- RELCAN
-
--- before a slot it has nothing to do at a notice that brings none of its frames
-abbrev pub RelcanRestsUntil : ℕ → RelcanParts → Type 0
-RelcanRestsUntil wake v =
-    (scenario : ScenarioParts) (past : List NoticeKind) (notice : NoticeKind) → IsRelcanOf scenario v.node past v → length past < wake
-    → brings_no_relcan notice ≡ true → relcan.Rests scenario v.node notice past v
 
 edcan_apart : (c : Class) → same_class c class.Ed ≡ true → not (same_class c class.Rel || same_class c class.Confirm) ≡ true
 unfolding same_class

@@ -10,6 +10,8 @@ use Rattle.cany_model.specs.Bus.Frames.{same_class}
 use Rattle.cany_model.specs.Rules.Messages.{Message}
 use Rattle.cany_model.specs.Rules.KnowledgeOf.{knowledge_of}
 use Rattle.cany_model.specs.Rules.Turn.{turn_effects}
+use Rattle.cany_relcan.specs.Relcan as relcan
+use Rattle.cany_relcan.specs.Relcan.{IsRelcanOf, RelcanParts, brings_no_relcan}
 use Rattle.cany_totcan.specs.Rests as totcan
 use Rattle.cany_totcan.specs.Totcan.{IsTotcanOf}
 use Rattle.cany_node.specs.Agenda.{IsRising}
@@ -52,6 +54,23 @@ is_for_edcan Idle = false
 is_for_edcan (Got f) = same_class f.class class.Ed
 is_for_edcan (Sent f) = same_class f.class class.Ed
 is_for_edcan Bad = false
+
+-- whether frames of the class are of TOTCAN, or life signs
+abbrev pub is_of_totcan_or_life : Class → Bool
+is_of_totcan_or_life c = same_class c class.Tot || (same_class c class.Accept || same_class c class.Els)
+
+-- whether such a frame was heard: neither EDCAN nor RELCAN hears it
+abbrev pub brings_totcan_or_life : NoticeKind → Bool
+brings_totcan_or_life Idle = false
+brings_totcan_or_life (Got f) = is_of_totcan_or_life f.class
+brings_totcan_or_life (Sent f) = is_of_totcan_or_life f.class
+brings_totcan_or_life Bad = false
+
+-- before this slot RELCAN has nothing to do at a notice that brings none of its frames
+abbrev pub RelcanRestsUntil : ℕ → RelcanParts → Type 0
+RelcanRestsUntil wake v =
+    (scenario : ScenarioParts) (past : List NoticeKind) (notice : NoticeKind) → IsRelcanOf scenario v.node past v → length past < wake
+    → brings_no_relcan notice ≡ true → relcan.Rests scenario v.node notice past v
 
 -- In an idle slot before this one, from which the node has read on, no part of it but EDCAN and RELCAN has anything to do. EDCAN has
 -- nothing to do in any, and RELCAN tells itself when its next timer is due.

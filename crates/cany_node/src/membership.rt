@@ -1,4 +1,4 @@
-ghost use Rattle.std.specs.Prelude.{◌≡◌, ℕ, ◌+◌, ◌*◌, ◌<◌, ◌≤◌, ◌∷◌, ◌++◌, false, if◌then◌else◌, length, List, Option, None, IfOk, IfSome};
+ghost use Rattle.std.specs.Prelude.{◌≡◌, ℕ, ◌+◌, ◌*◌, ◌<◌, ◌≤◌, [], ◌∷◌, ◌++◌, false, true, if◌then◌else◌, length, List, Option, None, IfOk, IfSome};
 ghost use Rattle.cany_base.specs.declared.notice.NoticeKind.{NoticeKind};
 ghost use Rattle.cany_base.specs.Nodes.{AllBelow, Nodes, nobody};
 ghost use Rattle.cany_base.specs.Scenario.{ScenarioParts};
@@ -12,7 +12,7 @@ ghost use Rattle.cany_model.specs.Rules.Views.{start_of, view_effects, with_ende
 ghost use Rattle.cany_views.specs.Views.{IsViewsOf};
 ghost use Rattle.cany_node.specs.Asks.{asked_as};
 ghost use Rattle.cany_node.specs.Membership.{CanExchange, CanHear, Exchanges, HasKnown, IsNextOf, IsMembershipAtRest, IsMembershipOf, IsOfBus, KnowsOf, ended_as, exchange_plain, membership_effects, membership_room};
-ghost use Rattle.cany_node.specs.Resting.{MembershipRests};
+ghost use Rattle.cany_node.specs.Resting.{MembershipRests, brings_totcan_or_life};
 
 use crate::asks::AskKind;
 use crate::notices::tells_of_site;
@@ -91,7 +91,20 @@ impl Membership {
         }
     }
 
-    /// The same, step by step: who asks to join or to leave, who shows life and who has failed,
+    /// What a frame of TOTCAN or a life sign tells, in a slot before `wake`: who lives. Nothing is done
+    /// for the site then.
+    pub(crate) fn see(&mut self, notice: &Notice)
+        requires hears { CanHear self.old notice.now }
+        requires brings { brings_totcan_or_life notice.now.kind ≡ true }
+        ensures none { (scenario : ScenarioParts) (i : ℕ) (past : List NoticeKind) → IsMembershipOf scenario i past self.old → MembershipRests scenario i past self.old →
+            IsNextOf scenario i past notice.now → membership_effects scenario i (notice.now.kind ∷ past) ≡ [] }
+        ensures stands { (scenario : ScenarioParts) (i : ℕ) (past : List NoticeKind) → IsMembershipOf scenario i past self.old → MembershipRests scenario i past self.old →
+            IsNextOf scenario i past notice.now → IsMembershipOf scenario i (notice.now.kind ∷ past) self.new }
+    {
+        self.life.see(notice);
+    }
+
+    /// What a notice tells, step by step: who asks to join or to leave, who shows life and who has failed,
     /// then the vectors, at the end of a cycle the new view, at the start of one what the node
     /// starts with, and the node's own life sign.
     fn follow(&mut self, notice: &Notice, out: &mut Actions)

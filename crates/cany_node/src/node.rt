@@ -13,7 +13,7 @@ ghost use Rattle.cany_model.specs.Rules.Effect.{waiting_after};
 ghost use Rattle.cany_node.specs.Node.{IsNodeOf, IsWaiting, CanBegin, CanTurn, CanAct, Reads, IsTurnOf, IsRefused, heard_by, reply_of};
 ghost use Rattle.cany_node.specs.Asks.{AreAsksPassed, IsRisingFrom};
 ghost use Rattle.cany_node.specs.Agenda.{ArePassed, IsRising};
-ghost use Rattle.cany_node.specs.Resting.{IsIdleUntil, RestsUntil, is_for_edcan, is_for_relays};
+ghost use Rattle.cany_node.specs.Resting.{IsIdleUntil, RelcanRestsUntil, RestsUntil, brings_totcan_or_life, is_for_edcan, is_for_relays};
 ghost use Rattle.cany_node.specs.Membership.{IsNextOf};
 ghost use Rattle.cany_node.specs.Turning.{CanHearNext, CanScript, HasHeard, HasScripted, IsActed, heard_effects, heard_room, script_effects, script_room};
 
@@ -22,7 +22,7 @@ use crate::apply::{apply_all, apply_called};
 use crate::apply_relcan::apply_heard;
 use crate::asks::{AskKind, AskPlan, ask_due};
 use crate::membership::Membership;
-use crate::notices::{is_early, is_error, is_for_edcan, is_for_relays};
+use crate::notices::{brings_totcan_or_life, is_early, is_error, is_for_edcan, is_for_relays};
 use crate::plan::{Plan, build_plan};
 use crate::protocols::{Protocols, build_protocols};
 use crate::reply::TurnReply;
@@ -198,15 +198,18 @@ impl Node {
         }
     }
 
-    /// Does what the rules say of a notice, as it is heard. Before `idle_until` a notice that is
-    /// nothing to TOTCAN and tells nothing of the site leads to no more than what EDCAN and RELCAN
-    /// do.
+    /// Does what the rules say of a notice, as it is heard. Before `idle_until` a frame leads to no
+    /// more than what those do who hear it, but that a timer of RELCAN may be due.
     fn act(&mut self, notice: &Notice, ctl: &mut Controller, out: &mut Actions)
         requires { CanAct self.old notice.now ctl.old out.old }
         ensures { IsActed notice.now self.old self.new ctl.old ctl.new out.old out.new }
     {
-        if notice.slot < self.idle_until && is_for_relays(&notice.kind) {
+        if notice.slot >= self.idle_until {
+            self.follow_rules(notice, ctl, out);
+        } else if is_for_relays(&notice.kind) {
             self.follow_relays(notice, ctl, out);
+        } else if brings_totcan_or_life(&notice.kind) && notice.slot < self.relcan.wake() {
+            self.follow_totcan_and_life(notice, ctl, out);
         } else {
             self.follow_rules(notice, ctl, out);
         }
@@ -262,6 +265,27 @@ impl Node {
         apply_all(out, self.inc, ctl, &mut self.log);
         out.clear();
         self.read = notice.slot + 1;
+    }
+
+    /// Does what TOTCAN does at a frame of its own or at a life sign, and what is done for the site,
+    /// in a slot for which nothing is due. The script says nothing then, and the backlog asks for
+    /// nothing: what is read can only move the place of its last message, for which it waits.
+    // Out of line, as `follow_rules`.
+    #[inline(never)]
+    fn follow_totcan_and_life(&mut self, notice: &Notice, ctl: &mut Controller, out: &mut Actions)
+        requires acts { CanAct self.old notice.now ctl.old out.old }
+        requires brings { brings_totcan_or_life notice.now.kind ≡ true }
+        requires idle { IsIdleUntil (notice.now.slot + 1) self.old }
+        requires relcan { RelcanRestsUntil (notice.now.slot + 1) self.old.relcan }
+        ensures { IsActed notice.now self.old self.new ctl.old ctl.new out.old out.new }
+    {
+        self.totcan.on(notice, out);
+        self.membership.see(notice);
+        apply_all(out, self.inc, ctl, &mut self.log);
+        out.clear();
+        self.read = notice.slot + 1;
+        let membership = self.membership.wake(self.read);
+        self.idle_until = self.idle_until.min(self.totcan.wake()).min(membership);
     }
 
     /// Does what the rules say of a notice, rule by rule.
@@ -436,6 +460,21 @@ impl Node {
             Service::Ed => false,
             Service::Rel => self.relcan.ahead(msg),
             Service::Tot => self.totcan.ahead(msg),
+        }
+    }
+
+    /// Whether nothing of any message of this service is ahead at the node. Of a message of EDCAN
+    /// nothing ever is, and of one of RELCAN nothing where no timer runs.
+    ///
+    /// It may be too careful: of TOTCAN it never says so.
+    pub fn has_nothing_ahead(&self, service: Service) -> bool
+        ensures { result ≡ true → (scenario : ScenarioParts) (past : List NoticeKind) (m : Message) → IsNodeOf scenario past self.now →
+            Contains (messages_of scenario.sends) m → m.service ≡ service → is_ahead_at scenario m self.now.node past ≡ false }
+    {
+        match service {
+            Service::Ed => true,
+            Service::Rel => self.relcan.has_nothing_ahead(),
+            Service::Tot => false,
         }
     }
 }

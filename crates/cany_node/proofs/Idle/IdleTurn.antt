@@ -111,12 +111,12 @@ module _ (scenario : ScenarioParts) (past : List NoticeKind) (v : NodeParts) (h 
 
     -- ---- the backlog
 
-    same_backlog : backlog scenario i idle ≡ messages
+    pub same_backlog : (e : NoticeKind) → backlog scenario v.node (e ∷ past) ≡ backlog scenario v.node past
     unfolding backlog
-    same_backlog = ap (λ ms. messages ++ ms) (none_join scenario i (length past) v.agenda h.agenda others.sends) ∙ append-nil messages
+    same_backlog e = ap (λ ms. messages ++ ms) (none_join scenario i (length past) v.agenda h.agenda others.sends) ∙ append-nil messages
 
     pub none_next : next_after scenario.params idle (backlog scenario i idle) count ≡ None
-    none_next = ap (λ ms. next_after scenario.params idle ms count) same_backlog ∙ tot_rests.none
+    none_next = ap (λ ms. next_after scenario.params idle ms count) (same_backlog Idle) ∙ tot_rests.none
 
     pub same_count : asked scenario i idle ≡ count
     unfolding asked
@@ -128,28 +128,29 @@ module _ (scenario : ScenarioParts) (past : List NoticeKind) (v : NodeParts) (h 
 
     -- ---- the script
 
-    no_sends : send_effects scenario i idle ≡ []
+    no_sends : (e : NoticeKind) → send_effects scenario i (e ∷ past) ≡ []
     unfolding send_effects
-    no_sends = none_sent scenario i (length past) v.agenda h.agenda others.sends
+    no_sends e = none_sent scenario i (length past) v.agenda h.agenda others.sends
 
-    no_asks : asks_plain scenario i idle ≡ []
-    no_asks =
-        let members : Nodes = (knowledge_of scenario i idle).members in
+    no_asks : (e : NoticeKind) → asks_plain scenario i (e ∷ past) ≡ []
+    no_asks e =
+        let members : Nodes = (knowledge_of scenario i (e ∷ past)).members in
         let join : NodeAsk → List Effect = λ ask. join_asked scenario.params 0 i (length past) members in
         let leave : NodeAsk → List Effect = λ ask. leave_asked scenario.params 0 i (length past) members in
         both_none (flat_map join (asks_in scenario i (length past) scenario.joins)) (flat_map leave (asks_in scenario i (length past) scenario.leaves))
         (ap (flat_map join) (none_of_slot scenario i (length past) scenario.joins v.joins h.joins others.joins))
         (ap (flat_map leave) (none_of_slot scenario i (length past) scenario.leaves v.leaves h.leaves others.leaves))
 
-    pub no_script : script_effects scenario i idle ≡ []
-    no_script = both_none (send_effects scenario i idle) (asks_plain scenario i idle) no_sends no_asks
+    -- whatever is read in the slot
+    pub no_script : (e : NoticeKind) → script_effects scenario v.node (e ∷ past) ≡ []
+    no_script e = both_none (send_effects scenario i (e ∷ past)) (asks_plain scenario i (e ∷ past)) (no_sends e) (no_asks e)
 
     -- ---- TOTCAN
 
     pub still_totcan : IsTotcanOf scenario i idle (backlog scenario i idle) (asked scenario i idle) v.totcan
     still_totcan =
         subst (λ n. IsTotcanOf scenario i idle (backlog scenario i idle) n v.totcan) (sym same_count)
-        (subst (λ ms. IsTotcanOf scenario i idle ms count v.totcan) (sym same_backlog) tot_rests.stands)
+        (subst (λ ms. IsTotcanOf scenario i idle ms count v.totcan) (sym (same_backlog Idle)) tot_rests.stands)
 
     module _ (ed : edcan.Rests scenario v.edcan.node past v.edcan) (rel : relcan.Rests scenario v.relcan.node Idle past v.relcan) where
       -- ---- what is done
@@ -163,7 +164,7 @@ module _ (scenario : ScenarioParts) (past : List NoticeKind) (v : NodeParts) (h 
       none_plain : plain_effects scenario i idle ≡ []
       none_plain =
           both_none (heard_effects scenario i idle) _ no_heard
-          (both_none (script_effects scenario i idle) (backlog_effects scenario i idle) no_script no_next)
+          (both_none (script_effects scenario i idle) (backlog_effects scenario i idle) (no_script Idle) no_next)
 
       none_done : turn_effects scenario i idle ≡ []
       none_done = sym (turn_stamped scenario i Idle past) ∙ ap (all_stamped scenario.inc) none_plain

@@ -7,85 +7,85 @@ use Rattle.cany_life.proofs.TurnFacts.{can_learn, few_cycles, few_sent, has_cycl
 use Rattle.cany_life.specs.LifeSteps.{found_below}
 use Rattle.cany_life.proofs.life.Life.on.Goals as goal
 
-pub hear-requires : goal.hear-requires
-hear-requires c =
+pub see-requires : goal.see-requires
+see-requires c =
     let reads = c.requires.reads in
     few_sent reads.scenario c.args.self.now.node reads.past reads.knowledge c.args.notice.now c.args.self.now reads.stands reads.next.next
 
 pub learn-requires-clause-learns : goal.learn-requires-clause-learns
 learn-requires-clause-learns c =
     let reads = c.requires.reads in
-    can_learn reads.scenario c.args.self.now.node reads.past reads.knowledge c.args.members c.args.notice.now c.args.self.now c.hear.new.self reads.stands reads.next c.hear.ensures
+    can_learn reads.scenario c.args.self.now.node reads.past reads.knowledge c.args.members c.args.notice.now c.args.self.now c.see.new.self reads.stands reads.next c.see.ensures
 
 pub find-requires-clause-cycle : goal.find-requires-clause-cycle
 find-requires-clause-cycle c =
     let reads = c.requires.reads in
-    some_cycle reads.scenario c.args.self.now.node reads.past reads.knowledge c.args.members c.args.notice.now c.args.self.now c.hear.new.self reads.stands reads.next
-    c.hear.ensures c.learn.new.self c.learn.ensures.stands
+    some_cycle reads.scenario c.args.self.now.node reads.past reads.knowledge c.args.members c.args.notice.now c.args.self.now c.see.new.self reads.stands reads.next
+    c.see.ensures c.learn.new.self c.learn.ensures.stands
 
 pub find-requires-clause-silence : goal.find-requires-clause-silence
 find-requires-clause-silence c =
     let reads = c.requires.reads in
-    some_silence reads.scenario c.args.self.now.node reads.past reads.knowledge c.args.members c.args.notice.now c.args.self.now c.hear.new.self reads.stands reads.next
-    c.hear.ensures c.learn.new.self c.learn.ensures.stands
+    some_silence reads.scenario c.args.self.now.node reads.past reads.knowledge c.args.members c.args.notice.now c.args.self.now c.see.new.self reads.stands reads.next
+    c.see.ensures c.learn.new.self c.learn.ensures.stands
 
 pub find-requires-clause-number : goal.find-requires-clause-number
 find-requires-clause-number c =
     let reads = c.requires.reads in
-    few_cycles reads.scenario c.args.self.now.node reads.past reads.knowledge c.args.members c.args.notice.now c.args.self.now c.hear.new.self reads.stands reads.next
-    c.hear.ensures c.learn.new.self c.learn.ensures.stands
+    few_cycles reads.scenario c.args.self.now.node reads.past reads.knowledge c.args.members c.args.notice.now c.args.self.now c.see.new.self reads.stands reads.next
+    c.see.ensures c.learn.new.self c.learn.ensures.stands
 
 pub find-requires-clause-known : goal.find-requires-clause-known
 find-requires-clause-known c =
     let reads = c.requires.reads in
-    has_cycle reads.scenario c.args.self.now.node reads.past reads.knowledge c.args.members c.args.notice.now c.args.self.now c.hear.new.self reads.stands reads.next
-    c.hear.ensures c.learn.new.self c.learn.ensures.stands
+    has_cycle reads.scenario c.args.self.now.node reads.past reads.knowledge c.args.members c.args.notice.now c.args.self.now c.see.new.self reads.stands reads.next
+    c.see.ensures c.learn.new.self c.learn.ensures.stands
 
 pub find-requires-clause-nodes : goal.find-requires-clause-nodes
 find-requires-clause-nodes c =
     let reads = c.requires.reads in
-    placed reads.scenario c.args.self.now.node reads.past reads.knowledge c.args.members c.args.notice.now c.args.self.now c.hear.new.self reads.stands reads.next
-    c.hear.ensures c.learn.new.self c.learn.ensures.stands
+    placed reads.scenario c.args.self.now.node reads.past reads.knowledge c.args.members c.args.notice.now c.args.self.now c.see.new.self reads.stands reads.next
+    c.see.ensures c.learn.new.self c.learn.ensures.stands
 
 pub find-requires-clause-room : goal.find-requires-clause-room
 find-requires-clause-room c =
     let reads = c.requires.reads in
     let params =
-    own_params reads.scenario c.args.self.now.node reads.past reads.knowledge c.args.members c.args.notice.now c.args.self.now c.hear.new.self reads.stands reads.next
-    c.hear.ensures c.learn.new.self c.learn.ensures.stands in
+    own_params reads.scenario c.args.self.now.node reads.past reads.knowledge c.args.members c.args.notice.now c.args.self.now c.see.new.self reads.stands reads.next
+    c.see.ensures c.learn.new.self c.learn.ensures.stands in
     omega (arith, ap (λ (p : Parameters). p.nodes) params, c.learn.ensures.few, c.learn.ensures.room, c.requires.room)
 
 pub returns-clause-actions : goal.returns-clause-actions
 returns-clause-actions c = λ scenario past knowledge h next.
-    turn_acts scenario c.args.self.now.node past knowledge c.args.members c.args.notice.now c.args.self.now c.hear.new.self h next
-    c.hear.ensures c.learn.new.self c.learn.ensures.stands c.args.out.now.items c.learn.new.out.items c.find.new.out.items
+    turn_acts scenario c.args.self.now.node past knowledge c.args.members c.args.notice.now c.args.self.now c.see.new.self h next
+    c.see.ensures c.learn.new.self c.learn.ensures.stands c.args.out.now.items c.learn.new.out.items c.find.new.out.items
     (c.learn.ensures.actions scenario past (after_hearing c.args.self.now.node (length past) c.args.notice.now.kind (with_members c.args.members knowledge))
-    (heard_own scenario c.args.self.now.node past knowledge c.args.members c.args.notice.now c.args.self.now c.hear.new.self h next c.hear.ensures) next.next)
+    (heard_own scenario c.args.self.now.node past knowledge c.args.members c.args.notice.now c.args.self.now c.see.new.self h next c.see.ensures) next.next)
     c.find.ensures.actions
 
 pub returns-clause-stands : goal.returns-clause-stands
 returns-clause-stands c = λ scenario past knowledge h next.
-    turn_stands scenario c.args.self.now.node past knowledge c.args.members c.args.notice.now c.args.self.now c.hear.new.self h next
-    c.hear.ensures c.learn.new.self c.learn.ensures.stands c.find.new.self c.find.ensures.state
+    turn_stands scenario c.args.self.now.node past knowledge c.args.members c.args.notice.now c.args.self.now c.see.new.self h next
+    c.see.ensures c.learn.new.self c.learn.ensures.stands c.find.new.self c.find.ensures.state
 
 pub returns-clause-node : goal.returns-clause-node
 returns-clause-node c =
     let reads = c.requires.reads in
     marked-node (found_below c.learn.new.self c.args.members c.args.notice.now.slot c.learn.new.self.params.nodes) c.learn.new.self c.find.new.self c.find.ensures.state
     ∙ c.learn.ensures.node
-    ∙ heard_node reads.scenario c.args.self.now.node reads.past reads.knowledge c.args.members c.args.notice.now c.args.self.now c.hear.new.self reads.stands reads.next c.hear.ensures
+    ∙ heard_node reads.scenario c.args.self.now.node reads.past reads.knowledge c.args.members c.args.notice.now c.args.self.now c.see.new.self reads.stands reads.next c.see.ensures
 
 pub returns-clause-params : goal.returns-clause-params
 returns-clause-params c =
     let reads = c.requires.reads in
     marked-params (found_below c.learn.new.self c.args.members c.args.notice.now.slot c.learn.new.self.params.nodes) c.learn.new.self c.find.new.self c.find.ensures.state
-    ∙ own_params reads.scenario c.args.self.now.node reads.past reads.knowledge c.args.members c.args.notice.now c.args.self.now c.hear.new.self reads.stands reads.next
-    c.hear.ensures c.learn.new.self c.learn.ensures.stands
+    ∙ own_params reads.scenario c.args.self.now.node reads.past reads.knowledge c.args.members c.args.notice.now c.args.self.now c.see.new.self reads.stands reads.next
+    c.see.ensures c.learn.new.self c.learn.ensures.stands
 
 pub returns-clause-few : goal.returns-clause-few
 returns-clause-few c =
     let reads = c.requires.reads in
     let params =
-    own_params reads.scenario c.args.self.now.node reads.past reads.knowledge c.args.members c.args.notice.now c.args.self.now c.hear.new.self reads.stands reads.next
-    c.hear.ensures c.learn.new.self c.learn.ensures.stands in
+    own_params reads.scenario c.args.self.now.node reads.past reads.knowledge c.args.members c.args.notice.now c.args.self.now c.see.new.self reads.stands reads.next
+    c.see.ensures c.learn.new.self c.learn.ensures.stands in
     omega (arith, ap (λ (p : Parameters). p.nodes) params, c.learn.ensures.few, c.find.ensures.few)

@@ -1,0 +1,23 @@
+use Rattle.std.proofs.Common.{subst, sym}
+use Rattle.cany_life.proofs.TurnFacts.{few_sent}
+use Rattle.cany_node.specs.Membership.{IsMembershipOf}
+use Rattle.cany_node.specs.Resting.{MembershipRests}
+use Rattle.cany_node.proofs.ShowsLife.{lives_stand, nothing_done}
+use Rattle.cany_node.proofs.TotcanAndLifeTurn.{life_at_most}
+use Rattle.cany_node.proofs.membership.Membership.see.Goals as goal
+
+pub see-requires : goal.see-requires
+see-requires c =
+    let at = c.requires.hears in
+    let stands = subst (IsMembershipOf at.scenario at.node at.past) (sym c.self.view_is) at.stands in
+    few_sent at.scenario at.node at.past _ c.args.notice.now c.self.inside.life stands.life at.next.next
+
+pub returns-clause-none : goal.returns-clause-none
+returns-clause-none c = λ scenario i past h rests next.
+    nothing_done scenario i past c.args.notice.now.kind (life_at_most c.args.notice.now.kind c.requires.brings) c.args.self.now h rests
+
+pub returns-clause-stands : goal.returns-clause-stands
+returns-clause-stands c = λ scenario i past h rests next.
+    let stands = subst (IsMembershipOf scenario i past) (sym c.self.view_is) h in
+    let resting = subst (MembershipRests scenario i past) (sym c.self.view_is) rests in
+    lives_stand scenario i past c.args.notice.now (life_at_most c.args.notice.now.kind c.requires.brings) _ stands resting next c.see.new.self c.see.ensures
