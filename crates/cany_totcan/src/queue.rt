@@ -1,4 +1,4 @@
-ghost use Rattle.std.specs.Prelude.{◌≡◌, ℕ, ◌<◌, ◌≤◌, ◌+◌, ◌-◌, [], None, length, option_map, slice_get, false, IfOk, IfSome, IfNone};
+ghost use Rattle.std.specs.Prelude.{◌≡◌, ℕ, ◌<◌, ◌≤◌, ◌+◌, ◌-◌, [], None, length, option_map, slice_get, true, false, IfOk, IfSome, IfNone};
 ghost use Rattle.std.specs.List.{AllByRecursion, list_any};
 ghost use Rattle.cany_model.specs.Rules.Totcan.{message_in};
 ghost use Rattle.cany_totcan.specs.Queue.{AreOnce, IsIndexOf, is_at, is_removed, moved, oldest_from, without_key, without_oldest};
@@ -162,6 +162,13 @@ impl OpenMessages {
         ensures { self.new ≡ record self.old { done = self.old.done + 1 } }
     {
         self.done += 1;
+    }
+
+    /// Whether none are open.
+    pub(crate) fn is_empty(&self) -> bool
+        ensures { result ≡ true → self.now.items ≡ [] }
+    {
+        self.placed.is_empty()
     }
 
     /// Whether a message is open.

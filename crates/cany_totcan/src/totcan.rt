@@ -193,6 +193,15 @@ impl Totcan {
         self.queue.has(&msg)
     }
 
+    /// Whether no closing of any message lies ahead at this node: none is open.
+    pub fn has_nothing_ahead(&self) -> bool
+        ensures { result ≡ true → (scenario : ScenarioParts) (past : List NoticeKind) (messages : List Message) (asked : ℕ) (m : Message) →
+            IsTotcanOf scenario self.now.node past messages asked self.now → Contains (messages_of scenario.sends) m →
+            has_closing_ahead scenario m self.now.node past ≡ false }
+    {
+        self.queue.is_empty()
+    }
+
     /// Whether this node has asked for the data frame of the message of this key.
     pub fn asked(&self, msg: MsgKey) -> bool
         ensures own { (scenario : ScenarioParts) (past : List NoticeKind) (messages : List Message) (asked : ℕ) →
