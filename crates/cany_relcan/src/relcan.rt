@@ -21,7 +21,7 @@ ghost use Rattle.cany_model.specs.Rules.Relcan.{has_timer_ahead, relcan_at, relc
 ghost use Rattle.cany_relcan.specs.declared.calls.Reply.TheVariants as reply;
 ghost use Rattle.cany_relcan.specs.Calls.{actions_called, replied};
 ghost use Rattle.cany_relcan.specs.Relcan.{IsRelcanOf, HasRead, CanRead, Rests, brings_no_relcan};
-ghost use Rattle.cany_relcan.specs.RelcanSteps.{due_frame, holds_own, is_awaited, is_fallen, starts_timer, timer_actions, timers_with, was_delivered, without_due, AreMarksAfter};
+ghost use Rattle.cany_relcan.specs.RelcanSteps.{due_frame, holds_own, is_awaited, is_confirmed, is_fallen, starts_timer, timer_actions, timers_with, was_delivered, without_due, AreMarksAfter};
 
 use crate::calls::{Calls, Reply, put, reply_to_copy};
 use crate::frames::{Confirmation, Data, confirmation_of, is_confirmation, is_data};
@@ -316,8 +316,9 @@ impl Relcan {
         }
     }
 
-    /// The timer of a message ends: the node falls back unless the confirmation was read.
-    #[inline(never)]
+    /// The timer of a message ends: the node falls back unless the confirmation was read, as it
+    /// mostly was.
+    #[inline(always)]
     fn fall_back(&mut self, frame: &Frame, out: &mut Actions)
         requires takes { CanTake (frame_number frame.now) self.old.fallen }
         requires room { length out.old.items < out.old.room }
@@ -328,10 +329,24 @@ impl Relcan {
         ensures few { length out.new.items ≤ length out.old.items + 1 }
         ensures room { out.new.room ≡ out.old.room }
     {
-        let data = Data::of(frame);
-        if self.confirms.copies(&confirmation_of(data.msg)) > 0 {
-            return;
+        if !self.is_confirmed(frame) {
+            self.fall_back_now(frame, out);
         }
+    }
+
+    /// The node falls back: it asks for the data frame itself unless it has enough copies.
+    #[inline(never)]
+    fn fall_back_now(&mut self, frame: &Frame, out: &mut Actions)
+        requires open { is_confirmed self.old.confirms frame.now ≡ false }
+        requires takes { CanTake (frame_number frame.now) self.old.fallen }
+        requires room { length out.old.items < out.old.room }
+        ensures state { self.new ≡ record self.old { fallen = self.new.fallen } }
+        ensures marks { AreMarksAfter (Some frame.now) self.old.confirms self.old.fallen self.new.fallen }
+        ensures actions { out.new.items ≡ out.old.items ++ timer_actions (Some frame.now) self.old }
+        ensures few { length out.new.items ≤ length out.old.items + 1 }
+        ensures room { out.new.room ≡ out.old.room }
+    {
+        let data = Data::of(frame);
         let asks = self.copies.copies(&data) <= self.copies.omit();
         // Called for what it ensures: no key is there twice, so there is room for this one.
         let _spare = self.fallen.spare();
@@ -339,6 +354,15 @@ impl Relcan {
         if asks {
             out.push(Action::Ask(*frame));
         }
+    }
+
+    /// Whether the confirmation of the message of a data frame was read.
+    #[inline(always)]
+    fn is_confirmed(&self, frame: &Frame) -> bool
+        ensures confirmed { result ≡ is_confirmed self.now.confirms frame.now }
+        ensures in_range { frame.now.node < most_nodes }
+    {
+        self.confirms.copies(&confirmation_of(Data::of(frame).msg)) > 0
     }
 
     /// Whether the timer of a message runs and its confirmation was not read. Without a

@@ -1,7 +1,7 @@
 use Rattle.std.proofs.Common.{ap}
 use Rattle.cany_message.proofs.NumberFacts.{room_to_take}
 use Rattle.cany_relcan.specs.Relcan.{RelcanParts}
-use Rattle.cany_relcan.proofs.relcan.Relcan.fall_back.Goals as goal
+use Rattle.cany_relcan.proofs.relcan.Relcan.fall_back_now.Goals as goal
 
 pub own-requires-clause-room : goal.own-requires-clause-room
 own-requires-clause-room c =
