@@ -21,11 +21,12 @@ fn put_messages(world: &World, first: usize, end: usize, page: &mut Page)
         (drop first (take end (messages_of world.now.scenario.sends))) ++ page.old }
 {
     let sends = world.scenario().sends();
+    let finished = world.finished_services();
     let mut place = end;
     while place > first {
         place -= 1;
         let seq = u64::from(world.key(place).seq);
-        put_message(&sends[place], seq, world.settled(place), page);
+        put_message(&sends[place], seq, world.settled_by(place, &finished), page);
     }
 }
 

@@ -109,9 +109,10 @@ fn settled_count(world: &World) -> usize
     ensures count { result ≡ settled_count world.now.scenario (state_of world.now) }
     ensures few { result ≤ length world.now.scenario.sends }
 {
+    let finished = world.finished_services();
     let mut settled = 0usize;
     for i in 0..world.scenario().sends().len() {
-        settled += usize::from(world.settled(i));
+        settled += usize::from(world.settled_by(i, &finished));
     }
     settled
 }

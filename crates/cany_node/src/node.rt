@@ -474,7 +474,7 @@ impl Node {
         match service {
             Service::Ed => true,
             Service::Rel => self.relcan.has_nothing_ahead(),
-            Service::Tot => false,
+            Service::Tot => self.totcan.has_nothing_ahead(),
         }
     }
 }

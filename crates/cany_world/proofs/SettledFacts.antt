@@ -29,9 +29,11 @@ use Rattle.cany_node.specs.Node.{NodeParts, IsNodeOf}
 use Rattle.cany_world.specs.Incarnations.{IncarnationsParts}
 use Rattle.cany_world.specs.Controllers.{IsSmallKey, awaits, has_read}
 use Rattle.cany_world.specs.Kept.{IsKeptAs, IsKeptAt, IsPresentAt, heard_of, past_of}
-use Rattle.cany_world.specs.Settled.{IsAbout, is_asked, has_ahead}
+use Rattle.cany_world.specs.Resting.{HaveNothingToDo}
+use Rattle.cany_world.specs.Settled.{FinishedParts, IsAbout, IsFinished, is_asked, is_finished, is_queued, has_ahead}
 use Rattle.cany_world.proofs.AlikeFacts.{all_read_same, awaited_same}
 use Rattle.cany_world.proofs.PlaceFacts.{found}
+use Rattle.cany_world.proofs.QuietFacts.{quiet_where_none_has_anything_to_do}
 
 -- ---- the four parts
 
@@ -225,3 +227,58 @@ has_message scenario index sends_read send key legal within same is names = reco
 
     below : IsBelow most_sends scenario.params.slots scenario.params.nodes m
     below = message_below scenario m legal (contains_at (messages_of scenario.sends) index m message.1)
+
+-- ---- of which services nothing more is to come
+
+pub nothing_at_stopped : (scenario : ScenarioParts) (s : RunState) (i : ℕ) (m : Message) (c : ControllerState) → IsKeptAs scenario s.trace i (node_at s.nodes i) c
+    → (b : Bool) → is_some c.stopped ≡ not b → b ≡ false → has_ahead scenario s m i ≡ false
+nothing_at_stopped scenario s i m c ctl b e h =
+    let stops : runs (node_at s.nodes i) ≡ false = sym (ap is_none ctl.stopped) ∙ stopped c.stopped (rw h at e) in
+    ap (λ x. x && is_ahead_at (scenario_at scenario s i) m i (history i s)) stops
+  where
+    stopped : (o : Option ℕ) → is_some o ≡ true → is_none o ≡ false
+    stopped None e = absurd (true≢false (sym e))
+    stopped (Some slot) e = refl
+
+-- where no running node has anything to do or anything of the message ahead, it is settled as soon as it was asked for
+pub settled_where_quiet : (scenario : ScenarioParts) (journal : List Step) (m : Message) (service : Service) (key : MsgKey) (controllers : List ControllerState) (nodes : List IncarnationsParts)
+    → IsAbout scenario journal m key controllers nodes → m.service ≡ service → HaveNothingToDo controllers → is_ahead scenario (run scenario journal) m ≡ false
+    → is_settled scenario (run scenario journal) m ≡ is_asked scenario (run scenario journal) m
+settled_where_quiet scenario journal m service key controllers nodes about by quiet none =
+    sym (settled_by scenario journal m service key controllers nodes (is_asked scenario (run scenario journal) m) true false about by refl
+    (sym (quiet_where_none_has_anything_to_do (frames_named service key) controllers quiet)) (sym none))
+    ∙ and_true (is_asked scenario (run scenario journal) m)
+  where
+    and_true : (b : Bool) → (b && true && true) ≡ b
+    and_true true = refl
+    and_true false = refl
+
+pub finished_by : {X : Type 0} (f : FinishedParts) (by : Service) → is_finished f by ≡ true → (by ≡ service.Ed → f.ed ≡ true → X) → (by ≡ service.Rel → f.rel ≡ true → X)
+    → (by ≡ service.Tot → f.tot ≡ true → X) → X
+finished_by f service.Ed is ed rel tot = ed refl is
+finished_by f service.Rel is ed rel tot = rel refl is
+finished_by f service.Tot is ed rel tot = tot refl is
+
+-- a message of a finished service that is not to be asked for yet is settled
+pub not_queued : (scenario : ScenarioParts) (journal : List Step) (index : ℕ) (finished : FinishedParts) (sends_read : List SendAsk) (send : SendAsk) (queued : Bool)
+    → index < length scenario.sends → sends_read ≡ scenario.sends → send ≡ get_or sends_read index send → IsFinished scenario (run scenario journal) finished
+    → {has : Bool} → has ≡ is_finished finished send.service → has ≡ true
+    → IsSomeAnd (slice_get (messages_of scenario.sends) index) (λ m. queued ≡ is_queued scenario (run scenario journal) m)
+    → IsSomeAnd (slice_get (messages_of scenario.sends) index) (λ m. not queued ≡ is_settled scenario (run scenario journal) m)
+not_queued scenario journal index finished sends_read send queued within same is finish has_is has is_queue =
+    subst (λ (o : Option Message). IsSomeAnd o (λ x. not queued ≡ is_settled scenario (run scenario journal) x)) (sym message.1)
+    (ap not here ∙ not_not (is_asked scenario (run scenario journal) m)
+    ∙ sym (finish m (contains_at (messages_of scenario.sends) index m message.1) (sym has_is ∙ has)))
+  where
+    message : (before : List SendAsk) × (slice_get (messages_of scenario.sends) index ≡ Some (message_of before send))
+    message = message_at [] scenario.sends index send (found scenario.sends sends_read index index send same refl within is)
+
+    m : Message
+    m = message_of message.0 send
+
+    here : queued ≡ is_queued scenario (run scenario journal) m
+    here = rw message.1 at is_queue
+
+    not_not : (b : Bool) → not (not b) ≡ b
+    not_not true = refl
+    not_not false = refl

@@ -1,7 +1,9 @@
 -- What is asked about a message of a run.
-use Rattle.std.specs.Prelude.{◌≡◌, ℕ, ◌&&◌, ◌||◌, Bool, not, List, Contains}
+use Rattle.std.specs.Prelude.{◌≡◌, ℕ, ◌&&◌, ◌||◌, Bool, true, not, List, Contains}
 use Rattle.std.specs.List.{list_any}
 use Rattle.cany_base.specs.declared.message.MsgKey.{MsgKey}
+use Rattle.cany_base.specs.declared.message.Service.{Service}
+use Rattle.cany_base.specs.declared.message.Service.TheVariants as service
 use Rattle.cany_base.specs.declared.step.Step.{Step}
 use Rattle.cany_base.specs.Nodes.{Nodes, those_where}
 use Rattle.cany_base.specs.Scenario.{ScenarioParts}
@@ -10,7 +12,7 @@ use Rattle.cany_model.specs.Bus.History.{history}
 use Rattle.cany_model.specs.Runs.Run.{run}
 use Rattle.cany_model.specs.Bus.State.{RunState, node_at, runs}
 use Rattle.cany_model.specs.Bus.Waiting.{waits}
-use Rattle.cany_model.specs.Promises.Settled.{came_too_late, origin_has_asked}
+use Rattle.cany_model.specs.Promises.Settled.{came_too_late, is_settled, origin_has_asked}
 use Rattle.cany_model.specs.Rules.Messages.{Message, message_key, messages_of}
 use Rattle.cany_model.specs.Rules.Turn.{is_ahead_at, scenario_at}
 use Rattle.can_controller.specs.Controller.{ControllerState}
@@ -49,3 +51,20 @@ waiting_nodes frames s = those_where (is_waiting frames s)
 -- the nodes that run and have something of the message ahead
 unfoldable pub nodes_ahead : ScenarioParts → RunState → Message → Nodes
 nodes_ahead scenario s m = those_where (has_ahead scenario s m)
+
+-- ---- of which services nothing more is to come
+
+pub record FinishedParts : Type 0 where
+  pub ed : Bool
+  pub rel : Bool
+  pub tot : Bool
+
+abbrev pub is_finished : FinishedParts → Service → Bool
+is_finished f service.Ed = f.ed
+is_finished f service.Rel = f.rel
+is_finished f service.Tot = f.tot
+
+-- a message of such a service is settled as soon as its origin has asked for it, has stopped, or came too late for it
+abbrev pub IsFinished : ScenarioParts → RunState → FinishedParts → Type 0
+IsFinished scenario s finished =
+    (m : Message) → Contains (messages_of scenario.sends) m → is_finished finished m.service ≡ true → is_settled scenario s m ≡ is_asked scenario s m

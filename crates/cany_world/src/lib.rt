@@ -2,6 +2,7 @@
 #![tactic(auto)]
 
 mod began;
+mod finished;
 mod following;
 mod free_slots;
 mod incarnations;
@@ -21,6 +22,7 @@ mod unsettled;
 mod world;
 
 pub use cany_model::{Break, FollowFault, Span, StepReply};
+pub use finished::FinishedServices;
 pub use following::follow;
 pub use rounds::round_robin;
 pub use world::World;

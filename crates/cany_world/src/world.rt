@@ -17,9 +17,10 @@ ghost use Rattle.cany_model.specs.Bus.State.{node_at, reads, slots_run};
 ghost use Rattle.cany_world.specs.Kept.{IsKeptAs, IsKeptAt};
 ghost use Rattle.cany_world.specs.Incarnations.{takes_part_since};
 ghost use Rattle.cany_world.specs.Replies.{has_turned, step_reply};
-ghost use Rattle.cany_world.specs.Settled.{is_queued, nodes_ahead, waiting_nodes};
+ghost use Rattle.cany_world.specs.Settled.{IsFinished, is_queued, nodes_ahead, waiting_nodes};
 
 use crate::began::began_nodes;
+use crate::finished::{FinishedServices, finished_services};
 use crate::incarnations::Incarnations;
 use crate::journal::push_rounds;
 use crate::opening::{controllers_of, journal_room, nodes_of};
@@ -316,6 +317,27 @@ impl World {
         let controllers = self.controllers.as_slice();
         let nodes = self.nodes.as_slice();
         is_settled(format, &sends[index], &self.key(index), controllers, nodes)
+    }
+
+    /// The services of whose messages nothing more is to come once they were asked for.
+    pub fn finished_services(&self) -> FinishedServices
+        ensures { IsFinished self.now.scenario (state_of self.now) result }
+    {
+        finished_services(self.controllers.as_slice(), self.nodes.as_slice())
+    }
+
+    /// What `settled` answers, found sooner where the message is by one of the finished services.
+    pub fn settled_by(&self, index: usize, finished: &FinishedServices) -> bool
+        requires index { index < length self.now.scenario.sends }
+        requires finished { IsFinished self.now.scenario (state_of self.now) finished.now }
+        ensures { IsSomeAnd (slice_get (messages_of self.now.scenario.sends) index) (λ m. result ≡ is_settled self.now.scenario (state_of self.now) m) }
+    {
+        let sends = self.scenario.sends();
+        if finished.has(sends[index].service) {
+            !self.queued(index)
+        } else {
+            self.settled(index)
+        }
     }
 
     /// Whether the message of a scripted send, by its place in the file, is to be asked for yet: its

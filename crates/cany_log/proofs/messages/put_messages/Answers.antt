@@ -23,8 +23,8 @@ loop-place-init c =
 pub key-requires : goal.key-requires
 key-requires c = omega (arith, c.loop-place.invariant.put.within, length-take c.args.end (messages_of c.args.world.now.scenario.sends), c.requires.order)
 
-pub settled-requires : goal.settled-requires
-settled-requires c = omega (arith, c.loop-place.invariant.put.within, length-take c.args.end (messages_of c.args.world.now.scenario.sends), c.requires.order)
+pub settled_by-requires-clause-index : goal.settled_by-requires-clause-index
+settled_by-requires-clause-index c = omega (arith, c.loop-place.invariant.put.within, length-take c.args.end (messages_of c.args.world.now.scenario.sends), c.requires.order)
 
 pub loop-place-preserved : goal.loop-place-preserved
 loop-place-preserved c =
@@ -34,7 +34,7 @@ loop-place-preserved c =
     let near : c.loop-place.place - 1 < c.args.end = omega (arith, c.loop-place.invariant.put.within, length-take c.args.end (messages_of scenario.sends)) in
     let inside : c.loop-place.place - 1 < length scenario.sends = omega (arith, near, c.requires.order) in
     let is = c.index-sends-place.is ∙ ap (λ xs. get_or xs (c.loop-place.place - 1) c.index-sends-place.result) sends in
-    let it = message_is scenario s (c.loop-place.place - 1) c.index-sends-place.result c.key.result c.settled.result inside is c.key.ensures c.settled.ensures in
+    let it = message_is scenario s (c.loop-place.place - 1) c.index-sends-place.result c.key.result c.settled_by.result inside is c.key.ensures c.settled_by.ensures in
     record {
       put = HasPut-next (message_text scenario s) _ _ _ _ _ _ c.loop-place.invariant.put (omega arith)
           (it.at ∙ sym (get_or-take c.args.end (messages_of scenario.sends) (c.loop-place.place - 1) it.message near))
