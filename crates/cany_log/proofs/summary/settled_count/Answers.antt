@@ -12,8 +12,8 @@ loop-i-preserved c =
     let inside : c.loop-i.i < length c.args.world.now.scenario.sends = omega (arith, c.loop-i-test.true, ap length sends) in
     record {
       settled = settled_next c.args.world.now.scenario (run c.args.world.now.scenario c.args.world.now.journal) c.loop-i.i c.loop-i.settled
-          c.from-settled_by.result c.settled_by.result inside c.loop-i.invariant.settled c.settled_by.ensures c.from-settled_by.ensures;
-      few = omega (arith, c.loop-i.invariant.few, one_at_most c.settled_by.result c.from-settled_by.result c.from-settled_by.ensures);
+          c.from-settled.result c.settled_by.result inside c.loop-i.invariant.settled c.settled_by.ensures c.from-settled.ensures;
+      few = omega (arith, c.loop-i.invariant.few, one_at_most c.settled_by.result c.from-settled.result c.from-settled.ensures);
     }
 
 pub returns-clause-count : goal.returns-clause-count
