@@ -463,10 +463,10 @@ impl Node {
         }
     }
 
-    /// Whether nothing of any message of this service is ahead at the node. Of a message of EDCAN
-    /// nothing ever is, and of one of RELCAN nothing where no timer runs.
+    /// Whether nothing of any message of this service is ahead at the node, as its protocol sees at
+    /// once. Of a message of EDCAN nothing ever is.
     ///
-    /// It may be too careful: of TOTCAN it never says so.
+    /// It may be too careful.
     pub fn has_nothing_ahead(&self, service: Service) -> bool
         ensures { result ≡ true → (scenario : ScenarioParts) (past : List NoticeKind) (m : Message) → IsNodeOf scenario past self.now →
             Contains (messages_of scenario.sends) m → m.service ≡ service → is_ahead_at scenario m self.now.node past ≡ false }
