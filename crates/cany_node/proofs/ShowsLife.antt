@@ -25,7 +25,7 @@ use Rattle.cany_model.specs.Rules.Life.{failure_effects, failures_at, fda_copy_e
 use Rattle.cany_model.specs.Rules.Membership.{install_effects}
 use Rattle.cany_model.specs.Rules.Vectors.{brought, end_effects, ended, exchange_at, met, start_effects, vector_effects}
 use Rattle.cany_model.specs.Rules.Views.{after_ask, start_of, view_effects, with_ended}
-use Rattle.cany_views.specs.Views.{IsViewsOf, ViewsParts}
+use Rattle.cany_views.specs.Views.{IsViewsOf}
 use Rattle.cany_node.specs.Membership.{IsMembershipOf, IsNextOf, MembershipParts, exchange_plain, life_plain, membership_effects}
 use Rattle.cany_node.specs.Resting.{MembershipRests}
 use Rattle.cany_node.proofs.Idle.MembershipRest.{both_none}

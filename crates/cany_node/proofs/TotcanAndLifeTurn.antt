@@ -1,8 +1,7 @@
 -- The turn of a frame of TOTCAN or of a life sign, in a slot for which nothing is due: EDCAN, RELCAN, the script and the backlog have
 -- nothing to do, so what TOTCAN does and what is done for the site is all of it.
-use Rattle.std.proofs.Common.{◌≡◌, ℕ, ◌+◌, ◌<◌, ◌||◌, true, false, Bool, not, inl, inr, List, [], ◌∷◌, ◌++◌, length, None, refl, ap, sym, ◌∙◌, subst, append-nil, arith}
+use Rattle.std.proofs.Common.{◌≡◌, ℕ, ◌+◌, ◌||◌, true, false, not, inl, inr, List, [], ◌∷◌, ◌++◌, length, None, refl, ap, sym, ◌∙◌, subst, append-nil, arith}
 use Rattle.std.proofs.lemmas.Bool.{cases_Bool}
-use Rattle.std.proofs.lemmas.List.{map-append}
 use Rattle.cany_base.specs.declared.actions.Action.{Action}
 use Rattle.cany_base.specs.declared.class.Class.{Class}
 use Rattle.cany_base.specs.declared.class.Class.TheVariants as class
@@ -13,7 +12,7 @@ use Rattle.cany_base.specs.declared.notice.NoticeKind.TheVariants.{Idle, Got, Se
 use Rattle.cany_base.specs.Scenario.{ScenarioParts}
 use Rattle.cany_edcan.specs.Edcan.{IsEdcanOf}
 use Rattle.cany_model.specs.Bus.Frames.{same_class}
-use Rattle.cany_model.specs.Rules.Actions.{action_of, actions_of}
+use Rattle.cany_model.specs.Rules.Actions.{actions_of}
 use Rattle.cany_model.specs.Rules.Backlog.{ask_for, asked, asked_after, backlog, backlog_effects, next_after, one_more}
 use Rattle.cany_model.specs.Rules.Edcan.{edcan_effects}
 use Rattle.cany_model.specs.Rules.Effect.{Effect}
@@ -24,6 +23,7 @@ use Rattle.cany_model.specs.Rules.Totcan.{totcan_effects}
 use Rattle.cany_model.proofs.Bus.Identities.{same_class-true}
 use Rattle.cany_relcan.specs.Relcan as relcan
 use Rattle.cany_relcan.specs.Relcan.{IsRelcanOf, brings_no_relcan}
+use Rattle.cany_totcan.specs.Rests as totcan
 use Rattle.cany_totcan.specs.Totcan.{IsTotcanOf, TotcanParts}
 use Rattle.cany_node.specs.Membership.{IsMembershipOf, IsNextOf, MembershipParts, membership_effects}
 use Rattle.cany_node.specs.Node.{IsNodeOf, NodeParts}
@@ -120,25 +120,25 @@ module _ (scenario : ScenarioParts) (past : List NoticeKind) (e : NoticeKind) (v
       ++ both_none (script_effects scenario i read) (backlog_effects scenario i read) (no_script scenario past v stands others e) no_next j)
       ∙ append-nil (totcan_effects scenario i read ++ membership_effects scenario i read)
 
-  module _ (totcan : TotcanParts) (tot : IsTotcanOf scenario v.totcan.node (e ∷ past) (backlog scenario v.node past) (asked scenario v.node past) totcan) where
+  module _ (t : TotcanParts) (tot : IsTotcanOf scenario v.totcan.node (e ∷ past) (backlog scenario v.node past) (asked scenario v.node past) t) where
     -- the backlog asks for nothing
-    none_asked_for : IsTotcanOf scenario totcan.node (e ∷ past) (backlog scenario v.node (e ∷ past))
-        (asked_after scenario.params (e ∷ past) (backlog scenario v.node (e ∷ past)) (asked scenario v.node past)) totcan
+    none_asked_for : IsTotcanOf scenario t.node (e ∷ past) (backlog scenario v.node (e ∷ past))
+        (asked_after scenario.params (e ∷ past) (backlog scenario v.node (e ∷ past)) (asked scenario v.node past)) t
     none_asked_for =
-        subst (λ n. IsTotcanOf scenario totcan.node read (backlog scenario i read) n totcan) (sym still_asked)
-        (subst (λ ms. IsTotcanOf scenario totcan.node read ms count totcan) (sym (same_backlog scenario past v stands others e))
-        (subst (λ n. IsTotcanOf scenario n read messages count totcan) (sym tot.limits.node) tot))
+        subst (λ n. IsTotcanOf scenario t.node read (backlog scenario i read) n t) (sym still_asked)
+        (subst (λ ms. IsTotcanOf scenario t.node read ms count t) (sym (same_backlog scenario past v stands others e))
+        (subst (λ n. IsTotcanOf scenario n read messages count t) (sym tot.limits.node) tot))
 
     scripted_so : (membership : MembershipParts) → IsEdcanOf scenario v.node (e ∷ past) v.edcan → IsRelcanOf scenario v.node (e ∷ past) v.relcan
-        → IsMembershipOf scenario v.node (e ∷ past) membership → HasScripted scenario past e (record v { totcan = totcan; membership = membership })
+        → IsMembershipOf scenario v.node (e ∷ past) membership → HasScripted scenario past e (record v { totcan = t; membership = membership })
     scripted_so membership ed rel site =
-        let same = same_room scenario v.totcan.node v.totcan.node past read messages count count v.totcan totcan refl
+        let same = same_room scenario v.totcan.node v.totcan.node past read messages count count v.totcan t refl
         (subst (λ n. IsTotcanOf scenario n past messages count v.totcan) (sym stands.totcan.limits.node) stands.totcan) tot in
         record {
           edcan = ed;
           relcan = rel;
-          totcan = subst (λ ms. IsTotcanOf scenario i read ms count totcan) (sym (same_backlog scenario past v stands others e))
-              (subst (λ n. IsTotcanOf scenario n read messages count totcan) stands.totcan.limits.node tot);
+          totcan = subst (λ ms. IsTotcanOf scenario i read ms count t) (sym (same_backlog scenario past v stands others e))
+              (subst (λ n. IsTotcanOf scenario n read messages count t) stands.totcan.limits.node tot);
           membership = site;
           agenda = agenda_later scenario i (length past) v.agenda stands.agenda others.sends;
           joins = asks_later scenario i (length past) scenario.joins v.joins stands.joins others.joins;
@@ -148,17 +148,17 @@ module _ (scenario : ScenarioParts) (past : List NoticeKind) (e : NoticeKind) (v
 
 -- what TOTCAN lists, and what is listed for the site, is all of the turn
 pub totcan_and_life_turn : (notice : Notice) (u v : NodeParts) → v ≡ u → brings_totcan_or_life notice.kind ≡ true → IsIdleUntil (notice.slot + 1) u
-    → RelcanRestsUntil (notice.slot + 1) u.relcan → (totcan : TotcanParts) (membership : MembershipParts) (out tot site : List Action) → out ≡ []
-    → ((scenario : ScenarioParts) (past : List NoticeKind) (messages : List Message) (count : ℕ) → IsTotcanOf scenario v.totcan.node past messages count v.totcan
-    → IsNextNotice scenario past notice → tot ≡ out ++ actions_of scenario.params.format (totcan_effects scenario v.totcan.node (notice.kind ∷ past)))
-    → ((scenario : ScenarioParts) (past : List NoticeKind) (messages : List Message) (count : ℕ) → IsTotcanOf scenario v.totcan.node past messages count v.totcan
-    → IsNextNotice scenario past notice → IsTotcanOf scenario v.totcan.node (notice.kind ∷ past) messages count totcan)
+    → RelcanRestsUntil (notice.slot + 1) u.relcan → (t : TotcanParts) (membership : MembershipParts) (out tot site : List Action) → out ≡ []
+    → ((scenario : ScenarioParts) (past : List NoticeKind) (messages : List Message) (count : ℕ) → totcan.Rests scenario v.totcan.node past messages count v.totcan
+    → IsTotcanOf scenario v.totcan.node past messages count v.totcan → IsNextNotice scenario past notice → tot ≡ out ++ actions_of scenario.params.format (totcan_effects scenario v.totcan.node (notice.kind ∷ past)))
+    → ((scenario : ScenarioParts) (past : List NoticeKind) (messages : List Message) (count : ℕ) → totcan.Rests scenario v.totcan.node past messages count v.totcan
+    → IsTotcanOf scenario v.totcan.node past messages count v.totcan → IsNextNotice scenario past notice → IsTotcanOf scenario v.totcan.node (notice.kind ∷ past) messages count t)
     → ((scenario : ScenarioParts) (i : ℕ) (past : List NoticeKind) → IsMembershipOf scenario i past v.membership → MembershipRests scenario i past v.membership
     → IsNextOf scenario i past notice → site ≡ tot ++ actions_of scenario.params.format (membership_effects scenario i (notice.kind ∷ past)))
     → ((scenario : ScenarioParts) (i : ℕ) (past : List NoticeKind) → IsMembershipOf scenario i past v.membership → MembershipRests scenario i past v.membership
     → IsNextOf scenario i past notice → IsMembershipOf scenario i (notice.kind ∷ past) membership)
-    → AlwaysListed notice v (record v { totcan = totcan; membership = membership }) totcan site
-totcan_and_life_turn notice u v viewed is idle rests totcan membership out tot site free tot_acts tot_heard site_acts site_heard = λ scenario past stands next.
+    → AlwaysListed notice v (record v { totcan = t; membership = membership }) t site
+totcan_and_life_turn notice u v viewed is idle rests t membership out tot site free tot_acts tot_heard site_acts site_heard = λ scenario past stands next.
     let e = notice.kind in
     let others =
     others_in_turn scenario past notice (notice.slot + 1) v (subst (IsIdleUntil (notice.slot + 1)) (sym viewed) idle) (omega arith) stands next in
@@ -176,18 +176,18 @@ totcan_and_life_turn notice u v viewed is idle rests totcan membership out tot s
     let ed = subst (λ n. IsEdcanOf scenario n (e ∷ past) v.edcan) stands.edcan.node (edcan_still notice v.edcan no_edcan scenario past of_ed) in
     let rel = subst (λ n. IsRelcanOf scenario n (e ∷ past) v.relcan) stands.relcan.limits.node
     (relcan_still notice v.relcan (notice.slot + 1) resting (omega arith) no_relcan scenario past of_rel next.next) in
-    let heard = tot_heard scenario past (backlog scenario v.node past) (asked scenario v.node past) of_tot next.next in
+    let heard = tot_heard scenario past (backlog scenario v.node past) (asked scenario v.node past) others.totcan of_tot next.next in
     let tot_is : tot ≡ out ++ actions_of scenario.params.format (totcan_effects scenario v.node (e ∷ past)) =
-    tot_acts scenario past (backlog scenario v.node past) (asked scenario v.node past) of_tot next.next
+    tot_acts scenario past (backlog scenario v.node past) (asked scenario v.node past) others.totcan of_tot next.next
     ∙ ap (λ n. out ++ actions_of scenario.params.format (totcan_effects scenario n (e ∷ past))) stands.totcan.limits.node in
     record {
       same = record { node = refl; inc = refl; from = refl; cycle = refl; log = refl; room = refl };
-      scripted = scripted_so scenario past e v stands others totcan heard membership ed rel
+      scripted = scripted_so scenario past e v stands others t heard membership ed rel
           (site_heard scenario v.node past stands.membership others.membership next);
       listed =
           site_acts scenario v.node past stands.membership others.membership next
           ∙ listed_more scenario out tot (totcan_effects scenario v.node (e ∷ past)) (membership_effects scenario v.node (e ∷ past)) tot_is
           ∙ ap (λ xs. xs ++ actions_of scenario.params.format (totcan_effects scenario v.node (e ∷ past) ++ membership_effects scenario v.node (e ∷ past))) free
           ∙ ap (actions_of scenario.params.format) (sym (alone scenario past e v stands others ed_none rel_none));
-      asks = none_asked_for scenario past e v stands others totcan heard;
+      asks = none_asked_for scenario past e v stands others t heard;
     }

@@ -66,6 +66,13 @@ brings_totcan_or_life (Got f) = is_of_totcan_or_life f.class
 brings_totcan_or_life (Sent f) = is_of_totcan_or_life f.class
 brings_totcan_or_life Bad = false
 
+-- whether a life sign was heard
+abbrev pub is_life_sign : NoticeKind → Bool
+is_life_sign Idle = false
+is_life_sign (Got f) = same_class f.class class.Els
+is_life_sign (Sent f) = same_class f.class class.Els
+is_life_sign Bad = false
+
 -- before this slot RELCAN has nothing to do at a notice that brings none of its frames
 abbrev pub RelcanRestsUntil : ℕ → RelcanParts → Type 0
 RelcanRestsUntil wake v =

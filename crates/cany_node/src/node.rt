@@ -10,6 +10,10 @@ ghost use Rattle.cany_model.specs.Rules.Messages.{Message, messages_of, message_
 ghost use Rattle.cany_model.specs.Rules.Turn.{has_asked, is_ahead_at, scenario_for, turn_effects};
 ghost use Rattle.cany_model.specs.Rules.Actions.{actions_of};
 ghost use Rattle.cany_model.specs.Rules.Effect.{waiting_after};
+ghost use Rattle.cany_model.specs.Rules.Notices.{IsNextNotice};
+ghost use Rattle.cany_model.specs.Rules.Totcan.{totcan_effects};
+ghost use Rattle.cany_totcan.specs.Rests.{Rests};
+ghost use Rattle.cany_totcan.specs.Totcan.{CanRead, IsTotcanOf};
 ghost use Rattle.cany_node.specs.Node.{IsNodeOf, IsWaiting, CanBegin, CanTurn, CanAct, Reads, IsTurnOf, IsRefused, heard_by, reply_of};
 ghost use Rattle.cany_node.specs.Asks.{AreAsksPassed, IsRisingFrom};
 ghost use Rattle.cany_node.specs.Agenda.{ArePassed, IsRising};
@@ -22,7 +26,9 @@ use crate::apply::{apply_all, apply_called};
 use crate::apply_relcan::apply_heard;
 use crate::asks::{AskKind, AskPlan, ask_due};
 use crate::membership::Membership;
-use crate::notices::{brings_totcan_or_life, is_early, is_error, is_for_edcan, is_for_relays};
+use crate::notices::{
+    brings_totcan_or_life, is_early, is_error, is_for_edcan, is_for_relays, is_life_sign,
+};
 use crate::plan::{Plan, build_plan};
 use crate::protocols::{Protocols, build_protocols};
 use crate::reply::TurnReply;
@@ -279,7 +285,7 @@ impl Node {
         requires relcan { RelcanRestsUntil (notice.now.slot + 1) self.old.relcan }
         ensures { IsActed notice.now self.old self.new ctl.old ctl.new out.old out.new }
     {
-        self.totcan.on(notice, out);
+        follow_totcan(&mut self.totcan, notice, out);
         self.membership.see(notice);
         apply_all(out, self.inc, ctl, &mut self.log);
         out.clear();
@@ -486,4 +492,23 @@ fn forget_idle(idle_until: &mut Slot)
     ensures { idle_until.new ≡ 0 }
 {
     *idle_until = 0;
+}
+
+/// Does what TOTCAN does at a notice in a slot for which it has nothing due. A life sign is nothing
+/// to it.
+fn follow_totcan(totcan: &mut Totcan, notice: &Notice, out: &mut Actions)
+    requires reads { CanRead totcan.old notice.now }
+    requires room { length out.old.items + totcan.old.queue.room + 3 ≤ out.old.room }
+    ensures actions { (scenario : ScenarioParts) (past : List NoticeKind) (messages : List Message) (asked : ℕ) →
+        Rests scenario totcan.old.node past messages asked totcan.old → IsTotcanOf scenario totcan.old.node past messages asked totcan.old → IsNextNotice scenario past notice.now →
+        out.new.items ≡ out.old.items ++ actions_of scenario.params.format (totcan_effects scenario totcan.old.node (notice.now.kind ∷ past)) }
+    ensures stands { (scenario : ScenarioParts) (past : List NoticeKind) (messages : List Message) (asked : ℕ) →
+        Rests scenario totcan.old.node past messages asked totcan.old → IsTotcanOf scenario totcan.old.node past messages asked totcan.old → IsNextNotice scenario past notice.now →
+        IsTotcanOf scenario totcan.old.node (notice.now.kind ∷ past) messages asked totcan.new }
+    ensures room { out.new.room ≡ out.old.room }
+{
+    if is_life_sign(&notice.kind) {
+        return;
+    }
+    totcan.on(notice, out);
 }

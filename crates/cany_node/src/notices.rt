@@ -3,7 +3,7 @@
 ghost use Rattle.std.specs.Prelude.{◌≡◌, false, true};
 ghost use Rattle.cany_base.specs.declared.notice.NoticeKind.TheVariants.{Idle};
 ghost use Rattle.cany_model.specs.Rules.Notices.{error_as_idle, is_early, is_early_frame};
-ghost use Rattle.cany_node.specs.Resting.{brings_totcan_or_life, is_for_edcan, is_for_relays};
+ghost use Rattle.cany_node.specs.Resting.{brings_totcan_or_life, is_for_edcan, is_for_relays, is_life_sign};
 ghost use Rattle.cany_node.specs.Membership.{tells_of_site};
 
 use can_frame::is_of_site;
@@ -72,6 +72,16 @@ pub(crate) fn brings_totcan_or_life(kind: &NoticeKind) -> bool
                 || is_of_class(frame, Class::Accept)
                 || is_of_class(frame, Class::Els)
         }
+        NoticeKind::Idle | NoticeKind::Bad => false,
+    }
+}
+
+/// Whether a notice brings a life sign.
+pub(crate) fn is_life_sign(kind: &NoticeKind) -> bool
+    ensures { result ≡ is_life_sign kind.now }
+{
+    match kind {
+        NoticeKind::Got(frame) | NoticeKind::Sent(frame) => is_of_class(frame, Class::Els),
         NoticeKind::Idle | NoticeKind::Bad => false,
     }
 }

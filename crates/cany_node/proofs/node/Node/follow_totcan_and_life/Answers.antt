@@ -8,11 +8,11 @@ use Rattle.cany_node.proofs.node.Node.follow_totcan_and_life.Goals as goal
 pub apply_all-requires : goal.apply_all-requires
 apply_all-requires c =
     let notice = c.args.notice.now in
-    let tot = c.on.new.out.items in
+    let tot = c.follow_totcan.new.out.items in
     let turn =
-    totcan_and_life_turn notice _ _ c.self.view_is c.requires.brings c.requires.idle c.requires.relcan c.on.new.self c.see.new.self
+    totcan_and_life_turn notice _ _ c.self.view_is c.requires.brings c.requires.idle c.requires.relcan c.follow_totcan.new.totcan c.see.new.self
     c.args.out.now.items tot tot c.requires.acts.free
-    c.on.ensures.actions c.on.ensures.stands
+    c.follow_totcan.ensures.actions c.follow_totcan.ensures.stands
     (λ scenario i past h rests next.
     sym (append-nil tot) ∙ sym (ap (λ effects. tot ++ actions_of scenario.params.format effects) (c.see.ensures.none scenario i past h rests next)))
     c.see.ensures.stands in
@@ -21,11 +21,11 @@ apply_all-requires c =
 pub returns : goal.returns
 returns c =
     let notice = c.args.notice.now in
-    let tot = c.on.new.out.items in
+    let tot = c.follow_totcan.new.out.items in
     let turn =
-    totcan_and_life_turn notice _ _ c.self.view_is c.requires.brings c.requires.idle c.requires.relcan c.on.new.self c.see.new.self
+    totcan_and_life_turn notice _ _ c.self.view_is c.requires.brings c.requires.idle c.requires.relcan c.follow_totcan.new.totcan c.see.new.self
     c.args.out.now.items tot tot c.requires.acts.free
-    c.on.ensures.actions c.on.ensures.stands
+    c.follow_totcan.ensures.actions c.follow_totcan.ensures.stands
     (λ scenario i past h rests next.
     sym (append-nil tot) ∙ sym (ap (λ effects. tot ++ actions_of scenario.params.format effects) (c.see.ensures.none scenario i past h rests next)))
     c.see.ensures.stands in
