@@ -23,6 +23,7 @@ module _ (scenario : ScenarioParts) (inc : Incarnation) where
     bound = h.bound;
     spacing = h.spacing;
     room = h.room;
+    at_once = h.at_once;
     numbers = h.numbers;
     deliveries = h.deliveries;
   }

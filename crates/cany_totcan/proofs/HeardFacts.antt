@@ -1,4 +1,5 @@
 -- The value after a notice, before what closes and what is delivered in its turn.
+use Rattle.cany_model.specs.Rules.Rooms.{sends_by}
 use Rattle.std.proofs.Common.{◌≡◌, ℕ, ◌+◌, ◌<◌, ◌==◌, ◌&&◌, ◌||◌, inl, inr, Bool, true, false, if◌then◌else◌, List, [], ◌∷◌, ◌++◌, length, take, Some, None, refl, ap, sym, subst, ◌∙◌, arith}
 use Rattle.std.specs.List.{AllByRecursion, list_any}
 use Rattle.std.proofs.lemmas.Bool.{and_parts, cases_Bool, eqb-true}
@@ -38,8 +39,8 @@ use Rattle.cany_totcan.proofs.AcceptanceFacts.{AcceptsNone, acceptances_learnt, 
 use Rattle.cany_totcan.proofs.AcceptedFacts.{accepted_stays, after_other}
 use Rattle.cany_totcan.proofs.KnownFacts.{own_named, number_below}
 use Rattle.cany_totcan.proofs.OwnFacts.{IsOfOwn, brings_own, got_own, own_noted, own_other, sent_own}
-use Rattle.cany_totcan.proofs.PlaceFacts.{IsWithin, holds-none, holds-some, is_of_key_back, open_is, placed_kept, placed_moved, placed_once, placed_within, recent_more, tot_in-got, tot_in-got_other, tot_in-sent, tot_in-sent_other}
-use Rattle.cany_totcan.proofs.QueueFacts.{done-moved, named-moved, room_to_place}
+use Rattle.cany_totcan.proofs.PlaceFacts.{IsWithin, holds-none, holds-some, is_of_key_back, open_is, placed_kept, placed_moved, placed_few, placed_once, placed_within, recent_more, tot_in-got, tot_in-got_other, tot_in-sent, tot_in-sent_other}
+use Rattle.cany_totcan.proofs.QueueFacts.{both_less, done-moved, length-without-le, named-moved, room_to_place}
 
 and_none : (b : Bool) → (b && false) ≡ false
 and_none true = refl
@@ -86,6 +87,7 @@ module _ (scenario : ScenarioParts) (i : ℕ) (notice : NoticeKind) (before : Li
       bound = h.limits.bound;
       spacing = h.limits.spacing;
       room = h.limits.room;
+      at_once = h.limits.at_once;
       numbers = h.limits.numbers;
       deliveries = h.limits.deliveries;
     };
@@ -144,6 +146,7 @@ module _ (scenario : ScenarioParts) (i : ℕ) (notice : NoticeKind) (before : Li
         bound = h.limits.bound;
         spacing = h.limits.spacing;
         room = h.limits.room;
+        at_once = h.limits.at_once;
         numbers = h.limits.numbers;
         deliveries = h.limits.deliveries;
       };
@@ -171,12 +174,15 @@ module _ (scenario : ScenarioParts) (i : ℕ) (before : List NoticeKind) (messag
 
     pub can_place : length (without_key (message_in f) v.queue.items) < v.queue.room
     can_place =
-        omega (
+        both_less (length (without_key (message_in f) v.queue.items)) (sends_by scenario service.Tot) (scenario.params.bound + 1) v.queue.room h.limits.at_once
+        (room_to_place scenario service.Tot f v.queue.items named h.queue.messages
+        (subst AreOnce (sym h.queue.places) (placed_once scenario.params.bound before)))
+        (omega (
           arith,
-          room_to_place scenario service.Tot f v.queue.items named h.queue.messages
-              (subst AreOnce (sym h.queue.places) (placed_once scenario.params.bound before)),
-          h.limits.room,
-        )
+          length-without-le (message_in f) v.queue.items,
+          placed_few scenario.params.bound before,
+          ap length h.queue.places,
+        ))
 
     pub can_number : f.number < v.queue.numbers
     can_number = omega (arith, number_below scenario f h.limits.legal named, h.limits.numbers)

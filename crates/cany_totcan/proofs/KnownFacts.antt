@@ -1,4 +1,5 @@
 -- What is known of the open messages of a value, and that it stays so.
+use Rattle.cany_model.specs.Rules.Rooms.{sends_by}
 use Rattle.std.proofs.Common.{◌≡◌, ℕ, ◌+◌, ◌-◌, ◌<◌, ◌≤◌, ◌==◌, Bool, true, false, if◌then◌else◌, List, [], ◌∷◌, count_by, length, Option, Some, None, refl, ap, sym, subst, ◌∙◌, arith}
 use Rattle.std.specs.Prelude.{nat_lt}
 use Rattle.std.proofs.lemmas.Bool.Decides.{nat_tests}
@@ -26,8 +27,8 @@ use Rattle.cany_totcan.specs.TotcanSteps.{AreAdded, AreKnown, HaveGone, IsKnown,
 use Rattle.cany_totcan.proofs.DueFacts.{due-first, each_frame_at}
 use Rattle.cany_totcan.proofs.MessageSetFacts.{below_numbers}
 use Rattle.cany_totcan.proofs.OwnFacts.{seq_below}
-use Rattle.cany_totcan.proofs.PlaceFacts.{placed_once}
-use Rattle.cany_totcan.proofs.QueueFacts.{few_named}
+use Rattle.cany_totcan.proofs.PlaceFacts.{placed_few, placed_once}
+use Rattle.cany_totcan.proofs.QueueFacts.{both_le, few_named}
 
 -- a message of the scenario
 module _ (scenario : ScenarioParts) (f : FrameParts) (legal : IsLegalScenario scenario) (named : NamesMessage scenario service.Tot f) where
@@ -81,7 +82,10 @@ module _ (scenario : ScenarioParts) (i : ℕ) (notice : NoticeKind) (before : Li
   }
 
   pub heard_few : length v.queue.items ≤ v.queue.room
-  heard_few = omega (arith, few_named scenario service.Tot v.queue.items h.queue.messages heard_once, h.limits.room)
+  heard_few =
+      both_le (length v.queue.items) (sends_by scenario service.Tot) (scenario.params.bound + 1) v.queue.room h.limits.at_once
+      (few_named scenario service.Tot v.queue.items h.queue.messages heard_once)
+      (omega (arith, placed_few (scenario.params.bound + 1) (notice ∷ before), ap length h.queue.places))
 
 -- ---- a closing
 

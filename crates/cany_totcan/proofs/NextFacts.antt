@@ -284,6 +284,7 @@ with_backlog scenario i past messages others count many v b h of_b = record {
     bound = h.limits.bound;
     spacing = h.limits.spacing;
     room = h.limits.room;
+    at_once = h.limits.at_once;
     numbers = h.limits.numbers;
     deliveries = h.limits.deliveries;
   };

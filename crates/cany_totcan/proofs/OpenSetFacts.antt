@@ -1,7 +1,8 @@
 -- The set of the open messages has a place for each of them; and what is left without the oldest.
-use Rattle.std.proofs.Common.{◌≡◌, ℕ, ◌-◌, ◌<◌, ◌≤◌, ◌==◌, Bool, true, false, if◌then◌else◌, inl, inr, List, [], ◌∷◌, length, replicate, Option, Some, None, refl, ap, subst, sym, ◌∙◌, arith}
-use Rattle.std.specs.Prelude.{remove}
-use Rattle.std.specs.List.{list_any}
+use Rattle.std.proofs.Common.{◌≡◌, ℕ, zero, suc, ◌-◌, ◌<◌, ◌≤◌, ◌==◌, ◌||◌, Bool, true, false, if◌then◌else◌, inl, inr, List, [], ◌∷◌, drop, length, replicate, Option, Some, None, refl, ap, subst, sym, ◌∙◌, arith}
+use Rattle.std.specs.Prelude.{remove, slice_get, slice_index_or, option_copied, IsSome, OnSome, MatchOption}
+use Rattle.std.specs.List.{HoldsAt, list_any}
+use denote.Ref.{Bor}
 use Rattle.std.proofs.lemmas.Bool.{cases_lt, false≢true}
 use Rattle.cany_base.specs.declared.message.MsgKey.{MsgKey}
 use Rattle.cany_base.specs.Frame.{FrameParts}
@@ -9,9 +10,9 @@ use Rattle.cany_base.specs.Nodes.{nobody}
 use Rattle.cany_model.specs.Rules.Totcan.{message_in}
 use Rattle.cany_totcan.specs.declared.queue.Placed.{Placed}
 use Rattle.cany_totcan.specs.MessageSet.{MessageSetParts}
-use Rattle.cany_totcan.specs.Queue.{AreOnce, IsIndexOf, IsKept, IsSetOf, OpenParts, is_at, is_removed, oldest_from, without_oldest, without_oldest_from}
+use Rattle.cany_totcan.specs.Queue.{IsIndexOf, IsKept, IsSetOf, OpenParts, is_at, oldest_from, without_first, without_oldest, without_oldest_from}
 use Rattle.cany_totcan.proofs.MessageSetFacts.{has_no_message, none_past}
-use Rattle.cany_totcan.proofs.QueueFacts.{parts_after, parts_before, same_key_self}
+use Rattle.cany_totcan.proofs.QueueFacts.{IsTakenOut, kept-remove, same_key_self}
 
 pub there_below : (key : MsgKey) (items : List Placed) (set : MessageSetParts) → IsSetOf items set → list_any (is_at key) items ≡ true
     → key.seq < length set.origins
@@ -33,35 +34,37 @@ kept-none numbers room capacity set is reserved = record {
 
 -- ---- without the oldest
 
--- what is left without the message that stands first
-removed_first : (v : OpenParts) (x : Placed) (items : List Placed) → v.items ≡ x ∷ items → AreOnce v.items → v.done ≤ length v.items
-    → is_removed (message_in x.frame) v ≡ record v { items = items; done = v.done - 1 }
-removed_first v x items same once there =
-    let key : MsgKey = message_in x.frame in
-    let at : IsIndexOf key 0 v.items =
-    subst (IsIndexOf key 0) (sym same) (record { within = omega arith; is = λ d. same_key_self key }) in
-    let rest : items ≡ remove v.items 0 = sym (ap (λ (xs : List Placed). remove xs 0) same) in
-    elim (cases_lt 0 v.done) [
-      | inl some ↦ sym (parts_before key 0 v items once at rest v.numbers refl some there)
-      | inr none ↦
-          let still : v.done ≡ v.done - 1 = omega (arith, none) in
-          sym (parts_after key 0 v items once at rest v.numbers refl (omega (arith, none)))
-          ∙ ap (λ n. record v { items = items; done = n }) still
-    ]
-
-pub removed_oldest : (place : ℕ) (v : OpenParts) (f : FrameParts) → AreOnce v.items → v.done ≤ length v.items → oldest_from place v.items ≡ Some f
-    → is_removed (message_in f) v ≡ without_oldest place v
-removed_oldest place v f once there first = go v.items refl first
+pub first_taken : (place : ℕ) (v : OpenParts) (f : FrameParts) → oldest_from place v.items ≡ Some f → without_first v ≡ without_oldest place v
+first_taken place v f first = go v.items refl first
   where
-    go : (items : List Placed) → v.items ≡ items → oldest_from place items ≡ Some f → is_removed (message_in f) v ≡ without_oldest_from place v items
+    go : (items : List Placed) → v.items ≡ items → oldest_from place items ≡ Some f → without_first v ≡ without_oldest_from place v items
     go [] same none = absurd (cc)
     go (x ∷ items) same at = by (x.place == place) at
       where
-        by : (b : Bool) → (if b then Some x.frame else None) ≡ Some f → is_removed (message_in f) v ≡ (if b then record v { items = items; done = v.done - 1 } else v)
-        by true is =
-            let frame : x.frame ≡ f = cc in
-            subst (λ g. is_removed (message_in g) v ≡ record v { items = items; done = v.done - 1 }) frame (removed_first v x items same once there)
+        by : (b : Bool) → (if b then Some x.frame else None) ≡ Some f → without_first v ≡ (if b then record v { items = items; done = v.done - 1 } else v)
+        by true is = ap (λ (xs : List Placed). record v { items = drop 1 xs; done = v.done - 1 }) same
         by false is = absurd (cc)
+
+-- the message that closes stands at the front
+pub oldest_front : (place : ℕ) (items : List Placed) (f : FrameParts) → oldest_from place items ≡ Some f → IsIndexOf (message_in f) 0 items
+oldest_front place [] f none = absurd (cc)
+oldest_front place (x ∷ items) f at = by (x.place == place) at
+  where
+    by : (b : Bool) → (if b then Some x.frame else None) ≡ Some f → IsIndexOf (message_in f) 0 (x ∷ items)
+    by true is =
+        let frame : x.frame ≡ f = cc in
+        subst (λ g. IsIndexOf (message_in g) 0 (x ∷ items)) frame (record { within = omega arith; is = λ d. same_key_self (message_in x.frame) })
+    by false is = absurd (cc)
+
+front_removed : (items : List Placed) → remove items 0 ≡ drop 1 items
+front_removed [] = refl
+front_removed (x ∷ items) = refl
+
+pub kept-first : (key : MsgKey) (items : List Placed) (done room capacity : ℕ) (old new : MessageSetParts) → IsKept items done room capacity old
+    → IsIndexOf key 0 items → IsTakenOut key old new → IsKept (drop 1 items) (done - 1) room capacity new
+kept-first key items done room capacity old new kept at taken =
+    subst (λ (xs : List Placed). IsKept xs (done - 1) room capacity new) (front_removed items)
+    (kept-remove key 0 items done (done - 1) room capacity old new kept at (omega (arith, kept.there, at.within)) taken)
 
 -- where none has this place, all stay
 pub oldest_none : (place : ℕ) (v : OpenParts) (items : List Placed) → oldest_from place items ≡ None → without_oldest_from place v items ≡ v
@@ -71,3 +74,24 @@ oldest_none place v (x ∷ items) none = go (x.place == place) none
     go : (b : Bool) → (if b then Some x.frame else None) ≡ None → (if b then record v { items = items; done = v.done - 1 } else v) ≡ v
     go true is = absurd (cc)
     go false is = refl
+
+-- ---- the ring
+
+pub removed_from : {X : Type 0} (r : Option X) (A : Type 0) → OnSome r A → IsSome r → A
+removed_from None A on some = absurd (false≢true some)
+removed_from (Some x) A on some = on
+
+at_index : (items : List Placed) (i : ℕ) (x : Placed) → i < length items → x ≡ slice_index_or items i x → Some x ≡ slice_get items i
+at_index [] i x within is = absurd (omega (arith, within))
+at_index (y ∷ items) zero x within is = ap (λ z. Some z) is
+at_index (y ∷ items) (suc i) x within is = at_index items i x (omega (arith, within)) is
+
+past_index : (items : List Placed) (i : ℕ) → length items ≤ i → None ≡ slice_get items i
+past_index [] i past = refl
+past_index (y ∷ items) zero past = absurd (omega (arith, past))
+past_index (y ∷ items) (suc i) past = past_index items i (omega (arith, past))
+
+pub item_is : (items : List Placed) (i : ℕ) (r : Option (Bor Placed))
+    → MatchOption r (length items ≤ i) (λ x. (i < length items) × HoldsAt (λ y. x.now ≡ y) items i) → option_copied r ≡ slice_get items i
+item_is items i None past = past_index items i past
+item_is items i (Some x) at = at_index items i x.now at.0 (at.1 x.now)

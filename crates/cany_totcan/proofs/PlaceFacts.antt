@@ -4,7 +4,7 @@ use Rattle.std.specs.Prelude.{slice_index_or}
 use Rattle.std.specs.List.{AllByRecursion, list_any}
 use Rattle.std.proofs.Math.Bool.{or-false}
 use Rattle.std.proofs.lemmas.Bool.{cases_Bool, eq-eqb, false≢true, ne_eqb, or_cases, or_left, or_right}
-use Rattle.std.proofs.lemmas.List.{append-nil, get_or_past, take_all}
+use Rattle.std.proofs.lemmas.List.{append-nil, get_or_past, take_all, length-append}
 use Rattle.std.proofs.lemmas.List.Elements.{filter-append, filter_agree}
 use Rattle.std.proofs.lemmas.Option.{none-some}
 use Rattle.cany_base.specs.declared.class.Class.TheVariants as class
@@ -23,7 +23,7 @@ use Rattle.cany_model.proofs.Bus.Carried.{Has}
 use Rattle.cany_model.proofs.Bus.Identities.{same_class-true}
 use Rattle.cany_totcan.specs.declared.queue.Placed.{Placed}
 use Rattle.cany_totcan.specs.Queue.{AreAscending, AreOnce, OpenParts, is_at, oldest_from, placed_at, placed_from, placed_in, without_key, without_oldest, without_oldest_from}
-use Rattle.cany_totcan.proofs.QueueFacts.{any-append_one, any-without, any-without_self, ascending-append_one, ascending-filter, each-filter, once-append_one, once-without, same_key, same_key-true, same_key_self}
+use Rattle.cany_totcan.proofs.QueueFacts.{any-append_one, any-without, any-without_self, ascending-append_one, ascending-filter, each-filter, once-append_one, once-without, same_key, same_key-true, same_key_self, length-without-le}
 
 -- ---- what a notice brings
 
@@ -310,6 +310,15 @@ placed_once n past =
     (λ n notice before items f brings once.
     once-append_one (without_key (message_in f) items) (record { frame = f; place = length before }) (once-without (message_in f) items once)
     (any-without_self (message_in f) items))
+    n past
+
+-- each notice is the place of one message at most
+pub placed_few : (n : ℕ) (past : List NoticeKind) → length (placed_in n past) ≤ n
+placed_few n past =
+    by_places (λ n past items. length items ≤ n) (λ past. omega arith) (λ n. omega arith)
+    (λ n notice before items none few. omega (arith, few))
+    (λ n notice before items f brings few.
+    omega (arith, few, length-without-le (message_in f) items, length-append (without_key (message_in f) items) (record { frame = f; place = length before } ∷ [])))
     n past
 
 -- the place is one of the n newest notices

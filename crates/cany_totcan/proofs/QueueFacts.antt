@@ -1,10 +1,11 @@
 -- Facts about the open messages of a node: which are there once a message was removed or placed, that each stands there once, and that
 -- there is room for the messages of a scenario.
 use Rattle.std.proofs.Common.{◌≡◌, ℕ, zero, suc, ◌+◌, ◌-◌, ◌<◌, ◌≤◌, ◌==◌, ◌&&◌, ◌||◌, inl, inr, Bool, true, false, not, List, [], ◌∷◌, ◌++◌, count_by, filter, length, take, drop, Option, Some, None, refl, ap, sym, ◌∙◌, subst, arith}
-use Rattle.std.specs.Prelude.{cond, IfSome, IfNone, is_some, remove}
+use Rattle.std.specs.Prelude.{cond, min, IfSome, IfNone, is_some, remove}
 use Rattle.std.specs.List.{AllByRecursion, list_any}
 use Rattle.std.proofs.Math.Seq.{take-append_seam}
 use Rattle.std.proofs.lemmas.Bool.{cases_Bool, eq-eqb, eqb-true, and_from, and_parts, false≢true, false_from_ne_true, or_from, or_parts}
+use Rattle.std.proofs.lemmas.Bool.Decides.{nat_tests}
 use Rattle.std.proofs.lemmas.List.{append_assoc, length-append, length-take, take-append-drop}
 use Rattle.std.proofs.lemmas.List.Edits.{length-remove}
 use Rattle.std.proofs.lemmas.List.Elements.{filter-append}
@@ -448,6 +449,15 @@ few_named scenario by items named once =
           (λ x h counts. named_here scenario by x h) items named)
           (λ m. here_once by m items once),
     )
+
+pub least : (a b room : ℕ) → room ≡ min a b → room ≤ a
+least a b room is = grind (arith, nat_tests, is)
+
+pub both_less : (n a b room : ℕ) → room ≡ min a b → n < a → n < b → n < room
+both_less n a b room is less_a less_b = grind (arith, nat_tests, is, less_a, less_b)
+
+pub both_le : (n a b room : ℕ) → room ≡ min a b → n ≤ a → n ≤ b → n ≤ room
+both_le n a b room is le_a le_b = grind (arith, nat_tests, is, le_a, le_b)
 
 -- and fewer, where one more of its messages is not among them
 pub fewer_named : (scenario : ScenarioParts) (by : Service) (f : FrameParts) (items : List Placed) → NamesMessage scenario by f

@@ -394,7 +394,8 @@ module _ (scenario : ScenarioParts) (i : ℕ) (notice : NoticeKind) (before : Li
       format = h.limits.format;
       bound = h.limits.bound;
       spacing = h.limits.spacing;
-      room = closing_room slot v ∙ h.limits.room;
+      room = rw (closing_room slot v) h.limits.room;
+      at_once = closing_room slot v ∙ h.limits.at_once;
       numbers = closing_numbers slot v ∙ h.limits.numbers;
       deliveries = gone_added.numbers ∙ added.numbers ∙ h.limits.deliveries;
     };

@@ -1,5 +1,5 @@
 -- The open messages of a node, in the order of their places.
-use Rattle.std.specs.Prelude.{◌≡◌, ℕ, ◌+◌, ◌-◌, ◌≤◌, ◌<◌, ◌==◌, ◌&&◌, Bool, true, false, not, if◌then◌else◌, List, [], ◌∷◌, ◌++◌, filter, length, take, Option, Some, None}
+use Rattle.std.specs.Prelude.{◌≡◌, ℕ, ◌+◌, ◌-◌, ◌≤◌, ◌<◌, ◌==◌, ◌&&◌, Bool, true, false, not, if◌then◌else◌, List, [], ◌∷◌, ◌++◌, drop, filter, length, take, Option, Some, None}
 use Rattle.std.specs.List.{AllByRecursion, HoldsAt, list_any}
 use Rattle.cany_base.specs.declared.message.MsgKey.{MsgKey}
 use Rattle.cany_base.specs.declared.notice.NoticeKind.{NoticeKind}
@@ -62,6 +62,10 @@ moved f slot v = record (is_removed (message_in f) v) { items = without_key (mes
 abbrev pub oldest_from : ℕ → List Placed → Option FrameParts
 oldest_from slot [] = None
 oldest_from slot (x ∷ items) = if x.place == slot then Some x.frame else None
+
+-- without the oldest
+abbrev pub without_first : OpenParts → OpenParts
+without_first v = record v { items = drop 1 v.items; done = v.done - 1 }
 
 abbrev pub without_oldest_from : ℕ → OpenParts → List Placed → OpenParts
 without_oldest_from slot v [] = v

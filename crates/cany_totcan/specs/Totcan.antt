@@ -1,5 +1,5 @@
 -- What a TOTCAN value stands for.
-use Rattle.std.specs.Prelude.{◌≡◌, ℕ, ◌+◌, ◌-◌, ◌<◌, ◌≤◌, ◌==◌, Bool, true, false, if◌then◌else◌, List, [], ◌∷◌, Option, Some, None, Contains, count_by, length, map, slice_get, take}
+use Rattle.std.specs.Prelude.{◌≡◌, ℕ, ◌+◌, ◌-◌, ◌<◌, ◌≤◌, ◌==◌, Bool, true, false, if◌then◌else◌, List, [], ◌∷◌, Option, Some, None, Contains, count_by, length, map, slice_get, min, take}
 use Rattle.std.specs.List.{AllByRecursion, list_any}
 use Rattle.cany_base.specs.declared.format.Format.{Format}
 use Rattle.cany_base.specs.declared.message.MsgKey.{MsgKey}
@@ -39,14 +39,15 @@ pub record TotcanParts : Type 0 where
 abbrev pub key_of : (seq origin : ℕ) → MsgKey
 key_of seq origin = record { origin = origin; seq = seq }
 
--- the value is that of a node of the scenario, with room for each of its messages by TOTCAN
+-- the value is that of a node of the scenario, with room for as many of its messages by TOTCAN as are ever open at once
 pub record HasLimitsOf (scenario : ScenarioParts) (i : ℕ) (v : TotcanParts) : Type 0 where
   pub legal : IsLegalScenario scenario
   pub node : v.node ≡ i
   pub format : v.format ≡ scenario.params.format
   pub bound : v.bound ≡ scenario.params.bound
   pub spacing : v.spacing ≡ scenario.params.bound + scenario.params.lag
-  pub room : v.queue.room ≡ sends_by scenario service.Tot
+  pub room : v.queue.room ≤ sends_by scenario service.Tot
+  pub at_once : v.queue.room ≡ min (sends_by scenario service.Tot) (scenario.params.bound + 1)
   pub numbers : v.queue.numbers ≡ numbers_of scenario
   pub deliveries : HasRoomOf scenario v.deliveries
 

@@ -1,11 +1,12 @@
 ghost use Rattle.std.specs.Prelude.{◌≡◌, ℕ, ◌<◌, ◌≤◌, ◌+◌, ◌-◌, [], None, length, option_map, slice_get, true, false, IfOk, IfSome, IfNone};
 ghost use Rattle.std.specs.List.{AllByRecursion, list_any};
 ghost use Rattle.cany_model.specs.Rules.Totcan.{message_in};
-ghost use Rattle.cany_totcan.specs.Queue.{AreOnce, IsIndexOf, is_at, is_removed, moved, oldest_from, without_key, without_oldest};
+ghost use Rattle.cany_totcan.specs.Queue.{IsIndexOf, is_at, is_removed, moved, oldest_from, without_key, without_oldest};
 
 use crate::message_set::MessageSet;
 use cany_base::{Frame, Memory, MsgKey, Slot};
 use std::alloc::Global;
+use std::collections::VecDeque;
 use std::marker::Model;
 
 /// A message whose data frame was read, at its place.
@@ -29,11 +30,12 @@ impl Placed {
 /// the first `done` are done.
 ///
 /// All stay open for the same time, so they close in that order, and a turn looks at the first, and
-/// at the first that is not done. Whether a message is open is read off a set, since most messages
+/// at the first that is not done. They stand in a ring, of which no more is touched than is ever
+/// open at once. Whether a message is open is read off a set, since most messages
 /// are new or closed, and all that are open would have to be looked at.
 #[derive(Drop)]
 pub(crate) struct OpenMessages {
-    placed: Vec<Placed>,
+    placed: VecDeque<Placed>,
     /// The same messages.
     members: MessageSet,
     done: usize,
@@ -41,14 +43,15 @@ pub(crate) struct OpenMessages {
 }
 
 impl Model for OpenMessages {
-    ghost use Rattle.std.specs.Prelude.{length, vec_capacity};
+    ghost use Rattle.std.specs.Prelude.{length};
+    ghost use Rattle.std.specs.VecDeque.{deque_capacity};
     ghost use Rattle.cany_totcan.specs.Queue.{OpenParts, IsKept};
 
     ghost Value = { OpenParts };
 
     ghost view = { λ q. record { items = q.placed.items; done = q.done; room = q.room; numbers = length q.members.origins } };
 
-    ghost invariant = { λ q. IsKept q.placed.items q.done q.room (vec_capacity q.placed) q.members };
+    ghost invariant = { λ q. IsKept q.placed.items q.done q.room (deque_capacity q.placed) q.members };
 }
 
 impl OpenMessages {
@@ -56,7 +59,7 @@ impl OpenMessages {
     pub(crate) fn build(alloc: Global, room: usize, numbers: usize) -> Result<OpenMessages, Memory>
         ensures { IfOk result (λ queue. queue ≡ record { items = []; done = 0; room = room; numbers = numbers }) }
     {
-        let placed = Vec::with_capacity(alloc, room)?;
+        let placed = VecDeque::with_capacity(alloc, room)?;
         let members = MessageSet::build(alloc, numbers)?;
         Ok(OpenMessages {
             placed,
@@ -82,7 +85,7 @@ impl OpenMessages {
         };
         self.remove(&msg);
         self.members.insert(&msg);
-        self.placed.push_reserved(Placed {
+        self.placed.push_back_reserved(Placed {
             frame: *frame,
             place: slot,
         });
@@ -102,8 +105,8 @@ impl OpenMessages {
     fn remove_open(&mut self, msg: &MsgKey)
         ensures { self.new ≡ is_removed msg.now self.old }
     {
-        if let Some(index) = index_of(self.placed.as_slice(), msg) {
-            self.placed.remove(index);
+        if let Some(index) = index_of(&self.placed, msg) {
+            let _ = self.placed.remove(index);
             self.members.take_out(msg);
             if index < self.done {
                 self.done -= 1;
@@ -121,17 +124,17 @@ impl OpenMessages {
             origin: frame.node,
             seq: frame.number,
         };
-        self.remove_open(&msg);
+        let _ = self.placed.pop_front();
+        self.members.take_out(&msg);
+        self.done = self.done.saturating_sub(1);
         Some(frame)
     }
 
     /// The data frame of the oldest message, if its place is this slot.
     fn oldest_at(&self, place: Slot) -> Option<Frame>
-        ensures oldest { result ≡ oldest_from place self.now.items }
-        ensures once { AreOnce self.now.items }
-        ensures there { self.now.done ≤ length self.now.items }
+        ensures { result ≡ oldest_from place self.now.items }
     {
-        let oldest = self.placed.first()?;
+        let oldest = item_at(&self.placed, 0)?;
         if oldest.place != place {
             return None;
         }
@@ -142,7 +145,7 @@ impl OpenMessages {
     pub(crate) fn closing(&self, bound: Slot) -> Slot
         ensures { (slot : ℕ) → slot < result → bound ≤ slot → oldest_from (slot - bound) self.now.items ≡ None }
     {
-        match self.placed.first() {
+        match item_at(&self.placed, 0) {
             Some(oldest) => oldest.place.saturating_add(bound),
             None => Slot::MAX,
         }
@@ -152,7 +155,7 @@ impl OpenMessages {
     pub(crate) fn first_open(&self) -> Option<Frame>
         ensures { result ≡ option_map (λ x. x.frame) (slice_get self.now.items self.now.done) }
     {
-        let placed = self.placed.get(self.done)?;
+        let placed = item_at(&self.placed, self.done)?;
         Some(placed.frame)
     }
 
@@ -180,9 +183,16 @@ impl OpenMessages {
 }
 
 /// The index of a message among these.
-fn index_of(placed: &[Placed], msg: &MsgKey) -> Option<usize>
-    ensures found { IfSome result (λ index. IsIndexOf msg.now index placed.now) }
-    ensures absent { IfNone result (list_any (is_at msg.now) placed.now ≡ false) }
+fn index_of(placed: &VecDeque<Placed>, msg: &MsgKey) -> Option<usize>
+    ensures found { IfSome result (λ index. IsIndexOf msg.now index placed.now.items) }
+    ensures absent { IfNone result (list_any (is_at msg.now) placed.now.items ≡ false) }
 {
     placed.iter().position(|x| x.is_at(msg))
+}
+
+/// The message at an index of the ring, if there is one.
+fn item_at(placed: &VecDeque<Placed>, index: usize) -> Option<Placed>
+    ensures { result ≡ slice_get placed.now.items index }
+{
+    placed.get(index).copied()
 }

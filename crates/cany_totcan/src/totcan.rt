@@ -1,11 +1,11 @@
-ghost use Rattle.std.specs.Prelude.{◌≡◌, ◌≢◌, ℕ, ◌+◌, ◌<◌, ◌≤◌, ◌==◌, ◌&&◌, ◌++◌, ◌∷◌, [], true, false, length, List, Contains, Some, replicate, take, IfOk};
+ghost use Rattle.std.specs.Prelude.{◌≡◌, ◌≢◌, ℕ, ◌+◌, ◌<◌, ◌≤◌, ◌==◌, ◌&&◌, ◌++◌, ◌∷◌, [], true, false, length, min, List, Contains, Some, replicate, take, IfOk};
 ghost use Rattle.std.specs.List.{AllByRecursion, list_any};
 ghost use Rattle.can_frame.specs.Identifier.{HasSmallNumbers};
 ghost use Rattle.cany_base.specs.declared.class.Class.TheVariants as class;
 ghost use Rattle.cany_base.specs.declared.message.Service.TheVariants as service;
 ghost use Rattle.cany_base.specs.declared.notice.NoticeKind.{NoticeKind};
 ghost use Rattle.cany_base.specs.declared.notice.NoticeKind.TheVariants.{Idle};
-ghost use Rattle.cany_base.specs.Limits.{most_nodes};
+ghost use Rattle.cany_base.specs.Limits.{greatest_default, most_nodes};
 ghost use Rattle.cany_base.specs.Scenario.{ScenarioParts};
 ghost use Rattle.cany_diffuse.specs.Eager.{copies_of, is_owned, learnt_of, IsForgotten, IsLearnt, IsOwned};
 ghost use Rattle.cany_message.specs.Actions.{relay_actions, withdraw_actions};
@@ -89,7 +89,7 @@ impl Totcan {
         let params = *scenario.params();
         let room = sends_by(scenario, Service::Tot);
         let numbers = numbers_of(scenario);
-        let queue = OpenMessages::build(alloc, room, numbers)?;
+        let queue = OpenMessages::build(alloc, open_at_once(room, params.bound), numbers)?;
         let acceptances = Eager::build(alloc, params.omit, room)?;
         let deliveries = MessageSet::build(alloc, numbers)?;
         let backlog = Backlog::build(alloc, node, scenario)?;
@@ -454,6 +454,16 @@ impl Totcan {
         }
         frame.node.get() == self.node.get() && self.backlog.is_sent(frame.number)
     }
+}
+
+/// How many messages may be open at once: at most one has its place in a slot, and each closes
+/// `bound` slots after its place.
+fn open_at_once(messages: usize, bound: u64) -> usize
+    requires { bound ≤ greatest_default }
+    ensures { result ≡ min messages (bound + 1) }
+{
+    let slots = bound as usize + 1;
+    if slots < messages { slots } else { messages }
 }
 
 /// The key of the message that a frame names.

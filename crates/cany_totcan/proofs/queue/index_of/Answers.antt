@@ -1,7 +1,8 @@
 use Rattle.std.proofs.Common.{◌≡◌, ℕ, Bool, true, false, List, length, Option, Some, None, MatchOption, rules, tests}
 use Rattle.std.specs.Prelude.{IfNone}
 use Rattle.std.specs.List.{AllWithin, list_any}
-use Rattle.std.proofs.lemmas.Iterator.{IsFirst-from_position, YieldsList-from_slice}
+use Rattle.std.proofs.lemmas.Iterator.{IsFirst-from_position}
+use Rattle.std.proofs.lemmas.Iterator.Consumers.{YieldsList-from_deque}
 use Rattle.std.proofs.lemmas.List.Elements.{All-from_all_within}
 use Rattle.std.proofs.lemmas.List.Folds.{list_any_none}
 use Rattle.cany_totcan.specs.Queue.{is_at}
@@ -14,9 +15,9 @@ none_found test xs (Some index) Found found = tt
 
 pub returns-clause-absent : goal.returns-clause-absent
 returns-clause-absent c =
-    let xs = c.args.placed.now in
+    let xs = c.args.placed.now.items in
     let test = is_at c.args.msg.now in
     let first =
-    IsFirst-from_position _ _ c.position.result (λ x. test x ≡ true) (λ x. test x ≡ false) c.position.ensures.ran (YieldsList-from_slice xs cc)
+    IsFirst-from_position _ _ c.position.result (λ x. test x ≡ true) (λ x. test x ≡ false) c.position.ensures.ran (YieldsList-from_deque xs cc)
     (λ x q k. search (rules, tests)) (λ x q k. search (rules, tests)) in
     none_found test xs c.position.result _ first

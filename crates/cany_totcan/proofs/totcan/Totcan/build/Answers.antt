@@ -1,8 +1,9 @@
-use Rattle.std.proofs.Common.{ap, ◌∙◌, length, refl, replicate, subst, sym, arith, take, []}
+use Rattle.std.proofs.Common.{ap, ◌+◌, ◌∙◌, length, refl, replicate, subst, sym, arith, take, []}
 use Rattle.std.proofs.lemmas.List.{length-replicate}
 use Rattle.cany_base.specs.Nodes.{nobody}
 use Rattle.cany_totcan.proofs.MessageSetFacts.{has_no_message}
-use Rattle.std.specs.Prelude.{slice_get}
+use Rattle.std.specs.Prelude.{min, slice_get}
+use Rattle.cany_totcan.proofs.QueueFacts.{least}
 use Rattle.cany_base.specs.declared.notice.NoticeKind.TheVariants.{Idle}
 use Rattle.cany_base.specs.Params.{Parameters}
 use Rattle.cany_model.specs.Rules.Totcan.{delivered}
@@ -27,7 +28,10 @@ returns c = λ n.
         format = ap (λ (q : Parameters). q.format) params;
         bound = ap (λ (q : Parameters). q.bound) params;
         spacing = omega (arith, ap (λ (q : Parameters). q.bound) params, ap (λ (q : Parameters). q.lag) params, c.from.ensures);
-        room = ap (λ (q : OpenParts). q.room) c.in_ok-queue.ensures ∙ room;
+        room = least _ _ _ (ap (λ (q : OpenParts). q.room) c.in_ok-queue.ensures ∙ c.open_at_once.ensures ∙ ap (λ n. min n (c.params.inside.bound + 1)) room);
+        at_once =
+            ap (λ (q : OpenParts). q.room) c.in_ok-queue.ensures ∙ c.open_at_once.ensures
+            ∙ (λ k. min (room k) ((ap (λ (q : Parameters). q.bound) params) k + 1));
         numbers = ap (λ (q : OpenParts). q.numbers) c.in_ok-queue.ensures ∙ c.numbers_of-numbers.ensures;
         deliveries = ap length c.in_ok-deliveries.ensures ∙ length-replicate c.numbers_of-numbers.result nobody ∙ c.numbers_of-numbers.ensures;
       };
