@@ -1,26 +1,22 @@
--- The table of acceptances after one notice more.
-use Rattle.std.proofs.Common.{◌≡◌, ℕ, ◌+◌, ◌<◌, ◌≤◌, ◌==◌, ◌&&◌, ◌||◌, true, false, if◌then◌else◌, inl, inr, not, List, [], ◌∷◌, length, replicate, Some, None, refl, ap, sym, ◌∙◌, arith}
+-- What is noted of acceptances after one notice more.
+use Rattle.std.proofs.Common.{◌≡◌, ℕ, ◌+◌, ◌<◌, ◌≤◌, ◌||◌, true, false, if◌then◌else◌, inl, inr, Bool, List, [], ◌∷◌, length, replicate, Some, None, refl, ap, sym, ◌∙◌, arith}
 use Rattle.std.proofs.lemmas.Bool.{cases_Bool, false≢true, false_from_ne_true}
 use Rattle.std.proofs.lemmas.Bool.Decides.{nat_tests}
 use Rattle.cany_base.specs.declared.class.Class.TheVariants as class
-use Rattle.cany_base.specs.declared.message.Service.TheVariants as service
 use Rattle.cany_base.specs.declared.message.MsgKey.{MsgKey}
 use Rattle.cany_base.specs.declared.notice.NoticeKind.{NoticeKind}
 use Rattle.cany_base.specs.declared.notice.NoticeKind.TheVariants.{Idle, Got, Sent, Bad}
 use Rattle.cany_base.specs.Frame.{FrameParts}
-use Rattle.cany_base.specs.Limits.{most_nodes, most_slots}
-use Rattle.cany_base.specs.Scenario.{ScenarioParts}
-use Rattle.cany_diffuse.specs.Eager.{EagerParts, copies_of, is_among, is_owned, is_there, IsForgotten, IsFresh, IsLearnt, IsOwned, IsPut}
-use Rattle.cany_message.specs.Numbers.{frame_number, message_number, message_numbers}
-use Rattle.cany_message.specs.Table.{CanTake}
+use Rattle.cany_base.specs.Limits.{most_slots}
+use Rattle.cany_diffuse.specs.Eager.{raised}
 use Rattle.cany_message.proofs.HistoryFacts.{copies-few, copies-no, copies-yes, has_own-more, is_not_this, is_this}
-use Rattle.cany_message.proofs.NumberFacts.{length-message_numbers, named_among, same_number}
 use Rattle.cany_model.specs.Bus.Frames.{Identity, is_of, same_class}
 use Rattle.cany_model.specs.Bus.History.{copies, has_own, is_got, is_sent}
 use Rattle.cany_model.specs.Rules.Messages.{accept_of_key}
-use Rattle.cany_model.specs.Rules.Notices.{NamesMessage}
-use Rattle.cany_model.specs.Rules.Rooms.{sends_by}
 use Rattle.cany_model.specs.Rules.Totcan.{after_place, holds, is_recent, message_in, tot_in}
+use Rattle.cany_totcan.specs.declared.queue.Noted.{Noted}
+use Rattle.cany_totcan.specs.declared.queue.Open.{Open}
+use Rattle.cany_totcan.specs.Acceptances.{IsNoted, forgotten, noted_of, nothing, with_copy, with_own}
 use Rattle.cany_totcan.specs.Totcan.{AreAcceptances, key_of}
 use Rattle.cany_totcan.proofs.AcceptedFacts.{after_held, after_other}
 use Rattle.cany_totcan.proofs.PlaceFacts.{holds-none, holds-some, is_of_key, is_of_key-true, recent_more, recent_weaker}
@@ -87,150 +83,141 @@ module _ (newest : ℕ) (f : FrameParts) (before : List NoticeKind) (is : f.clas
   pub accepts_none-sent_closed : AcceptsNone newest (Sent f) before
   accepts_none-sent_closed = record { got = λ s o recent. refl; sent = of_other }
 
--- ---- the table
+-- ---- what is noted
 
-pub acceptances_fresh : (scenario : ScenarioParts) (newest n omit room : ℕ) (table : EagerParts) → IsFresh omit room table → omit ≡ scenario.params.omit
-    → room ≡ sends_by scenario service.Tot → ((key : MsgKey) → is_recent newest key (replicate n Idle) ≡ false) → AreAcceptances scenario newest (replicate n Idle) table
-acceptances_fresh scenario newest n omit room table fresh omit_is room_is none = record {
-  omit = fresh.omit ∙ omit_is;
-  room = fresh.room ∙ room_is;
-  copies = λ s o near recent. absurd (false≢true (sym (none (key_of s o)) ∙ recent));
-  owned = λ s o near recent. absurd (false≢true (sym (none (key_of s o)) ∙ recent));
-  messages = λ number h. absurd (false≢true (sym (fresh.there number) ∙ h));
+pub acceptances_fresh : (newest n : ℕ) (entries : List Open) → ((key : MsgKey) → is_recent newest key (replicate n Idle) ≡ false)
+    → AreAcceptances newest (replicate n Idle) entries
+acceptances_fresh newest n entries none = record {
+  copies = λ key recent. absurd (false≢true (sym (none key) ∙ recent));
+  owned = λ key recent. absurd (false≢true (sym (none key) ∙ recent));
 }
 
--- of fewer notices
-pub acceptances_fewer : (scenario : ScenarioParts) (n m : ℕ) (past : List NoticeKind) (table : EagerParts) → n ≤ m → AreAcceptances scenario m past table
-    → AreAcceptances scenario n past table
-acceptances_fewer scenario n m past table fewer h = record {
-  omit = h.omit;
-  room = h.room;
-  copies = λ s o near recent. h.copies s o near (recent_weaker n m (key_of s o) past fewer recent);
-  owned = λ s o near recent. h.owned s o near (recent_weaker n m (key_of s o) past fewer recent);
-  messages = h.messages;
+-- of fewer notices, where the messages that are open still have the same
+pub acceptances_fewer : (n m : ℕ) (past : List NoticeKind) (old new : List Open) → n ≤ m
+    → ((key : MsgKey) → is_recent n key past ≡ true → noted_of new key ≡ noted_of old key) → AreAcceptances m past old → AreAcceptances n past new
+acceptances_fewer n m past old new fewer same h = record {
+  copies = λ key recent. ap (λ (x : Noted). x.copies) (same key recent) ∙ h.copies key (recent_weaker n m key past fewer recent);
+  owned = λ key recent. ap (λ (x : Noted). x.owned) (same key recent) ∙ h.owned key (recent_weaker n m key past fewer recent);
 }
 
-pub can_take_acceptance : (scenario : ScenarioParts) (n : ℕ) (past : List NoticeKind) (table : EagerParts) (f : FrameParts)
-    → AreAcceptances scenario n past table → NamesMessage scenario service.Tot f → CanTake (frame_number f) table
-can_take_acceptance scenario n past table f h named = record {
-  numbers = message_numbers scenario service.Tot;
-  room = omega (arith, length-message_numbers scenario service.Tot, h.room);
-  all = h.messages;
-  this = named_among scenario service.Tot f named;
-}
-
-messages_put : (scenario : ScenarioParts) (f : FrameParts) (old new : EagerParts) → NamesMessage scenario service.Tot f → IsPut (frame_number f) old new
-    → ((number : ℕ) → is_there old number ≡ true → is_among number (message_numbers scenario service.Tot) ≡ true)
-    → (number : ℕ) → is_there new number ≡ true → is_among number (message_numbers scenario service.Tot) ≡ true
-messages_put scenario f old new named put before number h =
-    grind (arith, nat_tests, before number, h, put.there number, ap (λ n. is_among n (message_numbers scenario service.Tot)), named_among scenario service.Tot f named)
-
-module _ (scenario : ScenarioParts) (n : ℕ) (before : List NoticeKind) (old : EagerParts) (h : AreAcceptances scenario n before old) where
+module _ (n : ℕ) (before : List NoticeKind) (old : List Open) (h : AreAcceptances n before old) where
   -- a notice that brings no data frame moves no place
   module _ (notice : NoticeKind) (none : tot_in notice ≡ None) where
-    recent_before : (s o : ℕ) → is_recent (n + 1) (key_of s o) (notice ∷ before) ≡ true → is_recent n (key_of s o) before ≡ true
-    recent_before s o recent =
-        sym (recent_more n (key_of s o) notice before ∙ ap (λ b. b || is_recent n (key_of s o) before) (holds-none (key_of s o) notice none)) ∙ recent
+    recent_before : (key : MsgKey) → is_recent (n + 1) key (notice ∷ before) ≡ true → is_recent n key before ≡ true
+    recent_before key recent =
+        sym (recent_more n key notice before ∙ ap (λ b. b || is_recent n key before) (holds-none key notice none)) ∙ recent
 
-    after_is : (s o : ℕ) → after_place (key_of s o) (notice ∷ before) ≡ notice ∷ after_place (key_of s o) before
-    after_is s o = after_other (key_of s o) notice before (holds-none (key_of s o) notice none)
+    after_is : (key : MsgKey) → after_place key (notice ∷ before) ≡ notice ∷ after_place key before
+    after_is key = after_other key notice before (holds-none key notice none)
 
-    pub acceptances_same : AcceptsNone n notice before → AreAcceptances scenario (n + 1) (notice ∷ before) old
+    pub acceptances_same : AcceptsNone n notice before → AreAcceptances (n + 1) (notice ∷ before) old
     acceptances_same other = record {
-      omit = h.omit;
-      room = h.room;
-      copies = λ s o near recent.
-          let was = recent_before s o recent in
-          h.copies s o near was
-          ∙ sym (ap (copies (accept_id s o)) (after_is s o) ∙ copies-no (accept_id s o) notice (after_place (key_of s o) before) (other.got s o was));
-      owned = λ s o near recent.
-          let was = recent_before s o recent in
-          h.owned s o near was
-          ∙ sym (ap (has_own (accept_id s o)) (after_is s o) ∙ has_own-more (accept_id s o) notice (after_place (key_of s o) before)
-          ∙ ap (λ b. b || has_own (accept_id s o) (after_place (key_of s o) before)) (other.sent s o was));
-      messages = h.messages;
+      copies = λ key recent.
+          let was = recent_before key recent in
+          h.copies key was
+          ∙ sym (ap (copies (accept_of_key key)) (after_is key) ∙ copies-no (accept_of_key key) notice (after_place key before) (other.got key.seq key.origin was));
+      owned = λ key recent.
+          let was = recent_before key recent in
+          h.owned key was
+          ∙ sym (ap (has_own (accept_of_key key)) (after_is key) ∙ has_own-more (accept_of_key key) notice (after_place key before)
+          ∙ ap (λ b. b || has_own (accept_of_key key) (after_place key before)) (other.sent key.seq key.origin was));
     }
 
   -- a frame that accepts a message
-  module _ (f : FrameParts) (new : EagerParts) (is : f.class ≡ class.Accept) (small : f.node < most_nodes) (named : NamesMessage scenario service.Tot f) where
-    this : (s o : ℕ) → o < most_nodes → (message_number s o == frame_number f) ≡ is_of (accept_id s o) f
-    this s o near = same_number s o f.number f.node near small ∙ sym (is_this class.Accept s o f is)
+  module _ (f : FrameParts) (new : List Open) (is : f.class ≡ class.Accept) where
+    this : (key : MsgKey) → is_of_key key f ≡ is_of (accept_of_key key) f
+    this key = sym (is_this class.Accept key.seq key.origin f is)
 
-    copies_then : (s o : ℕ) (past : List NoticeKind) → copies (accept_id s o) (Got f ∷ past)
-        ≡ (if is_of (accept_id s o) f then copies (accept_id s o) past + 1 else copies (accept_id s o) past)
-    copies_then s o past = grind (arith, nat_tests, copies-yes (accept_id s o) (Got f) past, copies-no (accept_id s o) (Got f) past)
+    copies_then : (key : MsgKey) (past : List NoticeKind) → copies (accept_of_key key) (Got f ∷ past)
+        ≡ (if is_of (accept_of_key key) f then copies (accept_of_key key) past + 1 else copies (accept_of_key key) past)
+    copies_then key past = grind (arith, nat_tests, copies-yes (accept_of_key key) (Got f) past, copies-no (accept_of_key key) (Got f) past)
 
-    copies_learnt : (s o : ℕ) (past : List NoticeKind) → o < most_nodes → length past < most_slots → IsLearnt (frame_number f) old new
-        → copies_of old (message_number s o) ≡ copies (accept_id s o) past → copies_of new (message_number s o) ≡ copies (accept_id s o) (Got f ∷ past)
-    copies_learnt s o past near short learnt was =
-        grind (arith, nat_tests, learnt.copies (message_number s o), this s o near, was, copies_then s o past, copies-few (accept_id s o) past, short)
+    -- the count does not stand still
+    raised_is : (key : MsgKey) (past : List NoticeKind) → length past < most_slots → raised (copies (accept_of_key key) past) ≡ copies (accept_of_key key) past + 1
+    raised_is key past short = grind (arith, nat_tests, copies-few (accept_of_key key) past, short)
 
-    pub acceptances_learnt : tot_in (Got f) ≡ None → length before < most_slots → IsLearnt (frame_number f) old new
-        → AreAcceptances scenario (n + 1) (Got f ∷ before) new
+    copies_counted : (key : MsgKey) (past : List NoticeKind) (b : Bool) → length past < most_slots
+        → (noted_of old key).copies ≡ copies (accept_of_key key) past
+        → (if b then with_copy (noted_of old key) else noted_of old key).copies ≡ (if b then copies (accept_of_key key) past + 1 else copies (accept_of_key key) past)
+    copies_counted key past true short was = ap raised was ∙ raised_is key past short
+    copies_counted key past false short was = was
+
+    owned_counted : (b : Bool) (x : Noted) → (if b then with_copy x else x).owned ≡ x.owned
+    owned_counted true x = refl
+    owned_counted false x = refl
+
+    pub acceptances_learnt : tot_in (Got f) ≡ None → length before < most_slots → IsNoted with_copy (message_in f) old new
+        → AreAcceptances (n + 1) (Got f ∷ before) new
     acceptances_learnt none short learnt = record {
-      omit = learnt.put.omit ∙ h.omit;
-      room = learnt.put.room ∙ h.room;
-      copies = λ s o near recent.
-          let few : length (after_place (key_of s o) before) < most_slots = omega (arith, length-after_place (key_of s o) before, short) in
-          copies_learnt s o (after_place (key_of s o) before) near few learnt (h.copies s o near (recent_before (Got f) none s o recent))
-          ∙ sym (ap (copies (accept_id s o)) (after_is (Got f) none s o));
-      owned = λ s o near recent.
-          learnt.owned (message_number s o) ∙ h.owned s o near (recent_before (Got f) none s o recent)
-          ∙ sym (ap (has_own (accept_id s o)) (after_is (Got f) none s o) ∙ has_own-more (accept_id s o) (Got f) (after_place (key_of s o) before));
-      messages = messages_put scenario f old new named learnt.put h.messages;
+      copies = λ key recent.
+          let past : List NoticeKind = after_place key before in
+          let few : length past < most_slots = omega (arith, length-after_place key before, short) in
+          ap (λ (x : Noted). x.copies) (learnt.noted key)
+          ∙ copies_counted key past (is_of_key key f) few (h.copies key (recent_before (Got f) none key recent))
+          ∙ ap (λ b. if b then copies (accept_of_key key) past + 1 else copies (accept_of_key key) past) (this key)
+          ∙ sym (ap (copies (accept_of_key key)) (after_is (Got f) none key) ∙ copies_then key past);
+      owned = λ key recent.
+          ap (λ (x : Noted). x.owned) (learnt.noted key)
+          ∙ owned_counted (is_of_key key f) (noted_of old key)
+          ∙ h.owned key (recent_before (Got f) none key recent)
+          ∙ sym (ap (has_own (accept_of_key key)) (after_is (Got f) none key) ∙ has_own-more (accept_of_key key) (Got f) (after_place key before));
     }
 
-    pub acceptances_owned : tot_in (Sent f) ≡ None → IsOwned (frame_number f) old new → AreAcceptances scenario (n + 1) (Sent f ∷ before) new
+    copies_owned : (b : Bool) (x : Noted) → (if b then with_own x else x).copies ≡ x.copies
+    copies_owned true x = refl
+    copies_owned false x = refl
+
+    owned_owned : (b : Bool) (x : Noted) → (if b then with_own x else x).owned ≡ (b || x.owned)
+    owned_owned true x = refl
+    owned_owned false x = refl
+
+    pub acceptances_owned : tot_in (Sent f) ≡ None → IsNoted with_own (message_in f) old new → AreAcceptances (n + 1) (Sent f ∷ before) new
     acceptances_owned none owned = record {
-      omit = owned.put.omit ∙ h.omit;
-      room = owned.put.room ∙ h.room;
-      copies = λ s o near recent.
-          owned.copies (message_number s o) ∙ h.copies s o near (recent_before (Sent f) none s o recent)
-          ∙ sym (ap (copies (accept_id s o)) (after_is (Sent f) none s o) ∙ copies-no (accept_id s o) (Sent f) (after_place (key_of s o) before) refl);
-      owned = λ s o near recent.
-          owned.owned (message_number s o)
-          ∙ ap (λ b. b || is_owned old (message_number s o)) (this s o near)
-          ∙ ap (λ b. is_of (accept_id s o) f || b) (h.owned s o near (recent_before (Sent f) none s o recent))
-          ∙ sym (ap (has_own (accept_id s o)) (after_is (Sent f) none s o) ∙ has_own-more (accept_id s o) (Sent f) (after_place (key_of s o) before));
-      messages = messages_put scenario f old new named owned.put h.messages;
+      copies = λ key recent.
+          ap (λ (x : Noted). x.copies) (owned.noted key)
+          ∙ copies_owned (is_of_key key f) (noted_of old key)
+          ∙ h.copies key (recent_before (Sent f) none key recent)
+          ∙ sym (ap (copies (accept_of_key key)) (after_is (Sent f) none key) ∙ copies-no (accept_of_key key) (Sent f) (after_place key before) refl);
+      owned = λ key recent.
+          ap (λ (x : Noted). x.owned) (owned.noted key)
+          ∙ owned_owned (is_of_key key f) (noted_of old key)
+          ∙ ap (λ b. b || (noted_of old key).owned) (this key)
+          ∙ ap (λ b. is_of (accept_of_key key) f || b) (h.owned key (recent_before (Sent f) none key recent))
+          ∙ sym (ap (has_own (accept_of_key key)) (after_is (Sent f) none key) ∙ has_own-more (accept_of_key key) (Sent f) (after_place key before));
     }
 
   -- a data frame, whose message is accepted by what is read from now on
-  module _ (f : FrameParts) (notice : NoticeKind) (new : EagerParts) (brings : tot_in notice ≡ Some f) (other : AcceptsNone n notice before)
-      (small : f.node < most_nodes)
-      (forgotten : IsForgotten (frame_number f) old new) where
-    holds_is : (s o : ℕ) → o < most_nodes → holds (key_of s o) notice ≡ (message_number s o == frame_number f)
-    holds_is s o near = holds-some (key_of s o) notice f brings ∙ sym (same_number s o f.number f.node near small)
+  module _ (f : FrameParts) (notice : NoticeKind) (new : List Open) (brings : tot_in notice ≡ Some f) (other : AcceptsNone n notice before)
+      (gone : IsNoted forgotten (message_in f) old new) where
+    recent_still : (key : MsgKey) → holds key notice ≡ false → is_recent (n + 1) key (notice ∷ before) ≡ true → is_recent n key before ≡ true
+    recent_still key apart recent = sym (recent_more n key notice before ∙ ap (λ b. b || is_recent n key before) apart) ∙ recent
 
-    recent_still : (s o : ℕ) → holds (key_of s o) notice ≡ false → is_recent (n + 1) (key_of s o) (notice ∷ before) ≡ true → is_recent n (key_of s o) before ≡ true
-    recent_still s o apart recent = sym (recent_more n (key_of s o) notice before ∙ ap (λ b. b || is_recent n (key_of s o) before) apart) ∙ recent
+    noted_then : (key : MsgKey) (b : Bool) → holds key notice ≡ b → noted_of new key ≡ (if b then nothing else noted_of old key)
+    noted_then key b is = gone.noted key ∙ ap (λ b. if b then nothing else noted_of old key) (sym (holds-some key notice f brings) ∙ is)
 
-    pub acceptances_moved : AreAcceptances scenario (n + 1) (notice ∷ before) new
+    pub acceptances_moved : AreAcceptances (n + 1) (notice ∷ before) new
     acceptances_moved = record {
-      omit = forgotten.omit ∙ h.omit;
-      room = forgotten.room ∙ h.room;
-      copies = λ s o near recent. forgotten.copies (message_number s o) ∙ elim (cases_Bool (holds (key_of s o) notice)) [
+      copies = λ key recent. elim (cases_Bool (holds key notice)) [
         | inl here ↦
-            ap (λ b. if b then 0 else copies_of old (message_number s o)) (sym (holds_is s o near) ∙ here)
-            ∙ sym (ap (copies (accept_id s o)) (after_held (key_of s o) notice before here) ∙ copies-empty s o)
+            ap (λ (x : Noted). x.copies) (noted_then key true here)
+            ∙ sym (ap (copies (accept_of_key key)) (after_held key notice before here) ∙ copies-empty key.seq key.origin)
         | inr apart ↦
-            let was = recent_still s o apart recent in
-            ap (λ b. if b then 0 else copies_of old (message_number s o)) (sym (holds_is s o near) ∙ apart)
-            ∙ h.copies s o near was
-            ∙ sym (ap (copies (accept_id s o)) (after_other (key_of s o) notice before apart)
-            ∙ copies-no (accept_id s o) notice (after_place (key_of s o) before) (other.got s o was))
+            let was = recent_still key apart recent in
+            ap (λ (x : Noted). x.copies) (noted_then key false apart)
+            ∙ h.copies key was
+            ∙ sym (ap (copies (accept_of_key key)) (after_other key notice before apart)
+            ∙ copies-no (accept_of_key key) notice (after_place key before) (other.got key.seq key.origin was))
       ];
-      owned = λ s o near recent. forgotten.owned (message_number s o) ∙ elim (cases_Bool (holds (key_of s o) notice)) [
+      owned = λ key recent. elim (cases_Bool (holds key notice)) [
         | inl here ↦
-            ap (λ b. not b && is_owned old (message_number s o)) (sym (holds_is s o near) ∙ here)
-            ∙ sym (ap (has_own (accept_id s o)) (after_held (key_of s o) notice before here) ∙ has_own-empty s o)
+            ap (λ (x : Noted). x.owned) (noted_then key true here)
+            ∙ sym (ap (has_own (accept_of_key key)) (after_held key notice before here) ∙ has_own-empty key.seq key.origin)
         | inr apart ↦
-            let was = recent_still s o apart recent in
-            ap (λ b. not b && is_owned old (message_number s o)) (sym (holds_is s o near) ∙ apart)
-            ∙ h.owned s o near was
-            ∙ sym (ap (has_own (accept_id s o)) (after_other (key_of s o) notice before apart)
-            ∙ has_own-more (accept_id s o) notice (after_place (key_of s o) before)
-            ∙ ap (λ b. b || has_own (accept_id s o) (after_place (key_of s o) before)) (other.sent s o was))
+            let was = recent_still key apart recent in
+            ap (λ (x : Noted). x.owned) (noted_then key false apart)
+            ∙ h.owned key was
+            ∙ sym (ap (has_own (accept_of_key key)) (after_other key notice before apart)
+            ∙ has_own-more (accept_of_key key) notice (after_place key before)
+            ∙ ap (λ b. b || has_own (accept_of_key key) (after_place key before)) (other.sent key.seq key.origin was))
       ];
-      messages = λ number there. h.messages number (sym (forgotten.there number) ∙ there);
     }

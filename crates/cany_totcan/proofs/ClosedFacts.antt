@@ -57,7 +57,7 @@ module _ (scenario : ScenarioParts) (i : ℕ) (notice : NoticeKind) (before : Li
   pub accepted_is : (f : FrameParts) → NamesMessage scenario service.Tot f → is_recent (scenario.params.bound + 1) (message_in f) (notice ∷ before) ≡ true
       → is_accepted_by v f ≡ is_accepted scenario.params.bound i (message_in f) (notice ∷ before)
   accepted_is f named recent =
-      ap (λ n. nat_lt 0 n || (f.node == v.node && (own_at v.backlog.own f.number).sent)) (h.acceptances.copies f.number f.node (near_named scenario f h.limits.legal named) recent)
+      ap (λ n. nat_lt 0 n || (f.node == v.node && (own_at v.backlog.own f.number).sent)) (h.acceptances.copies (message_in f) recent)
       ∙ ap (λ b. nat_lt 0 (copies (accept_of_key (message_in f)) (after_place (message_in f) (notice ∷ before))) || b) (own_sent f named)
       ∙ sym (accepted_counted scenario.params.bound i (message_in f) (notice ∷ before) recent)
 

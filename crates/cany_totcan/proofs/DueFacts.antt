@@ -15,7 +15,8 @@ use Rattle.cany_message.specs.Actions.{delivery_actions}
 use Rattle.cany_model.proofs.Among.{Each-drop}
 use Rattle.cany_totcan.specs.declared.queue.Placed.{Placed}
 use Rattle.cany_totcan.specs.MessageSet.{MessageSetParts, has_message}
-use Rattle.cany_totcan.specs.Queue.{AreOnce, OpenParts, is_at}
+use Rattle.cany_totcan.specs.Acceptances.{RingParts}
+use Rattle.cany_totcan.specs.Queue.{AreOnce, is_at}
 use Rattle.cany_totcan.specs.Totcan.{TotcanParts}
 use Rattle.cany_totcan.specs.TotcanSteps.{AreAdded, HaveGone, accepted_first, due, first_of, fresh_of, is_accepted_by, is_named, tot_actions}
 
@@ -361,10 +362,10 @@ pub few_due : (v : TotcanParts) → length (due v) ≤ length v.queue.items
 few_due v = omega (arith, length-due v (drop v.queue.done v.queue.items), length-drop v.queue.done v.queue.items)
 
 -- the value after one step, by its parts
-pub state_one : (v w inside : TotcanParts) (q : OpenParts) → w ≡ record inside { queue = q; deliveries = w.deliveries }
-    → q ≡ record inside.queue { done = inside.queue.done + 1 } → inside ≡ v
+pub state_one : (v w inside : TotcanParts) (q : RingParts) → w ≡ record inside { queue = q.messages; acceptances = q.entries; deliveries = w.deliveries }
+    → q ≡ record { messages = record inside.queue { done = inside.queue.done + 1 }; entries = inside.acceptances } → inside ≡ v
     → w ≡ record v { queue = record v.queue { done = v.queue.done + 1 }; deliveries = w.deliveries }
 state_one v w inside q state advanced is =
     state
-    ∙ ap (λ (p : OpenParts). record inside { queue = p; deliveries = w.deliveries }) advanced
+    ∙ ap (λ (p : RingParts). record inside { queue = p.messages; acceptances = p.entries; deliveries = w.deliveries }) advanced
     ∙ ap (λ (x : TotcanParts). record x { queue = record x.queue { done = x.queue.done + 1 }; deliveries = w.deliveries }) is

@@ -3,7 +3,6 @@ use Rattle.std.proofs.Common.{ℕ, List}
 use Rattle.cany_base.specs.declared.message.Service.TheVariants as service
 use Rattle.cany_base.specs.declared.notice.NoticeKind.{NoticeKind}
 use Rattle.cany_base.specs.Scenario.{ScenarioParts}
-use Rattle.cany_diffuse.specs.Eager.{EagerParts}
 use Rattle.cany_message.proofs.FollowedFacts.{legal_for}
 use Rattle.cany_model.specs.Bus.State.{Incarnation}
 use Rattle.cany_model.specs.Rules.Messages.{Message}
@@ -12,7 +11,7 @@ use Rattle.cany_model.specs.Rules.Turn.{scenario_for}
 use Rattle.cany_model.proofs.Among.{Each-weaker}
 use Rattle.cany_totcan.specs.Backlog.{BacklogParts}
 use Rattle.cany_totcan.specs.declared.queue.Placed.{Placed}
-use Rattle.cany_totcan.specs.Totcan.{AreAcceptances, AreOpen, HasLimitsOf, IsBacklogOf, IsOwnTot, IsTotcanOf, TotcanParts}
+use Rattle.cany_totcan.specs.Totcan.{AreOpen, HasLimitsOf, IsBacklogOf, IsOwnTot, IsTotcanOf, TotcanParts}
 
 module _ (scenario : ScenarioParts) (inc : Incarnation) where
   limits_for : (i : ℕ) (v : TotcanParts) → HasLimitsOf scenario i v → HasLimitsOf (scenario_for scenario inc) i v
@@ -22,15 +21,12 @@ module _ (scenario : ScenarioParts) (inc : Incarnation) where
     format = h.format;
     bound = h.bound;
     spacing = h.spacing;
+    omit = h.omit;
     room = h.room;
     at_once = h.at_once;
     numbers = h.numbers;
     deliveries = h.deliveries;
   }
-
-  acceptances_for : (newest : ℕ) (past : List NoticeKind) (table : EagerParts) → AreAcceptances scenario newest past table
-      → AreAcceptances (scenario_for scenario inc) newest past table
-  acceptances_for newest past table h = record { omit = h.omit; room = h.room; copies = h.copies; owned = h.owned; messages = h.messages }
 
   open_for : (newest : ℕ) (past : List NoticeKind) (items : List Placed) → AreOpen scenario newest past items → AreOpen (scenario_for scenario inc) newest past items
   open_for newest past items h = record {
@@ -62,7 +58,7 @@ module _ (scenario : ScenarioParts) (inc : Incarnation) where
   totcan_for i past messages count v h = record {
     limits = limits_for i v h.limits;
     queue = open_for scenario.params.bound past v.queue.items h.queue;
-    acceptances = acceptances_for scenario.params.bound past v.acceptances h.acceptances;
+    acceptances = h.acceptances;
     are_delivered = h.are_delivered;
     done = h.done;
     pending = h.pending;

@@ -11,14 +11,11 @@ use Rattle.cany_base.specs.declared.notice.Notice.{Notice}
 use Rattle.cany_base.specs.declared.notice.NoticeKind.{NoticeKind}
 use Rattle.cany_base.specs.declared.notice.NoticeKind.TheVariants.{Idle, Got, Sent, Bad}
 use Rattle.cany_base.specs.Frame.{FrameParts}
-use Rattle.cany_base.specs.Limits.{most_nodes}
 use Rattle.cany_base.specs.Scenario.{ScenarioParts}
 use Rattle.cany_base.proofs.ParamsFacts.{few_slots}
-use Rattle.cany_diffuse.specs.Eager.{EagerParts, copies_of, is_owned, learnt_of, IsForgotten, IsLearnt, IsOwned}
+use Rattle.cany_diffuse.specs.Eager.{learnt_of}
 use Rattle.cany_message.specs.Actions.{relay_actions}
-use Rattle.cany_message.specs.Numbers.{frame_number}
-use Rattle.cany_message.specs.Table.{CanTake}
-use Rattle.cany_message.proofs.HistoryFacts.{has_own-more, identity_is}
+use Rattle.cany_message.proofs.HistoryFacts.{identity_is}
 use Rattle.cany_message.proofs.NoticeFacts.{got_belongs, sent_belongs}
 use Rattle.cany_message.proofs.RelayFacts.{eager_is}
 use Rattle.cany_model.specs.Bus.Frames.{identity_of, same_class}
@@ -31,12 +28,14 @@ use Rattle.cany_model.specs.Rules.Notices.{BelongsTo, IsNextNotice, NamesMessage
 use Rattle.cany_model.specs.Rules.Totcan.{accept_effects, accept_frame, after_place, delivered, holds, can_be_accepted, is_recent, message_in, tot_in}
 use Rattle.cany_model.proofs.Among.{Each-weaker}
 use Rattle.cany_model.proofs.Bus.Identities.{same_class-true}
+use Rattle.cany_totcan.specs.declared.queue.Open.{Open}
 use Rattle.cany_totcan.specs.declared.queue.Placed.{Placed}
+use Rattle.cany_totcan.specs.Acceptances.{IsNoted, forgotten, noted_of, with_copy, with_own}
 use Rattle.cany_totcan.specs.Queue.{AreOnce, is_at, moved, placed_in, without_key}
 use Rattle.cany_totcan.specs.Totcan.{AreAcceptances, AreDone, CanRead, HasHeard, IsBacklogOf, IsTotcanOf, TotcanParts}
 use Rattle.cany_totcan.specs.TotcanSteps.{has_open, noted_if, origin_actions}
-use Rattle.cany_totcan.proofs.AcceptanceFacts.{AcceptsNone, acceptances_learnt, acceptances_moved, acceptances_owned, acceptances_same, accepts_none-bad, accepts_none-got, accepts_none-got_closed, accepts_none-idle, accepts_none-sent, accepts_none-sent_closed, can_take_acceptance, not_accepting, not_carrying}
-use Rattle.cany_totcan.proofs.AcceptedFacts.{accepted_stays, after_other}
+use Rattle.cany_totcan.proofs.AcceptanceFacts.{AcceptsNone, acceptances_learnt, acceptances_moved, acceptances_owned, acceptances_same, accepts_none-bad, accepts_none-got, accepts_none-got_closed, accepts_none-idle, accepts_none-sent, accepts_none-sent_closed, not_accepting, not_carrying}
+use Rattle.cany_totcan.proofs.AcceptedFacts.{accepted_stays}
 use Rattle.cany_totcan.proofs.KnownFacts.{own_named, number_below}
 use Rattle.cany_totcan.proofs.OwnFacts.{IsOfOwn, brings_own, got_own, own_noted, own_other, sent_own}
 use Rattle.cany_totcan.proofs.PlaceFacts.{IsWithin, holds-none, holds-some, is_of_key_back, open_is, placed_kept, placed_moved, placed_few, placed_once, placed_within, recent_more, tot_in-got, tot_in-got_other, tot_in-sent, tot_in-sent_other}
@@ -77,7 +76,7 @@ module _ (scenario : ScenarioParts) (i : ℕ) (notice : NoticeKind) (before : Li
   still_done none items done =
       Each-weaker _ _ (λ x d. (accepted_stays scenario.params.bound i (message_in x.frame) notice before (holds-none (message_in x.frame) notice none) d.0, d.1)) items done
 
-  pub heard_other : tot_in notice ≡ None → brings_own i notice ≡ false → AreAcceptances scenario (scenario.params.bound + 1) (notice ∷ before) w.acceptances
+  pub heard_other : tot_in notice ≡ None → brings_own i notice ≡ false → AreAcceptances (scenario.params.bound + 1) (notice ∷ before) w.acceptances
       → w ≡ record v { acceptances = w.acceptances } → HasHeard scenario i notice before messages count w
   heard_other none not_own acceptances state = subst (HasHeard scenario i notice before messages count) (sym state) (record {
     limits = record {
@@ -86,6 +85,7 @@ module _ (scenario : ScenarioParts) (i : ℕ) (notice : NoticeKind) (before : Li
       format = h.limits.format;
       bound = h.limits.bound;
       spacing = h.limits.spacing;
+      omit = h.limits.omit;
       room = h.limits.room;
       at_once = h.limits.at_once;
       numbers = h.limits.numbers;
@@ -135,23 +135,24 @@ module _ (scenario : ScenarioParts) (i : ℕ) (notice : NoticeKind) (before : Li
 
     pub heard_data : IsBacklogOf scenario i (notice ∷ before) messages count (noted_if (f.node == v.node) f slot is_own v.backlog)
         → AcceptsNone scenario.params.bound notice before
-        → f.node < most_nodes → IsForgotten (frame_number f) v.acceptances w.acceptances
+        → IsNoted forgotten (message_in f) v.acceptances w.acceptances
         → w ≡ record v { queue = moved f slot v.queue; acceptances = w.acceptances; backlog = noted_if (f.node == v.node) f slot is_own v.backlog }
         → HasHeard scenario i notice before messages count w
-    heard_data backlog other small forgotten state = subst (HasHeard scenario i notice before messages count) (sym state) (record {
+    heard_data backlog other gone state = subst (HasHeard scenario i notice before messages count) (sym state) (record {
       limits = record {
         legal = h.limits.legal;
         node = h.limits.node;
         format = h.limits.format;
         bound = h.limits.bound;
         spacing = h.limits.spacing;
+        omit = h.limits.omit;
         room = h.limits.room;
         at_once = h.limits.at_once;
         numbers = h.limits.numbers;
         deliveries = h.limits.deliveries;
       };
       queue = record { places = moved_places; messages = named-moved scenario service.Tot f slot v.queue named h.queue.messages };
-      acceptances = acceptances_moved scenario scenario.params.bound before v.acceptances h.acceptances f notice w.acceptances brings other small forgotten;
+      acceptances = acceptances_moved scenario.params.bound before v.acceptances h.acceptances f notice w.acceptances brings other gone;
       are_delivered = h.are_delivered;
       done =
           subst (AreDone scenario.params i (notice ∷ before) (delivered scenario.params i before)) (sym (done-moved f slot v.queue))
@@ -190,12 +191,9 @@ module _ (scenario : ScenarioParts) (i : ℕ) (before : List NoticeKind) (messag
     pub can_note : f.node ≡ v.node → f.number < length v.backlog.own
     can_note own = omega (arith, own_named scenario f h.limits.legal named i (own ∙ h.limits.node), h.backlog.own)
 
-    pub can_count : CanTake (frame_number f) v.acceptances
-    can_count = can_take_acceptance scenario scenario.params.bound before v.acceptances f h.acceptances named
-
     -- a data frame
-    module _ (slot : ℕ) (is : same_class f.class class.Tot ≡ true) (at : slot ≡ length before) (small : f.node < most_nodes)
-        (forgotten : IsForgotten (frame_number f) v.acceptances w.acceptances) where
+    module _ (slot : ℕ) (is : same_class f.class class.Tot ≡ true) (at : slot ≡ length before)
+        (gone : IsNoted forgotten (message_in f) v.acceptances w.acceptances) where
       tot : f.class ≡ class.Tot
       tot = same_class-true f.class class.Tot is
 
@@ -209,7 +207,7 @@ module _ (scenario : ScenarioParts) (i : ℕ) (before : List NoticeKind) (messag
           (subst (λ n. IsBacklogOf scenario i (Got f ∷ before) messages count (noted_if (f.node == n) f slot false v.backlog)) (sym h.limits.node)
           (backlog_then scenario i (Got f) before messages count v w h f slot false (tot_in-got f is) at named (got_own i f tot) own_at_node
           (λ other. ap (λ b. same_class f.class class.Tot && b) other ∙ and_none (same_class f.class class.Tot))))
-          (accepts_none-got scenario.params.bound f before (not_accepting f tot)) small forgotten state
+          (accepts_none-got scenario.params.bound f before (not_accepting f tot)) gone state
 
       pub heard_sent : w ≡ record v { queue = moved f slot v.queue; acceptances = w.acceptances; backlog = noted_if (f.node == v.node) f slot true v.backlog }
           → HasHeard scenario i (Sent f) before messages count w
@@ -218,23 +216,23 @@ module _ (scenario : ScenarioParts) (i : ℕ) (before : List NoticeKind) (messag
           (subst (λ n. IsBacklogOf scenario i (Sent f ∷ before) messages count (noted_if (f.node == n) f slot true v.backlog)) (sym h.limits.node)
           (backlog_then scenario i (Sent f) before messages count v w h f slot true (tot_in-sent f is) at named (sent_own i f tot) own_at_node
           (λ other. ap (λ b. same_class f.class class.Tot && b) other ∙ and_none (same_class f.class class.Tot))))
-          (accepts_none-sent scenario.params.bound f before (not_accepting f tot)) small forgotten state
+          (accepts_none-sent scenario.params.bound f before (not_accepting f tot)) gone state
 
     -- a frame that accepts an open message
-    module _ (is : f.class ≡ class.Accept) (small : f.node < most_nodes) (state : w ≡ record v { acceptances = w.acceptances }) where
-      pub heard_acceptance : length before < scenario.params.slots → IsLearnt (frame_number f) v.acceptances w.acceptances
+    module _ (is : f.class ≡ class.Accept) (state : w ≡ record v { acceptances = w.acceptances }) where
+      pub heard_acceptance : length before < scenario.params.slots → IsNoted with_copy (message_in f) v.acceptances w.acceptances
           → HasHeard scenario i (Got f) before messages count w
       heard_acceptance within learnt =
           let none = tot_in-got_other f (not_carrying f is) in
           heard_other scenario i (Got f) before messages count v w h none (ap (λ b. b && f.node == i) (not_carrying f is))
-          (acceptances_learnt scenario scenario.params.bound before v.acceptances h.acceptances f w.acceptances is small named none
+          (acceptances_learnt scenario.params.bound before v.acceptances h.acceptances f w.acceptances is none
           (omega (arith, within, few_slots scenario.params h.limits.legal.in_range)) learnt) state
 
-      pub heard_own_acceptance : IsOwned (frame_number f) v.acceptances w.acceptances → HasHeard scenario i (Sent f) before messages count w
+      pub heard_own_acceptance : IsNoted with_own (message_in f) v.acceptances w.acceptances → HasHeard scenario i (Sent f) before messages count w
       heard_own_acceptance owned =
           let none = tot_in-sent_other f (not_carrying f is) in
           heard_other scenario i (Sent f) before messages count v w h none (ap (λ b. b && f.node == i) (not_carrying f is))
-          (acceptances_owned scenario scenario.params.bound before v.acceptances h.acceptances f w.acceptances is small named none owned) state
+          (acceptances_owned scenario.params.bound before v.acceptances h.acceptances f w.acceptances is none owned) state
 
   -- any other frame
   module _ (other : same_class f.class class.Tot ≡ false) (none : (same_class f.class class.Accept && has_open v f) ≡ false) where
@@ -248,7 +246,7 @@ module _ (scenario : ScenarioParts) (i : ℕ) (before : List NoticeKind) (messag
     pub heard_got_other : HasHeard scenario i (Got f) before messages count v
     heard_got_other =
         heard_other scenario i (Got f) before messages count v v h (tot_in-got_other f other) (ap (λ b. b && f.node == i) other)
-        (acceptances_same scenario scenario.params.bound before v.acceptances h.acceptances (Got f) (tot_in-got_other f other)
+        (acceptances_same scenario.params.bound before v.acceptances h.acceptances (Got f) (tot_in-got_other f other)
         (elim (cases_Bool (same_class f.class class.Accept)) [
           | inl same ↦
               let is = same_class-true f.class class.Accept same in
@@ -259,7 +257,7 @@ module _ (scenario : ScenarioParts) (i : ℕ) (before : List NoticeKind) (messag
     pub heard_sent_other : HasHeard scenario i (Sent f) before messages count v
     heard_sent_other =
         heard_other scenario i (Sent f) before messages count v v h (tot_in-sent_other f other) (ap (λ b. b && f.node == i) other)
-        (acceptances_same scenario scenario.params.bound before v.acceptances h.acceptances (Sent f) (tot_in-sent_other f other)
+        (acceptances_same scenario.params.bound before v.acceptances h.acceptances (Sent f) (tot_in-sent_other f other)
         (elim (cases_Bool (same_class f.class class.Accept)) [
           | inl same ↦
               let is = same_class-true f.class class.Accept same in
@@ -274,13 +272,13 @@ module _ (scenario : ScenarioParts) (i : ℕ) (before : List NoticeKind) (messag
   unfolding tot_in
   heard_idle =
       heard_other scenario i Idle before messages count v v h refl refl
-      (acceptances_same scenario scenario.params.bound before v.acceptances h.acceptances Idle refl (accepts_none-idle scenario.params.bound before)) refl
+      (acceptances_same scenario.params.bound before v.acceptances h.acceptances Idle refl (accepts_none-idle scenario.params.bound before)) refl
 
   pub heard_bad : HasHeard scenario i Bad before messages count v
   unfolding tot_in
   heard_bad =
       heard_other scenario i Bad before messages count v v h refl refl
-      (acceptances_same scenario scenario.params.bound before v.acceptances h.acceptances Bad refl (accepts_none-bad scenario.params.bound before)) refl
+      (acceptances_same scenario.params.bound before v.acceptances h.acceptances Bad refl (accepts_none-bad scenario.params.bound before)) refl
 
 -- the frame of a notice accepts a message of TOTCAN
 acceptance_names : (scenario : ScenarioParts) (slot : ℕ) (k : Class) (f : FrameParts) → k ≡ class.Accept → BelongsTo scenario slot k f
@@ -340,26 +338,23 @@ unfolding accept_effects
 accepts scenario i f before is = rw is refl
 
 -- a frame that accepts an open message is relayed by the eager rule
-pub relay_is : (scenario : ScenarioParts) (i : ℕ) (f : FrameParts) (before : List NoticeKind) (old new : EagerParts) → f.class ≡ class.Accept → f.node < most_nodes
+pub relay_is : (scenario : ScenarioParts) (i : ℕ) (f : FrameParts) (before : List NoticeKind) (omit : ℕ) (new : List Open) → f.class ≡ class.Accept
     → (same_class f.class class.Accept && can_be_accepted scenario.params.bound (message_in f) before) ≡ true
-    → AreAcceptances scenario scenario.params.bound before old → AreAcceptances scenario (scenario.params.bound + 1) (Got f ∷ before) new
-    → relay_actions scenario.params.format (learnt_of old.omit (copies_of new (frame_number f)) (is_owned old (frame_number f))) f
+    → omit ≡ scenario.params.omit → AreAcceptances (scenario.params.bound + 1) (Got f ∷ before) new
+    → relay_actions scenario.params.format (learnt_of omit (noted_of new (message_in f)).copies (noted_of new (message_in f)).owned) f
     ≡ actions_of scenario.params.format (accept_effects scenario.params i (Got f) before)
-relay_is scenario i f before old new is small accepts_open h after =
+relay_is scenario i f before omit new is accepts_open omit_is after =
     let recent : is_recent scenario.params.bound (message_in f) before ≡ true =
     (and_parts (same_class f.class class.Accept) (is_recent scenario.params.bound (message_in f) before) accepts_open).1 in
-    let other : holds (message_in f) (Got f) ≡ false = holds-none (message_in f) (Got f) (tot_in-got_other f (not_carrying f is)) in
     let recent_then : is_recent (scenario.params.bound + 1) (message_in f) (Got f ∷ before) ≡ true =
     recent_more scenario.params.bound (message_in f) (Got f) before ∙ ap (λ b. holds (message_in f) (Got f) || b) recent ∙ or_true (holds (message_in f) (Got f)) in
     let past : List NoticeKind = after_place (message_in f) (Got f ∷ before) in
     let named = identity_is class.Accept f is in
-    let copies_are : copies_of new (frame_number f) ≡ copies (identity_of f) past =
-    after.copies f.number f.node small recent_then ∙ ap (λ x. copies x past) (sym named) in
-    let own_is : is_owned old (frame_number f) ≡ has_own (identity_of f) past =
-    h.owned f.number f.node small recent
-    ∙ ap (λ x. has_own x (after_place (message_in f) before)) (sym named)
-    ∙ sym (ap (has_own (identity_of f)) (after_other (message_in f) (Got f) before other) ∙ has_own-more (identity_of f) (Got f) (after_place (message_in f) before)) in
-    ap (λ l. relay_actions scenario.params.format l f) (λ k. learnt_of (h.omit k) (copies_are k) (own_is k))
+    let copies_are : (noted_of new (message_in f)).copies ≡ copies (identity_of f) past =
+    after.copies (message_in f) recent_then ∙ ap (λ x. copies x past) (sym named) in
+    let own_is : (noted_of new (message_in f)).owned ≡ has_own (identity_of f) past =
+    after.owned (message_in f) recent_then ∙ ap (λ x. has_own x past) (sym named) in
+    ap (λ l. relay_actions scenario.params.format l f) (λ k. learnt_of (omit_is k) (copies_are k) (own_is k))
     ∙ sym (eager_is scenario.params.format scenario.params.omit f past)
     ∙ ap (actions_of scenario.params.format) (sym (accepts scenario i f before accepts_open))
   where

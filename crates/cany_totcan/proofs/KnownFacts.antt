@@ -3,7 +3,9 @@ use Rattle.cany_model.specs.Rules.Rooms.{sends_by}
 use Rattle.std.proofs.Common.{◌≡◌, ℕ, ◌+◌, ◌-◌, ◌<◌, ◌≤◌, ◌==◌, Bool, true, false, if◌then◌else◌, List, [], ◌∷◌, count_by, length, Option, Some, None, refl, ap, sym, subst, ◌∙◌, arith}
 use Rattle.std.specs.Prelude.{nat_lt}
 use Rattle.std.proofs.lemmas.Bool.Decides.{nat_tests}
-use Rattle.std.specs.List.{AllByRecursion}
+use Rattle.std.specs.List.{AllByRecursion, list_any}
+use Rattle.std.proofs.lemmas.Bool.{false≢true, false_from_ne_true}
+use Rattle.cany_model.specs.Rules.Totcan.{message_in}
 use Rattle.can_frame.specs.Identifier.{HasSmallNumbers}
 use Rattle.cany_base.specs.declared.actions.Action.{Action}
 use Rattle.cany_base.specs.declared.format.Format.{Format}
@@ -19,16 +21,18 @@ use Rattle.cany_model.specs.Rules.Messages.{Message, is_from}
 use Rattle.cany_model.specs.Rules.Notices.{NamesMessage}
 use Rattle.cany_model.proofs.Among.{Each-weaker}
 use Rattle.cany_model.proofs.Rules.NumberFacts.{message_is_small}
+use Rattle.cany_totcan.specs.declared.queue.Open.{Open}
 use Rattle.cany_totcan.specs.declared.queue.Placed.{Placed}
 use Rattle.cany_totcan.specs.MessageSet.{MessageSetParts, HasRoomOf, numbers_of}
-use Rattle.cany_totcan.specs.Queue.{AreOnce, OpenParts, oldest_from, without_oldest, without_oldest_from}
+use Rattle.cany_totcan.specs.Acceptances.{IsNoted, forgotten, is_same, noted_of, nothing}
+use Rattle.cany_totcan.specs.Queue.{AreOnce, OpenParts, is_at, oldest_from, without_oldest, without_oldest_from}
 use Rattle.cany_totcan.specs.Totcan.{HasHeard, TotcanParts}
-use Rattle.cany_totcan.specs.TotcanSteps.{AreAdded, AreKnown, HaveGone, IsKnown, due, first_of, closing_accepted, closing_frame, is_accepted_by, without_closing}
+use Rattle.cany_totcan.specs.TotcanSteps.{AreAdded, AreKnown, AreStillNoted, HaveGone, IsKnown, due, first_of, closing_accepted, closing_frame, is_accepted_by, without_closing}
 use Rattle.cany_totcan.proofs.DueFacts.{due-first, each_frame_at}
 use Rattle.cany_totcan.proofs.MessageSetFacts.{below_numbers}
 use Rattle.cany_totcan.proofs.OwnFacts.{seq_below}
 use Rattle.cany_totcan.proofs.PlaceFacts.{placed_few, placed_once}
-use Rattle.cany_totcan.proofs.QueueFacts.{both_le, few_named}
+use Rattle.cany_totcan.proofs.QueueFacts.{both_le, few_named, same_key-true}
 
 -- a message of the scenario
 module _ (scenario : ScenarioParts) (f : FrameParts) (legal : IsLegalScenario scenario) (named : NamesMessage scenario service.Tot f) where
@@ -142,7 +146,7 @@ closing_with P slot v here tail = go (nat_lt slot v.bound)
 pub closing_few : (slot : ℕ) (v : TotcanParts) → length (without_closing slot v).queue.items ≤ length v.queue.items
 closing_few slot v = closing_with (λ items. length items ≤ length v.queue.items) slot v (omega arith) (λ x rest few. omega (arith, few))
 
-pub known_closed : (slot : ℕ) (v w : TotcanParts) → AreKnown v → w ≡ record (without_closing slot v) { deliveries = w.deliveries }
+pub known_closed : (slot : ℕ) (v w : TotcanParts) → AreKnown v → w ≡ record (without_closing slot v) { acceptances = w.acceptances; deliveries = w.deliveries }
     → AreAdded (closing_accepted v (closing_frame slot v)) v.deliveries w.deliveries → AreKnown w
 known_closed slot v w h state added = subst AreKnown (sym state) (record {
   scenario = h.scenario;
@@ -152,6 +156,39 @@ known_closed slot v w h state added = subst AreKnown (sym state) (record {
   known = closing_with (λ items. AllByRecursion (λ x. IsKnown h.scenario v.node (length v.backlog.own) x.frame) items) slot v h.known (λ x rest all. all.1);
   once = closing_with AreOnce slot v h.once (λ x rest all. all.1);
 })
+
+-- the message that closes is not there any more
+gone_oldest : (place : ℕ) (q : OpenParts) (items : List Placed) (f : FrameParts) → AreOnce items → oldest_from place items ≡ Some f
+    → list_any (is_at (message_in f)) (without_oldest_from place q items).items ≡ false
+gone_oldest place q [] f once is = absurd (cc)
+gone_oldest place q (x ∷ items) f once is = go (x.place == place) is
+  where
+    go : (b : Bool) → (if b then Some x.frame else None) ≡ Some f
+        → list_any (is_at (message_in f)) (if b then record q { items = items; done = q.done - 1 } else q).items ≡ false
+    go true at =
+        let same : x.frame ≡ f = cc in
+        ap (λ g. list_any (is_at (message_in g)) items) (sym same) ∙ once.0
+    go false at = absurd (cc)
+
+gone_closing : (slot : ℕ) (v : TotcanParts) (f : FrameParts) → AreOnce v.queue.items → closing_frame slot v ≡ Some f
+    → list_any (is_at (message_in f)) (without_closing slot v).queue.items ≡ false
+gone_closing slot v f once is = go (nat_lt slot v.bound) is
+  where
+    go : (b : Bool) → (if b then None else oldest_from (slot - v.bound) v.queue.items) ≡ Some f
+        → list_any (is_at (message_in f)) (if b then v.queue else without_oldest (slot - v.bound) v.queue).items ≡ false
+    go true at = absurd (cc)
+    go false at = gone_oldest (slot - v.bound) v.queue v.queue.items f once at
+
+-- what was noted of the others stays
+pub still_noted : (slot : ℕ) (v : TotcanParts) (f : FrameParts) (new : List Open) → AreOnce v.queue.items → closing_frame slot v ≡ Some f
+    → IsNoted forgotten (message_in f) v.acceptances new → AreStillNoted (without_closing slot v).queue.items v.acceptances new
+still_noted slot v f new once is gone = record {
+  noted = λ key there.
+      let items = (without_closing slot v).queue.items in
+      let other : is_same key (message_in f) ≡ false = false_from_ne_true (is_same key (message_in f)) (λ same.
+      false≢true (sym (gone_closing slot v f once is) ∙ ap (λ k. list_any (is_at k) items) (sym (same_key-true key (message_in f) same)) ∙ there)) in
+      gone.noted key ∙ ap (λ b. if b then nothing else noted_of v.acceptances key) other;
+}
 
 -- ---- the walk
 
@@ -205,6 +242,6 @@ pub closing_known : (slot : ℕ) (v : TotcanParts) (f : FrameParts) (h : AreKnow
 closing_known slot v f h is = closing_is_each (IsKnown h.scenario v.node (length v.backlog.own)) slot v f h.known is
 
 pub closed_few : (scenario : ScenarioParts) (i : ℕ) (notice : NoticeKind) (before : List NoticeKind) (messages : List Message) (count : ℕ) (slot : ℕ) (v w : TotcanParts)
-    → HasHeard scenario i notice before messages count v → w ≡ record (without_closing slot v) { deliveries = w.deliveries } → length w.queue.items ≤ v.queue.room
+    → HasHeard scenario i notice before messages count v → w ≡ record (without_closing slot v) { acceptances = w.acceptances; deliveries = w.deliveries } → length w.queue.items ≤ v.queue.room
 closed_few scenario i notice before messages count slot v w h state =
     omega (arith, ap (λ (x : TotcanParts). length x.queue.items) state, closing_few slot v, heard_few scenario i notice before messages count v h)

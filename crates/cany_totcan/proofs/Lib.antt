@@ -8,6 +8,7 @@ pub mod FollowedFacts
 pub mod HeardFacts
 pub mod KnownFacts
 pub mod NextFacts
+pub mod NotedFacts
 pub mod OpenFacts
 pub mod OpenSetFacts
 pub mod OwnFacts

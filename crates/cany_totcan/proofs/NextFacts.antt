@@ -283,6 +283,7 @@ with_backlog scenario i past messages others count many v b h of_b = record {
     format = h.limits.format;
     bound = h.limits.bound;
     spacing = h.limits.spacing;
+    omit = h.limits.omit;
     room = h.limits.room;
     at_once = h.limits.at_once;
     numbers = h.limits.numbers;

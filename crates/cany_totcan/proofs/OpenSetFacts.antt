@@ -1,5 +1,5 @@
 -- The set of the open messages has a place for each of them; and what is left without the oldest.
-use Rattle.std.proofs.Common.{◌≡◌, ℕ, zero, suc, ◌-◌, ◌<◌, ◌≤◌, ◌==◌, ◌||◌, Bool, true, false, if◌then◌else◌, inl, inr, List, [], ◌∷◌, drop, length, replicate, Option, Some, None, refl, ap, subst, sym, ◌∙◌, arith}
+use Rattle.std.proofs.Common.{◌≡◌, ℕ, zero, suc, ◌-◌, ◌<◌, ◌≤◌, ◌==◌, Bool, true, false, if◌then◌else◌, inl, inr, List, [], ◌∷◌, drop, length, replicate, Option, Some, None, refl, ap, subst, sym, ◌∙◌, arith}
 use Rattle.std.specs.Prelude.{remove, slice_get, slice_index_or, option_copied, IsSome, OnSome, MatchOption}
 use Rattle.std.specs.List.{HoldsAt, list_any}
 use denote.Ref.{Bor}
@@ -56,7 +56,7 @@ oldest_front place (x ∷ items) f at = by (x.place == place) at
         subst (λ g. IsIndexOf (message_in g) 0 (x ∷ items)) frame (record { within = omega arith; is = λ d. same_key_self (message_in x.frame) })
     by false is = absurd (cc)
 
-front_removed : (items : List Placed) → remove items 0 ≡ drop 1 items
+pub front_removed : {X : Type 0} (items : List X) → remove items 0 ≡ drop 1 items
 front_removed [] = refl
 front_removed (x ∷ items) = refl
 
@@ -81,17 +81,18 @@ pub removed_from : {X : Type 0} (r : Option X) (A : Type 0) → OnSome r A → I
 removed_from None A on some = absurd (false≢true some)
 removed_from (Some x) A on some = on
 
-at_index : (items : List Placed) (i : ℕ) (x : Placed) → i < length items → x ≡ slice_index_or items i x → Some x ≡ slice_get items i
-at_index [] i x within is = absurd (omega (arith, within))
-at_index (y ∷ items) zero x within is = ap (λ z. Some z) is
-at_index (y ∷ items) (suc i) x within is = at_index items i x (omega (arith, within)) is
+module _ {T : Type 0} where
+  at_index : (items : List T) (i : ℕ) (x : T) → i < length items → x ≡ slice_index_or items i x → Some x ≡ slice_get items i
+  at_index [] i x within is = absurd (omega (arith, within))
+  at_index (y ∷ items) zero x within is = ap (λ z. Some z) is
+  at_index (y ∷ items) (suc i) x within is = at_index items i x (omega (arith, within)) is
 
-past_index : (items : List Placed) (i : ℕ) → length items ≤ i → None ≡ slice_get items i
-past_index [] i past = refl
-past_index (y ∷ items) zero past = absurd (omega (arith, past))
-past_index (y ∷ items) (suc i) past = past_index items i (omega (arith, past))
+  past_index : (items : List T) (i : ℕ) → length items ≤ i → None ≡ slice_get items i
+  past_index [] i past = refl
+  past_index (y ∷ items) zero past = absurd (omega (arith, past))
+  past_index (y ∷ items) (suc i) past = past_index items i (omega (arith, past))
 
-pub item_is : (items : List Placed) (i : ℕ) (r : Option (Bor Placed))
-    → MatchOption r (length items ≤ i) (λ x. (i < length items) × HoldsAt (λ y. x.now ≡ y) items i) → option_copied r ≡ slice_get items i
-item_is items i None past = past_index items i past
-item_is items i (Some x) at = at_index items i x.now at.0 (at.1 x.now)
+  pub item_is : (items : List T) (i : ℕ) (r : Option (Bor T))
+      → MatchOption r (length items ≤ i) (λ x. (i < length items) × HoldsAt (λ y. x.now ≡ y) items i) → option_copied r ≡ slice_get items i
+  item_is items i None past = past_index items i past
+  item_is items i (Some x) at = at_index items i x.now at.0 (at.1 x.now)

@@ -220,7 +220,7 @@ length-without-one key (x ∷ items) once there = elim (cases_Bool (is_at key x)
 -- ---- a message at an index
 
 -- the index among the others
-rest_at : (key : MsgKey) (x : Placed) (items : List Placed) (index : ℕ) → IsIndexOf key (suc index) (x ∷ items) → IsIndexOf key index items
+pub rest_at : (key : MsgKey) (x : Placed) (items : List Placed) (index : ℕ) → IsIndexOf key (suc index) (x ∷ items) → IsIndexOf key index items
 rest_at key x items index at = record { within = omega (arith, at.within); is = λ d. at.is d }
 
 pub there_at : (key : MsgKey) (items : List Placed) (index : ℕ) → IsIndexOf key index items → list_any (is_at key) items ≡ true
@@ -228,7 +228,7 @@ there_at key [] index at = absurd (omega (arith, at.within))
 there_at key (x ∷ items) index at = list_any_at (is_at key) (x ∷ items) index x at.within (at.is x)
 
 -- a message that stands later does not stand first
-not_first : (key : MsgKey) (x : Placed) (items : List Placed) (index : ℕ) → AreOnce (x ∷ items) → IsIndexOf key (suc index) (x ∷ items)
+pub not_first : (key : MsgKey) (x : Placed) (items : List Placed) (index : ℕ) → AreOnce (x ∷ items) → IsIndexOf key (suc index) (x ∷ items)
     → is_at key x ≡ false
 not_first key x items index once at = false_from_ne_true (is_at key x) (λ here.
     false≢true (sym (once_here key x items once here) ∙ there_at key items index (rest_at key x items index at)))

@@ -104,11 +104,11 @@ module _ (scenario : ScenarioParts) (i : ℕ) (past : List NoticeKind) (messages
     none_added : AreAdded (closing_accepted v (closing_frame (length past) v)) v.deliveries v.deliveries
     none_added = subst (λ o. AreAdded (closing_accepted v o) v.deliveries v.deliveries) (sym closing) (added_none v.deliveries)
 
-    none_gone : HaveGone (length past) (record (without_closing (length past) v) { deliveries = v.deliveries }) v [] []
+    none_gone : HaveGone (length past) (record (without_closing (length past) v) { acceptances = v.acceptances; deliveries = v.deliveries }) v [] []
     none_gone = subst (λ u. HaveGone (length past) u v [] []) (sym (closing_kept (length past) v closing)) (gone_none (length past) v [])
 
     idle_stands : IsTotcanOf scenario i (Idle ∷ past) messages count v
-    idle_stands = turn_stands scenario i Idle past messages count v heard (length past) refl v.deliveries none_added v [] [] none_gone none_due
+    idle_stands = turn_stands scenario i Idle past messages count v heard (length past) refl v.acceptances (record { noted = λ key there. refl }) v.deliveries none_added v [] [] none_gone none_due
 
     none_closed : [] ≡ closing_actions v.format (closing_frame (length past) v)
         ++ tot_actions (length past) (fresh_of v.deliveries (closing_accepted v (closing_frame (length past) v)))
@@ -117,7 +117,7 @@ module _ (scenario : ScenarioParts) (i : ℕ) (past : List NoticeKind) (messages
     idle_effects : totcan_effects scenario i (Idle ∷ past) ≡ []
     idle_effects =
         no_effects scenario.params.format (totcan_effects scenario i (Idle ∷ past))
-        (turn_actions scenario i Idle past messages count v heard (length past) refl v.deliveries none_added v [] [] none_gone none_due [] []
+        (turn_actions scenario i Idle past messages count v heard (length past) refl v.acceptances (record { noted = λ key there. refl }) v.deliveries none_added v [] [] none_gone none_due [] []
         (sym (ap (actions_of scenario.params.format) (nothing_idle scenario i past))) none_closed)
 
     module _ (none : next_given (length past) v.spacing v.backlog ≡ None) where

@@ -1,5 +1,5 @@
 -- A turn: the notice, then what closes in it, then what is delivered.
-use Rattle.std.proofs.Common.{◌≡◌, ℕ, zero, suc, ◌+◌, ◌-◌, ◌<◌, ◌==◌, ◌||◌, inl, inr, Bool, true, false, if◌then◌else◌, List, [], ◌∷◌, ◌++◌, length, map, take, drop, Option, Some, None, refl, ap, sym, subst, ◌∙◌, append_assoc, arith}
+use Rattle.std.proofs.Common.{◌≡◌, ℕ, zero, suc, ◌+◌, ◌-◌, ◌<◌, ◌==◌, ◌&&◌, ◌||◌, inl, inr, Bool, true, false, if◌then◌else◌, List, [], ◌∷◌, ◌++◌, length, map, take, drop, Option, Some, None, refl, ap, sym, subst, ◌∙◌, append_assoc, arith}
 use Rattle.std.specs.Prelude.{nat_lt, slice_get}
 use Rattle.std.specs.List.{AllByRecursion, list_any}
 use Rattle.std.proofs.Math.Seq.{take-add}
@@ -10,6 +10,7 @@ use Rattle.cany_base.specs.declared.actions.Action.{Action}
 use Rattle.cany_base.specs.declared.actions.Action.TheVariants.{Enter}
 use Rattle.cany_base.specs.declared.class.Class.TheVariants as class
 use Rattle.cany_base.specs.declared.format.Format.{Format}
+use Rattle.cany_base.specs.declared.message.MsgKey.{MsgKey}
 use Rattle.cany_base.specs.declared.message.Service.TheVariants as service
 use Rattle.cany_base.specs.declared.notice.NoticeKind.{NoticeKind}
 use Rattle.cany_base.specs.Frame.{FrameParts}
@@ -23,16 +24,21 @@ use Rattle.cany_model.specs.Rules.Delivery.{delivery}
 use Rattle.cany_model.specs.Rules.Effect.{Effect}
 use Rattle.cany_model.specs.Rules.Messages.{Message}
 use Rattle.cany_model.specs.Rules.Notices.{NamesMessage}
-use Rattle.cany_model.specs.Rules.Totcan.{accept_effects, closing_effects, delivered, delivered_now, is_among as is_one_of, new_among, tot_delivery, tot_of_key, totcan_effects, with_new}
+use Rattle.cany_model.specs.Rules.Totcan.{accept_effects, closing_effects, delivered, delivered_now, is_among as is_one_of, is_recent, message_in, new_among, tot_delivery, tot_of_key, totcan_effects, with_new}
 use Rattle.cany_model.proofs.Among.{Each-append, Each-drop, Each-weaker}
 use Rattle.cany_model.proofs.Bus.Identities.{same_identity-true, same_identity_self}
+use Rattle.cany_totcan.specs.declared.queue.Noted.{Noted}
+use Rattle.cany_totcan.specs.declared.queue.Open.{Open}
 use Rattle.cany_totcan.specs.declared.queue.Placed.{Placed}
 use Rattle.cany_totcan.specs.MessageSet.{MessageSetParts, has_message}
-use Rattle.cany_totcan.specs.Queue.{OpenParts, placed_in, without_oldest, without_oldest_from}
+use Rattle.cany_totcan.specs.Acceptances.{noted_of}
+use Rattle.cany_totcan.specs.Backlog.{own_at}
+use Rattle.cany_totcan.specs.Queue.{OpenParts, is_at, placed_in, without_oldest, without_oldest_from}
 use Rattle.cany_totcan.specs.Totcan.{AreDelivered, AreDone, HasHeard, IsFirstPending, IsTotcanOf, TotcanParts, key_of}
-use Rattle.cany_totcan.specs.TotcanSteps.{AreAdded, HaveGone, accepted_first, closing_accepted, closing_actions, closing_frame, due, fresh_of, is_accepted_by, is_named, tot_actions, without_closing}
+use Rattle.cany_totcan.specs.TotcanSteps.{AreAdded, AreStillNoted, HaveGone, accepted_first, closing_accepted, closing_actions, closing_frame, due, fresh_of, is_accepted_by, is_named, tot_actions, without_closing}
 use Rattle.cany_totcan.proofs.AcceptanceFacts.{acceptances_fewer}
-use Rattle.cany_totcan.proofs.ClosedFacts.{IsHeard, closed_done, closed_items, closing_actions_are, done_split, heard_each}
+use Rattle.cany_totcan.proofs.PlaceFacts.{open_is}
+use Rattle.cany_totcan.proofs.ClosedFacts.{IsHeard, closed_done, closed_items, closing_actions_are, done_split, each_there, heard_each}
 use Rattle.cany_totcan.proofs.DoneFacts.{FramesOnce, delivered_more, delivered_now_is, done_of, done_of-accepted, done_of-once, has_accepted, has_frame, has_frame-with_new, is_past, new_among-after, new_among-append, new_among-none, open_not_past}
 use Rattle.cany_totcan.proofs.DueFacts.{actions-append, due-same, each-due, each_at}
 use Rattle.cany_totcan.proofs.KnownFacts.{accepted_each, closing_with}
@@ -194,11 +200,11 @@ mixed false false false false h = refl
 
 module _ (scenario : ScenarioParts) (i : ℕ) (notice : NoticeKind) (before : List NoticeKind) (messages : List Message) (count : ℕ) (v : TotcanParts)
     (h : HasHeard scenario i notice before messages count v) (slot : ℕ) (at : slot ≡ length before)
-    (d : MessageSetParts) (added : AreAdded (closing_accepted v (closing_frame slot v)) v.deliveries d)
-    (x : TotcanParts) (b c : List Action) (gone : HaveGone slot (record (without_closing slot v) { deliveries = d }) x b c) (all : due x ≡ []) where
+    (a : List Open) (kept : AreStillNoted (without_closing slot v).queue.items v.acceptances a) (d : MessageSetParts) (added : AreAdded (closing_accepted v (closing_frame slot v)) v.deliveries d)
+    (x : TotcanParts) (b c : List Action) (gone : HaveGone slot (record (without_closing slot v) { acceptances = a; deliveries = d }) x b c) (all : due x ≡ []) where
   -- the value after the closing
   abbrev w : TotcanParts
-  w = record (without_closing slot v) { deliveries = d }
+  w = record (without_closing slot v) { acceptances = a; deliveries = d }
 
   abbrev past : List NoticeKind
   past = notice ∷ before
@@ -228,7 +234,17 @@ module _ (scenario : ScenarioParts) (i : ℕ) (notice : NoticeKind) (before : Li
   open_heard = closing_with (AllByRecursion (IsHeard scenario i notice before messages count v h)) slot v heard (λ y items each. each.1)
 
   same_accepted : AllByRecursion (λ y. is_accepted_by w y.frame ≡ has_accepted scenario.params i past y) w.queue.items
-  same_accepted = Each-weaker _ _ (λ y is. is.accepted) w.queue.items open_heard
+  same_accepted = both w.queue.items open_heard (each_there w.queue.items)
+    where
+      both : (items : List Placed) → AllByRecursion (IsHeard scenario i notice before messages count v h) items
+          → AllByRecursion (λ y. list_any (is_at (message_in y.frame)) w.queue.items ≡ true) items
+          → AllByRecursion (λ y. is_accepted_by w y.frame ≡ has_accepted scenario.params i past y) items
+      both [] each there = tt
+      both (y ∷ items) each there = (
+        ap (λ (x : Noted). nat_lt 0 x.copies || (y.frame.node == v.node && (own_at v.backlog.own y.frame.number).sent)) (kept.noted (message_in y.frame) there.0)
+            ∙ each.0.accepted,
+        both items each.1 there.1,
+      )
 
   passed_done : AreDone scenario.params i past earlier (take w.queue.done w.queue.items)
   passed_done = closed_done scenario i notice before messages count v h slot at _ h.done
@@ -283,11 +299,11 @@ module _ (scenario : ScenarioParts) (i : ℕ) (notice : NoticeKind) (before : Li
 
   -- ---- the actions
 
-  pub turn_actions : (a out : List Action) → a ≡ out ++ actions_of scenario.params.format (accept_effects scenario.params i notice before)
-      → b ≡ (a ++ closing_actions v.format (closing_frame slot v)) ++ tot_actions slot (fresh_of v.deliveries closed)
+  pub turn_actions : (acts out : List Action) → acts ≡ out ++ actions_of scenario.params.format (accept_effects scenario.params i notice before)
+      → b ≡ (acts ++ closing_actions v.format (closing_frame slot v)) ++ tot_actions slot (fresh_of v.deliveries closed)
       → c ≡ out ++ actions_of scenario.params.format (totcan_effects scenario i past)
   unfolding totcan_effects
-  turn_actions a out heard_acts closed_acts =
+  turn_actions acts out heard_acts closed_acts =
       let format = scenario.params.format in
       let accepts : List Effect = accept_effects scenario.params i notice before in
       let closes : List Effect = closing_effects scenario.params.bound past in
@@ -303,8 +319,8 @@ module _ (scenario : ScenarioParts) (i : ℕ) (notice : NoticeKind) (before : Li
       gone.actions
       ∙ ap (λ frames. b ++ tot_actions slot (fresh_of d frames)) gone_is
       ∙ ap (λ actions. actions ++ later) closed_acts
-      ∙ append_assoc (a ++ closing) first later
-      ∙ append_assoc a closing (first ++ later)
+      ∙ append_assoc (acts ++ closing) first later
+      ∙ append_assoc acts closing (first ++ later)
       ∙ ap (λ actions. actions ++ (closing ++ (first ++ later))) heard_acts
       ∙ append_assoc out (actions_of format accepts) (closing ++ (first ++ later))
       ∙ ap (λ actions. out ++ actions)
@@ -386,6 +402,11 @@ module _ (scenario : ScenarioParts) (i : ℕ) (notice : NoticeKind) (before : Li
       go None is = tt
       go (Some y) is = sym (each_at _ w.queue.items x.queue.done y same_accepted is) ∙ walked_to w x.queue.done w.queue.items y none is
 
+  still_noted : (key : MsgKey) → is_recent scenario.params.bound key past ≡ true → noted_of a key ≡ noted_of v.acceptances key
+  still_noted key recent =
+      kept.noted key
+      (ap (list_any (is_at key)) (closed_items scenario i notice before messages count v h slot at) ∙ open_is scenario.params.bound key past ∙ recent)
+
   pub turn_stands : IsTotcanOf scenario i past messages count x
   turn_stands = subst (IsTotcanOf scenario i past messages count) (sym gone.state) (record {
     limits = record {
@@ -394,6 +415,7 @@ module _ (scenario : ScenarioParts) (i : ℕ) (notice : NoticeKind) (before : Li
       format = h.limits.format;
       bound = h.limits.bound;
       spacing = h.limits.spacing;
+      omit = h.limits.omit;
       room = rw (closing_room slot v) h.limits.room;
       at_once = closing_room slot v ∙ h.limits.at_once;
       numbers = closing_numbers slot v ∙ h.limits.numbers;
@@ -403,7 +425,7 @@ module _ (scenario : ScenarioParts) (i : ℕ) (notice : NoticeKind) (before : Li
       places = closed_items scenario i notice before messages count v h slot at;
       messages = closing_with (λ items. AllByRecursion (λ y. NamesMessage scenario service.Tot y.frame) items) slot v h.queue.messages (λ y items each. each.1);
     };
-    acceptances = acceptances_fewer scenario scenario.params.bound (scenario.params.bound + 1) past v.acceptances (omega arith) h.acceptances;
+    acceptances = acceptances_fewer scenario.params.bound (scenario.params.bound + 1) past v.acceptances a (omega arith) still_noted h.acceptances;
     are_delivered = turn_delivered;
     done = turn_done;
     pending = turn_pending;

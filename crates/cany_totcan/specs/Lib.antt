@@ -1,3 +1,4 @@
+pub mod Acceptances
 pub mod Backlog
 pub mod MessageSet
 pub mod Queue

@@ -10,8 +10,6 @@ use Rattle.cany_base.specs.Frame.{FrameParts}
 use Rattle.cany_base.specs.Limits.{most_nodes}
 use Rattle.cany_base.specs.Params.{Parameters}
 use Rattle.cany_base.specs.Scenario.{ScenarioParts, IsLegalScenario}
-use Rattle.cany_diffuse.specs.Eager.{EagerParts, copies_of, is_among, is_owned, is_there}
-use Rattle.cany_message.specs.Numbers.{message_number, message_numbers}
 use Rattle.cany_model.specs.Bus.Frames.{identity_of, same_identity}
 use Rattle.cany_model.specs.Bus.History.{copies, has_own}
 use Rattle.cany_model.specs.Rules.Messages.{Message, accept_of_key, data_id, is_from, messages_of}
@@ -19,20 +17,24 @@ use Rattle.cany_model.specs.Rules.Notices.{IsNextNotice, NamesMessage}
 use Rattle.cany_model.specs.Rules.Rooms.{sends_by}
 use Rattle.cany_model.specs.Rules.Totcan.{after_place, delivered, holds, is_accepted, is_among as is_one_of, is_recent, message_in, tot_of_key}
 use Rattle.cany_totcan.specs.declared.backlog.Given.{Given}
+use Rattle.cany_totcan.specs.declared.queue.Open.{Open}
 use Rattle.cany_totcan.specs.declared.queue.Placed.{Placed}
+use Rattle.cany_totcan.specs.Acceptances.{noted_of}
 use Rattle.cany_totcan.specs.Backlog.{BacklogParts, own_at}
 use Rattle.cany_totcan.specs.MessageSet.{MessageSetParts, HasRoomOf, has_message, numbers_of}
 use Rattle.cany_totcan.specs.Queue.{OpenParts, placed_in}
 
--- the node, the format of identifiers, how long a message stays open, how far the places of the node's own messages lie apart, the
--- open messages, the copies of their acceptances, what was delivered, and the node's own messages
+-- the node, the format of identifiers, how long a message stays open, how far the places of the node's own messages lie apart, how
+-- many omissions of a frame there may be, the open messages, each with what is noted of its acceptances, what was delivered, and the
+-- node's own messages
 pub record TotcanParts : Type 0 where
   pub node : ℕ
   pub format : Format
   pub bound : ℕ
   pub spacing : ℕ
+  pub omit : ℕ
   pub queue : OpenParts
-  pub acceptances : EagerParts
+  pub acceptances : List Open
   pub deliveries : MessageSetParts
   pub backlog : BacklogParts
 
@@ -46,21 +48,16 @@ pub record HasLimitsOf (scenario : ScenarioParts) (i : ℕ) (v : TotcanParts) : 
   pub format : v.format ≡ scenario.params.format
   pub bound : v.bound ≡ scenario.params.bound
   pub spacing : v.spacing ≡ scenario.params.bound + scenario.params.lag
+  pub omit : v.omit ≡ scenario.params.omit
   pub room : v.queue.room ≤ sends_by scenario service.Tot
   pub at_once : v.queue.room ≡ min (sends_by scenario service.Tot) (scenario.params.bound + 1)
   pub numbers : v.queue.numbers ≡ numbers_of scenario
   pub deliveries : HasRoomOf scenario v.deliveries
 
--- The table has, of each message whose place is one of so many newest notices, the acceptances that were read after the place. All
--- that is there is of messages of the scenario by TOTCAN, and there is room for each of them.
-pub record AreAcceptances (scenario : ScenarioParts) (newest : ℕ) (past : List NoticeKind) (table : EagerParts) : Type 0 where
-  pub omit : table.omit ≡ scenario.params.omit
-  pub room : table.room ≡ sends_by scenario service.Tot
-  pub copies : (seq origin : ℕ) → origin < most_nodes → is_recent newest (key_of seq origin) past ≡ true →
-      copies_of table (message_number seq origin) ≡ copies (accept_of_key (key_of seq origin)) (after_place (key_of seq origin) past)
-  pub owned : (seq origin : ℕ) → origin < most_nodes → is_recent newest (key_of seq origin) past ≡ true →
-      is_owned table (message_number seq origin) ≡ has_own (accept_of_key (key_of seq origin)) (after_place (key_of seq origin) past)
-  pub messages : (number : ℕ) → is_there table number ≡ true → is_among number (message_numbers scenario service.Tot) ≡ true
+-- What is noted of each message whose place is one of so many newest notices are the acceptances that were read after the place.
+pub record AreAcceptances (newest : ℕ) (past : List NoticeKind) (entries : List Open) : Type 0 where
+  pub copies : (key : MsgKey) → is_recent newest key past ≡ true → (noted_of entries key).copies ≡ copies (accept_of_key key) (after_place key past)
+  pub owned : (key : MsgKey) → is_recent newest key past ≡ true → (noted_of entries key).owned ≡ has_own (accept_of_key key) (after_place key past)
 
 -- The open messages are those whose places are among so many newest notices, and are messages of the scenario.
 pub record AreOpen (scenario : ScenarioParts) (newest : ℕ) (past : List NoticeKind) (items : List Placed) : Type 0 where
@@ -124,7 +121,7 @@ pub record IsBacklogOf (scenario : ScenarioParts) (i : ℕ) (past : List NoticeK
 pub record IsTotcanOf (scenario : ScenarioParts) (i : ℕ) (past : List NoticeKind) (messages : List Message) (count : ℕ) (v : TotcanParts) : Type 0 where
   pub limits : HasLimitsOf scenario i v
   pub queue : AreOpen scenario scenario.params.bound past v.queue.items
-  pub acceptances : AreAcceptances scenario scenario.params.bound past v.acceptances
+  pub acceptances : AreAcceptances scenario.params.bound past v.acceptances
   pub are_delivered : AreDelivered (delivered scenario.params i past) v.deliveries
   pub done : AreDone scenario.params i past (delivered scenario.params i past) (take v.queue.done v.queue.items)
   pub pending : IsFirstPending scenario.params i past (slice_get v.queue.items v.queue.done)
@@ -135,7 +132,7 @@ pub record HasHeard (scenario : ScenarioParts) (i : ℕ) (notice : NoticeKind) (
     (messages : List Message) (count : ℕ) (v : TotcanParts) : Type 0 where
   pub limits : HasLimitsOf scenario i v
   pub queue : AreOpen scenario (scenario.params.bound + 1) (notice ∷ before) v.queue.items
-  pub acceptances : AreAcceptances scenario (scenario.params.bound + 1) (notice ∷ before) v.acceptances
+  pub acceptances : AreAcceptances (scenario.params.bound + 1) (notice ∷ before) v.acceptances
   pub are_delivered : AreDelivered (delivered scenario.params i before) v.deliveries
   pub done : AreDone scenario.params i (notice ∷ before) (delivered scenario.params i before) (take v.queue.done v.queue.items)
   pub backlog : IsBacklogOf scenario i (notice ∷ before) messages count v.backlog

@@ -5,17 +5,18 @@ use Rattle.can_frame.specs.Identifier.{HasSmallNumbers}
 use Rattle.cany_base.specs.declared.actions.Action.{Action}
 use Rattle.cany_base.specs.declared.actions.Action.TheVariants.{Ask, Enter}
 use Rattle.cany_base.specs.declared.format.Format.{Format}
+use Rattle.cany_base.specs.declared.message.MsgKey.{MsgKey}
 use Rattle.cany_base.specs.declared.message.Service.TheVariants as service
 use Rattle.cany_base.specs.Frame.{FrameParts}
 use Rattle.cany_base.specs.Limits.{most_nodes}
 use Rattle.cany_base.specs.Scenario.{ScenarioParts, IsLegalScenario}
-use Rattle.cany_diffuse.specs.Eager.{copies_of}
 use Rattle.cany_message.specs.Actions.{withdraw_actions}
-use Rattle.cany_message.specs.Numbers.{frame_number}
 use Rattle.cany_model.specs.Rules.Delivery.{delivery}
 use Rattle.cany_model.specs.Rules.Notices.{NamesMessage}
 use Rattle.cany_model.specs.Rules.Totcan.{accept_frame, message_in}
+use Rattle.cany_totcan.specs.declared.queue.Open.{Open}
 use Rattle.cany_totcan.specs.declared.queue.Placed.{Placed}
+use Rattle.cany_totcan.specs.Acceptances.{noted_of}
 use Rattle.cany_totcan.specs.Backlog.{BacklogParts, own_at}
 use Rattle.cany_totcan.specs.MessageSet.{MessageSetParts, HasRoomOf, has_message}
 use Rattle.cany_totcan.specs.Queue.{AreOnce, is_at, oldest_from, without_oldest}
@@ -45,7 +46,7 @@ origin_actions own f = if own then Ask (accept_frame f) ∷ [] else []
 
 -- whether the open message of a data frame is accepted
 abbrev pub is_accepted_by : TotcanParts → FrameParts → Bool
-is_accepted_by v f = nat_lt 0 (copies_of v.acceptances (frame_number f)) || (f.node == v.node && (own_at v.backlog.own f.number).sent)
+is_accepted_by v f = nat_lt 0 (noted_of v.acceptances (message_in f)).copies || (f.node == v.node && (own_at v.backlog.own f.number).sent)
 
 abbrev pub if_accepted : TotcanParts → FrameParts → List FrameParts
 if_accepted v f = if is_accepted_by v f then f ∷ [] else []
@@ -97,6 +98,10 @@ closing_frame slot v = if nat_lt slot v.bound then None else oldest_from (slot -
 -- the value without that message
 abbrev pub without_closing : ℕ → TotcanParts → TotcanParts
 without_closing slot v = record v { queue = if nat_lt slot v.bound then v.queue else without_oldest (slot - v.bound) v.queue }
+
+-- of each message that is still open what was noted of it is noted
+pub record AreStillNoted (items : List Placed) (old new : List Open) : Type 0 where
+  pub noted : (key : MsgKey) → list_any (is_at key) items ≡ true → noted_of new key ≡ noted_of old key
 
 -- its acceptance is withdrawn
 abbrev pub closing_actions : Format → Option FrameParts → List Action

@@ -7,30 +7,29 @@ ghost use Rattle.cany_base.specs.declared.notice.NoticeKind.{NoticeKind};
 ghost use Rattle.cany_base.specs.declared.notice.NoticeKind.TheVariants.{Idle};
 ghost use Rattle.cany_base.specs.Limits.{greatest_default, most_nodes};
 ghost use Rattle.cany_base.specs.Scenario.{ScenarioParts};
-ghost use Rattle.cany_diffuse.specs.Eager.{copies_of, is_owned, learnt_of, IsForgotten, IsLearnt, IsOwned};
+ghost use Rattle.cany_diffuse.specs.Eager.{learnt_of};
 ghost use Rattle.cany_message.specs.Actions.{relay_actions, withdraw_actions};
-ghost use Rattle.cany_message.specs.Numbers.{frame_number};
-ghost use Rattle.cany_message.specs.Table.{CanTake};
 ghost use Rattle.cany_model.specs.Bus.Frames.{same_class};
 ghost use Rattle.cany_model.specs.Rules.Actions.{actions_of};
 ghost use Rattle.cany_model.specs.Rules.Backlog.{ask_for, asked_after, next_after};
 ghost use Rattle.cany_model.specs.Rules.Messages.{Message, messages_of, message_key};
 ghost use Rattle.cany_model.specs.Rules.Notices.{IsNextNotice};
 ghost use Rattle.cany_model.specs.Rules.Totcan.{accept_effects, accept_frame, has_closing_ahead, message_in, totcan_effects};
+ghost use Rattle.cany_totcan.specs.Acceptances.{IsNoted, forgotten, noted_of, with_copy, with_own};
 ghost use Rattle.cany_totcan.specs.Queue.{moved, without_key};
 ghost use Rattle.cany_totcan.specs.Rests.{Rests};
 ghost use Rattle.cany_totcan.specs.Totcan.{CanRead, HasHeard, IsOwnTot, IsTotcanOf, has_seq};
-ghost use Rattle.cany_totcan.specs.TotcanSteps.{AreAdded, AreKnown, HaveGone, closing_accepted, closing_actions, closing_frame, due, first_of, fresh_of, has_open, if_accepted, is_accepted_by, noted_if, origin_actions, tot_actions, without_closing};
+ghost use Rattle.cany_totcan.specs.TotcanSteps.{AreAdded, AreKnown, AreStillNoted, HaveGone, closing_accepted, closing_actions, closing_frame, due, first_of, fresh_of, has_open, if_accepted, is_accepted_by, noted_if, origin_actions, tot_actions, without_closing};
 
 use crate::backlog::Backlog;
-use crate::frames::{Acceptance, Data, acceptance_of, is_acceptance, is_data};
+use crate::frames::{Data, acceptance_of, is_acceptance, is_data};
 use crate::message_set::{MessageSet, numbers_of};
-use crate::queue::OpenMessages;
+use crate::queue::{Noted, OpenMessages};
 use cany_base::{
     Action, Actions, Format, Frame, Memory, MsgKey, NodeId, Notice, NoticeKind, Payload, Scenario,
     Service, Slot,
 };
-use cany_diffuse::{Diffused, Eager};
+use cany_diffuse::{Diffused, Learnt};
 use cany_message::{deliver, relay, sends_by, withdraw};
 use std::alloc::Global;
 use std::marker::Model;
@@ -54,9 +53,10 @@ pub struct Totcan {
     bound: Slot,
     /// How many slots after the place of one of its messages the node may ask for the next.
     spacing: Slot,
+    /// How many omissions of a frame there may be.
+    omit: u32,
+    /// The open messages, each with what was noted of its acceptances.
     queue: OpenMessages,
-    /// The copies of acceptances since the places of their messages.
-    acceptances: Eager<Acceptance>,
     /// Those that the node has delivered.
     deliveries: MessageSet,
     backlog: Backlog,
@@ -72,8 +72,9 @@ impl Model for Totcan {
       format = t.format;
       bound = t.bound;
       spacing = t.spacing;
-      queue = t.queue;
-      acceptances = t.acceptances;
+      omit = t.omit;
+      queue = t.queue.messages;
+      acceptances = t.queue.entries;
       deliveries = t.deliveries;
       backlog = t.backlog;
     } };
@@ -90,7 +91,6 @@ impl Totcan {
         let room = sends_by(scenario, Service::Tot);
         let numbers = numbers_of(scenario);
         let queue = OpenMessages::build(alloc, open_at_once(room, params.bound), numbers)?;
-        let acceptances = Eager::build(alloc, params.omit, room)?;
         let deliveries = MessageSet::build(alloc, numbers)?;
         let backlog = Backlog::build(alloc, node, scenario)?;
         Ok(Totcan {
@@ -98,8 +98,8 @@ impl Totcan {
             format: params.format,
             bound: params.bound,
             spacing: params.bound + Slot::from(params.lag),
+            omit: params.omit,
             queue,
-            acceptances,
             deliveries,
             backlog,
         })
@@ -254,7 +254,7 @@ impl Totcan {
         requires room { length (without_key (message_in frame.now) self.old.queue.items) < self.old.queue.room }
         requires later { AllByRecursion (λ x. x.place < slot) self.old.queue.items }
         requires own { frame.now.node ≡ self.old.node → frame.now.number < length self.old.backlog.own }
-        ensures forgotten { IsForgotten (frame_number frame.now) self.old.acceptances self.new.acceptances }
+        ensures forgotten { IsNoted forgotten (message_in frame.now) self.old.acceptances self.new.acceptances }
         ensures in_range { frame.now.node < most_nodes }
         ensures state { self.new ≡ record self.old {
           queue = moved frame.now slot self.old.queue;
@@ -263,7 +263,6 @@ impl Totcan {
         } }
     {
         self.queue.place(frame, slot);
-        self.acceptances.forget(&acceptance_of(key_of(frame)));
         if frame.node.get() == self.node.get() {
             self.backlog.note(frame.number, slot, is_sent);
         }
@@ -276,7 +275,7 @@ impl Totcan {
         requires later { AllByRecursion (λ x. x.place < slot) self.old.queue.items }
         requires own { frame.now.node ≡ self.old.node → frame.now.number < length self.old.backlog.own }
         requires room { length out.old.items < out.old.room }
-        ensures forgotten { IsForgotten (frame_number frame.now) self.old.acceptances self.new.acceptances }
+        ensures forgotten { IsNoted forgotten (message_in frame.now) self.old.acceptances self.new.acceptances }
         ensures in_range { frame.now.node < most_nodes }
         ensures state { self.new ≡ record self.old {
           queue = moved frame.now slot self.old.queue;
@@ -305,35 +304,29 @@ impl Totcan {
     /// rule.
     fn on_acceptance(&mut self, frame: &Frame, out: &mut Actions)
         requires small { HasSmallNumbers self.old.format frame.now }
-        requires takes { CanTake (frame_number frame.now) self.old.acceptances }
+        requires there { has_open self.old frame.now ≡ true }
         requires room { length out.old.items < out.old.room }
-        ensures learnt { IsLearnt (frame_number frame.now) self.old.acceptances self.new.acceptances }
+        ensures learnt { IsNoted with_copy (message_in frame.now) self.old.acceptances self.new.acceptances }
         ensures in_range { frame.now.node < most_nodes }
         ensures state { self.new ≡ record self.old { acceptances = self.new.acceptances } }
-        ensures actions { let copies = copies_of self.new.acceptances (frame_number frame.now) in
-            let learnt = learnt_of self.old.acceptances.omit copies (is_owned self.old.acceptances (frame_number frame.now)) in
-            out.new.items ≡ out.old.items ++ relay_actions self.old.format learnt frame.now }
+        ensures actions { let noted = noted_of self.new.acceptances (message_in frame.now) in
+            out.new.items ≡ out.old.items ++ relay_actions self.old.format (learnt_of self.old.omit noted.copies noted.owned) frame.now }
         ensures few { length out.new.items ≤ length out.old.items + 1 }
         ensures room { out.new.room ≡ out.old.room }
     {
-        let acceptance = acceptance_of(key_of(frame));
-        // Called for what it ensures: no key is there twice, so there is room for this one.
-        let _spare = self.acceptances.spare();
-        let learnt = self.acceptances.learn(acceptance);
+        let noted = self.queue.count(&key_of(frame));
+        let learnt = call_of(self.omit, noted);
         relay(self.format, &learnt, frame, out);
     }
 
     /// The node's own transmission of a frame that accepts an open message was read.
     fn on_own_acceptance(&mut self, frame: &Frame)
-        requires { CanTake (frame_number frame.now) self.old.acceptances }
-        ensures owned { IsOwned (frame_number frame.now) self.old.acceptances self.new.acceptances }
+        requires { has_open self.old frame.now ≡ true }
+        ensures owned { IsNoted with_own (message_in frame.now) self.old.acceptances self.new.acceptances }
         ensures in_range { frame.now.node < most_nodes }
         ensures state { self.new ≡ record self.old { acceptances = self.new.acceptances } }
     {
-        let acceptance = acceptance_of(key_of(frame));
-        // Called for what it ensures: no key is there twice, so there is room for this one.
-        let _spare = self.acceptances.spare();
-        self.acceptances.own(acceptance);
+        self.queue.own(&key_of(frame));
     }
 
     /// The message closes whose place lies `bound` slots back, if there is one.
@@ -341,7 +334,8 @@ impl Totcan {
         requires known { AreKnown self.old }
         requires room { length out.old.items + 2 ≤ out.old.room }
         ensures added { AreAdded (closing_accepted self.old (closing_frame slot self.old)) self.old.deliveries self.new.deliveries }
-        ensures state { self.new ≡ record (without_closing slot self.old) { deliveries = self.new.deliveries } }
+        ensures noted { AreStillNoted (without_closing slot self.old).queue.items self.old.acceptances self.new.acceptances }
+        ensures state { self.new ≡ record (without_closing slot self.old) { acceptances = self.new.acceptances; deliveries = self.new.deliveries } }
         ensures actions { let closing = closing_frame slot self.old in
             out.new.items ≡ (out.old.items ++ closing_actions self.old.format closing)
             ++ tot_actions slot (fresh_of self.old.deliveries (closing_accepted self.old closing)) }
@@ -351,15 +345,17 @@ impl Totcan {
         if slot < self.bound {
             return;
         }
-        match self.queue.take_oldest(slot - self.bound) {
-            Some(frame) => self.on_closed(slot, &frame, out),
-            None => {}
+        if let Some(oldest) = self.queue.oldest_at(slot - self.bound) {
+            let frame = oldest.placed.frame;
+            self.on_closed(slot, &frame, oldest.noted, out);
+            self.queue.remove_oldest(&key_of(&frame));
         }
     }
 
     /// A message closes: no frame that accepts it waits any longer. If it is accepted and was not
     /// delivered, it is delivered now, since nothing before it is open.
-    fn on_closed(&mut self, slot: Slot, frame: &Frame, out: &mut Actions)
+    fn on_closed(&mut self, slot: Slot, frame: &Frame, noted: Noted, out: &mut Actions)
+        requires noted { noted ≡ noted_of self.old.acceptances (message_in frame.now) }
         requires deliver { frame.now.number < length self.old.deliveries.origins }
         requires own { frame.now.node ≡ self.old.node → frame.now.number < length self.old.backlog.own }
         requires small { HasSmallNumbers self.old.format frame.now }
@@ -373,7 +369,7 @@ impl Totcan {
     {
         let form = acceptance_of(key_of(frame)).form();
         withdraw(self.format, &form, true, out);
-        if self.is_accepted(frame) {
+        if self.is_accepted(frame, noted) {
             self.deliver(slot, frame, out);
         }
     }
@@ -416,8 +412,9 @@ impl Totcan {
         requires { AllByRecursion (λ x. x.frame.node ≡ self.now.node → x.frame.number < length self.now.backlog.own) self.now.queue.items }
         ensures { result ≡ first_of (due self.now) }
     {
-        let frame = self.queue.first_open()?;
-        if self.is_accepted(&frame) {
+        let first = self.queue.first_open()?;
+        let frame = first.placed.frame;
+        if self.is_accepted(&frame, first.noted) {
             Some(frame)
         } else {
             None
@@ -445,11 +442,12 @@ impl Totcan {
 
     /// Whether the open message of a data frame is accepted: the node has read a frame that says so
     /// since its place, or is its origin and has read its own transmission of the data frame.
-    fn is_accepted(&self, frame: &Frame) -> bool
-        requires { frame.now.node ≡ self.now.node → frame.now.number < length self.now.backlog.own }
+    fn is_accepted(&self, frame: &Frame, noted: Noted) -> bool
+        requires noted { noted ≡ noted_of self.now.acceptances (message_in frame.now) }
+        requires own { frame.now.node ≡ self.now.node → frame.now.number < length self.now.backlog.own }
         ensures { result ≡ is_accepted_by self.now frame.now }
     {
-        if self.acceptances.copies(&acceptance_of(key_of(frame))) > 0 {
+        if noted.copies > 0 {
             return true;
         }
         frame.node.get() == self.node.get() && self.backlog.is_sent(frame.number)
@@ -464,6 +462,20 @@ fn open_at_once(messages: usize, bound: u64) -> usize
 {
     let slots = bound as usize + 1;
     if slots < messages { slots } else { messages }
+}
+
+/// What a copy of a frame calls for, with what is noted of it then.
+fn call_of(omit: u32, noted: Noted) -> Learnt
+    ensures { result ≡ learnt_of omit noted.copies noted.owned }
+{
+    let copies = noted.copies;
+    if copies > omit {
+        Learnt::Enough { copies }
+    } else if copies == 1 && !noted.owned {
+        Learnt::First
+    } else {
+        Learnt::Again { copies }
+    }
 }
 
 /// The key of the message that a frame names.

@@ -1,23 +1,38 @@
-use Rattle.std.proofs.Common.{◌≡◌, ℕ, Bool, true, false, List, length, Option, Some, None, MatchOption, rules, tests}
-use Rattle.std.specs.Prelude.{IfNone}
-use Rattle.std.specs.List.{AllWithin, list_any}
-use Rattle.std.proofs.lemmas.Iterator.{IsFirst-from_position}
-use Rattle.std.proofs.lemmas.Iterator.Consumers.{YieldsList-from_deque}
-use Rattle.std.proofs.lemmas.List.Elements.{All-from_all_within}
-use Rattle.std.proofs.lemmas.List.Folds.{list_any_none}
+use Rattle.std.proofs.Common.{◌≡◌, ◌-◌, suc, sym, ◌∙◌, drop, false, subst, arith}
+use Rattle.std.specs.List.{list_any}
+use Rattle.cany_totcan.specs.Acceptances.{placed_of}
 use Rattle.cany_totcan.specs.Queue.{is_at}
+use Rattle.cany_totcan.proofs.NotedFacts.{index_here, none_from, none_past_all}
 use Rattle.cany_totcan.proofs.queue.index_of.Goals as goal
 
-none_found : {X : Type 0} (test : X → Bool) (xs : List X) (r : Option ℕ) (Found : ℕ → Type 0)
-    → MatchOption r (AllWithin (λ x. test x ≡ false) xs 0 (length xs)) Found → IfNone r (list_any test xs ≡ false)
-none_found test xs None Found none = list_any_none test xs (All-from_all_within (λ x. test x ≡ false) xs none)
-none_found test xs (Some index) Found found = tt
+pub loop-left-init : goal.loop-left-init
+loop-left-init c =
+    let all = c.args.entries.now.ok.0 in
+    record {
+      within = omega (arith, c.len-left.ensures, all);
+      none = none_past_all c.args.entries.now.items c.len-left.result c.args.msg.now (omega (arith, c.len-left.ensures, all));
+    }
+
+pub index-requires : goal.index-requires
+index-requires c = omega (arith, c.loop-left.invariant.within, c.loop-left-test.true, c.args.entries.now.ok.0)
+
+pub returns-then-is_at-clause-found : goal.returns-then-is_at-clause-found
+returns-then-is_at-clause-found c =
+    index_here c.args.entries.now.items (c.loop-left.left - 1) c.args.msg.now c.index.result.now
+    (omega (arith, c.loop-left.invariant.within, c.loop-left-test.true)) c.index.ensures (sym c.is_at.ensures ∙ c.if-is_at.true)
+
+pub loop-left-preserved : goal.loop-left-preserved
+loop-left-preserved c =
+    let next : c.loop-left.left ≡ suc (c.loop-left.left - 1) = omega (arith, c.loop-left-test.true) in
+    record {
+      within = omega (arith, c.loop-left.invariant.within);
+      none =
+          none_from c.args.entries.now.items (c.loop-left.left - 1) c.args.msg.now c.index.result.now
+          (omega (arith, c.loop-left.invariant.within, c.loop-left-test.true)) c.index.ensures (sym c.is_at.ensures ∙ c.if-is_at.false)
+          (subst (λ n. list_any (is_at c.args.msg.now) (drop n (placed_of c.args.entries.now.items)) ≡ false) next c.loop-left.invariant.none);
+    }
 
 pub returns-clause-absent : goal.returns-clause-absent
 returns-clause-absent c =
-    let xs = c.args.placed.now.items in
-    let test = is_at c.args.msg.now in
-    let first =
-    IsFirst-from_position _ _ c.position.result (λ x. test x ≡ true) (λ x. test x ≡ false) c.position.ensures.ran (YieldsList-from_deque xs cc)
-    (λ x q k. search (rules, tests)) (λ x q k. search (rules, tests)) in
-    none_found test xs c.position.result _ first
+    let none_left : c.loop-left.left ≡ 0 = omega (arith, c.loop-left-test.false) in
+    subst (λ n. list_any (is_at c.args.msg.now) (drop n (placed_of c.args.entries.now.items)) ≡ false) none_left c.loop-left.invariant.none

@@ -4,5 +4,5 @@ use Rattle.cany_totcan.proofs.queue.OpenMessages.build.Goals as goal
 
 pub invariant_of-result : goal.invariant_of-result
 invariant_of-result c =
-    rw c.in_ok-placed.ensures.items
-    (kept-none c.args.numbers c.args.room (deque_capacity c.in_ok-placed.placed) c.in_ok-members.members c.in_ok-members.ensures c.in_ok-placed.ensures.capacity)
+    rw c.in_ok-entries.ensures.items
+    (kept-none c.args.numbers c.args.room (deque_capacity c.in_ok-entries.entries) c.in_ok-members.members c.in_ok-members.ensures c.in_ok-entries.ensures.capacity)

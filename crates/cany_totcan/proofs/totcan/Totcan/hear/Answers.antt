@@ -5,16 +5,17 @@ use Rattle.cany_base.specs.declared.class.Class.TheVariants as class
 use Rattle.cany_base.specs.declared.message.Service.TheVariants as service
 use Rattle.cany_base.specs.declared.notice.NoticeKind.TheVariants.{Got}
 use Rattle.cany_diffuse.specs.declared.learnt.Learnt.{Learnt}
-use Rattle.cany_diffuse.specs.Eager.{copies_of, is_owned, learnt_of}
+use Rattle.cany_diffuse.specs.Eager.{learnt_of}
 use Rattle.cany_message.specs.Actions.{relay_actions}
-use Rattle.cany_message.specs.Numbers.{frame_number}
 use Rattle.cany_message.proofs.DeliveryFacts.{no_actions}
 use Rattle.cany_message.proofs.NoticeFacts.{got_names, got_small, sent_names}
 use Rattle.cany_model.specs.Bus.Frames.{same_class}
 use Rattle.cany_model.proofs.Bus.Identities.{same_class-true}
+use Rattle.cany_model.specs.Rules.Totcan.{message_in}
+use Rattle.cany_totcan.specs.Acceptances.{noted_of}
 use Rattle.cany_totcan.specs.Totcan.{HasHeard}
 use Rattle.cany_totcan.specs.TotcanSteps.{has_open}
-use Rattle.cany_totcan.proofs.HeardFacts.{can_count, can_note, can_number, can_place, got_accepts, heard_acceptance, heard_bad, heard_got, heard_got_other, heard_idle, heard_own_acceptance, heard_sent, heard_sent_other, nothing_bad, nothing_data, nothing_got, nothing_idle, nothing_sent, open_now, origin_is, placed_before, relay_is, sent_accepts}
+use Rattle.cany_totcan.proofs.HeardFacts.{can_note, can_number, can_place, got_accepts, heard_acceptance, heard_bad, heard_got, heard_got_other, heard_idle, heard_own_acceptance, heard_sent, heard_sent_other, nothing_bad, nothing_data, nothing_got, nothing_idle, nothing_sent, open_now, origin_is, placed_before, relay_is, sent_accepts}
 use Rattle.cany_totcan.proofs.totcan.Totcan.hear.Goals as goal
 
 -- ---- what the parts require
@@ -80,20 +81,14 @@ on_acceptance-requires-clause-small c =
     let reads = c.requires.reads in
     rw reads.stands.limits.format (got_small reads.scenario reads.past c.args.notice.now c.in-Got.frame reads.next reads.stands.limits.legal c.in-Got.is)
 
-pub on_acceptance-requires-clause-takes : goal.on_acceptance-requires-clause-takes
-on_acceptance-requires-clause-takes c =
-    let reads = c.requires.reads in
-    let accepts = and_parts (same_class c.in-Got.frame.class class.Accept) (has_open c.args.self.now c.in-Got.frame) (sym c.accepts_open.ensures ∙ c.if-accepts_open.true) in
-    can_count reads.scenario c.args.self.now.node reads.past reads.messages reads.count c.args.self.now c.args.self.now reads.stands c.in-Got.frame
-    (got_accepts reads.scenario reads.past c.args.notice.now c.in-Got.frame reads.next c.in-Got.is (same_class-true c.in-Got.frame.class class.Accept accepts.0))
+pub on_acceptance-requires-clause-there : goal.on_acceptance-requires-clause-there
+on_acceptance-requires-clause-there c =
+    (and_parts (same_class c.in-Got.frame.class class.Accept) (has_open c.args.self.now c.in-Got.frame) (sym c.accepts_open.ensures ∙ c.if-accepts_open.true)).1
 
 pub on_own_acceptance-requires : goal.on_own_acceptance-requires
 on_own_acceptance-requires c =
-    let reads = c.requires.reads in
-    let accepts = and_parts (same_class c.in-Sent.frame.class class.Accept) (has_open c.args.self.now c.in-Sent.frame)
-    (sym c.accepts_open-else-is_data-2.ensures ∙ c.if-accepts_open-2.true) in
-    can_count reads.scenario c.args.self.now.node reads.past reads.messages reads.count c.args.self.now c.args.self.now reads.stands c.in-Sent.frame
-    (sent_accepts reads.scenario reads.past c.args.notice.now c.in-Sent.frame reads.next c.in-Sent.is (same_class-true c.in-Sent.frame.class class.Accept accepts.0))
+    (and_parts (same_class c.in-Sent.frame.class class.Accept) (has_open c.args.self.now c.in-Sent.frame)
+    (sym c.accepts_open-else-is_data-2.ensures ∙ c.if-accepts_open-2.true)).1
 
 -- ---- a data frame
 
@@ -103,7 +98,7 @@ returns-then-is_data-clause-stands c = λ scenario past messages count h next.
     rw c.in-Got.is
     (heard_got scenario c.args.self.now.node past messages count c.args.self.now c.hold.new.self h c.in-Got.frame
     (got_names scenario past c.args.notice.now c.in-Got.frame next service.Tot c.in-Got.is (same_class-true c.in-Got.frame.class class.Tot is))
-    c.args.notice.now.slot is next.slot c.hold.ensures.in_range c.hold.ensures.forgotten c.hold.ensures.state)
+    c.args.notice.now.slot is next.slot c.hold.ensures.forgotten c.hold.ensures.state)
 
 pub returns-then-is_data-clause-actions : goal.returns-then-is_data-clause-actions
 returns-then-is_data-clause-actions c = λ scenario past messages count h next.
@@ -117,7 +112,7 @@ returns-then-is_data-2-clause-stands c = λ scenario past messages count h next.
     rw c.in-Sent.is
     (heard_sent scenario c.args.self.now.node past messages count c.args.self.now c.on_own_data.new.self h c.in-Sent.frame
     (sent_names scenario past c.args.notice.now c.in-Sent.frame next service.Tot c.in-Sent.is (same_class-true c.in-Sent.frame.class class.Tot is))
-    c.args.notice.now.slot is next.slot c.on_own_data.ensures.in_range c.on_own_data.ensures.forgotten c.on_own_data.ensures.state)
+    c.args.notice.now.slot is next.slot c.on_own_data.ensures.forgotten c.on_own_data.ensures.state)
 
 pub returns-then-is_data-2-clause-actions : goal.returns-then-is_data-2-clause-actions
 returns-then-is_data-2-clause-actions c = λ scenario past messages count h next.
@@ -133,7 +128,7 @@ returns-then-accepts_open-clause-stands c = λ scenario past messages count h ne
     let accept = same_class-true c.in-Got.frame.class class.Accept accepts.0 in
     rw c.in-Got.is
     (heard_acceptance scenario c.args.self.now.node past messages count c.args.self.now c.on_acceptance.new.self h c.in-Got.frame
-    (got_accepts scenario past c.args.notice.now c.in-Got.frame next c.in-Got.is accept) accept c.on_acceptance.ensures.in_range c.on_acceptance.ensures.state
+    (got_accepts scenario past c.args.notice.now c.in-Got.frame next c.in-Got.is accept) accept c.on_acceptance.ensures.state
     (omega (arith, next.slot, next.within)) c.on_acceptance.ensures.learnt)
 
 pub returns-then-accepts_open-clause-actions : goal.returns-then-accepts_open-clause-actions
@@ -143,17 +138,17 @@ returns-then-accepts_open-clause-actions c = λ scenario past messages count h n
     let accept = same_class-true c.in-Got.frame.class class.Accept accepts.0 in
     let heard : HasHeard scenario c.args.self.now.node (Got c.in-Got.frame) past messages count c.on_acceptance.new.self =
     heard_acceptance scenario c.args.self.now.node past messages count c.args.self.now c.on_acceptance.new.self h c.in-Got.frame
-    (got_accepts scenario past c.args.notice.now c.in-Got.frame next c.in-Got.is accept) accept c.on_acceptance.ensures.in_range c.on_acceptance.ensures.state
+    (got_accepts scenario past c.args.notice.now c.in-Got.frame next c.in-Got.is accept) accept c.on_acceptance.ensures.state
     (omega (arith, next.slot, next.within)) c.on_acceptance.ensures.learnt in
     let learnt : Learnt =
-    learnt_of c.args.self.now.acceptances.omit (copies_of c.on_acceptance.new.self.acceptances (frame_number c.in-Got.frame))
-    (is_owned c.args.self.now.acceptances (frame_number c.in-Got.frame)) in
+    learnt_of c.args.self.now.omit (noted_of c.on_acceptance.new.self.acceptances (message_in c.in-Got.frame)).copies
+    (noted_of c.on_acceptance.new.self.acceptances (message_in c.in-Got.frame)).owned in
     rw c.in-Got.is
     (c.on_acceptance.ensures.actions
     ∙ ap (λ format. c.args.out.now.items ++ relay_actions format learnt c.in-Got.frame) h.limits.format
     ∙ ap (λ actions. c.args.out.now.items ++ actions)
-    (relay_is scenario c.args.self.now.node c.in-Got.frame past c.args.self.now.acceptances c.on_acceptance.new.self.acceptances accept c.on_acceptance.ensures.in_range
-    (open_now scenario c.args.self.now.node past messages count c.args.self.now c.in-Got.frame h ∙ accepts_open) h.acceptances heard.acceptances))
+    (relay_is scenario c.args.self.now.node c.in-Got.frame past c.args.self.now.omit c.on_acceptance.new.self.acceptances accept
+    (open_now scenario c.args.self.now.node past messages count c.args.self.now c.in-Got.frame h ∙ accepts_open) h.limits.omit heard.acceptances))
 
 pub returns-then-accepts_open-2-clause-stands : goal.returns-then-accepts_open-2-clause-stands
 returns-then-accepts_open-2-clause-stands c = λ scenario past messages count h next.
@@ -162,7 +157,7 @@ returns-then-accepts_open-2-clause-stands c = λ scenario past messages count h 
     let accept = same_class-true c.in-Sent.frame.class class.Accept accepts.0 in
     rw c.in-Sent.is
     (heard_own_acceptance scenario c.args.self.now.node past messages count c.args.self.now c.on_own_acceptance.new.self h c.in-Sent.frame
-    (sent_accepts scenario past c.args.notice.now c.in-Sent.frame next c.in-Sent.is accept) accept c.on_own_acceptance.ensures.in_range c.on_own_acceptance.ensures.state
+    (sent_accepts scenario past c.args.notice.now c.in-Sent.frame next c.in-Sent.is accept) accept c.on_own_acceptance.ensures.state
     c.on_own_acceptance.ensures.owned)
 
 pub returns-then-accepts_open-2-clause-actions : goal.returns-then-accepts_open-2-clause-actions

@@ -1,29 +1,34 @@
 use Rattle.std.proofs.Common.{◌≡◌, ◌<◌, length, ap, sym, ◌∙◌}
 use Rattle.std.specs.Prelude.{slice_get, option_map}
+use Rattle.cany_totcan.specs.declared.queue.Open.{Open}
 use Rattle.cany_totcan.specs.Totcan.{TotcanParts}
 use Rattle.cany_totcan.proofs.DueFacts.{each_frame_at, first_accepted, first_none, first_pending}
 use Rattle.cany_totcan.proofs.totcan.Totcan.next_accepted.Goals as goal
 
-pub returns-in_err-frame : goal.returns-in_err-frame
-returns-in_err-frame c =
+pub returns-in_err-first : goal.returns-in_err-first
+returns-in_err-first c =
     c.from_residual.ensures
     ∙ first_none c.args.self.now
-    (ap (λ (v : TotcanParts). option_map (λ x. x.frame) (slice_get v.queue.items v.queue.done)) (sym c.self.view_is) ∙ sym c.first_open.ensures ∙ c.in_err-frame.was)
+    (ap (λ (v : TotcanParts). option_map (λ x. x.frame) (slice_get v.queue.items v.queue.done)) (sym c.self.view_is)
+    ∙ sym c.first_open.ensures.first ∙ ap (option_map (λ (e : Open). e.placed.frame)) c.in_err-first.was)
 
-pub is_accepted-requires : goal.is_accepted-requires
-is_accepted-requires c =
-    each_frame_at (λ f. f.node ≡ c.args.self.now.node → f.number < length c.args.self.now.backlog.own) c.args.self.now.queue.items c.args.self.now.queue.done c.in_ok-frame.frame
-    c.requires
-    (ap (λ (v : TotcanParts). option_map (λ x. x.frame) (slice_get v.queue.items v.queue.done)) (sym c.self.view_is) ∙ sym c.first_open.ensures ∙ c.in_ok-frame.was)
+pub is_accepted-requires-clause-own : goal.is_accepted-requires-clause-own
+is_accepted-requires-clause-own c =
+    each_frame_at (λ f. f.node ≡ c.args.self.now.node → f.number < length c.args.self.now.backlog.own) c.args.self.now.queue.items c.args.self.now.queue.done
+    c.in_ok-first.first.placed.frame c.requires
+    (ap (λ (v : TotcanParts). option_map (λ x. x.frame) (slice_get v.queue.items v.queue.done)) (sym c.self.view_is)
+    ∙ sym c.first_open.ensures.first ∙ ap (option_map (λ (e : Open). e.placed.frame)) c.in_ok-first.was)
 
 pub returns-then-is_accepted : goal.returns-then-is_accepted
 returns-then-is_accepted c =
-    first_accepted c.args.self.now c.in_ok-frame.frame
-    (ap (λ (v : TotcanParts). option_map (λ x. x.frame) (slice_get v.queue.items v.queue.done)) (sym c.self.view_is) ∙ sym c.first_open.ensures ∙ c.in_ok-frame.was)
+    first_accepted c.args.self.now c.in_ok-first.first.placed.frame
+    (ap (λ (v : TotcanParts). option_map (λ x. x.frame) (slice_get v.queue.items v.queue.done)) (sym c.self.view_is)
+    ∙ sym c.first_open.ensures.first ∙ ap (option_map (λ (e : Open). e.placed.frame)) c.in_ok-first.was)
     (sym c.is_accepted.ensures ∙ c.if-is_accepted.true)
 
 pub returns-else-is_accepted : goal.returns-else-is_accepted
 returns-else-is_accepted c =
-    first_pending c.args.self.now c.in_ok-frame.frame
-    (ap (λ (v : TotcanParts). option_map (λ x. x.frame) (slice_get v.queue.items v.queue.done)) (sym c.self.view_is) ∙ sym c.first_open.ensures ∙ c.in_ok-frame.was)
+    first_pending c.args.self.now c.in_ok-first.first.placed.frame
+    (ap (λ (v : TotcanParts). option_map (λ x. x.frame) (slice_get v.queue.items v.queue.done)) (sym c.self.view_is)
+    ∙ sym c.first_open.ensures.first ∙ ap (option_map (λ (e : Open). e.placed.frame)) c.in_ok-first.was)
     (sym c.is_accepted.ensures ∙ c.if-is_accepted.false)
