@@ -1,9 +1,10 @@
 -- The items of an array of tables, and what its entries stand for from a place on.
 use Rattle.std.proofs.Common.{◌≡◌, ℕ, suc, ◌+◌, ◌<◌, ◌≤◌, true, false, List, [], ◌∷◌, ◌++◌, length, drop, get_or, Some, refl, ap, sym, ◌∙◌, append_assoc, append-nil, arith}
-use Rattle.std.specs.Prelude.{nat_le, Ok, Err}
+use Rattle.std.specs.Prelude.{nat_le, Option, None, Ok, Err}
+use Rattle.std.specs.Option.{option_map_or}
 use Rattle.std.proofs.Math.Seq.{drop-length}
 use Rattle.std.proofs.lemmas.Bool.Decides.{nat_tests}
-use Rattle.toml.specs.Data.{Data, as_array, as_table, Members, item}
+use Rattle.toml.specs.Data.{Data, as_array, as_table, Members, Items, no_items, item, get_member}
 use Rattle.toml.specs.View.{view, items_view}
 use Rattle.toml.specs.declared.value.Value.{Value}
 use Rattle.toml.proofs.Views.{items_view-drop}
@@ -12,8 +13,9 @@ use Rattle.cany_text.specs.declared.scenario_fault.Position.{Position}
 use Rattle.cany_text.specs.declared.scenario_fault.ScenarioFault.{ScenarioFault}
 use Rattle.cany_text.specs.declared.scenario_fault.ScenarioFault.TheVariants.{TooMany}
 use Rattle.cany_text.specs.declared.scenario_fault.TableName.{TableName}
-use Rattle.cany_text.specs.TomlKeys.{Read, ◌>>=◌, Entry, of_kind, each_entry, item_count}
-use Rattle.cany_scenario.specs.Arrays.{few_items, entry_at, after}
+use Rattle.cany_text.specs.TextNames.{key_name}
+use Rattle.cany_text.specs.TomlKeys.{Read, ◌>>=◌, Entry, of_kind, fault_unless, position_of, each_entry, item_count, entries_from, entries_of}
+use Rattle.cany_scenario.specs.Arrays.{few_items, items_at, entry_at, after}
 
 -- there are as many items as there are values
 item_count-items_view : (values : List Value) → item_count (items_view values) ≡ length values
@@ -33,6 +35,41 @@ pub few_items-few : (table : TableName) (most : ℕ) (at : Position) (value : Da
 few_items-few table most at value values is few =
     let test : nat_le (item_count (items_view values)) most ≡ true = rw (item_count-items_view values) (grind (arith, nat_tests)) in
     rw (is, test) refl
+
+-- ---- the array at a key: its items, and then what its entries stand for
+
+tested : {A : Type 0} (test : Read (Unit {0})) (items : Items) (read : Items → Read A) → (test >>= (λ u. read items)) ≡ ((test >>= (λ u. Ok items)) >>= read)
+tested (Err fault) items read = refl
+tested (Ok u) items read = refl
+
+then_read : {A : Type 0} (array : Read Items) (test : Items → Read (Unit {0})) (read : Items → Read A)
+    → (array >>= (λ items. test items >>= (λ u. read items))) ≡ ((array >>= (λ items. test items >>= (λ u. Ok items))) >>= read)
+then_read (Err fault) test read = refl
+then_read (Ok items) test read = tested (test items) items read
+
+by_items : {A : Type 0} (table : TableName) (most : ℕ) (read : Entry → Read A) (at : Position) (found : Option Data)
+    → option_map_or (entries_from table most read at) found (Ok []) ≡ (option_map_or (few_items table most at) found (Ok no_items) >>= each_entry table at.name read 0)
+by_items table most read at None = refl
+by_items table most read at (Some value) =
+    then_read (of_kind at (as_array value)) (λ items. fault_unless (nat_le (item_count items) most) (TooMany table)) (each_entry table at.name read 0)
+
+entries_of-items_at : {A : Type 0} (table : TableName) (most : ℕ) (read : Entry → Read A) (name : KeyName) (top : Entry)
+    → entries_of table most read name top ≡ (items_at table most name top >>= each_entry table name read 0)
+entries_of-items_at table most read name top = by_items table most read (position_of name top) (get_member (key_name name) top.members)
+
+-- a fault of the array
+pub entries_of-fault : {A : Type 0} (table : TableName) (most : ℕ) (read : Entry → Read A) (name : KeyName) (top : Entry) (fault : ScenarioFault)
+    → items_at table most name top ≡ Err fault → entries_of table most read name top ≡ Err fault
+entries_of-fault table most read name top fault bad =
+    entries_of-items_at table most read name top ∙ ap (λ (items : Read Items). items >>= each_entry table name read 0) bad
+
+-- or its items
+pub entries_of-items : {A : Type 0} (table : TableName) (most : ℕ) (read : Entry → Read A) (name : KeyName) (top : Entry) (items : Items)
+    → items_at table most name top ≡ Ok items → entries_of table most read name top ≡ each_entry table name read 0 items
+entries_of-items table most read name top items there =
+    entries_of-items_at table most read name top ∙ ap (λ (items : Read Items). items >>= each_entry table name read 0) there
+
+-- ---- one entry after another
 
 -- what the entries from a place on stand for
 abbrev pub from_place : {A : Type 0} → TableName → KeyName → (Entry → Read A) → List Value → ℕ → Read (List A)

@@ -5,6 +5,7 @@ pub mod EntryFacts
 pub mod FormatFacts
 pub mod JournalFacts
 pub mod KindsFacts
+pub mod NamedFacts
 pub mod NodesFacts
 pub mod PlacesFacts
 pub mod ScenarioFacts

@@ -120,9 +120,16 @@ fn ask_from(params: &Params, entry: &Entry) -> Result<NodeAsk, ScenarioFault>
     ensures { result ≡ ask_from params.now (entry_of entry.now) }
 {
     entry.only_keys(&ASK_KEYS)?;
-    let slot = entry.number(KeyName::Slot, 0, params.slots - 1)?;
+    let slot = slot_at(params, entry)?;
     let node = node_at(params, entry)?;
     Ok(NodeAsk { slot, node })
+}
+
+/// The slot of the run that an entry names.
+pub(crate) fn slot_at(params: &Params, entry: &Entry) -> Result<u64, ScenarioFault>
+    ensures { result ≡ required (number_from 0 (params.now.slots - 1)) key.Slot (entry_of entry.now) }
+{
+    entry.number(KeyName::Slot, 0, params.slots - 1)
 }
 
 /// The node of the bus that an entry names.

@@ -15,7 +15,7 @@ use toml::{Table, Value};
 
 /// One table of the text: the top table, or an entry of an array of tables at its place, counted
 /// from 0.
-#[derive(Clone, Copy, Debug)]
+#[derive(Clone, Copy)]
 pub(crate) struct Entry<'a> {
     pub(crate) table: TableName,
     pub(crate) place: usize,

@@ -1,5 +1,5 @@
 //! Where a fault rule of a scenario text acts.
-ghost use Rattle.std.specs.Prelude.{◌≡◌, ◌-◌};
+ghost use Rattle.std.specs.Prelude.{◌≡◌};
 ghost use Rattle.toml.specs.View.{view};
 ghost use Rattle.cany_base.specs.Limits.{greatest_attempt, greatest_number};
 ghost use Rattle.cany_text.specs.declared.scenario_fault.KeyName.TheVariants as key;
@@ -8,9 +8,10 @@ ghost use Rattle.cany_text.specs.TextNames.{class_name, named};
 ghost use Rattle.cany_text.specs.TomlKeys.{number_from, required};
 ghost use Rattle.cany_scenario.specs.Entries.{entry_of};
 
+use crate::asks::{node_at, slot_at};
 use crate::entry::{Entry, wrong_kind};
 use cany_base::limits::{greatest_attempt, greatest_number};
-use cany_base::{Class, NodeId, Params, Place};
+use cany_base::{Class, Params, Place};
 use cany_text::names::class_name;
 use cany_text::{KeyName, Position, ScenarioFault};
 use toml::Value;
@@ -34,6 +35,20 @@ const FRAME_RULE_KEYS: [KeyName; 7] = [
     KeyName::Stop,
 ];
 
+/// The classes that an entry can name.
+const CLASSES: [Class; 10] = [
+    Class::Accept,
+    Class::Rha,
+    Class::Els,
+    Class::Fda,
+    Class::Join,
+    Class::Leave,
+    Class::Confirm,
+    Class::Tot,
+    Class::Rel,
+    Class::Ed,
+];
+
 /// Where the rule of an entry acts: at a frame where the entry has the key `class`, whatever that
 /// holds, and at a slot elsewhere.
 #[tactic(auto, unfolding(cany_text::specs::FaultsText::place_from))]
@@ -52,7 +67,7 @@ fn slot_place_from(params: &Params, entry: &Entry) -> Result<Place, ScenarioFaul
     ensures { result ≡ slot_place_from params.now (entry_of entry.now) }
 {
     entry.only_keys(&SLOT_RULE_KEYS)?;
-    let slot = entry.number(KeyName::Slot, 0, params.slots - 1)?;
+    let slot = slot_at(params, entry)?;
     Ok(Place::At { slot })
 }
 
@@ -63,7 +78,7 @@ fn frame_place_from(params: &Params, entry: &Entry) -> Result<Place, ScenarioFau
     entry.only_keys(&FRAME_RULE_KEYS)?;
     let class = read_class(entry)?;
     let number = read_number(params, entry)?;
-    let node = read_node(params, entry)?;
+    let node = node_at(params, entry)?;
     let nth = read_attempt(params, entry)?;
     Ok(Place::FrameNth {
         class,
@@ -80,14 +95,6 @@ fn read_number(params: &Params, entry: &Entry) -> Result<u16, ScenarioFault>
 {
     let number = entry.number(KeyName::Number, 0, greatest_number(params.format))?;
     Ok(number as u16)
-}
-
-/// The node of the frame.
-fn read_node(params: &Params, entry: &Entry) -> Result<NodeId, ScenarioFault>
-    ensures { result ≡ required (number_from 0 (params.now.nodes - 1)) key.Node (entry_of entry.now) }
-{
-    let node = entry.number(KeyName::Node, 0, u64::from(params.nodes) - 1)?;
-    Ok(NodeId::of_index(node as usize))
 }
 
 /// Which attempt to carry the frame, counted from 1.
@@ -118,39 +125,13 @@ fn class_from(at: Position, value: &Value) -> Result<Class, ScenarioFault>
 }
 
 /// The class of the name.
-// Test by test, since a closure of `find` takes longer to prove than all of them.
 fn class_named(name: &str) -> Option<Class>
     ensures { result ≡ named class_name classes name.now }
 {
-    if class_name(Class::Accept) == name {
-        return Some(Class::Accept);
-    }
-    if class_name(Class::Rha) == name {
-        return Some(Class::Rha);
-    }
-    if class_name(Class::Els) == name {
-        return Some(Class::Els);
-    }
-    if class_name(Class::Fda) == name {
-        return Some(Class::Fda);
-    }
-    if class_name(Class::Join) == name {
-        return Some(Class::Join);
-    }
-    if class_name(Class::Leave) == name {
-        return Some(Class::Leave);
-    }
-    if class_name(Class::Confirm) == name {
-        return Some(Class::Confirm);
-    }
-    if class_name(Class::Tot) == name {
-        return Some(Class::Tot);
-    }
-    if class_name(Class::Rel) == name {
-        return Some(Class::Rel);
-    }
-    if class_name(Class::Ed) == name {
-        return Some(Class::Ed);
+    for class in &CLASSES {
+        if class_name(*class) == name {
+            return Some(*class);
+        }
     }
     None
 }

@@ -10,7 +10,7 @@ ghost use Rattle.cany_text.specs.TomlKeys.{each_entry, optional, required};
 ghost use Rattle.cany_scenario.specs.Entries.{entry_of};
 
 use crate::array::{entry_at, items_at};
-use crate::asks::node_at;
+use crate::asks::{node_at, slot_at};
 use crate::entry::{Entry, wrong_kind};
 use cany_base::limits::MOST_SENDS;
 use cany_base::{Params, Payload, SendAsk, Service};
@@ -26,6 +26,9 @@ const SEND_KEYS: [KeyName; 4] = [
     KeyName::Service,
     KeyName::DataKey,
 ];
+
+/// The services that an entry can name.
+const SERVICES: [Service; 3] = [Service::Ed, Service::Rel, Service::Tot];
 
 /// How many digits a payload can have.
 const MOST_DIGITS: usize = 16;
@@ -60,7 +63,7 @@ fn send_from(params: &Params, entry: &Entry) -> Result<SendAsk, ScenarioFault>
     ensures { result ≡ send_from params.now (entry_of entry.now) }
 {
     entry.only_keys(&SEND_KEYS)?;
-    let slot = entry.number(KeyName::Slot, 0, params.slots - 1)?;
+    let slot = slot_at(params, entry)?;
     let node = node_at(params, entry)?;
     let service = service_at(entry)?;
     let payload = payload_at(entry)?;
@@ -89,18 +92,13 @@ fn service_from(at: Position, value: &Value) -> Result<Service, ScenarioFault>
 }
 
 /// The service of the name.
-// Test by test, since a closure of `find` takes longer to prove than all of them.
 fn service_named(name: &str) -> Option<Service>
     ensures { result ≡ named service_name services name.now }
 {
-    if service_name(Service::Ed) == name {
-        return Some(Service::Ed);
-    }
-    if service_name(Service::Rel) == name {
-        return Some(Service::Rel);
-    }
-    if service_name(Service::Tot) == name {
-        return Some(Service::Tot);
+    for service in &SERVICES {
+        if service_name(*service) == name {
+            return Some(*service);
+        }
     }
     None
 }
