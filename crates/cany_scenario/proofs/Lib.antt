@@ -9,3 +9,4 @@ pub mod NamedFacts
 pub mod NodesFacts
 pub mod PlacesFacts
 pub mod ScenarioFacts
+pub mod SendsFacts

@@ -2,3 +2,4 @@ pub mod Arrays
 pub mod Entries
 pub mod JournalParts
 pub mod NodesParts
+pub mod SendsParts

@@ -1,23 +1,26 @@
 //! The scripted sends of a scenario text.
-ghost use Rattle.std.specs.Prelude.{◌≡◌, ◌≢◌, [], IfOk, IfErr, Ok, Err};
-ghost use Rattle.toml.specs.View.{view, items_view};
+ghost use Rattle.std.specs.Prelude.{◌≡◌, ◌≢◌, [], IfOk, IfErr, IfSome, Ok, Err};
+ghost use Rattle.toml.specs.Data.{member};
+ghost use Rattle.toml.specs.View.{view, items_view, members_view, table_view};
 ghost use Rattle.cany_text.specs.declared.scenario_fault.KeyName.TheVariants as key;
 ghost use Rattle.cany_text.specs.declared.scenario_fault.ScenarioFault.TheVariants.{Memory};
 ghost use Rattle.cany_text.specs.declared.scenario_fault.TableName.TheVariants as table;
 ghost use Rattle.cany_text.specs.SendsText.{bytes_of, payload_from, services, service_from, send_from, sends_of};
-ghost use Rattle.cany_text.specs.TextNames.{named, service_name};
+ghost use Rattle.cany_text.specs.TextNames.{key_name, named, service_name};
 ghost use Rattle.cany_text.specs.TomlKeys.{each_entry, optional, required};
 ghost use Rattle.cany_scenario.specs.Entries.{entry_of};
+ghost use Rattle.cany_scenario.specs.SendsParts.{four_members, send_of_values};
 
 use crate::array::{entry_at, items_at};
 use crate::asks::{node_at, slot_at};
-use crate::entry::{Entry, wrong_kind};
+use crate::entry::{Entry, number_from, wrong_kind};
 use cany_base::limits::MOST_SENDS;
-use cany_base::{Params, Payload, SendAsk, Service};
-use cany_text::names::service_name;
+use cany_base::{NodeId, Params, Payload, SendAsk, Service};
+use cany_text::names::{key_name, service_name};
 use cany_text::{KeyName, Position, ScenarioFault, TableName};
 use std::alloc::Global;
-use toml::Value;
+use std::collections::btree_map::Iter;
+use toml::{Table, Value};
 
 /// The keys that an entry can have.
 const SEND_KEYS: [KeyName; 4] = [
@@ -58,8 +61,84 @@ fn each_send(alloc: Global, params: &Params, items: &[Value]) -> Result<Vec<Send
     Ok(sends)
 }
 
-#[tactic(auto, unfolding(cany_text::specs::SendsText::send_from))]
+/// The values of an entry that has each of the four keys, and no other.
+#[derive(Clone, Copy)]
+struct SendValues<'a> {
+    payload: &'a Value,
+    node: &'a Value,
+    service: &'a Value,
+    slot: &'a Value,
+}
+
 fn send_from(params: &Params, entry: &Entry) -> Result<SendAsk, ScenarioFault>
+    ensures { result ≡ send_from params.now (entry_of entry.now) }
+{
+    // Mostly an entry has its four keys, and one walk finds their values without a look-up.
+    match four_values(entry.members) {
+        Some(values) => send_of_values(params, entry, &values),
+        None => send_by_keys(params, entry),
+    }
+}
+
+/// The values of the four keys, where the table has just these. `None` says nothing of a table.
+fn four_values<'a>(members: &'a Table) -> Option<SendValues<'a>>
+    ensures { IfSome result (λ values. table_view members.now ≡ four_members values) }
+{
+    // A table gives its keys in their order as texts.
+    let mut entries = members.iter();
+    let payload = next_value(&mut entries, KeyName::DataKey)?;
+    let node = next_value(&mut entries, KeyName::Node)?;
+    let service = next_value(&mut entries, KeyName::Service)?;
+    let slot = next_value(&mut entries, KeyName::Slot)?;
+    match entries.next() {
+        Some(_) => None,
+        None => Some(SendValues {
+            payload,
+            node,
+            service,
+            slot,
+        }),
+    }
+}
+
+/// The value of the next entry, where that is of this key. `None` says nothing of the entries.
+fn next_value<'a>(entries: &mut Iter<'a, String, Value>, name: KeyName) -> Option<&'a Value>
+    ensures { IfSome result (λ value. members_view entries.old ≡ member (key_name name) (view value.now) (members_view entries.new)) }
+{
+    let (key, value) = entries.next()?;
+    if key.as_str() == key_name(name) {
+        Some(value)
+    } else {
+        None
+    }
+}
+
+/// The send that the four values make.
+#[tactic(auto, unfolding(crate::specs::SendsParts::send_of_values))]
+fn send_of_values(
+    params: &Params,
+    entry: &Entry,
+    values: &SendValues,
+) -> Result<SendAsk, ScenarioFault>
+    ensures { result ≡ send_of_values params.now (entry_of entry.now) values.now }
+{
+    let slots = params.slots - 1;
+    let slot = number_from(entry.position(KeyName::Slot), values.slot, 0, slots)?;
+    let nodes = u64::from(params.nodes) - 1;
+    let node = number_from(entry.position(KeyName::Node), values.node, 0, nodes)?;
+    let service = service_from(entry.position(KeyName::Service), values.service)?;
+    let payload = payload_from(entry.position(KeyName::DataKey), values.payload)?;
+    Ok(SendAsk {
+        slot,
+        node: NodeId::of_index(node as usize),
+        service,
+        payload,
+    })
+}
+
+/// The send of an entry that may lack a key, or have another.
+#[tactic(auto, unfolding(cany_text::specs::SendsText::send_from))]
+fn send_by_keys(params: &Params, entry: &Entry) -> Result<SendAsk, ScenarioFault>
     ensures { result ≡ send_from params.now (entry_of entry.now) }
 {
     entry.only_keys(&SEND_KEYS)?;
