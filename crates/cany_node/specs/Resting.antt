@@ -13,7 +13,7 @@ use Rattle.cany_model.specs.Rules.Turn.{turn_effects}
 use Rattle.cany_relcan.specs.Relcan as relcan
 use Rattle.cany_relcan.specs.Relcan.{IsRelcanOf, RelcanParts, brings_no_relcan}
 use Rattle.cany_totcan.specs.Rests as totcan
-use Rattle.cany_totcan.specs.Totcan.{IsTotcanOf}
+use Rattle.cany_totcan.specs.Totcan.{IsTotcanOf, TotcanParts}
 use Rattle.cany_node.specs.Agenda.{IsRising}
 use Rattle.cany_node.specs.Asks.{IsRisingFrom}
 use Rattle.cany_node.specs.Node.{NodeParts, IsNodeOf}
@@ -79,13 +79,23 @@ RelcanRestsUntil wake v =
     (scenario : ScenarioParts) (past : List NoticeKind) (notice : NoticeKind) → IsRelcanOf scenario v.node past v → length past < wake
     → brings_no_relcan notice ≡ true → relcan.Rests scenario v.node notice past v
 
+-- before this slot TOTCAN has nothing to do in an idle one
+abbrev pub TotcanRestsUntil : ℕ → TotcanParts → Type 0
+TotcanRestsUntil idle_until v =
+    (scenario : ScenarioParts) (past : List NoticeKind) (messages : List Message) (count : ℕ) → IsTotcanOf scenario v.node past messages count v
+    → length past < idle_until → totcan.Rests scenario v.node past messages count v
+
+-- nor is there anything to do for the site, once so many notices are read
+abbrev pub SiteRestsUntil : (read idle_until : ℕ) → MembershipParts → Type 0
+SiteRestsUntil read idle_until v =
+    (scenario : ScenarioParts) (i : ℕ) (past : List NoticeKind) → IsMembershipOf scenario i past v → read ≤ length past → length past < idle_until
+    → length past < scenario.params.slots → MembershipRests scenario i past v
+
 -- In an idle slot before this one, from which the node has read on, no part of it but EDCAN and RELCAN has anything to do. EDCAN has
 -- nothing to do in any, and RELCAN tells itself when its next timer is due.
 pub record IsIdleUntil (idle_until : ℕ) (v : NodeParts) : Type 0 where
-  pub totcan : (scenario : ScenarioParts) (past : List NoticeKind) (messages : List Message) (count : ℕ)
-      → IsTotcanOf scenario v.totcan.node past messages count v.totcan → length past < idle_until → totcan.Rests scenario v.totcan.node past messages count v.totcan
-  pub membership : (scenario : ScenarioParts) (i : ℕ) (past : List NoticeKind) → IsMembershipOf scenario i past v.membership
-      → v.read ≤ length past → length past < idle_until → length past < scenario.params.slots → MembershipRests scenario i past v.membership
+  pub totcan : TotcanRestsUntil idle_until v.totcan
+  pub membership : SiteRestsUntil v.read idle_until v.membership
   pub sends : (n : ℕ) → n < idle_until → IsRising n v.agenda.left → IsRising (n + 1) v.agenda.left
   pub joins : (n : ℕ) → n < idle_until → IsRisingFrom n v.joins → IsRisingFrom (n + 1) v.joins
   pub leaves : (n : ℕ) → n < idle_until → IsRisingFrom n v.leaves → IsRisingFrom (n + 1) v.leaves

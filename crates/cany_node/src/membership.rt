@@ -12,7 +12,7 @@ ghost use Rattle.cany_model.specs.Rules.Views.{start_of, view_effects, with_ende
 ghost use Rattle.cany_views.specs.Views.{IsViewsOf};
 ghost use Rattle.cany_node.specs.Asks.{asked_as};
 ghost use Rattle.cany_node.specs.Membership.{CanExchange, CanHear, Exchanges, HasKnown, IsNextOf, IsMembershipAtRest, IsMembershipOf, IsOfBus, KnowsOf, ended_as, exchange_plain, membership_effects, membership_room};
-ghost use Rattle.cany_node.specs.Resting.{MembershipRests, brings_totcan_or_life};
+ghost use Rattle.cany_node.specs.Resting.{MembershipRests, SiteRestsUntil, brings_totcan_or_life};
 
 use crate::asks::AskKind;
 use crate::notices::tells_of_site;
@@ -92,16 +92,24 @@ impl Membership {
     }
 
     /// What a frame of TOTCAN or a life sign tells, in a slot before `wake`: who lives. Nothing is done
-    /// for the site then.
-    pub(crate) fn see(&mut self, notice: &Notice)
+    /// for the site then. The answer is `idle_until`, before which it rests, or the new `wake` where
+    /// that is sooner.
+    pub(crate) fn see(&mut self, notice: &Notice, idle_until: Slot) -> Slot
         requires hears { CanHear self.old notice.now }
         requires brings { brings_totcan_or_life notice.now.kind ≡ true }
+        requires rests { SiteRestsUntil notice.now.slot idle_until self.old }
         ensures none { (scenario : ScenarioParts) (i : ℕ) (past : List NoticeKind) → IsMembershipOf scenario i past self.old → MembershipRests scenario i past self.old →
             IsNextOf scenario i past notice.now → membership_effects scenario i (notice.now.kind ∷ past) ≡ [] }
         ensures stands { (scenario : ScenarioParts) (i : ℕ) (past : List NoticeKind) → IsMembershipOf scenario i past self.old → MembershipRests scenario i past self.old →
             IsNextOf scenario i past notice.now → IsMembershipOf scenario i (notice.now.kind ∷ past) self.new }
+        ensures rests { SiteRestsUntil (notice.now.slot + 1) result self.new }
+        ensures sooner { result ≤ idle_until }
     {
+        if !tells_of_site(&notice.kind) {
+            return idle_until;
+        }
         self.life.see(notice);
+        idle_until.min(self.wake(notice.slot + 1))
     }
 
     /// What a notice tells, step by step: who asks to join or to leave, who shows life and who has failed,

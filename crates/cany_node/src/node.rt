@@ -17,7 +17,7 @@ ghost use Rattle.cany_totcan.specs.Totcan.{CanRead, IsTotcanOf};
 ghost use Rattle.cany_node.specs.Node.{IsNodeOf, IsWaiting, CanBegin, CanTurn, CanAct, Reads, IsTurnOf, IsRefused, heard_by, reply_of};
 ghost use Rattle.cany_node.specs.Asks.{AreAsksPassed, IsRisingFrom};
 ghost use Rattle.cany_node.specs.Agenda.{ArePassed, IsRising};
-ghost use Rattle.cany_node.specs.Resting.{IsIdleUntil, RelcanRestsUntil, RestsUntil, brings_totcan_or_life, is_for_edcan, is_for_relays};
+ghost use Rattle.cany_node.specs.Resting.{IsIdleUntil, RelcanRestsUntil, RestsUntil, TotcanRestsUntil, brings_totcan_or_life, is_for_edcan, is_for_relays};
 ghost use Rattle.cany_node.specs.Membership.{IsNextOf};
 ghost use Rattle.cany_node.specs.Turning.{CanHearNext, CanScript, HasHeard, HasScripted, IsActed, heard_effects, heard_room, script_effects, script_room};
 
@@ -285,13 +285,12 @@ impl Node {
         requires relcan { RelcanRestsUntil (notice.now.slot + 1) self.old.relcan }
         ensures { IsActed notice.now self.old self.new ctl.old ctl.new out.old out.new }
     {
-        follow_totcan(&mut self.totcan, notice, out);
-        self.membership.see(notice);
+        let totcan = follow_totcan(&mut self.totcan, notice, self.idle_until, out);
+        let site = self.membership.see(notice, self.idle_until);
         apply_all(out, self.inc, ctl, &mut self.log);
         out.clear();
         self.read = notice.slot + 1;
-        let membership = self.membership.wake(self.read);
-        self.idle_until = self.idle_until.min(self.totcan.wake()).min(membership);
+        self.idle_until = totcan.min(site);
     }
 
     /// Does what the rules say of a notice, rule by rule.
@@ -495,9 +494,10 @@ fn forget_idle(idle_until: &mut Slot)
 }
 
 /// Does what TOTCAN does at a notice in a slot for which it has nothing due. A life sign is nothing
-/// to it.
-fn follow_totcan(totcan: &mut Totcan, notice: &Notice, out: &mut Actions)
+/// to it. The answer is `idle_until`, before which it rests, or its new `wake` where that is sooner.
+fn follow_totcan(totcan: &mut Totcan, notice: &Notice, idle_until: Slot, out: &mut Actions) -> Slot
     requires reads { CanRead totcan.old notice.now }
+    requires rests { TotcanRestsUntil idle_until totcan.old }
     requires room { length out.old.items + totcan.old.queue.room + 3 ≤ out.old.room }
     ensures actions { (scenario : ScenarioParts) (past : List NoticeKind) (messages : List Message) (asked : ℕ) →
         Rests scenario totcan.old.node past messages asked totcan.old → IsTotcanOf scenario totcan.old.node past messages asked totcan.old → IsNextNotice scenario past notice.now →
@@ -505,10 +505,13 @@ fn follow_totcan(totcan: &mut Totcan, notice: &Notice, out: &mut Actions)
     ensures stands { (scenario : ScenarioParts) (past : List NoticeKind) (messages : List Message) (asked : ℕ) →
         Rests scenario totcan.old.node past messages asked totcan.old → IsTotcanOf scenario totcan.old.node past messages asked totcan.old → IsNextNotice scenario past notice.now →
         IsTotcanOf scenario totcan.old.node (notice.now.kind ∷ past) messages asked totcan.new }
+    ensures rests { TotcanRestsUntil result totcan.new }
+    ensures sooner { result ≤ idle_until }
     ensures room { out.new.room ≡ out.old.room }
 {
     if is_life_sign(&notice.kind) {
-        return;
+        return idle_until;
     }
     totcan.on(notice, out);
+    idle_until.min(totcan.wake())
 }

@@ -1,4 +1,4 @@
-use Rattle.std.proofs.Common.{◌≡◌, ◌++◌, ◌∙◌, true, false, refl, ap, sym, subst, append-nil}
+use Rattle.std.proofs.Common.{◌≡◌, ◌++◌, ◌∙◌, true, false, refl, ap, sym, subst, append-nil, arith}
 use Rattle.cany_base.specs.declared.class.Class.{Class}
 use Rattle.cany_base.specs.declared.class.Class.TheVariants as class
 use Rattle.cany_base.specs.declared.notice.NoticeKind.{NoticeKind}
@@ -38,3 +38,6 @@ returns-clause-actions c = λ scenario past messages asked rests h next. c.on.en
 
 pub returns-clause-stands : goal.returns-clause-stands
 returns-clause-stands c = λ scenario past messages asked rests h next. c.on.ensures.stands scenario past messages asked h next
+
+pub returns-clause-rests : goal.returns-clause-rests
+returns-clause-rests c = λ scenario past messages asked h early. c.wake.ensures.rests scenario past messages asked h (omega (arith, early, c.min.ensures))
