@@ -1,18 +1,16 @@
 -- The set of the open messages has a place for each of them; and what is left without the oldest.
-use Rattle.std.proofs.Common.{◌≡◌, ℕ, zero, suc, ◌-◌, ◌<◌, ◌≤◌, ◌==◌, Bool, true, false, if◌then◌else◌, inl, inr, List, [], ◌∷◌, drop, length, replicate, Option, Some, None, refl, ap, subst, sym, ◌∙◌, arith}
+use Rattle.std.proofs.Common.{◌≡◌, ℕ, zero, suc, ◌-◌, ◌<◌, ◌≤◌, true, inl, inr, List, [], ◌∷◌, drop, length, replicate, Option, Some, None, refl, ap, subst, sym, ◌∙◌, arith}
 use Rattle.std.specs.Prelude.{remove, slice_get, slice_index_or, option_copied, IsSome, OnSome, MatchOption}
 use Rattle.std.specs.List.{HoldsAt, list_any}
 use denote.Ref.{Bor}
 use Rattle.std.proofs.lemmas.Bool.{cases_lt, false≢true}
 use Rattle.cany_base.specs.declared.message.MsgKey.{MsgKey}
-use Rattle.cany_base.specs.Frame.{FrameParts}
 use Rattle.cany_base.specs.Nodes.{nobody}
-use Rattle.cany_model.specs.Rules.Totcan.{message_in}
 use Rattle.cany_totcan.specs.declared.queue.Placed.{Placed}
 use Rattle.cany_totcan.specs.MessageSet.{MessageSetParts}
-use Rattle.cany_totcan.specs.Queue.{IsIndexOf, IsKept, IsSetOf, OpenParts, is_at, oldest_from, without_first, without_oldest, without_oldest_from}
+use Rattle.cany_totcan.specs.Queue.{IsIndexOf, IsKept, IsSetOf, is_at}
 use Rattle.cany_totcan.proofs.MessageSetFacts.{has_no_message, none_past}
-use Rattle.cany_totcan.proofs.QueueFacts.{IsTakenOut, kept-remove, same_key_self}
+use Rattle.cany_totcan.proofs.QueueFacts.{IsTakenOut, kept-remove}
 
 pub there_below : (key : MsgKey) (items : List Placed) (set : MessageSetParts) → IsSetOf items set → list_any (is_at key) items ≡ true
     → key.seq < length set.origins
@@ -34,28 +32,6 @@ kept-none numbers room capacity set is reserved = record {
 
 -- ---- without the oldest
 
-pub first_taken : (place : ℕ) (v : OpenParts) (f : FrameParts) → oldest_from place v.items ≡ Some f → without_first v ≡ without_oldest place v
-first_taken place v f first = go v.items refl first
-  where
-    go : (items : List Placed) → v.items ≡ items → oldest_from place items ≡ Some f → without_first v ≡ without_oldest_from place v items
-    go [] same none = absurd (cc)
-    go (x ∷ items) same at = by (x.place == place) at
-      where
-        by : (b : Bool) → (if b then Some x.frame else None) ≡ Some f → without_first v ≡ (if b then record v { items = items; done = v.done - 1 } else v)
-        by true is = ap (λ (xs : List Placed). record v { items = drop 1 xs; done = v.done - 1 }) same
-        by false is = absurd (cc)
-
--- the message that closes stands at the front
-pub oldest_front : (place : ℕ) (items : List Placed) (f : FrameParts) → oldest_from place items ≡ Some f → IsIndexOf (message_in f) 0 items
-oldest_front place [] f none = absurd (cc)
-oldest_front place (x ∷ items) f at = by (x.place == place) at
-  where
-    by : (b : Bool) → (if b then Some x.frame else None) ≡ Some f → IsIndexOf (message_in f) 0 (x ∷ items)
-    by true is =
-        let frame : x.frame ≡ f = cc in
-        subst (λ g. IsIndexOf (message_in g) 0 (x ∷ items)) frame (record { within = omega arith; is = λ d. same_key_self (message_in x.frame) })
-    by false is = absurd (cc)
-
 pub front_removed : {X : Type 0} (items : List X) → remove items 0 ≡ drop 1 items
 front_removed [] = refl
 front_removed (x ∷ items) = refl
@@ -65,15 +41,6 @@ pub kept-first : (key : MsgKey) (items : List Placed) (done room capacity : ℕ)
 kept-first key items done room capacity old new kept at taken =
     subst (λ (xs : List Placed). IsKept xs (done - 1) room capacity new) (front_removed items)
     (kept-remove key 0 items done (done - 1) room capacity old new kept at (omega (arith, kept.there, at.within)) taken)
-
--- where none has this place, all stay
-pub oldest_none : (place : ℕ) (v : OpenParts) (items : List Placed) → oldest_from place items ≡ None → without_oldest_from place v items ≡ v
-oldest_none place v [] none = refl
-oldest_none place v (x ∷ items) none = go (x.place == place) none
-  where
-    go : (b : Bool) → (if b then Some x.frame else None) ≡ None → (if b then record v { items = items; done = v.done - 1 } else v) ≡ v
-    go true is = absurd (cc)
-    go false is = refl
 
 -- ---- the ring
 

@@ -139,7 +139,7 @@ impl OpenMessages {
         }
     }
 
-    /// Removes a message, after a look at those from the oldest to it.
+    /// Removes a message, after a look at those from the newest to it.
     fn remove_open(&mut self, msg: &MsgKey)
         ensures messages { self.new.messages ≡ is_removed msg.now self.old.messages }
         ensures noted { IsNoted forgotten msg.now self.old.entries self.new.entries }
@@ -165,7 +165,7 @@ impl OpenMessages {
         Some(oldest)
     }
 
-    /// Removes the oldest message, which this frame carries.
+    /// Removes the oldest message, of which this is the key.
     pub(crate) fn remove_oldest(&mut self, msg: &MsgKey)
         requires { IsIndexOf msg.now 0 self.old.messages.items }
         ensures messages { self.new.messages ≡ without_first self.old.messages }
