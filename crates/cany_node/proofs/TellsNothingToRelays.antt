@@ -41,6 +41,12 @@ edcan_apart : (c : Class) → same_class c class.Ed ≡ true → not (same_class
 unfolding same_class
 edcan_apart c is = subst (λ d. not (same_class d class.Rel || same_class d class.Confirm) ≡ true) (sym (same_class-true c class.Ed is)) refl
 
+pub edcan_is_for_relays : (e : NoticeKind) → is_for_edcan e ≡ true → is_for_relays e ≡ true
+edcan_is_for_relays Idle is = refl
+edcan_is_for_relays (Got f) is = ap (λ b. b || (same_class f.class class.Rel || same_class f.class class.Confirm)) is
+edcan_is_for_relays (Sent f) is = ap (λ b. b || (same_class f.class class.Rel || same_class f.class class.Confirm)) is
+edcan_is_for_relays Bad is = refl
+
 pub edcan_is_no_relcan : (e : NoticeKind) → is_for_edcan e ≡ true → brings_no_relcan e ≡ true
 edcan_is_no_relcan Idle is = refl
 edcan_is_no_relcan (Got f) is = edcan_apart f.class is

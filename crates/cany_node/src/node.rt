@@ -212,8 +212,10 @@ impl Node {
     {
         if notice.slot >= self.idle_until {
             self.follow_rules(notice, ctl, out);
+        } else if is_for_edcan(&notice.kind) {
+            self.follow_edcan(notice, ctl, out);
         } else if is_for_relays(&notice.kind) {
-            self.follow_relays(notice, ctl, out);
+            self.follow_relcan(notice, ctl, out);
         } else if brings_totcan_or_life(&notice.kind) && notice.slot < self.relcan.wake() {
             self.follow_totcan_and_life(notice, ctl, out);
         } else {
@@ -221,18 +223,15 @@ impl Node {
         }
     }
 
-    /// Does what EDCAN and RELCAN do at a notice that nothing else hears, in a slot for which
-    /// nothing else is due: a frame of EDCAN is nothing to RELCAN before its next timer is due, and
-    /// any other notice nothing to EDCAN.
-    fn follow_relays(&mut self, notice: &Notice, ctl: &mut Controller, out: &mut Actions)
+    /// Does what EDCAN and RELCAN do at a frame of EDCAN, in a slot for which nothing else is due.
+    /// Before its next timer is due it is nothing to RELCAN.
+    fn follow_edcan(&mut self, notice: &Notice, ctl: &mut Controller, out: &mut Actions)
         requires acts { CanAct self.old notice.now ctl.old out.old }
-        requires brings { is_for_relays notice.now.kind ≡ true }
+        requires brings { is_for_edcan notice.now.kind ≡ true }
         requires idle { IsIdleUntil (notice.now.slot + 1) self.old }
         ensures { IsActed notice.now self.old self.new ctl.old ctl.new out.old out.new }
     {
-        if !is_for_edcan(&notice.kind) {
-            self.follow_relcan(notice, ctl, out);
-        } else if notice.slot >= self.relcan.wake() {
+        if notice.slot >= self.relcan.wake() {
             self.follow_both(notice, ctl, out);
         } else {
             let calls = self.edcan.hear(notice);
@@ -241,7 +240,8 @@ impl Node {
         }
     }
 
-    /// Does what RELCAN does at such a notice, which is none of EDCAN.
+    /// Does what RELCAN does at a notice that none but EDCAN and RELCAN hear, and that is none of
+    /// EDCAN, in such a slot.
     fn follow_relcan(&mut self, notice: &Notice, ctl: &mut Controller, out: &mut Actions)
         requires acts { CanAct self.old notice.now ctl.old out.old }
         requires brings { is_for_relays notice.now.kind ≡ true }

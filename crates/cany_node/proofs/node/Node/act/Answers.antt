@@ -4,8 +4,13 @@ use Rattle.cany_node.specs.Resting.{IsIdleUntil, RelcanRestsUntil}
 use Rattle.cany_node.proofs.Idle.IdleFacts.{idle_sooner}
 use Rattle.cany_node.proofs.node.Node.act.Goals as goal
 
-pub follow_relays-requires-clause-idle : goal.follow_relays-requires-clause-idle
-follow_relays-requires-clause-idle c =
+pub follow_edcan-requires-clause-idle : goal.follow_edcan-requires-clause-idle
+follow_edcan-requires-clause-idle c =
+    subst (IsIdleUntil (c.args.notice.now.slot + 1)) c.self.view_is
+    (idle_sooner c.self.inside.idle_until (c.args.notice.now.slot + 1) _ c.self.invariant.idle_until (omega arith))
+
+pub follow_relcan-requires-clause-idle : goal.follow_relcan-requires-clause-idle
+follow_relcan-requires-clause-idle c =
     subst (IsIdleUntil (c.args.notice.now.slot + 1)) c.self.view_is
     (idle_sooner c.self.inside.idle_until (c.args.notice.now.slot + 1) _ c.self.invariant.idle_until (omega arith))
 

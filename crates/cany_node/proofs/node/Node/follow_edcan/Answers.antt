@@ -5,19 +5,22 @@ use Rattle.cany_node.proofs.ActSteps.{listed_acted, listed_apply}
 use Rattle.cany_node.proofs.AppliedParts.{both_applied, can_front, none_applied}
 use Rattle.cany_node.proofs.Idle.IdleFacts.{idle_later}
 use Rattle.cany_node.proofs.RelayTurn.{relay_turn}
-use Rattle.cany_node.proofs.TellsNothingToRelays.{edcan_is_no_relcan, relcan_none, relcan_still}
-use Rattle.cany_node.proofs.node.Node.follow_relays.Goals as goal
+use Rattle.cany_node.proofs.TellsNothingToRelays.{edcan_is_for_relays, edcan_is_no_relcan, relcan_none, relcan_still}
+use Rattle.cany_node.proofs.node.Node.follow_edcan.Goals as goal
 
--- a frame of EDCAN before RELCAN's next timer is due
+pub follow_both-requires-clause-brings : goal.follow_both-requires-clause-brings
+follow_both-requires-clause-brings c = edcan_is_for_relays c.args.notice.now.kind c.requires.brings
+
+-- before RELCAN's next timer is due
 
 pub apply_called-requires : goal.apply_called-requires
 apply_called-requires c =
     let notice = c.args.notice.now in
     let relcan = c.self.inside.relcan in
-    let other = edcan_is_no_relcan notice.kind (sym c.if-not-is_for_edcan.ensures) in
+    let other = edcan_is_no_relcan notice.kind c.requires.brings in
     let ed = actions_called notice c.hear-calls.result in
     let turn =
-    relay_turn notice _ _ c.self.view_is c.requires.brings c.requires.idle c.hear-calls.new.self relcan ed []
+    relay_turn notice _ _ c.self.view_is (edcan_is_for_relays notice.kind c.requires.brings) c.requires.idle c.hear-calls.new.self relcan ed []
     c.hear-calls.ensures.actions c.hear-calls.ensures.stands
     (relcan_none notice relcan c.wake.result c.wake.ensures.rests c.if-notice-wake.false other)
     (relcan_still notice relcan c.wake.result c.wake.ensures.rests c.if-notice-wake.false other) in
@@ -36,10 +39,10 @@ pub returns-else-notice-wake : goal.returns-else-notice-wake
 returns-else-notice-wake c =
     let notice = c.args.notice.now in
     let relcan = c.self.inside.relcan in
-    let other = edcan_is_no_relcan notice.kind (sym c.if-not-is_for_edcan.ensures) in
+    let other = edcan_is_no_relcan notice.kind c.requires.brings in
     let ed = actions_called notice c.hear-calls.result in
     let turn =
-    relay_turn notice _ _ c.self.view_is c.requires.brings c.requires.idle c.hear-calls.new.self relcan ed []
+    relay_turn notice _ _ c.self.view_is (edcan_is_for_relays notice.kind c.requires.brings) c.requires.idle c.hear-calls.new.self relcan ed []
     c.hear-calls.ensures.actions c.hear-calls.ensures.stands
     (relcan_none notice relcan c.wake.result c.wake.ensures.rests c.if-notice-wake.false other)
     (relcan_still notice relcan c.wake.result c.wake.ensures.rests c.if-notice-wake.false other) in
