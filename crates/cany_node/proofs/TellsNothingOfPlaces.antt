@@ -231,15 +231,12 @@ module _ (e : NoticeKind) (only : IsUnplaced e) where
       limits = h.limits;
       queue = record { places = h.queue.places ∙ sym (placed_same p.bound); messages = h.queue.messages };
       acceptances = record {
-        omit = h.acceptances.omit;
-        room = h.acceptances.room;
-        copies = λ seq origin below recent.
-            h.acceptances.copies seq origin below (sym (recent_same p.bound (key_of seq origin)) ∙ recent)
-            ∙ sym (ap (copies (accept_of_key (key_of seq origin))) (after_same (key_of seq origin)) ∙ accept_copies (key_of seq origin) (after_place (key_of seq origin) past));
-        owned = λ seq origin below recent.
-            h.acceptances.owned seq origin below (sym (recent_same p.bound (key_of seq origin)) ∙ recent)
-            ∙ sym (ap (has_own (accept_of_key (key_of seq origin))) (after_same (key_of seq origin)) ∙ accept_own (key_of seq origin) (after_place (key_of seq origin) past));
-        messages = h.acceptances.messages;
+        copies = λ key recent.
+            h.acceptances.copies key (sym (recent_same p.bound key) ∙ recent)
+            ∙ sym (ap (copies (accept_of_key key)) (after_same key) ∙ accept_copies key (after_place key past));
+        owned = λ key recent.
+            h.acceptances.owned key (sym (recent_same p.bound key) ∙ recent)
+            ∙ sym (ap (has_own (accept_of_key key)) (after_same key) ∙ accept_own key (after_place key past));
       };
       are_delivered = subst (λ frames. AreDelivered frames v.deliveries) (sym (delivered_same p i)) h.are_delivered;
       done = done_still (take v.queue.done v.queue.items) h.done;
