@@ -17,7 +17,7 @@ use Rattle.cany_model.specs.Rules.Relcan.{relcan_effects}
 use Rattle.cany_model.proofs.Bus.Identities.{same_class-true}
 use Rattle.cany_relcan.specs.Relcan as relcan
 use Rattle.cany_relcan.specs.Relcan.{IsRelcanOf, RelcanParts, brings_no_relcan}
-use Rattle.cany_node.specs.Resting.{RelcanRestsUntil, is_for_edcan}
+use Rattle.cany_node.specs.Resting.{RelcanRestsUntil, is_for_edcan, is_for_relays}
 
 -- ---- EDCAN
 

@@ -74,7 +74,7 @@ impl Timers {
     }
 
     /// Ends the oldest timer that runs, and gives its frame.
-    #[inline(never)]
+    #[inline(always)]
     fn end_oldest(&mut self) -> Option<Frame>
         ensures due { result ≡ oldest_frame self.old.running }
         ensures timers { self.new ≡ record self.old { running = drop 1 self.old.running } }
