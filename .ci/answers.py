@@ -42,11 +42,13 @@ def telling_calls(root):
 
 
 def showing(root):
-    """The tests, the edits that must fail, the scenarios and the scripts."""
+    """The tests, the headings of trials, the edits that must fail, the scenarios and the scripts."""
     found = {it.stem for place in ("crates/*/must-fail/*.edit", "scenarios/*.toml") for it in root.glob(place)}
     found |= {str(it.relative_to(root)) for place in (".ci/*.py", "benches/*.py") for it in root.glob(place)}
     for file in root.glob("crates/*/src/**/*.rt"):
         found.update(re.findall(r"#\[test\]\s+fn (\w+)", file.read_text()))
+    for file in root.glob("crates/*_trials/stdin"):
+        found.update(re.findall(r"(?m)^# (\w+)", file.read_text()))
     return found
 
 
@@ -62,4 +64,4 @@ def check(root, tally):
         # a call that nothing shows yet says so
         tally.check(row[-1].startswith("nothing yet: ") or any(it in shown for it in ticked(row[-1])), f"docs/promises.md, the table of answers: nothing shows {row[0]}")
         for name in ticked(row[-1]):
-            tally.check(name in shown, f"docs/promises.md, the table of answers: {name} is no test, edit, scenario or script")
+            tally.check(name in shown, f"docs/promises.md, the table of answers: {name} is no test, trial, edit, scenario or script")

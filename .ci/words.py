@@ -11,6 +11,7 @@ EXCEPTIONS = {
     "the kit that proved it, as `rt version` prints it": "rattle-kit-13f logic dac8208d650f15bf",
     "a key with a value that is none": "eth",
     "a tool that shows the frames of a CAN bus": "candump",
+    "a command of tools/sweep.py, of which strings alone have the name": "storms",
     "tools that spread work over machines": "parallel scancel",
 }
 ALLOWED = {it for words in EXCEPTIONS.values() for it in words.split()}
@@ -55,7 +56,7 @@ class Vocabulary:
     def __init__(self, root):
         self.root = root
         parts = ["crates/*/src/**/*.rt", "crates/*/specs/**/*.antt", "crates/*/proofs/**/*.antt"]
-        others = ["crates.txt", "HANDLES", "scenarios/*.toml", "scenarios/*.report", ".ci/*.py", "benches/*.py", "tools/*.py"]
+        others = ["crates.txt", "HANDLES", "scenarios/*.toml", "scenarios/*.report", "crates/*_trials/stdin", ".ci/*.py", "benches/*.py", "tools/*.py"]
         self.code = {it: set(re.findall(WORD, code_of(it))) for part in [*parts, *others] for it in root.glob(part) if it.is_file()}
         files = [it for it in self.code if it.suffix in (".rt", ".antt")]
         self.members = {it for file in files if file.suffix == ".rt" for it in self.members_of(file)}

@@ -1,0 +1,50 @@
+//! Trials of the commands, by their public calls: what no clause says of them, and no scenario of
+//! `scenarios/`. Each line of standard input is a trial, which is written with what came of it; one
+//! that begins with # is a heading. The texts are files of `data/`. No crate stands on this one.
+#![tactic(auto)]
+
+mod command;
+mod slow;
+mod trial;
+
+use anyhow::Result;
+use std::fs;
+use std::io::Write;
+use trial::{Outcome, outcome_of};
+
+/// Writes what a command wrote, and then its status, and how often it read where that is counted.
+fn tell(rt: &HostRuntime, outcome: &Outcome) -> Result<()> {
+    rt.stdout().write_all(&outcome.taken)?;
+    match outcome.reads {
+        Some(reads) => println!(rt; "= status {}, reads {reads}", outcome.status)?,
+        None => println!(rt; "= status {}", outcome.status)?,
+    }
+    Ok(())
+}
+
+/// Makes the trial of a line: a command, its streams, the read and the write that fail, counted
+/// from 1, the file of its text, and its words.
+fn try_line(rt: &HostRuntime, line: &str) -> Result<()> {
+    let fields: Vec<&str> = line.split_whitespace().collect(rt.alloc())?;
+    match fields.as_slice() {
+        ["#", ..] | [] => Ok(()),
+        [command, streams, read, write, file, words @ ..] => {
+            let failing = [read.parse::<u32>()?, write.parse::<u32>()?];
+            let text = fs::read(rt, file)?;
+            tell(
+                rt,
+                &outcome_of(rt.alloc(), command, streams, failing, text, words)?,
+            )
+        }
+        _ => anyhow::bail!("no trial: {line}"),
+    }
+}
+
+fn main(rt: HostRuntime) -> Result<()> {
+    for line in rt.lines(rt.alloc()) {
+        let line = line?;
+        println!(rt; "{line}")?;
+        try_line(&rt, line.as_str())?;
+    }
+    Ok(())
+}
