@@ -1,4 +1,4 @@
-"""Each word in backticks of the pages exists in the repository, and each relative link leads somewhere."""
+"""Each word in backticks of the pages exists in the repository, each relative link leads somewhere, and no page has what a merge left."""
 import functools
 import re
 import shutil
@@ -200,9 +200,16 @@ def check_links(page, text, tally, root):
             tally.check(anchor in anchors_of(file), f"{name}: the link {target} names no heading")
 
 
+def check_merged(page, text, tally, root):
+    """No line of two versions that a merge left side by side."""
+    left = [at for at, line in enumerate(text.split("\n"), 1) if re.match(r"(<{7}|>{7})( |$)", line)]
+    tally.check(not left, f"{page.relative_to(root)}: a merge was not finished at lines {left}")
+
+
 def check(root, tally):
     vocabulary = Vocabulary(root)
     for page in pages(root):
         text = page.read_text(encoding="utf-8")
+        check_merged(page, text, tally, root)
         check_words(page, text, vocabulary, tally, root)
         check_links(page, text, tally, root)
