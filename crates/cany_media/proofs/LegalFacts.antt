@@ -1,6 +1,6 @@
 -- The scenario of one bus is legal where it has few rules; and how many it has.
-use Rattle.std.proofs.Common.{◌≡◌, ◌≢◌, ℕ, zero, suc, ◌+◌, ◌<◌, ◌≤◌, ◌++◌, Bool, true, false, not, List, [], ◌∷◌, length, map, filter, refl, ap, sym, ◌∙◌, subst, inl, inr, arith, length-append}
-use Rattle.std.proofs.lemmas.List.{length-map}
+use Rattle.std.proofs.Common.{◌≡◌, ◌≢◌, ℕ, zero, suc, ◌+◌, ◌<◌, ◌≤◌, ◌++◌, Bool, true, false, not, List, [], ◌∷◌, length, map, filter, refl, ap, sym, ◌∙◌, subst, inl, inr, arith, length-append, append_assoc, get_or, take}
+use Rattle.std.proofs.lemmas.List.{length-map, map_more}
 use Rattle.std.specs.Prelude.{All, AllPairs, find}
 use Rattle.std.specs.List.{range_with_len}
 use Rattle.std.proofs.lemmas.Bool.{cases_Bool, lt-ltb, false≢true}
@@ -9,13 +9,14 @@ use Rattle.std.proofs.lemmas.List.Kept.{AllPairs-cons}
 use Rattle.cany_base.specs.declared.rule.Place.{Place}
 use Rattle.cany_base.specs.declared.rule.Place.TheVariants.{At, FrameNth}
 use Rattle.cany_base.specs.declared.rule.Rule.{Rule}
+use Rattle.cany_base.specs.declared.rule.Verdict.TheVariants.{Lost}
 use Rattle.cany_base.specs.Limits.{most_rules}
-use Rattle.cany_base.specs.Nodes.{AllBelow, nobody}
+use Rattle.cany_base.specs.Nodes.{AllBelow, Nodes, nobody}
 use Rattle.cany_base.specs.Params.{Parameters}
 use Rattle.cany_base.specs.Scenario.{IsLegalScenario, IsRuleOf, ScenarioParts, same_place}
 use Rattle.cany_base.proofs.NodesFacts.{has_none}
 use Rattle.cany_model.specs.Bus.Slot.{ruling_of}
-use Rattle.cany_media.specs.MediaRun.{is_blind}
+use Rattle.cany_media.specs.MediaRun.{blind_ruling, is_blind}
 use Rattle.cany_media.specs.Plan.{FaultParts}
 use Rattle.cany_media.specs.Single.{blind_rule, blind_slots, is_replaced, single_bus, single_rules}
 
@@ -26,6 +27,19 @@ pub rules_are : (sc : ScenarioParts) (faults : List FaultParts) (kept rules : Li
     → rules ≡ kept ++ map (blind_rule sc.rules) slots → rules ≡ single_rules sc faults
 unfolding single_rules
 rules_are sc faults kept rules slots kept_is slots_are all = all ∙ rw (kept_is, slots_are) refl
+
+-- the rule of one slot more is appended
+pub blind_more : (rules old before after : List Rule) (slots : List ℕ) (i slot : ℕ) (stop : Nodes) → i < length slots → slot ≡ get_or slots i 0 → stop ≡ (blind_ruling rules slot).stop
+    → before ≡ old ++ map (blind_rule rules) (take i slots) → after ≡ before ++ record { place = At slot; verdict = Lost; stop = stop } ∷ []
+    → after ≡ old ++ map (blind_rule rules) (take (i + 1) slots)
+blind_more rules old before after slots i slot stop within at stops is next =
+    let made : Rule = record { place = At slot; verdict = Lost; stop = stop } in
+    let rule : made ≡ blind_rule rules (get_or slots i 0) = ap (λ (nodes : Nodes). record { place = At slot; verdict = Lost; stop = nodes }) stops ∙ ap (blind_rule rules) at in
+    next
+    ∙ ap (λ (rs : List Rule). rs ++ made ∷ []) is
+    ∙ append_assoc old (map (blind_rule rules) (take i slots)) (made ∷ [])
+    ∙ ap (λ (r : Rule). old ++ (map (blind_rule rules) (take i slots) ++ r ∷ [])) rule
+    ∙ ap (λ (rs : List Rule). old ++ rs) (sym (map_more (blind_rule rules) slots i 0 within))
 
 pub rules_number : (sc : ScenarioParts) (faults : List FaultParts) (kept : List Rule) (slots : List ℕ)
     → kept ≡ filter (λ rule. not (is_replaced sc.params faults rule.place)) sc.rules → slots ≡ blind_slots sc faults

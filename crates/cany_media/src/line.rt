@@ -7,7 +7,7 @@ use cany_base::{NodeSet, Slot};
 use std::marker::Model;
 
 /// How one line of the bus is in a slot.
-#[derive(Clone, Copy, Debug, PartialEq, Eq)]
+#[derive(Clone, Copy)]
 pub enum Line {
     /// It joins all nodes.
     Whole,
@@ -47,7 +47,7 @@ fn lacks_one(part: NodeSet, nodes: u8) -> bool
 }
 
 /// A line that is not whole from one slot to another, with both of them.
-#[derive(Clone, Copy, Debug, PartialEq, Eq)]
+#[derive(Clone, Copy)]
 pub struct LineFault {
     /// 0 or 1.
     pub line: u8,

@@ -7,7 +7,7 @@ use can_arbiter::{Offers, Outcome, arbitrate};
 use cany_base::{Frame, NodeSet};
 
 /// What arbitration gives in one slot over two lines.
-#[derive(Clone, Copy, Debug, PartialEq, Eq)]
+#[derive(Clone, Copy)]
 pub enum MediaOutcome {
     /// No node offers a frame.
     Idle,

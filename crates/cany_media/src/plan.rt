@@ -42,7 +42,7 @@ impl From<AllocError> for MediaFault {
 
 /// What is planned for the two lines of a run: faults in the order given, of which no two of one line
 /// share a slot. Of its slots those that the run has not are of no effect.
-#[derive(Debug, Drop)]
+#[derive(Drop)]
 pub struct MediaPlan {
     faults: Vec<LineFault>,
     tables: LineTables,

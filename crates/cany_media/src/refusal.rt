@@ -10,7 +10,7 @@ use itoa::Buffer;
 const MOST_LINE_BYTES: usize = 64;
 
 /// Why the command refuses its words, or a scenario.
-#[derive(Clone, Copy, Debug, PartialEq, Eq)]
+#[derive(Clone, Copy)]
 pub(crate) enum MediaRefusal {
     /// The fault at `index`, counted from 0, shares a slot with an earlier one of its line.
     Overlap { index: usize },

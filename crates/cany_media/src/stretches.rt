@@ -9,7 +9,7 @@ use std::marker::Model;
 
 /// Faults of one line, of which no two share a slot, in the order of their slots: so the one that
 /// has a slot is found by halving.
-#[derive(Debug, Drop)]
+#[derive(Drop)]
 pub(crate) struct Stretches {
     faults: Vec<LineFault>,
 }

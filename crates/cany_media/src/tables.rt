@@ -9,7 +9,7 @@ use cany_base::{Memory, Slot};
 use std::alloc::Global;
 
 /// The faults of each of the two lines.
-#[derive(Debug, Drop)]
+#[derive(Drop)]
 pub(crate) struct LineTables {
     first: Stretches,
     second: Stretches,

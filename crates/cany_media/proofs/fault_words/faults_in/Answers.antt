@@ -1,6 +1,6 @@
-use Rattle.std.proofs.Common.{◌≡◌, ◌+◌, ◌∷◌, ◌++◌, [], Global, Some, string_bytes, take, ap, sym, ◌∙◌}
-use Rattle.std.proofs.lemmas.List.{take_more}
-use Rattle.cany_media.specs.MediaWords.{fault_in}
+use Rattle.std.proofs.Common.{◌≡◌, ◌+◌, ◌∷◌, ◌++◌, [], Global, Some, map, string_bytes, take, ap, sym, ◌∙◌}
+use Rattle.std.proofs.lemmas.List.{take_all, take_more}
+use Rattle.cany_media.specs.MediaWords.{fault_in, faults_in}
 use Rattle.cany_media.proofs.WordFacts.{faults_more, no_faults, some_at}
 use Rattle.cany_media.proofs.fault_words.faults_in.Goals as goal
 
@@ -20,3 +20,7 @@ loop-word-preserved c =
     rw (more, c.in_ok-push.ensures.items)
     (faults_more (string_bytes {Z = Global}) before (Some c.in-Some.fault) c.loop-word.faults.items c.word-item.result c.loop-word.invariant
     (sym c.in-Some.is ∙ c.fault_in.ensures ∙ ap fault_in c.as_str.ensures.value))
+
+pub returns : goal.returns
+returns c =
+    ap (λ ws. faults_in (map (string_bytes {Z = Global}) ws)) (sym (take_all c.loop-word.word-index c.args.words.now c.loop-word-test.false)) ∙ c.loop-word.invariant
