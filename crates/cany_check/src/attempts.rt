@@ -21,7 +21,7 @@ use std::collections::BTreeMap;
 
 /// How often each frame that a rule, a join or a leave of a scenario names was carried, and in
 /// which slots.
-#[derive(Debug, Drop)]
+#[derive(Drop)]
 pub(crate) struct Attempts {
     counts: BTreeMap<FrameName, u64>,
     slots: BTreeMap<Attempt, Slot>,

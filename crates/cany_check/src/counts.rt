@@ -14,7 +14,7 @@ use crate::record::LogRecord;
 use cany_base::{LogEntry, Service};
 
 /// How many messages or signs have each fate.
-#[derive(Clone, Copy, Debug, PartialEq, Eq)]
+#[derive(Clone, Copy)]
 pub(crate) struct FateCounts {
     pub(crate) all: usize,
     pub(crate) nobody: usize,
@@ -23,7 +23,7 @@ pub(crate) struct FateCounts {
 }
 
 /// How many messages the logs of correct nodes deliver by TOTCAN, at least and at most.
-#[derive(Clone, Copy, Debug, PartialEq, Eq)]
+#[derive(Clone, Copy)]
 pub(crate) struct Lengths {
     pub(crate) shortest: usize,
     pub(crate) longest: usize,

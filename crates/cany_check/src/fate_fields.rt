@@ -15,7 +15,7 @@ use cany_log::Field;
 const NOTHING: Field = Field::NumberIfAny("", None);
 
 /// The pieces of a fate, one after another.
-#[derive(Clone, Copy, Debug)]
+#[derive(Clone, Copy)]
 pub(crate) struct FateFields {
     pub(crate) first: Field,
     pub(crate) second: Field,

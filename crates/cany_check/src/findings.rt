@@ -3,7 +3,7 @@ use crate::record::Slots;
 use cany_base::{MsgKey, NodeId, NodeSet, Service, Slot};
 
 /// What is judged of a part of the promise.
-#[derive(Clone, Copy, Debug, PartialEq, Eq)]
+#[derive(Clone, Copy, PartialEq, Eq)]
 pub enum Judgement {
     Held,
     Broken,
@@ -12,7 +12,7 @@ pub enum Judgement {
 }
 
 /// A part of the promise.
-#[derive(Clone, Copy, Debug, PartialEq, Eq)]
+#[derive(Clone, Copy)]
 pub enum Part {
     Integrity,
     Agreement(Service),
@@ -23,7 +23,7 @@ pub enum Part {
 }
 
 /// What became of a message or a sign among the nodes that count for it.
-#[derive(Clone, Copy, Debug, PartialEq, Eq)]
+#[derive(Clone, Copy, PartialEq, Eq)]
 pub enum Fate {
     /// All of them have it.
     All,
@@ -37,7 +37,7 @@ pub enum Fate {
 }
 
 /// What is told of a message or a sign.
-#[derive(Clone, Copy, Debug, PartialEq, Eq)]
+#[derive(Clone, Copy)]
 pub struct Told {
     pub fate: Fate,
     /// The nodes that count for it and have it.
@@ -51,14 +51,14 @@ pub struct Told {
 }
 
 /// An entry of the log of a correct node, by its place in the log.
-#[derive(Clone, Copy, Debug, PartialEq, Eq)]
+#[derive(Clone, Copy)]
 pub struct EntryAt {
     pub node: NodeId,
     pub place: usize,
 }
 
 /// A delivery by TOTCAN.
-#[derive(Clone, Copy, Debug, PartialEq, Eq)]
+#[derive(Clone, Copy)]
 pub struct Delivery {
     pub msg: MsgKey,
     pub slot: Slot,
@@ -66,7 +66,7 @@ pub struct Delivery {
 
 /// Two correct nodes that delivered in two orders, of the messages that both take part since: up to
 /// this place they delivered the same, and what either has there.
-#[derive(Clone, Copy, Debug, PartialEq, Eq)]
+#[derive(Clone, Copy)]
 pub struct Parting {
     pub first: NodeId,
     pub second: NodeId,
@@ -76,7 +76,7 @@ pub struct Parting {
 }
 
 /// Two correct nodes with unequal views of one number.
-#[derive(Clone, Copy, Debug, PartialEq, Eq)]
+#[derive(Clone, Copy)]
 pub struct ViewParting {
     pub number: u16,
     pub first: NodeId,
@@ -86,7 +86,7 @@ pub struct ViewParting {
 }
 
 /// What is found of the views that correct nodes hold.
-#[derive(Debug, Drop)]
+#[derive(Drop)]
 pub struct Views {
     /// Of how many numbers one of them holds a view.
     pub numbers: usize,
@@ -95,7 +95,7 @@ pub struct Views {
 }
 
 /// A node that ran all the time, and was taken for failed.
-#[derive(Clone, Copy, Debug, PartialEq, Eq)]
+#[derive(Clone, Copy)]
 pub struct Accusation {
     pub node: NodeId,
     /// The correct nodes in whose logs it is.

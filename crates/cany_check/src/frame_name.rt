@@ -4,7 +4,7 @@ ghost use Rattle.std.specs.Prelude.{◌≡◌};
 use cany_base::{Class, Frame, NodeId};
 
 /// What tells frames apart: one frame has one class, number and node, in each of its attempts.
-#[derive(Clone, Copy, Debug, PartialEq, Eq, PartialOrd, Ord)]
+#[derive(Clone, Copy, PartialEq, Eq, PartialOrd, Ord)]
 pub(crate) struct FrameName {
     pub(crate) class: Class,
     pub(crate) number: u16,
@@ -12,7 +12,7 @@ pub(crate) struct FrameName {
 }
 
 /// An attempt to carry a frame, counted from 1.
-#[derive(Clone, Copy, Debug, PartialEq, Eq, PartialOrd, Ord)]
+#[derive(Clone, Copy, PartialEq, Eq, PartialOrd, Ord)]
 pub(crate) struct Attempt {
     pub(crate) name: FrameName,
     pub(crate) nth: u64,

@@ -12,7 +12,7 @@ use cany_base::{Frame, Memory, MsgKey, Slot, SlotNote};
 use std::alloc::Global;
 
 /// The slots of a message, as its record has them.
-#[derive(Clone, Copy, Debug, PartialEq, Eq)]
+#[derive(Clone, Copy)]
 pub(crate) struct MessageSlots {
     pub(crate) sent: Option<Slot>,
     pub(crate) carried: Option<Slots>,

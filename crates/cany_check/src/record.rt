@@ -2,14 +2,14 @@
 use cany_base::{LogEntry, MsgKey, NodeId, NodeSet, Payload, Service, Slot};
 
 /// The first and the last of some slots.
-#[derive(Clone, Copy, Debug, PartialEq, Eq)]
+#[derive(Clone, Copy)]
 pub struct Slots {
     pub first: Slot,
     pub last: Slot,
 }
 
 /// A message, and what became of it.
-#[derive(Clone, Copy, Debug, PartialEq, Eq)]
+#[derive(Clone, Copy)]
 pub struct MessageRecord {
     pub key: MsgKey,
     pub service: Service,
@@ -31,7 +31,7 @@ pub struct MessageRecord {
 }
 
 /// The log of an incarnation of a node.
-#[derive(Clone, Copy, Debug)]
+#[derive(Clone, Copy)]
 pub struct LogRecord<'a> {
     pub node: NodeId,
     /// The slot since which it takes part.
@@ -43,7 +43,7 @@ pub struct LogRecord<'a> {
 }
 
 /// The sign that a node failed, as it was found out in a membership cycle, and what became of it.
-#[derive(Clone, Copy, Debug, PartialEq, Eq)]
+#[derive(Clone, Copy)]
 pub struct SignRecord {
     pub node: NodeId,
     pub cycle: u16,

@@ -2,13 +2,13 @@
 use cany_base::Slot;
 
 /// An entry of the scenario that did nothing in the run, by its place in its array.
-#[derive(Clone, Copy, Debug, PartialEq, Eq)]
+#[derive(Clone, Copy)]
 pub struct Unused {
     pub place: usize,
     pub entry: UnusedEntry,
 }
 
-#[derive(Clone, Copy, Debug, PartialEq, Eq)]
+#[derive(Clone, Copy)]
 pub enum UnusedEntry {
     Send(NoAsk),
     Fault(NoFault),
@@ -19,7 +19,7 @@ pub enum UnusedEntry {
 }
 
 /// Why a scripted send, join or leave did nothing.
-#[derive(Clone, Copy, Debug, PartialEq, Eq)]
+#[derive(Clone, Copy)]
 pub enum NoAsk {
     /// The node takes part only since a later slot.
     From(Slot),
@@ -30,7 +30,7 @@ pub enum NoAsk {
 }
 
 /// Why a fault rule, or a part of it, did nothing. The slot is that in which it would act.
-#[derive(Clone, Copy, Debug, PartialEq, Eq)]
+#[derive(Clone, Copy)]
 pub enum NoFault {
     /// There were only so many attempts to carry the frame.
     Attempts(u64),
