@@ -1,7 +1,7 @@
 -- What a step publishes.
 use Rattle.std.proofs.lemmas.Bool.{cases_lt}
 use Rattle.std.proofs.Common.{min, ◌≡◌, ◌≢◌, ◌⊎◌, ℕ, zero, suc, ◌+◌, ◌-◌, ◌<◌, ◌≤◌, Bool, true, false, List, [], ◌∷◌, ◌++◌, length, take, drop, refl, ap, sym, subst, ◌∙◌, arith, set, inl, inr, ⊎_elim, append_assoc, length-append, length-drop, take-append-drop, get_or, map, Some, slice_get}
-use Rattle.std.proofs.lemmas.List.{append-nil, map-append, get_or-set_same, get_or-set_other, length-set}
+use Rattle.std.proofs.lemmas.List.{append-nil, map-append, get_or-set_same, get_or-set_other, length-set, take_all, take_more}
 use mathlib.Core.List.{IsPrefix}
 use Rattle.cany_base.specs.declared.log_entry.LogEntry.{LogEntry}
 use Rattle.cany_base.specs.Scenario.{ScenarioParts}
@@ -31,6 +31,27 @@ took_all entries s s' is = record {
   some = subst (λ (l : List LogEntry). IsPrefix l (s.taken ++ entries)) (sym (ap (λ (x : PublisherParts). x.taken) is)) (prefix_self (s.taken ++ entries));
   all = λ e. ap (λ (x : PublisherParts). x.taken) is;
 }
+
+-- ---- some of the entries were taken
+
+abbrev pub so_far : List LogEntry → PublisherParts → ℕ → PublisherParts
+so_far entries s i = record s { taken = s.taken ++ take i entries }
+
+pub so_far_none : (entries : List LogEntry) (s : PublisherParts) → s ≡ so_far entries s 0
+so_far_none entries s = ap (λ (l : List LogEntry). record s { taken = l }) (sym (append-nil s.taken))
+
+pub so_far_all : (entries : List LogEntry) (s s' : PublisherParts) (i : ℕ) → length entries ≤ i → s' ≡ so_far entries s i → HasTaken true entries s s'
+so_far_all entries s s' i all is = took_all entries s s' (is ∙ ap (λ (l : List LogEntry). record s { taken = s.taken ++ l }) (take_all i entries all))
+
+pub so_far_more : (entries : List LogEntry) (s m s' : PublisherParts) (i : ℕ) (entry : LogEntry) → i < length entries → entry ≡ get_or entries i entry
+    → m ≡ so_far entries s i → (s'.book ≡ m.book) × (s'.shown ≡ m.shown) → s'.taken ≡ m.taken ++ entry ∷ [] → s' ≡ so_far entries s (i + 1)
+so_far_more entries s m s' i entry within at is same taken =
+    let book : s'.book ≡ s.book = same.0 ∙ ap (λ (p : PublisherParts). p.book) is in
+    let shown : s'.shown ≡ s.shown = same.1 ∙ ap (λ (p : PublisherParts). p.shown) is in
+    let all : s'.taken ≡ s.taken ++ take (i + 1) entries =
+    taken ∙ ap (λ (p : PublisherParts). p.taken ++ entry ∷ []) is ∙ append_assoc s.taken (take i entries) (entry ∷ [])
+    ∙ ap (λ (e : LogEntry). s.taken ++ (take i entries ++ e ∷ [])) at ∙ ap (λ (l : List LogEntry). s.taken ++ l) (sym (take_more entries i entry within)) in
+    λ j. record { book = book j; shown = shown j; taken = all j }
 
 -- what was taken, and the rest of the line
 pub rest_of : {A : Type 0} (xs ys : List A) → IsPrefix xs ys → xs ++ drop (length xs) ys ≡ ys

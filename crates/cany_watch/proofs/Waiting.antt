@@ -53,3 +53,7 @@ now_shown taken value next waiting is after =
       book = ap (λ (s : State). s.1.book) all;
       next = all;
     }
+
+-- an operation that the writer could not take waits as before
+pub waits_still : (taken : NoteParts) (value value' : Published) (waiting waiting' : List Growth) → value' ≡ value → waiting' ≡ waiting → IsWriterOf taken value waiting → IsWriterOf taken value' waiting'
+waits_still taken value value' waiting waiting' same still is = rw (same, still) is

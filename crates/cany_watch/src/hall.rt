@@ -20,7 +20,7 @@ use std::marker::Model;
 use std::sync::Wait;
 
 /// Whether the line of each node is published whole.
-#[derive(Clone, Copy, Debug, PartialEq, Eq)]
+#[derive(Clone, Copy, PartialEq, Eq)]
 pub enum Shown {
     /// The published list of every node is its line.
     All,

@@ -50,6 +50,15 @@ fn publish_taken<R: Wait>(rt: &R, writer: LineWriter, taken: &Note) -> (LineWrit
     }
 }
 
+/// Puts a writer in its place, where there is none.
+fn put_back<R: Wait>(rt: &R, place: &mut Option<LineWriter>, writer: LineWriter)
+    ensures { place.new ≡ Some writer }
+{
+    if let Some(other) = mem::replace(place, Some(writer)) {
+        drop(other.take(rt));
+    }
+}
+
 /// The reader of a writer that has published: it learns what the writer knows.
 fn reader_of(writer: &mut LineWriter) -> Result<LineReader, Memory>
     ensures view { IfOk result (λ r. view_of r.place ≡ view_of writer.old.desk.place) }
@@ -180,9 +189,7 @@ impl Publisher {
             unreachable!()
         };
         let (writer, is_published) = publish_taken(rt, writer, &self.taken);
-        if let Some(other) = mem::replace(&mut self.writer, Some(writer)) {
-            drop(other.take(rt));
-        }
+        put_back(rt, &mut self.writer, writer);
         is_published
     }
 

@@ -1,6 +1,6 @@
 use Rattle.std.proofs.Common.{◌≡◌, ◌++◌, take}
 use Rattle.cany_watch.specs.Publishers.{PublisherParts}
-use Rattle.cany_watch.proofs.PublishFacts.{took_some}
+use Rattle.cany_watch.proofs.PublishFacts.{so_far_all, so_far_none, took_some}
 use Rattle.cany_watch.proofs.publishing.take_all.Goals as goal
 
 pub returns-then-not-append : goal.returns-then-not-append
@@ -12,3 +12,10 @@ returns-then-not-append c =
     let shown : new.shown ≡ old.shown = cc (c.append.ensures.book.1, before) in
     let taken : new.taken ≡ old.taken ++ take c.loop-entry.entry-index c.args.entries.now = cc (c.append.ensures.taken, c.if-not-append.true, before) in
     took_some c.args.entries.now old new c.loop-entry.entry-index (λ i. record { book = book i; shown = shown i; taken = taken i })
+
+pub loop-entry-init : goal.loop-entry-init
+loop-entry-init c = so_far_none c.args.entries.now c.args.publisher.now
+
+pub returns : goal.returns
+returns c =
+    so_far_all c.args.entries.now c.args.publisher.now c.loop-entry.publisher c.loop-entry.entry-index c.loop-entry-test.false c.loop-entry.invariant

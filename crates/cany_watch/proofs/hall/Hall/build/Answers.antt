@@ -19,3 +19,9 @@ returns-clause-readings g c i less =
     let count : c.from-nodes.result ≡ c.args.scenario.now.params.nodes = c.from-nodes.ensures ∙ ap (λ (p : Parameters). p.nodes) (c.behind-scenario.view_is ∙ c.params.ensures.params) in
     subst (λ (l : List NoteParts). slice_get l i ≡ Some (note_of (publisher_at c.in_ok-publishers.publishers.items i))) (sym c.in_ok-publishers.ensures.notes)
     (note_there c.in_ok-publishers.publishers.items i (omega (arith, c.in_ok-publishers.ensures.count, count, less)))
+
+pub returns-clause-world : goal.returns-clause-world
+returns-clause-world g c = c.in_ok-world.ensures
+
+pub returns-clause-nothing : goal.returns-clause-nothing
+returns-clause-nothing g c = λ i. (c.in_ok-publishers.ensures.empty i).0

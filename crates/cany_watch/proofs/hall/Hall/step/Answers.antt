@@ -1,9 +1,13 @@
-use Rattle.std.proofs.Common.{ℕ, ◌<◌, ◌∙◌, sym, ap, subst}
+use Rattle.std.proofs.Common.{◌≡◌, ℕ, ◌<◌, ◌∙◌, [], ◌∷◌, ◌++◌, arith, sym, ap, subst}
+use Rattle.std.specs.Prelude.{if◌then◌else◌}
 use mathlib.Core.List.{IsPrefix}
+use Rattle.cany_model.specs.declared.reply.StepReply.TheVariants.{Done}
+use Rattle.cany_model.specs.Runs.Run.{after_step, is_done, reply}
+use Rattle.cany_world.specs.World.{state_of}
 use Rattle.cany_watch.specs.Halls.{HallParts, published_of, publisher_at}
 use Rattle.cany_watch.specs.Lines.{Longer, nodes_of}
 use Rattle.cany_watch.proofs.LineFacts.{world_longer}
-use Rattle.cany_watch.proofs.PublishFacts.{still_of, then_of, out_grows, out_begins}
+use Rattle.cany_watch.proofs.PublishFacts.{still_of, then_of, out_books, out_grows, out_begins}
 use Rattle.cany_watch.proofs.hall.Hall.step.Goals as goal
 
 pub publish_lines-requires : goal.publish_lines-requires
@@ -45,3 +49,55 @@ returns-clause-begins g c i less =
     let still = still_of c.self.inside.world c.step-reply.new.self c.self.inside.publishers.items c.self.invariant longer in
     let less' : i < nodes_of c.step-reply.new.self = subst (λ (n : ℕ). i < n) (ap (λ (h : HallParts). nodes_of h.world) (sym c.self.view_is) ∙ sym longer.nodes) less in
     out_begins c.step-reply.new.self c.publish_lines.new.publishers.items (then_of _ _ _ _ still c.publish_lines.ensures) i less'
+
+pub returns-then-publish_lines-clause-reply : goal.returns-then-publish_lines-clause-reply
+returns-then-publish_lines-clause-reply g c =
+    subst (λ (h : HallParts). c.step-reply.result ≡ reply h.world.scenario (state_of h.world) c.args.step) c.self.view_is c.step-reply.ensures.reply
+
+pub returns-then-publish_lines-clause-new : goal.returns-then-publish_lines-clause-new
+returns-then-publish_lines-clause-new g c =
+    subst (λ (h : HallParts). c.step-reply.new.self ≡ (if is_done c.step-reply.result then record h.world { journal = h.world.journal ++ c.args.step ∷ [] } else h.world))
+    c.self.view_is c.step-reply.ensures.new
+
+pub returns-then-publish_lines-clause-run : goal.returns-then-publish_lines-clause-run
+returns-then-publish_lines-clause-run g c =
+    subst (λ (h : HallParts). c.step-reply.result ≡ Done → state_of c.step-reply.new.self ≡ after_step h.world.scenario (state_of h.world) c.args.step)
+    c.self.view_is c.step-reply.ensures.run
+
+pub returns-then-publish_lines-clause-books : goal.returns-then-publish_lines-clause-books
+returns-then-publish_lines-clause-books g c i =
+    subst (λ (h : HallParts). (publisher_at c.publish_lines.new.publishers.items i).book ≡ (publisher_at h.publishers i).book)
+    c.self.view_is (out_books _ _ _ _ c.publish_lines.ensures i)
+
+pub returns-then-publish_lines-clause-begins : goal.returns-then-publish_lines-clause-begins
+returns-then-publish_lines-clause-begins g c i less =
+    let longer = world_longer c.self.inside.world c.step-reply.new.self c.args.step c.step-reply.result c.step-reply.ensures.reply c.step-reply.ensures.new in
+    let still = still_of c.self.inside.world c.step-reply.new.self c.self.inside.publishers.items c.self.invariant longer in
+    let less' : i < nodes_of c.step-reply.new.self = subst (λ (n : ℕ). i < n) (ap (λ (h : HallParts). nodes_of h.world) (sym c.self.view_is) ∙ sym longer.nodes) less in
+    out_begins c.step-reply.new.self c.publish_lines.new.publishers.items (then_of _ _ _ _ still c.publish_lines.ensures) i less'
+
+pub returns-then-publish_lines-clause-all : goal.returns-then-publish_lines-clause-all
+returns-then-publish_lines-clause-all g c = λ _ i less.
+    (c.publish_lines.ensures.each i (omega (arith, c.self.invariant.count, ap (λ (h : HallParts). nodes_of h.world) c.self.view_is, less))).all c.if-publish_lines.true
+
+pub returns-clause-reply : goal.returns-clause-reply
+returns-clause-reply g c =
+    subst (λ (h : HallParts). c.step-reply.result ≡ reply h.world.scenario (state_of h.world) c.args.step) c.self.view_is c.step-reply.ensures.reply
+
+pub returns-clause-new : goal.returns-clause-new
+returns-clause-new g c =
+    subst (λ (h : HallParts). c.step-reply.new.self ≡ (if is_done c.step-reply.result then record h.world { journal = h.world.journal ++ c.args.step ∷ [] } else h.world))
+    c.self.view_is c.step-reply.ensures.new
+
+pub returns-clause-run : goal.returns-clause-run
+returns-clause-run g c =
+    subst (λ (h : HallParts). c.step-reply.result ≡ Done → state_of c.step-reply.new.self ≡ after_step h.world.scenario (state_of h.world) c.args.step)
+    c.self.view_is c.step-reply.ensures.run
+
+pub returns-clause-books : goal.returns-clause-books
+returns-clause-books g c i =
+    subst (λ (h : HallParts). (publisher_at c.publish_lines.new.publishers.items i).book ≡ (publisher_at h.publishers i).book)
+    c.self.view_is (out_books _ _ _ _ c.publish_lines.ensures i)
+
+pub returns-clause-all : goal.returns-clause-all
+returns-clause-all g c = λ e. absurd (cc e)
