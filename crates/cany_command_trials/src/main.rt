@@ -4,12 +4,16 @@
 #![tactic(auto)]
 
 mod command;
+mod gates;
+mod report;
 mod slow;
 mod trial;
 
 use anyhow::Result;
 use std::fs;
 use std::io::Write;
+use std::sync::Wait;
+use std::thread::Threads;
 use trial::{Outcome, outcome_of};
 
 /// Writes what a command wrote, and then its status, and how often it read where that is counted.
@@ -23,8 +27,8 @@ fn tell(rt: &HostRuntime, outcome: &Outcome) -> Result<()> {
 }
 
 /// Makes the trial of a line: a command, its streams, the read and the write that fail, counted
-/// from 1, the file of its text, and its words.
-fn try_line(rt: &HostRuntime, line: &str) -> Result<()> {
+/// from 1, the file of its text, and its words. The runtime is the one value that can make threads.
+fn try_line<R: Threads + Wait + Sync>(rt: &HostRuntime, threads: &R, line: &str) -> Result<()> {
     let fields: Vec<&str> = line.split_whitespace().collect(rt.alloc())?;
     match fields.as_slice() {
         ["#", ..] | [] => Ok(()),
@@ -33,7 +37,7 @@ fn try_line(rt: &HostRuntime, line: &str) -> Result<()> {
             let text = fs::read(rt, file)?;
             tell(
                 rt,
-                &outcome_of(rt.alloc(), command, streams, failing, text, words)?,
+                &outcome_of(threads, rt.alloc(), command, streams, failing, text, words)?,
             )
         }
         _ => anyhow::bail!("no trial: {line}"),
@@ -44,7 +48,7 @@ fn main(rt: HostRuntime) -> Result<()> {
     for line in rt.lines(rt.alloc()) {
         let line = line?;
         println!(rt; "{line}")?;
-        try_line(&rt, line.as_str())?;
+        try_line(&rt, &rt, line.as_str())?;
     }
     Ok(())
 }

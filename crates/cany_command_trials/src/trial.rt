@@ -1,9 +1,12 @@
 //! What comes of a command over streams in memory, and over streams of std.
 use crate::command::perform;
+use crate::report::{with_journal, without_journal};
 use crate::slow::{Drip, Trickle};
 use anyhow::Result;
 use cany_io::{MemSink, MemSource, PlainSource, StdSink, StdSource};
 use std::alloc::{AllocError, Global};
+use std::sync::Wait;
+use std::thread::Threads;
 
 /// More bytes than any answer here has.
 const ROOM: usize = 65_536;
@@ -27,7 +30,8 @@ fn words_of(alloc: Global, texts: &[&str]) -> Result<Vec<String>, AllocError> {
 }
 
 /// Over a source and a sink in memory, of which one call each may fail.
-fn in_memory(
+fn in_memory<R: Threads + Wait + Sync>(
+    threads: &R,
     alloc: Global,
     command: &str,
     [read, write]: [u32; 2],
@@ -36,7 +40,7 @@ fn in_memory(
 ) -> Result<Outcome> {
     let mut source = MemSource::new(text, Vec::from_slice(alloc, &[read])?);
     let mut sink = MemSink::new(alloc, Vec::from_slice(alloc, &[write])?, ROOM)?;
-    let status = perform(alloc, command, words, &mut source, &mut sink);
+    let status = perform(threads, alloc, command, words, &mut source, &mut sink);
     Ok(Outcome {
         status,
         reads: Some(source.calls()),
@@ -44,11 +48,52 @@ fn in_memory(
     })
 }
 
+/// Over streams in memory. What is written is told without its journal, in which threads take their
+/// turns in another order each time.
+fn by_threads<R: Threads + Wait + Sync>(
+    threads: &R,
+    alloc: Global,
+    command: &str,
+    failing: [u32; 2],
+    text: Vec<u8>,
+    words: &[String],
+) -> Result<Outcome> {
+    let mut outcome = in_memory(threads, alloc, command, failing, text, words)?;
+    let others = without_journal(alloc, str::from_utf8(&outcome.taken)?)?;
+    outcome.taken = others.into_bytes();
+    Ok(outcome)
+}
+
+/// Over streams in memory, and then `replay` of the same text with the journal that was written.
+/// What that writes is told where it is something else.
+fn again<R: Threads + Wait + Sync>(
+    threads: &R,
+    alloc: Global,
+    command: &str,
+    text: &[u8],
+    words: &[String],
+) -> Result<Outcome> {
+    let report = in_memory(threads, alloc, command, [0, 0], text.to_vec(alloc)?, words)?.taken;
+    let given = with_journal(alloc, str::from_utf8(&report)?, str::from_utf8(text)?)?;
+    let words = words_of(alloc, &["replay"])?;
+    let mut replayed = in_memory(threads, alloc, "replay", [0, 0], given.into_bytes(), &words)?;
+    if replayed.taken == report {
+        replayed.taken = b"the same again\n".to_vec(alloc)?;
+    }
+    Ok(replayed)
+}
+
 /// Over a source that never fails.
-fn from_plain(alloc: Global, command: &str, text: Vec<u8>, words: &[String]) -> Result<Outcome> {
+fn from_plain<R: Threads + Wait + Sync>(
+    threads: &R,
+    alloc: Global,
+    command: &str,
+    text: Vec<u8>,
+    words: &[String],
+) -> Result<Outcome> {
     let mut source = PlainSource::new(text);
     let mut sink = MemSink::new(alloc, Vec::new(alloc), ROOM)?;
-    let status = perform(alloc, command, words, &mut source, &mut sink);
+    let status = perform(threads, alloc, command, words, &mut source, &mut sink);
     Ok(Outcome {
         status,
         reads: None,
@@ -57,12 +102,19 @@ fn from_plain(alloc: Global, command: &str, text: Vec<u8>, words: &[String]) -> 
 }
 
 /// Over streams of std that move one byte at a time.
-fn by_bytes(alloc: Global, command: &str, text: &[u8], words: &[String]) -> Outcome {
+fn by_bytes<R: Threads + Wait + Sync>(
+    threads: &R,
+    alloc: Global,
+    command: &str,
+    text: &[u8],
+    words: &[String],
+) -> Outcome {
     let mut source = StdSource::new(Trickle { bytes: text });
     let mut drip = Drip {
         taken: Vec::new(alloc),
     };
     let status = perform(
+        threads,
         alloc,
         command,
         words,
@@ -77,7 +129,8 @@ fn by_bytes(alloc: Global, command: &str, text: &[u8], words: &[String]) -> Outc
 }
 
 /// What comes of a command over these streams, with these words.
-pub(crate) fn outcome_of(
+pub(crate) fn outcome_of<R: Threads + Wait + Sync>(
+    threads: &R,
     alloc: Global,
     command: &str,
     streams: &str,
@@ -87,9 +140,11 @@ pub(crate) fn outcome_of(
 ) -> Result<Outcome> {
     let words = words_of(alloc, texts)?;
     match streams {
-        "memory" => in_memory(alloc, command, failing, text, &words),
-        "plain" => from_plain(alloc, command, text, &words),
-        "bytes" => Ok(by_bytes(alloc, command, &text, &words)),
+        "memory" => in_memory(threads, alloc, command, failing, text, &words),
+        "threads" => by_threads(threads, alloc, command, failing, text, &words),
+        "again" => again(threads, alloc, command, &text, &words),
+        "plain" => from_plain(threads, alloc, command, text, &words),
+        "bytes" => Ok(by_bytes(threads, alloc, command, &text, &words)),
         _ => anyhow::bail!("no streams: {streams}"),
     }
 }

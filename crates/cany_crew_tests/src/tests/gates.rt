@@ -1,27 +1,26 @@
-//! Gates that tests ask.
-ghost use Rattle.std.specs.Prelude.{◌≡◌, IfOk, vec_len};
+//! Gates that wait for one another, and one that refuses.
+ghost use Rattle.std.specs.Prelude.{◌≡◌, ◌≤◌, [], IfOk, vec_len};
 ghost use Rattle.cany_base.specs.Limits.{most_nodes};
 
-use super::*;
-use std::sync::Arc;
-use std::sync::atomic::{AtomicBool, Ordering};
-use std::thread;
+use super::three_nodes;
+use cany_base::limits::MOST_NODES;
+use cany_base::{NodeId, Slot, Step};
+use cany_crew::{CrewFault, Gate, crew_run};
+use cany_world::World;
+use std::alloc::{AllocError, Global};
+use std::sync::Wait;
+use std::sync::atomic::{AtomicU64, Ordering};
+use std::test::Fail;
+use std::thread::{self, Threads};
 
-/// How often a gate looks for the other's flag before it refuses.
+/// How often a gate looks for the other before it refuses.
 const MOST_LOOKS: u32 = 20_000_000;
 
-/// Whether the passes of nodes 0 and 1 for slot 0 were asked for.
-#[derive(Drop)]
-pub(super) struct Flags {
-    first: AtomicBool,
-    second: AtomicBool,
-}
-
-/// Raises the flag, and looks for the other.
-fn meets(mine: &AtomicBool, other: &AtomicBool) -> bool {
-    mine.store(true, Ordering::SeqCst);
+/// Counts a gate that was asked, and looks until another was.
+fn meets(asked: &AtomicU64) -> bool {
+    asked.fetch_add(1, Ordering::SeqCst);
     for _ in 0..MOST_LOOKS {
-        if other.load(Ordering::SeqCst) {
+        if asked.load(Ordering::SeqCst) > 1 {
             return true;
         }
         thread::yield_now();
@@ -29,87 +28,83 @@ fn meets(mine: &AtomicBool, other: &AtomicBool) -> bool {
     false
 }
 
-impl Flags {
-    pub(super) fn new() -> Flags {
-        Flags {
-            first: AtomicBool::new(false),
-            second: AtomicBool::new(false),
-        }
-    }
-
-    pub(super) fn are_raised(&self) -> bool {
-        self.first.load(Ordering::SeqCst) && self.second.load(Ordering::SeqCst)
-    }
-
-    fn meet(&self, node: NodeId) -> bool {
-        match node.get() {
-            0 => meets(&self.first, &self.second),
-            1 => meets(&self.second, &self.first),
-            _ => true,
-        }
-    }
-}
-
-/// A gate that passes nodes 0 and 1 in slot 0 once both have been asked, and all else at once.
+/// A gate that passes nodes 0 and 1 in slot 0 once both have been asked, refuses node 1 slot 1, and
+/// passes all else at once.
 #[derive(Drop)]
-pub(super) struct Meeting {
-    flags: Arc<Flags, Global>,
+struct Meeting<'a> {
+    asked: &'a AtomicU64,
     refusals: u64,
 }
 
-impl Gate for Meeting {
+impl Gate for Meeting<'_> {
     ghost refusals = { λ gate. gate.refusals };
 
     fn pass(&mut self, node: NodeId, slot: Slot) -> bool {
-        if slot > 0 || self.flags.meet(node) {
-            return true;
+        let passes = match (node.get(), slot) {
+            (0 | 1, 0) => meets(self.asked),
+            (1, 1) => false,
+            _ => true,
+        };
+        if !passes {
+            self.refusals = self.refusals.saturating_add(1);
         }
-        self.refusals = self.refusals.saturating_add(1);
-        false
+        passes
     }
 }
 
-pub(super) fn meetings(alloc: Global, flags: &Arc<Flags, Global>) -> Result<Vec<Meeting>, Fail>
+fn meetings(alloc: Global, asked: &AtomicU64) -> Result<Vec<Meeting<'_>>, AllocError>
     ensures { IfOk result (λ gates. vec_len gates ≡ most_nodes) }
 {
     let mut gates = Vec::new(alloc);
     for _ in 0..MOST_NODES {
-        let gate = Meeting {
-            flags: Arc::try_clone(flags)?,
-            refusals: 0,
-        };
-        gates.push(gate)?;
+        gates.push(Meeting { asked, refusals: 0 })?;
     }
     Ok(gates)
 }
 
-/// A gate that refuses one slot, or none.
-#[derive(Drop)]
-pub(super) struct OneRefusal {
-    slot: Option<Slot>,
-    refusals: u64,
-}
-
-impl Gate for OneRefusal {
-    ghost refusals = { λ gate. gate.refusals };
-
-    fn pass(&mut self, _node: NodeId, slot: Slot) -> bool {
-        if self.slot != Some(slot) {
-            return true;
-        }
-        self.refusals = self.refusals.saturating_add(1);
-        false
-    }
-}
-
-/// Gates of which that of node 1 refuses slot 1.
-pub(super) fn one_refusal(alloc: Global) -> Result<Vec<OneRefusal>, AllocError>
-    ensures { IfOk result (λ gates. vec_len gates ≡ most_nodes) }
+/// Nothing but the call, whose contract is long.
+fn work<G: Gate, R: Threads + Wait + Sync>(
+    rt: &R,
+    alloc: Global,
+    world: World,
+    gates: &mut Vec<G>,
+) -> Result<World, CrewFault>
+    requires fresh { world.journal ≡ [] }
+    requires gates { world.scenario.params.nodes ≤ vec_len gates.old }
 {
-    let mut gates = Vec::new(alloc);
-    for i in 0..MOST_NODES {
-        let slot = if i == 1 { Some(1) } else { None };
-        gates.push(OneRefusal { slot, refusals: 0 })?;
+    crew_run(rt, alloc, world, gates)
+}
+
+/// The world of a run, and where the run is held.
+fn parts_of(run: Result<World, CrewFault>) -> (World, Option<(NodeId, Slot)>) {
+    match run {
+        Ok(world) => (world, None),
+        Err(CrewFault::Held { world, node, slot }) => (world, Some((node, slot))),
+        Err(CrewFault::Memory { world }) => (world, None),
     }
-    Ok(gates)
+}
+
+/// The number of the node, the slot, and whether the node has made a turn.
+fn told(world: &World, place: Option<(NodeId, Slot)>) -> Option<(u8, Slot, bool)> {
+    let (node, slot) = place?;
+    let has_turned = world.journal().contains(&Step::Turn(node));
+    Some((node.get(), slot, has_turned))
+}
+
+/// Where a run is held. The world is let go apart from the rest: that is cheap to prove.
+fn held_at(run: Result<World, CrewFault>) -> Option<(u8, Slot, bool)> {
+    let (world, place) = parts_of(run);
+    told(&world, place)
+}
+
+/// A body that works the nodes one after another is held in slot 0, by a gate that waits for the
+/// other in vain. Node 1 has read slot 0 when its gate refuses slot 1.
+#[test]
+fn gates_overlap_and_one_refuses(rt: HostRuntime) -> Result<(), Fail> {
+    let alloc = rt.alloc();
+    let asked = AtomicU64::new(0);
+    let mut gates = meetings(alloc, &asked)?;
+    let run = work(&rt, alloc, three_nodes(alloc)?, &mut gates);
+    assert_eq!(rt; held_at(run), Some((1, 1, true)));
+    Ok(())
 }
