@@ -57,8 +57,8 @@ fn run_scenario<R: Threads + Wait + Sync, K: Sink, G: Gate>(
             ended.hypothesis();
             report_run(&ended, sink)
         }
-        Err(CrewFault::Held { .. }) => HELD,
-        Err(CrewFault::Memory { .. }) => NO_MEMORY,
+        Err(CrewFault::Held { world: _held, .. }) => HELD,
+        Err(CrewFault::Memory { world: _back }) => NO_MEMORY,
     }
 }
 
