@@ -53,3 +53,6 @@ returns-in-Ok-crew_run-clause-untouched g c = λ none.
 
 pub returns-in-Ok-crew_run-clause-status : goal.returns-in-Ok-crew_run-clause-status
 returns-in-Ok-crew_run-clause-status g c = elim c.report_run.ensures.status [ inl done ↦ inl done | inr fault ↦ inr (inl fault) ]
+
+pub returns-in-Err-Held-clause-held : goal.returns-in-Err-Held-clause-held
+returns-in-Err-Held-clause-held g c = λ held. (c.in-Err-Held.field-0-1, rw c.in-Err-Held.field-0-is at c.in-Err-Held.ensures.held)
