@@ -112,9 +112,9 @@ impl Membership {
         idle_until.min(self.wake(notice.slot + 1))
     }
 
-    /// What a notice tells, step by step: who asks to join or to leave, who shows life and who has failed,
-    /// then the vectors, at the end of a cycle the new view, at the start of one what the node
-    /// starts with, and the node's own life sign.
+    /// What a notice tells, step by step: who asks to join or to leave, who shows life and who has
+    /// failed, then the vectors, at the end of a cycle the new view, at the start of one what the
+    /// node starts with, and the node's own life sign.
     fn follow(&mut self, notice: &Notice, out: &mut Actions)
         requires hears { CanHear self.old notice.now }
         requires room { length out.old.items + membership_room self.old ≤ out.old.room }
