@@ -51,7 +51,7 @@ impl<K: Diffused> Eager<K> {
         ensures learnt { IsLearnt (K.key k) self.old self.new }
     {
         let noted = self.counts.count(k.key());
-        call_of(self.omit, noted.copies, noted.owned)
+        Learnt::of(self.omit, noted.copies, noted.owned)
     }
 
     /// Notes that the node's own transmission was read. It is no copy. Once owned, a value is there
@@ -103,19 +103,5 @@ impl<K: Diffused> Eager<K> {
         ensures counted { IsCounted self.now }
     {
         self.counts.spare()
-    }
-}
-
-/// What a copy calls for, with so many copies, this one counted, and with or without the node's own
-/// transmission.
-fn call_of(omit: u32, copies: u32, owned: bool) -> Learnt
-    ensures { result ≡ learnt_of omit copies owned }
-{
-    if copies > omit {
-        Learnt::Enough { copies }
-    } else if copies == 1 && !owned {
-        Learnt::First
-    } else {
-        Learnt::Again { copies }
     }
 }

@@ -1,5 +1,5 @@
 ghost use Rattle.std.specs.Prelude.{◌≡◌};
-ghost use Rattle.cany_diffuse.specs.Eager.{is_enough, is_first_copy};
+ghost use Rattle.cany_diffuse.specs.Eager.{is_enough, is_first_copy, learnt_of};
 
 /// What a copy calls for. The copies are those read since the value was last forgotten, this one
 /// counted.
@@ -15,6 +15,20 @@ pub enum Learnt {
 }
 
 impl Learnt {
+    /// What a copy calls for, with so many copies, this one counted, and with or without the node's
+    /// own transmission.
+    pub fn of(omit: u32, copies: u32, owned: bool) -> Learnt
+        ensures { result ≡ learnt_of omit copies owned }
+    {
+        if copies > omit {
+            Learnt::Enough { copies }
+        } else if copies == 1 && !owned {
+            Learnt::First
+        } else {
+            Learnt::Again { copies }
+        }
+    }
+
     /// Whether the copy is the first that was read, also where the node has sent the frame itself.
     pub fn is_first_copy(&self) -> bool
         ensures { result ≡ is_first_copy self.now }

@@ -315,7 +315,7 @@ impl Totcan {
         ensures room { out.new.room ≡ out.old.room }
     {
         let noted = self.queue.count(&key_of(frame));
-        let learnt = call_of(self.omit, noted);
+        let learnt = Learnt::of(self.omit, noted.copies, noted.owned);
         relay(self.format, &learnt, frame, out);
     }
 
@@ -462,20 +462,6 @@ fn open_at_once(messages: usize, bound: u64) -> usize
 {
     let slots = bound as usize + 1;
     if slots < messages { slots } else { messages }
-}
-
-/// What a copy of a frame calls for, with what is noted of it then.
-fn call_of(omit: u32, noted: Noted) -> Learnt
-    ensures { result ≡ learnt_of omit noted.copies noted.owned }
-{
-    let copies = noted.copies;
-    if copies > omit {
-        Learnt::Enough { copies }
-    } else if copies == 1 && !noted.owned {
-        Learnt::First
-    } else {
-        Learnt::Again { copies }
-    }
 }
 
 /// The key of the message that a frame names.

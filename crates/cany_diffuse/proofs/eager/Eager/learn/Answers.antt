@@ -12,7 +12,7 @@ pub returns-clause-answer : goal.returns-clause-answer
 returns-clause-answer g c =
     let put = rw c.key.ensures at c.count-noted.ensures.entered in
     let owned = rw c.key.ensures at c.count-noted.ensures.owned in
-    rw (← c.self.view_is) (c.call_of.ensures ∙ learnt-entered c.self.inside.omit c.self.inside.counts c.count-noted.new.self _ c.count-noted.result put owned)
+    rw (← c.self.view_is) (c.of.ensures ∙ learnt-entered c.self.inside.omit c.self.inside.counts c.count-noted.new.self _ c.count-noted.result put owned)
 
 pub returns-clause-learnt : goal.returns-clause-learnt
 returns-clause-learnt g c =
