@@ -1,5 +1,6 @@
 pub mod Answers
 pub mod Faults
+pub mod Numbers
 pub mod Promises
 pub mod Refused
 pub mod RunFaults

@@ -1,21 +1,18 @@
 -- The parts of a word, and the numbers that digits write.
-use Rattle.std.proofs.Common.{◌≡◌, ◌≢◌, ℕ, zero, suc, ◌^◌, ◌<◌, ◌≤◌, ◌==◌, ◌&&◌, ◌++◌, Bool, true, false, inl, inr, List, [], ◌∷◌, length, map, get_or, codes, Option, Some, None, Ok, Err, refl, ap, sym, ◌∙◌, arith, length-append}
-use Rattle.std.specs.Prelude.{Result, drop, nat_le, take, ◌-◌, not}
+use Rattle.std.proofs.Common.{◌≡◌, ◌≢◌, ℕ, zero, suc, ◌<◌, ◌≤◌, ◌==◌, ◌++◌, Bool, true, false, inl, inr, List, [], ◌∷◌, length, map, get_or, codes, Option, Some, None, refl, ap, sym, ◌∙◌, arith, length-append}
+use Rattle.std.specs.Prelude.{drop, take, ◌-◌, not}
 use Rattle.std.proofs.lemmas.List.{length-drop, take_all}
-use Rattle.std.specs.Char.{is_ascii_digit}
-use Rattle.std.specs.List.{list_all, slice_split}
+use Rattle.std.specs.List.{slice_split}
 use Rattle.std.specs.Option.{IfSome, MatchOption, is_some, option_and_then, option_map}
-use Rattle.std.specs.Result.{OkIff, result_ok}
-use Rattle.std.specs.Str.{all_ascii_digits, bytes_eq}
-use Rattle.std.specs.Str.Parse.{ParsesUnsigned, digits_value}
-use Rattle.std.proofs.lemmas.Bool.{and_parts, cases_Bool, false≢true, eq-eqb, leb-true, ne_eqb}
-use Rattle.std.proofs.lemmas.Str.Parse.{digits_value_short, numerals_by_value, parse_digits, tells_all_ascii_digits}
+use Rattle.std.specs.Str.{bytes_eq}
+use Rattle.std.proofs.lemmas.Bool.{cases_Bool, false≢true, eq-eqb, ne_eqb}
 use Rattle.std.proofs.lemmas.Str.Pattern.{IsSplitOnceResult, split_parts}
 use denote.Ref.{Bor}
 use Rattle.std.proofs.lemmas.List.Splits.{length-slice_split}
 use Rattle.cany_base.specs.Nodes.{Nodes, with_node}
-use Rattle.cany_media.specs.MediaWords.{down_of, fault_from, fault_in, fault_of, faults_in, is_numeral, line_number, media_faults, node_of, number_of, parts, set_with, span_between, span_of, split_of, state_of, with_fault}
+use Rattle.cany_media.specs.MediaWords.{down_of, fault_from, fault_in, fault_of, faults_in, line_number, media_faults, node_of, parts, set_with, span_between, span_of, split_of, state_of, with_fault}
 use Rattle.cany_media.specs.Plan.{FaultParts}
+use Rattle.cany_command.specs.Numbers.{number_of}
 
 -- ---- parts
 
@@ -116,37 +113,6 @@ fault_two word line rest is one = rw (is, one) (no_state (line_number line) (spa
     no_state None span = refl
     no_state (Some n) None = refl
     no_state (Some n) (Some s) = refl
-
--- ---- numbers
-
-digits-are : (word : List ℕ) → all_ascii_digits word ≡ list_all is_ascii_digit word
-digits-are [] = refl
-digits-are (c ∷ cs) = ap (λ b. is_ascii_digit c && b) (digits-are cs)
-
-by_value : {E : Type 0} (most : ℕ) (word : List ℕ) (r : Result ℕ E) → is_numeral most word ≡ true → digits_value 10 word < 2 ^ 64
-    → OkIff r ((0 < length word) × (digits_value 10 word < 2 ^ 64)) (digits_value 10 word) → result_ok r ≡ number_of most word
-unfolding number_of
-by_value most word (Ok n) numeral small parsed = rw numeral (ap (λ m. Some m) parsed.1)
-by_value most word (Err e) numeral small parsed =
-    let counted = (and_parts (nat_le 1 (length word) && nat_le (length word) most) (list_all is_ascii_digit word) numeral).0 in
-    let some = leb-true 1 (length word) (and_parts (nat_le 1 (length word)) (nat_le (length word) most) counted).0 in
-    absurd (parsed (some, small))
-
--- a numeral of few digits that is parsed is the number of the word
-pub number_parsed : {E : Type 0} (most : ℕ) (word : List ℕ) (r : Result ℕ E) → most ≤ 6 → is_numeral most word ≡ true → ParsesUnsigned 64 10 word r
-    → result_ok r ≡ number_of most word
-number_parsed most word r few numeral parsed =
-    let both = and_parts (nat_le 1 (length word) && nat_le (length word) most) (list_all is_ascii_digit word) numeral in
-    let digits : all_ascii_digits word ≡ true = digits-are word ∙ both.1 in
-    let short = leb-true (length word) most (and_parts (nat_le 1 (length word)) (nat_le (length word) most) both.0).1 in
-    let own = numerals_by_value (λ ds. all_ascii_digits ds ≡ true) tells_all_ascii_digits in
-    let small = digits_value_short own word 6 digits (omega arith) in
-    by_value most word r numeral (omega arith) (parse_digits own 64 word r parsed digits)
-
--- and another word is of no number
-pub no_number : (most : ℕ) (word : List ℕ) → is_numeral most word ≡ false → None ≡ number_of most word
-unfolding number_of
-no_number most word other = rw other refl
 
 -- ---- all words
 

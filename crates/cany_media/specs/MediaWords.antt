@@ -1,12 +1,11 @@
 -- The words of the command `media`: the word of the command, and then a word for each fault of a line, as `0:5-9:down` or
 -- `1:5-9:split:0,2`.
-use Rattle.std.specs.Prelude.{ℕ, ◌==◌, ◌&&◌, Bool, nat_le, nat_lt, if◌then◌else◌, List, [], ◌∷◌, length, Option, Some, None, option_map, option_and_then, codes, IsSome}
-use Rattle.std.specs.Char.{is_ascii_digit}
-use Rattle.std.specs.List.{list_all, slice_split}
+use Rattle.std.specs.Prelude.{ℕ, ◌==◌, nat_le, nat_lt, if◌then◌else◌, List, [], ◌∷◌, Option, Some, None, option_map, option_and_then, codes, IsSome}
+use Rattle.std.specs.List.{slice_split}
 use Rattle.std.specs.Str.{bytes_eq}
-use Rattle.std.specs.Str.Parse.{digits_value}
 use Rattle.cany_base.specs.Limits.{most_nodes}
 use Rattle.cany_base.specs.Nodes.{Nodes, nobody, with_node}
+use Rattle.cany_command.specs.Numbers.{number_of}
 use Rattle.cany_media.specs.declared.line.Line.{Line}
 use Rattle.cany_media.specs.declared.line.Line.TheVariants.{Down, Split}
 use Rattle.cany_media.specs.Plan.{FaultParts}
@@ -14,14 +13,6 @@ use Rattle.cany_media.specs.Plan.{FaultParts}
 -- the parts of a text between the bytes of this kind
 unfoldable pub parts : ℕ → List ℕ → List (List ℕ)
 parts mark text = slice_split (λ byte. byte == mark) text
-
--- 1 to so many digits
-abbrev pub is_numeral : ℕ → List ℕ → Bool
-is_numeral most word = nat_le 1 (length word) && nat_le (length word) most && list_all is_ascii_digit word
-
--- the number that they write
-unfoldable pub number_of : ℕ → List ℕ → Option ℕ
-number_of most word = if is_numeral most word then Some (digits_value 10 word) else None
 
 abbrev pub most_slot_digits : ℕ
 most_slot_digits = 6

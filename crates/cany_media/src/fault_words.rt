@@ -1,12 +1,11 @@
 //! The words of the command `media`. None of these calls but the last two takes memory.
-ghost use Rattle.std.specs.Prelude.{◌≡◌, ◌≤◌, ◌&&◌, ◌<◌, [], ◌∷◌, Some, length, map, nat_le, string_bytes, IsTrue, IfOk, IfSome, IfNone, MatchOption, true, is_some, option_map, ◌≢◌};
-ghost use Rattle.std.specs.Char.{is_ascii_digit};
-ghost use Rattle.std.specs.List.{list_all};
+ghost use Rattle.std.specs.Prelude.{◌≡◌, ◌≤◌, ◌<◌, [], ◌∷◌, Some, length, map, string_bytes, IsTrue, IfOk, IfSome, IfNone, MatchOption, true, is_some, option_map, ◌≢◌};
 ghost use Rattle.cany_base.specs.Nodes.{nobody};
-ghost use Rattle.cany_media.specs.MediaWords.{AreMedia, down_of, fault_from, fault_in, faults_in, if_node, is_numeral, line_number, media_faults, most_slot_digits, node_of, number_of, parts, set_with, span_between, span_of, split_of, state_of};
+ghost use Rattle.cany_media.specs.MediaWords.{AreMedia, down_of, fault_from, fault_in, faults_in, if_node, line_number, media_faults, node_of, parts, set_with, span_between, span_of, split_of, state_of};
 
 use crate::line::{Line, LineFault};
 use cany_base::{Memory, NodeId, NodeSet, Slot};
+use cany_command::number_in;
 use std::alloc::Global;
 
 /// The most digits of a slot.
@@ -34,38 +33,6 @@ fn halves(text: &str, mark: char) -> Option<(&str, &str)>
     match cut(second, mark) {
         None => Some((first, second)),
         Some(_) => None,
-    }
-}
-
-fn is_digit(byte: &u8) -> bool
-    ensures { result ≡ is_ascii_digit byte.now }
-{
-    byte.is_ascii_digit()
-}
-
-fn are_digits(bytes: &[u8]) -> bool
-    ensures { result ≡ list_all is_ascii_digit bytes.now }
-{
-    bytes.iter().all(is_digit)
-}
-
-/// Whether the word is 1 to so many digits.
-fn is_numeral(word: &str, most: usize) -> bool
-    ensures { result ≡ is_numeral most word.now }
-{
-    let bytes = word.as_bytes();
-    1 <= bytes.len() && bytes.len() <= most && are_digits(bytes)
-}
-
-/// The number that 1 to so many digits write.
-fn number_in(word: &str, most: usize) -> Option<u64>
-    requires { most ≤ most_slot_digits }
-    ensures { result ≡ number_of most word.now }
-{
-    if is_numeral(word, most) {
-        word.parse::<u64>().ok()
-    } else {
-        None
     }
 }
 

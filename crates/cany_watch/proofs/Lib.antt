@@ -7,5 +7,4 @@ pub mod Rows
 pub mod Showing
 pub mod Waiting
 pub mod WatchFacts
-pub mod WatchWordFacts
 pub mod TopFacts

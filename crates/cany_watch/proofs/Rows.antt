@@ -18,7 +18,8 @@ use Rattle.cany_text.specs.TextNames.{service_name}
 use Rattle.cany_watch.specs.Lines.{line}
 use Rattle.cany_watch.specs.Top.{choose}
 use Rattle.cany_watch.specs.WatchText.{first_line, last_line, no_node_line, node_line, watch_text}
-use Rattle.cany_watch.specs.WatchWords.{number_in, watched_node}
+use Rattle.cany_command.specs.Numbers.{named_number, number_of}
+use Rattle.cany_watch.specs.WatchWords.{watched_node}
 
 -- three nodes, which are all members, with every parameter by default
 unfoldable scenario : ℕ → List SendAsk → List Rule → List NodeAsk → ScenarioParts
@@ -57,23 +58,23 @@ watch_two_incarnations = refl
 
 -- a number may begin with a zero, and is printed without it
 watch_no_such_node : choose (codes "watch" ∷ codes "03" ∷ []) sender_stops ≡ Err (codes "refused no node 3\n")
-unfolding watched_node number_in no_node_line line_of digits sender_stops
+unfolding watched_node named_number number_of no_node_line line_of digits sender_stops
 watch_no_such_node = refl
 
 -- ---- words that name no node
 
 three_digits : watched_node (codes "watch" ∷ codes "003" ∷ []) ≡ None
-unfolding watched_node number_in
+unfolding watched_node named_number number_of
 three_digits = refl
 
 no_digits : watched_node (codes "watch" ∷ [] ∷ []) ≡ None
-unfolding watched_node number_in
+unfolding watched_node named_number number_of
 no_digits = refl
 
 signed : watched_node (codes "watch" ∷ codes "-1" ∷ []) ≡ None
-unfolding watched_node number_in
+unfolding watched_node named_number number_of
 signed = refl
 
 no_word : watched_node (codes "watch" ∷ []) ≡ None
-unfolding watched_node
+unfolding watched_node named_number
 no_word = refl
