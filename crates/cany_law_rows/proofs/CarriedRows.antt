@@ -13,7 +13,7 @@ use Rattle.cany_model.specs.Rules.Totcan.{tot_of_key}
 use Rattle.cany_model.specs.Runs.RoundRobin.{round_robin}
 use Rattle.cany_model.specs.Runs.Run.{run}
 use Rattle.cany_laws.specs.Carried.{incarnations_of_first, times_clean}
-use Rattle.cany_laws.proofs.RowWords.{again, key, row, send, set, slot_rule, steps, three, two}
+use Rattle.cany_law_rows.proofs.RowWords.{again, key, row, send, set, slot_rule, steps, three, two}
 
 -- Of two nodes the origin sends the frame that accepts its message in the slot after the data frame, and the other node sends it in the next slot: it is
 -- carried as often as there are nodes.

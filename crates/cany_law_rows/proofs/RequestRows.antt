@@ -13,7 +13,7 @@ use Rattle.cany_model.specs.Runs.Run.{run}
 use Rattle.cany_model.specs.declared.breaks.Break.{Break}
 use Rattle.cany_laws.specs.Carried.{times_clean}
 use Rattle.cany_laws.specs.Requests.{entries_of}
-use Rattle.cany_laws.proofs.RowWords.{again, key, row, send, set, slot_rule, two}
+use Rattle.cany_law_rows.proofs.RowWords.{again, key, row, send, set, slot_rule, two}
 
 -- where a run leaves the hypothesis, and what is counted in it
 record Counted : Type 0 where

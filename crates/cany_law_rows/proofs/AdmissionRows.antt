@@ -10,7 +10,7 @@ use Rattle.cany_model.specs.Runs.RoundRobin.{round_robin}
 use Rattle.cany_model.specs.Runs.Run.{run}
 use Rattle.cany_laws.specs.Membership.{members_as}
 use Rattle.cany_laws.specs.Views.{installed_as}
-use Rattle.cany_laws.proofs.RowWords.{again, found_of, lived, of_nodes, row, set, slot_rule, two}
+use Rattle.cany_law_rows.proofs.RowWords.{again, found_of, lived, of_nodes, row, set, slot_rule, two}
 
 -- Two nodes, of which these are members, and cycles of so many slots, with these JOINs, stops and restarts. A cycle ends 19 slots after its start.
 unfoldable joining : (slots cycle : ℕ) → Nodes → List NodeAsk → List Rule → List NodeAsk → ScenarioParts

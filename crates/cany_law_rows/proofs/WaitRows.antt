@@ -20,7 +20,7 @@ use Rattle.cany_model.specs.Runs.RoundRobin.{round_robin}
 use Rattle.cany_model.specs.Runs.Run.{run, slot_state, slot_state_from}
 use Rattle.cany_laws.specs.Carried.{incarnations_of_first, times_clean}
 use Rattle.cany_laws.specs.Waits.{least_left, most_taken, interference, waits_since, window}
-use Rattle.cany_laws.proofs.RowWords.{again, delivers, row, set, send, slot_rule, two}
+use Rattle.cany_law_rows.proofs.RowWords.{again, delivers, row, set, send, slot_rule, two}
 
 -- of two nodes a window has 19 slots, of which 18 may be taken and one is left
 windows_of_two :

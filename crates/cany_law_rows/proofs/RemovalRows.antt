@@ -12,7 +12,7 @@ use Rattle.cany_laws.specs.Logs.{past_to, present_of}
 use Rattle.cany_laws.specs.Membership.{members_as}
 use Rattle.cany_laws.specs.Removal.{got_join}
 use Rattle.cany_laws.specs.Views.{installed_as}
-use Rattle.cany_laws.proofs.RowWords.{again, row, set, slot_rule, three, two}
+use Rattle.cany_law_rows.proofs.RowWords.{again, row, set, slot_rule, three, two}
 
 -- Node 1 stops in slot 5 and starts again in slot 60, but does not ask to join. Cycle 2 starts in slot 76 without it, and so does cycle 3 in slot
 -- 114: of the 39 slots before, node 0 had it in its view after the first 20 alone.

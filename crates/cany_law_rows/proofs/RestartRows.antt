@@ -12,7 +12,7 @@ use Rattle.cany_laws.specs.Logs.{log_as}
 use Rattle.cany_model.specs.Promises.Order.{Content, tot_deliveries}
 use Rattle.cany_laws.specs.Membership.{members_as}
 use Rattle.cany_laws.specs.Views.{installed_as}
-use Rattle.cany_laws.proofs.RowWords.{again, delivers, found_of, key, lived, of_nodes, row, send, set, slot_rule, three, three_by, two}
+use Rattle.cany_law_rows.proofs.RowWords.{again, delivers, found_of, key, lived, of_nodes, row, send, set, slot_rule, three, three_by, two}
 
 -- Node 1 stops in slot 5 and starts again at the end of slot 6. It takes part since slot 26, so in cycle 1, which starts in slot 38 and ends in slot 57.
 unfoldable back_in_time : ScenarioParts

@@ -8,7 +8,7 @@ use Rattle.cany_model.specs.Runs.RoundRobin.{round_robin}
 use Rattle.cany_model.specs.Runs.Run.{run}
 use Rattle.cany_laws.specs.Acceptance.{accepted_in_time_as}
 use Rattle.cany_laws.specs.Views.{installed_as}
-use Rattle.cany_laws.proofs.RowWords.{delivers, found_of, key, lived, of_nodes, row, send, set, slot_rule, three, two}
+use Rattle.cany_law_rows.proofs.RowWords.{delivers, found_of, key, lived, of_nodes, row, send, set, slot_rule, three, two}
 
 -- ---- a node that stopped
 

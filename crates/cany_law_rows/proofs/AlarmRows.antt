@@ -7,7 +7,7 @@ use Rattle.cany_base.specs.Scenario.{ScenarioParts}
 use Rattle.cany_model.specs.Runs.RoundRobin.{round_robin}
 use Rattle.cany_model.specs.Runs.Run.{run}
 use Rattle.cany_laws.specs.Membership.{knowledge_as}
-use Rattle.cany_laws.proofs.RowWords.{again, found_of, lived, of_nodes, row, set, slot_rule, two}
+use Rattle.cany_law_rows.proofs.RowWords.{again, found_of, lived, of_nodes, row, set, slot_rule, two}
 
 -- Node 1 stops in slot 5, starts again at the end of slot 6, takes part since slot 26, and stops again in slot 38. Node 0 tells in slot 39 that it has failed:
 -- one of its stops, that in slot 5, lies more than one slot before, and not each. Here `silence` is 39, and `life` and `bound` are 19.

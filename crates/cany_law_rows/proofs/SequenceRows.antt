@@ -8,7 +8,7 @@ use Rattle.cany_model.specs.Runs.Run.{run}
 use Rattle.cany_laws.specs.Logs.{log_as}
 use Rattle.cany_model.specs.Promises.Order.{Content, tot_deliveries}
 use Rattle.cany_laws.specs.Sequence.{clean_sequence}
-use Rattle.cany_laws.proofs.RowWords.{key, of_nodes, repeated, row, send, slot_rule, steps, three_at_lag_1}
+use Rattle.cany_law_rows.proofs.RowWords.{key, of_nodes, repeated, row, send, slot_rule, steps, three_at_lag_1}
 
 -- At a lag of one slot node 2 delivers its own message in slot 1 and that of node 1 in slot 3, and stops in slot 5. The other two deliver that of node 1 alone. So what a
 -- stopped node has delivered is not the order of the others with one message more at its end: it is part of one sequence.

@@ -11,7 +11,7 @@ use Rattle.cany_laws.specs.Logs.{past_to, present_of}
 use Rattle.cany_model.specs.Bus.State.{RunState}
 use Rattle.cany_laws.specs.Membership.{knowledge_as}
 use Rattle.cany_laws.specs.Views.{installed_as}
-use Rattle.cany_laws.proofs.RowWords.{again, found_of, lived, of_nodes, row, set, slot_rule, three_by, two}
+use Rattle.cany_law_rows.proofs.RowWords.{again, found_of, lived, of_nodes, row, set, slot_rule, three_by, two}
 
 -- Node 1 stops in slot 5, and never showed life. A cycle starts in slot 38, and the next one in slot 76; it ends in slot 95.
 unfoldable never_heard : ScenarioParts

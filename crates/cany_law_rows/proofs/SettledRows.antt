@@ -4,7 +4,7 @@ use Rattle.cany_base.specs.declared.message.Service.TheVariants.{Ed}
 use Rattle.cany_base.specs.declared.rule.Verdict.TheVariants.{Clean}
 use Rattle.cany_base.specs.Scenario.{ScenarioParts}
 use Rattle.cany_model.specs.Rules.Messages.{Message}
-use Rattle.cany_laws.proofs.RowWords.{again, row, send, settled_after, slot_rule, two}
+use Rattle.cany_law_rows.proofs.RowWords.{again, row, send, settled_after, slot_rule, two}
 
 -- Node 0 is to send in slot 30, stops in slot 1, and starts again at the end of slot 2: it takes part since slot 22.
 unfoldable asks_again : ScenarioParts

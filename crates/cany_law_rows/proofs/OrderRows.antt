@@ -10,7 +10,7 @@ use Rattle.cany_model.specs.Promises.Order.{Content, order, order_by}
 use Rattle.cany_model.specs.Runs.RoundRobin.{round_robin}
 use Rattle.cany_model.specs.Runs.Run.{run}
 use Rattle.cany_laws.specs.Order.{deliveries_as, is_accepted_by_it_or_some, ordered_deliveries}
-use Rattle.cany_laws.proofs.RowWords.{again, key, of_nodes, repeated, row, send, slot_rule, steps, three_at_lag_1, two}
+use Rattle.cany_law_rows.proofs.RowWords.{again, key, of_nodes, repeated, row, send, slot_rule, steps, three_at_lag_1, two}
 
 -- since which slot it takes part, what it has delivered, of this what a running node has accepted, and the two orders from that slot on
 record Parts : Type 0 where

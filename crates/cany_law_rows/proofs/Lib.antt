@@ -1,0 +1,13 @@
+pub mod AdmissionRows
+pub mod AlarmRows
+pub mod CarriedRows
+pub mod OrderRows
+pub mod RemovalRows
+pub mod RequestRows
+pub mod RestartRows
+pub mod RowWords
+pub mod SequenceRows
+pub mod SettledRows
+pub mod SilenceRows
+pub mod StopRows
+pub mod WaitRows
