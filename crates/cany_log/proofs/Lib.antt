@@ -7,6 +7,7 @@ pub mod NodeLineFacts
 pub mod NumberFacts
 pub mod NumbersFacts
 pub mod PageFacts
+pub mod RepeatFacts
 pub mod ReportFacts
 pub mod RunFacts
 pub mod SetTextFacts

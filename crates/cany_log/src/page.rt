@@ -1,6 +1,7 @@
 //! Lines that go to the sink together, since to hand over a line takes as long as to put it
 //! together.
-ghost use Rattle.std.specs.Prelude.{◌≡◌, []};
+ghost use Rattle.std.specs.Prelude.{◌≡◌, [], replicate};
+ghost use Rattle.std.specs.List.{concat};
 ghost use Rattle.cany_log.specs.Written.{IsWritten};
 
 use crate::line_buffer::LineBuffer;
@@ -25,6 +26,32 @@ pub(crate) fn write_page<K: Sink>(page: &mut Page, sink: &mut K) -> Result<(), F
     ensures empty { page.new ≡ [] }
 {
     let written = write_whole(sink, page.as_slice());
+    page.clear();
+    written
+}
+
+/// Writes bytes so many times.
+fn write_times<K: Sink>(bytes: &[u8], times: usize, sink: &mut K) -> Result<(), Failed>
+    ensures { IsWritten (concat (replicate times bytes.now)) result
+        (K.taken sink.old) (K.taken sink.new) (K.faults sink.old) (K.faults sink.new) }
+{
+    for _time in 0..times {
+        write_whole(sink, bytes)?;
+    }
+    Ok(())
+}
+
+/// Writes the lines of a page, which has none then, so many times.
+pub(crate) fn write_page_times<K: Sink>(
+    page: &mut Page,
+    times: usize,
+    sink: &mut K,
+) -> Result<(), Failed>
+    ensures written { IsWritten (concat (replicate times page.old)) result
+        (K.taken sink.old) (K.taken sink.new) (K.faults sink.old) (K.faults sink.new) }
+    ensures empty { page.new ≡ [] }
+{
+    let written = write_times(page.as_slice(), times, sink);
     page.clear();
     written
 }

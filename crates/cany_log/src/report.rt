@@ -24,7 +24,7 @@ fn write_heading<K: Sink>(world: &World, page: &mut Page, sink: &mut K) -> Resul
     let params = world.scenario().params();
     write_first_line(params.format, sink)?;
     write_params(params, sink)?;
-    write_journal(world.journal(), page, sink)
+    write_journal(world.journal(), world.period(), page, sink)
 }
 
 /// Writes what happened on the bus, and whether it is within the fault hypothesis.

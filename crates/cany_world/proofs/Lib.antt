@@ -10,6 +10,7 @@ pub mod InOrder
 pub mod JournalFacts
 pub mod NodeFacts
 pub mod OpeningFacts
+pub mod PeriodFacts
 pub mod PlaceFacts
 pub mod QuietFacts
 pub mod RestartFacts

@@ -211,3 +211,7 @@ rounds_whole before now left so e = λ k. record {
 
 pub rounds_end : (before now : WorldParts) → now ≡ record { scenario = before.scenario; journal = round_robin before.scenario } → has_ended now.scenario (state_of now) ≡ true
 rounds_end before now is = ap (λ (w : WorldParts). has_ended w.scenario (state_of w)) is ∙ (round_robin_ends before.scenario).1
+
+pub rounds_made : (before now : WorldParts) → now ≡ record { scenario = before.scenario; journal = round_robin before.scenario } → now.journal ≡ round_robin now.scenario
+rounds_made before now is =
+    ap (λ (w : WorldParts). w.journal) is ∙ ap round_robin (sym (ap (λ (w : WorldParts). w.scenario) is))

@@ -1,6 +1,7 @@
 pub mod Controllers
 pub mod Incarnations
 pub mod IncarnationsFields
+pub mod Journal
 pub mod Kept
 pub mod Places
 pub mod Replies

@@ -51,4 +51,5 @@ pub fn round_robin(world: &mut World)
     while left > 0 {
         left = advance(world, left);
     }
+    world.note_rounds();
 }

@@ -9,20 +9,21 @@ ghost use Rattle.cany_model.specs.Promises.Hypothesis.{IsWithin, first_break};
 ghost use Rattle.cany_model.specs.Rules.Log as model;
 ghost use Rattle.cany_model.specs.Rules.Knowledge.{fda_of};
 ghost use Rattle.cany_model.specs.Rules.Messages.{frames_of, message_key, messages_of};
-ghost use Rattle.cany_model.specs.Runs.RoundRobin.{rounds};
+ghost use Rattle.cany_model.specs.Runs.RoundRobin.{round_robin, rounds};
 ghost use Rattle.cany_model.specs.Runs.Run.{IsLegal, after_step, has_ended, is_done, reply};
 ghost use Rattle.cany_model.specs.Promises.Safe.{IsIntegral, IsSafe};
 ghost use Rattle.cany_model.specs.Promises.Settled.{is_ahead, is_awaited, is_settled, nobody_waits_with_sign};
 ghost use Rattle.cany_model.specs.Bus.State.{node_at, reads, slots_run};
 ghost use Rattle.cany_world.specs.Kept.{IsKeptAs, IsKeptAt};
 ghost use Rattle.cany_world.specs.Incarnations.{takes_part_since};
+ghost use Rattle.cany_world.specs.Journal.{Repeats};
 ghost use Rattle.cany_world.specs.Replies.{has_turned, step_reply};
 ghost use Rattle.cany_world.specs.Settled.{IsFinished, is_queued, nodes_ahead, waiting_nodes};
 
 use crate::began::began_nodes;
 use crate::finished::{FinishedServices, finished_services};
 use crate::incarnations::Incarnations;
-use crate::journal::push_rounds;
+use crate::journal::{Journal, push_rounds};
 use crate::opening::{controllers_of, journal_room, nodes_of};
 use crate::resting::rest;
 use crate::settled::{is_asked, is_settled};
@@ -36,7 +37,7 @@ use can_bus::Bus;
 use can_controller::Controller;
 use can_fault::Script;
 use cany_base::{
-    Actions, BoundedVec, LogEntry, Memory, MsgKey, NodeId, NodeSet, Scenario, Slot, SlotNote, Step,
+    Actions, LogEntry, Memory, MsgKey, NodeId, NodeSet, Scenario, Slot, SlotNote, Step,
 };
 use cany_message::keys_of;
 use cany_model::{Break, Span, StepReply};
@@ -56,7 +57,7 @@ pub struct World {
     controllers: Vec<Controller>,
     nodes: Vec<Incarnations>,
     actions: Actions,
-    journal: BoundedVec<Step>,
+    journal: Journal,
     keys: Vec<MsgKey>,
 }
 
@@ -85,7 +86,7 @@ impl World {
         // The journal, which a run fills, comes first, then the nodes, which fill most of their
         // room, and last the controllers, which fill little of theirs: so the memory which the
         // reading of the text gave back is used again.
-        let journal = BoundedVec::build(alloc, journal_room(params))?;
+        let journal = Journal::build(alloc, journal_room(params))?;
         let nodes = nodes_of(alloc, scenario)?;
         let controllers = controllers_of(alloc, scenario)?;
         let actions = Actions::build(alloc, actions_room(scenario))?;
@@ -204,6 +205,18 @@ impl World {
         slots
     }
 
+    /// Notes that the journal repeats itself, where the run is that of round robin and each of its
+    /// rounds is whole: then it is full.
+    pub(crate) fn note_rounds(&mut self)
+        requires { self.old.journal ≡ round_robin self.old.scenario }
+        ensures { self.new ≡ self.old }
+    {
+        let round = usize::from(self.scenario.params().nodes) + 1;
+        if self.journal.spare() == 0 {
+            self.journal.note_period(round);
+        }
+    }
+
     /// Whether all slots ran and every running node has read every notice.
     pub fn ended(&self) -> bool
         ensures { result ≡ has_ended self.now.scenario (state_of self.now) }
@@ -280,6 +293,14 @@ impl World {
         ensures legal { IsLegal self.now.scenario self.now.journal }
     {
         self.journal.as_slice()
+    }
+
+    /// After how many steps the journal repeats itself up to its end, as far as is known. It is 0
+    /// where nothing is known, after which each journal repeats itself.
+    pub fn period(&self) -> usize
+        ensures { Repeats result self.now.journal }
+    {
+        self.journal.period()
     }
 
     /// The notes of the slots that ran, oldest first.

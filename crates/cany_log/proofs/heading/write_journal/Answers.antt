@@ -1,19 +1,48 @@
-use Rattle.std.proofs.Common.{length, ap, arith}
-use Rattle.std.specs.List.{range_with_len}
+use Rattle.std.proofs.Common.{◌*◌, ◌≤◌, length, ap, ◌∙◌, arith}
+use Rattle.std.specs.List.{flat_map, range_with_len}
 use Rattle.std.proofs.lemmas.List.FromFn.{length-range_with_len}
 use Rattle.std.proofs.lemmas.Result.{err_from_is_err_and}
 use Rattle.cany_log.specs.ReportItems.{journal_text, line_count}
 use Rattle.cany_log.proofs.PageFacts.{alone, past_items}
 use Rattle.cany_log.proofs.ReportFacts.{journal_lines_text, next_lines}
-use Rattle.cany_log.proofs.UpToFacts.{IsWrittenUpTo-start, IsWrittenUpTo-next, IsWrittenUpTo-cut, IsWrittenUpTo-all}
+use Rattle.cany_log.proofs.UpToFacts.{IsWrittenUpTo-next, IsWrittenUpTo-cut, IsWrittenUpTo-all}
+use Rattle.cany_log.proofs.WrittenFacts.{IsWritten-short}
 use Rattle.cany_log.proofs.heading.write_journal.Goals as goal
 
 pub loop-first-init : goal.loop-first-init
-loop-first-init g c = record {
-  written = IsWrittenUpTo-start _ _ _ _ (journal_lines_text c.args.journal.now);
-  within = omega arith;
-  empty = c.requires;
+loop-first-init g c =
+    let line = journal_text c.args.journal.now in
+    let count = line_count c.args.journal.now in
+    let within : c.same_lines.result * c.whole_pages.result ≤ count = omega (arith, c.whole_pages.ensures) in
+    record {
+      written = record {
+        done = flat_map line (range_with_len 0 (c.same_lines.result * c.whole_pages.result));
+        parts = journal_lines_text c.args.journal.now ∙ next_lines line 0 (c.same_lines.result * c.whole_pages.result) count (omega arith) within;
+        written = c.in_ok-write_same_pages.ensures.written;
+      };
+      within = within;
+      empty = c.in_ok-write_same_pages.ensures.empty;
+    }
+
+pub write_same_pages-requires : goal.write_same_pages-requires
+write_same_pages-requires g c = record {
+  page = c.requires.page;
+  few = c.same_lines.ensures.few;
+  whole = c.whole_pages.ensures;
+  again = c.same_lines.ensures.again c.args.journal.now c.requires.period;
 }
+
+pub returns-in_err-write_same_pages : goal.returns-in_err-write_same_pages
+returns-in_err-write_same_pages g c =
+    let line = journal_text c.args.journal.now in
+    let count = line_count c.args.journal.now in
+    let same = c.same_lines.result * c.whole_pages.result in
+    let p = err_from_is_err_and c.from_residual.result c.from_residual.ensures.1 in
+    let parts = journal_lines_text c.args.journal.now ∙ next_lines line 0 same count (omega arith) (omega (arith, c.whole_pages.ensures)) in
+    record {
+      written = rw (p.1, parts) (IsWritten-short _ _ _ _ _ _ _ c.in_err-write_same_pages.ensures.written);
+      empty = c.in_err-write_same_pages.ensures.empty;
+    }
 
 pub put_journal-requires : goal.put_journal-requires
 put_journal-requires g c = record {

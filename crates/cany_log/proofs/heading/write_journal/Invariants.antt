@@ -8,7 +8,7 @@ use Rattle.cany_log.proofs.heading.write_journal.Given as goal
 abbrev pub invariant-loop-first : goal.invariant-loop-first
 invariant-loop-first g l = record {
   written : IsWrittenUpTo (concat (journal_lines l.journal)) (flat_map (journal_text l.journal) (drop l.first (range_with_len 0 l.lines)))
-      (g.K.Sink.taken l.initial.sink) (g.K.Sink.taken l.sink) (g.K.Sink.faults l.initial.sink) (g.K.Sink.faults l.sink);
+      (g.K.Sink.taken l.fn.sink) (g.K.Sink.taken l.sink) (g.K.Sink.faults l.fn.sink) (g.K.Sink.faults l.sink);
   within : l.first ≤ l.lines;
   empty : l.page ≡ [];
 }

@@ -1,8 +1,15 @@
-use Rattle.std.proofs.Common.{refl, ◌∙◌, ap}
+use Rattle.std.proofs.Common.{refl, sym, subst, ◌∙◌, ap}
 use Rattle.std.proofs.lemmas.Result.{err_from_is_err_and}
 use Rattle.cany_log.proofs.ReportFacts.{heading-is}
 use Rattle.cany_log.proofs.WrittenFacts.{IsWritten-then, IsWritten-short}
+use Rattle.cany_world.specs.Journal.{Repeats}
 use Rattle.cany_log.proofs.report.write_heading.Goals as goal
+
+pub write_journal-requires : goal.write_journal-requires
+write_journal-requires g c = record {
+  page = c.requires;
+  period = subst (Repeats c.period.result) (sym c.journal.ensures.journal) c.period.ensures;
+}
 
 pub returns-in_err-write_first_line : goal.returns-in_err-write_first_line
 returns-in_err-write_first_line g c =

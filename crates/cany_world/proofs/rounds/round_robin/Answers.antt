@@ -1,7 +1,7 @@
 use Rattle.std.proofs.Common.{◌≡◌, ap, ◌∙◌, arith}
 use Rattle.cany_base.specs.Params.{Parameters}
 use Rattle.cany_base.specs.Scenario.{ScenarioParts}
-use Rattle.cany_world.proofs.RoundFacts.{rounds_begin, rounds_end, rounds_legal, rounds_room, rounds_step, rounds_whole}
+use Rattle.cany_world.proofs.RoundFacts.{rounds_begin, rounds_end, rounds_legal, rounds_made, rounds_room, rounds_step, rounds_whole}
 use Rattle.cany_world.proofs.rounds.round_robin.Goals as goal
 
 pub loop-left-init : goal.loop-left-init
@@ -21,12 +21,17 @@ loop-left-preserved c =
     rounds_step c.args.world.now c.loop-left.world c.advance-left.new.world c.loop-left.left c.advance-left.result c.loop-left.invariant
     c.advance-left.ensures.scenario c.advance-left.ensures.made c.advance-left.ensures.ran
 
+pub note_rounds-requires : goal.note_rounds-requires
+note_rounds-requires c =
+    let none : c.loop-left.left ≡ 0 = omega (arith, c.loop-left-test.false) in
+    rounds_made c.args.world.now c.loop-left.world (rounds_whole c.args.world.now c.loop-left.world c.loop-left.left c.loop-left.invariant none)
+
 pub returns-clause-run : goal.returns-clause-run
 returns-clause-run c =
     let none : c.loop-left.left ≡ 0 = omega (arith, c.loop-left-test.false) in
-    rounds_whole c.args.world.now c.loop-left.world c.loop-left.left c.loop-left.invariant none
+    c.note_rounds.ensures ∙ rounds_whole c.args.world.now c.loop-left.world c.loop-left.left c.loop-left.invariant none
 
 pub returns-clause-ended : goal.returns-clause-ended
 returns-clause-ended c =
     let none : c.loop-left.left ≡ 0 = omega (arith, c.loop-left-test.false) in
-    rounds_end c.args.world.now c.loop-left.world (rounds_whole c.args.world.now c.loop-left.world c.loop-left.left c.loop-left.invariant none)
+    rounds_end c.args.world.now c.note_rounds.new.self (c.note_rounds.ensures ∙ rounds_whole c.args.world.now c.loop-left.world c.loop-left.left c.loop-left.invariant none)
