@@ -95,3 +95,8 @@ module _ (line : List Step → List ℕ) (journal : List Step) (lines : ℕ) (ag
       ∙ ap (λ l. page ++ l) (same_texts text (0 + lines) 0 (lines * pages)
           (λ k below. ap text (shifted k) ∙ next_page k (omega (arith, below, within, more)) ∙ ap text (same k)))
       ∙ ap (λ l. page ++ l) (same_pages pages (omega (arith, within, more)))
+
+-- lines of which there is a page
+pub first_page : (lines pages : ℕ) → 0 < pages → lines ≤ lines * pages
+first_page lines zero some = absurd (omega (arith, some))
+first_page lines (suc pages) some = omega arith

@@ -13,11 +13,11 @@ pub loop-first-init : goal.loop-first-init
 loop-first-init g c =
     let line = journal_text c.args.journal.now in
     let count = line_count c.args.journal.now in
-    let within : c.same_lines.result * c.whole_pages.result ≤ count = omega (arith, c.whole_pages.ensures) in
+    let within : c.same_lines-same.result * c.whole_pages-pages.result ≤ count = omega (arith, c.whole_pages-pages.ensures) in
     record {
       written = record {
-        done = flat_map line (range_with_len 0 (c.same_lines.result * c.whole_pages.result));
-        parts = journal_lines_text c.args.journal.now ∙ next_lines line 0 (c.same_lines.result * c.whole_pages.result) count (omega arith) within;
+        done = flat_map line (range_with_len 0 (c.same_lines-same.result * c.whole_pages-pages.result));
+        parts = journal_lines_text c.args.journal.now ∙ next_lines line 0 (c.same_lines-same.result * c.whole_pages-pages.result) count (omega arith) within;
         written = c.in_ok-write_same_pages.ensures.written;
       };
       within = within;
@@ -27,18 +27,18 @@ loop-first-init g c =
 pub write_same_pages-requires : goal.write_same_pages-requires
 write_same_pages-requires g c = record {
   page = c.requires.page;
-  few = c.same_lines.ensures.few;
-  whole = c.whole_pages.ensures;
-  again = c.same_lines.ensures.again c.args.journal.now c.requires.period;
+  few = c.same_lines-same.ensures.few;
+  whole = c.whole_pages-pages.ensures;
+  again = c.same_lines-same.ensures.again c.args.journal.now c.requires.period;
 }
 
 pub returns-in_err-write_same_pages : goal.returns-in_err-write_same_pages
 returns-in_err-write_same_pages g c =
     let line = journal_text c.args.journal.now in
     let count = line_count c.args.journal.now in
-    let same = c.same_lines.result * c.whole_pages.result in
+    let same = c.same_lines-same.result * c.whole_pages-pages.result in
     let p = err_from_is_err_and c.from_residual.result c.from_residual.ensures.1 in
-    let parts = journal_lines_text c.args.journal.now ∙ next_lines line 0 same count (omega arith) (omega (arith, c.whole_pages.ensures)) in
+    let parts = journal_lines_text c.args.journal.now ∙ next_lines line 0 same count (omega arith) (omega (arith, c.whole_pages-pages.ensures)) in
     record {
       written = rw (p.1, parts) (IsWritten-short _ _ _ _ _ _ _ c.in_err-write_same_pages.ensures.written);
       empty = c.in_err-write_same_pages.ensures.empty;
@@ -64,7 +64,7 @@ loop-first-preserved g c =
 pub returns-in_err-write_page : goal.returns-in_err-write_page
 returns-in_err-write_page g c =
     let line = journal_text c.args.journal.now in
-    let p = err_from_is_err_and c.from_residual.result c.from_residual.ensures.1 in
+    let p = err_from_is_err_and c.from_residual-in_err-write_page.result c.from_residual-in_err-write_page.ensures.1 in
     let page = alone line _ _ _ c.put_journal.ensures c.loop-first.invariant.empty in
     let parts = next_lines line c.loop-first.first c.min-end.result (line_count c.args.journal.now) (omega (arith, c.min-end.ensures)) (omega (arith, c.min-end.ensures)) in
     record {
