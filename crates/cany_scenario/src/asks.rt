@@ -1,20 +1,18 @@
 //! The scripted joins, leaves and restarts of a scenario text.
 ghost use Rattle.std.specs.Prelude.{◌≡◌, ◌≢◌, ◌-◌, [], count_by, IfOk, IfErr, Ok, Err};
-ghost use Rattle.toml.specs.View.{items_view};
 ghost use Rattle.cany_base.specs.Scenario.{is_ask_of_node};
 ghost use Rattle.cany_text.specs.declared.scenario_fault.KeyName.TheVariants as key;
 ghost use Rattle.cany_text.specs.declared.scenario_fault.ScenarioFault.TheVariants.{Memory};
-ghost use Rattle.cany_text.specs.AsksText.{ask_from, joins_of, leaves_of, restarts_of, is_one_too_many};
-ghost use Rattle.cany_text.specs.TomlKeys.{required, number_from, each_entry, entries_of, first_after};
+ghost use Rattle.cany_text.specs.AsksText.{joins_of, leaves_of, restarts_of, is_one_too_many};
+ghost use Rattle.cany_text.specs.TomlKeys.{required, number_from, first_after};
 ghost use Rattle.cany_scenario.specs.Entries.{entry_of};
 
-use crate::array::{entry_at, items_at};
+use crate::array::{FromEntry, entries_at};
 use crate::entry::Entry;
 use cany_base::limits::{MOST_JOINS, MOST_LEAVES, MOST_RESTARTS, MOST_RESTARTS_OF_NODE};
 use cany_base::{NodeAsk, NodeId, Params};
 use cany_text::{KeyName, ScenarioFault, TableName};
 use std::alloc::Global;
-use toml::Value;
 
 /// The keys that an entry can have.
 const ASK_KEYS: [KeyName; 2] = [KeyName::Slot, KeyName::Node];
@@ -28,7 +26,7 @@ pub(crate) fn read_joins(
     ensures ok { IfOk result (λ asks. joins_of params.now (entry_of top.now) ≡ Ok asks.items) }
     ensures fault { IfErr result (λ fault. fault ≢ Memory → joins_of params.now (entry_of top.now) ≡ Err fault) }
 {
-    asks_at(
+    entries_at(
         alloc,
         params,
         top,
@@ -47,7 +45,7 @@ pub(crate) fn read_leaves(
     ensures ok { IfOk result (λ asks. leaves_of params.now (entry_of top.now) ≡ Ok asks.items) }
     ensures fault { IfErr result (λ fault. fault ≢ Memory → leaves_of params.now (entry_of top.now) ≡ Err fault) }
 {
-    asks_at(
+    entries_at(
         alloc,
         params,
         top,
@@ -67,7 +65,7 @@ pub(crate) fn read_restarts(
     ensures ok { IfOk result (λ asks. restarts_of params.now (entry_of top.now) ≡ Ok asks.items) }
     ensures fault { IfErr result (λ fault. fault ≢ Memory → restarts_of params.now (entry_of top.now) ≡ Err fault) }
 {
-    let restarts = asks_at(
+    let restarts = entries_at(
         alloc,
         params,
         top,
@@ -81,48 +79,18 @@ pub(crate) fn read_restarts(
     }
 }
 
-/// The asks of the array of tables at a key, at most so many.
-fn asks_at(
-    alloc: Global,
-    params: &Params,
-    top: &Entry,
-    table: TableName,
-    most: usize,
-    name: KeyName,
-) -> Result<Vec<NodeAsk>, ScenarioFault>
-    ensures ok { IfOk result (λ asks. entries_of table most (ask_from params.now) name (entry_of top.now) ≡ Ok asks.items) }
-    ensures fault { IfErr result (λ fault. fault ≢ Memory → entries_of table most (ask_from params.now) name (entry_of top.now) ≡ Err fault) }
-{
-    let items = items_at(top, table, most, name)?;
-    each_ask(alloc, params, table, name, items)
-}
+impl FromEntry for NodeAsk {
+    ghost use Rattle.cany_text.specs.AsksText.{ask_from};
 
-fn each_ask(
-    alloc: Global,
-    params: &Params,
-    table: TableName,
-    name: KeyName,
-    items: &[Value],
-) -> Result<Vec<NodeAsk>, ScenarioFault>
-    ensures ok { IfOk result (λ asks. each_entry table name (ask_from params.now) 0 (items_view items.now) ≡ Ok asks.items) }
-    ensures fault { IfErr result (λ fault. fault ≢ Memory → each_entry table name (ask_from params.now) 0 (items_view items.now) ≡ Err fault) }
-{
-    let mut asks = Vec::with_capacity(alloc, items.len())?;
-    for (place, item) in items.iter().enumerate() {
-        let entry = entry_at(table, name, place, item)?;
-        asks.push(ask_from(params, &entry)?)?;
+    ghost meaning = { ask_from };
+
+    #[tactic(auto, unfolding(cany_text::specs::AsksText::ask_from))]
+    fn from_entry(params: &Params, entry: &Entry) -> Result<NodeAsk, ScenarioFault> {
+        entry.only_keys(&ASK_KEYS)?;
+        let slot = slot_at(params, entry)?;
+        let node = node_at(params, entry)?;
+        Ok(NodeAsk { slot, node })
     }
-    Ok(asks)
-}
-
-#[tactic(auto, unfolding(cany_text::specs::AsksText::ask_from))]
-fn ask_from(params: &Params, entry: &Entry) -> Result<NodeAsk, ScenarioFault>
-    ensures { result ≡ ask_from params.now (entry_of entry.now) }
-{
-    entry.only_keys(&ASK_KEYS)?;
-    let slot = slot_at(params, entry)?;
-    let node = node_at(params, entry)?;
-    Ok(NodeAsk { slot, node })
 }
 
 /// The slot of the run that an entry names.

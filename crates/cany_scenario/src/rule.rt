@@ -3,11 +3,12 @@ ghost use Rattle.std.specs.Prelude.{◌≡◌};
 ghost use Rattle.toml.specs.View.{view};
 ghost use Rattle.cany_base.specs.declared.rule.Verdict.TheVariants.{Clean};
 ghost use Rattle.cany_text.specs.declared.scenario_fault.KeyName.TheVariants as key;
-ghost use Rattle.cany_text.specs.FaultsText.{rejected_by, rule_from, verdict_from, verdicts};
+ghost use Rattle.cany_text.specs.FaultsText.{rejected_by, verdict_from, verdicts};
 ghost use Rattle.cany_text.specs.TextNames.{named, verdict_name};
 ghost use Rattle.cany_text.specs.TomlKeys.{optional};
 ghost use Rattle.cany_scenario.specs.Entries.{entry_of};
 
+use crate::array::FromEntry;
 use crate::entry::{Entry, wrong_kind};
 use crate::nodes::nodes_at;
 use crate::rule_place::place_from;
@@ -16,20 +17,23 @@ use cany_text::names::verdict_name;
 use cany_text::{KeyName, Position, ScenarioFault};
 use toml::Value;
 
-/// The rule of an entry.
-#[tactic(auto, unfolding(cany_text::specs::FaultsText::rule_from))]
-pub(crate) fn rule_from(params: &Params, entry: &Entry) -> Result<Rule, ScenarioFault>
-    ensures { result ≡ rule_from params.now (entry_of entry.now) }
-{
-    let place = place_from(params, entry)?;
-    let verdict = read_verdict(entry)?;
-    let reject = nodes_at(params, entry, KeyName::Reject)?;
-    let stop = nodes_at(params, entry, KeyName::Stop)?;
-    Ok(Rule {
-        place,
-        verdict: rejected_by(reject, verdict),
-        stop,
-    })
+impl FromEntry for Rule {
+    ghost use Rattle.cany_text.specs.FaultsText.{rule_from};
+
+    ghost meaning = { rule_from };
+
+    #[tactic(auto, unfolding(cany_text::specs::FaultsText::rule_from))]
+    fn from_entry(params: &Params, entry: &Entry) -> Result<Rule, ScenarioFault> {
+        let place = place_from(params, entry)?;
+        let verdict = read_verdict(entry)?;
+        let reject = nodes_at(params, entry, KeyName::Reject)?;
+        let stop = nodes_at(params, entry, KeyName::Stop)?;
+        Ok(Rule {
+            place,
+            verdict: rejected_by(reject, verdict),
+            stop,
+        })
+    }
 }
 
 /// The verdict that an entry names, by which nobody rejects the frame as yet: clean where the key

@@ -1,17 +1,16 @@
 //! The scripted sends of a scenario text.
 ghost use Rattle.std.specs.Prelude.{◌≡◌, ◌≢◌, [], IfOk, IfErr, IfSome, Ok, Err};
 ghost use Rattle.toml.specs.Data.{member};
-ghost use Rattle.toml.specs.View.{view, items_view, members_view, table_view};
+ghost use Rattle.toml.specs.View.{view, members_view, table_view};
 ghost use Rattle.cany_text.specs.declared.scenario_fault.KeyName.TheVariants as key;
 ghost use Rattle.cany_text.specs.declared.scenario_fault.ScenarioFault.TheVariants.{Memory};
-ghost use Rattle.cany_text.specs.declared.scenario_fault.TableName.TheVariants as table;
 ghost use Rattle.cany_text.specs.SendsText.{bytes_of, payload_from, services, service_from, send_from, sends_of};
 ghost use Rattle.cany_text.specs.TextNames.{key_name, named, service_name};
-ghost use Rattle.cany_text.specs.TomlKeys.{each_entry, optional, required};
+ghost use Rattle.cany_text.specs.TomlKeys.{optional, required};
 ghost use Rattle.cany_scenario.specs.Entries.{entry_of};
 ghost use Rattle.cany_scenario.specs.SendsParts.{four_members, send_of_values};
 
-use crate::array::{entry_at, items_at};
+use crate::array::{FromEntry, entries_at};
 use crate::asks::{node_at, slot_at};
 use crate::entry::{Entry, number_from, wrong_kind};
 use cany_base::limits::MOST_SENDS;
@@ -45,20 +44,14 @@ pub(crate) fn read_sends(
     ensures ok { IfOk result (λ sends. sends_of params.now (entry_of top.now) ≡ Ok sends.items) }
     ensures fault { IfErr result (λ fault. fault ≢ Memory → sends_of params.now (entry_of top.now) ≡ Err fault) }
 {
-    let items = items_at(top, TableName::Send, MOST_SENDS, KeyName::Send)?;
-    each_send(alloc, params, items)
-}
-
-fn each_send(alloc: Global, params: &Params, items: &[Value]) -> Result<Vec<SendAsk>, ScenarioFault>
-    ensures ok { IfOk result (λ sends. each_entry table.Send key.Send (send_from params.now) 0 (items_view items.now) ≡ Ok sends.items) }
-    ensures fault { IfErr result (λ fault. fault ≢ Memory → each_entry table.Send key.Send (send_from params.now) 0 (items_view items.now) ≡ Err fault) }
-{
-    let mut sends = Vec::with_capacity(alloc, items.len())?;
-    for (place, item) in items.iter().enumerate() {
-        let entry = entry_at(TableName::Send, KeyName::Send, place, item)?;
-        sends.push(send_from(params, &entry)?)?;
-    }
-    Ok(sends)
+    entries_at(
+        alloc,
+        params,
+        top,
+        TableName::Send,
+        MOST_SENDS,
+        KeyName::Send,
+    )
 }
 
 /// The values of an entry that has each of the four keys, and no other.
@@ -70,13 +63,17 @@ struct SendValues<'a> {
     slot: &'a Value,
 }
 
-fn send_from(params: &Params, entry: &Entry) -> Result<SendAsk, ScenarioFault>
-    ensures { result ≡ send_from params.now (entry_of entry.now) }
-{
-    // Mostly an entry has its four keys, and one walk finds their values without a look-up.
-    match four_values(entry.members) {
-        Some(values) => send_of_values(params, entry, &values),
-        None => send_by_keys(params, entry),
+impl FromEntry for SendAsk {
+    ghost use Rattle.cany_text.specs.SendsText.{send_from};
+
+    ghost meaning = { send_from };
+
+    fn from_entry(params: &Params, entry: &Entry) -> Result<SendAsk, ScenarioFault> {
+        // Mostly an entry has its four keys, and one walk finds their values without a look-up.
+        match four_values(entry.members) {
+            Some(values) => send_of_values(params, entry, &values),
+            None => send_by_keys(params, entry),
+        }
     }
 }
 

@@ -2,24 +2,23 @@ use Rattle.std.proofs.Common.{◌≡◌, rules}
 use Rattle.std.specs.Prelude.{Ok, Err}
 use Rattle.std.proofs.lemmas.Result.{err_from_is_err_and}
 use Rattle.toml.specs.View.{items_view}
-use Rattle.cany_text.specs.AsksText.{ask_from}
 use Rattle.cany_scenario.specs.Arrays.{items_at}
 use Rattle.cany_scenario.specs.Entries.{entry_of}
 use Rattle.cany_scenario.proofs.ArraysFacts.{entries_of-fault, entries_of-items}
-use Rattle.cany_scenario.proofs.asks.asks_at.Goals as goal
+use Rattle.cany_scenario.proofs.array.entries_at.Goals as goal
 
 pub returns-in_err-items-clause-fault : goal.returns-in_err-items-clause-fault
-returns-in_err-items-clause-fault c =
+returns-in_err-items-clause-fault g c =
     let p = err_from_is_err_and c.from_residual.result c.from_residual.ensures.1 in
     let bad : items_at c.args.table c.args.most c.args.name (entry_of c.args.top.now) ≡ Err c.in_err-items.field-0.0 = search rules in
-    rw (p.1, p.2) (λ other. entries_of-fault c.args.table c.args.most (ask_from c.args.params.now) c.args.name (entry_of c.args.top.now) c.in_err-items.field-0.0 bad)
+    rw (p.1, p.2) (λ other. entries_of-fault c.args.table c.args.most (g.T.FromEntry.meaning c.args.params.now) c.args.name (entry_of c.args.top.now) c.in_err-items.field-0.0 bad)
 
 pub returns-clause-ok : goal.returns-clause-ok
-returns-clause-ok c =
+returns-clause-ok g c =
     let there : items_at c.args.table c.args.most c.args.name (entry_of c.args.top.now) ≡ Ok (items_view c.in_ok-items.items.now) = search rules in
-    rw (entries_of-items c.args.table c.args.most (ask_from c.args.params.now) c.args.name (entry_of c.args.top.now) (items_view c.in_ok-items.items.now) there) c.each_ask.ensures.ok
+    rw (entries_of-items c.args.table c.args.most (g.T.FromEntry.meaning c.args.params.now) c.args.name (entry_of c.args.top.now) (items_view c.in_ok-items.items.now) there) c.each_entry.ensures.ok
 
 pub returns-clause-fault : goal.returns-clause-fault
-returns-clause-fault c =
+returns-clause-fault g c =
     let there : items_at c.args.table c.args.most c.args.name (entry_of c.args.top.now) ≡ Ok (items_view c.in_ok-items.items.now) = search rules in
-    rw (entries_of-items c.args.table c.args.most (ask_from c.args.params.now) c.args.name (entry_of c.args.top.now) (items_view c.in_ok-items.items.now) there) c.each_ask.ensures.fault
+    rw (entries_of-items c.args.table c.args.most (g.T.FromEntry.meaning c.args.params.now) c.args.name (entry_of c.args.top.now) (items_view c.in_ok-items.items.now) there) c.each_entry.ensures.fault
