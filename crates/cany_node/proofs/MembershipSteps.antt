@@ -1,5 +1,5 @@
 -- The steps of a turn at what a node keeps of the site, one after another.
-use Rattle.std.proofs.Common.{◌≡◌, ℕ, if◌then◌else◌, List, ◌∷◌, ◌++◌, length, Option, Some, None, refl, ap, sym, ◌∙◌, subst, arith, append_assoc, append-nil}
+use Rattle.std.proofs.Common.{◌≡◌, ℕ, if◌then◌else◌, List, ◌∷◌, ◌++◌, length, false, IfSome, Option, Some, None, refl, ap, sym, ◌∙◌, subst, arith, append_assoc, append-nil}
 use Rattle.std.proofs.lemmas.Bool.{cond_both}
 use Rattle.std.proofs.lemmas.List.{map-append}
 use Rattle.cany_base.specs.declared.actions.Action.{Action}
@@ -26,7 +26,7 @@ use Rattle.cany_model.specs.Rules.Views.{after_ask, start_of, view_effects, with
 use Rattle.cany_model.proofs.Rules.VectorFacts.{knowledge_vector}
 use Rattle.cany_views.specs.Views.{IsViewsOf, ViewsParts}
 use Rattle.cany_base.proofs.SetFacts.{below_minus}
-use Rattle.cany_node.specs.Membership.{Exchanges, HasKnown, IsNextOf, IsMembershipOf, KnowsOf, MembershipParts, ended_as, exchange_plain, life_plain, met_by, membership_effects}
+use Rattle.cany_node.specs.Membership.{Exchanges, HasKnown, IsNextOf, IsMembershipOf, IsOfBus, KnowsOf, MembershipParts, ended_as, exchange_plain, life_plain, met_by, membership_effects}
 use Rattle.cany_node.proofs.MembershipFacts.{asked_members, ended_none, ended_vector, found_failed, knows_moved, life_moved, met_life, met_views, starts_as_met, views_moved}
 
 -- ---- who asks, who lives and who has failed
@@ -104,6 +104,24 @@ module _ (scenario : ScenarioParts) (i : ℕ) (past : List NoticeKind) (notice :
   history_next =
       let here : history.IsNextAt scenario i past known.vector notice = record { next = h.next.next; vector = h.next.vector } in
       subst (λ n. history.IsNextAt scenario n past known.vector notice) (sym h.history.node) here
+
+  -- the vector with which a cycle ends
+  pub ended_met : (result : Option Ended)
+      → result ≡ ended_as scenario.params notice.slot (ended_in scenario.params notice.slot notice.kind (knowledge_of scenario i past))
+      → result ≡ ended_as scenario.params (length past) (ended_in scenario.params (length past) notice.kind (knowledge_of scenario i past))
+  ended_met result is =
+      is ∙ ap (λ slot. ended_as scenario.params slot (ended_in scenario.params slot notice.kind known)) h.next.next.slot
+
+  pub ended_of_bus : (result : Option Ended) → IfSome result (λ e. AllBelow v.history.params.nodes e.vector) → IsOfBus v.params result
+  ended_of_bus result below = subst (λ p. IsOfBus p result) (h.history.params ∙ sym h.knows.params) below
+
+  -- what the node has found that it can start with, the exchange can be given
+  pub start_fits : (start : Option Nodes) → (is_start v.params notice.slot ≡ false → start ≡ None) → IfSome start (AllBelow v.views.params.nodes)
+      → history.StartsWith v.history.params notice.slot start
+  start_fits start none below = record {
+    none = λ no. none (ap (λ (p : Parameters). is_start p notice.slot) (h.knows.params ∙ sym h.history.params) ∙ no);
+    below = subst (λ (p : Parameters). IfSome start (AllBelow p.nodes)) (h.knows.views.params ∙ sym h.history.params) below;
+  }
 
   -- what the node starts with
   module _ (start : Option Nodes)

@@ -1,6 +1,7 @@
 pub mod Agenda
 pub mod Apply
 pub mod Asks
+pub mod FirstParts
 pub mod Membership
 pub mod Node
 pub mod NodeFields

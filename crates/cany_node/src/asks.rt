@@ -11,7 +11,7 @@ use std::alloc::Global;
 use std::marker::Model;
 
 /// What a scripted ask is for: to join the view of the site, or to leave it.
-#[derive(Clone, Copy, Debug)]
+#[derive(Clone, Copy)]
 pub(crate) enum AskKind {
     Join,
     Leave,
@@ -20,7 +20,7 @@ pub(crate) enum AskKind {
 /// The slots of the asks of one kind that a node's script makes, and that are still to come.
 ///
 /// They are sorted once, as the scripted sends are.
-#[derive(Debug, Drop)]
+#[derive(Drop)]
 pub(crate) struct AskPlan {
     by_slot: Vec<Slot>,
     next: usize,

@@ -18,6 +18,7 @@ ghost use Rattle.cany_node.specs.Node.{IsNodeOf, IsWaiting, CanBegin, CanTurn, C
 ghost use Rattle.cany_node.specs.Asks.{AreAsksPassed, IsRisingFrom};
 ghost use Rattle.cany_node.specs.Agenda.{ArePassed, IsRising};
 ghost use Rattle.cany_node.specs.Resting.{IsIdleUntil, RelcanRestsUntil, RestsUntil, TotcanRestsUntil, brings_totcan_or_life, is_for_edcan, is_for_relays};
+ghost use Rattle.cany_node.specs.FirstParts.{first_parts};
 ghost use Rattle.cany_node.specs.Membership.{IsNextOf};
 ghost use Rattle.cany_node.specs.Turning.{CanHearNext, CanScript, HasHeard, HasScripted, IsActed, heard_effects, heard_room, script_effects, script_room};
 
@@ -29,10 +30,9 @@ use crate::membership::Membership;
 use crate::notices::{
     brings_totcan_or_life, is_early, is_error, is_for_edcan, is_for_relays, is_life_sign,
 };
-use crate::plan::{Plan, build_plan};
+use crate::plan::{PlanAndLog, build_plan_and_log};
 use crate::protocols::{Protocols, build_protocols};
 use crate::reply::TurnReply;
-use crate::rooms::log_room;
 use crate::sending::send_due;
 use can_controller::Controller;
 use cany_base::{
@@ -99,37 +99,43 @@ impl Node {
         ensures waits { IfOk result (IsWaiting scenario.now) }
     {
         let params = *scenario.params();
+        // The protocols come last, so that they are not let go where the memory of the rest is
+        // wanting: that would be proved table by table.
+        let own = build_plan_and_log(alloc, node, scenario)?;
         let protocols = build_protocols(alloc, node, scenario)?;
-        let plan = build_plan(alloc, node, scenario)?;
-        let log = BoundedVec::build(alloc, log_room(scenario))?;
-        let Protocols {
-            edcan,
-            relcan,
-            totcan,
-            membership,
-        } = protocols;
-        let Plan {
-            agenda,
-            joins,
-            leaves,
-        } = plan;
-        Ok(Node {
+        Ok(Node::of_parts(node, inc, params, protocols, own))
+    }
+
+    /// The incarnation of these parts, which has read nothing.
+    fn of_parts(
+        node: NodeId,
+        inc: u8,
+        params: Params,
+        protocols: Protocols,
+        own: PlanAndLog,
+    ) -> Node
+        requires { inc ≤ most_restarts_of_node }
+        ensures { result ≡ first_parts node inc params protocols own }
+    {
+        let Protocols { relays, orders } = protocols;
+        let PlanAndLog { plan, log } = own;
+        Node {
             node,
             inc,
             params,
             from: 0,
             cycle: 0,
             read: 0,
-            edcan,
-            relcan,
-            totcan,
-            membership,
-            agenda,
-            joins,
-            leaves,
+            edcan: relays.edcan,
+            relcan: relays.relcan,
+            totcan: orders.totcan,
+            membership: orders.membership,
+            agenda: plan.agenda,
+            joins: plan.joins,
+            leaves: plan.leaves,
             log,
             idle_until: 0,
-        })
+        }
     }
 
     /// The incarnation begins, after a restart at the end of this slot. It has heard nothing in the

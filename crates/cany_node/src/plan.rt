@@ -1,9 +1,11 @@
-ghost use Rattle.std.specs.Prelude.{◌<◌, IfOk};
+ghost use Rattle.std.specs.Prelude.{◌≡◌, ◌<◌, [], IfOk};
+ghost use Rattle.cany_model.specs.Rules.Rooms.{log_room};
 ghost use Rattle.cany_node.specs.Plan.{IsOpeningPlanOf};
 
 use crate::agenda::Agenda;
 use crate::asks::AskPlan;
-use cany_base::{Memory, NodeId, Scenario};
+use crate::rooms::log_room;
+use cany_base::{BoundedVec, LogEntry, Memory, NodeId, Scenario};
 use std::alloc::Global;
 
 /// What the script asks of a node, as it is built.
@@ -15,7 +17,7 @@ pub(crate) struct Plan {
 }
 
 /// The sends and asks of a node, all still to come.
-pub(crate) fn build_plan(alloc: Global, node: NodeId, scenario: &Scenario) -> Result<Plan, Memory>
+fn build_plan(alloc: Global, node: NodeId, scenario: &Scenario) -> Result<Plan, Memory>
     ensures { IfOk result (IsOpeningPlanOf scenario.now node) }
 {
     let agenda = Agenda::build(alloc, node, scenario)?;
@@ -26,4 +28,25 @@ pub(crate) fn build_plan(alloc: Global, node: NodeId, scenario: &Scenario) -> Re
         joins,
         leaves,
     })
+}
+
+/// What a node has beside its protocols, as it is built.
+#[derive(Drop)]
+pub(crate) struct PlanAndLog {
+    pub(crate) plan: Plan,
+    pub(crate) log: BoundedVec<LogEntry>,
+}
+
+/// The plan of a node, and its log, which is empty.
+pub(crate) fn build_plan_and_log(
+    alloc: Global,
+    node: NodeId,
+    scenario: &Scenario,
+) -> Result<PlanAndLog, Memory>
+    ensures plan { IfOk result (λ built. IsOpeningPlanOf scenario.now node built.plan) }
+    ensures log { IfOk result (λ built. built.log ≡ record { items = []; room = log_room scenario.now }) }
+{
+    let plan = build_plan(alloc, node, scenario)?;
+    let log = BoundedVec::build(alloc, log_room(scenario))?;
+    Ok(PlanAndLog { plan, log })
 }

@@ -1,7 +1,7 @@
 use cany_base::Slot;
 
 /// The answer of a turn.
-#[derive(Clone, Copy, Debug, PartialEq, Eq)]
+#[derive(Clone, Copy, PartialEq, Eq)]
 pub enum TurnReply {
     /// The node read the notice of this slot and did what the rules say.
     Turned { slot: Slot },

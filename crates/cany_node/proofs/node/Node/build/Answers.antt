@@ -1,30 +1,32 @@
-use Rattle.std.proofs.Common.{length, ap, ◌∙◌, refl, arith}
+use Rattle.std.proofs.Common.{length, ap, ◌∙◌, sym, subst, arith}
 use Rattle.cany_base.specs.Bounded.{Bounded}
 use Rattle.cany_base.specs.declared.log_entry.LogEntry.{LogEntry}
+use Rattle.cany_node.specs.Node.{IsWaiting, NodeParts}
 use Rattle.cany_node.proofs.Beginning.{opens}
 use Rattle.cany_node.proofs.MessageLists.{planned_count}
 use Rattle.cany_node.proofs.node.Node.build.Goals as goal
 
 pub returns-clause-waits : goal.returns-clause-waits
-returns-clause-waits c = record {
+returns-clause-waits c = subst (IsWaiting c.args.scenario.now) (sym c.of_parts.ensures) (record {
   legal = c.params-params.ensures.legal;
   params = c.params-params.ensures.params;
-  log = ap (λ (b : Bounded LogEntry). b.items) c.in_ok-log.ensures;
-  room = ap (λ (b : Bounded LogEntry). b.room) c.in_ok-log.ensures ∙ c.log_room.ensures;
-  edcan = c.in_ok-protocols.ensures.edcan;
-  relcan = c.in_ok-protocols.ensures.relcan;
-  totcan = c.in_ok-protocols.ensures.totcan;
-  membership = c.in_ok-protocols.ensures.membership;
-  agenda = c.in_ok-plan.ensures.agenda;
-  joins = c.in_ok-plan.ensures.joins;
-  leaves = c.in_ok-plan.ensures.leaves;
+  log = ap (λ (b : Bounded LogEntry). b.items) c.in_ok-own.ensures.log;
+  room = ap (λ (b : Bounded LogEntry). b.room) c.in_ok-own.ensures.log;
+  edcan = c.in_ok-protocols.ensures.relays.edcan;
+  relcan = c.in_ok-protocols.ensures.relays.relcan;
+  totcan = c.in_ok-protocols.ensures.orders.totcan;
+  membership = c.in_ok-protocols.ensures.orders.membership;
+  agenda = c.in_ok-own.ensures.plan.agenda;
+  joins = c.in_ok-own.ensures.plan.joins;
+  leaves = c.in_ok-own.ensures.plan.leaves;
   room_to_give =
-      let tot = (c.in_ok-protocols.ensures.totcan 0).backlog in
-      let plan = c.in_ok-plan.ensures.agenda in
-      let count = planned_count c.args.node c.args.scenario.now.sends c.in_ok-plan.plan.agenda.planned plan.planned in
+      let tot = (c.in_ok-protocols.ensures.orders.totcan 0).backlog in
+      let plan = c.in_ok-own.ensures.plan.agenda in
+      let count = planned_count c.args.node c.args.scenario.now.sends c.in_ok-own.own.plan.agenda.planned plan.planned in
       omega (arith, ap length tot.given, tot.room, plan.own, count);
-}
+})
 
 pub returns-clause-stands : goal.returns-clause-stands
 returns-clause-stands c first =
-    opens _ _ (returns-clause-waits c) c.params-params.ensures.whole c.params-params.ensures.opening first refl refl
+    opens _ _ (returns-clause-waits c) c.params-params.ensures.whole c.params-params.ensures.opening (ap (λ (v : NodeParts). v.inc) c.of_parts.ensures ∙ first)
+    (ap (λ (v : NodeParts). v.from) c.of_parts.ensures) (ap (λ (v : NodeParts). v.read) c.of_parts.ensures)
