@@ -1,5 +1,5 @@
 -- When a journal repeats itself.
-use Rattle.std.proofs.Common.{◌≡◌, ℕ, zero, suc, ◌+◌, ◌*◌, ◌-◌, ◌≤◌, Bool, true, false, cond, List, [], ◌∷◌, ◌++◌, length, map, take, drop, refl, sym, ap, ◌∙◌, arith, append_assoc}
+use Rattle.std.proofs.Common.{◌≡◌, ℕ, zero, suc, ◌+◌, ◌*◌, ◌-◌, ◌≤◌, Bool, true, false, cond, List, [], ◌∷◌, ◌++◌, length, map, take, refl, sym, ap, ◌∙◌, arith, append_assoc}
 use Rattle.std.specs.Prelude.{filter}
 use Rattle.std.specs.List.{range_with_len}
 use Rattle.std.proofs.lemmas.List.{append-nil, drop-append-le, drop_all, length-append, length-map, take-append-le, take_all}
@@ -9,7 +9,7 @@ use Rattle.cany_base.specs.declared.step.Step.TheVariants.{Slot, Turn}
 use Rattle.cany_base.specs.Scenario.{ScenarioParts}
 use Rattle.cany_model.specs.Bus.State.{RunState, node_at, opening}
 use Rattle.cany_model.specs.Runs.RoundRobin.{is_to_read, round, rounds, round_robin}
-use Rattle.cany_model.specs.Runs.Run.{after_step, run, run_from}
+use Rattle.cany_model.specs.Runs.Run.{after_step, run}
 use Rattle.cany_model.proofs.Runs.Journals.{run_none, run_push, run_then}
 use Rattle.cany_model.proofs.Runs.Runs.{orderly}
 use Rattle.cany_world.specs.Journal.{Repeats}

@@ -1,4 +1,4 @@
-use Rattle.std.proofs.Common.{◌*◌, ◌/◌, arith}
+use Rattle.std.proofs.Common.{◌/◌, arith}
 use Rattle.std.proofs.Math.Nat.{mul-div-le}
 use Rattle.cany_log.proofs.heading.whole_pages.Goals as goal
 

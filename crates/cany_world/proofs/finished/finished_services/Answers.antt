@@ -1,6 +1,3 @@
-use Rattle.std.proofs.Common.{◌≡◌, refl}
-use Rattle.cany_base.specs.declared.message.Service.{Service}
-use Rattle.cany_base.specs.declared.message.Service.TheVariants as service
 use Rattle.cany_world.proofs.SettledFacts.{finished_by}
 use Rattle.cany_world.proofs.finished.finished_services.Goals as goal
 

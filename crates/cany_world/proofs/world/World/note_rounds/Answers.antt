@@ -2,7 +2,6 @@ use Rattle.std.proofs.Common.{◌≡◌, ◌+◌, ◌∙◌, ap, arith, subst, s
 use Rattle.cany_base.specs.Params.{Parameters}
 use Rattle.cany_model.specs.Runs.RoundRobin.{round_robin}
 use Rattle.cany_world.specs.Journal.{Repeats}
-use Rattle.cany_world.specs.World.{WorldParts}
 use Rattle.cany_world.proofs.PeriodFacts.{full_repeats}
 use Rattle.cany_world.proofs.world.World.note_rounds.Goals as goal
 
