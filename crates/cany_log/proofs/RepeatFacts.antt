@@ -71,12 +71,12 @@ module _ (line : List Step → List ℕ) (journal : List Step) (lines : ℕ) (ag
       let at : 64 * (lines + k) ≡ 64 * lines + 64 * k = omega arith in
       let left : length journal - 64 * lines ≡ 64 * k + (length journal - 64 * lines - 64 * k) = omega (arith, within) in
       ap line (
-        ap (λ n. take 64 (drop n journal)) at
-        ∙ ap (take 64) (sym (drop-drop (64 * k) (64 * lines) journal))
-        ∙ ap (λ l. take 64 (drop (64 * k) l)) again
-        ∙ ap (λ n. take 64 (drop (64 * k) (take n journal))) left
-        ∙ ap (take 64) (drop-take (64 * k) (length journal - 64 * lines - 64 * k) journal)
-        ∙ take-take 64 (length journal - 64 * lines - 64 * k) (drop (64 * k) journal) (omega (arith, within))
+      ap (λ n. take 64 (drop n journal)) at
+      ∙ ap (take 64) (sym (drop-drop (64 * k) (64 * lines) journal))
+      ∙ ap (λ l. take 64 (drop (64 * k) l)) again
+      ∙ ap (λ n. take 64 (drop (64 * k) (take n journal))) left
+      ∙ ap (take 64) (drop-take (64 * k) (length journal - 64 * lines - 64 * k) journal)
+      ∙ take-take 64 (length journal - 64 * lines - 64 * k) (drop (64 * k) journal) (omega (arith, within))
       )
 
   pub same_pages : (pages : ℕ) → 64 * (lines * pages) ≤ length journal
@@ -93,7 +93,7 @@ module _ (line : List Step → List ℕ) (journal : List Step) (lines : ℕ) (ag
       ∙ ap (flat_map text) (numbers_split 0 lines (lines * pages))
       ∙ flat_map-append text (range_with_len 0 lines) (range_with_len (0 + lines) (lines * pages))
       ∙ ap (λ l. page ++ l) (same_texts text (0 + lines) 0 (lines * pages)
-          (λ k below. ap text (shifted k) ∙ next_page k (omega (arith, below, within, more)) ∙ ap text (same k)))
+      (λ k below. ap text (shifted k) ∙ next_page k (omega (arith, below, within, more)) ∙ ap text (same k)))
       ∙ ap (λ l. page ++ l) (same_pages pages (omega (arith, within, more)))
 
 -- lines of which there is a page
