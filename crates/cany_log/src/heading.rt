@@ -79,9 +79,9 @@ fn put_journal(journal: &[Step], first: usize, end: usize, page: &mut Page)
     }
 }
 
-/// How many lines a page has where the journal repeats itself after so many steps: as often as many
-/// as the steps are, so that each page begins with the same step. They are none where that is not
-/// known.
+/// How many lines a page has where the journal repeats itself after so many steps: the most that are
+/// a multiple of the steps, so that all whole pages are the same. None where it is not known to
+/// repeat itself.
 fn same_lines(period: usize) -> usize
     ensures few { result ≤ 128 }
     ensures again { (journal : List AnyStep) → Repeats period journal → Repeats (64 * result) journal }
@@ -102,8 +102,8 @@ fn whole_pages(steps: usize, lines: usize) -> usize
     steps / STEPS / lines
 }
 
-/// Writes the first so many lines of the journal so many times, which are its first pages. The page
-/// is empty before and after.
+/// Writes the first pages of the journal, so many, which are the same: the page of its first so many
+/// lines is put together once. The page is empty before and after.
 fn write_same_pages<K: Sink>(
     journal: &[Step],
     lines: usize,
