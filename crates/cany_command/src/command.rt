@@ -160,11 +160,7 @@ pub trait Command {
         ensures other { IfErr result (λ status. (status ≡ REFUSED) ⊎ (status ≡ WRITE_FAULT) ⊎ (status ≡ NO_MEMORY)) }
     {
         match run(alloc, scenario) {
-            Ok(world) => match self.answer(alloc, plan, &world, sink) {
-                Ok(status) => Ok(status),
-                Err(AnswerFault::Failed) => Err(WRITE_FAULT),
-                Err(AnswerFault::Memory) => Err(NO_MEMORY),
-            },
+            Ok(world) => status_of(self.answer(alloc, plan, &world, sink)),
             Err(RunFault::Journal(fault)) => Err(refuse(&Refusal::Journal(fault), sink)),
             Err(RunFault::Memory) => Err(NO_MEMORY),
         }
@@ -172,4 +168,18 @@ pub trait Command {
 
     /// No status of success is one that a command answers where it does not succeed.
     ghost no_fault: { (status : ℕ) → is_success status → IsNoFault status };
+}
+
+/// The status of a command that has written its text, or of one that has not.
+fn status_of(answered: Result<u8, AnswerFault>) -> Result<u8, u8>
+    ensures ok { IfOk result (λ status. answered ≡ Ok status) }
+    ensures failed { IfErr result (λ status. status ≡ WRITE_FAULT → answered ≡ Err AnswerFault.Failed) }
+    ensures memory { IfErr result (λ status. status ≡ NO_MEMORY → answered ≡ Err AnswerFault.Memory) }
+    ensures other { IfErr result (λ status. (status ≡ WRITE_FAULT) ⊎ (status ≡ NO_MEMORY)) }
+{
+    match answered {
+        Ok(status) => Ok(status),
+        Err(AnswerFault::Failed) => Err(WRITE_FAULT),
+        Err(AnswerFault::Memory) => Err(NO_MEMORY),
+    }
 }

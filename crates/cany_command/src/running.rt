@@ -1,5 +1,5 @@
 //! Runs a scenario.
-ghost use Rattle.std.specs.Prelude.{◌≡◌, IfOk, IfErr, Some, None};
+ghost use Rattle.std.specs.Prelude.{◌≡◌, [], IfOk, IfErr, OnOk, Some, None};
 ghost use Rattle.cany_model.specs.Runs.Follow.{journal_of};
 ghost use Rattle.cany_command.specs.RunFaults.{IfJournal};
 ghost use Rattle.cany_command.specs.Promises.{KeepsPromises};
@@ -35,23 +35,37 @@ pub fn run(alloc: Global, scenario: Scenario) -> Result<World, RunFault>
     ensures promises { IfOk result (λ _. KeepsPromises scenario) }
     ensures refused { IfErr result (λ fault. IfJournal fault (λ found. own_fault scenario ≡ Some found)) }
 {
-    // The laws by which the journal that is made or followed is legal and whole.
-    round_robin_is_whole();
-    followed_journals();
     let Ok(mut world) = World::build(alloc, &scenario) else {
         return Err(RunFault::Memory);
     };
+    match run_to_end(&mut world, scenario) {
+        Ok(()) => Ok(world),
+        Err(fault) => Err(fault),
+    }
+}
+
+/// Runs the world of the scenario from its first step to the end of the run.
+fn run_to_end(world: &mut World, scenario: Scenario) -> Result<(), RunFault>
+    requires { world.old ≡ record { scenario = scenario; journal = [] } }
+    ensures ended { OnOk result (world.new ≡ record { scenario = scenario; journal = journal_of scenario }) }
+    ensures followed { OnOk result (own_fault scenario ≡ None) }
+    ensures promises { OnOk result (KeepsPromises scenario) }
+    ensures refused { IfErr result (λ fault. IfJournal fault (λ found. own_fault scenario ≡ Some found)) }
+{
+    // The laws by which the journal that is made or followed is legal and whole.
+    round_robin_is_whole();
+    followed_journals();
     let Some(journal) = scenario.journal() else {
         drop(scenario);
-        round_robin(&mut world);
+        round_robin(world);
         // What this call says of the run is a part of the contract here, too.
         world.hypothesis();
-        return Ok(world);
+        return Ok(());
     };
-    match follow(&mut world, journal) {
+    match follow(world, journal) {
         Ok(()) => {
             world.hypothesis();
-            Ok(world)
+            Ok(())
         }
         Err(fault) => Err(RunFault::Journal(fault)),
     }
