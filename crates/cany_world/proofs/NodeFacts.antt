@@ -1,8 +1,8 @@
 -- How a slot, a turn and a restart keep the incarnations of a node those of a run.
-use Rattle.std.proofs.Common.{◌≡◌, ◌≢◌, ℕ, ◌+◌, ◌-◌, ◌<◌, ◌≤◌, List, [], ◌∷◌, length, map, refl, ap, sym, ◌∙◌, subst, arith}
+use Rattle.std.proofs.Common.{◌≡◌, ◌≢◌, ℕ, ◌+◌, ◌-◌, ◌<◌, ◌≤◌, List, [], ◌∷◌, length, get_or, map, refl, ap, sym, ◌∙◌, subst, arith}
 use Rattle.std.specs.Prelude.{slice_get, slice_set, Option, Some, None}
 use Rattle.std.specs.List.{AllByRecursion}
-use Rattle.std.proofs.lemmas.List.{length-set}
+use Rattle.std.proofs.lemmas.List.{length-set, set-get_or}
 use Rattle.cany_base.specs.declared.notice.Notice.{Notice}
 use Rattle.cany_base.specs.declared.notice.NoticeKind.{NoticeKind}
 use Rattle.cany_base.specs.declared.slot_note.SlotNote.{SlotNote}
@@ -17,8 +17,10 @@ use Rattle.cany_model.specs.Rules.Turn.{scenario_for}
 use Rattle.cany_model.proofs.Bus.Seen.{Numbered}
 use Rattle.cany_model.proofs.Rules.ErrorFacts.{error_log}
 use Rattle.can_controller.specs.Controller.{ControllerState}
-use Rattle.cany_node.specs.Node.{NodeParts, IsNodeOf, IsTurnOf}
-use Rattle.cany_world.specs.Incarnations.{IncarnationsParts, HasTurned, IsBegunAs, IsRestarted, span_until, spans_after}
+use Rattle.cany_node.specs.declared.reply.TurnReply.{TurnReply}
+use Rattle.cany_node.specs.declared.reply.TurnReply.TheVariants.{Turned, NothingYet, Stopped}
+use Rattle.cany_node.specs.Node.{NodeParts, IsNodeOf, IsRefused, IsTurnOf}
+use Rattle.cany_world.specs.Incarnations.{IncarnationsParts, HasTurned, IsBegunAs, IsLeft, IsRestarted, span_until, spans_after}
 use Rattle.cany_world.specs.Kept.{IsEndedAt, IsKeptAt, IsPresentAt, IsWaitingAt, heard_of, past_of}
 use Rattle.cany_world.proofs.Endings.{ended_below, ended_past, heard_restarted}
 use Rattle.cany_world.proofs.InOrder.{HaveSame, IsInOrder}
@@ -271,6 +273,18 @@ pub turned_by : (scenario : ScenarioParts) (past : List NoticeKind) (notice : No
 turned_by scenario past notice it after v was {v'} ctl ctl' same nodes spans present number inc cycle turn =
     subst (λ (x : IncarnationsParts). HasTurned scenario past notice it x v' ctl ctl') same
     (record { after = after; is = λ k. record { nodes = nodes k; spans = spans k; present = present k }; number = number; inc = inc; cycle = cycle; turn = turn })
+
+-- a node that is refused its turn is left as it is
+pub left_by : (reply : TurnReply) (d after : NodeParts) (v was : IncarnationsParts) {v' : IncarnationsParts} (ctl ctl' : ControllerState)
+    → was ≡ v → v'.nodes ≡ slice_set was.nodes was.present after → v'.spans ≡ was.spans → v'.present ≡ was.present
+    → IsRefused reply (get_or was.nodes was.present d) after ctl ctl' → IsLeft reply v v' ctl ctl'
+left_by (Turned slot) _ _ _ _ _ _ _ _ _ _ _ = tt
+left_by (NothingYet now) d after v was ctl ctl' same nodes spans present left =
+    let kept = nodes ∙ ap (slice_set was.nodes was.present) left.0 ∙ set-get_or was.nodes was.present d in
+    ((λ k. record { nodes = kept k; spans = spans k; present = present k }) ∙ same, left.1)
+left_by (Stopped slot) d after v was ctl ctl' same nodes spans present left =
+    let kept = nodes ∙ ap (slice_set was.nodes was.present) left.0 ∙ set-get_or was.nodes was.present d in
+    ((λ k. record { nodes = kept k; spans = spans k; present = present k }) ∙ same, left.1)
 
 pub restarted_by : (slot : ℕ) (stopped : Option ℕ) (next : ℕ) (after : NodeParts) (v was : IncarnationsParts) {v' : IncarnationsParts} → was ≡ v
     → v'.nodes ≡ slice_set was.nodes (was.present + 1) after → ((span : Span) → slice_get was.spans was.present ≡ Some span → v'.spans ≡ spans_after slot stopped next was span)

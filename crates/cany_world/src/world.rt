@@ -24,7 +24,7 @@ use crate::began::began_nodes;
 use crate::finished::{FinishedServices, finished_services};
 use crate::incarnations::Incarnations;
 use crate::journal::{Journal, push_rounds};
-use crate::opening::{controllers_of, journal_room, nodes_of};
+use crate::opening::{build_bus, build_lists, build_nodes};
 use crate::resting::rest;
 use crate::settled::{is_asked, is_settled};
 use crate::slot::run_next_slot;
@@ -39,9 +39,8 @@ use can_fault::Script;
 use cany_base::{
     Actions, LogEntry, Memory, MsgKey, NodeId, NodeSet, Scenario, Slot, SlotNote, Step,
 };
-use cany_message::keys_of;
 use cany_model::{Break, Span, StepReply};
-use cany_node::{TurnReply, actions_room};
+use cany_node::TurnReply;
 use std::alloc::Global;
 use std::marker::Model;
 
@@ -80,27 +79,23 @@ impl World {
     pub fn build(alloc: Global, scenario: &Scenario) -> Result<World, Memory>
         ensures { IfOk result (λ world. world ≡ record { scenario = scenario.now; journal = [] }) }
     {
-        let params = scenario.params();
-        let script = Script::of_scenario(alloc, scenario)?;
-        let bus = Bus::build(alloc, scenario)?;
+        // The call says that the scenario is legal and that of the opening.
+        let _legal = scenario.params();
         // The journal, which a run fills, comes first, then the nodes, which fill most of their
         // room, and last the controllers, which fill little of theirs: so the memory which the
         // reading of the text gave back is used again.
-        let journal = Journal::build(alloc, journal_room(params))?;
-        let nodes = nodes_of(alloc, scenario)?;
-        let controllers = controllers_of(alloc, scenario)?;
-        let actions = Actions::build(alloc, actions_room(scenario))?;
-        let keys = keys_of(alloc, scenario.sends())?;
-        let scenario = scenario.copy(alloc)?;
+        let bus = build_bus(alloc, scenario)?;
+        let nodes = build_nodes(alloc, scenario)?;
+        let lists = build_lists(alloc, scenario)?;
         Ok(World {
-            scenario,
-            script,
-            bus,
-            controllers,
-            nodes,
-            actions,
-            journal,
-            keys,
+            scenario: lists.scenario,
+            script: bus.script,
+            bus: bus.bus,
+            controllers: nodes.controllers,
+            nodes: nodes.nodes,
+            actions: lists.actions,
+            journal: bus.journal,
+            keys: lists.keys,
         })
     }
 

@@ -1,10 +1,10 @@
 use Rattle.std.proofs.Common.{◌≡◌, ◌+◌, List, get_or, refl, ap, sym, subst, ◌∙◌}
-use Rattle.std.specs.Prelude.{slice_set, None}
+use Rattle.std.specs.Prelude.{slice_get, slice_set, None, Some}
 use Rattle.std.proofs.lemmas.List.{length-set}
 use Rattle.std.proofs.lemmas.Option.{get_or_from_slice_get}
 use Rattle.cany_model.specs.declared.span.Span.{Span}
-use Rattle.cany_node.specs.Node.{NodeParts, IsWaiting}
-use Rattle.cany_world.specs.Incarnations.{span_until}
+use Rattle.cany_node.specs.Node.{NodeParts, CanBegin, IsWaiting}
+use Rattle.cany_world.specs.Incarnations.{IncarnationsParts, span_until}
 use Rattle.cany_world.specs.IncarnationsFields.{incarnations_parts}
 use Rattle.cany_world.proofs.NodeFacts.{restarted_by}
 use Rattle.cany_world.proofs.PlaceFacts.{written}
@@ -42,3 +42,13 @@ returns c =
           c.begin.ensures.stands scenario inc (number ∙ ap (λ (x : NodeParts). x.inc) (sym same)) from (subst (IsWaiting scenario) (sym same) waits);
       cycle = λ scenario waits. c.begin.ensures.cycle scenario (subst (IsWaiting scenario) (sym same) waits);
     })
+
+pub begin-requires : goal.begin-requires
+begin-requires c =
+    let it = c.requires.it in
+    let here : slice_get c.self.inside.nodes.items (c.self.inside.present + 1) ≡ Some it =
+    subst (λ (x : IncarnationsParts). slice_get x.nodes (x.present + 1) ≡ Some it) (sym c.self.view_is) c.requires.at in
+    let same : get_or c.as_mut_slice-nodes.result.now (c.self.inside.present + 1) c.index-nodes-self.result ≡ it =
+    ap (λ (l : List NodeParts). get_or l (c.self.inside.present + 1) c.index-nodes-self.result) c.as_mut_slice-nodes.ensures.value
+    ∙ get_or_from_slice_get c.self.inside.nodes.items (c.self.inside.present + 1) it c.index-nodes-self.result here in
+    subst (λ (x : NodeParts). CanBegin x c.args.slot) (sym same) c.requires.can

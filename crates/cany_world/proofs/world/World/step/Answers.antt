@@ -77,3 +77,8 @@ returns-in-Done-clause-run c _ =
     ap (λ (b : Bounded Step). run c.self.inside.scenario b.items) c.push_copy.ensures
     ∙ run_push c.self.inside.scenario (opening c.self.inside.scenario.params.nodes) c.self.inside.journal.items c.args.step
     ∙ ap (λ (w : WorldParts). after_step w.scenario (state_of w) c.args.step) c.self.view_is
+
+pub returns-in-Done-clause-new : goal.returns-in-Done-clause-new
+returns-in-Done-clause-new c =
+    ap (λ (b : Bounded Step). record { scenario = c.self.inside.scenario; journal = b.items }) c.push_copy.ensures
+    ∙ ap (λ (w : WorldParts). record w { journal = w.journal ++ c.args.step ∷ [] }) c.self.view_is
