@@ -8,7 +8,7 @@ use crate::offers::Offers;
 use cany_base::{Frame, NodeSet};
 
 /// What arbitration gives in one slot.
-#[derive(Clone, Copy, Debug, PartialEq, Eq)]
+#[derive(Clone, Copy)]
 pub enum Outcome {
     /// No node offers a frame.
     Idle,

@@ -8,7 +8,7 @@ use cany_base::{Format, Frame, NodeId, NodeSet};
 use std::marker::Model;
 
 /// What each node offers to the bus in one slot: its waiting frame of the least key, if it has one.
-#[derive(Debug, Drop)]
+#[derive(Drop)]
 pub struct Offers {
     format: Format,
     frames: [Option<Frame>; NodeId::COUNT as usize],

@@ -12,40 +12,23 @@ use Rattle.cany_model.specs.Bus.State.{NodeState, node_at}
 use Rattle.can_frame.specs.Identifier.{FitsIdentifier}
 use Rattle.can_arbiter.specs.Outcome.{Wins}
 use Rattle.can_controller.specs.Waiting.{LesserKeyWins}
+use Rattle.cany_model.proofs.Promises.FewLifeSignsOrder.{compared, is_not_before}
 
 -- ---- the order of frames
-
--- two numbers are compared, and where they are equal the rest decides
-abbrev compared : ℕ → ℕ → Bool → Bool
-compared a b rest = if not (a == b) then nat_lt a b else rest
 
 before_before : (a b c : ℕ) (r s t : Bool) → (r ≡ true → s ≡ true → t ≡ true) → compared a b r ≡ true → compared b c s ≡ true → compared a c t ≡ true
 before_before a b c true true t rest first second = let least : t ≡ true = rest refl refl in grind (arith, nat_tests)
 before_before a b c true false t rest first second = grind (arith, nat_tests)
 before_before a b c false s t rest first second = grind (arith, nat_tests)
 
-not_before : (a b c : ℕ) (r s t : Bool) → (r ≡ false → s ≡ false → t ≡ false) → compared a b r ≡ false → compared b c s ≡ false → compared a c t ≡ false
-not_before a b c false false t rest first second = let least : t ≡ false = rest refl refl in grind (arith, nat_tests)
-not_before a b c false true t rest first second = grind (arith, nat_tests)
-not_before a b c true s t rest first second = grind (arith, nat_tests)
-
 less_less : (a b c : ℕ) → nat_lt a b ≡ true → nat_lt b c ≡ true → nat_lt a c ≡ true
 less_less a b c first second = grind (arith, nat_tests)
-
-not_less : (a b c : ℕ) → nat_lt a b ≡ false → nat_lt b c ≡ false → nat_lt a c ≡ false
-not_less a b c first second = grind (arith, nat_tests)
 
 is_before_before : (f g h : FrameParts) → is_before f g ≡ true → is_before g h ≡ true → is_before f h ≡ true
 unfolding is_before same_class
 is_before_before f g h =
     before_before (class_number f.class) (class_number g.class) (class_number h.class) _ _ _
     (before_before f.number g.number h.number _ _ _ (before_before f.node g.node h.node _ _ _ (less_less f.inc g.inc h.inc)))
-
-is_not_before : (f g h : FrameParts) → is_before f g ≡ false → is_before g h ≡ false → is_before f h ≡ false
-unfolding is_before same_class
-is_not_before f g h =
-    not_before (class_number f.class) (class_number g.class) (class_number h.class) _ _ _
-    (not_before f.number g.number h.number _ _ _ (not_before f.node g.node h.node _ _ _ (not_less f.inc g.inc h.inc)))
 
 later_wins : (f g : FrameParts) → is_before g f ≡ true → better f (Some g) ≡ g
 later_wins f g e = ap (λ b. if b then g else f) e

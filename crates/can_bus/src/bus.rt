@@ -2,6 +2,7 @@ ghost use Rattle.std.specs.Prelude.{◌≡◌, ◌+◌, ◌<◌, ◌≤◌, ◌�
 ghost use Rattle.cany_model.specs.Promises.Hypothesis.{IsWithin, first_break};
 ghost use Rattle.cany_model.specs.Bus.Slot.{script as script_of, slot_note_of};
 ghost use Rattle.cany_base.specs.declared.rule.Rule.{Rule};
+ghost use Rattle.can_fault.specs.Attempts.{AreCountsOf};
 ghost use Rattle.cany_model.specs.Bus.State.{NodeState};
 ghost use Rattle.can_bus.specs.Bus.{Follows};
 ghost use Rattle.can_bus.specs.Rest.{idle_trace};
@@ -47,13 +48,10 @@ impl Bus {
         ensures trace { IfOk result (λ bus. bus.trace ≡ []) }
         ensures follows { IfOk result (Follows scenario.now.rules) }
     {
-        // Who runs the slots builds a script of its own and passes it to `slot`: the bus has only the
-        // scenario here, so its counts are built from a second one, which is dropped again.
-        let script = Script::of_scenario(alloc, scenario)?;
-        let attempts = Attempts::build(alloc, &script)?;
         let params = *scenario.params();
-        let tally = Tally::build(alloc, &params, scenario.rules().len())?;
         let trace = BoundedVec::build(alloc, params.slots as usize)?;
+        let attempts = first_attempts(alloc, scenario)?;
+        let tally = Tally::build(alloc, &params, scenario.rules().len())?;
         Ok(Bus {
             params,
             trace,
@@ -119,6 +117,16 @@ impl Bus {
     {
         self.tally.first_break()
     }
+}
+
+/// The counts of attempts of the scenario before its first slot.
+fn first_attempts(alloc: Global, scenario: &Scenario) -> Result<Attempts, Memory>
+    ensures { IfOk result (AreCountsOf scenario.now.rules []) }
+{
+    // Who runs the slots builds a script of its own and passes it to `slot`: the bus has only the
+    // scenario here, so its counts are built from a second one, which is dropped again.
+    let script = Script::of_scenario(alloc, scenario)?;
+    Attempts::build(alloc, &script)
 }
 
 /// Appends the notes of so many idle slots.

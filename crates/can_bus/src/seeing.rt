@@ -1,8 +1,10 @@
 //! What the controllers learn of a slot.
-ghost use Rattle.std.specs.Prelude.{◌≡◌, ◌<◌, ◌≤◌, ◌&&◌, ℕ, None, is_none, length, nat_lt, not};
+ghost use Rattle.std.specs.Prelude.{◌≡◌, ◌<◌, ◌≤◌, ◌&&◌, ℕ, Some, None, is_none, length, nat_lt, not};
 ghost use Rattle.cany_base.specs.Limits.{most_nodes};
 ghost use Rattle.cany_base.specs.Nodes.{has};
+ghost use Rattle.cany_model.specs.Bus.Slot.{share_of};
 ghost use Rattle.cany_model.specs.Bus.State.{node_at, runs};
+ghost use Rattle.can_controller.specs.Controller.{seen};
 ghost use Rattle.can_bus.specs.Contest.{running_nodes, seen_by, stopped_by};
 ghost use Rattle.can_bus.specs.Seeing.{AreNoticesOf};
 ghost use Rattle.can_bus.specs.Each.{each};
@@ -11,7 +13,7 @@ ghost use Rattle.can_bus.specs.Controllers.{HaveRoom, nodes_of};
 use crate::nodes::insert_unless;
 use crate::transmission::is_success;
 use can_controller::{Controller, Share};
-use cany_base::{NodeId, NodeSet, Notice, NoticeKind, Slot, SlotNote};
+use cany_base::{Frame, NodeId, NodeSet, Notice, NoticeKind, Slot, SlotNote};
 
 /// The notice of a slot for those that take its frame, and that for those that send it with success.
 #[derive(Drop)]
@@ -35,6 +37,36 @@ fn notices_of(note: &SlotNote) -> Notices
     }
 }
 
+/// The running controller of a node sees its share in a slot that carries this frame.
+#[tactic(auto, unfolding(cany_model::specs::Bus::Slot::share_of))]
+fn see_frame(
+    controller: &mut Controller,
+    node: NodeId,
+    frame: &Frame,
+    note: &SlotNote,
+    notices: &Notices,
+)
+    requires running { controller.old.stopped ≡ None }
+    requires room { length controller.old.unread ≤ controller.old.params.lag }
+    requires frame { note.now.frame ≡ Some frame.now }
+    requires notices { AreNoticesOf note.now notices.now }
+    ensures { controller.new ≡ seen note.now.slot (share_of node note.now) controller.old }
+{
+    if note.senders.has(node) {
+        if is_success(&note.verdict) {
+            controller.see_sent(frame, &notices.sent);
+            return;
+        }
+        controller.see(note.slot, Share::Errored);
+        return;
+    }
+    if note.takers.has(node) {
+        controller.see_taken(&notices.got);
+        return;
+    }
+    controller.see(note.slot, Share::Rejected);
+}
+
 /// The controller of node i sees its share, if it runs. Whether it runs after that.
 #[tactic(auto, unfolding(cany_model::specs::Bus::Slot::share_of))]
 fn see_share(controller: &mut Controller, i: usize, note: &SlotNote, notices: &Notices) -> bool
@@ -51,20 +83,7 @@ fn see_share(controller: &mut Controller, i: usize, note: &SlotNote, notices: &N
         controller.see(note.slot, Share::Idle);
         return controller.stopped().is_none();
     };
-    let node = NodeId::of_index(i);
-    if note.senders.has(node) {
-        if is_success(&note.verdict) {
-            controller.see_sent(frame, &notices.sent);
-            return controller.stopped().is_none();
-        }
-        controller.see(note.slot, Share::Errored);
-        return controller.stopped().is_none();
-    }
-    if note.takers.has(node) {
-        controller.see_taken(&notices.got);
-        return true;
-    }
-    controller.see(note.slot, Share::Rejected);
+    see_frame(controller, NodeId::of_index(i), frame, note, notices);
     controller.stopped().is_none()
 }
 

@@ -26,7 +26,7 @@ use std::marker::Model;
 /// project's own rule. It keeps the notices of the slots until its node reads them.
 ///
 /// All memory is taken by `build`.
-#[derive(Debug, Drop)]
+#[derive(Drop)]
 pub struct Controller {
     node: NodeId,
     params: Params,

@@ -7,7 +7,7 @@ use cany_base::limits::GREATEST_ERROR_COUNTER;
 use cany_model::Share;
 
 /// The error counters of a controller.
-#[derive(Clone, Copy, Debug)]
+#[derive(Clone, Copy)]
 pub(crate) struct Counters {
     pub(crate) transmit: u32,
     pub(crate) receive: u32,

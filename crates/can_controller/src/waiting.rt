@@ -17,7 +17,7 @@ use std::marker::Model;
 
 /// The frames that a controller waits to send, at most one of an identity. They stand ascending by
 /// identity, which is the order in which they win, in memory that is all taken at the start.
-#[derive(Debug, Drop)]
+#[derive(Drop)]
 pub(crate) struct Waiting {
     format: Format,
     frames: Vec<Frame>,

@@ -1,9 +1,10 @@
 -- Counts of attempts along a run.
-use Rattle.std.proofs.Common.{◌≡◌, ℕ, ◌+◌, ◌≤◌, ◌||◌, Bool, true, false, List, [], ◌∷◌, ◌++◌, Option, Some, None, refl, ap, sym, ◌∙◌, arith, if◌then◌else◌, min, length}
+use Rattle.std.proofs.Common.{◌≡◌, ℕ, ◌+◌, ◌≤◌, ◌||◌, Bool, true, false, inl, inr, List, [], ◌∷◌, ◌++◌, Option, Some, None, refl, ap, sym, ◌∙◌, arith, if◌then◌else◌, min, length}
 use Rattle.std.specs.BTreeMap.{BTreeMap, get, is_at}
 use Rattle.std.specs.Option.{option_map, option_map_or}
 use Rattle.std.specs.Ordering.{is_eq}
-use Rattle.std.specs.Cmp.{both_ways}
+use Rattle.std.specs.Cmp.{both_ways, Equal-is}
+use Rattle.std.proofs.lemmas.Bool.{cases_Bool}
 use Rattle.std.proofs.lemmas.List.Sums.{count_by-le-length}
 use Rattle.std.proofs.lemmas.List.Folds.{list_any-append}
 use Rattle.cany_base.specs.declared.rule.Place.TheVariants.{At, FrameNth}
@@ -18,7 +19,7 @@ use Rattle.can_fault.specs.declared.identity.FrameIdentity.{FrameIdentity}
 use Rattle.can_fault.specs.Attempts.{AreCountsOf, HasIdentities, count_of, greatest, raised}
 use Rattle.can_fault.specs.Identities.{identity_cmp, frame_identity}
 use Rattle.can_fault.specs.Rules.{names_frame, is_named, next_attempt}
-use Rattle.can_fault.proofs.KeyFacts.{identity_test}
+use Rattle.can_fault.proofs.KeyFacts.{identity_exact, identity_test}
 
 pub same_identity_turned : (x y : Identity) → same_identity x y ≡ same_identity y x
 same_identity_turned x y =
@@ -62,6 +63,29 @@ entered_slot rules rule slot counts e has x =
     has x ∙ ap zero_where (sym (named_push rules rule x ∙ ap (λ p. is_named rules x || names_frame x p) e ∙ or_false (is_named rules x)))
 
 -- ---- one more slot
+
+-- the count of an identity that is not there, and is not raised
+pub missing_raised : (x : FrameIdentity) (old new : BTreeMap FrameIdentity ℕ) → get identity_cmp old x ≡ None → new ≡ old
+    → (other : FrameIdentity) → get identity_cmp new other ≡ (if is_eq (identity_cmp x other) then option_map raised (get identity_cmp old other) else get identity_cmp old other)
+missing_raised x old new missing same other = elim (cases_Bool (is_eq (identity_cmp x other))) [
+  | inl here ↦
+      let at : x ≡ other = identity_exact x other ((Equal-is (identity_cmp x other)).0 here) in
+      let none : get identity_cmp old other ≡ None = ap (get identity_cmp old) (sym at) ∙ missing in
+      rw here (ap (λ m. get identity_cmp m other) same ∙ none ∙ sym (ap (option_map raised) none))
+  | inr apart ↦ rw apart (ap (λ m. get identity_cmp m other) same)
+]
+
+-- the count of an identity that is there, raised to w
+pub found_raised : (x : FrameIdentity) (n w : ℕ) (old new : BTreeMap FrameIdentity ℕ) → get identity_cmp old x ≡ Some n → w ≡ raised n
+    → ((q : FrameIdentity) → get identity_cmp new q ≡ (if is_eq (identity_cmp x q) then Some w else get identity_cmp old q))
+    → (other : FrameIdentity) → get identity_cmp new other ≡ (if is_eq (identity_cmp x other) then option_map raised (get identity_cmp old other) else get identity_cmp old other)
+found_raised x n w old new found more updates other = elim (cases_Bool (is_eq (identity_cmp x other))) [
+  | inl here ↦
+      let at : x ≡ other = identity_exact x other ((Equal-is (identity_cmp x other)).0 here) in
+      let there : get identity_cmp old other ≡ Some n = ap (get identity_cmp old) (sym at) ∙ found in
+      rw here ((rw here at (updates other)) ∙ ap (λ k. Some k) more ∙ sym (ap (option_map raised) there))
+  | inr apart ↦ rw apart (rw apart at (updates other))
+]
 
 raised_once : (a : ℕ) → raised (min a greatest) ≡ min (a + 1) greatest
 raised_once a = omega arith

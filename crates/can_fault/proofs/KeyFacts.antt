@@ -3,9 +3,10 @@ use Rattle.std.proofs.Common.{◌≡◌, ℕ, ◌==◌, ◌&&◌, true, ap, arit
 use Rattle.std.proofs.lemmas.Grind.{common_steps}
 use Rattle.std.proofs.lemmas.Bool.{and_parts, and_from}
 use Rattle.std.proofs.lemmas.Cmp.{tied_itself}
+use Rattle.std.proofs.lemmas.Map.Lookups.{exact_pairs, exact_unsigned}
 use Rattle.std.specs.declared.cmp.Ordering.TheVariants.{Equal}
 use Rattle.std.specs.Cmp.{IsTotalOrder, both_ways, Equal-is}
-use Rattle.std.specs.Ordering.{is_eq}
+use Rattle.std.specs.Ordering.{is_eq, nat_cmp}
 use Rattle.can_fault.specs.declared.identity.FrameIdentity.{FrameIdentity}
 use Rattle.can_fault.specs.declared.identity.Attempt.{Attempt}
 use Rattle.can_fault.specs.Identities.{identity_cmp, attempt_cmp, frame_identity, attempt_of}
@@ -20,11 +21,13 @@ identity_total = identity_laws.total-law
 pub attempt_total : IsTotalOrder attempt_cmp
 attempt_total = attempt_laws.total-law
 
-identity_exact : (a b : FrameIdentity) → identity_cmp a b ≡ Equal → a ≡ b
+pub identity_exact : (a b : FrameIdentity) → identity_cmp a b ≡ Equal → a ≡ b
 identity_exact a b h = grind (arith, common_steps)
 
 attempt_exact : (a b : Attempt) → attempt_cmp a b ≡ Equal → a ≡ b
-attempt_exact a b h = grind (arith, common_steps)
+attempt_exact a b h =
+    let same : (a.identity, a.nth) ≡ (b.identity, b.nth) = exact_pairs identity_cmp nat_cmp identity_exact exact_unsigned (a.identity, a.nth) (b.identity, b.nth) h in
+    ap (λ (p : FrameIdentity × ℕ). record { identity = p.0; nth = p.1 }) same
 
 pub same_from_keys : (x y : Identity) → frame_identity x ≡ frame_identity y → same_identity x y ≡ true
 same_from_keys x y e = same_identity-from x y (ap (λ (n : FrameIdentity). record { class = n.class; number = n.number; node = n.node }) e)

@@ -16,7 +16,7 @@ use std::collections::BTreeMap;
 use std::marker::Model;
 
 /// How often each frame that a rule names was carried.
-#[derive(Debug, Drop)]
+#[derive(Drop)]
 pub struct Attempts {
     counts: BTreeMap<FrameIdentity, u32>,
 }

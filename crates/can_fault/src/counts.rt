@@ -8,7 +8,7 @@ use std::alloc::Global;
 use std::marker::Model;
 
 /// What Partial slots count for.
-#[derive(Clone, Copy, Debug, PartialEq, Eq, Hash)]
+#[derive(Clone, Copy, PartialEq, Eq, Hash)]
 pub(crate) enum Counted {
     /// The vectors of a membership cycle together.
     Vectors { cycle: u16 },
@@ -34,7 +34,7 @@ impl Counted {
 /// How many Partial slots there were, by what they count for.
 ///
 /// A count is found by the hash of its key, and all memory is taken when the counts are built.
-#[derive(Debug, Drop)]
+#[derive(Drop)]
 pub(crate) struct PartialCounts {
     counts: IndexMap<Counted, u32>,
     room: usize,

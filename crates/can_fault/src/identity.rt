@@ -4,7 +4,7 @@ ghost use Rattle.cany_model.specs.Bus.Frames.{identity_of};
 use cany_base::{Class, Frame, NodeId};
 
 /// What tells frames apart: one frame has one class, number and node, in each of its attempts.
-#[derive(Clone, Copy, Debug, PartialEq, Eq, PartialOrd, Ord, Hash)]
+#[derive(Clone, Copy, PartialEq, Eq, PartialOrd, Ord, Hash)]
 pub(crate) struct FrameIdentity {
     pub(crate) class: Class,
     pub(crate) number: u16,
@@ -32,7 +32,7 @@ impl FrameIdentity {
 }
 
 /// An attempt to carry a frame, counted from 1.
-#[derive(Clone, Copy, Debug, PartialEq, Eq, PartialOrd, Ord)]
+#[derive(Clone, Copy, PartialEq, Eq, PartialOrd, Ord)]
 pub(crate) struct Attempt {
     pub(crate) identity: FrameIdentity,
     pub(crate) nth: u32,

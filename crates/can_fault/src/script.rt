@@ -44,7 +44,7 @@ impl From<AllocError> for ScriptFault {
 /// The fault rules of a scenario, each at a place of its own.
 ///
 /// It tells the verdict on each slot. The rules are kept in ordered maps by their places.
-#[derive(Debug, Drop)]
+#[derive(Drop)]
 pub struct Script {
     rules: Vec<Rule>,
     table: RuleTable,

@@ -8,7 +8,7 @@ use std::alloc::Global;
 use std::collections::BTreeMap;
 
 /// Rules by their places.
-#[derive(Debug, Drop)]
+#[derive(Drop)]
 pub(crate) struct RuleTable {
     by_slot: BTreeMap<Slot, Rule>,
     by_attempt: BTreeMap<Attempt, Rule>,

@@ -33,7 +33,7 @@ pub no_class : (ident : ℕ) → 9 < ident / 2 ^ 25 → class_in ident ≡ None
 unfolding class_in
 no_class ident above = slice_get_past classes (ident / 2 ^ 25) (omega arith)
 
-class_above : (format : Format) (f : FrameParts) → FitsIdentifier format f → IsClassOf f.class (identifier_of format f)
+pub class_above : (format : Format) (f : FrameParts) → FitsIdentifier format f → IsClassOf f.class (identifier_of format f)
 class_above One f (fits, inc) = omega (arith, incarnation_below f.class f.inc inc)
 class_above Two f (fits, inc) = omega (arith, incarnation_below f.class f.inc inc)
 

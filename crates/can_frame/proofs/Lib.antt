@@ -1,4 +1,5 @@
 pub mod ClassFacts
 pub mod DecodingFacts
+mod FaultFacts
 pub mod FieldFacts
 pub mod IdentityFacts

@@ -3,7 +3,7 @@ ghost use Rattle.std.specs.Int.{bit_at};
 ghost use Rattle.can_frame.specs.Field.{IsPlaced, IsOutside, field_of};
 
 /// A field of a 32-bit word: `WIDTH` bits, of which the least significant is bit `SHIFT`.
-#[derive(Clone, Copy, Debug)]
+#[derive(Clone, Copy)]
 pub struct Field<const SHIFT: u32, const WIDTH: u32>;
 
 impl<const SHIFT: u32, const WIDTH: u32> Field<SHIFT, WIDTH> {

@@ -8,7 +8,7 @@ use std::alloc::Global;
 use std::marker::Model;
 
 /// One thing that a protocol rule does in a turn.
-#[derive(Clone, Copy, Debug, PartialEq, Eq)]
+#[derive(Clone, Copy)]
 pub enum Action {
     /// Put the frame among the node's waiting frames, in place of one of the same identity.
     Ask(Frame),
@@ -19,7 +19,7 @@ pub enum Action {
 }
 
 /// The actions of a turn, in the order in which they are done. Their memory is all taken when the list is built.
-#[derive(Debug, Drop)]
+#[derive(Drop)]
 pub struct Actions {
     list: BoundedVec<Action>,
 }

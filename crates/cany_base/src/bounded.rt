@@ -7,7 +7,7 @@ use std::marker::Model;
 
 /// A list whose memory is all taken when it is built: it holds at most `room` items, and no call after `build`
 /// takes memory.
-#[derive(Debug, Drop)]
+#[derive(Drop)]
 pub struct BoundedVec<T> {
     items: Vec<T>,
     room: usize,

@@ -5,7 +5,7 @@ use crate::notice::Slot;
 use crate::payload::Payload;
 
 /// An entry of a node's log. Its slot is that of the notice in whose turn the entry was made.
-#[derive(Clone, Copy, Debug, PartialEq, Eq)]
+#[derive(Clone, Copy)]
 pub enum LogEntry {
     /// The node delivered a message.
     Deliver {

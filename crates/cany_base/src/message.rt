@@ -35,7 +35,7 @@ pub struct MsgKey {
 }
 
 /// A scripted send: in its turn of `slot` the node sends the payload by the service.
-#[derive(Clone, Copy, Debug, PartialEq, Eq)]
+#[derive(Clone, Copy, Debug)]
 pub struct SendAsk {
     pub slot: Slot,
     pub node: NodeId,
@@ -45,7 +45,7 @@ pub struct SendAsk {
 
 /// A scripted join or leave, for which the node asks in its turn of `slot`; or a restart entry, by which the node starts again at
 /// the end of `slot`, if it is stopped.
-#[derive(Clone, Copy, Debug, PartialEq, Eq)]
+#[derive(Clone, Copy, Debug)]
 pub struct NodeAsk {
     pub slot: Slot,
     pub node: NodeId,

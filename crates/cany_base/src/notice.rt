@@ -4,7 +4,7 @@ use crate::frame::Frame;
 pub type Slot = u64;
 
 /// What one slot gave one node.
-#[derive(Clone, Copy, Debug, PartialEq, Eq)]
+#[derive(Clone, Copy, Debug)]
 pub struct Notice {
     pub slot: Slot,
     pub kind: NoticeKind,
@@ -12,7 +12,7 @@ pub struct Notice {
 
 /// What a node learns of a slot: no frame, a frame that it accepted, the success of its own transmission, or an error or a
 /// rejected frame.
-#[derive(Clone, Copy, Debug, PartialEq, Eq)]
+#[derive(Clone, Copy, Debug)]
 pub enum NoticeKind {
     Idle,
     Got(Frame),

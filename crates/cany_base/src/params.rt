@@ -5,7 +5,7 @@ use std::marker::Model;
 use thiserror::Error;
 
 /// The parameters of a scenario. Times are in slots.
-#[derive(Clone, Copy, Debug, PartialEq, Eq)]
+#[derive(Clone, Copy, Debug)]
 pub struct Params {
     pub format: Format,
     /// How many nodes there are: 2 to 32 in format one, 2 to 64 in format two.

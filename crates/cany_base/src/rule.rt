@@ -4,7 +4,7 @@ use crate::node_set::NodeSet;
 use crate::notice::Slot;
 
 /// What the fault script says of a slot that carries a frame. The set has the receivers that reject the frame.
-#[derive(Clone, Copy, Debug, PartialEq, Eq)]
+#[derive(Clone, Copy, Debug)]
 pub enum Verdict {
     /// All receivers accept the frame, and the senders see success.
     Clean,
@@ -32,7 +32,7 @@ pub enum Place {
 }
 
 /// A fault rule: the verdict of a slot, and the nodes that stop at its end.
-#[derive(Clone, Copy, Debug, PartialEq, Eq)]
+#[derive(Clone, Copy, Debug)]
 pub struct Rule {
     pub place: Place,
     pub verdict: Verdict,

@@ -14,7 +14,7 @@ use std::marker::Model;
 
 /// What a run is made from: the parameters, view 0, the scripted asks, the fault rules, the restarts, and the journal if one
 /// is given.
-#[derive(Debug, Drop)]
+#[derive(Drop)]
 pub struct Scenario {
     params: Params,
     members: NodeSet,

@@ -7,7 +7,7 @@ use crate::message::{SendAsk, Service};
 use crate::node::NodeId;
 
 /// How many scripted sends are by each service and of each node.
-#[derive(Clone, Copy, Debug)]
+#[derive(Clone, Copy)]
 pub(crate) struct SendCounts {
     ed: u16,
     rel: u16,

@@ -4,7 +4,7 @@ use crate::notice::Slot;
 use crate::rule::Verdict;
 
 /// What happened on the bus in one slot. For an idle slot the verdict is `Clean`, and nobody sent or accepted a frame.
-#[derive(Clone, Copy, Debug, PartialEq, Eq)]
+#[derive(Clone, Copy, Debug)]
 pub struct SlotNote {
     pub slot: Slot,
     pub frame: Option<Frame>,

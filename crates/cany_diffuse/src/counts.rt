@@ -12,7 +12,7 @@ use std::hash::BuildHasherDefault;
 use std::marker::Model;
 
 /// What is noted of a key.
-#[derive(Clone, Copy, Debug, PartialEq, Eq)]
+#[derive(Clone, Copy)]
 pub(crate) struct Noted {
     /// The copies read since the key was last forgotten. The count stands still at the end of its
     /// type.
@@ -40,7 +40,7 @@ impl Noted {
 ///
 /// A key is found by its hash, and the memory is all taken when the counts are built. A removal
 /// might give no room back, so a key that came stays.
-#[derive(Debug, Drop)]
+#[derive(Drop)]
 pub(crate) struct Counts {
     entries: IndexMap<u64, Noted, BuildHasherDefault<SeriesHasher>>,
     room: usize,

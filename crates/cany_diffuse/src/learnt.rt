@@ -3,7 +3,7 @@ ghost use Rattle.cany_diffuse.specs.Eager.{is_enough, is_first_copy, learnt_of};
 
 /// What a copy calls for. The copies are those read since the value was last forgotten, this one
 /// counted.
-#[derive(Clone, Copy, Debug, PartialEq, Eq)]
+#[derive(Clone, Copy)]
 pub enum Learnt {
     /// It is the first copy of a frame that the node has not sent itself: the node asks for the
     /// frame.

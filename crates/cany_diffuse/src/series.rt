@@ -11,7 +11,7 @@ const SPREAD: u64 = 0x9e37_79b9_7f4a_7c15;
 ///
 /// The keys of a run follow one another, and each node has a table of its own. A hash that spreads
 /// the keys over the whole table would miss the processor's cache at nearly every first copy.
-#[derive(Clone, Copy, Debug, Default)]
+#[derive(Clone, Copy, Default)]
 pub(crate) struct SeriesHasher {
     /// The key that was written.
     key: u64,

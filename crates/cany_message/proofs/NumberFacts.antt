@@ -1,23 +1,23 @@
 -- Numbers tell messages apart, and there is room for those of a scenario.
-use Rattle.std.proofs.Common.{◌≡◌, ℕ, ◌<◌, ◌≤◌, ◌==◌, ◌&&◌, inl, inr, Bool, true, List, [], ◌∷◌, count_by, filter, length, refl, ap, sym, ◌∙◌, arith}
+use Rattle.std.proofs.Common.{◌≡◌, ℕ, ◌<◌, ◌≤◌, ◌==◌, ◌&&◌, inl, inr, Bool, true, List, [], ◌∷◌, filter, length, ap, sym, ◌∙◌, arith}
 use Rattle.std.proofs.lemmas.Bool.Decides.{nat_tests}
 use Rattle.std.proofs.lemmas.List.{length-map}
 use Rattle.std.proofs.lemmas.List.Sums.{count_by-le-length, length-filter}
-use Rattle.cany_base.specs.declared.message.SendAsk.{SendAsk}
 use Rattle.cany_base.specs.declared.message.Service.{Service}
 use Rattle.cany_base.specs.Frame.{FrameParts}
 use Rattle.cany_base.specs.Scenario.{ScenarioParts}
 use Rattle.cany_diffuse.specs.Eager.{EagerParts, is_among, IsCounted, HasRoomFor}
 use Rattle.cany_diffuse.proofs.RoomFacts.{room_within}
 use Rattle.cany_model.specs.Bus.Frames.{Identity}
-use Rattle.cany_model.specs.Rules.Messages.{IsOfMessage, Message, is_service, message_of, messages_after, messages_of}
+use Rattle.cany_model.specs.Rules.Messages.{IsOfMessage, Message, is_service, messages_of}
 use Rattle.cany_model.specs.Rules.Notices.{NamesMessage}
 use Rattle.cany_model.specs.Rules.Rooms.{sends_by}
-use Rattle.cany_model.proofs.Among.{Among, Among-from_Contains, Among-weaker, count-cons, count-from_Among}
+use Rattle.cany_model.proofs.Among.{Among, Among-from_Contains, Among-weaker, count-from_Among}
 use Rattle.cany_base.specs.Limits.{most_nodes}
 use Rattle.cany_message.specs.Numbers.{message_number, message_numbers, numbers_of, frame_number}
 use Rattle.cany_model.proofs.Rules.MessageKeys.{is_service-from}
 use Rattle.cany_message.specs.Table.{CanTake}
+use Rattle.cany_model.proofs.Rules.RoomFacts.{count_messages}
 
 one_seq : (s o t p : ℕ) → o < most_nodes → p < most_nodes → message_number s o ≡ message_number t p → s ≡ t
 one_seq s o t p ho hp e = omega arith
@@ -31,19 +31,6 @@ same_number s o t p ho hp = grind (arith, nat_tests, one_seq s o t p ho hp, one_
 -- no more sends are by a service than there are
 pub few_sends : (scenario : ScenarioParts) (by : Service) → sends_by scenario by ≤ length scenario.sends
 few_sends scenario by = count_by-le-length (λ send. is_service by send.service) scenario.sends
-
--- there are as many messages of a service as sends by it
-pub count_messages : (by : Service) (earlier sends : List SendAsk)
-    → count_by (λ m. is_service by m.service) (messages_after earlier sends) ≡ count_by (λ send. is_service by send.service) sends
-unfolding messages_after
-count_messages by earlier [] = refl
-count_messages by earlier (send ∷ sends) =
-    omega (
-      arith,
-      count-cons (λ m. is_service by m.service) (message_of earlier send) (messages_after (send ∷ earlier) sends),
-      count-cons (λ s. is_service by s.service) send sends,
-      count_messages by (send ∷ earlier) sends,
-    )
 
 -- so where there is a message, some send is by its service
 pub some_send : (scenario : ScenarioParts) (by : Service) (x : Identity) → IsOfMessage scenario by x → 0 < sends_by scenario by

@@ -3,10 +3,11 @@ ghost use Rattle.cany_text.specs.declared.scenario_fault.ScenarioFault.TheVarian
 
 use cany_base::{ParamFault, ParamName};
 use std::alloc::{AllocError, AllocFailed};
-use thiserror::Error;
+use std::error::Error;
+use std::fmt;
 
 /// A table of a scenario text, or an array of tables by its key.
-#[derive(Clone, Copy, Debug, PartialEq, Eq)]
+#[derive(Clone, Copy)]
 pub enum TableName {
     Top,
     Send,
@@ -17,7 +18,7 @@ pub enum TableName {
 }
 
 /// A key of a scenario text.
-#[derive(Clone, Copy, Debug, PartialEq, Eq)]
+#[derive(Clone, Copy)]
 pub enum KeyName {
     Format,
     Nodes,
@@ -51,7 +52,7 @@ pub enum KeyName {
 }
 
 /// Where a value stands in a scenario text: its table, the place of the entry in it, and its key.
-#[derive(Clone, Copy, Debug, PartialEq, Eq)]
+#[derive(Clone, Copy)]
 pub struct Position {
     pub table: TableName,
     pub place: usize,
@@ -60,22 +61,18 @@ pub struct Position {
 
 /// The first fault of a text that is no scenario, in the order that `docs/texts.md` lists. A place is the index of an entry in
 /// its array of tables, counted from 0, and 0 for the top table.
-#[derive(Clone, Copy, Debug, PartialEq, Eq, Error)]
+#[derive(Clone, Copy)]
 pub enum ScenarioFault {
     /// The bytes are not UTF-8.
-    #[error("the bytes are not UTF-8")]
     NotText,
     /// The text is no TOML document.
-    #[error("the text is no TOML document")]
     NotToml,
     /// The table has a key that is not one of its keys.
-    #[error("unknown key in {table:?} {place}")]
     UnknownKey {
         table: TableName,
         place: usize,
     },
     /// A key that is required is absent.
-    #[error("missing key {name:?} in {table:?} {place}")]
     MissingKey {
         table: TableName,
         place: usize,
@@ -83,14 +80,12 @@ pub enum ScenarioFault {
     },
     /// The value, or an element of it, is not of the key's kind, or none of its words. For an entry that is no table the name
     /// is the key of the array.
-    #[error("wrong kind {name:?} in {table:?} {place}")]
     WrongKind {
         table: TableName,
         place: usize,
         name: KeyName,
     },
     /// The integer, or the first such element of an array, is outside the range of the key.
-    #[error("out of range {name:?} in {table:?} {place} value {value}")]
     OutOfRange {
         table: TableName,
         place: usize,
@@ -98,40 +93,70 @@ pub enum ScenarioFault {
         value: i64,
     },
     /// The array of tables has more entries than it may have.
-    #[error("too many {table:?}")]
     TooMany {
         table: TableName,
     },
     /// The payload of the send at this place is no even number of at most 16 hexadecimal digits.
-    #[error("bad data in send {place}")]
     BadData {
         place: usize,
     },
     /// A formula does not hold: the first such, by the parameter that it bounds, with the least value that it allows.
-    #[error("{which:?} too small, needs {needed}")]
     BoundTooSmall {
         which: ParamName,
         needed: u64,
     },
     /// The rule at this index is the first that has the place of an earlier one.
-    #[error("repeated rule {index}")]
     RepeatedRule {
         index: usize,
     },
     /// The restart entry at this place is the first that is one too many for its node.
-    #[error("too often in restart {place}")]
     TooOften {
         place: usize,
     },
     /// The byte at this place of the joined journal is the first that writes no step.
-    #[error("bad journal at {place}")]
     BadJournal {
         place: usize,
     },
     /// There was no memory for what the text gives.
-    #[error("out of memory")]
     Memory,
 }
+
+impl ScenarioFault {
+    /// What is wrong, without where.
+    fn words(&self) -> &'static str {
+        match *self {
+            ScenarioFault::NotText => "the bytes are not UTF-8",
+            ScenarioFault::NotToml => "the text is no TOML document",
+            ScenarioFault::UnknownKey { .. } => "unknown key",
+            ScenarioFault::MissingKey { .. } => "missing key",
+            ScenarioFault::WrongKind { .. } => "wrong kind",
+            ScenarioFault::OutOfRange { .. } => "out of range",
+            ScenarioFault::TooMany { .. } => "too many entries",
+            ScenarioFault::BadData { .. } => "bad data in a send",
+            ScenarioFault::BoundTooSmall { .. } => "bound too small",
+            ScenarioFault::RepeatedRule { .. } => "repeated rule",
+            ScenarioFault::TooOften { .. } => "too many restarts of a node",
+            ScenarioFault::BadJournal { .. } => "bad journal",
+            ScenarioFault::Memory => "out of memory",
+        }
+    }
+}
+
+/// What is wrong, without where. The line of a refusal says both.
+impl fmt::Display for ScenarioFault {
+    fn fmt<W: fmt::Write>(&self, f: &mut fmt::Formatter<W>) -> fmt::Result {
+        f.write_str(self.words())
+    }
+}
+
+// By hand, since the derived one takes many times as long to prove.
+impl fmt::Debug for ScenarioFault {
+    fn fmt<W: fmt::Write>(&self, f: &mut fmt::Formatter<W>) -> fmt::Result {
+        fmt::Display::fmt(self, f)
+    }
+}
+
+impl Error for ScenarioFault {}
 
 impl From<AllocError> for ScenarioFault {
     ghost from_gives = { λ _ fault. fault ≡ Memory };

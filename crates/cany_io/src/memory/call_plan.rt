@@ -6,7 +6,7 @@ use crate::Failed;
 
 /// Which calls are to fail, counted from 1, and how many were made and failed. Both counts stand
 /// still at their last number.
-#[derive(Debug, Drop)]
+#[derive(Drop)]
 pub struct CallPlan {
     pub failing: Vec<u32>,
     pub calls: u64,

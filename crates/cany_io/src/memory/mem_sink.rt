@@ -11,7 +11,7 @@ use std::marker::Model;
 
 /// A sink that keeps what it takes, up to the room that it was made with, and some of whose calls
 /// fail.
-#[derive(Debug, Drop)]
+#[derive(Drop)]
 pub struct MemSink {
     taken: Vec<u8>,
     room: usize,

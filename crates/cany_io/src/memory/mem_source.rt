@@ -7,7 +7,7 @@ use crate::{Failed, PlainSource, Source};
 use std::marker::Model;
 
 /// A source over bytes in memory, some of whose calls fail.
-#[derive(Debug, Drop)]
+#[derive(Drop)]
 pub struct MemSource {
     bytes: PlainSource,
     plan: CallPlan,

@@ -6,7 +6,7 @@ use crate::{Failed, Source};
 use std::marker::Model;
 
 /// A source over bytes in memory that never fails. Contracts see the bytes left.
-#[derive(Debug, Drop)]
+#[derive(Drop)]
 pub struct PlainSource {
     bytes: Vec<u8>,
     position: usize,

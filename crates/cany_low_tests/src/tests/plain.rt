@@ -36,6 +36,6 @@ fn a_vector_has_its_lowest_nodes_last(rt: HostRuntime) {
 fn memory_is_there(rt: HostRuntime) -> Result<(), Fail> {
     let mut actions = Actions::build(rt.alloc(), 2)?;
     actions.push(Action::Withdraw { ident: 7 });
-    assert!(rt; actions.room() == 2 && actions.get(0) == Action::Withdraw { ident: 7 });
+    assert!(rt; actions.room() == 2 && matches!(actions.get(0), Action::Withdraw { ident: 7 }));
     Ok(())
 }
