@@ -1,19 +1,16 @@
 -- Worked rows of how often the bus carries the frames of a TOTCAN message, and that of a failure sign.
-use Rattle.std.specs.Prelude.{◌≡◌, ℕ, List, [], ◌∷◌, None, codes, refl}
+use Rattle.std.specs.Prelude.{◌≡◌, ℕ, List, [], ◌∷◌, codes, refl}
 use Rattle.cany_base.specs.declared.format.Format.TheVariants.{One}
 use Rattle.cany_base.specs.declared.message.Service.TheVariants.{Tot}
 use Rattle.cany_base.specs.declared.rule.Verdict.TheVariants.{Clean}
 use Rattle.cany_base.specs.declared.step.Step.{Step}
 use Rattle.cany_base.specs.Scenario.{ScenarioParts}
 use Rattle.cany_model.specs.Bus.State.{RunState}
-use Rattle.cany_model.specs.Promises.Hypothesis.{first_break}
 use Rattle.cany_model.specs.Rules.Knowledge.{fda_of}
 use Rattle.cany_model.specs.Rules.Messages.{accept_of_key}
 use Rattle.cany_model.specs.Rules.Totcan.{tot_of_key}
-use Rattle.cany_model.specs.Runs.RoundRobin.{round_robin}
-use Rattle.cany_model.specs.Runs.Run.{run}
 use Rattle.cany_laws.specs.Carried.{incarnations_of_first, times_clean}
-use Rattle.cany_law_rows.proofs.RowWords.{again, key, row, send, set, slot_rule, steps, three, two}
+use Rattle.cany_law_rows.proofs.RowWords.{again, key, row, seen_by, seen_of, send, set, slot_rule, steps, three, two, within}
 
 -- Of two nodes the origin sends the frame that accepts its message in the slot after the data frame, and the other node sends it in the next slot: it is
 -- carried as often as there are nodes.
@@ -23,11 +20,7 @@ accepted_by_both = two 6 (send Tot 0 0 (1 ∷ []) ∷ []) [] []
 abbrev frames_of_it : RunState → List ℕ
 frames_of_it s = times_clean (tot_of_key (key 0 0)) s.trace ∷ times_clean (accept_of_key (key 0 0)) s.trace ∷ []
 
-none_is_broken : first_break accepted_by_both.params (run accepted_by_both (round_robin accepted_by_both)).trace ≡ None
-unfolding row accepted_by_both
-none_is_broken = refl
-
-one_and_two : frames_of_it (run accepted_by_both (round_robin accepted_by_both)) ≡ 1 ∷ 2 ∷ []
+one_and_two : seen_of frames_of_it accepted_by_both ≡ within (1 ∷ 2 ∷ [])
 unfolding row accepted_by_both
 one_and_two = refl
 
@@ -35,11 +28,7 @@ one_and_two = refl
 unfoldable accepted_together : ScenarioParts
 accepted_together = three 6 (send Tot 0 0 (1 ∷ []) ∷ []) [] []
 
-none_is_broken_of_three : first_break accepted_together.params (run accepted_together (round_robin accepted_together)).trace ≡ None
-unfolding row accepted_together
-none_is_broken_of_three = refl
-
-twice_of_three : frames_of_it (run accepted_together (round_robin accepted_together)) ≡ 1 ∷ 2 ∷ []
+twice_of_three : seen_of frames_of_it accepted_together ≡ within (1 ∷ 2 ∷ [])
 unfolding row accepted_together
 twice_of_three = refl
 
@@ -56,11 +45,7 @@ accepted_at_lag_1 =
 unfoldable its_journal : List Step
 its_journal = steps (codes ".0123.0123.01.0123.0123.0123.0123.012323")
 
-none_is_broken_of_four : first_break accepted_at_lag_1.params (run accepted_at_lag_1 its_journal).trace ≡ None
-unfolding row accepted_at_lag_1 its_journal
-none_is_broken_of_four = refl
-
-three_of_four : frames_of_it (run accepted_at_lag_1 its_journal) ≡ 1 ∷ 3 ∷ []
+three_of_four : seen_by frames_of_it accepted_at_lag_1 its_journal ≡ within (1 ∷ 3 ∷ [])
 unfolding row accepted_at_lag_1 its_journal
 three_of_four = refl
 
@@ -70,11 +55,7 @@ accepted_alone =
     let sc = two 6 (send Tot 0 0 (1 ∷ []) ∷ []) [] [] in
     record sc { params = record { format = One; nodes = 2; lag = 0; omit = 0; errors = 2; bound = 19; cycle = 38; life = 19; silence = 39; confirm = 10; slots = 6 } }
 
-none_is_broken_alone : first_break accepted_alone.params (run accepted_alone (round_robin accepted_alone)).trace ≡ None
-unfolding row accepted_alone
-none_is_broken_alone = refl
-
-once_of_two : frames_of_it (run accepted_alone (round_robin accepted_alone)) ≡ 1 ∷ 1 ∷ []
+once_of_two : seen_of frames_of_it accepted_alone ≡ within (1 ∷ 1 ∷ [])
 unfolding row accepted_alone
 once_of_two = refl
 
@@ -86,10 +67,6 @@ back_again = two 45 [] (slot_rule 5 Clean 2 ∷ []) (again 6 1 ∷ [])
 abbrev frames_of_sign : RunState → List ℕ
 frames_of_sign s = times_clean (fda_of (record { node = 1; cycle = 1 })) s.trace ∷ incarnations_of_first s 2 ∷ []
 
-it_is_within : first_break back_again.params (run back_again (round_robin back_again)).trace ≡ None
-unfolding row back_again
-it_is_within = refl
-
-two_of_three : frames_of_sign (run back_again (round_robin back_again)) ≡ 2 ∷ 3 ∷ []
+two_of_three : seen_of frames_of_sign back_again ≡ within (2 ∷ 3 ∷ [])
 unfolding row back_again incarnations_of_first
 two_of_three = refl

@@ -1,16 +1,13 @@
 -- Worked rows of one order for all logs: of an incarnation what it has delivered, and the order.
-use Rattle.std.specs.Prelude.{◌≡◌, ℕ, ◌++◌, List, [], ◌∷◌, None, codes, refl}
+use Rattle.std.specs.Prelude.{◌≡◌, ℕ, ◌++◌, List, [], ◌∷◌, codes, refl}
 use Rattle.cany_base.specs.declared.message.Service.TheVariants.{Tot}
 use Rattle.cany_base.specs.declared.rule.Verdict.TheVariants.{Clean, Lost}
 use Rattle.cany_base.specs.declared.step.Step.{Step}
 use Rattle.cany_base.specs.Scenario.{ScenarioParts}
 use Rattle.cany_model.specs.Bus.State.{EndedIncarnation, RunState}
-use Rattle.cany_model.specs.Promises.Hypothesis.{first_break}
 use Rattle.cany_model.specs.Promises.Order.{Content, order, order_by}
-use Rattle.cany_model.specs.Runs.RoundRobin.{round_robin}
-use Rattle.cany_model.specs.Runs.Run.{run}
 use Rattle.cany_laws.specs.Order.{deliveries_as, is_accepted_by_it_or_some, ordered_deliveries}
-use Rattle.cany_law_rows.proofs.RowWords.{again, key, of_nodes, repeated, row, send, slot_rule, steps, three_at_lag_1, two}
+use Rattle.cany_law_rows.proofs.RowWords.{again, key, of_nodes, repeated, row, seen_by, seen_of, send, slot_rule, steps, three_at_lag_1, two, within}
 
 -- since which slot it takes part, what it has delivered, of this what a running node has accepted, and the two orders from that slot on
 record Parts : Type 0 where
@@ -61,12 +58,8 @@ of_the_stopped = record {
   longer = content 0 0 3 ∷ content 2 0 1 ∷ content 1 0 2 ∷ [];
 }
 
-it_is_within : first_break at_lag_1.params (run at_lag_1 its_journal).trace ≡ None
-unfolding row at_lag_1 its_journal
-it_is_within = refl
-
-a_prefix_without_the_lone_one : of_nodes (parts_of at_lag_1) 3 (run at_lag_1 its_journal)
-    ≡ (of_the_others ∷ []) ∷ (of_the_others ∷ []) ∷ (of_the_stopped ∷ []) ∷ []
+a_prefix_without_the_lone_one :
+    seen_by (of_nodes (parts_of at_lag_1) 3) at_lag_1 its_journal ≡ within ((of_the_others ∷ []) ∷ (of_the_others ∷ []) ∷ (of_the_stopped ∷ []) ∷ [])
 unfolding row at_lag_1 its_journal
 a_prefix_without_the_lone_one = refl
 
@@ -104,10 +97,6 @@ again_there = record {
   longer = content 0 1 2 ∷ [];
 }
 
-that_too_is_within : first_break restarted.params (run restarted (round_robin restarted)).trace ≡ None
-unfolding row restarted
-that_too_is_within = refl
-
-each_since_it_takes_part : of_nodes (parts_of restarted) 2 (run restarted (round_robin restarted)) ≡ (all ∷ []) ∷ (again_there ∷ earlier ∷ []) ∷ []
+each_since_it_takes_part : seen_of (of_nodes (parts_of restarted) 2) restarted ≡ within ((all ∷ []) ∷ (again_there ∷ earlier ∷ []) ∷ [])
 unfolding row restarted
 each_since_it_takes_part = refl

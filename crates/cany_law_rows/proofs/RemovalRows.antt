@@ -1,51 +1,50 @@
 -- Worked rows of nodes that are heard no more: two that stay out of the views, and one that an old JOIN brings back.
-use Rattle.std.specs.Prelude.{◌≡◌, false, [], ◌∷◌, Some, None, take, refl}
+use Rattle.std.specs.Prelude.{◌≡◌, ℕ, ◌++◌, Bool, false, List, [], ◌∷◌, Option, Some, map, take, refl}
 use Rattle.std.specs.List.{list_any}
 use Rattle.cany_base.specs.declared.rule.Verdict.TheVariants.{Clean}
+use Rattle.cany_base.specs.Nodes.{Nodes}
 use Rattle.cany_base.specs.Scenario.{ScenarioParts}
 use Rattle.cany_model.specs.Bus.State.{RunState, node_at}
-use Rattle.cany_model.specs.Promises.Hypothesis.{first_break}
-use Rattle.cany_model.specs.Runs.RoundRobin.{round_robin}
-use Rattle.cany_model.specs.Runs.Run.{run}
 use Rattle.cany_laws.specs.Detection.{hears_life}
 use Rattle.cany_laws.specs.Logs.{past_to, present_of}
 use Rattle.cany_laws.specs.Membership.{members_as}
 use Rattle.cany_laws.specs.Removal.{got_join}
 use Rattle.cany_laws.specs.Views.{installed_as}
-use Rattle.cany_law_rows.proofs.RowWords.{again, row, set, slot_rule, three, two}
+use Rattle.cany_law_rows.proofs.RowWords.{again, row, seen_of, set, slot_rule, three, two, within}
 
 -- Node 1 stops in slot 5 and starts again in slot 60, but does not ask to join. Cycle 2 starts in slot 76 without it, and so does cycle 3 in slot
 -- 114: of the 39 slots before, node 0 had it in its view after the first 20 alone.
 unfoldable does_not_ask : ScenarioParts
 does_not_ask = two 134 [] (slot_rule 5 Clean 2 ∷ []) (again 60 1 ∷ [])
 
-unfoldable its_run : RunState
-unfolding row
-its_run = run does_not_ask (round_robin does_not_ask)
+-- of node 0 its views after the turns of these slots, and the vectors of these cycles
+abbrev views_of : ScenarioParts → List ℕ → List ℕ → RunState → List (Option Nodes)
+views_of sc slots cycles s =
+    let e = present_of s 0 in
+    map (λ slot. Some (members_as sc s slot 0 e)) slots ++ map (installed_as sc s 0 e) cycles
 
--- node 0 hears no life of it in the slots after 5 and up to 114, and gets no JOIN in any
-not_heard :
-    list_any (hears_life 1) (take 109 (past_to 114 its_run 0 (present_of its_run 0))) ∷ list_any (got_join 1) (past_to 114 its_run 0
-    (present_of its_run 0)) ∷ []
-    ≡ false ∷ false ∷ []
-unfolding row does_not_ask its_run
-not_heard = refl
+-- whether node 0 hears life of node 1 in the slots after 5 and up to 114, whether it gets a JOIN of it in any, its view after slot 5 and before cycles 2 and 3
+-- start, and the vectors of cycles 1, 2 and 3
+record Unheard : Type 0 where
+  heard : Bool
+  joined : Bool
+  views : List (Option Nodes)
 
--- its view after slot 5, and before cycles 2 and 3 start
-in_its_own_view :
-    members_as does_not_ask its_run 5 0 (present_of its_run 0) ∷ members_as does_not_ask its_run 75 0 (present_of its_run 0)
-    ∷ members_as does_not_ask its_run 113 0 (present_of its_run 0) ∷ [] ≡ set 3 ∷ set 3 ∷ set 1 ∷ []
-unfolding row does_not_ask its_run
-in_its_own_view = refl
+abbrev unheard_in : RunState → Unheard
+unheard_in s =
+    let past = past_to 114 s 0 (present_of s 0) in
+    record {
+      heard = list_any (hears_life 1) (take 109 past);
+      joined = list_any (got_join 1) past;
+      views = views_of does_not_ask (5 ∷ 75 ∷ 113 ∷ []) (1 ∷ 2 ∷ 3 ∷ []) s;
+    }
 
-its_run_is_within : first_break does_not_ask.params its_run.trace ≡ None
-unfolding row does_not_ask its_run
-its_run_is_within = refl
-
-out_from_cycle_2_on :
-    installed_as does_not_ask its_run 0 (present_of its_run 0) 1 ∷ installed_as does_not_ask its_run 0 (present_of its_run 0) 2
-    ∷ installed_as does_not_ask its_run 0 (present_of its_run 0) 3 ∷ [] ≡ Some (set 3) ∷ Some (set 1) ∷ Some (set 1) ∷ []
-unfolding row does_not_ask its_run
+out_from_cycle_2_on : seen_of unheard_in does_not_ask ≡ within (record {
+  heard = false;
+  joined = false;
+  views = Some (set 3) ∷ Some (set 3) ∷ Some (set 1) ∷ Some (set 3) ∷ Some (set 1) ∷ Some (set 1) ∷ [];
+})
+unfolding row does_not_ask
 out_from_cycle_2_on = refl
 
 -- Node 1 stops in slot 5, and node 2, which stops in slot 6, starts again. Nobody asks to join. Both are in the vector of cycle 1, and neither in
@@ -53,26 +52,18 @@ out_from_cycle_2_on = refl
 unfoldable stops_for_good : ScenarioParts
 stops_for_good = three 182 [] (slot_rule 5 Clean 2 ∷ slot_rule 6 Clean 4 ∷ []) (again 7 2 ∷ [])
 
-unfoldable run_of_the_stop : RunState
-unfolding row
-run_of_the_stop = run stops_for_good (round_robin stops_for_good)
+-- when node 1 stopped, and of node 0 its view after slot 5 and that before cycle 2 starts, and the vectors of cycles 1 and 2
+record Stopped : Type 0 where
+  stopped : Option ℕ
+  views : List (Option Nodes)
 
--- of node 0 its view after slot 5 and that before cycle 2 starts, and the vectors of cycles 1 and 2
+abbrev stopped_in : RunState → Stopped
+stopped_in s = record { stopped = (node_at s.nodes 1).stopped; views = views_of stops_for_good (5 ∷ 143 ∷ []) (1 ∷ 2 ∷ []) s }
+
 stopped_and_out :
-    Some (members_as stops_for_good run_of_the_stop 5 0 (present_of run_of_the_stop 0))
-    ∷ Some (members_as stops_for_good run_of_the_stop 143 0 (present_of run_of_the_stop 0))
-    ∷ installed_as stops_for_good run_of_the_stop 0 (present_of run_of_the_stop 0) 1
-    ∷ installed_as stops_for_good run_of_the_stop 0 (present_of run_of_the_stop 0) 2 ∷ [] ≡ Some (set 7) ∷ Some (set 7) ∷ Some (set 7) ∷ Some (set 1) ∷ []
-unfolding row stops_for_good run_of_the_stop
+    seen_of stopped_in stops_for_good ≡ within (record { stopped = Some 5; views = Some (set 7) ∷ Some (set 7) ∷ Some (set 7) ∷ Some (set 1) ∷ [] })
+unfolding row stops_for_good
 stopped_and_out = refl
-
-stopped_in_slot_5 : (node_at run_of_the_stop.nodes 1).stopped ≡ Some 5
-unfolding row stops_for_good run_of_the_stop
-stopped_in_slot_5 = refl
-
-run_of_the_stop_is_within : first_break stops_for_good.params run_of_the_stop.trace ≡ None
-unfolding row stops_for_good run_of_the_stop
-run_of_the_stop_is_within = refl
 
 -- Nodes 0 and 2 are members at first. Node 2 asks to leave; nodes 1 and 2 stop in slot 2 and start again, and both ask to join: their JOINs are
 -- carried in slots 40 and 41, and node 2 stops for good in slot 42. Node 0 has it in its view until cycle 1 ends, so it does not count its JOIN; node
@@ -92,18 +83,8 @@ an_old_ask =
       leaves = again 0 2 ∷ again 60 0 ∷ [];
     }
 
-unfoldable run_of_the_old_ask : RunState
-unfolding row
-run_of_the_old_ask = run an_old_ask (round_robin an_old_ask)
-
 -- of node 0 its view after slot 42, that before cycle 2 starts, and the vector of cycle 2
 stopped_and_admitted :
-    Some (members_as an_old_ask run_of_the_old_ask 42 0 (present_of run_of_the_old_ask 0))
-    ∷ Some (members_as an_old_ask run_of_the_old_ask 135 0 (present_of run_of_the_old_ask 0))
-    ∷ installed_as an_old_ask run_of_the_old_ask 0 (present_of run_of_the_old_ask 0) 2 ∷ [] ≡ Some (set 5) ∷ Some (set 2) ∷ Some (set 7) ∷ []
-unfolding row an_old_ask run_of_the_old_ask
+    seen_of (views_of an_old_ask (42 ∷ 135 ∷ []) (2 ∷ [])) an_old_ask ≡ within (Some (set 5) ∷ Some (set 2) ∷ Some (set 7) ∷ [])
+unfolding row an_old_ask
 stopped_and_admitted = refl
-
-it_is_within : first_break an_old_ask.params run_of_the_old_ask.trace ≡ None
-unfolding row an_old_ask run_of_the_old_ask
-it_is_within = refl

@@ -1,30 +1,15 @@
 -- Worked rows of how often the bus carries the frame that confirms a message, and those that ask to join and to leave.
-use Rattle.std.specs.Prelude.{◌≡◌, ℕ, List, [], ◌∷◌, Option, None, refl}
+use Rattle.std.specs.Prelude.{◌≡◌, ℕ, List, [], ◌∷◌, refl}
 use Rattle.cany_base.specs.declared.class.Class.TheVariants.{Join, Leave}
 use Rattle.cany_base.specs.declared.message.Service.TheVariants.{Rel}
 use Rattle.cany_base.specs.declared.rule.Verdict.TheVariants.{Clean}
 use Rattle.cany_base.specs.Scenario.{ScenarioParts}
 use Rattle.cany_model.specs.Bus.State.{RunState}
-use Rattle.cany_model.specs.Promises.Hypothesis.{first_break}
 use Rattle.cany_model.specs.Rules.Messages.{confirm_of_key, data_of}
 use Rattle.cany_model.specs.Rules.Views.{ask_of}
-use Rattle.cany_model.specs.Runs.RoundRobin.{round_robin}
-use Rattle.cany_model.specs.Runs.Run.{run}
-use Rattle.cany_model.specs.declared.breaks.Break.{Break}
 use Rattle.cany_laws.specs.Carried.{times_clean}
 use Rattle.cany_laws.specs.Requests.{entries_of}
-use Rattle.cany_law_rows.proofs.RowWords.{again, key, row, send, set, slot_rule, two}
-
--- where a run leaves the hypothesis, and what is counted in it
-record Counted : Type 0 where
-  broken : Option Break
-  counts : List ℕ
-
-abbrev counted : (RunState → List ℕ) → ScenarioParts → Counted
-counted of sc = let s = run sc (round_robin sc) in record { broken = first_break sc.params s.trace; counts = of s }
-
-abbrev within : List ℕ → Counted
-within counts = record { broken = None; counts = counts }
+use Rattle.cany_law_rows.proofs.RowWords.{again, key, row, seen_of, send, set, slot_rule, two, within}
 
 -- ---- a message that is confirmed
 
@@ -36,7 +21,7 @@ frames_of_it s = times_clean (data_of Rel (key 0 0)) s.trace ∷ times_clean (co
 unfoldable confirmed : ScenarioParts
 confirmed = two 14 (send Rel 0 0 (1 ∷ []) ∷ []) [] []
 
-once_each : counted frames_of_it confirmed ≡ within (1 ∷ 1 ∷ [])
+once_each : seen_of frames_of_it confirmed ≡ within (1 ∷ 1 ∷ [])
 unfolding row confirmed
 once_each = refl
 
@@ -44,7 +29,7 @@ once_each = refl
 unfoldable unconfirmed : ScenarioParts
 unconfirmed = two 30 (send Rel 0 0 (1 ∷ []) ∷ []) (slot_rule 1 Clean 1 ∷ []) (again 2 0 ∷ [])
 
-never_confirmed : counted frames_of_it unconfirmed ≡ within (2 ∷ 0 ∷ [])
+never_confirmed : seen_of frames_of_it unconfirmed ≡ within (2 ∷ 0 ∷ [])
 unfolding row unconfirmed
 never_confirmed = refl
 
@@ -59,7 +44,7 @@ requests_of sc s =
 unfoldable joins_twice : ScenarioParts
 joins_twice = let sc = two 6 [] [] [] in record sc { members = set 1; joins = again 0 1 ∷ again 3 1 ∷ [] }
 
-twice_in_a_cycle : counted (requests_of joins_twice) joins_twice ≡ within (2 ∷ 2 ∷ 0 ∷ 0 ∷ [])
+twice_in_a_cycle : seen_of (requests_of joins_twice) joins_twice ≡ within (2 ∷ 2 ∷ 0 ∷ 0 ∷ [])
 unfolding row joins_twice
 twice_in_a_cycle = refl
 
@@ -67,6 +52,6 @@ twice_in_a_cycle = refl
 unfoldable leaves_once : ScenarioParts
 leaves_once = let sc = two 6 [] [] [] in record sc { leaves = again 0 1 ∷ again 0 1 ∷ [] }
 
-once_in_a_slot : counted (requests_of leaves_once) leaves_once ≡ within (0 ∷ 0 ∷ 1 ∷ 2 ∷ [])
+once_in_a_slot : seen_of (requests_of leaves_once) leaves_once ≡ within (0 ∷ 0 ∷ 1 ∷ 2 ∷ [])
 unfolding row leaves_once
 once_in_a_slot = refl

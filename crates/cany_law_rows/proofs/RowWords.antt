@@ -1,6 +1,7 @@
 -- What the worked rows of the laws are written with: small runs, and what each incarnation of their nodes came to.
-use Rattle.std.specs.Prelude.{ℕ, zero, suc, ◌-◌, ◌==◌, ◌++◌, Bool, if◌then◌else◌, List, [], ◌∷◌, Option, map, take}
+use Rattle.std.specs.Prelude.{ℕ, zero, suc, ◌-◌, ◌==◌, ◌++◌, Bool, if◌then◌else◌, List, [], ◌∷◌, Option, None, map, take}
 use Rattle.std.specs.List.{range_with_len}
+use Rattle.std.proofs.Common.{◌≡◌, ap, ◌∙◌, sym}
 use Rattle.cany_base.specs.declared.format.Format.TheVariants.{One}
 use Rattle.cany_base.specs.declared.log_entry.LogEntry.{LogEntry}
 use Rattle.cany_base.specs.declared.log_entry.LogEntry.TheVariants.{Deliver}
@@ -16,15 +17,16 @@ use Rattle.cany_base.specs.Scenario.{ScenarioParts}
 use Rattle.cany_model.proofs.RowWords.{run_words, scenario_of}
 use Rattle.cany_model.specs.declared.breaks.Break.{Break}
 use Rattle.cany_model.specs.Bus.History.{ended_history}
-use Rattle.cany_model.specs.Bus.State.{EndedIncarnation, RunState}
+use Rattle.cany_model.specs.Bus.State.{EndedIncarnation, RunState, opening}
 use Rattle.cany_model.specs.Promises.Hypothesis.{first_break}
 use Rattle.cany_model.specs.Promises.OneView.{installed_of}
 use Rattle.cany_model.specs.Promises.Order.{order_by}
 use Rattle.cany_model.specs.Promises.Settled.{is_settled}
 use Rattle.cany_model.specs.Rules.Messages.{Message}
 use Rattle.cany_model.specs.Runs.Incarnations.{incarnation_of, incarnations}
-use Rattle.cany_model.specs.Runs.RoundRobin.{round_robin}
-use Rattle.cany_model.specs.Runs.Run.{run}
+use Rattle.cany_model.specs.Runs.RoundRobin.{round, round_robin, rounds}
+use Rattle.cany_model.specs.Runs.Run.{run, run_from}
+use Rattle.cany_model.proofs.Runs.Journals.{run_none, run_then}
 use Rattle.cany_laws.specs.Logs.{log_as}
 -- ---- scenarios
 
@@ -75,29 +77,55 @@ pub record Lived : Type 0 where
 abbrev pub of_nodes : {A : Type 0} → (RunState → ℕ → EndedIncarnation → A) → ℕ → RunState → List (List A)
 of_nodes ask nodes s = map (λ i. map (ask s i) (incarnations s i)) (range_with_len 0 nodes)
 
-abbrev lived_in : ScenarioParts → RunState → ℕ → EndedIncarnation → Lived
+abbrev pub lived_in : ScenarioParts → RunState → ℕ → EndedIncarnation → Lived
 lived_in sc s i e = record { from = e.incarnation.from; next = e.next; log = log_as sc s i e }
 
-pub record Found : Type 0 where
+-- Of the run of a scenario: where it leaves the hypothesis, and what was asked of it. So all rows of a run are one, and it is computed once.
+pub record Seen (A : Type 0) : Type 0 where
   pub broken : Option Break
-  pub lives : List (List Lived)
+  pub seen : A
 
--- Of the run of a scenario by a journal: where it leaves the hypothesis, and what each incarnation of its nodes came to. What computes a run is opened here, once
--- for all rows.
-unfoldable pub found_by : ScenarioParts → List Step → Found
+-- what computes a run is opened here, once for all rows
+unfoldable pub seen_in : {A : Type 0} → (RunState → A) → ScenarioParts → RunState → Seen A
 unfolding run_words ended_history incarnation_of installed_of order_by
-found_by sc journal =
-    let s = run sc journal in
-    record { broken = first_break sc.params s.trace; lives = of_nodes (lived_in sc) sc.params.nodes s }
+seen_in ask sc s = record { broken = first_break sc.params s.trace; seen = ask s }
+
+-- by a journal
+unfoldable pub seen_by : {A : Type 0} → (RunState → A) → ScenarioParts → List Step → Seen A
+seen_by ask sc journal = seen_in ask sc (run sc journal)
+
+-- Where so many rounds lead. The round robin journal has the steps of the states to which its rounds lead, so the run of it computes each of them twice.
+unfoldable pub after_rounds : ScenarioParts → ℕ → RunState → RunState
+after_rounds sc zero s = s
+after_rounds sc (suc n) s = after_rounds sc n (run_from sc s (round sc s))
+
+after_rounds_is : (sc : ScenarioParts) (n : ℕ) (s : RunState) → after_rounds sc n s ≡ run_from sc s (rounds sc n s)
+unfolding after_rounds rounds
+after_rounds_is sc zero s = sym (run_none sc s)
+after_rounds_is sc (suc n) s =
+    after_rounds_is sc n (run_from sc s (round sc s)) ∙ sym (run_then sc s (round sc s) (rounds sc n (run_from sc s (round sc s))))
 
 -- by the round robin journal
-unfoldable pub found_of : ScenarioParts → Found
-unfolding found_by
-found_of sc = found_by sc (round_robin sc)
+unfoldable pub seen_of : {A : Type 0} → (RunState → A) → ScenarioParts → Seen A
+unfolding seen_in after_rounds
+seen_of ask sc = seen_in ask sc (after_rounds sc sc.params.slots (opening sc.params.nodes))
+
+pub seen_of_is : {A : Type 0} (ask : RunState → A) (sc : ScenarioParts) → seen_of ask sc ≡ seen_by ask sc (round_robin sc)
+unfolding seen_of seen_by
+seen_of_is ask sc = ap (seen_in ask sc) (after_rounds_is sc sc.params.slots (opening sc.params.nodes))
+
+-- of a run within the hypothesis
+abbrev pub within : {A : Type 0} → A → Seen A
+within seen = record { broken = None; seen = seen }
+
+-- what each incarnation of the nodes came to
+unfoldable pub lives_of : ScenarioParts → Seen (List (List Lived))
+unfolding seen_of
+lives_of sc = seen_of (of_nodes (lived_in sc) sc.params.nodes) sc
 
 -- whether a message is settled after so many steps of it
 unfoldable pub settled_after : ℕ → ScenarioParts → Message → Bool
-unfolding found_by
+unfolding seen_in
 settled_after n sc m = is_settled sc (run sc (take n (round_robin sc))) m
 
 abbrev pub lived : ℕ → ℕ → List LogEntry → Lived
@@ -110,5 +138,5 @@ abbrev pub key : ℕ → ℕ → MsgKey
 key origin seq = record { origin = origin; seq = seq }
 
 unfoldable pub row : Unit {0}
-unfolding found_by found_of settled_after send slot_rule again two three_by three three_at_lag_1 steps repeated
+unfolding seen_in seen_by seen_of lives_of settled_after send slot_rule again two three_by three three_at_lag_1 steps repeated
 row = tt

@@ -4,11 +4,11 @@ use Rattle.cany_base.specs.declared.message.Service.TheVariants.{Tot}
 use Rattle.cany_base.specs.declared.rule.Verdict.TheVariants.{Lost}
 use Rattle.cany_base.specs.declared.step.Step.{Step}
 use Rattle.cany_base.specs.Scenario.{ScenarioParts}
-use Rattle.cany_model.specs.Runs.Run.{run}
+use Rattle.cany_model.specs.Bus.State.{RunState}
 use Rattle.cany_laws.specs.Logs.{log_as}
 use Rattle.cany_model.specs.Promises.Order.{Content, tot_deliveries}
 use Rattle.cany_laws.specs.Sequence.{clean_sequence}
-use Rattle.cany_law_rows.proofs.RowWords.{key, of_nodes, repeated, row, send, slot_rule, steps, three_at_lag_1}
+use Rattle.cany_law_rows.proofs.RowWords.{key, of_nodes, repeated, row, seen_by, send, slot_rule, steps, three_at_lag_1, within}
 
 -- At a lag of one slot node 2 delivers its own message in slot 1 and that of node 1 in slot 3, and stops in slot 5. The other two deliver that of node 1 alone. So what a
 -- stopped node has delivered is not the order of the others with one message more at its end: it is part of one sequence.
@@ -18,14 +18,26 @@ at_lag_1 = three_at_lag_1 100 (send Tot 0 2 (1 ∷ []) ∷ send Tot 1 1 (2 ∷ [
 unfoldable its_journal : List Step
 its_journal = steps (codes ".012.01.0122.012.012" ++ repeated 95 (codes ".01"))
 
-one_between :
-    of_nodes {A = List Content} (λ s i e. tot_deliveries (log_as at_lag_1 s i e)) 3 (run at_lag_1 its_journal)
-    ≡ ((record { msg = key 1 0; payload = 2 ∷ [] } ∷ []) ∷ []) ∷ ((record { msg = key 1 0; payload = 2 ∷ [] } ∷ []) ∷ [])
-    ∷ ((record { msg = key 2 0; payload = 1 ∷ [] } ∷ record { msg = key 1 0; payload = 2 ∷ [] } ∷ []) ∷ []) ∷ []
+abbrev lone : Content
+lone = record { msg = key 2 0; payload = 1 ∷ [] }
+
+abbrev common : Content
+common = record { msg = key 1 0; payload = 2 ∷ [] }
+
+-- what each incarnation has delivered, and the sequence
+record Delivered : Type 0 where
+  logs : List (List (List Content))
+  sequence : List Content
+
+abbrev delivered_in : RunState → Delivered
+delivered_in s = record {
+  logs = of_nodes (λ r i e. tot_deliveries (log_as at_lag_1 r i e)) 3 s;
+  sequence = clean_sequence 0 s.trace;
+}
+
+one_between : seen_by delivered_in at_lag_1 its_journal ≡ within (record {
+  logs = ((common ∷ []) ∷ []) ∷ ((common ∷ []) ∷ []) ∷ ((lone ∷ common ∷ []) ∷ []) ∷ [];
+  sequence = lone ∷ common ∷ [];
+})
 unfolding row at_lag_1 its_journal
 one_between = refl
-
-both_stand_in_it :
-    clean_sequence 0 (run at_lag_1 its_journal).trace ≡ record { msg = key 2 0; payload = 1 ∷ [] } ∷ record { msg = key 1 0; payload = 2 ∷ [] } ∷ []
-unfolding row at_lag_1 its_journal
-both_stand_in_it = refl

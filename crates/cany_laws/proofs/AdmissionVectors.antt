@@ -1,5 +1,5 @@
 -- Where the vectors with which members start a cycle agree on a node, all vectors of the cycle do, and so does what any incarnation installs at its end.
-use Rattle.std.proofs.Common.{◌≡◌, ℕ, suc, ◌+◌, ◌-◌, ◌*◌, ◌<◌, ◌≤◌, ◌==◌, ◌&&◌, inl, inr, Bool, true, false, List, [], ◌∷◌, ◌++◌, length, drop, Some, None, Contains, ap, sym, ◌∙◌, subst, arith, drop-drop, length-drop, append_assoc}
+use Rattle.std.proofs.Common.{◌≡◌, ℕ, suc, ◌+◌, ◌-◌, ◌*◌, ◌<◌, ◌≤◌, ◌==◌, ◌&&◌, inl, inr, Bool, true, false, List, [], ◌∷◌, ◌++◌, length, drop, Some, None, Contains, ap, sym, ◌∙◌, subst, arith, drop-drop, length-drop, append_assoc, refl}
 use Rattle.std.proofs.lemmas.Bool.{and_from, both_ways, cases_Bool, cases_eq, cases_lt, cond-true, eq-eqb}
 use Rattle.cany_base.specs.Cycles.{cycle_of, is_end}
 use Rattle.cany_base.specs.declared.class.Class.TheVariants as class
@@ -33,7 +33,7 @@ use Rattle.cany_model.proofs.Promises.KeptVectors.{vector_at}
 use Rattle.cany_model.proofs.Promises.OwnSlotsAlone.{run_numbered}
 use Rattle.cany_model.proofs.Rules.CycleFacts.{cycle_before}
 use Rattle.cany_model.proofs.Rules.KnowledgeNodes.{IsVectorOfBus, knowledge_of_bus}
-use Rattle.cany_model.proofs.Rules.ProtocolFacts.{MayAsk, accepts, confirms, data_exchanges_none, exchanges, is_relayed, lives, originates, relays, request_class, requests, signals}
+use Rattle.cany_model.proofs.Rules.ProtocolFacts.{MayAsk, accepts, confirms, data_is_no_other, exchanges, is_relayed, lives, originates, relays, request_class, requests, signals}
 use Rattle.cany_model.proofs.Rules.VectorFacts.{carries_vector}
 use Rattle.cany_model.proofs.Runs.Journals.{run_none}
 use Rattle.cany_model.proofs.Runs.Runs.{history-length, orderly}
@@ -136,7 +136,7 @@ module _ (scenario : ScenarioParts) (k r : ℕ) (b : Bool) (few : r < most_nodes
   asked_says past f fits first readable read says until (relays relayed got) = λ u carried.
       absurd (both_ways (is_relayed f.class) (ap is_relayed (carries_vector p.format k f u carried).0) relayed)
   asked_says past f fits first readable read says until (originates m is origin late from frame) = λ u carried.
-      absurd (data_exchanges_none m.service (ap (λ (g : FrameParts). g.class) frame ∙ (carries_vector p.format k f u carried).0))
+      absurd (data_is_no_other m.service class.Rha refl (ap (λ (g : FrameParts). g.class) frame ∙ (carries_vector p.format k f u carried).0))
   asked_says past f fits first readable read says until (confirms g sent rel own frame) = λ u carried.
       let e : class.Confirm ≡ class.Rha = ap (λ (x : FrameParts). x.class) frame ∙ (carries_vector p.format k f u carried).0 in absurd (cc)
   asked_says past f fits first readable read says until (accepts g sent tot own frame) = λ u carried.

@@ -1,7 +1,7 @@
 -- A TOTCAN message that was carried Clean in slot c and is accepted, is delivered in the slots from c to c + bound.
-use Rattle.std.proofs.Common.{◌≡◌, ℕ, zero, suc, ◌+◌, ◌-◌, ◌<◌, ◌≤◌, ◌==◌, count_by, inl, inr, true, false, Option, Some, None, List, [], ◌∷◌, ◌++◌, length, map, drop, refl, ap, sym, ◌∙◌, subst, arith, Contains, drop-drop, length-append, length-drop}
+use Rattle.std.proofs.Common.{◌≡◌, ℕ, zero, suc, ◌+◌, ◌-◌, ◌<◌, ◌≤◌, ◌==◌, count_by, inl, inr, true, false, Option, Some, None, List, [], ◌∷◌, ◌++◌, length, drop, refl, ap, sym, ◌∙◌, subst, arith, Contains, drop-drop, length-append, length-drop}
 use Rattle.std.proofs.lemmas.Bool.{and_from, cases_lt, eq-eqb, false≢true}
-use Rattle.std.proofs.lemmas.List.{drop-map, get_or-append-add, get_or_default}
+use Rattle.std.proofs.lemmas.List.{get_or-append-add, get_or_default}
 use Rattle.cany_base.proofs.ParamsFacts.{few_nodes}
 use Rattle.cany_base.specs.Limits.{most_nodes}
 use Rattle.cany_base.specs.declared.class.Class.TheVariants as class
@@ -14,12 +14,11 @@ use Rattle.cany_base.specs.declared.notice.NoticeKind.{NoticeKind}
 use Rattle.cany_base.specs.declared.slot_note.SlotNote.{SlotNote}
 use Rattle.cany_base.specs.declared.step.Step.{Step}
 use Rattle.cany_base.specs.Frame.{FrameParts}
-use Rattle.cany_base.specs.Params.{Parameters}
 use Rattle.cany_base.specs.Scenario.{IsLegalScenario, ScenarioParts}
 use Rattle.cany_model.specs.Bus.Frames.{Identity, identity_of, is_of, same_class}
-use Rattle.cany_model.specs.Bus.History.{given, history, is_hidden, seen}
+use Rattle.cany_model.specs.Bus.History.{history, is_hidden, seen}
 use Rattle.cany_model.specs.Bus.Slot.{carried, is_clean}
-use Rattle.cany_model.specs.Bus.State.{EndedIncarnation, Incarnation, RunState, node_at, runs}
+use Rattle.cany_model.specs.Bus.State.{EndedIncarnation, Incarnation, RunState, node_at}
 use Rattle.cany_model.specs.Promises.Acceptance.{WasCarriedClean}
 use Rattle.cany_model.specs.Promises.Entries.{HasDelivered}
 use Rattle.cany_model.specs.Promises.Hypothesis.{IsWithin}
@@ -35,19 +34,12 @@ use Rattle.cany_model.proofs.Among.{Among, Among-append_cases, Among-append_left
 use Rattle.cany_model.proofs.Bus.Identities.{same_identity-true}
 use Rattle.cany_model.proofs.Bus.Seen.{carries_other, hidden_not, history-is}
 use Rattle.cany_model.proofs.Bus.States.{no_note, note_at}
-use Rattle.cany_model.proofs.Rules.DoneFacts.{IsNamed, are_through, done_exactly, is_done, through_is_clear}
 use Rattle.cany_model.proofs.Rules.LogFacts.{EntersSome, entered-from}
-use Rattle.cany_model.proofs.Rules.PlaceFacts.{Place}
 use Rattle.cany_model.proofs.Rules.ProtocolFacts.{IsFounded, IsFoundedEntry}
 use Rattle.cany_model.proofs.Rules.TurnFacts.{turn_effect}
 use Rattle.cany_model.proofs.Runs.Runs.{IsOrderly, orderly}
-use Rattle.cany_model.proofs.Timed.Common.Ages.{Done, carried_there, carries_clean, clean_carried, gave, past}
-use Rattle.cany_model.proofs.Timed.Order.Accepted.{accepted_done, accepted_on, seen_first}
-use Rattle.cany_model.proofs.Timed.Order.AcceptanceRelays.{heard_holds}
-use Rattle.cany_model.proofs.Timed.Order.DeliveredPrefix.{Reads, done_place}
-use Rattle.cany_model.proofs.Timed.Order.OneOrder.{Ground, accepted_by_one, read_by, seen_by}
-use Rattle.cany_model.proofs.Timed.Order.OrderAt.{DataFirst}
-use Rattle.cany_model.proofs.Timed.Order.TotRun.{past_next}
+use Rattle.cany_model.proofs.Timed.Common.Ages.{Done, carries_clean, clean_carried, past}
+use Rattle.cany_model.proofs.Timed.Order.OneOrder.{Ground, accepted_by_one}
 use Rattle.cany_model.specs.Bus.State.{reads}
 use Rattle.cany_model.specs.Promises.Entries.{is_delivery_of}
 use Rattle.cany_model.specs.Promises.Order.{content_of, tot_deliveries}
@@ -58,7 +50,7 @@ use Rattle.cany_model.proofs.Promises.OwnSlotsAlone.{run_numbered}
 use Rattle.cany_model.proofs.Timed.Common.SeenAges.{done_to}
 use Rattle.cany_model.proofs.Timed.Guarantees.{accepted_by_all_or_none, slots_are_quiet}
 use Rattle.cany_model.proofs.Timed.Order.Accepts.{acceptance_at}
-use Rattle.cany_model.proofs.Timed.Order.OneOrder.{ground_of}
+use Rattle.cany_model.proofs.Timed.Order.OneOrder.{ground_of, has_delivered}
 use Rattle.cany_model.proofs.Timed.Order.OrderLog.{delivered_content, named_delivered}
 use Rattle.cany_model.proofs.Timed.Order.TotCount.{within_silent}
 use Rattle.cany_model.proofs.Timed.Order.TotRun.{tot_kept}
@@ -68,59 +60,9 @@ use Rattle.cany_laws.specs.Sequence.{clean_sequence, is_content_of}
 use Rattle.cany_laws.proofs.EachView.{clean_older, older_within, past_length}
 use Rattle.cany_laws.proofs.FinalLogs.{entry_read}
 use Rattle.cany_laws.proofs.Lives.{lived}
-use Rattle.cany_laws.proofs.NoLateDelivery.{clear_old, done_is_delivered}
 use Rattle.cany_laws.proofs.OneSequence.{correct_part, part_among, sequence_done}
 use Rattle.cany_laws.proofs.Since.{begins}
 use Rattle.cany_laws.proofs.SlotRead.{HadRead, both_read}
-
--- ---- a node that has read the closing
-
-module _ (scenario : ScenarioParts) (s : RunState) (k : Ground scenario s) (i : ℕ) (running : runs (node_at s.nodes i) ≡ true) where
-  abbrev p : Parameters
-  p = scenario.params
-
-  abbrev T : List SlotNote
-  T = seen_by s i
-
-  abbrev u : ℕ
-  u = (node_at s.nodes i).unread
-
-  first : DataFirst (seen_by s i)
-  first = seen_first scenario s.trace (node_at s.nodes i).present k.plain k.orderly.numbered k.tot.trace
-
-  its_reads : Reads scenario.params (seen_by s i) i (node_at s.nodes i).unread (is_accepted_by_some scenario s)
-  its_reads =
-      let inc = (node_at s.nodes i).present in
-      let few = k.orderly.numbered in
-      record {
-        heard = (k.tot.nodes i running).heard;
-        accepted_done = λ m h. accepted_done scenario s.trace inc k.plain few k.tot.trace i (node_at s.nodes i).unread m h;
-        accepted_test = λ m h. accepted_by_one scenario s k i running m
-            (accepted_on scenario s.trace inc k.plain few k.tot.trace i (node_at s.nodes i).unread (node_at s.nodes i).unread m (omega arith) h);
-        test_accepted = λ m q d passes late. k.accepted m i q (node_at s.nodes i).unread running d passes (omega arith) late;
-      }
-
-  -- it has delivered a message that it has accepted
-  pub has_delivered : (m : MsgKey) (q : ℕ) → Done (seen_by s i) q m → is_accepted_by_some scenario s m ≡ true
-      → (node_at s.nodes i).unread + scenario.params.bound ≤ q → Among (IsNamed m) (delivered scenario.params i (read_by s i))
-  has_delivered m q d by_some read =
-      let P : List NoticeKind = past i T u in
-      let n : ℕ = q - u in
-      let there : q < length T = carried_there (tot_of_key m) T q (clean_carried (tot_of_key m) (note_at T q) d) in
-      let age : u + n ≡ q = omega (arith, read) in
-      let w : Place m P = record {
-        age = n;
-        notice = gave i T q;
-        older = past i T (suc q);
-        at = drop-map (given i) n (drop u T) ∙ ap (map (given i)) (drop-drop n u T ∙ ap (λ x. drop x T) age) ∙ past_next i T q there;
-        is = heard_holds i T its_reads.heard m q d;
-        newest = done_place p T i u (is_accepted_by_some scenario s) first its_reads m n q (sym age) d;
-      } in
-      let clear : are_through p i P (n + 1) (past i T (suc q)) ≡ true =
-      through_is_clear p i P (n + 1) (past i T (suc q)) ∙ clear_old p i P (n + 1) (omega (arith, read, age)) (past i T (suc q)) in
-      let is : is_done p i P (are_through p i P (n + 1) (past i T (suc q))) m ≡ true =
-      and_from (is_accepted p.bound i m P) (are_through p i P (n + 1) (past i T (suc q))) (its_reads.test_accepted m q d by_some read) clear in
-      done_is_delivered p i m P ((done_exactly p i m P w).1 is)
 
 -- ---- ages
 
@@ -247,7 +189,7 @@ module _ (scenario : ScenarioParts) (legal : IsLegalScenario scenario) (journal 
       (ap (is_accepted scenario.params.bound i (message_key m)) (sym (history-is i s) ∙ h.past) ∙ accepted) in
       named_delivered scenario to few i h.correct m stands tot
       (subst (λ l. Among (λ f. message_in f ≡ message_key m) (delivered scenario.params i l)) (sym (history-is i s))
-      (has_delivered scenario s k i h.correct.running (message_key m) age.0 d by_some (omega (arith, unread, age.1, size))))
+      (has_delivered scenario s k (message_key m) age.0 i h.correct.running d by_some (omega (arith, unread, age.1, size))))
 
   -- and not before its data frame was carried Clean
   never_early : (i : ℕ) (e : EndedIncarnation) → IsIncarnation scenario (run scenario journal) i e → e.incarnation.from ≤ c → c < e.next → (slot : ℕ) → slot < c

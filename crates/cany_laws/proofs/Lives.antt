@@ -55,31 +55,30 @@ module _ (scenario : ScenarioParts) (i : ℕ) (there : i < scenario.params.nodes
   abbrev SameTrace : List Step → List Step → Type 0
   SameTrace journal longer = (run scenario longer).trace ≡ (run scenario journal).trace
 
-  still : (journal : List Step) (next : Step) → SameTrace journal (journal ++ next ∷ []) → (e : EndedIncarnation) → Lived scenario journal i e
-      → Lived scenario (journal ++ next ∷ []) i e
-  still journal next same e l = record {
+  extended : (journal : List Step) (next : Step) (e : EndedIncarnation) → Lived scenario journal i e
+      → ended_history i (run scenario journal).trace e ≡ ended_history i (run scenario (journal ++ next ∷ [])).trace e
+      → e.next ≤ length (run scenario (journal ++ next ∷ [])).trace → Lived scenario (journal ++ next ∷ []) i e
+  extended journal next e l past short = record {
     front = l.front;
     rest = l.rest ++ next ∷ [];
     whole = ap (λ j. j ++ next ∷ []) l.whole ∙ append_assoc l.front l.rest (next ∷ []);
     running = l.running;
     present = l.present;
     next = l.next;
-    past = l.past ∙ ap (λ t. ended_history i t e) (sym same);
-    short = subst (λ t. e.next ≤ length t) (sym same) l.short;
+    past = l.past ∙ past;
+    short = short;
   }
+
+  still : (journal : List Step) (next : Step) → SameTrace journal (journal ++ next ∷ []) → (e : EndedIncarnation) → Lived scenario journal i e
+      → Lived scenario (journal ++ next ∷ []) i e
+  still journal next same e l =
+      extended journal next e l (ap (λ t. ended_history i t e) (sym same)) (subst (λ t. e.next ≤ length t) (sym same) l.short)
 
   longer : (journal : List Step) (next : Step) (note : SlotNote) → (run scenario (journal ++ next ∷ [])).trace ≡ note ∷ (run scenario journal).trace
       → (e : EndedIncarnation) → Lived scenario journal i e → Lived scenario (journal ++ next ∷ []) i e
-  longer journal next note more e l = record {
-    front = l.front;
-    rest = l.rest ++ next ∷ [];
-    whole = ap (λ j. j ++ next ∷ []) l.whole ∙ append_assoc l.front l.rest (next ∷ []);
-    running = l.running;
-    present = l.present;
-    next = l.next;
-    past = l.past ∙ sym (ended_history-longer i note (run scenario journal).trace e l.short) ∙ ap (λ t. ended_history i t e) (sym more);
-    short = subst (λ t. e.next ≤ length t) (sym more) (omega (arith, l.short));
-  }
+  longer journal next note more e l =
+      extended journal next e l (sym (ended_history-longer i note (run scenario journal).trace e l.short) ∙ ap (λ t. ended_history i t e) (sym more))
+      (subst (λ t. e.next ≤ length t) (sym more) (omega (arith, l.short)))
 
   -- where it stops is no matter
   stopping : (journal : List Step) (e f : EndedIncarnation) → e.incarnation ≡ f.incarnation → e.next ≡ f.next → Lived scenario journal i e → Lived scenario journal i f

@@ -1,7 +1,7 @@
 -- A turn delivers no message of which nothing is ahead any more, where its notice brings no frame of it.
-use Rattle.std.proofs.Common.{◌≡◌, ℕ, zero, suc, ◌+◌, ◌<◌, ◌≤◌, ◌&&◌, ◌||◌, ◌==◌, inl, inr, Bool, true, false, not, List, [], ◌∷◌, ◌++◌, map, length, take, drop, count_by, Option, Some, None, refl, ap, sym, ◌∙◌, arith}
+use Rattle.std.proofs.Common.{◌≡◌, ℕ, zero, suc, ◌+◌, ◌<◌, ◌&&◌, ◌||◌, ◌==◌, inl, inr, Bool, true, false, not, List, [], ◌∷◌, ◌++◌, map, length, take, drop, count_by, Option, Some, None, refl, ap, sym, ◌∙◌, arith}
 use Rattle.std.specs.List.{AllByRecursion, list_any}
-use Rattle.std.proofs.lemmas.Bool.{and_from, and_parts, both_ways, cases_Bool, cond_both, eq-eqb, false_from_ne_true, false≢true, le-ltb, not_from_false, or_right}
+use Rattle.std.proofs.lemmas.Bool.{and_from, and_parts, both_ways, cases_Bool, cond_both, eq-eqb, false_from_ne_true, false≢true, not_from_false, or_right}
 use Rattle.cany_base.specs.declared.class.Class.TheVariants as class
 use Rattle.cany_base.specs.declared.log_entry.LogEntry.{LogEntry}
 use Rattle.cany_base.specs.declared.log_entry.LogEntry.TheVariants.{Deliver, Failed, View}
@@ -26,7 +26,7 @@ use Rattle.cany_model.specs.Rules.Messages.{Message, accept_of_key, data_id, is_
 use Rattle.cany_model.specs.Rules.Protocol.{Protocol}
 use Rattle.cany_model.specs.Rules.Relcan.{confirm_effects, confirm_frame, fall_back_effects, falls_back, fell_back, late_copy_effects, relcan_at, relcan_effects, timer_effects}
 use Rattle.cany_model.specs.Rules.Sends.{scripted_sends}
-use Rattle.cany_model.specs.Rules.Totcan.{accept_effects, accept_frame, after_place, closing_effects, closing_of, delivered, delivered_now, done, done_from, has_closing_ahead, holds, is_accepted, is_among, is_clear, is_heard, is_pending, is_place, is_recent, message_in, new_among, tot_delivery, tot_in, tot_of_key, totcan_effects, with_new}
+use Rattle.cany_model.specs.Rules.Totcan.{accept_effects, accept_frame, after_place, closing_effects, closing_of, delivered, delivered_now, done, done_from, has_closing_ahead, holds, is_accepted, is_among, is_heard, is_recent, message_in, new_among, tot_delivery, tot_in, tot_of_key, totcan_effects, with_new}
 use Rattle.cany_model.specs.Rules.Turn.{protocols, turn_effects}
 use Rattle.cany_model.proofs.Among.{Among, Among-append_left, Among-append_right, Among-from_any, Among-weaker, Each-append, Each-flat_map, Each-weaker, count-from_Among}
 use Rattle.cany_model.proofs.Bus.Identities.{same_class-true, same_identity-true}
@@ -41,7 +41,7 @@ use Rattle.cany_model.proofs.Rules.TotcanFacts.{all_tot, delivered_brought, done
 use Rattle.cany_model.proofs.Rules.VectorFacts.{vectors_are_lawful}
 use Rattle.cany_model.proofs.Rules.ViewFacts.{asks_are_lawful, views_are_lawful}
 use Rattle.cany_laws.proofs.DoneTurns.{Free, FreeNotice, IsDone, no_got, no_holds, no_sent}
-use Rattle.cany_model.proofs.Timed.Order.OneOrder.{tot_id}
+use Rattle.cany_model.proofs.Timed.Order.OneOrder.{clear_old, tot_id}
 
 -- the entry delivers this message by its own service
 abbrev pub DeliversIt : Message → LogEntry → Type 0
@@ -160,22 +160,6 @@ accepted_on m bound i e before tot free =
     or_no true b = refl
     or_no false b = refl
 
--- none that is so old holds another one back
-pub clear_old : (p : Parameters) (i : ℕ) (past : List NoticeKind) (age : ℕ) → p.bound ≤ age → (notices : List NoticeKind) → is_clear p i past age notices ≡ true
-unfolding is_clear
-clear_old p i past age old [] = refl
-clear_old p i past age old (e ∷ older) =
-    and_from (not (is_pending p i past age (tot_in e))) (is_clear p i past (age + 1) older)
-    (not_from_false (is_pending p i past age (tot_in e)) (not_pending (tot_in e))) (clear_old p i past (age + 1) (omega (arith, old)) older)
-  where
-    not_young : (a b : Bool) → (a && false && b) ≡ false
-    not_young true b = refl
-    not_young false b = refl
-
-    not_pending : (o : Option FrameParts) → is_pending p i past age o ≡ false
-    not_pending None = refl
-    not_pending (Some f) = rw (le-ltb age p.bound old) (not_young (is_place age past (message_in f)) (not (is_accepted p.bound i (message_in f) past)))
-
 -- what is done is delivered
 named_again : (key : MsgKey) (f g : FrameParts) → same_identity (identity_of f) (identity_of g) ≡ true → IsNamed key f → IsNamed key g
 named_again key f g same named =
@@ -245,7 +229,7 @@ module _ (p : Parameters) (m : Message) (i : ℕ) (e : NoticeKind) (before : Lis
       sym (accepted_on m p.bound i e before tot free) ∙ (and_parts (is_accepted p.bound i key (e ∷ before)) _ d.is).0 in
       (done_exactly p i key before w).1
       (and_from (is_accepted p.bound i key before) _ accepted
-      (through_is_clear p i before (w.age + 1) w.older ∙ clear_old p i before (w.age + 1) (omega (arith, place-old p.bound key before closed w)) w.older))
+      (through_is_clear p i before (w.age + 1) w.older ∙ clear_old p i before (w.age + 1) w.older (omega (arith, place-old p.bound key before closed w))))
 
   none_now : AllByRecursion (λ f. IsNamed key f → ⊥) (delivered_now p i (e ∷ before))
   unfolding delivered_now

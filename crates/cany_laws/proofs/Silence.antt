@@ -1,19 +1,18 @@
 -- A member that is not heard for as long as the silence has failed, unless the sign of this cycle was known before.
-use Rattle.std.proofs.Common.{◌≡◌, ℕ, ◌+◌, ◌-◌, ◌<◌, ◌≤◌, ◌&&◌, ◌==◌, ◌⊎◌, inl, inr, true, false, not, nat_le, List, ◌∷◌, length, refl, ap, sym, ◌∙◌, arith}
-use Rattle.std.proofs.lemmas.Bool.{and_from, both_ways, cases_Bool, cond-false, cond_both, eq-eqb, le-leb, ne_eqb, not_from_false, or_cases}
+use Rattle.std.proofs.Common.{◌≡◌, ℕ, ◌+◌, ◌<◌, ◌≤◌, ◌&&◌, ◌==◌, ◌⊎◌, inl, inr, true, false, List, ◌∷◌, length, refl, ap, sym, ◌∙◌, arith}
+use Rattle.std.proofs.lemmas.Bool.{and_from, both_ways, cond-false, cond_both, eq-eqb, ne_eqb, or_cases}
 use Rattle.cany_base.specs.Limits.{most_nodes}
 use Rattle.cany_base.specs.declared.notice.NoticeKind.{NoticeKind}
 use Rattle.cany_base.specs.declared.notice.NoticeKind.TheVariants.{Idle, Got, Sent, Bad}
-use Rattle.cany_base.specs.Nodes.{Nodes, has}
-use Rattle.cany_base.specs.Params.{Parameters}
+use Rattle.cany_base.specs.Nodes.{has}
 use Rattle.cany_base.specs.Scenario.{ScenarioParts}
-use Rattle.cany_model.specs.Rules.Knowledge.{FailureSign, Knowledge, after_finding, after_hearing, after_learning, after_life, found_in, has_timed_out, knows, same_sign, shows_life, sign_in, told_in, with_shown}
+use Rattle.cany_model.specs.Rules.Knowledge.{FailureSign, Knowledge, after_finding, after_hearing, after_learning, after_life, found_in, knows, same_sign, shows_life, sign_in, told_in, with_shown}
 use Rattle.cany_model.specs.Rules.KnowledgeOf.{knowledge_of}
 use Rattle.cany_model.proofs.Among.{Among, Among-append_cases, Among-from_any, Among-weaker}
 use Rattle.cany_model.proofs.Rules.KnowledgeFacts.{known_after, newly, same_sign-true, tells}
-use Rattle.cany_model.proofs.Rules.KnowledgeSteps.{failed_after, is_admitted, learnt_keeps, life_keeps, shown_after}
+use Rattle.cany_model.proofs.Rules.KnowledgeSteps.{failed_after, is_admitted, learnt_keeps, shown_after}
 use Rattle.cany_model.proofs.Timed.Common.KnowledgeAges.{ended_at}
-use Rattle.cany_model.proofs.Timed.Detector.SilentNode.{failed_by_still, learnt_still, learnt_unknown, not_admitted, silence_found, with_signs_named}
+use Rattle.cany_model.proofs.Timed.Detector.SilentNode.{failed_by_still, learnt_still, not_admitted, silent_found, with_signs_named}
 use Rattle.cany_laws.specs.Detection.{hears_life}
 
 -- ---- life that is not shown
@@ -83,20 +82,5 @@ module _ (scenario : ScenarioParts) (i r : ℕ) (e : NoticeKind) (past : List No
   pub silent_fails : r < scenario.params.nodes → (r ≡ i → ⊥) → hears_life r e ≡ false → (last : ℕ) → st.shown r ≤ last → last + scenario.params.silence ≤ slot
       → knows (sign_in scenario.params slot r) st ≡ false → has (knowledge_of scenario i (e ∷ past)).failed r ≡ true
   silent_fails below other nothing last old late unknown =
-      let p : Parameters = scenario.params in
-      let now : Knowledge = after_learning i slot e st in
-      found_fails (elim (cases_Bool (has now.failed r)) [
-        | inl failed ↦ learnt_still p i r slot e st few failed
-        | inr standing ↦
-            let there : has now.members r ≡ true =
-            ap (λ m. has m r) (learnt_keeps Nodes (λ s. s.members) (λ sign s. refl) i slot e st
-            ∙ life_keeps Nodes (λ s. s.members) (record { shown = λ f s. refl; last = λ n s. refl }) i slot e st) ∙ member in
-            let long : nat_le p.silence (slot - now.shown r) ≡ true =
-            le-leb p.silence (slot - now.shown r) (omega (arith, learnt_no_life i slot r e st nothing, old, late)) in
-            let silent : has_timed_out p i slot now r ≡ true =
-            and_from (has now.members r && not (r == i) && not (has now.failed r)) (nat_le p.silence (slot - now.shown r))
-            (and_from (has now.members r && not (r == i)) (not (has now.failed r))
-            (and_from (has now.members r) (not (r == i)) there (not_from_false (r == i) (ne_eqb r i other)))
-            (not_from_false (has now.failed r) standing)) long in
-            silence_found p i r slot e st few below silent (learnt_unknown p i r slot e st few standing unknown)
-      ])
+      found_fails (silent_found scenario.params i r slot last e st few below other unknown late member
+      (omega (arith, learnt_no_life i slot r e st nothing, old)))

@@ -25,10 +25,9 @@ use Rattle.cany_model.proofs.Bus.Carried.{Succeeds, Succeeds-from_sent, is_sent-
 use Rattle.cany_model.proofs.Promises.Diffusion.{Heard, Lived, Turned, copies_grow, past_of}
 use Rattle.cany_model.proofs.Promises.EachNode.{EachRunning, IsNew, blank_heard, each_running}
 use Rattle.cany_model.proofs.Rules.MessageKeys.{IsOneOf}
-use Rattle.cany_model.proofs.Rules.ProtocolFacts.{IsFounded, MayWithdraw, answered, closes, data_accepts_none, data_exchanges_none, enough, enough_accept, settles}
+use Rattle.cany_model.proofs.Rules.ProtocolFacts.{IsFounded, MayWithdraw, answered, closes, data_is_no_other, enough, enough_accept, settles}
 use Rattle.cany_model.proofs.Rules.TurnFacts.{turn_effect}
 use Rattle.cany_model.proofs.Runs.Waits.{Asks, Withdraws, waits-without, waits_after}
-use Rattle.cany_model.proofs.Timed.Detector.Leaving.{data_never}
 use Rattle.cany_model.proofs.Timed.Order.TotSettled.{asks_true, has_started, turn_of_origin}
 
 -- ---- what a turn asks for and withdraws
@@ -43,13 +42,13 @@ data_withdrawn : (scenario : ScenarioParts) (i : ℕ) (past : List NoticeKind) (
     → MayWithdraw scenario i past x → scenario.params.omit < copies x past
 data_withdrawn scenario i past by x of (enough diffused many) = many
 data_withdrawn scenario i past by x of (enough_accept f got accept same many) =
-    absurd (data_accepts_none by (sym of ∙ sym (ap (λ (y : Identity). y.class) same) ∙ accept))
-data_withdrawn scenario i past by x of (closes f read tot same closed) = absurd (data_accepts_none by (sym of ∙ sym (ap (λ (y : Identity). y.class) same)))
-data_withdrawn scenario i past by x of (settles slot may same) = absurd (data_exchanges_none by (sym of ∙ sym (ap (λ (y : Identity). y.class) same)))
+    absurd (data_is_no_other by class.Accept refl (sym of ∙ sym (ap (λ (y : Identity). y.class) same) ∙ accept))
+data_withdrawn scenario i past by x of (closes f read tot same closed) = absurd (data_is_no_other by class.Accept refl (sym of ∙ sym (ap (λ (y : Identity). y.class) same)))
+data_withdrawn scenario i past by x of (settles slot may same) = absurd (data_is_no_other by class.Rha refl (sym of ∙ sym (ap (λ (y : Identity). y.class) same)))
 data_withdrawn scenario i past by x of (answered slot c ask now ends (inl join) own same) =
     absurd (data_joins_none by (sym of ∙ sym (ap (λ (y : Identity). y.class) same) ∙ join.0))
 data_withdrawn scenario i past by x of (answered slot c ask now ends (inr leave) own same) =
-    absurd (data_never by (sym of ∙ sym (ap (λ (y : Identity). y.class) same) ∙ leave.0))
+    absurd (data_is_no_other by class.Leave refl (sym of ∙ sym (ap (λ (y : Identity). y.class) same) ∙ leave.0))
 
 founded_withdrawn : (scenario : ScenarioParts) (p : Protocol) (i : ℕ) (past : List NoticeKind) (m : Message) (e : Effect) → Withdraws (data_id m) e
     → IsFounded scenario p i past e → scenario.params.omit < copies (data_id m) past

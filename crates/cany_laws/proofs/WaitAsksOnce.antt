@@ -17,7 +17,7 @@ use Rattle.cany_model.specs.Rules.Edcan.{edcan_at, edcan_effects}
 use Rattle.cany_model.specs.Rules.Effect.{Ask, Enter, Withdraw}
 use Rattle.cany_model.specs.Rules.Messages.{Message, data_id, messages_of}
 use Rattle.cany_model.specs.Rules.Protocol.{Protocol}
-use Rattle.cany_model.specs.Rules.Sends.{scripted_sends, send_effects, sendable}
+use Rattle.cany_model.specs.Rules.Sends.{send_effects, sendable}
 use Rattle.cany_model.specs.Rules.Turn.{protocols, turn_effects}
 use Rattle.cany_model.proofs.Among.{Among, Among-append_cases, Among-from_flat_map, Among-gives, Among-with}
 use Rattle.cany_model.proofs.Bus.Identities.{same_identity-from}
@@ -103,29 +103,31 @@ sends_in_slot scenario m i e past is h =
 
 -- ---- a whole turn
 
-pub ed_asked : (scenario : ScenarioParts) (m : Message) → IsOneOf (messages_of scenario.sends) m → m.service ≡ Ed
-    → (i : ℕ) (e : NoticeKind) (past : List NoticeKind)
-    → Among (Asks (data_id m)) (turn_effects scenario i (e ∷ past)) → AtFirstCopy (data_id m) e past ⊎ AtItsSlot m i past
-unfolding turn_effects same_class
-ed_asked scenario m is ed i e past h =
-    Among-gives (λ p. (Among (Asks (data_id m)) (p.effects scenario i (e ∷ past)) × IsLawful p) × Why p) (AtFirstCopy (data_id m) e past ⊎ AtItsSlot m i past)
+-- why the frame of a message is asked for, where each protocol names no such frames or has this reason
+pub asked_why : (scenario : ScenarioParts) (m : Message) (by : Service) → m.service ≡ by → (i : ℕ) (e : NoticeKind) (past : List NoticeKind) (Why : Type 0)
+    → AllByRecursion (λ p. (p.names (data_class by) ≡ false) ⊎ (Among (Asks (data_id m)) (p.effects scenario i (e ∷ past)) → Why)) protocols
+    → Among (Asks (data_id m)) (turn_effects scenario i (e ∷ past)) → Why
+unfolding turn_effects
+asked_why scenario m by of i e past Why each h =
+    Among-gives (λ p. (Among (Asks (data_id m)) (p.effects scenario i (e ∷ past)) × IsLawful p) × Has p) Why
     (λ p a. elim a.1 [
-      | inl other ↦ absurd (false≢true (sym other ∙ sym (ap (λ by. p.names (data_class by)) ed)
+      | inl other ↦ absurd (false≢true (sym other ∙ sym (ap (λ by. p.names (data_class by)) of)
           ∙ asks_named p a.0.1 scenario i (data_id m) (e ∷ past) a.0.0))
       | inr why ↦ why a.0.0
     ]) protocols
-    (Among-with (λ p. Among (Asks (data_id m)) (p.effects scenario i (e ∷ past)) × IsLawful p) Why protocols each
+    (Among-with (λ p. Among (Asks (data_id m)) (p.effects scenario i (e ∷ past)) × IsLawful p) Has protocols each
     (Among-with (λ p. Among (Asks (data_id m)) (p.effects scenario i (e ∷ past))) IsLawful protocols are_lawful
     (Among-from_flat_map (λ p. p.effects scenario i (e ∷ past)) (Asks (data_id m)) protocols h)))
   where
-    Why : Protocol → Type 0
-    Why p = (p.names class.Ed ≡ false) ⊎ (Among (Asks (data_id m)) (p.effects scenario i (e ∷ past)) → AtFirstCopy (data_id m) e past ⊎ AtItsSlot m i past)
+    Has : Protocol → Type 0
+    Has p = (p.names (data_class by) ≡ false) ⊎ (Among (Asks (data_id m)) (p.effects scenario i (e ∷ past)) → Why)
 
-    sends : Why scripted_sends
-    sends = inr (λ a. inr (sends_in_slot scenario m i e past is a))
-
-    each : AllByRecursion Why protocols
-    each = (
+pub ed_asked : (scenario : ScenarioParts) (m : Message) → IsOneOf (messages_of scenario.sends) m → m.service ≡ Ed
+    → (i : ℕ) (e : NoticeKind) (past : List NoticeKind)
+    → Among (Asks (data_id m)) (turn_effects scenario i (e ∷ past)) → AtFirstCopy (data_id m) e past ⊎ AtItsSlot m i past
+unfolding same_class
+ed_asked scenario m is ed i e past =
+    asked_why scenario m Ed ed i e past (AtFirstCopy (data_id m) e past ⊎ AtItsSlot m i past) (
       inr (λ a. inl (edcan_first scenario (data_id m) i e past a)),
-      (inl refl, (inl refl, (inl refl, (inl refl, (inl refl, (inl refl, (sends, (inl refl, (inl refl, tt))))))))),
+      (inl refl, (inl refl, (inl refl, (inl refl, (inl refl, (inl refl, (inr (λ a. inr (sends_in_slot scenario m i e past is a)), (inl refl, (inl refl, tt))))))))),
     )

@@ -1,7 +1,6 @@
 -- Why a node asks for the data frame of a RELCAN message: it falls back in this turn, or it is the origin, in its turn of the scripted slot.
 use Rattle.std.specs.Prelude.{slice_index_or}
 use Rattle.std.proofs.Common.{◌≡◌, ℕ, zero, suc, ◌==◌, ◌&&◌, ◌⊎◌, ◌++◌, inl, inr, true, false, not, List, [], ◌∷◌, drop, refl, ap, sym, ◌∙◌}
-use Rattle.std.specs.List.{AllByRecursion}
 use Rattle.std.proofs.lemmas.Bool.{and_parts, cond_both, false≢true, not-true, or_left, or_right}
 use Rattle.cany_base.specs.declared.class.Class.TheVariants as class
 use Rattle.cany_base.specs.declared.message.Service.TheVariants.{Rel}
@@ -16,16 +15,12 @@ use Rattle.cany_model.specs.Rules.Delivery.{delivery_effects}
 use Rattle.cany_model.specs.Rules.Eager.{has_enough}
 use Rattle.cany_model.specs.Rules.Effect.{Ask}
 use Rattle.cany_model.specs.Rules.Messages.{Message, data_id, messages_of}
-use Rattle.cany_model.specs.Rules.Protocol.{Protocol}
 use Rattle.cany_model.specs.Rules.Relcan.{confirm_effects, confirm_frame, fall_back_effects, falls_back, has_confirm, has_copy, is_first_got, is_timed, late_copy_effects, relcan_at, relcan_effects, timer_effects}
-use Rattle.cany_model.specs.Rules.Sends.{scripted_sends}
-use Rattle.cany_model.specs.Rules.Turn.{protocols, turn_effects}
-use Rattle.cany_model.proofs.Among.{Among, Among-append_cases, Among-from_flat_map, Among-gives, Among-with}
+use Rattle.cany_model.specs.Rules.Turn.{turn_effects}
+use Rattle.cany_model.proofs.Among.{Among, Among-append_cases}
 use Rattle.cany_model.proofs.Rules.MessageKeys.{IsOneOf}
-use Rattle.cany_model.proofs.Rules.ProtocolFacts.{IsLawful, asks_named}
-use Rattle.cany_model.proofs.Rules.Protocols.{are_lawful}
 use Rattle.cany_model.proofs.Runs.Waits.{Asks}
-use Rattle.cany_laws.proofs.WaitAsksOnce.{AtItsSlot, no_delivery, sends_in_slot}
+use Rattle.cany_laws.proofs.WaitAsksOnce.{AtItsSlot, asked_why, no_delivery, sends_in_slot}
 use Rattle.cany_laws.proofs.CarriedRelcan.{no_late}
 
 -- the first copy is so many notices old as the timer takes, and the node is not the origin
@@ -119,32 +114,12 @@ relcan_falls scenario m i e past rel h =
 pub rel_asked : (scenario : ScenarioParts) (m : Message) → IsOneOf (messages_of scenario.sends) m → m.service ≡ Rel
     → (i : ℕ) (e : NoticeKind) (past : List NoticeKind)
     → Among (Asks (data_id m)) (turn_effects scenario i (e ∷ past)) → FallsBackNow scenario.params.confirm m i e past ⊎ AtItsSlot m i past
-unfolding turn_effects same_class
-rel_asked scenario m is rel i e past h =
-    Among-gives (λ p. (Among (Asks (data_id m)) (p.effects scenario i (e ∷ past)) × IsLawful p) × Why p)
-    (FallsBackNow scenario.params.confirm m i e past ⊎ AtItsSlot m i past)
-    (λ p a. elim a.1 [
-      | inl other ↦ absurd (false≢true (sym other ∙ sym (ap (λ by. p.names (data_class by)) rel)
-          ∙ asks_named p a.0.1 scenario i (data_id m) (e ∷ past) a.0.0))
-      | inr why ↦ why a.0.0
-    ]) protocols
-    (Among-with (λ p. Among (Asks (data_id m)) (p.effects scenario i (e ∷ past)) × IsLawful p) Why protocols each
-    (Among-with (λ p. Among (Asks (data_id m)) (p.effects scenario i (e ∷ past))) IsLawful protocols are_lawful
-    (Among-from_flat_map (λ p. p.effects scenario i (e ∷ past)) (Asks (data_id m)) protocols h)))
-  where
-    Why : Protocol → Type 0
-    Why p =
-        (p.names class.Rel ≡ false)
-        ⊎ (Among (Asks (data_id m)) (p.effects scenario i (e ∷ past)) → FallsBackNow scenario.params.confirm m i e past ⊎ AtItsSlot m i past)
-
-    sends : Why scripted_sends
-    sends = inr (λ a. inr (sends_in_slot scenario m i e past is a))
-
-    each : AllByRecursion Why protocols
-    each = (
+unfolding same_class
+rel_asked scenario m is rel i e past =
+    asked_why scenario m Rel rel i e past (FallsBackNow scenario.params.confirm m i e past ⊎ AtItsSlot m i past) (
       inl refl,
       (
         inr (λ a. inl (relcan_falls scenario m i e past rel a)),
-        (inl refl, (inl refl, (inl refl, (inl refl, (inl refl, (sends, (inl refl, (inl refl, tt)))))))),
+        (inl refl, (inl refl, (inl refl, (inl refl, (inl refl, (inr (λ a. inr (sends_in_slot scenario m i e past is a)), (inl refl, (inl refl, tt)))))))),
       ),
     )

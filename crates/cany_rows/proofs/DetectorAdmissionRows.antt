@@ -1,13 +1,13 @@
 -- Worked rows of nodes that ask to join: runs in which they are admitted, in the cycle that is promised or in the one before, and one in
 -- which the ask does not get through. What a run comes to is computed in rows of its own.
-use Rattle.std.specs.Prelude.{ℕ, ◌+◌, ◌-◌, ◌<◌, ◌≡◌, ◌⊎◌, true, false, [], ◌∷◌, Some, Contains, map, replicate, refl}
-use Rattle.std.proofs.Common.{arith, inl, inr, lit<, lit≤}
+use Rattle.std.specs.Prelude.{ℕ, ◌+◌, ◌-◌, ◌<◌, ◌≡◌, ◌⊎◌, Bool, true, false, [], ◌∷◌, Option, Some, Contains, map, replicate, refl}
+use Rattle.std.proofs.Common.{ap, arith, inl, inr, lit<, lit≤, ◌∙◌, sym}
 use Rattle.std.proofs.lemmas.Bool.{false≢true}
 use Rattle.cany_base.specs.declared.log_entry.LogEntry.TheVariants.{View}
 use Rattle.cany_base.specs.declared.rule.Verdict.TheVariants.{Clean, Partial}
 use Rattle.cany_base.specs.Nodes.{Nodes, has}
 use Rattle.cany_base.specs.Scenario.{IsLegalScenario, ScenarioParts}
-use Rattle.cany_model.specs.Bus.State.{RunState, slots_run}
+use Rattle.cany_model.specs.Bus.State.{RunState, node_at, runs, slots_run}
 use Rattle.cany_model.specs.Promises.Detector.{IsAdmitted, JoinWasCarried, StandsAfter, members_before}
 use Rattle.cany_model.specs.Promises.Hypothesis.{IsWithin}
 use Rattle.cany_model.specs.Promises.OneView.{installed}
@@ -218,11 +218,28 @@ it_was_admitted_before =
 unfoldable node_2_joins : ℕ → ScenarioParts
 node_2_joins stop = with_asks (asks_at 10 2 ∷ []) [] (of_members 3 (scenario (three 109 1 2) [] (slot_rule 11 (Partial (set 2)) stop ∷ [])))
 
+-- whether node 0 runs at the end of a run of it, and the vector that it installs in cycle 1
+abbrev seen_at_node_0 : ScenarioParts → RunState → Bool × Option Nodes
+seen_at_node_0 sc s = (runs (node_at s.nodes 0), installed sc s 0 1)
+
+vector_without_node_2 : seen_at_node_0 (node_2_joins 4) (run_of (node_2_joins 4)) ≡ (true, Some (set 3))
+unfolding detector_row node_2_joins
+vector_without_node_2 = refl
+
+node_2_is_not_in_it : has (set 3) 2 ≡ false
+unfolding detector_row
+node_2_is_not_in_it = refl
+
+there_are_three : 0 < (node_2_joins 4).params.nodes
+unfolding detector_row node_2_joins
+there_are_three = lit< tt
+
 -- If it stops, its ask was carried Partial alone, and no vector has it.
 partial_join_admits_nobody : IsAdmitted (node_2_joins 4) (run_of (node_2_joins 4)) 2 1 → ⊥
-unfolding detector_row node_2_joins
 partial_join_admits_nobody says =
-    elim (says 0 (record { there = lit< tt; running = refl }) (set 3) refl) [
-      | inl h ↦ false≢true h
+    let runs_on : runs (node_at (run_of (node_2_joins 4)).nodes 0) ≡ true = ap (λ (seen : Bool × Option Nodes). seen.0) vector_without_node_2 in
+    let installs : installed (node_2_joins 4) (run_of (node_2_joins 4)) 0 1 ≡ Some (set 3) = ap (λ (seen : Bool × Option Nodes). seen.1) vector_without_node_2 in
+    elim (says 0 (record { there = there_are_three; running = runs_on }) (set 3) installs) [
+      | inl h ↦ false≢true (sym node_2_is_not_in_it ∙ h)
       | inr h ↦ absurd (omega (arith, h.0))
     ]

@@ -1,9 +1,9 @@
 -- Worked rows of the failure detector, and of members that stop, stay or leave: runs in which what is promised holds, and runs that lack a
 -- premise of it, and in which it does not. What a run comes to is computed in rows of its own: what is promised for every node then
 -- follows without it.
-use Rattle.std.specs.Prelude.{ℕ, ◌+◌, ◌*◌, ◌<◌, ◌≡◌, ◌≢◌, true, false, List, [], ◌∷◌, Some, Err, All, Contains, refl}
+use Rattle.std.specs.Prelude.{ℕ, ◌+◌, ◌*◌, ◌<◌, ◌≡◌, ◌≢◌, Bool, true, false, List, [], ◌∷◌, Option, Some, None, is_none, Err, All, Contains, refl}
 use Rattle.std.specs.List.{AllByRecursion}
-use Rattle.std.proofs.Common.{ap, arith, ◌∙◌, lit<, lit≤, sym}
+use Rattle.std.proofs.Common.{ap, arith, ◌∙◌, lit<, lit≤, subst, sym}
 use Rattle.std.proofs.lemmas.Bool.{false≢true}
 use Rattle.std.proofs.lemmas.List.Elements.{All-contains}
 use Rattle.cany_base.specs.declared.log_entry.LogEntry.{LogEntry}
@@ -20,7 +20,8 @@ use Rattle.cany_model.specs.Bus.State.{RunState, node_at, slots_run}
 use Rattle.cany_model.specs.Runs.RoundRobin.{round_robin}
 use Rattle.cany_model.specs.Runs.Run.{run}
 use Rattle.cany_model.specs.Promises.Detector.{AsksNoLeave, HasNotFailed, IsRemoved, StandsAfter, StaysInViews, has_asked_leave, members_before}
-use Rattle.cany_model.specs.Promises.Hypothesis.{IsWithin}
+use Rattle.cany_model.specs.declared.breaks.Break.{Break}
+use Rattle.cany_model.specs.Promises.Hypothesis.{IsWithin, first_break}
 use Rattle.cany_model.specs.Promises.Settled.{IsCorrect}
 use Rattle.cany_model.specs.Rules.Log.{log}
 use Rattle.cany_model.specs.Rules.KnowledgeOf.{knowledge_of}
@@ -50,32 +51,64 @@ stopped_is_legal = two_is_legal 96 3 (slot_rule 1 Clean 2 ∷ []) [] [] (lit≤ 
   few_leaves = lit≤ tt;
 })
 
-stopped_is_within : IsWithin node_1_stops.params stopped_run.trace
-unfolding detector_row
-stopped_is_within = (first_break_exact node_1_stops.params stopped_run.trace).0 refl
-
-it_stops : (node_at stopped_run.nodes 1).stopped ≡ Some 1
-unfolding detector_row
-it_stops = refl
-
-it_runs_no_more : {P : Type 0} → IsCorrect node_1_stops stopped_run 1 → P
-unfolding detector_row
-it_runs_no_more correct = absurd (false≢true correct.running)
-
 -- Node 0 finds out in the first cycle, after it has started. So node 1 stands in the view of this cycle, and not in that of the next.
 abbrev stopped_entries : List LogEntry
 stopped_entries = Failed 39 1 1 ∷ View 57 1 (set 3) ∷ View 95 2 (set 1) ∷ []
 
+-- What is seen of the run, which is computed here once: where it leaves the hypothesis, how many slots ran, when node 1 stopped, and of node 0 the log, the view
+-- after the turn of slot 1, who has failed, and whether it has asked to leave.
+record SeenOfTheStop : Type 0 where
+  broken : Option Break
+  slots : ℕ
+  stopped : Option ℕ
+  entries : List LogEntry
+  members : Nodes
+  failed : Nodes
+  left : Bool
+
+abbrev stop_seen_in : RunState → SeenOfTheStop
+stop_seen_in s = record {
+  broken = first_break node_1_stops.params s.trace;
+  slots = slots_run s;
+  stopped = (node_at s.nodes 1).stopped;
+  entries = log node_1_stops s 0;
+  members = members_before node_1_stops s (1 + 1) 0;
+  failed = (knowledge_of (scenario_at node_1_stops s 0) 0 (history 0 s)).failed;
+  left = has_asked_leave (scenario_at node_1_stops s 0) 0 (history 0 s);
+}
+
+stop_is_seen :
+    stop_seen_in stopped_run
+    ≡ record { broken = None; slots = 96; stopped = Some 1; entries = stopped_entries; members = set 3; failed = set 2; left = false }
+unfolding detector_row has_asked_leave
+stop_is_seen = refl
+
+stopped_is_within : IsWithin node_1_stops.params stopped_run.trace
+stopped_is_within = (first_break_exact node_1_stops.params stopped_run.trace).0 (ap (λ (seen : SeenOfTheStop). seen.broken) stop_is_seen)
+
+it_stops : (node_at stopped_run.nodes 1).stopped ≡ Some 1
+it_stops = ap (λ (seen : SeenOfTheStop). seen.stopped) stop_is_seen
+
+it_runs_no_more : {P : Type 0} → IsCorrect node_1_stops stopped_run 1 → P
+it_runs_no_more correct = absurd (false≢true (sym (ap (λ (stopped : Option ℕ). is_none stopped) it_stops) ∙ correct.running))
+
 stopped_log : log node_1_stops stopped_run 0 ≡ stopped_entries
+stopped_log = ap (λ (seen : SeenOfTheStop). seen.entries) stop_is_seen
+
+both_are_in_it : (has (set 3) 0 ≡ true) × (has (set 3) 1 ≡ true)
 unfolding detector_row
-stopped_log = refl
+both_are_in_it = (refl, refl)
 
 -- after the turn of slot 1 both are members
 members_after_the_stop :
     (1 < slots_run stopped_run) × (has (members_before node_1_stops stopped_run (1 + 1) 0) 0 ≡ true)
     × (has (members_before node_1_stops stopped_run (1 + 1) 0) 1 ≡ true)
-unfolding detector_row
-members_after_the_stop = (lit< tt, refl, refl)
+members_after_the_stop =
+    let members : members_before node_1_stops stopped_run (1 + 1) 0 ≡ set 3 = ap (λ (seen : SeenOfTheStop). seen.members) stop_is_seen in (
+      subst (λ slots. 1 < slots) (sym (ap (λ (seen : SeenOfTheStop). seen.slots) stop_is_seen)) (lit< tt),
+      ap (λ (v : Nodes). has v 0) members ∙ both_are_in_it.0,
+      ap (λ (v : Nodes). has v 1) members ∙ both_are_in_it.1,
+    )
 
 -- so the premise of a removal is met
 it_stops_as_a_member : StandsAfter node_1_stops stopped_run 1 1
@@ -105,12 +138,15 @@ it_is_removed =
     (λ correct. of_views HasNotNode1 (log node_1_stops stopped_run 0) stopped_entries stopped_log views_after_the_stop)
     it_runs_no_more
 
+node_1_is_out_of_it : has (set 1) 1 ≡ false
+unfolding detector_row
+node_1_is_out_of_it = refl
+
 -- and there is such a view
 view_without_it :
     Contains (log node_1_stops stopped_run 0) (View 95 2 (set 1))
     × (1 + node_1_stops.params.silence < 2 * node_1_stops.params.cycle) × (has (set 1) 1 ≡ false)
-unfolding detector_row
-view_without_it = ((2, lit< tt, refl), lit< tt, refl)
+view_without_it = (subst (λ entries. Contains entries (View 95 2 (set 1))) (sym stopped_log) (2, lit< tt, refl), lit< tt, node_1_is_out_of_it)
 
 -- ---- a member that stays: node 0 of that run
 
@@ -122,8 +158,7 @@ unfolding detector_row
 views_of_the_other = (tt, ((λ ends. refl), ((λ ends. refl), tt)))
 
 it_asks_no_leave : AsksNoLeave node_1_stops stopped_run 0
-unfolding detector_row has_asked_leave
-it_asks_no_leave = refl
+it_asks_no_leave = ap (λ (seen : SeenOfTheStop). seen.left) stop_is_seen
 
 it_stands_in_the_view : StandsAfter node_1_stops stopped_run 0 1
 it_stands_in_the_view = record {
@@ -142,8 +177,7 @@ it_stays =
 
 -- of node 0 nobody thinks that it has failed, and of node 1 it does
 failed_at_node_0 : (knowledge_of (scenario_at node_1_stops stopped_run 0) 0 (history 0 stopped_run)).failed ≡ set 2
-unfolding detector_row
-failed_at_node_0 = refl
+failed_at_node_0 = ap (λ (seen : SeenOfTheStop). seen.failed) stop_is_seen
 
 it_alone_has_failed : (has (set 2) 0 ≡ false) × (has (set 2) 1 ≡ true)
 unfolding detector_row

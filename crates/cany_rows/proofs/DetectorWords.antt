@@ -12,20 +12,16 @@ use Rattle.cany_base.specs.Nodes.{Nodes}
 use Rattle.cany_base.specs.Params.{default_parameters}
 use Rattle.cany_base.specs.Scenario.{IsAskOf, IsLegalScenario, IsRuleOf, IsSendOf, ScenarioParts}
 use Rattle.cany_base.proofs.NodesFacts.{AllBelow-bits}
-use Rattle.cany_model.specs.Runs.RoundRobin.{round_robin}
-use Rattle.cany_model.specs.Runs.Run.{run}
 use Rattle.cany_model.specs.Bus.State.{RunState}
 use Rattle.cany_model.specs.Promises.OneView.{installed_of}
 use Rattle.cany_model.specs.Bus.History.{history_but}
 use Rattle.cany_model.specs.Promises.Settled.{IsCorrect}
 use Rattle.cany_model.proofs.Among.{Among-from_Contains, Each-of}
 use Rattle.cany_rows.proofs.RowWords.{set}
+unfoldable pub use Rattle.cany_rows.proofs.RowWords.{run_of}
 use Rattle.cany_rows.proofs.SiteWords.{site_row}
 
 -- ---- runs of two nodes
-
-unfoldable pub run_of : ScenarioParts → RunState
-run_of sc = run sc (round_robin sc)
 
 -- Two nodes, of which these are members, with these rules and asks to join and to leave. The other parameters are the least that the
 -- formulas allow: a cycle has 38 slots and ends in its slot 19, a member shows life after 19 slots, and has failed after 39 without.
@@ -45,7 +41,7 @@ two slots members rules joins leaves = record {
 
 -- opens all that a row of a run is written with
 unfoldable pub detector_row : Unit {0}
-unfolding site_row run_of history_but installed_of
+unfolding site_row history_but installed_of
 detector_row = tt
 
 -- the lists of a scenario: few, and of nodes and slots that there are

@@ -11,12 +11,11 @@ use Rattle.cany_model.specs.Rules.Edcan.{edcan_at, edcan_effects}
 use Rattle.cany_model.specs.Rules.Effect.{Effect, Ask, Withdraw, Enter}
 use Rattle.cany_model.specs.Bus.Frames.{identity_of, same_class, same_identity}
 use Rattle.cany_model.specs.Bus.History.{copies, has_own}
-use Rattle.cany_model.specs.Runs.RoundRobin.{round_robin}
-use Rattle.cany_rows.proofs.RowWords.{lag_1, carries, delivered, delivers, ed, first_frame, one_message, report, row, scenario, set, slot_rule, steps, three, running_node, stopped_node, whole_run}
+use Rattle.cany_rows.proofs.RowWords.{lag_1, carries, delivered, delivers, ed, first_frame, one_message, report, row, scenario, set, slot_rule, steps, three, running_node, stopped_node, whole_run, report_of}
 
 -- with omit 0 the first copy is already enough: nobody relays
 one_copy_is_enough :
-    (let s = scenario (three 4 0 2) one_message [] in report s (round_robin s)) ≡ whole_run (steps (codes ".012.012.012.012"))
+    (let s = scenario (three 4 0 2) one_message [] in report_of s) ≡ whole_run (steps (codes ".012.012.012.012"))
     (carries 1 first_frame 1 6 Clean 0 ∷ [])
     (running_node 4 (delivered 1) ∷ running_node 4 (delivered 1)
     ∷ running_node 4 (delivered 1) ∷ [])
@@ -26,7 +25,7 @@ one_copy_is_enough = refl
 
 -- one slot that breaks omit and errors is a break of omit
 omit_comes_before_errors :
-    (let s = scenario (three 4 0 0) one_message (slot_rule 1 (Partial (set 4)) 0 ∷ []) in report s (round_robin s)) ≡ record {
+    (let s = scenario (three 4 0 0) one_message (slot_rule 1 (Partial (set 4)) 0 ∷ []) in report_of s) ≡ record {
       journal = steps (codes ".012.012.012.012");
       bus = carries 1 first_frame 1 2 (Partial (set 4)) 0 ∷ carries 2 first_frame 1 6 Clean 0 ∷ [];
       broken = Some (record { kind = kind.Omit; slot = 1 });

@@ -16,7 +16,6 @@ use Rattle.cany_base.specs.Params.{Parameters}
 use Rattle.cany_base.specs.Scenario.{ScenarioParts}
 use Rattle.cany_model.specs.declared.breaks.BreakKind.TheVariants as kind
 use Rattle.cany_model.specs.Bus.Frames.{identity_of}
-use Rattle.cany_model.specs.Runs.RoundRobin.{round_robin}
 use Rattle.cany_model.specs.Runs.Run.{all_read, run}
 use Rattle.cany_model.specs.Bus.State.{Incarnation, original}
 use Rattle.cany_model.specs.Promises.Hypothesis.{IsWithin}
@@ -30,7 +29,7 @@ use Rattle.cany_model.specs.Rules.KnowledgeOf.{knowledge_of}
 use Rattle.cany_model.specs.Rules.Knowledge.{FailureSign, Knowledge, after_life, fda_of, found as found_by_silence, after_admitting, knowledge_at_first, told}
 use Rattle.cany_model.specs.Rules.Turn.{effects_for, scenario_for, turn_effects}
 use Rattle.cany_model.proofs.Promises.BreakFacts.{first_break_exact}
-use Rattle.cany_rows.proofs.RowWords.{accept, carries, delivers, delivers_rel, delivers_tot, confirm, ed, first_accept, first_tot, idle, one_tot, rel, report, row, scenario, send, send_rel, send_tot, set, slot_rule, steps, three, tot, running_node, stopped_node, whole_run}
+use Rattle.cany_rows.proofs.RowWords.{accept, carries, delivers, delivers_rel, delivers_tot, confirm, ed, first_accept, first_tot, idle, one_tot, rel, report, row, scenario, send, send_rel, send_tot, set, slot_rule, steps, three, tot, running_node, stopped_node, whole_run, report_of, run_of}
 
 -- ---- what a row is written with
 
@@ -81,7 +80,7 @@ unfoldable node_1_stops : ScenarioParts
 node_1_stops = of_members 7 (scenario (record (three 100 1 2) { cycle = 200 }) [] (slot_rule 5 Clean 2 ∷ []))
 
 failure_sign_before_any_cycle :
-    (let s = node_1_stops in report s (round_robin s)) ≡ whole_run (steps (rounds_of 5 (codes ".012") ++ rounds_of 95 (codes ".02")))
+    report_of node_1_stops ≡ whole_run (steps (rounds_of 5 (codes ".012") ++ rounds_of 95 (codes ".02")))
     (idle 5 2 ∷ carries 37 (els 0 0) 1 4 Clean 0 ∷ carries 38 (els 2 0) 4 1 Clean 0 ∷ carries 74 (els 0 1) 1 4 Clean 0
     ∷ carries 75 (els 2 1) 4 1 Clean 0 ∷ carries 76 (fda 1 0) 5 0 Clean 0 ∷ [])
     (running_node 100 (Failed 73 1 0 ∷ []) ∷ stopped_node 5 5 []
@@ -94,7 +93,7 @@ unfoldable unaccepted : ScenarioParts
 unaccepted = of_members 7 (scenario (three 45 1 2) one_tot (slot_rule 1 (Partial (set 4)) 1 ∷ []))
 
 totcan_unaccepted_is_dropped :
-    (let s = unaccepted in report s (round_robin s)) ≡ whole_run (steps (codes ".012" ++ rounds_of 44 (codes ".12")))
+    report_of unaccepted ≡ whole_run (steps (codes ".012" ++ rounds_of 44 (codes ".12")))
     (carries 1 first_tot 1 2 (Partial (set 4)) 1 ∷ carries 37 (els 1 0) 2 4 Clean 0 ∷ carries 38 (els 2 0) 4 2 Clean 0 ∷ [])
     (stopped_node 1 1 [] ∷ running_node 45 []
     ∷ running_node 45 [] ∷ [])
@@ -106,7 +105,7 @@ unfoldable accept_is_partial : ScenarioParts
 accept_is_partial = of_members 7 (scenario (three 45 1 2) one_tot (slot_rule 2 (Partial (set 4)) 1 ∷ []))
 
 totcan_accept_survives_its_sender :
-    (let s = accept_is_partial in report s (round_robin s)) ≡ whole_run (steps (codes ".012.012" ++ rounds_of 43 (codes ".12")))
+    report_of accept_is_partial ≡ whole_run (steps (codes ".012.012" ++ rounds_of 43 (codes ".12")))
     (carries 1 first_tot 1 6 Clean 0 ∷ carries 2 first_accept 1 2 (Partial (set 4)) 1 ∷ carries 3 first_accept 2 4 Clean 0
     ∷ carries 4 first_accept 4 2 Clean 0 ∷ carries 37 (els 1 0) 2 4 Clean 0 ∷ carries 38 (els 2 0) 4 2 Clean 0 ∷ [])
     (stopped_node 2 2 (delivered 1) ∷ running_node 45 (delivered 2)
@@ -120,7 +119,7 @@ unfoldable silent_to_node_2 : ScenarioParts
 silent_to_node_2 = of_members 7 (scenario (three 45 1 2) one_tot (slot_rule 1 (Silent (set 4)) 0 ∷ []))
 
 silent_omission_is_outside :
-    (let s = silent_to_node_2 in report s (round_robin s)) ≡ record {
+    report_of silent_to_node_2 ≡ record {
       journal = steps (rounds_of 45 (codes ".012"));
       bus = carries 1 first_tot 1 2 (Silent (set 4)) 0 ∷ carries 2 first_accept 1 6 Clean 0 ∷ carries 3 first_accept 2 5 Clean 0
           ∷ carries 37 (els 1 0) 2 5 Clean 0 ∷ carries 38 (els 0 0) 1 6 Clean 0 ∷ carries 39 (els 2 0) 4 3 Clean 0 ∷ [];
@@ -176,7 +175,7 @@ found_twice_and_asked_once = refl
 unfoldable accused : ℕ → ScenarioParts
 accused omit = of_members 2 (scenario (record (soon omit) { cycle = 100; slots = 12 }) [] (slot_rule 5 (Silent (set 1)) 0 ∷ []))
 
-accused_by_mistake : (let s = accused 1 in report s (round_robin s)) ≡ record {
+accused_by_mistake : report_of (accused 1) ≡ record {
   journal = steps (rounds_of 12 (codes ".012"));
   bus = carries 5 (els 1 0) 2 4 (Silent (set 1)) 0 ∷ carries 7 (fda 1 0) 1 6 Clean 0 ∷ carries 8 (fda 1 0) 6 1 Clean 0
       ∷ carries 10 (els 1 1) 2 5 Clean 0 ∷ [];
@@ -192,7 +191,7 @@ accused_by_mistake = refl
 
 -- where one copy is enough the sign that silence brought is sent all the same, and nobody sends it after that
 accused_without_omissions :
-    (let s = accused 0 in (report s (round_robin s)).bus)
+    (report_of (accused 0)).bus
     ≡ carries 5 (els 1 0) 2 4 (Silent (set 1)) 0 ∷ carries 7 (fda 1 0) 1 6 Clean 0 ∷ carries 10 (els 1 1) 2 5 Clean 0 ∷ []
 unfolding life_run accused
 accused_without_omissions = refl
@@ -204,7 +203,7 @@ unfoldable stopped_and_back : ScenarioParts
 stopped_and_back =
     with_restart 10 0 (of_members 7 (scenario (three 60 1 2) (send 50 1 (1 ∷ []) ∷ []) (slot_rule 5 Clean 1 ∷ [])))
 
-restart_hears_again_with_life_signs : (let s = stopped_and_back in report s (round_robin s)) ≡ whole_run (steps (rounds_of 5 (codes ".012") ++ rounds_of 6 (codes ".12") ++ rounds_of 49 (codes ".012")))
+restart_hears_again_with_life_signs : report_of stopped_and_back ≡ whole_run (steps (rounds_of 5 (codes ".012") ++ rounds_of 6 (codes ".12") ++ rounds_of 49 (codes ".012")))
     (idle 5 1 ∷ carries 37 (els 1 0) 2 5 Clean 0 ∷ carries 38 (els 2 0) 4 3 Clean 0 ∷ carries 51 (ed 1 0 (1 ∷ [])) 2 5 Clean 0
     ∷ carries 52 (ed 1 0 (1 ∷ [])) 5 2 Clean 0 ∷ [])
     (replicate 3 (running_node 60 (delivers 51 1 0 (1 ∷ []) ∷ [])))
@@ -217,7 +216,7 @@ unfoldable two_stop : ℕ → ScenarioParts
 two_stop slot = with_restart slot 0 (of_members 7 (scenario (record (soon 1) { bound = 2; cycle = 100; slots = 13 }) [] (slot_rule 0 Clean 3 ∷ [])))
 
 -- it learns both signs, one of which accuses its own number, and relays them: the life signs of node 2 win over these
-signs_reach_a_restarted_node : (let s = two_stop 0 in report s (round_robin s)) ≡ whole_run (steps (codes ".2" ++ rounds_of 12 (codes ".02")))
+signs_reach_a_restarted_node : report_of (two_stop 0) ≡ whole_run (steps (codes ".2" ++ rounds_of 12 (codes ".02")))
     (idle 0 3 ∷ carries 5 (els 2 0) 4 1 Clean 0 ∷ carries 7 (fda 0 0) 4 1 Clean 0 ∷ carries 8 (fda 0 0) 1 4 Clean 0
     ∷ carries 9 (fda 1 0) 4 1 Clean 0 ∷ carries 10 (els 2 1) 4 1 Clean 0 ∷ carries 11 (fda 1 0) 1 4 Clean 0 ∷ [])
     (running_node 13 (Failed 7 0 0 ∷ Failed 9 1 0 ∷ []) ∷ stopped_node 0 0 []
@@ -228,7 +227,7 @@ signs_reach_a_restarted_node = refl
 
 -- those that were carried before it takes part are hidden from it
 signs_before_it_takes_part :
-    (let s = two_stop 6 in (report s (round_robin s)).bus) ≡ idle 0 3 ∷ carries 5 (els 2 0) 4 0 Clean 0 ∷ carries 7 (fda 0 0) 4 1 Clean 0
+    (report_of (two_stop 6)).bus ≡ idle 0 3 ∷ carries 5 (els 2 0) 4 0 Clean 0 ∷ carries 7 (fda 0 0) 4 1 Clean 0
     ∷ carries 8 (fda 1 0) 4 1 Clean 0 ∷ carries 10 (els 2 1) 4 1 Clean 0 ∷ []
 unfolding life_run two_stop
 signs_before_it_takes_part = refl
@@ -295,13 +294,13 @@ premises_are_met = (
 
 -- and by one that started again
 premises_are_met_after_a_restart :
-    (let s = run (two_stop 0) (round_robin (two_stop 0)) in
+    (let s = run_of (two_stop 0) in
     IsWithin (two_stop 0).params s.trace × ((nobody_waits_with_sign s (sign 0 0) && all_read s) ≡ true)
     × (first_carried (fda_of (sign 0 0)) s.trace ≡ Some 7) × IsCorrectFrom (two_stop 0) s 7 0
     × HasSigned (two_stop 0) s 0 (sign 0 0) × IsCorrectFrom (two_stop 0) s 7 2)
 unfolding life_run two_stop first_carried
 premises_are_met_after_a_restart = (
-  (first_break_exact (two_stop 0).params (run (two_stop 0) (round_robin (two_stop 0))).trace).0 refl,
+  (first_break_exact (two_stop 0).params (run_of (two_stop 0)).trace).0 refl,
   refl,
   refl,
   record { correct = record { there = lit< tt; running = refl }; took_part = lit≤ tt },
@@ -314,7 +313,7 @@ nine-is-above-7 below = omega (arith, below)
 
 -- one that takes part only later need not know the sign, and does not
 not_met_of_an_earlier_sign :
-    (let s = run (two_stop 6) (round_robin (two_stop 6)) in
+    (let s = run_of (two_stop 6) in
     ((nobody_waits_with_sign s (sign 0 0) && all_read s) ≡ true) × (first_carried (fda_of (sign 0 0)) s.trace ≡ Some 7)
     × (IsCorrectFrom (two_stop 6) s 7 0 → ⊥) × (log (two_stop 6) s 0 ≡ []) × (log (two_stop 6) s 2 ≡ Failed 6 0 0 ∷ Failed 6 1 0 ∷ []))
 unfolding life_run two_stop first_carried

@@ -14,7 +14,6 @@ use Rattle.cany_base.specs.Params.{first_fault}
 use Rattle.cany_base.specs.Scenario.{ScenarioParts}
 use Rattle.cany_model.specs.declared.breaks.Break.{Break}
 use Rattle.cany_model.specs.declared.breaks.BreakKind.TheVariants as kind
-use Rattle.cany_model.specs.Runs.RoundRobin.{round_robin}
 use Rattle.cany_model.specs.Runs.Run.{run}
 use Rattle.cany_model.specs.Bus.State.{RunState, node_at}
 use Rattle.cany_model.specs.Promises.Acceptance.{HasReadClosing, IsAcceptedByAllOrNone, WasCarriedClean, accepted_in_time, history_to}
@@ -27,7 +26,7 @@ use Rattle.cany_model.specs.Rules.Log.{log}
 use Rattle.cany_model.specs.Rules.Messages.{Message, message_key, messages_of}
 use Rattle.cany_model.specs.Rules.Totcan.{is_accepted, tot_of_key}
 use Rattle.cany_model.proofs.Promises.BreakFacts.{first_break_exact}
-use Rattle.cany_rows.proofs.RowWords.{Followed-all, carries, delivers_tot, first_tot, follow, lag_1, one_tot, report, row, scenario, send, send_rel, send_tot, slot_rule, set, steps, three}
+use Rattle.cany_rows.proofs.RowWords.{Followed-all, carries, delivers_tot, first_tot, follow, lag_1, one_tot, report, row, scenario, send, send_rel, send_tot, slot_rule, set, steps, three, run_of}
 
 -- ---- what a row is written with
 
@@ -49,16 +48,14 @@ pub record OrderReport : Type 0 where
 abbrev node_order : ScenarioParts → RunState → ℕ → List Content × List Content
 node_order sc s i = (order sc s (node_at s.nodes i).present.from, tot_deliveries (log sc s i))
 
-unfoldable pub order_report : ScenarioParts → List Step → OrderReport
+unfoldable pub order_report : ScenarioParts → RunState → OrderReport
 unfolding report order_by
-order_report sc journal =
-    let s = run sc journal in
-    record {
-      order = order sc s 0;
-      nodes = map (node_order sc s) (range_with_len 0 sc.params.nodes);
-      settled = map (is_settled sc s) (messages_of sc.sends);
-      broken = first_break sc.params s.trace;
-    }
+order_report sc s = record {
+  order = order sc s 0;
+  nodes = map (node_order sc s) (range_with_len 0 sc.params.nodes);
+  settled = map (is_settled sc s) (messages_of sc.sends);
+  broken = first_break sc.params s.trace;
+}
 
 unfoldable pub order_row : Unit {0}
 unfolding row lag_1 content key order_report
@@ -77,7 +74,7 @@ abbrev its_message : Content
 its_message = content 0 0 (1 ∷ [])
 
 -- Nobody else has read that frame. Node 0 has delivered the message, but is stopped: what it accepted does not count.
-accepted_by_a_stopped_node : order_report late_reader (steps (codes ".012.0123.12")) ≡ record {
+accepted_by_a_stopped_node : order_report late_reader (run late_reader (steps (codes ".012.0123.12"))) ≡ record {
   order = [];
   nodes = ([], its_message ∷ []) ∷ ([], []) ∷ ([], []) ∷ ([], []) ∷ [];
   settled = false ∷ [];
@@ -87,7 +84,7 @@ unfolding order_row late_reader
 accepted_by_a_stopped_node = refl
 
 -- Node 3 has read it, and will send it again: the order has the message, and the others are to deliver it yet.
-accepted_by_one_node : order_report late_reader (steps (codes ".012.0123.123.123")) ≡ record {
+accepted_by_one_node : order_report late_reader (run late_reader (steps (codes ".012.0123.123.123"))) ≡ record {
   order = its_message ∷ [];
   nodes = (its_message ∷ [], its_message ∷ []) ∷ (its_message ∷ [], []) ∷ (its_message ∷ [], []) ∷ (its_message ∷ [], its_message ∷ []) ∷ [];
   settled = false ∷ [];
@@ -96,7 +93,7 @@ accepted_by_one_node : order_report late_reader (steps (codes ".012.0123.123.123
 unfolding order_row late_reader
 accepted_by_one_node = refl
 
-accepted_by_all : order_report late_reader (steps (codes ".012.0123.123.123.12")) ≡ record {
+accepted_by_all : order_report late_reader (run late_reader (steps (codes ".012.0123.123.123.12"))) ≡ record {
   order = its_message ∷ [];
   nodes = replicate 4 (its_message ∷ [], its_message ∷ []);
   settled = false ∷ [];
@@ -112,7 +109,7 @@ order_of_two_origins :
     (let first = content 0 0 (11 ∷ []) in
     let second = content 1 0 (10 ∷ []) in
     let s = scenario (three 12 1 2) (send_tot 0 1 (10 ∷ []) ∷ send_tot 0 0 (11 ∷ []) ∷ send_rel 0 1 (12 ∷ []) ∷ send 0 2 (13 ∷ []) ∷ []) [] in
-    order_report s (round_robin s) ≡ record {
+    order_report s (run_of s) ≡ record {
       order = first ∷ second ∷ [];
       nodes = replicate 3 (first ∷ second ∷ [], first ∷ second ∷ []);
       settled = false ∷ false ∷ true ∷ true ∷ [];
@@ -126,7 +123,7 @@ late_copy_moves_the_place :
     (let first = content 0 0 (11 ∷ []) in
     let second = content 1 0 (10 ∷ []) in
     let s = scenario (three 10 1 2) (send_tot 0 1 (10 ∷ []) ∷ send_tot 1 0 (11 ∷ []) ∷ []) (slot_rule 1 (Partial (set 4)) 0 ∷ []) in
-    order_report s (round_robin s) ≡ record {
+    order_report s (run_of s) ≡ record {
       order = first ∷ second ∷ [];
       nodes = replicate 3 (first ∷ second ∷ [], first ∷ second ∷ []);
       settled = false ∷ false ∷ [];
@@ -144,22 +141,20 @@ pub record AcceptanceReport : Type 0 where
   pub by_now : List Bool
   pub in_time : List Bool
 
-unfoldable pub acceptance_report : ScenarioParts → MsgKey → ℕ → List Step → AcceptanceReport
+unfoldable pub acceptance_report : ScenarioParts → MsgKey → ℕ → RunState → AcceptanceReport
 unfolding report
-acceptance_report sc message c journal =
-    let s = run sc journal in
-    record {
-      by_some = is_accepted_by_some sc s message;
-      by_now = map (has_accepted sc s message) (range_with_len 0 sc.params.nodes);
-      in_time = map (accepted_in_time sc s message c) (range_with_len 0 sc.params.nodes);
-    }
+acceptance_report sc message c s = record {
+  by_some = is_accepted_by_some sc s message;
+  by_now = map (has_accepted sc s message) (range_with_len 0 sc.params.nodes);
+  in_time = map (accepted_in_time sc s message c) (range_with_len 0 sc.params.nodes);
+}
 
 unfoldable acceptance_row : Unit {0}
 unfolding order_row acceptance_report late_reader
 acceptance_row = tt
 
 accepted_under_lag :
-    map (λ journal. acceptance_report late_reader (key 0 0) 1 (steps journal))
+    map (λ journal. acceptance_report late_reader (key 0 0) 1 (run late_reader (steps journal)))
     (codes ".012.0123.12" ∷ codes ".012.0123.123" ∷ codes ".012.0123.123.123" ∷ codes ".012.0123.123.123.12" ∷ [])
     ≡ record { by_some = false; by_now = true ∷ false ∷ false ∷ false ∷ []; in_time = true ∷ false ∷ false ∷ false ∷ [] }
     ∷ record { by_some = false; by_now = true ∷ false ∷ false ∷ false ∷ []; in_time = true ∷ false ∷ false ∷ false ∷ [] }
@@ -174,7 +169,7 @@ two_nodes slots =
     scenario (record (three slots 1 1) { nodes = 2; bound = 18; cycle = 36; life = 18; silence = 37 }) one_tot (slot_rule 2 (Partial (set 2)) 0 ∷ [])
 
 accepted_in_time_by_both :
-    (let s = two_nodes 22 in acceptance_report s (key 0 0) 1 (round_robin s))
+    (let s = two_nodes 22 in acceptance_report s (key 0 0) 1 (run_of s))
     ≡ record { by_some = true; by_now = true ∷ true ∷ []; in_time = true ∷ true ∷ [] }
 unfolding acceptance_row two_nodes
 accepted_in_time_by_both = refl
@@ -189,7 +184,7 @@ accept_is_lost rules = scenario (record (three 8 1 3) { bound = 3 }) one_tot rul
 
 -- In slot 4 it comes in time, and in slot 5 too late: then the origin alone has accepted the message, though the run is within the hypothesis.
 in_the_last_slot_and_after_it :
-    map (λ rules. (let s = accept_is_lost rules in acceptance_report s (key 0 0) 1 (round_robin s)))
+    map (λ rules. (let s = accept_is_lost rules in acceptance_report s (key 0 0) 1 (run_of s)))
     ((slot_rule 2 Lost 0 ∷ slot_rule 3 Lost 0 ∷ []) ∷ (slot_rule 2 Lost 0 ∷ slot_rule 3 Lost 0 ∷ slot_rule 4 Lost 0 ∷ []) ∷ [])
     ≡ record { by_some = true; by_now = true ∷ true ∷ true ∷ []; in_time = true ∷ true ∷ true ∷ [] }
     ∷ record { by_some = true; by_now = true ∷ false ∷ false ∷ []; in_time = true ∷ false ∷ false ∷ [] } ∷ []
@@ -197,7 +192,7 @@ unfolding acceptance_row accept_is_lost
 in_the_last_slot_and_after_it = refl
 
 both_are_within :
-    map (λ rules. (let s = accept_is_lost rules in order_report s (round_robin s)).broken)
+    map (λ rules. (let s = accept_is_lost rules in order_report s (run_of s)).broken)
     ((slot_rule 2 Lost 0 ∷ slot_rule 3 Lost 0 ∷ []) ∷ (slot_rule 2 Lost 0 ∷ slot_rule 3 Lost 0 ∷ slot_rule 4 Lost 0 ∷ []) ∷ [])
     ≡ None ∷ None ∷ []
 unfolding acceptance_row accept_is_lost
@@ -206,7 +201,7 @@ both_are_within = refl
 -- where it comes in slot 4, what the nodes had accepted by slots 4, 3, 1 and 0
 accepted_by_an_earlier_slot :
     (let sc = accept_is_lost (slot_rule 2 Lost 0 ∷ slot_rule 3 Lost 0 ∷ []) in
-    let s = run sc (round_robin sc) in
+    let s = run_of sc in
     map (λ slot. map (λ i. is_accepted sc.params.bound i (key 0 0) (history_to slot i s)) (0 ∷ 1 ∷ 2 ∷ [])) (4 ∷ 3 ∷ 1 ∷ 0 ∷ [])
     ≡ (true ∷ true ∷ true ∷ []) ∷ (true ∷ false ∷ false ∷ []) ∷ (true ∷ false ∷ false ∷ []) ∷ (false ∷ false ∷ false ∷ []) ∷ [])
 unfolding acceptance_row accept_is_lost
@@ -217,14 +212,14 @@ unfoldable sender_stops_after_clean : ScenarioParts
 sender_stops_after_clean = scenario (three 37 1 0) one_tot (slot_rule 1 Clean 1 ∷ [])
 
 accepted_by_none :
-    (let s = sender_stops_after_clean in acceptance_report s (key 0 0) 1 (round_robin s))
+    (let s = sender_stops_after_clean in acceptance_report s (key 0 0) 1 (run_of s))
     ≡ record { by_some = false; by_now = false ∷ false ∷ false ∷ []; in_time = false ∷ false ∷ false ∷ [] }
 unfolding acceptance_row sender_stops_after_clean
 accepted_by_none = refl
 
 -- so it has no place in the order, although its data frame was carried Clean
 unaccepted_is_dropped :
-    (let s = sender_stops_after_clean in order_report s (round_robin s))
+    (let s = sender_stops_after_clean in order_report s (run_of s))
     ≡ record { order = []; nodes = ([], []) ∷ ([], []) ∷ ([], []) ∷ []; settled = true ∷ []; broken = None }
 unfolding acceptance_row sender_stops_after_clean
 unaccepted_is_dropped = refl
@@ -232,7 +227,7 @@ unaccepted_is_dropped = refl
 -- that of row `totcan_unaccepted_is_dropped`, whose data frame is carried Partial alone
 partial_is_dropped :
     (let s = scenario (three 38 1 2) one_tot (slot_rule 1 (Partial (set 4)) 1 ∷ []) in
-    order_report s (round_robin s)
+    order_report s (run_of s)
     ≡ record { order = []; nodes = ([], []) ∷ ([], []) ∷ ([], []) ∷ []; settled = true ∷ []; broken = None })
 unfolding acceptance_row
 partial_is_dropped = refl
@@ -253,7 +248,7 @@ second_message = content 0 1 (2 ∷ [])
 
 -- the order of the slots in which it takes part is empty, while that of the run has the message, and the other node follows this
 restarted_after_the_message :
-    (let s = node_1_starts_again 10 in order_report s (round_robin s)) ≡ record {
+    (let s = node_1_starts_again 10 in order_report s (run_of s)) ≡ record {
       order = its_message ∷ [];
       nodes = (its_message ∷ [], its_message ∷ []) ∷ ([], []) ∷ [];
       settled = false ∷ false ∷ [];
@@ -264,7 +259,7 @@ restarted_after_the_message = refl
 
 -- it has the second message: a prefix of the order of its slots, and not of the whole
 restarted_follows_the_order_of_its_slots :
-    (let s = node_1_starts_again 27 in order_report s (round_robin s)) ≡ record {
+    (let s = node_1_starts_again 27 in order_report s (run_of s)) ≡ record {
       order = its_message ∷ second_message ∷ [];
       nodes = (its_message ∷ second_message ∷ [], its_message ∷ second_message ∷ []) ∷ (second_message ∷ [], second_message ∷ []) ∷ [];
       settled = true ∷ false ∷ [];
@@ -282,7 +277,7 @@ from_3 rules =
 
 -- The data frame is carried Partial in slot 2 and Clean in slot 3: its place in the order is slot 3, and the node delivers it.
 clean_since_it_takes_part :
-    (let s = from_3 (slot_rule 2 (Partial (set 2)) 0 ∷ []) in order_report s (round_robin s)) ≡ record {
+    (let s = from_3 (slot_rule 2 (Partial (set 2)) 0 ∷ []) in order_report s (run_of s)) ≡ record {
       order = its_message ∷ [];
       nodes = replicate 3 (its_message ∷ [], its_message ∷ []);
       settled = true ∷ [];
@@ -293,7 +288,7 @@ clean_since_it_takes_part = refl
 
 -- It is carried Clean in slot 2, and accepted in slot 3: the node hears this, but has no place of the message.
 clean_before_it_takes_part :
-    (let s = from_3 [] in order_report s (round_robin s)) ≡ record {
+    (let s = from_3 [] in order_report s (run_of s)) ≡ record {
       order = its_message ∷ [];
       nodes = (its_message ∷ [], its_message ∷ []) ∷ (its_message ∷ [], its_message ∷ []) ∷ ([], []) ∷ [];
       settled = true ∷ [];
@@ -304,14 +299,14 @@ clean_before_it_takes_part = refl
 
 -- in the first of the two the data frame was first carried before the node takes part, so that the order says more of it than agreement
 first_carried_in_slot_2 :
-    map (λ rules. (let s = from_3 rules in first_carried (tot_of_key (key 0 0)) (run s (round_robin s)).trace))
+    map (λ rules. (let s = from_3 rules in first_carried (tot_of_key (key 0 0)) (run_of s).trace))
     ((slot_rule 2 (Partial (set 2)) 0 ∷ []) ∷ [] ∷ [])
     ≡ Some 2 ∷ Some 2 ∷ []
 unfolding acceptance_row from_3 first_carried
 first_carried_in_slot_2 = refl
 
 not_accepted_by_the_restarted :
-    (let s = from_3 [] in acceptance_report s (key 0 0) 2 (round_robin s))
+    (let s = from_3 [] in acceptance_report s (key 0 0) 2 (run_of s))
     ≡ record { by_some = true; by_now = true ∷ true ∷ false ∷ []; in_time = true ∷ true ∷ false ∷ [] }
 unfolding acceptance_row from_3
 not_accepted_by_the_restarted = refl
@@ -326,7 +321,7 @@ abbrev of_node_1 : Content
 of_node_1 = content 1 0 (2 ∷ [])
 
 silent_omission_breaks_the_order :
-    (let s = silent_to_node_2 in order_report s (round_robin s)) ≡ record {
+    (let s = silent_to_node_2 in order_report s (run_of s)) ≡ record {
       order = of_node_1 ∷ [];
       nodes = (of_node_1 ∷ [], its_message ∷ of_node_1 ∷ []) ∷ (of_node_1 ∷ [], its_message ∷ of_node_1 ∷ []) ∷ (of_node_1 ∷ [], of_node_1 ∷ []) ∷ [];
       settled = false ∷ false ∷ [];
@@ -342,7 +337,7 @@ accept_to_node_1 omit =
 
 -- Where no omission is allowed, node 1 does not send it again. So node 2 drops the first message, and delivers the second alone.
 one_omission_too_many :
-    (let s = accept_to_node_1 0 in order_report s (round_robin s)) ≡ record {
+    (let s = accept_to_node_1 0 in order_report s (run_of s)) ≡ record {
       order = its_message ∷ of_node_1 ∷ [];
       nodes = (its_message ∷ of_node_1 ∷ [], its_message ∷ []) ∷ (its_message ∷ of_node_1 ∷ [], its_message ∷ of_node_1 ∷ [])
           ∷ (its_message ∷ of_node_1 ∷ [], of_node_1 ∷ []) ∷ [];
@@ -354,7 +349,7 @@ one_omission_too_many = refl
 
 -- where one is, it does
 one_omission_that_is_allowed :
-    (let s = accept_to_node_1 1 in order_report s (round_robin s)) ≡ record {
+    (let s = accept_to_node_1 1 in order_report s (run_of s)) ≡ record {
       order = its_message ∷ of_node_1 ∷ [];
       nodes = (its_message ∷ of_node_1 ∷ [], its_message ∷ []) ∷ (its_message ∷ of_node_1 ∷ [], its_message ∷ of_node_1 ∷ [])
           ∷ (its_message ∷ of_node_1 ∷ [], its_message ∷ of_node_1 ∷ []) ∷ [];
@@ -399,7 +394,7 @@ unfolding early_row
 the_bound_is_too_small = refl
 
 bound_too_small_breaks_the_order :
-    order_report starved starved_journal ≡ record {
+    order_report starved (run starved starved_journal) ≡ record {
       order = early ∷ late ∷ [];
       nodes = (early ∷ late ∷ [], late ∷ []) ∷ (early ∷ late ∷ [], early ∷ late ∷ []) ∷ (early ∷ late ∷ [], late ∷ []) ∷ [];
       settled = true ∷ false ∷ [];
@@ -409,14 +404,14 @@ unfolding early_row
 bound_too_small_breaks_the_order = refl
 
 bound_too_small_breaks_acceptance :
-    (acceptance_report starved (key 1 0) 1 starved_journal ∷ acceptance_report rejected (key 1 0) 1 rejected_journal ∷ [])
+    (acceptance_report starved (key 1 0) 1 (run starved starved_journal) ∷ acceptance_report rejected (key 1 0) 1 (run rejected rejected_journal) ∷ [])
     ≡ record { by_some = true; by_now = false ∷ true ∷ false ∷ []; in_time = false ∷ true ∷ false ∷ [] }
     ∷ record { by_some = true; by_now = true ∷ true ∷ false ∷ []; in_time = true ∷ true ∷ false ∷ [] } ∷ []
 unfolding early_row
 bound_too_small_breaks_acceptance = refl
 
 rejected_by_one_too :
-    order_report rejected rejected_journal ≡ record {
+    order_report rejected (run rejected rejected_journal) ≡ record {
       order = early ∷ late ∷ [];
       nodes = (early ∷ late ∷ [], early ∷ late ∷ []) ∷ (early ∷ late ∷ [], early ∷ late ∷ []) ∷ (early ∷ late ∷ [], late ∷ []) ∷ [];
       settled = true ∷ false ∷ [];
@@ -460,7 +455,7 @@ bound_too_small_leaves_no_acceptance accepted =
 -- ---- that the premises are met, and the promises kept
 
 unfoldable two_run : ℕ → RunState
-two_run slots = run (two_nodes slots) (round_robin (two_nodes slots))
+two_run slots = run_of (two_nodes slots)
 
 unfoldable two_row : Unit {0}
 unfolding acceptance_row two_nodes two_run
@@ -506,7 +501,7 @@ unfoldable restarted : ScenarioParts
 restarted = node_1_starts_again 27
 
 unfoldable restarted_run : RunState
-restarted_run = run restarted (round_robin restarted)
+restarted_run = run_of restarted
 
 unfoldable restarted_row : Unit {0}
 unfolding two_row node_1_starts_again restarted restarted_run

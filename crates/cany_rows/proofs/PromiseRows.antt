@@ -1,6 +1,6 @@
 -- Worked rows of the whole promise: a run that keeps all of it, and for each part one that does not.
-use Rattle.std.specs.Prelude.{ℕ, ◌<◌, ◌≡◌, ◌&&◌, Bool, true, List, [], ◌∷◌, Option, Some, None, Ok, map, refl}
-use Rattle.std.proofs.Common.{ap, arith, inl, lit<, lit≤}
+use Rattle.std.specs.Prelude.{ℕ, ◌+◌, ◌*◌, ◌<◌, ◌≤◌, ◌≡◌, ◌&&◌, Bool, true, List, [], ◌∷◌, Option, Some, None, Ok, map, refl}
+use Rattle.std.proofs.Common.{ap, arith, inl, lit<, lit≤, subst, sym}
 use Rattle.cany_base.specs.declared.log_entry.LogEntry.{LogEntry}
 use Rattle.cany_base.specs.declared.log_entry.LogEntry.TheVariants.{Failed, View}
 use Rattle.cany_base.specs.declared.message.Service.{Service}
@@ -12,10 +12,9 @@ use Rattle.cany_base.specs.Params.{first_fault}
 use Rattle.cany_base.specs.Scenario.{ScenarioParts}
 use Rattle.cany_model.specs.declared.breaks.Break.{Break}
 use Rattle.cany_model.specs.declared.breaks.BreakKind.TheVariants as kind
-use Rattle.cany_model.specs.Runs.RoundRobin.{round_robin}
-use Rattle.cany_model.specs.Runs.Run.{all_read, run}
-use Rattle.cany_model.specs.Bus.State.{RunState}
-use Rattle.cany_model.specs.Promises.Hypothesis.{IsWithin}
+use Rattle.cany_model.specs.Runs.Run.{all_read}
+use Rattle.cany_model.specs.Bus.State.{RunState, node_at, reads, runs}
+use Rattle.cany_model.specs.Promises.Hypothesis.{IsWithin, first_break}
 use Rattle.cany_model.specs.Promises.OneView.{HasOneView, HasReadEnd, installed, installed_of}
 use Rattle.cany_model.specs.Promises.Order.{HasOneOrder}
 use Rattle.cany_model.specs.Promises.FirstSlots.{first_carried}
@@ -24,8 +23,8 @@ use Rattle.cany_model.specs.Promises.Settled.{nobody_waits_with_sign}
 use Rattle.cany_model.specs.Rules.Messages.{Message}
 use Rattle.cany_model.specs.Rules.Knowledge.{fda_of}
 use Rattle.cany_model.proofs.Promises.BreakFacts.{first_break_exact}
-use Rattle.cany_rows.proofs.OrderRows.{content, first_origin, order_report, order_row, silent_to_node_2, two_is_not_one}
-use Rattle.cany_rows.proofs.RowWords.{NodeReport, carries, delivers, delivers_rel, delivers_tot, ed, accept, confirm, idle, rel, report, scenario, send, send_rel, send_tot, set, slot_rule, three, tot, running_node, stopped_node, whole_run}
+use Rattle.cany_rows.proofs.OrderRows.{content, first_origin, OrderReport, order_report, order_row, silent_to_node_2, two_is_not_one}
+use Rattle.cany_rows.proofs.RowWords.{NodeReport, RunReport, Walk, report_in, walk_of, carries, delivers, delivers_rel, delivers_tot, ed, accept, confirm, idle, rel, report, scenario, send, send_rel, send_tot, set, slot_rule, three, tot, running_node, stopped_node, whole_run, report_of, run_of}
 use Rattle.cany_rows.proofs.SiteWords.{asks_at, els, fda, join, leave, of_members, rha, short_cycles, sign, site_row, with_asks}
 
 -- ---- a run that keeps the whole promise
@@ -46,57 +45,100 @@ formulas_are_met : first_fault whole.params ≡ Ok tt
 unfolding promise_row whole
 formulas_are_met = refl
 
--- All messages are settled, and in the logs of nodes 0 and 2, which are correct. Both tell of the stop of node 1 and have the same view.
+-- whether a node runs at the end of a run, since which slot it takes part, and how many slots it has read
+record NodeEnd : Type 0 where
+  running : Bool
+  from : ℕ
+  read : ℕ
+
+abbrev node_end : RunState → ℕ → NodeEnd
+node_end s i = record { running = runs (node_at s.nodes i); from = (node_at s.nodes i).present.from; read = reads s i }
+
+-- What is seen of the run, which is computed here once: where it leaves the hypothesis, its report, its order, the vectors of cycle 1, in which slot the sign of the
+-- stop of node 1 was first carried, whether nobody waits with it and all is read, and nodes 0 and 2.
+record SeenOfWhole : Type 0 where
+  broken : Option Break
+  report : RunReport
+  order : OrderReport
+  vectors : List (Option Nodes)
+  carried : Option ℕ
+  known : Bool
+  node_0 : NodeEnd
+  node_2 : NodeEnd
+
+abbrev whole_seen_in : Walk → SeenOfWhole
+whole_seen_in w =
+    let s = w.end in
+    record {
+      broken = first_break whole.params s.trace;
+      report = record (report_in whole w) { journal = [] };
+      order = order_report whole s;
+      vectors = map (λ i. installed whole s i 1) (0 ∷ 1 ∷ 2 ∷ []);
+      carried = first_carried (fda_of (sign 1 1)) s.trace;
+      known = nobody_waits_with_sign s (sign 1 1) && all_read s;
+      node_0 = node_end s 0;
+      node_2 = node_end s 2;
+    }
+
+-- All messages are settled, and in the logs of nodes 0 and 2, which are correct. Both tell of the stop of node 1 and have the same view. The order has the messages
+-- by TOTCAN, and every node has delivered all of it. Nodes 0 and 2 install one vector at the end of cycle 1, which node 1 has not read.
 promise_is_kept :
-    (let r = report whole (round_robin whole) in
+    (let all = content 0 0 (1 ∷ []) ∷ content 2 1 (4 ∷ []) ∷ [] in
     let signs = Failed 71 1 1 ∷ View 105 1 (set 5) ∷ [] in
     let first : ℕ → LogEntry = λ slot. delivers_tot slot 0 0 (1 ∷ []) in
     let second : ℕ → LogEntry = λ slot. delivers_tot slot 2 1 (4 ∷ []) in
-    record r { journal = [] } ≡ whole_run []
-    (carries 1 (tot 0 0 (1 ∷ [])) 1 2 (Partial (set 4)) 0 ∷ carries 2 (tot 0 0 (1 ∷ [])) 1 6 Clean 0 ∷ carries 3 (accept 0 0) 1 6 Clean 0
-    ∷ carries 4 (accept 0 0) 6 1 Clean 0 ∷ carries 5 (tot 2 1 (4 ∷ [])) 4 3 Clean 0 ∷ carries 6 (accept 2 1) 4 3 Clean 0
-    ∷ carries 7 (accept 2 1) 3 4 Clean 0 ∷ carries 8 (rel 1 0 (2 ∷ [])) 2 5 Clean 0 ∷ carries 9 (confirm 1 0) 2 5 Clean 0
-    ∷ carries 10 (ed 2 0 (3 ∷ [])) 4 3 Clean 0 ∷ carries 11 (join 2 0) 4 3 Clean 0 ∷ carries 12 (ed 2 0 (3 ∷ [])) 3 4 Clean 0
-    ∷ carries 21 (leave 1 0) 2 5 Clean 0 ∷ idle 22 2 ∷ carries 38 (els 0 0) 1 4 Clean 0
-    ∷ carries 71 (rha 0 1 5) 1 4 Clean 0 ∷ carries 72 (rha 2 1 5) 4 1 Clean 0 ∷ carries 73 (fda 1 1) 5 0 Clean 0 ∷ [])
-    (running_node 106 (first 2 ∷ second 6 ∷ delivers_rel 8 1 0 (2 ∷ []) ∷ delivers 10 2 0 (3 ∷ []) ∷ signs)
-    ∷ stopped_node 22 22 (first 3 ∷ second 6 ∷ delivers_rel 8 1 0 (2 ∷ []) ∷ delivers 10 2 0 (3 ∷ []) ∷ [])
-    ∷ running_node 106 (first 3 ∷ second 5 ∷ delivers_rel 8 1 0 (2 ∷ []) ∷ delivers 10 2 0 (3 ∷ []) ∷ signs) ∷ [])
-    (true ∷ true ∷ true ∷ true ∷ []))
-unfolding promise_row whole
+    whole_seen_in (walk_of whole) ≡ record {
+      broken = None;
+      report = whole_run []
+          (carries 1 (tot 0 0 (1 ∷ [])) 1 2 (Partial (set 4)) 0 ∷ carries 2 (tot 0 0 (1 ∷ [])) 1 6 Clean 0 ∷ carries 3 (accept 0 0) 1 6 Clean 0
+          ∷ carries 4 (accept 0 0) 6 1 Clean 0 ∷ carries 5 (tot 2 1 (4 ∷ [])) 4 3 Clean 0 ∷ carries 6 (accept 2 1) 4 3 Clean 0
+          ∷ carries 7 (accept 2 1) 3 4 Clean 0 ∷ carries 8 (rel 1 0 (2 ∷ [])) 2 5 Clean 0 ∷ carries 9 (confirm 1 0) 2 5 Clean 0
+          ∷ carries 10 (ed 2 0 (3 ∷ [])) 4 3 Clean 0 ∷ carries 11 (join 2 0) 4 3 Clean 0 ∷ carries 12 (ed 2 0 (3 ∷ [])) 3 4 Clean 0
+          ∷ carries 21 (leave 1 0) 2 5 Clean 0 ∷ idle 22 2 ∷ carries 38 (els 0 0) 1 4 Clean 0
+          ∷ carries 71 (rha 0 1 5) 1 4 Clean 0 ∷ carries 72 (rha 2 1 5) 4 1 Clean 0 ∷ carries 73 (fda 1 1) 5 0 Clean 0 ∷ [])
+          (running_node 106 (first 2 ∷ second 6 ∷ delivers_rel 8 1 0 (2 ∷ []) ∷ delivers 10 2 0 (3 ∷ []) ∷ signs)
+          ∷ stopped_node 22 22 (first 3 ∷ second 6 ∷ delivers_rel 8 1 0 (2 ∷ []) ∷ delivers 10 2 0 (3 ∷ []) ∷ [])
+          ∷ running_node 106 (first 3 ∷ second 5 ∷ delivers_rel 8 1 0 (2 ∷ []) ∷ delivers 10 2 0 (3 ∷ []) ∷ signs) ∷ [])
+          (true ∷ true ∷ true ∷ true ∷ []);
+      order = record {
+        order = all;
+        nodes = (all, all) ∷ (all, all) ∷ (all, all) ∷ [];
+        settled = true ∷ true ∷ true ∷ true ∷ [];
+        broken = None;
+      };
+      vectors = Some (set 5) ∷ None ∷ Some (set 5) ∷ [];
+      carried = Some 73;
+      known = true;
+      node_0 = record { running = true; from = 0; read = 106 };
+      node_2 = record { running = true; from = 0; read = 106 };
+    })
+unfolding promise_row installed_of first_carried whole
 promise_is_kept = refl
 
--- the order has the messages by TOTCAN, and every node has delivered all of it
-order_is_kept :
-    (let all = content 0 0 (1 ∷ []) ∷ content 2 1 (4 ∷ []) ∷ [] in
-    order_report whole (round_robin whole) ≡ record {
-      order = all;
-      nodes = (all, all) ∷ (all, all) ∷ (all, all) ∷ [];
-      settled = true ∷ true ∷ true ∷ true ∷ [];
-      broken = None;
-    })
-unfolding promise_row whole
-order_is_kept = refl
-
--- nodes 0 and 2 install one vector at the end of cycle 1, which node 1 has not read
-one_vector_is_installed :
-    (let s = run whole (round_robin whole) in map (λ i. installed whole s i 1) (0 ∷ 1 ∷ 2 ∷ [])) ≡ Some (set 5) ∷ None ∷ Some (set 5) ∷ []
-unfolding promise_row installed_of whole
-one_vector_is_installed = refl
+has_read_end : (sc : ScenarioParts) (s : RunState) (k i from read : ℕ) → i < sc.params.nodes → node_end s i ≡ record { running = true; from = from; read = read }
+    → from ≤ k * sc.params.cycle → k * sc.params.cycle + sc.params.bound < read → HasReadEnd sc s k i
+has_read_end sc s k i from read there end part late = record {
+  correct = record {
+    correct = record { there = there; running = ap (λ (e : NodeEnd). e.running) end };
+    took_part = subst (λ n. n ≤ k * sc.params.cycle) (sym (ap (λ (e : NodeEnd). e.from) end)) part;
+  };
+  read = subst (λ n. k * sc.params.cycle + sc.params.bound < n) (sym (ap (λ (e : NodeEnd). e.read) end)) late;
+}
 
 -- the premises
 premises_are_met :
-    (let s = run whole (round_robin whole) in
+    (let s = (walk_of whole).end in
     IsWithin whole.params s.trace × HasReadEnd whole s 1 0 × HasReadEnd whole s 1 2
     × ((nobody_waits_with_sign s (sign 1 1) && all_read s) ≡ true) × (first_carried (fda_of (sign 1 1)) s.trace ≡ Some 73))
-unfolding promise_row first_carried whole
-premises_are_met = (
-  (first_break_exact whole.params (run whole (round_robin whole)).trace).0 refl,
-  record { correct = record { correct = record { there = lit< tt; running = refl }; took_part = lit≤ tt }; read = lit< tt },
-  record { correct = record { correct = record { there = lit< tt; running = refl }; took_part = lit≤ tt }; read = lit< tt },
-  refl,
-  refl,
-)
+unfolding whole with_asks of_members scenario three
+premises_are_met =
+    let s = (walk_of whole).end in (
+      (first_break_exact whole.params s.trace).0 (ap (λ (seen : SeenOfWhole). seen.broken) promise_is_kept),
+      has_read_end whole s 1 0 0 106 (lit< tt) (ap (λ (seen : SeenOfWhole). seen.node_0) promise_is_kept) (lit≤ tt) (lit< tt),
+      has_read_end whole s 1 2 0 106 (lit< tt) (ap (λ (seen : SeenOfWhole). seen.node_2) promise_is_kept) (lit≤ tt) (lit< tt),
+      ap (λ (seen : SeenOfWhole). seen.known) promise_is_kept,
+      ap (λ (seen : SeenOfWhole). seen.carried) promise_is_kept,
+    )
 
 -- ---- agreement fails outside the hypothesis
 
@@ -112,12 +154,12 @@ unfolding promise_row silent_by
 its_formulas_are_met by = refl
 
 unfoldable silent_run : Service → RunState
-silent_run by = run (silent_by by) (round_robin (silent_by by))
+silent_run by = run_of (silent_by by)
 
 -- of a run: whether the messages are settled, the logs, and the first break
 unfoldable outcome : ScenarioParts → List Bool × List (List LogEntry) × Option Break
 unfolding report
-outcome sc = let r = report sc (round_robin sc) in (r.settled, map (λ (node : NodeReport). node.log) r.nodes, r.broken)
+outcome sc = let r = report_of sc in (r.settled, map (λ (node : NodeReport). node.log) r.nodes, r.broken)
 
 unfoldable outside_row : Unit {0}
 unfolding promise_row silent_by silent_run outcome
@@ -154,7 +196,7 @@ agreement_fails service.Tot agreed =
 -- ---- one order
 
 -- that of row `silent_omission_breaks_the_order`: node 0 begins with a message that the order does not have
-one_order_fails : HasOneOrder silent_to_node_2 (run silent_to_node_2 (round_robin silent_to_node_2)) → ⊥
+one_order_fails : HasOneOrder silent_to_node_2 (run_of silent_to_node_2) → ⊥
 unfolding promise_row silent_to_node_2
 one_order_fails follows = two_is_not_one (ap first_origin (follows 0 (record { there = lit< tt; running = refl })).prefix)
 
@@ -183,7 +225,7 @@ views_differ = refl
 three_is_not_seven : ◌≡◌ {A = ℕ} 3 7 → ⊥
 three_is_not_seven same = omega (arith, same)
 
-one_view_fails : HasOneView silent_vector (run silent_vector (round_robin silent_vector)) → ⊥
+one_view_fails : HasOneView silent_vector (run_of silent_vector) → ⊥
 unfolding view_row
 one_view_fails alike =
     three_is_not_seven
@@ -207,7 +249,7 @@ silent_sign =
     (slot_rule 7 (Partial (set 1)) 4 ∷ slot_rule 9 (Silent (set 2)) 0 ∷ []))
 
 unfoldable silent_sign_run : RunState
-silent_sign_run = run silent_sign (round_robin silent_sign)
+silent_sign_run = run_of silent_sign
 
 signs_differ : outcome silent_sign ≡ ([], (Failed 8 2 0 ∷ []) ∷ [] ∷ [] ∷ [], Some (record { kind = kind.Silent; slot = 9 }))
 unfolding view_row silent_sign

@@ -14,14 +14,13 @@ use Rattle.cany_base.specs.Frame.{FrameParts}
 use Rattle.cany_base.specs.Params.{Parameters}
 use Rattle.cany_base.specs.Scenario.{ScenarioParts}
 use Rattle.cany_model.specs.Bus.Frames.{identity_of}
-use Rattle.cany_model.specs.Runs.RoundRobin.{round_robin}
 use Rattle.cany_model.specs.Runs.Run.{run, slot_state, slot_state_from}
 use Rattle.cany_model.specs.Bus.State.{RunState, node_at, runs}
 use Rattle.cany_model.specs.Promises.Quiet.{HasFewAskingSlots, HasQuietSlots, IsQuiet, WasQuiet, asks_as, asks_at, asks_for_first_class, is_top, makes_ask, most_asking}
 use Rattle.cany_model.specs.Promises.Windows.{HasFew, HasFewAccepts, HasFewLifeSigns, HasFewTotFrames, HasFewVectors, is_clean_of}
 use Rattle.cany_model.specs.Rules.Effect.{Ask, Withdraw}
 use Rattle.cany_rows.proofs.OrderRows.{early_row, late_reader, order_row, starved, starved_journal}
-use Rattle.cany_rows.proofs.RowWords.{accept, carries, ed, first_accept, first_tot, idle, one_tot, report, scenario, set, slot_rule, steps, three, tot}
+use Rattle.cany_rows.proofs.RowWords.{accept, carries, ed, first_accept, first_tot, idle, one_tot, report, scenario, set, slot_rule, steps, three, tot, run_of}
 use Rattle.cany_rows.proofs.SiteWords.{classes, els, of_members, rha, rounds_of, site_row}
 
 -- ---- what a row is written with
@@ -257,7 +256,7 @@ as_many_are_allowed trace = (
 unfoldable life_signs : ℕ → ℕ
 life_signs life =
     let sc = of_members 7 (scenario (record (three 60 1 2) { life = life; silence = 200 }) [] []) in
-    count_by (is_clean_of class.Els) (take (sc.params.bound + sc.params.lag) (run sc (round_robin sc)).trace)
+    count_by (is_clean_of class.Els) (take (sc.params.bound + sc.params.lag) (run_of sc).trace)
 
 -- each node shows life once in a window of 36 slots, where the formulas are met, and else more often
 life_signs_in_a_window : map life_signs (36 ∷ 12 ∷ []) ≡ 3 ∷ 9 ∷ []
@@ -323,6 +322,6 @@ bound_too_small_leaves_no_quiet_slot has = let found = has 2 (lit≤ tt) in neve
 unfoldable short_of_two : ScenarioParts
 short_of_two = of_members 3 (scenario (record (three 42 1 0) { nodes = 2; lag = 60; bound = 1; cycle = 2; life = 99; silence = 199 }) [] [])
 
-too_many_slots_make_a_node_ask : HasFewAskingSlots short_of_two (run short_of_two (round_robin short_of_two)) → ⊥
+too_many_slots_make_a_node_ask : HasFewAskingSlots short_of_two (run_of short_of_two) → ⊥
 unfolding quiet_row short_of_two
 too_many_slots_make_a_node_ask few = not_one_more 19 (few 0)

@@ -13,11 +13,9 @@ use Rattle.cany_base.specs.Scenario.{ScenarioParts}
 use Rattle.cany_model.specs.declared.span.Span.{Span}
 use Rattle.cany_model.specs.Bus.History.{is_hidden, seen}
 use Rattle.cany_model.specs.Bus.Restart.{first_cycle, next_incarnation, restarted_in}
-use Rattle.cany_model.specs.Runs.RoundRobin.{round_robin}
-use Rattle.cany_model.specs.Runs.Run.{run}
-use Rattle.cany_model.specs.Bus.State.{original}
+use Rattle.cany_model.specs.Bus.State.{RunState, original}
 use Rattle.cany_rows.proofs.RestartRows.{incarnation, lives, restart_row, span, with_restarts}
-use Rattle.cany_rows.proofs.RowWords.{carries, ed, idle, report, scenario, set, slot_rule, steps, three}
+use Rattle.cany_rows.proofs.RowWords.{carries, ed, idle, report, scenario, set, slot_rule, steps, three, run_of, walk_of, shown}
 use Rattle.cany_rows.proofs.SiteWords.{asks_at, els, fda, join, leave, of_members, rha, rounds_of, short_cycles, site_row, with_asks}
 
 -- ---- what a row is written with
@@ -29,11 +27,9 @@ pub record RejoinReport : Type 0 where
   pub lives : List (List (Option Span × List LogEntry))
   pub restarted : List Nodes
 
-unfoldable rejoin_report : ScenarioParts → List ℕ → List Step → RejoinReport
+unfoldable rejoin_report : ScenarioParts → List ℕ → RunState → RejoinReport
 unfolding report lives restarted_in
-rejoin_report sc slots journal =
-    let s = run sc journal in
-    record { bus = (report sc journal).bus; lives = map (lives sc s) (0 ∷ 1 ∷ 2 ∷ []); restarted = map (restarted_in s) slots }
+rejoin_report sc slots s = record { bus = shown s.trace; lives = map (lives sc s) (0 ∷ 1 ∷ 2 ∷ []); restarted = map (restarted_in s) slots }
 
 -- the frame of the second incarnation of its node
 unfoldable again : FrameParts → FrameParts
@@ -58,23 +54,24 @@ of_the_others = (Some (span 0 None 253), Failed 73 1 1 ∷ View 108 1 (set 7) �
 unfoldable its_journal : List Step
 its_journal = steps (rounds_of 5 (codes ".012") ++ rounds_of 106 (codes ".02") ++ rounds_of 142 (codes ".012"))
 
-restart_joins : rejoin_report stopped_and_back (109 ∷ 110 ∷ 111 ∷ []) its_journal ≡ record {
-  bus = idle 5 2 ∷ carries 37 (els 0 0) 1 4 Clean 0 ∷ carries 38 (els 2 0) 4 1 Clean 0 ∷ carries 73 (rha 0 1 7) 1 4 Clean 0
-      ∷ carries 74 (rha 2 1 7) 4 1 Clean 0 ∷ carries 75 (fda 1 1) 5 0 Clean 0 ∷ carries 110 (els 0 1) 1 4 Clean 0
-      ∷ carries 111 (els 2 1) 4 3 Clean 0 ∷ carries 145 (rha 0 2 5) 1 6 Clean 0 ∷ carries 146 (rha 2 2 5) 4 3 Clean 0
-      ∷ carries 182 (els 0 2) 1 6 Clean 0 ∷ carries 183 (els 2 2) 4 3 Clean 0 ∷ carries 191 (again (join 1 2)) 2 5 Clean 0
-      ∷ carries 217 (rha 0 3 7) 1 6 Clean 0 ∷ carries 218 (again (rha 1 3 7)) 2 5 Clean 0 ∷ carries 220 (els 2 3) 4 3 Clean 0 ∷ [];
-  lives = of_the_others
-      ∷ ((Some (span 0 (Some 5) 5), []) ∷ (Some (span 111 None 142), View 252 3 (set 7) ∷ []) ∷ (None, []) ∷ [])
-      ∷ of_the_others ∷ [];
-  restarted = set 0 ∷ set 2 ∷ set 0 ∷ [];
-}
+restart_joins :
+    (let walked = walk_of stopped_and_back in
+    ◌≡◌ {A = List Step × RejoinReport} (walked.journal, rejoin_report stopped_and_back (109 ∷ 110 ∷ 111 ∷ []) walked.end) (
+      its_journal,
+      record {
+        bus = idle 5 2 ∷ carries 37 (els 0 0) 1 4 Clean 0 ∷ carries 38 (els 2 0) 4 1 Clean 0 ∷ carries 73 (rha 0 1 7) 1 4 Clean 0
+            ∷ carries 74 (rha 2 1 7) 4 1 Clean 0 ∷ carries 75 (fda 1 1) 5 0 Clean 0 ∷ carries 110 (els 0 1) 1 4 Clean 0
+            ∷ carries 111 (els 2 1) 4 3 Clean 0 ∷ carries 145 (rha 0 2 5) 1 6 Clean 0 ∷ carries 146 (rha 2 2 5) 4 3 Clean 0
+            ∷ carries 182 (els 0 2) 1 6 Clean 0 ∷ carries 183 (els 2 2) 4 3 Clean 0 ∷ carries 191 (again (join 1 2)) 2 5 Clean 0
+            ∷ carries 217 (rha 0 3 7) 1 6 Clean 0 ∷ carries 218 (again (rha 1 3 7)) 2 5 Clean 0 ∷ carries 220 (els 2 3) 4 3 Clean 0 ∷ [];
+        lives = of_the_others
+            ∷ ((Some (span 0 (Some 5) 5), []) ∷ (Some (span 111 None 142), View 252 3 (set 7) ∷ []) ∷ (None, []) ∷ [])
+            ∷ of_the_others ∷ [];
+        restarted = set 0 ∷ set 2 ∷ set 0 ∷ [];
+      },
+    ))
 unfolding rejoin_row stopped_and_back of_the_others its_journal
 restart_joins = refl
-
-restart_joins_round_robin : round_robin stopped_and_back ≡ its_journal
-unfolding rejoin_row stopped_and_back its_journal
-restart_joins_round_robin = refl
 
 -- ---- the first cycle
 
@@ -136,7 +133,7 @@ back_in_time = node_1_stops 22 (slot_rule 20 Clean 2 ∷ []) (asks_at 7 1 ∷ as
 unfoldable log_in_time : List (Option Span × List LogEntry)
 log_in_time = (Some (span 0 None 22), Failed 9 1 1 ∷ View 11 1 (set 7) ∷ View 19 2 (set 5) ∷ []) ∷ (None, []) ∷ []
 
-takes_part_in_the_cycle_of_its_first_slot : rejoin_report back_in_time (4 ∷ 21 ∷ []) (round_robin back_in_time) ≡ record {
+takes_part_in_the_cycle_of_its_first_slot : rejoin_report back_in_time (4 ∷ 21 ∷ []) (run_of back_in_time) ≡ record {
   bus = before_the_cycle
       ++ carries 10 (again (rha 1 1 7)) 2 5 Clean 0 ∷ carries 11 (fda 1 1) 5 2 Clean 0 ∷ carries 12 (fda 1 1) 2 5 Clean 0 ∷ carries 13 (els 2 1) 4 3 Clean 0
       ∷ carries 15 (els 0 1) 1 6 Clean 0 ∷ carries 17 (rha 0 2 5) 1 6 Clean 0 ∷ carries 18 (again (rha 1 2 5)) 2 5 Clean 0
@@ -157,7 +154,7 @@ back_too_late = node_1_stops 29 [] (asks_at 7 1 ∷ asks_at 12 1 ∷ asks_at 20 
 unfoldable log_too_late : List (Option Span × List LogEntry)
 log_too_late = (Some (span 0 None 29), Failed 9 1 1 ∷ View 11 1 (set 7) ∷ View 19 2 (set 5) ∷ View 27 3 (set 7) ∷ []) ∷ (None, []) ∷ []
 
-takes_no_part_in_an_earlier_cycle : rejoin_report back_too_late (4 ∷ 5 ∷ []) (round_robin back_too_late) ≡ record {
+takes_no_part_in_an_earlier_cycle : rejoin_report back_too_late (4 ∷ 5 ∷ []) (run_of back_too_late) ≡ record {
   bus = before_the_cycle
       ++ carries 10 (rha 2 1 7) 4 3 Clean 0 ∷ carries 11 (fda 1 1) 5 2 Clean 0 ∷ carries 12 (fda 1 1) 2 5 Clean 0 ∷ carries 13 (again (join 1 1)) 2 5 Clean 0
       ∷ carries 15 (els 0 1) 1 6 Clean 0 ∷ carries 16 (els 2 1) 4 3 Clean 0 ∷ carries 17 (rha 0 2 5) 1 6 Clean 0 ∷ carries 18 (again (rha 1 2 5)) 2 5 Clean 0

@@ -4,9 +4,8 @@ use Rattle.cany_base.specs.declared.rule.Rule.{Rule}
 use Rattle.cany_base.specs.declared.rule.Verdict.TheVariants.{Clean}
 use Rattle.cany_base.specs.Scenario.{ScenarioParts}
 use Rattle.cany_model.specs.declared.reply.StepReply.TheVariants.{Lagging, Over, NothingYet, Stopped, NoNode}
-use Rattle.cany_model.specs.Runs.RoundRobin.{round_robin}
 use Rattle.cany_model.specs.Runs.Run.{run}
-use Rattle.cany_rows.proofs.RowWords.{lag_1, Followed-all, Refused, Unfinished, follow, one_message, report, row, scenario, send, slot_rule, steps, three, running_node, whole_run}
+use Rattle.cany_rows.proofs.RowWords.{lag_1, Followed-all, Refused, Unfinished, follow, one_message, report, row, scenario, send, slot_rule, steps, three, running_node, whole_run, report_of}
 
 unfoldable quiet : ℕ → List Rule → ScenarioParts
 quiet slots rules = scenario (lag_1 slots 1) [] rules
@@ -77,7 +76,7 @@ not_asked_for = refl
 
 -- a one_message of the last slot is asked for and never carried
 open_at_the_end :
-    (let s = scenario (three 1 1 2) one_message [] in report s (round_robin s)) ≡ whole_run (steps (codes ".012"))
+    (let s = scenario (three 1 1 2) one_message [] in report_of s) ≡ whole_run (steps (codes ".012"))
     []
     (running_node 1 [] ∷ running_node 1 [] ∷ running_node 1 [] ∷ [])
     (false ∷ [])

@@ -11,7 +11,6 @@ use Rattle.cany_base.specs.declared.message.Service.TheVariants as service
 use Rattle.cany_base.specs.declared.notice.NoticeKind.TheVariants.{Idle, Got, Sent}
 use Rattle.cany_base.specs.declared.rule.Verdict.TheVariants.{Clean, Lost}
 use Rattle.cany_base.specs.declared.slot_note.SlotNote.{SlotNote}
-use Rattle.cany_base.specs.declared.step.Step.{Step}
 use Rattle.cany_base.specs.Frame.{FrameParts, identifier_of, key_of}
 use Rattle.cany_base.specs.Nodes.{Nodes}
 use Rattle.cany_base.specs.Params.{Parameters}
@@ -34,7 +33,7 @@ use Rattle.cany_model.specs.Rules.Log.{log}
 use Rattle.cany_model.specs.Rules.Messages.{Message, data_id, messages_of}
 use Rattle.cany_model.specs.Rules.Turn.{scenario_for}
 use Rattle.cany_model.proofs.Promises.BreakFacts.{first_break_exact}
-use Rattle.cany_rows.proofs.RowWords.{Followed-all, Refused, carries, delivers, delivers_rel, ed, first_frame, first_rel, follow, idle, insides, lag_1, one_message, one_rel, rel, report, row, scenario, send, set, shown, slot_rule, steps, three, running_node, whole_run}
+use Rattle.cany_rows.proofs.RowWords.{Followed-all, Refused, carries, delivers, delivers_rel, ed, first_frame, first_rel, follow, idle, insides, lag_1, one_message, one_rel, rel, report, row, scenario, send, set, shown, slot_rule, steps, three, running_node, whole_run, report_of, run_of}
 
 -- ---- what a row is written with
 
@@ -62,11 +61,9 @@ pub record RestartReport : Type 0 where
   -- the nodes that started again at the end of each of these slots
   pub restarted : List Nodes
 
-unfoldable restart_report : ScenarioParts → List ℕ → List Step → RestartReport
+unfoldable restart_report : ScenarioParts → List ℕ → RunState → RestartReport
 unfolding report lives restarted_in
-restart_report sc slots journal =
-    let s = run sc journal in
-    record { bus = shown s.trace; lives = lives sc s 0; restarted = map (restarted_in s) slots }
+restart_report sc slots s = record { bus = shown s.trace; lives = lives sc s 0; restarted = map (restarted_in s) slots }
 
 -- a restarted node takes part two slots after its first
 unfoldable soon : ℕ → Parameters
@@ -82,7 +79,7 @@ restart_row = tt
 unfoldable stopped_and_back : ScenarioParts
 stopped_and_back = with_restarts (again 10 0 ∷ []) (scenario (three 60 1 2) (send 50 1 (1 ∷ []) ∷ []) (slot_rule 5 Clean 1 ∷ []))
 
-restart_hears_again : restart_report stopped_and_back (10 ∷ 11 ∷ []) (round_robin stopped_and_back) ≡ record {
+restart_hears_again : restart_report stopped_and_back (10 ∷ 11 ∷ []) (run_of stopped_and_back) ≡ record {
   bus = idle 5 1 ∷ carries 51 (ed 1 0 (1 ∷ [])) 2 5 Clean 0 ∷ carries 52 (ed 1 0 (1 ∷ [])) 5 2 Clean 0 ∷ [];
   lives = (Some (span 0 (Some 5) 5), []) ∷ (Some (span 11 None 49), delivers 51 1 0 (1 ∷ []) ∷ []) ∷ (None, []) ∷ [];
   restarted = set 1 ∷ set 0 ∷ [];
@@ -103,7 +100,7 @@ stops_in_1 slots restarts = with_restarts restarts (scenario (soon slots) [] (sl
 
 -- a node that starts again in the very slot of its stop misses no slot: only the turn of that one falls out
 restart_in_the_slot_of_the_stop :
-    (let sc = stops_in_1 4 (again 1 0 ∷ []) in restart_report sc (0 ∷ 1 ∷ 2 ∷ []) (steps (codes ".012.12.012.012"))) ≡ record {
+    (let sc = stops_in_1 4 (again 1 0 ∷ []) in restart_report sc (0 ∷ 1 ∷ 2 ∷ []) (run sc (steps (codes ".012.12.012.012")))) ≡ record {
       bus = idle 1 1 ∷ [];
       lives = (Some (span 0 (Some 1) 1), []) ∷ (Some (span 2 None 2), []) ∷ (None, []) ∷ [];
       restarted = set 0 ∷ set 1 ∷ set 0 ∷ [];
@@ -116,7 +113,7 @@ unfolding restart_row stops_in_1
 round_robin_with_a_restart = refl
 
 restart_in_the_last_slot :
-    (let sc = stops_in_1 4 (again 3 0 ∷ []) in restart_report sc (3 ∷ []) (round_robin sc)) ≡ record {
+    (let sc = stops_in_1 4 (again 3 0 ∷ []) in restart_report sc (3 ∷ []) (run_of sc)) ≡ record {
       bus = idle 1 1 ∷ [];
       lives = (Some (span 0 (Some 1) 1), []) ∷ (Some (span 4 None 0), []) ∷ (None, []) ∷ [];
       restarted = set 1 ∷ [];
@@ -155,7 +152,7 @@ two_entries_make_one_restart = refl
 -- one node stops twice and starts again twice, once with another: the second time it reads one notice before it stops
 two_restarts :
     (let sc = with_restarts (again 2 0 ∷ again 5 1 ∷ again 5 0 ∷ []) (scenario (soon 8) [] (slot_rule 1 Clean 1 ∷ slot_rule 4 Clean 3 ∷ [])) in
-    restart_report sc (2 ∷ 5 ∷ []) (round_robin sc)) ≡ record {
+    restart_report sc (2 ∷ 5 ∷ []) (run_of sc)) ≡ record {
       bus = idle 1 1 ∷ idle 4 3 ∷ [];
       lives = (Some (span 0 (Some 1) 1), []) ∷ (Some (span 3 (Some 4) 1), []) ∷ (Some (span 6 None 2), []) ∷ (None, []) ∷ [];
       restarted = set 1 ∷ set 3 ∷ [];
@@ -185,7 +182,7 @@ after_the_restart = refl
 
 -- so the message that the earlier incarnation asked for is lost, and settled
 message_of_an_earlier_incarnation :
-    (let sc = stops_with_a_frame (again 2 0 ∷ again 2 2 ∷ []) in report sc (round_robin sc)) ≡ whole_run (steps (codes ".012.1.1.012.012"))
+    (let sc = stops_with_a_frame (again 2 0 ∷ again 2 2 ∷ []) in report_of sc) ≡ whole_run (steps (codes ".012.1.1.012.012"))
     (carries 1 first_frame 1 0 Lost 5 ∷ [])
     (running_node 5 [] ∷ running_node 5 [] ∷ running_node 5 [] ∷ [])
     (true ∷ [])
@@ -200,7 +197,7 @@ unread_notices_are_gone : follow stops_unread (steps (codes "..0")) ≡ Refused 
 unfolding restart_row stops_unread
 unread_notices_are_gone = refl
 
-they_were_not_read : restart_report stops_unread (1 ∷ []) (steps (codes "..1212.0")) ≡ record {
+they_were_not_read : restart_report stops_unread (1 ∷ []) (run stops_unread (steps (codes "..1212.0"))) ≡ record {
   bus = idle 1 1 ∷ [];
   lives = (Some (span 0 (Some 1) 0), []) ∷ (Some (span 2 None 1), []) ∷ (None, []) ∷ [];
   restarted = set 1 ∷ [];
@@ -211,7 +208,7 @@ they_were_not_read = refl
 -- the log of the earlier one stays as it was
 each_incarnation_has_its_log :
     (let sc = with_restarts (again 3 0 ∷ []) (scenario (soon 10) (send 0 1 (1 ∷ []) ∷ send 6 1 (2 ∷ []) ∷ []) (slot_rule 3 Clean 1 ∷ [])) in
-    restart_report sc [] (round_robin sc)) ≡ record {
+    restart_report sc [] (run_of sc)) ≡ record {
       bus = carries 1 (ed 1 0 (1 ∷ [])) 2 5 Clean 0 ∷ carries 2 (ed 1 0 (1 ∷ [])) 5 2 Clean 0 ∷ idle 3 1
           ∷ carries 7 (ed 1 1 (2 ∷ [])) 2 5 Clean 0 ∷ carries 8 (ed 1 1 (2 ∷ [])) 5 2 Clean 0 ∷ [];
       lives = (Some (span 0 (Some 3) 3), delivers 1 1 0 (1 ∷ []) ∷ []) ∷ (Some (span 4 None 6), delivers 7 1 1 (2 ∷ []) ∷ []) ∷ (None, []) ∷ [];
@@ -230,7 +227,7 @@ from_3 slots sends = with_restarts (again 0 0 ∷ []) (scenario (soon slots) sen
 unfoldable sends_at_2_and_3 : ScenarioParts
 sends_at_2_and_3 = from_3 7 (send 2 0 (1 ∷ []) ∷ send 3 0 (2 ∷ []) ∷ [])
 
-send_before_it_takes_part : restart_report sends_at_2_and_3 (0 ∷ []) (round_robin sends_at_2_and_3) ≡ record {
+send_before_it_takes_part : restart_report sends_at_2_and_3 (0 ∷ []) (run_of sends_at_2_and_3) ≡ record {
   bus = idle 0 1 ∷ carries 4 (ed 0 1 (2 ∷ [])) 1 6 Clean 0 ∷ carries 5 (ed 0 1 (2 ∷ [])) 6 1 Clean 0 ∷ [];
   lives = (Some (span 0 (Some 0) 0), []) ∷ (Some (span 1 None 6), delivers 4 0 1 (2 ∷ []) ∷ []) ∷ (None, []) ∷ [];
   restarted = set 1 ∷ [];
@@ -258,7 +255,7 @@ unfoldable heard_frame : FrameParts
 heard_frame = ed 1 1 (2 ∷ [])
 
 copies_of_two :
-    restart_report two_are_sent [] (round_robin two_are_sent) ≡ record {
+    restart_report two_are_sent [] (run_of two_are_sent) ≡ record {
       bus = idle 0 1 ∷ carries 1 hidden_frame 2 5 Clean 0 ∷ carries 2 hidden_frame 4 3 Clean 0 ∷ carries 3 heard_frame 2 5 Clean 0
           ∷ carries 4 heard_frame 5 2 Clean 0 ∷ [];
       lives = (Some (span 0 (Some 0) 0), []) ∷ (Some (span 1 None 5), delivers 3 1 1 (2 ∷ []) ∷ []) ∷ (None, []) ∷ [];
@@ -268,7 +265,7 @@ unfolding restart_row two_are_sent from_3 hidden_frame heard_frame
 copies_of_two = refl
 
 hidden_slots_are_idle :
-    (let s = run two_are_sent (round_robin two_are_sent) in map (λ i. history i s) (0 ∷ 2 ∷ []))
+    (let s = run_of two_are_sent in map (λ i. history i s) (0 ∷ 2 ∷ []))
     ≡ (Idle ∷ Sent heard_frame ∷ Got heard_frame ∷ Idle ∷ Idle ∷ Idle ∷ [])
     ∷ (Idle ∷ Sent heard_frame ∷ Got heard_frame ∷ Sent hidden_frame ∷ Got hidden_frame ∷ Idle ∷ []) ∷ []
 unfolding restart_row two_are_sent from_3 hidden_frame heard_frame
@@ -292,7 +289,7 @@ followed_scenario = refl
 -- An origin that started again is the origin of its earlier message too: it delivers at a copy, and has no timer. The others fall back.
 restarted_origin_has_no_timer :
     (let sc = with_restarts (again 1 0 ∷ []) (scenario (soon 24) one_rel (slot_rule 1 Clean 1 ∷ [])) in
-    restart_report sc (1 ∷ []) (round_robin sc)) ≡ record {
+    restart_report sc (1 ∷ []) (run_of sc)) ≡ record {
       bus = carries 1 first_rel 1 6 Clean 1 ∷ carries 12 first_rel 6 1 Clean 0 ∷ [];
       lives = (Some (span 0 (Some 1) 1), []) ∷ (Some (span 2 None 22), delivers_rel 12 0 0 (1 ∷ []) ∷ []) ∷ (None, []) ∷ [];
       restarted = set 1 ∷ [];
@@ -310,13 +307,13 @@ three-is-above-1 below = omega (arith, below)
 
 -- the premises of agreement are met at a node that started again, of the message that was first carried since it takes part
 premises_are_met_after_a_restart :
-    (let s = run two_are_sent (round_robin two_are_sent) in
+    (let s = run_of two_are_sent in
     let m = message 2 1 (2 ∷ []) in
     IsWithin two_are_sent.params s.trace × Contains (messages_of two_are_sent.sends) m × (is_settled two_are_sent s m ≡ true)
     × (first_carried (data_id m) s.trace ≡ Some 3) × IsCorrectFrom two_are_sent s 3 0 × HasDelivered two_are_sent s 0 m × IsCorrectFrom two_are_sent s 3 2)
 unfolding restart_row two_are_sent from_3 message first_carried
 premises_are_met_after_a_restart = (
-  (first_break_exact two_are_sent.params (run two_are_sent (round_robin two_are_sent)).trace).0 refl,
+  (first_break_exact two_are_sent.params (run_of two_are_sent).trace).0 refl,
   (1, lit< tt, refl),
   refl,
   refl,
@@ -327,7 +324,7 @@ premises_are_met_after_a_restart = (
 
 -- of the message that was carried before they are not: it is settled, and the restarted node does not deliver it
 not_met_of_an_earlier_message :
-    (let s = run two_are_sent (round_robin two_are_sent) in
+    (let s = run_of two_are_sent in
     let m = message 0 0 (1 ∷ []) in
     (is_settled two_are_sent s m ≡ true) × (first_carried (data_id m) s.trace ≡ Some 1) × (IsCorrectFrom two_are_sent s 1 0 → ⊥)
     × (log two_are_sent s 0 ≡ delivers 3 1 1 (2 ∷ []) ∷ []))

@@ -1,6 +1,8 @@
 -- What a worked row is written with, and what a run shows.
-use Rattle.std.specs.Prelude.{ℕ, ◌+◌, ◌-◌, ◌*◌, ◌==◌, Bool, not, ◌||◌, ◌&&◌, nat_lt, if◌then◌else◌, List, [], ◌∷◌, ◌++◌, length, Option, Some, None, is_some, find, map, true}
+use Rattle.std.specs.Prelude.{◌≡◌, ℕ, zero, suc, ◌+◌, ◌-◌, ◌*◌, ◌==◌, Bool, not, ◌||◌, ◌&&◌, nat_lt, if◌then◌else◌, List, [], ◌∷◌, ◌++◌, length, Option, Some, None, is_some, find, map, true, false, refl}
 use Rattle.std.specs.List.{range_with_len}
+use Rattle.std.proofs.Common.{ap, ◌∙◌, sym, append_assoc}
+use Rattle.std.proofs.lemmas.List.{append-nil}
 use Rattle.cany_base.specs.declared.class.Class.TheVariants as class
 use Rattle.cany_base.specs.declared.format.Format.TheVariants.{One}
 use Rattle.cany_base.specs.declared.log_entry.LogEntry.{LogEntry}
@@ -22,7 +24,9 @@ use Rattle.cany_model.specs.Promises.Hypothesis.{first_break}
 use Rattle.cany_model.specs.Rules.Log.{log}
 use Rattle.cany_model.specs.Rules.Messages.{messages_of}
 use Rattle.cany_model.proofs.RowWords.{run_words, scenario_of, send as send_by}
-use Rattle.cany_model.specs.Runs.Run.{reply, is_done, is_legal_from, has_ended, after_step, run}
+use Rattle.cany_model.proofs.Runs.Journals.{run_then}
+use Rattle.cany_model.specs.Runs.RoundRobin.{round, round_robin, rounds}
+use Rattle.cany_model.specs.Runs.Run.{reply, is_done, is_legal_from, has_ended, after_step, run, run_from}
 use Rattle.cany_model.specs.Promises.Settled.{is_settled}
 use Rattle.cany_model.specs.Bus.State.{RunState, node_at, opening, reads}
 pub use Rattle.cany_model.proofs.RowWords.{set}
@@ -124,20 +128,123 @@ stopped_node slot read log = record { stopped = Some slot; read = read; log = lo
 abbrev pub node_report : ScenarioParts → RunState → ℕ → NodeReport
 node_report sc s i = record { stopped = (node_at s.nodes i).stopped; read = reads s i; log = log sc s i }
 
--- that of a scenario by a journal; what computes it is opened here, once for all rows
-unfoldable pub report : ScenarioParts → List Step → RunReport
+-- A journal, the state to which it leads from another, and whether each of its steps is done.
+pub record Walk : Type 0 where
+  pub journal : List Step
+  pub end : RunState
+  pub legal : Bool
+
+abbrev pub walk_by : ScenarioParts → RunState → List Step → Walk
+walk_by sc s journal = record { journal = journal; end = run_from sc s journal; legal = is_legal_from sc s journal }
+
+-- The rest of a whole journal, where those before it are legal or not: each state is computed once, for where it leads and for whether the next step is done.
+unfoldable pub walk : ScenarioParts → RunState → Bool → List Step → List Step → Walk
+walk sc s legal whole [] = record { journal = whole; end = s; legal = legal }
+walk sc s legal whole (step ∷ rest) = walk sc (after_step sc s step) (legal && is_done (reply sc s step)) whole rest
+
+-- The same of so many rounds after a journal. The round robin journal has the steps of the states to which its rounds lead: these are read off the same states.
+unfoldable pub walk_rounds : ScenarioParts → ℕ → RunState → Bool → List Step → Walk
+walk_rounds sc zero s legal journal = record { journal = journal; end = s; legal = legal }
+walk_rounds sc (suc n) s legal journal =
+    let steps = round sc s in
+    let w = walk sc s legal (journal ++ steps) steps in
+    walk_rounds sc n w.end w.legal w.journal
+
+and_true : (a : Bool) → (a && true) ≡ a
+and_true true = refl
+and_true false = refl
+
+and_and : (a b c : Bool) → ((a && b) && c) ≡ (a && (b && c))
+and_and true b c = refl
+and_and false b c = refl
+
+walk_is : (sc : ScenarioParts) (s : RunState) (legal : Bool) (whole rest : List Step)
+    → walk sc s legal whole rest ≡ record { journal = whole; end = run_from sc s rest; legal = legal && is_legal_from sc s rest }
+unfolding walk run_from is_legal_from
+walk_is sc s legal whole [] = λ k. record { journal = whole; end = s; legal = sym (and_true legal) k }
+walk_is sc s legal whole (step ∷ rest) =
+    let next = after_step sc s step in
+    let done = is_done (reply sc s step) in
+    walk_is sc next (legal && done) whole rest
+    ∙ (λ k. record { journal = whole; end = run_from sc next rest; legal = and_and legal done (is_legal_from sc next rest) k })
+
+legal_both : (sc : ScenarioParts) (s : RunState) (first rest : List Step)
+    → (is_legal_from sc s first && is_legal_from sc (run_from sc s first) rest) ≡ is_legal_from sc s (first ++ rest)
+unfolding run_from is_legal_from
+legal_both sc s [] rest = refl
+legal_both sc s (step ∷ first) rest =
+    let next = after_step sc s step in
+    let done = is_done (reply sc s step) in
+    and_and done (is_legal_from sc next first) (is_legal_from sc (run_from sc next first) rest)
+    ∙ ap (λ legal. done && legal) (legal_both sc next first rest)
+
+walk_rounds_is : (sc : ScenarioParts) (n : ℕ) (s : RunState) (legal : Bool) (journal : List Step)
+    → walk_rounds sc n s legal journal
+    ≡ record { journal = journal ++ rounds sc n s; end = run_from sc s (rounds sc n s); legal = legal && is_legal_from sc s (rounds sc n s) }
+unfolding walk_rounds rounds run_from is_legal_from
+walk_rounds_is sc zero s legal journal = λ k. record { journal = sym (append-nil journal) k; end = s; legal = sym (and_true legal) k }
+walk_rounds_is sc (suc n) s legal journal =
+    let steps : List Step = round sc s in
+    let next : RunState = run_from sc s steps in
+    let later : List Step = rounds sc n next in
+    ap (λ (w : Walk). walk_rounds sc n w.end w.legal w.journal) (walk_is sc s legal (journal ++ steps) steps)
+    ∙ walk_rounds_is sc n next (legal && is_legal_from sc s steps) (journal ++ steps)
+    ∙ (λ k. record {
+      journal = append_assoc journal steps later k;
+      end = sym (run_then sc s steps later) k;
+      legal = (and_and legal (is_legal_from sc s steps) (is_legal_from sc next later) ∙ ap (λ b. legal && b) (legal_both sc s steps later)) k;
+    })
+
+-- that of a scenario by the round robin journal
+unfoldable pub walk_of : ScenarioParts → Walk
+unfolding walk_rounds walk
+walk_of sc = walk_rounds sc sc.params.slots (opening sc.params.nodes) true []
+
+pub walk_of_is : (sc : ScenarioParts) → walk_of sc ≡ walk_by sc (opening sc.params.nodes) (round_robin sc)
+unfolding walk_of
+walk_of_is sc = walk_rounds_is sc sc.params.slots (opening sc.params.nodes) true []
+
+-- the run by it
+unfoldable pub run_of : ScenarioParts → RunState
+unfolding walk_of
+run_of sc = (walk_of sc).end
+
+pub run_of_is : (sc : ScenarioParts) → run_of sc ≡ run sc (round_robin sc)
+unfolding run_of
+run_of_is sc = ap (λ (w : Walk). w.end) (walk_of_is sc)
+
+-- what computes a report is opened here, once for all rows
+unfoldable pub report_in : ScenarioParts → Walk → RunReport
 unfolding run_words shown
-report sc journal =
-    let s = run sc journal in
+report_in sc w =
+    let s = w.end in
     record {
-      journal = journal;
+      journal = w.journal;
       bus = shown s.trace;
       broken = first_break sc.params s.trace;
       nodes = map (node_report sc s) (range_with_len 0 sc.params.nodes);
       settled = map (is_settled sc s) (messages_of sc.sends);
-      legal = is_legal_from sc (opening sc.params.nodes) journal;
+      legal = w.legal;
       ended = has_ended sc s;
     }
+
+-- that of a scenario by a journal
+unfoldable pub report : ScenarioParts → List Step → RunReport
+unfolding report_in walk
+report sc journal = report_in sc (walk sc (opening sc.params.nodes) true journal journal)
+
+pub report_is : (sc : ScenarioParts) (journal : List Step) → report sc journal ≡ report_in sc (walk_by sc (opening sc.params.nodes) journal)
+unfolding report
+report_is sc journal = ap (report_in sc) (walk_is sc (opening sc.params.nodes) true journal journal)
+
+-- by the round robin journal
+unfoldable pub report_of : ScenarioParts → RunReport
+unfolding report_in walk_of
+report_of sc = report_in sc (walk_of sc)
+
+pub report_of_is : (sc : ScenarioParts) → report_of sc ≡ report_in sc (walk_by sc (opening sc.params.nodes) (round_robin sc))
+unfolding report_of
+report_of_is sc = ap (report_in sc) (walk_of_is sc)
 
 -- the counters and the waiting frames of a node
 pub record NodeInside : Type 0 where
@@ -222,5 +329,5 @@ delivered slot = delivers slot 0 0 (1 ∷ []) ∷ []
 
 -- opens all that a row is written with
 unfoldable pub row : Unit {0}
-unfolding report insides follow scenario send send_rel send_tot slot_rule frame_rule steps ed rel confirm tot accept carries idle delivers delivers_rel delivers_tot three delivered
+unfolding report report_of run_of insides follow scenario send send_rel send_tot slot_rule frame_rule steps ed rel confirm tot accept carries idle delivers delivers_rel delivers_tot three delivered
 row = tt

@@ -6,12 +6,11 @@ use Rattle.cany_base.specs.declared.rule.Verdict.TheVariants.{Clean, Lost, Parti
 use Rattle.cany_base.specs.declared.slot_note.SlotNote.{SlotNote}
 use Rattle.cany_base.specs.Params.{Parameters}
 use Rattle.cany_model.specs.declared.breaks.BreakKind.TheVariants as kind
-use Rattle.cany_model.specs.Runs.RoundRobin.{round_robin}
-use Rattle.cany_rows.proofs.RowWords.{carries, delivered, first_frame, one_message, report, row, scenario, set, slot_rule, steps, three, running_node, stopped_node, whole_run}
+use Rattle.cany_rows.proofs.RowWords.{carries, delivered, first_frame, one_message, report, row, scenario, set, slot_rule, steps, three, running_node, stopped_node, whole_run, report_of}
 
 -- one message, no fault: all deliver it, and the others relay it together
 one_message_no_fault :
-    (let s = scenario (three 5 1 2) one_message [] in report s (round_robin s)) ≡ whole_run (steps (codes ".012.012.012.012.012"))
+    (let s = scenario (three 5 1 2) one_message [] in report_of s) ≡ whole_run (steps (codes ".012.012.012.012.012"))
     (carries 1 first_frame 1 6 Clean 0 ∷ carries 2 first_frame 6 1 Clean 0 ∷ [])
     (running_node 5 (delivered 1) ∷ running_node 5 (delivered 1)
     ∷ running_node 5 (delivered 1) ∷ [])
@@ -20,7 +19,7 @@ unfolding row
 one_message_no_fault = refl
 
 nothing_sent :
-    (let s = scenario (three 1 1 2) [] [] in report s (round_robin s)) ≡ whole_run (steps (codes ".012"))
+    (let s = scenario (three 1 1 2) [] [] in report_of s) ≡ whole_run (steps (codes ".012"))
     []
     (running_node 1 [] ∷ running_node 1 [] ∷ running_node 1 [] ∷ [])
     []
@@ -29,7 +28,7 @@ nothing_sent = refl
 
 -- the sender stops after only node 1 accepted its frame: node 1 relays it
 edcan_sender_stops_after_partial :
-    (let s = scenario (three 6 1 2) one_message (slot_rule 1 (Partial (set 4)) 1 ∷ []) in report s (round_robin s)) ≡ whole_run (steps (codes ".012.12.12.12.12.12"))
+    (let s = scenario (three 6 1 2) one_message (slot_rule 1 (Partial (set 4)) 1 ∷ []) in report_of s) ≡ whole_run (steps (codes ".012.12.12.12.12.12"))
     (carries 1 first_frame 1 2 (Partial (set 4)) 1 ∷ carries 2 first_frame 2 4 Clean 0 ∷ carries 3 first_frame 4 2 Clean 0 ∷ [])
     (stopped_node 1 1 [] ∷ running_node 6 (delivered 1)
     ∷ running_node 6 (delivered 2) ∷ [])
@@ -47,7 +46,7 @@ lost_slots (suc n) = lost_slots n ++ carries (n + 1) first_frame 1 0 Lost 0 ∷ 
 
 -- sixteen lost slots stop the sender by its transmit counter, and leave the hypothesis at the third
 sixteen_lost_slots :
-    (let s = scenario (three 20 1 2) one_message (lost_from_1 16) in report s (round_robin s)) ≡ record {
+    (let s = scenario (three 20 1 2) one_message (lost_from_1 16) in report_of s) ≡ record {
       journal = steps (codes ".012.012.012.012.012.012.012.012.012.012.012.012.012.012.012.012.12.12.12.12");
       bus = lost_slots 15 ++ carries 16 first_frame 1 0 Lost 1 ∷ [];
       broken = Some (record { kind = kind.Errors; slot = 3 });

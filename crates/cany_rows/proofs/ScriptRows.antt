@@ -2,12 +2,11 @@
 use Rattle.std.specs.Prelude.{◌≡◌, true, [], ◌∷◌, refl, codes}
 use Rattle.cany_base.specs.declared.class.Class.TheVariants as class
 use Rattle.cany_base.specs.declared.rule.Verdict.TheVariants.{Clean, Lost, Partial}
-use Rattle.cany_model.specs.Runs.RoundRobin.{round_robin}
-use Rattle.cany_rows.proofs.RowWords.{carries, delivered, delivers, ed, first_frame, frame_rule, insides, one_message, report, row, scenario, send, set, slot_rule, steps, three, running_node, stopped_node, whole_run}
+use Rattle.cany_rows.proofs.RowWords.{carries, delivered, delivers, ed, first_frame, frame_rule, insides, one_message, row, scenario, send, set, slot_rule, steps, three, running_node, stopped_node, whole_run, report_of}
 
 -- the rule for the second attempt: that is the relay of nodes 1 and 2, in which node 2 stops; it keeps its waiting frame
 second_attempt :
-    (let s = scenario (three 6 1 2) one_message (frame_rule class.Ed 0 0 2 (Partial (set 1)) 4 ∷ []) in report s (round_robin s)) ≡ whole_run (steps (codes ".012.012.01.01.01.01"))
+    (let s = scenario (three 6 1 2) one_message (frame_rule class.Ed 0 0 2 (Partial (set 1)) 4 ∷ []) in report_of s) ≡ whole_run (steps (codes ".012.012.01.01.01.01"))
     (carries 1 first_frame 1 6 Clean 0 ∷ carries 2 first_frame 6 0 (Partial (set 1)) 4 ∷ carries 3 first_frame 2 1 Clean 0 ∷ [])
     (running_node 6 (delivered 1) ∷ running_node 6 (delivered 1)
     ∷ stopped_node 2 2 (delivered 1) ∷ [])
@@ -25,7 +24,7 @@ counters_after_second_attempt = refl
 -- a rule for the slot is used alone, also where it says Clean; the slot counts as an attempt all the same
 slot_rule_is_used_alone :
     (let s = scenario (three 5 1 2) one_message (frame_rule class.Ed 0 0 1 Lost 1 ∷ frame_rule class.Ed 0 0 2 Lost 0 ∷ slot_rule 1 Clean 0 ∷ []) in
-    report s (round_robin s)) ≡ whole_run (steps (codes ".012.012.012.012.012"))
+    report_of s) ≡ whole_run (steps (codes ".012.012.012.012.012"))
     (carries 1 first_frame 1 6 Clean 0 ∷ carries 2 first_frame 6 0 Lost 0 ∷ carries 3 first_frame 6 1 Clean 0 ∷ [])
     (running_node 5 (delivered 1) ∷ running_node 5 (delivered 1)
     ∷ running_node 5 (delivered 1) ∷ [])
@@ -37,7 +36,7 @@ slot_rule_is_used_alone = refl
 attempts_of_one_frame :
     (let s = scenario (three 5 1 2) one_message (frame_rule class.Ed 0 0 1 Lost 0 ∷ frame_rule class.Ed 0 0 2 (Partial (set 2)) 0
     ∷ frame_rule class.Ed 0 1 1 Lost 7 ∷ frame_rule class.Ed 1 0 1 Lost 7 ∷ frame_rule class.Rel 0 0 1 Lost 7 ∷ []) in
-    (report s (round_robin s)).bus) ≡ carries 1 first_frame 1 0 Lost 0 ∷ carries 2 first_frame 1 4 (Partial (set 2)) 0 ∷ carries 3 first_frame 5 2 Clean 0 ∷ carries 4 first_frame 2 5 Clean 0 ∷ []
+    (report_of s).bus) ≡ carries 1 first_frame 1 0 Lost 0 ∷ carries 2 first_frame 1 4 (Partial (set 2)) 0 ∷ carries 3 first_frame 5 2 Clean 0 ∷ carries 4 first_frame 2 5 Clean 0 ∷ []
 unfolding row
 attempts_of_one_frame = refl
 
@@ -45,7 +44,7 @@ attempts_of_one_frame = refl
 attempts_are_counted_apart :
     (let s = scenario (three 8 1 2) (send 0 0 (1 ∷ []) ∷ send 0 0 (2 ∷ []) ∷ send 0 1 (3 ∷ []) ∷ [])
     (frame_rule class.Ed 0 1 1 Lost 0 ∷ frame_rule class.Ed 1 0 1 (Partial (set 2)) 0 ∷ []) in
-    (report s (round_robin s)).bus) ≡ carries 1 first_frame 1 6 Clean 0 ∷ carries 2 first_frame 6 1 Clean 0
+    (report_of s).bus) ≡ carries 1 first_frame 1 6 Clean 0 ∷ carries 2 first_frame 6 1 Clean 0
     ∷ carries 3 (ed 1 0 (3 ∷ [])) 2 0 Lost 0 ∷ carries 4 (ed 1 0 (3 ∷ [])) 2 5 Clean 0 ∷ carries 5 (ed 1 0 (3 ∷ [])) 5 2 Clean 0
     ∷ carries 6 (ed 0 1 (2 ∷ [])) 1 4 (Partial (set 2)) 0 ∷ carries 7 (ed 0 1 (2 ∷ [])) 5 2 Clean 0 ∷ []
 unfolding row
@@ -53,14 +52,14 @@ attempts_are_counted_apart = refl
 
 -- the sender stops after a Partial first attempt, by a rule for that attempt instead of one for the slot
 edcan_sender_stops_after_partial_attempt :
-    (let s = scenario (three 6 1 2) one_message (frame_rule class.Ed 0 0 1 (Partial (set 4)) 1 ∷ []) in report s (round_robin s))
-    ≡ (let s = scenario (three 6 1 2) one_message (slot_rule 1 (Partial (set 4)) 1 ∷ []) in report s (round_robin s))
+    (let s = scenario (three 6 1 2) one_message (frame_rule class.Ed 0 0 1 (Partial (set 4)) 1 ∷ []) in report_of s)
+    ≡ (let s = scenario (three 6 1 2) one_message (slot_rule 1 (Partial (set 4)) 1 ∷ []) in report_of s)
 unfolding row
 edcan_sender_stops_after_partial_attempt = refl
 
 -- Two origins: the lower number wins, and of one number the lower node; a node's own frame waits meanwhile.
 number_comes_before_node :
-    (let s = scenario (three 8 1 2) (send 0 0 (1 ∷ []) ∷ send 0 0 (2 ∷ []) ∷ send 0 1 (3 ∷ []) ∷ []) [] in report s (round_robin s)) ≡ whole_run (steps (codes ".012.012.012.012.012.012.012.012"))
+    (let s = scenario (three 8 1 2) (send 0 0 (1 ∷ []) ∷ send 0 0 (2 ∷ []) ∷ send 0 1 (3 ∷ []) ∷ []) [] in report_of s) ≡ whole_run (steps (codes ".012.012.012.012.012.012.012.012"))
     (carries 1 first_frame 1 6 Clean 0 ∷ carries 2 first_frame 6 1 Clean 0
     ∷ carries 3 (ed 1 0 (3 ∷ [])) 2 5 Clean 0 ∷ carries 4 (ed 1 0 (3 ∷ [])) 5 2 Clean 0
     ∷ carries 5 (ed 0 1 (2 ∷ [])) 1 6 Clean 0 ∷ carries 6 (ed 0 1 (2 ∷ [])) 6 1 Clean 0 ∷ [])

@@ -5,8 +5,7 @@ use Rattle.cany_base.specs.declared.log_entry.LogEntry.{LogEntry}
 use Rattle.cany_base.specs.declared.rule.Verdict.TheVariants.{Clean, Lost, Partial, Silent}
 use Rattle.cany_model.specs.declared.breaks.BreakKind.TheVariants as kind
 use Rattle.cany_model.specs.declared.reply.StepReply.TheVariants.{Lagging}
-use Rattle.cany_model.specs.Runs.RoundRobin.{round_robin}
-use Rattle.cany_rows.proofs.RowWords.{Refused, carries, delivers, ed, follow, idle, report, row, scenario, send, set, slot_rule, steps, three, running_node, stopped_node, whole_run}
+use Rattle.cany_rows.proofs.RowWords.{Refused, carries, delivers, ed, follow, idle, report, row, scenario, send, set, slot_rule, steps, three, running_node, stopped_node, whole_run, report_of}
 
 -- round robin at errors 1: slot 1 stops a receiver, later rules name it again or fall on idle slots and do nothing, and slot 7 is
 -- the second error
@@ -15,7 +14,7 @@ one_error_too_many :
     let log : List LogEntry = delivers 2 2 1 (189 ∷ []) ∷ delivers 4 1 0 (65 ∷ []) ∷ delivers 6 1 1 (5 ∷ []) ∷ delivers 8 2 0 long ∷ [] in
     (let s = scenario (three 15 1 1) (send 5 0 (44 ∷ []) ∷ send 3 1 (65 ∷ []) ∷ send 6 2 long ∷ send 0 2 (189 ∷ []) ∷ send 4 1 (5 ∷ []) ∷ [])
     (slot_rule 1 Lost 1 ∷ slot_rule 11 Clean 1 ∷ slot_rule 4 Clean 0 ∷ slot_rule 13 (Partial (set 0)) 0 ∷ slot_rule 7 (Partial (set 6)) 1 ∷ []) in
-    report s (round_robin s)) ≡ record {
+    report_of s) ≡ record {
       journal = steps (codes ".012.12.12.12.12.12.12.12.12.12.12.12.12.12.12");
       bus = carries 1 (ed 2 1 (189 ∷ [])) 4 0 Lost 1 ∷ carries 2 (ed 2 1 (189 ∷ [])) 4 2 Clean 0 ∷ carries 3 (ed 2 1 (189 ∷ [])) 2 4 Clean 0
           ∷ carries 4 (ed 1 0 (65 ∷ [])) 2 4 Clean 0 ∷ carries 5 (ed 1 0 (65 ∷ [])) 4 2 Clean 0 ∷ carries 6 (ed 1 1 (5 ∷ [])) 2 4 Clean 0

@@ -7,8 +7,7 @@ use Rattle.cany_base.specs.declared.rule.Verdict.TheVariants.{Clean, Partial, Si
 use Rattle.cany_base.specs.Params.{Parameters}
 use Rattle.cany_base.specs.Scenario.{ScenarioParts}
 use Rattle.cany_model.specs.declared.breaks.BreakKind.TheVariants as kind
-use Rattle.cany_model.specs.Runs.RoundRobin.{round_robin}
-use Rattle.cany_rows.proofs.RowWords.{accept, carries, confirm, delivers, delivers_rel, delivers_tot, ed, first_accept, first_tot, one_tot, rel, report, row, scenario, send, send_rel, send_tot, set, slot_rule, steps, three, tot, running_node, stopped_node, whole_run}
+use Rattle.cany_rows.proofs.RowWords.{accept, carries, confirm, delivers, delivers_rel, delivers_tot, ed, first_accept, first_tot, one_tot, rel, report, row, scenario, send, send_rel, send_tot, set, slot_rule, steps, three, tot, running_node, stopped_node, whole_run, report_of}
 
 unfoldable delivered : ℕ → List LogEntry
 delivered slot = delivers_tot slot 0 0 (1 ∷ []) ∷ []
@@ -26,7 +25,7 @@ unfoldable sender_stops_after_partial : ℕ → ScenarioParts
 sender_stops_after_partial slots = scenario (calm slots) one_tot (slot_rule 1 (Partial (set 4)) 1 ∷ [])
 
 totcan_unaccepted_is_dropped :
-    (let s = sender_stops_after_partial 45 in report s (round_robin s)) ≡ whole_run (steps (codes ".012" ++ rounds_of 44 (codes ".12")))
+    report_of (sender_stops_after_partial 45) ≡ whole_run (steps (codes ".012" ++ rounds_of 44 (codes ".12")))
     (carries 1 first_tot 1 2 (Partial (set 4)) 1 ∷ [])
     (stopped_node 1 1 [] ∷ running_node 45 []
     ∷ running_node 45 [] ∷ [])
@@ -36,7 +35,7 @@ totcan_unaccepted_is_dropped = refl
 
 -- the closing is ahead so long as slot 37 is not read
 settled_at_the_closing :
-    map (λ slots. (let s = sender_stops_after_partial slots in (report s (round_robin s)).settled)) (37 ∷ 38 ∷ [])
+    map (λ slots. (report_of (sender_stops_after_partial slots)).settled) (37 ∷ 38 ∷ [])
     ≡ (false ∷ []) ∷ (true ∷ []) ∷ []
 unfolding row sender_stops_after_partial calm
 settled_at_the_closing = refl
@@ -46,7 +45,7 @@ unfoldable accept_is_partial : ScenarioParts
 accept_is_partial = scenario (calm 45) one_tot (slot_rule 2 (Partial (set 4)) 1 ∷ [])
 
 totcan_accept_survives_its_sender :
-    (let s = accept_is_partial in report s (round_robin s)) ≡ whole_run (steps (codes ".012.012" ++ rounds_of 43 (codes ".12")))
+    report_of accept_is_partial ≡ whole_run (steps (codes ".012.012" ++ rounds_of 43 (codes ".12")))
     (carries 1 first_tot 1 6 Clean 0 ∷ carries 2 first_accept 1 2 (Partial (set 4)) 1 ∷ carries 3 first_accept 2 4 Clean 0
     ∷ carries 4 first_accept 4 2 Clean 0 ∷ [])
     (stopped_node 2 2 (delivered 1) ∷ running_node 45 (delivered 2)
@@ -61,7 +60,7 @@ totcan_late_copy_moves_the_place :
     (let early = tot 1 0 (10 ∷ []) in
     let late = tot 0 0 (11 ∷ []) in
     let s = scenario (three 10 1 2) (send_tot 0 1 (10 ∷ []) ∷ send_tot 1 0 (11 ∷ []) ∷ []) (slot_rule 1 (Partial (set 4)) 0 ∷ []) in
-    report s (round_robin s) ≡ whole_run (steps (codes ".012.012.012.012.012.012.012.012.012.012"))
+    report_of s ≡ whole_run (steps (codes ".012.012.012.012.012.012.012.012.012.012"))
     (carries 1 early 2 1 (Partial (set 4)) 0 ∷ carries 2 late 1 6 Clean 0 ∷ carries 3 (accept 0 0) 1 6 Clean 0
     ∷ carries 4 (accept 0 0) 6 1 Clean 0 ∷ carries 5 early 2 5 Clean 0 ∷ carries 6 (accept 1 0) 2 5 Clean 0
     ∷ carries 7 (accept 1 0) 5 2 Clean 0 ∷ [])
@@ -77,7 +76,7 @@ unfoldable silent_to_node_2 : ScenarioParts
 silent_to_node_2 = scenario (calm 45) one_tot (slot_rule 1 (Silent (set 4)) 0 ∷ [])
 
 silent_omission_is_outside :
-    (let s = silent_to_node_2 in report s (round_robin s)) ≡ record {
+    report_of silent_to_node_2 ≡ record {
       journal = steps (rounds_of 45 (codes ".012"));
       bus = carries 1 first_tot 1 2 (Silent (set 4)) 0 ∷ carries 2 first_accept 1 6 Clean 0 ∷ carries 3 first_accept 2 5 Clean 0 ∷ [];
       broken = Some (record { kind = kind.Silent; slot = 1 });
@@ -95,7 +94,7 @@ three_services :
     (let p : Parameters = record { format = One; nodes = 4; lag = 0; omit = 1; errors = 2; bound = 59; cycle = 118; life = 59; silence = 119; confirm = 10; slots = 20 } in
     let log : ℕ → List LogEntry = λ first. delivers_tot first 0 0 (192 ∷ 1 ∷ []) ∷ delivers_rel 4 1 0 (34 ∷ []) ∷ delivers 6 3 0 (51 ∷ []) ∷ [] in
     let s = scenario p (send_tot 0 0 (192 ∷ 1 ∷ []) ∷ send_rel 0 1 (34 ∷ []) ∷ send 0 3 (51 ∷ []) ∷ []) [] in
-    report s (round_robin s) ≡ whole_run (steps (rounds_of 20 (codes ".0123")))
+    report_of s ≡ whole_run (steps (rounds_of 20 (codes ".0123")))
     (carries 1 (tot 0 0 (192 ∷ 1 ∷ [])) 1 14 Clean 0 ∷ carries 2 (accept 0 0) 1 14 Clean 0 ∷ carries 3 (accept 0 0) 14 1 Clean 0
     ∷ carries 4 (rel 1 0 (34 ∷ [])) 2 13 Clean 0 ∷ carries 5 (confirm 1 0) 2 13 Clean 0
     ∷ carries 6 (ed 3 0 (51 ∷ [])) 8 7 Clean 0 ∷ carries 7 (ed 3 0 (51 ∷ [])) 7 8 Clean 0 ∷ [])
@@ -115,7 +114,7 @@ second_waits_in_the_backlog :
     (let s = two_of_one_origin 42 in
     let second = tot 0 1 (2 ∷ []) in
     let log : ℕ → ℕ → List LogEntry = λ a b. delivers_tot a 0 0 (1 ∷ []) ∷ delivers_tot b 0 1 (2 ∷ []) ∷ [] in
-    report s (round_robin s) ≡ whole_run (steps (rounds_of 42 (codes ".012")))
+    report_of s ≡ whole_run (steps (rounds_of 42 (codes ".012")))
     (carries 1 first_tot 1 6 Clean 0 ∷ carries 2 first_accept 1 6 Clean 0 ∷ carries 3 first_accept 6 1 Clean 0
     ∷ carries 38 second 1 6 Clean 0 ∷ carries 39 (accept 0 1) 1 6 Clean 0 ∷ carries 40 (accept 0 1) 6 1 Clean 0 ∷ [])
     (running_node 42 (log 1 38) ∷ running_node 42 (log 2 39)
@@ -129,7 +128,7 @@ unfoldable origin_stops : ℕ → ScenarioParts
 origin_stops stop = scenario (calm 10) (send_tot 0 0 (1 ∷ []) ∷ send_tot 0 0 (2 ∷ []) ∷ []) (slot_rule 9 Clean stop ∷ [])
 
 open_in_the_backlog :
-    map (λ stop. (let s = origin_stops stop in (report s (round_robin s)).settled)) (0 ∷ 1 ∷ []) ≡ (false ∷ false ∷ []) ∷ (false ∷ true ∷ []) ∷ []
+    map (λ stop. (report_of (origin_stops stop)).settled) (0 ∷ 1 ∷ []) ≡ (false ∷ false ∷ []) ∷ (false ∷ true ∷ []) ∷ []
 unfolding row origin_stops calm
 open_in_the_backlog = refl
 
@@ -143,7 +142,7 @@ origin_starts_again slots =
 backlog_of_an_earlier_incarnation :
     (let s = origin_starts_again 8 in
     let third = tot 0 2 (3 ∷ []) in
-    report s (round_robin s) ≡ whole_run (steps (codes ".012.012.12.012.012.012.012.012"))
+    report_of s ≡ whole_run (steps (codes ".012.012.12.012.012.012.012.012"))
     (carries 1 first_tot 1 6 Clean 0 ∷ carries 2 first_accept 1 6 Clean 1 ∷ carries 3 first_accept 6 1 Clean 0
     ∷ carries 6 third 1 6 Clean 0 ∷ carries 7 (accept 0 2) 1 6 Clean 0 ∷ [])
     (running_node 8 (delivers_tot 6 0 2 (3 ∷ []) ∷ [])

@@ -1,5 +1,5 @@
 -- Where confirmations come from: of each that waits or was carried, a slot had carried the message's data frame with success.
-use Rattle.std.specs.Prelude.{◌≡◌, ℕ, ◌≤◌, List, ◌∷◌, None, length}
+use Rattle.std.specs.Prelude.{◌≡◌, ℕ, ◌≤◌, List, ◌∷◌, None, length, refl}
 use Rattle.cany_base.specs.Limits.{most_nodes}
 use Rattle.std.specs.List.{AllByRecursion}
 use Rattle.std.proofs.Common.{sym, ap, ◌∙◌, subst, inl, inr}
@@ -20,7 +20,7 @@ use Rattle.cany_model.proofs.Bus.Carried.{Carries, Has, Succeeds, Succeeds-from_
 use Rattle.cany_model.proofs.Runs.FrameInvariants.{history_among, HoldsOfFrames, IsKeptByFrames, frames_alone, nothing_known, turn_note}
 use Rattle.cany_model.proofs.Runs.Runs.{IsOrderly}
 use Rattle.cany_model.proofs.Runs.Steps.{MayTurn, next_notice, after_turn-history, after_turn-trace}
-use Rattle.cany_model.proofs.Rules.ProtocolFacts.{MayAsk, accepts, confirms, data_confirms_none, exchanges, lives, originates, relays, request_class, requests, signals}
+use Rattle.cany_model.proofs.Rules.ProtocolFacts.{MayAsk, accepts, confirms, data_is_no_other, exchanges, lives, originates, relays, request_class, requests, signals}
 use Rattle.cany_model.proofs.Rules.TurnFacts.{turn_only}
 use Rattle.cany_model.proofs.Runs.Waits.{AsksOnly}
 
@@ -60,7 +60,7 @@ asked_true scenario s i o may h = turn_only (IsTrue s.trace i) (scenario_at scen
     by_reason f (relays relayed got) = λ is.
         let note = turn_note scenario s i f may (o.unread i) (Among-weaker (λ n. n ≡ Got f) (Has f) (λ n e. inl e) (next_notice s i ∷ history i s) got) in
         h.carried note.0 f note.1 note.2 is
-    by_reason f (originates m is origin slot late frame) = λ confirms. absurd (data_confirms_none m.service (ap (λ (x : FrameParts). x.class) frame ∙ confirms))
+    by_reason f (originates m is origin slot late frame) = λ confirms. absurd (data_is_no_other m.service Confirm refl (ap (λ (x : FrameParts). x.class) frame ∙ confirms))
     by_reason f (confirms g sent rel own frame) = λ is.
         subst (λ x. Among (Succeeds x) s.trace) (confirmed_frame g f frame) (own_succeeds scenario s i g may (o.unread i) rel sent)
     by_reason f (accepts g sent tot own frame) = λ is. let class = ap (λ (x : FrameParts). x.class) frame in absurd (cc)

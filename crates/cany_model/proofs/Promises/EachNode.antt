@@ -202,23 +202,33 @@ pub record IsNodes (scenario : ScenarioParts) (P : List SlotNote → ℕ → Nod
   pub turn : (trace : List SlotNote) (i : ℕ) (node after : NodeState) → after.present ≡ node.present
       → Turned (turn_effects (scenario_for scenario node.present)) trace i node after → P trace i node → P trace i after
 
-nodes_slot : (scenario : ScenarioParts) (P : List SlotNote → ℕ → NodeState → Type 0) → IsNodes scenario P → (rules : FaultScript) (s : RunState) → AllWaitForOwnSlots s
-    → EachRunning P s → EachRunning P (after_slot rules s)
-nodes_slot scenario P is rules s own_slots_alone all i running =
+-- what holds of each node that ran, with the slot that it has lived, holds of each that runs after the slot
+pub each_slot : (P : List SlotNote → ℕ → NodeState → Type 0) (rules : FaultScript) (s : RunState)
+    → ((i : ℕ) → runs (node_at s.nodes i) ≡ true → (node_at (after_slot rules s).nodes i).present ≡ (node_at s.nodes i).present
+    → P (seen (node_at s.nodes i).present (slot_note_of rules s ∷ s.trace)) i (node_at (after_slot rules s).nodes i))
+    → EachRunning P (after_slot rules s)
+each_slot P rules s each i running =
     let ran = (running_before_slot rules s i running).0 in
     let after : NodeState = node_at (after_slot rules s).nodes i in
-    let inc = (node_at s.nodes i).present in
-    let same : after.present ≡ inc = after_slot-present rules s i (runs_within s.nodes i ran) in
+    let same : after.present ≡ (node_at s.nodes i).present = after_slot-present rules s i (runs_within s.nodes i ran) in
     subst (λ t. P (seen after.present t) i after) (sym (after_slot-trace rules s))
-    (subst (λ (k : Incarnation). P (seen k (slot_note_of rules s ∷ s.trace)) i after) (sym same)
-    (is.slot (as_seen inc (slot_note_of rules s)) (seen inc s.trace) i (node_at s.nodes i) after same (slot_lived rules s i (own_slots_alone i ran) ran) (all i ran)))
+    (subst (λ (k : Incarnation). P (seen k (slot_note_of rules s ∷ s.trace)) i after) (sym same) (each i ran same))
 
-nodes_restarts : (scenario : ScenarioParts) (P : List SlotNote → ℕ → NodeState → Type 0) → IsNodes scenario P → (s : RunState)
+nodes_slot : (scenario : ScenarioParts) (P : List SlotNote → ℕ → NodeState → Type 0) → IsNodes scenario P → (rules : FaultScript) (s : RunState) → AllWaitForOwnSlots s
+    → EachRunning P s → EachRunning P (after_slot rules s)
+nodes_slot scenario P is rules s own_slots_alone all =
+    each_slot P rules s (λ i ran same.
+    is.slot (as_seen (node_at s.nodes i).present (slot_note_of rules s)) (seen (node_at s.nodes i).present s.trace) i (node_at s.nodes i)
+    (node_at (after_slot rules s).nodes i) same (slot_lived rules s i (own_slots_alone i ran) ran) (all i ran))
+
+-- what holds of each new node and of each that runs holds after the restarts of a slot
+pub each_restarts : (scenario : ScenarioParts) (P : List SlotNote → ℕ → NodeState → Type 0)
+    → ((trace : List SlotNote) (i : ℕ) (node : NodeState) → IsNew scenario trace i node → P trace i node) → (s : RunState)
     → IsOrderly scenario.params.nodes s → 0 < length s.trace → EachRunning P s → EachRunning P (after_restarts scenario s)
-nodes_restarts scenario P is s o some all i running =
+each_restarts scenario P is_new s o some all i running =
     let after : NodeState = node_at (after_restarts scenario s).nodes i in
     subst (λ t. P (seen after.present t) i after) (sym (after_restarts-trace scenario s)) (elim (restarts_or_stays scenario s i) [
-      | inl new ↦ is.new (seen after.present s.trace) i after (restarted_new scenario s i o some new)
+      | inl new ↦ is_new (seen after.present s.trace) i after (restarted_new scenario s i o some new)
       | inr same ↦ rw same (all i (sym (ap (λ node. runs node) same) ∙ running))
     ])
 
@@ -239,7 +249,7 @@ pub nodes_kept : (scenario : ScenarioParts) (P : List SlotNote → ℕ → NodeS
     → IsKept scenario (λ s. AllWaitForOwnSlots s × EachRunning P s)
 nodes_kept scenario P is = own_slots_alone_kept scenario (EachRunning P) (record {
   slot = λ s o own_slots_alone all. nodes_slot scenario P is (script scenario.rules) s own_slots_alone all;
-  restarts = λ s o some all. nodes_restarts scenario P is s o some all;
+  restarts = λ s o some all. each_restarts scenario P is.new s o some all;
   turn = λ s i o may all. nodes_turn scenario P is s i may (o.unread i) all;
 })
 

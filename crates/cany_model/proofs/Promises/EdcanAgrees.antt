@@ -1,5 +1,5 @@
 -- Agreement of EDCAN: each node that got the frame of a message is to send it.
-use Rattle.std.proofs.Common.{◌≡◌, ℕ, suc, ◌<◌, ◌≤◌, ◌⊎◌, inl, inr, true, false, List, ◌∷◌, length, Contains, ap, sym, subst, arith}
+use Rattle.std.proofs.Common.{◌≡◌, ℕ, suc, ◌<◌, ◌≤◌, ◌⊎◌, inl, inr, true, false, List, ◌∷◌, Contains, ap, sym, subst, arith}
 use Rattle.cany_base.specs.Limits.{most_nodes}
 use Rattle.std.proofs.lemmas.Bool.{cases_lt, cases_Bool}
 use Rattle.cany_base.specs.declared.class.Class.TheVariants as class
@@ -23,7 +23,7 @@ use Rattle.cany_model.proofs.Promises.Agrees.{Owes, Rules, duty_of, run_agrees}
 use Rattle.cany_model.proofs.Among.{Among, count-yes, count-no}
 use Rattle.cany_model.proofs.Promises.Diffusion.{IsDiffused, copies_grow}
 use Rattle.cany_model.proofs.Rules.MessageKeys.{IsOneOf}
-use Rattle.cany_model.proofs.Rules.TurnFacts.{turn_withdraws, turn_cause_data, turn_relays, turn_sends}
+use Rattle.cany_model.proofs.Rules.TurnFacts.{asks_at_its_slot, turn_withdraws, turn_cause_data, turn_relays}
 use Rattle.cany_model.proofs.Runs.Waits.{Asks}
 use Rattle.cany_model.proofs.Rules.DeliveryFacts.{DeliversAtOnce}
 use Rattle.cany_model.proofs.Rules.EdcanFacts.{edcan_delivers}
@@ -61,13 +61,6 @@ asked_got scenario m ed i e past some = elim (cases_Bool (is_got (data_id m) e))
   ]
 ]
 
-asked_slot : (scenario : ScenarioParts) (m : Message) → IsOneOf (messages_of scenario.sends) m → m.service ≡ Ed → (i : ℕ) (e : NoticeKind) (past : List NoticeKind)
-    → MayStart scenario m i (e ∷ past) → (m.slot < length past) ⊎ Asked scenario m i e past
-asked_slot scenario m is ed i e past may = elim (cases_lt m.slot (length past)) [
-  | inl before ↦ inl before
-  | inr now ↦ let at = may.1 in inr (inl (turn_sends scenario i m e past is (ap is_sent_at_once ed) may.0 may.2 (omega (arith, at, now))))
-]
-
 -- EDCAN diffuses the frames of its messages
 pub ed_is_diffused : (scenario : ScenarioParts) (m : Message) → IsOneOf (messages_of scenario.sends) m → m.service ≡ Ed
     → IsDiffused (turn_effects scenario) scenario.params.omit (data_id m) (duty_of m (OwesEd m) scenario)
@@ -83,7 +76,7 @@ ed_is_diffused scenario m is ed = record {
   known = λ i past owes. elim owes [ inl some ↦ inr some | inr origin ↦ inl origin ];
   asked = λ i e past owes. elim owes [
     | inl some ↦ elim (asked_got scenario m ed i e past some) [ inl before ↦ inl (inl before) | inr asked ↦ inr asked ]
-    | inr origin ↦ elim (asked_slot scenario m is ed i e past origin) [ inl before ↦ inl (inr (origin.0, before, origin.2)) | inr asked ↦ inr asked ]
+    | inr origin ↦ elim (asks_at_its_slot scenario m is (ap is_sent_at_once ed) i e past origin) [ inl before ↦ inl (inr (origin.0, before, origin.2)) | inr asks ↦ inr (inl asks) ]
   ];
   withdrawn = λ i past h. turn_withdraws scenario i (data_id m) past (ap (λ by. is_diffused (data_class by)) ed) h;
   cause = λ i past h. elim (turn_cause_data scenario i m past is h) [ inl starts ↦ inr starts | inr some ↦ inl some ];

@@ -1,6 +1,6 @@
 -- How a fact about each running node is proved of every run, where its proof rests on two things more: that a node sends the first of its
 -- waiting frames, and that it has few notices unread after a turn.
-use Rattle.std.proofs.Common.{◌≡◌, ℕ, ◌<◌, ◌≤◌, inl, inr, true, List, ◌∷◌, Some, None, length, ap, sym, ◌∙◌, subst, arith}
+use Rattle.std.proofs.Common.{◌≡◌, ℕ, ◌≤◌, inl, inr, true, List, ◌∷◌, Some, None, ap, sym, ◌∙◌, subst, arith}
 use Rattle.std.proofs.lemmas.Bool.{cases_eq}
 use Rattle.cany_base.specs.declared.notice.NoticeKind.TheVariants.{Sent}
 use Rattle.cany_base.specs.declared.slot_note.SlotNote.{SlotNote}
@@ -8,20 +8,17 @@ use Rattle.cany_base.specs.declared.step.Step.{Step}
 use Rattle.cany_base.specs.Frame.{FrameParts}
 use Rattle.cany_base.specs.Scenario.{ScenarioParts}
 use Rattle.cany_model.specs.Bus.History.{as_seen, given, seen}
-use Rattle.cany_model.specs.Bus.Restart.{after_restarts}
 use Rattle.cany_model.specs.Runs.Run.{after_turn, run}
 use Rattle.cany_model.specs.Bus.Slot.{FaultScript, after_slot, script, slot_note_of}
 use Rattle.cany_model.specs.Bus.State.{Incarnation, NodeState, RunState, node_at, runs}
 use Rattle.cany_model.specs.Rules.Turn.{scenario_for, turn_effects}
 use Rattle.cany_model.proofs.Runs.Journals.{FewUnread, unread_at_first, unread_kept}
 use Rattle.cany_model.proofs.Bus.Notes.{given-Sent}
-use Rattle.cany_model.proofs.Bus.Restarts.{after_restarts-trace, restarts_or_stays}
 use Rattle.cany_model.proofs.Runs.Runs.{IsKept, IsOrderly, along_run}
 use Rattle.cany_model.proofs.Bus.Seen.{seen_one}
-use Rattle.cany_model.proofs.Bus.States.{runs_within}
-use Rattle.cany_model.proofs.Runs.Steps.{MayTurn, after_slot-present, after_slot-trace, after_turn-node, after_turn-other, after_turn-present, after_turn-runs, after_turn-trace, running_before_slot}
+use Rattle.cany_model.proofs.Runs.Steps.{MayTurn, after_turn-node, after_turn-other, after_turn-present, after_turn-runs, after_turn-trace}
 use Rattle.cany_model.proofs.Promises.Diffusion.{Lived, Turned}
-use Rattle.cany_model.proofs.Promises.EachNode.{EachRunning, IsNew, opening_new, restarted_new, slot_lived, turn_turned}
+use Rattle.cany_model.proofs.Promises.EachNode.{EachRunning, IsNew, each_restarts, each_slot, opening_new, slot_lived, turn_turned}
 use Rattle.cany_model.proofs.Promises.OwnSlotsAlone.{AllWaitForOwnSlots, own_slots_alone_opening, own_slots_alone_kept}
 use Rattle.cany_model.proofs.Promises.FewLifeSignsOrder.{NoneBefore, carried_first}
 
@@ -48,24 +45,11 @@ sends_first rules s i running inc f sent =
 
 module _ (scenario : ScenarioParts) (P : List SlotNote → ℕ → NodeState → Type 0) (is : IsNodesWithin scenario P) where
   within_slot : (rules : FaultScript) (s : RunState) → AllWaitForOwnSlots s → EachRunning P s → EachRunning P (after_slot rules s)
-  within_slot rules s own_slots_alone all i running =
-      let ran = (running_before_slot rules s i running).0 in
-      let after : NodeState = node_at (after_slot rules s).nodes i in
+  within_slot rules s own_slots_alone all =
+      each_slot P rules s (λ i ran same.
       let inc = (node_at s.nodes i).present in
-      let same : after.present ≡ inc = after_slot-present rules s i (runs_within s.nodes i ran) in
-      subst (λ t. P (seen after.present t) i after) (sym (after_slot-trace rules s))
-      (subst (λ (k : Incarnation). P (seen k (slot_note_of rules s ∷ s.trace)) i after) (sym same)
-      (is.slot (as_seen inc (slot_note_of rules s)) (seen inc s.trace) i (node_at s.nodes i) after same (slot_lived rules s i (own_slots_alone i ran) ran)
-      (sends_first rules s i ran inc) (all i ran)))
-
-  within_restarts : (s : RunState) → IsOrderly scenario.params.nodes s → 0 < length s.trace → EachRunning P s
-      → EachRunning P (after_restarts scenario s)
-  within_restarts s o some all i running =
-      let after : NodeState = node_at (after_restarts scenario s).nodes i in
-      subst (λ t. P (seen after.present t) i after) (sym (after_restarts-trace scenario s)) (elim (restarts_or_stays scenario s i) [
-        | inl new ↦ is.new (seen after.present s.trace) i after (restarted_new scenario s i o some new)
-        | inr same ↦ rw same (all i (sym (ap (λ node. runs node) same) ∙ running))
-      ])
+      is.slot (as_seen inc (slot_note_of rules s)) (seen inc s.trace) i (node_at s.nodes i) (node_at (after_slot rules s).nodes i) same
+      (slot_lived rules s i (own_slots_alone i ran) ran) (sends_first rules s i ran inc) (all i ran))
 
   within_turn : (s : RunState) (i : ℕ) → MayTurn s i → IsOrderly scenario.params.nodes s → FewUnread scenario s → EachRunning P s
       → EachRunning P (after_turn scenario i s)
@@ -100,7 +84,7 @@ module _ (scenario : ScenarioParts) (P : List SlotNote → ℕ → NodeState →
         );
         restarts = λ s o some h. (
           own_slots_alone.restarts s o some h.0,
-          ((unread_kept scenario).restarts s o some h.1.0, within_restarts s o some h.1.1),
+          ((unread_kept scenario).restarts s o some h.1.0, each_restarts scenario P is.new s o some h.1.1),
         );
         turn = λ s i o may h. (own_slots_alone.turn s i o may h.0, ((unread_kept scenario).turn s i o may h.1.0, within_turn s i may o h.1.0 h.1.1));
       })

@@ -22,7 +22,7 @@ use Rattle.cany_model.proofs.Runs.Waits.{Asks, AsksOnly, Withdraws, Each-after, 
 use Rattle.cany_model.proofs.Promises.FewLifeSignsOrder.{NoneBefore}
 use Rattle.cany_model.proofs.Promises.SignCounts.{asks_more, els_asks, els_test, is_els, put_one, turn_asks, waiting_few, without_fewer, without_one}
 use Rattle.cany_model.proofs.Rules.LifeCounts.{due_in}
-use Rattle.cany_model.proofs.Rules.ProtocolFacts.{IsFounded, MayAsk, MayWithdraw, accepts, answered, closes, confirms, data_lives_none, enough, enough_accept, exchanges, is_diffused, is_relayed, lives, originates, relays, request_class, requests, settles, signals}
+use Rattle.cany_model.proofs.Rules.ProtocolFacts.{IsFounded, MayAsk, MayWithdraw, accepts, answered, closes, confirms, data_is_no_other, enough, enough_accept, exchanges, is_diffused, is_relayed, lives, originates, relays, request_class, requests, settles, signals}
 use Rattle.cany_model.proofs.Rules.Protocols.{life_is_one}
 use Rattle.cany_model.proofs.Rules.TurnFacts.{turn_effect, turn_has, turn_only}
 
@@ -99,7 +99,7 @@ ask_is_due scenario i past f (lives slot now due frame) els = record { is = ap i
 ask_is_due scenario i past f (relays relayed got) els =
     absurd (false≢true (sym (ap is_relayed (same_class-true f.class class.Els els)) ∙ relayed))
 ask_is_due scenario i past f (originates m stands origin slot late frame) els =
-    absurd (data_lives_none m.service (ap (λ (h : FrameParts). h.class) frame ∙ same_class-true f.class class.Els els))
+    absurd (data_is_no_other m.service class.Els refl (ap (λ (h : FrameParts). h.class) frame ∙ same_class-true f.class class.Els els))
 ask_is_due scenario i past f (confirms g sent rel own frame) els =
     absurd (false≢true (ap (λ (h : FrameParts). same_class h.class class.Els) frame ∙ els))
 ask_is_due scenario i past f (accepts g sent tot own frame) els =

@@ -1,8 +1,8 @@
 -- Agreement of RELCAN: a node that got the frame of a message read a confirmation of it, so that a slot had carried the frame
 -- with success, or fell back to sending it.
-use Rattle.std.proofs.Common.{◌≡◌, ℕ, ◌<◌, ◌≤◌, ◌==◌, ◌⊎◌, inl, inr, true, false, not, List, ◌∷◌, length, drop, Contains, ap, sym, ◌∙◌, subst, arith}
+use Rattle.std.proofs.Common.{◌≡◌, ℕ, ◌<◌, ◌≤◌, ◌==◌, ◌⊎◌, inl, inr, true, false, not, List, ◌∷◌, drop, Contains, ap, sym, ◌∙◌, subst, arith}
 use Rattle.cany_base.specs.Limits.{most_nodes}
-use Rattle.std.proofs.lemmas.Bool.{and_from, both_ways, cases_Bool, cases_lt, ne_eqb, not_from_false, or_cases}
+use Rattle.std.proofs.lemmas.Bool.{and_from, both_ways, cases_Bool, ne_eqb, not_from_false, or_cases}
 use Rattle.cany_base.specs.declared.class.Class.TheVariants as class
 use Rattle.cany_base.specs.declared.message.Service.TheVariants.{Rel}
 use Rattle.cany_base.specs.declared.notice.NoticeKind.{NoticeKind}
@@ -32,7 +32,7 @@ use Rattle.cany_model.proofs.Bus.Identities.{same_class_self}
 use Rattle.cany_model.proofs.Rules.MessageKeys.{IsOneOf}
 use Rattle.cany_model.proofs.Promises.SettledFacts.{settled_none_ahead}
 use Rattle.cany_model.proofs.Rules.Timers.{overdue_falls_back}
-use Rattle.cany_model.proofs.Rules.TurnFacts.{rel_cause, turn_withdraws, turn_falls_back, turn_sends}
+use Rattle.cany_model.proofs.Rules.TurnFacts.{asks_at_its_slot, rel_cause, turn_withdraws, turn_falls_back}
 use Rattle.cany_model.proofs.Runs.Waits.{Asks}
 use Rattle.cany_model.proofs.Rules.DeliveryFacts.{DeliversAtOnce}
 use Rattle.cany_model.proofs.Rules.Begun.{begun_fell_back, begun_short}
@@ -58,13 +58,6 @@ asked_late scenario m i e past h =
       | inr before ↦ inl before
     ]
 
-asked_slot : (scenario : ScenarioParts) (m : Message) → IsOneOf (messages_of scenario.sends) m → m.service ≡ Rel → (i : ℕ) (e : NoticeKind) (past : List NoticeKind)
-    → MayStart scenario m i (e ∷ past) → (m.slot < length past) ⊎ Asked scenario m i e past
-asked_slot scenario m is rel i e past may = elim (cases_lt m.slot (length past)) [
-  | inl before ↦ inl before
-  | inr now ↦ let at = may.1 in inr (inl (turn_sends scenario i m e past is (ap is_sent_at_once rel) may.0 may.2 (omega (arith, at, now))))
-]
-
 -- RELCAN diffuses the frames of its messages
 pub rel_is_diffused : (scenario : ScenarioParts) (m : Message) → IsOneOf (messages_of scenario.sends) m → m.service ≡ Rel
     → IsDiffused (turn_effects scenario) scenario.params.omit (data_id m) (duty_of m (OwesRel m) scenario)
@@ -80,7 +73,7 @@ rel_is_diffused scenario m is rel = record {
   known = λ i past owes. elim owes [ inl fell ↦ inr (fell_copies scenario.params.confirm i (data_id m) past fell) | inr origin ↦ inl origin ];
   asked = λ i e past owes. elim owes [
     | inl fell ↦ elim (asked_late scenario m i e past fell) [ inl before ↦ inl (inl before) | inr asked ↦ inr asked ]
-    | inr origin ↦ elim (asked_slot scenario m is rel i e past origin) [ inl before ↦ inl (inr (origin.0, before, origin.2)) | inr asked ↦ inr asked ]
+    | inr origin ↦ elim (asks_at_its_slot scenario m is (ap is_sent_at_once rel) i e past origin) [ inl before ↦ inl (inr (origin.0, before, origin.2)) | inr asks ↦ inr (inl asks) ]
   ];
   withdrawn = λ i past h. turn_withdraws scenario i (data_id m) past (ap (λ by. is_diffused (data_class by)) rel) h;
   cause = λ i past h. elim (rel_cause scenario i m past is rel h) [ inl starts ↦ inr starts | inr fell ↦ inl fell ];

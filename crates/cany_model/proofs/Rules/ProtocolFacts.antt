@@ -240,33 +240,21 @@ got_copies past x f same got =
 abbrev pub MayStart : ScenarioParts → Message → ℕ → List NoticeKind → Type 0
 MayStart scenario m i past = (m.origin ≡ i) × (m.slot < length past) × (scenario.from ≤ m.slot)
 
-pub data_confirms_none : (by : Service) → data_class by ≡ class.Confirm → ⊥
-data_confirms_none Ed e = cc
-data_confirms_none Rel e = cc
-data_confirms_none Tot e = cc
+-- the classes of the data of messages
+abbrev pub is_data : Class → Bool
+is_data class.Ed = true
+is_data class.Rel = true
+is_data class.Tot = true
+is_data other = false
 
-pub data_signals_none : (by : Service) → data_class by ≡ class.Fda → ⊥
-data_signals_none Ed e = cc
-data_signals_none Rel e = cc
-data_signals_none Tot e = cc
-
-pub data_lives_none : (by : Service) → data_class by ≡ class.Els → ⊥
-data_lives_none Ed e = cc
-data_lives_none Rel e = cc
-data_lives_none Tot e = cc
-
-pub data_exchanges_none : (by : Service) → data_class by ≡ class.Rha → ⊥
-data_exchanges_none Ed e = cc
-data_exchanges_none Rel e = cc
-data_exchanges_none Tot e = cc
+pub data_is_no_other : (by : Service) (c : Class) → is_data c ≡ false → data_class by ≡ c → ⊥
+data_is_no_other Ed c other is = false≢true (sym other ∙ sym (ap is_data is))
+data_is_no_other Rel c other is = false≢true (sym other ∙ sym (ap is_data is))
+data_is_no_other Tot c other is = false≢true (sym other ∙ sym (ap is_data is))
 
 pub data_requests_none : (by : Service) (c : Class) → (c ≡ class.Join) ⊎ (c ≡ class.Leave) → data_class by ≡ c → ⊥
-data_requests_none Ed c (inl join) e = cc
-data_requests_none Rel c (inl join) e = cc
-data_requests_none Tot c (inl join) e = cc
-data_requests_none Ed c (inr leave) e = cc
-data_requests_none Rel c (inr leave) e = cc
-data_requests_none Tot c (inr leave) e = cc
+data_requests_none by c (inl join) is = data_is_no_other by c (ap is_data join) is
+data_requests_none by c (inr leave) is = data_is_no_other by c (ap is_data leave) is
 
 -- the class of a frame that asks to join or to leave
 pub request_class : (scenario : ScenarioParts) (i : ℕ) (past : List NoticeKind) (slot : ℕ) (c : Class) → MayRequest scenario i past slot c
@@ -291,7 +279,7 @@ vector_asked scenario i past f may rha = by_reason may
 
     by_reason : MayAsk scenario i past f → AsksVector scenario i past f
     by_reason (relays relayed got) = absurd (false≢true (ap is_relayed (sym rha) ∙ relayed))
-    by_reason (originates m is origin slot late frame) = other _ frame (data_exchanges_none m.service)
+    by_reason (originates m is origin slot late frame) = other _ frame (data_is_no_other m.service class.Rha refl)
     by_reason (confirms g sent rel own frame) = other _ frame (λ c. cc)
     by_reason (accepts g sent tot own frame) = other _ frame (λ c. cc)
     by_reason (signals sign slot now known frame) = other _ frame (λ c. cc)
@@ -306,11 +294,6 @@ pub request_now : (scenario : ScenarioParts) (i : ℕ) (past : List NoticeKind) 
 request_now scenario i past slot c (inl join) = join.1.now
 request_now scenario i past slot c (inr leave) = leave.1.now
 
-pub data_accepts_none : (by : Service) → data_class by ≡ class.Accept → ⊥
-data_accepts_none Ed e = cc
-data_accepts_none Rel e = cc
-data_accepts_none Tot e = cc
-
 -- the data frame of a message is asked for because a copy was read, or by its origin
 pub asked_start : (scenario : ScenarioParts) (i : ℕ) (past : List NoticeKind) (m : Message) → IsOneOf (messages_of scenario.sends) m → (f : FrameParts)
     → data_id m ≡ identity_of f → MayAsk scenario i past f → MayStart scenario m i past ⊎ (0 < copies (data_id m) past)
@@ -321,15 +304,15 @@ asked_start scenario i past m is f same (originates k stands origin slot late fr
     let at : m.slot ≡ k.slot = ap (λ (n : Message). n.slot) one in
     inl (ap (λ (n : Message). n.origin) one ∙ origin, omega (arith, at, slot), omega (arith, at, late))
 asked_start scenario i past m is f same (confirms g sent rel own frame) =
-    absurd (data_confirms_none m.service (ap (λ (x : Identity). x.class) same ∙ sym (ap (λ (h : FrameParts). h.class) frame)))
+    absurd (data_is_no_other m.service class.Confirm refl (ap (λ (x : Identity). x.class) same ∙ sym (ap (λ (h : FrameParts). h.class) frame)))
 asked_start scenario i past m is f same (accepts g sent tot own frame) =
-    absurd (data_accepts_none m.service (ap (λ (x : Identity). x.class) same ∙ sym (ap (λ (h : FrameParts). h.class) frame)))
+    absurd (data_is_no_other m.service class.Accept refl (ap (λ (x : Identity). x.class) same ∙ sym (ap (λ (h : FrameParts). h.class) frame)))
 asked_start scenario i past m is f same (signals sign slot now known frame) =
-    absurd (data_signals_none m.service (ap (λ (x : Identity). x.class) same ∙ sym (ap (λ (h : FrameParts). h.class) frame)))
+    absurd (data_is_no_other m.service class.Fda refl (ap (λ (x : Identity). x.class) same ∙ sym (ap (λ (h : FrameParts). h.class) frame)))
 asked_start scenario i past m is f same (lives slot now due frame) =
-    absurd (data_lives_none m.service (ap (λ (x : Identity). x.class) same ∙ sym (ap (λ (h : FrameParts). h.class) frame)))
+    absurd (data_is_no_other m.service class.Els refl (ap (λ (x : Identity). x.class) same ∙ sym (ap (λ (h : FrameParts). h.class) frame)))
 asked_start scenario i past m is f same (exchanges slot v sends frame) =
-    absurd (data_exchanges_none m.service (ap (λ (x : Identity). x.class) same ∙ sym (ap (λ (h : FrameParts). h.class) frame)))
+    absurd (data_is_no_other m.service class.Rha refl (ap (λ (x : Identity). x.class) same ∙ sym (ap (λ (h : FrameParts). h.class) frame)))
 asked_start scenario i past m is f same (requests slot c may frame) =
     absurd (data_requests_none m.service c (request_class scenario i past slot c may)
     (ap (λ (x : Identity). x.class) same ∙ sym (ap (λ (h : FrameParts). h.class) frame)))

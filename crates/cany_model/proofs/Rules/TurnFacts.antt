@@ -1,7 +1,7 @@
 -- What a turn does: what one of the protocols does. Proofs about runs see a turn through these facts alone.
-use Rattle.std.proofs.Common.{◌≡◌, ℕ, ◌<◌, ◌≤◌, ◌⊎◌, inl, inr, true, false, List, ◌∷◌, length, ap, sym, ◌∙◌}
+use Rattle.std.proofs.Common.{◌≡◌, ℕ, ◌<◌, ◌≤◌, ◌⊎◌, inl, inr, true, false, List, ◌∷◌, length, ap, sym, ◌∙◌, arith}
 use Rattle.std.specs.List.{AllByRecursion}
-use Rattle.std.proofs.lemmas.Bool.{false≢true}
+use Rattle.std.proofs.lemmas.Bool.{cases_lt, false≢true}
 use Rattle.cany_base.specs.declared.class.Class.TheVariants as class
 use Rattle.cany_base.specs.declared.message.Service.TheVariants.{Rel}
 use Rattle.cany_base.specs.declared.notice.NoticeKind.{NoticeKind}
@@ -169,3 +169,12 @@ pub turn_sends : (scenario : ScenarioParts) (i : ℕ) (m : Message) (e : NoticeK
     → Among (Asks (identity_of (data_frame m))) (turn_effects scenario i (e ∷ past))
 turn_sends scenario i m e past is at_once origin late at =
     turn_has (Asks (identity_of (data_frame m))) scenario i (e ∷ past) scripted_sends sends_are_one (sends_ask scenario i m e past is at_once origin late at)
+
+-- so an origin that is to send its message asks for its frame, or the slot of the message is behind it
+pub asks_at_its_slot : (scenario : ScenarioParts) (m : Message) → IsOneOf (messages_of scenario.sends) m → is_sent_at_once m.service ≡ true
+    → (i : ℕ) (e : NoticeKind) (past : List NoticeKind) → MayStart scenario m i (e ∷ past)
+    → (m.slot < length past) ⊎ Among (Asks (data_id m)) (turn_effects scenario i (e ∷ past))
+asks_at_its_slot scenario m is at_once i e past may = elim (cases_lt m.slot (length past)) [
+  | inl before ↦ inl before
+  | inr now ↦ let at = may.1 in inr (turn_sends scenario i m e past is at_once may.0 may.2 (omega (arith, at, now)))
+]

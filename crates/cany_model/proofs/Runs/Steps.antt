@@ -53,33 +53,29 @@ node_after-unread i note node = either (runs node)
     either true = refl
     either false = refl
 
-node_after-present : (i : ℕ) (note : SlotNote) (node : NodeState) → (node_after i note node).present ≡ node.present
+-- a slot begins and ends no incarnation
+abbrev HasSameLives : NodeState → NodeState → Type 0
+HasSameLives node after = (after.present ≡ node.present) × (after.ended ≡ node.ended)
+
+node_after-lives : (i : ℕ) (note : SlotNote) (node : NodeState) → HasSameLives node (node_after i note node)
 unfolding node_after after_share
-node_after-present i note node = either (runs node) (share_of i note)
+node_after-lives i note node = either (runs node) (share_of i note)
   where
-    either : (b : Bool) (share : Share)
-        → (if b then record (after_share share node) { unread = node.unread + 1; stopped = if has note.stops i then Some note.slot else None }
-        else record node { unread = node.unread + 1 }).present ≡ node.present
-    either true share.Idle = refl
-    either true (Took f) = refl
-    either true Rejected = refl
-    either true (Confirmed f) = refl
-    either true Errored = refl
-    either false share = refl
+    either : (b : Bool) (share : Share) → HasSameLives node
+        (if b then record (after_share share node) { unread = node.unread + 1; stopped = if has note.stops i then Some note.slot else None }
+        else record node { unread = node.unread + 1 })
+    either true share.Idle = (refl, refl)
+    either true (Took f) = (refl, refl)
+    either true Rejected = (refl, refl)
+    either true (Confirmed f) = (refl, refl)
+    either true Errored = (refl, refl)
+    either false share = (refl, refl)
+
+node_after-present : (i : ℕ) (note : SlotNote) (node : NodeState) → (node_after i note node).present ≡ node.present
+node_after-present i note node = (node_after-lives i note node).0
 
 pub node_after-ended : (i : ℕ) (note : SlotNote) (node : NodeState) → (node_after i note node).ended ≡ node.ended
-unfolding node_after after_share
-node_after-ended i note node = either (runs node) (share_of i note)
-  where
-    either : (b : Bool) (share : Share)
-        → (if b then record (after_share share node) { unread = node.unread + 1; stopped = if has note.stops i then Some note.slot else None }
-        else record node { unread = node.unread + 1 }).ended ≡ node.ended
-    either true share.Idle = refl
-    either true (Took f) = refl
-    either true Rejected = refl
-    either true (Confirmed f) = refl
-    either true Errored = refl
-    either false share = refl
+node_after-ended i note node = (node_after-lives i note node).1
 
 node_after-waiting : (i : ℕ) (note : SlotNote) (node : NodeState) → runs node ≡ true
     → (node_after i note node).waiting ≡ kept_at (given i note) node.waiting

@@ -6,13 +6,11 @@ use Rattle.std.proofs.lemmas.List.Elements.{All-contains, All-from_recursion}
 use Rattle.cany_base.specs.declared.class.Class.{Class}
 use Rattle.cany_base.specs.declared.class.Class.TheVariants as class
 use Rattle.cany_base.specs.declared.message.NodeAsk.{NodeAsk}
-use Rattle.cany_base.specs.declared.message.Service.{Service}
-use Rattle.cany_base.specs.declared.message.Service.TheVariants.{Ed, Rel, Tot}
 use Rattle.cany_base.specs.declared.notice.NoticeKind.{NoticeKind}
 use Rattle.cany_base.specs.declared.notice.NoticeKind.TheVariants.{Idle, Got, Sent, Bad}
 use Rattle.cany_base.specs.declared.slot_note.SlotNote.{SlotNote}
 use Rattle.cany_base.specs.declared.step.Step.{Step}
-use Rattle.cany_base.specs.Frame.{FrameParts, data_class}
+use Rattle.cany_base.specs.Frame.{FrameParts}
 use Rattle.cany_base.specs.Limits.{most_nodes}
 use Rattle.cany_base.specs.Nodes.{Nodes, has, meet, minus, with_node}
 use Rattle.cany_base.specs.Params.{Parameters}
@@ -41,7 +39,7 @@ use Rattle.cany_model.proofs.Runs.Waits.{Each-after, Each-kept}
 use Rattle.cany_model.proofs.Promises.Diffusion.{past_of}
 use Rattle.cany_model.proofs.Promises.EachNode.{EachRunning, IsNodes, nodes_at_first, nodes_kept}
 use Rattle.cany_model.proofs.Promises.OwnSlotsAlone.{AllWaitForOwnSlots}
-use Rattle.cany_model.proofs.Rules.ProtocolFacts.{IsScripted, MayAsk, MayRequest, accepts, confirms, exchanges, is_relayed, lives, originates, relays, requests, signals}
+use Rattle.cany_model.proofs.Rules.ProtocolFacts.{IsScripted, MayAsk, MayRequest, accepts, confirms, data_is_no_other, exchanges, is_relayed, lives, originates, relays, requests, signals}
 use Rattle.cany_model.proofs.Rules.TurnFacts.{turn_only}
 use Rattle.cany_model.proofs.Timed.Detector.NoRestarts.{restarts_none}
 use Rattle.cany_model.proofs.Timed.Windows.TopFrames.{carried_frame, is_carried}
@@ -51,11 +49,6 @@ use Rattle.cany_model.proofs.Rules.KnowledgeSteps.{found_keeps, leavers_after, l
 
 abbrev pub NoLeave : ℕ → FrameParts → Type 0
 NoLeave r f = f.class ≡ class.Leave → f.node ≡ r → ⊥
-
-pub data_never : (by : Service) → data_class by ≡ class.Leave → ⊥
-data_never Ed e = cc
-data_never Rel e = cc
-data_never Tot e = cc
 
 -- if the frame asks to leave, it is one of node i itself, which has asked to leave
 abbrev pub LeaveAsked : ScenarioParts → ℕ → List NoticeKind → FrameParts → Type 0
@@ -113,7 +106,7 @@ leave_requested scenario i (e ∷ past) slot c (inr leave) is =
 pub leave_may : (scenario : ScenarioParts) (i : ℕ) (past : List NoticeKind) (f : FrameParts) → MayAsk scenario i past f → LeaveAsked scenario i past f
 leave_may scenario i past f (relays relayed got) is = absurd (false≢true (sym (ap is_relayed is) ∙ relayed))
 leave_may scenario i past f (originates m stands origin read late frame) is =
-    absurd (data_never m.service (ap (λ (g : FrameParts). g.class) frame ∙ is))
+    absurd (data_is_no_other m.service class.Leave refl (ap (λ (g : FrameParts). g.class) frame ∙ is))
 leave_may scenario i past f (confirms g sent rel mine frame) is =
     let e : class.Confirm ≡ class.Leave = ap (λ (h : FrameParts). h.class) frame ∙ is in absurd (cc)
 leave_may scenario i past f (accepts g sent tot mine frame) is =

@@ -333,6 +333,27 @@ learnt_unknown p i r slot e st few standing unknown =
           (told_in i slot e st) (Among-from_any (same_sign sign) (told_in i slot e st) now)))
     ])
 
+-- a member that was not heard since a slot, so long before this one, has failed
+pub silent_found : (p : Parameters) (i r slot last : ℕ) (e : NoticeKind) (st : Knowledge) → r < most_nodes → r < p.nodes → (r ≡ i → ⊥)
+    → knows (sign_in p slot r) st ≡ false → last + p.silence ≤ slot → has st.members r ≡ true → (after_learning i slot e st).shown r ≤ last
+    → has (after_finding p i slot e st).failed r ≡ true
+silent_found p i r slot last e st few below other unknown late there old = elim (cases_Bool (has (after_learning i slot e st).failed r)) [
+  | inl failed ↦ learnt_still p i r slot e st few failed
+  | inr standing ↦
+      let now : Knowledge = after_learning i slot e st in
+      let member : has now.members r ≡ true =
+      ap (λ m. has m r) (learnt_keeps Nodes (λ s. s.members) (λ sign s. refl) i slot e st
+      ∙ life_keeps Nodes (λ s. s.members) (record { shown = λ f s. refl; last = λ n s. refl }) i slot e st) ∙ there in
+      let long : nat_le p.silence (slot - now.shown r) ≡ true =
+      le-leb p.silence (slot - now.shown r) (omega (arith, old, late)) in
+      let silent : has_timed_out p i slot now r ≡ true =
+      and_from (has now.members r && not (r == i) && not (has now.failed r)) (nat_le p.silence (slot - now.shown r))
+      (and_from (has now.members r && not (r == i)) (not (has now.failed r))
+      (and_from (has now.members r) (not (r == i)) member (not_from_false (r == i) (ne_eqb r i other)))
+      (not_from_false (has now.failed r) standing)) long in
+      silence_found p i r slot e st few below silent (learnt_unknown p i r slot e st few standing unknown)
+]
+
 -- a member that faded has failed once it has been silent for too long
 pub faded_fails : (p : Parameters) (i r slot last : ℕ) (e : NoticeKind) (st : Knowledge) → r < most_nodes → r < p.nodes → (r ≡ i → ⊥)
     → NothingOf r e → knows (sign_in p slot r) st ≡ false → last + p.silence ≤ slot
@@ -342,20 +363,5 @@ faded_fails p i r slot last e st few below other nothing unknown late (inl out) 
 faded_fails p i r slot last e st few below other nothing unknown late (inr (inl failed)) = inr (found_still p i r slot e st few failed)
 faded_fails p i r slot last e st few below other nothing unknown late (inr (inr old)) = elim (cases_Bool (has st.members r)) [
   | inr out ↦ inl out
-  | inl there ↦ elim (cases_Bool (has (after_learning i slot e st).failed r)) [
-    | inl failed ↦ inr (learnt_still p i r slot e st few failed)
-    | inr standing ↦
-        let now : Knowledge = after_learning i slot e st in
-        let member : has now.members r ≡ true =
-        ap (λ m. has m r) (learnt_keeps Nodes (λ s. s.members) (λ sign s. refl) i slot e st
-        ∙ life_keeps Nodes (λ s. s.members) (record { shown = λ f s. refl; last = λ n s. refl }) i slot e st) ∙ there in
-        let long : nat_le p.silence (slot - now.shown r) ≡ true =
-        le-leb p.silence (slot - now.shown r) (omega (arith, learnt_no_life i slot r e st nothing, old, late)) in
-        let silent : has_timed_out p i slot now r ≡ true =
-        and_from (has now.members r && not (r == i) && not (has now.failed r)) (nat_le p.silence (slot - now.shown r))
-        (and_from (has now.members r && not (r == i)) (not (has now.failed r))
-        (and_from (has now.members r) (not (r == i)) member (not_from_false (r == i) (ne_eqb r i other)))
-        (not_from_false (has now.failed r) standing)) long in
-        inr (silence_found p i r slot e st few below silent (learnt_unknown p i r slot e st few standing unknown))
-  ]
+  | inl there ↦ inr (silent_found p i r slot last e st few below other unknown late there (omega (arith, learnt_no_life i slot r e st nothing, old)))
 ]

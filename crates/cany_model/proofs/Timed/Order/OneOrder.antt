@@ -111,7 +111,7 @@ none_pending p i P age (Some f) h =
     and_left (is_place age P (message_in f) && nat_lt age p.bound) (not (is_accepted p.bound i (message_in f) P))
     (and_right (is_place age P (message_in f)) (nat_lt age p.bound) (le-ltb age p.bound h))
 
-clear_old : (p : Parameters) (i : ℕ) (P : List NoticeKind) (age : ℕ) (l : List NoticeKind) → p.bound ≤ age → is_clear p i P age l ≡ true
+pub clear_old : (p : Parameters) (i : ℕ) (P : List NoticeKind) (age : ℕ) (l : List NoticeKind) → p.bound ≤ age → is_clear p i P age l ≡ true
 unfolding is_clear
 clear_old p i P age [] h = refl
 clear_old p i P age (e ∷ l) h =
@@ -151,7 +151,7 @@ delivered_done p i key e before h =
     ]
 
 -- a message of the order, whose data frame a running node saw carried Clean and whose closing it has read, the node has delivered
-has_delivered : (scenario : ScenarioParts) (s : RunState) → Ground scenario s → (m : MsgKey) (q i : ℕ) → runs (node_at s.nodes i) ≡ true
+pub has_delivered : (scenario : ScenarioParts) (s : RunState) → Ground scenario s → (m : MsgKey) (q i : ℕ) → runs (node_at s.nodes i) ≡ true
     → Done (seen_by s i) q m → is_accepted_by_some scenario s m ≡ true → (node_at s.nodes i).unread + scenario.params.bound ≤ q
     → Among (IsNamed m) (delivered scenario.params i (read_by s i))
 has_delivered scenario s k m q i running d by_some read =
