@@ -11,7 +11,7 @@ use cany_diffuse::Learnt;
 use cany_message::deliver;
 
 /// What becomes of a data frame at a node that reads it.
-#[derive(Clone, Copy, Debug)]
+#[derive(Clone, Copy)]
 pub enum Relay {
     /// Nothing.
     Nothing,
@@ -24,7 +24,7 @@ pub enum Relay {
 /// What a notice calls for at a node, of the data frame that it brings: a delivery first, and then
 /// what becomes of the frame. It stands for a list of actions, and is no list, since a node reads
 /// more of such frames than of all others.
-#[derive(Clone, Copy, Debug)]
+#[derive(Clone, Copy)]
 pub struct Calls {
     /// Whether the message of the frame is delivered.
     pub delivers: bool,

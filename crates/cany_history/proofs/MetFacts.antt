@@ -1,10 +1,10 @@
 -- Vectors that were met, and sets that are part of one another.
 use Rattle.std.specs.Prelude.{nat_lt}
-use Rattle.std.proofs.Common.{◌≡◌, ℕ, ◌≤◌, inl, inr, ◌&&◌, Bool, true, false, Option, Some, None, ◌==◌, unwrap_or, IfSome, refl, ap, sym, ◌∙◌, arith}
+use Rattle.std.proofs.Common.{◌≡◌, ℕ, ◌≤◌, true, Option, Some, None, ◌==◌, unwrap_or, IfSome, ap, ◌∙◌, arith}
 use Rattle.std.specs.Cmp.{both_ways}
-use Rattle.std.proofs.lemmas.Bool.{and_parts, cases_Bool, eq-eqb, eqb-true, lt-ltb, ltb-true}
+use Rattle.std.proofs.lemmas.Bool.{eq-eqb, eqb-true, ltb-true}
 use Rattle.cany_base.specs.Limits.{most_nodes}
-use Rattle.cany_base.specs.Nodes.{Nodes, AllBelow, has, those_where, meet}
+use Rattle.cany_base.specs.Nodes.{Nodes, AllBelow, has}
 use Rattle.cany_base.specs.Params.{Parameters}
 use Rattle.cany_base.proofs.NodesFacts.{same_nodes}
 use Rattle.cany_base.proofs.SetFacts.{below_meet, has_where, meet_both, set_where}

@@ -276,3 +276,15 @@ module _ (notice : Notice) (u v w : NodeParts) (viewed : v ≡ u) (t : TotcanPar
 
     pub listed_acted : IsActed notice u (record w { totcan = t; log = log'.items; room = log'.room; read = notice.slot + 1 }) ctl ctl' out out
     listed_acted = subst (λ (x : NodeParts). IsActed notice x after ctl ctl' out out) viewed acted_now
+
+-- the same where the room for actions was filled and is free again
+pub acted_cleared : (notice : Notice) (u w : NodeParts) (ctl ctl' : ControllerState) (out filled out' : Bounded Action) → IsActed notice u w ctl ctl' out out
+    → out' ≡ record { items = []; room = filled.room } → filled.room ≡ out.room → out.items ≡ [] → IsActed notice u w ctl ctl' out out'
+acted_cleared notice u w ctl ctl' out filled out' acted is room free = record {
+  controller = acted.controller;
+  stands = acted.stands;
+  node = acted.node;
+  inc = acted.inc;
+  cycle = acted.cycle;
+  out = is ∙ (λ j. record { items = (sym free) j; room = room j });
+}

@@ -1,7 +1,7 @@
 -- What a node may ask for fits the identifiers, and a turn names nothing else.
 use Rattle.std.proofs.Common.{◌≡◌, ℕ, suc, ◌*◌, ◌/◌, ◌<◌, ◌≤◌, true, inl, inr, List, [], ◌∷◌, length, All, Contains, refl, ap, sym, ◌∙◌, subst, arith}
 use Rattle.std.specs.List.{AllByRecursion}
-use Rattle.std.proofs.Math.Nat.{div-mul-le_self}
+use Rattle.std.proofs.Math.Nat.{div-lt_iff_lt-mul, div-mul-le_self, mul-le-mul_left}
 use Rattle.std.proofs.lemmas.Bool.{false≢true}
 use Rattle.std.proofs.lemmas.List.Elements.{All-contains}
 use Rattle.std.proofs.lemmas.Nat.{le-div}
@@ -13,7 +13,7 @@ use Rattle.cany_base.specs.declared.message.Service.TheVariants as service
 use Rattle.cany_base.specs.declared.notice.NoticeKind.{NoticeKind}
 use Rattle.cany_base.specs.declared.notice.NoticeKind.TheVariants.{Got, Sent}
 use Rattle.cany_base.specs.Frame.{FrameParts, data_class}
-use Rattle.cany_base.specs.Limits.{most_numbers}
+use Rattle.cany_base.specs.Limits.{most_numbers, most_slots}
 use Rattle.cany_base.specs.Scenario.{ScenarioParts, IsAskOf, IsLegalScenario}
 use Rattle.cany_base.proofs.ParamsFacts.{few_slots}
 use Rattle.cany_model.specs.Bus.Frames.{Identity, bare, identity_of}
@@ -33,7 +33,7 @@ use Rattle.cany_base.specs.Cycles.{cycle_of}
 use Rattle.cany_model.specs.Rules.Views.{ask_of as ask_id}
 use Rattle.cany_model.proofs.Among.{Among, Among-from_Contains, Among-from_count, Among-weaker, Among-which, Contains-from_Among, Each-flat_map, Each-weaker}
 use Rattle.cany_model.proofs.Bus.Carried.{Has, is_got-true}
-use Rattle.cany_model.proofs.Rules.NumberFacts.{message_is_small}
+use Rattle.cany_model.proofs.Rules.NumberFacts.{bound_long, message_is_small}
 use Rattle.cany_model.proofs.Rules.ProtocolFacts.{accepts, answered, closes, confirms, diffused_is_relayed, enough, enough_accept, exchanges, is_relayed, IsAskOf as IsScriptedAs, IsFounded, IsKnownBy, IsLawful, IsScripted, lives, MayAsk, MayRequest, MayWithdraw, originates, relays, requests, settles, signals}
 use Rattle.cany_model.proofs.Rules.Protocols.{are_lawful}
 use Rattle.cany_model.proofs.Rules.SignRooms.{div_grows}
@@ -41,23 +41,27 @@ use Rattle.can_frame.specs.Identifier.{FitsFormat}
 use Rattle.can_frame.proofs.IdentityFacts.{small_fits}
 use Rattle.cany_node.specs.Apply.{MayName, NamesAskable}
 use Rattle.cany_node.specs.Node.{AreReadable}
-use Rattle.cany_node.proofs.LimitFacts.{bound_long, intervals_few}
 
 -- ---- numbers
+
+-- the number of so many intervals in a run, where an interval has 17 slots at least
+intervals_few : (slots interval number : ℕ) → slots ≤ most_slots → 17 ≤ interval → number ≤ slots / interval → number < most_numbers
+intervals_few slots interval number few long n =
+    let some : 0 < interval = omega (arith, long) in
+    let more : most_numbers * 17 ≤ most_numbers * interval = mul-le-mul_left most_numbers long in
+    let below : slots / interval < most_numbers = (div-lt_iff_lt-mul some).1 (omega (arith, few, more)) in
+    omega (arith, below, n)
 
 -- what a node may ask for has a number below what every format has room for
 askable_number : (scenario : ScenarioParts) (i : ℕ) (x : Identity) → IsLegalScenario scenario → IsAskable scenario i x
     → x.number < most_numbers
 askable_number scenario i x legal is = by_class x.class is
   where
-    bound : 17 ≤ scenario.params.bound
-    bound = bound_long scenario legal
-
     cycle : 17 ≤ scenario.params.cycle
-    cycle = omega (arith, bound, legal.formulas.cycle)
+    cycle = omega (arith, bound_long scenario legal, legal.formulas.cycle)
 
     life : 17 ≤ scenario.params.life
-    life = omega (arith, bound, legal.formulas.life)
+    life = omega (arith, bound_long scenario legal, legal.formulas.life)
 
     few : (interval : ℕ) → 17 ≤ interval → x.number ≤ scenario.params.slots / interval → x.number < most_numbers
     few interval long number = intervals_few scenario.params.slots interval x.number (few_slots scenario.params legal.in_range) long number

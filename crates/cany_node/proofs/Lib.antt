@@ -13,7 +13,6 @@ pub mod FrameTurn
 pub mod GiveFacts
 pub mod HeardTurn
 pub mod Idle
-pub mod LimitFacts
 pub mod MembershipBeginning
 pub mod MembershipFacts
 pub mod MembershipSteps

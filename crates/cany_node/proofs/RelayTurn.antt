@@ -1,5 +1,5 @@
 -- The turn of a notice that nothing but EDCAN and RELCAN hears, in a slot for which nothing else is due: what these two do is all of it.
-use Rattle.std.proofs.Common.{◌≡◌, ◌+◌, inl, inr, true, false, List, [], ◌∷◌, ◌++◌, refl, ap, sym, ◌∙◌, subst, append-nil, arith}
+use Rattle.std.proofs.Common.{◌≡◌, ◌+◌, ◌≤◌, inl, inr, true, false, List, [], ◌∷◌, ◌++◌, refl, ap, sym, ◌∙◌, subst, append-nil, arith}
 use Rattle.std.proofs.lemmas.Bool.{cases_Bool}
 use Rattle.std.proofs.lemmas.List.{map-append}
 use Rattle.can_frame.specs.Classes.{is_of_site}
@@ -9,7 +9,10 @@ use Rattle.cany_base.specs.declared.class.Class.TheVariants as class
 use Rattle.cany_base.specs.declared.notice.Notice.{Notice}
 use Rattle.cany_base.specs.declared.notice.NoticeKind.{NoticeKind}
 use Rattle.cany_base.specs.declared.notice.NoticeKind.TheVariants.{Idle, Got, Sent, Bad}
+use Rattle.cany_base.specs.Bounded.{Bounded}
+use Rattle.cany_base.specs.Limits.{most_restarts_of_node}
 use Rattle.cany_base.specs.Scenario.{ScenarioParts}
+use Rattle.can_controller.specs.Controller.{ControllerState}
 use Rattle.cany_edcan.specs.Edcan.{EdcanParts, IsEdcanOf}
 use Rattle.cany_model.specs.Bus.Frames.{same_class}
 use Rattle.cany_model.specs.Rules.Actions.{action_of, actions_of}
@@ -19,10 +22,11 @@ use Rattle.cany_model.specs.Rules.Relcan.{relcan_effects}
 use Rattle.cany_model.specs.Rules.Notices.{IsNextNotice}
 use Rattle.cany_model.proofs.Bus.Identities.{same_class-true}
 use Rattle.cany_relcan.specs.Relcan.{IsRelcanOf, RelcanParts}
-use Rattle.cany_node.specs.Node.{IsNodeOf, NodeParts}
+use Rattle.cany_node.specs.Apply.{CanApply}
+use Rattle.cany_node.specs.Node.{CanAct, IsNodeOf, NodeParts}
 use Rattle.cany_node.specs.Resting.{IsIdleUntil, is_for_relays, is_of_relays}
 use Rattle.cany_node.specs.Turning.{HasScripted, plain_effects}
-use Rattle.cany_node.proofs.ActSteps.{AlwaysListed}
+use Rattle.cany_node.proofs.ActSteps.{AlwaysListed, listed_apply}
 use Rattle.cany_node.proofs.FrameTurn.{after_none, later_none, none_asked_for, scripted_with}
 use Rattle.cany_node.proofs.HeardTurn.{edcan_stands, relcan_stands}
 use Rattle.cany_node.proofs.Idle.IdleFacts.{others_in_turn}
@@ -104,31 +108,34 @@ module _ (scenario : ScenarioParts) (past : List NoticeKind) (e : NoticeKind) (i
       (subst (λ n. IsEdcanOf scenario n read edcan) stands.edcan.node ed)
       (subst (λ n. IsRelcanOf scenario n read relcan) stands.relcan.limits.node rel)
 
--- what EDCAN and RELCAN list is all of the turn
-pub relay_turn : (notice : Notice) (u v : NodeParts) → v ≡ u → is_for_relays notice.kind ≡ true → IsIdleUntil (notice.slot + 1) u
-    → (edcan : EdcanParts) (relcan : RelcanParts) (ed rel : List Action)
-    → ((scenario : ScenarioParts) (past : List NoticeKind) → IsEdcanOf scenario v.edcan.node past v.edcan → IsNextNotice scenario past notice
+module _ (notice : Notice) (u v : NodeParts) (viewed : v ≡ u) (is : is_for_relays notice.kind ≡ true) (idle : IsIdleUntil (notice.slot + 1) u)
+    (edcan : EdcanParts) (relcan : RelcanParts) (ed rel : List Action)
+    (ed_acts : (scenario : ScenarioParts) (past : List NoticeKind) → IsEdcanOf scenario v.edcan.node past v.edcan → IsNextNotice scenario past notice
     → ed ≡ actions_of scenario.params.format (edcan_effects scenario v.edcan.node (notice.kind ∷ past)))
-    → ((scenario : ScenarioParts) (past : List NoticeKind) → IsEdcanOf scenario v.edcan.node past v.edcan → IsNextNotice scenario past notice
+    (ed_heard : (scenario : ScenarioParts) (past : List NoticeKind) → IsEdcanOf scenario v.edcan.node past v.edcan → IsNextNotice scenario past notice
     → IsEdcanOf scenario v.edcan.node (notice.kind ∷ past) edcan)
-    → ((scenario : ScenarioParts) (past : List NoticeKind) → IsRelcanOf scenario v.relcan.node past v.relcan → IsNextNotice scenario past notice
+    (rel_acts : (scenario : ScenarioParts) (past : List NoticeKind) → IsRelcanOf scenario v.relcan.node past v.relcan → IsNextNotice scenario past notice
     → rel ≡ actions_of scenario.params.format (relcan_effects scenario v.relcan.node (notice.kind ∷ past)))
-    → ((scenario : ScenarioParts) (past : List NoticeKind) → IsRelcanOf scenario v.relcan.node past v.relcan → IsNextNotice scenario past notice
-    → IsRelcanOf scenario v.relcan.node (notice.kind ∷ past) relcan)
-    → AlwaysListed notice v (record v { edcan = edcan; relcan = relcan }) v.totcan (ed ++ rel)
-relay_turn notice u v viewed is idle edcan relcan ed rel ed_acts ed_heard rel_acts rel_heard = λ scenario past stands next.
-    let others =
-    others_in_turn scenario past notice (notice.slot + 1) v (subst (IsIdleUntil (notice.slot + 1)) (sym viewed) idle) (omega arith) stands next in
-    let of_ed = edcan_stands scenario past notice v stands in
-    let of_rel = relcan_stands scenario past notice v stands in
-    let places = places_nothing notice.kind is in
-    let site = tells_nothing notice.kind is in
-    record {
-      same = record { node = refl; inc = refl; from = refl; cycle = refl; log = refl; room = refl };
-      scripted =
-          relays_scripted scenario past notice.kind is v stands others edcan relcan (ed_heard scenario past of_ed next.next) (rel_heard scenario past of_rel next.next);
-      listed =
-          relays_listed scenario past notice.kind is v stands others ed rel (ed_acts scenario past of_ed next.next)
-          (rel_acts scenario past of_rel next.next);
-      asks = none_asked_for scenario past notice.kind places site v stands others;
-    }
+    (rel_heard : (scenario : ScenarioParts) (past : List NoticeKind) → IsRelcanOf scenario v.relcan.node past v.relcan → IsNextNotice scenario past notice
+    → IsRelcanOf scenario v.relcan.node (notice.kind ∷ past) relcan) where
+  -- what EDCAN and RELCAN list is all of the turn
+  pub relay_turn : AlwaysListed notice v (record v { edcan = edcan; relcan = relcan }) v.totcan (ed ++ rel)
+  relay_turn = λ scenario past stands next.
+      let others =
+      others_in_turn scenario past notice (notice.slot + 1) v (subst (IsIdleUntil (notice.slot + 1)) (sym viewed) idle) (omega arith) stands next in
+      let of_ed = edcan_stands scenario past notice v stands in
+      let of_rel = relcan_stands scenario past notice v stands in
+      record {
+        same = record { node = refl; inc = refl; from = refl; cycle = refl; log = refl; room = refl };
+        scripted =
+            relays_scripted scenario past notice.kind is v stands others edcan relcan (ed_heard scenario past of_ed next.next) (rel_heard scenario past of_rel next.next);
+        listed =
+            relays_listed scenario past notice.kind is v stands others ed rel (ed_acts scenario past of_ed next.next)
+            (rel_acts scenario past of_rel next.next);
+        asks = none_asked_for scenario past notice.kind (places_nothing notice.kind is) (tells_nothing notice.kind is) v stands others;
+      }
+
+  -- and it can be done
+  pub relay_apply : (ctl : ControllerState) (out : Bounded Action) → CanAct u notice ctl out → v.inc ≤ most_restarts_of_node
+      → CanApply v.inc (ed ++ rel) ctl (record { items = v.log; room = v.room })
+  relay_apply ctl out acts number = listed_apply notice u v _ viewed _ (ed ++ rel) ctl out acts relay_turn number

@@ -5,6 +5,7 @@ use Rattle.std.proofs.lemmas.Bool.{and_from, and_parts, cases_Bool, false≢true
 use Rattle.std.proofs.lemmas.List.{length-map}
 use Rattle.std.proofs.lemmas.List.Elements.{All-head, All-tail}
 use Rattle.std.proofs.lemmas.List.Sums.{count_by-le-length, length-filter}
+use Rattle.cany_base.specs.declared.actions.Action.{Action}
 use Rattle.cany_base.specs.declared.format.Format.{Format}
 use Rattle.cany_base.specs.declared.log_entry.LogEntry.{LogEntry}
 use Rattle.cany_base.specs.declared.log_entry.LogEntry.TheVariants.{Deliver, Failed, View}
@@ -13,6 +14,7 @@ use Rattle.cany_base.specs.declared.message.NodeAsk.{NodeAsk}
 use Rattle.cany_base.specs.declared.message.Service.{Service}
 use Rattle.cany_base.specs.declared.message.Service.TheVariants.{Ed, Rel, Tot}
 use Rattle.cany_base.specs.declared.notice.NoticeKind.{NoticeKind}
+use Rattle.cany_base.specs.Bounded.{Bounded}
 use Rattle.cany_base.specs.Frame.{FrameParts, data_class, identifier_of}
 use Rattle.cany_base.specs.Params.{Parameters}
 use Rattle.cany_base.specs.Scenario.{ScenarioParts}
@@ -201,3 +203,10 @@ actions_within scenario past v stands =
       stands.joins.few,
       stands.leaves.few,
     )
+
+-- what the protocols did at a notice leaves room for the script
+pub script_fits : (scenario : ScenarioParts) (past : List NoticeKind) (v heard : NodeParts) (out filled : Bounded Action) → IsNodeOf scenario past v → out.items ≡ []
+    → out.room ≡ actions_room scenario → length filled.items ≤ length out.items + heard_room v → filled.room ≡ out.room → script_room heard ≡ script_room v
+    → length filled.items + script_room heard < filled.room
+script_fits scenario past v heard out filled stands free actions few room same =
+    omega (arith, actions_within scenario past v stands, ap length free, actions, few, room, same)

@@ -147,17 +147,17 @@ module _ (scenario : ScenarioParts) (past : List NoticeKind) (e : NoticeKind) (v
 
 -- what TOTCAN lists, and what is listed for the site, is all of the turn
 pub totcan_and_life_turn : (notice : Notice) (u v : NodeParts) → v ≡ u → brings_totcan_or_life notice.kind ≡ true → IsIdleUntil (notice.slot + 1) u
-    → RelcanRestsUntil (notice.slot + 1) u.relcan → (t : TotcanParts) (membership : MembershipParts) (out tot site : List Action) → out ≡ []
+    → RelcanRestsUntil (notice.slot + 1) u.relcan → (t : TotcanParts) (membership : MembershipParts) (out tot : List Action) → out ≡ []
     → ((scenario : ScenarioParts) (past : List NoticeKind) (messages : List Message) (count : ℕ) → totcan.Rests scenario v.totcan.node past messages count v.totcan
     → IsTotcanOf scenario v.totcan.node past messages count v.totcan → IsNextNotice scenario past notice → tot ≡ out ++ actions_of scenario.params.format (totcan_effects scenario v.totcan.node (notice.kind ∷ past)))
     → ((scenario : ScenarioParts) (past : List NoticeKind) (messages : List Message) (count : ℕ) → totcan.Rests scenario v.totcan.node past messages count v.totcan
     → IsTotcanOf scenario v.totcan.node past messages count v.totcan → IsNextNotice scenario past notice → IsTotcanOf scenario v.totcan.node (notice.kind ∷ past) messages count t)
     → ((scenario : ScenarioParts) (i : ℕ) (past : List NoticeKind) → IsMembershipOf scenario i past v.membership → MembershipRests scenario i past v.membership
-    → IsNextOf scenario i past notice → site ≡ tot ++ actions_of scenario.params.format (membership_effects scenario i (notice.kind ∷ past)))
+    → IsNextOf scenario i past notice → membership_effects scenario i (notice.kind ∷ past) ≡ [])
     → ((scenario : ScenarioParts) (i : ℕ) (past : List NoticeKind) → IsMembershipOf scenario i past v.membership → MembershipRests scenario i past v.membership
     → IsNextOf scenario i past notice → IsMembershipOf scenario i (notice.kind ∷ past) membership)
-    → AlwaysListed notice v (record v { totcan = t; membership = membership }) t site
-totcan_and_life_turn notice u v viewed is idle rests t membership out tot site free tot_acts tot_heard site_acts site_heard = λ scenario past stands next.
+    → AlwaysListed notice v (record v { totcan = t; membership = membership }) t tot
+totcan_and_life_turn notice u v viewed is idle rests t membership out tot free tot_acts tot_heard site_none site_heard = λ scenario past stands next.
     let e = notice.kind in
     let others =
     others_in_turn scenario past notice (notice.slot + 1) v (subst (IsIdleUntil (notice.slot + 1)) (sym viewed) idle) (omega arith) stands next in
@@ -184,7 +184,8 @@ totcan_and_life_turn notice u v viewed is idle rests t membership out tot site f
       scripted = scripted_so scenario past e v stands others t heard membership ed rel
           (site_heard scenario v.node past stands.membership others.membership next);
       listed =
-          site_acts scenario v.node past stands.membership others.membership next
+          sym (append-nil tot)
+          ∙ sym (ap (λ es. tot ++ actions_of scenario.params.format es) (site_none scenario v.node past stands.membership others.membership next))
           ∙ listed_more scenario out tot (totcan_effects scenario v.node (e ∷ past)) (membership_effects scenario v.node (e ∷ past)) tot_is
           ∙ ap (λ xs. xs ++ actions_of scenario.params.format (totcan_effects scenario v.node (e ∷ past) ++ membership_effects scenario v.node (e ∷ past))) free
           ∙ ap (actions_of scenario.params.format) (sym (alone scenario past e v stands others ed_none rel_none));

@@ -94,27 +94,31 @@ same_room false slot f timers = refl
 
 -- ---- which copy is the first
 
--- the message was not delivered before a copy that is the first, where the node does not know the frame as its own
-first_is_new : (got own noted first : Bool) → first ≡ not got → (own ≡ false → noted ≡ false) → (first && not (own && (got || noted))) ≡ true → not (got || noted) ≡ true
-first_is_new got own noted first counted none is = grind (arith, nat_tests, counted, none, is)
+-- a copy is the first that delivers the message, and none before did, where the node does not know the frame as its own
+first_is : (got own noted first : Bool) → first ≡ not got → (own ≡ false → noted ≡ false) → (first && not (own && (got || noted))) ≡ not (got || noted)
+first_is true own noted first counted none = ap (λ b. b && not (own && true)) counted
+first_is false true noted first counted none = ap (λ b. b && not noted) counted
+first_is false false noted first counted none = ap (λ b. b && true) counted ∙ ap not (sym (none refl))
 
-pub not_delivered : (v : RelcanParts) (f : FrameParts) (new : EagerParts) (learnt : Learnt)
-    → learnt ≡ learnt_of v.copies.omit (copies_of new (frame_number f)) (is_owned v.copies (frame_number f))
-    → IsLearnt (frame_number f) v.copies new → ((f.node == v.node) ≡ false → is_owned v.copies (frame_number f) ≡ false)
-    → (is_first_copy learnt && not (holds_own v f)) ≡ true → not (was_delivered v f) ≡ true
-not_delivered v f new learnt is copy own first =
-    first_is_new (nat_lt 0 (copies_of v.copies (frame_number f))) (f.node == v.node) (is_owned v.copies (frame_number f)) (is_first_copy learnt) counted own first
+-- what is learnt of it, by a value that is the same
+pub delivers_is : (u v : RelcanParts) (f : FrameParts) (new : EagerParts) (learnt : Learnt) → u ≡ v
+    → learnt ≡ learnt_of u.copies.omit (copies_of new (frame_number f)) (is_owned u.copies (frame_number f))
+    → IsLearnt (frame_number f) u.copies new → ((f.node == v.node) ≡ false → is_owned v.copies (frame_number f) ≡ false)
+    → (is_first_copy learnt && not (holds_own v f)) ≡ not (was_delivered v f)
+delivers_is u v f new learnt same is copy own =
+    first_is (nat_lt 0 (copies_of v.copies (frame_number f))) (f.node == v.node) (is_owned v.copies (frame_number f)) (is_first_copy learnt) counted own
   where
     one : (c n : ℕ) → n ≡ raised c → (n == 1) ≡ not (nat_lt 0 c)
     one c n at = grind (arith, nat_tests, at)
 
-    more : copies_of new (frame_number f) ≡ raised (copies_of v.copies (frame_number f))
+    more : copies_of new (frame_number f) ≡ raised (copies_of u.copies (frame_number f))
     more = grind (arith, nat_tests, copy.copies (frame_number f))
 
     counted : is_first_copy learnt ≡ not (nat_lt 0 (copies_of v.copies (frame_number f)))
     counted =
-        ap is_first_copy is ∙ first_copy_is v.copies.omit (copies_of new (frame_number f)) (is_owned v.copies (frame_number f))
-        ∙ one (copies_of v.copies (frame_number f)) (copies_of new (frame_number f)) more
+        ap is_first_copy is ∙ first_copy_is u.copies.omit (copies_of new (frame_number f)) (is_owned u.copies (frame_number f))
+        ∙ one (copies_of u.copies (frame_number f)) (copies_of new (frame_number f)) more
+        ∙ ap (λ (w : RelcanParts). not (nat_lt 0 (copies_of w.copies (frame_number f)))) same
 
 -- ---- which copy starts a timer
 
@@ -149,6 +153,18 @@ module _ (scenario : ScenarioParts) (i : ℕ) (past : List NoticeKind) (v w : Re
       ∙ ap (λ x. (true && not (f.node == i)) && not (has_copy x past)) (sym (identity_is class.Rel f rel))
       ∙ ap (λ b. (b && not (f.node == i)) && not (has_copy (identity_of f) past)) (sym is)
 
+  -- with other tables
+  limits_with : (copies confirms : EagerParts) → spare_of copies + length v.timers.running ≤ sends_by scenario service.Rel
+      → HasLimitsOf scenario i (record v { copies = copies; confirms = confirms })
+  limits_with copies confirms few = record {
+    legal = h.limits.legal;
+    node = h.limits.node;
+    format = h.limits.format;
+    confirm = h.limits.confirm;
+    timers_room = h.limits.timers_room;
+    timers_few = few;
+  }
+
   -- a copy of a data frame
   pub read_copy : (slot : ℕ) → f.class ≡ class.Rel → same_class f.class class.Rel ≡ true → slot ≡ length past → slot < scenario.params.slots
       → IsLearnt (frame_number f) v.copies w.copies → w ≡ record v { copies = w.copies; timers = timers_with (starts_timer v f) slot f v.timers }
@@ -180,40 +196,20 @@ module _ (scenario : ScenarioParts) (i : ℕ) (past : List NoticeKind) (v w : Re
   pub read_confirmation : f.class ≡ class.Confirm → same_class f.class class.Rel ≡ false → length past < scenario.params.slots
       → IsLearnt (frame_number f) v.confirms w.confirms → w ≡ record v { confirms = w.confirms } → HasRead scenario i (Got f) past w
   read_confirmation is other within learnt state = subst (HasRead scenario i (Got f) past) (sym state) (record {
-    limits = same_limits;
+    limits = limits_with v.copies w.confirms h.limits.timers_few;
     tables = tables_confirmed scenario i past v.copies v.confirms h.tables f small named w.confirms is (omega (arith, within, few_slots scenario.params h.limits.legal.in_range)) learnt;
     timers = none_started i scenario.params.confirm (Got f) past v.timers.running h.timers (no_timer i (Got f) past other);
     fallen = h.fallen;
   })
-    where
-      same_limits : HasLimitsOf scenario i (record v { confirms = w.confirms })
-      same_limits = record {
-        legal = h.limits.legal;
-        node = h.limits.node;
-        format = h.limits.format;
-        confirm = h.limits.confirm;
-        timers_room = h.limits.timers_room;
-        timers_few = h.limits.timers_few;
-      }
 
   -- the node's own transmission of the data frame of its own message
   pub read_sent : f.class ≡ class.Rel → f.node ≡ i → IsOwned (frame_number f) v.copies w.copies → w ≡ record v { copies = w.copies } → HasRead scenario i (Sent f) past w
   read_sent rel own owned state = subst (HasRead scenario i (Sent f) past) (sym state) (record {
-    limits = same_limits;
+    limits = limits_with w.copies v.confirms (omega (arith, owned.put.spare, h.limits.timers_few));
     tables = tables_sent scenario i past v.copies v.confirms h.tables f small named w.copies rel own owned;
     timers = none_started i scenario.params.confirm (Sent f) past v.timers.running h.timers refl;
     fallen = h.fallen;
   })
-    where
-      same_limits : HasLimitsOf scenario i (record v { copies = w.copies })
-      same_limits = record {
-        legal = h.limits.legal;
-        node = h.limits.node;
-        format = h.limits.format;
-        confirm = h.limits.confirm;
-        timers_room = h.limits.timers_room;
-        timers_few = omega (arith, owned.put.spare, h.limits.timers_few);
-      }
 
 -- any other notice
 pub read_other : (scenario : ScenarioParts) (i : ℕ) (notice : NoticeKind) (past : List NoticeKind) (v : RelcanParts)

@@ -13,7 +13,7 @@ use cany_diffuse::Diffused;
 use cany_message::deliver;
 
 /// What a node does with a data frame that it reads, or for its message.
-#[derive(Clone, Copy, Debug)]
+#[derive(Clone, Copy)]
 pub enum Reply {
     /// Nothing.
     Nothing,
@@ -25,7 +25,7 @@ pub enum Reply {
 
 /// What a notice calls for at a node, of the data frame that it brings: a delivery first, and then
 /// a reply. It stands for a list of actions, and is no list, since a node reads many such frames.
-#[derive(Clone, Copy, Debug)]
+#[derive(Clone, Copy)]
 pub struct Calls {
     /// Whether the message of the frame is delivered.
     pub delivers: bool,

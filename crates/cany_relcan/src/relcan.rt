@@ -7,7 +7,7 @@ ghost use Rattle.cany_base.specs.declared.notice.NoticeKind.{NoticeKind};
 ghost use Rattle.cany_base.specs.declared.notice.NoticeKind.TheVariants.{Idle};
 ghost use Rattle.cany_base.specs.Frame.{FrameParts};
 ghost use Rattle.cany_base.specs.Scenario.{ScenarioParts};
-ghost use Rattle.cany_diffuse.specs.Eager.{copies_of, is_held, is_owned, is_enough, is_there, learnt_of, spare_of, IsCounted, IsLearnt, IsOwned};
+ghost use Rattle.cany_diffuse.specs.Eager.{copies_of, is_held, is_owned, is_enough, is_there, learnt_of, spare_of, IsCounted, IsFresh, IsLearnt, IsOwned};
 ghost use Rattle.cany_message.specs.Actions.{withdraw_actions};
 ghost use Rattle.cany_base.specs.Limits.{greatest_default, most_nodes};
 ghost use Rattle.can_frame.specs.Identifier.{HasSmallNumbers};
@@ -62,6 +62,16 @@ pub struct Relcan {
     fallen: Eager<Data>,
 }
 
+/// The tables of what a node read, as they are built.
+///
+/// They are built apart from the rest: how a value is let go where the memory of the next is
+/// wanting is proved part by part at each such place.
+#[derive(Drop)]
+struct Tables {
+    copies: Eager<Data>,
+    confirms: Eager<Confirmation>,
+}
+
 impl Model for Relcan {
     ghost use Rattle.cany_relcan.specs.Relcan.{RelcanParts};
 
@@ -79,16 +89,15 @@ impl Relcan {
     {
         let params = *scenario.params();
         let room = sends_by(scenario, Service::Rel);
-        let copies = Eager::build(alloc, params.omit, room)?;
-        let confirms = Eager::build(alloc, params.omit, room)?;
         let timers = Timers::build(alloc, timers_at_once(room, params.confirm))?;
         let fallen = Eager::build(alloc, params.omit, room)?;
+        let tables = build_tables(alloc, params.omit, room)?;
         Ok(Relcan {
             node,
             format: params.format,
             confirm: params.confirm,
-            copies,
-            confirms,
+            copies: tables.copies,
+            confirms: tables.confirms,
             timers,
             fallen,
         })
@@ -408,6 +417,16 @@ impl Relcan {
     {
         self.fallen.holds(&Data::of(frame))
     }
+}
+
+/// Tables of nothing, for so many omissions of a frame and so many messages.
+fn build_tables(alloc: Global, omit: u32, room: usize) -> Result<Tables, Memory>
+    ensures copies { IfOk result (λ tables. IsFresh omit room tables.copies) }
+    ensures confirms { IfOk result (λ tables. IsFresh omit room tables.confirms) }
+{
+    let copies = Eager::build(alloc, omit, room)?;
+    let confirms = Eager::build(alloc, omit, room)?;
+    Ok(Tables { copies, confirms })
 }
 
 /// How many timers may run at once: at most one for each message, and at most one starts in a slot.

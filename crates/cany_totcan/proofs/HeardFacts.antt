@@ -37,6 +37,7 @@ use Rattle.cany_totcan.specs.TotcanSteps.{has_open, noted_if, origin_actions}
 use Rattle.cany_totcan.proofs.AcceptanceFacts.{AcceptsNone, acceptances_learnt, acceptances_moved, acceptances_owned, acceptances_same, accepts_none-bad, accepts_none-got, accepts_none-got_closed, accepts_none-idle, accepts_none-sent, accepts_none-sent_closed, not_accepting, not_carrying}
 use Rattle.cany_totcan.proofs.AcceptedFacts.{accepted_stays}
 use Rattle.cany_totcan.proofs.KnownFacts.{own_named, number_below}
+use Rattle.cany_totcan.proofs.LimitsFacts.{limits_with}
 use Rattle.cany_totcan.proofs.OwnFacts.{IsOfOwn, brings_own, got_own, own_noted, own_other, sent_own}
 use Rattle.cany_totcan.proofs.PlaceFacts.{IsWithin, holds-none, holds-some, is_of_key_back, open_is, placed_kept, placed_moved, placed_few, placed_once, placed_within, recent_more, tot_in-got, tot_in-got_other, tot_in-sent, tot_in-sent_other}
 use Rattle.cany_totcan.proofs.QueueFacts.{both_less, done-moved, length-without-le, named-moved, room_to_place}
@@ -79,18 +80,7 @@ module _ (scenario : ScenarioParts) (i : ℕ) (notice : NoticeKind) (before : Li
   pub heard_other : tot_in notice ≡ None → brings_own i notice ≡ false → AreAcceptances (scenario.params.bound + 1) (notice ∷ before) w.acceptances
       → w ≡ record v { acceptances = w.acceptances } → HasHeard scenario i notice before messages count w
   heard_other none not_own acceptances state = subst (HasHeard scenario i notice before messages count) (sym state) (record {
-    limits = record {
-      legal = h.limits.legal;
-      node = h.limits.node;
-      format = h.limits.format;
-      bound = h.limits.bound;
-      spacing = h.limits.spacing;
-      omit = h.limits.omit;
-      room = h.limits.room;
-      at_once = h.limits.at_once;
-      numbers = h.limits.numbers;
-      deliveries = h.limits.deliveries;
-    };
+    limits = limits_with scenario i v v.queue w.acceptances v.deliveries v.backlog h.limits refl refl refl;
     queue = record { places = h.queue.places ∙ sym (placed_kept scenario.params.bound notice before none); messages = h.queue.messages };
     acceptances = acceptances;
     are_delivered = h.are_delivered;
@@ -139,18 +129,8 @@ module _ (scenario : ScenarioParts) (i : ℕ) (notice : NoticeKind) (before : Li
         → w ≡ record v { queue = moved f slot v.queue; acceptances = w.acceptances; backlog = noted_if (f.node == v.node) f slot is_own v.backlog }
         → HasHeard scenario i notice before messages count w
     heard_data backlog other gone state = subst (HasHeard scenario i notice before messages count) (sym state) (record {
-      limits = record {
-        legal = h.limits.legal;
-        node = h.limits.node;
-        format = h.limits.format;
-        bound = h.limits.bound;
-        spacing = h.limits.spacing;
-        omit = h.limits.omit;
-        room = h.limits.room;
-        at_once = h.limits.at_once;
-        numbers = h.limits.numbers;
-        deliveries = h.limits.deliveries;
-      };
+      limits =
+          limits_with scenario i v (moved f slot v.queue) w.acceptances v.deliveries (noted_if (f.node == v.node) f slot is_own v.backlog) h.limits refl refl refl;
       queue = record { places = moved_places; messages = named-moved scenario service.Tot f slot v.queue named h.queue.messages };
       acceptances = acceptances_moved scenario.params.bound before v.acceptances h.acceptances f notice w.acceptances brings other gone;
       are_delivered = h.are_delivered;

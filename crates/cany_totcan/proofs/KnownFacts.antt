@@ -1,10 +1,11 @@
 -- What is known of the open messages of a value, and that it stays so.
 use Rattle.cany_model.specs.Rules.Rooms.{sends_by}
-use Rattle.std.proofs.Common.{◌≡◌, ℕ, ◌+◌, ◌-◌, ◌<◌, ◌≤◌, ◌==◌, Bool, true, false, if◌then◌else◌, List, [], ◌∷◌, count_by, length, Option, Some, None, refl, ap, sym, subst, ◌∙◌, arith}
-use Rattle.std.specs.Prelude.{nat_lt}
+use Rattle.std.proofs.Common.{◌≡◌, ℕ, ◌+◌, ◌-◌, ◌<◌, ◌≤◌, ◌==◌, Bool, true, false, if◌then◌else◌, List, [], ◌∷◌, ◌++◌, count_by, drop, length, Option, Some, None, refl, ap, sym, subst, ◌∙◌, arith}
+use Rattle.std.specs.Prelude.{nat_lt, option_map}
 use Rattle.std.proofs.lemmas.Bool.Decides.{nat_tests}
 use Rattle.std.specs.List.{AllByRecursion, list_any}
 use Rattle.std.proofs.lemmas.Bool.{false≢true, false_from_ne_true}
+use Rattle.std.proofs.lemmas.List.{append-nil}
 use Rattle.cany_model.specs.Rules.Totcan.{message_in}
 use Rattle.can_frame.specs.Identifier.{HasSmallNumbers}
 use Rattle.cany_base.specs.declared.actions.Action.{Action}
@@ -25,13 +26,13 @@ use Rattle.cany_totcan.specs.declared.queue.Open.{Open}
 use Rattle.cany_totcan.specs.declared.queue.Placed.{Placed}
 use Rattle.cany_totcan.specs.MessageSet.{MessageSetParts, HasRoomOf, numbers_of}
 use Rattle.cany_totcan.specs.Acceptances.{IsNoted, forgotten, is_same, noted_of, nothing}
-use Rattle.cany_totcan.specs.Queue.{AreOnce, OpenParts, is_at, oldest_from, without_oldest, without_oldest_from}
+use Rattle.cany_totcan.specs.Queue.{AreOnce, IsIndexOf, OpenParts, is_at, oldest_from, without_first, without_oldest, without_oldest_from}
 use Rattle.cany_totcan.specs.Totcan.{HasHeard, TotcanParts}
-use Rattle.cany_totcan.specs.TotcanSteps.{AreAdded, AreKnown, AreStillNoted, HaveGone, IsKnown, due, first_of, closing_accepted, closing_frame, is_accepted_by, without_closing}
-use Rattle.cany_totcan.proofs.DueFacts.{due-first, each_frame_at}
+use Rattle.cany_totcan.specs.TotcanSteps.{AreAdded, AreKnown, AreStillNoted, HaveGone, IsKnown, due, first_of, fresh_of, closing_accepted, closing_actions, closing_frame, is_accepted_by, tot_actions, without_closing}
+use Rattle.cany_totcan.proofs.DueFacts.{added_none, due-first, each_frame_at}
 use Rattle.cany_totcan.proofs.MessageSetFacts.{below_numbers}
 use Rattle.cany_totcan.proofs.OwnFacts.{seq_below}
-use Rattle.cany_totcan.proofs.PlaceFacts.{placed_few, placed_once}
+use Rattle.cany_totcan.proofs.PlaceFacts.{is_of_key-self, placed_few, placed_once}
 use Rattle.cany_totcan.proofs.QueueFacts.{both_le, few_named, same_key-true}
 
 -- a message of the scenario
@@ -245,3 +246,85 @@ pub closed_few : (scenario : ScenarioParts) (i : ℕ) (notice : NoticeKind) (bef
     → HasHeard scenario i notice before messages count v → w ≡ record (without_closing slot v) { acceptances = w.acceptances; deliveries = w.deliveries } → length w.queue.items ≤ v.queue.room
 closed_few scenario i notice before messages count slot v w h state =
     omega (arith, ap (λ (x : TotcanParts). length x.queue.items) state, closing_few slot v, heard_few scenario i notice before messages count v h)
+
+-- ---- which message closes
+
+-- it is the oldest, as the parts of the value read it
+pub closing_read : (slot : ℕ) (u v : TotcanParts) (oldest : Option Open) → u ≡ v → u.bound ≤ slot
+    → option_map (λ e. e.placed.frame) oldest ≡ oldest_from (slot - u.bound) u.queue.items → closing_frame slot v ≡ option_map (λ e. e.placed.frame) oldest
+closing_read slot u v oldest same late read =
+    (closing_late slot v (subst (λ (x : TotcanParts). x.bound ≤ slot) same late)).0
+    ∙ ap (λ (x : TotcanParts). oldest_from (slot - x.bound) x.queue.items) (sym same)
+    ∙ sym read
+
+pub closes : (slot : ℕ) (u v : TotcanParts) (oldest : Option Open) (e : Open) → u ≡ v → u.bound ≤ slot
+    → option_map (λ e. e.placed.frame) oldest ≡ oldest_from (slot - u.bound) u.queue.items → oldest ≡ Some e → closing_frame slot v ≡ Some e.placed.frame
+closes slot u v oldest e same late read is = closing_read slot u v oldest same late read ∙ ap (option_map (λ (e : Open). e.placed.frame)) is
+
+oldest_at : (place : ℕ) (items : List Placed) (f : FrameParts) → oldest_from place items ≡ Some f → IsIndexOf (message_in f) 0 items
+oldest_at place [] f is = absurd (cc)
+oldest_at place (x ∷ items) f is = go (x.place == place) is
+  where
+    go : (b : Bool) → (if b then Some x.frame else None) ≡ Some f → IsIndexOf (message_in f) 0 (x ∷ items)
+    go false is = absurd (cc)
+    go true is =
+        let same : x.frame ≡ f = cc in
+        record { within = omega arith; is = λ d. ap (λ (g : FrameParts). is_at (message_in g) x) (sym same) ∙ is_of_key-self x.frame }
+
+-- it is the first
+pub closes_first : (slot : ℕ) (v : TotcanParts) (f : FrameParts) → closing_frame slot v ≡ Some f → IsIndexOf (message_in f) 0 v.queue.items
+closes_first slot v f is = go (nat_lt slot v.bound) is
+  where
+    go : (b : Bool) → (if b then None else oldest_from (slot - v.bound) v.queue.items) ≡ Some f → IsIndexOf (message_in f) 0 v.queue.items
+    go true is = absurd (cc)
+    go false is = oldest_at (slot - v.bound) v.queue.items f is
+
+rest_from : (place : ℕ) (q : OpenParts) (items : List Placed) (f : FrameParts) → oldest_from place items ≡ Some f
+    → record q { items = drop 1 items; done = q.done - 1 } ≡ without_oldest_from place q items
+rest_from place q [] f is = absurd (cc)
+rest_from place q (x ∷ items) f is = go (x.place == place) is
+  where
+    go : (b : Bool) → (if b then Some x.frame else None) ≡ Some f
+        → record q { items = items; done = q.done - 1 } ≡ (if b then record q { items = items; done = q.done - 1 } else q)
+    go true is = refl
+    go false is = absurd (cc)
+
+-- so that the rest are those without the first
+pub closing_rest : (slot : ℕ) (v : TotcanParts) (f : FrameParts) → closing_frame slot v ≡ Some f → without_first v.queue ≡ (without_closing slot v).queue
+closing_rest slot v f is = go (nat_lt slot v.bound) is
+  where
+    go : (b : Bool) → (if b then None else oldest_from (slot - v.bound) v.queue.items) ≡ Some f
+        → without_first v.queue ≡ (if b then v.queue else without_oldest (slot - v.bound) v.queue)
+    go true is = absurd (cc)
+    go false is = rest_from (slot - v.bound) v.queue v.queue.items f is
+
+-- ---- where none closes
+
+kept_from : (place : ℕ) (q : OpenParts) (items : List Placed) → oldest_from place items ≡ None → without_oldest_from place q items ≡ q
+kept_from place q [] none = refl
+kept_from place q (x ∷ items) none = go (x.place == place) none
+  where
+    go : (b : Bool) → (if b then Some x.frame else None) ≡ None → (if b then record q { items = items; done = q.done - 1 } else q) ≡ q
+    go true some = absurd (cc)
+    go false none = refl
+
+kept_in : (slot bound : ℕ) (q : OpenParts) → (if nat_lt slot bound then None else oldest_from (slot - bound) q.items) ≡ None
+    → (if nat_lt slot bound then q else without_oldest (slot - bound) q) ≡ q
+kept_in slot bound q none = go (nat_lt slot bound) none
+  where
+    go : (b : Bool) → (if b then None else oldest_from (slot - bound) q.items) ≡ None → (if b then q else without_oldest (slot - bound) q) ≡ q
+    go true none = refl
+    go false none = kept_from (slot - bound) q q.items none
+
+-- the value is the same without it
+pub closing_kept : (slot : ℕ) (v : TotcanParts) → closing_frame slot v ≡ None → record (without_closing slot v) { deliveries = v.deliveries } ≡ v
+closing_kept slot v none = ap (λ q. record v { queue = q }) (kept_in slot v.bound v.queue none)
+
+pub nothing_added : (slot : ℕ) (v : TotcanParts) → closing_frame slot v ≡ None → AreAdded (closing_accepted v (closing_frame slot v)) v.deliveries v.deliveries
+nothing_added slot v none = subst (λ o. AreAdded (closing_accepted v o) v.deliveries v.deliveries) (sym none) (added_none v.deliveries)
+
+pub nothing_done : (slot : ℕ) (v : TotcanParts) (out : List Action) → closing_frame slot v ≡ None
+    → out ≡ (out ++ closing_actions v.format (closing_frame slot v)) ++ tot_actions slot (fresh_of v.deliveries (closing_accepted v (closing_frame slot v)))
+nothing_done slot v out none =
+    subst (λ o. out ≡ (out ++ closing_actions v.format o) ++ tot_actions slot (fresh_of v.deliveries (closing_accepted v o))) (sym none)
+    (sym (append-nil (out ++ []) ∙ append-nil out))

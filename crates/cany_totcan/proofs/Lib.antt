@@ -1,5 +1,6 @@
 pub mod AcceptanceFacts
 pub mod AcceptedFacts
+pub mod BacklogFacts
 pub mod ClosedFacts
 pub mod MessageSetFacts
 pub mod DoneFacts
@@ -7,6 +8,7 @@ pub mod DueFacts
 pub mod FollowedFacts
 pub mod HeardFacts
 pub mod KnownFacts
+pub mod LimitsFacts
 pub mod NextFacts
 pub mod NotedFacts
 pub mod OpenFacts

@@ -27,6 +27,8 @@ use Rattle.cany_totcan.specs.declared.backlog.Given.{Given}
 use Rattle.cany_totcan.specs.declared.backlog.OwnMessage.{OwnMessage}
 use Rattle.cany_totcan.specs.Backlog.{BacklogParts, after_next, is_free, is_past, marked, next_given, own_at}
 use Rattle.cany_totcan.specs.Totcan.{TotcanParts, IsBacklogOf, IsOwnTot, IsTotcanOf, given_of, has_seq, key_of, place_of}
+use Rattle.cany_totcan.proofs.BacklogFacts.{free_first, free_last}
+use Rattle.cany_totcan.proofs.LimitsFacts.{limits_with}
 use Rattle.cany_totcan.proofs.OwnFacts.{field_set, seq_below}
 
 -- ---- places
@@ -124,15 +126,6 @@ follows_last p past earlier m sent =
       last_push None earlier m,
     )
     (and_one (has_own (data_id m) past) (not (is_recent (p.bound + p.lag) (message_key m) past)))
-
--- by what was kept, where none was asked for
-free_first : (now spacing : ℕ) (v : BacklogParts) → v.asked ≡ 0 → is_free now spacing v ≡ true
-free_first now spacing v none = rw none refl
-
--- and where one was
-free_last : (now spacing : ℕ) (v : BacklogParts) (g : Given) → 0 < v.asked → slice_get v.given (v.asked - 1) ≡ Some g
-    → is_free now spacing v ≡ ((own_at v.own g.seq).sent && is_past now spacing (own_at v.own g.seq).place)
-free_last now spacing v g some last = rw (ne_eqb v.asked 0 (λ none. omega (arith, none)), last) refl
 
 module _ (scenario : ScenarioParts) (i : ℕ) (past : List NoticeKind) (messages : List Message) (count : ℕ) (v : BacklogParts)
     (h : IsBacklogOf scenario i past messages count v) where
@@ -277,18 +270,7 @@ pub with_backlog : (scenario : ScenarioParts) (i : ℕ) (past : List NoticeKind)
     (v : TotcanParts) (b : BacklogParts) → IsTotcanOf scenario i past messages count v → IsBacklogOf scenario i past others many b
     → IsTotcanOf scenario i past others many (record v { backlog = b })
 with_backlog scenario i past messages others count many v b h of_b = record {
-  limits = record {
-    legal = h.limits.legal;
-    node = h.limits.node;
-    format = h.limits.format;
-    bound = h.limits.bound;
-    spacing = h.limits.spacing;
-    omit = h.limits.omit;
-    room = h.limits.room;
-    at_once = h.limits.at_once;
-    numbers = h.limits.numbers;
-    deliveries = h.limits.deliveries;
-  };
+  limits = limits_with scenario i v v.queue v.acceptances v.deliveries b h.limits refl refl refl;
   queue = h.queue;
   acceptances = h.acceptances;
   are_delivered = h.are_delivered;

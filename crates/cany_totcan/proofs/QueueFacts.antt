@@ -16,14 +16,13 @@ use Rattle.cany_base.specs.declared.message.MsgKey.{MsgKey}
 use Rattle.cany_base.specs.declared.message.Service.{Service}
 use Rattle.cany_base.specs.Frame.{FrameParts}
 use Rattle.cany_base.specs.Scenario.{ScenarioParts}
-use Rattle.cany_message.proofs.NumberFacts.{count_messages}
 use Rattle.cany_model.specs.Rules.Messages.{Message, is_service, message_key, messages_of}
 use Rattle.cany_model.specs.Rules.Notices.{NamesMessage}
 use Rattle.cany_model.specs.Rules.Rooms.{sends_by}
 use Rattle.cany_model.specs.Rules.Totcan.{message_in}
 use Rattle.cany_model.proofs.Among.{Among, Among-from_Contains, Among-weaker, Each-append, Each-weaker, count-cons, count-no, count-yes}
 use Rattle.cany_model.proofs.Rules.MessageKeys.{is_service-from}
-use Rattle.cany_model.proofs.Rules.RoomFacts.{pigeonhole}
+use Rattle.cany_model.proofs.Rules.RoomFacts.{count_messages, pigeonhole}
 use Rattle.cany_totcan.specs.declared.queue.Placed.{Placed}
 use Rattle.cany_totcan.specs.MessageSet.{MessageSetParts, has_message}
 use Rattle.cany_totcan.specs.Queue.{AreAscending, AreOnce, IsIndexOf, IsKept, IsSetOf, OpenParts, is_at, is_removed, moved, without_key}

@@ -1,5 +1,5 @@
 -- An idle notice in whose turn nothing closes and no message is asked for leaves the value as it is.
-use Rattle.std.proofs.Common.{◌≡◌, ℕ, ◌-◌, ◌≤◌, ◌==◌, ◌&&◌, ◌||◌, inl, inr, Bool, true, false, if◌then◌else◌, List, [], ◌∷◌, ◌++◌, length, Option, Some, None, refl, ap, sym, subst, ◌∙◌, arith}
+use Rattle.std.proofs.Common.{◌≡◌, ℕ, ◌-◌, ◌≤◌, ◌==◌, ◌&&◌, ◌||◌, inl, inr, if◌then◌else◌, List, [], ◌∷◌, ◌++◌, length, Option, Some, None, refl, ap, sym, subst, ◌∙◌, arith}
 use Rattle.std.specs.Prelude.{nat_lt, option_map, slice_get}
 use Rattle.std.proofs.Math.Bool.{or-false}
 use Rattle.std.proofs.lemmas.Bool.{cases_Bool}
@@ -18,14 +18,15 @@ use Rattle.cany_model.specs.Rules.Totcan.{is_accepted, is_heard, message_in, tot
 use Rattle.cany_model.proofs.Among.{Each-weaker}
 use Rattle.cany_totcan.specs.declared.queue.Placed.{Placed}
 use Rattle.cany_totcan.specs.Backlog.{next_given}
-use Rattle.cany_totcan.specs.Queue.{OpenParts, oldest_from, without_oldest, without_oldest_from}
+use Rattle.cany_totcan.specs.Queue.{oldest_from}
 use Rattle.cany_totcan.specs.Rests.{Rests}
 use Rattle.cany_totcan.specs.Totcan.{HasHeard, IsFirstPending, IsTotcanOf, TotcanParts}
 use Rattle.cany_totcan.specs.TotcanSteps.{AreAdded, HaveGone, closing_accepted, closing_actions, closing_frame, due, fresh_of, is_accepted_by, tot_actions, without_closing}
 use Rattle.cany_totcan.proofs.ClosedFacts.{heard_each}
 use Rattle.cany_totcan.proofs.DoneFacts.{has_accepted}
-use Rattle.cany_totcan.proofs.DueFacts.{added_none, due-end, due-none, each_at, gone_none}
+use Rattle.cany_totcan.proofs.DueFacts.{due-end, due-none, each_at, gone_none}
 use Rattle.cany_totcan.proofs.HeardFacts.{heard_idle, nothing_idle}
+use Rattle.cany_totcan.proofs.KnownFacts.{closing_kept, nothing_added}
 use Rattle.cany_totcan.proofs.NextFacts.{asked_actions, next_actions}
 use Rattle.cany_totcan.proofs.TurnFacts.{turn_actions, turn_stands}
 
@@ -48,26 +49,6 @@ closing_in slot bound items none = elim (cases_Bool (nat_lt slot bound)) [
 -- nothing does, if the place of the oldest is another
 pub closing_none : (slot : ℕ) (v : TotcanParts) → (v.bound ≤ slot → oldest_from (slot - v.bound) v.queue.items ≡ None) → closing_frame slot v ≡ None
 closing_none slot v none = closing_in slot v.bound v.queue.items none
-
-kept_from : (place : ℕ) (q : OpenParts) (items : List Placed) → oldest_from place items ≡ None → without_oldest_from place q items ≡ q
-kept_from place q [] none = refl
-kept_from place q (x ∷ items) none = go (x.place == place) none
-  where
-    go : (b : Bool) → (if b then Some x.frame else None) ≡ None → (if b then record q { items = items; done = q.done - 1 } else q) ≡ q
-    go true some = absurd (cc)
-    go false none = refl
-
-kept_in : (slot bound : ℕ) (q : OpenParts) → (if nat_lt slot bound then None else oldest_from (slot - bound) q.items) ≡ None
-    → (if nat_lt slot bound then q else without_oldest (slot - bound) q) ≡ q
-kept_in slot bound q none = go (nat_lt slot bound) none
-  where
-    go : (b : Bool) → (if b then None else oldest_from (slot - bound) q.items) ≡ None → (if b then q else without_oldest (slot - bound) q) ≡ q
-    go true none = refl
-    go false none = kept_from (slot - bound) q q.items none
-
--- then the value is the same without it
-closing_kept : (slot : ℕ) (v : TotcanParts) → closing_frame slot v ≡ None → record (without_closing slot v) { deliveries = v.deliveries } ≡ v
-closing_kept slot v none = ap (λ q. record v { queue = q }) (kept_in slot v.bound v.queue none)
 
 -- ---- actions
 
@@ -102,7 +83,7 @@ module _ (scenario : ScenarioParts) (i : ℕ) (past : List NoticeKind) (messages
 
   module _ (closing : closing_frame (length past) v ≡ None) where
     none_added : AreAdded (closing_accepted v (closing_frame (length past) v)) v.deliveries v.deliveries
-    none_added = subst (λ o. AreAdded (closing_accepted v o) v.deliveries v.deliveries) (sym closing) (added_none v.deliveries)
+    none_added = nothing_added (length past) v closing
 
     none_gone : HaveGone (length past) (record (without_closing (length past) v) { acceptances = v.acceptances; deliveries = v.deliveries }) v [] []
     none_gone = subst (λ u. HaveGone (length past) u v [] []) (sym (closing_kept (length past) v closing)) (gone_none (length past) v [])

@@ -35,6 +35,7 @@ use Rattle.cany_totcan.specs.Acceptances.{noted_of}
 use Rattle.cany_totcan.specs.Backlog.{own_at}
 use Rattle.cany_totcan.specs.Queue.{OpenParts, is_at, placed_in, without_oldest, without_oldest_from}
 use Rattle.cany_totcan.specs.Totcan.{AreDelivered, AreDone, HasHeard, IsFirstPending, IsTotcanOf, TotcanParts, key_of}
+use Rattle.cany_totcan.proofs.LimitsFacts.{limits_with}
 use Rattle.cany_totcan.specs.TotcanSteps.{AreAdded, AreStillNoted, HaveGone, accepted_first, closing_accepted, closing_actions, closing_frame, due, fresh_of, is_accepted_by, is_named, tot_actions, without_closing}
 use Rattle.cany_totcan.proofs.AcceptanceFacts.{acceptances_fewer}
 use Rattle.cany_totcan.proofs.PlaceFacts.{open_is}
@@ -157,35 +158,23 @@ tot_actions_are format slot (f ∷ frames) = ap (λ actions. Enter (delivery slo
 
 -- ---- the turn
 
-room_kept : (place : ℕ) (q : OpenParts) (items : List Placed) → (without_oldest_from place q items).room ≡ q.room
-room_kept place q [] = refl
-room_kept place q (x ∷ items) = go (x.place == place)
+-- what neither the messages nor how many are done belong to is the same without the oldest
+part_kept : {X : Type 0} (part : OpenParts → X) → ((q : OpenParts) (items : List Placed) (done : ℕ) → part (record q { items = items; done = done }) ≡ part q)
+    → (place : ℕ) (q : OpenParts) (items : List Placed) → part (without_oldest_from place q items) ≡ part q
+part_kept part same place q [] = refl
+part_kept part same place q (x ∷ items) = go (x.place == place)
   where
-    go : (b : Bool) → (if b then record q { items = items; done = q.done - 1 } else q).room ≡ q.room
-    go true = refl
+    go : (b : Bool) → part (if b then record q { items = items; done = q.done - 1 } else q) ≡ part q
+    go true = same q items (q.done - 1)
     go false = refl
 
-closing_room : (slot : ℕ) (v : TotcanParts) → (without_closing slot v).queue.room ≡ v.queue.room
-closing_room slot v = go (nat_lt slot v.bound)
+closing_keeps : {X : Type 0} (part : OpenParts → X) → ((q : OpenParts) (items : List Placed) (done : ℕ) → part (record q { items = items; done = done }) ≡ part q)
+    → (slot : ℕ) (v : TotcanParts) → part (without_closing slot v).queue ≡ part v.queue
+closing_keeps part same slot v = go (nat_lt slot v.bound)
   where
-    go : (b : Bool) → (if b then v.queue else without_oldest (slot - v.bound) v.queue).room ≡ v.queue.room
+    go : (b : Bool) → part (if b then v.queue else without_oldest (slot - v.bound) v.queue) ≡ part v.queue
     go true = refl
-    go false = room_kept (slot - v.bound) v.queue v.queue.items
-
-numbers_kept : (place : ℕ) (q : OpenParts) (items : List Placed) → (without_oldest_from place q items).numbers ≡ q.numbers
-numbers_kept place q [] = refl
-numbers_kept place q (x ∷ items) = go (x.place == place)
-  where
-    go : (b : Bool) → (if b then record q { items = items; done = q.done - 1 } else q).numbers ≡ q.numbers
-    go true = refl
-    go false = refl
-
-closing_numbers : (slot : ℕ) (v : TotcanParts) → (without_closing slot v).queue.numbers ≡ v.queue.numbers
-closing_numbers slot v = go (nat_lt slot v.bound)
-  where
-    go : (b : Bool) → (if b then v.queue else without_oldest (slot - v.bound) v.queue).numbers ≡ v.queue.numbers
-    go true = refl
-    go false = numbers_kept (slot - v.bound) v.queue v.queue.items
+    go false = part_kept part same (slot - v.bound) v.queue v.queue.items
 
 mixed : (before closed passed gone : Bool) → (passed ≡ true → before ≡ true) → (gone || (closed || before)) ≡ (before || (closed || (passed || gone)))
 mixed true true p true h = refl
@@ -409,18 +398,8 @@ module _ (scenario : ScenarioParts) (i : ℕ) (notice : NoticeKind) (before : Li
 
   pub turn_stands : IsTotcanOf scenario i past messages count x
   turn_stands = subst (IsTotcanOf scenario i past messages count) (sym gone.state) (record {
-    limits = record {
-      legal = h.limits.legal;
-      node = h.limits.node;
-      format = h.limits.format;
-      bound = h.limits.bound;
-      spacing = h.limits.spacing;
-      omit = h.limits.omit;
-      room = rw (closing_room slot v) h.limits.room;
-      at_once = closing_room slot v ∙ h.limits.at_once;
-      numbers = closing_numbers slot v ∙ h.limits.numbers;
-      deliveries = gone_added.numbers ∙ added.numbers ∙ h.limits.deliveries;
-    };
+    limits = limits_with scenario i v _ _ _ _ h.limits (closing_keeps (λ q. q.room) (λ q items done. refl) slot v)
+        (closing_keeps (λ q. q.numbers) (λ q items done. refl) slot v) (gone_added.numbers ∙ added.numbers);
     queue = record {
       places = closed_items scenario i notice before messages count v h slot at;
       messages = closing_with (λ items. AllByRecursion (λ y. NamesMessage scenario service.Tot y.frame) items) slot v h.queue.messages (λ y items each. each.1);

@@ -1,5 +1,5 @@
 -- The incarnations of the nodes of a run: their order, and that those that ended read slots of the run alone.
-use Rattle.std.specs.Prelude.{◌≡◌, ℕ, suc, ◌+◌, ◌-◌, ◌<◌, ◌≤◌, Bool, true, false, List, [], ◌∷◌, Some, None, length, if◌then◌else◌, refl}
+use Rattle.std.specs.Prelude.{◌≡◌, ℕ, suc, ◌+◌, ◌-◌, ◌<◌, ◌≤◌, List, [], ◌∷◌, length, if◌then◌else◌, refl}
 use Rattle.std.specs.List.{AllByRecursion}
 use Rattle.std.proofs.Common.{sym, ap, ◌∙◌, subst, inl, inr, arith}
 use Rattle.std.proofs.lemmas.Bool.{cases_lt, cases_eq}
@@ -10,14 +10,12 @@ use Rattle.cany_base.specs.Nodes.{has}
 use Rattle.cany_base.specs.Scenario.{ScenarioParts}
 use Rattle.cany_model.specs.Bus.Restart.{after_restarts, ended_at}
 use Rattle.cany_model.specs.Runs.Run.{after_turn, run}
-use Rattle.cany_model.specs.Bus.Slot.{FaultScript, after_share, after_slot, node_after, script, share_of, slot_note_of}
-use Rattle.cany_model.specs.Bus.State.{EndedIncarnation, Incarnation, NodeState, RunState, fresh, node_at, opening, original, runs, slots_run}
-use Rattle.cany_model.specs.declared.share.Share.{Share}
-use Rattle.cany_model.specs.declared.share.Share.TheVariants.{Idle, Took, Rejected, Confirmed, Errored}
+use Rattle.cany_model.specs.Bus.Slot.{FaultScript, after_slot, script, slot_note_of}
+use Rattle.cany_model.specs.Bus.State.{EndedIncarnation, Incarnation, NodeState, RunState, fresh, node_at, opening, original, slots_run}
 use Rattle.cany_model.proofs.Bus.Restarts.{after_restarts-trace, restarts_or_stays}
 use Rattle.cany_model.proofs.Runs.Runs.{along_run}
 use Rattle.cany_model.proofs.Bus.States.{node_at-opening, node_at_past}
-use Rattle.cany_model.proofs.Runs.Steps.{MayTurn, after_slot-length, after_slot-node, after_slot-present, after_slot-trace, after_turn-node, after_turn-other, after_turn-trace}
+use Rattle.cany_model.proofs.Runs.Steps.{MayTurn, after_slot-length, after_slot-node, after_slot-present, after_slot-trace, after_turn-node, after_turn-other, after_turn-trace, node_after-ended}
 
 -- each incarnation has the number after that of the one before it; the first is that of the opening
 unfoldable pub AreInOrder : Incarnation → List EndedIncarnation → Type 0
@@ -38,20 +36,6 @@ abbrev pub AllInOrder : RunState → Type 0
 AllInOrder s = (i : ℕ) → IsInOrder s.trace (node_at s.nodes i)
 
 -- ---- what a slot and a turn leave of them
-
-node_after-ended : (i : ℕ) (note : SlotNote) (node : NodeState) → (node_after i note node).ended ≡ node.ended
-unfolding node_after after_share
-node_after-ended i note node = either (runs node) (share_of i note)
-  where
-    either : (b : Bool) (share : Share)
-        → (if b then record (after_share share node) { unread = node.unread + 1; stopped = if has note.stops i then Some note.slot else None }
-        else record node { unread = node.unread + 1 }).ended ≡ node.ended
-    either true Idle = refl
-    either true (Took f) = refl
-    either true Rejected = refl
-    either true (Confirmed f) = refl
-    either true Errored = refl
-    either false share = refl
 
 -- the incarnations of the two are the same
 pub record HaveSame (before after : NodeState) : Type 0 where

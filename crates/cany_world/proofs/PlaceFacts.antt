@@ -2,7 +2,7 @@
 use Rattle.std.proofs.Common.{◌≡◌, ◌≢◌, ℕ, zero, suc, ◌+◌, ◌<◌, ◌⊎◌, inl, inr, List, [], ◌∷◌, ◌++◌, length, get_or, take, refl, ap, sym, subst, ◌∙◌, arith}
 use Rattle.std.specs.Prelude.{Some, slice_get, slice_set}
 use Rattle.std.proofs.lemmas.List.{length-append, length-set, set-get_or, take-append-le, take_all}
-use Rattle.std.proofs.lemmas.Option.{get_or_from_slice_get, slice_get_read}
+use Rattle.std.proofs.lemmas.Option.{get_or_from_slice_get, slice_get-get_or, slice_get_read}
 use Rattle.cany_world.specs.Places.{AreOfNodes}
 
 -- ---- what stands in a list
@@ -55,9 +55,21 @@ pub found : {X : Type 0} (xs ys : List X) (i j : ℕ) (x : X) → ys ≡ xs → 
 found xs ys i j x same at within is =
     slice_get_read xs (length xs) i x refl within (is ∙ ap (λ t. get_or t j x) same ∙ ap (λ k. get_or xs k x) at)
 
+-- what stands at a place that has another name
+pub stands_at : {X : Type 0} (xs : List X) (i j : ℕ) (x : X) → j ≡ i → i < length xs → slice_get xs i ≡ Some (get_or xs j x)
+stands_at xs i j x at within = ap (slice_get xs) (sym at) ∙ slice_get-get_or xs j x (omega (arith, at, within))
+
 -- what is kept of a vector whose items were written through a slice
 pub written : {X : Type 0} (xs rest : List X) (n : ℕ) → length xs ≡ n → take n (xs ++ rest) ≡ xs
 written xs rest n e = take-append-le n xs rest (omega (arith, e)) ∙ take_all n xs (omega (arith, e))
+
+-- the same where one item was written
+pub one_written : {X : Type 0} (xs ys rest : List X) (n i : ℕ) (x : X) → ys ≡ xs → length ys ≡ n → take n (slice_set ys i x ++ rest) ≡ slice_set xs i x
+one_written {X} xs ys rest n i x same e = written (slice_set ys i x) rest n (length-set ys i x ∙ e) ∙ ap (λ (l : List X). slice_set l i x) same
+
+-- what is read through the slice where this stands
+pub read_at : {X : Type 0} (xs ys : List X) (i : ℕ) (x other : X) → ys ≡ xs → slice_get xs i ≡ Some x → get_or ys i other ≡ x
+read_at {X} xs ys i x other same at = ap (λ (l : List X). get_or l i other) same ∙ get_or_from_slice_get xs i x other at
 
 -- ---- one of each node
 

@@ -4,16 +4,18 @@ use Rattle.std.specs.Prelude.{slice_get, option_map, is_none, is_some, IsSomeAnd
 use Rattle.std.specs.List.{list_any, list_all, range_with_len}
 use Rattle.std.proofs.lemmas.Bool.{true≢false}
 use Rattle.std.proofs.lemmas.List.{length-map}
-use Rattle.std.proofs.lemmas.Option.{same_Some, slice_get-map, slice_get_within, get_or_from_slice_get}
+use Rattle.std.proofs.lemmas.Option.{same_Some, slice_get-map, slice_get_read, slice_get_within, get_or_from_slice_get}
 use Rattle.cany_base.specs.declared.message.MsgKey.{MsgKey}
 use Rattle.cany_base.specs.declared.message.SendAsk.{SendAsk}
 use Rattle.cany_base.specs.declared.message.Service.{Service}
 use Rattle.cany_base.specs.declared.message.Service.TheVariants as service
 use Rattle.cany_base.specs.declared.step.Step.{Step}
 use Rattle.cany_base.specs.Frame.{FitsClass, data_class, has_incarnation}
-use Rattle.cany_base.specs.Limits.{most_sends}
+use Rattle.cany_base.specs.Limits.{most_nodes, most_sends}
+use Rattle.cany_base.specs.Params.{Parameters}
 use Rattle.cany_base.specs.Scenario.{ScenarioParts, IsLegalScenario}
 use Rattle.cany_base.specs.declared.notice.NoticeKind.{NoticeKind}
+use Rattle.cany_base.proofs.ParamsFacts.{few_nodes}
 use Rattle.cany_model.specs.Bus.History.{history}
 use Rattle.cany_model.specs.Runs.Run.{all_read, run}
 use Rattle.cany_model.specs.Bus.State.{RunState, node_at, runs}
@@ -27,10 +29,11 @@ use Rattle.cany_model.proofs.Rules.NumberFacts.{IsBelow, message_below}
 use Rattle.can_controller.specs.Controller.{ControllerState}
 use Rattle.cany_node.specs.Node.{NodeParts, IsNodeOf}
 use Rattle.cany_world.specs.Incarnations.{IncarnationsParts}
-use Rattle.cany_world.specs.Controllers.{IsSmallKey, awaits, has_read}
-use Rattle.cany_world.specs.Kept.{IsKeptAs, IsKeptAt, IsPresentAt, heard_of, past_of}
+use Rattle.cany_world.specs.Controllers.{HaveFormat, IsSmallKey, awaits, has_read}
+use Rattle.cany_world.specs.Kept.{AreControllersOf, AreNodesOf, IsKeptAs, IsKeptAt, IsPresentAt, heard_of, past_of}
 use Rattle.cany_world.specs.Resting.{HaveNothingToDo}
 use Rattle.cany_world.specs.Settled.{FinishedParts, IsAbout, IsFinished, is_asked, is_finished, is_queued, has_ahead}
+use Rattle.cany_world.specs.World.{WorldParts}
 use Rattle.cany_world.proofs.AlikeFacts.{all_read_same, awaited_same}
 use Rattle.cany_world.proofs.PlaceFacts.{found}
 use Rattle.cany_world.proofs.QuietFacts.{quiet_where_none_has_anything_to_do}
@@ -169,6 +172,17 @@ module _ (i : ℕ) (service : Service) (key : MsgKey) (controllers : List Contro
       let over : length controllers - i ≡ 0 = omega (arith, past) in
       sym (ap (λ n. list_any (has_ahead scenario (run scenario journal) m) (range_with_len i n)) over) ∙ left scenario journal m about by
 
+-- what was found at node i, as it was read
+pub ahead_here : (service : Service) (key : MsgKey) (controllers : List ControllerState) (nodes : List IncarnationsParts) (i : ℕ) (c : ControllerState) (v : IncarnationsParts) (ahead : Bool)
+    → length controllers ≡ length nodes → i < length controllers → c ≡ get_or controllers i c → v ≡ get_or nodes i v
+    → ((scenario : ScenarioParts) (s : RunState) (k : ℕ) (m : Message) → IsKeptAs scenario s.trace k (node_at s.nodes k) c → IsKeptAt scenario s.trace k (node_at s.nodes k) v
+    → Contains (messages_of scenario.sends) m → message_key m ≡ key → m.service ≡ service → ahead ≡ has_ahead scenario s m k)
+    → (scenario : ScenarioParts) (journal : List Step) (m : Message) → IsAbout scenario journal m key controllers nodes → m.service ≡ service
+    → ahead ≡ has_ahead scenario (run scenario journal) m i
+ahead_here service key controllers nodes i c v ahead same within row_is kept_is law scenario journal m about by =
+    law scenario (run scenario journal) i m (about.controllers.each i c (slice_get_read controllers (length controllers) i c refl within row_is))
+    (about.nodes.each i v (slice_get_read nodes (length controllers) i v same within kept_is)) about.stands about.key by
+
 -- ---- the message of a scripted send
 
 pub length-keys : (sends : List SendAsk) (keys : List MsgKey) → keys ≡ map message_key (messages_of sends) → length keys ≡ length sends
@@ -227,6 +241,49 @@ has_message scenario index sends_read send key legal within same is names = reco
 
     below : IsBelow most_sends scenario.params.slots scenario.params.nodes m
     below = message_below scenario m legal (contains_at (messages_of scenario.sends) index m message.1)
+
+-- ---- what a world tells of it, whose fields are `u` and which is seen as `w`
+
+pub message_of_send : (u w : WorldParts) → u ≡ w → (index : ℕ) (sends_read : List SendAsk) (send : SendAsk) (key : MsgKey) → IsLegalScenario u.scenario
+    → index < length w.scenario.sends → sends_read ≡ u.scenario.sends → send ≡ get_or sends_read index send
+    → IsSomeAnd (slice_get (messages_of w.scenario.sends) index) (λ m. key ≡ message_key m) → HasMessage u.scenario index send key
+message_of_send u w viewed index sends_read send key legal within same is names =
+    has_message u.scenario index sends_read send key legal (subst (λ (x : WorldParts). index < length x.scenario.sends) (sym viewed) within) same is
+    (subst (λ (x : WorldParts). IsSomeAnd (slice_get (messages_of x.scenario.sends) index) (λ m. key ≡ message_key m)) (sym viewed) names)
+
+pub told_of_send : (u w : WorldParts) → u ≡ w → (index : ℕ) (send : SendAsk) (key : MsgKey) (Holds : WorldParts → Message → Type 0) (it : HasMessage u.scenario index send key)
+    → Holds u it.message → IsSomeAnd (slice_get (messages_of w.scenario.sends) index) (Holds w)
+told_of_send u w viewed index send key Holds it holds =
+    subst (λ (x : WorldParts). IsSomeAnd (slice_get (messages_of x.scenario.sends) index) (Holds x)) viewed
+    (subst (λ (o : Option Message). IsSomeAnd o (Holds u)) (sym it.at) holds)
+
+-- what was read of its controllers and its nodes is about it
+module _ (scenario : ScenarioParts) (journal : List Step) (row row_read : List ControllerState) (controllers : AreControllersOf scenario (run scenario journal) row)
+    (same_row : row_read ≡ row) where
+  pub origin_within : (index : ℕ) (send : SendAsk) (key : MsgKey) → HasMessage scenario index send key → key.origin < length row_read
+  origin_within index send key it = omega (arith, it.node, ap (λ (t : List ControllerState). length t) same_row, controllers.whole)
+
+  pub few_read : IsLegalScenario scenario → length row_read ≤ most_nodes
+  few_read legal =
+      omega (arith, ap (λ (t : List ControllerState). length t) same_row, controllers.whole, few_nodes scenario.params legal.in_range)
+
+  pub have_format : (params : Parameters) → params ≡ scenario.params → HaveFormat params.format row_read
+  have_format params same i x at =
+      ap (λ (p : Parameters). p.format)
+      ((controllers.each i x (subst (λ (t : List ControllerState). slice_get t i ≡ Some x) same_row at)).params ∙ sym same)
+
+  module _ (kept kept_read : List IncarnationsParts) (nodes : AreNodesOf scenario (run scenario journal) kept) (same_kept : kept_read ≡ kept) where
+    pub same_count : length row_read ≡ length kept_read
+    same_count =
+        ap (λ (t : List ControllerState). length t) same_row ∙ controllers.whole ∙ sym nodes.whole ∙ sym (ap (λ (t : List IncarnationsParts). length t) same_kept)
+
+    pub about : (m : Message) (key : MsgKey) → Contains (messages_of scenario.sends) m → message_key m ≡ key → IsAbout scenario journal m key row_read kept_read
+    about m key stands named = record {
+      controllers = subst (AreControllersOf scenario (run scenario journal)) (sym same_row) controllers;
+      nodes = subst (AreNodesOf scenario (run scenario journal)) (sym same_kept) nodes;
+      stands = stands;
+      key = named;
+    }
 
 -- ---- of which services nothing more is to come
 

@@ -1,16 +1,19 @@
 -- One step of a world, by its reply.
-use Rattle.std.proofs.Common.{◌≡◌, ℕ, ◌+◌, ◌*◌, ◌<◌, ◌≤◌, Bool, true, false, List, [], ◌∷◌, ◌++◌, length, refl, sym, ap, ◌∙◌, subst, arith}
+use Rattle.std.proofs.Common.{◌≡◌, ℕ, ◌+◌, ◌*◌, ◌<◌, ◌≤◌, Bool, true, false, List, [], ◌∷◌, ◌++◌, length, map, refl, sym, ap, ◌∙◌, subst, arith}
 use Rattle.std.specs.Prelude.{MatchBool}
 use Rattle.std.proofs.lemmas.List.{length-append}
 use Rattle.cany_base.specs.declared.step.Step.{Step}
 use Rattle.cany_base.specs.declared.step.Step.TheVariants.{Slot, Turn}
-use Rattle.cany_base.specs.Scenario.{ScenarioParts}
+use Rattle.cany_base.specs.Bounded.{Bounded}
+use Rattle.cany_base.specs.Scenario.{IsLegalScenario, ScenarioParts}
 use Rattle.cany_model.specs.declared.reply.StepReply.{StepReply}
 use Rattle.cany_model.specs.declared.reply.StepReply.TheVariants.{Done}
 use Rattle.cany_model.specs.Bus.Restart.{after_restarts}
 use Rattle.cany_model.specs.Runs.Run.{run, reply, slot_reply, turn_reply, is_done, proceed, after_turn, IsLegal}
 use Rattle.cany_model.specs.Bus.Slot.{after_slot, script}
 use Rattle.cany_model.specs.Bus.State.{RunState, opening}
+use Rattle.cany_model.specs.Rules.Messages.{message_key, messages_of}
+use Rattle.cany_model.specs.Rules.Rooms.{actions_room}
 use Rattle.cany_model.proofs.Runs.Journals.{run_push, step_is, legal_push, legal_short}
 use Rattle.cany_model.proofs.Runs.Steps.{after_turn-trace}
 use Rattle.can_bus.specs.Bus.{BusParts}
@@ -18,6 +21,8 @@ use Rattle.can_controller.specs.Controller.{ControllerState}
 use Rattle.cany_world.specs.Incarnations.{IncarnationsParts}
 use Rattle.cany_world.specs.Kept.{AreControllersOf, AreNodesOf, StandFor}
 use Rattle.cany_world.specs.Replies.{IfDone}
+use Rattle.cany_world.specs.WorldFields.{IsRun}
+use Rattle.cany_world.specs.declared.world.World.TheInside.{Inside}
 
 -- what is done leads to more
 if_done : (r : StepReply) (P Q : Type 0) → (P → Q) → IfDone r P (Unit {0}) → IfDone r Q (Unit {0})
@@ -112,3 +117,38 @@ same_stands scenario s t bus bus' controllers after nodes nodes' same_state same
     (subst (λ (x : List ControllerState). StandFor scenario t bus' x nodes) (sym same_controllers)
     (subst (λ (x : BusParts). StandFor scenario t x controllers nodes) (sym same_bus)
     (subst (λ (x : RunState). StandFor scenario x bus controllers nodes) same_state h)))
+
+-- ---- the fields of a world, whose controllers and nodes are read and written through slices
+
+pub read_stands : (scenario : ScenarioParts) (s : RunState) (bus : BusParts) (row row_read : List ControllerState) (kept kept_read : List IncarnationsParts)
+    → StandFor scenario s bus row kept → row_read ≡ row → kept_read ≡ kept → StandFor scenario s bus row_read kept_read
+read_stands scenario s bus row row_read kept kept_read h same_row same_kept =
+    same_stands scenario s s bus bus row row_read kept kept_read refl refl same_row same_kept h
+
+-- the reply to a turn by what was read
+pub turn_answer : (scenario : ScenarioParts) (journal : List Step) (bus : BusParts) (row row_read : List ControllerState) (kept kept_read : List IncarnationsParts) (i : ℕ) (r : StepReply)
+    → StandFor scenario (run scenario journal) bus row kept → row_read ≡ row → kept_read ≡ kept
+    → ((s : ScenarioParts) (j : List Step) → AreControllersOf s (run s j) row_read → AreNodesOf s (run s j) kept_read → r ≡ turn_reply s i (run s j))
+    → r ≡ reply scenario (run scenario journal) (Turn i)
+turn_answer scenario journal bus row row_read kept kept_read i r h same_row same_kept law =
+    let stands = read_stands scenario (run scenario journal) bus row row_read kept kept_read h same_row same_kept in
+    turn_replies scenario (run scenario journal) (Turn i) i r refl (law scenario journal stands.controllers stands.nodes)
+
+-- the world stays a run where this becomes of its journal, and these of its controllers and its nodes
+pub stays_run : (w v : Inside) (journal : List Step) (row : List ControllerState) (kept : List IncarnationsParts) → IsRun w → v.scenario ≡ w.scenario → v.script ≡ w.script
+    → v.keys.items ≡ w.keys.items → v.actions ≡ w.actions → v.journal ≡ record { items = journal; room = w.journal.room } → IsLegal w.scenario journal
+    → v.controllers.items ≡ row → v.nodes.items ≡ kept → StandFor w.scenario (run w.scenario journal) v.bus row kept → IsRun v
+stays_run w v journal row kept is same script keys actions steps legal row_is kept_is stands =
+    let items : v.journal.items ≡ journal = ap (λ (b : Bounded Step). b.items) steps in
+    record {
+      legal = subst IsLegalScenario (sym same) is.legal;
+      opening = ap (λ (s : ScenarioParts). s.inc) same ∙ is.opening;
+      script = script ∙ is.script ∙ ap (λ (s : ScenarioParts). s.rules) (sym same);
+      steps = subst (λ (s : ScenarioParts). IsLegal s v.journal.items) (sym same) (subst (λ (j : List Step). IsLegal w.scenario j) (sym items) legal);
+      room = ap (λ (b : Bounded Step). b.room) steps ∙ is.room ∙ ap (λ (s : ScenarioParts). s.params.slots * (s.params.nodes + 1)) (sym same);
+      stands = subst (λ (s : ScenarioParts). StandFor s (run s v.journal.items) v.bus v.controllers.items v.nodes.items) (sym same)
+          (same_stands w.scenario (run w.scenario journal) (run w.scenario v.journal.items) v.bus v.bus row v.controllers.items kept v.nodes.items
+          (ap (run w.scenario) (sym items)) refl row_is kept_is stands);
+      actions = actions ∙ is.actions ∙ ap (λ (s : ScenarioParts). record { items = []; room = actions_room s }) (sym same);
+      keys = keys ∙ is.keys ∙ ap (λ (s : ScenarioParts). map message_key (messages_of s.sends)) (sym same);
+    }

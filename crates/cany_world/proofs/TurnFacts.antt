@@ -193,94 +193,57 @@ next_notice_is scenario journal few i v c notice node kept first = record {
     stands : Contains s.trace note
     stands = (age, age_within, sym (get_or_default s.trace age no_note note age_within))
 
--- of the node's own life signs there are so few with it that a life interval passed before each
-pub few_with_next : (scenario : ScenarioParts) (journal : List Step) → scenario.params.nodes ≤ most_nodes → (i : ℕ) (v : IncarnationsParts) (c : ControllerState) (notice : Notice)
-    → (kept : IsKeptAt scenario (run scenario journal).trace i (node_at (run scenario journal).nodes i) v)
-    → IsKeptAs scenario (run scenario journal).trace i (node_at (run scenario journal).nodes i) c → c.stopped ≡ None → slice_get c.unread 0 ≡ Some notice
-    → HasFewSigns (scenario_at scenario (run scenario journal) i) kept.present.it.node
-    ((heard_by kept.present.it notice).kind ∷ heard_of i (run scenario journal).trace (node_at (run scenario journal).nodes i)) notice.slot
-few_with_next scenario journal few i v c notice node kept running first =
-    subst (λ k. HasFewSigns follows k ((heard_by p.it notice).kind ∷ past) notice.slot) (sym p.number)
-    (subst (λ n. HasFewSigns follows i (n ∷ past) notice.slot) (sym it.is)
-    (subst (λ h. HasFewSigns follows i (error_as_idle (next_notice s i) ∷ h) notice.slot) (sym (heard_history s i))
-    (subst (λ n. n * follows.params.life ≤ notice.slot) (sym (plain_signs_sent i (next_notice s i ∷ history i s)))
-    (subst (HasFewSigns follows i (next_notice s i ∷ history i s)) (sym slot) (own_signs_few scenario journal i it.may)))))
-  where
-    s : RunState
-    s = run scenario journal
+-- what a running node reads next, after what it has heard
+module _ (scenario : ScenarioParts) (journal : List Step) (few : scenario.params.nodes ≤ most_nodes) (i : ℕ) (v : IncarnationsParts) (c : ControllerState) (notice : Notice)
+    (node : IsKeptAt scenario (run scenario journal).trace i (node_at (run scenario journal).nodes i) v)
+    (kept : IsKeptAs scenario (run scenario journal).trace i (node_at (run scenario journal).nodes i) c) (running : c.stopped ≡ None)
+    (first : slice_get c.unread 0 ≡ Some notice) where
+  abbrev s : RunState
+  s = run scenario journal
 
-    p : IsPresentAt scenario (run scenario journal).trace i (node_at (run scenario journal).nodes i) v
-    p = node.present
+  abbrev p : IsPresentAt scenario (run scenario journal).trace i (node_at (run scenario journal).nodes i) v
+  p = node.present
 
-    follows : ScenarioParts
-    follows = scenario_at scenario s i
+  abbrev follows : ScenarioParts
+  follows = scenario_at scenario s i
 
-    past : List NoticeKind
-    past = heard_of i s.trace (node_at s.nodes i)
+  abbrev past : List NoticeKind
+  past = heard_of i s.trace (node_at s.nodes i)
 
-    o : IsOrderly scenario.params.nodes (run scenario journal)
-    o = orderly scenario journal
+  it : IsToRead s i node.present.it notice
+  it =
+      let o : IsOrderly scenario.params.nodes s = orderly scenario journal in
+      to_read scenario s i v c notice o (subst (λ n. i < n) o.count (runs_within s.nodes i (ap is_none (sym kept.stopped ∙ running)))) node kept running first
 
-    within : i < scenario.params.nodes
-    within = subst (λ n. i < n) o.count (runs_within s.nodes i (ap is_none (sym kept.stopped ∙ running)))
+  slot : notice.slot ≡ length (history i s)
+  slot =
+      (next_notice_is scenario journal few i v c notice node kept first).slot ∙ ap (λ (l : List NoticeKind). length l) (heard_history s i)
+      ∙ plain-length (history i s)
 
-    it : IsToRead (run scenario journal) i node.present.it notice
-    it = to_read scenario s i v c notice o within node kept running first
+  -- of the node's own life signs there are so few with it that a life interval passed before each
+  pub few_with_next : HasFewSigns (scenario_at scenario (run scenario journal) i) node.present.it.node
+      ((heard_by node.present.it notice).kind ∷ heard_of i (run scenario journal).trace (node_at (run scenario journal).nodes i)) notice.slot
+  few_with_next =
+      subst (λ k. HasFewSigns follows k ((heard_by p.it notice).kind ∷ past) notice.slot) (sym p.number)
+      (subst (λ n. HasFewSigns follows i (n ∷ past) notice.slot) (sym it.is)
+      (subst (λ h. HasFewSigns follows i (error_as_idle (next_notice s i) ∷ h) notice.slot) (sym (heard_history s i))
+      (subst (λ n. n * follows.params.life ≤ notice.slot) (sym (plain_signs_sent i (next_notice s i ∷ history i s)))
+      (subst (HasFewSigns follows i (next_notice s i ∷ history i s)) (sym slot) (own_signs_few scenario journal i it.may)))))
 
-    slot : notice.slot ≡ length (history i (run scenario journal))
-    slot =
-        (next_notice_is scenario journal few i v c notice node kept first).slot ∙ ap (λ (l : List NoticeKind). length l) (heard_history s i)
-        ∙ plain-length (history i s)
-
--- and its vector can be read
-pub vector_with_next : (scenario : ScenarioParts) (journal : List Step) → IsLegalScenario scenario → (i : ℕ) (v : IncarnationsParts) (c : ControllerState) (notice : Notice)
-    → (kept : IsKeptAt scenario (run scenario journal).trace i (node_at (run scenario journal).nodes i) v)
-    → IsKeptAs scenario (run scenario journal).trace i (node_at (run scenario journal).nodes i) c → c.stopped ≡ None → slice_get c.unread 0 ≡ Some notice
-    → IsReadableVector scenario.params kept.present.it.node notice.slot
-    (knowledge_of (scenario_at scenario (run scenario journal) i) kept.present.it.node (heard_of i (run scenario journal).trace (node_at (run scenario journal).nodes i))).vector
-    (heard_by kept.present.it notice).kind
-vector_with_next scenario journal legal i v c notice node kept running first =
-    subst (λ k. IsReadableVector scenario.params k notice.slot (knowledge_of follows k past).vector (heard_by p.it notice).kind) (sym p.number)
-    (subst (IsReadableVector scenario.params i notice.slot (knowledge_of follows i past).vector) (sym it.is)
-    (plain_vector scenario.params i notice.slot (knowledge_of follows i past).vector (next_notice s i)
-    (subst (λ (st : Knowledge). IsReadableVector scenario.params i notice.slot st.vector (next_notice s i)) (sym knows)
-    (subst (λ n. IsReadableVector scenario.params i n (knowledge_of follows i (history i s)).vector (next_notice s i)) (sym slot)
-    (readable_vector scenario legal.in_range legal.members short journal i it.may)))))
-  where
-    few : scenario.params.nodes ≤ most_nodes
-    few = few_nodes scenario.params legal.in_range
-
-    short : scenario.params.bound ≤ scenario.params.cycle
-    short = omega (arith, legal.formulas.cycle)
-
-    s : RunState
-    s = run scenario journal
-
-    p : IsPresentAt scenario (run scenario journal).trace i (node_at (run scenario journal).nodes i) v
-    p = node.present
-
-    follows : ScenarioParts
-    follows = scenario_at scenario s i
-
-    past : List NoticeKind
-    past = heard_of i s.trace (node_at s.nodes i)
-
-    knows : knowledge_of follows i past ≡ knowledge_of follows i (history i s)
-    knows = ap (knowledge_of follows i) (heard_history s i) ∙ plain_knowledge follows i (history i s)
-
-    o : IsOrderly scenario.params.nodes (run scenario journal)
-    o = orderly scenario journal
-
-    within : i < scenario.params.nodes
-    within = subst (λ n. i < n) o.count (runs_within s.nodes i (ap is_none (sym kept.stopped ∙ running)))
-
-    it : IsToRead (run scenario journal) i node.present.it notice
-    it = to_read scenario s i v c notice o within node kept running first
-
-    slot : notice.slot ≡ length (history i (run scenario journal))
-    slot =
-        (next_notice_is scenario journal few i v c notice node kept first).slot ∙ ap (λ (l : List NoticeKind). length l) (heard_history s i)
-        ∙ plain-length (history i s)
+  -- and its vector can be read
+  pub vector_with_next : IsLegalScenario scenario → IsReadableVector scenario.params node.present.it.node notice.slot
+      (knowledge_of (scenario_at scenario (run scenario journal) i) node.present.it.node (heard_of i (run scenario journal).trace (node_at (run scenario journal).nodes i))).vector
+      (heard_by node.present.it notice).kind
+  vector_with_next legal =
+      subst (λ k. IsReadableVector scenario.params k notice.slot (knowledge_of follows k past).vector (heard_by p.it notice).kind) (sym p.number)
+      (subst (IsReadableVector scenario.params i notice.slot (knowledge_of follows i past).vector) (sym it.is)
+      (plain_vector scenario.params i notice.slot (knowledge_of follows i past).vector (next_notice s i)
+      (subst (λ (st : Knowledge). IsReadableVector scenario.params i notice.slot st.vector (next_notice s i)) (sym knows)
+      (subst (λ n. IsReadableVector scenario.params i n (knowledge_of follows i (history i s)).vector (next_notice s i)) (sym slot)
+      (readable_vector scenario legal.in_range legal.members (omega (arith, legal.formulas.cycle)) journal i it.may)))))
+    where
+      knows : knowledge_of follows i past ≡ knowledge_of follows i (history i s)
+      knows = ap (knowledge_of follows i) (heard_history s i) ∙ plain_knowledge follows i (history i s)
 
 -- ---- that a turn can be made
 
@@ -310,7 +273,7 @@ can_turn scenario journal i v c out legal opening node kept empty = record {
         (few_life_signs scenario journal longer i (ap is_none (sym kept.stopped ∙ running)));
     next = λ notice first. next_notice_is scenario journal few i v c notice node kept first;
     few = λ running notice first. few_with_next scenario journal few i v c notice node kept running first;
-    vector = λ running notice first. vector_with_next scenario journal legal i v c notice node kept running first;
+    vector = λ running notice first. vector_with_next scenario journal few i v c notice node kept running first legal;
     read = kept.read ∙ sym (past_length s i);
     free = ap (λ (b : Bounded Action). b.items) empty;
     actions = ap (λ (b : Bounded Action). b.room) empty;
@@ -379,7 +342,7 @@ turned_one scenario journal i v v' c c' notice legal within kept node running fi
     let few : HasFewSigns follows p.it.node ((heard_by p.it notice).kind ∷ past) notice.slot =
     few_with_next scenario journal (few_nodes scenario.params p.stands.legal.in_range) i v c notice node kept running first in
     let vector : IsReadableVector follows.params p.it.node notice.slot (knowledge_of follows p.it.node past).vector (heard_by p.it notice).kind =
-    vector_with_next scenario journal legal i v c notice node kept running first in
+    vector_with_next scenario journal (few_nodes scenario.params p.stands.legal.in_range) i v c notice node kept running first legal in
     let made : HasTurned follows past notice p.it v v' c c' =
     law p.it p.at follows past notice (record { stands = p.stands; next = next; few = few; vector = vector; running = running; oldest = first }) in
     let effects : turn_effects follows p.it.node ((heard_by p.it notice).kind ∷ past) ≡ turn_effects follows i (next_notice s i ∷ history i s) =

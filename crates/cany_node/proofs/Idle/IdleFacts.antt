@@ -1,16 +1,19 @@
 -- A node that is idle until a slot rests until then, or until its next timer.
-use Rattle.std.proofs.Common.{ℕ, ◌≤◌, ◌<◌, List, length, arith}
+use Rattle.std.proofs.Common.{◌≡◌, ℕ, ◌+◌, ◌≤◌, ◌<◌, List, length, subst, sym, arith}
+use Rattle.cany_base.specs.declared.actions.Action.{Action}
 use Rattle.cany_base.specs.declared.log_entry.LogEntry.{LogEntry}
 use Rattle.cany_base.specs.declared.notice.Notice.{Notice}
 use Rattle.cany_base.specs.declared.notice.NoticeKind.{NoticeKind}
 use Rattle.cany_base.specs.declared.notice.NoticeKind.TheVariants.{Idle}
+use Rattle.cany_base.specs.Bounded.{Bounded}
 use Rattle.cany_base.specs.Scenario.{ScenarioParts}
+use Rattle.can_controller.specs.Controller.{ControllerState}
 use Rattle.cany_edcan.specs.Edcan as edcan
 use Rattle.cany_edcan.specs.Edcan.{EdcanParts, IsEdcanOf}
 use Rattle.cany_relcan.specs.Relcan as relcan
 use Rattle.cany_relcan.specs.Relcan.{IsRelcanOf, RelcanParts}
 use Rattle.cany_node.specs.Membership.{IsNextOf}
-use Rattle.cany_node.specs.Node.{IsNodeOf, NodeParts}
+use Rattle.cany_node.specs.Node.{CanAct, IsNodeOf, NodeParts}
 use Rattle.cany_node.specs.Resting.{IsIdleUntil, RestsUntil}
 use Rattle.cany_node.proofs.Idle.IdleTurn.{OthersRest, edcan_now, node_rests, relcan_now, totcan_now}
 
@@ -75,3 +78,21 @@ idle_later idle_until read room e r log v is more = record {
   joins = is.joins;
   leaves = is.leaves;
 }
+
+-- no slot is before the first one
+pub not_idle : (idle_until : ℕ) (v : NodeParts) → idle_until ≡ 0 → IsIdleUntil idle_until v
+not_idle idle_until v none = record {
+  totcan = λ scenario past messages count h early. absurd (omega (arith, none, early));
+  membership = λ scenario i past h later early within. absurd (omega (arith, none, early));
+  sends = λ n early. absurd (omega (arith, none, early));
+  joins = λ n early. absurd (omega (arith, none, early));
+  leaves = λ n early. absurd (omega (arith, none, early));
+}
+
+-- so it does when it has read the notice that comes next
+pub idle_after : (idle_until : ℕ) (notice : Notice) (u v : NodeParts) (ctl : ControllerState) (out : Bounded Action) → v ≡ u → CanAct u notice ctl out → IsIdleUntil idle_until v
+    → (room : ℕ) (e : EdcanParts) (r : RelcanParts) (log : List LogEntry)
+    → IsIdleUntil idle_until (record v { read = notice.slot + 1; edcan = e; relcan = r; log = log; room = room })
+idle_after idle_until notice u v ctl out viewed acts is room e r log =
+    let before : v.read ≤ notice.slot = subst (λ (x : NodeParts). x.read ≤ notice.slot) (sym viewed) (omega (arith, acts.stands.read, acts.next.next.slot)) in
+    idle_later idle_until (notice.slot + 1) room e r log v is (omega (arith, before))

@@ -20,6 +20,9 @@ use Rattle.can_controller.specs.Controller.{ControllerState}
 use Rattle.cany_world.specs.Incarnations.{IncarnationsParts}
 use Rattle.cany_world.specs.Kept.{StandFor}
 use Rattle.cany_world.specs.Resting.{CanAllPass, CanRest, IsFree, IsOpen, rounds_of}
+use Rattle.cany_world.specs.World.{WorldParts, state_of}
+use Rattle.cany_world.specs.WorldFields.{IsRun, world_parts}
+use Rattle.cany_world.specs.declared.world.World.TheInside.{Inside}
 use Rattle.cany_world.proofs.Idle.IdleSlots.{MayRest, after_rest, idle_rounds}
 use Rattle.cany_world.proofs.Idle.IdleRound.{IsIdleNext}
 use Rattle.cany_world.proofs.Idle.IdleRounds.{stretch_legal, stretch_ran, stretch_steps}
@@ -81,7 +84,7 @@ module _ (scenario : ScenarioParts) (journal : List Step) (slots : ℕ) (due : N
       stretch.can_rest scenario journal slots due bus row kept ready.legal ready.stands ready.passes ready.idle ready.some opening actions free
 
 -- what was found out makes it ready
-pub ready_by : (scenario : ScenarioParts) (journal : List Step) (bus : BusParts) (row row0 : List ControllerState) (kept kept0 : List IncarnationsParts)
+ready_by : (scenario : ScenarioParts) (journal : List Step) (bus : BusParts) (row row0 : List ControllerState) (kept kept0 : List IncarnationsParts)
     (notes : List SlotNote) (rules : List Rule) (restarts : List NodeAsk) (most slots : ℕ) (due : Nodes) → IsLegalScenario scenario → IsLegal scenario journal
     → StandFor scenario (run scenario journal) bus row kept → row0 ≡ row → kept0 ≡ kept → notes ≡ reverse bus.trace
     → slots_run (run scenario journal) + most ≤ scenario.params.slots → slots ≤ most → (0 < slots → CanAllPass (length notes) slots due row0 kept0)
@@ -104,3 +107,14 @@ ready_by scenario journal bus row row0 kept kept0 notes rules restarts most slot
         free = λ slot from below. free scenario same also slot (omega (arith, from, now)) (omega (arith, below, now));
       };
     }
+
+-- the same of a world whose fields are `u`, and which is seen as `w`
+pub ready_for : (u : Inside) (w : WorldParts) → world_parts u ≡ w → IsRun u → (row : List ControllerState) (kept : List IncarnationsParts) (notes : List SlotNote) (restarts : List NodeAsk)
+    (most slots : ℕ) (due : Nodes) → row ≡ u.controllers.items → kept ≡ u.nodes.items → notes ≡ reverse u.bus.trace
+    → slots_run (state_of w) + most ≤ w.scenario.params.slots → slots ≤ most → (0 < slots → CanAllPass (length notes) slots due row kept) → restarts ≡ u.scenario.restarts
+    → ((follows : ScenarioParts) → u.script ≡ follows.rules → restarts ≡ follows.restarts → (slot : ℕ) → length notes ≤ slot
+    → slot < length notes + slots → IsFree follows slot)
+    → 0 < slots → IsReady u.scenario u.journal.items slots due u.bus u.controllers.items u.nodes.items
+ready_for u w viewed is row kept notes restarts most slots due same_row same_kept oldest room few passes also free some =
+    ready_by u.scenario u.journal.items u.bus u.controllers.items row u.nodes.items kept notes u.script restarts most slots due is.legal is.steps is.stands same_row same_kept
+    oldest (subst (λ (x : WorldParts). slots_run (state_of x) + most ≤ x.scenario.params.slots) (sym viewed) room) few passes is.script also free some

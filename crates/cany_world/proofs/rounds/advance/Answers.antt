@@ -1,6 +1,7 @@
 use Rattle.std.proofs.Common.{◌≡◌, suc, ◌-◌, arith}
 use Rattle.cany_world.proofs.RoundFacts.{IsAdvanced, after_rested, after_round, may_round}
 use Rattle.cany_world.proofs.rounds.advance.Goals as goal
+use Rattle.cany_world.proofs.rounds.advance.Goals.{After-make_round}
 
 pub returns-then-rested-gt0-clause-made : goal.returns-then-rested-gt0-clause-made
 returns-then-rested-gt0-clause-made c =
@@ -15,22 +16,16 @@ make_round-requires c =
     let more : c.args.left - c.rest-rested.result ≡ suc (c.args.left - 1) = omega (arith, c.if-rested-gt0.false, c.requires.some) in
     may_round c.args.world.now c.rest-rested.new.self c.args.left (c.args.left - c.rest-rested.result) (c.args.left - 1) so more c.requires.legal
 
-pub returns-clause-made : goal.returns-clause-made
-returns-clause-made c =
-    let so : IsAdvanced c.args.world.now c.rest-rested.new.self c.args.left (c.args.left - c.rest-rested.result) =
-    after_rested c.args.world.now c.rest-rested.new.self c.args.left c.rest-rested.result c.rest-rested.ensures.few c.rest-rested.ensures.rounds c.rest-rested.ensures.ran in
+-- what the round leaves
+advanced : (c : After-make_round) → IsAdvanced c.args.world.now c.make_round.new.world c.args.left (c.args.left - 1)
+advanced c =
     let more : c.args.left - c.rest-rested.result ≡ suc (c.args.left - 1) = omega (arith, c.if-rested-gt0.false, c.requires.some) in
-    let then : IsAdvanced c.args.world.now c.make_round.new.world c.args.left (c.args.left - 1) =
-    after_round c.args.world.now c.rest-rested.new.self c.make_round.new.world c.args.left (c.args.left - c.rest-rested.result) (c.args.left - 1) so more
-    c.requires.legal c.make_round.ensures in
-    then.made
+    after_round c.args.world.now c.rest-rested.new.self c.make_round.new.world c.args.left (c.args.left - c.rest-rested.result) (c.args.left - 1)
+    (after_rested c.args.world.now c.rest-rested.new.self c.args.left c.rest-rested.result c.rest-rested.ensures.few c.rest-rested.ensures.rounds c.rest-rested.ensures.ran)
+    more c.requires.legal c.make_round.ensures
+
+pub returns-clause-made : goal.returns-clause-made
+returns-clause-made c = (advanced (goal.at.returns-clause-made c).After-make_round).made
 
 pub returns-clause-ran : goal.returns-clause-ran
-returns-clause-ran c =
-    let so : IsAdvanced c.args.world.now c.rest-rested.new.self c.args.left (c.args.left - c.rest-rested.result) =
-    after_rested c.args.world.now c.rest-rested.new.self c.args.left c.rest-rested.result c.rest-rested.ensures.few c.rest-rested.ensures.rounds c.rest-rested.ensures.ran in
-    let more : c.args.left - c.rest-rested.result ≡ suc (c.args.left - 1) = omega (arith, c.if-rested-gt0.false, c.requires.some) in
-    let then : IsAdvanced c.args.world.now c.make_round.new.world c.args.left (c.args.left - 1) =
-    after_round c.args.world.now c.rest-rested.new.self c.make_round.new.world c.args.left (c.args.left - c.rest-rested.result) (c.args.left - 1) so more
-    c.requires.legal c.make_round.ensures in
-    then.ran
+returns-clause-ran c = (advanced (goal.at.returns-clause-ran c).After-make_round).ran

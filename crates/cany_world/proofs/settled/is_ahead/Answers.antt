@@ -1,9 +1,5 @@
-use Rattle.std.proofs.Common.{◌≡◌, refl, sym, arith, ◌∙◌}
-use Rattle.std.specs.Prelude.{slice_get, Some}
-use Rattle.std.proofs.lemmas.Option.{slice_get_read}
-use Rattle.cany_model.specs.Runs.Run.{run}
-use Rattle.cany_world.specs.Settled.{has_ahead}
-use Rattle.cany_world.proofs.SettledFacts.{left_to_all, left_to_next, none_ahead, one_ahead}
+use Rattle.std.proofs.Common.{sym, arith, ◌∙◌}
+use Rattle.cany_world.proofs.SettledFacts.{ahead_here, left_to_all, left_to_next, none_ahead, one_ahead}
 use Rattle.cany_world.proofs.settled.is_ahead.Goals as goal
 
 pub loop-i-init : goal.loop-i-init
@@ -11,23 +7,15 @@ loop-i-init c = left_to_all c.args.service c.args.key.now c.args.controllers.now
 
 pub returns-then-has_ahead : goal.returns-then-has_ahead
 returns-then-has_ahead c scenario journal m about by =
-    let at : slice_get c.args.controllers.now c.loop-i.i ≡ Some c.index-controllers-i.result =
-    slice_get_read c.args.controllers.now _ c.loop-i.i c.index-controllers-i.result refl c.loop-i-test.true c.index-controllers-i.is in
-    let at_node : slice_get c.args.nodes.now c.loop-i.i ≡ Some c.index-nodes-i.result =
-    slice_get_read c.args.nodes.now _ c.loop-i.i c.index-nodes-i.result c.requires c.loop-i-test.true c.index-nodes-i.is in
-    let is : c.has_ahead.result ≡ has_ahead scenario (run scenario journal) m c.loop-i.i =
-    c.has_ahead.ensures scenario (run scenario journal) c.loop-i.i m (about.controllers.each c.loop-i.i _ at) (about.nodes.each c.loop-i.i _ at_node) about.stands about.key by in
-    one_ahead c.loop-i.i c.args.service c.args.key.now c.args.controllers.now c.args.nodes.now c.loop-i.invariant scenario journal m about by c.loop-i-test.true (sym is ∙ c.if-has_ahead.true)
+    one_ahead c.loop-i.i c.args.service c.args.key.now c.args.controllers.now c.args.nodes.now c.loop-i.invariant scenario journal m about by c.loop-i-test.true
+    (sym (ahead_here c.args.service c.args.key.now c.args.controllers.now c.args.nodes.now c.loop-i.i _ _ c.has_ahead.result c.requires c.loop-i-test.true
+    c.index-controllers-i.is c.index-nodes-i.is c.has_ahead.ensures scenario journal m about by) ∙ c.if-has_ahead.true)
 
 pub loop-i-preserved : goal.loop-i-preserved
 loop-i-preserved c scenario journal m about by =
-    let at : slice_get c.args.controllers.now c.loop-i.i ≡ Some c.index-controllers-i.result =
-    slice_get_read c.args.controllers.now _ c.loop-i.i c.index-controllers-i.result refl c.loop-i-test.true c.index-controllers-i.is in
-    let at_node : slice_get c.args.nodes.now c.loop-i.i ≡ Some c.index-nodes-i.result =
-    slice_get_read c.args.nodes.now _ c.loop-i.i c.index-nodes-i.result c.requires c.loop-i-test.true c.index-nodes-i.is in
-    let is : c.has_ahead.result ≡ has_ahead scenario (run scenario journal) m c.loop-i.i =
-    c.has_ahead.ensures scenario (run scenario journal) c.loop-i.i m (about.controllers.each c.loop-i.i _ at) (about.nodes.each c.loop-i.i _ at_node) about.stands about.key by in
-    left_to_next c.loop-i.i c.args.service c.args.key.now c.args.controllers.now c.args.nodes.now c.loop-i.invariant scenario journal m about by c.loop-i-test.true (sym is ∙ c.if-has_ahead.false)
+    left_to_next c.loop-i.i c.args.service c.args.key.now c.args.controllers.now c.args.nodes.now c.loop-i.invariant scenario journal m about by c.loop-i-test.true
+    (sym (ahead_here c.args.service c.args.key.now c.args.controllers.now c.args.nodes.now c.loop-i.i _ _ c.has_ahead.result c.requires c.loop-i-test.true
+    c.index-controllers-i.is c.index-nodes-i.is c.has_ahead.ensures scenario journal m about by) ∙ c.if-has_ahead.false)
 
 pub returns : goal.returns
 returns c scenario journal m about by = none_ahead c.loop-i.i c.args.service c.args.key.now c.args.controllers.now c.args.nodes.now c.loop-i.invariant scenario journal m about by (omega arith)

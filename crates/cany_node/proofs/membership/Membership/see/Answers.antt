@@ -1,4 +1,5 @@
 use Rattle.std.proofs.Common.{subst, sym, arith}
+use Rattle.cany_base.proofs.ParamsFacts.{few_slots}
 use Rattle.cany_life.proofs.TurnFacts.{few_sent}
 use Rattle.cany_node.specs.Membership.{IsMembershipOf}
 use Rattle.cany_node.specs.Resting.{MembershipRests}
@@ -16,6 +17,12 @@ returns-then-not-tells_of_site-clause-none c = λ scenario i past h rests next.
 pub returns-then-not-tells_of_site-clause-stands : goal.returns-then-not-tells_of_site-clause-stands
 returns-then-not-tells_of_site-clause-stands c = λ scenario i past h rests next.
     site_unheard scenario i past c.args.notice.now.kind (unheard c.args.notice.now.kind (sym c.if-not-tells_of_site.ensures)) _ rests.stands
+
+pub returns-then-not-tells_of_site-clause-rests : goal.returns-then-not-tells_of_site-clause-rests
+returns-then-not-tells_of_site-clause-rests c = λ scenario i past h later early within. c.requires.rests scenario i past h (omega (arith, later)) early within
+
+pub returns-then-not-tells_of_site-clause-sooner : goal.returns-then-not-tells_of_site-clause-sooner
+returns-then-not-tells_of_site-clause-sooner c = omega arith
 
 -- any other frame shows life
 
@@ -37,3 +44,11 @@ returns-clause-stands c = λ scenario i past h rests next.
 
 pub returns-clause-rests : goal.returns-clause-rests
 returns-clause-rests c = λ scenario i past h later early within. c.wake.ensures.rests scenario i past h later (omega (arith, early, c.min.ensures)) within
+
+pub overflow_add-notice : goal.overflow_add-notice
+overflow_add-notice c =
+    let at = c.requires.hears in
+    omega (arith, at.next.next.within, few_slots at.scenario.params at.stands.history.legal.in_range)
+
+pub returns-clause-sooner : goal.returns-clause-sooner
+returns-clause-sooner c = omega (arith, c.min.ensures)

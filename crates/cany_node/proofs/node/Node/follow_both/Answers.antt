@@ -1,54 +1,42 @@
-use Rattle.std.proofs.Common.{rules, ◌≤◌, ◌+◌, ◌++◌, sym, subst, refl, arith}
+use Rattle.std.proofs.Common.{◌++◌, refl, arith}
 use Rattle.cany_base.proofs.ParamsFacts.{few_slots}
 use Rattle.cany_edcan.specs.Calls.{actions_called}
 use Rattle.cany_relcan.specs.Calls.{actions_called as rel_called}
-use Rattle.cany_node.specs.Node.{NodeParts}
-use Rattle.cany_node.proofs.ActSteps.{listed_acted, listed_apply}
+use Rattle.cany_node.proofs.ActSteps.{acted_cleared, listed_acted}
 use Rattle.cany_node.proofs.AppliedParts.{both_applied, can_back, can_front}
-use Rattle.cany_node.proofs.Idle.IdleFacts.{idle_later}
-use Rattle.cany_node.proofs.RelayTurn.{relay_turn}
+use Rattle.cany_node.proofs.Idle.IdleFacts.{idle_after}
+use Rattle.cany_node.proofs.RelayTurn.{relay_apply, relay_turn}
 use Rattle.cany_node.proofs.node.Node.follow_both.Goals as goal
 
 pub invariant_of-self : goal.invariant_of-self
-invariant_of-self c =
-    let before = subst (λ (v : NodeParts). v.read ≤ c.args.notice.now.slot) (sym c.self.view_is) (omega (arith, c.requires.acts.stands.read, c.requires.acts.next.next.slot)) in
-    record {
-      few = c.self.invariant.few;
-      idle_until = idle_later c.self.inside.idle_until (c.args.notice.now.slot + 1) _ _ _ _ _ c.self.invariant.idle_until (omega (arith, before));
-    }
+invariant_of-self c = record {
+  few = c.self.invariant.few;
+  idle_until = idle_after _ c.args.notice.now _ _ _ _ c.self.view_is c.requires.acts c.self.invariant.idle_until _ _ _ _;
+}
 
 pub apply_called-requires : goal.apply_called-requires
 apply_called-requires c =
-    let ed = actions_called c.args.notice.now c.hear-calls.result in
-    let rel = rel_called c.args.notice.now c.hear-heard.result in
-    let turn =
-    relay_turn c.args.notice.now _ _ c.self.view_is c.requires.brings c.requires.idle c.hear-calls.new.self c.hear-heard.new.self ed (rel ++ c.hear-heard.new.out.items)
-    c.hear-calls.ensures.actions c.hear-calls.ensures.stands c.hear-heard.ensures.actions c.hear-heard.ensures.stands in
-    can_front c.self.inside.inc ed (rel ++ c.hear-heard.new.out.items) _ _
-    (listed_apply c.args.notice.now _ _ _ c.self.view_is _ (ed ++ (rel ++ c.hear-heard.new.out.items)) c.args.ctl.now c.args.out.now c.requires.acts turn c.self.invariant.few)
+    can_front c.self.inside.inc (actions_called c.args.notice.now c.hear-calls.result) _ _ _
+    (relay_apply c.args.notice.now _ _ c.self.view_is c.requires.brings c.requires.idle c.hear-calls.new.self c.hear-heard.new.self
+    (actions_called c.args.notice.now c.hear-calls.result) (rel_called c.args.notice.now c.hear-heard.result ++ c.hear-heard.new.out.items) c.hear-calls.ensures.actions
+    c.hear-calls.ensures.stands c.hear-heard.ensures.actions c.hear-heard.ensures.stands c.args.ctl.now c.args.out.now c.requires.acts c.self.invariant.few)
 
 pub apply_heard-requires : goal.apply_heard-requires
 apply_heard-requires c =
-    let ed = actions_called c.args.notice.now c.hear-calls.result in
-    let rel = rel_called c.args.notice.now c.hear-heard.result in
-    let turn =
-    relay_turn c.args.notice.now _ _ c.self.view_is c.requires.brings c.requires.idle c.hear-calls.new.self c.hear-heard.new.self ed (rel ++ c.hear-heard.new.out.items)
-    c.hear-calls.ensures.actions c.hear-calls.ensures.stands c.hear-heard.ensures.actions c.hear-heard.ensures.stands in
-    can_front c.self.inside.inc rel c.hear-heard.new.out.items _ _
-    (can_back c.self.inside.inc ed (rel ++ c.hear-heard.new.out.items) _ _
-    (listed_apply c.args.notice.now _ _ _ c.self.view_is _ (ed ++ (rel ++ c.hear-heard.new.out.items)) c.args.ctl.now c.args.out.now c.requires.acts turn c.self.invariant.few)
+    can_front c.self.inside.inc (rel_called c.args.notice.now c.hear-heard.result) c.hear-heard.new.out.items _ _
+    (can_back c.self.inside.inc (actions_called c.args.notice.now c.hear-calls.result) _ _ _
+    (relay_apply c.args.notice.now _ _ c.self.view_is c.requires.brings c.requires.idle c.hear-calls.new.self c.hear-heard.new.self
+    (actions_called c.args.notice.now c.hear-calls.result) (rel_called c.args.notice.now c.hear-heard.result ++ c.hear-heard.new.out.items) c.hear-calls.ensures.actions
+    c.hear-calls.ensures.stands c.hear-heard.ensures.actions c.hear-heard.ensures.stands c.args.ctl.now c.args.out.now c.requires.acts c.self.invariant.few)
     _ _ c.apply_called.ensures)
 
 pub apply_all-requires : goal.apply_all-requires
 apply_all-requires c =
-    let ed = actions_called c.args.notice.now c.hear-calls.result in
-    let rel = rel_called c.args.notice.now c.hear-heard.result in
-    let turn =
-    relay_turn c.args.notice.now _ _ c.self.view_is c.requires.brings c.requires.idle c.hear-calls.new.self c.hear-heard.new.self ed (rel ++ c.hear-heard.new.out.items)
-    c.hear-calls.ensures.actions c.hear-calls.ensures.stands c.hear-heard.ensures.actions c.hear-heard.ensures.stands in
-    can_back c.self.inside.inc rel c.hear-heard.new.out.items _ _
-    (can_back c.self.inside.inc ed (rel ++ c.hear-heard.new.out.items) _ _
-    (listed_apply c.args.notice.now _ _ _ c.self.view_is _ (ed ++ (rel ++ c.hear-heard.new.out.items)) c.args.ctl.now c.args.out.now c.requires.acts turn c.self.invariant.few)
+    can_back c.self.inside.inc (rel_called c.args.notice.now c.hear-heard.result) c.hear-heard.new.out.items _ _
+    (can_back c.self.inside.inc (actions_called c.args.notice.now c.hear-calls.result) _ _ _
+    (relay_apply c.args.notice.now _ _ c.self.view_is c.requires.brings c.requires.idle c.hear-calls.new.self c.hear-heard.new.self
+    (actions_called c.args.notice.now c.hear-calls.result) (rel_called c.args.notice.now c.hear-heard.result ++ c.hear-heard.new.out.items) c.hear-calls.ensures.actions
+    c.hear-calls.ensures.stands c.hear-heard.ensures.actions c.hear-heard.ensures.stands c.args.ctl.now c.args.out.now c.requires.acts c.self.invariant.few)
     _ _ c.apply_called.ensures)
     _ _ c.apply_heard.ensures
 
@@ -60,20 +48,12 @@ overflow_add-self c =
 pub returns : goal.returns
 returns c =
     let ed = actions_called c.args.notice.now c.hear-calls.result in
-    let rel = rel_called c.args.notice.now c.hear-heard.result in
-    let turn =
-    relay_turn c.args.notice.now _ _ c.self.view_is c.requires.brings c.requires.idle c.hear-calls.new.self c.hear-heard.new.self ed (rel ++ c.hear-heard.new.out.items)
-    c.hear-calls.ensures.actions c.hear-calls.ensures.stands c.hear-heard.ensures.actions c.hear-heard.ensures.stands in
-    let acted =
-    listed_acted c.args.notice.now _ _ _ c.self.view_is _ (ed ++ (rel ++ c.hear-heard.new.out.items)) c.args.ctl.now c.args.out.now c.requires.acts turn
+    let rel = rel_called c.args.notice.now c.hear-heard.result ++ c.hear-heard.new.out.items in
+    acted_cleared c.args.notice.now _ _ _ _ _ c.hear-heard.new.out _
+    (listed_acted c.args.notice.now _ _ _ c.self.view_is _ (ed ++ rel) c.args.ctl.now c.args.out.now c.requires.acts
+    (relay_turn c.args.notice.now _ _ c.self.view_is c.requires.brings c.requires.idle c.hear-calls.new.self c.hear-heard.new.self ed rel
+    c.hear-calls.ensures.actions c.hear-calls.ensures.stands c.hear-heard.ensures.actions c.hear-heard.ensures.stands)
     c.apply_all.new.ctl c.self.inside.log c.apply_all.new.log refl refl
-    (both_applied c.self.inside.inc ed (rel ++ c.hear-heard.new.out.items) _ _ _ _ _ _ c.apply_called.ensures
-    (both_applied c.self.inside.inc rel c.hear-heard.new.out.items _ _ _ _ _ _ c.apply_heard.ensures c.apply_all.ensures)) in
-    record {
-      controller = acted.controller;
-      stands = acted.stands;
-      node = acted.node;
-      inc = acted.inc;
-      cycle = acted.cycle;
-      out = search rules;
-    }
+    (both_applied c.self.inside.inc ed rel _ _ _ _ _ _ c.apply_called.ensures
+    (both_applied c.self.inside.inc (rel_called c.args.notice.now c.hear-heard.result) c.hear-heard.new.out.items _ _ _ _ _ _ c.apply_heard.ensures c.apply_all.ensures)))
+    c.clear.ensures c.hear-heard.ensures.room c.requires.acts.free

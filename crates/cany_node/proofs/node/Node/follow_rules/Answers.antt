@@ -1,10 +1,15 @@
-use Rattle.std.proofs.Common.{rules, refl, ap, sym, subst, ◌∙◌, ◌++◌, ◌∷◌, length, arith}
+use Rattle.std.proofs.Common.{refl, ap, sym, subst, ◌∙◌, ◌++◌, ◌∷◌, length, arith}
+use Rattle.cany_base.proofs.ParamsFacts.{few_slots}
 use Rattle.cany_model.specs.Rules.Actions.{actions_of}
 use Rattle.cany_node.specs.Node.{NodeParts}
 use Rattle.cany_node.specs.Turning.{HasScripted, script_effects, script_room}
-use Rattle.cany_node.proofs.ActSteps.{AlwaysListed, IsSame, can_apply, can_script, joined, listed, listed_acted, one_more_read, same_after}
-use Rattle.cany_node.proofs.RoomsSuffice.{actions_within}
+use Rattle.cany_node.proofs.ActSteps.{AlwaysListed, IsSame, acted_cleared, can_apply, can_script, joined, listed, listed_acted, one_more_read, same_after}
+use Rattle.cany_node.proofs.Idle.IdleFacts.{not_idle}
+use Rattle.cany_node.proofs.RoomsSuffice.{actions_within, script_fits}
 use Rattle.cany_node.proofs.node.Node.follow_rules.Goals as goal
+
+pub hear-requires-clause-hears : goal.hear-requires-clause-hears
+hear-requires-clause-hears c = record { scenario = c.requires.scenario; past = c.requires.past; stands = c.requires.stands; next = c.requires.next }
 
 pub hear-requires-clause-room : goal.hear-requires-clause-room
 hear-requires-clause-room c =
@@ -17,30 +22,17 @@ plan-requires-clause-scripts c =
 
 pub plan-requires-clause-room : goal.plan-requires-clause-room
 plan-requires-clause-room c =
-    omega (
-      arith,
-      actions_within c.requires.scenario c.requires.past c.args.self.now c.requires.stands,
-      ap length c.requires.free,
-      c.requires.actions,
-      c.hear.ensures.few,
-      c.hear.ensures.room,
-      ap script_room c.hear.ensures.state,
-    )
+    let fits =
+    script_fits c.requires.scenario c.requires.past c.args.self.now c.hear.new.self c.args.out.now c.hear.new.out c.requires.stands c.requires.free c.requires.actions
+    c.hear.ensures.few c.hear.ensures.room (ap script_room c.hear.ensures.state) in
+    omega (arith, fits)
 
 pub next-requires : goal.next-requires
-next-requires c = record {
-  room = omega (
-    arith,
-    actions_within c.requires.scenario c.requires.past c.args.self.now c.requires.stands,
-    ap length c.requires.free,
-    c.requires.actions,
-    c.hear.ensures.few,
-    c.hear.ensures.room,
-    ap script_room c.hear.ensures.state,
-    c.plan.ensures.few,
-    c.plan.ensures.room,
-  );
-}
+next-requires c =
+    let fits =
+    script_fits c.requires.scenario c.requires.past c.args.self.now c.hear.new.self c.args.out.now c.hear.new.out c.requires.stands c.requires.free c.requires.actions
+    c.hear.ensures.few c.hear.ensures.room (ap script_room c.hear.ensures.state) in
+    record { room = omega (arith, fits, c.plan.ensures.few, c.plan.ensures.room) }
 
 pub apply_all-requires : goal.apply_all-requires
 apply_all-requires c =
@@ -61,6 +53,15 @@ apply_all-requires c =
     (c.next.ensures.actions scenario (notice.kind ∷ past) _ _ (joined scenario past notice v _ c.requires.stands c.requires.next same scripted)
     (one_more_read scenario past notice v _ c.requires.stands c.requires.next same scripted)))
     c.self.invariant.few c.requires.format c.requires.room c.requires.askable c.requires.stamped c.requires.signs
+
+pub overflow_add-self : goal.overflow_add-self
+overflow_add-self c = omega (arith, c.requires.next.next.within, few_slots c.requires.scenario.params c.requires.stands.legal.in_range)
+
+pub invariant_of-self : goal.invariant_of-self
+invariant_of-self c = record { few = c.self.invariant.few; idle_until = not_idle _ _ c.forget_idle.ensures }
+
+pub invariant_of-self-2 : goal.invariant_of-self-2
+invariant_of-self-2 c = record { few = c.self.invariant.few; idle_until = c.next_due-self-inside.ensures }
 
 pub returns : goal.returns
 returns c =
@@ -84,14 +85,7 @@ returns c =
           c.requires.free (c.hear.ensures.actions scenario past stands next) sent (c.next.ensures.actions scenario (notice.kind ∷ past) _ _ ours one_more);
       asks = c.next.ensures.stands scenario (notice.kind ∷ past) _ _ ours one_more;
     } in
-    let acted =
-    listed_acted notice v v _ refl _ c.next.new.out.items c.args.ctl.now c.args.out.now c.requires turn c.apply_all.new.ctl c.self.inside.log
-    c.apply_all.new.log refl refl c.apply_all.ensures in
-    record {
-      controller = acted.controller;
-      stands = acted.stands;
-      node = acted.node;
-      inc = acted.inc;
-      cycle = acted.cycle;
-      out = search rules;
-    }
+    acted_cleared notice _ _ _ _ _ c.next.new.out _
+    (listed_acted notice v v _ refl _ c.next.new.out.items c.args.ctl.now c.args.out.now c.requires turn c.apply_all.new.ctl c.self.inside.log
+    c.apply_all.new.log refl refl c.apply_all.ensures)
+    c.clear.ensures (c.next.ensures.room ∙ c.plan.ensures.room ∙ c.hear.ensures.room) c.requires.free

@@ -3,6 +3,7 @@ use Rattle.cany_model.specs.Rules.Actions.{actions_of}
 use Rattle.cany_node.specs.Node.{IsNodeOf, NodeParts}
 use Rattle.cany_node.specs.Membership.{IsNextOf}
 use Rattle.cany_node.specs.Turning.{heard_effects}
+use Rattle.cany_node.proofs.Idle.IdleFacts.{not_idle}
 use Rattle.cany_node.proofs.HeardTurn.{edcan_stands, has_heard, heard_listed, relcan_stands, totcan_stands}
 use Rattle.cany_node.proofs.node.Node.hear.Goals as goal
 
@@ -28,3 +29,6 @@ returns-clause-stands c = λ scenario past stands next.
     (c.on-2.ensures.stands scenario past (relcan_stands scenario past notice _ kept) next.next)
     (c.on-3.ensures.stands scenario past _ _ (totcan_stands scenario past notice _ kept) next.next)
     (c.on-4.ensures.stands scenario c.self.inside.node past kept.membership reading)
+
+pub invariant_of-self : goal.invariant_of-self
+invariant_of-self c = record { few = c.self.invariant.few; idle_until = not_idle _ _ c.forget_idle.ensures }

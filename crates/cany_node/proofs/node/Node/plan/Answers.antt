@@ -1,11 +1,13 @@
-use Rattle.std.proofs.Common.{ap, sym, subst, ◌∙◌, ◌++◌, ◌∷◌}
+use Rattle.std.proofs.Common.{◌<◌, ◌+◌, ◌≤◌, ap, length, sym, subst, ◌∙◌, ◌++◌, ◌∷◌, arith}
+use Rattle.cany_base.specs.Params.{Parameters}
 use Rattle.cany_model.specs.Rules.Actions.{actions_of}
 use Rattle.cany_node.specs.Membership.{IsMembershipOf, MembershipParts}
 use Rattle.cany_node.specs.Node.{NodeParts}
-use Rattle.cany_node.specs.Turning.{HasHeard, script_effects}
+use Rattle.cany_node.specs.Turning.{HasHeard, script_effects, script_room}
 use Rattle.cany_edcan.specs.Edcan.{EdcanParts, IsEdcanOf}
 use Rattle.cany_relcan.specs.Relcan.{IsRelcanOf, RelcanParts}
 use Rattle.cany_node.proofs.GiveFacts.{left_own}
+use Rattle.cany_node.proofs.Idle.IdleFacts.{not_idle}
 use Rattle.cany_node.proofs.ScriptSteps.{agenda_now, has_scripted, joins_now, leaves_now, script_listed}
 use Rattle.cany_node.proofs.node.Node.plan.Goals as goal
 
@@ -16,6 +18,42 @@ send_due-requires-clause-own c =
     let notice = c.requires.scripts.notice in
     let heard = subst (HasHeard scenario past notice) (sym c.self.view_is) c.requires.scripts.stands in
     left_own scenario c.self.inside.node c.args.slot _ c.self.inside.agenda (agenda_now scenario past notice c.args.slot _ heard c.requires.scripts.now) heard.totcan.backlog.own
+
+pub send_due-requires-clause-room : goal.send_due-requires-clause-room
+send_due-requires-clause-room c = omega (arith, c.requires.room, ap script_room c.self.view_is)
+
+pub send_due-requires-clause-given : goal.send_due-requires-clause-given
+send_due-requires-clause-given c =
+    subst (λ (v : NodeParts). length v.totcan.backlog.given + length v.agenda.left ≤ v.totcan.backlog.room) (sym c.self.view_is) c.requires.scripts.stands.room_to_give
+
+pub ask_due-requires-clause-slot : goal.ask_due-requires-clause-slot
+ask_due-requires-clause-slot c =
+    let scripts = c.requires.scripts in
+    let heard = subst (HasHeard scripts.scenario scripts.past scripts.notice) (sym c.self.view_is) scripts.stands in
+    subst (λ (p : Parameters). c.args.slot < p.slots) (sym heard.membership.views.params) scripts.within
+
+pub ask_due-requires-clause-room : goal.ask_due-requires-clause-room
+ask_due-requires-clause-room c = omega (arith, c.requires.room, ap script_room c.self.view_is, c.send_due.ensures.few, c.send_due.ensures.room)
+
+pub ask_due-requires-2-clause-slot : goal.ask_due-requires-2-clause-slot
+ask_due-requires-2-clause-slot c =
+    let scripts = c.requires.scripts in
+    let heard = subst (HasHeard scripts.scenario scripts.past scripts.notice) (sym c.self.view_is) scripts.stands in
+    subst (λ (m : MembershipParts). c.args.slot < m.views.params.slots) (sym c.ask_due.ensures.kept)
+    (subst (λ (p : Parameters). c.args.slot < p.slots) (sym heard.membership.views.params) scripts.within)
+
+pub ask_due-requires-2-clause-room : goal.ask_due-requires-2-clause-room
+ask_due-requires-2-clause-room c =
+    omega (arith, c.requires.room, ap script_room c.self.view_is, c.send_due.ensures.few, c.send_due.ensures.room, c.ask_due.ensures.few, c.ask_due.ensures.room)
+
+pub invariant_of-self : goal.invariant_of-self
+invariant_of-self c = record { few = c.self.invariant.few; idle_until = not_idle _ _ c.forget_idle.ensures }
+
+pub returns-clause-few : goal.returns-clause-few
+returns-clause-few c = omega (arith, ap script_room c.self.view_is, c.send_due.ensures.few, c.ask_due.ensures.few, c.ask_due-2.ensures.few)
+
+pub returns-clause-room : goal.returns-clause-room
+returns-clause-room c = c.ask_due-2.ensures.room ∙ c.ask_due.ensures.room ∙ c.send_due.ensures.room
 
 pub returns-clause-actions : goal.returns-clause-actions
 returns-clause-actions c = λ scenario past notice stands now.

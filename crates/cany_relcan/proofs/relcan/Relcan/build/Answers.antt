@@ -19,9 +19,9 @@ returns c = λ n.
         timers_room =
             ap (λ t. t.room) c.in_ok-timers.ensures ∙ c.timers_at_once.ensures
             ∙ (λ k. min (room k) ((ap (λ (p : Parameters). p.confirm) params) k + 1));
-        timers_few = rw c.in_ok-timers.ensures (omega (arith, c.in_ok-copies.ensures.spare, room));
+        timers_few = rw c.in_ok-timers.ensures (omega (arith, c.in_ok-tables.ensures.copies.spare, room));
       };
-      tables = tables_fresh c.args.scenario.now c.args.node n c.params.inside.omit _ _ _ c.in_ok-copies.ensures c.in_ok-confirms.ensures (ap (λ (p : Parameters). p.omit) params) room;
+      tables = tables_fresh c.args.scenario.now c.args.node n c.params.inside.omit _ _ _ c.in_ok-tables.ensures.copies c.in_ok-tables.ensures.confirms (ap (λ (p : Parameters). p.omit) params) room;
       timers = ap (λ t. t.running) c.in_ok-timers.ensures ∙ sym (started_since-idle c.args.node c.args.scenario.now.params.confirm n);
       fallen = marks_fresh c.args.scenario.now c.args.node n c.params.inside.omit _ _ c.in_ok-fallen.ensures room;
     }

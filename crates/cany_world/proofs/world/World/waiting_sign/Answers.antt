@@ -1,21 +1,19 @@
-use Rattle.std.proofs.Common.{◌≡◌, ◌↔◌, true, ap, subst, sym, ◌∙◌, List}
-use Rattle.std.specs.Prelude.{slice_get, Some}
-use Rattle.can_controller.specs.Controller.{ControllerState}
+use Rattle.std.proofs.Common.{◌≡◌, ◌↔◌, true, subst, sym, ◌∙◌}
 use Rattle.cany_base.specs.Nodes.{Nodes, nobody}
-use Rattle.cany_base.specs.Params.{Parameters}
 use Rattle.cany_base.proofs.ParamsFacts.{few_nodes}
 use Rattle.cany_model.specs.Promises.Settled.{nobody_waits_with_sign}
 use Rattle.cany_model.specs.Rules.Knowledge.{FailureSign}
 use Rattle.cany_world.specs.Kept.{AreControllersOf}
 use Rattle.cany_world.specs.World.{WorldParts, state_of}
 use Rattle.cany_world.specs.WorldFields.{world_parts}
+use Rattle.cany_world.proofs.SettledFacts.{have_format}
 use Rattle.cany_world.proofs.UnsettledFacts.{nobody_waits_with}
 use Rattle.cany_world.proofs.world.World.waiting_sign.Goals as goal
 
 pub nodes_waiting_with_sign-requires-clause-format : goal.nodes_waiting_with_sign-requires-clause-format
-nodes_waiting_with_sign-requires-clause-format c i x at =
-    let kept = c.self.invariant.stands.controllers.each i x (subst (λ (t : List ControllerState). slice_get t i ≡ Some x) c.as_slice.ensures.value at) in
-    ap (λ (p : Parameters). p.format) (kept.params ∙ sym (c.behind-self.view_is ∙ c.params.ensures.params))
+nodes_waiting_with_sign-requires-clause-format c =
+    have_format c.self.inside.scenario c.self.inside.journal.items _ _ c.self.invariant.stands.controllers c.as_slice.ensures.value
+    _ (c.behind-self.view_is ∙ c.params.ensures.params)
 
 pub returns-clause-nobody : goal.returns-clause-nobody
 returns-clause-nobody c =
