@@ -146,57 +146,49 @@ carries x note f e = ap (λ o. option_map_or (is_of x) o false) e
 none-some : (n : ℕ) → Some n ≡ None → ⊥
 none-some n h = cc
 
--- what raising the count of a frame leaves of the counts
-abbrev pub IsRaised : Identity → BTreeMap FrameName ℕ → BTreeMap FrameName ℕ → Type 0
-IsRaised y old new = (q : FrameName) → get name_cmp new q ≡ (if is_eq (name_cmp (frame_name y) q) then option_map raised (get name_cmp old q) else get name_cmp old q)
-
 -- of a frame that no entry names
-pub unnamed_slot : (named : Identity → Bool) (trace : List SlotNote) (note : SlotNote) (f : FrameParts) (old new : Attempts) → note.frame ≡ Some f → AreAttempts named trace old
-    → IsRaised (identity_of f) old.counts new.counts → None ≡ option_map raised (get name_cmp old.counts (frame_name (identity_of f))) → new.slots ≡ old.slots → AreAttempts named (note ∷ trace) new
-unnamed_slot named trace note f old new e are raise none same =
+pub unnamed_slot : (named : Identity → Bool) (trace : List SlotNote) (note : SlotNote) (f : FrameParts) (kept : Attempts) → note.frame ≡ Some f → AreAttempts named trace kept
+    → None ≡ get name_cmp kept.counts (frame_name (identity_of f)) → AreAttempts named (note ∷ trace) kept
+unnamed_slot named trace note f kept e are none =
     let y = identity_of f in
     let unlike : (x : Identity) → named x ≡ true → same_identity x y ≡ false =
     λ x h. elim (cases_Bool (same_identity x y)) [
       | inl here ↦
           let is : x ≡ y = same_identity-true x y here in
-          absurd (none-some (raised (attempts x trace)) (sym (none ∙ ap (λ z. option_map raised (count_of old.counts.entries z)) (sym is) ∙ ap (option_map raised) (are.counted x h))))
+          absurd (none-some (attempts x trace) (sym (none ∙ ap (count_of kept.counts.entries) (sym is) ∙ are.counted x h)))
       | inr other ↦ other
     ] in
-    grown named trace note old new are
-    (λ x h. raise (frame_name x) ∙ rw (name_test y x, same_turned y x, unlike x h, carries x note f e, unlike x h) refl)
-    (λ x h nth. ap (λ (s : BTreeMap Attempt ℕ). slot_of s.entries x nth) same ∙ rw (carries x note f e, unlike x h) refl)
+    grown named trace note kept kept are (λ x h. rw (carries x note f e, unlike x h) refl) (λ x h nth. rw (carries x note f e, unlike x h) refl)
 
 raised_once : (n : ℕ) → n + 1 < 2 ^ 64 → raised n ≡ n + 1
 raised_once n h = omega (arith, h)
 
--- of a frame that is kept: its new count is this
-pub named_slot : (named : Identity → Bool) (trace : List SlotNote) (note : SlotNote) (f : FrameParts) (nth : ℕ) (old new : Attempts) → length trace + 1 < 2 ^ 64 → note.frame ≡ Some f → AreAttempts named trace old
-    → IsRaised (identity_of f) old.counts new.counts → Some nth ≡ option_map raised (get name_cmp old.counts (frame_name (identity_of f)))
+-- of a frame that is kept: its count was this, and is raised
+pub named_slot : (named : Identity → Bool) (trace : List SlotNote) (note : SlotNote) (f : FrameParts) (before nth : ℕ) (old new : Attempts) → length trace + 1 < 2 ^ 64 → note.frame ≡ Some f → AreAttempts named trace old
+    → Some before ≡ get name_cmp old.counts (frame_name (identity_of f)) → nth ≡ raised before
+    → ((q : FrameName) → get name_cmp new.counts q ≡ (if is_at (name_cmp (frame_name (identity_of f))) q then Some nth else get name_cmp old.counts q))
     → ((q : Attempt) → get attempt_cmp new.slots q ≡ (if is_at (attempt_cmp (attempt_of (identity_of f) nth)) q then Some note.slot else get attempt_cmp old.slots q))
     → AreAttempts named (note ∷ trace) new
-named_slot named trace note f nth old new short e are raise some updates = grown named trace note old new are counts slots
+named_slot named trace note f before nth old new short e are found raise counted placed = grown named trace note old new are counts slots
   where
     y : Identity
     y = identity_of f
 
-    few : (x : Identity) → raised (attempts x trace) ≡ attempts x trace + 1
-    few x = raised_once (attempts x trace) (omega (arith, short, count_by-le-length (carried (is_of x)) trace))
-
-    counts : (x : Identity) → named x ≡ true → count_of new.counts.entries x ≡ (if carried (is_of x) note then Some (attempts x trace + 1) else count_of old.counts.entries x)
-    counts x h = raise (frame_name x) ∙ rw (name_test y x, same_turned y x, carries x note f e) (elim (cases_Bool (same_identity x y)) [
-      | inl here ↦ rw here (ap (option_map raised) (are.counted x h) ∙ ap (λ n. Some n) (few x))
-      | inr other ↦ rw other refl
-    ])
-
     number : (x : Identity) → named x ≡ true → same_identity x y ≡ true → nth ≡ attempts x trace + 1
     number x h here =
         let is : x ≡ y = same_identity-true x y here in
-        let same : Some nth ≡ Some (attempts x trace + 1) =
-        some ∙ ap (λ z. option_map raised (count_of old.counts.entries z)) (sym is) ∙ ap (option_map raised) (are.counted x h) ∙ ap (λ n. Some n) (few x) in
-        cc
+        let same : Some before ≡ Some (attempts x trace) = found ∙ ap (count_of old.counts.entries) (sym is) ∙ are.counted x h in
+        let count : before ≡ attempts x trace = cc in
+        raise ∙ ap raised count ∙ raised_once (attempts x trace) (omega (arith, short, count_by-le-length (carried (is_of x)) trace))
+
+    counts : (x : Identity) → named x ≡ true → count_of new.counts.entries x ≡ (if carried (is_of x) note then Some (attempts x trace + 1) else count_of old.counts.entries x)
+    counts x h = counted (frame_name x) ∙ rw (name_test y x, same_turned y x, carries x note f e) (elim (cases_Bool (same_identity x y)) [
+      | inl here ↦ rw here (ap (λ n. Some n) (number x h here))
+      | inr other ↦ rw other refl
+    ])
 
     slots : (x : Identity) → named x ≡ true → (k : ℕ) → slot_of new.slots.entries x k ≡ (if carried (is_of x) note && attempts x trace + 1 == k then Some note.slot else slot_of old.slots.entries x k)
-    slots x h k = updates (attempt_of x k) ∙ rw (attempt_test y x nth k, same_turned y x, carries x note f e) (elim (cases_Bool (same_identity x y)) [
+    slots x h k = placed (attempt_of x k) ∙ rw (attempt_test y x nth k, same_turned y x, carries x note f e) (elim (cases_Bool (same_identity x y)) [
       | inl here ↦ rw (here, number x h here) refl
       | inr other ↦ rw other refl
     ])

@@ -3,8 +3,10 @@ use Rattle.std.proofs.Common.{◌≡◌, ℕ, zero, suc, ◌+◌, ◌<◌, ◌�
 use Rattle.std.specs.Prelude.{if◌then◌else◌, is_some, nat_le, slice_get, Option, Some, None}
 use Rattle.std.specs.List.{list_any}
 use Rattle.std.specs.Option.{option_map_or, option_or}
+use Rattle.std.proofs.Math.Bool.{or-false, or-true}
 use Rattle.std.proofs.lemmas.Bool.{and_parts, cases_Bool, cases_eq, eq-eqb, false≢true, ne_eqb}
 use Rattle.std.proofs.lemmas.List.{get_or-set_other, get_or-set_same}
+use Rattle.std.proofs.lemmas.List.Folds.{list_any-append}
 use Rattle.std.proofs.lemmas.Option.{slice_get_within}
 use Rattle.cany_base.specs.declared.log_entry.LogEntry.{LogEntry}
 use Rattle.cany_base.specs.declared.log_entry.LogEntry.TheVariants.{Deliver, Failed, View}
@@ -27,24 +29,7 @@ use Rattle.cany_check.proofs.NumberedFacts.{one_place}
 -- ---- tests over lists
 
 any_push : {X : Type 0} (t : X → Bool) (xs : List X) (y : X) → list_any t (xs ++ y ∷ []) ≡ (list_any t xs || t y)
-any_push t [] y = or_no (t y)
-  where
-    or_no : (b : Bool) → (b || false) ≡ b
-    or_no true = refl
-    or_no false = refl
-any_push t (x ∷ xs) y = ap (λ b. t x || b) (any_push t xs y) ∙ or_three (t x) (list_any t xs) (t y)
-  where
-    or_three : (a b c : Bool) → (a || (b || c)) ≡ ((a || b) || c)
-    or_three true b c = refl
-    or_three false b c = refl
-
-or_false : (b : Bool) → (b || false) ≡ b
-or_false true = refl
-or_false false = refl
-
-or_true : (b : Bool) → (b || true) ≡ true
-or_true true = refl
-or_true false = refl
+any_push t xs y = list_any-append t xs (y ∷ []) ∙ ap (λ b. list_any t xs || b) (or-false (t y))
 
 none_at : {X : Type 0} (t : X → Bool) (xs : List X) → ((j : ℕ) (x : X) → slice_get xs j ≡ Some x → t x ≡ false) → list_any t xs ≡ false
 none_at t [] h = refl
@@ -57,7 +42,7 @@ one_at t [] k x at h = absurd (cc)
 one_at t (y ∷ xs) zero x at h =
     let here : y ≡ x = cc in
     let rest : list_any t xs ≡ false = none_at t xs (λ j z e. h (suc j) z e (λ same. absurd (omega (arith, same)))) in
-    rw rest (or_false (t y)) ∙ ap t here
+    rw rest (or-false (t y)) ∙ ap t here
 one_at t (y ∷ xs) (suc k) x at h =
     let first : t y ≡ false = h 0 y refl (λ same. absurd (omega (arith, same))) in
     rw first (one_at t xs k x at (λ j z e other. h (suc j) z e (λ same. other (omega (arith, same)))))
@@ -100,7 +85,7 @@ module _ (messages : List MessageRecord) (numbered : AreNumbered messages) (numb
       let not_sent : list_any (was_sent_by_then entry) messages ≡ false =
       none_at (was_sent_by_then entry) messages
       (λ j m at. not_delivered m entry msg is (none_passes (λ (x : MessageRecord). same_key x.key msg) messages none j m at)) in
-      sym (ap (λ b. list_any (delivers_key msg) earlier || not b) not_sent ∙ or_true (list_any (delivers_key msg) earlier))
+      sym (ap (λ b. list_any (delivers_key msg) earlier || not b) not_sent ∙ or-true (list_any (delivers_key msg) earlier))
 
   module _ (k : ℕ) (m : MessageRecord) (found : place_of msg messages ≡ Some k) (at : slice_get messages k ≡ Some m) where
     key : m.key ≡ msg
@@ -139,10 +124,10 @@ module _ (messages : List MessageRecord) (numbered : AreNumbered messages) (numb
               let same : x ≡ m = cc in
               let mine : delivers_key x.key entry ≡ true = ap (λ (y : MessageRecord). delivers_key y.key entry) same ∙ ap (λ y. delivers_key y entry) key ∙ is in
               ap (λ n. get_or (set marks k number) n 0 == number) here ∙ ap (λ n. n == number) (get_or-set_same marks k number 0 within)
-              ∙ eq-eqb number number refl ∙ sym (or_true (list_any (delivers_key x.key) earlier)) ∙ ap (λ b. list_any (delivers_key x.key) earlier || b) (sym mine)
+              ∙ eq-eqb number number refl ∙ sym (or-true (list_any (delivers_key x.key) earlier)) ∙ ap (λ b. list_any (delivers_key x.key) earlier || b) (sym mine)
               ∙ sym (any_push (delivers_key x.key) earlier entry)
           | inr other ↦
-              ap (λ n. n == number) (get_or-set_other marks k j number 0 other) ∙ marked.exact j x at_j ∙ sym (or_false (list_any (delivers_key x.key) earlier))
+              ap (λ n. n == number) (get_or-set_other marks k j number 0 other) ∙ marked.exact j x at_j ∙ sym (or-false (list_any (delivers_key x.key) earlier))
               ∙ ap (λ b. list_any (delivers_key x.key) earlier || b) (sym (not_mine j x at_j other)) ∙ sym (any_push (delivers_key x.key) earlier entry)
         ]
           where
@@ -167,7 +152,7 @@ pub marked_still : (messages : List MessageRecord) (number : ℕ) (entry : LogEn
 marked_still messages number entry none earlier marks marked = record {
   count = marked.count;
   exact = λ k m at.
-      marked.exact k m at ∙ sym (or_false (list_any (delivers_key m.key) earlier)) ∙ ap (λ b. list_any (delivers_key m.key) earlier || b) (sym (none m.key))
+      marked.exact k m at ∙ sym (or-false (list_any (delivers_key m.key) earlier)) ∙ ap (λ b. list_any (delivers_key m.key) earlier || b) (sym (none m.key))
       ∙ sym (any_push (delivers_key m.key) earlier entry);
   most = marked.most;
 }

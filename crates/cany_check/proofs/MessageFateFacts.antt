@@ -1,11 +1,11 @@
 -- The messages of an account: of which one an entry tells, and what is told of each.
 use Rattle.std.proofs.Common.{◌≡◌, ℕ, ◌<◌, ◌==◌, ◌&&◌, Bool, true, false, not, List, length, filter, refl, ap, sym, subst, ◌∙◌, inl, inr}
-use Rattle.std.specs.Prelude.{slice_get, Option, None, Some, IfSome}
+use Rattle.std.specs.Prelude.{slice_get, slice_index_or, Option, None, Some, IfSome}
 use Rattle.std.specs.List.{list_any}
 use Rattle.std.specs.Option.{option_map_or}
 use Rattle.std.specs.Str.{bytes_eq}
 use Rattle.std.proofs.lemmas.Bool.{and_parts, cases_Bool, cases_eq, eq-eqb, false≢true, ne_eqb}
-use Rattle.std.proofs.lemmas.Option.{none-some, slice_get_within}
+use Rattle.std.proofs.lemmas.Option.{none-some, slice_get_read, slice_get_within}
 use Rattle.cany_base.specs.declared.log_entry.LogEntry.{LogEntry}
 use Rattle.cany_base.specs.declared.log_entry.LogEntry.TheVariants.{Deliver, Failed, View}
 use Rattle.cany_base.specs.Nodes.{Nodes, has, minus}
@@ -24,10 +24,16 @@ use Rattle.cany_check.proofs.PlacesFacts.{place_is, place_within}
 
 -- ---- of which message an entry tells
 
-pub named_within : (ms : List MessageRecord) (e : LogEntry) (place : ℕ) → place_named ms e ≡ Some place → place < length ms
+named_within : (ms : List MessageRecord) (e : LogEntry) (place : ℕ) → place_named ms e ≡ Some place → place < length ms
 named_within ms (Deliver slot service msg payload) place named = subst (λ o. IfSome o (λ p. p < length ms)) named (place_within msg ms)
 named_within ms (Failed slot node cycle) place named = absurd (none-some place named)
 named_within ms (View slot number members) place named = absurd (none-some place named)
+
+-- what stands at the place that an entry names, where it was read from a list that is this one
+pub named_at : (ms list : List MessageRecord) (e : LogEntry) (place : ℕ) (m : MessageRecord) → list ≡ ms → place_named ms e ≡ Some place → m ≡ slice_index_or list place m
+    → slice_get ms place ≡ Some m
+named_at ms list e place m is named read =
+    slice_get_read ms (length ms) place m refl (named_within ms e place named) (subst (λ (l : List MessageRecord). m ≡ slice_index_or l place m) is read)
 
 module _ (ms : List MessageRecord) (numbered : AreNumbered ms) where
   delivered_at : (e : LogEntry) (k : ℕ) (m : MessageRecord) → slice_get ms k ≡ Some m → is_delivery m e ≡ true → place_named ms e ≡ Some k

@@ -38,16 +38,14 @@ use Rattle.cany_check.specs.declared.record.MessageRecord.{MessageRecord}
 use Rattle.cany_check.specs.declared.record.Slots.{Slots}
 use Rattle.cany_check.specs.declared.findings.Delivery.{Delivery}
 use Rattle.cany_check.specs.Account.{AccountParts, LogParts, account_of, first_and_last, last_carried, message_record, slots_of}
-use Rattle.cany_check.specs.OneOrder.{deliveries, deliveries_from, delivery_in, difference, is_carried_from, one_later, parting, parting_of}
+use Rattle.cany_check.specs.OneOrder.{deliveries, deliveries_from, delivery_in, difference, is_carried_from, parting, parting_of}
 use Rattle.cany_check.specs.Words.{same_key}
 use Rattle.cany_check.proofs.CorrectLogs.{IsLogOfCorrect, each_correct, log_at, unread_fits}
+use Rattle.cany_check.proofs.Clashes.{difference_none, keys}
+use Rattle.cany_check.proofs.Decided.{same_key-true}
 use Rattle.cany_check.proofs.PartingFacts.{none_of_all}
-use Rattle.cany_check.proofs.Decided.{same_key-self, same_key-true}
 
 -- ---- keys
-
-abbrev keys : List Delivery → List MsgKey
-keys ds = map (λ (d : Delivery). d.msg) ds
 
 abbrev content_keys : List Content → List MsgKey
 content_keys contents = map (λ (c : Content). c.msg) contents
@@ -70,17 +68,6 @@ keys_where test (d ∷ ds) = elim (cases_Bool (test d.msg)) [
   | inl passes ↦ rw passes (ap (λ rest. d.msg ∷ rest) (keys_where test ds))
   | inr fails ↦ rw fails (keys_where test ds)
 ]
-
--- two beginnings of one list do not differ
-pub difference_none : (xs ys : List Delivery) (all p q : List MsgKey) → keys xs ++ p ≡ all → keys ys ++ q ≡ all → difference xs ys ≡ None
-unfolding difference
-difference_none [] ys all p q e f = refl
-difference_none (x ∷ xs) [] all p q e f = refl
-difference_none (x ∷ xs) (y ∷ ys) all p q e f =
-    let both : x.msg ∷ (keys xs ++ p) ≡ y.msg ∷ (keys ys ++ q) = e ∙ sym f in
-    let here : x.msg ≡ y.msg = cc in
-    let later : keys xs ++ p ≡ keys ys ++ q = cc in
-    rw (same_key-self x.msg y.msg here) (ap (option_map one_later) (difference_none xs ys (keys ys ++ q) p q later refl))
 
 -- ---- the order from a later slot on
 

@@ -1,7 +1,7 @@
 -- What is found of the entries of a list, one after another, and all of it.
-use Rattle.std.proofs.Common.{◌≡◌, ℕ, ◌+◌, ◌<◌, Bool, true, false, List, [], ◌∷◌, ◌++◌, Option, Some, None, length, get_or, map, take, refl, ap, sym, ◌∙◌, arith, append_assoc}
+use Rattle.std.proofs.Common.{◌≡◌, ℕ, ◌+◌, ◌<◌, ◌≤◌, Bool, true, false, List, [], ◌∷◌, ◌++◌, Option, Some, None, length, get_or, map, take, refl, ap, sym, ◌∙◌, arith, append_assoc}
 use Rattle.std.specs.Prelude.{if◌then◌else◌, option_map}
-use Rattle.std.proofs.lemmas.List.{append-nil, map-append, length-take-le, take_more}
+use Rattle.std.proofs.lemmas.List.{append-nil, map-append, length-take-le, take_all, take_more}
 use Rattle.cany_check.specs.declared.unused_entry.Unused.{Unused}
 use Rattle.cany_check.specs.declared.unused_entry.UnusedEntry.{UnusedEntry}
 use Rattle.cany_check.specs.Unused.{as_list, with_places}
@@ -31,6 +31,10 @@ module _ {X Y : Type 0} (f : X → List Y) (g : Y → UnusedEntry) where
       ∙ ap (λ n. old ++ (with_places f g 0 (take i xs) ++ map (at_place n) (f x))) (omega (arith, length-take-le i xs (omega (arith, below))))
       ∙ ap (λ l. old ++ l) (sym (one_more 0 (take i xs) x))
       ∙ ap (λ l. old ++ with_places f g 0 l) (sym here)
+
+  -- of all entries, where the list is that of the scenario
+  pub all_found : (xs all : List X) (i : ℕ) (old found : List Unused) → length xs ≤ i → xs ≡ all → found ≡ old ++ with_places f g 0 (take i xs) → found ≡ old ++ with_places f g 0 all
+  all_found xs all i old found past is so = so ∙ ap (λ l. old ++ with_places f g 0 l) (take_all i xs past ∙ is)
 
   pub none_found : (old : List Unused) → old ≡ old ++ with_places f g 0 []
   unfolding with_places

@@ -1,15 +1,12 @@
 //! The attempts to carry the frames that entries of a scenario name.
-ghost use Rattle.std.specs.Prelude.{◌≡◌, ◌∷◌, ◌||◌, ◌<◌, ◌+◌, ◌^◌, [], ℕ, Bool, true, List, All, IfOk, OnOk, length, option_map, if◌then◌else◌};
-ghost use Rattle.std.specs.BTreeMap.{get};
-ghost use Rattle.std.specs.Ordering.{is_eq};
+ghost use Rattle.std.specs.Prelude.{◌≡◌, ◌∷◌, ◌||◌, ◌<◌, ◌+◌, ◌^◌, [], ℕ, Bool, true, List, All, IfOk, OnOk, length};
 ghost use Rattle.cany_base.specs.declared.slot_note.SlotNote.{SlotNote as AnyNote};
 ghost use Rattle.cany_base.specs.Cycles.{cycle_of};
 ghost use Rattle.cany_base.specs.Limits.{most_numbers};
 ghost use Rattle.cany_model.specs.Bus.Frames.{Identity};
 ghost use Rattle.cany_model.specs.Bus.Slot.{attempts};
-ghost use Rattle.cany_check.specs.declared.frame_name.FrameName.{FrameName as AnyName};
-ghost use Rattle.cany_check.specs.Attempts.{AreAttempts, AreAttemptsOf, AreZero, asked_frame, is_asked, is_named, is_ruled, raised};
-ghost use Rattle.cany_check.specs.FrameNames.{frame_name, name_cmp};
+ghost use Rattle.cany_check.specs.Attempts.{AreAttempts, AreAttemptsOf, AreZero, asked_frame, is_asked, is_named, is_ruled};
+ghost use Rattle.cany_check.specs.FrameNames.{frame_name};
 ghost use Rattle.cany_check.specs.Unused.{attempt_slot};
 
 use crate::frame_name::{Attempt, FrameName};
@@ -52,9 +49,11 @@ impl Attempts {
             return Ok(());
         };
         let name = FrameName::of(&frame);
-        let Some(nth) = raise(&mut self.counts, &name) else {
+        let Some(before) = self.counts.get(&name).copied() else {
             return Ok(());
         };
+        let nth = before.saturating_add(1);
+        self.counts.insert(name, nth)?;
         self.slots.insert(Attempt { name, nth }, note.slot)?;
         Ok(())
     }
@@ -82,17 +81,6 @@ impl Attempts {
     {
         self.slot(name, self.count(name))
     }
-}
-
-/// Raises the count of a frame by one, where there is one, and gives it.
-fn raise(counts: &mut BTreeMap<FrameName, u64>, name: &FrameName) -> Option<u64>
-    ensures answer { result ≡ option_map raised (get name_cmp counts.old name.now) }
-    ensures raised { (other : AnyName) → get name_cmp counts.new other
-        ≡ (if is_eq (name_cmp name.now other) then option_map raised (get name_cmp counts.old other) else get name_cmp counts.old other) }
-{
-    let count = counts.get_mut(name)?;
-    *count = count.saturating_add(1);
-    Some(*count)
 }
 
 /// The count 0 for each frame that a rule, a join or a leave names.

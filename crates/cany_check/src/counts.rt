@@ -1,6 +1,5 @@
 //! What the head of a verdict counts.
 ghost use Rattle.std.specs.Prelude.{◌≡◌, count_by, length, map};
-ghost use Rattle.cany_model.specs.Rules.Messages.{is_service};
 ghost use Rattle.cany_check.specs.AccountFields.{log_parts};
 ghost use Rattle.cany_check.specs.Counts as counted;
 ghost use Rattle.cany_check.specs.Counts.{counts_of, fate_count, lengths_of, running_counts};
@@ -9,6 +8,7 @@ ghost use Rattle.cany_check.specs.OneOrder.{deliveries};
 ghost use Rattle.cany_check.specs.Verdict.{fates_of_service};
 
 use crate::account::Account;
+use crate::entries::is_service;
 use crate::findings::{Fate, Told};
 use crate::record::LogRecord;
 use cany_base::{LogEntry, Service};
@@ -33,13 +33,6 @@ fn is_fate(wanted: Fate, fate: Fate) -> bool
     ensures { result ≡ counted.is_fate wanted fate }
 {
     wanted == fate
-}
-
-#[tactic(auto, unfolding(cany_model::specs::Rules::Messages::is_service, cany_model::specs::Bus::Frames::same_class))]
-fn is_service(service: Service, by: Service) -> bool
-    ensures { result ≡ is_service service by }
-{
-    service == by
 }
 
 /// How many messages of the service have this fate.

@@ -8,32 +8,14 @@ ghost use Rattle.cany_check.specs.AccountFields.{log_parts};
 ghost use Rattle.cany_check.specs.Integrity as integrity;
 ghost use Rattle.cany_check.specs.Marks.{AreBelow, AreMarked};
 ghost use Rattle.cany_check.specs.Places.{AreNumbered};
-ghost use Rattle.cany_check.specs.Words.{is_delivery};
 
 use crate::account::Account;
-use crate::entries::entry_slot;
+use crate::entries::{entry_slot, is_delivery};
 use crate::findings::EntryAt;
 use crate::places::{Places, places_of};
 use crate::record::{LogRecord, MessageRecord};
 use cany_base::{LogEntry, Memory, MsgKey, Slot};
 use std::alloc::Global;
-
-/// Whether the entry delivers the message.
-#[tactic(auto, unfolding(cany_model::specs::Rules::Messages::is_service, cany_model::specs::Bus::Frames::same_class))]
-fn is_delivery(message: &MessageRecord, entry: &LogEntry) -> bool
-    ensures { result ≡ is_delivery message.now entry.now }
-{
-    match entry {
-        LogEntry::Deliver {
-            service,
-            msg,
-            payload,
-            ..
-        } => message.key == *msg && message.service == *service && message.payload == *payload,
-        LogEntry::Failed { .. } => false,
-        LogEntry::View { .. } => false,
-    }
-}
 
 /// Whether the message is what the entry delivers, and was sent by then.
 fn was_sent_by_then(message: &MessageRecord, entry: &LogEntry) -> bool

@@ -1,50 +1,19 @@
 //! What became of the messages of an account.
-ghost use Rattle.std.specs.Prelude.{◌≡◌, ◌&&◌, ℕ, Bool, Option, Some, map, IfOk};
-ghost use Rattle.std.specs.Str.{bytes_eq};
-ghost use Rattle.cany_model.specs.Rules.Messages.{is_service};
+ghost use Rattle.std.specs.Prelude.{◌≡◌, ℕ, Bool, Option, Some, map, IfOk};
 ghost use Rattle.cany_check.specs.Fates.{fate_by, message_fates, message_told};
 ghost use Rattle.cany_check.specs.Holders.{holders_in};
 ghost use Rattle.cany_check.specs.MessageSubjects.{place_named};
-ghost use Rattle.cany_check.specs.Words.{is_delivery, is_nobody, is_settled, same_key, since};
+ghost use Rattle.cany_check.specs.Words.{is_delivery, is_nobody, is_settled, since};
 
 use crate::account::Account;
+use crate::entries::is_delivery;
 use crate::findings::{Fate, Told};
 use crate::holders::{Holders, Subjects, counting, holders_of};
 use crate::places::{Places, places_of};
 use crate::record::MessageRecord;
 use crate::sets::is_nobody;
-use cany_base::{LogEntry, Memory, MsgKey, NodeSet, Payload, Service, Slot};
+use cany_base::{LogEntry, Memory, NodeSet, Slot};
 use std::alloc::Global;
-
-#[tactic(auto, unfolding(cany_model::specs::Rules::Messages::is_service, cany_model::specs::Bus::Frames::same_class))]
-fn same_service(a: Service, b: Service) -> bool
-    ensures { result ≡ is_service a b }
-{
-    a == b
-}
-
-/// Whether these are the service, the key and the payload of the message.
-fn is_message(message: &MessageRecord, service: Service, key: MsgKey, payload: Payload) -> bool
-    ensures { result ≡ (same_key message.now.key key && is_service message.now.service service && bytes_eq message.now.payload payload) }
-{
-    message.key == key && same_service(message.service, service) && message.payload == payload
-}
-
-/// Whether the entry delivers the message.
-fn is_delivery(message: &MessageRecord, entry: &LogEntry) -> bool
-    ensures { result ≡ is_delivery message.now entry.now }
-{
-    match entry {
-        LogEntry::Deliver {
-            service,
-            msg,
-            payload,
-            ..
-        } => is_message(message, *service, *msg, *payload),
-        LogEntry::Failed { .. } => false,
-        LogEntry::View { .. } => false,
-    }
-}
 
 /// The first slot that carried its data frame, or else its scripted slot.
 fn since(message: &MessageRecord) -> Slot

@@ -3,8 +3,6 @@
 //! One list of reference is enough: the nodes are compared with it in the order in which they came
 //! to take part, and what a node has beyond it is appended.
 ghost use Rattle.std.specs.Prelude.{◌≡◌, ◌≤◌, [], ◌∷◌, drop, length, map, nat_le, option_map, slice_get, true, IfOk, List, None, Some};
-ghost use Rattle.cany_base.specs.declared.message.Service.TheVariants.{Tot};
-ghost use Rattle.cany_model.specs.Rules.Messages.{is_service};
 ghost use Rattle.cany_check.specs.declared.findings.Parting.{Parting as AnyParting};
 ghost use Rattle.cany_check.specs.declared.order.Item.{Item as AnyItem};
 ghost use Rattle.cany_check.specs.Account.{LogParts};
@@ -17,6 +15,7 @@ ghost use Rattle.cany_check.specs.Reference.{clash, cut, first_clash, first_slot
 ghost use Rattle.cany_check.specs.Words.{same_key};
 
 use crate::account::Account;
+use crate::entries::is_service;
 use crate::findings::{Delivery, Parting};
 use crate::node_order::by_from;
 use crate::places::{Places, places_of};
@@ -40,17 +39,6 @@ struct Cursor {
     next: usize,
     /// How many items were compared.
     place: usize,
-}
-
-/// Whether TOTCAN carries the messages of the service.
-#[tactic(auto, unfolding(cany_model::specs::Rules::Messages::is_service, cany_model::specs::Bus::Frames::same_class))]
-fn is_tot(service: Service) -> bool
-    ensures { result ≡ is_service service Tot }
-{
-    match service {
-        Service::Tot => true,
-        Service::Ed | Service::Rel => false,
-    }
 }
 
 /// The first slot that carried the message of this key, if there is one.
@@ -80,7 +68,7 @@ fn item_in(
             msg,
             ..
         } => {
-            if !is_tot(*service) {
+            if !is_service(*service, Service::Tot) {
                 return None;
             }
             let carried = first_slot(messages, places, msg)?;

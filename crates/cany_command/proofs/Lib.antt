@@ -1,3 +1,4 @@
+pub mod ExitFacts
 pub mod NumberFacts
 pub mod PerformingFacts
 pub mod RefusedFacts

@@ -155,8 +155,9 @@ pub fn perform<C: Command, S: Source, K: Sink>(
         Ok(text) => text,
         Err(status) => return status,
     };
+    // Each arm returns by itself, so that each is a goal of its own.
     match perform_text(alloc, command, &plan, text, sink) {
-        Ok(status) => status,
-        Err(status) => status,
+        Ok(status) => return status,
+        Err(status) => return status,
     }
 }

@@ -1,5 +1,5 @@
 -- Fields and lines that are put before what is there.
-use Rattle.std.proofs.Common.{◌≡◌, ℕ, List, [], ◌∷◌, ◌++◌, refl, sym, ◌∙◌, ap, append_assoc, append-nil}
+use Rattle.std.proofs.Common.{◌≡◌, ℕ, List, [], ◌∷◌, ◌++◌, ◌+◌, ◌≤◌, length, refl, sym, ◌∙◌, ap, append_assoc, append-nil, arith}
 use Rattle.std.specs.List.{join_with_byte}
 use Rattle.cany_log.specs.Fields.{spaced}
 use Rattle.cany_text.specs.ReportLines.{line_of}
@@ -56,3 +56,10 @@ last_fields fields after row row' h put = record { text = put ∙ spaced_before 
 pub word_put : (word : List ℕ) (fields : List (List ℕ)) (after row row' : List ℕ) → HasFieldsBefore fields (10 ∷ after) row → row' ≡ word ++ row
     → row' ≡ line_of (word ∷ fields) ++ after
 word_put word fields after row row' h put = put ∙ ap (λ r. word ++ r) h.text ∙ sym (line_before word fields after)
+
+-- a piece of one field
+pub one_spaced : (field row row' : List ℕ) → row' ≡ (32 ∷ field) ++ row → row' ≡ spaced (field ∷ []) ++ row
+one_spaced field row row' put = put ∙ ap (λ r. 32 ∷ (r ++ row)) (sym (append-nil field))
+
+pub one_short : (field : List ℕ) (most : ℕ) → length field ≤ most → length (spaced (field ∷ [])) ≤ 1 + most
+one_short field most h = omega (arith, h, ap length (append-nil field))

@@ -1,5 +1,5 @@
 -- The pieces that the code makes lines of.
-use Rattle.std.specs.Prelude.{ℕ, ◌+◌, List, [], ◌∷◌, Option, Some, None, if◌then◌else◌, length, decimal}
+use Rattle.std.specs.Prelude.{ℕ, ◌+◌, List, [], ◌∷◌, Option, Some, None, if◌then◌else◌, length, codes, decimal}
 use Rattle.std.specs.List.{flat_map}
 use Rattle.cany_base.specs.Nodes.{Nodes}
 use Rattle.cany_log.specs.declared.field.Field.{Field}
@@ -28,6 +28,11 @@ texts_of (Bytes payload) = payload_text payload ∷ []
 texts_of (Set nodes) = set_text nodes ∷ []
 texts_of (NumberIfAny word n) = number_if_any word.now n
 texts_of (SetIfAny word nodes) = set_if_any word.now nodes
+
+-- the fields of an incarnation that tell whether it stopped, and in which slot
+abbrev pub stop_texts : Option ℕ → List (List ℕ)
+stop_texts None = codes "correct" ∷ []
+stop_texts (Some slot) = codes "stopped" ∷ decimal slot ∷ []
 
 -- fields, each with a space before it
 abbrev pub spaced : List (List ℕ) → List ℕ

@@ -12,7 +12,7 @@ use cany_world::World;
 ///
 /// No contract says how many entries a log has at most, so there is room for the longest slices, of
 /// every incarnation of every node.
-#[derive(Clone, Copy, Debug, PartialEq, Eq)]
+#[derive(Clone, Copy)]
 pub(crate) struct EntryCounts {
     pub(crate) deliveries: u128,
     pub(crate) failures: u128,

@@ -36,22 +36,27 @@ fn write_refused_step<K: Sink>(place: u64, reply: &StepReply, sink: &mut K) -> R
     match *reply {
         // No step that is done is refused.
         StepReply::Done => write_line(STEP, &[Field::Number(place)], sink),
-        StepReply::Lagging { node, unread } => write_line(
-            STEP,
-            &[
-                Field::Number(place),
-                Field::Text("lagging node"),
-                Field::Number(u64::from(node.get())),
-                Field::Text("unread"),
-                Field::Number(u64::from(unread)),
-            ],
-            sink,
-        ),
+        StepReply::Lagging { node, unread } => write_lagging(place, node, unread, sink),
         StepReply::Over { slots } => write_cause(place, "over slots", slots, sink),
         StepReply::NothingYet { now } => write_cause(place, "nothing yet now", now, sink),
         StepReply::Stopped { slot } => write_cause(place, "stopped slot", slot, sink),
         StepReply::NoNode { node } => write_cause(place, "no node", u64::from(node.get()), sink),
     }
+}
+
+/// Writes the line of a journal whose step at this place is a slot that cannot run yet.
+fn write_lagging<K: Sink>(place: u64, node: NodeId, unread: u32, sink: &mut K) -> Result<(), Failed>
+    ensures { IsWritten (line_of (codes "refused journal step" ∷ decimal place ∷ codes "lagging node" ∷ decimal node ∷ codes "unread" ∷ decimal unread ∷ [])) result
+        (K.taken sink.old) (K.taken sink.new) (K.faults sink.old) (K.faults sink.new) }
+{
+    let fields = [
+        Field::Number(place),
+        Field::Text("lagging node"),
+        Field::Number(u64::from(node.get())),
+        Field::Text("unread"),
+        Field::Number(u64::from(unread)),
+    ];
+    write_line(STEP, &fields, sink)
 }
 
 /// Writes the line of a journal whose step at this place is refused for a cause of some words and a

@@ -4,6 +4,7 @@ ghost use Rattle.std.specs.List.{concat, flat_map, range_with_len};
 ghost use Rattle.cany_model.specs.Bus.State.{node_at};
 ghost use Rattle.cany_text.specs.Report.{incarnation_lines, node_lines};
 ghost use Rattle.cany_text.specs.ReportLines.{node_line};
+ghost use Rattle.cany_log.specs.Fields.{most_bytes, stop_texts, texts_of};
 ghost use Rattle.cany_log.specs.Written.{IsWritten};
 ghost use Rattle.cany_world.specs.World.{state_of};
 
@@ -11,7 +12,7 @@ use crate::entries::write_entries;
 use crate::field::Field;
 use crate::line::write_line;
 use crate::page::Page;
-use cany_base::NodeId;
+use cany_base::{NodeId, Slot};
 use cany_io::{Failed, Sink};
 use cany_model::Span;
 use cany_world::World;
@@ -21,6 +22,17 @@ fn if_later(inc: u8, number: u64) -> Option<u64>
     ensures { result ≡ (if inc == 0 then None else Some number) }
 {
     if inc > 0 { Some(number) } else { None }
+}
+
+/// Whether an incarnation stopped, and in which slot.
+fn stop_field(stopped: Option<Slot>) -> Field
+    ensures texts { texts_of result ≡ stop_texts stopped }
+    ensures short { most_bytes result ≤ 30 }
+{
+    match stopped {
+        None => Field::Text("correct"),
+        Some(slot) => Field::NumberIfAny("stopped", Some(slot)),
+    }
 }
 
 /// Writes the line of an incarnation of a node: since when it runs, where it is not the first;
@@ -39,24 +51,12 @@ pub(crate) fn write_node_line<K: Sink>(
     let since = Field::NumberIfAny("since", if_later(inc, span.since));
     let word = Field::Text("read");
     let read = Field::Number(span.read);
-    match span.stopped {
-        None => {
-            let correct = Field::Text("correct");
-            write_line(
-                "node",
-                &[number, incarnation, since, correct, word, read],
-                sink,
-            )
-        }
-        Some(slot) => {
-            let stopped = Field::NumberIfAny("stopped", Some(slot));
-            write_line(
-                "node",
-                &[number, incarnation, since, stopped, word, read],
-                sink,
-            )
-        }
-    }
+    let stopped = stop_field(span.stopped);
+    write_line(
+        "node",
+        &[number, incarnation, since, stopped, word, read],
+        sink,
+    )
 }
 
 /// Writes an incarnation of a node and its log.

@@ -10,7 +10,7 @@ use cany_model::FollowFault;
 use cany_text::ScenarioFault;
 
 /// Why there is no report of a text.
-#[derive(Clone, Copy, Debug, PartialEq, Eq)]
+#[derive(Clone, Copy)]
 pub enum Refusal {
     /// It is no scenario.
     Scenario(ScenarioFault),

@@ -8,6 +8,7 @@ ghost use Rattle.cany_log.specs.Written.{IsWritten};
 
 use crate::field::Field;
 use crate::line::write_line;
+use cany_base::ParamName;
 use cany_io::{Failed, Sink};
 use cany_text::names::{key_name, param_name, table_name};
 use cany_text::{KeyName, ScenarioFault, TableName};
@@ -22,8 +23,8 @@ pub(crate) fn write_scenario_refusal<K: Sink>(
         (K.taken sink.old) (K.taken sink.new) (K.faults sink.old) (K.faults sink.new) }
 {
     match *fault {
-        ScenarioFault::NotText => write_line("refused not utf-8", &[], sink),
-        ScenarioFault::NotToml => write_line("refused not toml", &[], sink),
+        ScenarioFault::NotText => write_words("refused not utf-8", sink),
+        ScenarioFault::NotToml => write_words("refused not toml", sink),
         ScenarioFault::UnknownKey { table, place } => write_unknown_key(table, place, sink),
         ScenarioFault::MissingKey { table, place, name } => write_of_key(
             "refused missing key",
@@ -45,22 +46,42 @@ pub(crate) fn write_scenario_refusal<K: Sink>(
             name,
             value,
         } => write_out_of_range(table, place, name, value, sink),
-        ScenarioFault::TooMany { table } => write_line(
-            "refused too many",
-            &[Field::Text(table_name(table))],
-            sink,
-        ),
+        ScenarioFault::TooMany { table } => write_too_many(table, sink),
         ScenarioFault::BadData { place } => write_at("refused bad data in send", place, sink),
-        ScenarioFault::BoundTooSmall { which, needed } => {
-            let which = Field::Text(param_name(which));
-            let fields = [which, Field::Text("needs"), Field::Number(needed)];
-            write_line("refused bound too small", &fields, sink)
-        }
+        ScenarioFault::BoundTooSmall { which, needed } => write_too_small(which, needed, sink),
         ScenarioFault::RepeatedRule { index } => write_at("refused repeated rule", index, sink),
         ScenarioFault::TooOften { place } => write_at("refused too often in restart", place, sink),
         ScenarioFault::BadJournal { place } => write_at("refused bad journal at", place, sink),
         ScenarioFault::Memory => Ok(()),
     }
+}
+
+/// Writes the line of a fault of the whole text.
+fn write_words<K: Sink>(words: &'static str, sink: &mut K) -> Result<(), Failed>
+    requires { length words.now ≤ 30 }
+    ensures { IsWritten (line_of (words.now ∷ [])) result
+        (K.taken sink.old) (K.taken sink.new) (K.faults sink.old) (K.faults sink.new) }
+{
+    write_line(words, &[], sink)
+}
+
+fn write_too_many<K: Sink>(table: TableName, sink: &mut K) -> Result<(), Failed>
+    ensures { IsWritten (line_of (codes "refused too many" ∷ names.table_name table ∷ [])) result
+        (K.taken sink.old) (K.taken sink.new) (K.faults sink.old) (K.faults sink.new) }
+{
+    write_line("refused too many", &[Field::Text(table_name(table))], sink)
+}
+
+fn write_too_small<K: Sink>(which: ParamName, needed: u64, sink: &mut K) -> Result<(), Failed>
+    ensures { IsWritten (line_of (codes "refused bound too small" ∷ names.param_name which ∷ codes "needs" ∷ decimal needed ∷ [])) result
+        (K.taken sink.old) (K.taken sink.new) (K.faults sink.old) (K.faults sink.new) }
+{
+    let fields = [
+        Field::Text(param_name(which)),
+        Field::Text("needs"),
+        Field::Number(needed),
+    ];
+    write_line("refused bound too small", &fields, sink)
 }
 
 /// Writes the line of a fault that has only a place.

@@ -39,73 +39,13 @@ unfolding asked
 asked_same sc rules i [] = refl
 asked_same sc rules i (notice ∷ before) = rw (asked_same sc rules i before, backlog_same sc rules i (notice ∷ before)) refl
 
--- ---- what it does, protocol by protocol
-
-edcan_same : (sc : ScenarioParts) (rules : List Rule) (i : ℕ) (past : List NoticeKind) → edcan_effects (with_rules sc rules) i past ≡ edcan_effects sc i past
-unfolding edcan_effects
-edcan_same sc rules i [] = refl
-edcan_same sc rules i (notice ∷ before) = refl
-
-relcan_same : (sc : ScenarioParts) (rules : List Rule) (i : ℕ) (past : List NoticeKind) → relcan_effects (with_rules sc rules) i past ≡ relcan_effects sc i past
-unfolding relcan_effects
-relcan_same sc rules i [] = refl
-relcan_same sc rules i (notice ∷ before) = refl
-
-totcan_same : (sc : ScenarioParts) (rules : List Rule) (i : ℕ) (past : List NoticeKind) → totcan_effects (with_rules sc rules) i past ≡ totcan_effects sc i past
-unfolding totcan_effects
-totcan_same sc rules i [] = refl
-totcan_same sc rules i (notice ∷ before) = refl
-
-failure_same : (sc : ScenarioParts) (rules : List Rule) (i : ℕ) (past : List NoticeKind) → failure_effects (with_rules sc rules) i past ≡ failure_effects sc i past
-unfolding failure_effects
-failure_same sc rules i [] = refl
-failure_same sc rules i (notice ∷ before) = rw (knowledge sc rules i before) refl
-
-exchange_same : (sc : ScenarioParts) (rules : List Rule) (i : ℕ) (past : List NoticeKind) → exchange_effects (with_rules sc rules) i past ≡ exchange_effects sc i past
-unfolding exchange_effects
-exchange_same sc rules i [] = refl
-exchange_same sc rules i (notice ∷ before) = rw (knowledge sc rules i before) refl
-
-install_same : (sc : ScenarioParts) (rules : List Rule) (i : ℕ) (past : List NoticeKind) → install_effects (with_rules sc rules) i past ≡ install_effects sc i past
-unfolding install_effects
-install_same sc rules i [] = refl
-install_same sc rules i (notice ∷ before) = rw (knowledge sc rules i before) refl
-
-life_same : (sc : ScenarioParts) (rules : List Rule) (i : ℕ) (past : List NoticeKind) → life_effects (with_rules sc rules) i past ≡ life_effects sc i past
-unfolding life_effects
-life_same sc rules i [] = refl
-life_same sc rules i (notice ∷ before) = rw (knowledge sc rules i (notice ∷ before)) refl
-
-send_same : (sc : ScenarioParts) (rules : List Rule) (i : ℕ) (past : List NoticeKind) → send_effects (with_rules sc rules) i past ≡ send_effects sc i past
-unfolding send_effects
-send_same sc rules i [] = refl
-send_same sc rules i (notice ∷ before) = refl
-
-ask_same : (sc : ScenarioParts) (rules : List Rule) (i : ℕ) (past : List NoticeKind) → ask_effects (with_rules sc rules) i past ≡ ask_effects sc i past
-unfolding ask_effects
-ask_same sc rules i [] = refl
-ask_same sc rules i (notice ∷ before) = rw (knowledge sc rules i (notice ∷ before)) refl
-
-backlog_effects_same : (sc : ScenarioParts) (rules : List Rule) (i : ℕ) (past : List NoticeKind) → backlog_effects (with_rules sc rules) i past ≡ backlog_effects sc i past
-unfolding backlog_effects
-backlog_effects_same sc rules i [] = refl
-backlog_effects_same sc rules i (notice ∷ before) = rw (asked_same sc rules i before, backlog_same sc rules i (notice ∷ before)) refl
+-- ---- what it does, by every protocol
 
 turn_same : (sc : ScenarioParts) (rules : List Rule) (i : ℕ) (past : List NoticeKind) → turn_effects (with_rules sc rules) i past ≡ turn_effects sc i past
-unfolding turn_effects
-turn_same sc rules i past =
-    rw (
-      edcan_same sc rules i past,
-      relcan_same sc rules i past,
-      totcan_same sc rules i past,
-      failure_same sc rules i past,
-      exchange_same sc rules i past,
-      install_same sc rules i past,
-      life_same sc rules i past,
-      send_same sc rules i past,
-      ask_same sc rules i past,
-      backlog_effects_same sc rules i past,
-    ) refl
+unfolding turn_effects edcan_effects relcan_effects totcan_effects failure_effects exchange_effects install_effects life_effects send_effects ask_effects backlog_effects
+turn_same sc rules i [] = refl
+turn_same sc rules i (notice ∷ before) =
+    rw (knowledge sc rules i before, knowledge sc rules i (notice ∷ before), asked_same sc rules i before, backlog_same sc rules i (notice ∷ before)) refl
 
 effects_same : (number : ℕ) (sc : ScenarioParts) (rules : List Rule) (inc : Incarnation) (i : ℕ) (past : List NoticeKind)
     → effects_for number (with_rules sc rules) inc i past ≡ effects_for number sc inc i past

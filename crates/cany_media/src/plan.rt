@@ -10,7 +10,7 @@ use std::marker::Model;
 use thiserror::Error;
 
 /// Why faults make no plan.
-#[derive(Clone, Copy, Debug, PartialEq, Eq, Error)]
+#[derive(Clone, Copy, Debug, Error)]
 pub enum MediaFault {
     /// The fault at `index`, counted from 0, shares a slot with an earlier one of its line.
     #[error("fault {index} shares a slot with an earlier fault of its line")]

@@ -12,7 +12,7 @@ use std::alloc::{AllocError, Global};
 use thiserror::Error;
 
 /// Why a run over two media is no run of a scenario of one bus.
-#[derive(Clone, Copy, Debug, PartialEq, Eq, Error)]
+#[derive(Clone, Copy, Debug, Error)]
 pub enum SingleFault {
     /// The scenario would have this number of fault rules, which is more than one can have.
     #[error("{rules} fault rules are more than a scenario can have")]

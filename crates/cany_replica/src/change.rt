@@ -5,7 +5,7 @@ use crate::value::Value;
 use cany_base::Payload;
 
 /// What a message asks of a table.
-#[derive(Clone, Copy, Debug)]
+#[derive(Clone, Copy)]
 pub(crate) enum Change {
     /// That the key has the value.
     Store { key: u8, value: Value },

@@ -14,7 +14,7 @@ pub(crate) const KEYS: usize = 256;
 
 /// A table from keys of one byte to values of at most six. A node keeps one, and changes it by the
 /// messages that it delivers by TOTCAN, in their order.
-#[derive(Debug, Drop)]
+#[derive(Drop)]
 pub struct Table {
     values: [Option<Value>; KEYS],
 }

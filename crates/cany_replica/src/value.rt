@@ -4,7 +4,7 @@ use cany_base::Payload;
 use std::marker::Model;
 
 /// The 0 to 6 bytes that a key of a table has. The bytes past its length are zero.
-#[derive(Clone, Copy, Debug)]
+#[derive(Clone, Copy)]
 pub struct Value {
     pub len: u8,
     pub bytes: [u8; 6],

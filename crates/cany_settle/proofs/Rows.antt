@@ -41,7 +41,7 @@ unfoldable text_of : ScenarioParts → List ℕ
 unfolding run_words digits open_count settled_count settled_line greatest last_slot claim_line ending_lines enough_line lengths_lines number_line tail_lines tail_text word_line break_name has_any hypothesis_line line_of
 text_of sc = tail_text sc (round_robin sc)
 
--- the run of five slots is too short to be claimed, though its message is settled
+-- the run of five slots is too short to be claimed, though its message is settled: 146 are needed
 tail_too_short : text_of (one_message 5) ≡ concat (
     codes "tail 144\n" ∷ codes "last 2\n" ∷ codes "slots 5\n" ∷ codes "short 146\n" ∷ codes "settled 1 open 0\n" ∷ codes "hypothesis within\n" ∷ codes "end\n" ∷ [])
 unfolding text_of one_message
@@ -53,16 +53,11 @@ tail_too_short_and_open : text_of (late_copy 10) ≡ concat (
 unfolding text_of late_copy
 tail_too_short_and_open = refl
 
+-- and 146 are enough
 tail_enough : text_of (one_message 146) ≡ concat (
     codes "tail 144\n" ∷ codes "last 2\n" ∷ codes "slots 146\n" ∷ codes "enough\n" ∷ codes "settled 1 open 0\n" ∷ codes "hypothesis within\n" ∷ codes "end\n" ∷ [])
 unfolding text_of one_message
 tail_enough = refl
-
--- one slot fewer
-tail_one_too_short : text_of (one_message 145) ≡ concat (
-    codes "tail 144\n" ∷ codes "last 2\n" ∷ codes "slots 145\n" ∷ codes "short 146\n" ∷ codes "settled 1 open 0\n" ∷ codes "hypothesis within\n" ∷ codes "end\n" ∷ [])
-unfolding text_of one_message
-tail_one_too_short = refl
 
 -- nothing is claimed of a run with restarts
 tail_unclaimed : text_of restart_hears_again ≡ concat (

@@ -1,5 +1,5 @@
 use Rattle.std.proofs.Common.{Vec, Global, ◌≡◌, ◌+◌, List, [], ◌∷◌, ◌++◌, map, take, ap, sym, subst, ◌∙◌}
-use Rattle.std.proofs.lemmas.List.{append-nil, map-append, take_more}
+use Rattle.std.proofs.lemmas.List.{append-nil, map-append, take_all, take_more}
 use Rattle.std.specs.Prelude.{filter, filter_map}
 use Rattle.std.specs.List.{cons_option}
 use Rattle.cany_base.specs.Limits.{most_nodes}
@@ -37,3 +37,9 @@ loop-i-preserved c =
     found_more a (map log_parts (take c.loop-i.i logs)) (log_parts x) c.loop-i.found.items c.match-judged_accusation.found.items c.judged_accusation.result
     c.loop-i.invariant (c.judged_accusation.ensures a accusers) found
     ∙ ap (λ (l : List LogParts). filter_map (accusation_of a) (filter (takes_part 0) (running l))) (sym all)
+
+pub returns : goal.returns
+returns c =
+    let a = c.args.account.now in
+    let of_logs = λ (l : List LogParts). filter_map (accusation_of a) (filter (takes_part 0) (running l)) in
+    c.loop-i.invariant ∙ ap (λ (l : List LogRecord). of_logs (map log_parts l)) (take_all c.loop-i.i c.logs-logs.result.now c.loop-i-test.false) ∙ ap of_logs c.logs-logs.ensures.logs

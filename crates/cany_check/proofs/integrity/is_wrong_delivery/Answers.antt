@@ -1,5 +1,6 @@
-use Rattle.std.proofs.Common.{◌≡◌, ◌∙◌, ◌==◌, ◌||◌, Bool, true, false, ap, get_or, length, not, refl, sym, Some}
+use Rattle.std.proofs.Common.{◌≡◌, ◌∙◌, ◌==◌, ◌||◌, true, false, ap, get_or, length, not, refl, sym, Some}
 use Rattle.std.specs.Prelude.{slice_get}
+use Rattle.std.proofs.Math.Bool.{or-true}
 use Rattle.std.proofs.lemmas.Bool.{eq-eqb, ne_eqb}
 use Rattle.std.proofs.lemmas.Option.{slice_get_read}
 use Rattle.cany_check.specs.declared.record.MessageRecord.{MessageRecord}
@@ -8,10 +9,6 @@ use Rattle.cany_check.specs.Places.{place_of}
 use Rattle.cany_check.proofs.MarkFacts.{marked_more, unknown_is_wrong, wrong_is}
 use Rattle.cany_check.proofs.integrity.is_wrong_delivery.Goals as goal
 use Rattle.cany_check.proofs.integrity.is_wrong_delivery.Goals.{then-marks-place-via-then-marks-place, then-marks-place-via-else-marks-place+then-not-was_sent_by_then}
-
-or_true : (b : Bool) → (b || true) ≡ true
-or_true true = refl
-or_true false = refl
 
 pub returns-then-marks-place-clause-wrong : goal.returns-then-marks-place-clause-wrong
 returns-then-marks-place-clause-wrong c = λ earlier marked.
@@ -26,7 +23,7 @@ returns-then-marks-place-clause-wrong c = λ earlier marked.
           sym (ap (λ b. b || not sent) (eq-eqb (get_or c.args.marks.now place 0) c.args.number w.if-marks-place.true))
       | then-marks-place-via-else-marks-place+then-not-was_sent_by_then w ↦
           let no : sent ≡ false = sym w.was_sent_by_then.ensures ∙ w.if-not-was_sent_by_then.true in
-          sym (ap (λ b. (get_or c.args.marks.now place 0 == c.args.number) || not b) no ∙ or_true (get_or c.args.marks.now place 0 == c.args.number))
+          sym (ap (λ b. (get_or c.args.marks.now place 0 == c.args.number) || not b) no ∙ or-true (get_or c.args.marks.now place 0 == c.args.number))
     ] in
     wrong ∙ wrong_is messages c.requires.numbered c.args.number c.args.entry.now c.args.msg c.requires.key place m found at earlier c.args.marks.now marked
 

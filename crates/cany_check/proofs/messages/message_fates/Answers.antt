@@ -1,5 +1,5 @@
 use Rattle.std.proofs.Common.{◌≡◌, ◌+◌, List, [], ◌∷◌, ◌++◌, map, take, ap, sym, ◌∙◌}
-use Rattle.std.proofs.lemmas.List.{map_more}
+use Rattle.std.proofs.lemmas.List.{map_more, take_all}
 use Rattle.cany_check.specs.declared.record.MessageRecord.{MessageRecord}
 use Rattle.cany_check.specs.declared.findings.Told.{Told}
 use Rattle.cany_check.specs.Fates.{message_told}
@@ -16,3 +16,8 @@ loop-i-preserved c =
     ∙ ap (λ (l : List Told). l ++ c.told.result ∷ []) c.loop-i.invariant
     ∙ ap (λ (t : Told). map tell (take c.loop-i.i messages) ++ t ∷ []) c.told.ensures
     ∙ sym more
+
+pub returns : goal.returns
+returns c =
+    c.loop-i.invariant
+    ∙ ap (map (message_told c.args.account.now)) (take_all c.loop-i.i c.messages-messages.result.now c.loop-i-test.false ∙ c.messages-messages.ensures.messages)

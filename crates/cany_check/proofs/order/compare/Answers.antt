@@ -1,4 +1,4 @@
-use Rattle.std.proofs.Common.{◌+◌, ◌∙◌, List, ap, drop, sym}
+use Rattle.std.proofs.Common.{◌+◌, ◌++◌, ◌∙◌, List, ap, drop, length, sym}
 use Rattle.std.specs.Prelude.{option_map}
 use Rattle.std.proofs.lemmas.List.{drop_all}
 use Rattle.cany_base.specs.declared.log_entry.LogEntry.{LogEntry}
@@ -6,8 +6,24 @@ use Rattle.cany_check.specs.declared.order.Item.{Item}
 use Rattle.cany_check.specs.AccountFields.{log_parts}
 use Rattle.cany_check.specs.Meeting.{ahead}
 use Rattle.cany_check.specs.Reference.{clash, cut, items_in, items_of, parting_at}
-use Rattle.cany_check.proofs.MeetingFacts.{clash_end, entry_more, found_is}
+use Rattle.cany_check.proofs.MeetingFacts.{clash_end, entry_more, found_is, none_is}
 use Rattle.cany_check.proofs.order.compare.Goals as goal
+
+pub loop-entry-preserved : goal.loop-entry-preserved
+loop-entry-preserved c =
+    let log = c.args.log.now in
+    let messages = c.args.messages.now in
+    let i = c.loop-entry.entry-index in
+    let reached = ahead log.from c.loop-entry.cursor c.loop-entry.reference.items in
+    let later = cut log.from (items_in messages log.node (drop (i + 1) log.entries.now)) in
+    let more = entry_more messages log.from log.node log.entries.now i c.entry-item.result c.loop-entry-test.true c.entry-item.is in
+    let goes = c.in_ok-found.ensures.on (none_is c.in_ok-found.found (sym c.is_some.ensures ∙ c.if-is_some.false)) in
+    record {
+      within = goes.within;
+      behind = goes.behind;
+      clash_is = goes.clash_is later ∙ ap (λ (l : List Item). clash c.loop-entry.cursor.place reached l) (sym more) ∙ c.loop-entry.invariant.clash_is;
+      list_is = goes.list_is later ∙ ap (λ (l : List Item). c.loop-entry.reference.items ++ drop (length reached) l) (sym more) ∙ c.loop-entry.invariant.list_is;
+    }
 
 pub returns-then-is_some-clause-found : goal.returns-then-is_some-clause-found
 returns-then-is_some-clause-found c =

@@ -1,5 +1,5 @@
 use Rattle.std.proofs.Common.{◌≡◌, ◌+◌, List, [], ◌∷◌, ◌++◌, map, take, ap, sym, ◌∙◌}
-use Rattle.std.proofs.lemmas.List.{map-append, take_more}
+use Rattle.std.proofs.lemmas.List.{map-append, take_all, take_more}
 use Rattle.cany_check.specs.declared.record.SignRecord.{SignRecord}
 use Rattle.cany_check.specs.declared.findings.Told.{Told}
 use Rattle.cany_check.specs.Fates.{sign_told}
@@ -21,3 +21,8 @@ loop-i-preserved c =
 
 pub invariant_of-holders_of : goal.invariant_of-holders_of
 invariant_of-holders_of c = signs_ascend c.args.account.now c.signs-signs.ensures.orderly c.signs-signs.result.now c.signs-signs.ensures.signs
+
+pub returns : goal.returns
+returns c =
+    c.loop-i.invariant
+    ∙ ap (map (sign_told c.args.account.now)) (take_all c.loop-i.i c.signs-signs.result.now c.loop-i-test.false ∙ c.signs-signs.ensures.signs)

@@ -4,7 +4,7 @@ use Rattle.cany_world.specs.World.{state_of}
 use Rattle.cany_check.specs.declared.unused_entry.UnusedEntry.TheVariants as entry
 use Rattle.cany_check.specs.Unused.{unused_rule}
 use Rattle.cany_check.proofs.NamedFacts.{one_at, ruled_at}
-use Rattle.cany_check.proofs.PlacesFound.{found_two, none_found}
+use Rattle.cany_check.proofs.PlacesFound.{all_found, found_two, none_found}
 use Rattle.cany_check.proofs.unused_faults.push_faults.Goals as goal
 
 pub loop-place-init : goal.loop-place-init
@@ -29,3 +29,8 @@ loop-place-preserved c =
     c.args.found.now.items c.loop-place.found.items c.push_found.new.found.items c.push_found-in-loop-place.new.found.items
     c.loop-place-test.true c.index-rules-place.is c.loop-place.invariant c.unused_rule-unused.ensures c.as_fault.ensures c.as_fault-in-loop-place.ensures
     c.in_ok-push_found.ensures c.in_ok-push_found-2.ensures
+
+pub returns : goal.returns
+returns c =
+    all_found (unused_rule c.args.world.now.scenario (state_of c.args.world.now)) (λ why. entry.Fault why) c.rules-rules.result.now c.args.world.now.scenario.rules c.loop-place.place c.args.found.now.items c.loop-place.found.items c.loop-place-test.false
+    (c.rules-rules.ensures ∙ ap (λ (s : ScenarioParts). s.rules) c.scenario-scenario.ensures) c.loop-place.invariant

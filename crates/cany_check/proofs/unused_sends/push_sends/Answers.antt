@@ -5,7 +5,7 @@ use Rattle.cany_world.specs.World.{state_of}
 use Rattle.cany_check.specs.declared.unused_entry.UnusedEntry.TheVariants as entry
 use Rattle.cany_check.specs.Unused.{as_list, unused_send}
 use Rattle.cany_check.proofs.NamedFacts.{one_at}
-use Rattle.cany_check.proofs.PlacesFound.{found_next, none_found}
+use Rattle.cany_check.proofs.PlacesFound.{all_found, found_next, none_found}
 use Rattle.cany_check.proofs.unused_sends.push_sends.Goals as goal
 
 pub loop-place-init : goal.loop-place-init
@@ -25,3 +25,8 @@ loop-place-preserved c =
     (λ (send : SendAsk). unused_send (state_of c.args.world.now) send) c.missed-why.result c.as_send.result
     c.args.found.now.items c.loop-place.found.items c.push_found.new.found.items c.loop-place-test.true c.index-sends-place.is c.loop-place.invariant
     c.missed-why.ensures c.as_send.ensures c.in_ok-push_found.ensures
+
+pub returns : goal.returns
+returns c =
+    all_found (λ (send : SendAsk). as_list (unused_send (state_of c.args.world.now) send)) (λ why. entry.Send why) c.sends-sends.result.now c.args.world.now.scenario.sends c.loop-place.place c.args.found.now.items c.loop-place.found.items c.loop-place-test.false
+    (c.sends-sends.ensures ∙ ap (λ (s : ScenarioParts). s.sends) c.scenario-scenario.ensures) c.loop-place.invariant

@@ -1,6 +1,8 @@
-use Rattle.std.proofs.Common.{Vec, Global, Option, ◌++◌, map, sym, subst, take}
+use Rattle.std.proofs.Common.{Vec, Global, List, Option, ◌++◌, map, sym, subst, take}
 use Rattle.std.specs.List.{flat_map}
+use Rattle.std.proofs.lemmas.List.{take_all}
 use Rattle.cany_check.specs.declared.findings.ViewParting.{ViewParting}
+use Rattle.cany_check.specs.declared.record.LogRecord.{LogRecord}
 use Rattle.cany_check.specs.Account.{running}
 use Rattle.cany_check.specs.AccountFields.{log_parts}
 use Rattle.cany_check.specs.ViewRows.{HasRows, views_in}
@@ -23,3 +25,8 @@ loop-i-preserved c =
           subst (λ l. HasRows l c.if-logs-i.rows.items) (sym (of_log_that_stopped logs i d c.loop-i-test.true w.if-logs-i.false))
           (subst (λ (v : Vec (Option ViewParting) Global). HasRows (flat_map views_in (running (map log_parts (take i logs)))) v.items) (sym w.rows-is) c.loop-i.invariant)
     ]
+
+pub returns : goal.returns
+returns c =
+    subst (λ (l : List LogRecord). HasRows (flat_map views_in (running (map log_parts l))) c.loop-i.rows.items) (take_all c.loop-i.i c.args.logs.now c.loop-i-test.false)
+    c.loop-i.invariant

@@ -7,8 +7,7 @@ returns-in-Done g c = rw c.in-Done.is c.write_line.ensures
 
 pub returns-in-Lagging : goal.returns-in-Lagging
 unfolding journal_refusal_line
-returns-in-Lagging g c =
-    rw c.in-Lagging.is (rw (c.from.ensures, c.get.ensures.value, c.from-in-Lagging.ensures) at c.write_line-in-Lagging.ensures)
+returns-in-Lagging g c = rw c.in-Lagging.is c.write_lagging.ensures
 
 pub returns-in-Over : goal.returns-in-Over
 unfolding journal_refusal_line
@@ -25,4 +24,4 @@ returns-in-Stopped g c = rw c.in-Stopped.is c.write_cause-in-Stopped.ensures
 pub returns-in-NoNode : goal.returns-in-NoNode
 unfolding journal_refusal_line
 returns-in-NoNode g c =
-    rw c.in-NoNode.is (rw (c.from-in-NoNode.ensures, c.get-in-NoNode.ensures.value) at c.write_cause-in-NoNode.ensures)
+    rw c.in-NoNode.is (rw (c.from.ensures, c.get.ensures.value) at c.write_cause-in-NoNode.ensures)

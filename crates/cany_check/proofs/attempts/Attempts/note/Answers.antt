@@ -1,4 +1,4 @@
-use Rattle.std.proofs.Common.{refl, sym, ◌∙◌}
+use Rattle.std.proofs.Common.{sym, ◌∙◌}
 use Rattle.cany_check.proofs.AttemptFacts.{idle_slot, named_slot, unnamed_slot}
 use Rattle.cany_check.proofs.attempts.Attempts.note.Goals as goal
 
@@ -6,15 +6,16 @@ pub returns-in_default : goal.returns-in_default
 returns-in_default c =
     λ named trace short are. idle_slot named trace c.args.note.now c.args.self.now c.in_default.is are
 
-pub returns-in_default-raise : goal.returns-in_default-raise
-returns-in_default-raise c =
+pub returns-in_default-copied : goal.returns-in_default-copied
+returns-in_default-copied c =
     λ named trace short are.
-    unnamed_slot named trace c.args.note.now c.in-Some.frame c.args.self.now (record { counts = c.raise.new.counts; slots = c.args.self.now.slots }) c.in-Some.is are
-    (λ q. rw c.of-name.ensures at (c.raise.ensures.raised q)) (sym c.in_default-raise.is ∙ (rw c.of-name.ensures at c.raise.ensures.answer)) refl
+    unnamed_slot named trace c.args.note.now c.in-Some.frame c.args.self.now c.in-Some.is are
+    (rw c.of-name.ensures at (sym c.in_default-copied.is ∙ c.copied.ensures ∙ c.get.ensures.value))
 
 pub returns : goal.returns
 returns c =
     λ named trace short are.
-    named_slot named trace c.args.note.now c.in-Some.frame c.in-Some-raise.nth c.args.self.now (record { counts = c.raise.new.counts; slots = c.insert.new.self }) short c.in-Some.is are
-    (λ q. rw c.of-name.ensures at (c.raise.ensures.raised q)) (sym c.in-Some-raise.is ∙ (rw c.of-name.ensures at c.raise.ensures.answer))
+    named_slot named trace c.args.note.now c.in-Some.frame c.in-Some-copied.before c.saturating_add-nth.result c.args.self.now (record { counts = c.insert.new.self; slots = c.insert-2.new.self }) short c.in-Some.is are
+    (rw c.of-name.ensures at (sym c.in-Some-copied.is ∙ c.copied.ensures ∙ c.get.ensures.value)) c.saturating_add-nth.ensures
     (λ q. rw c.of-name.ensures at (c.in_ok-insert.ensures.updates.0 q))
+    (λ q. rw c.of-name.ensures at (c.in_ok-insert-2.ensures.updates.0 q))
