@@ -8,7 +8,7 @@ use Rattle.cany_io.specs.Faults.{HasRisen}
 use Rattle.cany_yard.specs.Seats.{SeatParts, AreFirstSeats}
 use Rattle.cany_crew.specs.declared.assignment.Assignment.{Assignment}
 use Rattle.cany_crew.specs.declared.assignment.Assignment.TheVariants.{Bus, Node}
-use Rattle.cany_crew.specs.Gates.{HasRefused, NoneFell}
+use Rattle.cany_crew.specs.Gates.{HasRefused, IsOutcome, NoneFell}
 use Rattle.cany_crew.specs.Assignment.{AssignmentParts}
 use Rattle.cany_crew.specs.Assignments.{counts_of, has_bus, AreFrom, refused_or, first_refused, IsWorked, IsAfterWork, AreAfterWork}
 use Rattle.cany_crew.proofs.GateFacts.{none_fell, fell_with, refused_with}
@@ -234,12 +234,6 @@ turned all front back n e len =
     take_front : (xs ys : List ℕ) → take (length xs) (xs ++ ys) ≡ xs
     take_front [] ys = refl
     take_front (x ∷ xs) ys = ap (λ (zs : List ℕ). x ∷ zs) (take_front xs ys)
-
--- what the work came to, for the caller
-pub record IsOutcome (old new : List ℕ) (held : Option (ℕ × ℕ)) : Type 0 where
-  pub fell : NoneFell old new
-  pub passed : IfNone held (new ≡ old)
-  pub refused : IfSome held (λ found. HasRefused found.0 old new)
 
 of_node : {P : ℕ → Type 0} (o : Option (ℕ × ℕ)) → ((at slot : ℕ) → o ≡ Some (at, slot) → P at) → IfSome o (λ found. P found.0)
 of_node None f = tt

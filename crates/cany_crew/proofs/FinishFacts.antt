@@ -1,9 +1,8 @@
 -- The steps that can be made while a run has not ended.
 use Rattle.std.proofs.Common.{◌≡◌, ℕ, ◌+◌, ◌-◌, ◌*◌, ◌<◌, ◌≤◌, ◌==◌, ◌&&◌, ◌||◌, Bool, true, false, not, List, [], ◌∷◌, ◌++◌, length, refl, sym, ap, ◌∙◌, subst, inl, inr, arith}
-use Rattle.std.specs.Prelude.{nat_lt, nat_le, slice_index_or, reverse, Option, Some, None, is_some, is_none, if◌then◌else◌}
-use Rattle.std.proofs.lemmas.Bool.{cases_Bool, cases_lt, eq-eqb, false≢true, le-ltb, leb-false, lt-ltb, ltb-false, not_from_false, or_left, or_right}
-use Rattle.std.proofs.lemmas.List.{get_or_default, length-append, length-reverse}
-use Rattle.std.proofs.lemmas.List.Sums.{list_all-from_AllPass}
+use Rattle.std.specs.Prelude.{nat_lt, nat_le, reverse, Option, Some, None, is_some, is_none, if◌then◌else◌}
+use Rattle.std.proofs.lemmas.Bool.{cases_lt, false≢true, le-ltb, leb-false, lt-ltb}
+use Rattle.std.proofs.lemmas.List.{length-append, length-reverse}
 use Rattle.cany_base.specs.declared.slot_note.SlotNote.{SlotNote}
 use Rattle.cany_base.specs.declared.step.Step.{Step}
 use Rattle.cany_base.specs.declared.step.Step.TheVariants.{Slot, Turn}
@@ -11,12 +10,13 @@ use Rattle.cany_base.specs.Scenario.{ScenarioParts}
 use Rattle.cany_model.specs.declared.reply.StepReply.{StepReply}
 use Rattle.cany_model.specs.Runs.RoundRobin.{is_to_read}
 use Rattle.cany_model.specs.Runs.Run.{IsLegal, all_read, has_ended, is_done, reply, run}
-use Rattle.cany_model.specs.Bus.State.{NodeState, RunState, absent, node_at, reads, runs, slots_run}
+use Rattle.cany_model.specs.Bus.State.{NodeState, RunState, node_at, reads, runs, slots_run}
 use Rattle.cany_model.proofs.Runs.Journals.{legal_push, legal_short}
 use Rattle.cany_model.proofs.Runs.Rounds.{may_read}
 use Rattle.cany_model.proofs.Runs.Runs.{orderly, slot_is_done, turn_done, turn_is_done}
 use Rattle.cany_model.proofs.Bus.States.{runs_within}
 use Rattle.cany_world.specs.World.{WorldParts, state_of}
+use Rattle.cany_model.proofs.Runs.RoundRobinEnds.{all_have_read, none_to_read}
 
 -- ---- what is unread
 
@@ -70,21 +70,6 @@ turn_within scenario journal i done =
 pub turn_push : (scenario : ScenarioParts) (journal : List Step) (i : ℕ) → IsLegal scenario journal → is_to_read (node_at (run scenario journal).nodes i) ≡ true
     → IsLegal scenario (journal ++ Turn i ∷ [])
 turn_push scenario journal i legal reads = legal_push scenario journal (Turn i) legal (turn_can_be scenario journal i reads)
-
-none_to_read : (node : NodeState) → is_to_read node ≡ false → runs node ≡ true → node.unread ≡ 0
-none_to_read node skips running =
-    let none : node.unread ≤ 0 = ltb-false 0 node.unread (sym (running_reads node running) ∙ skips) in
-    omega arith
-
-all_have_read : (s : RunState) → ((i : ℕ) → runs (node_at s.nodes i) ≡ true → (node_at s.nodes i).unread ≡ 0) → all_read s ≡ true
-unfolding node_at
-all_have_read s h =
-    list_all-from_AllPass (λ (node : NodeState). not (runs node) || node.unread == 0) s.nodes (λ i d less.
-    subst (λ (node : NodeState). (not (runs node) || node.unread == 0) ≡ true) (get_or_default s.nodes i absent d less)
-    (elim (cases_Bool (runs (slice_index_or s.nodes i absent))) [
-      | inl running ↦ or_right (not (runs (slice_index_or s.nodes i absent))) _ (eq-eqb _ 0 (h i running))
-      | inr stopped ↦ or_left (not (runs (slice_index_or s.nodes i absent))) _ (not_from_false _ stopped)
-    ]))
 
 -- where no node has something to read, the next slot can run, unless all ran
 pub slot_can_be : (scenario : ScenarioParts) (journal : List Step)

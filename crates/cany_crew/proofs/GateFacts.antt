@@ -1,11 +1,11 @@
 -- Counts of gates over several calls.
-use Rattle.std.proofs.Common.{◌≡◌, ℕ, zero, suc, ◌+◌, ◌<◌, ◌≤◌, List, [], ◌∷◌, ◌++◌, length, map, refl, sym, ap, ◌∙◌, subst, inl, inr, arith}
-use Rattle.std.specs.Prelude.{slice_index, slice_index_or, slice_set}
-use Rattle.std.proofs.lemmas.Bool.{cases_eq}
+use Rattle.std.proofs.Common.{◌≡◌, ℕ, zero, suc, ◌+◌, ◌<◌, ◌≤◌, true, List, [], ◌∷◌, ◌++◌, length, map, refl, sym, ap, ◌∙◌, subst, inl, inr, arith}
+use Rattle.std.specs.Prelude.{slice_index, slice_index_or, slice_set, Option, Some, None, Result, Ok, Err, IfNone, IfOk, IsOkAnd, is_some}
+use Rattle.std.proofs.lemmas.Bool.{cases_eq, false≢true}
 use Rattle.std.proofs.lemmas.Grind.{get_or-set_at}
 use Rattle.std.proofs.lemmas.List.{get_or-set_other, length-map, length-set, map-set, set-get_or}
 use Rattle.cany_io.specs.Faults.{HasRisen}
-use Rattle.cany_crew.specs.Gates.{HasRefused, NoneFell}
+use Rattle.cany_crew.specs.Gates.{HasAnyRefused, HasRefused, IsOutcome, NoneFell}
 
 -- ---- one count
 
@@ -38,6 +38,29 @@ refused_before node old middle new h refused k = (
   let e = k.len in let below = refused.0 in omega arith,
   risen_before (slice_index old node) (slice_index middle node) (slice_index new node) (h.each node) refused.1 (k.each node),
 )
+
+-- ---- what it came to
+
+pub outcome_held : (old middle new : List ℕ) (found : ℕ × ℕ) → middle ≡ old → NoneFell middle new → HasRefused found.0 middle new → IsOutcome old new (Some found)
+outcome_held old middle new found same fell refused =
+    subst (λ (counts : List ℕ). IsOutcome counts new (Some found)) same (record { fell = fell; passed = tt; refused = refused })
+
+-- steps after others of which none was held
+pub outcome_then : (old middle new : List ℕ) (first second : Option (ℕ × ℕ)) → first ≡ None → IsOutcome old middle first → IsOutcome middle new second
+    → IsOutcome old new second
+outcome_then old middle new None second none before after = subst (λ (counts : List ℕ). IsOutcome counts new second) before.passed after
+outcome_then old middle new (Some found) second none before after = absurd (grind arith)
+
+pub all_passed : {E : Type 0} (old new : List ℕ) (ending : Result (Option (ℕ × ℕ)) E) → ending ≡ Ok None → IfOk ending (λ held. IsOutcome old new held) → new ≡ old
+all_passed {E} old new ending is outcome =
+    let ended : IsOutcome old new None = subst (λ (e : Result (Option (ℕ × ℕ)) E). IfOk e (λ held. IsOutcome old new held)) is outcome in
+    ended.passed
+
+pub any_refused : {E : Type 0} (old new : List ℕ) (ending : Result (Option (ℕ × ℕ)) E) → IsOkAnd ending (λ held. is_some held ≡ true)
+    → IfOk ending (λ held. IsOutcome old new held) → HasAnyRefused old new
+any_refused old new (Ok None) held outcome = absurd (false≢true held)
+any_refused old new (Ok (Some found)) held outcome = (found.0, outcome.refused)
+any_refused old new (Err fault) held outcome = absurd held
 
 -- ---- more gates behind
 

@@ -1,8 +1,11 @@
 //! A run whose steps are made by threads.
-ghost use Rattle.std.specs.Prelude.{◌≡◌, ◌<◌, ◌≤◌, [], map, IfOk, IfErr, vec_len};
-ghost use Rattle.cany_crew.specs.Gates.{HasRefused, NoneFell};
+ghost use Rattle.std.specs.Prelude.{◌≡◌, ◌<◌, ◌≤◌, ◌+◌, [], map, IfOk, IfErr, IfSome, IfNone, vec_len, vec_capacity};
+ghost use Rattle.cany_base.specs.Limits.{most_nodes};
+ghost use Rattle.cany_crew.specs.Ending.{IsEnding};
+ghost use Rattle.cany_crew.specs.Gates.{HasRefused, IsOutcome, NoneFell};
 ghost use Rattle.cany_crew.specs.Held.{IfHeld, IfMemory, world_of};
 ghost use Rattle.cany_model.specs.Runs.Run.{IsLegal, IsWhole};
+ghost use Rattle.cany_yard.specs.Seats.{AreFirstSeats};
 
 use crate::assigning::Rooms;
 use crate::finish::finish;
@@ -11,9 +14,9 @@ use crate::lending::work_seats;
 use crate::nodes::nodes_of;
 use crate::signals::Signals;
 use crate::worker::Work;
-use cany_base::{NodeId, Slot};
+use cany_base::{Memory, NodeId, Slot};
 use cany_world::World;
-use cany_yard::{Course, Yard};
+use cany_yard::{BusSeat, Course, Seat, Yard};
 use std::alloc::Global;
 use std::marker::Brand;
 use std::sync::Wait;
@@ -36,7 +39,46 @@ pub enum CrewFault {
     },
 }
 
-/// `crew_run` under the names of the two blanks.
+/// Works the seats of a yard, closes it, and makes the steps that are left. Gives the world, and the
+/// node and the slot of a pass that was refused.
+fn run_yard<R: Threads + Wait + Sync, L: Course + Send + Sync, B: Ledger + Send + Sync, G: Gate>(
+    rt: &R,
+    yard: Yard<L, B>,
+    rooms: Rooms<L, B, G>,
+    bus: BusSeat<L, B>,
+    seats: Vec<Seat<L, B>>,
+    slots: u64,
+    gates: &mut Vec<G>,
+) -> (World, Option<(NodeId, Slot)>)
+    requires empty { (rooms.assignments.items ≡ []) × (rooms.seats.items ≡ []) }
+    requires room { (vec_len seats + 1 ≤ vec_capacity rooms.assignments) × (vec_len seats ≤ vec_capacity rooms.seats) }
+    requires seats { AreFirstSeats (vec_len seats) seats.items }
+    requires all { vec_len seats ≡ L.scenario.params.nodes }
+    requires nodes { vec_len seats ≤ most_nodes }
+    requires gates { vec_len seats ≤ vec_len gates.old }
+    ensures scenario { result.0.scenario ≡ L.scenario }
+    ensures ended { IfNone result.1 (IsLegal result.0.scenario result.0.journal × IsWhole result.0.scenario result.0.journal) }
+    ensures node { IfSome result.1 (λ found. found.0 < L.scenario.params.nodes) }
+    ensures outcome { IsOutcome (map G.refusals gates.old.items) (map G.refusals gates.new.items) result.1 }
+{
+    let signals = Signals::new();
+    let work = Work {
+        yard: &yard,
+        slots,
+        signals: &signals,
+    };
+    let worked = work_seats(rt, &work, rooms, bus, seats, gates);
+    let mut world = yard.end(worked.bus, worked.seats);
+    match worked.held {
+        Some(found) => (world, Some(found)),
+        None => {
+            let held = finish(&mut world, gates);
+            (world, held)
+        }
+    }
+}
+
+/// `run_crew` under the names of the two blanks.
 fn run_as<R: Threads + Wait + Sync, L: Course + Send + Sync, B: Ledger + Send + Sync, G: Gate>(
     rt: &R,
     alloc: Global,
@@ -44,47 +86,43 @@ fn run_as<R: Threads + Wait + Sync, L: Course + Send + Sync, B: Ledger + Send + 
     slots: Blank,
     world: World,
     gates: &mut Vec<G>,
-) -> Result<World, CrewFault>
+) -> (World, Result<Option<(NodeId, Slot)>, Memory>)
     requires fresh { world.journal ≡ [] }
     requires gates { world.scenario.params.nodes ≤ vec_len gates.old }
     requires course { world.scenario ≡ L.scenario }
     requires turns { (turns.name ≡ L.name) × (turns.parts ≡ L.parts) × (turns.parts ≡ world.scenario.params.nodes) }
     requires slots { (slots.name ≡ B.name) × (slots.parts ≡ B.parts) × (slots.parts ≡ 1) }
-    ensures scenario { IfOk result (λ ended. ended.scenario ≡ world.scenario) }
-    ensures ended { IfOk result (λ ended. IsLegal ended.scenario ended.journal × IsWhole ended.scenario ended.journal) }
-    ensures passed { IfOk result (λ _. map G.refusals gates.new.items ≡ map G.refusals gates.old.items) }
-    ensures node { IfErr result (λ fault. IfHeld fault (λ node. node < world.scenario.params.nodes)) }
-    ensures held { IfErr result (λ fault. IfHeld fault (λ node. HasRefused node (map G.refusals gates.old.items) (map G.refusals gates.new.items))) }
-    ensures count { NoneFell (map G.refusals gates.old.items) (map G.refusals gates.new.items) }
-    ensures back { IfErr result (λ fault. (world_of fault).scenario ≡ world.scenario) }
-    ensures memory { IfErr result (λ fault. IfMemory fault (λ back. back ≡ world)) }
+    ensures { IsEnding (map G.refusals gates.old.items) (map G.refusals gates.new.items) world result.0 result.1 }
 {
     let nodes = nodes_of(world.scenario());
     let most_slots = world.scenario().params().slots;
-    let Ok(rooms) = Rooms::<L, B, G>::build(alloc, nodes) else {
-        return Err(CrewFault::Memory { world });
+    let rooms = match Rooms::<L, B, G>::build(alloc, nodes) {
+        Ok(rooms) => rooms,
+        Err(memory) => return (world, Err(memory)),
     };
-    let (yard, bus, seats) = match Yard::<L, B>::start(alloc, turns, slots, world) {
-        Ok(started) => started,
-        Err((world, _)) => return Err(CrewFault::Memory { world }),
-    };
-    let signals = Signals::new();
-    let work = Work {
-        yard: &yard,
-        slots: most_slots,
-        signals: &signals,
-    };
-    let worked = work_seats(rt, &work, rooms, bus, seats, gates);
-    let Ok(mut world) = yard.close(worked.bus, worked.seats) else {
-        unreachable!()
-    };
-    if let Some((node, slot)) = worked.held {
-        return Err(CrewFault::Held { world, node, slot });
+    match Yard::<L, B>::start(alloc, turns, slots, world) {
+        Ok((yard, bus, seats)) => {
+            let (world, held) = run_yard(rt, yard, rooms, bus, seats, most_slots, gates);
+            (world, Ok(held))
+        }
+        Err((world, memory)) => (world, Err(memory)),
     }
-    match finish(&mut world, gates) {
-        None => Ok(world),
-        Some((node, slot)) => Err(CrewFault::Held { world, node, slot }),
-    }
+}
+
+/// `crew_run` for a caller that lets go of the world whatever the run came to: it is given once,
+/// beside the node and the slot of a pass that was refused.
+pub(crate) fn run_crew<R: Threads + Wait + Sync, G: Gate>(
+    rt: &R,
+    alloc: Global,
+    world: World,
+    gates: &mut Vec<G>,
+) -> (World, Result<Option<(NodeId, Slot)>, Memory>)
+    requires fresh { world.journal ≡ [] }
+    requires gates { world.scenario.params.nodes ≤ vec_len gates.old }
+    ensures { IsEnding (map G.refusals gates.old.items) (map G.refusals gates.new.items) world result.0 result.1 }
+{
+    let turns = Blank::new(u64::from(nodes_of(world.scenario())));
+    run_as::<R, Brand, Brand, G>(rt, alloc, turns, Blank::new(1), world, gates)
 }
 
 /// Runs the scenario of the world to its end by a thread for each node and one for the bus. The
@@ -124,6 +162,10 @@ pub fn crew_run<R: Threads + Wait + Sync, G: Gate>(
     ensures back { IfErr result (λ fault. (world_of fault).scenario ≡ world.scenario) }
     ensures memory { IfErr result (λ fault. IfMemory fault (λ back. back ≡ world)) }
 {
-    let turns = Blank::new(u64::from(nodes_of(world.scenario())));
-    run_as::<R, Brand, Brand, G>(rt, alloc, turns, Blank::new(1), world, gates)
+    let (world, ending) = run_crew(rt, alloc, world, gates);
+    match ending {
+        Ok(None) => Ok(world),
+        Ok(Some((node, slot))) => Err(CrewFault::Held { world, node, slot }),
+        Err(_) => Err(CrewFault::Memory { world }),
+    }
 }

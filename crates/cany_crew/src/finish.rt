@@ -1,6 +1,6 @@
 //! The steps that the workers have left, made by the caller.
 ghost use Rattle.std.specs.Prelude.{◌≡◌, ◌<◌, ◌≤◌, ◌∷◌, ◌++◌, ℕ, [], true, false, map, vec_len, IfSome, IfNone};
-ghost use Rattle.cany_crew.specs.Gates.{HasRefused, NoneFell};
+ghost use Rattle.cany_crew.specs.Gates.{IsOutcome};
 ghost use Rattle.cany_model.specs.Runs.RoundRobin.{is_to_read};
 ghost use Rattle.cany_model.specs.Runs.Run.{IsLegal, IsWhole, is_done, reply};
 ghost use Rattle.cany_model.specs.Bus.State.{node_at};
@@ -59,10 +59,8 @@ pub(crate) fn finish<G: Gate>(world: &mut World, gates: &mut Vec<G>) -> Option<(
     requires { world.old.scenario.params.nodes ≤ vec_len gates.old }
     ensures scenario { world.new.scenario ≡ world.old.scenario }
     ensures ended { IfNone result (IsLegal world.new.scenario world.new.journal × IsWhole world.new.scenario world.new.journal) }
-    ensures passed { IfNone result (map G.refusals gates.new.items ≡ map G.refusals gates.old.items) }
     ensures node { IfSome result (λ found. found.0 < world.old.scenario.params.nodes) }
-    ensures held { IfSome result (λ found. HasRefused found.0 (map G.refusals gates.old.items) (map G.refusals gates.new.items)) }
-    ensures count { NoneFell (map G.refusals gates.old.items) (map G.refusals gates.new.items) }
+    ensures outcome { IsOutcome (map G.refusals gates.old.items) (map G.refusals gates.new.items) result }
 {
     while let Some(step) = next_step(world) {
         if let Step::Turn(node) = step {

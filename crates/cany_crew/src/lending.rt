@@ -1,7 +1,7 @@
 //! Seats and gates are lent to the workers, and taken back after the work.
-ghost use Rattle.std.specs.Prelude.{◌≡◌, ◌≤◌, ◌<◌, ◌+◌, [], map, IfSome, IfNone, vec_len, vec_capacity};
+ghost use Rattle.std.specs.Prelude.{◌≡◌, ◌≤◌, ◌<◌, ◌+◌, [], map, IfSome, vec_len, vec_capacity};
 ghost use Rattle.cany_base.specs.Limits.{most_nodes};
-ghost use Rattle.cany_crew.specs.Gates.{HasRefused, NoneFell};
+ghost use Rattle.cany_crew.specs.Gates.{IsOutcome};
 ghost use Rattle.cany_yard.specs.Seats.{AreFirstSeats};
 
 use crate::assigning::{Rooms, empty_assignments, fill_assignments, first_refused};
@@ -44,10 +44,8 @@ pub(crate) fn work_seats<
     requires nodes { vec_len seats ≤ most_nodes }
     requires gates { vec_len seats ≤ vec_len gates.old }
     ensures seats { vec_len result.seats ≡ vec_len seats }
-    ensures passed { IfNone result.held (map G.refusals gates.new.items ≡ map G.refusals gates.old.items) }
     ensures node { IfSome result.held (λ found. found.0 < vec_len seats) }
-    ensures held { IfSome result.held (λ found. HasRefused found.0 (map G.refusals gates.old.items) (map G.refusals gates.new.items)) }
-    ensures count { NoneFell (map G.refusals gates.old.items) (map G.refusals gates.new.items) }
+    ensures outcome { IsOutcome (map G.refusals gates.old.items) (map G.refusals gates.new.items) result.held }
 {
     let Rooms {
         mut assignments,

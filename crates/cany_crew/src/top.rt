@@ -1,19 +1,20 @@
 //! The call behind the command `run`.
-ghost use Rattle.std.specs.Prelude.{◌≡◌, ◌⊎◌, ◌↔◌, ◌<◌, ◌≤◌, map, length, string_bytes, None, is_some, IfSome, IsOkAnd, IsSomeAnd, MatchOption, vec_len};
+ghost use Rattle.std.specs.Prelude.{◌≡◌, ◌⊎◌, ◌↔◌, ◌<◌, ◌≤◌, map, length, string_bytes, None, Ok, true, is_some, IfNone, IfOk, IfSome, IsOkAnd, IsSomeAnd, MatchOption, vec_len};
 ghost use Rattle.cany_base.specs.Limits.{most_nodes, most_text_bytes};
 ghost use Rattle.cany_crew.specs.Gates.{HasAnyRefused, NoneFell, NoneRefused};
 ghost use Rattle.cany_crew.specs.Top.{AreRun, HasNoAnswer, IsCrewRun, TakesReportStart, TakesStart, run_refusal};
 ghost use Rattle.cany_io.specs.Faults.{HasRisen, StandsStill};
 ghost use Rattle.cany_io.specs.Sink.{Takes};
 ghost use Rattle.cany_io.specs.Source.{IsAtEnd};
+ghost use Rattle.cany_model.specs.Runs.Run.{IsLegal, IsWhole};
 ghost use Rattle.cany_text.specs.ScenarioText.{scenario_of};
 ghost use Rattle.cany_command.specs.Status.{HasAnswered};
 
-use crate::crew::{CrewFault, crew_run};
+use crate::crew::run_crew;
 use crate::gate::Gate;
 use crate::nodes::nodes_of;
 use crate::status::HELD;
-use cany_base::Scenario;
+use cany_base::{Memory, NodeId, Scenario, Slot};
 use cany_command::status::{
     DONE, NO_MEMORY, OTHER_WORDS, READ_FAULT, REFUSED, TOO_LONG, WRITE_FAULT,
 };
@@ -24,6 +25,35 @@ use cany_world::World;
 use std::alloc::Global;
 use std::sync::Wait;
 use std::thread::Threads;
+
+/// Writes the report of a run that has ended, and answers the status of one that has not.
+fn report_ending<K: Sink>(
+    world: &World,
+    ending: Result<Option<(NodeId, Slot)>, Memory>,
+    sink: &mut K,
+) -> u8
+    requires none { world.now.scenario.journal ≡ None }
+    requires ended { IfOk ending (λ held. IfNone held (IsLegal world.now.scenario world.now.journal × IsWhole world.now.scenario world.now.journal)) }
+    ensures done { result ≡ DONE → IsCrewRun world.now.scenario (K.taken sink.old) (K.taken sink.new) }
+    ensures passed { result ≡ DONE → ending ≡ Ok None }
+    ensures held { result ≡ HELD → IsOkAnd ending (λ held. is_some held ≡ true) }
+    ensures write_fault { result ≡ WRITE_FAULT → HasRisen (K.faults sink.old) (K.faults sink.new) }
+    ensures start { result ≡ WRITE_FAULT → TakesReportStart world.now.scenario (K.taken sink.old) (K.taken sink.new) }
+    ensures untouched { (result ≡ NO_MEMORY) ⊎ (result ≡ HELD) → sink.new ≡ sink.old }
+    ensures status { (result ≡ DONE) ⊎ (result ≡ WRITE_FAULT) ⊎ (result ≡ NO_MEMORY) ⊎ (result ≡ HELD) }
+{
+    match ending {
+        Ok(held) => match held {
+            None => {
+                // What this call says of the run is a part of the contract here.
+                world.hypothesis();
+                report_run(world, sink)
+            }
+            Some(_) => HELD,
+        },
+        Err(_) => NO_MEMORY,
+    }
+}
 
 /// Runs a scenario that has no journal by threads, and writes the report. Nothing is written before
 /// the run has ended.
@@ -51,15 +81,8 @@ fn run_scenario<R: Threads + Wait + Sync, K: Sink, G: Gate>(
     // What this call says of the number of nodes is a part of the contract here: there is a gate
     // for each.
     nodes_of(scenario);
-    match crew_run(rt, alloc, world, gates) {
-        Ok(ended) => {
-            // So is what this call says of the run.
-            ended.hypothesis();
-            report_run(&ended, sink)
-        }
-        Err(CrewFault::Held { world: _held, .. }) => HELD,
-        Err(CrewFault::Memory { world: _back }) => NO_MEMORY,
-    }
+    let (world, ending) = run_crew(rt, alloc, world, gates);
+    report_ending(&world, ending, sink)
 }
 
 /// Whether the scenario has a journal of its own.

@@ -1,6 +1,7 @@
 -- What a step publishes.
 use Rattle.std.proofs.lemmas.Bool.{cases_lt}
 use Rattle.std.proofs.Common.{min, ◌≡◌, ◌≢◌, ◌⊎◌, ℕ, zero, suc, ◌+◌, ◌-◌, ◌<◌, ◌≤◌, Bool, true, false, List, [], ◌∷◌, ◌++◌, length, take, drop, refl, ap, sym, subst, ◌∙◌, arith, set, inl, inr, ⊎_elim, append_assoc, length-append, length-drop, take-append-drop, get_or, map, Some, slice_get}
+use Rattle.std.specs.Prelude.{if◌then◌else◌}
 use Rattle.std.proofs.lemmas.List.{append-nil, map-append, get_or-set_same, get_or-set_other, length-set, take_all, take_more}
 use mathlib.Core.List.{IsPrefix}
 use Rattle.cany_base.specs.declared.log_entry.LogEntry.{LogEntry}
@@ -145,6 +146,43 @@ took_up_more line rest s m s' is took continues more = record {
   some = prefix_trans s'.taken (m.taken ++ rest) line more.some continues;
   all = λ e. absurd (cc e);
 }
+
+-- nothing more is published where not all was taken
+pub not_published : (is : Bool) (line : List LogEntry) (s m : PublisherParts) → HasTakenUp is line s m → IsPrefix s.shown s.taken → HasPublished false line s m
+not_published is line s m took shown = record {
+  book = took.same.0;
+  beginning = record {
+    taken = took.some;
+    shown = subst (λ (l : List LogEntry). IsPrefix l m.taken) (sym took.same.1) (prefix_trans s.shown s.taken m.taken shown took.grows);
+  };
+  grows = subst (IsPrefix s.shown) (sym took.same.1) (prefix_self s.shown);
+  all = λ e. absurd (cc e);
+}
+
+-- where all was taken, all of it is published, or what was before
+pub now_published : (is : Bool) (line : List LogEntry) (s m s' : PublisherParts) → HasTakenUp true line s m → IsPrefix s.shown s.taken → (s'.book ≡ m.book) × (s'.taken ≡ m.taken)
+    → s'.shown ≡ (if is then m.taken else m.shown) → HasPublished is line s s'
+now_published true line s m s' took shown kept new =
+    let same : s'.shown ≡ s'.taken = new ∙ sym kept.1 in record {
+      book = kept.0 ∙ took.same.0;
+      beginning = record {
+        taken = subst (λ (l : List LogEntry). IsPrefix l line) (sym kept.1) took.some;
+        shown = subst (λ (l : List LogEntry). IsPrefix l s'.taken) (sym same) (prefix_self s'.taken);
+      };
+      grows = subst (IsPrefix s.shown) (sym new) (prefix_trans s.shown s.taken m.taken shown took.grows);
+      all = λ e. new ∙ took.all refl;
+    }
+now_published false line s m s' took shown kept new =
+    let same : s'.shown ≡ s.shown = new ∙ took.same.1 in
+    let begins : IsPrefix s.shown s'.taken = subst (IsPrefix s.shown) (sym kept.1) (prefix_trans s.shown s.taken m.taken shown took.grows) in record {
+      book = kept.0 ∙ took.same.0;
+      beginning = record {
+        taken = subst (λ (l : List LogEntry). IsPrefix l line) (sym kept.1) took.some;
+        shown = subst (λ (l : List LogEntry). IsPrefix l s'.taken) (sym same) begins;
+      };
+      grows = subst (IsPrefix s.shown) (sym same) (prefix_self s.shown);
+      all = λ e. absurd (cc e);
+    }
 
 -- what was skipped of a log
 whole_rest : {A : Type 0} (n : ℕ) (xs : List A) → take (length xs - n) (drop n xs) ≡ drop n xs

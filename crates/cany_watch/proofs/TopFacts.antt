@@ -1,5 +1,5 @@
 -- What the command writes, and which scenario it takes.
-use Rattle.std.proofs.Common.{◌≡◌, ℕ, ◌<◌, ◌≤◌, List, [], ◌∷◌, ◌++◌, map, Some, Ok, Err, refl, ap, sym, ◌∙◌}
+use Rattle.std.proofs.Common.{◌≡◌, ◌⊎◌, ℕ, ◌<◌, ◌≤◌, List, [], ◌∷◌, ◌++◌, map, Some, Ok, Err, refl, ap, sym, ◌∙◌, inl, inr, arith}
 use Rattle.std.specs.List.{flat_map}
 use Rattle.std.specs.Option.{option_map_or}
 use Rattle.std.proofs.lemmas.Bool.{le-ltb, lt-ltb}
@@ -8,6 +8,7 @@ use Rattle.cany_base.specs.declared.actions.Action.TheVariants.{Enter}
 use Rattle.cany_base.specs.declared.log_entry.LogEntry.{LogEntry}
 use Rattle.cany_base.specs.declared.step.Step.{Step}
 use Rattle.cany_base.specs.Scenario.{ScenarioParts}
+use Rattle.cany_command.specs.declared.status.TheConstants.{NO_MEMORY, REFUSED, WRITE_FAULT}
 use Rattle.cany_model.specs.Runs.Run.{run}
 use Rattle.cany_text.specs.ReportLines.{entry_line}
 use Rattle.cany_watch.specs.Lines.{line}
@@ -35,3 +36,8 @@ has_node words node scenario below named = ap (λ o. with_node o scenario) named
 -- and one that does not is refused
 pub lacks_node : (words : List (List ℕ)) (node : ℕ) (scenario : ScenarioParts) → scenario.params.nodes ≤ node → watched_node words ≡ Some node → choose words scenario ≡ Err (no_node_line node)
 lacks_node words node scenario past named = ap (λ o. with_node o scenario) named ∙ rw (le-ltb node scenario.params.nodes past) refl
+
+-- a status that says that writing failed, or that memory was wanting, is none of a refusal
+pub not_refused : (status : ℕ) → (status ≡ WRITE_FAULT) ⊎ (status ≡ NO_MEMORY) → status ≡ REFUSED → ⊥
+not_refused status (inl failed) refused = omega (arith, failed, refused)
+not_refused status (inr memory) refused = omega (arith, memory, refused)

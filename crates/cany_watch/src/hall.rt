@@ -67,10 +67,15 @@ impl Hall {
         ensures readings { IfOk result (λ t. (i : ℕ) → i < scenario.now.params.nodes →
             slice_get t.1.items i ≡ Some (note_of (publisher_at t.0.publishers i))) }
     {
-        let world = World::build(alloc, scenario)?;
         let nodes = usize::from(scenario.params().nodes);
         let (publishers, readings) = publishers_of(rt, alloc, nodes)?;
-        Ok((Hall { world, publishers }, readings))
+        match World::build(alloc, scenario) {
+            Ok(world) => Ok((Hall { world, publishers }, readings)),
+            Err(memory) => {
+                end_all(rt, publishers);
+                Err(memory)
+            }
+        }
     }
 
     pub fn world(&self) -> &World

@@ -8,15 +8,6 @@ use cany_base::Action;
 use cany_io::{Failed, Sink};
 use cany_log::{Field, write_entry, write_short_line};
 
-/// Writes that a text of this command begins.
-#[tactic(auto, unfolding(crate::specs::WatchText::first_line, cany_text::specs::ReportLines::line_of))]
-fn write_first_line<K: Sink>(sink: &mut K) -> Result<(), Failed>
-    ensures { IsWritten text.first_line result
-        (K.taken sink.old) (K.taken sink.new) (K.faults sink.old) (K.faults sink.new) }
-{
-    write_short_line("canely watch 1", &[], sink)
-}
-
 /// Writes which node was watched.
 #[tactic(auto, unfolding(crate::specs::WatchText::node_line, cany_text::specs::ReportLines::line_of))]
 fn write_node_line<K: Sink>(node: u8, sink: &mut K) -> Result<(), Failed>
@@ -24,24 +15,6 @@ fn write_node_line<K: Sink>(node: u8, sink: &mut K) -> Result<(), Failed>
         (K.taken sink.old) (K.taken sink.new) (K.faults sink.old) (K.faults sink.new) }
 {
     write_short_line("node", &[Field::Number(u64::from(node))], sink)
-}
-
-/// Writes that the text ends.
-#[tactic(auto, unfolding(crate::specs::WatchText::last_line, cany_text::specs::ReportLines::line_of))]
-fn write_last_line<K: Sink>(sink: &mut K) -> Result<(), Failed>
-    ensures { IsWritten text.last_line result
-        (K.taken sink.old) (K.taken sink.new) (K.faults sink.old) (K.faults sink.new) }
-{
-    write_short_line("end", &[], sink)
-}
-
-/// Writes that there is no such node.
-#[tactic(auto, unfolding(crate::specs::WatchText::no_node_line, cany_text::specs::ReportLines::line_of))]
-pub(crate) fn write_no_node<K: Sink>(node: u8, sink: &mut K) -> Result<(), Failed>
-    ensures { IsWritten (text.no_node_line node) result
-        (K.taken sink.old) (K.taken sink.new) (K.faults sink.old) (K.faults sink.new) }
-{
-    write_short_line("refused no node", &[Field::Number(u64::from(node))], sink)
 }
 
 /// Writes the entry that was read.
@@ -71,8 +44,17 @@ pub(crate) fn write_watched<K: Sink>(node: u8, reads: &[Action], sink: &mut K) -
     ensures { IsWritten (text.first_line ++ text.node_line node ++ flat_map text.read_text reads.now ++ text.last_line) result
         (K.taken sink.old) (K.taken sink.new) (K.faults sink.old) (K.faults sink.new) }
 {
-    write_first_line(sink)?;
+    write_short_line("canely watch 1", &[], sink)?;
     write_node_line(node, sink)?;
     write_all_read(reads, sink)?;
-    write_last_line(sink)
+    write_short_line("end", &[], sink)
+}
+
+/// Writes that there is no such node.
+#[tactic(auto, unfolding(crate::specs::WatchText::no_node_line, cany_text::specs::ReportLines::line_of))]
+pub(crate) fn write_no_node<K: Sink>(node: u8, sink: &mut K) -> Result<(), Failed>
+    ensures { IsWritten (text.no_node_line node) result
+        (K.taken sink.old) (K.taken sink.new) (K.faults sink.old) (K.faults sink.new) }
+{
+    write_short_line("refused no node", &[Field::Number(u64::from(node))], sink)
 }

@@ -4,7 +4,6 @@ ghost use Rattle.cany_base.specs.Limits.{most_text_bytes};
 ghost use Rattle.cany_command.specs.Answers.{IsAnswered, OfChosen, answer_for, answer_if};
 ghost use Rattle.cany_command.specs.Refused.{chosen_refusal, own_fault};
 ghost use Rattle.cany_command.specs.Status.{HasAnswered, HasNoAnswer};
-ghost use Rattle.cany_command.specs.declared.command_fault.AnswerFault.TheVariants as answer;
 ghost use Rattle.cany_io.specs.Faults.{HasRisen, StandsStill};
 ghost use Rattle.cany_io.specs.Sink.{Takes, TakesPrefix};
 ghost use Rattle.cany_io.specs.Source.{IsAtEnd};
@@ -22,9 +21,7 @@ use cany_base::{NodeId, Scenario};
 use cany_command::status::{
     DONE, NO_MEMORY, OTHER_WORDS, READ_FAULT, REFUSED, TOO_LONG, WRITE_FAULT,
 };
-use cany_command::{
-    AnswerFault, RefusalLine, RunFault, is_memory, refuse, run, scenario_in, text_from,
-};
+use cany_command::{RefusalLine, RunFault, is_memory, refuse, run, scenario_in, text_from};
 use cany_io::{Failed, Sink, Source};
 use cany_log::Refusal;
 use cany_world::World;
@@ -33,7 +30,7 @@ use std::sync::Wait;
 use std::thread::Threads;
 
 /// The refusal of a node that the scenario does not have.
-#[derive(Clone, Copy, Debug, PartialEq, Eq)]
+#[derive(Clone, Copy)]
 struct NoNode {
     node: u8,
 }
@@ -64,26 +61,31 @@ fn node_of(node: u8, scenario: &Scenario) -> Result<NodeId, NoNode>
     }
 }
 
-/// Watches the node in the run of a world, which is made again, and writes its line. Nothing is
-/// written before that run has ended.
+/// Watches the node in the run of a world, which is made again, and writes its line, or answers the
+/// status. Nothing is written before that run has ended.
 fn watch_world<R: Threads + Wait + Sync, K: Sink>(
     rt: &R,
     alloc: Global,
     node: NodeId,
     world: &World,
     sink: &mut K,
-) -> Result<(), AnswerFault>
+) -> Result<(), u8>
     requires { node < nodes_of world.now }
     ensures written { OnOk result ((words : List (List ℕ)) → watched_node words ≡ Some node
         → Takes (K.taken sink.old) (watch.text words world.now.scenario world.now.journal) (K.taken sink.new)) }
-    ensures failed { IfErr result (λ fault. fault ≡ answer.Failed → HasRisen (K.faults sink.old) (K.faults sink.new)) }
-    ensures prefix { IfErr result (λ fault. fault ≡ answer.Failed → (words : List (List ℕ)) → watched_node words ≡ Some node
+    ensures write_fault { IfErr result (λ status. status ≡ WRITE_FAULT → HasRisen (K.faults sink.old) (K.faults sink.new)) }
+    ensures prefix { IfErr result (λ status. status ≡ WRITE_FAULT → (words : List (List ℕ)) → watched_node words ≡ Some node
         → TakesPrefix (K.taken sink.old) (watch.text words world.now.scenario world.now.journal) (K.taken sink.new)) }
-    ensures untouched { IfErr result (λ fault. fault ≡ answer.Memory → sink.new ≡ sink.old) }
+    ensures untouched { IfErr result (λ status. status ≡ NO_MEMORY → sink.new ≡ sink.old) }
+    ensures other { IfErr result (λ status. (status ≡ WRITE_FAULT) ⊎ (status ≡ NO_MEMORY)) }
 {
-    let reads = watched(rt, alloc, node, world)?;
-    write_watched(node.get(), reads.as_slice(), sink)?;
-    Ok(())
+    let Ok(reads) = watched(rt, alloc, node, world) else {
+        return Err(NO_MEMORY);
+    };
+    match write_watched(node.get(), reads.as_slice(), sink) {
+        Ok(()) => Ok(()),
+        Err(Failed) => Err(WRITE_FAULT),
+    }
 }
 
 /// Runs a scenario and watches the node in its run, or refuses the journal of the scenario.
@@ -107,11 +109,7 @@ fn watch_run<R: Threads + Wait + Sync, K: Sink>(
     ensures other { IfErr result (λ status. (status ≡ REFUSED) ⊎ (status ≡ WRITE_FAULT) ⊎ (status ≡ NO_MEMORY)) }
 {
     match run(alloc, scenario) {
-        Ok(world) => match watch_world(rt, alloc, node, &world, sink) {
-            Ok(()) => Ok(()),
-            Err(AnswerFault::Failed) => Err(WRITE_FAULT),
-            Err(AnswerFault::Memory) => Err(NO_MEMORY),
-        },
+        Ok(world) => watch_world(rt, alloc, node, &world, sink),
         Err(RunFault::Journal(fault)) => Err(refuse(&Refusal::Journal(fault), sink)),
         Err(RunFault::Memory) => Err(NO_MEMORY),
     }

@@ -1,4 +1,4 @@
-ghost use Rattle.std.specs.Prelude.{◌≡◌, ◌<◌, ◌↔◌, [], IfOk, IfErr, IsErr, vec_len};
+ghost use Rattle.std.specs.Prelude.{◌≡◌, ◌<◌, ◌≤◌, ◌↔◌, [], IfOk, IfErr, IsErr, vec_len};
 ghost use Rattle.cany_yard.specs.Seats.{AreFirstSeats, turns_counted};
 ghost use Rattle.cany_yard.specs.Steps.{slots_in, turns_in};
 
@@ -101,11 +101,22 @@ impl<L: Course, B: Ledger> Yard<L, B> {
                 made,
             });
         }
+        Ok(self.end(bus, seats))
+    }
+
+    /// Gives back the world that the seats worked. No seat may be missing: `close` is the call that
+    /// tests this.
+    pub fn end(self, bus: BusSeat<L, B>, seats: Vec<Seat<L, B>>) -> World
+        requires { L.scenario.params.nodes ≤ vec_len seats }
+        ensures scenario { result.scenario ≡ L.scenario }
+        ensures turns { turns_in result.journal ≡ turns_counted seats.items }
+        ensures slots { slots_in result.journal ≡ bus }
+    {
         let Yard {
             locked,
             names,
             made: _,
         } = self;
-        Ok(locked.into_inner().end(&names, bus, together(seats)))
+        locked.into_inner().end(&names, bus, together(seats))
     }
 }

@@ -1,7 +1,20 @@
-use Rattle.std.proofs.Common.{◌≡◌, ap, ◌∙◌, arith}
+use Rattle.std.proofs.Common.{◌≡◌, length, refl, ap, ◌∙◌, arith, vec_len}
 use Rattle.cany_crew.specs.Assignment.{AssignmentParts}
-use Rattle.cany_crew.proofs.AssignmentFacts.{filled_next}
+use Rattle.cany_crew.proofs.AssignmentFacts.{filled_next, filled_none, first_seats}
 use Rattle.cany_crew.proofs.assigning.fill_assignments.Goals as goal
+
+pub loop-i-init : goal.loop-i-init
+loop-i-init g c =
+    let none : length c.args.assignments.now.items ≡ 0 = ap length c.requires.empty in
+    let len = c.push_reserved.ensures.len in (
+      omega arith,
+      omega arith,
+      omega (arith, none, len, c.args.assignments.now.ok.0),
+      c.push_reserved.ensures.capacity,
+      refl,
+      filled_none g.G.Gate.refusals c.push_reserved.new.self.items c.args.assignments.now.items c.args.bus c.args.gates.now.items c.args.seats.items c.requires.empty
+          c.push_reserved.ensures.items (first_seats (vec_len c.args.seats) c.args.seats.items c.requires.seats),
+    )
 
 pub loop-i-preserved : goal.loop-i-preserved
 loop-i-preserved g c =
@@ -23,3 +36,15 @@ loop-i-preserved g c =
           (omega arith) of_seat.value of_seat.items (omega arith) of_gate.value of_gate.items
           node (ap (λ (p : AssignmentParts). p.refusals) c.new.ensures) pushed.items,
     )
+
+pub returns-clause-gates : goal.returns-clause-gates
+returns-clause-gates g c = c.loop-i.invariant.5.counts
+
+pub returns-clause-count : goal.returns-clause-count
+returns-clause-count g c = let count = c.loop-i.invariant.5.count in omega (arith, count)
+
+pub returns-clause-bus : goal.returns-clause-bus
+returns-clause-bus g c = c.loop-i.invariant.5.with_bus
+
+pub returns-clause-order : goal.returns-clause-order
+returns-clause-order g c = c.loop-i.invariant.5.order

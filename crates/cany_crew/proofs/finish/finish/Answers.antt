@@ -1,9 +1,12 @@
-use Rattle.std.proofs.Common.{◌≡◌, ◌<◌, true, sym, ap, ◌∙◌, subst, arith}
+use Rattle.std.proofs.Common.{◌≡◌, ◌<◌, true, List, length, map, Some, sym, ap, ◌∙◌, subst, arith}
 use Rattle.cany_base.specs.declared.step.Step.{Step}
 use Rattle.cany_base.specs.Scenario.{ScenarioParts}
 use Rattle.cany_model.specs.Runs.Run.{is_done, reply}
 use Rattle.cany_world.specs.World.{state_of}
 use Rattle.cany_crew.proofs.FinishFacts.{made_leaves_fewer, turn_within}
+use Rattle.cany_crew.specs.Gates.{IsOutcome}
+use Rattle.cany_crew.proofs.AssignmentFacts.{slice_whole}
+use Rattle.cany_crew.proofs.GateFacts.{outcome_held}
 use Rattle.cany_crew.proofs.finish.finish.Given as given
 use Rattle.cany_crew.proofs.finish.finish.Goals as goal
 use Rattle.cany_crew.proofs.finish.finish.Goals.{in-Turn+else-not-ask, in_default-step}
@@ -36,6 +39,17 @@ returns-then-not-ask-clause-node g c =
     (subst (λ (step : Step). is_done (reply world.scenario (state_of world) step) ≡ true) c.in-Turn.is c.in-Some.ensures.done) in
     let same = ap (λ (s : ScenarioParts). s.params.nodes) c.loop-step.invariant.0 in
     omega (arith, below, same)
+
+pub returns-then-not-ask-clause-outcome : goal.returns-then-not-ask-clause-outcome
+returns-then-not-ask-clause-outcome g c =
+    let counts = map g.G.Gate.refusals c.args.gates.now.items in
+    let same : map g.G.Gate.refusals c.as_mut_slice.result.now ≡ counts =
+    ap (λ (gates : List g.row.G.Denot). map g.G.Gate.refusals gates) c.as_mut_slice.ensures.value ∙ c.loop-step.invariant.2 in
+    let len : length c.ask.new.gates ≡ c.loop-step.gates.len = omega (arith, c.ask.auto.gates, c.as_mut_slice.ensures.len) in
+    subst (λ (gates : List g.row.G.Denot). IsOutcome counts (map g.G.Gate.refusals gates) (Some (c.in-Turn.node, c.read-slot.result)))
+    (sym (slice_whole c.loop-step.gates.len c.ask.new.gates c.loop-step.gates.items len))
+    (outcome_held counts (map g.G.Gate.refusals c.as_mut_slice.result.now) (map g.G.Gate.refusals c.ask.new.gates) (c.in-Turn.node, c.read-slot.result) same
+    c.ask.ensures.count (c.ask.ensures.refused c.if-not-ask.true))
 
 pub loop-step-smaller : goal.loop-step-smaller
 loop-step-smaller g c =

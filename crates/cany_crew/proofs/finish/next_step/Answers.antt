@@ -15,3 +15,6 @@ returns-in-None-clause-done c =
 pub returns-in-None-clause-legal : goal.returns-in-None-clause-legal
 returns-in-None-clause-legal c =
     slot_push c.args.world.now.scenario c.args.world.now.journal c.journal.ensures.legal c.in-None.ensures.none (sym c.ended.ensures ∙ c.if-ended.false)
+
+pub returns-in-None-clause-ended : goal.returns-in-None-clause-ended
+returns-in-None-clause-ended c = tt

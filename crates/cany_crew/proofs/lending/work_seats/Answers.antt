@@ -1,8 +1,7 @@
 use Rattle.std.proofs.Common.{◌≡◌, ◌-◌, ◌++◌, length, drop, take, refl, ap, ◌∙◌, arith, vec_len, map}
 use Rattle.std.proofs.lemmas.List.{length-append, length-map}
 use Rattle.cany_crew.specs.Assignments.{counts_of, first_refused}
-use Rattle.cany_crew.proofs.AssignmentFacts.{IsOutcome, bus_stays, counts_stay, held_within, outcome_is}
-use Rattle.cany_crew.proofs.lending.work_seats.Given as given
+use Rattle.cany_crew.proofs.AssignmentFacts.{bus_stays, counts_stay, held_within, outcome_is}
 use Rattle.cany_crew.proofs.lending.work_seats.Goals as goal
 
 pub empty_assignments-bus-requires-clause-bus : goal.empty_assignments-bus-requires-clause-bus
@@ -41,8 +40,8 @@ returns-clause-seats g c =
     let none : length c.args.rooms.seats.items ≡ 0 = ap (λ xs. length xs) c.requires.empty.1 in
     omega (arith, n, count, back, none, c.args.rooms.seats.ok)
 
-outcome : (g : given.Over) (c : goal.After-rotate_right g) → IsOutcome (map g.G.Gate.refusals c.args.gates.now.items) (map g.G.Gate.refusals c.rotate_right.new.self.items) c.first_refused-held.result
-outcome g c =
+pub returns-clause-outcome : goal.returns-clause-outcome
+returns-clause-outcome g c =
     let len : vec_len c.empty_assignments-bus.new.gates ≡ length c.empty_assignments-bus.new.gates.items = omega (arith, c.empty_assignments-bus.new.gates.ok.0) in
     let nodes : c.len-nodes.result ≡ length (counts_of c.fill_assignments.new.assignments.items) = let count = c.fill_assignments.ensures.count in omega (arith, count, c.len-nodes.ensures) in
     outcome_is g.G.Gate.refusals c.fill_assignments.new.assignments.items c.work_all.new.assignments.items c.args.gates.now.items c.fill_assignments.new.gates.items
@@ -53,16 +52,7 @@ outcome g c =
     ∙ ap (λ n. drop (length c.empty_assignments-bus.new.gates.items - n) c.empty_assignments-bus.new.gates.items ++ take (length c.empty_assignments-bus.new.gates.items - n) c.empty_assignments-bus.new.gates.items) nodes)
     (c.first_refused-held.ensures ∙ ap first_refused c.as_slice.ensures.value)
 
-pub returns-clause-passed : goal.returns-clause-passed
-returns-clause-passed g c = (outcome g c).passed
-
 pub returns-clause-node : goal.returns-clause-node
 returns-clause-node g c =
     held_within c.fill_assignments.new.assignments.items c.work_all.new.assignments.items c.first_refused-held.result _ c.fill_assignments.ensures.order
     c.work_all.ensures c.fill_assignments.ensures.count (c.first_refused-held.ensures ∙ ap first_refused c.as_slice.ensures.value)
-
-pub returns-clause-held : goal.returns-clause-held
-returns-clause-held g c = (outcome g c).refused
-
-pub returns-clause-count : goal.returns-clause-count
-returns-clause-count g c = (outcome g c).fell

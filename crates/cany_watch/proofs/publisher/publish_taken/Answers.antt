@@ -1,7 +1,6 @@
 use Rattle.std.proofs.Common.{◌∙◌, Some, ap}
 use Rattle.std.proofs.lemmas.Bool.{false≢true}
 use Rattle.cany_watch.specs.declared.published.Published.{Published}
-use Rattle.cany_watch.specs.Notes.{NoteParts}
 use Rattle.cany_watch.specs.Shown.{State}
 use Rattle.cany_watch.proofs.Waiting.{may_show, now_shown}
 use Rattle.cany_watch.proofs.publisher.publish_taken.Goals as goal

@@ -10,18 +10,18 @@ use Rattle.cany_watch.proofs.hall.Hall.build.Goals as goal
 pub invariant_of-result : goal.invariant_of-result
 invariant_of-result g c =
     let count : c.from-nodes.result ≡ c.args.scenario.now.params.nodes = c.from-nodes.ensures ∙ ap (λ (p : Parameters). p.nodes) (c.behind-scenario.view_is ∙ c.params.ensures.params) in
-    let nodes : nodes_of c.in_ok-world.world ≡ c.args.scenario.now.params.nodes = ap nodes_of c.in_ok-world.ensures in
-    first_of c.in_ok-world.world c.in_ok-publishers.publishers.items c.in_ok-publishers.readings.items
+    let nodes : nodes_of c.in-Ok.world ≡ c.args.scenario.now.params.nodes = ap nodes_of c.in-Ok.ensures in
+    first_of c.in-Ok.world c.in_ok-publishers.publishers.items c.in_ok-publishers.readings.items
     (subst (λ (n : ℕ). AreFirst n c.in_ok-publishers.publishers.items c.in_ok-publishers.readings.items) (count ∙ sym nodes) c.in_ok-publishers.ensures)
 
-pub returns-clause-readings : goal.returns-clause-readings
-returns-clause-readings g c i less =
+pub returns-in-Ok-clause-readings : goal.returns-in-Ok-clause-readings
+returns-in-Ok-clause-readings g c i less =
     let count : c.from-nodes.result ≡ c.args.scenario.now.params.nodes = c.from-nodes.ensures ∙ ap (λ (p : Parameters). p.nodes) (c.behind-scenario.view_is ∙ c.params.ensures.params) in
     subst (λ (l : List NoteParts). slice_get l i ≡ Some (note_of (publisher_at c.in_ok-publishers.publishers.items i))) (sym c.in_ok-publishers.ensures.notes)
     (note_there c.in_ok-publishers.publishers.items i (omega (arith, c.in_ok-publishers.ensures.count, count, less)))
 
-pub returns-clause-world : goal.returns-clause-world
-returns-clause-world g c = c.in_ok-world.ensures
+pub returns-in-Ok-clause-world : goal.returns-in-Ok-clause-world
+returns-in-Ok-clause-world g c = c.in-Ok.ensures
 
-pub returns-clause-nothing : goal.returns-clause-nothing
-returns-clause-nothing g c = λ i. (c.in_ok-publishers.ensures.empty i).0
+pub returns-in-Ok-clause-nothing : goal.returns-in-Ok-clause-nothing
+returns-in-Ok-clause-nothing g c = λ i. (c.in_ok-publishers.ensures.empty i).0

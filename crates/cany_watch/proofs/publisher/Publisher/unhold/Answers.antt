@@ -1,7 +1,7 @@
-use Rattle.std.proofs.Common.{◌≡◌, ◌∷◌, ◌++◌, ◌∙◌, [], List, Some, None, ap, append-nil, drop, refl, subst, sym}
+use Rattle.std.proofs.Common.{◌≡◌, ◌∷◌, ◌++◌, ◌∙◌, [], Some, ap, append-nil, drop, refl, subst, sym}
 use Rattle.std.specs.Prelude.{IsSomeAnd}
 use Rattle.cany_watch.specs.declared.published.Growth.{Growth}
-use Rattle.cany_watch.specs.Publishers.{IsWriterOf, PublisherParts, held_list, shown_of}
+use Rattle.cany_watch.specs.Publishers.{IsWriterOf, held_list, shown_of}
 use Rattle.cany_watch.proofs.Waiting.{waits_still}
 use Rattle.cany_watch.proofs.publisher.Publisher.unhold.Goals as goal
 

@@ -1,4 +1,4 @@
-use Rattle.cany_crew.proofs.crew.crew_run.Given as goal
+use Rattle.cany_crew.proofs.crew.run_crew.Given as goal
 
 abbrev pub ghosts-run_as-L-Course : goal.ghosts-run_as-L-Course
 ghosts-run_as-L-Course g a = record { scenario = a.world.scenario }

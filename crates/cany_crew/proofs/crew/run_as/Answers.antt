@@ -1,0 +1,14 @@
+use Rattle.std.proofs.Common.{◌<◌, sym, ◌∙◌, subst}
+use Rattle.std.specs.Prelude.{IfSome}
+use Rattle.cany_base.specs.Scenario.{ScenarioParts}
+use Rattle.cany_crew.proofs.crew.run_as.Goals as goal
+
+pub returns-in-Ok-start : goal.returns-in-Ok-start
+returns-in-Ok-start g c = record {
+  scenario = c.run_yard-world.ensures.scenario ∙ sym c.requires.course;
+  ended = c.run_yard-world.ensures.ended;
+  node = subst (λ (s : ScenarioParts). IfSome c.run_yard-world.result.1 (λ found. found.0 < s.params.nodes)) (sym c.requires.course) c.run_yard-world.ensures.node;
+  outcome = c.run_yard-world.ensures.outcome;
+  fell = c.run_yard-world.ensures.outcome.fell;
+  memory = tt;
+}

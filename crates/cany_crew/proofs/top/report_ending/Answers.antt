@@ -1,0 +1,51 @@
+use Rattle.std.proofs.Common.{inl, inr, arith}
+use Rattle.cany_command.specs.Promises.{PromisesHold}
+use Rattle.cany_crew.proofs.top.report_ending.Given as given
+use Rattle.cany_crew.proofs.top.report_ending.Goals as goal
+use Rattle.cany_crew.proofs.top.report_ending.Goals.{After-report_run}
+
+-- what is promised of the run that has ended
+promises : (g : given.Over) (c : After-report_run g) → PromisesHold c.args.world.now.scenario c.args.world.now.journal
+promises g c =
+    let ok = rw c.in-Ok.is at c.requires.ended in
+    let ended = rw c.in-None.is at ok in
+    record {
+      legal = ended.0;
+      whole = ended.1;
+      integrity = c.hypothesis.ensures.integrity;
+      safe = λ within. c.hypothesis.ensures.safe (c.hypothesis.ensures.within.1 within);
+    }
+
+pub returns-in-None-clause-done : goal.returns-in-None-clause-done
+returns-in-None-clause-done g c = λ done. record {
+  none = c.requires.none;
+  journal = c.args.world.now.journal;
+  promises = promises g c;
+  written = c.report_run.ensures.done done;
+}
+
+pub returns-in-None-clause-start : goal.returns-in-None-clause-start
+returns-in-None-clause-start g c = λ fault. (c.args.world.now.journal, promises g c, c.report_run.ensures.prefix)
+
+pub returns-in-None-clause-held : goal.returns-in-None-clause-held
+returns-in-None-clause-held g c = λ held.
+    elim c.report_run.ensures.status [ inl done ↦ absurd (omega (arith, held, done)) | inr fault ↦ absurd (omega (arith, held, fault)) ]
+
+pub returns-in-None-clause-untouched : goal.returns-in-None-clause-untouched
+returns-in-None-clause-untouched g c = λ none.
+    elim none [
+      | inl memory ↦ elim c.report_run.ensures.status [ inl done ↦ absurd (omega (arith, memory, done)) | inr fault ↦ absurd (omega (arith, memory, fault)) ]
+      | inr held ↦ elim c.report_run.ensures.status [ inl done ↦ absurd (omega (arith, held, done)) | inr fault ↦ absurd (omega (arith, held, fault)) ]
+    ]
+
+pub returns-in-None-clause-status : goal.returns-in-None-clause-status
+returns-in-None-clause-status g c = elim c.report_run.ensures.status [ inl done ↦ inl done | inr fault ↦ inr (inl fault) ]
+
+pub returns-in-Some-clause-done : goal.returns-in-Some-clause-done
+returns-in-Some-clause-done g c = λ done. absurd (omega (arith, done))
+
+pub returns-in-Some-clause-passed : goal.returns-in-Some-clause-passed
+returns-in-Some-clause-passed g c = λ done. absurd (omega (arith, done))
+
+pub returns-in-Err-clause-held : goal.returns-in-Err-clause-held
+returns-in-Err-clause-held g c = λ held. absurd (omega (arith, held))
