@@ -6,20 +6,20 @@ use Rattle.cany_edcan.specs.Edcan.{IsEdcanOf}
 use Rattle.cany_relcan.specs.Relcan.{IsRelcanOf}
 use Rattle.cany_totcan.specs.Totcan.{IsTotcanOf}
 use Rattle.cany_node.specs.Membership.{IsMembershipAtRest}
-use Rattle.cany_node.specs.declared.protocols.Orders.{Orders}
+use Rattle.cany_node.specs.declared.protocols.AllButEdcan.{AllButEdcan}
 use Rattle.cany_node.specs.declared.protocols.Protocols.{Protocols}
-use Rattle.cany_node.specs.declared.protocols.Relays.{Relays}
+use Rattle.cany_node.specs.declared.protocols.SiteAndRelcan.{SiteAndRelcan}
 
--- EDCAN and RELCAN are those of node i after any number of idle slots
-pub record AreRelaysAtRest (scenario : ScenarioParts) (i : ℕ) (p : Relays) : Type 0 where
-  pub edcan : (n : ℕ) → IsEdcanOf scenario i (replicate n Idle) p.edcan
+-- what is kept of the site is that of node i after any number of idle slots, whoever its members are, and so is RELCAN
+pub record AreSiteAndRelcanAtRest (scenario : ScenarioParts) (i : ℕ) (p : SiteAndRelcan) : Type 0 where
+  pub membership : IsMembershipAtRest scenario i p.membership
   pub relcan : (n : ℕ) → IsRelcanOf scenario i (replicate n Idle) p.relcan
 
--- TOTCAN is that too, and so is what is kept of the site, whoever its members are
-pub record AreOrdersAtRest (scenario : ScenarioParts) (i : ℕ) (p : Orders) : Type 0 where
+-- and so is TOTCAN
+pub record AreAllButEdcanAtRest (scenario : ScenarioParts) (i : ℕ) (p : AllButEdcan) : Type 0 where
   pub totcan : (n : ℕ) → IsTotcanOf scenario i (replicate n Idle) [] 0 p.totcan
-  pub membership : IsMembershipAtRest scenario i p.membership
+  pub others : AreSiteAndRelcanAtRest scenario i p.others
 
 pub record AreAtRest (scenario : ScenarioParts) (i : ℕ) (p : Protocols) : Type 0 where
-  pub relays : AreRelaysAtRest scenario i p.relays
-  pub orders : AreOrdersAtRest scenario i p.orders
+  pub edcan : (n : ℕ) → IsEdcanOf scenario i (replicate n Idle) p.edcan
+  pub others : AreAllButEdcanAtRest scenario i p.others

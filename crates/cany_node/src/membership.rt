@@ -52,9 +52,11 @@ impl Membership {
         requires { node < scenario.now.params.nodes }
         ensures { IfOk result (IsMembershipAtRest scenario.now node) }
     {
-        let life = Life::build(alloc, node, scenario)?;
+        // What has most to let go comes last: how that is done where the memory of the next is
+        // wanting would be proved part by part.
         let history = History::build(alloc, node, scenario)?;
         let views = Views::build(alloc, node, scenario)?;
+        let life = Life::build(alloc, node, scenario)?;
         Ok(Membership {
             params: *scenario.params(),
             life,

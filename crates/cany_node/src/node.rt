@@ -31,7 +31,7 @@ use crate::notices::{
     brings_totcan_or_life, is_early, is_error, is_for_edcan, is_for_relays, is_life_sign,
 };
 use crate::plan::{PlanAndLog, build_plan_and_log};
-use crate::protocols::{Protocols, build_protocols};
+use crate::protocols::{AllButEdcan, Protocols, SiteAndRelcan, build_protocols};
 use crate::reply::TurnReply;
 use crate::sending::send_due;
 use can_controller::Controller;
@@ -117,7 +117,9 @@ impl Node {
         requires { inc ≤ most_restarts_of_node }
         ensures { result ≡ first_parts node inc params protocols own }
     {
-        let Protocols { relays, orders } = protocols;
+        let Protocols { edcan, others } = protocols;
+        let AllButEdcan { totcan, others } = others;
+        let SiteAndRelcan { membership, relcan } = others;
         let PlanAndLog { plan, log } = own;
         Node {
             node,
@@ -126,10 +128,10 @@ impl Node {
             from: 0,
             cycle: 0,
             read: 0,
-            edcan: relays.edcan,
-            relcan: relays.relcan,
-            totcan: orders.totcan,
-            membership: orders.membership,
+            edcan,
+            relcan,
+            totcan,
+            membership,
             agenda: plan.agenda,
             joins: plan.joins,
             leaves: plan.leaves,

@@ -1,5 +1,5 @@
 ghost use Rattle.std.specs.Prelude.{◌<◌, IfOk};
-ghost use Rattle.cany_node.specs.Protocols.{AreAtRest, AreOrdersAtRest, AreRelaysAtRest};
+ghost use Rattle.cany_node.specs.Protocols.{AreAllButEdcanAtRest, AreAtRest, AreSiteAndRelcanAtRest};
 
 use crate::membership::Membership;
 use cany_base::{Memory, NodeId, Scenario};
@@ -8,48 +8,57 @@ use cany_relcan::Relcan;
 use cany_totcan::Totcan;
 use std::alloc::Global;
 
-/// The protocols whose frames are relayed, as they are built.
+/// What is kept of the site, and RELCAN, as they are built.
 #[derive(Drop)]
-pub(crate) struct Relays {
-    pub(crate) edcan: Edcan,
+pub(crate) struct SiteAndRelcan {
+    pub(crate) membership: Membership,
     pub(crate) relcan: Relcan,
 }
 
-/// What orders the messages and keeps the site, as they are built.
+/// Those and TOTCAN, as they are built.
 #[derive(Drop)]
-pub(crate) struct Orders {
+pub(crate) struct AllButEdcan {
     pub(crate) totcan: Totcan,
-    pub(crate) membership: Membership,
+    pub(crate) others: SiteAndRelcan,
 }
 
 /// The protocols of a node, as they are built.
 ///
-/// They are built two by two: how a value is let go where the memory of the next is wanting is
-/// proved part by part at each such place.
+/// Each is built before all that come after it, and RELCAN, which has most parts, last: how a value
+/// is let go where the memory of the next is wanting is proved part by part at each such place, and
+/// so each of these places lets go of one protocol alone.
 #[derive(Drop)]
 pub(crate) struct Protocols {
-    pub(crate) relays: Relays,
-    pub(crate) orders: Orders,
+    pub(crate) edcan: Edcan,
+    pub(crate) others: AllButEdcan,
 }
 
-/// EDCAN and RELCAN of such a node as `build_protocols` says.
-fn build_relays(alloc: Global, node: NodeId, scenario: &Scenario) -> Result<Relays, Memory>
+/// What is kept of the site, and RELCAN, of such a node as `build_protocols` says.
+fn build_site_and_relcan(
+    alloc: Global,
+    node: NodeId,
+    scenario: &Scenario,
+) -> Result<SiteAndRelcan, Memory>
     requires { node < scenario.now.params.nodes }
-    ensures { IfOk result (AreRelaysAtRest scenario.now node) }
+    ensures { IfOk result (AreSiteAndRelcanAtRest scenario.now node) }
 {
-    let edcan = Edcan::build(alloc, node, scenario)?;
+    let membership = Membership::build(alloc, node, scenario)?;
     let relcan = Relcan::build(alloc, node, scenario)?;
-    Ok(Relays { edcan, relcan })
+    Ok(SiteAndRelcan { membership, relcan })
 }
 
-/// TOTCAN and what is kept of the site, likewise.
-fn build_orders(alloc: Global, node: NodeId, scenario: &Scenario) -> Result<Orders, Memory>
+/// Those and TOTCAN, likewise.
+fn build_all_but_edcan(
+    alloc: Global,
+    node: NodeId,
+    scenario: &Scenario,
+) -> Result<AllButEdcan, Memory>
     requires { node < scenario.now.params.nodes }
-    ensures { IfOk result (AreOrdersAtRest scenario.now node) }
+    ensures { IfOk result (AreAllButEdcanAtRest scenario.now node) }
 {
     let totcan = Totcan::build(alloc, node, scenario)?;
-    let membership = Membership::build(alloc, node, scenario)?;
-    Ok(Orders { totcan, membership })
+    let others = build_site_and_relcan(alloc, node, scenario)?;
+    Ok(AllButEdcan { totcan, others })
 }
 
 /// Those of a node that has read nothing, or only notices of idle slots.
@@ -61,7 +70,7 @@ pub(crate) fn build_protocols(
     requires { node < scenario.now.params.nodes }
     ensures { IfOk result (AreAtRest scenario.now node) }
 {
-    let relays = build_relays(alloc, node, scenario)?;
-    let orders = build_orders(alloc, node, scenario)?;
-    Ok(Protocols { relays, orders })
+    let edcan = Edcan::build(alloc, node, scenario)?;
+    let others = build_all_but_edcan(alloc, node, scenario)?;
+    Ok(Protocols { edcan, others })
 }

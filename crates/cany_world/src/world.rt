@@ -48,7 +48,6 @@ use std::marker::Model;
 ///
 /// A world is at every moment the run of its scenario by its journal, in whatever order the steps
 /// were asked for. All memory is taken by `build`.
-#[derive(Drop)]
 pub struct World {
     scenario: Scenario,
     script: Script,
@@ -58,6 +57,31 @@ pub struct World {
     actions: Actions,
     journal: Journal,
     keys: Vec<MsgKey>,
+}
+
+/// By hand, so that it is proved here once: what a derived `Drop` lets go is proved again, part by
+/// part, in each crate that lets a world go.
+impl Drop for World {
+    fn drop(self) {
+        let World {
+            scenario,
+            script,
+            bus,
+            controllers,
+            nodes,
+            actions,
+            journal,
+            keys,
+        } = self;
+        drop(scenario);
+        drop(script);
+        drop(bus);
+        drop(controllers);
+        drop(nodes);
+        drop(actions);
+        drop(journal);
+        drop(keys);
+    }
 }
 
 impl Model for World {

@@ -1,4 +1,4 @@
 use Rattle.cany_node.proofs.protocols.build_protocols.Goals as goal
 
 pub returns : goal.returns
-returns c = record { relays = c.in_ok-relays.ensures; orders = c.in_ok-orders.ensures }
+returns c = record { edcan = c.in_ok-edcan.ensures; others = c.in_ok-others.ensures }
