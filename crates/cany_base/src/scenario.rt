@@ -14,7 +14,6 @@ use std::marker::Model;
 
 /// What a run is made from: the parameters, view 0, the scripted asks, the fault rules, the restarts, and the journal if one
 /// is given.
-#[derive(Drop)]
 pub struct Scenario {
     params: Params,
     members: NodeSet,
@@ -26,6 +25,30 @@ pub struct Scenario {
     journal: Option<Vec<Step>>,
     /// Those of `sends`.
     counts: SendCounts,
+}
+
+/// By hand, so that it is proved here once: what a derived `Drop` lets go is proved again, part by
+/// part, in each crate that lets a scenario go.
+impl Drop for Scenario {
+    fn drop(self) {
+        let Scenario {
+            params: _,
+            members: _,
+            sends,
+            rules,
+            joins,
+            leaves,
+            restarts,
+            journal,
+            counts: _,
+        } = self;
+        drop(sends);
+        drop(rules);
+        drop(joins);
+        drop(leaves);
+        drop(restarts);
+        drop(journal);
+    }
 }
 
 impl Model for Scenario {
@@ -177,10 +200,6 @@ impl Scenario {
     pub fn copy(&self, alloc: Global) -> Result<Scenario, Memory>
         ensures { IfOk result (λ copy. copy ≡ self.now) }
     {
-        let journal = match &self.journal {
-            Some(steps) => Some(Vec::from_slice(alloc, steps.as_slice())?),
-            None => None,
-        };
         Ok(Scenario {
             params: self.params,
             members: self.members,
@@ -189,8 +208,18 @@ impl Scenario {
             joins: Vec::from_slice(alloc, self.joins.as_slice())?,
             leaves: Vec::from_slice(alloc, self.leaves.as_slice())?,
             restarts: Vec::from_slice(alloc, self.restarts.as_slice())?,
-            journal,
+            journal: copy_of(alloc, &self.journal)?,
             counts: self.counts,
         })
     }
+}
+
+/// An equal list of steps, where there is one.
+fn copy_of(alloc: Global, journal: &Option<Vec<Step>>) -> Result<Option<Vec<Step>>, Memory>
+    ensures { IfOk result (λ copy. option_map (λ steps. steps.items) copy ≡ option_map (λ steps. steps.items) journal.now) }
+{
+    let Some(steps) = journal else {
+        return Ok(None);
+    };
+    Ok(Some(Vec::from_slice(alloc, steps.as_slice())?))
 }
