@@ -13,11 +13,10 @@ use Rattle.cany_base.specs.Nodes.{AllBelow, Nodes}
 use Rattle.cany_base.specs.Params.{Parameters}
 use Rattle.cany_base.specs.Scenario.{ScenarioParts}
 use Rattle.cany_history.specs.History.{IsHistoryOf}
-use Rattle.cany_life.specs.Life.{IsLifeOf, LifeParts}
-use Rattle.cany_life.specs.LifeSteps.{IsReading, heard}
+use Rattle.cany_life.specs.Life.{IsLifeOf, IsReading, LifeParts}
+use Rattle.cany_life.specs.LifeSteps.{heard}
 use Rattle.cany_life.proofs.HeardFacts.{heard_stands}
 use Rattle.cany_life.proofs.LearnFacts.{none_stands}
-use Rattle.cany_life.proofs.TurnFacts.{read_to_end}
 use Rattle.cany_model.specs.Rules.Effect.{Effect}
 use Rattle.cany_model.specs.Rules.KnowledgeOf.{after_asking, after_installing, after_meeting, after_notice, ended_in, knowledge_of, met_in, start_in}
 use Rattle.cany_model.specs.Rules.Knowledge.{FailureSign, Knowledge, after_finding, after_learning, after_life, found, found_in, has_timed_out, knows, shows_life, sign_in, told, with_shown, with_signs}
@@ -292,8 +291,7 @@ lives_stand scenario i past notice only v h rests next life is =
     let before : Knowledge = knowledge_of scenario i past in
     let reading : IsReading scenario i past (e ∷ past) (after_life i (length past) e before) (heard notice.slot e v.life) =
     heard_stands scenario i past before before.members v.life h.life e notice.slot next.next.slot next.next.within next.next.readable next.few in
-    let read = read_to_end scenario i (e ∷ past) (with_signs (told e (after_life i (length past) e before)) (after_life i (length past) e before)) (heard notice.slot e v.life)
-    (none_stands scenario i past (after_life i (length past) e before) e e refl only.no_copy (heard notice.slot e v.life) reading) in
+    let read = none_stands scenario i past (after_life i (length past) e before) e e refl only.no_copy (heard notice.slot e v.life) reading in
     let alive = lives scenario i past e only v h rests in
     let knows = knows_who_lives scenario i past e only v h rests in
     let vector : (knowledge_of scenario i (Idle ∷ past)).vector ≡ (knowledge_of scenario i (e ∷ past)).vector =
