@@ -25,6 +25,7 @@ use Rattle.cany_model.specs.Rules.Membership.{install_effects}
 use Rattle.cany_model.specs.Rules.Vectors.{brought, end_effects, ended, exchange_at, met, start_effects, vector_effects}
 use Rattle.cany_model.specs.Rules.Views.{after_ask, start_of, view_effects, with_ended}
 use Rattle.cany_views.specs.Views.{IsViewsOf}
+use Rattle.cany_views.proofs.ViewFacts.{stands_with}
 use Rattle.cany_node.specs.Membership.{IsMembershipOf, IsNextOf, MembershipParts, exchange_plain, life_plain, membership_effects}
 use Rattle.cany_node.specs.Resting.{MembershipRests}
 use Rattle.cany_node.proofs.Idle.MembershipRest.{both_none}
@@ -270,17 +271,9 @@ module _ (scenario : ScenarioParts) (i : ℕ) (past : List NoticeKind) (e : Noti
 
   views_same : IsViewsOf scenario i (knowledge_of scenario i past) v.views
       → IsViewsOf scenario i (record (knowledge_of scenario i past) { shown = lives.shown; last = lives.last }) v.views
-  views_same k = record {
-    legal = k.legal;
-    node = k.node;
-    params = k.params;
-    members = k.members;
-    joiners = k.joiners;
-    leavers = k.leavers;
-    below = k.below;
-    joins = k.joins;
-    leaves = k.leaves;
-  }
+  views_same k =
+      stands_with scenario i (knowledge_of scenario i past) (record (knowledge_of scenario i past) { shown = lives.shown; last = lives.last }) v.views
+      v.views.members v.views.joiners v.views.leavers k k.below k.members k.joiners k.leavers
 
 -- it stands for the notice too, once life has heard it
 pub lives_stand : (scenario : ScenarioParts) (i : ℕ) (past : List NoticeKind) (notice : Notice) → IsLifeAtMost notice.kind → (v : MembershipParts)
