@@ -8,8 +8,5 @@ use crate::tally::Tally;
 fn is_thread_safe<T: Send + Sync>() {}
 
 fn all_are_thread_safe() {
-    is_thread_safe::<Script>();
-    is_thread_safe::<ScriptFault>();
-    is_thread_safe::<Attempts>();
-    is_thread_safe::<Tally>();
+    is_thread_safe::<(Script, ScriptFault, Attempts, Tally)>();
 }

@@ -1,2 +1,1 @@
-pub mod CallFacts
 pub mod EdcanFacts

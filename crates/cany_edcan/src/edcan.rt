@@ -7,7 +7,9 @@ ghost use Rattle.cany_base.specs.declared.notice.NoticeKind.TheVariants.{Idle};
 ghost use Rattle.cany_base.specs.Frame.{FrameParts};
 ghost use Rattle.cany_base.specs.Scenario.{ScenarioParts};
 ghost use Rattle.cany_diffuse.specs.Eager.{copies_of, is_owned, learnt_of, IsCounted, IsLearnt, IsOwned};
+ghost use Rattle.cany_message.specs.declared.calls.Reply.TheVariants as reply;
 ghost use Rattle.cany_message.specs.Actions.{delivery_actions, relay_actions};
+ghost use Rattle.cany_message.specs.Calls.{actions_called, replied};
 ghost use Rattle.cany_base.specs.Limits.{most_nodes};
 ghost use Rattle.can_frame.specs.Identifier.{HasSmallNumbers};
 ghost use Rattle.cany_message.specs.Numbers.{frame_number};
@@ -15,27 +17,18 @@ ghost use Rattle.cany_message.specs.Table.{CanTake};
 ghost use Rattle.cany_model.specs.Rules.Actions.{actions_of};
 ghost use Rattle.cany_model.specs.Rules.Edcan.{edcan_effects};
 ghost use Rattle.cany_model.specs.Rules.Notices.{IsNextNotice};
-ghost use Rattle.cany_edcan.specs.declared.calls.Relay.TheVariants as relay;
-ghost use Rattle.cany_edcan.specs.Calls.{actions_called, relayed};
 ghost use Rattle.cany_edcan.specs.Edcan.{IsEdcanOf, CanRead};
 ghost use Rattle.cany_edcan.specs.EdcanSteps.{holds_own, was_delivered};
 
-use crate::calls::{Calls, Relay, put, relay_of};
 use crate::data::{Data, is_data};
 use cany_base::{
     Action, Actions, Format, Frame, Memory, MsgKey, NodeId, Notice, NoticeKind, Payload, Scenario,
     Service,
 };
-use cany_diffuse::{Diffused, Eager};
-use cany_message::sends_by;
+use cany_diffuse::{Diffused, Eager, Learnt};
+use cany_message::{Calls, Reply, bare_identifier, put, sends_by};
 use std::alloc::Global;
 use std::marker::Model;
-
-/// What a notice calls for that brings no data frame of EDCAN.
-const NOTHING: Calls = Calls {
-    delivers: false,
-    relay: Relay::Nothing,
-};
 
 /// EDCAN at one node: which messages it delivered, and the copies of each data frame.
 ///
@@ -99,7 +92,7 @@ impl Edcan {
         ensures room { out.new.room ≡ out.old.room }
     {
         let calls = self.hear(notice);
-        put(&calls, notice, out);
+        put(Service::Ed, &calls, notice, out);
     }
 
     /// What a notice calls for. The notices of the slots before the first that a value is given
@@ -109,7 +102,7 @@ impl Edcan {
     pub fn hear(&mut self, notice: &Notice) -> Calls
         requires { CanRead self.old notice.now }
         ensures actions { (scenario : ScenarioParts) (past : List NoticeKind) → IsEdcanOf scenario self.old.node past self.old → IsNextNotice scenario past notice.now
-            → actions_called notice.now result ≡ actions_of scenario.params.format (edcan_effects scenario self.old.node (notice.now.kind ∷ past)) }
+            → actions_called service.Ed notice.now result ≡ actions_of scenario.params.format (edcan_effects scenario self.old.node (notice.now.kind ∷ past)) }
         ensures stands { (scenario : ScenarioParts) (past : List NoticeKind) → IsEdcanOf scenario self.old.node past self.old → IsNextNotice scenario past notice.now
             → IsEdcanOf scenario self.old.node (notice.now.kind ∷ past) self.new }
     {
@@ -118,18 +111,18 @@ impl Edcan {
                 if is_data(frame) {
                     self.on_copy(frame)
                 } else {
-                    NOTHING
+                    Calls::NOTHING
                 }
             }
             NoticeKind::Sent(frame) => {
                 if is_data(frame) {
                     self.on_own(frame)
                 } else {
-                    NOTHING
+                    Calls::NOTHING
                 }
             }
-            NoticeKind::Idle => NOTHING,
-            NoticeKind::Bad => NOTHING,
+            NoticeKind::Idle => Calls::NOTHING,
+            NoticeKind::Bad => Calls::NOTHING,
         }
     }
 
@@ -143,15 +136,15 @@ impl Edcan {
         ensures state { self.new ≡ record self.old { copies = self.new.copies } }
         ensures in_range { frame.now.node < most_nodes }
         ensures delivers { result.delivers ≡ not (was_delivered self.old frame.now) }
-        ensures relay { let learnt = learnt_of self.old.copies.omit (copies_of self.new.copies (frame_number frame.now)) (is_owned self.old.copies (frame_number frame.now)) in
-            relayed result.relay frame.now ≡ relay_actions self.old.format learnt frame.now }
+        ensures reply { let learnt = learnt_of self.old.copies.omit (copies_of self.new.copies (frame_number frame.now)) (is_owned self.old.copies (frame_number frame.now)) in
+            replied result.reply frame.now ≡ relay_actions self.old.format learnt frame.now }
     {
         let was_held = self.holds_own(frame);
         let learnt = self.copies.learn(Data::of(frame));
         let is_new = learnt.is_first_copy() && !was_held;
         Calls {
             delivers: is_new,
-            relay: relay_of(self.format, &learnt, frame),
+            reply: reply_to_copy(self.format, &learnt, frame),
         }
     }
 
@@ -164,14 +157,14 @@ impl Edcan {
         ensures state { self.new ≡ record self.old { copies = self.new.copies } }
         ensures in_range { frame.now.node < most_nodes }
         ensures delivers { result.delivers ≡ (frame.now.node == self.old.node && not (was_delivered self.old frame.now)) }
-        ensures relay { result.relay ≡ relay.Nothing }
+        ensures reply { result.reply ≡ reply.Nothing }
     {
         let was_held = self.holds_own(frame);
         let delivers = frame.node.get() == self.node.get() && !was_held;
         self.copies.own(Data::of(frame));
         Calls {
             delivers,
-            relay: Relay::Nothing,
+            reply: Reply::Nothing,
         }
     }
 
@@ -186,5 +179,20 @@ impl Edcan {
         let _spare = self.copies.spare();
         let data = Data::of(frame);
         frame.node.get() == self.node.get() && self.copies.holds(&data)
+    }
+}
+
+/// The reply to the copy of a frame: the frame is relayed.
+#[inline(always)]
+fn reply_to_copy(format: Format, learnt: &Learnt, frame: &Frame) -> Reply
+    requires { HasSmallNumbers format frame.now }
+    ensures { replied result frame.now ≡ relay_actions format learnt.now frame.now }
+{
+    match learnt {
+        Learnt::First => Reply::Asks,
+        Learnt::Again { .. } => Reply::Nothing,
+        Learnt::Enough { .. } => Reply::Withdraws {
+            ident: bare_identifier(format, frame),
+        },
     }
 }

@@ -2,12 +2,10 @@
 //! frame by eager diffusion.
 #![tactic(auto)]
 
-mod calls;
 mod data;
 mod edcan;
 mod laws;
 mod threads;
 
-pub use calls::{Calls, Relay};
 pub use edcan::Edcan;
 pub use laws::rests;

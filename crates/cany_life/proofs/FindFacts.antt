@@ -14,8 +14,8 @@ use Rattle.cany_model.specs.Rules.Eager.{has_enough}
 use Rattle.cany_model.specs.Rules.Life.{sign_effects}
 use Rattle.cany_model.specs.Rules.Knowledge.{FailureSign, Knowledge, fda_of, found, has_timed_out, knows, sign_in, with_signs}
 use Rattle.cany_model.proofs.Among.{Each-weaker}
-use Rattle.cany_life.specs.Life.{IsSignOf, LifeParts}
-use Rattle.cany_life.specs.LifeSteps.{IsReading, all_marked, found_actions, found_at, found_below, has_enough_of, is_known, has_timed_out_at}
+use Rattle.cany_life.specs.Life.{IsReading, IsSignOf, LifeParts}
+use Rattle.cany_life.specs.LifeSteps.{all_marked, found_actions, found_at, found_below, has_enough_of, is_known, has_timed_out_at}
 use Rattle.cany_life.proofs.FoundFacts.{IsBelow, found_below-below}
 use Rattle.cany_life.proofs.KnownFacts.{stands_all}
 use Rattle.cany_life.proofs.LearnFacts.{all_acts, cycle_of_run, enough_of}

@@ -16,8 +16,8 @@ use Rattle.cany_model.specs.Rules.Notices.{HasFewSigns, IsReadable}
 use Rattle.cany_model.specs.Rules.Knowledge.{Knowledge, after_life, shows_life, with_members}
 use Rattle.cany_model.proofs.Among.{count-no, count-yes}
 use Rattle.cany_model.proofs.Rules.NumberFacts.{belongs_small}
-use Rattle.cany_life.specs.Life.{IsLifeOf, LifeParts}
-use Rattle.cany_life.specs.LifeSteps.{IsReading, heard}
+use Rattle.cany_life.specs.Life.{IsLifeOf, IsReading, LifeParts}
+use Rattle.cany_life.specs.LifeSteps.{heard}
 
 module _ (scenario : ScenarioParts) (i : ℕ) (past : List NoticeKind) (knowledge : Knowledge) (members : Nodes) (v : LifeParts) (h : IsLifeOf scenario i past knowledge v) where
   -- after a notice by which no sign becomes known

@@ -12,8 +12,8 @@ use Rattle.cany_base.proofs.NodesFacts.{has-those_where}
 use Rattle.cany_base.proofs.ParamsFacts.{few_nodes}
 use Rattle.cany_diffuse.specs.Eager.{EagerParts}
 use Rattle.cany_model.specs.Rules.Knowledge.{FailureSign, Knowledge, knows, with_sign, with_signs}
-use Rattle.cany_life.specs.Life.{AreCopies, IsSignOf, LifeParts, known_in}
-use Rattle.cany_life.specs.LifeSteps.{IsReading, all_marked, marked}
+use Rattle.cany_life.specs.Life.{AreCopies, IsReading, IsSignOf, LifeParts, known_in}
+use Rattle.cany_life.specs.LifeSteps.{all_marked, marked}
 use Rattle.cany_life.proofs.MarkFacts.{length-marked}
 
 -- the nodes of a set with one node more

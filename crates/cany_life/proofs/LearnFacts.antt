@@ -32,8 +32,8 @@ use Rattle.cany_model.specs.Rules.Notices.{BelongsTo, IsNextNotice, NamesNode}
 use Rattle.cany_model.specs.Rules.Rooms.{cycles}
 use Rattle.cany_model.specs.Rules.Knowledge.{FailureSign, Knowledge, fda_frame, fda_of, sign_of, told, with_signs}
 use Rattle.cany_model.proofs.Bus.Identities.{same_class-true}
-use Rattle.cany_life.specs.Life.{AreCopies, IsSignOf, LifeParts, sign_number}
-use Rattle.cany_life.specs.LifeSteps.{IsReading, all_marked, has_enough_of, is_known, known_actions, sign_actions, unknown}
+use Rattle.cany_life.specs.Life.{AreCopies, IsReading, IsSignOf, LifeParts, sign_number}
+use Rattle.cany_life.specs.LifeSteps.{all_marked, has_enough_of, is_known, known_actions, sign_actions, unknown}
 use Rattle.cany_life.proofs.CopyFacts.{copies_bad, copies_got, copies_idle, copies_other, copies_sent}
 use Rattle.cany_life.proofs.KnownFacts.{stands_all, stands_counted}
 

@@ -9,14 +9,13 @@ use Rattle.cany_base.proofs.ParamsFacts.{few_nodes}
 use Rattle.cany_model.specs.Rules.Life.{failures_at, fda_copy_effects}
 use Rattle.cany_model.specs.Rules.Notices.{HasFewSigns}
 use Rattle.cany_model.specs.Rules.Knowledge.{Knowledge, after_life, found, after_finding, told, with_members, with_signs}
-use Rattle.cany_life.specs.Life.{IsLifeOf, LifeParts, Rests}
-use Rattle.cany_life.specs.LifeSteps.{IsIdleUntil, IsReading, heard}
+use Rattle.cany_life.specs.Life.{IsLifeOf, IsReading, LifeParts, Rests}
+use Rattle.cany_life.specs.LifeSteps.{IsIdleUntil, heard}
 use Rattle.cany_life.proofs.FindFacts.{found_is}
 use Rattle.cany_life.proofs.HeardFacts.{heard_stands}
 use Rattle.cany_life.proofs.LearnFacts.{none_stands}
 use Rattle.cany_life.proofs.IdleFacts.{none_found}
 use Rattle.cany_life.proofs.SentFacts.{few_other}
-use Rattle.cany_life.proofs.TurnFacts.{read_to_end}
 
 module _ (scenario : ScenarioParts) (i : ℕ) (past : List NoticeKind) (knowledge : Knowledge) (members : Nodes) (v : LifeParts) (h : IsLifeOf scenario i past knowledge v)
     (within : length past < scenario.params.slots) where
@@ -55,7 +54,7 @@ module _ (scenario : ScenarioParts) (i : ℕ) (past : List NoticeKind) (knowledg
     -- the value rests where its own life sign is not due either
     pub rests : (has members v.node && length past == v.last + v.params.life) ≡ false → Rests scenario i past before v
     rests none = record {
-      stands = read_to_end scenario i (Idle ∷ past) before v idle_reads;
+      stands = idle_reads;
       failures = no_failures;
       found = as_before;
       sign = rw (← h.node, ← h.params, ← h.last, none) refl;

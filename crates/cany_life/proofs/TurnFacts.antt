@@ -17,8 +17,8 @@ use Rattle.cany_model.specs.Rules.Life.{failures_at, fda_copy_effects, sign_effe
 use Rattle.cany_model.specs.Rules.Notices.{IsNextNotice}
 use Rattle.cany_model.specs.Rules.Knowledge.{FailureSign, Knowledge, after_life, fda_frame, found, after_finding, after_hearing, after_learning, shows_life, told, told_in, with_members, with_shown, with_signs}
 use Rattle.cany_model.proofs.Rules.NumberFacts.{belongs_small}
-use Rattle.cany_life.specs.Life.{IsLifeOf, IsNextAt, LifeParts}
-use Rattle.cany_life.specs.LifeSteps.{CanLearn, IsReading, all_marked, found_actions, found_below, heard}
+use Rattle.cany_life.specs.Life.{IsLifeOf, IsNextAt, IsReading, LifeParts}
+use Rattle.cany_life.specs.LifeSteps.{CanLearn, all_marked, found_actions, found_below, heard}
 use Rattle.cany_life.proofs.FindFacts.{find_acts, find_stands}
 use Rattle.cany_life.proofs.HeardFacts.{heard_stands}
 use Rattle.cany_life.proofs.LearnFacts.{cycle_of_run}
@@ -48,23 +48,6 @@ learnt_members i slot e knowledge = signs_keep_members (told_in i slot e knowled
 pub at_own_node : (scenario : ScenarioParts) (i : ℕ) (past : List NoticeKind) (knowledge : Knowledge) (v : LifeParts) → IsLifeOf scenario i past knowledge v
     → IsLifeOf scenario v.node past knowledge v
 at_own_node scenario i past knowledge v h = subst (λ n. IsLifeOf scenario n past knowledge v) (sym h.node) h
-
-pub read_to_end : (scenario : ScenarioParts) (i : ℕ) (past : List NoticeKind) (knowledge : Knowledge) (v : LifeParts) → IsReading scenario i past past knowledge v
-    → IsLifeOf scenario i past knowledge v
-read_to_end scenario i past knowledge v h = record {
-  legal = h.legal;
-  node = h.node;
-  params = h.params;
-  failed = h.failed;
-  cycles = h.cycles;
-  known = h.known;
-  copies = h.copies;
-  nodes = h.nodes;
-  shown = h.shown;
-  last = h.last;
-  sent = h.sent;
-  few = h.few;
-}
 
 -- what learning ensures, at each history that the value stands for
 abbrev pub Learns : Notice → LifeParts → LifeParts → Type 0
@@ -148,9 +131,8 @@ module _ (scenario : ScenarioParts) (i : ℕ) (past : List NoticeKind) (knowledg
     pub turn_stands : (y : LifeParts) → y ≡ all_marked (found_below x members notice.slot x.params.nodes) x
         → IsLifeOf scenario i (notice.kind ∷ past) (after_finding scenario.params i (length past) notice.kind before) y
     turn_stands y finds =
-        read_to_end scenario i (notice.kind ∷ past) (after_finding scenario.params i (length past) notice.kind before) y
-        (subst (λ k. IsReading scenario i (notice.kind ∷ past) (notice.kind ∷ past) (with_signs (found scenario.params i k learnt) learnt) y) next.next.slot
-        (find_stands scenario i (notice.kind ∷ past) (notice.kind ∷ past) learnt x notice.slot learnt_reads next.next.within members same_members y finds))
+        subst (λ k. IsReading scenario i (notice.kind ∷ past) (notice.kind ∷ past) (with_signs (found scenario.params i k learnt) learnt) y) next.next.slot
+        (find_stands scenario i (notice.kind ∷ past) (notice.kind ∷ past) learnt x notice.slot learnt_reads next.next.within members same_members y finds)
 
     pub turn_acts : (start here end : List Action)
         → here ≡ start ++ actions_of scenario.params.format

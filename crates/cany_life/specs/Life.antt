@@ -55,20 +55,24 @@ abbrev pub known_in : List Nodes → ℕ → Nodes
 known_in known cycle = slice_index_or known cycle nobody
 
 -- The value is that of node i after these notices, newest first, where it knows what this knowledge knows, its members left aside: they
--- are given to each call.
-pub record IsLifeOf (scenario : ScenarioParts) (i : ℕ) (past : List NoticeKind) (knowledge : Knowledge) (v : LifeParts) : Type 0 where
+-- are given to each call. The copies are those in notices of their own, since they are counted in the middle of a turn.
+pub record IsReading (scenario : ScenarioParts) (i : ℕ) (counted past : List NoticeKind) (knowledge : Knowledge) (v : LifeParts) : Type 0 where
   pub legal : IsLegalScenario scenario
   pub node : v.node ≡ i
   pub params : v.params ≡ scenario.params
   pub failed : (r : ℕ) → has v.failed r ≡ has knowledge.failed r
   pub cycles : length v.known ≡ cycles scenario + 1
   pub known : (sign : FailureSign) → IsSignOf scenario sign → has (known_in v.known sign.cycle) sign.node ≡ knows sign knowledge
-  pub copies : AreCopies scenario past v.copies
+  pub copies : AreCopies scenario counted v.copies
   pub nodes : length v.shown ≡ most_nodes
   pub shown : (r : ℕ) → r < scenario.params.nodes → slice_index_or v.shown r 0 ≡ knowledge.shown r
   pub last : v.last ≡ knowledge.last
   pub sent : v.sent ≡ life_signs_sent i past
   pub few : HasFewSigns scenario i past (length past)
+
+-- the same between two turns
+abbrev pub IsLifeOf : ScenarioParts → ℕ → List NoticeKind → Knowledge → LifeParts → Type 0
+IsLifeOf scenario i past knowledge v = IsReading scenario i past past knowledge v
 
 -- the notice can come next: of the node's own life signs there are not too many with it
 pub record IsNextAt (scenario : ScenarioParts) (i : ℕ) (past : List NoticeKind) (notice : Notice) : Type 0 where

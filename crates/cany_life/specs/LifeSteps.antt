@@ -1,5 +1,5 @@
 -- What a notice, and a sign that becomes known, do to a value of life signs and failure signs, and the actions that a sign calls for.
-use Rattle.std.specs.Prelude.{◌≡◌, ℕ, zero, suc, ◌+◌, ◌-◌, ◌<◌, ◌≤◌, ◌==◌, ◌&&◌, Bool, true, not, nat_le, if◌then◌else◌, List, [], ◌∷◌, ◌++◌, length, slice_index_or, slice_set}
+use Rattle.std.specs.Prelude.{◌≡◌, ℕ, zero, suc, ◌+◌, ◌-◌, ◌<◌, ◌≤◌, ◌==◌, ◌&&◌, Bool, true, not, nat_le, if◌then◌else◌, List, [], ◌∷◌, ◌++◌, slice_index_or, slice_set}
 use Rattle.std.specs.List.{flat_map}
 use Rattle.cany_base.specs.declared.actions.Action.{Action}
 use Rattle.cany_base.specs.declared.actions.Action.TheVariants.{Ask, Enter}
@@ -10,14 +10,12 @@ use Rattle.cany_base.specs.declared.notice.NoticeKind.{NoticeKind}
 use Rattle.cany_base.specs.declared.notice.NoticeKind.TheVariants.{Idle, Got, Sent, Bad}
 use Rattle.cany_base.specs.Limits.{most_nodes}
 use Rattle.cany_base.specs.Nodes.{Nodes, has, with_node}
-use Rattle.cany_base.specs.Scenario.{ScenarioParts, IsLegalScenario}
+use Rattle.cany_base.specs.Scenario.{ScenarioParts}
 use Rattle.cany_diffuse.specs.Eager.{copies_of}
 use Rattle.cany_model.specs.Bus.Frames.{same_class}
-use Rattle.cany_model.specs.Rules.Life.{life_signs_sent}
-use Rattle.cany_model.specs.Rules.Notices.{HasFewSigns, IsNextNotice}
-use Rattle.cany_model.specs.Rules.Rooms.{cycles}
-use Rattle.cany_model.specs.Rules.Knowledge.{FailureSign, Knowledge, fda_frame, knows, shows_life, sign_in}
-use Rattle.cany_life.specs.Life.{AreCopies, IsSignOf, LifeParts, known_in, sign_number}
+use Rattle.cany_model.specs.Rules.Notices.{IsNextNotice}
+use Rattle.cany_model.specs.Rules.Knowledge.{FailureSign, Knowledge, fda_frame, shows_life, sign_in}
+use Rattle.cany_life.specs.Life.{IsReading, LifeParts, known_in, sign_number}
 
 -- ---- who shows life
 
@@ -93,21 +91,6 @@ abbrev pub found_actions : LifeParts → ℕ → List FailureSign → List Actio
 found_actions v slot signs = flat_map (λ sign. sign_actions slot (has_enough_of v sign) sign) signs
 
 -- ---- in the middle of a turn
-
--- As `IsLifeOf`, but the copies are those in other notices than the rest.
-pub record IsReading (scenario : ScenarioParts) (i : ℕ) (counted past : List NoticeKind) (knowledge : Knowledge) (v : LifeParts) : Type 0 where
-  pub legal : IsLegalScenario scenario
-  pub node : v.node ≡ i
-  pub params : v.params ≡ scenario.params
-  pub failed : (r : ℕ) → has v.failed r ≡ has knowledge.failed r
-  pub cycles : length v.known ≡ cycles scenario + 1
-  pub known : (sign : FailureSign) → IsSignOf scenario sign → has (known_in v.known sign.cycle) sign.node ≡ knows sign knowledge
-  pub copies : AreCopies scenario counted v.copies
-  pub nodes : length v.shown ≡ most_nodes
-  pub shown : (r : ℕ) → r < scenario.params.nodes → slice_index_or v.shown r 0 ≡ knowledge.shown r
-  pub last : v.last ≡ knowledge.last
-  pub sent : v.sent ≡ life_signs_sent i past
-  pub few : HasFewSigns scenario i past (length past)
 
 -- it has read the notice, but counted no copy in it, and the notice came next
 pub record CanLearn (v : LifeParts) (notice : Notice) : Type 0 where

@@ -1,3 +1,4 @@
+pub mod CallFacts
 pub mod DeliveryFacts
 pub mod EarlierFacts
 pub mod FewSendsFacts

@@ -1,4 +1,5 @@
 pub mod Actions
+pub mod Calls
 pub mod Numbers
 pub mod Sequence
 pub mod Table

@@ -1,6 +1,8 @@
 ghost use Rattle.std.specs.Prelude.{◌≡◌, ◌+◌, ◌<◌, ◌≤◌, ◌++◌, length};
 ghost use Rattle.can_frame.specs.Identifier.{HasSmallNumbers};
 ghost use Rattle.cany_message.specs.Actions.{delivery_actions, relay_actions, withdraw_actions};
+ghost use Rattle.cany_model.specs.Bus.Frames.{identity_of};
+ghost use Rattle.cany_model.specs.Rules.Actions.{ident_of};
 
 use can_frame::{identifier, small_numbers_fit};
 use cany_base::{Action, Actions, Format, Frame, LogEntry, MsgKey, Service, Slot};
@@ -26,6 +28,17 @@ pub fn deliver(service: Service, slot: Slot, frame: &Frame, delivers: bool, out:
     }
 }
 
+/// The identifier of a frame, in which no incarnation is named.
+#[inline(never)]
+pub fn bare_identifier(format: Format, frame: &Frame) -> u32
+    requires { HasSmallNumbers format frame.now }
+    ensures { result ≡ ident_of format (identity_of frame.now) }
+{
+    small_numbers_fit(format);
+    let named = Frame { inc: 0, ..*frame };
+    identifier(format, &named)
+}
+
 /// Withdraws the frame of this frame's identity, or does nothing. The format is that of the
 /// scenario. No incarnation is named.
 pub fn withdraw(format: Format, frame: &Frame, withdraws: bool, out: &mut Actions)
@@ -36,10 +49,9 @@ pub fn withdraw(format: Format, frame: &Frame, withdraws: bool, out: &mut Action
     ensures few { length out.new.items ≤ length out.old.items + 1 }
 {
     if withdraws {
-        small_numbers_fit(format);
-        let named = Frame { inc: 0, ..*frame };
-        let ident = identifier(format, &named);
-        out.push(Action::Withdraw { ident });
+        out.push(Action::Withdraw {
+            ident: bare_identifier(format, frame),
+        });
     }
 }
 

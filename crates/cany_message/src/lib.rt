@@ -1,9 +1,10 @@
 //! What the broadcast protocols share: the number that stands for a message, the frames that name
-//! it, the actions that deliver it, relay its frame and withdraw it, the sequence numbers of
-//! scripted sends, and how many of them are by a service.
+//! it, the actions that deliver it, relay its frame and withdraw it, what a notice of such a frame
+//! calls for, the sequence numbers of scripted sends, and how many of them are by a service.
 #![tactic(auto)]
 
 mod actions;
+mod calls;
 mod frame;
 mod keys;
 mod number;
@@ -11,7 +12,8 @@ mod sends;
 mod sequence;
 mod threads;
 
-pub use actions::{deliver, relay, withdraw};
+pub use actions::{bare_identifier, deliver, relay, withdraw};
+pub use calls::{Calls, Reply, confirmation_frame, put};
 pub use frame::{FrameClass, MessageFrame, is_of_class};
 pub use keys::keys_of;
 pub use number::message_number;

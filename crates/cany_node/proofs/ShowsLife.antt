@@ -13,11 +13,10 @@ use Rattle.cany_base.specs.Nodes.{AllBelow, Nodes}
 use Rattle.cany_base.specs.Params.{Parameters}
 use Rattle.cany_base.specs.Scenario.{ScenarioParts}
 use Rattle.cany_history.specs.History.{IsHistoryOf}
-use Rattle.cany_life.specs.Life.{IsLifeOf, LifeParts}
-use Rattle.cany_life.specs.LifeSteps.{IsReading, heard}
+use Rattle.cany_life.specs.Life.{IsLifeOf, IsReading, LifeParts}
+use Rattle.cany_life.specs.LifeSteps.{heard}
 use Rattle.cany_life.proofs.HeardFacts.{heard_stands}
 use Rattle.cany_life.proofs.LearnFacts.{none_stands}
-use Rattle.cany_life.proofs.TurnFacts.{read_to_end}
 use Rattle.cany_model.specs.Rules.Effect.{Effect}
 use Rattle.cany_model.specs.Rules.KnowledgeOf.{after_asking, after_installing, after_meeting, after_notice, ended_in, knowledge_of, met_in, start_in}
 use Rattle.cany_model.specs.Rules.Knowledge.{FailureSign, Knowledge, after_finding, after_learning, after_life, found, found_in, has_timed_out, knows, shows_life, sign_in, told, with_shown, with_signs}
@@ -26,6 +25,7 @@ use Rattle.cany_model.specs.Rules.Membership.{install_effects}
 use Rattle.cany_model.specs.Rules.Vectors.{brought, end_effects, ended, exchange_at, met, start_effects, vector_effects}
 use Rattle.cany_model.specs.Rules.Views.{after_ask, start_of, view_effects, with_ended}
 use Rattle.cany_views.specs.Views.{IsViewsOf}
+use Rattle.cany_views.proofs.ViewFacts.{stands_with}
 use Rattle.cany_node.specs.Membership.{IsMembershipOf, IsNextOf, MembershipParts, exchange_plain, life_plain, membership_effects}
 use Rattle.cany_node.specs.Resting.{MembershipRests}
 use Rattle.cany_node.proofs.Idle.MembershipRest.{both_none}
@@ -271,17 +271,9 @@ module _ (scenario : ScenarioParts) (i : ℕ) (past : List NoticeKind) (e : Noti
 
   views_same : IsViewsOf scenario i (knowledge_of scenario i past) v.views
       → IsViewsOf scenario i (record (knowledge_of scenario i past) { shown = lives.shown; last = lives.last }) v.views
-  views_same k = record {
-    legal = k.legal;
-    node = k.node;
-    params = k.params;
-    members = k.members;
-    joiners = k.joiners;
-    leavers = k.leavers;
-    below = k.below;
-    joins = k.joins;
-    leaves = k.leaves;
-  }
+  views_same k =
+      stands_with scenario i (knowledge_of scenario i past) (record (knowledge_of scenario i past) { shown = lives.shown; last = lives.last }) v.views
+      v.views.members v.views.joiners v.views.leavers k k.below k.members k.joiners k.leavers
 
 -- it stands for the notice too, once life has heard it
 pub lives_stand : (scenario : ScenarioParts) (i : ℕ) (past : List NoticeKind) (notice : Notice) → IsLifeAtMost notice.kind → (v : MembershipParts)
@@ -292,8 +284,7 @@ lives_stand scenario i past notice only v h rests next life is =
     let before : Knowledge = knowledge_of scenario i past in
     let reading : IsReading scenario i past (e ∷ past) (after_life i (length past) e before) (heard notice.slot e v.life) =
     heard_stands scenario i past before before.members v.life h.life e notice.slot next.next.slot next.next.within next.next.readable next.few in
-    let read = read_to_end scenario i (e ∷ past) (with_signs (told e (after_life i (length past) e before)) (after_life i (length past) e before)) (heard notice.slot e v.life)
-    (none_stands scenario i past (after_life i (length past) e before) e e refl only.no_copy (heard notice.slot e v.life) reading) in
+    let read = none_stands scenario i past (after_life i (length past) e before) e e refl only.no_copy (heard notice.slot e v.life) reading in
     let alive = lives scenario i past e only v h rests in
     let knows = knows_who_lives scenario i past e only v h rests in
     let vector : (knowledge_of scenario i (Idle ∷ past)).vector ≡ (knowledge_of scenario i (e ∷ past)).vector =

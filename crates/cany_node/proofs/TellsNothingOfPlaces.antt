@@ -22,6 +22,7 @@ use Rattle.cany_model.proofs.Among.{Each-weaker}
 use Rattle.cany_totcan.specs.declared.queue.Placed.{Placed}
 use Rattle.cany_totcan.specs.Queue.{placed_at, placed_from, placed_in}
 use Rattle.cany_totcan.specs.Totcan.{AreDelivered, AreDone, IsFirstPending, IsOwnTot, IsTotcanOf, TotcanParts, key_of, place_of}
+use Rattle.cany_totcan.proofs.OwnFacts.{backlog_same}
 use Rattle.cany_node.proofs.TellsNothingOfTheSite.{apart, apart_from}
 use Rattle.cany_node.proofs.UnreadFrames.{copies_unread, own_unread}
 
@@ -241,18 +242,8 @@ module _ (e : NoticeKind) (only : IsUnplaced e) where
       are_delivered = subst (λ frames. AreDelivered frames v.deliveries) (sym (delivered_same p i)) h.are_delivered;
       done = done_still (take v.queue.done v.queue.items) h.done;
       pending = pending_still (slice_get v.queue.items v.queue.done) h.pending;
-      backlog = record {
-        given = h.backlog.given;
-        are_own = h.backlog.are_own;
-        asked = h.backlog.asked;
-        some = h.backlog.some;
-        room = h.backlog.room;
-        own = h.backlog.own;
-        sent = λ seq less. h.backlog.sent seq less ∙ sym (tot_own (key_of seq i));
-        places = λ seq less. h.backlog.places seq less ∙ sym (place_same (key_of seq i));
-        marks = h.backlog.marks;
-        earlier = Each-weaker _ _ still_own (take (count - 1) messages) h.backlog.earlier;
-      };
+      backlog = backlog_same scenario i (Idle ∷ past) (e ∷ past) messages count v.backlog (λ seq. tot_own (key_of seq i)) (λ seq. place_same (key_of seq i)) still_own
+          h.backlog;
     }
       where
         p : Parameters

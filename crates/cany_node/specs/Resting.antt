@@ -48,12 +48,16 @@ is_for_relays (Got f) = is_of_relays f.class
 is_for_relays (Sent f) = is_of_relays f.class
 is_for_relays Bad = true
 
+-- whether a frame was heard whose class is one of some
+abbrev pub brings_of : (Class → Bool) → NoticeKind → Bool
+brings_of is_one Idle = false
+brings_of is_one (Got f) = is_one f.class
+brings_of is_one (Sent f) = is_one f.class
+brings_of is_one Bad = false
+
 -- whether a frame of EDCAN was heard
 abbrev pub is_for_edcan : NoticeKind → Bool
-is_for_edcan Idle = false
-is_for_edcan (Got f) = same_class f.class class.Ed
-is_for_edcan (Sent f) = same_class f.class class.Ed
-is_for_edcan Bad = false
+is_for_edcan e = brings_of (λ c. same_class c class.Ed) e
 
 -- whether frames of the class are of TOTCAN, or life signs
 abbrev pub is_of_totcan_or_life : Class → Bool
@@ -61,17 +65,11 @@ is_of_totcan_or_life c = same_class c class.Tot || (same_class c class.Accept ||
 
 -- whether such a frame was heard: neither EDCAN nor RELCAN hears it
 abbrev pub brings_totcan_or_life : NoticeKind → Bool
-brings_totcan_or_life Idle = false
-brings_totcan_or_life (Got f) = is_of_totcan_or_life f.class
-brings_totcan_or_life (Sent f) = is_of_totcan_or_life f.class
-brings_totcan_or_life Bad = false
+brings_totcan_or_life e = brings_of is_of_totcan_or_life e
 
 -- whether a life sign was heard
 abbrev pub is_life_sign : NoticeKind → Bool
-is_life_sign Idle = false
-is_life_sign (Got f) = same_class f.class class.Els
-is_life_sign (Sent f) = same_class f.class class.Els
-is_life_sign Bad = false
+is_life_sign e = brings_of (λ c. same_class c class.Els) e
 
 -- before this slot RELCAN has nothing to do at a notice that brings none of its frames
 abbrev pub RelcanRestsUntil : ℕ → RelcanParts → Type 0

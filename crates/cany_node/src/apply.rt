@@ -1,8 +1,8 @@
 ghost use Rattle.std.specs.Prelude.{◌≡◌, ◌≤◌, [], ◌∷◌, All};
 ghost use Rattle.can_frame.specs.Identifier.{FitsIdentifier};
 ghost use Rattle.cany_base.specs.Limits.{most_restarts_of_node};
-ghost use Rattle.cany_edcan.specs.Calls.{actions_called, frame_actions, relayed};
 ghost use Rattle.cany_message.specs.Actions.{delivery_actions};
+ghost use Rattle.cany_message.specs.Calls.{actions_called, frame_actions, replied};
 ghost use Rattle.cany_model.specs.Rules.Actions.{action_of};
 ghost use Rattle.cany_model.specs.Rules.Effect.{Effect};
 ghost use Rattle.cany_node.specs.Apply.{AreApplied, AreDone, CanApply, CanDo, WithdrawsFitting, all_stamped};
@@ -14,7 +14,7 @@ use can_controller::laws::{frames_ascend, frames_fit};
 use cany_base::{
     Action, Actions, BoundedVec, Frame, LogEntry, MsgKey, Notice, NoticeKind, Service, Slot,
 };
-use cany_edcan::{Calls, Relay};
+use cany_message::{Calls, Reply, confirmation_frame};
 
 /// Does one action of an incarnation on the controller or the log.
 // A hint, as of `apply_all`.
@@ -35,12 +35,7 @@ fn apply(action: &Action, inc: u8, ctl: &mut Controller, log: &mut BoundedVec<Lo
 
 /// Does one action of an incarnation, as one of a list.
 #[inline(always)]
-pub(crate) fn apply_one(
-    action: &Action,
-    inc: u8,
-    ctl: &mut Controller,
-    log: &mut BoundedVec<LogEntry>,
-)
+fn apply_one(action: &Action, inc: u8, ctl: &mut Controller, log: &mut BoundedVec<LogEntry>)
     requires { CanApply inc (action.now ∷ []) ctl.old log.old }
     ensures { AreApplied inc (action.now ∷ []) ctl.old ctl.new log.old log.new }
 {
@@ -51,7 +46,7 @@ pub(crate) fn apply_one(
 
 /// Enters the delivery of a message in the log, or does nothing.
 #[inline(always)]
-pub(crate) fn apply_delivery(
+fn apply_delivery(
     by: Service,
     slot: Slot,
     frame: &Frame,
@@ -78,28 +73,30 @@ pub(crate) fn apply_delivery(
     apply_one(&Action::Enter(entry), inc, ctl, log);
 }
 
-/// Asks for a frame, withdraws it or does nothing.
+/// Asks for a frame or for the confirmation of its message, withdraws the frame or does nothing.
 #[inline(always)]
-fn apply_relay(
-    relay: Relay,
+fn apply_reply(
+    reply: Reply,
     frame: &Frame,
     inc: u8,
     ctl: &mut Controller,
     log: &mut BoundedVec<LogEntry>,
 )
-    requires { CanApply inc (relayed relay frame.now) ctl.old log.old }
-    ensures { AreApplied inc (relayed relay frame.now) ctl.old ctl.new log.old log.new }
+    requires { CanApply inc (replied reply frame.now) ctl.old log.old }
+    ensures { AreApplied inc (replied reply frame.now) ctl.old ctl.new log.old log.new }
 {
-    match relay {
-        Relay::Nothing => {}
-        Relay::Asks => apply_one(&Action::Ask(*frame), inc, ctl, log),
-        Relay::Withdraws { ident } => apply_one(&Action::Withdraw { ident }, inc, ctl, log),
+    match reply {
+        Reply::Nothing => {}
+        Reply::Asks => apply_one(&Action::Ask(*frame), inc, ctl, log),
+        Reply::Confirms => apply_one(&Action::Ask(confirmation_frame(frame)), inc, ctl, log),
+        Reply::Withdraws { ident } => apply_one(&Action::Withdraw { ident }, inc, ctl, log),
     }
 }
 
-/// Does what a frame in a slot calls for by EDCAN.
+/// Does what a frame in a slot calls for by a service.
 #[inline(always)]
 fn apply_frame(
+    by: Service,
     calls: &Calls,
     slot: Slot,
     frame: &Frame,
@@ -107,28 +104,29 @@ fn apply_frame(
     ctl: &mut Controller,
     log: &mut BoundedVec<LogEntry>,
 )
-    requires { CanApply inc (frame_actions slot calls.now frame.now) ctl.old log.old }
-    ensures { AreApplied inc (frame_actions slot calls.now frame.now) ctl.old ctl.new log.old log.new }
+    requires { CanApply inc (frame_actions by slot calls.now frame.now) ctl.old log.old }
+    ensures { AreApplied inc (frame_actions by slot calls.now frame.now) ctl.old ctl.new log.old log.new }
 {
-    apply_delivery(Service::Ed, slot, frame, calls.delivers, inc, ctl, log);
-    apply_relay(calls.relay, frame, inc, ctl, log);
+    apply_delivery(by, slot, frame, calls.delivers, inc, ctl, log);
+    apply_reply(calls.reply, frame, inc, ctl, log);
 }
 
-/// Does what a notice calls for by EDCAN, without a list of actions.
+/// Does what a notice calls for by a service, without a list of actions.
 #[inline(always)]
 pub(crate) fn apply_called(
+    by: Service,
     calls: &Calls,
     notice: &Notice,
     inc: u8,
     ctl: &mut Controller,
     log: &mut BoundedVec<LogEntry>,
 )
-    requires { CanApply inc (actions_called notice.now calls.now) ctl.old log.old }
-    ensures { AreApplied inc (actions_called notice.now calls.now) ctl.old ctl.new log.old log.new }
+    requires { CanApply inc (actions_called by notice.now calls.now) ctl.old log.old }
+    ensures { AreApplied inc (actions_called by notice.now calls.now) ctl.old ctl.new log.old log.new }
 {
     match &notice.kind {
-        NoticeKind::Got(frame) => apply_frame(calls, notice.slot, frame, inc, ctl, log),
-        NoticeKind::Sent(frame) => apply_frame(calls, notice.slot, frame, inc, ctl, log),
+        NoticeKind::Got(frame) => apply_frame(by, calls, notice.slot, frame, inc, ctl, log),
+        NoticeKind::Sent(frame) => apply_frame(by, calls, notice.slot, frame, inc, ctl, log),
         NoticeKind::Idle => {}
         NoticeKind::Bad => {}
     }

@@ -3,7 +3,6 @@
 
 mod agenda;
 mod apply;
-mod apply_relcan;
 mod asks;
 mod membership;
 mod node;

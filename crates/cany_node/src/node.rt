@@ -24,7 +24,6 @@ ghost use Rattle.cany_node.specs.Turning.{CanHearNext, CanScript, HasHeard, HasS
 
 use crate::agenda::Agenda;
 use crate::apply::{apply_all, apply_called};
-use crate::apply_relcan::apply_heard;
 use crate::asks::{AskKind, AskPlan, ask_due};
 use crate::membership::Membership;
 use crate::notices::{
@@ -243,7 +242,7 @@ impl Node {
             self.follow_both(notice, ctl, out);
         } else {
             let calls = self.edcan.hear(notice);
-            apply_called(&calls, notice, self.inc, ctl, &mut self.log);
+            apply_called(Service::Ed, &calls, notice, self.inc, ctl, &mut self.log);
             self.read = notice.slot + 1;
         }
     }
@@ -258,7 +257,7 @@ impl Node {
         ensures { IsActed notice.now self.old self.new ctl.old ctl.new out.old out.new }
     {
         let heard = self.relcan.hear(notice, out);
-        apply_heard(&heard, notice, self.inc, ctl, &mut self.log);
+        apply_called(Service::Rel, &heard, notice, self.inc, ctl, &mut self.log);
         apply_all(out, self.inc, ctl, &mut self.log);
         out.clear();
         self.read = notice.slot + 1;
@@ -274,8 +273,8 @@ impl Node {
     {
         let calls = self.edcan.hear(notice);
         let heard = self.relcan.hear(notice, out);
-        apply_called(&calls, notice, self.inc, ctl, &mut self.log);
-        apply_heard(&heard, notice, self.inc, ctl, &mut self.log);
+        apply_called(Service::Ed, &calls, notice, self.inc, ctl, &mut self.log);
+        apply_called(Service::Rel, &heard, notice, self.inc, ctl, &mut self.log);
         apply_all(out, self.inc, ctl, &mut self.log);
         out.clear();
         self.read = notice.slot + 1;

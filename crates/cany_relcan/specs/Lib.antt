@@ -1,4 +1,3 @@
-pub mod Calls
 pub mod Relcan
 pub mod RelcanSteps
 pub mod Timers

@@ -2,11 +2,9 @@
 //! reads no confirmation in time falls back to sending the data frame itself.
 #![tactic(auto)]
 
-mod calls;
 mod frames;
 mod relcan;
 mod threads;
 mod timers;
 
-pub use calls::{Calls, Reply, confirmation_frame};
 pub use relcan::Relcan;

@@ -8,7 +8,9 @@ ghost use Rattle.cany_base.specs.declared.notice.NoticeKind.TheVariants.{Idle};
 ghost use Rattle.cany_base.specs.Frame.{FrameParts};
 ghost use Rattle.cany_base.specs.Scenario.{ScenarioParts};
 ghost use Rattle.cany_diffuse.specs.Eager.{copies_of, is_held, is_owned, is_enough, is_there, learnt_of, spare_of, IsCounted, IsFresh, IsLearnt, IsOwned};
+ghost use Rattle.cany_message.specs.declared.calls.Reply.TheVariants as reply;
 ghost use Rattle.cany_message.specs.Actions.{withdraw_actions};
+ghost use Rattle.cany_message.specs.Calls.{actions_called, replied};
 ghost use Rattle.cany_base.specs.Limits.{greatest_default, most_nodes};
 ghost use Rattle.can_frame.specs.Identifier.{HasSmallNumbers};
 ghost use Rattle.cany_message.specs.Numbers.{frame_number};
@@ -18,12 +20,9 @@ ghost use Rattle.cany_model.specs.Bus.Frames.{same_class};
 ghost use Rattle.cany_model.specs.Rules.Messages.{Message, messages_of, message_key};
 ghost use Rattle.cany_model.specs.Rules.Notices.{IsNextNotice};
 ghost use Rattle.cany_model.specs.Rules.Relcan.{has_timer_ahead, relcan_at, relcan_effects};
-ghost use Rattle.cany_relcan.specs.declared.calls.Reply.TheVariants as reply;
-ghost use Rattle.cany_relcan.specs.Calls.{actions_called, replied};
 ghost use Rattle.cany_relcan.specs.Relcan.{IsRelcanOf, HasRead, CanRead, Rests, brings_no_relcan};
 ghost use Rattle.cany_relcan.specs.RelcanSteps.{due_frame, holds_own, is_awaited, is_confirmed, is_fallen, starts_timer, timer_actions, timers_with, was_delivered, without_due, AreMarksAfter};
 
-use crate::calls::{Calls, Reply, put, reply_to_copy};
 use crate::frames::{Confirmation, Data, confirmation_of, is_confirmation, is_data};
 use crate::timers::{Timer, Timers};
 use cany_base::{
@@ -31,15 +30,9 @@ use cany_base::{
     Service, Slot,
 };
 use cany_diffuse::{Diffused, Eager, Learnt};
-use cany_message::sends_by;
+use cany_message::{Calls, Reply, bare_identifier, put, sends_by};
 use std::alloc::Global;
 use std::marker::Model;
-
-/// What a notice calls for that brings no data frame of RELCAN, or another node's own transmission.
-const NOTHING: Calls = Calls {
-    delivers: false,
-    reply: Reply::Nothing,
-};
 
 /// RELCAN at one node: which messages it delivered, which confirmations it read, the timers that
 /// run, and for which messages it fell back.
@@ -130,7 +123,7 @@ impl Relcan {
         ensures room { out.new.room ≡ out.old.room }
     {
         let calls = self.on_notice(notice);
-        put(&calls, notice, out);
+        put(Service::Rel, &calls, notice, out);
         self.end_timer(notice.slot, out);
     }
 
@@ -144,7 +137,7 @@ impl Relcan {
         requires free { out.old.items ≡ [] }
         requires room { length out.old.items < out.old.room }
         ensures actions { (scenario : ScenarioParts) (past : List NoticeKind) → IsRelcanOf scenario self.old.node past self.old → IsNextNotice scenario past notice.now
-            → actions_called notice.now result ++ out.new.items ≡ actions_of scenario.params.format (relcan_effects scenario self.old.node (notice.now.kind ∷ past)) }
+            → actions_called service.Rel notice.now result ++ out.new.items ≡ actions_of scenario.params.format (relcan_effects scenario self.old.node (notice.now.kind ∷ past)) }
         ensures stands { (scenario : ScenarioParts) (past : List NoticeKind) → IsRelcanOf scenario self.old.node past self.old → IsNextNotice scenario past notice.now
             → IsRelcanOf scenario self.old.node (notice.now.kind ∷ past) self.new }
         ensures room { out.new.room ≡ out.old.room }
@@ -192,7 +185,7 @@ impl Relcan {
     fn on_notice(&mut self, notice: &Notice) -> Calls
         requires { CanRead self.old notice.now }
         ensures actions { (scenario : ScenarioParts) (past : List NoticeKind) → IsRelcanOf scenario self.old.node past self.old → IsNextNotice scenario past notice.now
-            → actions_called notice.now result ≡ actions_of scenario.params.format (relcan_at scenario.params self.old.node notice.now.kind past) }
+            → actions_called service.Rel notice.now result ≡ actions_of scenario.params.format (relcan_at scenario.params self.old.node notice.now.kind past) }
         ensures stands { (scenario : ScenarioParts) (past : List NoticeKind) → IsRelcanOf scenario self.old.node past self.old → IsNextNotice scenario past notice.now
             → HasRead scenario self.old.node notice.now.kind past self.new }
         ensures node { self.new.node ≡ self.old.node }
@@ -203,20 +196,20 @@ impl Relcan {
                     self.on_copy(notice.slot, frame)
                 } else if is_confirmation(frame) {
                     self.on_confirmation(frame);
-                    NOTHING
+                    Calls::NOTHING
                 } else {
-                    NOTHING
+                    Calls::NOTHING
                 }
             }
             NoticeKind::Sent(frame) => {
                 if self.is_own(frame) {
                     self.on_own(frame)
                 } else {
-                    NOTHING
+                    Calls::NOTHING
                 }
             }
-            NoticeKind::Idle => NOTHING,
-            NoticeKind::Bad => NOTHING,
+            NoticeKind::Idle => Calls::NOTHING,
+            NoticeKind::Bad => Calls::NOTHING,
         }
     }
 
@@ -416,6 +409,20 @@ impl Relcan {
         ensures { result ≡ is_fallen self.now frame.now }
     {
         self.fallen.holds(&Data::of(frame))
+    }
+}
+
+/// The reply to a copy: it is withdrawn if it is late.
+#[inline(always)]
+fn reply_to_copy(format: Format, frame: &Frame, is_late: bool) -> Reply
+    requires { HasSmallNumbers format frame.now }
+    ensures { replied result frame.now ≡ withdraw_actions format is_late frame.now }
+{
+    if !is_late {
+        return Reply::Nothing;
+    }
+    Reply::Withdraws {
+        ident: bare_identifier(format, frame),
     }
 }
 

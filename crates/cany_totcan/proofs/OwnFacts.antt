@@ -132,6 +132,25 @@ place-kept key notice before none = rw none refl
 own-kept : (x : Identity) (notice : NoticeKind) (before : List NoticeKind) → is_sent x notice ≡ false → has_own x (notice ∷ before) ≡ has_own x before
 own-kept x notice before none = has_own-more x notice before ∙ ap (λ b. b || has_own x before) none
 
+-- it stands for other notices too in which each message of the node is placed and sent as in these
+pub backlog_same : (scenario : ScenarioParts) (i : ℕ) (before after : List NoticeKind) (messages : List Message) (count : ℕ) (v : BacklogParts)
+    → ((seq : ℕ) → has_own (tot_of_key (key_of seq i)) after ≡ has_own (tot_of_key (key_of seq i)) before)
+    → ((seq : ℕ) → place_of (key_of seq i) after ≡ place_of (key_of seq i) before)
+    → ((m : Message) → has_own (data_id m) before ≡ true → has_own (data_id m) after ≡ true)
+    → IsBacklogOf scenario i before messages count v → IsBacklogOf scenario i after messages count v
+backlog_same scenario i before after messages count v sent placed earlier h = record {
+  given = h.given;
+  are_own = h.are_own;
+  asked = h.asked;
+  some = h.some;
+  room = h.room;
+  own = h.own;
+  sent = λ seq within. h.sent seq within ∙ sym (sent seq);
+  places = λ seq within. h.places seq within ∙ sym (placed seq);
+  marks = h.marks;
+  earlier = Each-weaker _ _ earlier _ h.earlier;
+}
+
 module _ (scenario : ScenarioParts) (i : ℕ) (notice : NoticeKind) (before : List NoticeKind) (messages : List Message) (count : ℕ) (v : BacklogParts)
     (h : IsBacklogOf scenario i before messages count v) where
   -- what was sent stays sent
@@ -140,18 +159,9 @@ module _ (scenario : ScenarioParts) (i : ℕ) (notice : NoticeKind) (before : Li
 
   -- the notice brings no message of the node
   pub own_other : brings_own i notice ≡ false → IsBacklogOf scenario i (notice ∷ before) messages count v
-  own_other none = record {
-    given = h.given;
-    are_own = h.are_own;
-    asked = h.asked;
-    some = h.some;
-    room = h.room;
-    own = h.own;
-    sent = λ seq within. h.sent seq within ∙ sym (own-kept (tot_of_key (key_of seq i)) notice before (sent_none seq i notice none));
-    places = λ seq within. h.places seq within ∙ sym (place-kept (key_of seq i) notice before (holds_none seq i notice none));
-    marks = h.marks;
-    earlier = Each-weaker _ _ earlier-more _ h.earlier;
-  }
+  own_other none =
+      backlog_same scenario i before (notice ∷ before) messages count v (λ seq. own-kept (tot_of_key (key_of seq i)) notice before (sent_none seq i notice none))
+      (λ seq. place-kept (key_of seq i) notice before (holds_none seq i notice none)) earlier-more h
 
   -- the notice brings the data frame of one of them, as `Backlog::note` takes it down
   module _ (seq slot : ℕ) (is_own : Bool) (brings : IsOfOwn i seq is_own notice) (at : slot ≡ length before) (within : seq < length v.own) where

@@ -1,9 +1,9 @@
 use Rattle.std.proofs.Common.{◌++◌, [], ap, sym, ◌∙◌, append-nil}
 use Rattle.cany_base.specs.declared.message.Service.TheVariants as service
 use Rattle.cany_base.specs.declared.notice.NoticeKind.TheVariants.{Idle, Got, Sent, Bad}
-use Rattle.cany_edcan.specs.Calls.{actions_at, relayed}
 use Rattle.cany_message.specs.Actions.{delivery_actions}
-use Rattle.cany_edcan.proofs.CallFacts.{nothing_called}
+use Rattle.cany_message.specs.Calls.{actions_at, replied}
+use Rattle.cany_message.proofs.CallFacts.{nothing_called}
 use Rattle.cany_edcan.proofs.EdcanFacts.{small_copy, takes_got, takes_sent, got_stands, sent_stands, got_acts, sent_acts, sent_other, other_stands, other_acts}
 use Rattle.cany_edcan.proofs.edcan.Edcan.hear.Goals as goal
 
@@ -26,11 +26,11 @@ returns-then-is_data-clause-stands c = λ scenario past h next.
 
 pub returns-then-is_data-clause-actions : goal.returns-then-is_data-clause-actions
 returns-then-is_data-clause-actions c = λ scenario past h next.
-    ap (actions_at c.args.notice.now.slot c.on_copy.result) c.in-Got.is
+    ap (actions_at service.Ed c.args.notice.now.slot c.on_copy.result) c.in-Got.is
     ∙ got_acts scenario past c.args.self.now c.on_copy.new.self c.args.notice.now c.in-Got.frame h next (sym c.is_data.ensures ∙ c.if-is_data.true)
     c.on_copy.ensures.in_range [] _ c.in-Got.is
     (returns-then-is_data-clause-stands c scenario past h next)
-    (λ j. delivery_actions service.Ed c.args.notice.now.slot (c.on_copy.ensures.delivers j) c.in-Got.frame ++ c.on_copy.ensures.relay j)
+    (λ j. delivery_actions service.Ed c.args.notice.now.slot (c.on_copy.ensures.delivers j) c.in-Got.frame ++ c.on_copy.ensures.reply j)
 
 pub returns-else-is_data-clause-stands : goal.returns-else-is_data-clause-stands
 returns-else-is_data-clause-stands c = λ scenario past h next.
@@ -38,7 +38,7 @@ returns-else-is_data-clause-stands c = λ scenario past h next.
 
 pub returns-else-is_data-clause-actions : goal.returns-else-is_data-clause-actions
 returns-else-is_data-clause-actions c = λ scenario past h next.
-    nothing_called c.args.notice.now.slot c.args.notice.now.kind
+    nothing_called service.Ed c.args.notice.now.slot c.args.notice.now.kind
     ∙ other_acts scenario c.args.self.now.node past c.args.notice.now.kind (Got c.in-Got.frame) c.in-Got.is (sym c.is_data.ensures ∙ c.if-is_data.false) []
 
 pub returns-then-is_data-2-clause-stands : goal.returns-then-is_data-2-clause-stands
@@ -48,10 +48,10 @@ returns-then-is_data-2-clause-stands c = λ scenario past h next.
 
 pub returns-then-is_data-2-clause-actions : goal.returns-then-is_data-2-clause-actions
 returns-then-is_data-2-clause-actions c = λ scenario past h next.
-    ap (actions_at c.args.notice.now.slot c.on_own.result) c.in-Sent.is
+    ap (actions_at service.Ed c.args.notice.now.slot c.on_own.result) c.in-Sent.is
     ∙ sent_acts scenario past c.args.self.now c.on_own.new.self c.args.notice.now c.in-Sent.frame h next (sym c.is_data-in-Sent.ensures ∙ c.if-is_data-2.true)
     c.on_own.ensures.in_range [] _ c.in-Sent.is
-    ((λ j. delivery_actions service.Ed c.args.notice.now.slot (c.on_own.ensures.delivers j) c.in-Sent.frame ++ relayed (c.on_own.ensures.relay j) c.in-Sent.frame) ∙ append-nil _)
+    ((λ j. delivery_actions service.Ed c.args.notice.now.slot (c.on_own.ensures.delivers j) c.in-Sent.frame ++ replied (c.on_own.ensures.reply j) c.in-Sent.frame) ∙ append-nil _)
 
 pub returns-else-is_data-2-clause-stands : goal.returns-else-is_data-2-clause-stands
 returns-else-is_data-2-clause-stands c = λ scenario past h next.
@@ -60,7 +60,7 @@ returns-else-is_data-2-clause-stands c = λ scenario past h next.
 
 pub returns-else-is_data-2-clause-actions : goal.returns-else-is_data-2-clause-actions
 returns-else-is_data-2-clause-actions c = λ scenario past h next.
-    nothing_called c.args.notice.now.slot c.args.notice.now.kind
+    nothing_called service.Ed c.args.notice.now.slot c.args.notice.now.kind
     ∙ other_acts scenario c.args.self.now.node past c.args.notice.now.kind (Sent c.in-Sent.frame) c.in-Sent.is
     (sent_other c.in-Sent.frame (sym c.is_data-in-Sent.ensures ∙ c.if-is_data-2.false)) []
 
@@ -69,7 +69,7 @@ returns-in-Idle-clause-stands c = λ scenario past h next. other_stands scenario
 
 pub returns-in-Idle-clause-actions : goal.returns-in-Idle-clause-actions
 returns-in-Idle-clause-actions c = λ scenario past h next.
-    nothing_called c.args.notice.now.slot c.args.notice.now.kind
+    nothing_called service.Ed c.args.notice.now.slot c.args.notice.now.kind
     ∙ other_acts scenario c.args.self.now.node past c.args.notice.now.kind Idle c.in-Idle.is tt []
 
 pub returns-in-Bad-clause-stands : goal.returns-in-Bad-clause-stands
@@ -77,5 +77,5 @@ returns-in-Bad-clause-stands c = λ scenario past h next. other_stands scenario 
 
 pub returns-in-Bad-clause-actions : goal.returns-in-Bad-clause-actions
 returns-in-Bad-clause-actions c = λ scenario past h next.
-    nothing_called c.args.notice.now.slot c.args.notice.now.kind
+    nothing_called service.Ed c.args.notice.now.slot c.args.notice.now.kind
     ∙ other_acts scenario c.args.self.now.node past c.args.notice.now.kind Bad c.in-Bad.is tt []

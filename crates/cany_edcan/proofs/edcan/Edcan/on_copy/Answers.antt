@@ -17,13 +17,13 @@ returns-clause-learnt c =
     subst (λ (v : EdcanParts). IsLearnt (frame_number c.args.frame.now) v.copies c.learn-learnt.new.self) c.self.view_is
     (rw (c.of.ensures.seq, c.of.ensures.origin) at c.learn-learnt.ensures.learnt)
 
-pub returns-clause-relay : goal.returns-clause-relay
-returns-clause-relay c =
+pub returns-clause-reply : goal.returns-clause-reply
+returns-clause-reply c =
     let f = c.args.frame.now in
     let n = frame_number f in
     let answer : c.learn-learnt.result ≡ learnt_of c.self.inside.copies.omit (copies_of c.learn-learnt.new.self n) (is_owned c.self.inside.copies n) =
     rw (c.of.ensures.seq, c.of.ensures.origin) at c.learn-learnt.ensures.answer in
-    c.relay_of.ensures
+    c.reply_to_copy.ensures
     ∙ ap (λ learnt. relay_actions c.self.inside.format learnt f) answer
     ∙ ap (λ (v : EdcanParts). relay_actions v.format (learnt_of v.copies.omit (copies_of c.learn-learnt.new.self n) (is_owned v.copies n)) f) c.self.view_is
 

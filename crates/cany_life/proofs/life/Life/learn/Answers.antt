@@ -7,7 +7,8 @@ use Rattle.cany_base.proofs.ParamsFacts.{few_slots}
 use Rattle.cany_message.proofs.NoticeFacts.{got_small}
 use Rattle.cany_model.specs.Bus.Frames.{same_class}
 use Rattle.cany_model.specs.Rules.Knowledge.{sign_of, told, with_signs}
-use Rattle.cany_life.specs.LifeSteps.{IsReading, unknown}
+use Rattle.cany_life.specs.Life.{IsReading}
+use Rattle.cany_life.specs.LifeSteps.{unknown}
 use Rattle.cany_life.proofs.CopyFacts.{can_take}
 use Rattle.cany_life.proofs.LearnFacts.{copy_acts, copy_stands, none_acts, none_stands, told_of_run}
 use Rattle.cany_life.proofs.MarkFacts.{marked-node, marked-params}

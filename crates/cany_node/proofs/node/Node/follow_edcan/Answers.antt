@@ -1,5 +1,6 @@
 use Rattle.std.proofs.Common.{[], ◌++◌, refl}
-use Rattle.cany_edcan.specs.Calls.{actions_called}
+use Rattle.cany_base.specs.declared.message.Service.TheVariants as service
+use Rattle.cany_message.specs.Calls.{actions_called}
 use Rattle.cany_node.proofs.ActSteps.{listed_acted}
 use Rattle.cany_node.proofs.AppliedParts.{both_applied, can_front, none_applied}
 use Rattle.cany_node.proofs.Idle.IdleFacts.{idle_after}
@@ -16,7 +17,7 @@ pub apply_called-requires : goal.apply_called-requires
 apply_called-requires c =
     let notice = c.args.notice.now in
     let other = edcan_is_no_relcan notice.kind c.requires.brings in
-    can_front c.self.inside.inc (actions_called notice c.hear-calls.result) [] _ _
+    can_front c.self.inside.inc (actions_called service.Ed notice c.hear-calls.result) [] _ _
     (relay_apply notice _ _ c.self.view_is (edcan_is_for_relays notice.kind c.requires.brings) c.requires.idle c.hear-calls.new.self c.self.inside.relcan _ []
     c.hear-calls.ensures.actions c.hear-calls.ensures.stands
     (relcan_none notice c.self.inside.relcan c.wake.result c.wake.ensures.rests c.if-notice-wake.false other)
@@ -33,7 +34,7 @@ pub returns-else-notice-wake : goal.returns-else-notice-wake
 returns-else-notice-wake c =
     let notice = c.args.notice.now in
     let other = edcan_is_no_relcan notice.kind c.requires.brings in
-    let ed = actions_called notice c.hear-calls.result in
+    let ed = actions_called service.Ed notice c.hear-calls.result in
     listed_acted notice _ _ _ c.self.view_is _ (ed ++ []) c.args.ctl.now c.args.out.now c.requires.acts
     (relay_turn notice _ _ c.self.view_is (edcan_is_for_relays notice.kind c.requires.brings) c.requires.idle c.hear-calls.new.self c.self.inside.relcan ed []
     c.hear-calls.ensures.actions c.hear-calls.ensures.stands

@@ -1,6 +1,7 @@
 use Rattle.std.proofs.Common.{[], ◌++◌, refl, arith}
+use Rattle.cany_base.specs.declared.message.Service.TheVariants as service
 use Rattle.cany_base.proofs.ParamsFacts.{few_slots}
-use Rattle.cany_relcan.specs.Calls.{actions_called}
+use Rattle.cany_message.specs.Calls.{actions_called}
 use Rattle.cany_node.proofs.ActSteps.{acted_cleared, listed_acted}
 use Rattle.cany_node.proofs.AppliedParts.{both_applied, can_back, can_front}
 use Rattle.cany_node.proofs.Idle.IdleFacts.{idle_after}
@@ -19,10 +20,10 @@ invariant_of-self c = record {
   idle_until = idle_after _ c.args.notice.now _ _ _ _ c.self.view_is c.requires.acts c.self.invariant.idle_until _ _ _ _;
 }
 
-pub apply_heard-requires : goal.apply_heard-requires
-apply_heard-requires c =
+pub apply_called-requires : goal.apply_called-requires
+apply_called-requires c =
     let edcan = c.self.inside.edcan in
-    can_front c.self.inside.inc (actions_called c.args.notice.now c.hear-heard.result) c.hear-heard.new.out.items _ _
+    can_front c.self.inside.inc (actions_called service.Rel c.args.notice.now c.hear-heard.result) c.hear-heard.new.out.items _ _
     (relay_apply c.args.notice.now _ _ c.self.view_is c.requires.brings c.requires.idle edcan c.hear-heard.new.self [] _
     (λ scenario past h next. edcan_none c.args.notice.now edcan c.requires.other scenario past h)
     (λ scenario past h next. edcan_still c.args.notice.now edcan c.requires.other scenario past h)
@@ -31,23 +32,23 @@ apply_heard-requires c =
 pub apply_all-requires : goal.apply_all-requires
 apply_all-requires c =
     let edcan = c.self.inside.edcan in
-    can_back c.self.inside.inc (actions_called c.args.notice.now c.hear-heard.result) c.hear-heard.new.out.items _ _
+    can_back c.self.inside.inc (actions_called service.Rel c.args.notice.now c.hear-heard.result) c.hear-heard.new.out.items _ _
     (relay_apply c.args.notice.now _ _ c.self.view_is c.requires.brings c.requires.idle edcan c.hear-heard.new.self [] _
     (λ scenario past h next. edcan_none c.args.notice.now edcan c.requires.other scenario past h)
     (λ scenario past h next. edcan_still c.args.notice.now edcan c.requires.other scenario past h)
     c.hear-heard.ensures.actions c.hear-heard.ensures.stands c.args.ctl.now c.args.out.now c.requires.acts c.self.invariant.few)
-    _ _ c.apply_heard.ensures
+    _ _ c.apply_called.ensures
 
 pub returns : goal.returns
 returns c =
     let edcan = c.self.inside.edcan in
-    let rel = actions_called c.args.notice.now c.hear-heard.result ++ c.hear-heard.new.out.items in
+    let rel = actions_called service.Rel c.args.notice.now c.hear-heard.result ++ c.hear-heard.new.out.items in
     acted_cleared c.args.notice.now _ _ _ _ _ c.hear-heard.new.out _
     (listed_acted c.args.notice.now _ _ _ c.self.view_is _ rel c.args.ctl.now c.args.out.now c.requires.acts
     (relay_turn c.args.notice.now _ _ c.self.view_is c.requires.brings c.requires.idle edcan c.hear-heard.new.self [] rel
     (λ scenario past h next. edcan_none c.args.notice.now edcan c.requires.other scenario past h)
     (λ scenario past h next. edcan_still c.args.notice.now edcan c.requires.other scenario past h) c.hear-heard.ensures.actions c.hear-heard.ensures.stands)
     c.apply_all.new.ctl c.self.inside.log c.apply_all.new.log refl refl
-    (both_applied c.self.inside.inc (actions_called c.args.notice.now c.hear-heard.result) c.hear-heard.new.out.items _ _ _ _ _ _
-    c.apply_heard.ensures c.apply_all.ensures))
+    (both_applied c.self.inside.inc (actions_called service.Rel c.args.notice.now c.hear-heard.result) c.hear-heard.new.out.items _ _ _ _ _ _
+    c.apply_called.ensures c.apply_all.ensures))
     c.clear.ensures c.hear-heard.ensures.room c.requires.acts.free

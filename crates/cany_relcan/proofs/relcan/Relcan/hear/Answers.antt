@@ -1,6 +1,7 @@
 -- What the notice calls for comes first, and then the timer that ends in the turn.
 use Rattle.std.proofs.Common.{◌++◌, [], ap}
-use Rattle.cany_relcan.specs.Calls.{actions_called}
+use Rattle.cany_base.specs.declared.message.Service.TheVariants as service
+use Rattle.cany_message.specs.Calls.{actions_called}
 use Rattle.cany_relcan.proofs.EndFacts.{can_end, ended_stands, turn_actions}
 use Rattle.cany_relcan.proofs.relcan.Relcan.hear.Goals as goal
 
@@ -12,7 +13,7 @@ end_timer-requires-clause-takes c =
 
 pub returns-clause-actions : goal.returns-clause-actions
 returns-clause-actions c = λ scenario past h next.
-    let called = actions_called c.args.notice.now c.on_notice-calls.result in
+    let called = actions_called service.Rel c.args.notice.now c.on_notice-calls.result in
     turn_actions scenario c.args.self.now.node c.args.notice.now.slot c.args.notice.now.kind past c.on_notice-calls.new.self
     [] called (called ++ c.end_timer.new.out.items) (c.on_notice-calls.ensures.stands scenario past h next) next.slot c.end_timer.ensures.in_range
     (c.on_notice-calls.ensures.actions scenario past h next) (ap (λ actions. called ++ actions) (rw c.requires.free at c.end_timer.ensures.actions))

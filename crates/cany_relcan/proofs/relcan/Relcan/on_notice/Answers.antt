@@ -11,7 +11,7 @@ use Rattle.cany_message.proofs.TableFacts.{can_take}
 use Rattle.cany_model.specs.Bus.Frames.{same_class}
 use Rattle.cany_model.specs.Bus.History.{has_own}
 use Rattle.cany_model.proofs.Bus.Identities.{same_class-true}
-use Rattle.cany_relcan.specs.Calls.{replied}
+use Rattle.cany_message.specs.Calls.{replied}
 use Rattle.cany_relcan.specs.Relcan.{HasRead, data_identity, of_own, of_none}
 use Rattle.cany_relcan.proofs.ActionFacts.{got_actions, sent_actions, none_at}
 use Rattle.cany_relcan.proofs.ReadFacts.{one_more_timer, read_copy, read_confirmation, read_sent, read_other, timers_before}
