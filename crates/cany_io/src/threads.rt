@@ -6,8 +6,5 @@ use crate::whole::ReadFault;
 fn is_thread_safe<T: Send + Sync>() {}
 
 fn all_are_thread_safe() {
-    is_thread_safe::<PlainSource>();
-    is_thread_safe::<MemSource>();
-    is_thread_safe::<MemSink>();
-    is_thread_safe::<ReadFault>();
+    is_thread_safe::<(PlainSource, MemSource, MemSink, ReadFault)>();
 }

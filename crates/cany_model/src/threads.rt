@@ -8,8 +8,5 @@ use crate::share::Share;
 fn is_thread_safe<T: Send + Sync>() {}
 
 fn all_cross_threads() {
-    is_thread_safe::<Break>();
-    is_thread_safe::<FollowFault>();
-    is_thread_safe::<Share>();
-    is_thread_safe::<StepReply>();
+    is_thread_safe::<(Break, FollowFault, Share, StepReply)>();
 }
