@@ -15,10 +15,9 @@ use Rattle.cany_model.specs.Bus.History.{as_seen, ended_history, given, seen}
 use Rattle.cany_model.specs.Bus.Slot.{FaultScript, after_slot, script}
 use Rattle.cany_model.specs.Bus.State.{EndedIncarnation, Incarnation, RunState, node_at, opening}
 use Rattle.cany_model.specs.Runs.Run.{run}
-use Rattle.cany_model.proofs.Among.{Among}
 use Rattle.cany_model.proofs.Bus.Notes.{given-Sent, sender_waits}
 use Rattle.cany_model.proofs.Bus.Restarts.{after_restarts-trace}
-use Rattle.cany_model.proofs.Bus.Seen.{Numbered, carries_other, drop_seen, hidden_not, seen_plain}
+use Rattle.cany_model.proofs.Bus.Seen.{carries_other, drop_seen, hidden_not, seen_plain}
 use Rattle.cany_model.proofs.Promises.Diffusion.{Heard}
 use Rattle.cany_model.proofs.Promises.EachNode.{each_running}
 use Rattle.cany_model.proofs.Runs.Journals.{run_none}
@@ -31,22 +30,6 @@ use Rattle.cany_laws.proofs.EqualMembers.{first_read, first_read-more, next_read
 use Rattle.cany_laws.proofs.Fronts.{along_pushes, drop-map, pushed}
 use Rattle.cany_laws.proofs.Lives.{Lived, lived}
 use Rattle.cany_model.proofs.Timed.Detector.HeardWithin.{heard_kept}
-
--- ---- the slot of a note
-
-pub record NotePlace (trace : List SlotNote) (note : SlotNote) : Type 0 where
-  pub newer : List SlotNote
-  pub older : List SlotNote
-  pub place : trace ≡ newer ++ (note ∷ older)
-  pub slot : note.slot ≡ length older
-
-pub note_place : (trace : List SlotNote) (note : SlotNote) → Numbered trace → Among (λ n. n ≡ note) trace → NotePlace trace note
-note_place [] note numbered h = absurd h
-note_place (n ∷ trace) note numbered (inl same) =
-    record { newer = []; older = trace; place = ap (λ m. m ∷ trace) same; slot = ap (λ (m : SlotNote). m.slot) (sym same) ∙ numbered.0 }
-note_place (n ∷ trace) note numbered (inr later) =
-    let w = note_place trace note numbered.1 later in
-    record { newer = n ∷ w.newer; older = w.older; place = ap (λ l. n ∷ l) w.place; slot = w.slot }
 
 -- ---- who sends, and who hears
 

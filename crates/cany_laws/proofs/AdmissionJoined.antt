@@ -31,12 +31,12 @@ use Rattle.cany_model.proofs.Timed.Views.VectorTurns.{turn_starts}
 use Rattle.cany_laws.specs.Admission.{IsOutsideAtEach, JoinIsCarried}
 use Rattle.cany_laws.specs.Logs.{IsIncarnation, followed_by}
 use Rattle.cany_laws.specs.Views.{installed_as}
-use Rattle.cany_laws.proofs.AdmissionHeard.{NotePlace, join_got, note_place}
+use Rattle.cany_laws.proofs.AdmissionHeard.{join_got}
 use Rattle.cany_laws.proofs.EachView.{view_read}
 use Rattle.cany_laws.proofs.EqualMembers.{ended_as, ended_installs, ended_none, first_read, first_read-length, first_read-more, first_read-none, members_first, members_more, next_read}
 use Rattle.cany_laws.proofs.Lives.{Lived, lived}
 use Rattle.cany_laws.proofs.Since.{begins}
-use Rattle.cany_model.proofs.Timed.Detector.Joining.{asked_joiner, asked_joins, joiner_next, joiner_says}
+use Rattle.cany_model.proofs.Timed.Detector.Joining.{Stands, asked_joiner, asked_joins, joiner_next, joiner_says, stands}
 
 -- ---- an incarnation's view
 
@@ -116,8 +116,8 @@ module _ (scenario : ScenarioParts) (legal : IsLegalScenario scenario) (journal 
       let more : (k - 1 + 1) * T ≡ (k - 1) * T + T = grind arith in
       sym more ∙ ap (λ n. n * T) one
 
-  place : NotePlace s.trace carried.note
-  place = note_place s.trace carried.note (run_numbered scenario.params.nodes s (orderly scenario journal))
+  place : Stands s.trace carried.note
+  place = stands s.trace carried.note (run_numbered scenario.params.nodes s (orderly scenario journal))
       (Among-from_Contains s.trace carried.note carried.stands)
 
   size : length place.older ≡ slot

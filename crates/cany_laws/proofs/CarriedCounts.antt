@@ -1,6 +1,6 @@
 -- How often the bus carries one frame Clean: no more often than nodes, or their incarnations, send it.
-use Rattle.std.proofs.Common.{◌≡◌, ℕ, zero, suc, ◌<◌, ◌≤◌, inl, inr, Bool, List, [], ◌∷◌, length, count_by, ap, sym, ◌∙◌, subst, arith}
-use Rattle.std.proofs.lemmas.Bool.{cases_Bool, cases_lt}
+use Rattle.std.proofs.Common.{◌≡◌, ℕ, zero, suc, ◌≤◌, inl, inr, Bool, List, [], length, count_by, ap, sym, ◌∙◌, subst, arith}
+use Rattle.std.proofs.lemmas.Bool.{cases_lt}
 use Rattle.std.proofs.lemmas.List.{length-replicate}
 use Rattle.cany_base.specs.declared.message.MsgKey.{MsgKey}
 use Rattle.cany_base.specs.declared.slot_note.SlotNote.{SlotNote}
@@ -14,18 +14,16 @@ use Rattle.cany_model.specs.Bus.State.{fresh, NodeState, RunState, node_at, open
 use Rattle.cany_model.specs.Rules.Messages.{accept_of_key}
 use Rattle.cany_model.specs.Rules.Totcan.{tot_of_key}
 use Rattle.cany_model.specs.Runs.Run.{run}
-use Rattle.cany_model.proofs.Among.{count-grows, count-no, count-yes}
 use Rattle.cany_model.proofs.Bus.States.{node_at-opening, node_at_past, note_at}
 use Rattle.cany_model.proofs.Runs.Runs.{along_run}
 use Rattle.cany_model.proofs.Runs.Steps.{after_slot-length}
 use Rattle.cany_model.proofs.Timed.Common.Ages.{carries_clean, clean_carried}
-use Rattle.cany_model.proofs.Timed.Common.Counting.{Passes, at_most_1}
+use Rattle.cany_model.proofs.Timed.Common.Counting.{at_most_1, cover, total}
 use Rattle.cany_model.proofs.Timed.Detector.NoRestarts.{restarts_none}
 use Rattle.cany_model.proofs.Timed.Order.TotKept.{NoSilent, TraceKept}
 use Rattle.cany_model.proofs.Timed.Order.TotRun.{tot_kept}
 use Rattle.cany_laws.specs.Carried.{incarnations_of_first, times_clean}
 use Rattle.cany_laws.proofs.Fronts.{after_slot-ended, after_turn-ended}
-use Rattle.cany_laws.proofs.WaitTotals.{total, total_less, total_most}
 use Rattle.cany_laws.proofs.WaitTimes.{below_is, lives}
 
 -- whether node i sent the frame in the slot
@@ -35,29 +33,15 @@ sent_by x i note = is_sent x (given i note)
 -- ---- sums over the first nodes
 
 sum_one : (f : ℕ → ℕ) → ((r : ℕ) → f r ≤ 1) → (n : ℕ) → total f n ≤ n
+unfolding total
 sum_one f most zero = omega arith
 sum_one f most (suc n) = omega (arith, sum_one f most n, most n)
-
--- where each slot that passes a test passes one of the first n tests by nodes too, it counts in their sum
-covered : (t : SlotNote → Bool) (by : ℕ → SlotNote → Bool) (n : ℕ) (T : List SlotNote)
-    → ((p : ℕ) → Passes t T p → (i : ℕ) × (i < n) × Passes (by i) T p) → count_by t T ≤ total (λ i. count_by (by i) T) n
-covered t by n [] h = omega arith
-covered t by n (note ∷ T) h =
-    let rest = covered t by n T (λ p a. h (suc p) a) in
-    let up : (i : ℕ) → count_by (by i) T ≤ count_by (by i) (note ∷ T) = λ i. count-grows (by i) note T in
-    elim (cases_Bool (t note)) [
-      | inr other ↦ omega (arith, rest, total_most (λ i. count_by (by i) T) (λ i. count_by (by i) (note ∷ T)) n (λ i _. up i), count-no t note T other)
-      | inl passes ↦
-          let own = h 0 passes in
-          let less : count_by (by own.0) T < count_by (by own.0) (note ∷ T) = omega (arith, count-yes (by own.0) note T own.2) in
-          omega (arith, rest, total_less (λ i. count_by (by i) T) (λ i. count_by (by i) (note ∷ T)) n (λ i _. up i) own.0 own.1 less, count-yes t note T passes)
-    ]
 
 -- ---- each slot that carries it Clean has a sender
 
 module _ (scenario : ScenarioParts) (T : List SlotNote) (t : TraceKept scenario T) where
   pub by_senders : (x : Identity) → times_clean x T ≤ total (λ i. count_by (sent_by x i) T) scenario.params.nodes
-  by_senders x = covered (carries_clean x) (sent_by x) scenario.params.nodes T (λ p clean. let s = t.sender p x clean in (s.0, s.1, s.2))
+  by_senders x = cover (carries_clean x) (sent_by x) scenario.params.nodes T (λ p clean. let s = t.sender p x clean in (s.0, s.1, s.2))
 
   one_data : (key : MsgKey) → times_clean (tot_of_key key) T ≤ 1
   one_data key = at_most_1 (carries_clean (tot_of_key key)) T (λ p q less a b. t.data_first p q key less (clean_carried (tot_of_key key) (note_at T p) a) b)

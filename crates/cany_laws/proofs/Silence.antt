@@ -1,37 +1,24 @@
 -- A member that is not heard for as long as the silence has failed, unless the sign of this cycle was known before.
-use Rattle.std.proofs.Common.{◌≡◌, ℕ, ◌+◌, ◌<◌, ◌≤◌, ◌&&◌, ◌==◌, ◌⊎◌, inl, inr, true, false, List, ◌∷◌, length, refl, ap, sym, ◌∙◌, arith}
-use Rattle.std.proofs.lemmas.Bool.{and_from, both_ways, cond-false, cond_both, eq-eqb, ne_eqb, or_cases}
+use Rattle.std.proofs.Common.{◌≡◌, ℕ, ◌+◌, ◌<◌, ◌≤◌, ◌==◌, ◌⊎◌, inl, inr, true, false, List, ◌∷◌, length, ap, sym, ◌∙◌, arith}
+use Rattle.std.proofs.lemmas.Bool.{and_from, both_ways, cond-false, eq-eqb, or_cases}
 use Rattle.cany_base.specs.Limits.{most_nodes}
 use Rattle.cany_base.specs.declared.notice.NoticeKind.{NoticeKind}
-use Rattle.cany_base.specs.declared.notice.NoticeKind.TheVariants.{Idle, Got, Sent, Bad}
 use Rattle.cany_base.specs.Nodes.{has}
 use Rattle.cany_base.specs.Scenario.{ScenarioParts}
-use Rattle.cany_model.specs.Rules.Knowledge.{FailureSign, Knowledge, after_finding, after_hearing, after_learning, after_life, found_in, knows, same_sign, shows_life, sign_in, told_in, with_shown}
+use Rattle.cany_model.specs.Rules.Knowledge.{FailureSign, Knowledge, after_finding, after_hearing, after_learning, found_in, knows, same_sign, shows_life, sign_in, told_in}
 use Rattle.cany_model.specs.Rules.KnowledgeOf.{knowledge_of}
 use Rattle.cany_model.proofs.Among.{Among, Among-append_cases, Among-from_any, Among-weaker}
 use Rattle.cany_model.proofs.Rules.KnowledgeFacts.{known_after, newly, same_sign-true, tells}
-use Rattle.cany_model.proofs.Rules.KnowledgeSteps.{failed_after, is_admitted, learnt_keeps, shown_after}
+use Rattle.cany_model.proofs.Rules.KnowledgeSteps.{failed_after, is_admitted, shown_after}
 use Rattle.cany_model.proofs.Timed.Common.KnowledgeAges.{ended_at}
-use Rattle.cany_model.proofs.Timed.Detector.SilentNode.{failed_by_still, learnt_still, not_admitted, silent_found, with_signs_named}
+use Rattle.cany_model.proofs.Timed.Detector.SilentNode.{NoLifeOf, failed_by_still, learnt_no_life, learnt_still, no_life, not_admitted, silent_found, with_signs_named}
 use Rattle.cany_laws.specs.Detection.{hears_life}
 
 -- ---- life that is not shown
 
-no_life : (i slot r : ℕ) (e : NoticeKind) (st : Knowledge) → hears_life r e ≡ false → (after_hearing i slot e st).shown r ≡ st.shown r
-unfolding after_life
-no_life i slot r Idle st h = refl
-no_life i slot r Bad st h = refl
-no_life i slot r (Sent f) st h =
-    cond_both (shows_life f && f.node == i) (record st { last = slot }) st (λ s. s.shown r ≡ st.shown r) (λ _. refl) (λ _. refl)
-no_life i slot r (Got f) st h =
-    cond_both (shows_life f) (with_shown f.node slot st) st (λ s. s.shown r ≡ st.shown r)
-    (λ life. rw (ne_eqb r f.node (λ e. both_ways (shows_life f && f.node == r) h (and_from (shows_life f) (f.node == r) life (eq-eqb f.node r (sym e))))) refl)
-    (λ _. refl)
-
-learnt_no_life : (i slot r : ℕ) (e : NoticeKind) (st : Knowledge) → hears_life r e ≡ false → (after_learning i slot e st).shown r ≡ st.shown r
-learnt_no_life i slot r e st h = learnt_keeps ℕ (λ s. s.shown r) (λ sign s. refl) i slot e st ∙ no_life i slot r e st h
-
--- ---- a failure that stays
+no_life_of : (r : ℕ) (e : NoticeKind) → hears_life r e ≡ false → NoLifeOf r e
+no_life_of r e h f is life node =
+    both_ways (hears_life r e) h (ap (hears_life r) is ∙ and_from (shows_life f) (f.node == r) life (eq-eqb f.node r node))
 
 -- ---- one turn, of a node that had r in its view before it
 
@@ -57,7 +44,7 @@ module _ (scenario : ScenarioParts) (i r : ℕ) (e : NoticeKind) (past : List No
       shown_after scenario.params i slot e st r
       ∙ cond-false (is_admitted (ended_at scenario i e past) st.members r) slot ((after_hearing i slot e st).shown r)
       (not_admitted (ended_at scenario i e past) st.members r member)
-      ∙ no_life i slot r e st h
+      ∙ no_life i slot r e st (no_life_of r e h)
 
   -- a sign of it that becomes known makes it fail
   named_fails : (sign : FailureSign) → sign.node ≡ r → Among (λ s. same_sign sign s ≡ true) (newly scenario.params i slot e st)
@@ -83,4 +70,4 @@ module _ (scenario : ScenarioParts) (i r : ℕ) (e : NoticeKind) (past : List No
       → knows (sign_in scenario.params slot r) st ≡ false → has (knowledge_of scenario i (e ∷ past)).failed r ≡ true
   silent_fails below other nothing last old late unknown =
       found_fails (silent_found scenario.params i r slot last e st few below other unknown late member
-      (omega (arith, learnt_no_life i slot r e st nothing, old)))
+      (omega (arith, learnt_no_life i slot r e st (no_life_of r e nothing), old)))

@@ -31,11 +31,12 @@ use Rattle.cany_model.proofs.Promises.OwnSlotsAlone.{AllWaitForOwnSlots, own_slo
 use Rattle.cany_model.proofs.Rules.MessageKeys.{IsOneOf}
 use Rattle.cany_model.proofs.Runs.Runs.{IsOrderly, along_run}
 use Rattle.cany_model.proofs.Runs.Steps.{MayTurn, after_slot-history, after_slot-present, after_slot-trace, after_slot-waiting, after_turn-history, next_notice, running_before_slot}
+use Rattle.cany_model.proofs.Timed.Common.Counting.{total}
 use Rattle.cany_laws.specs.Carried.{incarnations_of_first, times_clean}
 use Rattle.cany_laws.proofs.WaitAsksOnce.{AtFirstCopy, AtItsSlot}
 use Rattle.cany_laws.proofs.WaitNodes.{IsSame, has_sent, kept_waits, new_lives, same_after_turn, same_history, sent_waits, slot_lives, turn_lives}
 use Rattle.cany_laws.proofs.WaitTimes.{IsLeft, few_times, lives}
-use Rattle.cany_laws.proofs.WaitTotals.{one_at_most, one_if_false, one_if_true, one_if_weaker, total, total_most}
+use Rattle.cany_laws.proofs.WaitTotals.{one_at_most, one_if_false, one_if_true, one_if_weaker, total_most}
 use Rattle.cany_laws.proofs.Fronts.{drop-map}
 use Rattle.cany_laws.proofs.WaitOwnFirst.{EachAskedOnce, IsOwnFirst, all_of, asked_once, own_all, own_first_drop, same_all, slot_is_unsent, turn_all}
 use Rattle.cany_laws.proofs.WaitUnsent.{IsReadOrUnsent, IsUnsent, copies_carried, read_or_unsent, waited_or_asked}

@@ -26,12 +26,13 @@ use Rattle.cany_model.proofs.Rules.MessageKeys.{IsOneOf}
 use Rattle.cany_model.proofs.Runs.Runs.{IsOrderly, history-length}
 use Rattle.cany_model.proofs.Runs.Steps.{MayTurn, after_slot-history, after_slot-waiting, after_turn-history, after_turn-node, next_notice, running_before_slot}
 use Rattle.cany_model.proofs.Runs.Waits.{waits-from_after}
+use Rattle.cany_model.proofs.Timed.Common.Counting.{total}
 use Rattle.cany_laws.specs.Carried.{incarnations_of_first, times_clean}
 use Rattle.cany_laws.proofs.WaitAsksOnce.{AtItsSlot}
 use Rattle.cany_laws.proofs.WaitFallBack.{FallsBackNow, copy_dropped, rel_asked}
 use Rattle.cany_laws.proofs.WaitNodes.{IsSame, has_sent, kept_waits, new_lives, same_after_turn, same_history, same_reads, sent_waits, slot_lives, slot_reads, turn_lives, turn_reads}
 use Rattle.cany_laws.proofs.WaitTimes.{IsLeft, few_times, lives}
-use Rattle.cany_laws.proofs.WaitTotals.{one_at_most, one_if_false, one_if_true, one_if_weaker, total, total_most}
+use Rattle.cany_laws.proofs.WaitTotals.{one_at_most, one_if_false, one_if_true, one_if_weaker, total_most}
 
 -- ---- the times that are left at a node
 

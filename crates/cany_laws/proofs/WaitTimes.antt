@@ -21,10 +21,11 @@ use Rattle.cany_model.proofs.Runs.Runs.{IsOrderly, MaySlot, orderly}
 use Rattle.cany_model.proofs.Runs.Journals.{run_none}
 use Rattle.cany_model.proofs.Runs.Steps.{MayTurn, after_slot-trace, after_turn-trace}
 use Rattle.cany_model.proofs.Timed.Windows.TopFrames.{carried_frame}
+use Rattle.cany_model.proofs.Timed.Common.Counting.{total}
 use Rattle.cany_laws.specs.Carried.{incarnations_of_first, times_clean}
 use Rattle.cany_laws.proofs.Fronts.{along_pushes, pushed}
 use Rattle.cany_laws.proofs.WaitSlots.{is_clean_frame}
-use Rattle.cany_laws.proofs.WaitTotals.{total, total_both, total_less, total_most}
+use Rattle.cany_laws.proofs.WaitTotals.{total_both, total_less, total_most}
 
 -- how many incarnations node i has had
 abbrev pub lives : RunState → ℕ → ℕ
@@ -47,11 +48,12 @@ pub record IsLeft (scenario : ScenarioParts) (x : Identity) (Q : RunState → Ty
       → lives (after_turn scenario i s) j ≡ lives s j
 
 pub below_is : (n : ℕ) (s : RunState) → incarnations_of_first s n ≡ total (lives s) n
-unfolding incarnations_of_first
+unfolding incarnations_of_first total
 below_is zero s = refl
 below_is (suc n) s = omega (arith, below_is n s)
 
 total_same : (f g : ℕ → ℕ) (n : ℕ) → ((i : ℕ) → i < n → f i ≡ g i) → total f n ≡ total g n
+unfolding total
 total_same f g zero h = refl
 total_same f g (suc n) h =
     let here = h n (omega arith) in

@@ -2,12 +2,10 @@
 use Rattle.std.proofs.Common.{◌≡◌, ℕ, zero, suc, ◌+◌, ◌<◌, ◌≤◌, ◌==◌, inl, inr, Bool, true, false, refl, ap, subst, arith}
 use Rattle.std.proofs.lemmas.Bool.{cases_eq, ne_eqb}
 use Rattle.cany_model.proofs.Among.{one_if}
-
-abbrev pub total : (ℕ → ℕ) → ℕ → ℕ
-total f zero = 0
-total f (suc n) = f n + total f n
+use Rattle.cany_model.proofs.Timed.Common.Counting.{total}
 
 pub total_both : (f a g b : ℕ → ℕ) (n : ℕ) → ((i : ℕ) → i < n → f i + a i ≤ g i + b i) → total f n + total a n ≤ total g n + total b n
+unfolding total
 total_both f a g b zero h = omega arith
 total_both f a g b (suc n) h =
     let here = h n (omega arith) in
@@ -15,6 +13,7 @@ total_both f a g b (suc n) h =
     omega (arith, here, rest)
 
 pub total_most : (f g : ℕ → ℕ) (n : ℕ) → ((i : ℕ) → i < n → f i ≤ g i) → total f n ≤ total g n
+unfolding total
 total_most f g zero h = omega arith
 total_most f g (suc n) h =
     let here = h n (omega arith) in
@@ -23,6 +22,7 @@ total_most f g (suc n) h =
 
 -- where one of them is less, the sum is
 pub total_less : (f g : ℕ → ℕ) (n : ℕ) → ((i : ℕ) → i < n → f i ≤ g i) → (one : ℕ) → one < n → f one < g one → total f n < total g n
+unfolding total
 total_less f g zero h one below less = absurd (omega (arith, below))
 total_less f g (suc n) h one below less = elim (cases_eq one n) [
   | inl last ↦
@@ -53,6 +53,7 @@ one_at_most true = omega arith
 
 -- at most one of the first nodes is this one
 pub one_named : (k n : ℕ) → total (λ i. one_if (k == i)) n ≤ 1
+unfolding total
 one_named k zero = omega arith
 one_named k (suc n) = elim (cases_eq k n) [
   | inr other ↦ let none = one_if_false (k == n) (ne_eqb k n other) in omega (arith, none, one_named k n)

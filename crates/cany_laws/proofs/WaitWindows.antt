@@ -2,14 +2,14 @@
 use Rattle.std.proofs.Common.{◌≡◌, ℕ, zero, suc, ◌+◌, ◌-◌, ◌*◌, ◌<◌, ◌≤◌, ◌⊎◌, inl, inr, Bool, true, false, List, count_by, ap, sym, ◌∙◌, arith}
 use Rattle.std.specs.List.{range_with_len}
 use Rattle.std.proofs.lemmas.Bool.{cases_lt}
-use Rattle.cany_base.specs.declared.class.Class.TheVariants as class
 use Rattle.cany_base.specs.declared.slot_note.SlotNote.{SlotNote}
-use Rattle.cany_base.specs.Params.{Parameters, top_frames}
-use Rattle.cany_model.specs.Promises.Hypothesis.{IsWithin, error_slots, is_error_slot}
-use Rattle.cany_model.specs.Promises.Windows.{HasFew, HasFewAccepts, HasFewLifeSigns, HasFewVectors, is_clean_of}
+use Rattle.cany_base.specs.Params.{Parameters}
+use Rattle.cany_model.specs.Promises.Hypothesis.{IsWithin, is_error_slot}
+use Rattle.cany_model.specs.Promises.Windows.{HasFew, HasFewAccepts, HasFewLifeSigns, HasFewVectors}
 use Rattle.cany_model.proofs.Among.{count-cons, count-grows, count-yes}
 use Rattle.cany_model.proofs.Bus.States.{no_note, note_at}
 use Rattle.cany_model.proofs.Timed.Common.Pigeonhole.{count_ages, count_or, count_shorter}
+use Rattle.cany_model.proofs.Timed.Windows.TopFrames.{few_clean_tops, is_clean_top}
 use Rattle.cany_laws.specs.Waits.{most_taken, window}
 use Rattle.std.specs.Prelude.{◌||◌, drop, take}
 
@@ -73,24 +73,13 @@ count_windows t size most few (suc times) first n short =
 
 -- the slot is disturbed, or carried Clean a frame of the classes that win over all others
 abbrev pub is_taken : SlotNote → Bool
-is_taken note = is_error_slot note || (is_clean_of class.Accept note || (is_clean_of class.Rha note || is_clean_of class.Els note))
+is_taken note = is_error_slot note || is_clean_top note
 
 pub few_taken : (p : Parameters) (trace : List SlotNote) → IsWithin p trace → HasFewAccepts p trace → HasFewVectors p trace → HasFewLifeSigns p trace
     → HasFew is_taken (most_taken p) p trace
 few_taken p trace within accepts vectors signs newest =
     let slots : List SlotNote = take (p.bound + p.lag) (drop newest trace) in
-    let first = count_or is_error_slot (λ note. is_clean_of class.Accept note || (is_clean_of class.Rha note || is_clean_of class.Els note)) slots in
-    let two = count_or (is_clean_of class.Accept) (λ note. is_clean_of class.Rha note || is_clean_of class.Els note) slots in
-    let rest = count_or (is_clean_of class.Rha) (is_clean_of class.Els) slots in
-    sums p.nodes p.errors (count_by is_taken slots) (error_slots slots) (count_by (is_clean_of class.Accept) slots)
-    (count_by (is_clean_of class.Rha) slots) (count_by (is_clean_of class.Els) slots)
-    (omega (arith, first, two, rest)) (within.errors newest) (accepts newest) (vectors newest) (signs newest)
-  where
-    sums : (n errors taken error accept rha els : ℕ) → taken ≤ error + (accept + (rha + els)) → error ≤ errors → accept ≤ 2 * (n * n) → rha ≤ n * n + n
-        → els ≤ n → taken ≤ top_frames n + errors
-    sums n errors taken error accept rha els all e a r l =
-        let three : 3 * n * n ≡ 3 * (n * n) = grind arith in
-        omega (arith, all, e, a, r, l, three)
+    omega (arith, count_or is_error_slot is_clean_top slots, few_clean_tops p trace within accepts vectors signs newest)
 
 -- ---- slots by their ages
 

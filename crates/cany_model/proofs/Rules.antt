@@ -20,6 +20,7 @@ pub mod MembershipEntries
 pub mod MessageClasses
 pub mod MessageKeys
 pub mod MutedFacts
+pub mod NoDelivery
 pub mod NumberFacts
 pub mod PlaceFacts
 pub mod ProtocolFacts

@@ -1,10 +1,11 @@
 -- Worked rows of nodes that ask to join: runs in which they are admitted, in the cycle that is promised or in the one before, and one in
 -- which the ask does not get through. What a run comes to is computed in rows of its own.
-use Rattle.std.specs.Prelude.{ℕ, ◌+◌, ◌-◌, ◌<◌, ◌≡◌, ◌⊎◌, Bool, true, false, [], ◌∷◌, Option, Some, Contains, map, replicate, refl}
+use Rattle.std.specs.Prelude.{ℕ, ◌+◌, ◌-◌, ◌*◌, ◌<◌, ◌≤◌, ◌≡◌, ◌⊎◌, Bool, true, false, [], ◌∷◌, Option, Some, Contains, map, replicate, refl}
 use Rattle.std.proofs.Common.{ap, arith, inl, inr, lit<, lit≤, ◌∙◌, sym}
 use Rattle.std.proofs.lemmas.Bool.{false≢true}
 use Rattle.cany_base.specs.declared.log_entry.LogEntry.TheVariants.{View}
 use Rattle.cany_base.specs.declared.rule.Verdict.TheVariants.{Clean, Partial}
+use Rattle.cany_base.specs.declared.slot_note.SlotNote.{SlotNote}
 use Rattle.cany_base.specs.Nodes.{Nodes, has}
 use Rattle.cany_base.specs.Scenario.{IsLegalScenario, ScenarioParts}
 use Rattle.cany_model.specs.Bus.State.{RunState, node_at, runs, slots_run}
@@ -14,7 +15,7 @@ use Rattle.cany_model.specs.Promises.OneView.{installed}
 use Rattle.cany_model.specs.Promises.Settled.{IsCorrect}
 use Rattle.cany_model.specs.Rules.Log.{log}
 use Rattle.cany_model.proofs.Promises.BreakFacts.{first_break_exact}
-use Rattle.cany_rows.proofs.DetectorWords.{detector_row, each_correct, of_installed, run_of, two, two_is_legal}
+use Rattle.cany_rows.proofs.DetectorWords.{detector_row, each_correct, of_installed, run_of, stands_after, two, two_is_legal}
 use Rattle.cany_rows.proofs.RowWords.{carries, scenario, set, slot_rule, three}
 use Rattle.cany_rows.proofs.SiteWords.{asks_at, join, of_members, with_asks}
 
@@ -26,6 +27,26 @@ node_1_is_outside : (sc : ScenarioParts) (s : RunState) (slot : ℕ) → sc.para
     → (i : ℕ) → IsCorrect sc s i → has (members_before sc s slot i) 1 ≡ false
 node_1_is_outside sc s slot nodes both =
     each_correct sc s (λ i. has (members_before sc s slot i) 1 ≡ false) nodes (λ correct. both.0) (λ correct. both.1)
+
+-- its ask is carried Clean in a slot by itself, and heard by the other node
+abbrev its_ask : ℕ → ℕ → SlotNote
+its_ask slot cycle = carries slot (join 1 cycle) 2 1 Clean 0
+
+join_was_carried : (sc : ScenarioParts) (s : RunState) (slot asked cycle : ℕ) → sc.params.nodes ≡ 2 → Contains s.trace (its_ask slot asked)
+    → (cycle - 1) * sc.params.cycle < slot → slot ≤ cycle * sc.params.cycle → AreWithoutNode1 sc s slot → JoinWasCarried sc s 1 cycle
+unfolding detector_row
+join_was_carried sc s slot asked cycle nodes stands after by_start both = record {
+  note = its_ask slot asked;
+  stands = stands;
+  what = join 1 asked;
+  frame = refl;
+  join = refl;
+  asker = refl;
+  clean = refl;
+  after = after;
+  by_start = by_start;
+  outside = node_1_is_outside sc s slot nodes both;
+}
 
 node_1_is_in_it : (has (set 3) 1 ≡ true) × (has (set 1) 1 ≡ false)
 unfolding detector_row
@@ -62,18 +83,7 @@ outside_before_the_join = (refl, refl)
 -- the premise is met: its ask is carried in slot 11
 its_join_is_carried : JoinWasCarried node_1_joins joined 1 1
 unfolding detector_row
-its_join_is_carried = record {
-  note = carries 11 (join 1 0) 2 1 Clean 0;
-  stands = (46, lit< tt, refl);
-  what = join 1 0;
-  frame = refl;
-  join = refl;
-  asker = refl;
-  clean = refl;
-  after = lit< tt;
-  by_start = lit≤ tt;
-  outside = node_1_is_outside node_1_joins joined 11 refl outside_before_the_join;
-}
+its_join_is_carried = join_was_carried node_1_joins joined 11 0 1 refl (46, lit< tt, refl) (lit< tt) (lit≤ tt) outside_before_the_join
 
 -- both nodes install a vector that has it
 installed_after_the_join : (installed node_1_joins joined 0 1 ≡ Some (set 3)) × (installed node_1_joins joined 1 1 ≡ Some (set 3))
@@ -102,11 +112,8 @@ unfolding detector_row
 members_after_the_end = (lit< tt, refl, refl)
 
 stands_after_the_end : StandsAfter node_1_joins joined 1 57
-stands_after_the_end = record {
-  ran = members_after_the_end.0;
-  member = each_correct node_1_joins joined (λ i. has (members_before node_1_joins joined (57 + 1) i) 1 ≡ true) refl
-      (λ correct. members_after_the_end.1) (λ correct. members_after_the_end.2);
-}
+stands_after_the_end =
+    stands_after node_1_joins joined 1 57 refl members_after_the_end.0 (λ correct. members_after_the_end.1) (λ correct. members_after_the_end.2)
 
 stands_not_before_the_end : StandsAfter node_1_joins joined 1 56 → ⊥
 unfolding detector_row
@@ -124,20 +131,10 @@ outside_at_the_start = (refl, refl)
 
 join_in_the_slot_of_the_start : JoinWasCarried (joins_at 37) (run_of (joins_at 37)) 1 1
 unfolding detector_row
-join_in_the_slot_of_the_start = record {
-  note = carries 38 (join 1 0) 2 1 Clean 0;
-  stands = (57, lit< tt, refl);
-  what = join 1 0;
-  frame = refl;
-  join = refl;
-  asker = refl;
-  clean = refl;
-  after = lit< tt;
-  by_start = lit≤ tt;
-  outside = node_1_is_outside (joins_at 37) (run_of (joins_at 37)) 38 refl outside_at_the_start;
-}
+join_in_the_slot_of_the_start =
+    join_was_carried (joins_at 37) (run_of (joins_at 37)) 38 0 1 refl (57, lit< tt, refl) (lit< tt) (lit≤ tt) outside_at_the_start
 
-join_after_the_start : Contains (run_of (joins_at 38)).trace (carries 41 (join 1 1) 2 1 Clean 0)
+join_after_the_start : Contains (run_of (joins_at 38)).trace (its_ask 41 1)
 unfolding detector_row
 join_after_the_start = (54, lit< tt, refl)
 
@@ -179,18 +176,7 @@ outside_before_the_second_join = (refl, refl)
 
 second_join_is_carried : JoinWasCarried joins_and_leaves left 1 2
 unfolding detector_row
-second_join_is_carried = record {
-  note = carries 45 (join 1 1) 2 1 Clean 0;
-  stands = (50, lit< tt, refl);
-  what = join 1 1;
-  frame = refl;
-  join = refl;
-  asker = refl;
-  clean = refl;
-  after = lit< tt;
-  by_start = lit≤ tt;
-  outside = node_1_is_outside joins_and_leaves left 45 refl outside_before_the_second_join;
-}
+second_join_is_carried = join_was_carried joins_and_leaves left 45 1 2 refl (50, lit< tt, refl) (lit< tt) (lit≤ tt) outside_before_the_second_join
 
 -- the vectors of cycles 1 and 2
 installed_at_node_0 : (installed joins_and_leaves left 0 (2 - 1) ≡ Some (set 3)) × (installed joins_and_leaves left 0 2 ≡ Some (set 1))

@@ -27,7 +27,7 @@ use Rattle.cany_model.specs.Rules.Log.{log}
 use Rattle.cany_model.specs.Rules.KnowledgeOf.{knowledge_of}
 use Rattle.cany_model.specs.Rules.Turn.{scenario_at}
 use Rattle.cany_model.proofs.Promises.BreakFacts.{first_break_exact}
-use Rattle.cany_rows.proofs.DetectorWords.{OfView, detector_row, each_correct, of_views, run_of, two, two_is_legal}
+use Rattle.cany_rows.proofs.DetectorWords.{OfView, detector_row, each_correct, of_views, run_of, stands_after, two, two_is_legal}
 use Rattle.cany_rows.proofs.RowWords.{scenario, set, slot_rule, three}
 use Rattle.cany_rows.proofs.SiteWords.{asks_at, of_members}
 
@@ -112,11 +112,8 @@ members_after_the_stop =
 
 -- so the premise of a removal is met
 it_stops_as_a_member : StandsAfter node_1_stops stopped_run 1 1
-it_stops_as_a_member = record {
-  ran = members_after_the_stop.0;
-  member = each_correct node_1_stops stopped_run (λ i. has (members_before node_1_stops stopped_run (1 + 1) i) 1 ≡ true) refl
-      (λ correct. members_after_the_stop.2) it_runs_no_more;
-}
+it_stops_as_a_member =
+    stands_after node_1_stops stopped_run 1 1 refl members_after_the_stop.0 (λ correct. members_after_the_stop.2) it_runs_no_more
 
 -- A view of a cycle that starts more than the silence of 39 slots after slot 1 has not node 1: the first cycle starts too early, and the
 -- view of the second has it not.
@@ -161,11 +158,8 @@ it_asks_no_leave : AsksNoLeave node_1_stops stopped_run 0
 it_asks_no_leave = ap (λ (seen : SeenOfTheStop). seen.left) stop_is_seen
 
 it_stands_in_the_view : StandsAfter node_1_stops stopped_run 0 1
-it_stands_in_the_view = record {
-  ran = members_after_the_stop.0;
-  member = each_correct node_1_stops stopped_run (λ i. has (members_before node_1_stops stopped_run (1 + 1) i) 0 ≡ true) refl
-      (λ correct. members_after_the_stop.1) it_runs_no_more;
-}
+it_stands_in_the_view =
+    stands_after node_1_stops stopped_run 0 1 refl members_after_the_stop.0 (λ correct. members_after_the_stop.1) it_runs_no_more
 
 it_stays : StaysInViews node_1_stops stopped_run 0 1
 it_stays =
@@ -283,11 +277,8 @@ unfolding detector_row
 members_before_the_end = (lit< tt, refl, refl)
 
 leaver_stands_in_the_view : StandsAfter node_1_leaves left_run 1 56
-leaver_stands_in_the_view = record {
-  ran = members_before_the_end.0;
-  member = each_correct node_1_leaves left_run (λ i. has (members_before node_1_leaves left_run (56 + 1) i) 1 ≡ true) refl
-      (λ correct. members_before_the_end.1) (λ correct. members_before_the_end.2);
-}
+leaver_stands_in_the_view =
+    stands_after node_1_leaves left_run 1 56 refl members_before_the_end.0 (λ correct. members_before_the_end.1) (λ correct. members_before_the_end.2)
 
 staying_needs_no_leave : StaysInViews node_1_leaves left_run 1 56 → ⊥
 unfolding detector_row
@@ -304,6 +295,10 @@ leaver_has_asked none = false≢true (sym none)
 -- that no entry of the scenario names the node: more than that it has asked for no leave in the run
 abbrev HasNoScriptedLeave : ScenarioParts → ℕ → Type 0
 HasNoScriptedLeave sc r = All (λ ask. ask.node ≢ r) sc.leaves
+
+scripted_leave : (sc : ScenarioParts) (slot r : ℕ) → Contains sc.leaves (asks_at slot r) → HasNoScriptedLeave sc r → ⊥
+unfolding detector_row
+scripted_leave sc slot r stands none = All-contains (λ (ask : NodeAsk). ask.node ≢ r) sc.leaves (asks_at slot r) none stands refl
 
 -- Node 1 is no member at slot 0, so its leave of this slot does nothing. It asks in slot 5 to join, and stands in both views.
 abbrev leaves_as_no_member : ScenarioParts
@@ -326,7 +321,7 @@ its_leave_is_none = refl
 
 its_leave_is_scripted : HasNoScriptedLeave leaves_as_no_member 1 → ⊥
 unfolding detector_row
-its_leave_is_scripted none = All-contains (λ (ask : NodeAsk). ask.node ≢ 1) leaves_as_no_member.leaves (asks_at 0 1) none (0, lit< tt, refl) refl
+its_leave_is_scripted = scripted_leave leaves_as_no_member 0 1 (0, lit< tt, refl)
 
 -- Node 1 is to leave in slot 60. After the first 58 slots it has not asked, and stands in the view of the first cycle; after all it has.
 abbrev leaves_later : ScenarioParts
@@ -349,7 +344,7 @@ it_has_not_asked_yet = refl
 
 it_is_to_leave : HasNoScriptedLeave leaves_later 1 → ⊥
 unfolding detector_row
-it_is_to_leave none = All-contains (λ (ask : NodeAsk). ask.node ≢ 1) leaves_later.leaves (asks_at 60 1) none (0, lit< tt, refl) refl
+it_is_to_leave = scripted_leave leaves_later 60 1 (0, lit< tt, refl)
 
 it_has_asked_at_last : AsksNoLeave leaves_later (run_of leaves_later) 1 → ⊥
 unfolding detector_row has_asked_leave

@@ -1,5 +1,5 @@
 -- What the worked rows of the failure detector and of the membership are written with: runs of two nodes, and what logs and vectors say.
-use Rattle.std.specs.Prelude.{ℕ, suc, zero, ◌<◌, ◌≤◌, ◌≡◌, List, [], Option, Some, None, Contains, length}
+use Rattle.std.specs.Prelude.{ℕ, suc, zero, true, ◌+◌, ◌<◌, ◌≤◌, ◌≡◌, List, [], Option, Some, None, Contains, length}
 use Rattle.std.specs.List.{AllByRecursion}
 use Rattle.std.proofs.Common.{arith, ◌∙◌, lit≤, subst, sym}
 use Rattle.std.proofs.lemmas.List.Elements.{All-from_recursion, All-nil}
@@ -8,11 +8,12 @@ use Rattle.cany_base.specs.declared.log_entry.LogEntry.{LogEntry}
 use Rattle.cany_base.specs.declared.log_entry.LogEntry.TheVariants.{Deliver, Failed, View}
 use Rattle.cany_base.specs.declared.message.NodeAsk.{NodeAsk}
 use Rattle.cany_base.specs.declared.rule.Rule.{Rule}
-use Rattle.cany_base.specs.Nodes.{Nodes}
+use Rattle.cany_base.specs.Nodes.{Nodes, has}
 use Rattle.cany_base.specs.Params.{default_parameters}
 use Rattle.cany_base.specs.Scenario.{IsAskOf, IsLegalScenario, IsRuleOf, IsSendOf, ScenarioParts}
 use Rattle.cany_base.proofs.NodesFacts.{AllBelow-bits}
-use Rattle.cany_model.specs.Bus.State.{RunState}
+use Rattle.cany_model.specs.Bus.State.{RunState, slots_run}
+use Rattle.cany_model.specs.Promises.Detector.{StandsAfter, members_before}
 use Rattle.cany_model.specs.Promises.OneView.{installed_of}
 use Rattle.cany_model.specs.Bus.History.{history_but}
 use Rattle.cany_model.specs.Promises.Settled.{IsCorrect}
@@ -97,6 +98,13 @@ pub each_correct : (sc : ScenarioParts) (s : RunState) (P : ℕ → Type 0) → 
     → (IsCorrect sc s 1 → P 1) → (i : ℕ) → IsCorrect sc s i → P i
 each_correct sc s P nodes zeroth first i correct =
     for_two (λ j. IsCorrect sc s j → P j) zeroth first i (subst (λ n. i < n) nodes correct.there) correct
+
+-- a node stands in the view after the turn of a slot, where each of the two that is correct has it in its own before the next
+pub stands_after : (sc : ScenarioParts) (s : RunState) (r slot : ℕ) → sc.params.nodes ≡ 2 → slot < slots_run s
+    → (IsCorrect sc s 0 → has (members_before sc s (slot + 1) 0) r ≡ true) → (IsCorrect sc s 1 → has (members_before sc s (slot + 1) 1) r ≡ true)
+    → StandsAfter sc s r slot
+stands_after sc s r slot nodes ran zeroth first =
+    record { ran = ran; member = each_correct sc s (λ i. has (members_before sc s (slot + 1) i) r ≡ true) nodes zeroth first }
 
 -- ---- what logs and vectors say
 

@@ -1,5 +1,5 @@
 -- Worked rows of eager diffusion, also at a lag.
-use Rattle.std.specs.Prelude.{ℕ, ◌≡◌, true, List, [], ◌∷◌, Some, refl, codes}
+use Rattle.std.specs.Prelude.{ℕ, ◌≡◌, true, List, [], ◌∷◌, replicate, refl, codes}
 use Rattle.cany_base.specs.declared.notice.NoticeKind.{NoticeKind}
 use Rattle.cany_base.specs.declared.notice.NoticeKind.TheVariants.{Idle, Got, Sent, Bad}
 use Rattle.cany_base.specs.declared.rule.Verdict.TheVariants.{Clean, Partial}
@@ -11,30 +11,23 @@ use Rattle.cany_model.specs.Rules.Edcan.{edcan_at, edcan_effects}
 use Rattle.cany_model.specs.Rules.Effect.{Effect, Ask, Withdraw, Enter}
 use Rattle.cany_model.specs.Bus.Frames.{identity_of, same_class, same_identity}
 use Rattle.cany_model.specs.Bus.History.{copies, has_own}
-use Rattle.cany_rows.proofs.RowWords.{lag_1, carries, delivered, delivers, ed, first_frame, one_message, report, row, scenario, set, slot_rule, steps, three, running_node, stopped_node, whole_run, report_of}
+use Rattle.cany_rows.proofs.RowWords.{broken_run, lag_1, carries, delivered, delivers, ed, first_frame, one_message, report, row, scenario, set, slot_rule, steps, three, running_node, stopped_node, whole_run, report_of}
 
 -- with omit 0 the first copy is already enough: nobody relays
 one_copy_is_enough :
-    (let s = scenario (three 4 0 2) one_message [] in report_of s) ≡ whole_run (steps (codes ".012.012.012.012"))
+    report_of (scenario (three 4 0 2) one_message []) ≡ whole_run (steps (codes ".012.012.012.012"))
     (carries 1 first_frame 1 6 Clean 0 ∷ [])
-    (running_node 4 (delivered 1) ∷ running_node 4 (delivered 1)
-    ∷ running_node 4 (delivered 1) ∷ [])
+    (replicate 3 (running_node 4 (delivered 1)))
     (true ∷ [])
 unfolding row
 one_copy_is_enough = refl
 
 -- one slot that breaks omit and errors is a break of omit
 omit_comes_before_errors :
-    (let s = scenario (three 4 0 0) one_message (slot_rule 1 (Partial (set 4)) 0 ∷ []) in report_of s) ≡ record {
-      journal = steps (codes ".012.012.012.012");
-      bus = carries 1 first_frame 1 2 (Partial (set 4)) 0 ∷ carries 2 first_frame 1 6 Clean 0 ∷ [];
-      broken = Some (record { kind = kind.Omit; slot = 1 });
-      nodes = running_node 4 (delivered 2) ∷ running_node 4 (delivered 1)
-          ∷ running_node 4 (delivered 2) ∷ [];
-      settled = true ∷ [];
-      legal = true;
-      ended = true;
-    }
+    report_of (scenario (three 4 0 0) one_message (slot_rule 1 (Partial (set 4)) 0 ∷ [])) ≡ broken_run kind.Omit 1 (steps (codes ".012.012.012.012"))
+    (carries 1 first_frame 1 2 (Partial (set 4)) 0 ∷ carries 2 first_frame 1 6 Clean 0 ∷ [])
+    (running_node 4 (delivered 2) ∷ running_node 4 (delivered 1) ∷ running_node 4 (delivered 2) ∷ [])
+    (true ∷ [])
 unfolding row
 omit_comes_before_errors = refl
 
@@ -99,24 +92,17 @@ another_message_counts_apart = refl
 unfoldable twice_partial : ℕ → ScenarioParts
 twice_partial omit = scenario (lag_1 5 omit) one_message (slot_rule 1 (Partial (set 4)) 0 ∷ slot_rule 2 (Partial (set 4)) 1 ∷ [])
 
-too_many_partial_copies_lose_a_message : report (twice_partial 1) (steps (codes ".012.02.112.12.12")) ≡ record {
-  journal = steps (codes ".012.02.112.12.12");
-  bus = carries 1 first_frame 1 2 (Partial (set 4)) 0 ∷ carries 2 first_frame 1 2 (Partial (set 4)) 1 ∷ [];
-  broken = Some (record { kind = kind.Omit; slot = 2 });
-  nodes = stopped_node 2 2 [] ∷ running_node 5 (delivered 1)
-      ∷ running_node 5 [] ∷ [];
-  settled = true ∷ [];
-  legal = true;
-  ended = true;
-}
+too_many_partial_copies_lose_a_message : report (twice_partial 1) (steps (codes ".012.02.112.12.12")) ≡ broken_run kind.Omit 2 (steps (codes ".012.02.112.12.12"))
+    (carries 1 first_frame 1 2 (Partial (set 4)) 0 ∷ carries 2 first_frame 1 2 (Partial (set 4)) 1 ∷ [])
+    (stopped_node 2 2 [] ∷ running_node 5 (delivered 1) ∷ running_node 5 [] ∷ [])
+    (true ∷ [])
 unfolding row lag_1 twice_partial
 too_many_partial_copies_lose_a_message = refl
 
 -- with omit 2 the same run is within the hypothesis, and node 1 relays
 two_partial_copies_within : report (twice_partial 2) (steps (codes ".012.02.112.12.12")) ≡ whole_run (steps (codes ".012.02.112.12.12"))
     (carries 1 first_frame 1 2 (Partial (set 4)) 0 ∷ carries 2 first_frame 1 2 (Partial (set 4)) 1 ∷ carries 3 first_frame 2 4 Clean 0 ∷ carries 4 first_frame 4 2 Clean 0 ∷ [])
-    (stopped_node 2 2 [] ∷ running_node 5 (delivered 1)
-    ∷ running_node 5 (delivered 3) ∷ [])
+    (stopped_node 2 2 [] ∷ running_node 5 (delivered 1) ∷ running_node 5 (delivered 3) ∷ [])
     (true ∷ [])
 unfolding row lag_1 twice_partial
 two_partial_copies_within = refl

@@ -29,7 +29,7 @@ use Rattle.cany_model.specs.Rules.KnowledgeOf.{knowledge_of}
 use Rattle.cany_model.specs.Rules.Knowledge.{FailureSign, Knowledge, after_life, fda_of, found as found_by_silence, after_admitting, knowledge_at_first, told}
 use Rattle.cany_model.specs.Rules.Turn.{effects_for, scenario_for, turn_effects}
 use Rattle.cany_model.proofs.Promises.BreakFacts.{first_break_exact}
-use Rattle.cany_rows.proofs.RowWords.{accept, carries, delivers, delivers_rel, delivers_tot, confirm, ed, first_accept, first_tot, idle, one_tot, rel, report, row, scenario, send, send_rel, send_tot, set, slot_rule, steps, three, tot, running_node, stopped_node, whole_run, report_of, run_of}
+use Rattle.cany_rows.proofs.RowWords.{broken_run, accept, carries, delivers, delivers_rel, delivers_tot, confirm, ed, first_accept, first_tot, idle, one_tot, rel, report, row, scenario, send, send_rel, send_tot, set, slot_rule, steps, three, tot, running_node, stopped_node, whole_run, report_of, run_of}
 
 -- ---- what a row is written with
 
@@ -83,8 +83,7 @@ failure_sign_before_any_cycle :
     report_of node_1_stops ≡ whole_run (steps (rounds_of 5 (codes ".012") ++ rounds_of 95 (codes ".02")))
     (idle 5 2 ∷ carries 37 (els 0 0) 1 4 Clean 0 ∷ carries 38 (els 2 0) 4 1 Clean 0 ∷ carries 74 (els 0 1) 1 4 Clean 0
     ∷ carries 75 (els 2 1) 4 1 Clean 0 ∷ carries 76 (fda 1 0) 5 0 Clean 0 ∷ [])
-    (running_node 100 (Failed 73 1 0 ∷ []) ∷ stopped_node 5 5 []
-    ∷ running_node 100 (Failed 73 1 0 ∷ []) ∷ [])
+    (running_node 100 (Failed 73 1 0 ∷ []) ∷ stopped_node 5 5 [] ∷ running_node 100 (Failed 73 1 0 ∷ []) ∷ [])
     []
 unfolding life_run node_1_stops
 failure_sign_before_any_cycle = refl
@@ -95,8 +94,7 @@ unaccepted = of_members 7 (scenario (three 45 1 2) one_tot (slot_rule 1 (Partial
 totcan_unaccepted_is_dropped :
     report_of unaccepted ≡ whole_run (steps (codes ".012" ++ rounds_of 44 (codes ".12")))
     (carries 1 first_tot 1 2 (Partial (set 4)) 1 ∷ carries 37 (els 1 0) 2 4 Clean 0 ∷ carries 38 (els 2 0) 4 2 Clean 0 ∷ [])
-    (stopped_node 1 1 [] ∷ running_node 45 []
-    ∷ running_node 45 [] ∷ [])
+    (stopped_node 1 1 [] ∷ running_node 45 [] ∷ running_node 45 [] ∷ [])
     (true ∷ [])
 unfolding life_run unaccepted
 totcan_unaccepted_is_dropped = refl
@@ -108,8 +106,7 @@ totcan_accept_survives_its_sender :
     report_of accept_is_partial ≡ whole_run (steps (codes ".012.012" ++ rounds_of 43 (codes ".12")))
     (carries 1 first_tot 1 6 Clean 0 ∷ carries 2 first_accept 1 2 (Partial (set 4)) 1 ∷ carries 3 first_accept 2 4 Clean 0
     ∷ carries 4 first_accept 4 2 Clean 0 ∷ carries 37 (els 1 0) 2 4 Clean 0 ∷ carries 38 (els 2 0) 4 2 Clean 0 ∷ [])
-    (stopped_node 2 2 (delivered 1) ∷ running_node 45 (delivered 2)
-    ∷ running_node 45 (delivered 3) ∷ [])
+    (stopped_node 2 2 (delivered 1) ∷ running_node 45 (delivered 2) ∷ running_node 45 (delivered 3) ∷ [])
     (true ∷ [])
 unfolding life_run accept_is_partial
 totcan_accept_survives_its_sender = refl
@@ -119,17 +116,11 @@ unfoldable silent_to_node_2 : ScenarioParts
 silent_to_node_2 = of_members 7 (scenario (three 45 1 2) one_tot (slot_rule 1 (Silent (set 4)) 0 ∷ []))
 
 silent_omission_is_outside :
-    report_of silent_to_node_2 ≡ record {
-      journal = steps (rounds_of 45 (codes ".012"));
-      bus = carries 1 first_tot 1 2 (Silent (set 4)) 0 ∷ carries 2 first_accept 1 6 Clean 0 ∷ carries 3 first_accept 2 5 Clean 0
-          ∷ carries 37 (els 1 0) 2 5 Clean 0 ∷ carries 38 (els 0 0) 1 6 Clean 0 ∷ carries 39 (els 2 0) 4 3 Clean 0 ∷ [];
-      broken = Some (record { kind = kind.Silent; slot = 1 });
-      nodes = running_node 45 (delivered 1) ∷ running_node 45 (delivered 2)
-          ∷ running_node 45 [] ∷ [];
-      settled = true ∷ [];
-      legal = true;
-      ended = true;
-    }
+    report_of silent_to_node_2 ≡ broken_run kind.Silent 1 (steps (rounds_of 45 (codes ".012")))
+    (carries 1 first_tot 1 2 (Silent (set 4)) 0 ∷ carries 2 first_accept 1 6 Clean 0 ∷ carries 3 first_accept 2 5 Clean 0
+    ∷ carries 37 (els 1 0) 2 5 Clean 0 ∷ carries 38 (els 0 0) 1 6 Clean 0 ∷ carries 39 (els 2 0) 4 3 Clean 0 ∷ [])
+    (running_node 45 (delivered 1) ∷ running_node 45 (delivered 2) ∷ running_node 45 [] ∷ [])
+    (true ∷ [])
 unfolding life_run silent_to_node_2
 silent_omission_is_outside = refl
 
@@ -165,8 +156,7 @@ one_reads_late = rounds_of 6 (codes ".02") ++ codes ".2.0.0022.02.02"
 
 found_twice_and_asked_once : report silence_at_lag_1 (steps one_reads_late) ≡ whole_run (steps one_reads_late)
     (idle 0 2 ∷ carries 7 (fda 1 0) 4 1 Clean 0 ∷ carries 8 (fda 1 0) 1 4 Clean 0 ∷ [])
-    (running_node 11 (Failed 6 1 0 ∷ []) ∷ stopped_node 0 0 []
-    ∷ running_node 11 (Failed 6 1 0 ∷ []) ∷ [])
+    (running_node 11 (Failed 6 1 0 ∷ []) ∷ stopped_node 0 0 [] ∷ running_node 11 (Failed 6 1 0 ∷ []) ∷ [])
     []
 unfolding life_run silence_at_lag_1 one_reads_late
 found_twice_and_asked_once = refl
@@ -175,17 +165,11 @@ found_twice_and_asked_once = refl
 unfoldable accused : ℕ → ScenarioParts
 accused omit = of_members 2 (scenario (record (soon omit) { cycle = 100; slots = 12 }) [] (slot_rule 5 (Silent (set 1)) 0 ∷ []))
 
-accused_by_mistake : report_of (accused 1) ≡ record {
-  journal = steps (rounds_of 12 (codes ".012"));
-  bus = carries 5 (els 1 0) 2 4 (Silent (set 1)) 0 ∷ carries 7 (fda 1 0) 1 6 Clean 0 ∷ carries 8 (fda 1 0) 6 1 Clean 0
-      ∷ carries 10 (els 1 1) 2 5 Clean 0 ∷ [];
-  broken = Some (record { kind = kind.Silent; slot = 5 });
-  nodes = running_node 12 (Failed 6 1 0 ∷ []) ∷ running_node 12 (Failed 7 1 0 ∷ [])
-      ∷ running_node 12 (Failed 7 1 0 ∷ []) ∷ [];
-  settled = [];
-  legal = true;
-  ended = true;
-}
+accused_by_mistake : report_of (accused 1) ≡ broken_run kind.Silent 5 (steps (rounds_of 12 (codes ".012")))
+    (carries 5 (els 1 0) 2 4 (Silent (set 1)) 0 ∷ carries 7 (fda 1 0) 1 6 Clean 0 ∷ carries 8 (fda 1 0) 6 1 Clean 0
+    ∷ carries 10 (els 1 1) 2 5 Clean 0 ∷ [])
+    (running_node 12 (Failed 6 1 0 ∷ []) ∷ running_node 12 (Failed 7 1 0 ∷ []) ∷ running_node 12 (Failed 7 1 0 ∷ []) ∷ [])
+    []
 unfolding life_run accused
 accused_by_mistake = refl
 
@@ -219,8 +203,7 @@ two_stop slot = with_restart slot 0 (of_members 7 (scenario (record (soon 1) { b
 signs_reach_a_restarted_node : report_of (two_stop 0) ≡ whole_run (steps (codes ".2" ++ rounds_of 12 (codes ".02")))
     (idle 0 3 ∷ carries 5 (els 2 0) 4 1 Clean 0 ∷ carries 7 (fda 0 0) 4 1 Clean 0 ∷ carries 8 (fda 0 0) 1 4 Clean 0
     ∷ carries 9 (fda 1 0) 4 1 Clean 0 ∷ carries 10 (els 2 1) 4 1 Clean 0 ∷ carries 11 (fda 1 0) 1 4 Clean 0 ∷ [])
-    (running_node 13 (Failed 7 0 0 ∷ Failed 9 1 0 ∷ []) ∷ stopped_node 0 0 []
-    ∷ running_node 13 (Failed 6 0 0 ∷ Failed 6 1 0 ∷ []) ∷ [])
+    (running_node 13 (Failed 7 0 0 ∷ Failed 9 1 0 ∷ []) ∷ stopped_node 0 0 [] ∷ running_node 13 (Failed 6 0 0 ∷ Failed 6 1 0 ∷ []) ∷ [])
     []
 unfolding life_run two_stop
 signs_reach_a_restarted_node = refl

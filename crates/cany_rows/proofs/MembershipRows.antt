@@ -24,8 +24,7 @@ stopped_node_is_removed :
     (idle 5 2 ∷ carries 37 (els 0 0) 1 4 Clean 0 ∷ carries 38 (els 2 0) 4 1 Clean 0 ∷ carries 73 (rha 0 1 7) 1 4 Clean 0
     ∷ carries 74 (rha 2 1 7) 4 1 Clean 0 ∷ carries 75 (fda 1 1) 5 0 Clean 0 ∷ carries 110 (els 0 1) 1 4 Clean 0
     ∷ carries 111 (els 2 1) 4 1 Clean 0 ∷ carries 145 (rha 0 2 5) 1 4 Clean 0 ∷ carries 146 (rha 2 2 5) 4 1 Clean 0 ∷ [])
-    (running_node 300 without_node_1 ∷ stopped_node 5 5 []
-    ∷ running_node 300 without_node_1 ∷ [])
+    (running_node 300 without_node_1 ∷ stopped_node 5 5 [] ∷ running_node 300 without_node_1 ∷ [])
     []
 unfolding site_row of_lines node_1_stops without_node_1
 stopped_node_is_removed = refl
@@ -50,8 +49,7 @@ join_after_partial_of_a_node_that_stops :
     (carries 11 (join 2 0) 4 1 (Partial (set 2)) 4 ∷ carries 37 (els 0 0) 1 2 Clean 0 ∷ carries 38 (els 1 0) 2 1 Clean 0
     ∷ carries 73 (rha 0 1 7) 1 2 Clean 0 ∷ carries 74 (rha 1 1 3) 2 1 Clean 0 ∷ carries 75 (rha 0 1 3) 1 2 Clean 0
     ∷ carries 111 (els 1 1) 2 1 Clean 0 ∷ carries 112 (els 0 1) 1 2 Clean 0 ∷ [])
-    (running_node 120 (View 108 1 (set 3) ∷ []) ∷ running_node 120 (View 108 1 (set 3) ∷ [])
-    ∷ stopped_node 11 11 [] ∷ [])
+    (running_node 120 (View 108 1 (set 3) ∷ []) ∷ running_node 120 (View 108 1 (set 3) ∷ []) ∷ stopped_node 11 11 [] ∷ [])
     []
 unfolding site_row node_2_joins
 join_after_partial_of_a_node_that_stops = refl
@@ -67,8 +65,7 @@ leave_across_a_cycle_start :
     ∷ carries 72 (leave 2 0) 4 1 (Partial (set 2)) 0 ∷ carries 73 (rha 0 1 3) 1 6 Clean 0 ∷ carries 74 (rha 1 1 3) 2 5 Clean 0
     ∷ carries 75 (leave 2 0) 4 3 Clean 0 ∷ carries 76 (els 2 1) 4 3 Clean 0 ∷ carries 110 (els 0 1) 1 6 Clean 0
     ∷ carries 111 (els 1 1) 2 5 Clean 0 ∷ [])
-    (running_node 115 (View 108 1 (set 3) ∷ []) ∷ running_node 115 (View 108 1 (set 3) ∷ [])
-    ∷ running_node 115 [] ∷ [])
+    (running_node 115 (View 108 1 (set 3) ∷ []) ∷ running_node 115 (View 108 1 (set 3) ∷ []) ∷ running_node 115 [] ∷ [])
     []
 unfolding site_row node_2_leaves
 leave_across_a_cycle_start = refl

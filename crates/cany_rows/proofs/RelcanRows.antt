@@ -1,5 +1,5 @@
 -- Worked rows of RELCAN.
-use Rattle.std.specs.Prelude.{ℕ, ◌≡◌, true, false, List, [], ◌∷◌, refl, codes}
+use Rattle.std.specs.Prelude.{ℕ, ◌≡◌, true, false, List, [], ◌∷◌, replicate, refl, codes}
 use Rattle.std.proofs.Common.{lit<}
 use Rattle.cany_base.specs.declared.class.Class.TheVariants as class
 use Rattle.cany_base.specs.declared.log_entry.LogEntry.{LogEntry}
@@ -24,8 +24,7 @@ sender_stops_after_partial slots = scenario (three slots 1 2) one_rel (slot_rule
 relcan_falls_back :
     report_of (sender_stops_after_partial 30) ≡ whole_run (steps (codes ".012.12.12.12.12.12.12.12.12.12.12.12.12.12.12.12.12.12.12.12.12.12.12.12.12.12.12.12.12.12"))
     (carries 1 first_rel 1 2 (Partial (set 4)) 1 ∷ carries 12 first_rel 2 4 Clean 0 ∷ carries 23 first_rel 4 2 Clean 0 ∷ [])
-    (stopped_node 1 1 [] ∷ running_node 30 (delivered 1)
-    ∷ running_node 30 (delivered 12) ∷ [])
+    (stopped_node 1 1 [] ∷ running_node 30 (delivered 1) ∷ running_node 30 (delivered 12) ∷ [])
     (true ∷ [])
 unfolding row delivered sender_stops_after_partial
 relcan_falls_back = refl
@@ -34,8 +33,7 @@ relcan_falls_back = refl
 open_while_a_timer_is_ahead :
     report_of (sender_stops_after_partial 11) ≡ whole_run (steps (codes ".012.12.12.12.12.12.12.12.12.12.12"))
     (carries 1 first_rel 1 2 (Partial (set 4)) 1 ∷ [])
-    (stopped_node 1 1 [] ∷ running_node 11 (delivered 1)
-    ∷ running_node 11 [] ∷ [])
+    (stopped_node 1 1 [] ∷ running_node 11 (delivered 1) ∷ running_node 11 [] ∷ [])
     (false ∷ [])
 unfolding row delivered sender_stops_after_partial
 open_while_a_timer_is_ahead = refl
@@ -61,10 +59,9 @@ premises_are_met = (
 
 -- without a fault the message is confirmed, and settled once the confirmation was read: no timer runs out
 confirmed_in_time :
-    (let s = scenario (three 14 1 2) one_rel [] in report_of s) ≡ whole_run (steps (codes ".012.012.012.012.012.012.012.012.012.012.012.012.012.012"))
+    report_of (scenario (three 14 1 2) one_rel []) ≡ whole_run (steps (codes ".012.012.012.012.012.012.012.012.012.012.012.012.012.012"))
     (carries 1 first_rel 1 6 Clean 0 ∷ carries 2 first_confirm 1 6 Clean 0 ∷ [])
-    (running_node 14 (delivered 1) ∷ running_node 14 (delivered 1)
-    ∷ running_node 14 (delivered 1) ∷ [])
+    (replicate 3 (running_node 14 (delivered 1)))
     (true ∷ [])
 unfolding row delivered
 confirmed_in_time = refl
@@ -86,8 +83,7 @@ confirm_lost_to_node_2 stop = scenario (three 16 1 2) one_rel (frame_rule class.
 one_node_reads_no_confirmation :
     report_of (confirm_lost_to_node_2 1) ≡ whole_run (steps (codes ".012.012.12.12.12.12.12.12.12.12.12.12.12.12.12.12"))
     (carries 1 first_rel 1 6 Clean 0 ∷ carries 2 first_confirm 1 2 (Partial (set 4)) 1 ∷ carries 12 first_rel 4 2 Clean 0 ∷ [])
-    (stopped_node 2 2 (delivered 1) ∷ running_node 16 (delivered 1)
-    ∷ running_node 16 (delivered 1) ∷ [])
+    (stopped_node 2 2 (delivered 1) ∷ running_node 16 (delivered 1) ∷ running_node 16 (delivered 1) ∷ [])
     (true ∷ [])
 unfolding row delivered confirm_lost_to_node_2
 one_node_reads_no_confirmation = refl
@@ -96,8 +92,7 @@ one_node_reads_no_confirmation = refl
 confirmation_is_sent_again :
     report_of (confirm_lost_to_node_2 0) ≡ whole_run (steps (codes ".012.012.012.012.012.012.012.012.012.012.012.012.012.012.012.012"))
     (carries 1 first_rel 1 6 Clean 0 ∷ carries 2 first_confirm 1 2 (Partial (set 4)) 0 ∷ carries 3 first_confirm 1 6 Clean 0 ∷ [])
-    (running_node 16 (delivered 1) ∷ running_node 16 (delivered 1)
-    ∷ running_node 16 (delivered 1) ∷ [])
+    (replicate 3 (running_node 16 (delivered 1)))
     (true ∷ [])
 unfolding row delivered confirm_lost_to_node_2
 confirmation_is_sent_again = refl
@@ -110,8 +105,7 @@ nobody_confirms slots omit = scenario (three slots omit 2) one_rel (slot_rule 1 
 one_copy_is_enough :
     report_of (nobody_confirms 14 0) ≡ whole_run (steps (codes ".012.12.12.12.12.12.12.12.12.12.12.12.12.12"))
     (carries 1 first_rel 1 6 Clean 1 ∷ [])
-    (stopped_node 1 1 [] ∷ running_node 14 (delivered 1)
-    ∷ running_node 14 (delivered 1) ∷ [])
+    (stopped_node 1 1 [] ∷ running_node 14 (delivered 1) ∷ running_node 14 (delivered 1) ∷ [])
     (true ∷ [])
 unfolding row delivered nobody_confirms
 one_copy_is_enough = refl
@@ -128,8 +122,7 @@ timer_run_out_at_omit_0 = refl
 both_fall_back_together :
     report_of (nobody_confirms 14 1) ≡ whole_run (steps (codes ".012.12.12.12.12.12.12.12.12.12.12.12.12.12"))
     (carries 1 first_rel 1 6 Clean 1 ∷ carries 12 first_rel 6 0 Clean 0 ∷ [])
-    (stopped_node 1 1 [] ∷ running_node 14 (delivered 1)
-    ∷ running_node 14 (delivered 1) ∷ [])
+    (stopped_node 1 1 [] ∷ running_node 14 (delivered 1) ∷ running_node 14 (delivered 1) ∷ [])
     (true ∷ [])
 unfolding row delivered nobody_confirms
 both_fall_back_together = refl

@@ -1,5 +1,5 @@
 -- Worked rows of the replies to a step, and of when a message is settled.
-use Rattle.std.specs.Prelude.{ℕ, ◌≡◌, true, false, List, [], ◌∷◌, Some, None, refl, map, codes}
+use Rattle.std.specs.Prelude.{ℕ, ◌≡◌, true, false, List, [], ◌∷◌, Some, None, replicate, refl, map, codes}
 use Rattle.cany_base.specs.declared.rule.Rule.{Rule}
 use Rattle.cany_base.specs.declared.rule.Verdict.TheVariants.{Clean}
 use Rattle.cany_base.specs.Scenario.{ScenarioParts}
@@ -76,9 +76,9 @@ not_asked_for = refl
 
 -- a one_message of the last slot is asked for and never carried
 open_at_the_end :
-    (let s = scenario (three 1 1 2) one_message [] in report_of s) ≡ whole_run (steps (codes ".012"))
+    report_of (scenario (three 1 1 2) one_message []) ≡ whole_run (steps (codes ".012"))
     []
-    (running_node 1 [] ∷ running_node 1 [] ∷ running_node 1 [] ∷ [])
+    (replicate 3 (running_node 1 []))
     (false ∷ [])
 unfolding row
 open_at_the_end = refl

@@ -1,5 +1,5 @@
 -- Worked rows of nodes that start again.
-use Rattle.std.specs.Prelude.{ℕ, suc, ◌≡◌, ◌≤◌, Contains, true, false, List, [], ◌∷◌, length, map, Option, Some, None, refl, codes}
+use Rattle.std.specs.Prelude.{ℕ, suc, ◌≡◌, ◌≤◌, Contains, true, false, List, [], ◌∷◌, length, map, Option, Some, None, replicate, refl, codes}
 use Rattle.std.specs.List.{range_with_len}
 use Rattle.std.proofs.Common.{arith, lit<, lit≤}
 use Rattle.cany_base.specs.declared.class.Class.TheVariants as class
@@ -184,7 +184,7 @@ after_the_restart = refl
 message_of_an_earlier_incarnation :
     (let sc = stops_with_a_frame (again 2 0 ∷ again 2 2 ∷ []) in report_of sc) ≡ whole_run (steps (codes ".012.1.1.012.012"))
     (carries 1 first_frame 1 0 Lost 5 ∷ [])
-    (running_node 5 [] ∷ running_node 5 [] ∷ running_node 5 [] ∷ [])
+    (replicate 3 (running_node 5 []))
     (true ∷ [])
 unfolding restart_row stops_with_a_frame
 message_of_an_earlier_incarnation = refl

@@ -19,6 +19,7 @@ use Rattle.cany_base.specs.Frame.{FrameParts}
 use Rattle.cany_base.specs.Params.{Parameters}
 use Rattle.cany_base.specs.Scenario.{ScenarioParts}
 use Rattle.cany_model.specs.declared.breaks.Break.{Break}
+use Rattle.cany_model.specs.declared.breaks.BreakKind.{BreakKind}
 use Rattle.cany_model.specs.declared.reply.StepReply.{StepReply}
 use Rattle.cany_model.specs.Promises.Hypothesis.{first_break}
 use Rattle.cany_model.specs.Rules.Log.{log}
@@ -117,6 +118,11 @@ pub record RunReport : Type 0 where
 abbrev pub whole_run : List Step → List SlotNote → List NodeReport → List Bool → RunReport
 whole_run journal bus nodes settled =
     record { journal = journal; bus = bus; broken = None; nodes = nodes; settled = settled; legal = true; ended = true }
+
+-- the same, but that it leaves the hypothesis in a slot
+abbrev pub broken_run : BreakKind → ℕ → List Step → List SlotNote → List NodeReport → List Bool → RunReport
+broken_run kind slot journal bus nodes settled =
+    record (whole_run journal bus nodes settled) { broken = Some (record { kind = kind; slot = slot }) }
 
 -- of a node that runs, and of one that stopped in a slot
 abbrev pub running_node : ℕ → List LogEntry → NodeReport

@@ -1,5 +1,5 @@
 -- Worked rows of TOTCAN.
-use Rattle.std.specs.Prelude.{ℕ, ◌≡◌, ◌++◌, true, false, List, [], ◌∷◌, Some, map, replicate, refl, codes}
+use Rattle.std.specs.Prelude.{ℕ, ◌≡◌, ◌++◌, true, false, List, [], ◌∷◌, map, replicate, refl, codes}
 use Rattle.std.specs.List.{concat}
 use Rattle.cany_base.specs.declared.format.Format.TheVariants.{One}
 use Rattle.cany_base.specs.declared.log_entry.LogEntry.{LogEntry}
@@ -7,7 +7,7 @@ use Rattle.cany_base.specs.declared.rule.Verdict.TheVariants.{Clean, Partial, Si
 use Rattle.cany_base.specs.Params.{Parameters}
 use Rattle.cany_base.specs.Scenario.{ScenarioParts}
 use Rattle.cany_model.specs.declared.breaks.BreakKind.TheVariants as kind
-use Rattle.cany_rows.proofs.RowWords.{accept, carries, confirm, delivers, delivers_rel, delivers_tot, ed, first_accept, first_tot, one_tot, rel, report, row, scenario, send, send_rel, send_tot, set, slot_rule, steps, three, tot, running_node, stopped_node, whole_run, report_of}
+use Rattle.cany_rows.proofs.RowWords.{broken_run, accept, carries, confirm, delivers, delivers_rel, delivers_tot, ed, first_accept, first_tot, one_tot, rel, report, row, scenario, send, send_rel, send_tot, set, slot_rule, steps, three, tot, running_node, stopped_node, whole_run, report_of}
 
 unfoldable delivered : ℕ → List LogEntry
 delivered slot = delivers_tot slot 0 0 (1 ∷ []) ∷ []
@@ -27,8 +27,7 @@ sender_stops_after_partial slots = scenario (calm slots) one_tot (slot_rule 1 (P
 totcan_unaccepted_is_dropped :
     report_of (sender_stops_after_partial 45) ≡ whole_run (steps (codes ".012" ++ rounds_of 44 (codes ".12")))
     (carries 1 first_tot 1 2 (Partial (set 4)) 1 ∷ [])
-    (stopped_node 1 1 [] ∷ running_node 45 []
-    ∷ running_node 45 [] ∷ [])
+    (stopped_node 1 1 [] ∷ running_node 45 [] ∷ running_node 45 [] ∷ [])
     (true ∷ [])
 unfolding row sender_stops_after_partial calm rounds_of
 totcan_unaccepted_is_dropped = refl
@@ -48,8 +47,7 @@ totcan_accept_survives_its_sender :
     report_of accept_is_partial ≡ whole_run (steps (codes ".012.012" ++ rounds_of 43 (codes ".12")))
     (carries 1 first_tot 1 6 Clean 0 ∷ carries 2 first_accept 1 2 (Partial (set 4)) 1 ∷ carries 3 first_accept 2 4 Clean 0
     ∷ carries 4 first_accept 4 2 Clean 0 ∷ [])
-    (stopped_node 2 2 (delivered 1) ∷ running_node 45 (delivered 2)
-    ∷ running_node 45 (delivered 3) ∷ [])
+    (stopped_node 2 2 (delivered 1) ∷ running_node 45 (delivered 2) ∷ running_node 45 (delivered 3) ∷ [])
     (true ∷ [])
 unfolding row delivered accept_is_partial calm rounds_of
 totcan_accept_survives_its_sender = refl
@@ -76,16 +74,10 @@ unfoldable silent_to_node_2 : ScenarioParts
 silent_to_node_2 = scenario (calm 45) one_tot (slot_rule 1 (Silent (set 4)) 0 ∷ [])
 
 silent_omission_is_outside :
-    report_of silent_to_node_2 ≡ record {
-      journal = steps (rounds_of 45 (codes ".012"));
-      bus = carries 1 first_tot 1 2 (Silent (set 4)) 0 ∷ carries 2 first_accept 1 6 Clean 0 ∷ carries 3 first_accept 2 5 Clean 0 ∷ [];
-      broken = Some (record { kind = kind.Silent; slot = 1 });
-      nodes = running_node 45 (delivered 1) ∷ running_node 45 (delivered 2)
-          ∷ running_node 45 [] ∷ [];
-      settled = true ∷ [];
-      legal = true;
-      ended = true;
-    }
+    report_of silent_to_node_2 ≡ broken_run kind.Silent 1 (steps (rounds_of 45 (codes ".012")))
+    (carries 1 first_tot 1 2 (Silent (set 4)) 0 ∷ carries 2 first_accept 1 6 Clean 0 ∷ carries 3 first_accept 2 5 Clean 0 ∷ [])
+    (running_node 45 (delivered 1) ∷ running_node 45 (delivered 2) ∷ running_node 45 [] ∷ [])
+    (true ∷ [])
 unfolding row delivered silent_to_node_2 calm rounds_of
 silent_omission_is_outside = refl
 
@@ -98,8 +90,7 @@ three_services :
     (carries 1 (tot 0 0 (192 ∷ 1 ∷ [])) 1 14 Clean 0 ∷ carries 2 (accept 0 0) 1 14 Clean 0 ∷ carries 3 (accept 0 0) 14 1 Clean 0
     ∷ carries 4 (rel 1 0 (34 ∷ [])) 2 13 Clean 0 ∷ carries 5 (confirm 1 0) 2 13 Clean 0
     ∷ carries 6 (ed 3 0 (51 ∷ [])) 8 7 Clean 0 ∷ carries 7 (ed 3 0 (51 ∷ [])) 7 8 Clean 0 ∷ [])
-    (running_node 20 (log 1) ∷ running_node 20 (log 2)
-    ∷ running_node 20 (log 2) ∷ running_node 20 (log 2) ∷ [])
+    (running_node 20 (log 1) ∷ running_node 20 (log 2) ∷ running_node 20 (log 2) ∷ running_node 20 (log 2) ∷ [])
     (false ∷ true ∷ true ∷ []))
 unfolding row rounds_of
 three_services = refl
@@ -117,8 +108,7 @@ second_waits_in_the_backlog :
     report_of s ≡ whole_run (steps (rounds_of 42 (codes ".012")))
     (carries 1 first_tot 1 6 Clean 0 ∷ carries 2 first_accept 1 6 Clean 0 ∷ carries 3 first_accept 6 1 Clean 0
     ∷ carries 38 second 1 6 Clean 0 ∷ carries 39 (accept 0 1) 1 6 Clean 0 ∷ carries 40 (accept 0 1) 6 1 Clean 0 ∷ [])
-    (running_node 42 (log 1 38) ∷ running_node 42 (log 2 39)
-    ∷ running_node 42 (log 2 39) ∷ [])
+    (running_node 42 (log 1 38) ∷ running_node 42 (log 2 39) ∷ running_node 42 (log 2 39) ∷ [])
     (true ∷ false ∷ []))
 unfolding row two_of_one_origin calm rounds_of
 second_waits_in_the_backlog = refl
@@ -145,8 +135,7 @@ backlog_of_an_earlier_incarnation :
     report_of s ≡ whole_run (steps (codes ".012.012.12.012.012.012.012.012"))
     (carries 1 first_tot 1 6 Clean 0 ∷ carries 2 first_accept 1 6 Clean 1 ∷ carries 3 first_accept 6 1 Clean 0
     ∷ carries 6 third 1 6 Clean 0 ∷ carries 7 (accept 0 2) 1 6 Clean 0 ∷ [])
-    (running_node 8 (delivers_tot 6 0 2 (3 ∷ []) ∷ [])
-    ∷ running_node 8 (delivers_tot 2 0 0 (1 ∷ []) ∷ delivers_tot 7 0 2 (3 ∷ []) ∷ [])
+    (running_node 8 (delivers_tot 6 0 2 (3 ∷ []) ∷ []) ∷ running_node 8 (delivers_tot 2 0 0 (1 ∷ []) ∷ delivers_tot 7 0 2 (3 ∷ []) ∷ [])
     ∷ running_node 8 (delivers_tot 2 0 0 (1 ∷ []) ∷ delivers_tot 7 0 2 (3 ∷ []) ∷ []) ∷ [])
     (true ∷ true ∷ false ∷ []))
 unfolding row origin_starts_again

@@ -15,17 +15,16 @@ use Rattle.cany_model.specs.Promises.FirstSlots.{first_carried}
 use Rattle.cany_model.specs.Promises.Safe.{IsAgreedOn}
 use Rattle.cany_model.specs.Bus.Slot.{script, after_slot}
 use Rattle.cany_model.specs.Bus.State.{NodeState, original}
-use Rattle.cany_rows.proofs.RowWords.{carries, delivered, ed, first_frame, frame_rule, idle, insides, one_message, row, scenario, send, set, slot_rule, steps, three, running_node, stopped_node, whole_run, report_of, run_of}
+use Rattle.cany_rows.proofs.RowWords.{broken_run, carries, delivered, ed, first_frame, frame_rule, idle, insides, one_message, row, scenario, send, set, slot_rule, steps, three, running_node, stopped_node, whole_run, report_of, run_of}
 
 not-below-zero : (k : ℕ) → k < 0 → ⊥
 not-below-zero k below = omega (arith, below)
 
 -- a sender in the set of a Partial slot sees an error as any sender does: it is not a receiver that rejects
 partial_set_names_the_sender :
-    (let s = scenario (three 5 1 2) one_message (slot_rule 1 (Partial (set 5)) 0 ∷ []) in report_of s) ≡ whole_run (steps (codes ".012.012.012.012.012"))
+    report_of (scenario (three 5 1 2) one_message (slot_rule 1 (Partial (set 5)) 0 ∷ [])) ≡ whole_run (steps (codes ".012.012.012.012.012"))
     (carries 1 first_frame 1 2 (Partial (set 5)) 0 ∷ carries 2 first_frame 3 4 Clean 0 ∷ carries 3 first_frame 4 3 Clean 0 ∷ [])
-    (running_node 5 (delivered 2) ∷ running_node 5 (delivered 1)
-    ∷ running_node 5 (delivered 2) ∷ [])
+    (running_node 5 (delivered 2) ∷ running_node 5 (delivered 1) ∷ running_node 5 (delivered 2) ∷ [])
     (true ∷ [])
 unfolding row
 partial_set_names_the_sender = refl
@@ -47,16 +46,10 @@ counters_fall_again = refl
 
 -- a Silent slot: the sender sees success although node 2 rejects, and the set does not touch the sender
 silent_set_names_the_sender :
-    (let s = scenario (three 5 1 2) one_message (slot_rule 1 (Silent (set 5)) 0 ∷ []) in report_of s) ≡ record {
-      journal = steps (codes ".012.012.012.012.012");
-      bus = carries 1 first_frame 1 2 (Silent (set 5)) 0 ∷ carries 2 first_frame 2 5 Clean 0 ∷ carries 3 first_frame 4 3 Clean 0 ∷ [];
-      broken = Some (record { kind = kind.Silent; slot = 1 });
-      nodes = running_node 5 (delivered 1) ∷ running_node 5 (delivered 1)
-          ∷ running_node 5 (delivered 2) ∷ [];
-      settled = true ∷ [];
-      legal = true;
-      ended = true;
-    }
+    report_of (scenario (three 5 1 2) one_message (slot_rule 1 (Silent (set 5)) 0 ∷ [])) ≡ broken_run kind.Silent 1 (steps (codes ".012.012.012.012.012"))
+    (carries 1 first_frame 1 2 (Silent (set 5)) 0 ∷ carries 2 first_frame 2 5 Clean 0 ∷ carries 3 first_frame 4 3 Clean 0 ∷ [])
+    (running_node 5 (delivered 1) ∷ running_node 5 (delivered 1) ∷ running_node 5 (delivered 2) ∷ [])
+    (true ∷ [])
 unfolding row
 silent_set_names_the_sender = refl
 
@@ -69,16 +62,10 @@ counters_after_silent = refl
 
 -- Outside the hypothesis agreement fails: the sender is content, the only taker stops, and node 2 never gets the one_message.
 silent_omission_loses_a_message :
-    (let s = scenario (three 3 1 2) one_message (slot_rule 1 (Silent (set 4)) 2 ∷ []) in report_of s) ≡ record {
-      journal = steps (codes ".012.02.02");
-      bus = carries 1 first_frame 1 2 (Silent (set 4)) 2 ∷ [];
-      broken = Some (record { kind = kind.Silent; slot = 1 });
-      nodes = running_node 3 (delivered 1) ∷ stopped_node 1 1 []
-          ∷ running_node 3 [] ∷ [];
-      settled = true ∷ [];
-      legal = true;
-      ended = true;
-    }
+    report_of (scenario (three 3 1 2) one_message (slot_rule 1 (Silent (set 4)) 2 ∷ [])) ≡ broken_run kind.Silent 1 (steps (codes ".012.02.02"))
+    (carries 1 first_frame 1 2 (Silent (set 4)) 2 ∷ [])
+    (running_node 3 (delivered 1) ∷ stopped_node 1 1 [] ∷ running_node 3 [] ∷ [])
+    (true ∷ [])
 unfolding row
 silent_omission_loses_a_message = refl
 
@@ -95,20 +82,18 @@ agreement_is_refuted agreed =
 
 -- a receiver that stops in the slot accepted the frame, and reads nothing of it
 taker_stops :
-    (let s = scenario (three 4 1 2) one_message (slot_rule 1 Clean 2 ∷ []) in report_of s) ≡ whole_run (steps (codes ".012.02.02.02"))
+    report_of (scenario (three 4 1 2) one_message (slot_rule 1 Clean 2 ∷ [])) ≡ whole_run (steps (codes ".012.02.02.02"))
     (carries 1 first_frame 1 6 Clean 2 ∷ carries 2 first_frame 4 1 Clean 0 ∷ [])
-    (running_node 4 (delivered 1) ∷ stopped_node 1 1 []
-    ∷ running_node 4 (delivered 1) ∷ [])
+    (running_node 4 (delivered 1) ∷ stopped_node 1 1 [] ∷ running_node 4 (delivered 1) ∷ [])
     (true ∷ [])
 unfolding row
 taker_stops = refl
 
 -- in an idle slot the verdict has no effect, the scripted stop acts, and a rule for an attempt of a frame does not
 idle_slot_stops :
-    (let s = scenario (three 3 0 0) [] (slot_rule 1 (Silent (set 6)) 4 ∷ frame_rule class.Ed 0 0 1 Lost 7 ∷ []) in report_of s) ≡ whole_run (steps (codes ".012.01.01"))
+    report_of (scenario (three 3 0 0) [] (slot_rule 1 (Silent (set 6)) 4 ∷ frame_rule class.Ed 0 0 1 Lost 7 ∷ [])) ≡ whole_run (steps (codes ".012.01.01"))
     (idle 1 4 ∷ [])
-    (running_node 3 [] ∷ running_node 3 []
-    ∷ stopped_node 1 1 [] ∷ [])
+    (running_node 3 [] ∷ running_node 3 [] ∷ stopped_node 1 1 [] ∷ [])
     []
 unfolding row
 idle_slot_stops = refl

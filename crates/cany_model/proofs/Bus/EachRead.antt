@@ -13,7 +13,7 @@ abbrev pub EachRead : (ℕ → NoticeKind → Type 0) → List NoticeKind → Ty
 EachRead P [] = Unit {0}
 EachRead P (e ∷ past) = P (length past) e × EachRead P past
 
-each_of_trace : (P : ℕ → NoticeKind → Type 0) (i : ℕ) (inc : Incarnation) (trace : List SlotNote) → Numbered trace
+pub each_of_trace : (P : ℕ → NoticeKind → Type 0) (i : ℕ) (inc : Incarnation) (trace : List SlotNote) → Numbered trace
     → ((note : SlotNote) → Contains trace note → P note.slot (given i (as_seen inc note))) → EachRead P (map (given i) (seen inc trace))
 each_of_trace P i inc [] numbered h = tt
 each_of_trace P i inc (note ∷ trace) numbered h = (

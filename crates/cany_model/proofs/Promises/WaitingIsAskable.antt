@@ -144,31 +144,30 @@ data_belongs scenario i slot m stands by service f frame class = record {
     askable Rel e = of Rel e
     askable Tot e = of Tot e
 
+-- a frame that answers a data frame that can be read, in a class of frames that are of a message of its service
+answer_belongs : (scenario : ScenarioParts) (i slot : ℕ) (by : Service) (c : Class)
+    → ((f : FrameParts) → IsOfMessage scenario by (identity_of f) → BelongsTo scenario slot c f × IsAskableAs scenario i (identity_of f) c)
+    → (g f : FrameParts) → IsDataOf scenario by g → c ≡ f.class → g.number ≡ f.number → g.node ≡ f.node → Belongs scenario i slot f
+answer_belongs scenario i slot by c gives g f h class number node =
+    let both = gives f (of_message scenario by g f number node h) in
+    record {
+      readable = subst (λ c. BelongsTo scenario slot c f) class both.0;
+      askable = λ within. subst (IsAskableAs scenario i (identity_of f)) class both.1;
+    }
+
 -- the confirmation of a data frame that can be read
 confirm_belongs : (scenario : ScenarioParts) (i slot : ℕ) (g f : FrameParts) → g.class ≡ class.Rel → confirm_frame g ≡ f
     → BelongsTo scenario slot g.class g → Belongs scenario i slot f
 confirm_belongs scenario i slot g f rel frame h =
-    let class : class.Confirm ≡ f.class = ap (λ (x : FrameParts). x.class) frame in
-    let of : IsOfMessage scenario Rel (identity_of f) =
-    of_message scenario Rel g f (ap (λ (x : FrameParts). x.number) frame) (ap (λ (x : FrameParts). x.node) frame)
-    (subst (λ c. BelongsTo scenario slot c g) rel h) in
-    record {
-      readable = subst (λ c. BelongsTo scenario slot c f) class of;
-      askable = λ within. subst (IsAskableAs scenario i (identity_of f)) class of;
-    }
+    answer_belongs scenario i slot Rel class.Confirm (λ f of. (of, of)) g f (subst (λ c. BelongsTo scenario slot c g) rel h)
+    (ap (λ (x : FrameParts). x.class) frame) (ap (λ (x : FrameParts). x.number) frame) (ap (λ (x : FrameParts). x.node) frame)
 
 -- the frame that accepts its message
 accept_belongs : (scenario : ScenarioParts) (i slot : ℕ) (g f : FrameParts) → g.class ≡ class.Tot → accept_frame g ≡ f
     → BelongsTo scenario slot g.class g → Belongs scenario i slot f
 accept_belongs scenario i slot g f tot frame h =
-    let class : class.Accept ≡ f.class = ap (λ (x : FrameParts). x.class) frame in
-    let of : IsOfMessage scenario Tot (identity_of f) =
-    of_message scenario Tot g f (ap (λ (x : FrameParts). x.number) frame) (ap (λ (x : FrameParts). x.node) frame)
-    (subst (λ c. BelongsTo scenario slot c g) tot h) in
-    record {
-      readable = subst (λ c. BelongsTo scenario slot c f) class of;
-      askable = λ within. subst (IsAskableAs scenario i (identity_of f)) class of;
-    }
+    answer_belongs scenario i slot Tot class.Accept (λ f of. (of, of)) g f (subst (λ c. BelongsTo scenario slot c g) tot h)
+    (ap (λ (x : FrameParts). x.class) frame) (ap (λ (x : FrameParts). x.number) frame) (ap (λ (x : FrameParts). x.node) frame)
 
 -- a failure sign that can be read names a node, and a cycle that has begun
 pub fda_names : (scenario : ScenarioParts) (slot : ℕ) (f : FrameParts) → f.class ≡ class.Fda → BelongsTo scenario slot f.class f

@@ -3,7 +3,7 @@ use Rattle.std.proofs.Common.{◌≡◌, ℕ, zero, suc, ◌+◌, ◌-◌, ◌<�
 use Rattle.std.specs.List.{AllByRecursion, last_or, list_all}
 use Rattle.std.specs.Option.{option_map_or}
 use Rattle.std.proofs.Math.Bool.{and-true, and_assoc}
-use Rattle.std.proofs.lemmas.Bool.{false≢true, and_from, and_parts, cond_both, eqb-true, lt-ltb, or_right}
+use Rattle.std.proofs.lemmas.Bool.{and_from, and_parts, cond_both, eqb-true, lt-ltb, or_right}
 use Rattle.std.proofs.lemmas.List.{take-append-le}
 use Rattle.cany_base.specs.declared.message.Service.TheVariants.{Tot}
 use Rattle.cany_base.specs.declared.notice.NoticeKind.{NoticeKind}
@@ -18,8 +18,10 @@ use Rattle.cany_model.specs.Rules.Messages.{Message, messages_of, data_id, is_se
 use Rattle.cany_model.specs.Rules.Sends.{sendable}
 use Rattle.cany_model.specs.Rules.Totcan.{is_recent}
 use Rattle.cany_model.proofs.Among.{Each-append, Each-drop, Each-weaker}
+use Rattle.cany_model.proofs.Rules.Begun.{IsBegun}
 use Rattle.cany_model.proofs.Rules.MessageKeys.{IsOneOf, is_service-true}
-use Rattle.cany_model.proofs.Rules.ProtocolFacts.{IsFounded, IsLawful, log_by, originates}
+use Rattle.cany_model.proofs.Rules.NoDelivery.{undelivering_is_lawful}
+use Rattle.cany_model.proofs.Rules.ProtocolFacts.{IsFounded, IsLawful, originates}
 use Rattle.cany_model.proofs.Rules.SendFacts.{sendable_one}
 
 -- ---- what has joined it
@@ -112,37 +114,24 @@ unfolding entered
 asks_enter_none None = refl
 asks_enter_none (Some m) = refl
 
-backlog_log : (scenario : ScenarioParts) (i : ℕ) (past : List NoticeKind) → log_by tot_backlog scenario i past ≡ []
+turn_founded : (scenario : ScenarioParts) (i : ℕ) (past : List NoticeKind) → AllByRecursion (IsFounded scenario tot_backlog i past) (backlog_effects scenario i past)
 unfolding backlog_effects
-backlog_log scenario i [] = refl
-backlog_log scenario i (e ∷ past) =
-    rw (
-      backlog_log scenario i past,
-      asks_enter_none (next_after scenario.params (e ∷ past) (backlog scenario i (e ∷ past)) (asked scenario i past)),
-    ) refl
+turn_founded scenario i [] = tt
+turn_founded scenario i (e ∷ past) =
+    ask_founded scenario i (e ∷ past) (next_after scenario.params (e ∷ past) (backlog scenario i (e ∷ past)) (asked scenario i past))
+    (λ m is. next_joined scenario i e past m is)
+
+backlog_muted : (scenario : ScenarioParts) (i : ℕ) (e : NoticeKind) (past : List NoticeKind) → IsBegun scenario (e ∷ past) → backlog_effects scenario i (e ∷ past) ≡ []
+unfolding backlog_effects
+backlog_muted scenario i e past begun = rw (none_joined scenario i (e ∷ past) begun.early) (drop_none (asked scenario i past))
+  where
+    drop_none : (n : ℕ) → ask_for (next_after scenario.params (e ∷ past) [] n) ≡ []
+    drop_none zero = refl
+    drop_none (suc n) = refl
 
 pub backlog_is_lawful : IsLawful tot_backlog
 unfolding backlog_effects
-backlog_is_lawful = record {
-  muted = λ scenario i past begun. mute scenario i past begun.early;
-  founded = λ scenario i past. each scenario i past;
-  ahead_serves = λ scenario m i past h. absurd (false≢true h);
-  once = λ scenario i key past. rw (backlog_log scenario i past) (omega arith);
-}
-  where
-    each : (scenario : ScenarioParts) (i : ℕ) (past : List NoticeKind) → AllByRecursion (IsFounded scenario tot_backlog i past) (backlog_effects scenario i past)
-    each scenario i [] = tt
-    each scenario i (e ∷ past) =
-        ask_founded scenario i (e ∷ past) (next_after scenario.params (e ∷ past) (backlog scenario i (e ∷ past)) (asked scenario i past))
-        (λ m is. next_joined scenario i e past m is)
-
-    mute : (scenario : ScenarioParts) (i : ℕ) (past : List NoticeKind) → length past ≤ scenario.from → backlog_effects scenario i past ≡ []
-    mute scenario i [] early = refl
-    mute scenario i (e ∷ past) early = rw (none_joined scenario i (e ∷ past) early) (drop_none (asked scenario i past))
-      where
-        drop_none : (n : ℕ) → ask_for (next_after scenario.params (e ∷ past) [] n) ≡ []
-        drop_none zero = refl
-        drop_none (suc n) = refl
+backlog_is_lawful = undelivering_is_lawful tot_backlog (λ by. refl) (λ scenario m i past. refl) (λ scenario i. refl) backlog_muted turn_founded
 
 -- ---- how many were asked for
 

@@ -119,16 +119,17 @@ tells sign signs = list_any (same_sign sign) signs
 
 -- ---- what becomes known
 
+-- what tells of a sign counts in either order
+swapped : (a b known : Bool) → (b || (a || known)) ≡ ((a || b) || known)
+swapped true true known = refl
+swapped true false known = refl
+swapped false true known = refl
+swapped false false known = refl
+
 pub knows_with : (sign : FailureSign) (signs : List FailureSign) (st : Knowledge) → knows sign (with_signs signs st) ≡ (tells sign signs || knows sign st)
 unfolding with_signs
 knows_with sign [] st = refl
-knows_with sign (x ∷ signs) st = knows_with sign signs (with_sign x st) ∙ moved (tells sign signs) (same_sign sign x) (knows sign st)
-  where
-    moved : (rest here known : Bool) → (rest || (here || known)) ≡ ((here || rest) || known)
-    moved true true known = refl
-    moved true false known = refl
-    moved false true known = refl
-    moved false false known = refl
+knows_with sign (x ∷ signs) st = knows_with sign signs (with_sign x st) ∙ swapped (same_sign sign x) (tells sign signs) (knows sign st)
 
 pub knows_heard : (sign : FailureSign) (i slot : ℕ) (e : NoticeKind) (st : Knowledge) → knows sign (after_hearing i slot e st) ≡ knows sign st
 unfolding after_life
@@ -178,12 +179,6 @@ known_after scenario i e past sign =
     ∙ ap (λ k. tells sign b || k) (knows_with sign a (after_hearing i (length past) e st) ∙ ap (λ k. tells sign a || k) (knows_heard sign i (length past) e st))
     ∙ swapped (tells sign a) (tells sign b) (knows sign st)
     ∙ ap (λ k. k || knows sign st) (sym (any_two sign a b))
-  where
-    swapped : (a b known : Bool) → (b || (a || known)) ≡ ((a || b) || known)
-    swapped true true known = refl
-    swapped true false known = refl
-    swapped false true known = refl
-    swapped false false known = refl
 
 -- each that becomes known is known
 pub newly_known : (scenario : ScenarioParts) (i : ℕ) (e : NoticeKind) (past : List NoticeKind)

@@ -38,7 +38,7 @@ last_cases scenario i e past =
     (cond_both (is_admitted (ended_in scenario.params slot e st) st.members i) slot heard.last (λ n. (n ≡ st.last) ⊎ (n ≡ slot))
     (λ _. inr refl) (λ _. last_heard i slot e st)) after
 
-last_read : (scenario : ScenarioParts) (i : ℕ) (past : List NoticeKind) → (knowledge_of scenario i past).last ≤ length past
+pub last_read : (scenario : ScenarioParts) (i : ℕ) (past : List NoticeKind) → (knowledge_of scenario i past).last ≤ length past
 unfolding knowledge_of
 last_read scenario i [] = omega arith
 last_read scenario i (e ∷ past) = elim (last_cases scenario i e past) [

@@ -1,13 +1,8 @@
 -- What failure signs and life signs do in a turn.
-use Rattle.std.proofs.Common.{◌≡◌, ℕ, zero, suc, ◌+◌, ◌<◌, ◌&&◌, inl, inr, true, false, not, List, [], ◌∷◌, ◌++◌, map, filter, length, count_by, cond, refl, ap, sym, ◌∙◌, arith}
+use Rattle.std.proofs.Common.{◌≡◌, ℕ, zero, suc, ◌+◌, ◌<◌, ◌&&◌, inl, inr, true, not, List, [], ◌∷◌, ◌++◌, map, filter, length, refl, ap, ◌∙◌, arith}
 use Rattle.std.specs.List.{AllByRecursion, flat_map, range_with_len}
-use Rattle.std.proofs.lemmas.Bool.{false≢true, and_parts, cond_both, leb-true}
-use Rattle.std.proofs.lemmas.List.Sums.{sum_by-append}
+use Rattle.std.proofs.lemmas.Bool.{and_parts, cond_both, leb-true}
 use Rattle.cany_base.specs.declared.class.Class.TheVariants as class
-use Rattle.cany_base.specs.declared.log_entry.LogEntry.{LogEntry}
-use Rattle.cany_base.specs.declared.log_entry.LogEntry.TheVariants.{Deliver, Failed, View}
-use Rattle.cany_base.specs.declared.message.MsgKey.{MsgKey}
-use Rattle.cany_base.specs.declared.message.Service.{Service}
 use Rattle.cany_base.specs.declared.notice.NoticeKind.{NoticeKind}
 use Rattle.cany_base.specs.declared.notice.NoticeKind.TheVariants.{Idle, Got, Sent, Bad}
 use Rattle.cany_base.specs.Params.{Parameters}
@@ -16,17 +11,16 @@ use Rattle.cany_base.proofs.NodesFacts.{has_none}
 use Rattle.cany_model.specs.Bus.Frames.{identity_of, same_class}
 use Rattle.cany_model.specs.Bus.History.{copies}
 use Rattle.cany_base.specs.Nodes.{nobody}
-use Rattle.cany_model.specs.Promises.Entries.{delivers_key}
 use Rattle.cany_model.specs.Rules.Eager.{has_enough}
-use Rattle.cany_model.specs.Rules.Effect.{Effect, Ask, Withdraw, Enter, entered}
+use Rattle.cany_model.specs.Rules.Effect.{Effect, Ask, Withdraw}
 use Rattle.cany_model.specs.Rules.Life.{els_frame, failure_effects, failures_at, failure_signs, fda_copy_effects, is_due, life_effects, life_signs, sign_effects, life_signs_sent}
-use Rattle.cany_model.specs.Rules.Protocol.{Protocol}
 use Rattle.cany_model.specs.Rules.KnowledgeOf.{knowledge_of}
 use Rattle.cany_model.specs.Rules.Knowledge.{FailureSign, Knowledge, after_life, fda_frame, fda_of, found, found_in, after_hearing, after_learning, has_timed_out, knows, sign_in, sign_of, told, told_in, with_signs}
-use Rattle.cany_model.proofs.Among.{Each-append, Each-filter, Each-flat_map, Each-map, Each-weaker, count-no}
+use Rattle.cany_model.proofs.Among.{Each-append, Each-filter, Each-flat_map, Each-map, Each-weaker}
 use Rattle.cany_model.proofs.Bus.Identities.{same_class-true}
 use Rattle.cany_model.proofs.Rules.Begun.{IsBegun, begun_before}
-use Rattle.cany_model.proofs.Rules.ProtocolFacts.{IsFounded, IsFoundedEntry, IsKnownBy, IsLawful, enough, is_diffused, lives, log_by, signals}
+use Rattle.cany_model.proofs.Rules.NoDelivery.{undelivering_is_lawful}
+use Rattle.cany_model.proofs.Rules.ProtocolFacts.{IsFounded, IsKnownBy, IsLawful, enough, is_diffused, lives, signals}
 use Rattle.cany_model.proofs.Rules.KnowledgeFacts.{found_none, newly_known, begun_members}
 
 -- ---- lists
@@ -111,41 +105,6 @@ copy_founded scenario i (Got f) past =
     ((enough (ap is_diffused (same_class-true f.class class.Fda parts.0)) (omega (arith, many)), parts.0), tt))
     (λ _. tt)
 
--- ---- no message is delivered
-
-abbrev NoDelivery : MsgKey → LogEntry → Type 0
-NoDelivery key entry = delivers_key key entry ≡ false
-
-undelivered : (scenario : ScenarioParts) (p : Protocol) → ((by : Service) → p.delivers by ≡ false)
-    → (i : ℕ) (past : List NoticeKind) (key : MsgKey) (entry : LogEntry)
-    → IsFoundedEntry scenario p i past entry → NoDelivery key entry
-undelivered scenario p never i past key (Deliver slot by msg payload) k = absurd (false≢true (sym (never by) ∙ k.serves))
-undelivered scenario p never i past key (Failed slot node cycle) k = refl
-undelivered scenario p never i past key (View slot number members) k = refl
-
-none_entered : (scenario : ScenarioParts) (p : Protocol) → ((by : Service) → p.delivers by ≡ false) → (i : ℕ) (past : List NoticeKind) (key : MsgKey)
-    → (effects : List Effect) → AllByRecursion (IsFounded scenario p i past) effects → count_by (delivers_key key) (entered effects) ≡ 0
-unfolding entered
-none_entered scenario p never i past key [] h = refl
-none_entered scenario p never i past key (Ask f ∷ effects) h = none_entered scenario p never i past key effects h.1
-none_entered scenario p never i past key (Withdraw x ∷ effects) h = none_entered scenario p never i past key effects h.1
-none_entered scenario p never i past key (Enter entry ∷ effects) h =
-    count-no (delivers_key key) entry (entered effects) (undelivered scenario p never i past key entry h.0)
-    ∙ none_entered scenario p never i past key effects h.1
-
--- a protocol that delivers no service enters no delivery
-pub delivers_none : (p : Protocol) → ((by : Service) → p.delivers by ≡ false)
-    → ((scenario : ScenarioParts) (i : ℕ) (past : List NoticeKind) → AllByRecursion (IsFounded scenario p i past) (p.effects scenario i past))
-    → (scenario : ScenarioParts) (i : ℕ) (key : MsgKey) (past : List NoticeKind) → count_by (delivers_key key) (log_by p scenario i past) ≡ 0
-delivers_none p never founded scenario i key [] = refl
-delivers_none p never founded scenario i key (e ∷ past) =
-    sum_by-append (λ entry. cond (delivers_key key entry) 1 0) (log_by p scenario i past) (entered (p.effects scenario i (e ∷ past)))
-    ∙ omega (
-      arith,
-      delivers_none p never founded scenario i key past,
-      none_entered scenario p never i (e ∷ past) key (p.effects scenario i (e ∷ past)) (founded scenario i (e ∷ past)),
-    )
-
 -- ---- failure signs
 
 Each-both : {X : Type 0} (P Q : X → Type 0) (xs : List X) → AllByRecursion P xs → AllByRecursion Q xs → AllByRecursion (λ x. P x × Q x) xs
@@ -189,23 +148,18 @@ idle_failures : (scenario : ScenarioParts) (i : ℕ) (past : List NoticeKind)
 unfolding failure_effects failures_at told fda_copy_effects with_signs after_life
 idle_failures scenario i past = refl
 
-pub failures_are_lawful : IsLawful failure_signs
+failures_muted : (scenario : ScenarioParts) (i : ℕ) (e : NoticeKind) (past : List NoticeKind) → IsBegun scenario (e ∷ past) → failure_effects scenario i (e ∷ past) ≡ []
 unfolding failure_effects failures_at
-failures_are_lawful = record {
-  muted = λ scenario i past begun. mute scenario i past begun;
-  founded = failures_founded;
-  ahead_serves = λ scenario m i past h. absurd (false≢true h);
-  once = λ scenario i key past. omega (arith, delivers_none failure_signs (λ by. refl) failures_founded scenario i key past);
-}
-  where
-    mute : (scenario : ScenarioParts) (i : ℕ) (past : List NoticeKind) → IsBegun scenario past → failure_effects scenario i past ≡ []
-    mute scenario i [] begun = refl
-    mute scenario i (e ∷ past) begun =
-        let none : (knowledge_of scenario i past).members ≡ nobody =
-        begun_members scenario i past (begun_before scenario e past begun) ∙ begun.outside (omega arith) in
-        ap (λ n. failure_effects scenario i (n ∷ past)) begun.idle.0 ∙ idle_failures scenario i past
-        ∙ ap (flat_map (sign_effects scenario.params.omit (length past) (Idle ∷ past)))
-        (found_none scenario.params i (length past) (knowledge_of scenario i past) none)
+failures_muted scenario i e past begun =
+    let none : (knowledge_of scenario i past).members ≡ nobody =
+    begun_members scenario i past (begun_before scenario e past begun) ∙ begun.outside (omega arith) in
+    ap (λ n. failure_effects scenario i (n ∷ past)) begun.idle.0 ∙ idle_failures scenario i past
+    ∙ ap (flat_map (sign_effects scenario.params.omit (length past) (Idle ∷ past)))
+    (found_none scenario.params i (length past) (knowledge_of scenario i past) none)
+
+pub failures_are_lawful : IsLawful failure_signs
+unfolding failure_effects
+failures_are_lawful = undelivering_is_lawful failure_signs (λ by. refl) (λ scenario m i past. refl) (λ scenario i. refl) failures_muted failures_founded
 
 -- ---- life signs
 
@@ -217,17 +171,12 @@ life_founded scenario i (e ∷ past) =
     (AllByRecursion (IsFounded scenario life_signs i (e ∷ past)))
     (λ due. ((lives (length past) refl due refl, names_els), tt)) (λ _. tt)
 
+life_muted : (scenario : ScenarioParts) (i : ℕ) (e : NoticeKind) (past : List NoticeKind) → IsBegun scenario (e ∷ past) → life_effects scenario i (e ∷ past) ≡ []
+unfolding life_effects
+life_muted scenario i e past begun =
+    let none : (knowledge_of scenario i (e ∷ past)).members ≡ nobody = begun_members scenario i (e ∷ past) begun ∙ begun.outside (omega arith) in
+    rw (none, has_none i) refl
+
 pub life_is_lawful : IsLawful life_signs
 unfolding life_effects
-life_is_lawful = record {
-  muted = λ scenario i past begun. mute scenario i past begun;
-  founded = life_founded;
-  ahead_serves = λ scenario m i past h. absurd (false≢true h);
-  once = λ scenario i key past. omega (arith, delivers_none life_signs (λ by. refl) life_founded scenario i key past);
-}
-  where
-    mute : (scenario : ScenarioParts) (i : ℕ) (past : List NoticeKind) → IsBegun scenario past → life_effects scenario i past ≡ []
-    mute scenario i [] begun = refl
-    mute scenario i (e ∷ past) begun =
-        let none : (knowledge_of scenario i (e ∷ past)).members ≡ nobody = begun_members scenario i (e ∷ past) begun ∙ begun.outside (omega arith) in
-        rw (none, has_none i) refl
+life_is_lawful = undelivering_is_lawful life_signs (λ by. refl) (λ scenario m i past. refl) (λ scenario i. refl) life_muted life_founded

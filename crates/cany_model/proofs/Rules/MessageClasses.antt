@@ -19,15 +19,11 @@ use Rattle.cany_model.proofs.Runs.Waits.{AsksOnly}
 
 abbrev pub is_of_message : Class → Bool
 is_of_message class.Accept = true
-is_of_message class.Rha = false
-is_of_message class.Els = false
-is_of_message class.Fda = false
-is_of_message class.Join = false
-is_of_message class.Leave = false
 is_of_message class.Confirm = true
 is_of_message class.Tot = true
 is_of_message class.Rel = true
 is_of_message class.Ed = true
+is_of_message other = false
 
 pub data_of_message : (by : Service) → is_of_message (data_class by) ≡ true
 data_of_message Ed = refl

@@ -59,26 +59,19 @@ pub record IsPlace (key : MsgKey) (e : NoticeKind) : Type 0 where
   pub brought : tot_in e ≡ Some frame
   pub names : message_in frame ≡ key
 
-named_by : (key : MsgKey) (f : FrameParts) → tot_of_key key ≡ identity_of f → message_in f ≡ key
-named_by key f same = λ k. record { origin = (sym same k).node; seq = (sym same k).number }
+-- it brought a frame of the identity of the message's data frame
+place_of : (key : MsgKey) (e : NoticeKind) (f : FrameParts) → tot_in e ≡ if_tot f → tot_of_key key ≡ identity_of f → IsPlace key e
+place_of key e f brought same = record {
+  frame = f;
+  brought = brought ∙ if_tot-some f (sym (ap (λ (x : Identity). x.class) same));
+  names = λ k. record { origin = (sym same k).node; seq = (sym same k).number };
+}
 
 pub holds-place : (key : MsgKey) (e : NoticeKind) → holds key e ≡ true → IsPlace key e
 unfolding tot_in
 holds-place key e h = elim (or_cases (is_got (tot_of_key key) e) (is_sent (tot_of_key key) e) h) [
-  | inl got ↦
-      let w = is_got-true (tot_of_key key) e got in
-      record {
-        frame = w.what;
-        brought = ap tot_in w.was ∙ if_tot-some w.what (sym (ap (λ (x : Identity). x.class) w.identity));
-        names = named_by key w.what w.identity;
-      }
-  | inr sent ↦
-      let w = is_sent-true (tot_of_key key) e sent in
-      record {
-        frame = w.what;
-        brought = ap tot_in w.was ∙ if_tot-some w.what (sym (ap (λ (x : Identity). x.class) w.identity));
-        names = named_by key w.what w.identity;
-      }
+  | inl got ↦ let w = is_got-true (tot_of_key key) e got in place_of key e w.what (ap tot_in w.was) w.identity
+  | inr sent ↦ let w = is_sent-true (tot_of_key key) e sent in place_of key e w.what (ap tot_in w.was) w.identity
 ]
 
 pub tot_in-holds : (e : NoticeKind) (f : FrameParts) → tot_in e ≡ Some f → holds (message_in f) e ≡ true

@@ -40,15 +40,10 @@ use Rattle.cany_model.proofs.Rules.MessageKeys.{IsOneOf, same_message}
 -- the classes whose frames are sent by nodes that got them
 abbrev pub is_relayed : Class → Bool
 is_relayed class.Accept = true
-is_relayed class.Rha = false
-is_relayed class.Els = false
 is_relayed class.Fda = true
-is_relayed class.Join = false
-is_relayed class.Leave = false
-is_relayed class.Confirm = false
-is_relayed class.Tot = false
 is_relayed class.Rel = true
 is_relayed class.Ed = true
+is_relayed other = false
 
 -- a copy of its frame tells of the sign
 pub record IsTold (past : List NoticeKind) (sign : FailureSign) : Type 0 where
@@ -156,16 +151,10 @@ IsFoundedEntry scenario p i past (View slot number members) = IsInstalled scenar
 -- falls back. A frame that accepts a message is not among them: the copies since the place of the message count, and it is
 -- withdrawn when the message closes.
 abbrev pub is_diffused : Class → Bool
-is_diffused class.Accept = false
-is_diffused class.Rha = false
-is_diffused class.Els = false
 is_diffused class.Fda = true
-is_diffused class.Join = false
-is_diffused class.Leave = false
-is_diffused class.Confirm = false
-is_diffused class.Tot = false
 is_diffused class.Rel = true
 is_diffused class.Ed = true
+is_diffused other = false
 
 -- vectors are exchanged in the slot, or the exchange ends in it
 abbrev pub MaySettle : ScenarioParts → List NoticeKind → ℕ → Type 0

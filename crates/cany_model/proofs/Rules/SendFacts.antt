@@ -13,8 +13,10 @@ use Rattle.cany_model.specs.Rules.Messages.{Message, messages_of, data_frame, da
 use Rattle.cany_model.specs.Rules.Sends.{is_sent_in, is_sent_at_once, scripted_sends, send_effects, sendable}
 use Rattle.cany_model.proofs.Among.{Among}
 use Rattle.cany_model.proofs.Runs.Waits.{Asks}
+use Rattle.cany_model.proofs.Rules.Begun.{IsBegun}
 use Rattle.cany_model.proofs.Rules.MessageKeys.{IsOneOf, same_message}
-use Rattle.cany_model.proofs.Rules.ProtocolFacts.{IsFounded, IsLawful, MayStart, log_by, originates}
+use Rattle.cany_model.proofs.Rules.NoDelivery.{undelivering_is_lawful}
+use Rattle.cany_model.proofs.Rules.ProtocolFacts.{IsFounded, IsLawful, MayStart, originates}
 
 -- ---- each effect is founded
 
@@ -64,27 +66,18 @@ unfolding entered
 asks_enter_none [] = refl
 asks_enter_none (m ∷ messages) = asks_enter_none messages
 
-sends_log : (scenario : ScenarioParts) (i : ℕ) (past : List NoticeKind) → log_by scripted_sends scenario i past ≡ []
+turn_founded : (scenario : ScenarioParts) (i : ℕ) (past : List NoticeKind) → AllByRecursion (IsFounded scenario scripted_sends i past) (send_effects scenario i past)
 unfolding send_effects
-sends_log scenario i [] = refl
-sends_log scenario i (e ∷ past) = rw (sends_log scenario i past, asks_enter_none (filter (is_sent_in i (length past)) (sendable scenario (length past)))) refl
+turn_founded scenario i [] = tt
+turn_founded scenario i (e ∷ past) = sends_founded scenario i e past (sendable scenario (length past)) (sendable_one scenario (length past))
+
+sends_muted : (scenario : ScenarioParts) (i : ℕ) (e : NoticeKind) (past : List NoticeKind) → IsBegun scenario (e ∷ past) → send_effects scenario i (e ∷ past) ≡ []
+unfolding send_effects
+sends_muted scenario i e past begun = rw (lt-ltb (length past) scenario.from (omega (arith, begun.early))) refl
 
 pub sends_are_lawful : IsLawful scripted_sends
 unfolding send_effects
-sends_are_lawful = record {
-  muted = λ scenario i past begun. mute scenario i past begun.early;
-  founded = λ scenario i past. each scenario i past;
-  ahead_serves = λ scenario m i past h. absurd (false≢true h);
-  once = λ scenario i key past. rw (sends_log scenario i past) (omega arith);
-}
-  where
-    each : (scenario : ScenarioParts) (i : ℕ) (past : List NoticeKind) → AllByRecursion (IsFounded scenario scripted_sends i past) (send_effects scenario i past)
-    each scenario i [] = tt
-    each scenario i (e ∷ past) = sends_founded scenario i e past (sendable scenario (length past)) (sendable_one scenario (length past))
-
-    mute : (scenario : ScenarioParts) (i : ℕ) (past : List NoticeKind) → length past ≤ scenario.from → send_effects scenario i past ≡ []
-    mute scenario i [] early = refl
-    mute scenario i (e ∷ past) early = rw (lt-ltb (length past) scenario.from (omega (arith, early))) refl
+sends_are_lawful = undelivering_is_lawful scripted_sends (λ by. refl) (λ scenario m i past. refl) (λ scenario i. refl) sends_muted turn_founded
 
 -- ---- the origin asks in its slot
 

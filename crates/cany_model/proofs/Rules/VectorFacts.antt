@@ -1,7 +1,7 @@
 -- What the exchange of vectors does in a turn, and the vector that a node has after it.
 use Rattle.std.proofs.Common.{◌≡◌, ℕ, ◌%◌, ◌==◌, ◌&&◌, ◌<◌, ◌++◌, inl, inr, true, false, if◌then◌else◌, List, [], ◌∷◌, length, Option, Some, None, nat_lt, nat_le, refl, ap, ◌∙◌, arith}
 use Rattle.std.specs.List.{AllByRecursion}
-use Rattle.std.proofs.lemmas.Bool.{false≢true, and_parts, both_ways, cond-false, cond-true, cond_both, eqb-true, false_from_ne_true, ltb-true}
+use Rattle.std.proofs.lemmas.Bool.{and_parts, both_ways, cond-false, cond-true, cond_both, eqb-true, false_from_ne_true, ltb-true}
 use Rattle.cany_base.specs.declared.class.Class.TheVariants as class
 use Rattle.cany_base.specs.declared.format.Format.{Format}
 use Rattle.cany_base.specs.declared.notice.NoticeKind.{NoticeKind}
@@ -23,7 +23,7 @@ use Rattle.cany_model.specs.Rules.Views.{start_of, start_vector}
 use Rattle.cany_model.proofs.Among.{Each-append}
 use Rattle.cany_model.proofs.Bus.Identities.{same_class-true}
 use Rattle.cany_model.proofs.Rules.Begun.{IsBegun, begun_before}
-use Rattle.cany_model.proofs.Rules.LifeFacts.{delivers_none}
+use Rattle.cany_model.proofs.Rules.NoDelivery.{undelivering_is_lawful}
 use Rattle.cany_model.proofs.Rules.ProtocolFacts.{IsExchanged, IsFounded, IsLawful, IsTaken, exchanges, settles}
 use Rattle.cany_model.proofs.Rules.KnowledgeFacts.{begun_knowledge, outside, outside_installs}
 use Rattle.cany_model.proofs.Rules.KnowledgeSteps.{vector_after}
@@ -238,21 +238,16 @@ unfolding exchange_at vector_effects brought met end_effects start_effects
 idle_exchange p inc i past =
     cond_both (is_end p (length past)) None None (λ o. end_effects p i (length past) o ++ [] ≡ []) (λ _. refl) (λ _. refl)
 
+vectors_muted : (scenario : ScenarioParts) (i : ℕ) (e : NoticeKind) (past : List NoticeKind) → IsBegun scenario (e ∷ past) → exchange_effects scenario i (e ∷ past) ≡ []
+unfolding exchange_effects
+vectors_muted scenario i e past begun =
+    let p : Parameters = scenario.params in
+    ap (λ n. exchange_effects scenario i (n ∷ past)) begun.idle.0
+    ∙ ap (λ st. exchange_at p scenario.inc i Idle past st.vector (start_in p i (length past) Idle st))
+    (begun_knowledge scenario i past (begun_before scenario e past begun) ∙ ap knowledge_at_first (begun.outside (omega arith)))
+    ∙ ap (exchange_at p scenario.inc i Idle past None) (start_none p i (length past))
+    ∙ idle_exchange p scenario.inc i past
+
 pub vectors_are_lawful : IsLawful vectors
 unfolding exchange_effects
-vectors_are_lawful = record {
-  muted = λ scenario i past begun. mute scenario i past begun;
-  founded = vectors_founded;
-  ahead_serves = λ scenario m i past h. absurd (false≢true h);
-  once = λ scenario i key past. omega (arith, delivers_none vectors (λ by. refl) vectors_founded scenario i key past);
-}
-  where
-    mute : (scenario : ScenarioParts) (i : ℕ) (past : List NoticeKind) → IsBegun scenario past → exchange_effects scenario i past ≡ []
-    mute scenario i [] begun = refl
-    mute scenario i (e ∷ past) begun =
-        let p : Parameters = scenario.params in
-        ap (λ n. exchange_effects scenario i (n ∷ past)) begun.idle.0
-        ∙ ap (λ st. exchange_at p scenario.inc i Idle past st.vector (start_in p i (length past) Idle st))
-        (begun_knowledge scenario i past (begun_before scenario e past begun) ∙ ap knowledge_at_first (begun.outside (omega arith)))
-        ∙ ap (exchange_at p scenario.inc i Idle past None) (start_none p i (length past))
-        ∙ idle_exchange p scenario.inc i past
+vectors_are_lawful = undelivering_is_lawful vectors (λ by. refl) (λ scenario m i past. refl) (λ scenario i. refl) vectors_muted vectors_founded

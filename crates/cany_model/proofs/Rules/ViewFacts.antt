@@ -1,7 +1,7 @@
 -- What the views and the scripted asks to join and to leave do in a turn.
 use Rattle.std.proofs.Common.{◌≡◌, ℕ, ◌==◌, ◌<◌, inl, inr, Bool, true, List, [], ◌∷◌, length, filter, Option, Some, None, nat_lt, refl, ap, ◌∙◌, arith}
 use Rattle.std.specs.List.{AllByRecursion, flat_map}
-use Rattle.std.proofs.lemmas.Bool.{false≢true, and_parts, cond-true, cond_both, eqb-true, lt-ltb, ltb-false}
+use Rattle.std.proofs.lemmas.Bool.{and_parts, cond-true, cond_both, eqb-true, lt-ltb, ltb-false}
 use Rattle.cany_base.specs.declared.class.Class.{Class}
 use Rattle.cany_base.specs.declared.class.Class.TheVariants as class
 use Rattle.cany_base.specs.declared.log_entry.LogEntry.TheVariants.{View}
@@ -21,7 +21,7 @@ use Rattle.cany_base.specs.Cycles.{cycle_of, is_end}
 use Rattle.cany_model.specs.Rules.Views.{ask_frame, ask_of, join_asked, leave_asked, view_effects, withdrawn_asks}
 use Rattle.cany_model.proofs.Among.{Among, Contains-from_Among, Each-append, Each-flat_map, Each-map, Each-weaker}
 use Rattle.cany_model.proofs.Rules.Begun.{IsBegun, begun_before}
-use Rattle.cany_model.proofs.Rules.LifeFacts.{delivers_none}
+use Rattle.cany_model.proofs.Rules.NoDelivery.{undelivering_is_lawful}
 use Rattle.cany_model.proofs.Rules.ProtocolFacts.{IsAskOf, IsFounded, IsLawful, IsScripted, answered, requests}
 use Rattle.cany_model.proofs.Rules.KnowledgeFacts.{begun_knowledge}
 use Rattle.cany_model.proofs.Rules.KnowledgeSteps.{members_after, members_by}
@@ -114,23 +114,18 @@ idle_view scenario i past =
     cond_both (is_end scenario.params (length past)) None None
     (λ o. view_effects scenario.params scenario.joins scenario.leaves i (length past) o ≡ []) (λ _. refl) (λ _. refl)
 
+views_muted : (scenario : ScenarioParts) (i : ℕ) (e : NoticeKind) (past : List NoticeKind) → IsBegun scenario (e ∷ past) → install_effects scenario i (e ∷ past) ≡ []
+unfolding install_effects
+views_muted scenario i e past begun =
+    ap (λ n. install_effects scenario i (n ∷ past)) begun.idle.0
+    ∙ ap (λ st. view_effects scenario.params scenario.joins scenario.leaves i (length past)
+    (ended_in scenario.params (length past) Idle st))
+    (begun_knowledge scenario i past (begun_before scenario e past begun))
+    ∙ idle_view scenario i past
+
 pub views_are_lawful : IsLawful views
 unfolding install_effects
-views_are_lawful = record {
-  muted = λ scenario i past begun. mute scenario i past begun;
-  founded = views_founded;
-  ahead_serves = λ scenario m i past h. absurd (false≢true h);
-  once = λ scenario i key past. omega (arith, delivers_none views (λ by. refl) views_founded scenario i key past);
-}
-  where
-    mute : (scenario : ScenarioParts) (i : ℕ) (past : List NoticeKind) → IsBegun scenario past → install_effects scenario i past ≡ []
-    mute scenario i [] begun = refl
-    mute scenario i (e ∷ past) begun =
-        ap (λ n. install_effects scenario i (n ∷ past)) begun.idle.0
-        ∙ ap (λ st. view_effects scenario.params scenario.joins scenario.leaves i (length past)
-        (ended_in scenario.params (length past) Idle st))
-        (begun_knowledge scenario i past (begun_before scenario e past begun))
-        ∙ idle_view scenario i past
+views_are_lawful = undelivering_is_lawful views (λ by. refl) (λ scenario m i past. refl) (λ scenario i. refl) views_muted views_founded
 
 -- ---- scripted asks
 
@@ -201,17 +196,12 @@ none_in : (scenario : ScenarioParts) (i slot : ℕ) (asks : List NodeAsk) → sl
 none_in scenario i slot asks early =
     cond-true (nat_lt slot scenario.from) [] (filter (is_ask_in i slot) asks) (lt-ltb slot scenario.from early)
 
+asks_muted : (scenario : ScenarioParts) (i : ℕ) (e : NoticeKind) (past : List NoticeKind) → IsBegun scenario (e ∷ past) → ask_effects scenario i (e ∷ past) ≡ []
+unfolding ask_effects
+asks_muted scenario i e past begun =
+    let early : length past < scenario.from = omega (arith, begun.early) in
+    rw (none_in scenario i (length past) scenario.joins early, none_in scenario i (length past) scenario.leaves early) refl
+
 pub asks_are_lawful : IsLawful scripted_asks
 unfolding ask_effects
-asks_are_lawful = record {
-  muted = λ scenario i past begun. mute scenario i past begun;
-  founded = asks_founded;
-  ahead_serves = λ scenario m i past h. absurd (false≢true h);
-  once = λ scenario i key past. omega (arith, delivers_none scripted_asks (λ by. refl) asks_founded scenario i key past);
-}
-  where
-    mute : (scenario : ScenarioParts) (i : ℕ) (past : List NoticeKind) → IsBegun scenario past → ask_effects scenario i past ≡ []
-    mute scenario i [] begun = refl
-    mute scenario i (e ∷ past) begun =
-        let early : length past < scenario.from = omega (arith, begun.early) in
-        rw (none_in scenario i (length past) scenario.joins early, none_in scenario i (length past) scenario.leaves early) refl
+asks_are_lawful = undelivering_is_lawful scripted_asks (λ by. refl) (λ scenario m i past. refl) (λ scenario i. refl) asks_muted asks_founded

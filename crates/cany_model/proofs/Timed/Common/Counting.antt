@@ -61,7 +61,7 @@ window_back (suc w) (suc d) p (x ∷ T) t l h =
 -- ---- sums
 
 -- of the first n
-pub total : (ℕ → ℕ) → ℕ → ℕ
+unfoldable pub total : (ℕ → ℕ) → ℕ → ℕ
 total f zero = 0
 total f (suc n) = total f n + f n
 

@@ -181,14 +181,6 @@ module _ (scenario : ScenarioParts) (i : ℕ) (e : NoticeKind) (past : List Noti
 -- ---- over several slots
 
 -- the last life lies in what was read
-pub last_read : (scenario : ScenarioParts) (i : ℕ) (past : List NoticeKind) → (knowledge_of scenario i past).last ≤ length past
-unfolding knowledge_of
-last_read scenario i [] = omega arith
-last_read scenario i (e ∷ past) = elim (last_why scenario i e past) [
-  | inl set ↦ omega (arith, set.0)
-  | inr same ↦ omega (arith, same, last_read scenario i past)
-]
-
 -- it only moves on
 pub last_later : (scenario : ScenarioParts) (i : ℕ) (newer older : List SlotNote)
     → (full scenario i older).last ≤ (full scenario i (newer ++ older)).last

@@ -103,7 +103,11 @@ lacks_says p i r slot e st no_end why joiner =
 abbrev pub NothingOf : ℕ → NoticeKind → Type 0
 NothingOf r e = (f : FrameParts) → e ≡ Got f → IsOwn f → f.node ≡ r → ⊥
 
-no_life : (i slot r : ℕ) (e : NoticeKind) (st : Knowledge) → NothingOf r e → (after_hearing i slot e st).shown r ≡ st.shown r
+-- it brings no frame by which r shows life
+abbrev pub NoLifeOf : ℕ → NoticeKind → Type 0
+NoLifeOf r e = (f : FrameParts) → e ≡ Got f → shows_life f ≡ true → f.node ≡ r → ⊥
+
+pub no_life : (i slot r : ℕ) (e : NoticeKind) (st : Knowledge) → NoLifeOf r e → (after_hearing i slot e st).shown r ≡ st.shown r
 unfolding after_life
 no_life i slot r Idle st h = refl
 no_life i slot r Bad st h = refl
@@ -111,9 +115,9 @@ no_life i slot r (Sent f) st h =
     cond_both (shows_life f && f.node == i) (record st { last = slot }) st (λ s. s.shown r ≡ st.shown r) (λ _. refl) (λ _. refl)
 no_life i slot r (Got f) st h =
     cond_both (shows_life f) (with_shown f.node slot st) st (λ s. s.shown r ≡ st.shown r)
-    (λ life. rw (ne_eqb r f.node (λ e. h f refl (inl life) (sym e))) refl) (λ _. refl)
+    (λ life. rw (ne_eqb r f.node (λ e. h f refl life (sym e))) refl) (λ _. refl)
 
-pub learnt_no_life : (i slot r : ℕ) (e : NoticeKind) (st : Knowledge) → NothingOf r e → (after_learning i slot e st).shown r ≡ st.shown r
+pub learnt_no_life : (i slot r : ℕ) (e : NoticeKind) (st : Knowledge) → NoLifeOf r e → (after_learning i slot e st).shown r ≡ st.shown r
 learnt_no_life i slot r e st h = learnt_keeps ℕ (λ s. s.shown r) (λ sign s. refl) i slot e st ∙ no_life i slot r e st h
 
 shown_first : (scenario : ScenarioParts) (i r : ℕ) → (knowledge_of scenario i []).shown r ≤ 0
@@ -193,7 +197,7 @@ module _ (scenario : ScenarioParts) (i r : ℕ) (e : NoticeKind) (past : List No
       shown_after scenario.params i (length past) e st r
       ∙ cond-false (is_admitted (ended_at scenario i e past) st.members r) (length past) ((after_hearing i (length past) e st).shown r)
       (not_admitted (ended_at scenario i e past) st.members r member)
-      ∙ no_life i (length past) r e st h
+      ∙ no_life i (length past) r e st (λ f is life. h f is (inl life))
 
 -- ---- what fades
 
@@ -363,5 +367,5 @@ faded_fails p i r slot last e st few below other nothing unknown late (inl out) 
 faded_fails p i r slot last e st few below other nothing unknown late (inr (inl failed)) = inr (found_still p i r slot e st few failed)
 faded_fails p i r slot last e st few below other nothing unknown late (inr (inr old)) = elim (cases_Bool (has st.members r)) [
   | inr out ↦ inl out
-  | inl there ↦ inr (silent_found p i r slot last e st few below other unknown late there (omega (arith, learnt_no_life i slot r e st nothing, old)))
+  | inl there ↦ inr (silent_found p i r slot last e st few below other unknown late there (omega (arith, learnt_no_life i slot r e st (λ f is life. nothing f is (inl life)), old)))
 ]

@@ -1,6 +1,6 @@
 -- One view: the nodes that take part in a membership cycle since it starts install one vector at its end, and those that take part only since
 -- later have none there.
-use Rattle.std.proofs.Common.{◌≡◌, ◌≢◌, ℕ, zero, suc, ◌+◌, ◌*◌, ◌%◌, ◌<◌, ◌≤◌, ◌==◌, inl, inr, true, false, nat_lt, List, [], ◌∷◌, ◌++◌, length, map, drop, Option, Some, None, Contains, refl, ap, sym, ◌∙◌, subst, arith, length-append, length-drop}
+use Rattle.std.proofs.Common.{◌≡◌, ◌≢◌, ℕ, zero, suc, ◌+◌, ◌*◌, ◌%◌, ◌<◌, ◌≤◌, ◌==◌, inl, inr, true, false, nat_lt, List, [], ◌∷◌, ◌++◌, length, map, drop, Option, Some, None, refl, ap, sym, ◌∙◌, subst, arith, length-append, length-drop}
 use Rattle.std.specs.List.{AllByRecursion}
 use Rattle.std.proofs.lemmas.Bool.{and_from, and_right, both_ways, cases_eq, cases_lt, cond-false, eq-eqb, lt-ltb, ne_eqb}
 use Rattle.std.proofs.lemmas.List.{drop-append-le, drop-map, length-map, map-append}
@@ -30,11 +30,11 @@ use Rattle.cany_model.specs.Rules.Knowledge.{Knowledge}
 use Rattle.cany_model.specs.Rules.Turn.{scenario_at, scenario_for}
 use Rattle.cany_model.specs.Rules.Vectors.{met, rha_of, vector_in}
 use Rattle.cany_base.specs.Cycles.{cycle_of, is_end}
-use Rattle.cany_model.proofs.Among.{Contains-cons, Contains-head, Each-drop, Each-weaker}
-use Rattle.cany_model.proofs.Bus.EachRead.{EachRead, each_dropped}
+use Rattle.cany_model.proofs.Among.{Each-drop, Each-weaker}
+use Rattle.cany_model.proofs.Bus.EachRead.{EachRead, each_dropped, each_of_trace}
 use Rattle.cany_model.proofs.Bus.Identities.{same_class_self}
 use Rattle.cany_model.proofs.Runs.Runs.{IsOrderly, orderly}
-use Rattle.cany_model.proofs.Bus.Seen.{HearsNoEarly, IsSeenPast, Numbered, hears_no_early_of, history-is, length-seen, within_seen}
+use Rattle.cany_model.proofs.Bus.Seen.{HearsNoEarly, IsSeenPast, hears_no_early_of, history-is, length-seen, within_seen}
 use Rattle.cany_model.proofs.Runs.SlotStates.{slot_state_is}
 use Rattle.cany_model.proofs.Bus.States.{runs_within}
 use Rattle.cany_model.proofs.Promises.WaitingIsAskable.{AllBelong, all_belong, readable_for, seen_readable}
@@ -182,15 +182,6 @@ none_first scenario i long (e ∷ before) = elim (cases_eq (length before) (0 * 
 
 -- ---- what is known in a quiet state
 
-each_given : (P : ℕ → NoticeKind → Type 0) (i : ℕ) (inc : Incarnation) (trace : List SlotNote) → Numbered trace
-    → ((note : SlotNote) → Contains trace note → P note.slot (given i (as_seen inc note))) → EachRead P (map (given i) (seen inc trace))
-each_given P i inc [] numbered h = tt
-each_given P i inc (note ∷ trace) numbered h = (
-  subst (λ n. P n (given i (as_seen inc note)))
-      (numbered.0 ∙ sym (length-map (seen inc trace) (given i) ∙ length-seen inc trace)) (h note (Contains-head note trace)),
-  each_given P i inc trace numbered.1 (λ n there. h n (Contains-cons note n trace there)),
-)
-
 -- what was given to a running node is read of nodes of the bus, and so its vector is of such nodes, wherever it stands
 vectors_of_bus : (scenario : ScenarioParts) (journal : List Step) → scenario.params.nodes ≤ most_nodes
     → AllBelow scenario.params.nodes scenario.members → (i : ℕ) (inc : Incarnation) (age : ℕ)
@@ -200,7 +191,7 @@ vectors_of_bus scenario journal few first i inc age =
     let sc : ScenarioParts = scenario_for scenario inc in
     let belong : AllBelong scenario s = all_belong scenario journal few in
     let all : EachRead (IsReadable sc) (map (given i) (seen inc s.trace)) =
-    each_given (IsReadable sc) i inc s.trace (run_numbered scenario.params.nodes s (orderly scenario journal))
+    each_of_trace (IsReadable sc) i inc s.trace (run_numbered scenario.params.nodes s (orderly scenario journal))
     (λ note there. readable_for scenario inc note.slot (given i (as_seen inc note)) (seen_readable scenario s i inc note belong there)) in
     let read : EachRead (IsReadable sc) (past i (seen inc s.trace) age) =
     subst (EachRead (IsReadable sc)) (drop-map (given i) age (seen inc s.trace))

@@ -12,7 +12,7 @@ use Rattle.cany_model.specs.Bus.History.{given}
 use Rattle.cany_model.specs.Rules.Life.{is_own_sign}
 use Rattle.cany_model.specs.Rules.KnowledgeOf.{ended_in, knowledge_of}
 use Rattle.cany_model.specs.Rules.Knowledge.{Knowledge, after_life, after_hearing, shows_life}
-use Rattle.cany_model.proofs.Rules.LifeCounts.{last_cases}
+use Rattle.cany_model.proofs.Rules.LifeCounts.{last_cases, last_read}
 use Rattle.cany_model.proofs.Rules.KnowledgeSteps.{is_admitted, last_after}
 use Rattle.cany_model.proofs.Timed.Common.Ages.{gave, gave_none, past}
 
@@ -50,19 +50,11 @@ last_own scenario i e before own =
     ∙ cond_both (is_admitted (ended_in scenario.params slot e st) st.members i) slot (after_hearing i slot e st).last (λ n. n ≡ slot)
     (λ _. refl) (λ _. own_heard i slot e st own)
 
-last_within : (scenario : ScenarioParts) (i : ℕ) (before : List NoticeKind) → (knowledge_of scenario i before).last ≤ length before
-unfolding knowledge_of
-last_within scenario i [] = omega arith
-last_within scenario i (e ∷ before) = elim (last_cases scenario i e before) [
-  | inl same ↦ omega (arith, same, last_within scenario i before)
-  | inr now ↦ omega (arith, now)
-]
-
 pub last_grows : (scenario : ScenarioParts) (i : ℕ) (e : NoticeKind) (before : List NoticeKind)
     → (knowledge_of scenario i before).last ≤ (knowledge_of scenario i (e ∷ before)).last
 last_grows scenario i e before = elim (last_cases scenario i e before) [
   | inl same ↦ omega (arith, same)
-  | inr now ↦ omega (arith, now, last_within scenario i before)
+  | inr now ↦ omega (arith, now, last_read scenario i before)
 ]
 
 -- so the last life is no older than any life sign that was read

@@ -70,7 +70,7 @@ is_carried_clean c note f frame same clean =
 
 -- ---- the slots of a window
 
-abbrev is_clean_top : SlotNote → Bool
+abbrev pub is_clean_top : SlotNote → Bool
 is_clean_top note = is_clean_of class.Accept note || (is_clean_of class.Rha note || is_clean_of class.Els note)
 
 top_cases : (note : SlotNote) → is_silent_slot note ≡ false → is_top_slot note ≡ true → (is_error_slot note ≡ true) ⊎ (is_clean_top note ≡ true)
@@ -105,24 +105,25 @@ plain_window p trace within size newest =
     recursion_from_All plain (take size (drop newest trace))
     (All-take plain size (drop newest trace) (All-drop plain newest trace within.silent))
 
--- few slots of a window carried a frame of these classes
+-- few slots of a window are disturbed or carried Clean a frame of these classes
+pub few_clean_tops : (p : Parameters) (trace : List SlotNote) → IsWithin p trace → HasFewAccepts p trace → HasFewVectors p trace → HasFewLifeSigns p trace
+    → (newest : ℕ)
+    → error_slots (take (p.bound + p.lag) (drop newest trace)) + count_by is_clean_top (take (p.bound + p.lag) (drop newest trace)) ≤ top_frames p.nodes + p.errors
+few_clean_tops p trace within accepts vectors signs newest =
+    let window : List SlotNote = take (p.bound + p.lag) (drop newest trace) in
+    let two = count_or (is_clean_of class.Accept) (λ note. is_clean_of class.Rha note || is_clean_of class.Els note) window in
+    let rest = count_or (is_clean_of class.Rha) (is_clean_of class.Els) window in
+    let three : 3 * p.nodes * p.nodes ≡ 3 * (p.nodes * p.nodes) = grind arith in
+    omega (arith, two, rest, within.errors newest, accepts newest, vectors newest, signs newest, three)
+
+-- and so few carried a frame of these classes
 pub few_top_slots : (p : Parameters) (trace : List SlotNote) → IsWithin p trace
     → HasFewAccepts p trace → HasFewVectors p trace → HasFewLifeSigns p trace → HasFew is_top_slot (top_frames p.nodes + p.errors) p trace
 few_top_slots p trace within accepts vectors signs newest =
     let window : List SlotNote = take (p.bound + p.lag) (drop newest trace) in
     let plain = plain_window p trace within (p.bound + p.lag) newest in
     let all = count_either (λ note. is_silent_slot note ≡ false) is_top_slot is_error_slot is_clean_top top_cases window plain in
-    let two = count_or (is_clean_of class.Accept) (λ note. is_clean_of class.Rha note || is_clean_of class.Els note) window in
-    let rest = count_or (is_clean_of class.Rha) (is_clean_of class.Els) window in
-    sums p.nodes p.errors (count_by is_top_slot window) (error_slots window) (count_by (is_clean_of class.Accept) window)
-    (count_by (is_clean_of class.Rha) window) (count_by (is_clean_of class.Els) window)
-    (omega (arith, all, two, rest)) (within.errors newest) (accepts newest) (vectors newest) (signs newest)
-  where
-    sums : (n errors top error accept rha els : ℕ) → top ≤ error + (accept + (rha + els)) → error ≤ errors → accept ≤ 2 * (n * n) → rha ≤ n * n + n
-        → els ≤ n → top ≤ top_frames n + errors
-    sums n errors top error accept rha els all e a r l =
-        let three : 3 * n * n ≡ 3 * (n * n) = grind arith in
-        omega (arith, all, e, a, r, l, three)
+    omega (arith, all, few_clean_tops p trace within accepts vectors signs newest)
 
 -- ---- arbitration
 
