@@ -26,6 +26,10 @@ parts_of sc s i e = record {
   longer = order_by (is_accepted_by_it_or_some sc s i e) e.incarnation.from s.trace;
 }
 
+-- of one that takes part since a slot and has delivered the whole order from there on
+abbrev whole_order : ℕ → List Content → Parts
+whole_order from order = record { from = from; delivered = order; ordered = order; order = order; longer = order }
+
 abbrev content : ℕ → ℕ → ℕ → Content
 content origin seq byte = record { msg = key origin seq; payload = byte ∷ [] }
 
@@ -41,13 +45,7 @@ unfoldable its_journal : List Step
 its_journal = steps (codes ".012.012.012.012.01.0122.012.012" ++ repeated 82 (codes ".01"))
 
 abbrev of_the_others : Parts
-of_the_others = record {
-  from = 0;
-  delivered = content 0 0 3 ∷ content 1 0 2 ∷ [];
-  ordered = content 0 0 3 ∷ content 1 0 2 ∷ [];
-  order = content 0 0 3 ∷ content 1 0 2 ∷ [];
-  longer = content 0 0 3 ∷ content 1 0 2 ∷ [];
-}
+of_the_others = whole_order 0 (content 0 0 3 ∷ content 1 0 2 ∷ [])
 
 abbrev of_the_stopped : Parts
 of_the_stopped = record {
@@ -71,13 +69,7 @@ unfoldable restarted : ScenarioParts
 restarted = two 60 (send Tot 0 0 (1 ∷ []) ∷ send Tot 30 0 (2 ∷ []) ∷ []) (slot_rule 5 Clean 2 ∷ []) (again 6 1 ∷ [])
 
 abbrev all : Parts
-all = record {
-  from = 0;
-  delivered = content 0 0 1 ∷ content 0 1 2 ∷ [];
-  ordered = content 0 0 1 ∷ content 0 1 2 ∷ [];
-  order = content 0 0 1 ∷ content 0 1 2 ∷ [];
-  longer = content 0 0 1 ∷ content 0 1 2 ∷ [];
-}
+all = whole_order 0 (content 0 0 1 ∷ content 0 1 2 ∷ [])
 
 abbrev earlier : Parts
 earlier = record {
@@ -89,13 +81,7 @@ earlier = record {
 }
 
 abbrev again_there : Parts
-again_there = record {
-  from = 26;
-  delivered = content 0 1 2 ∷ [];
-  ordered = content 0 1 2 ∷ [];
-  order = content 0 1 2 ∷ [];
-  longer = content 0 1 2 ∷ [];
-}
+again_there = whole_order 26 (content 0 1 2 ∷ [])
 
 each_since_it_takes_part : seen_of (of_nodes (parts_of restarted) 2) restarted ≡ within ((all ∷ []) ∷ (again_there ∷ earlier ∷ []) ∷ [])
 unfolding row restarted

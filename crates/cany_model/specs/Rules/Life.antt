@@ -11,7 +11,7 @@ use Rattle.cany_base.specs.Params.{Parameters}
 use Rattle.cany_model.specs.Bus.Frames.{identity_of, same_class}
 use Rattle.cany_model.specs.Rules.Eager.{has_enough}
 use Rattle.cany_model.specs.Rules.Effect.{Effect, Ask, Withdraw, Enter, TurnRule}
-use Rattle.cany_model.specs.Rules.Protocol.{Protocol, nothing_ahead}
+use Rattle.cany_model.specs.Rules.Protocol.{Protocol, no_service}
 use Rattle.cany_model.specs.Rules.KnowledgeOf.{knowledge_of}
 use Rattle.cany_model.specs.Rules.Knowledge.{FailureSign, Knowledge, fda_frame, fda_of, found_in, told_in}
 
@@ -43,13 +43,7 @@ failure_effects scenario i [] = []
 failure_effects scenario i (notice ∷ before) = failures_at scenario.params i notice before (knowledge_of scenario i before)
 
 abbrev pub failure_signs : Protocol
-failure_signs = record {
-  effects = failure_effects;
-  originates = false;
-  ahead = nothing_ahead;
-  names = λ c. same_class c class.Fda;
-  delivers = λ by. false;
-}
+failure_signs = no_service failure_effects (λ c. same_class c class.Fda)
 
 -- ---- life signs
 
@@ -82,10 +76,4 @@ life_effects scenario i (notice ∷ before) =
     life_sign scenario.params.life scenario.inc i (length before) (knowledge_of scenario i (notice ∷ before)) (life_signs_sent i (notice ∷ before))
 
 abbrev pub life_signs : Protocol
-life_signs = record {
-  effects = life_effects;
-  originates = false;
-  ahead = nothing_ahead;
-  names = λ c. same_class c class.Els;
-  delivers = λ by. false;
-}
+life_signs = no_service life_effects (λ c. same_class c class.Els)

@@ -1,12 +1,12 @@
 -- Membership in a turn: the exchange of vectors, the view at the end of a cycle, and the scripted asks to join and to leave.
-use Rattle.std.specs.Prelude.{ℕ, ◌==◌, ◌&&◌, ◌||◌, ◌++◌, Bool, false, nat_lt, if◌then◌else◌, List, [], ◌∷◌, length, filter}
+use Rattle.std.specs.Prelude.{ℕ, ◌==◌, ◌&&◌, ◌||◌, ◌++◌, Bool, nat_lt, if◌then◌else◌, List, [], ◌∷◌, length, filter}
 use Rattle.std.specs.List.{flat_map}
 use Rattle.cany_base.specs.declared.class.Class.TheVariants as class
 use Rattle.cany_base.specs.declared.message.NodeAsk.{NodeAsk}
 use Rattle.cany_base.specs.Scenario.{ScenarioParts}
 use Rattle.cany_model.specs.Bus.Frames.{same_class}
 use Rattle.cany_model.specs.Rules.Effect.{TurnRule}
-use Rattle.cany_model.specs.Rules.Protocol.{Protocol, nothing_ahead}
+use Rattle.cany_model.specs.Rules.Protocol.{Protocol, no_service}
 use Rattle.cany_model.specs.Rules.KnowledgeOf.{ended_in, start_in, knowledge_of}
 use Rattle.cany_model.specs.Rules.Vectors.{exchange_at}
 use Rattle.cany_model.specs.Rules.Views.{join_asked, leave_asked, view_effects}
@@ -20,13 +20,7 @@ exchange_effects scenario i (notice ∷ before) =
     (start_in scenario.params i (length before) notice (knowledge_of scenario i before))
 
 abbrev pub vectors : Protocol
-vectors = record {
-  effects = exchange_effects;
-  originates = false;
-  ahead = nothing_ahead;
-  names = λ c. same_class c class.Rha;
-  delivers = λ by. false;
-}
+vectors = no_service exchange_effects (λ c. same_class c class.Rha)
 
 -- ---- views
 
@@ -37,13 +31,7 @@ install_effects scenario i (notice ∷ before) =
     (ended_in scenario.params (length before) notice (knowledge_of scenario i before))
 
 abbrev pub views : Protocol
-views = record {
-  effects = install_effects;
-  originates = false;
-  ahead = nothing_ahead;
-  names = λ c. same_class c class.Join || same_class c class.Leave;
-  delivers = λ by. false;
-}
+views = no_service install_effects (λ c. same_class c class.Join || same_class c class.Leave)
 
 -- ---- scripted asks
 
@@ -64,10 +52,4 @@ ask_effects scenario i (notice ∷ before) =
     (asks_in scenario i (length before) scenario.leaves)
 
 abbrev pub scripted_asks : Protocol
-scripted_asks = record {
-  effects = ask_effects;
-  originates = false;
-  ahead = nothing_ahead;
-  names = λ c. same_class c class.Join || same_class c class.Leave;
-  delivers = λ by. false;
-}
+scripted_asks = no_service ask_effects (λ c. same_class c class.Join || same_class c class.Leave)

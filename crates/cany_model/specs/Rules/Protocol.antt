@@ -22,3 +22,7 @@ pub record Protocol : Type 0 where
 -- of a protocol without timers
 abbrev pub nothing_ahead : ScenarioParts → Message → ℕ → List NoticeKind → Bool
 nothing_ahead scenario m i past = false
+
+-- One that is no service: by it no origin asks for a message, none is delivered, and it has nothing ahead.
+abbrev pub no_service : TurnRule → (Class → Bool) → Protocol
+no_service effects names = record { effects = effects; originates = false; ahead = nothing_ahead; names = names; delivers = λ by. false }
