@@ -425,19 +425,19 @@ life_sign_tells_the_incarnation = refl
 
 -- ---- what shows life
 
--- of another node a vector, a life sign and a TOTCAN message, in slot 5
-shown_by_class :
-    map (λ c. lives (after_life 0 5 (Got (named c 1)) start)) classes
-    ≡ (let none : List ℕ = 0 ∷ 0 ∷ 0 ∷ 0 ∷ [] in let shown : List ℕ = 0 ∷ 0 ∷ 5 ∷ 0 ∷ [] in
-    none ∷ shown ∷ shown ∷ none ∷ none ∷ none ∷ none ∷ shown ∷ none ∷ none ∷ [])
+-- by class: these lives of a vector, a life sign and a TOTCAN message, and none of the others
+abbrev of_these_classes : List ℕ → List (List ℕ)
+of_these_classes shown =
+    let none : List ℕ = replicate 4 0 in
+    none ∷ shown ∷ shown ∷ none ∷ none ∷ none ∷ none ∷ shown ∷ none ∷ none ∷ []
+
+-- of another node, in slot 5
+shown_by_class : map (λ c. lives (after_life 0 5 (Got (named c 1)) start)) classes ≡ of_these_classes (0 ∷ 0 ∷ 5 ∷ 0 ∷ [])
 unfolding life_turn
 shown_by_class = refl
 
 -- of the node itself the same, as it reads that it has sent them
-last_by_class :
-    map (λ c. lives (after_life 1 5 (Sent (named c 1)) start)) classes
-    ≡ (let none : List ℕ = 0 ∷ 0 ∷ 0 ∷ 0 ∷ [] in let sent : List ℕ = 5 ∷ 0 ∷ 0 ∷ 0 ∷ [] in
-    none ∷ sent ∷ sent ∷ none ∷ none ∷ none ∷ none ∷ sent ∷ none ∷ none ∷ [])
+last_by_class : map (λ c. lives (after_life 1 5 (Sent (named c 1)) start)) classes ≡ of_these_classes (5 ∷ 0 ∷ 0 ∷ 0 ∷ [])
 unfolding life_turn
 last_by_class = refl
 
