@@ -15,7 +15,7 @@ use Rattle.cany_model.specs.Bus.Frames.{same_class}
 use Rattle.cany_model.specs.Rules.Knowledge.{Knowledge, after_finding}
 use Rattle.cany_model.specs.Rules.KnowledgeOf.{after_asking, ended_in, knowledge_of}
 use Rattle.cany_model.specs.Rules.Views.{after_ask, with_joiner, with_leaver}
-use Rattle.cany_model.proofs.Bus.Notes.{has_where}
+use Rattle.cany_model.proofs.Bus.Notes.{placed_where}
 use Rattle.cany_model.proofs.Rules.KnowledgeSteps.{found_keeps, joiners_after, joiners_by, leavers_after, leavers_by, life_keeps}
 use Rattle.cany_knowledge.specs.ClosedForms.{HoldsSince, hears_join, hears_leave, installed_in, is_with, is_without, joins_in, leaves_in, members_of}
 use Rattle.cany_knowledge.proofs.Slots.{since}
@@ -61,14 +61,14 @@ module _ (r : ℕ) (few : r < most_nodes) where
       cond_both (has st.members q) st (record st { joiners = with_node q st.joiners })
       (λ (s : Knowledge). has s.joiners r ≡ ((not (has st.members q) && r == q) || has st.joiners r))
       (λ is. rw is refl)
-      (λ out. rw out (has_where (λ x. has st.joiners x || x == q) r few ∙ swap_or (has st.joiners r) (r == q)))
+      (λ out. rw out (placed_where (λ x. has st.joiners x || x == q) r few ∙ swap_or (has st.joiners r) (r == q)))
       ∙ ap (λ b. b || has st.joiners r) (of_named (λ x. not (has st.members x)) q)
 
   leaver : (q : ℕ) (st : Knowledge) → has (with_leaver q st).leavers r ≡ ((r == q && has st.members r) || has st.leavers r)
   leaver q st =
       cond_both (has st.members q) (record st { leavers = with_node q st.leavers }) st
       (λ (s : Knowledge). has s.leavers r ≡ ((has st.members q && r == q) || has st.leavers r))
-      (λ is. rw is (has_where (λ x. has st.leavers x || x == q) r few ∙ swap_or (has st.leavers r) (r == q)))
+      (λ is. rw is (placed_where (λ x. has st.leavers x || x == q) r few ∙ swap_or (has st.leavers r) (r == q)))
       (λ out. rw out refl)
       ∙ ap (λ b. b || has st.leavers r) (of_named (has st.members) q)
 
@@ -116,12 +116,12 @@ module _ (r : ℕ) (few : r < most_nodes) where
 
   left_joiners : (o : Option Nodes) (joiners : Nodes) → has (joiners_by o joiners) r ≡ (not (is_with r o) && has joiners r)
   left_joiners None joiners = refl
-  left_joiners (Some v) joiners = has_where (λ x. has joiners x && not (has v x)) r few ∙ swap_and (has joiners r) (not (has v r))
+  left_joiners (Some v) joiners = placed_where (λ x. has joiners x && not (has v x)) r few ∙ swap_and (has joiners r) (not (has v r))
 
   left_leavers : (o : Option Nodes) (leavers : Nodes) → has (leavers_by o leavers) r ≡ (not (is_without r o) && has leavers r)
   left_leavers None leavers = refl
   left_leavers (Some v) leavers =
-      has_where (λ x. has leavers x && has v x) r few ∙ swap_and (has leavers r) (has v r) ∙ ap (λ b. b && has leavers r) (twice (has v r))
+      placed_where (λ x. has leavers x && has v x) r few ∙ swap_and (has leavers r) (has v r) ∙ ap (λ b. b && has leavers r) (twice (has v r))
     where
       twice : (b : Bool) → b ≡ not (not b)
       twice true = refl

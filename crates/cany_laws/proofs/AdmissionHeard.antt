@@ -15,6 +15,7 @@ use Rattle.cany_model.specs.Bus.History.{as_seen, ended_history, given, seen}
 use Rattle.cany_model.specs.Bus.Slot.{FaultScript, after_slot, script}
 use Rattle.cany_model.specs.Bus.State.{EndedIncarnation, Incarnation, RunState, node_at, opening}
 use Rattle.cany_model.specs.Runs.Run.{run}
+use Rattle.cany_model.proofs.Among.{Each-second}
 use Rattle.cany_model.proofs.Bus.Notes.{given-Sent, sender_waits}
 use Rattle.cany_model.proofs.Bus.Restarts.{after_restarts-trace}
 use Rattle.cany_model.proofs.Bus.Seen.{carries_other, drop_seen, hidden_not, seen_plain}
@@ -24,7 +25,7 @@ use Rattle.cany_model.proofs.Runs.Journals.{run_none}
 use Rattle.cany_model.proofs.Runs.Steps.{after_slot-trace, after_turn-trace}
 use Rattle.cany_model.proofs.Timed.Detector.Stopped.{SentItself, own_waits}
 use Rattle.cany_model.proofs.Timed.Views.SameView.{end_of}
-use Rattle.cany_model.proofs.Timed.Views.StartViews.{each_left, front_split}
+use Rattle.cany_model.proofs.Timed.Views.StartViews.{front_split}
 use Rattle.cany_laws.specs.Logs.{IsIncarnation}
 use Rattle.cany_laws.proofs.EqualMembers.{first_read, first_read-more, next_read}
 use Rattle.cany_laws.proofs.Fronts.{along_pushes, drop-map, pushed}
@@ -80,7 +81,7 @@ module _ (scenario : ScenarioParts) (journal : List Step) (i : ℕ) (e : EndedIn
       each_running scenario (λ trace i node. AllByRecursion (Heard i) trace) (heard_kept scenario) l.front i l.running in
       let same : seen (node_at front.nodes i).present front.trace ≡ seen e.incarnation mid.0 ++ seen e.incarnation base =
       ap (λ (inc : Incarnation). seen inc front.trace) l.present ∙ ap (seen e.incarnation) mid.1 ∙ map_append (as_seen e.incarnation) mid.0 base in
-      each_left (Heard i) (seen e.incarnation mid.0) (seen e.incarnation base) (subst (AllByRecursion (Heard i)) same all)
+      Each-second (Heard i) (seen e.incarnation mid.0) (seen e.incarnation base) (subst (AllByRecursion (Heard i)) same all)
     where
       map_append : (f : SlotNote → SlotNote) (xs ys : List SlotNote) → map f (xs ++ ys) ≡ map f xs ++ map f ys
       map_append f [] ys = refl
@@ -116,7 +117,7 @@ join_got scenario some small journal i r e is newer note older split slot read p
     let heard : Heard i note =
     subst (Heard i) plain (has_heard scenario journal i e l newer (note ∷ older) split (omega (arith, read))).0 in
     let own : SentItself note =
-    (each_left SentItself newer (note ∷ older) (subst (AllByRecursion SentItself) split (sent_itself scenario some journal))).0 in
+    (Each-second SentItself newer (note ∷ older) (subst (AllByRecursion SentItself) split (sent_itself scenario some journal))).0 in
     let few : i < most_nodes = omega (arith, is.there, small) in
     notice_is scenario journal i e l newer note older split read ∙ ap (given i) plain ∙ elim (heard.clean few f frame clean) [
       | inl got ↦ got

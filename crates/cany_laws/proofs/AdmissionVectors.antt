@@ -32,7 +32,7 @@ use Rattle.cany_model.proofs.Bus.Seen.{history-is, seen_idle, seen_plain}
 use Rattle.cany_model.proofs.Promises.KeptVectors.{vector_at}
 use Rattle.cany_model.proofs.Promises.OwnSlotsAlone.{run_numbered}
 use Rattle.cany_model.proofs.Rules.CycleFacts.{cycle_before}
-use Rattle.cany_model.proofs.Rules.KnowledgeNodes.{IsVectorOfBus, knowledge_of_bus}
+use Rattle.cany_model.proofs.Rules.KnowledgeNodes.{IsVectorOfBus, first_members, knowledge_of_bus}
 use Rattle.cany_model.proofs.Rules.ProtocolFacts.{MayAsk, accepts, confirms, data_is_no_other, exchanges, is_relayed, lives, originates, relays, request_class, requests, signals}
 use Rattle.cany_model.proofs.Rules.VectorFacts.{carries_vector}
 use Rattle.cany_model.proofs.Runs.Journals.{run_none}
@@ -40,7 +40,7 @@ use Rattle.cany_model.proofs.Runs.Runs.{history-length, orderly}
 use Rattle.cany_model.proofs.Runs.Steps.{after_slot-trace, after_turn-trace}
 use Rattle.cany_model.proofs.Timed.Detector.VectorsAgreeOn.{FrameSays, Says, brings_says, met_says, none_says, some_says}
 use Rattle.cany_model.proofs.Timed.Views.OneVector.{installed_before, installed_here}
-use Rattle.cany_model.proofs.Timed.Views.VectorBudget.{first_members, run_readable}
+use Rattle.cany_model.proofs.Timed.Views.VectorBudget.{run_readable}
 use Rattle.cany_model.proofs.Timed.Views.VectorLastEffect.{IsCycle, at_place, brings, no_end}
 use Rattle.cany_model.proofs.Timed.Views.VectorSets.{vector_again}
 use Rattle.cany_model.proofs.Timed.Views.VectorTurns.{turn_ends, turn_exchanges}

@@ -28,7 +28,7 @@ use Rattle.cany_model.specs.Runs.Run.{run}
 use Rattle.cany_model.proofs.Among.{Among, Among-which}
 use Rattle.cany_model.proofs.Bus.Identities.{same_class-true, same_class_self}
 use Rattle.cany_model.proofs.Bus.Notes.{IsOffered, given-Got, note_of-offered, waits_with-from_Contains}
-use Rattle.cany_model.proofs.Bus.Seen.{history-is}
+use Rattle.cany_model.proofs.Bus.Seen.{history-is, seen_frame}
 use Rattle.cany_model.proofs.Bus.States.{no_note, runs_within}
 use Rattle.cany_model.proofs.Promises.Diffusion.{past_of}
 use Rattle.cany_model.proofs.Promises.DiffusionRun.{run_diffuses}
@@ -39,7 +39,6 @@ use Rattle.cany_model.proofs.Runs.SlotStates.{slot_has_state, slot_state-trace, 
 use Rattle.cany_model.proofs.Timed.Common.KnowledgeAges.{learnt_members, learnt_shown}
 use Rattle.cany_model.proofs.Timed.Detector.Accuracy.{HearsNone, IsUnsigned, found_failed, found_other, next_unsigned, told_other, unsigned_first}
 use Rattle.cany_model.proofs.Timed.Guarantees.{slots_are_quiet}
-use Rattle.cany_model.proofs.Timed.Views.NoLateVectors.{seen_frame}
 use Rattle.cany_laws.specs.Logs.{IsIncarnation, followed_by}
 use Rattle.cany_laws.proofs.AlarmGap.{gap, goes_on, quiet_front, went}
 use Rattle.cany_laws.proofs.AlarmLife.{known_at, known_more}

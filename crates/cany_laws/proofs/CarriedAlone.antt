@@ -29,13 +29,14 @@ use Rattle.cany_model.proofs.Bus.Identities.{same_class-true, same_identity-from
 use Rattle.cany_model.proofs.Bus.Notes.{given-Sent, sender_waits, waits_with-from_Contains}
 use Rattle.cany_model.proofs.Bus.Restarts.{after_restarts-trace, restarts_or_stays}
 use Rattle.cany_model.proofs.Bus.States.{node_at-opening}
+use Rattle.cany_model.proofs.Promises.Diffusion.{copies_got}
 use Rattle.cany_model.proofs.Runs.Runs.{IsOrderly, along_run, opening_within}
 use Rattle.cany_model.proofs.Runs.Steps.{MayTurn, after_slot-trace, after_slot-waiting, after_turn-node, after_turn-other, after_turn-trace, next_notice, running_before_slot}
 use Rattle.cany_model.proofs.Runs.Waits.{waits-from_with}
 use Rattle.cany_model.proofs.Timed.Common.Ages.{Sends, carries_clean, gave_none}
 use Rattle.cany_model.proofs.Timed.Common.Counting.{at_most_1}
 use Rattle.cany_model.proofs.Timed.Common.LastEffect.{AsksFor, word_asks}
-use Rattle.cany_model.proofs.Timed.Order.TotEffects.{asked_then, copies_more, got_after_place}
+use Rattle.cany_model.proofs.Timed.Order.TotEffects.{asked_then, got_after_place}
 use Rattle.cany_model.proofs.Timed.Order.TotKept.{NoSilent}
 use Rattle.cany_model.proofs.Timed.Order.TotRun.{tot_kept}
 use Rattle.cany_laws.specs.Carried.{times_clean}
@@ -55,7 +56,7 @@ enough omit g before none accept =
     (λ k. record { class = sym (same_class-true g.class class.Accept accept) k; number = g.number; node = g.node }) in
     let shape : after_place (message_in g) (Got g ∷ before) ≡ Got g ∷ after_place (message_in g) before = got_after_place (message_in g) (Got g) before is in
     let one : copies (identity_of g) (Got g ∷ after_place (message_in g) before) ≡ suc (copies (identity_of g) (after_place (message_in g) before)) =
-    copies_more (identity_of g) (Got g) (after_place (message_in g) before) (same_identity-from (identity_of g) (identity_of g) refl) in
+    copies_got (identity_of g) (Got g) (after_place (message_in g) before) (same_identity-from (identity_of g) (identity_of g) refl) in
     le-leb (omit + 1) (copies (identity_of g) (after_place (message_in g) (Got g ∷ before))) (omega (arith, none, one, ap (copies (identity_of g)) shape))
 
 no_relay : (p : Parameters) (i : ℕ) (x : Identity) (f g : FrameParts) (before : List NoticeKind) → p.omit ≡ 0

@@ -21,7 +21,7 @@ use Rattle.cany_model.specs.Rules.Messages.{Message, confirm_of_key, data_frame,
 use Rattle.cany_model.specs.Rules.Sends.{is_sent_in, send_effects, sendable}
 use Rattle.cany_model.specs.Rules.Turn.{scenario_at, turn_effects}
 use Rattle.cany_model.specs.Runs.Run.{after_turn, run}
-use Rattle.cany_model.proofs.Among.{Among, Among-from_any, Among-weaker, Among-which, Among-from_Contains, any-from_Among, count-drop, count-grows, count-yes, one_if}
+use Rattle.cany_model.proofs.Among.{Among, Among-from_any, Among-weaker, Among-which, Among-from_Contains, any-from_Among, count-drop, count-grows, count-yes, one_if, one_at_most}
 use Rattle.cany_model.proofs.Bus.Identities.{same_identity-from}
 use Rattle.cany_model.proofs.Bus.Restarts.{after_restarts-trace, restarts_or_stays}
 use Rattle.cany_model.proofs.Bus.States.{no_note, note_at}
@@ -36,7 +36,7 @@ use Rattle.cany_laws.proofs.CarriedCounts.{sent_by}
 use Rattle.cany_laws.proofs.CarriedRelcan.{confirm_reason, data_reason, not_origin}
 use Rattle.cany_laws.proofs.CarriedSends.{absent_never_sends, by_one_node, never_sent, reads_turn, sent_so_often}
 use Rattle.cany_laws.proofs.WaitNodes.{slot_reads, turn_reads}
-use Rattle.cany_laws.proofs.WaitTotals.{one_at_most, one_if_weaker}
+use Rattle.cany_laws.proofs.WaitTotals.{one_if_weaker}
 use Rattle.cany_model.proofs.Runs.Journals.{reads_restarts}
 
 -- ---- the message of a scripted send

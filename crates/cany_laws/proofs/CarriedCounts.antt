@@ -1,5 +1,5 @@
 -- How often the bus carries one frame Clean: no more often than nodes, or their incarnations, send it.
-use Rattle.std.proofs.Common.{◌≡◌, ℕ, zero, suc, ◌≤◌, inl, inr, Bool, List, [], length, count_by, ap, sym, ◌∙◌, subst, arith}
+use Rattle.std.proofs.Common.{◌≡◌, ℕ, ◌≤◌, inl, inr, Bool, List, [], length, count_by, ap, sym, ◌∙◌, subst, arith}
 use Rattle.std.proofs.lemmas.Bool.{cases_lt}
 use Rattle.std.proofs.lemmas.List.{length-replicate}
 use Rattle.cany_base.specs.declared.message.MsgKey.{MsgKey}
@@ -18,7 +18,7 @@ use Rattle.cany_model.proofs.Bus.States.{node_at-opening, node_at_past, note_at}
 use Rattle.cany_model.proofs.Runs.Runs.{along_run}
 use Rattle.cany_model.proofs.Runs.Steps.{after_slot-length}
 use Rattle.cany_model.proofs.Timed.Common.Ages.{carries_clean, clean_carried}
-use Rattle.cany_model.proofs.Timed.Common.Counting.{at_most_1, cover, total}
+use Rattle.cany_model.proofs.Timed.Common.Counting.{at_most_1, cover, total, total_most}
 use Rattle.cany_model.proofs.Timed.Detector.NoRestarts.{restarts_none}
 use Rattle.cany_model.proofs.Timed.Order.TotKept.{NoSilent, TraceKept}
 use Rattle.cany_model.proofs.Timed.Order.TotRun.{tot_kept}
@@ -29,13 +29,6 @@ use Rattle.cany_laws.proofs.WaitTimes.{below_is, lives}
 -- whether node i sent the frame in the slot
 abbrev pub sent_by : Identity → ℕ → SlotNote → Bool
 sent_by x i note = is_sent x (given i note)
-
--- ---- sums over the first nodes
-
-sum_one : (f : ℕ → ℕ) → ((r : ℕ) → f r ≤ 1) → (n : ℕ) → total f n ≤ n
-unfolding total
-sum_one f most zero = omega arith
-sum_one f most (suc n) = omega (arith, sum_one f most n, most n)
 
 -- ---- each slot that carries it Clean has a sender
 
@@ -48,7 +41,7 @@ module _ (scenario : ScenarioParts) (T : List SlotNote) (t : TraceKept scenario 
 
   each_accepts : (key : MsgKey) → times_clean (accept_of_key key) T ≤ scenario.params.nodes
   each_accepts key =
-      let one = sum_one (λ i. count_by (sent_by (accept_of_key key) i) T)
+      let one = total_most (λ i. count_by (sent_by (accept_of_key key) i) T) 1
       (λ i. at_most_1 (sent_by (accept_of_key key) i) T (λ p q less a b. t.sent_once i p q key less a b)) scenario.params.nodes in
       omega (arith, by_senders (accept_of_key key), one)
 
@@ -80,7 +73,7 @@ none_ended scenario none =
 pub incarnations_few : (scenario : ScenarioParts) → scenario.restarts ≡ [] → (journal : List Step) → (n : ℕ) → incarnations_of_first (run scenario journal) n ≤ n
 incarnations_few scenario none journal n =
     let s : RunState = run scenario journal in
-    let one = sum_one (lives s) (λ i. let e = none_ended scenario none journal i in omega (arith, e)) n in
+    let one = total_most (lives s) 1 (λ i. let e = none_ended scenario none journal i in omega (arith, e)) n in
     omega (arith, below_is n s, one)
 
 pub data_once : (scenario : ScenarioParts) (journal : List Step) → scenario.params.nodes ≤ most_nodes → NoSilent (run scenario journal).trace

@@ -1,7 +1,7 @@
 -- Each incarnation of a node sends the frame of a failure sign at most once.
-use Rattle.std.proofs.Common.{◌≡◌, ℕ, ◌&&◌, ◌||◌, inl, inr, Bool, true, false, not, List, [], ◌∷◌, ◌++◌, filter, map, length, ap, sym, ◌∙◌}
+use Rattle.std.proofs.Common.{◌≡◌, ℕ, ◌&&◌, inl, inr, false, not, List, [], ◌∷◌, ◌++◌, filter, map, length, ap, sym, ◌∙◌}
 use Rattle.std.specs.List.{flat_map, list_any, range_with_len}
-use Rattle.std.proofs.lemmas.Bool.{and_parts, cond_both, false≢true, not-true}
+use Rattle.std.proofs.lemmas.Bool.{and_parts, cond_both, not-true, or_parts}
 use Rattle.cany_base.specs.declared.class.Class.TheVariants as class
 use Rattle.cany_base.specs.declared.notice.NoticeKind.{NoticeKind}
 use Rattle.cany_base.specs.declared.notice.NoticeKind.TheVariants.{Idle, Got, Sent, Bad}
@@ -45,10 +45,6 @@ found_new : (sign : FailureSign) (p : Parameters) (i slot : ℕ) (st : Knowledge
 unfolding found
 found_new sign p i slot st h = kept_new sign st (map (sign_in p slot) (filter (has_timed_out p i slot st) (range_with_len 0 p.nodes))) h
 
-or_false : (a b : Bool) → (a || b) ≡ false → b ≡ false
-or_false true b h = absurd (false≢true (sym h))
-or_false false b h = h
-
 pub asked_is_new : (scenario : ScenarioParts) (i : ℕ) (e : NoticeKind) (past : List NoticeKind) (sign : FailureSign)
     → Among (Asks (fda_of sign)) (failure_effects scenario i (e ∷ past)) → knows sign (knowledge_of scenario i past) ≡ false
 unfolding failure_effects failures_at
@@ -71,8 +67,8 @@ asked_is_new scenario i e past sign h =
       | inr late ↦
           let new = found_new sign p i (length past) (after_learning i (length past) e st) (named found_now (Among-from_flat_map each (Asks (fda_of sign)) found_now late)) in
           sym (knows_heard sign i (length past) e st)
-          ∙ or_false (list_any (same_sign sign) told_now) (knows sign (after_hearing i (length past) e st))
-          (sym (knows_with sign told_now (after_hearing i (length past) e st)) ∙ new)
+          ∙ (or_parts (list_any (same_sign sign) told_now) (knows sign (after_hearing i (length past) e st))
+          (sym (knows_with sign told_now (after_hearing i (length past) e st)) ∙ new)).1
     ]
   where
     weaker : (signs : List FailureSign) → Among (λ b. Among (Asks (fda_of sign)) (sign_effects scenario.params.omit (length past) (e ∷ past) b)) signs → Among (λ b. sign ≡ b) signs

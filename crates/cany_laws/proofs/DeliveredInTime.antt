@@ -49,6 +49,7 @@ use Rattle.cany_model.proofs.Bus.Seen.{Numbered, ended_history-present}
 use Rattle.cany_model.proofs.Promises.OwnSlotsAlone.{run_numbered}
 use Rattle.cany_model.proofs.Timed.Common.SeenAges.{done_to}
 use Rattle.cany_model.proofs.Timed.Guarantees.{accepted_by_all_or_none, slots_are_quiet}
+use Rattle.cany_model.proofs.Timed.Order.Accepted.{not_vector}
 use Rattle.cany_model.proofs.Timed.Order.Accepts.{acceptance_at}
 use Rattle.cany_model.proofs.Timed.Order.OneOrder.{ground_of, has_delivered}
 use Rattle.cany_model.proofs.Timed.Order.OrderLog.{delivered_content, named_delivered}
@@ -86,10 +87,6 @@ done_later trace newer older split q key d =
     ap (λ t. carries_clean (tot_of_key key) (note_at t (length newer + q))) split
     ∙ ap (carries_clean (tot_of_key key)) (get_or-append-add newer older q no_note) ∙ d
 
-tot_not_rha : same_class class.Tot class.Rha ≡ false
-unfolding same_class
-tot_not_rha = refl
-
 -- a slot that carried a data frame of TOTCAN, and is not before the first in which an incarnation takes part, it sees
 pub sees_data : (inc : Incarnation) (note : SlotNote) (key : MsgKey) → inc.from ≤ note.slot → carried (is_of (tot_of_key key)) note ≡ true → is_hidden inc note ≡ false
 sees_data inc note key late h = by_frame note.frame refl
@@ -99,7 +96,7 @@ sees_data inc note key late h = by_frame note.frame refl
     by_frame (Some f) is =
         let same : tot_of_key key ≡ identity_of f = same_identity-true (tot_of_key key) (identity_of f) (rw is at h) in
         let tot : f.class ≡ class.Tot = sym (ap (λ (x : Identity). x.class) same) in
-        hidden_not inc note late (carries_other inc.cycle note f is (ap (λ c. same_class c class.Rha) tot ∙ tot_not_rha))
+        hidden_not inc note late (carries_other inc.cycle note f is (ap (λ c. same_class c class.Rha) tot ∙ not_vector))
 
 -- ---- logs
 

@@ -2,7 +2,7 @@
 -- was read, and its origin has asked for it or came too late.
 use Rattle.std.proofs.Common.{◌≡◌, ℕ, zero, suc, ◌+◌, ◌<◌, ◌≤◌, ◌&&◌, ◌==◌, ◌⊎◌, inl, inr, Bool, true, false, not, List, [], ◌∷◌, ◌++◌, filter, map, length, take, drop, slice_index_or, Option, Some, None, refl, ap, sym, ◌∙◌, subst, arith, length-drop}
 use Rattle.std.specs.List.{AllByRecursion, list_any}
-use Rattle.std.proofs.lemmas.Bool.{and_from, and_parts, both_ways, cond_both, eqb-true, false_from_ne_true, false≢true, not-true, not_from_false, or_cases, or_left, or_right}
+use Rattle.std.proofs.lemmas.Bool.{and_from, and_parts, and_right, both_ways, cond_both, eqb-true, false_from_ne_true, false≢true, not-true, not_from_false, or_cases, or_left, or_right}
 use Rattle.std.proofs.lemmas.List.{get_or-drop, get_or-take}
 use Rattle.cany_base.specs.declared.class.Class.TheVariants as class
 use Rattle.cany_base.specs.declared.message.MsgKey.{MsgKey}
@@ -40,9 +40,8 @@ use Rattle.cany_model.proofs.Rules.SendFacts.{is_sent_in-true, sendable_one}
 use Rattle.cany_model.proofs.Rules.VectorFacts.{vectors_are_lawful}
 use Rattle.cany_model.proofs.Rules.ViewFacts.{asks_are_lawful, views_are_lawful}
 use Rattle.cany_model.proofs.Runs.Waits.{AsksOnly}
-use Rattle.cany_model.proofs.Timed.Order.TotBacklog.{any_dropped, at_place, backlog_same, one_place}
+use Rattle.cany_model.proofs.Timed.Order.TotBacklog.{any_dropped, at_place, backlog_same, one_place, tot_id}
 use Rattle.cany_model.proofs.Timed.Order.TotKept.{no_message}
-use Rattle.cany_model.proofs.Timed.Order.OneOrder.{tot_id}
 
 -- ---- frames of the message
 
@@ -226,14 +225,10 @@ pub done_begun : (scenario : ScenarioParts) (m : Message) (i : ℕ) (past : List
 unfolding is_recent
 done_begun scenario m i past begun late = record {
   timer = rw (begun_copy scenario (data_id m) past begun) (no_copy (is_timed i (data_id m)) (not (has_confirm (data_id m) past)));
-  closing = rw (recent_idle scenario.params.bound (message_key m) past begun.idle) (never (is_service m.service Tot));
+  closing = rw (recent_idle scenario.params.bound (message_key m) past begun.idle) (and_right (is_service m.service Tot) false refl);
   asked = λ own. inr late;
 }
   where
-    never : (b : Bool) → (b && false) ≡ false
-    never true = refl
-    never false = refl
-
     no_copy : (timed confirmed : Bool) → (timed && false && not (has_copy (data_id m) (drop scenario.params.confirm past)) && confirmed) ≡ false
     no_copy true confirmed = refl
     no_copy false confirmed = refl

@@ -41,7 +41,8 @@ use Rattle.cany_model.proofs.Rules.TotcanFacts.{all_tot, delivered_brought, done
 use Rattle.cany_model.proofs.Rules.VectorFacts.{vectors_are_lawful}
 use Rattle.cany_model.proofs.Rules.ViewFacts.{asks_are_lawful, views_are_lawful}
 use Rattle.cany_laws.proofs.DoneTurns.{Free, FreeNotice, IsDone, no_got, no_holds, no_sent}
-use Rattle.cany_model.proofs.Timed.Order.OneOrder.{clear_old, tot_id}
+use Rattle.cany_model.proofs.Timed.Order.OneOrder.{clear_old}
+use Rattle.cany_model.proofs.Timed.Order.TotBacklog.{tot_id}
 
 -- the entry delivers this message by its own service
 abbrev pub DeliversIt : Message → LogEntry → Type 0

@@ -13,7 +13,7 @@ use Rattle.cany_model.specs.Rules.Knowledge.{FailureSign, fda_of, knows}
 use Rattle.cany_model.specs.Rules.KnowledgeOf.{knowledge_of}
 use Rattle.cany_model.specs.Rules.Turn.{scenario_at, scenario_for, turn_effects}
 use Rattle.cany_model.specs.Runs.Run.{after_turn, run}
-use Rattle.cany_model.proofs.Among.{Among, one_if}
+use Rattle.cany_model.proofs.Among.{Among, one_at_most, one_if}
 use Rattle.cany_model.proofs.Bus.Restarts.{after_restarts-trace, restarts_or_stays}
 use Rattle.cany_model.proofs.Bus.Seen.{history-is}
 use Rattle.cany_model.proofs.Rules.KnowledgeFacts.{known_stays}
@@ -30,7 +30,7 @@ use Rattle.cany_laws.proofs.CarriedSends.{CountsAsks, sent_so_often}
 use Rattle.cany_laws.proofs.CarriedSigns.{asked_is_new}
 use Rattle.cany_laws.proofs.Fronts.{after_slot-ended, after_turn-ended}
 use Rattle.cany_laws.proofs.WaitTimes.{below_is, lives}
-use Rattle.cany_laws.proofs.WaitTotals.{one_at_most, one_if_weaker, total_most}
+use Rattle.cany_laws.proofs.WaitTotals.{one_if_weaker, total_most}
 
 module _ (scenario : ScenarioParts) (sign : FailureSign) where
   abbrev known_at : RunState → ℕ → Bool

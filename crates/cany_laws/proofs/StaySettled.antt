@@ -29,8 +29,8 @@ use Rattle.cany_model.proofs.Bus.Carried.{Has, frame_of_notice}
 use Rattle.cany_model.proofs.Bus.Notes.{note_of-offered}
 use Rattle.cany_model.proofs.Bus.Restarts.{after_restarts-trace, restarts_or_stays}
 use Rattle.cany_model.proofs.Bus.Identities.{same_identity-from, same_identity-true}
-use Rattle.cany_model.proofs.Bus.Seen.{Numbered, history-is}
-use Rattle.cany_model.proofs.Bus.States.{no_note, note_at, runs_within}
+use Rattle.cany_model.proofs.Bus.Seen.{Numbered, history-is, seen_frame}
+use Rattle.cany_model.proofs.Bus.States.{each_in_front, no_note, note_at, runs_within}
 use Rattle.cany_model.proofs.Promises.Diffusion.{past_of}
 use Rattle.cany_model.proofs.Promises.EachNode.{restarted_new}
 use Rattle.cany_model.proofs.Promises.SettledFacts.{parts, settled_asked_or_late, settled_none_ahead, settled_read}
@@ -45,8 +45,6 @@ use Rattle.cany_laws.specs.Final.{is_frame_of}
 use Rattle.cany_laws.proofs.DoneTurns.{Free, FreeNotice, IsDone, IsSourcedNotice, asked_on, done_begun, done_next, turn_free}
 use Rattle.cany_laws.proofs.Fronts.{along_rest, pushed}
 use Rattle.cany_laws.proofs.Since.{begins_now}
-use Rattle.cany_model.proofs.Timed.Detector.Removal.{each_in_front}
-use Rattle.cany_model.proofs.Timed.Views.NoLateVectors.{seen_frame}
 
 -- ---- one node
 

@@ -18,13 +18,13 @@ use Rattle.cany_model.specs.Promises.Settled.{IsCorrect}
 use Rattle.cany_model.specs.Rules.Turn.{scenario_at, scenario_for}
 use Rattle.cany_model.specs.Runs.Run.{run}
 use Rattle.cany_model.proofs.Among.{Among-from_Contains, Contains-one, Each-of}
+use Rattle.cany_model.proofs.Bus.Carried.{carried_frame}
 use Rattle.cany_model.proofs.Bus.Identities.{same_class-true}
 use Rattle.cany_model.proofs.Bus.Seen.{ended_history-present, history-is}
 use Rattle.cany_model.proofs.Bus.States.{no_note}
 use Rattle.cany_model.proofs.Promises.Diffusion.{past_of}
 use Rattle.cany_model.proofs.Promises.EachNode.{each_running}
 use Rattle.cany_model.proofs.Runs.Runs.{orderly}
-use Rattle.cany_model.proofs.Timed.Windows.TopFrames.{carried_frame}
 use Rattle.cany_laws.specs.Alarms.{NoLeaveWasCarried, is_leave_of}
 use Rattle.cany_laws.specs.Logs.{followed_by, present_of}
 use Rattle.cany_laws.proofs.AlarmGap.{goes_on, went}

@@ -16,9 +16,9 @@ use Rattle.cany_model.specs.Promises.Hypothesis.{IsWithin}
 use Rattle.cany_model.specs.Promises.Settled.{IsCorrect}
 use Rattle.cany_model.specs.Runs.Run.{run}
 use Rattle.cany_model.proofs.Among.{Contains-cons, Contains-head}
+use Rattle.cany_model.proofs.Bus.Carried.{is_carried}
 use Rattle.cany_model.proofs.Bus.Identities.{same_class_self}
 use Rattle.cany_model.proofs.Timed.Detector.Leaving.{NoLeaveIn}
-use Rattle.cany_model.proofs.Timed.Windows.TopFrames.{is_carried}
 use Rattle.cany_laws.specs.Alarms.{HadInView, NoLeaveWasCarried, StandsInEachVector, is_leave_of}
 use Rattle.cany_laws.proofs.AlarmLaws.{never_stopped}
 use Rattle.cany_laws.proofs.StayingAsked.{none_carried}

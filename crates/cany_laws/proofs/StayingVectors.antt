@@ -33,21 +33,20 @@ use Rattle.cany_model.proofs.Among.{Among-from_Contains, Each-drop, Each-of}
 use Rattle.cany_model.proofs.Bus.EachRead.{EachRead, each_dropped}
 use Rattle.cany_model.proofs.Bus.Identities.{same_class_self}
 use Rattle.cany_model.proofs.Bus.Notes.{given-Got}
-use Rattle.cany_model.proofs.Bus.Seen.{history-is}
+use Rattle.cany_model.proofs.Bus.Seen.{history-is, seen_frame}
 use Rattle.cany_model.proofs.Bus.States.{runs_within}
 use Rattle.cany_model.proofs.Promises.Diffusion.{past_of}
 use Rattle.cany_model.proofs.Promises.KeptVectors.{CarriesVector, CoversVector, IsKeptVector, kept_vectors, vector_at}
 use Rattle.cany_model.proofs.Rules.CycleFacts.{IsExchangeOf}
-use Rattle.cany_model.proofs.Rules.KnowledgeNodes.{IsVectorOfBus, knowledge_of_bus}
+use Rattle.cany_model.proofs.Rules.KnowledgeNodes.{IsVectorOfBus, first_members, knowledge_of_bus}
 use Rattle.cany_model.proofs.Rules.VectorFacts.{carries_vector}
 use Rattle.cany_model.proofs.Runs.Runs.{history-length, orderly}
 use Rattle.cany_model.proofs.Timed.Detector.Leaving.{HeedsNone, NoLeaveIn, asked_leavers, heeds_none, no_leaver, start_stays}
 use Rattle.cany_model.proofs.Timed.Detector.SilentNode.{asked_members, no_installed}
 use Rattle.cany_model.proofs.Timed.Detector.VectorsAgreeOn.{Says, met_says, none_says}
-use Rattle.cany_model.proofs.Timed.Views.NoLateVectors.{seen_frame}
 use Rattle.cany_model.proofs.Timed.Views.StartViews.{no_end_within, start_no_end}
 use Rattle.cany_model.proofs.Timed.Views.SameView.{end_place}
-use Rattle.cany_model.proofs.Timed.Views.VectorBudget.{first_members, run_readable}
+use Rattle.cany_model.proofs.Timed.Views.VectorBudget.{run_readable}
 use Rattle.cany_model.proofs.Timed.Views.VectorLastEffect.{IsCycle, brings}
 use Rattle.cany_model.proofs.Timed.Views.VectorSets.{vector_again}
 use Rattle.cany_model.proofs.Timed.Views.VectorSlots.{cycle_of_formulas}

@@ -46,7 +46,7 @@ use Rattle.cany_model.proofs.Promises.Diffusion.{copies_grow, past_of}
 use Rattle.cany_model.proofs.Promises.EachNode.{EachRunning, clean_success, each_running}
 use Rattle.cany_model.proofs.Promises.OneFrame.{only_frame}
 use Rattle.cany_model.proofs.Promises.Sources.{sourced}
-use Rattle.cany_model.proofs.Bus.Carried.{Has}
+use Rattle.cany_model.proofs.Bus.Carried.{Has, carried_frame}
 use Rattle.cany_model.proofs.Rules.DeliveryFacts.{DeliversAtOnce, entry_from_brought}
 use Rattle.cany_model.proofs.Rules.EdcanFacts.{edcan_delivers}
 use Rattle.cany_model.proofs.Rules.LogFacts.{log_has}
@@ -58,7 +58,6 @@ use Rattle.cany_model.proofs.Runs.FrameInvariants.{history_note}
 use Rattle.cany_model.proofs.Runs.Runs.{history-length, orderly}
 use Rattle.cany_model.proofs.Runs.SlotStates.{slot_has_state, slot_state-trace, slot_state_is}
 use Rattle.cany_model.proofs.Runs.Waits.{waits-from_after}
-use Rattle.cany_model.proofs.Timed.Windows.TopFrames.{carried_frame}
 use Rattle.cany_laws.specs.Waits.{HasDeliveredBy, WasCarriedIn}
 use Rattle.cany_laws.proofs.FinalLogs.{entry_read}
 use Rattle.cany_laws.proofs.Since.{begins_now}

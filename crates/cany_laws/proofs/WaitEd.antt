@@ -19,7 +19,7 @@ use Rattle.cany_model.specs.Bus.State.{Incarnation, NodeState, RunState, node_at
 use Rattle.cany_model.specs.Bus.Waiting.{waits}
 use Rattle.cany_model.specs.Rules.Messages.{Message, data_id, messages_of}
 use Rattle.cany_model.specs.Runs.Run.{after_turn, run}
-use Rattle.cany_model.proofs.Among.{Among-from_Contains, Among-weaker, any-from_Among, one_if}
+use Rattle.cany_model.proofs.Among.{Among-from_Contains, Among-weaker, any-from_Among, one_at_most, one_if}
 use Rattle.cany_model.proofs.Bus.Carried.{Carries, Succeeds, Succeeds-from_own}
 use Rattle.cany_model.proofs.Bus.Notes.{waiting_sends}
 use Rattle.cany_model.proofs.Bus.Restarts.{after_restarts-trace, restarts_or_stays}
@@ -27,16 +27,16 @@ use Rattle.cany_model.proofs.Bus.Seen.{Among-seen, history-is, seen_plain}
 use Rattle.cany_model.proofs.Bus.States.{node_at-opening, runs_within}
 use Rattle.cany_model.proofs.Promises.Agreement.{idle_carries}
 use Rattle.cany_model.proofs.Promises.Diffusion.{copies_grow}
-use Rattle.cany_model.proofs.Promises.OwnSlotsAlone.{AllWaitForOwnSlots, own_slots_alone_kept, own_slots_alone_opening, sent_plain}
+use Rattle.cany_model.proofs.Promises.OwnSlotsAlone.{AllWaitForOwnSlots, own_slots_alone_run, sent_plain}
 use Rattle.cany_model.proofs.Rules.MessageKeys.{IsOneOf}
-use Rattle.cany_model.proofs.Runs.Runs.{IsOrderly, along_run}
+use Rattle.cany_model.proofs.Runs.Runs.{IsOrderly}
 use Rattle.cany_model.proofs.Runs.Steps.{MayTurn, after_slot-history, after_slot-present, after_slot-trace, after_slot-waiting, after_turn-history, next_notice, running_before_slot}
 use Rattle.cany_model.proofs.Timed.Common.Counting.{total}
 use Rattle.cany_laws.specs.Carried.{incarnations_of_first, times_clean}
 use Rattle.cany_laws.proofs.WaitAsksOnce.{AtFirstCopy, AtItsSlot}
 use Rattle.cany_laws.proofs.WaitNodes.{IsSame, has_sent, kept_waits, new_lives, same_after_turn, same_history, sent_waits, slot_lives, turn_lives}
 use Rattle.cany_laws.proofs.WaitTimes.{IsLeft, few_times, lives}
-use Rattle.cany_laws.proofs.WaitTotals.{one_at_most, one_if_false, one_if_true, one_if_weaker, total_most}
+use Rattle.cany_laws.proofs.WaitTotals.{one_if_false, one_if_true, one_if_weaker, total_most}
 use Rattle.cany_laws.proofs.Fronts.{drop-map}
 use Rattle.cany_laws.proofs.WaitOwnFirst.{EachAskedOnce, IsOwnFirst, all_of, asked_once, own_all, own_first_drop, same_all, slot_is_unsent, turn_all}
 use Rattle.cany_laws.proofs.WaitUnsent.{IsReadOrUnsent, IsUnsent, copies_carried, read_or_unsent, waited_or_asked}
@@ -258,8 +258,7 @@ module _ (scenario : ScenarioParts) (few : scenario.params.nodes ≤ most_nodes)
 
   known : (journal : List Step) → Known m (run scenario journal)
   known journal = record {
-    own_slots = (along_run scenario (λ s. AllWaitForOwnSlots s × Unit {0}) (own_slots_alone_opening scenario.params.nodes, tt)
-        (own_slots_alone_kept scenario (λ s. Unit {0}) (record { slot = λ s o own h. tt; restarts = λ s o some h. tt; turn = λ s i o may h. tt })) journal).0;
+    own_slots = own_slots_alone_run scenario journal;
     unsent = read_or_unsent scenario m is ed journal;
     once = asked_once scenario few m is ed journal;
   }

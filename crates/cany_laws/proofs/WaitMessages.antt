@@ -21,7 +21,7 @@ use Rattle.cany_model.specs.Rules.Messages.{Message, data_id, messages_of}
 use Rattle.cany_model.specs.Rules.Turn.{has_asked, scenario_at, scenario_for}
 use Rattle.cany_model.specs.Runs.Run.{is_done, reply, run}
 use Rattle.cany_model.proofs.Among.{Among, Among-drop, Among-from_Contains, Among-from_any, Among-place, Among-weaker, Each-weaker, any-from_Among}
-use Rattle.cany_model.proofs.Bus.Carried.{CarriesClean}
+use Rattle.cany_model.proofs.Bus.Carried.{CarriesClean, is_carried}
 use Rattle.cany_model.proofs.Bus.Counting.{Accepts, clean_from_copies, clean_from_success}
 use Rattle.cany_model.proofs.Bus.Identities.{same_identity-from}
 use Rattle.cany_model.proofs.Bus.Seen.{history-is, within_seen}
@@ -33,7 +33,6 @@ use Rattle.cany_model.proofs.Rules.MessageKeys.{IsOneOf}
 use Rattle.cany_model.proofs.Runs.Runs.{history-length, slot_done}
 use Rattle.cany_model.proofs.Runs.SlotStates.{slot_has_state, slot_state_is}
 use Rattle.cany_model.proofs.Timed.Windows.QuietSlots.{front_trace, within_dropped}
-use Rattle.cany_model.proofs.Timed.Windows.TopFrames.{is_carried}
 use Rattle.cany_laws.specs.Waits.{HasAskedBy, IsAwaitedThrough, WasAwaited, WasCarriedIn, least_left, interference, waits_since, window}
 use Rattle.cany_laws.proofs.Since.{begins_now}
 use Rattle.cany_laws.proofs.WaitAsked.{WaitsOrGone, asked_since, keeps_asked}

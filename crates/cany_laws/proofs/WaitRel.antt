@@ -19,7 +19,7 @@ use Rattle.cany_model.specs.Rules.Messages.{Message, data_id, messages_of}
 use Rattle.cany_model.specs.Rules.Relcan.{has_copy}
 use Rattle.cany_model.specs.Rules.Turn.{scenario_at, turn_effects}
 use Rattle.cany_model.specs.Runs.Run.{after_turn, run}
-use Rattle.cany_model.proofs.Among.{Among-from_Contains, Among-weaker, any-from_Among, one_if}
+use Rattle.cany_model.proofs.Among.{Among-from_Contains, Among-weaker, any-from_Among, one_at_most, one_if}
 use Rattle.cany_model.proofs.Bus.Restarts.{Restarts, after_restarts-trace, restarts_or_stays}
 use Rattle.cany_model.proofs.Bus.States.{node_at-opening, runs_within}
 use Rattle.cany_model.proofs.Rules.MessageKeys.{IsOneOf}
@@ -32,7 +32,7 @@ use Rattle.cany_laws.proofs.WaitAsksOnce.{AtItsSlot}
 use Rattle.cany_laws.proofs.WaitFallBack.{FallsBackNow, copy_dropped, rel_asked}
 use Rattle.cany_laws.proofs.WaitNodes.{IsSame, has_sent, kept_waits, new_lives, same_after_turn, same_history, same_reads, sent_waits, slot_lives, slot_reads, turn_lives, turn_reads}
 use Rattle.cany_laws.proofs.WaitTimes.{IsLeft, few_times, lives}
-use Rattle.cany_laws.proofs.WaitTotals.{one_at_most, one_if_false, one_if_true, one_if_weaker, total_most}
+use Rattle.cany_laws.proofs.WaitTotals.{one_if_false, one_if_true, one_if_weaker, total_most}
 
 -- ---- the times that are left at a node
 

@@ -21,13 +21,14 @@ use Rattle.cany_model.specs.Promises.Quiet.{is_top}
 use Rattle.cany_model.specs.Promises.Windows.{is_clean_of}
 use Rattle.cany_model.specs.Runs.Run.{run}
 use Rattle.cany_model.proofs.Among.{Among-from_any, Among-get_or, Among-place, any-from_Among}
+use Rattle.cany_model.proofs.Bus.Carried.{is_carried}
 use Rattle.cany_model.proofs.Bus.States.{no_note, note_at}
 use Rattle.cany_model.proofs.Runs.Runs.{orderly}
 use Rattle.cany_model.proofs.Runs.SlotStates.{slot_state-trace, slot_state_is}
 use Rattle.cany_model.proofs.Timed.Common.Counting.{window_at, window_back}
 use Rattle.cany_model.proofs.Timed.Guarantees.{accepts_are_few, signs_are_few}
 use Rattle.cany_model.proofs.Timed.Windows.FewVectors.{clean_is, few_vectors}
-use Rattle.cany_model.proofs.Timed.Windows.TopFrames.{clean_or_error, is_carried, is_carried_clean, never_silent}
+use Rattle.cany_model.proofs.Timed.Windows.TopFrames.{clean_or_error, is_carried_clean, never_silent}
 use Rattle.cany_laws.specs.Waits.{IsAwaitedThrough, WasAwaited, WasCarriedIn, least_left, most_taken, interference, interferes, slots_from, window}
 use Rattle.cany_laws.proofs.WaitOrder.{NotAfterIt, carried_while}
 use Rattle.cany_laws.proofs.WaitWindows.{few_taken, is_taken, waits_at_most}

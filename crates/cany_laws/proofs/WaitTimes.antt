@@ -14,13 +14,13 @@ use Rattle.cany_model.specs.Bus.State.{RunState, opening}
 use Rattle.cany_model.specs.Runs.Incarnations.{incarnations}
 use Rattle.cany_model.specs.Runs.Run.{after_turn, run}
 use Rattle.cany_model.proofs.Among.{count-no, count-yes}
+use Rattle.cany_model.proofs.Bus.Carried.{carried_frame}
 use Rattle.cany_model.proofs.Bus.Notes.{note_of-offered, IsOffered}
 use Rattle.cany_model.proofs.Bus.Restarts.{after_restarts-trace}
 use Rattle.cany_model.proofs.Bus.States.{runs_within}
 use Rattle.cany_model.proofs.Runs.Runs.{IsOrderly, MaySlot, orderly}
 use Rattle.cany_model.proofs.Runs.Journals.{run_none}
 use Rattle.cany_model.proofs.Runs.Steps.{MayTurn, after_slot-trace, after_turn-trace}
-use Rattle.cany_model.proofs.Timed.Windows.TopFrames.{carried_frame}
 use Rattle.cany_model.proofs.Timed.Common.Counting.{total}
 use Rattle.cany_laws.specs.Carried.{incarnations_of_first, times_clean}
 use Rattle.cany_laws.proofs.Fronts.{along_pushes, pushed}

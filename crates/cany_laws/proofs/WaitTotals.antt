@@ -1,7 +1,7 @@
 -- Sums over the first nodes.
 use Rattle.std.proofs.Common.{◌≡◌, ℕ, zero, suc, ◌+◌, ◌<◌, ◌≤◌, ◌==◌, inl, inr, Bool, true, false, refl, ap, subst, arith}
 use Rattle.std.proofs.lemmas.Bool.{cases_eq, ne_eqb}
-use Rattle.cany_model.proofs.Among.{one_if}
+use Rattle.cany_model.proofs.Among.{one_at_most, one_if}
 use Rattle.cany_model.proofs.Timed.Common.Counting.{total}
 
 pub total_both : (f a g b : ℕ → ℕ) (n : ℕ) → ((i : ℕ) → i < n → f i + a i ≤ g i + b i) → total f n + total a n ≤ total g n + total b n
@@ -46,10 +46,6 @@ one_if_true a h = ap one_if h
 
 pub one_if_false : (a : Bool) → a ≡ false → one_if a ≡ 0
 one_if_false a h = ap one_if h
-
-pub one_at_most : (a : Bool) → one_if a ≤ 1
-one_at_most false = omega arith
-one_at_most true = omega arith
 
 -- at most one of the first nodes is this one
 pub one_named : (k n : ℕ) → total (λ i. one_if (k == i)) n ≤ 1

@@ -79,6 +79,15 @@ pub Each-append : {X : Type 0} (P : X → Type 0) (xs ys : List X) → AllByRecu
 Each-append P [] ys a b = b
 Each-append P (x ∷ xs) ys a b = (a.0, Each-append P xs ys a.1 b)
 
+-- what each of two lists one after another has, each of the first has, and each of the second
+pub Each-first : {X : Type 0} (P : X → Type 0) (xs ys : List X) → AllByRecursion P (xs ++ ys) → AllByRecursion P xs
+Each-first P [] ys h = tt
+Each-first P (x ∷ xs) ys h = (h.0, Each-first P xs ys h.1)
+
+pub Each-second : {X : Type 0} (P : X → Type 0) (xs ys : List X) → AllByRecursion P (xs ++ ys) → AllByRecursion P ys
+Each-second P [] ys h = h
+Each-second P (x ∷ xs) ys h = Each-second P xs ys h.1
+
 -- of lists one after another
 pub Among-from_flat_map : {X Y : Type 0} (f : X → List Y) (P : Y → Type 0) (xs : List X) → Among P (flat_map f xs) → Among (λ x. Among P (f x)) xs
 Among-from_flat_map f P [] h = h
@@ -146,6 +155,10 @@ count-drop p (suc n) (x ∷ xs) = omega (arith, count-drop p n xs, count-grows p
 -- what one element adds to a count
 abbrev pub one_if : Bool → ℕ
 one_if b = cond b 1 0
+
+pub one_at_most : (b : Bool) → one_if b ≤ 1
+one_at_most true = omega arith
+one_at_most false = omega arith
 
 -- an element at a place that has the property
 pub Among-get_or : {X : Type 0} (P : X → Type 0) (xs : List X) (k : ℕ) (d : X) → k < length xs → P (get_or xs k d) → Among P xs

@@ -28,8 +28,7 @@ use Rattle.cany_model.proofs.Rules.Begun.{IsBegun}
 use Rattle.cany_model.proofs.Runs.Steps.{kept_at}
 use Rattle.cany_model.proofs.Timed.Common.Ages.{Sends, any_past, past}
 use Rattle.cany_model.proofs.Timed.Common.LastEffect.{turn_waits, waits_word, word}
-use Rattle.cany_model.proofs.Timed.Order.OneOrder.{tot_id}
-use Rattle.cany_model.proofs.Timed.Order.TotBacklog.{at_place, backlog_same, next_stands, planned_next, planned_on, planned_other}
+use Rattle.cany_model.proofs.Timed.Order.TotBacklog.{at_place, backlog_same, next_stands, planned_next, planned_on, planned_other, tot_id}
 use Rattle.cany_model.proofs.Timed.Order.TotEffects.{asks_next, data_still, data_then, data_word}
 use Rattle.cany_model.proofs.Timed.Order.TotKept.{IsPlanned, no_message}
 use Rattle.cany_model.proofs.Timed.Order.TotSlots.{sent_carried, waits_before, waits_of, waits_on}

@@ -16,6 +16,7 @@ use Rattle.cany_model.specs.Promises.Quiet.{HasQuietSlots, IsQuiet, is_top}
 use Rattle.cany_model.specs.Rules.Turn.{scenario_for}
 use Rattle.cany_model.specs.Runs.Run.{after_turn, run}
 use Rattle.cany_model.proofs.Among.{Among, Among-flat_map, Among-from_Contains, Among-get_or, Among-weaker, any-from_Among}
+use Rattle.cany_model.proofs.Bus.Carried.{is_carried}
 use Rattle.cany_model.proofs.Bus.Notes.{note_of-frame, note_of-offered, note_of-slot}
 use Rattle.cany_model.proofs.Bus.Restarts.{after_restarts-trace, restarts_or_stays}
 use Rattle.cany_model.proofs.Bus.Seen.{history-is, length-seen}
@@ -28,7 +29,6 @@ use Rattle.cany_model.proofs.Runs.Steps.{MayTurn, after_slot-present, after_slot
 use Rattle.cany_model.proofs.Runs.Waits.{Each-kept}
 use Rattle.cany_model.proofs.Timed.Order.NoLateAcceptances.{at_older}
 use Rattle.cany_model.proofs.Timed.Order.TotRun.{IsOfRun, along_states, run_orderly}
-use Rattle.cany_model.proofs.Timed.Windows.TopFrames.{is_carried}
 use Rattle.cany_settle.specs.LastEvent.{is_lower_slot}
 use Rattle.cany_settle.specs.LongEnough.{settling_time}
 use Rattle.cany_settle.proofs.Backlogs.{BacklogKept, KeepsBacklog, backlogs_kept, begun_asked}

@@ -1,5 +1,5 @@
 -- What a note says of a frame: that the slot carried it, with success, or Clean.
-use Rattle.std.proofs.Common.{◌≡◌, ℕ, ◌==◌, ◌&&◌, ◌⊎◌, inl, inr, true, List, map, drop, Some, Contains, refl}
+use Rattle.std.proofs.Common.{◌≡◌, ℕ, ◌==◌, ◌&&◌, ◌⊎◌, inl, inr, Bool, true, List, map, drop, Option, Some, None, Contains, refl}
 use Rattle.std.proofs.lemmas.Bool.{false≢true, and_parts, or_cases}
 use Rattle.cany_base.specs.declared.notice.NoticeKind.{NoticeKind}
 use Rattle.cany_base.specs.declared.notice.NoticeKind.TheVariants.{Idle, Got, Sent, Bad}
@@ -10,10 +10,26 @@ use Rattle.cany_base.specs.Nodes.{has}
 use Rattle.cany_model.specs.Rules.Delivery.{brings}
 use Rattle.cany_model.specs.Bus.Frames.{Identity, identity_of}
 use Rattle.cany_model.specs.Bus.History.{given, is_got, is_sent, has_own}
-use Rattle.cany_model.specs.Bus.Slot.{is_success}
+use Rattle.cany_model.specs.Bus.Slot.{carried, is_success}
 use Rattle.cany_model.proofs.Among.{Among, Among-which, Among-drop, Among-from_any, Among-from_map, Among-weaker}
 use Rattle.cany_model.proofs.Bus.Identities.{same_identity-from, same_identity-true}
 use Rattle.cany_model.proofs.Bus.Notes.{given-Got, given-Sent}
+
+-- the frame of the slot passes the test
+pub record CarriedFrame (test : FrameParts → Bool) (note : SlotNote) : Type 0 where
+  pub what : FrameParts
+  pub frame : note.frame ≡ Some what
+  pub passes : test what ≡ true
+
+pub carried_frame : (test : FrameParts → Bool) (note : SlotNote) → carried test note ≡ true → CarriedFrame test note
+carried_frame test note h = by_frame note.frame refl
+  where
+    by_frame : (o : Option FrameParts) → note.frame ≡ o → CarriedFrame test note
+    by_frame None e = absurd (false≢true (rw e at h))
+    by_frame (Some f) e = record { what = f; frame = e; passes = rw e at h }
+
+pub is_carried : (test : FrameParts → Bool) (note : SlotNote) (f : FrameParts) → note.frame ≡ Some f → test f ≡ true → carried test note ≡ true
+is_carried test note f frame h = rw frame h
 
 -- the slot carried a frame of the identity
 pub record Carries (x : Identity) (note : SlotNote) : Type 0 where

@@ -21,7 +21,7 @@ use Rattle.cany_model.proofs.Bus.Identities.{count_together-itself}
 abbrev pub Accepts : ℕ → SlotNote → Type 0
 Accepts i note = (f : FrameParts) → given i note ≡ Got f → lets_accept note.verdict i ≡ true
 
-verdict_cases : (v : Verdict) (i : ℕ) → lets_accept v i ≡ true → is_silent v ≡ false → (v ≡ Clean) ⊎ (is_partial v ≡ true)
+pub verdict_cases : (v : Verdict) (i : ℕ) → lets_accept v i ≡ true → is_silent v ≡ false → (v ≡ Clean) ⊎ (is_partial v ≡ true)
 verdict_cases Clean i h n = inl refl
 verdict_cases Lost i h n = absurd (false≢true h)
 verdict_cases (Partial reject) i h n = inr refl
@@ -76,7 +76,7 @@ clean_from_copies p i x trace unread accepts within many =
       | inr few ↦ absurd (omega (arith, many, few, count-drop (is_partial_slot_of x) unread trace, within.omit x))
     ]
 
-success_is_clean : (v : Verdict) → is_success v ≡ true → is_silent v ≡ false → v ≡ Clean
+pub success_is_clean : (v : Verdict) → is_success v ≡ true → is_silent v ≡ false → v ≡ Clean
 success_is_clean Clean s n = refl
 success_is_clean Lost s n = absurd (false≢true s)
 success_is_clean (Partial reject) s n = absurd (false≢true s)

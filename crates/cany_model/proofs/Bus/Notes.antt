@@ -1,5 +1,5 @@
 -- What the note of a slot says: who offered the frame, who sent and accepted it, and what the slot gave a node.
-use Rattle.std.specs.Prelude.{◌≡◌, ℕ, suc, ◌<◌, Bool, true, false, not, ◌&&◌, nat_lt, if◌then◌else◌, List, [], ◌∷◌, Option, Some, None, length, Contains, ◌⊎◌, refl}
+use Rattle.std.specs.Prelude.{◌≡◌, ℕ, suc, ◌<◌, Bool, true, false, not, ◌&&◌, if◌then◌else◌, List, [], ◌∷◌, Option, Some, None, length, Contains, ◌⊎◌, refl}
 use Rattle.cany_base.specs.Limits.{most_nodes}
 use Rattle.std.specs.List.{flat_map}
 use Rattle.std.proofs.Common.{sym, ap, ◌∙◌, subst, inl, inr, arith}
@@ -9,6 +9,7 @@ use Rattle.cany_base.specs.declared.slot_note.SlotNote.{SlotNote}
 use Rattle.cany_base.specs.Frame.{FrameParts}
 use Rattle.cany_base.specs.Nodes.{has, those_where}
 use Rattle.cany_base.proofs.NodesFacts.{has-those_where}
+use Rattle.cany_base.proofs.SetFacts.{has_where}
 use Rattle.cany_model.specs.Bus.Slot.{FaultScript, better, least_frame, offered, winner, lets_accept, is_success, sends, transmission, share_in, share_of, slot_note_of}
 use Rattle.cany_model.specs.Bus.State.{NodeState, RunState, node_at, runs}
 use Rattle.cany_model.specs.Bus.Frames.{same_frame, is_before}
@@ -26,11 +27,8 @@ use Rattle.cany_model.proofs.Bus.Identities.{same_frame-true, same_frame_self}
 -- ---- sets of nodes
 
 -- a node that has a place in a set is in the set where the test holds
-pub has_where : (test : ℕ → Bool) (i : ℕ) → i < most_nodes → has (those_where test) i ≡ test i
-has_where test i h = has-those_where test i ∙ rw (lt-ltb i most_nodes h) refl
-
-pub those_where_pass : (test : ℕ → Bool) (i : ℕ) → has (those_where test) i ≡ true → test i ≡ true
-those_where_pass test i h = (and_parts (nat_lt i most_nodes) (test i) (sym (has-those_where test i) ∙ h)).1
+pub placed_where : (test : ℕ → Bool) (i : ℕ) → i < most_nodes → has (those_where test) i ≡ test i
+placed_where test i h = has-those_where test i ∙ rw (lt-ltb i most_nodes h) refl
 
 -- ---- the frame that is carried
 
@@ -91,59 +89,59 @@ winner-offered nodes f h = offered-Contains nodes f (least_frame-Contains (flat_
 
 pub note_of-slot : (rules : FaultScript) (s : RunState) → (slot_note_of rules s).slot ≡ length s.trace
 unfolding slot_note_of
-note_of-slot rules s = exchange_slot (length s.trace) s.nodes (rules s.trace (winner s.nodes)).verdict (winner s.nodes)
+note_of-slot rules s = transmission_slot (length s.trace) s.nodes (rules s.trace (winner s.nodes)).verdict (winner s.nodes)
   where
-    exchange_slot : (slot : ℕ) (nodes : List NodeState) (verdict : Verdict) (frame : Option FrameParts)
+    transmission_slot : (slot : ℕ) (nodes : List NodeState) (verdict : Verdict) (frame : Option FrameParts)
         → (transmission slot nodes verdict frame).slot ≡ slot
-    exchange_slot slot nodes verdict None = refl
-    exchange_slot slot nodes verdict (Some f) = refl
+    transmission_slot slot nodes verdict None = refl
+    transmission_slot slot nodes verdict (Some f) = refl
 
-exchange_frame : (slot : ℕ) (nodes : List NodeState) (verdict : Verdict) (frame : Option FrameParts)
+transmission_frame : (slot : ℕ) (nodes : List NodeState) (verdict : Verdict) (frame : Option FrameParts)
     → (transmission slot nodes verdict frame).frame ≡ frame
-exchange_frame slot nodes verdict None = refl
-exchange_frame slot nodes verdict (Some f) = refl
+transmission_frame slot nodes verdict None = refl
+transmission_frame slot nodes verdict (Some f) = refl
 
 pub note_of-frame : (rules : FaultScript) (s : RunState) → (slot_note_of rules s).frame ≡ winner s.nodes
 unfolding slot_note_of
-note_of-frame rules s = exchange_frame (length s.trace) s.nodes (rules s.trace (winner s.nodes)).verdict (winner s.nodes)
+note_of-frame rules s = transmission_frame (length s.trace) s.nodes (rules s.trace (winner s.nodes)).verdict (winner s.nodes)
 
 -- the frame of a slot was offered by a running node
 pub note_of-offered : (rules : FaultScript) (s : RunState) (f : FrameParts) → (slot_note_of rules s).frame ≡ Some f → IsOffered s.nodes f
 note_of-offered rules s f h = winner-offered s.nodes f (sym (note_of-frame rules s) ∙ h)
 
-exchange_senders : (slot : ℕ) (nodes : List NodeState) (verdict : Verdict) (frame : Option FrameParts) (f : FrameParts)
+transmission_senders : (slot : ℕ) (nodes : List NodeState) (verdict : Verdict) (frame : Option FrameParts) (f : FrameParts)
     → (transmission slot nodes verdict frame).frame ≡ Some f
     → (transmission slot nodes verdict frame).senders ≡ those_where (λ i. sends f (node_at nodes i))
-exchange_senders slot nodes verdict None f h = absurd (cc)
-exchange_senders slot nodes verdict (Some g) f h =
+transmission_senders slot nodes verdict None f h = absurd (cc)
+transmission_senders slot nodes verdict (Some g) f h =
     let e : g ≡ f = cc in ap (λ x. those_where (λ i. sends x (node_at nodes i))) e
 
-exchange_takers : (slot : ℕ) (nodes : List NodeState) (verdict : Verdict) (frame : Option FrameParts) (f : FrameParts)
+transmission_takers : (slot : ℕ) (nodes : List NodeState) (verdict : Verdict) (frame : Option FrameParts) (f : FrameParts)
     → (transmission slot nodes verdict frame).frame ≡ Some f
     → (transmission slot nodes verdict frame).takers
     ≡ those_where (λ i. runs (node_at nodes i) && not (sends f (node_at nodes i)) && lets_accept (transmission slot nodes verdict frame).verdict i)
-exchange_takers slot nodes verdict None f h = absurd (cc)
-exchange_takers slot nodes verdict (Some g) f h =
+transmission_takers slot nodes verdict None f h = absurd (cc)
+transmission_takers slot nodes verdict (Some g) f h =
     let e : g ≡ f = cc in
     ap (λ x. those_where (λ i. runs (node_at nodes i) && not (sends x (node_at nodes i)) && lets_accept verdict i)) e
 
 note_of-senders : (rules : FaultScript) (s : RunState) (f : FrameParts) → (slot_note_of rules s).frame ≡ Some f
     → (slot_note_of rules s).senders ≡ those_where (λ i. sends f (node_at s.nodes i))
 unfolding slot_note_of
-note_of-senders rules s f h = exchange_senders (length s.trace) s.nodes (rules s.trace (winner s.nodes)).verdict (winner s.nodes) f h
+note_of-senders rules s f h = transmission_senders (length s.trace) s.nodes (rules s.trace (winner s.nodes)).verdict (winner s.nodes) f h
 
 note_of-takers : (rules : FaultScript) (s : RunState) (f : FrameParts) → (slot_note_of rules s).frame ≡ Some f
     → (slot_note_of rules s).takers
     ≡ those_where (λ i. runs (node_at s.nodes i) && not (sends f (node_at s.nodes i)) && lets_accept (slot_note_of rules s).verdict i)
 unfolding slot_note_of
-note_of-takers rules s f h = exchange_takers (length s.trace) s.nodes (rules s.trace (winner s.nodes)).verdict (winner s.nodes) f h
+note_of-takers rules s f h = transmission_takers (length s.trace) s.nodes (rules s.trace (winner s.nodes)).verdict (winner s.nodes) f h
 
 -- a sender ran, and waited with the frame
 pub sender_waits : (rules : FaultScript) (s : RunState) (f : FrameParts) (i : ℕ) → (slot_note_of rules s).frame ≡ Some f
     → has (slot_note_of rules s).senders i ≡ true → (runs (node_at s.nodes i) ≡ true) × Contains (node_at s.nodes i).waiting f
 sender_waits rules s f i h sent =
     let passes : sends f (node_at s.nodes i) ≡ true =
-    those_where_pass (λ k. sends f (node_at s.nodes k)) i (sym (ap (λ x. has x i) (note_of-senders rules s f h)) ∙ sent) in
+    has_where (λ k. sends f (node_at s.nodes k)) i (sym (ap (λ x. has x i) (note_of-senders rules s f h)) ∙ sent) in
     let parts = and_parts (runs (node_at s.nodes i)) (waits_with f (node_at s.nodes i).waiting) passes in
     (parts.0, waits_with-Contains f (node_at s.nodes i).waiting parts.1)
 
@@ -152,7 +150,7 @@ pub waiting_sends : (rules : FaultScript) (s : RunState) (f : FrameParts) (i : �
     → runs (node_at s.nodes i) ≡ true → Contains (node_at s.nodes i).waiting f → has (slot_note_of rules s).senders i ≡ true
 waiting_sends rules s f i few h running waits =
     ap (λ x. has x i) (note_of-senders rules s f h)
-    ∙ has_where (λ k. sends f (node_at s.nodes k)) i few
+    ∙ placed_where (λ k. sends f (node_at s.nodes k)) i few
     ∙ and_from (runs (node_at s.nodes i)) (waits_with f (node_at s.nodes i).waiting) running
     (waits_with-from_Contains f (node_at s.nodes i).waiting waits)
 
@@ -161,7 +159,7 @@ pub taker_accepts : (rules : FaultScript) (s : RunState) (f : FrameParts) (i : �
     → has (slot_note_of rules s).takers i ≡ true → (runs (node_at s.nodes i) ≡ true) × (lets_accept (slot_note_of rules s).verdict i ≡ true)
 taker_accepts rules s f i h took =
     let passes : (runs (node_at s.nodes i) && not (sends f (node_at s.nodes i)) && lets_accept (slot_note_of rules s).verdict i) ≡ true =
-    those_where_pass (λ k. runs (node_at s.nodes k) && not (sends f (node_at s.nodes k)) && lets_accept (slot_note_of rules s).verdict k) i
+    has_where (λ k. runs (node_at s.nodes k) && not (sends f (node_at s.nodes k)) && lets_accept (slot_note_of rules s).verdict k) i
     (sym (ap (λ x. has x i) (note_of-takers rules s f h)) ∙ took) in
     let outer = and_parts (runs (node_at s.nodes i) && not (sends f (node_at s.nodes i))) (lets_accept (slot_note_of rules s).verdict i) passes in
     let inner = and_parts (runs (node_at s.nodes i)) (not (sends f (node_at s.nodes i))) outer.0 in
@@ -173,10 +171,10 @@ pub running_takes : (rules : FaultScript) (s : RunState) (f : FrameParts) (i : �
     → lets_accept (slot_note_of rules s).verdict i ≡ true → has (slot_note_of rules s).takers i ≡ true
 running_takes rules s f i few h running silent lets =
     let quiet : sends f (node_at s.nodes i) ≡ false =
-    sym (has_where (λ k. sends f (node_at s.nodes k)) i few)
+    sym (placed_where (λ k. sends f (node_at s.nodes k)) i few)
     ∙ sym (ap (λ x. has x i) (note_of-senders rules s f h)) ∙ silent in
     ap (λ x. has x i) (note_of-takers rules s f h)
-    ∙ has_where (λ k. runs (node_at s.nodes k) && not (sends f (node_at s.nodes k)) && lets_accept (slot_note_of rules s).verdict k) i few
+    ∙ placed_where (λ k. runs (node_at s.nodes k) && not (sends f (node_at s.nodes k)) && lets_accept (slot_note_of rules s).verdict k) i few
     ∙ and_from (runs (node_at s.nodes i) && not (sends f (node_at s.nodes i))) (lets_accept (slot_note_of rules s).verdict i)
     (and_from (runs (node_at s.nodes i)) (not (sends f (node_at s.nodes i))) running (not_from_false (sends f (node_at s.nodes i)) quiet)) lets
 

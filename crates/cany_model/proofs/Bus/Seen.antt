@@ -1,7 +1,7 @@
 -- The trace as an incarnation sees it: idle before its first slot, and where a slot carries a vector of a cycle before its first.
 use Rattle.std.proofs.Common.{◌≡◌, ℕ, zero, suc, ◌+◌, ◌-◌, ◌<◌, ◌≤◌, ◌==◌, ◌&&◌, ◌||◌, ◌⊎◌, inl, inr, Bool, true, false, not, nat_lt, if◌then◌else◌, List, [], ◌∷◌, map, drop, take, count_by, length, None, Some, refl, ap, sym, ◌∙◌, subst, arith}
 use Rattle.std.specs.List.{AllByRecursion}
-use Rattle.std.proofs.lemmas.Bool.{and_from, and_parts, both_ways, cases_Bool, eq-eqb, eqb-false, false_from_ne_true, le-ltb, lt-ltb, ltb-true, ne_eqb, not-true, not_from_false, or_cases, or_left, or_right}
+use Rattle.std.proofs.lemmas.Bool.{and_from, and_parts, and_right, both_ways, cases_Bool, eq-eqb, eqb-false, false_from_ne_true, le-ltb, lt-ltb, ltb-true, ne_eqb, not-true, not_from_false, or_cases, or_left, or_right}
 use Rattle.std.proofs.lemmas.List.{length-map}
 use Rattle.std.proofs.lemmas.List.Elements.{All-from_recursion, recursion_from_All}
 use Rattle.cany_base.specs.declared.class.Class.TheVariants as class
@@ -60,11 +60,7 @@ vector_hidden inc note later early =
 -- the others are not
 pub hidden_not : (inc : Incarnation) (note : SlotNote) → inc.from ≤ note.slot → carries_early inc.cycle note ≡ false → is_hidden inc note ≡ false
 unfolding is_hidden
-hidden_not inc note late plain = rw (le-ltb note.slot inc.from late, plain) (never (not (inc.number == 0)))
-  where
-    never : (b : Bool) → (b && false) ≡ false
-    never true = refl
-    never false = refl
+hidden_not inc note late plain = rw (le-ltb note.slot inc.from late, plain) (and_right (not (inc.number == 0)) false refl)
 
 -- why a slot is hidden
 pub hidden_why : (inc : Incarnation) (note : SlotNote) → is_hidden inc note ≡ true
@@ -98,6 +94,13 @@ seen_one P never inc note h = elim (cases_Bool (is_hidden inc note)) [
   | inl hidden ↦ absurd (never (as_seen inc note) (seen_hidden inc note hidden) h)
   | inr plain ↦ (plain, subst P (seen_plain inc note plain) h)
 ]
+
+-- what is seen to be carried was
+pub seen_frame : (inc : Incarnation) (note : SlotNote) (f : FrameParts) → (as_seen inc note).frame ≡ Some f → note.frame ≡ Some f
+seen_frame inc note f h = (seen_one (λ n. n.frame ≡ Some f) idle inc note h).1
+  where
+    idle : (n : SlotNote) → n.frame ≡ None → n.frame ≡ Some f → ⊥
+    idle n none some = cc
 
 -- ---- a trace
 

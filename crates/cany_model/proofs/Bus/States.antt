@@ -1,5 +1,6 @@
 -- Nodes by number, and notes by age.
-use Rattle.std.specs.Prelude.{◌≡◌, ℕ, zero, suc, ◌+◌, ◌<◌, ◌≤◌, ◌≢◌, true, List, [], ◌∷◌, None, length, slice_index_or, slice_set, refl}
+use Rattle.std.specs.Prelude.{◌≡◌, ℕ, zero, suc, ◌+◌, ◌<◌, ◌≤◌, ◌≢◌, true, List, [], ◌∷◌, ◌++◌, None, length, slice_index_or, slice_set, refl}
+use Rattle.std.specs.List.{AllByRecursion}
 use Rattle.std.proofs.Common.{sym, ap, ◌∙◌, inl, inr, arith, add-zero}
 use Rattle.std.proofs.lemmas.Bool.{false≢true, cases_lt}
 use Rattle.std.proofs.lemmas.List.{get_or-set_same, get_or-set_other, get_or_past, get_or-replicate}
@@ -16,6 +17,12 @@ no_note = record { slot = 0; frame = None; senders = nobody; takers = nobody; ve
 -- the note at an age: 0 is the age of the newest slot
 abbrev pub note_at : List SlotNote → ℕ → SlotNote
 note_at trace age = slice_index_or trace age no_note
+
+-- what holds of each note of the newer slots holds of the notes at their ages
+pub each_in_front : (P : SlotNote → Type 0) (xs ys : List SlotNote) (age : ℕ) → AllByRecursion P xs → age < length xs → P (note_at (xs ++ ys) age)
+each_in_front P [] ys age h below = absurd (omega (arith, below))
+each_in_front P (x ∷ xs) ys zero h below = h.0
+each_in_front P (x ∷ xs) ys (suc age) h below = each_in_front P xs ys age h.1 (omega (arith, below))
 
 pub node_at_past : (nodes : List NodeState) (i : ℕ) → length nodes ≤ i → node_at nodes i ≡ absent
 unfolding node_at

@@ -1,6 +1,6 @@
 -- Eager diffusion: a node that is to send a frame waits with it, or the frame was carried with success, or the node read
 -- more than omit copies of it. All of it is said of the trace, a node's number and that node's state.
-use Rattle.std.proofs.Common.{◌≡◌, ℕ, ◌<◌, ◌≤◌, ◌⊎◌, inl, inr, true, false, List, ◌∷◌, map, drop, Some, Contains, ap, sym, subst, arith}
+use Rattle.std.proofs.Common.{◌≡◌, ℕ, ◌<◌, ◌≤◌, ◌⊎◌, inl, inr, true, false, List, ◌∷◌, map, drop, Some, Contains, ap, sym, subst, arith, suc}
 use Rattle.cany_base.specs.Limits.{most_nodes}
 use Rattle.std.specs.List.{AllByRecursion}
 use Rattle.std.proofs.lemmas.Bool.{both_ways}
@@ -17,7 +17,7 @@ use Rattle.cany_model.specs.Bus.History.{given, copies, has_own, is_got, is_sent
 use Rattle.cany_model.specs.Promises.Hypothesis.{IsWithin}
 use Rattle.cany_model.specs.Bus.State.{NodeState}
 use Rattle.cany_model.specs.Bus.Waiting.{waits, without}
-use Rattle.cany_model.proofs.Among.{Among, Among-weaker, Among-with, Among-drop, Among-map, Among-either, Among-from_count, Each-weaker, count-grows}
+use Rattle.cany_model.proofs.Among.{Among, Among-weaker, Among-with, Among-drop, Among-map, Among-either, Among-from_count, Each-weaker, count-grows, count-yes}
 use Rattle.cany_model.proofs.Bus.Carried.{Succeeds, CarriesClean, SentBy, Succeeds-from_own, Succeeds-from_sent, is_got-from, is_sent-from}
 use Rattle.cany_model.proofs.Bus.Counting.{Accepts, clean_from_copies, clean_from_success}
 use Rattle.cany_model.proofs.Bus.Notes.{given-Sent}
@@ -75,6 +75,10 @@ pub record Turned (turn : ℕ → List NoticeKind → List Effect) (trace : List
 pub copies_grow : (x : Identity) (e : NoticeKind) (past : List NoticeKind) → copies x past ≤ copies x (e ∷ past)
 unfolding copies
 copies_grow x e past = count-grows (is_got x) e past
+
+pub copies_got : (x : Identity) (e : NoticeKind) (past : List NoticeKind) → is_got x e ≡ true → copies x (e ∷ past) ≡ suc (copies x past)
+unfolding copies
+copies_got x e past h = count-yes (is_got x) e past h
 
 pub own_carried : (x : Identity) (i : ℕ) (trace : List SlotNote) (unread : ℕ) → has_own x (map (given i) (drop unread trace)) ≡ true → Among (Succeeds x) trace
 own_carried x i trace unread h = Among-drop (Succeeds x) unread trace (Succeeds-from_own i x (drop unread trace) h)

@@ -1,5 +1,5 @@
 -- Agreement of EDCAN: each node that got the frame of a message is to send it.
-use Rattle.std.proofs.Common.{◌≡◌, ℕ, suc, ◌<◌, ◌≤◌, ◌⊎◌, inl, inr, true, false, List, ◌∷◌, Contains, ap, sym, subst, arith}
+use Rattle.std.proofs.Common.{◌≡◌, ℕ, ◌<◌, ◌≤◌, ◌⊎◌, inl, inr, true, false, List, ◌∷◌, Contains, ap, sym, subst, arith}
 use Rattle.cany_base.specs.Limits.{most_nodes}
 use Rattle.std.proofs.lemmas.Bool.{cases_lt, cases_Bool}
 use Rattle.cany_base.specs.declared.class.Class.TheVariants as class
@@ -20,8 +20,8 @@ use Rattle.cany_model.specs.Rules.Sends.{is_sent_at_once}
 use Rattle.cany_model.specs.Rules.Turn.{scenario_for, turn_effects}
 use Rattle.cany_model.proofs.Promises.Agreement.{owed_carried}
 use Rattle.cany_model.proofs.Promises.Agrees.{Owes, Rules, duty_of, run_agrees}
-use Rattle.cany_model.proofs.Among.{Among, count-yes, count-no}
-use Rattle.cany_model.proofs.Promises.Diffusion.{IsDiffused, copies_grow}
+use Rattle.cany_model.proofs.Among.{Among, count-no}
+use Rattle.cany_model.proofs.Promises.Diffusion.{IsDiffused, copies_got, copies_grow}
 use Rattle.cany_model.proofs.Rules.MessageKeys.{IsOneOf}
 use Rattle.cany_model.proofs.Rules.TurnFacts.{asks_at_its_slot, turn_withdraws, turn_cause_data, turn_relays}
 use Rattle.cany_model.proofs.Runs.Waits.{Asks}
@@ -34,10 +34,6 @@ use Rattle.cany_model.proofs.Rules.Protocols.{edcan_is_one}
 -- a node is to send the frame of an EDCAN message once it got a copy, or as origin once it has read its slot
 abbrev pub OwesEd : Message → Owes
 OwesEd m scenario i past = (0 < copies (data_id m) past) ⊎ MayStart scenario m i past
-
-pub copies_got : (x : Identity) (e : NoticeKind) (past : List NoticeKind) → is_got x e ≡ true → copies x (e ∷ past) ≡ suc (copies x past)
-unfolding copies
-copies_got x e past h = count-yes (is_got x) e past h
 
 pub copies_other : (x : Identity) (e : NoticeKind) (past : List NoticeKind) → is_got x e ≡ false → copies x (e ∷ past) ≡ copies x past
 unfolding copies

@@ -8,7 +8,7 @@ use Rattle.cany_base.specs.Frame.{FrameParts, class_number}
 use Rattle.cany_model.specs.Bus.Frames.{is_before, same_class}
 use Rattle.cany_model.specs.Bus.Slot.{FaultScript, better, least_frame, offered, slot_note_of, winner}
 use Rattle.cany_model.specs.Bus.State.{NodeState, RunState, node_at, runs}
-use Rattle.cany_model.proofs.Among.{Each-weaker}
+use Rattle.cany_model.proofs.Among.{Each-first, Each-second, Each-weaker}
 use Rattle.cany_model.proofs.Bus.Notes.{note_of-frame}
 
 -- ---- the order of frames
@@ -94,13 +94,9 @@ all_offered : (P : FrameParts → Type 0) (node : NodeState) (rest : List FrameP
     → (runs node ≡ true → AllByRecursion P node.waiting) × AllByRecursion P rest
 all_offered P node rest h = by_run (runs node) h
   where
-    parts : (w : List FrameParts) → AllByRecursion P (w ++ rest) → AllByRecursion P w × AllByRecursion P rest
-    parts [] h = (tt, h)
-    parts (f ∷ w) h = let p = parts w h.1 in ((h.0, p.0), p.1)
-
     by_run : (b : Bool) → AllByRecursion P ((if b then node.waiting else []) ++ rest)
         → (b ≡ true → AllByRecursion P node.waiting) × AllByRecursion P rest
-    by_run true h = let p = parts node.waiting h in (λ running. p.0, p.1)
+    by_run true h = (λ running. Each-first P node.waiting rest h, Each-second P node.waiting rest h)
     by_run false h = (λ running. absurd (false≢true running), h)
 
 each_offered : (P : FrameParts → Type 0) (nodes : List NodeState) → AllByRecursion P (flat_map offered nodes)

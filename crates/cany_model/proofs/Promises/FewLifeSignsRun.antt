@@ -14,12 +14,12 @@ use Rattle.cany_model.specs.Bus.State.{Incarnation, NodeState, RunState, node_at
 use Rattle.cany_model.specs.Rules.Turn.{scenario_for, turn_effects}
 use Rattle.cany_model.proofs.Runs.Journals.{FewUnread, unread_at_first, unread_kept}
 use Rattle.cany_model.proofs.Bus.Notes.{given-Sent}
-use Rattle.cany_model.proofs.Runs.Runs.{IsKept, IsOrderly, along_run}
+use Rattle.cany_model.proofs.Runs.Runs.{IsOrderly, along_run}
 use Rattle.cany_model.proofs.Bus.Seen.{seen_one}
 use Rattle.cany_model.proofs.Runs.Steps.{MayTurn, after_turn-node, after_turn-other, after_turn-present, after_turn-runs, after_turn-trace}
 use Rattle.cany_model.proofs.Promises.Diffusion.{Lived, Turned}
 use Rattle.cany_model.proofs.Promises.EachNode.{EachRunning, IsNew, each_restarts, each_slot, opening_new, slot_lived, turn_turned}
-use Rattle.cany_model.proofs.Promises.OwnSlotsAlone.{AllWaitForOwnSlots, own_slots_alone_opening, own_slots_alone_kept}
+use Rattle.cany_model.proofs.Promises.OwnSlotsAlone.{AllWaitForOwnSlots, own_slots_alone_opening, own_slots_alone_steps}
 use Rattle.cany_model.proofs.Promises.FewLifeSignsOrder.{NoneBefore, carried_first}
 
 -- what a slot gave the node as sent was the first of the frames that it waited with
@@ -65,27 +65,23 @@ module _ (scenario : ScenarioParts) (P : List SlotNote → ℕ → NodeState →
         | inr other ↦ rw (after_turn-other scenario i s j other) (all j (sym (after_turn-runs scenario i s j may (o.unread i)) ∙ running))
       ])
 
-  -- each node is own_slots_alone
-  abbrev own_slots_alone : IsKept scenario (λ s. AllWaitForOwnSlots s × Unit {0})
-  own_slots_alone = own_slots_alone_kept scenario (λ s. Unit {0}) (record { slot = λ s o all p. tt; restarts = λ s o some p. tt; turn = λ s i o may p. tt })
-
   abbrev Known : RunState → Type 0
-  Known s = (AllWaitForOwnSlots s × Unit {0}) × (FewUnread scenario s × EachRunning P s)
+  Known s = AllWaitForOwnSlots s × (FewUnread scenario s × EachRunning P s)
 
   -- so it holds of each running node of every run
   pub each_within : (journal : List Step) → EachRunning P (run scenario journal)
   each_within journal =
       (along_run scenario Known
-      ((own_slots_alone_opening scenario.params.nodes, tt), (unread_at_first scenario, λ i running. is.new _ i _ (opening_new scenario i running)))
+      (own_slots_alone_opening scenario.params.nodes, (unread_at_first scenario, λ i running. is.new _ i _ (opening_new scenario i running)))
       (record {
         slot = λ s o may h. (
-          own_slots_alone.slot s o may h.0,
-          ((unread_kept scenario).slot s o may h.1.0, within_slot (script scenario.rules) s h.0.0 h.1.1),
+          (own_slots_alone_steps scenario).slot s o may h.0,
+          ((unread_kept scenario).slot s o may h.1.0, within_slot (script scenario.rules) s h.0 h.1.1),
         );
         restarts = λ s o some h. (
-          own_slots_alone.restarts s o some h.0,
+          (own_slots_alone_steps scenario).restarts s o some h.0,
           ((unread_kept scenario).restarts s o some h.1.0, each_restarts scenario P is.new s o some h.1.1),
         );
-        turn = λ s i o may h. (own_slots_alone.turn s i o may h.0, ((unread_kept scenario).turn s i o may h.1.0, within_turn s i may o h.1.0 h.1.1));
+        turn = λ s i o may h. ((own_slots_alone_steps scenario).turn s i o may h.0, ((unread_kept scenario).turn s i o may h.1.0, within_turn s i may o h.1.0 h.1.1));
       })
       journal).1.1

@@ -1,5 +1,5 @@
 -- Integrity of every run: no message is delivered twice, or without having been sent.
-use Rattle.std.specs.Prelude.{◌≡◌, ℕ, suc, ◌+◌, ◌-◌, ◌/◌, ◌<◌, ◌≤◌, ◌==◌, true, List, Some, None, length, drop, count_by, Contains}
+use Rattle.std.specs.Prelude.{◌≡◌, ℕ, suc, ◌+◌, ◌-◌, ◌/◌, ◌<◌, ◌≤◌, ◌==◌, true, List, Some, length, drop, count_by, Contains}
 use Rattle.cany_base.specs.Limits.{most_nodes}
 use Rattle.std.proofs.Common.{sym, ap, ◌∙◌, subst, inl, inr, arith, length-drop, eqb-true}
 use Rattle.std.proofs.lemmas.Bool.{and_parts}
@@ -10,7 +10,6 @@ use Rattle.cany_base.specs.declared.log_entry.LogEntry.TheVariants.{Deliver, Fai
 use Rattle.cany_base.specs.declared.message.MsgKey.{MsgKey}
 use Rattle.cany_base.specs.declared.message.Service.{Service}
 use Rattle.cany_base.specs.declared.notice.NoticeKind.TheVariants.{Got, Idle}
-use Rattle.cany_base.specs.declared.slot_note.SlotNote.{SlotNote}
 use Rattle.cany_base.specs.declared.step.Step.{Step}
 use Rattle.cany_base.specs.Frame.{FrameParts, data_class}
 use Rattle.cany_base.specs.Scenario.{ScenarioParts}
@@ -29,7 +28,7 @@ use Rattle.cany_model.specs.Rules.Turn.{scenario_at}
 use Rattle.cany_model.proofs.Among.{Among, Among-from_Contains, Among-from_count, Among-get_or, Among-place, Among-weaker}
 use Rattle.cany_model.proofs.Bus.Carried.{Carries, Has, frame_of_notice}
 use Rattle.cany_model.proofs.Runs.Runs.{IsOrderly, orderly, history-length, history-at}
-use Rattle.cany_model.proofs.Bus.Seen.{seen_one}
+use Rattle.cany_model.proofs.Bus.Seen.{seen_frame}
 use Rattle.cany_model.proofs.Bus.States.{no_note, note_at}
 use Rattle.cany_model.proofs.Promises.WaitingIsAskable.{AllBelong, all_belong, fda_names, readable_later}
 use Rattle.cany_model.proofs.Promises.OneFrame.{data_carries, one_service}
@@ -45,13 +44,6 @@ record WasCarried (s : RunState) (f : FrameParts) (slot : ℕ) : Type 0 where
   below : age < length s.trace
   frame : (note_at s.trace age).frame ≡ Some f
   by_then : (note_at s.trace age).slot ≤ slot
-
--- a slot that an incarnation sees to carry a frame carried it
-seen_frame : (inc : Incarnation) (note : SlotNote) (f : FrameParts) → (as_seen inc note).frame ≡ Some f → note.frame ≡ Some f
-seen_frame inc note f h = (seen_one (λ n. n.frame ≡ Some f) idle inc note h).1
-  where
-    idle : (n : SlotNote) → n.frame ≡ None → n.frame ≡ Some f → ⊥
-    idle n none some = cc
 
 read_carried : (nodes : ℕ) (s : RunState) (i : ℕ) → IsOrderly nodes s → (f : FrameParts) (place slot : ℕ) → length (drop place (history i s)) ≡ suc slot
     → Among (Has f) (drop place (history i s)) → WasCarried s f slot

@@ -1,15 +1,15 @@
 -- While vectors of a cycle are exchanged, each vector of the cycle that a node waits with or has sent has all nodes of its present one:
 -- the node sends the one that it has after a turn, and that only loses nodes.
-use Rattle.std.proofs.Common.{◌≡◌, ℕ, suc, ◌*◌, ◌≤◌, ◌⊎◌, inl, inr, true, false, ◌&&◌, List, ◌∷◌, drop, length, Option, Some, None, ap, sym, subst, arith}
+use Rattle.std.proofs.Common.{◌≡◌, ℕ, suc, ◌*◌, ◌≤◌, ◌⊎◌, inl, inr, true, false, List, ◌∷◌, drop, length, Option, Some, None, ap, sym, subst, arith}
 use Rattle.std.specs.List.{AllByRecursion}
-use Rattle.std.proofs.lemmas.Bool.{and_parts, cases_lt}
+use Rattle.std.proofs.lemmas.Bool.{cases_lt}
 use Rattle.cany_base.specs.declared.class.Class.TheVariants as class
 use Rattle.cany_base.specs.declared.notice.NoticeKind.{NoticeKind}
 use Rattle.cany_base.specs.declared.notice.NoticeKind.TheVariants.{Sent}
 use Rattle.cany_base.specs.declared.slot_note.SlotNote.{SlotNote}
 use Rattle.cany_base.specs.declared.step.Step.{Step}
 use Rattle.cany_base.specs.Frame.{FrameParts}
-use Rattle.cany_base.specs.Nodes.{Nodes, has}
+use Rattle.cany_base.specs.Nodes.{Nodes}
 use Rattle.cany_base.specs.Params.{Parameters}
 use Rattle.cany_base.specs.Payload.{vector_bytes}
 use Rattle.cany_base.specs.Scenario.{ScenarioParts}
@@ -21,8 +21,9 @@ use Rattle.cany_model.specs.Rules.KnowledgeOf.{knowledge_of}
 use Rattle.cany_model.specs.Rules.Turn.{scenario_for, turn_effects}
 use Rattle.cany_model.specs.Rules.Vectors.{brought, met}
 use Rattle.cany_base.specs.Cycles.{is_end, is_start}
+use Rattle.cany_base.proofs.SetFacts.{meet_both}
 use Rattle.cany_model.proofs.Among.{Each-of, Each-weaker, Among-from_Contains}
-use Rattle.cany_model.proofs.Bus.Notes.{given-Sent, those_where_pass}
+use Rattle.cany_model.proofs.Bus.Notes.{given-Sent}
 use Rattle.cany_model.proofs.Runs.Waits.{Each-after, Each-kept}
 use Rattle.cany_model.proofs.Promises.Diffusion.{Lived, Turned, past_of}
 use Rattle.cany_model.proofs.Promises.EachNode.{EachRunning, IsNew, IsNodes, each_running}
@@ -135,7 +136,7 @@ carries_met scenario i e past (Some v) None f h =
 carries_met scenario i e past (Some v) (Some w) f h = record {
   what = h.what;
   payload = h.payload;
-  part = λ r left. h.part r (and_parts (has v r) (has w r) (those_where_pass (λ q. has v q && has w q) r left)).0;
+  part = λ r left. h.part r (meet_both v w r left).0;
   place = suc h.place;
   had = h.had;
 }

@@ -6,12 +6,13 @@ use Rattle.std.proofs.lemmas.Bool.{both_ways, cases_eq, false_from_ne_true, ne_e
 use Rattle.cany_base.specs.declared.notice.NoticeKind.{NoticeKind}
 use Rattle.cany_base.specs.declared.notice.NoticeKind.TheVariants.{Idle, Got, Sent, Bad}
 use Rattle.cany_base.specs.declared.slot_note.SlotNote.{SlotNote}
+use Rattle.cany_base.specs.declared.step.Step.{Step}
 use Rattle.cany_base.specs.Frame.{FrameParts}
 use Rattle.cany_base.specs.Nodes.{has, nobody}
 use Rattle.cany_base.specs.Scenario.{ScenarioParts}
 use Rattle.cany_model.specs.Bus.History.{carries_early, given, history, is_hidden}
 use Rattle.cany_model.specs.Bus.Restart.{after_restarts}
-use Rattle.cany_model.specs.Runs.Run.{after_turn}
+use Rattle.cany_model.specs.Runs.Run.{after_turn, run}
 use Rattle.cany_model.specs.Bus.Slot.{FaultScript, after_slot, script, slot_note_of}
 use Rattle.cany_model.specs.Bus.State.{Incarnation, NodeState, RunState, node_at, opening, runs}
 use Rattle.cany_model.specs.Rules.Effect.{waiting_after}
@@ -20,7 +21,7 @@ use Rattle.cany_model.specs.Rules.Turn.{scenario_for, turn_effects}
 use Rattle.cany_model.proofs.Among.{Among-from_Contains, Contains-none, Each-of}
 use Rattle.cany_model.proofs.Bus.Notes.{note_of-slot, sender_waits}
 use Rattle.cany_model.proofs.Bus.Restarts.{after_restarts-trace, restarts_or_stays}
-use Rattle.cany_model.proofs.Runs.Runs.{IsKept, IsOrderly, history-length, opening_within}
+use Rattle.cany_model.proofs.Runs.Runs.{IsKept, IsOrderly, along_run, history-length, opening_within}
 use Rattle.cany_model.proofs.Bus.Seen.{HearsNoEarly, IsSeenPast, Numbered, carries_frame, hears_no_early_of, hidden_why, history-is, seen_past_of}
 use Rattle.cany_model.proofs.Bus.States.{node_at-opening, note_at, runs_within}
 use Rattle.cany_model.proofs.Runs.Steps.{MayTurn, after_slot-present, after_slot-trace, after_slot-waiting, after_turn-history, after_turn-node, after_turn-other, after_turn-present, after_turn-runs, after_turn-trace, kept_at, next_notice, running_before_slot}
@@ -161,7 +162,7 @@ own_slots_alone_turn scenario i s may_turn o all =
         (λ f may. asks_late sc inc.cycle i (next_notice s i ∷ history i s) f (members_later scenario inc later)
         (after_turn-hears scenario scenario.params.nodes i s may_turn o later) may)
 
-own_slots_alone_turns : (scenario : ScenarioParts) (i : ℕ) (s : RunState) → MayTurn s i → IsOrderly scenario.params.nodes s → AllWaitForOwnSlots s
+pub own_slots_alone_turns : (scenario : ScenarioParts) (i : ℕ) (s : RunState) → MayTurn s i → IsOrderly scenario.params.nodes s → AllWaitForOwnSlots s
     → AllWaitForOwnSlots (after_turn scenario i s)
 own_slots_alone_turns scenario i s may o all j running =
     subst (λ trace. WaitsForOwnSlots trace (node_at (after_turn scenario i s).nodes j)) (sym (after_turn-trace scenario i s)) (elim (cases_eq j i) [
@@ -171,13 +172,27 @@ own_slots_alone_turns scenario i s may o all j running =
 
 -- ---- every run
 
--- what a done step keeps, where each running node is own_slots_alone
-pub record IsKeptFairly (scenario : ScenarioParts) (P : RunState → Type 0) : Type 0 where
+-- each done step keeps that the running nodes wait for own slots alone
+pub own_slots_alone_steps : (scenario : ScenarioParts) → IsKept scenario AllWaitForOwnSlots
+own_slots_alone_steps scenario = record {
+  slot = λ s o may all. own_slots_alone_slot (script scenario.rules) s all;
+  restarts = λ s o some all. own_slots_alone_restarts scenario s all;
+  turn = λ s i o may all. own_slots_alone_turns scenario i s may o all;
+}
+
+-- so they do in every run
+pub own_slots_alone_run : (scenario : ScenarioParts) (journal : List Step) → AllWaitForOwnSlots (run scenario journal)
+own_slots_alone_run scenario =
+    along_run scenario AllWaitForOwnSlots (own_slots_alone_opening scenario.params.nodes) (own_slots_alone_steps scenario)
+
+-- what a done step keeps, where each running node waits for own slots alone
+pub record IsKeptWithOwnSlots (scenario : ScenarioParts) (P : RunState → Type 0) : Type 0 where
   pub slot : (s : RunState) → IsOrderly scenario.params.nodes s → AllWaitForOwnSlots s → P s → P (after_slot (script scenario.rules) s)
   pub restarts : (s : RunState) → IsOrderly scenario.params.nodes s → 0 < length s.trace → P s → P (after_restarts scenario s)
   pub turn : (s : RunState) (i : ℕ) → IsOrderly scenario.params.nodes s → MayTurn s i → P s → P (after_turn scenario i s)
 
-pub own_slots_alone_kept : (scenario : ScenarioParts) (P : RunState → Type 0) → IsKeptFairly scenario P → IsKept scenario (λ s. AllWaitForOwnSlots s × P s)
+pub own_slots_alone_kept : (scenario : ScenarioParts) (P : RunState → Type 0) → IsKeptWithOwnSlots scenario P
+    → IsKept scenario (λ s. AllWaitForOwnSlots s × P s)
 own_slots_alone_kept scenario P keeps = record {
   slot = λ s o may h. (own_slots_alone_slot (script scenario.rules) s h.0, keeps.slot s o h.0 h.1);
   restarts = λ s o some h. (own_slots_alone_restarts scenario s h.0, keeps.restarts s o some h.1);

@@ -2,7 +2,7 @@
 use Rattle.std.proofs.Common.{◌≡◌, ℕ, ◌<◌, ◌≤◌, ◌==◌, ◌&&◌, List, drop, length, Option, Some, None, refl, ap, sym, ◌∙◌, subst, arith}
 use Rattle.std.specs.Int.{from_be_bytes}
 use Rattle.std.specs.List.{AllByRecursion}
-use Rattle.std.proofs.lemmas.Bool.{cond_both, false≢true}
+use Rattle.std.proofs.lemmas.Bool.{cond_both}
 use Rattle.cany_base.specs.Limits.{most_nodes}
 use Rattle.cany_base.specs.declared.class.Class.TheVariants as class
 use Rattle.cany_base.specs.declared.format.Format.{Format}
@@ -16,7 +16,7 @@ use Rattle.cany_base.specs.Nodes.{Nodes, AllBelow}
 use Rattle.cany_base.specs.Params.{IsInRange, Parameters}
 use Rattle.cany_base.specs.Payload.{vector_bytes, vector_of, vector_width}
 use Rattle.cany_base.specs.Scenario.{ScenarioParts}
-use Rattle.cany_base.proofs.NodesFacts.{bits-lt, has_none}
+use Rattle.cany_base.proofs.NodesFacts.{bits-lt}
 use Rattle.cany_base.proofs.ParamsFacts.{few_nodes}
 use Rattle.cany_base.proofs.PayloadFacts.{bits-back}
 use Rattle.cany_model.specs.Bus.Frames.{same_class}
@@ -24,7 +24,7 @@ use Rattle.cany_model.specs.Bus.History.{history, seen}
 use Rattle.cany_model.specs.Runs.Run.{run}
 use Rattle.cany_model.specs.Bus.State.{Incarnation, NodeState, RunState, node_at}
 use Rattle.cany_model.specs.Rules.Notices.{CarriesMore, IsPart, IsReadable, IsReadableVector, IsSentWithMore}
-use Rattle.cany_model.specs.Rules.Turn.{scenario_at, scenario_for}
+use Rattle.cany_model.specs.Rules.Turn.{scenario_at}
 use Rattle.cany_model.specs.Rules.Vectors.{vector_in}
 use Rattle.cany_base.specs.Cycles.{cycle_of}
 use Rattle.cany_model.proofs.Among.{Among-get_or, Each-of}
@@ -39,7 +39,7 @@ use Rattle.cany_model.proofs.Promises.OwnSlotsAlone.{run_numbered}
 use Rattle.cany_model.proofs.Promises.KeptVectors.{CarriesVector, CoversVector, IsSentWith, kept_vectors, vector_at}
 use Rattle.cany_model.proofs.Promises.LateVectors.{IsReadLate, notice_late}
 use Rattle.cany_model.proofs.Rules.CycleFacts.{IsExchangeOf, exchange_slot}
-use Rattle.cany_model.proofs.Rules.KnowledgeNodes.{IsVectorOfBus, knowledge_of_bus}
+use Rattle.cany_model.proofs.Rules.KnowledgeNodes.{IsVectorOfBus, first_members, knowledge_of_bus}
 
 -- ---- the vector that a frame carries
 
@@ -65,13 +65,6 @@ in_payload format cycle f w h =
     (λ o. o ≡ Some w → vector_of format f.payload ≡ Some w) (λ _ some. some) (λ _ none. cc) h
 
 -- ---- what a node has read names nodes of the bus
-
--- so an incarnation's first members are, where those of the scenario are
-members_for : (scenario : ScenarioParts) (inc : Incarnation) → AllBelow scenario.params.nodes scenario.members
-    → AllBelow scenario.params.nodes (scenario_for scenario inc).members
-members_for scenario inc below =
-    cond_both (inc.number == 0) scenario.members (record { bits = 0 }) (AllBelow scenario.params.nodes) (λ _. below)
-    (λ _ r h. absurd (false≢true (sym (has_none r) ∙ h)))
 
 history_readable : (scenario : ScenarioParts) (journal : List Step) → scenario.params.nodes ≤ most_nodes → (i : ℕ)
     → let s = run scenario journal in EachRead (IsReadable (scenario_at scenario s i)) (history i s)
@@ -143,7 +136,7 @@ module _ (scenario : ScenarioParts) (range : IsInRange scenario.params) (first :
         let sent = own_sent (exchange_slot p slot exchange) in
         let covers = Each-of (IsSentWith (CoversVector sc (cycle_of p slot) i (history i s)) i) note trace sent
         (Among-get_or (λ n. n ≡ note) trace (next_age s i) no_note below refl) f is in
-        carries_more sc i (history i s) range.nodes.1 (members_for scenario node.present first)
+        carries_more sc i (history i s) range.nodes.1 (first_members scenario node.present first)
         (history_readable scenario journal (few_nodes p range) i)
         (cycle_of p slot) f (vector_at sc i (history i s)) (covers rha number)
 

@@ -28,11 +28,11 @@ use Rattle.cany_model.proofs.Rules.PlaceFacts.{any_more}
 use Rattle.cany_model.proofs.Rules.ProtocolFacts.{IsLawful, asks_named}
 use Rattle.cany_model.proofs.Rules.SendFacts.{is_sent_in-true, sendable_one, sends_are_lawful, sends_ask, sent_of}
 
-both_true : (a b : Bool) → (a ≡ true → b ≡ true) → (b ≡ true → a ≡ true) → a ≡ b
-both_true true true f g = refl
-both_true true false f g = sym (f refl)
-both_true false true f g = g refl
-both_true false false f g = refl
+pub same_answer : (a b : Bool) → (a ≡ true → b ≡ true) → (b ≡ true → a ≡ true) → a ≡ b
+same_answer true true f g = refl
+same_answer true false f g = sym (f refl)
+same_answer false true f g = g refl
+same_answer false false f g = refl
 
 asks_for-true : (x : Identity) (e : Effect) → asks_for x e ≡ true → Asks x e
 asks_for-true x (Ask f) h = same_identity-true x (identity_of f) h
@@ -83,7 +83,7 @@ asked_in scenario m i e past is at_once =
     ∙ ap (λ b. list_any (asks_for (data_id m)) (send_effects scenario i (e ∷ past)) || b)
     (none_asked tot_backlog backlog_is_lawful scenario i (data_id m) (e ∷ past) (not_backlog m.service at_once))
     ∙ or-false (list_any (asks_for (data_id m)) (send_effects scenario i (e ∷ past)))
-    ∙ both_true (list_any (asks_for (data_id m)) (send_effects scenario i (e ∷ past))) (is_sent_in i (length past) m && not (nat_lt m.slot scenario.from))
+    ∙ same_answer (list_any (asks_for (data_id m)) (send_effects scenario i (e ∷ past))) (is_sent_in i (length past) m && not (nat_lt m.slot scenario.from))
     (λ h.
     let sent = sent_of scenario i (length past) m is (sendable scenario (length past)) (sendable_one scenario (length past))
     (Among-weaker (λ a. asks_for (data_id m) a ≡ true) (Asks (data_id m)) (asks_for-true (data_id m)) (send_effects scenario i (e ∷ past))
@@ -101,7 +101,7 @@ asked_in scenario m i e past is at_once =
 
 one_slot_more : (slot n : ℕ) → (slot == n || nat_lt slot n) ≡ nat_lt slot (suc n)
 one_slot_more slot n =
-    both_true (slot == n || nat_lt slot n) (nat_lt slot (suc n))
+    same_answer (slot == n || nat_lt slot n) (nat_lt slot (suc n))
     (λ h. elim (or_cases (slot == n) (nat_lt slot n) h) [
       | inl now ↦ lt-ltb slot (suc n) (omega (arith, eqb-true slot n now))
       | inr before ↦ lt-ltb slot (suc n) (omega (arith, ltb-true slot n before))
@@ -152,7 +152,7 @@ is_next seq (Some k) = is_numbered seq k
 one_named : (scenario : ScenarioParts) (m : Message) (i slot : ℕ) → m.service ≡ Tot → m.origin ≡ i → (k : Message) → HasJoined scenario i slot k
     → is_of (data_id m) (data_frame k) ≡ is_numbered m.seq k
 one_named scenario m i slot tot origin k h =
-    both_true (is_of (data_id m) (data_frame k)) (is_numbered m.seq k)
+    same_answer (is_of (data_id m) (data_frame k)) (is_numbered m.seq k)
     (λ same. eq-eqb k.seq m.seq (sym (ap (λ (x : Identity). x.number) (same_identity-true (data_id m) (data_id k) same))))
     (λ same. same_identity-from (data_id m) (data_id k)
     (λ j. record { class = (ap data_class (tot ∙ sym h.tot)) j; number = (sym (eqb-true k.seq m.seq same)) j; node = (origin ∙ sym h.origin) j }))

@@ -17,7 +17,7 @@ use Rattle.cany_model.specs.Rules.Delivery.{brings, is_delivery, delivery, deliv
 use Rattle.cany_model.specs.Rules.Effect.{Effect, Ask, Withdraw, Enter, entered}
 use Rattle.cany_model.specs.Rules.Messages.{data_of}
 use Rattle.cany_model.specs.Rules.Protocol.{Protocol}
-use Rattle.cany_model.proofs.Among.{Among, Among-append_left, Among-append_right, Among-from_any, one_if}
+use Rattle.cany_model.proofs.Among.{Among, Among-append_left, Among-append_right, Among-from_any, one_at_most, one_if}
 use Rattle.cany_model.proofs.Bus.Carried.{Has, brings-true}
 use Rattle.cany_model.proofs.Bus.Identities.{same_class-true, same_class_self}
 use Rattle.cany_model.proofs.Rules.ProtocolFacts.{IsFounded, log_by}
@@ -149,14 +149,10 @@ count_log p by at_once scenario i key (notice ∷ before) =
     )
     (omega (arith, count_log p by at_once scenario i key before, count_at by i key notice before))
 
-one_if-few : (b : Bool) → one_if b ≤ 1
-one_if-few true = omega arith
-one_if-few false = omega arith
-
 pub delivers_once : (p : Protocol) (by : Service) → DeliversAtOnce p by → (scenario : ScenarioParts) (i : ℕ) (key : MsgKey) (past : List NoticeKind)
     → count_by (delivers_key key) (log_by p scenario i past) ≤ 1
 delivers_once p by at_once scenario i key past =
-    omega (arith, count_log p by at_once scenario i key past, one_if-few (is_brought i by key past))
+    omega (arith, count_log p by at_once scenario i key past, one_at_most (is_brought i by key past))
 
 -- ---- each that is brought
 

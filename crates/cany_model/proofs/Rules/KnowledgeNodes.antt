@@ -1,57 +1,40 @@
 -- What a node knows of members, of those that ask to join and of its vector names nodes of the bus alone.
-use Rattle.std.proofs.Common.{◌≡◌, ℕ, ◌<◌, ◌==◌, ◌&&◌, ◌||◌, inl, inr, Bool, true, not, nat_lt, if◌then◌else◌, List, [], ◌∷◌, length, Option, Some, None, refl, sym, ◌∙◌, subst, arith}
-use Rattle.std.proofs.lemmas.Bool.{and_parts, cond_both, eqb-true, false≢true, ltb-true, or_cases}
+use Rattle.std.proofs.Common.{◌≡◌, ℕ, ◌==◌, true, nat_lt, if◌then◌else◌, List, [], ◌∷◌, length, Option, Some, None, refl, sym, ◌∙◌, subst}
+use Rattle.std.proofs.lemmas.Bool.{cond_both, false≢true, ltb-true}
 use Rattle.cany_base.specs.declared.class.Class.TheVariants as class
 use Rattle.cany_base.specs.declared.notice.NoticeKind.{NoticeKind}
 use Rattle.cany_base.specs.declared.notice.NoticeKind.TheVariants.{Idle, Got, Sent, Bad}
-use Rattle.cany_base.specs.Nodes.{Nodes, AllBelow, has, those_where, meet, minus, plus, with_node}
+use Rattle.cany_base.specs.Nodes.{Nodes, AllBelow, nobody, has, minus, with_node}
 use Rattle.cany_base.specs.Params.{Parameters}
 use Rattle.cany_base.specs.Scenario.{ScenarioParts}
 use Rattle.cany_base.proofs.NodesFacts.{has_none}
+use Rattle.cany_base.proofs.SetFacts.{below_meet, below_minus, below_plus, below_with, has_where}
 use Rattle.cany_model.specs.Bus.Frames.{same_class}
+use Rattle.cany_model.specs.Bus.State.{Incarnation}
 use Rattle.cany_model.specs.Rules.Notices.{BelongsTo, IsReadable, NamesNode}
 use Rattle.cany_model.specs.Rules.KnowledgeOf.{after_notice, ended_in, after_asking, after_installing, met_in, start_in, knowledge_of}
 use Rattle.cany_model.specs.Rules.Knowledge.{Knowledge, after_finding}
+use Rattle.cany_model.specs.Rules.Turn.{scenario_for}
 use Rattle.cany_model.specs.Rules.Vectors.{brought, everybody, met}
 use Rattle.cany_base.specs.Cycles.{is_end, is_start}
 use Rattle.cany_model.specs.Rules.Views.{after_ask, start_of, start_vector, with_joiner, with_leaver}
 use Rattle.cany_model.proofs.Bus.Identities.{same_class-true}
-use Rattle.cany_model.proofs.Bus.Notes.{those_where_pass}
 use Rattle.cany_model.proofs.Rules.SignRooms.{AreRead}
 use Rattle.cany_model.proofs.Rules.KnowledgeSteps.{found_keeps, joiners_after, joiners_by, life_keeps, members_after, members_by, start_keeps, vector_after}
 
 -- ---- sets
 
-module _ (n : ℕ) where
-  where_below : (test : ℕ → Bool) → ((r : ℕ) → test r ≡ true → r < n) → AllBelow n (those_where test)
-  where_below test below r h = below r (those_where_pass test r h)
-
-  none_below : AllBelow n (record { bits = 0 })
-  none_below r h = absurd (false≢true (sym (has_none r) ∙ h))
-
-  meet_below : (a b : Nodes) → AllBelow n a → AllBelow n (meet a b)
-  meet_below a b below = where_below (λ r. has a r && has b r) (λ r h. below r (and_parts (has a r) (has b r) h).0)
-
-  minus_below : (a b : Nodes) → AllBelow n a → AllBelow n (minus a b)
-  minus_below a b below = where_below (λ r. has a r && not (has b r)) (λ r h. below r (and_parts (has a r) (not (has b r)) h).0)
-
-  plus_below : (a b : Nodes) → AllBelow n a → AllBelow n b → AllBelow n (plus a b)
-  plus_below a b first second = where_below (λ r. has a r || has b r) either
-    where
-      either : (r : ℕ) → (has a r || has b r) ≡ true → r < n
-      either r h = elim (or_cases (has a r) (has b r) h) [ inl here ↦ first r here | inr there ↦ second r there ]
-
-  with_node_below : (q : ℕ) (a : Nodes) → q < n → AllBelow n a → AllBelow n (with_node q a)
-  with_node_below q a small below = where_below (λ r. has a r || r == q) either
-    where
-      either : (r : ℕ) → (has a r || r == q) ≡ true → r < n
-      either r h = elim (or_cases (has a r) (r == q) h) [
-        | inl here ↦ below r here
-        | inr same ↦ omega (arith, eqb-true r q same, small)
-      ]
+none_below : (bound : ℕ) → AllBelow bound nobody
+none_below bound r h = absurd (false≢true (sym (has_none r) ∙ h))
 
 pub everybody_below : (p : Parameters) → AllBelow p.nodes (everybody p)
-everybody_below p = where_below p.nodes (λ r. nat_lt r p.nodes) (λ r h. ltb-true r p.nodes h)
+everybody_below p r h = ltb-true r p.nodes (has_where (λ q. nat_lt q p.nodes) r h)
+
+-- the first members of an incarnation are nodes of the bus, where those of the scenario are
+pub first_members : (scenario : ScenarioParts) (inc : Incarnation) → AllBelow scenario.params.nodes scenario.members
+    → AllBelow scenario.params.nodes (scenario_for scenario inc).members
+first_members scenario inc below =
+    cond_both (inc.number == 0) scenario.members nobody (AllBelow scenario.params.nodes) (λ _. below) (λ _. none_below scenario.params.nodes)
 
 -- ---- a vector
 
@@ -62,8 +45,8 @@ IsVectorOfBus p (Some v) = AllBelow p.nodes v
 met_below : (p : Parameters) (old o : Option Nodes) → IsVectorOfBus p old → IsVectorOfBus p (met p old o)
 unfolding met
 met_below p old None below = below
-met_below p None (Some w) below = meet_below p.nodes (everybody p) w (everybody_below p)
-met_below p (Some v) (Some w) below = meet_below p.nodes v w below
+met_below p None (Some w) below = below_meet p.nodes (everybody p) w (everybody_below p)
+met_below p (Some v) (Some w) below = below_meet p.nodes v w below
 
 -- ---- what a node knows
 
@@ -119,7 +102,7 @@ module _ (scenario : ScenarioParts) (i slot : ℕ) (e : NoticeKind) (st : Knowle
             subst (λ c. BelongsTo scenario slot c f) (same_class-true f.class class.Join is) names in
             cond_both (has knowledge.members f.node) knowledge (record knowledge { joiners = with_node f.node knowledge.joiners })
             (λ s. AllBelow p.nodes s.joiners)
-            (λ _. below) (λ _. with_node_below p.nodes f.node knowledge.joiners named.node below)
+            (λ _. below) (λ _. below_with p.nodes f.node knowledge.joiners named.node below)
 
     asked_below : AllBelow p.nodes (after_asking p i slot e st).joiners
     asked_below =
@@ -134,7 +117,7 @@ module _ (scenario : ScenarioParts) (i slot : ℕ) (e : NoticeKind) (st : Knowle
       where
         by_view : (o : Option Nodes) → AllBelow p.nodes (joiners_by o (after_asking p i slot e st).joiners)
         by_view None = asked_below
-        by_view (Some v) = minus_below p.nodes (after_asking p i slot e st).joiners v asked_below
+        by_view (Some v) = below_minus p.nodes (after_asking p i slot e st).joiners v asked_below
 
     start_below : IsVectorOfBus p (start_in p i slot e st)
     unfolding after_notice
@@ -147,10 +130,10 @@ module _ (scenario : ScenarioParts) (i slot : ℕ) (e : NoticeKind) (st : Knowle
         let stays : Nodes = minus now.members now.failed in
         let left : Nodes = minus stays now.leavers in
         let left_below : AllBelow p.nodes left =
-        minus_below p.nodes stays now.leavers (minus_below p.nodes now.members now.failed members) in
+        below_minus p.nodes stays now.leavers (below_minus p.nodes now.members now.failed members) in
         cond_both (is_start p slot) (start_of i now) None (IsVectorOfBus p)
         (λ _. cond_both (has now.members i) (Some (start_vector now)) None (IsVectorOfBus p)
-        (λ _. plus_below p.nodes left now.joiners left_below joiners)
+        (λ _. below_plus p.nodes left now.joiners left_below joiners)
         (λ _. tt))
         (λ _. tt)
 

@@ -16,7 +16,7 @@ use Rattle.cany_model.specs.Rules.Effect.{Effect, Ask, Withdraw}
 use Rattle.cany_model.specs.Rules.Life.{els_frame, failure_effects, failures_at, failure_signs, fda_copy_effects, is_due, life_effects, life_signs, sign_effects, life_signs_sent}
 use Rattle.cany_model.specs.Rules.KnowledgeOf.{knowledge_of}
 use Rattle.cany_model.specs.Rules.Knowledge.{FailureSign, Knowledge, after_life, fda_frame, fda_of, found, found_in, after_hearing, after_learning, has_timed_out, knows, sign_in, sign_of, told, told_in, with_signs}
-use Rattle.cany_model.proofs.Among.{Each-append, Each-filter, Each-flat_map, Each-map, Each-weaker}
+use Rattle.cany_model.proofs.Among.{Each-append, Each-filter, Each-first, Each-flat_map, Each-map, Each-second, Each-weaker}
 use Rattle.cany_model.proofs.Bus.Identities.{same_class-true}
 use Rattle.cany_model.proofs.Rules.Begun.{IsBegun, begun_before}
 use Rattle.cany_model.proofs.Rules.NoDelivery.{undelivering_is_lawful}
@@ -110,14 +110,6 @@ copy_founded scenario i (Got f) past =
 Each-both : {X : Type 0} (P Q : X → Type 0) (xs : List X) → AllByRecursion P xs → AllByRecursion Q xs → AllByRecursion (λ x. P x × Q x) xs
 Each-both P Q [] a b = tt
 Each-both P Q (x ∷ xs) a b = ((a.0, b.0), Each-both P Q xs a.1 b.1)
-
-pub Each-first : {X : Type 0} (P : X → Type 0) (xs ys : List X) → AllByRecursion P (xs ++ ys) → AllByRecursion P xs
-Each-first P [] ys h = tt
-Each-first P (x ∷ xs) ys h = (h.0, Each-first P xs ys h.1)
-
-pub Each-second : {X : Type 0} (P : X → Type 0) (xs ys : List X) → AllByRecursion P (xs ++ ys) → AllByRecursion P ys
-Each-second P [] ys h = h
-Each-second P (x ∷ xs) ys h = Each-second P xs ys h.1
 
 failures_founded : (scenario : ScenarioParts) (i : ℕ) (past : List NoticeKind)
     → AllByRecursion (IsFounded scenario failure_signs i past) (failure_effects scenario i past)

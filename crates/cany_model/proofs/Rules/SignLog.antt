@@ -18,7 +18,7 @@ use Rattle.cany_model.specs.Rules.Membership.{views}
 use Rattle.cany_model.specs.Rules.KnowledgeOf.{knowledge_of}
 use Rattle.cany_model.specs.Rules.Knowledge.{FailureSign, Knowledge, found, found_in, after_finding, after_hearing, after_learning, has_timed_out, knows, same_sign, sign_in, sign_of, told, told_in, with_signs}
 use Rattle.cany_model.specs.Rules.Turn.{turn_effects}
-use Rattle.cany_model.proofs.Among.{Among-from_count, Among-weaker, any-from_Among, count-cons, count-no, count-yes}
+use Rattle.cany_model.proofs.Among.{Among-from_count, Among-weaker, any-from_Among, count-cons, count-no, count-yes, one_at_most}
 use Rattle.cany_model.proofs.Rules.DeliveryFacts.{entered-append, entered-none}
 use Rattle.cany_model.proofs.Rules.MembershipEntries.{IsOfView, views_enter}
 use Rattle.cany_model.proofs.Rules.KnowledgeFacts.{knows_found, knows_heard, knows_with, same_sign-from, tells}
@@ -32,10 +32,6 @@ is_entry_of sign (View slot number members) = false
 
 abbrev one_if : Bool → ℕ
 one_if b = cond b 1 0
-
-one_at_most : (b : Bool) → one_if b ≤ 1
-one_at_most true = omega arith
-one_at_most false = omega arith
 
 or_more : (a b : Bool) → one_if b ≤ one_if (a || b)
 or_more true b = one_at_most b

@@ -8,10 +8,11 @@ use Rattle.cany_base.specs.Frame.{FrameParts}
 use Rattle.cany_base.specs.Limits.{most_nodes}
 use Rattle.cany_base.specs.Nodes.{Nodes, has}
 use Rattle.cany_base.specs.Scenario.{ScenarioParts}
+use Rattle.cany_base.proofs.SetFacts.{has_where}
 use Rattle.cany_model.specs.Bus.History.{given}
 use Rattle.cany_model.specs.Rules.KnowledgeOf.{ended_in, knowledge_of}
 use Rattle.cany_model.specs.Rules.Knowledge.{Knowledge, after_life, after_hearing, after_learning, shows_life, with_shown}
-use Rattle.cany_model.proofs.Bus.Notes.{has_where, those_where_pass}
+use Rattle.cany_model.proofs.Bus.Notes.{placed_where}
 use Rattle.cany_model.proofs.Rules.KnowledgeSteps.{is_admitted, last_after, learnt_keeps, life_keeps, members_after, members_by, shown_after}
 use Rattle.cany_model.proofs.Timed.Windows.OwnLifeSigns.{last_grows}
 
@@ -85,12 +86,12 @@ ComesIn r old new = (has old r ≡ false) × (has new r ≡ true)
 admitted_in : (v : Option Nodes) (old : Nodes) (r : ℕ) → r < most_nodes → ComesIn r old (members_by v old) → is_admitted v old r ≡ true
 admitted_in None old r few h = absurd (both_ways (has old r) h.0 h.1)
 admitted_in (Some v) old r few h =
-    has_where (λ x. has v x && not (has old x)) r few ∙ and_from (has v r) (not (has old r)) h.1 (not_from_false (has old r) h.0)
+    placed_where (λ x. has v x && not (has old x)) r few ∙ and_from (has v r) (not (has old r)) h.1 (not_from_false (has old r) h.0)
 
 admitted_comes : (v : Option Nodes) (old : Nodes) (r : ℕ) → is_admitted v old r ≡ true → ComesIn r old (members_by v old)
 admitted_comes None old r h = absurd (false≢true h)
 admitted_comes (Some v) old r h =
-    let parts = and_parts (has v r) (not (has old r)) (those_where_pass (λ x. has v x && not (has old x)) r h) in
+    let parts = and_parts (has v r) (not (has old r)) (has_where (λ x. has v x && not (has old x)) r h) in
     (not-true (has old r) parts.1, parts.0)
 
 -- ---- a turn

@@ -15,6 +15,7 @@ use Rattle.cany_base.specs.Nodes.{Nodes, has, minus}
 use Rattle.cany_base.specs.Params.{MeetsFormulas, Parameters}
 use Rattle.cany_base.specs.Scenario.{ScenarioParts}
 use Rattle.cany_base.proofs.NodesFacts.{has_none}
+use Rattle.cany_base.proofs.SetFacts.{has_where}
 use Rattle.cany_model.specs.Bus.Frames.{Identity, identity_of, same_class}
 use Rattle.cany_model.specs.Bus.History.{given, history}
 use Rattle.cany_model.specs.Runs.Run.{after_turn, run}
@@ -32,7 +33,7 @@ use Rattle.cany_model.specs.Rules.Knowledge.{FailureSign, Knowledge, fda_of, fou
 use Rattle.cany_model.specs.Rules.Turn.{scenario_at, turn_effects}
 use Rattle.cany_model.proofs.Among.{Among, Each-append, Each-drop, Each-filter, Each-map, Each-weaker}
 use Rattle.cany_model.proofs.Bus.Identities.{same_class-true}
-use Rattle.cany_model.proofs.Bus.Notes.{given-Got, note_of-offered, those_where_pass}
+use Rattle.cany_model.proofs.Bus.Notes.{given-Got, note_of-offered}
 use Rattle.cany_model.proofs.Runs.Runs.{IsOrderly, opening_within, orderly}
 use Rattle.cany_model.proofs.Bus.States.{node_at-opening, runs_within}
 use Rattle.cany_model.proofs.Runs.Steps.{MayTurn, after_slot-trace, after_slot-unread, after_slot-waiting, after_turn-other, after_turn-runs, after_turn-trace, running_before_slot}
@@ -112,7 +113,7 @@ with_failed r [] st none before = before
 with_failed r (sign ∷ signs) st none before =
     with_failed r signs (with_sign sign st) none.1
     (false_from_ne_true (has (with_sign sign st).failed r) (λ now.
-    elim (or_cases (has st.failed r) (r == sign.node) (those_where_pass (λ q. has st.failed q || q == sign.node) r now)) [
+    elim (or_cases (has st.failed r) (r == sign.node) (has_where (λ q. has st.failed q || q == sign.node) r now)) [
       | inl old ↦ both_ways (has st.failed r) before old
       | inr new ↦ none.0 (sym (eqb-true r sign.node new))
     ]))
@@ -122,7 +123,7 @@ ended_failed r None old failed before = before
 ended_failed r (Some v) old failed before =
     false_from_ne_true (has (failed_by (Some v) old failed) r) (λ now.
     both_ways (has failed r) before
-    (and_parts (has failed r) (not (has (minus v old) r)) (those_where_pass (λ q. has failed q && not (has (minus v old) q)) r now)).0)
+    (and_parts (has failed r) (not (has (minus v old) r)) (has_where (λ q. has failed q && not (has (minus v old) q)) r now)).0)
 
 -- after the turn that learns and finds these signs
 pub found_failed : (p : Parameters) (i slot : ℕ) (e : NoticeKind) (st : Knowledge) (r : ℕ) → AllByRecursion (NotOf r) (told_in i slot e st)

@@ -2,11 +2,10 @@
 -- bound. In a scenario without restarts, where the vectors that are installed are one and there are quiet slots.
 use Rattle.std.proofs.Common.{◌≡◌, ◌≢◌, ℕ, ◌+◌, ◌-◌, ◌<◌, ◌≤◌, ◌⊎◌, inl, inr, true, false, List, [], ◌∷◌, ◌++◌, length, map, drop, take, None, refl, ap, sym, ◌∙◌, subst, arith, append_assoc, length-append, length-drop}
 use Rattle.std.specs.List.{AllByRecursion}
-use Rattle.std.proofs.lemmas.Bool.{both_ways, cases_Bool, cases_eq, cases_lt, false≢true}
+use Rattle.std.proofs.lemmas.Bool.{both_ways, cases_Bool, cases_eq, cases_lt}
 use Rattle.std.proofs.lemmas.List.{length-map, take-append-drop}
 use Rattle.std.proofs.lemmas.List.Elements.{recursion_from_All}
-use Rattle.cany_base.specs.declared.rule.Verdict.{Verdict}
-use Rattle.cany_base.specs.declared.rule.Verdict.TheVariants.{Clean, Lost, Partial, Silent}
+use Rattle.cany_base.specs.declared.rule.Verdict.TheVariants.{Clean}
 use Rattle.cany_base.specs.declared.slot_note.SlotNote.{SlotNote}
 use Rattle.cany_base.specs.declared.step.Step.{Step}
 use Rattle.cany_base.specs.declared.step.Step.TheVariants as step
@@ -16,15 +15,15 @@ use Rattle.cany_base.specs.Scenario.{ScenarioParts}
 use Rattle.cany_model.specs.Bus.Frames.{identity_of}
 use Rattle.cany_model.specs.Bus.History.{given}
 use Rattle.cany_model.specs.Runs.Run.{after_turn, is_done, reply, run, run_from}
-use Rattle.cany_model.specs.Bus.Slot.{is_success, script}
+use Rattle.cany_model.specs.Bus.Slot.{script}
 use Rattle.cany_model.specs.Bus.State.{NodeState, RunState, node_at, opening, reads, runs}
-use Rattle.cany_model.specs.Promises.Hypothesis.{IsWithin, is_silent, is_silent_slot}
+use Rattle.cany_model.specs.Promises.Hypothesis.{IsWithin, is_silent_slot}
 use Rattle.cany_model.specs.Promises.OneView.{InstallsOneVector}
 use Rattle.cany_model.specs.Promises.Quiet.{HasQuietSlots, IsQuiet, WasQuiet}
 use Rattle.cany_model.specs.Rules.KnowledgeOf.{knowledge_of}
 use Rattle.cany_model.specs.Rules.Turn.{scenario_for}
 use Rattle.cany_model.proofs.Bus.Carried.{Carries}
-use Rattle.cany_model.proofs.Bus.Counting.{verdict_not_silent}
+use Rattle.cany_model.proofs.Bus.Counting.{success_is_clean, verdict_not_silent}
 use Rattle.cany_model.proofs.Runs.Journals.{reads_other, reads_slot, reads_turn, run_then}
 use Rattle.cany_model.proofs.Bus.Notes.{given-Sent}
 use Rattle.cany_model.proofs.Runs.Runs.{IsOrderly, orderly, slot_done}
@@ -91,19 +90,13 @@ heard_kept scenario = record {
     blank [] i none = tt
     blank (note ∷ trace) i none = (blank_heard i note none.0, blank trace i none.1)
 
-pub clean_sent : (verdict : Verdict) → is_success verdict ≡ true → is_silent verdict ≡ false → verdict ≡ Clean
-clean_sent Clean success loud = refl
-clean_sent Lost success loud = absurd (false≢true success)
-clean_sent (Partial reject) success loud = absurd (false≢true success)
-clean_sent (Silent reject) success loud = absurd (false≢true (sym loud))
-
 -- what a node sent to show its life every other running node got
 pub life_heard : (r j : ℕ) → r ≢ j → j < most_nodes → (note : SlotNote) → is_silent_slot note ≡ false → Heard j note → SentOwn note
     → IsOwnLife r (given r note) → IsLifeOf r (given j note)
 life_heard r j other few note quiet heard own (f, sent, life, mine) =
     let parts = given-Sent r note f sent in
     let carries : Carries (identity_of f) note = record { what = f; frame = parts.0; identity = refl } in
-    let clean : note.verdict ≡ Clean = clean_sent note.verdict parts.2 (verdict_not_silent (identity_of f) note carries quiet) in
+    let clean : note.verdict ≡ Clean = success_is_clean note.verdict parts.2 (verdict_not_silent (identity_of f) note carries quiet) in
     elim (heard.clean few f parts.0 clean) [
       | inl got ↦ (f, got, life, mine)
       | inr too ↦ absurd (other (sym mine ∙ own j f parts.0 (given-Sent j note f too).1 life))

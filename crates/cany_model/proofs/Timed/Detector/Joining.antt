@@ -28,9 +28,9 @@ use Rattle.cany_model.specs.Rules.Knowledge.{FailureSign, Knowledge, fda_of, aft
 use Rattle.cany_model.specs.Rules.Turn.{scenario_for}
 use Rattle.cany_base.specs.Cycles.{is_end}
 use Rattle.cany_model.specs.Rules.Views.{after_ask, with_joiner, with_leaver}
-use Rattle.cany_model.proofs.Among.{Among, Among-from_Contains}
+use Rattle.cany_model.proofs.Among.{Among, Among-from_Contains, Each-second}
 use Rattle.cany_model.proofs.Bus.Identities.{same_class_self}
-use Rattle.cany_model.proofs.Bus.Notes.{given-Sent, has_where}
+use Rattle.cany_model.proofs.Bus.Notes.{given-Sent, placed_where}
 use Rattle.cany_model.proofs.Runs.Runs.{history-length, orderly}
 use Rattle.cany_model.proofs.Bus.Seen.{Numbered}
 use Rattle.cany_model.proofs.Bus.States.{no_note, note_at, runs_within}
@@ -40,13 +40,13 @@ use Rattle.cany_model.proofs.Promises.DiffusionRun.{run_diffuses}
 use Rattle.cany_model.proofs.Promises.OwnSlotsAlone.{run_numbered}
 use Rattle.cany_model.proofs.Promises.SignAgrees.{sign_duty, sign_is_diffused}
 use Rattle.cany_model.proofs.Rules.KnowledgeSteps.{joiners_after, joiners_by, members_by}
-use Rattle.cany_model.proofs.Timed.Detector.VectorsAgreeOn.{Says, all_say, few_of, most}
+use Rattle.cany_model.proofs.Timed.Detector.VectorsAgreeOn.{Says, all_vectors_say, few_of, most}
 use Rattle.cany_model.proofs.Timed.Detector.SilentNode.{found_joiners, found_members, start_says}
 use Rattle.cany_model.proofs.Timed.Detector.HeardWithin.{later_state}
 use Rattle.cany_model.proofs.Timed.Views.LoggedViews.{installed_read}
 use Rattle.cany_model.proofs.Timed.Detector.NoRestarts.{all_original, follows, history_all, sees_all}
 use Rattle.cany_model.proofs.Timed.Views.SameView.{end_of}
-use Rattle.cany_model.proofs.Timed.Views.StartViews.{each_left, end_says, front_split, members_then, next_note, read_by, start_at, start_no_end, view_at}
+use Rattle.cany_model.proofs.Timed.Views.StartViews.{end_says, front_split, members_then, next_note, read_by, start_at, start_no_end, view_at}
 use Rattle.cany_model.proofs.Timed.Common.KnowledgeAges.{ended_at, full, members_next}
 use Rattle.cany_model.proofs.Timed.Detector.Stopped.{SentItself, sent_itself}
 use Rattle.cany_model.proofs.Timed.Views.VectorSlots.{cycle_of_formulas}
@@ -68,7 +68,7 @@ asks_keep_joiner r (Got f) st few h =
     cond_both (same_class f.class class.Join) (with_joiner f.node st) (if same_class f.class class.Leave then with_leaver f.node st else st)
     (λ s. has s.joiners r ≡ true)
     (λ _. cond_both (has st.members f.node) st (record st { joiners = with_node f.node st.joiners }) (λ s. has s.joiners r ≡ true) (λ _. h)
-    (λ _. has_where (λ q. has st.joiners q || q == f.node) r few ∙ or_left (has st.joiners r) (r == f.node) h))
+    (λ _. placed_where (λ q. has st.joiners q || q == f.node) r few ∙ or_left (has st.joiners r) (r == f.node) h))
     (λ _. cond_both (same_class f.class class.Leave) (with_leaver f.node st) st (λ s. has s.joiners r ≡ true)
     (λ _. cond_both (has st.members f.node) (record st { leavers = with_node f.node st.leavers }) st (λ s. has s.joiners r ≡ true) (λ _. h) (λ _. h))
     (λ _. h))
@@ -81,7 +81,7 @@ joins r f st few c n out =
     let join : same_class f.class class.Join ≡ true = ap (λ x. same_class x class.Join) c ∙ same_class_self class.Join in
     let outside : has st.members f.node ≡ false = ap (has st.members) n ∙ out in
     rw (join, outside)
-    (has_where (λ q. has st.joiners q || q == f.node) r few ∙ or_right (has st.joiners r) (r == f.node) (eq-eqb r f.node (sym n)))
+    (placed_where (λ q. has st.joiners q || q == f.node) r few ∙ or_right (has st.joiners r) (r == f.node) (eq-eqb r f.node (sym n)))
 
 module _ (p : Parameters) (i r slot : ℕ) (e : NoticeKind) (st : Knowledge) (few : r < most_nodes) where
   pub asked_joiner : has st.joiners r ≡ true → has (after_asking p i slot e st).joiners r ≡ true
@@ -99,13 +99,13 @@ module _ (p : Parameters) (i r slot : ℕ) (e : NoticeKind) (st : Knowledge) (fe
   joiner_says no_end h = start_says p i slot e st r true no_end (λ member.
       let now : Knowledge = after_asking p i slot e st in
       let stays : Nodes = minus (minus now.members now.failed) now.leavers in
-      has_where (λ q. has stays q || has now.joiners q) r few ∙ or_right (has stays r) (has now.joiners r) (h member))
+      placed_where (λ q. has stays q || has now.joiners q) r few ∙ or_right (has stays r) (has now.joiners r) (h member))
 
 pub joiners_left : (v : Option Nodes) (joiners : Nodes) (r : ℕ) → r < most_nodes → Says r false v → has joiners r ≡ true
     → has (joiners_by v joiners) r ≡ true
 joiners_left None joiners r few says h = h
 joiners_left (Some v) joiners r few says h =
-    has_where (λ q. has joiners q && not (has v q)) r few ∙ and_from (has joiners r) (not (has v r)) h (not_from_false (has v r) (says v refl))
+    placed_where (λ q. has joiners q && not (has v q)) r few ∙ and_from (has joiners r) (not (has v r)) h (not_from_false (has v r) (says v refl))
 
 -- a joiner that does not come into the view is one after the turn
 pub joiner_next : (scenario : ScenarioParts) (i r : ℕ) (e : NoticeKind) (past : List NoticeKind) → r < most_nodes
@@ -245,8 +245,8 @@ module _ (scenario : ScenarioParts) (f : MeetsFormulas scenario.params) (none : 
         let heard : AllByRecursion (Heard a) all =
         subst (AllByRecursion (Heard a)) (sees_all scenario (run scenario front) (all_original scenario none front) a all) diffuses.heard in
         join_got a r join.note join.what join.frame join.join join.asker join.clean other few_a
-        (each_left (Heard a) newer (join.note ∷ join.older) (subst (AllByRecursion (Heard a)) place heard)).0
-        (each_left SentItself newer (join.note ∷ join.older)
+        (Each-second (Heard a) newer (join.note ∷ join.older) (subst (AllByRecursion (Heard a)) place heard)).0
+        (Each-second SentItself newer (join.note ∷ join.older)
         (subst (AllByRecursion SentItself) place (sent_itself scenario (omega (arith, f.bound, f.life)) none front))).0
 
     -- it stays a joiner until the cycle starts
@@ -364,7 +364,7 @@ module _ (scenario : ScenarioParts) (fits : scenario.params.nodes ≤ (layout sc
     comes_in =
         let c = cycle_of_formulas scenario.params f k some in
         let few : r < most_nodes = few_of scenario fits r below in
-        ((all_say scenario fits first none k r true c below journal (λ front rest e a may.
+        ((all_vectors_say scenario fits first none k r true c below journal (λ front rest e a may.
         let g = front_split scenario journal front rest e in
         start_at scenario none front a k r true (λ at.
         start_joins scenario f none (most scenario.params.format scenario.params.nodes fits) s r few k c join j rj stays front g.0 g.1

@@ -16,6 +16,7 @@ use Rattle.cany_base.specs.Nodes.{Nodes, has, meet, minus, with_node}
 use Rattle.cany_base.specs.Params.{Parameters}
 use Rattle.cany_base.specs.Scenario.{ScenarioParts}
 use Rattle.cany_base.proofs.NodesFacts.{has_none}
+use Rattle.cany_base.proofs.SetFacts.{has_where, meet_both}
 use Rattle.cany_model.specs.Bus.Frames.{same_class}
 use Rattle.cany_model.specs.Bus.History.{given, history, seen}
 use Rattle.cany_model.specs.Runs.Run.{after_turn, run}
@@ -30,8 +31,9 @@ use Rattle.cany_model.specs.Rules.Turn.{scenario_at, scenario_for, turn_effects}
 use Rattle.cany_base.specs.Cycles.{cycle_of, is_end, is_start}
 use Rattle.cany_model.specs.Rules.Views.{after_ask, ask_frame, join_asked, leave_asked, start_of, start_vector, with_ended, with_joiner, with_leaver}
 use Rattle.cany_model.proofs.Among.{Among, Among-append_right, Among-flat_map, Among-from_Contains, Among-weaker, Each-weaker, any-from_Among}
+use Rattle.cany_model.proofs.Bus.Carried.{carried_frame, is_carried}
 use Rattle.cany_model.proofs.Bus.Identities.{same_class-true, same_class_self}
-use Rattle.cany_model.proofs.Bus.Notes.{given-Got, given-Sent, has_where, note_of-offered, those_where_pass}
+use Rattle.cany_model.proofs.Bus.Notes.{given-Got, given-Sent, note_of-offered, placed_where}
 use Rattle.cany_model.proofs.Bus.Seen.{history-is}
 use Rattle.cany_model.proofs.Runs.Runs.{along_run}
 use Rattle.cany_model.proofs.Runs.Steps.{MayTurn, after_slot-history, after_slot-present, after_slot-trace, after_turn-history, after_turn-other_history, after_turn-present, after_turn-trace, next_notice}
@@ -42,7 +44,6 @@ use Rattle.cany_model.proofs.Promises.OwnSlotsAlone.{AllWaitForOwnSlots}
 use Rattle.cany_model.proofs.Rules.ProtocolFacts.{IsScripted, MayAsk, MayRequest, accepts, confirms, data_is_no_other, exchanges, is_relayed, lives, originates, relays, requests, signals}
 use Rattle.cany_model.proofs.Rules.TurnFacts.{turn_only}
 use Rattle.cany_model.proofs.Timed.Detector.NoRestarts.{restarts_none}
-use Rattle.cany_model.proofs.Timed.Windows.TopFrames.{carried_frame, is_carried}
 use Rattle.cany_model.proofs.Rules.KnowledgeSteps.{found_keeps, leavers_after, leavers_by, life_keeps, met_keeps}
 
 -- ---- a frame by which it asks to leave is asked for
@@ -259,7 +260,7 @@ leaver_other : (r q : ℕ) (st : Knowledge) → (q ≡ r → ⊥) → has st.lea
 leaver_other r q st other h =
     cond_both (has st.members q) (record st { leavers = with_node q st.leavers }) st (λ s. has s.leavers r ≡ false)
     (λ _. false_from_ne_true (has (with_node q st.leavers) r) (λ now.
-    elim (or_cases (has st.leavers r) (r == q) (those_where_pass (λ x. has st.leavers x || x == q) r now)) [
+    elim (or_cases (has st.leavers r) (r == q) (has_where (λ x. has st.leavers x || x == q) r now)) [
       | inl old ↦ both_ways (has st.leavers r) h old
       | inr new ↦ other (sym (eqb-true r q new))
     ]))
@@ -294,7 +295,7 @@ ended_leavers : (r : ℕ) (o : Option Nodes) (leavers : Nodes) → has leavers r
 ended_leavers r None leavers h = h
 ended_leavers r (Some v) leavers h =
     false_from_ne_true (has (meet leavers v) r) (λ now.
-    both_ways (has leavers r) h (and_parts (has leavers r) (has v r) (those_where_pass (λ x. has leavers x && has v x) r now)).0)
+    both_ways (has leavers r) h (meet_both leavers v r now).0)
 
 pub no_leaver : (scenario : ScenarioParts) (i r : ℕ) (past : List NoticeKind) → AllByRecursion (HeedsNone r) past
     → has (knowledge_of scenario i past).leavers r ≡ false
@@ -337,11 +338,11 @@ module _ (p : Parameters) (i r slot : ℕ) (e : NoticeKind) (st : Knowledge) (fe
 
     starts : (now : Knowledge) → has now.members r ≡ true → has now.failed r ≡ false → has now.leavers r ≡ false → has (start_vector now) r ≡ true
     starts now a b c =
-        has_where (λ x. has (minus (minus now.members now.failed) now.leavers) x || has now.joiners x) r few
+        placed_where (λ x. has (minus (minus now.members now.failed) now.leavers) x || has now.joiners x) r few
         ∙ or_left (has (minus (minus now.members now.failed) now.leavers) r) (has now.joiners r)
-        (has_where (λ x. has (minus now.members now.failed) x && not (has now.leavers x)) r few
+        (placed_where (λ x. has (minus now.members now.failed) x && not (has now.leavers x)) r few
         ∙ and_from (has (minus now.members now.failed) r) (not (has now.leavers r))
-        (has_where (λ x. has now.members x && not (has now.failed x)) r few
+        (placed_where (λ x. has now.members x && not (has now.failed x)) r few
         ∙ and_from (has now.members r) (not (has now.failed r)) a (not_from_false (has now.failed r) b))
         (not_from_false (has now.leavers r) c))
 

@@ -1,6 +1,6 @@
 -- A member that stopped is in no view of a cycle that starts more than the silence after its stop. Of scenarios without restart entries, where the
 -- vectors that nodes install are one.
-use Rattle.std.proofs.Common.{◌≡◌, ℕ, zero, suc, ◌+◌, ◌-◌, ◌*◌, ◌<◌, ◌≤◌, ◌⊎◌, ◌==◌, ◌&&◌, ◌||◌, not, if◌then◌else◌, inl, inr, true, false, List, [], ◌∷◌, ◌++◌, length, map, take, Option, Some, None, Contains, refl, ap, sym, ◌∙◌, subst, arith, append_assoc, length-append, length-drop}
+use Rattle.std.proofs.Common.{◌≡◌, ℕ, ◌+◌, ◌-◌, ◌*◌, ◌<◌, ◌≤◌, ◌⊎◌, ◌==◌, ◌&&◌, ◌||◌, not, if◌then◌else◌, inl, inr, true, false, List, [], ◌∷◌, ◌++◌, length, map, take, Option, Some, None, Contains, refl, ap, sym, ◌∙◌, subst, arith, append_assoc, length-append, length-drop}
 use Rattle.std.specs.List.{AllByRecursion}
 use Rattle.std.proofs.lemmas.Bool.{and_parts, both_ways, cases_lt, cond_both, eqb-true, false_from_ne_true, not-true, or_cases}
 use Rattle.std.proofs.lemmas.List.{length-map, take-append-drop}
@@ -16,6 +16,7 @@ use Rattle.cany_base.specs.Nodes.{AllBelow, Nodes, has, minus, with_node}
 use Rattle.cany_base.specs.Params.{MeetsFormulas, Parameters}
 use Rattle.cany_base.specs.Scenario.{ScenarioParts}
 use Rattle.cany_base.proofs.NodesFacts.{has_none}
+use Rattle.cany_base.proofs.SetFacts.{has_where}
 use Rattle.cany_model.specs.Bus.Frames.{same_class}
 use Rattle.cany_model.specs.Bus.History.{given, history}
 use Rattle.cany_model.specs.Runs.Run.{run}
@@ -28,20 +29,20 @@ use Rattle.cany_model.specs.Rules.KnowledgeOf.{after_asking, knowledge_of}
 use Rattle.cany_model.specs.Rules.Knowledge.{Knowledge, after_finding, knows, sign_in}
 use Rattle.cany_base.specs.Cycles.{cycle_of, is_end}
 use Rattle.cany_model.specs.Rules.Views.{after_ask, with_joiner, with_leaver}
+use Rattle.cany_model.proofs.Among.{Each-second}
 use Rattle.cany_model.proofs.Bus.EachRead.{EachRead}
 use Rattle.cany_model.proofs.Bus.Identities.{same_class-true}
-use Rattle.cany_model.proofs.Bus.Notes.{those_where_pass}
 use Rattle.cany_model.proofs.Runs.Runs.{history-length, orderly}
-use Rattle.cany_model.proofs.Bus.States.{note_at, runs_within}
+use Rattle.cany_model.proofs.Bus.States.{each_in_front, note_at, runs_within}
 use Rattle.cany_model.proofs.Runs.Steps.{MayTurn}
 use Rattle.cany_model.proofs.Rules.KnowledgeSteps.{joiners_after, joiners_by, members_by}
-use Rattle.cany_model.proofs.Timed.Detector.VectorsAgreeOn.{Says, all_say, few_of, read_next}
-use Rattle.cany_model.proofs.Timed.Detector.SilentNode.{Fading, NothingOf, faded_fails, fading, found_joiners, found_members, known_begun, lacks_says, shown_by}
+use Rattle.cany_model.proofs.Timed.Detector.VectorsAgreeOn.{Says, all_vectors_say, few_of, read_next}
+use Rattle.cany_model.proofs.Timed.Detector.SilentNode.{IsOutOrSilent, NothingOf, found_joiners, found_members, known_begun, lacks_says, shown_by, silent_fails, stays_out_or_silent}
 use Rattle.cany_model.proofs.Timed.Detector.HeardWithin.{later_state}
 use Rattle.cany_model.proofs.Timed.Views.LoggedViews.{installed_read, view_installed}
 use Rattle.cany_model.proofs.Timed.Detector.NoRestarts.{all_original, follows, history_all}
 use Rattle.cany_model.proofs.Timed.Views.SameView.{end_of}
-use Rattle.cany_model.proofs.Timed.Views.StartViews.{each_left, end_says, front_split, next_note, members_then, no_end_within, read_by, start_at, start_no_end, view_at}
+use Rattle.cany_model.proofs.Timed.Views.StartViews.{end_says, front_split, next_note, members_then, no_end_within, read_by, start_at, start_no_end, view_at}
 use Rattle.cany_model.proofs.Timed.Common.KnowledgeAges.{ended_at, full, members_next}
 use Rattle.cany_model.proofs.Timed.Detector.Staying.{members_stay}
 use Rattle.cany_model.proofs.Timed.Detector.Stopped.{NotFrom, not_heard, silent_since, stop_of, stopped_since}
@@ -68,7 +69,7 @@ asks_none r (Got f) st why h =
     (λ s. has s.joiners r ≡ false)
     (λ join. cond_both (has st.members f.node) st (record st { joiners = with_node f.node st.joiners }) (λ s. has s.joiners r ≡ false) (λ _. h)
     (λ out. false_from_ne_true (has (with_node f.node st.joiners) r) (λ k.
-    elim (or_cases (has st.joiners r) (r == f.node) (those_where_pass (λ q. has st.joiners q || q == f.node) r k)) [
+    elim (or_cases (has st.joiners r) (r == f.node) (has_where (λ q. has st.joiners q || q == f.node) r k)) [
       | inl old ↦ both_ways (has st.joiners r) h old
       | inr new ↦
           let same : r ≡ f.node = eqb-true r f.node new in
@@ -93,7 +94,7 @@ pub joiners_less : (v : Option Nodes) (joiners : Nodes) (r : ℕ)
 joiners_less None joiners r (inl h) = h
 joiners_less None joiners r (inr (w, e, there)) = absurd (cc)
 joiners_less (Some v) joiners r why = false_from_ne_true (has (minus joiners v) r) (λ k.
-    let both = and_parts (has joiners r) (not (has v r)) (those_where_pass (λ q. has joiners q && not (has v q)) r k) in
+    let both = and_parts (has joiners r) (not (has v r)) (has_where (λ q. has joiners q && not (has v q)) r k) in
     elim why [
       | inl h ↦ both_ways (has joiners r) h both.0
       | inr (w, e, there) ↦ both_ways (has v r) (not-true (has v r) both.1) (let same : v ≡ w = cc in ap (λ x. has x r) same ∙ there)
@@ -141,13 +142,6 @@ still_no_joiner scenario i r (note ∷ mid) base silent h =
     none_next scenario i r (given i note) past
     (inl (asked_none scenario.params i r (length past) (given i note) (full scenario i (mid ++ base)) (inr (not_heard r i note silent.0))
     (still_no_joiner scenario i r mid base silent.1 h)))
-
--- ---- lists
-
-pub each_in_front : (P : SlotNote → Type 0) (xs ys : List SlotNote) (age : ℕ) → AllByRecursion P xs → age < length xs → P (note_at (xs ++ ys) age)
-each_in_front P [] ys age h below = absurd (omega (arith, below))
-each_in_front P (x ∷ xs) ys zero h below = h.0
-each_in_front P (x ∷ xs) ys (suc age) h below = each_in_front P xs ys age h.1 (omega (arith, below))
 
 -- ---- at a turn at the start of a cycle after the stop
 
@@ -255,7 +249,7 @@ module _ (scenario : ScenarioParts) (fits : scenario.params.nodes ≤ (layout sc
           let member : has (full scenario a base).members r ≡ true =
           ap (λ m. has m r) (view (take unread all ++ h.mid) base h.place (omega (arith, later))) ∙ stop.member j rj in
           subst (λ o. has (full scenario a o).joiners r ≡ false) (sym h.is)
-          (still_no_joiner scenario a r h.mid base (each_left (NotFrom r) (take unread all) h.mid h.silent)
+          (still_no_joiner scenario a r h.mid base (Each-second (NotFrom r) (take unread all) h.mid h.silent)
           (member_no_joiner scenario a r (map (given a) base) member))
 
       asked : has (after_asking scenario.params a (length (map (given a) now)) (given a note) (full scenario a now)).joiners r ≡ false
@@ -306,13 +300,13 @@ module _ (scenario : ScenarioParts) (fits : scenario.params.nodes ≤ (layout sc
           ap (λ v. has v r) (view ahead (m ∷ (older ++ base)) place short)
           ∙ excluded (newest ++ ahead) m (older ++ base) place_s (omega (arith, long)) (omega (arith, short))
           (ap (λ v. has v r) (sym (view (ahead ++ (m ∷ [])) (older ++ base) place' (omega (arith, short)))) ∙ out) in
-          let faded : Fading scenario r a (length stop.older) now =
-          subst (Fading scenario r a (length stop.older)) (sym h.is)
-          (fading scenario r a (length stop.older) few base h.mid (each_left (NotFrom r) (take unread all) h.mid h.silent)
+          let out_or_silent : IsOutOrSilent scenario r a (length stop.older) now =
+          subst (IsOutOrSilent scenario r a (length stop.older)) (sym h.is)
+          (stays_out_or_silent scenario r a (length stop.older) few base h.mid (Each-second (NotFrom r) (take unread all) h.mid h.silent)
           (inr (inr shown)) out_stays) in
           lacks_says scenario.params a r n (given a note) (full scenario a now) no_end
-          (faded_fails scenario.params a r n (length stop.older) (given a note) (full scenario a now) few below (other h) (nothing h) unknown
-          (omega (arith, late, size, at)) faded) asked
+          (silent_fails scenario.params a r n (length stop.older) (given a note) (full scenario a now) few below (other h) (nothing h) unknown
+          (omega (arith, late, size, at)) out_or_silent) asked
 
 -- ---- every run
 
@@ -331,7 +325,7 @@ module _ (scenario : ScenarioParts) (fits : scenario.params.nodes ≤ (layout sc
         → Says r false (starts_with scenario a (given a (next_note scenario none front a)) (map (given a) (read_by scenario none front a))))
         → 0 < k → Says r false (installed_of scenario j k (history j s))
     starts k says some =
-        ((all_say scenario fits first none k r false (cycle_of_formulas scenario.params f k some) below journal (λ front rest e a may.
+        ((all_vectors_say scenario fits first none k r false (cycle_of_formulas scenario.params f k some) below journal (λ front rest e a may.
         start_at scenario none front a k r false (says front rest e a may))).nodes j rj).installs
 
     -- a cycle that ends with the stopped node outside does not let it in

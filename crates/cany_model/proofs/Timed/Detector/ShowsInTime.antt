@@ -1,8 +1,8 @@
 -- A member shows life in time: within the life interval of its last life, or its life sign waits, or was sent. So in a quiet state its last
 -- life lies no further back than the life interval and the lag. And only the node itself shows its life.
-use Rattle.std.proofs.Common.{◌≡◌, ℕ, zero, suc, ◌+◌, ◌<◌, ◌≤◌, ◌⊎◌, ◌||◌, ◌==◌, inl, inr, Bool, true, false, List, [], ◌∷◌, length, map, drop, Some, refl, ap, sym, ◌∙◌, subst, arith, length-drop}
+use Rattle.std.proofs.Common.{◌≡◌, ℕ, zero, suc, ◌+◌, ◌<◌, ◌≤◌, ◌⊎◌, ◌||◌, ◌==◌, inl, inr, true, false, List, [], ◌∷◌, length, map, drop, Some, refl, ap, sym, ◌∙◌, subst, arith, length-drop}
 use Rattle.std.specs.List.{AllByRecursion, list_any}
-use Rattle.std.proofs.lemmas.Bool.{and_from, both_ways, cases_Bool, cases_eq, cond_both, eq-eqb, false≢true, or_cases, or_left, or_right}
+use Rattle.std.proofs.lemmas.Bool.{and_from, both_ways, cases_Bool, cases_eq, cond_both, eq-eqb, false≢true, or_cases, or_left, or_parts, or_right}
 use Rattle.std.proofs.lemmas.List.{length-map}
 use Rattle.std.proofs.lemmas.List.Elements.{All-contains, All-from_recursion}
 use Rattle.cany_base.specs.declared.class.Class.{Class}
@@ -335,12 +335,8 @@ no_sign (f ∷ w) none x els h = elim (or_cases (is_of x f) (waits x w) h) [
       ∙ or_right (same_class class.Els class.Accept || same_class class.Els class.Rha) (same_class class.Els class.Els)
       (same_class_self class.Els) in
       both_ways (is_top f.class || list_any (λ g. is_top g.class) w) none (or_left (is_top f.class) (list_any (λ g. is_top g.class) w) top)
-  | inr there ↦ no_sign w (or_rest (is_top f.class) (list_any (λ g. is_top g.class) w) none) x els there
+  | inr there ↦ no_sign w (or_parts (is_top f.class) (list_any (λ g. is_top g.class) w) none).1 x els there
 ]
-  where
-    or_rest : (a b : Bool) → (a || b) ≡ false → b ≡ false
-    or_rest true b e = absurd (false≢true (sym e))
-    or_rest false b e = e
 
 -- there a member that has read all but the lag slots has read its last life within the life interval and the lag, or has shown it since
 pub quiet_shows : (scenario : ScenarioParts) (i : ℕ) (trace : List SlotNote) (node : NodeState)

@@ -20,11 +20,12 @@ use Rattle.cany_model.specs.Rules.Notices.{IsReadable}
 use Rattle.cany_model.specs.Rules.KnowledgeOf.{after_asking, after_installing, after_meeting, met_in, start_in, knowledge_of}
 use Rattle.cany_model.specs.Rules.Knowledge.{FailureSign, Knowledge, after_life, found, found_in, after_finding, after_hearing, after_learning, has_timed_out, knows, same_sign, shows_life, sign_in, sign_of, told, told_in, with_shown, with_sign, with_signs}
 use Rattle.cany_base.specs.Cycles.{is_end, is_start}
+use Rattle.cany_base.proofs.SetFacts.{has_where}
 use Rattle.cany_model.specs.Rules.Views.{start_of, start_vector, with_ended}
 use Rattle.cany_model.proofs.Among.{Among, Among-from_any, Among-get_or, Among-map, Among-weaker, Each-append, Each-filter, Each-map}
 use Rattle.cany_model.proofs.Bus.EachRead.{EachRead}
 use Rattle.cany_model.proofs.Bus.Identities.{same_class-true}
-use Rattle.cany_model.proofs.Bus.Notes.{has_where, those_where_pass}
+use Rattle.cany_model.proofs.Bus.Notes.{placed_where}
 use Rattle.cany_model.proofs.Promises.WaitingIsAskable.{fda_names}
 use Rattle.cany_model.proofs.Rules.KnowledgeFacts.{knows_heard, knows_with, known_after, newly, same_sign-true, tells}
 use Rattle.cany_model.proofs.Rules.KnowledgeSteps.{asks_keep, failed_after, failed_by, found_keeps, is_admitted, learnt_keeps, life_keeps, shown_after}
@@ -73,13 +74,13 @@ start_lacks : (r : ℕ) (st : Knowledge) → (has st.members r ≡ false) ⊎ (h
     → has (start_vector st) r ≡ false
 start_lacks r st why joiner = false_from_ne_true (has (start_vector st) r) (λ h.
     elim (or_cases (has (minus (minus st.members st.failed) st.leavers) r) (has st.joiners r)
-    (those_where_pass (λ q. has (minus (minus st.members st.failed) st.leavers) q || has st.joiners q) r h)) [
+    (has_where (λ q. has (minus (minus st.members st.failed) st.leavers) q || has st.joiners q) r h)) [
       | inr joins ↦ both_ways (has st.joiners r) joiner joins
       | inl stands ↦
           let stays = (and_parts (has (minus st.members st.failed) r) (not (has st.leavers r))
-          (those_where_pass (λ q. has (minus st.members st.failed) q && not (has st.leavers q)) r stands)).0 in
+          (has_where (λ q. has (minus st.members st.failed) q && not (has st.leavers q)) r stands)).0 in
           let both =
-          and_parts (has st.members r) (not (has st.failed r)) (those_where_pass (λ q. has st.members q && not (has st.failed q)) r stays) in
+          and_parts (has st.members r) (not (has st.failed r)) (has_where (λ q. has st.members q && not (has st.failed q)) r stays) in
           elim why [
             | inl out ↦ both_ways (has st.members r) out both.0
             | inr failed ↦ both_ways (has st.failed r) (not-true (has st.failed r) both.1) failed
@@ -145,7 +146,7 @@ pub with_signs_still : (r : ℕ) (signs : List FailureSign) (st : Knowledge) →
 unfolding with_signs
 with_signs_still r [] st few h = h
 with_signs_still r (sign ∷ signs) st few h =
-    with_signs_still r signs (with_sign sign st) few (has_where (λ q. has st.failed q || q == sign.node) r few ∙ or_left (has st.failed r)
+    with_signs_still r signs (with_sign sign st) few (placed_where (λ q. has st.failed q || q == sign.node) r few ∙ or_left (has st.failed r)
     (r == sign.node) h)
 
 pub with_signs_named : (r : ℕ) (signs : List FailureSign) (st : Knowledge) → r < most_nodes → Among (λ sign. sign.node ≡ r) signs
@@ -154,7 +155,7 @@ unfolding with_signs
 with_signs_named r [] st few h = absurd h
 with_signs_named r (sign ∷ signs) st few (inl now) =
     with_signs_still r signs (with_sign sign st) few
-    (has_where (λ q. has st.failed q || q == sign.node) r few ∙ or_right (has st.failed r) (r == sign.node) (eq-eqb r sign.node (sym now)))
+    (placed_where (λ q. has st.failed q || q == sign.node) r few ∙ or_right (has st.failed r) (r == sign.node) (eq-eqb r sign.node (sym now)))
 with_signs_named r (sign ∷ signs) st few (inr later) = with_signs_named r signs (with_sign sign st) few later
 
 module _ (p : Parameters) (i r slot : ℕ) (e : NoticeKind) (st : Knowledge) (few : r < most_nodes) where
@@ -171,13 +172,13 @@ pub not_admitted : (v : Option Nodes) (old : Nodes) (r : ℕ) → has old r ≡ 
 not_admitted None old r h = refl
 not_admitted (Some v) old r h = false_from_ne_true (has (minus v old) r) (λ k.
     both_ways (has old r)
-    (not-true (has old r) (and_parts (has v r) (not (has old r)) (those_where_pass (λ x. has v x && not (has old x)) r k)).1) h)
+    (not-true (has old r) (and_parts (has v r) (not (has old r)) (has_where (λ x. has v x && not (has old x)) r k)).1) h)
 
 pub failed_by_still : (v : Option Nodes) (old failed : Nodes) (r : ℕ) → r < most_nodes → is_admitted v old r ≡ false → has failed r ≡ true
     → has (failed_by v old failed) r ≡ true
 failed_by_still None old failed r few none h = h
 failed_by_still (Some v) old failed r few none h =
-    has_where (λ q. has failed q && not (has (minus v old) q)) r few
+    placed_where (λ q. has failed q && not (has (minus v old) q)) r few
     ∙ and_from (has failed r) (not (has (minus v old) r)) h (not_from_false (has (minus v old) r) none)
 
 module _ (scenario : ScenarioParts) (i r : ℕ) (e : NoticeKind) (past : List NoticeKind)
@@ -199,23 +200,23 @@ module _ (scenario : ScenarioParts) (i r : ℕ) (e : NoticeKind) (past : List No
       (not_admitted (ended_at scenario i e past) st.members r member)
       ∙ no_life i (length past) r e st (λ f is life. h f is (inl life))
 
--- ---- what fades
+-- ---- out of the view, failed, or silent since
 
 -- r is outside the view, or has failed, or has shown no life since the slot
-abbrev pub Fading : ScenarioParts → ℕ → ℕ → ℕ → List SlotNote → Type 0
-Fading scenario r i slot o =
+abbrev pub IsOutOrSilent : ScenarioParts → ℕ → ℕ → ℕ → List SlotNote → Type 0
+IsOutOrSilent scenario r i slot o =
     (has (full scenario i o).members r ≡ false) ⊎ ((has (full scenario i o).failed r ≡ true) ⊎ ((full scenario i o).shown r ≤ slot))
 
 -- it is so after slots in which r sends nothing, where it does not come into the view
-pub fading : (scenario : ScenarioParts) (r i slot : ℕ) → r < most_nodes → (base mid : List SlotNote) → AllByRecursion (NotFrom r) mid
-    → Fading scenario r i slot base
+pub stays_out_or_silent : (scenario : ScenarioParts) (r i slot : ℕ) → r < most_nodes → (base mid : List SlotNote) → AllByRecursion (NotFrom r) mid
+    → IsOutOrSilent scenario r i slot base
     → ((newer : List SlotNote) (note : SlotNote) (older : List SlotNote) → mid ≡ newer ++ (note ∷ older)
     → has (full scenario i (older ++ base)).members r ≡ false → has (full scenario i (note ∷ (older ++ base))).members r ≡ false)
-    → Fading scenario r i slot (mid ++ base)
-fading scenario r i slot few base [] silent first excluded = first
-fading scenario r i slot few base (note ∷ mid) silent first excluded =
+    → IsOutOrSilent scenario r i slot (mid ++ base)
+stays_out_or_silent scenario r i slot few base [] silent first excluded = first
+stays_out_or_silent scenario r i slot few base (note ∷ mid) silent first excluded =
     let before =
-    fading scenario r i slot few base mid silent.1 first (λ newer n older e out. excluded (note ∷ newer) n older (ap (λ t. note ∷ t) e) out) in
+    stays_out_or_silent scenario r i slot few base mid silent.1 first (λ newer n older e out. excluded (note ∷ newer) n older (ap (λ t. note ∷ t) e) out) in
     let past : List NoticeKind = map (given i) (mid ++ base) in
     let nothing : NothingOf r (given i note) = not_heard r i note silent.0 in
     elim (cases_Bool (has (full scenario i (mid ++ base)).members r)) [
@@ -358,14 +359,14 @@ silent_found p i r slot last e st few below other unknown late there old = elim 
       silence_found p i r slot e st few below silent (learnt_unknown p i r slot e st few standing unknown)
 ]
 
--- a member that faded has failed once it has been silent for too long
-pub faded_fails : (p : Parameters) (i r slot last : ℕ) (e : NoticeKind) (st : Knowledge) → r < most_nodes → r < p.nodes → (r ≡ i → ⊥)
+-- so a member has failed once it has been silent for too long
+pub silent_fails : (p : Parameters) (i r slot last : ℕ) (e : NoticeKind) (st : Knowledge) → r < most_nodes → r < p.nodes → (r ≡ i → ⊥)
     → NothingOf r e → knows (sign_in p slot r) st ≡ false → last + p.silence ≤ slot
     → (has st.members r ≡ false) ⊎ ((has st.failed r ≡ true) ⊎ (st.shown r ≤ last))
     → (has st.members r ≡ false) ⊎ (has (after_finding p i slot e st).failed r ≡ true)
-faded_fails p i r slot last e st few below other nothing unknown late (inl out) = inl out
-faded_fails p i r slot last e st few below other nothing unknown late (inr (inl failed)) = inr (found_still p i r slot e st few failed)
-faded_fails p i r slot last e st few below other nothing unknown late (inr (inr old)) = elim (cases_Bool (has st.members r)) [
+silent_fails p i r slot last e st few below other nothing unknown late (inl out) = inl out
+silent_fails p i r slot last e st few below other nothing unknown late (inr (inl failed)) = inr (found_still p i r slot e st few failed)
+silent_fails p i r slot last e st few below other nothing unknown late (inr (inr old)) = elim (cases_Bool (has st.members r)) [
   | inr out ↦ inl out
   | inl there ↦ inr (silent_found p i r slot last e st few below other unknown late there (omega (arith, learnt_no_life i slot r e st (λ f is life. nothing f is (inl life)), old)))
 ]

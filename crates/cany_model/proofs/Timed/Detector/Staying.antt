@@ -5,8 +5,6 @@ use Rattle.std.specs.List.{AllByRecursion}
 use Rattle.std.proofs.Math.Nat.{mul-le-mul_right}
 use Rattle.std.proofs.lemmas.Bool.{cases_lt}
 use Rattle.std.proofs.lemmas.List.{drop-map, length-map, take-append-drop}
-use Rattle.cany_base.specs.declared.format.Format.{Format}
-use Rattle.cany_base.specs.declared.format.Format.TheVariants.{One, Two}
 use Rattle.cany_base.specs.declared.log_entry.LogEntry.{LogEntry}
 use Rattle.cany_base.specs.declared.log_entry.LogEntry.TheVariants.{View}
 use Rattle.cany_base.specs.declared.notice.NoticeKind.{NoticeKind}
@@ -29,7 +27,7 @@ use Rattle.cany_model.specs.Rules.Log.{log, log_from}
 use Rattle.cany_model.specs.Rules.KnowledgeOf.{knowledge_of}
 use Rattle.cany_model.specs.Rules.Knowledge.{Knowledge, after_hearing, after_learning}
 use Rattle.cany_base.specs.Cycles.{cycle_of, is_end}
-use Rattle.cany_model.proofs.Among.{Among, Among-from_Contains, Each-drop}
+use Rattle.cany_model.proofs.Among.{Among, Among-from_Contains, Each-second, Each-drop}
 use Rattle.cany_model.proofs.Runs.Journals.{run_then, unread_within}
 use Rattle.cany_model.proofs.Bus.Notes.{given-Got, given-Sent}
 use Rattle.cany_model.proofs.Runs.Runs.{IsOrderly, orderly}
@@ -41,7 +39,7 @@ use Rattle.cany_model.proofs.Rules.LogFacts.{log_split, made_by}
 use Rattle.cany_model.proofs.Rules.ProtocolFacts.{IsFoundedEntry, IsInstalled}
 use Rattle.cany_model.proofs.Rules.KnowledgeSteps.{members_by}
 use Rattle.cany_model.proofs.Timed.Detector.Accuracy.{IsTimely, NoFrameIn, found_failed, found_other, no_sign, not_silent, timely_front, told_other}
-use Rattle.cany_model.proofs.Timed.Detector.VectorsAgreeOn.{Says, StartSays, all_say, each_at, next_given, next_there, none_says}
+use Rattle.cany_model.proofs.Timed.Detector.VectorsAgreeOn.{Says, StartSays, all_vectors_say, each_at, most, next_given, next_there, none_says}
 use Rattle.cany_model.proofs.Timed.Detector.HeardWithin.{IsLater, later_state}
 use Rattle.cany_model.proofs.Timed.Detector.Leaving.{HeedsNone, NoLeaveIn, asked_leavers, heeds_none, no_leave, no_leaver, start_stays}
 use Rattle.cany_model.proofs.Timed.Detector.NoRestarts.{AllOriginal, all_original, follows, history_all, history_but_all}
@@ -161,15 +159,6 @@ member_at scenario s o all r k c newer base place member ends read before front 
 
 -- ---- every run without restarts
 
-most_of : (format : Format) (n : ℕ) → n ≤ (layout format).nodes → n ≤ most_nodes
-most_of One n h = omega (arith, h)
-most_of Two n h = h
-
--- what holds of each note of a run holds of each of those before
-before_front : (P : SlotNote → Type 0) (front older : List SlotNote) → AllByRecursion P (front ++ older) → AllByRecursion P older
-before_front P [] older h = h
-before_front P (note ∷ front) older h = before_front P front older h.1
-
 module _ (scenario : ScenarioParts) (none : scenario.restarts ≡ []) (fits : scenario.params.nodes ≤ (layout scenario.params.format).nodes)
     (formulas : MeetsFormulas scenario.params) (first : AllBelow scenario.params.nodes scenario.members) (journal : List Step)
     (known : (front rest : List Step) → journal ≡ front ++ rest → IsTimely scenario front) (r : ℕ)
@@ -183,7 +172,7 @@ module _ (scenario : ScenarioParts) (none : scenario.restarts ≡ []) (fits : sc
     p = scenario.params
 
     few : p.nodes ≤ most_nodes
-    few = most_of p.format p.nodes fits
+    few = most p.format p.nodes fits
 
     below : r < p.nodes
     below = omega (arith, runs_within s.nodes r running, (orderly scenario journal).count)
@@ -277,7 +266,7 @@ module _ (scenario : ScenarioParts) (none : scenario.restarts ≡ []) (fits : sc
             let given_now : notice ≡ given a note = next_given scenario fits first none front a in
             let sign = no_sign scenario none few formulas front (λ front' rest' e'. known front' (rest' ++ rest)
             (e ∙ ap (λ l. l ++ rest) e' ∙ append_assoc front' rest' rest)) r ran in
-            let leave = before_front (NoLeaveIn r) grown.0 b.trace (subst (AllByRecursion (NoLeaveIn r)) grown.1 (no_leave scenario none r below journal asks)) in
+            let leave = Each-second (NoLeaveIn r) grown.0 b.trace (subst (AllByRecursion (NoLeaveIn r)) grown.1 (no_leave scenario none r below journal asks)) in
             let hears = told_other r notice (after_hearing a n notice st) (λ f got.
             each_at (NoFrameIn r) b.trace (next_age b a) no_note sign.carried there f (given-Got a note f (sym given_now ∙ got)).0) in
             let finds = found_other r p a n (after_learning a n notice st)
@@ -298,7 +287,7 @@ module _ (scenario : ScenarioParts) (none : scenario.restarts ≡ []) (fits : sc
         → Says r true (installed scenario s j k)
     installs zero k less some ends j running_j = absurd (omega (arith, less))
     installs (suc limit) k less some ends j running_j =
-        let all = all_say scenario fits first none k r true (cycle_of_formulas p formulas k some) below journal (λ front rest e a may.
+        let all = all_vectors_say scenario fits first none k r true (cycle_of_formulas p formulas k some) below journal (λ front rest e a may.
         let same = history_all scenario (run scenario front) (all_original scenario none front) a in
         subst (λ past. StartSays scenario k r true a (next_notice (run scenario front) a) past) (sym same) (λ at.
         start_has k some ends front rest e a may at

@@ -2,7 +2,7 @@
 -- scenarios without restart entries.
 use Rattle.std.proofs.Common.{◌≡◌, ℕ, zero, suc, ◌+◌, ◌*◌, ◌<◌, ◌≤◌, ◌==◌, ◌&&◌, ◌++◌, inl, inr, Bool, true, false, if◌then◌else◌, List, [], ◌∷◌, length, Option, Some, None, Contains, nat_lt, slice_index_or, unwrap_or, refl, ap, sym, ◌∙◌, subst, arith}
 use Rattle.std.specs.List.{AllByRecursion}
-use Rattle.std.proofs.lemmas.Bool.{and_from, and_right, both_ways, cases_eq, cond-true, cond_both, eq-eqb, lt-ltb, ltb-true}
+use Rattle.std.proofs.lemmas.Bool.{and_from, and_right, both_ways, cases_eq, cond-true, cond_both, eq-eqb, lt-ltb}
 use Rattle.cany_base.specs.Limits.{most_nodes}
 use Rattle.cany_base.specs.declared.class.Class.TheVariants as class
 use Rattle.cany_base.specs.declared.format.Format.{Format}
@@ -36,10 +36,11 @@ use Rattle.cany_model.specs.Rules.Totcan.{totcan}
 use Rattle.cany_model.specs.Rules.Turn.{protocols, turn_effects}
 use Rattle.cany_model.specs.Rules.Vectors.{brought, end_effects, ended, everybody, exchange_at, is_covered, is_new, met, met_with, rha_frame, rha_of, start_effects, vector_effects, vector_in}
 use Rattle.cany_base.specs.Cycles.{cycle_of, is_start}
+use Rattle.cany_base.proofs.SetFacts.{below_meet}
 use Rattle.cany_model.proofs.Among.{Each-append, Each-flat_map, Each-of, Each-weaker, Among-from_Contains, Among-get_or, Contains-from_Among}
 use Rattle.cany_model.proofs.Bus.EachRead.{EachRead}
 use Rattle.cany_model.proofs.Bus.Identities.{same_class_self}
-use Rattle.cany_model.proofs.Bus.Notes.{given-Got, has_where, note_of-offered, those_where_pass}
+use Rattle.cany_model.proofs.Bus.Notes.{given-Got, note_of-offered, placed_where}
 use Rattle.cany_model.proofs.Runs.Runs.{IsOrderly, history-length, history-opening, opening_within, orderly}
 use Rattle.cany_model.proofs.Bus.Seen.{history-is}
 use Rattle.cany_model.proofs.Bus.States.{no_note, node_at-opening, note_at, runs_within}
@@ -51,13 +52,13 @@ use Rattle.cany_model.proofs.Promises.KeptVectors.{vector_at}
 use Rattle.cany_model.proofs.Rules.CycleFacts.{exchange_slot, start_slot}
 use Rattle.cany_model.proofs.Rules.ProtocolFacts.{IsFounded, IsLawful}
 use Rattle.cany_model.proofs.Rules.Protocols.{are_lawful}
-use Rattle.cany_model.proofs.Rules.KnowledgeNodes.{IsVectorOfBus, knowledge_of_bus}
+use Rattle.cany_model.proofs.Rules.KnowledgeNodes.{IsVectorOfBus, everybody_below, knowledge_of_bus}
 use Rattle.cany_model.proofs.Rules.VectorFacts.{brought_exchanged, carries_vector, vector_starts}
 use Rattle.cany_model.proofs.Timed.Common.StepsWithoutRestarts.{along_fronts}
 use Rattle.cany_model.proofs.Timed.Detector.NoRestarts.{AllOriginal, all_original, follows, sees_all}
 pub use Rattle.cany_model.proofs.Timed.Views.OneVector.{installed_before, installed_here as installed_now}
 use Rattle.cany_model.proofs.Timed.Views.VectorBudget.{run_readable}
-use Rattle.cany_model.proofs.Timed.Views.VectorSets.{meet_left, vector_again}
+use Rattle.cany_model.proofs.Timed.Views.VectorSets.{vector_again}
 use Rattle.cany_model.proofs.Timed.Views.VectorTurns.{starts_with, turn_ends, turn_exchanges, turn_starts}
 use Rattle.cany_model.proofs.Timed.Views.VectorLastEffect.{IsCycle, brings, brought_in}
 
@@ -81,11 +82,11 @@ abbrev pub NoteSays : Format → ℕ → ℕ → Bool → SlotNote → Type 0
 NoteSays format k r b note = (f : FrameParts) → note.frame ≡ Some f → FrameSays format k r b f
 
 everybody_has : (p : Parameters) (r : ℕ) → r < most_nodes → r < p.nodes → has (everybody p) r ≡ true
-everybody_has p r few below = has_where (λ x. nat_lt x p.nodes) r few ∙ lt-ltb r p.nodes below
+everybody_has p r few below = placed_where (λ x. nat_lt x p.nodes) r few ∙ lt-ltb r p.nodes below
 
 meet_says : (r : ℕ) (b : Bool) (u w : Nodes) → r < most_nodes → (b ≡ true → has u r ≡ true) → has w r ≡ b → has (meet u w) r ≡ b
-meet_says r true u w few own got = has_where (λ x. has u x && has w x) r few ∙ and_from (has u r) (has w r) (own refl) got
-meet_says r false u w few own got = has_where (λ x. has u x && has w x) r few ∙ and_right (has u r) (has w r) got
+meet_says r true u w few own got = placed_where (λ x. has u x && has w x) r few ∙ and_from (has u r) (has w r) (own refl) got
+meet_says r false u w few own got = placed_where (λ x. has u x && has w x) r few ∙ and_right (has u r) (has w r) got
 
 own_says : (p : Parameters) (r : ℕ) (b : Bool) (old : Option Nodes) → r < most_nodes → r < p.nodes → Says r b old → b ≡ true
     → has (unwrap_or old (everybody p)) r ≡ true
@@ -113,11 +114,8 @@ brings_says format k r b i note says = by_notice (given i note) refl
 
 -- ---- the frames that a turn asks for
 
-meet_below : (n : ℕ) (a c : Nodes) → AllBelow n a → AllBelow n (meet a c)
-meet_below n a c below q h = below q (meet_left a c q h)
-
 own_below : (p : Parameters) (old : Option Nodes) → IsVectorOfBus p old → AllBelow p.nodes (unwrap_or old (everybody p))
-own_below p None below = λ q h. ltb-true q p.nodes (those_where_pass (λ x. nat_lt x p.nodes) q h)
+own_below p None below = everybody_below p
 own_below p (Some v) below = below
 
 -- the frame of a vector says what the vector says
@@ -169,7 +167,7 @@ module _ (scenario : ScenarioParts) (fits : scenario.params.nodes ≤ (layout sc
         let brings_w : brings p.format k e ≡ Some w = sym (brought_in p k slot e same during) ∙ is in
         meet_says r b (unwrap_or old (everybody p)) w few (own_says p r b old few below own_now) (got w brings_w) in
         let bus : AllBelow p.nodes v =
-        meet_below p.nodes (unwrap_or old (everybody p)) w (own_below p old (knowledge_of_bus scenario i first past read.1).vector) in
+        below_meet p.nodes (unwrap_or old (everybody p)) w (own_below p old (knowledge_of_bus scenario i first past read.1).vector) in
         cond_both (is_covered p (cycle_of p slot) i v (e ∷ past)) (Withdraw (rha_of (cycle_of p slot) i) ∷ [])
         (if is_new old v then Ask (rha_frame p.format scenario.inc (cycle_of p slot) i v) ∷ [] else []) (AllByRecursion Only)
         (λ _. (tt, tt))
@@ -278,11 +276,11 @@ pub record NodeSays (scenario : ScenarioParts) (k r : ℕ) (b : Bool) (i : ℕ) 
   pub waits : AllByRecursion (FrameSays scenario.params.format k r b) waiting
   pub installs : Says r b (installed_of scenario i k past)
 
-pub record AllSay (scenario : ScenarioParts) (k r : ℕ) (b : Bool) (s : RunState) : Type 0 where
+pub record AllVectorsSay (scenario : ScenarioParts) (k r : ℕ) (b : Bool) (s : RunState) : Type 0 where
   pub notes : AllByRecursion (NoteSays scenario.params.format k r b) s.trace
   pub nodes : (i : ℕ) → runs (node_at s.nodes i) ≡ true → NodeSays scenario k r b i (history i s) (node_at s.nodes i).waiting
 
-says_opening : (scenario : ScenarioParts) (k r : ℕ) (b : Bool) → AllSay scenario k r b (opening scenario.params.nodes)
+says_opening : (scenario : ScenarioParts) (k r : ℕ) (b : Bool) → AllVectorsSay scenario k r b (opening scenario.params.nodes)
 unfolding installed_of
 says_opening scenario k r b = record {
   notes = tt;
@@ -294,8 +292,8 @@ says_opening scenario k r b = record {
       });
 }
 
-says_slot : (scenario : ScenarioParts) (k r : ℕ) (b : Bool) (rules : FaultScript) (s : RunState) → AllSay scenario k r b s
-    → AllSay scenario k r b (after_slot rules s)
+says_slot : (scenario : ScenarioParts) (k r : ℕ) (b : Bool) (rules : FaultScript) (s : RunState) → AllVectorsSay scenario k r b s
+    → AllVectorsSay scenario k r b (after_slot rules s)
 says_slot scenario k r b rules s h = record {
   notes = subst (AllByRecursion (NoteSays scenario.params.format k r b)) (sym (after_slot-trace rules s)) (now, h.notes);
   nodes = λ i running.
@@ -369,7 +367,7 @@ module _ (scenario : ScenarioParts) (fits : scenario.params.nodes ≤ (layout sc
     )
 
     says_turn : (k r : ℕ) (b : Bool) → IsCycle scenario.params k → r < scenario.params.nodes → (i : ℕ) → MayTurn s i
-        → StartSays scenario k r b i (next_notice s i) (history i s) → AllSay scenario k r b s → AllSay scenario k r b (after_turn scenario i s)
+        → StartSays scenario k r b i (next_notice s i) (history i s) → AllVectorsSay scenario k r b s → AllVectorsSay scenario k r b (after_turn scenario i s)
     says_turn k r b c below i may start h =
         let o = orderly scenario journal in
         let short = o.unread i in
@@ -406,14 +404,14 @@ module _ (scenario : ScenarioParts) (fits : scenario.params.nodes ≤ (layout sc
         }
 
 -- where each start of the cycle says so, so does what is installed at its end
-pub all_say : (scenario : ScenarioParts) → scenario.params.nodes ≤ (layout scenario.params.format).nodes
+pub all_vectors_say : (scenario : ScenarioParts) → scenario.params.nodes ≤ (layout scenario.params.format).nodes
     → AllBelow scenario.params.nodes scenario.members → scenario.restarts ≡ [] → (k r : ℕ) (b : Bool) → IsCycle scenario.params k
     → r < scenario.params.nodes → (journal : List Step)
     → ((front rest : List Step) → journal ≡ front ++ rest → (i : ℕ) → MayTurn (run scenario front) i
     → StartSays scenario k r b i (next_notice (run scenario front) i) (history i (run scenario front)))
-    → AllSay scenario k r b (run scenario journal)
-all_say scenario fits first none k r b c below journal starts =
-    along_fronts scenario none (AllSay scenario k r b) journal (says_opening scenario k r b) (λ front rest e. record {
+    → AllVectorsSay scenario k r b (run scenario journal)
+all_vectors_say scenario fits first none k r b c below journal starts =
+    along_fronts scenario none (AllVectorsSay scenario k r b) journal (says_opening scenario k r b) (λ front rest e. record {
       slot = λ may h. says_slot scenario k r b (script scenario.rules) (run scenario front) h;
       turn = λ i may h. says_turn scenario fits first none front k r b c below i may (starts front rest e i may) h;
     })

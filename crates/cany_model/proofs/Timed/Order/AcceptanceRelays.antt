@@ -16,14 +16,14 @@ use Rattle.cany_model.specs.Rules.Effect.{waiting_after}
 use Rattle.cany_model.specs.Rules.Messages.{accept_of_key}
 use Rattle.cany_model.specs.Rules.Totcan.{holds, can_be_accepted, tot_of_key}
 use Rattle.cany_model.specs.Rules.Turn.{turn_effects}
-use Rattle.cany_model.proofs.Among.{count-grows}
 use Rattle.cany_model.proofs.Bus.States.{note_at}
+use Rattle.cany_model.proofs.Promises.Diffusion.{copies_got, copies_grow}
 use Rattle.cany_model.proofs.Runs.Steps.{kept_at}
 use Rattle.cany_model.proofs.Timed.Common.Ages.{Carried, Clean, Done, Gets, Sends, any_past, clean_carried, gave, open_from, past}
 use Rattle.cany_model.proofs.Timed.Common.SeenAges.{carried_from, done_from}
 use Rattle.cany_model.proofs.Timed.Order.TotKept.{TraceKept}
 use Rattle.cany_model.proofs.Timed.Order.TotSlots.{got_carried, waits_on}
-use Rattle.cany_model.proofs.Timed.Order.TotEffects.{TooMany, WaitsUnless, copies_fewer, copies_more, copies_read, now_cases, own_read, waits_still}
+use Rattle.cany_model.proofs.Timed.Order.TotEffects.{TooMany, WaitsUnless, copies_fewer, copies_read, now_cases, own_read, waits_still}
 
 -- ---- what is kept of a node
 
@@ -74,13 +74,9 @@ pub many_copies : (p : Parameters) (m : MsgKey) (e : NoticeKind) (before : List 
     → p.omit < copies (accept_of_key m) (e ∷ before)
 many_copies p m e before h =
     let fewer = copies_fewer m (accept_of_key m) before in
-    let more = copies_more (accept_of_key m) e before h.got in
+    let more = copies_got (accept_of_key m) e before h.got in
     let many = h.many in
     omega (arith, fewer, more, many)
-
-copies_grow : (x : Identity) (e : NoticeKind) (before : List NoticeKind) → copies x before ≤ copies x (e ∷ before)
-unfolding copies
-copies_grow x e before = count-grows (is_got x) e before
 
 -- ---- a slot
 

@@ -1,14 +1,12 @@
 -- Every run keeps the answers of each running node, by what its incarnation sees.
-use Rattle.std.proofs.Common.{◌≡◌, ℕ, zero, suc, ◌-◌, ◌<◌, ◌≤◌, inl, inr, true, List, [], ◌∷◌, None, length, ap, sym, ◌∙◌, subst, arith}
-use Rattle.std.specs.List.{AllByRecursion}
-use Rattle.std.proofs.lemmas.Bool.{cases_eq, false≢true}
+use Rattle.std.proofs.Common.{◌≡◌, ℕ, suc, ◌-◌, ◌<◌, ◌≤◌, inl, inr, true, List, [], ◌∷◌, length, ap, sym, ◌∙◌, subst, arith}
+use Rattle.std.proofs.lemmas.Bool.{cases_eq}
 use Rattle.cany_base.specs.declared.notice.NoticeKind.{NoticeKind}
 use Rattle.cany_base.specs.declared.slot_note.SlotNote.{SlotNote}
 use Rattle.cany_base.specs.declared.step.Step.{Step}
 use Rattle.cany_base.specs.Frame.{FrameParts}
 use Rattle.cany_base.specs.Limits.{most_nodes}
 use Rattle.cany_base.specs.Scenario.{ScenarioParts}
-use Rattle.cany_model.specs.Bus.Frames.{Identity}
 use Rattle.cany_model.specs.Bus.History.{as_seen, history, seen}
 use Rattle.cany_model.specs.Bus.Restart.{after_restarts}
 use Rattle.cany_model.specs.Runs.Run.{after_turn, run}
@@ -18,16 +16,16 @@ use Rattle.cany_model.specs.Rules.Effect.{waiting_after}
 use Rattle.cany_model.specs.Rules.Totcan.{tot_of_key}
 use Rattle.cany_model.specs.Rules.Turn.{scenario_for, turn_effects}
 use Rattle.cany_model.proofs.Bus.Restarts.{after_restarts-trace, restarts_or_stays}
-use Rattle.cany_model.proofs.Runs.Runs.{IsOrderly, along_run}
+use Rattle.cany_model.proofs.Runs.Runs.{IsOrderly}
 use Rattle.cany_model.proofs.Bus.Seen.{history-is, length-seen}
 use Rattle.cany_model.proofs.Bus.States.{note_at, runs_within}
 use Rattle.cany_model.proofs.Runs.Steps.{MayTurn, after_slot-present, after_slot-trace, after_slot-unread, after_turn-node, after_turn-other, after_turn-runs, after_turn-trace, next_notice, node_after_turn, running_before_slot}
 use Rattle.cany_model.proofs.Promises.EachNode.{EachRunning, IsNew, opening_new, restarted_new, slot_lived}
-use Rattle.cany_model.proofs.Promises.OwnSlotsAlone.{AllWaitForOwnSlots, own_slots_alone_opening, own_slots_alone_kept}
-use Rattle.cany_model.proofs.Timed.Common.Ages.{Carried, clean_carried, gave, past}
+use Rattle.cany_model.proofs.Promises.OwnSlotsAlone.{AllWaitForOwnSlots, own_slots_alone_run}
+use Rattle.cany_model.proofs.Timed.Common.Ages.{clean_carried, gave, past}
 use Rattle.cany_model.proofs.Timed.Order.AcceptanceRelays.{AcceptsLater, Answers, Hears, accepts_later, answers_slot, answers_turn, later_before, later_seen}
 use Rattle.cany_model.proofs.Timed.Order.TotKept.{NoSilent, TotKept}
-use Rattle.cany_model.proofs.Timed.Order.TotRun.{IsOfRun, along_states, past_next, run_orderly, tot_kept}
+use Rattle.cany_model.proofs.Timed.Order.TotRun.{IsOfRun, along_states, past_next, run_orderly, tot_kept, uncarried}
 
 abbrev pub AnswerNode : ScenarioParts → List SlotNote → ℕ → NodeState → Type 0
 AnswerNode scenario T i node = Answers scenario.params i T node.unread node.waiting
@@ -37,15 +35,10 @@ KeptAnswers scenario s = NoSilent s.trace → AcceptsLater s.trace → EachRunni
 
 -- ---- a node that begins
 
-no_frame : (T : List SlotNote) → AllByRecursion (λ note. note.frame ≡ None) T → (q : ℕ) (x : Identity) → Carried T q x → ⊥
-no_frame [] blank q x h = false≢true h
-no_frame (note ∷ T) blank zero x h = false≢true (rw blank.0 at h)
-no_frame (note ∷ T) blank (suc q) x h = no_frame T blank.1 q x h
-
 answers_new : (scenario : ScenarioParts) (T : List SlotNote) (i : ℕ) (node : NodeState) → IsNew scenario T i node → AnswerNode scenario T i node
 answers_new scenario T i node new = record {
-  to_copy = λ m c q from got d near. absurd (no_frame T new.blank q (tot_of_key m) (clean_carried (tot_of_key m) (note_at T q) d));
-  to_sent = λ m q mine from sent d. absurd (no_frame T new.blank q (tot_of_key m) (clean_carried (tot_of_key m) (note_at T q) d));
+  to_copy = λ m c q from got d near. absurd (uncarried T new.blank q (tot_of_key m) (clean_carried (tot_of_key m) (note_at T q) d));
+  to_sent = λ m q mine from sent d. absurd (uncarried T new.blank q (tot_of_key m) (clean_carried (tot_of_key m) (note_at T q) d));
 }
 
 answers_opening : (scenario : ScenarioParts) → KeptAnswers scenario (opening scenario.params.nodes)
@@ -53,11 +46,6 @@ answers_opening scenario plain later i running =
     answers_new scenario [] i (node_at (opening scenario.params.nodes).nodes i) (opening_new scenario i running)
 
 -- ---- a slot
-
-own_slots_alone_run : (scenario : ScenarioParts) (journal : List Step) → AllWaitForOwnSlots (run scenario journal)
-own_slots_alone_run scenario journal =
-    (along_run scenario (λ s. AllWaitForOwnSlots s × Unit {0}) (own_slots_alone_opening scenario.params.nodes, tt)
-    (own_slots_alone_kept scenario (λ s. Unit {0}) (record { slot = λ s o own_slots_alone h. tt; restarts = λ s o some h. tt; turn = λ s i o may h. tt })) journal).0
 
 answers_after_slot : (scenario : ScenarioParts) (s : RunState) → IsOfRun scenario s → KeptAnswers scenario s
     → KeptAnswers scenario (after_slot (script scenario.rules) s)

@@ -1,7 +1,7 @@
 -- What an incarnation sees of a message that it accepts: its data frame was carried Clean at an age that was read, and what is accepted stays so.
 use Rattle.std.proofs.Common.{◌≡◌, ℕ, zero, suc, ◌-◌, ◌<◌, ◌≤◌, ◌||◌, ◌&&◌, ◌==◌, inl, inr, not, Bool, true, false, List, [], ◌∷◌, length, map, get_or, refl, ap, sym, ◌∙◌, arith}
 use Rattle.std.specs.List.{list_any, range_with_len}
-use Rattle.std.proofs.lemmas.Bool.{and_from, and_parts, both_ways, cases_Bool, cases_lt, false≢true, or_cases, or_left, or_right}
+use Rattle.std.proofs.lemmas.Bool.{and_from, and_parts, both_ways, cases_Bool, cases_lt, false_from_ne_true, false≢true, not_from_false, or_cases, or_left, or_right}
 use Rattle.std.proofs.lemmas.List.Folds.{list_any_at}
 use Rattle.std.proofs.lemmas.List.FromFn.{get_or-range_with_len, length-range_with_len}
 use Rattle.cany_base.specs.declared.class.Class.TheVariants as class
@@ -49,23 +49,15 @@ heard_from b j zero zero m (note ∷ T) none from got near =
     let before : List NoticeKind = map (given j) T in
     let now : Bool = is_got (accept_of_key m) (given j note) in
     and_from (not (holds m (given j note))) (is_heard b m before || now && is_recent b m before)
-    (not_from_ne (holds m (given j note)) (none 0 (omega arith) (omega arith)))
+    (not_from_false (holds m (given j note)) (false_from_ne_true (holds m (given j note)) (none 0 (omega arith) (omega arith))))
     (or_right (is_heard b m before) (now && is_recent b m before) (and_from now (is_recent b m before) got near))
-  where
-    not_from_ne : (h : Bool) → (h ≡ true → ⊥) → not h ≡ true
-    not_from_ne true never = absurd (never refl)
-    not_from_ne false never = refl
 heard_from b j zero (suc r) m (note ∷ T) none from got near =
     let before : List NoticeKind = map (given j) T in
     let now : Bool = is_got (accept_of_key m) (given j note) in
     let rest = heard_from b j 0 r m T (λ p x y. none (suc p) (omega arith) (omega (arith, y))) (omega arith) got near in
     and_from (not (holds m (given j note))) (is_heard b m before || now && is_recent b m before)
-    (not_from_ne (holds m (given j note)) (none 0 (omega arith) (omega arith)))
+    (not_from_false (holds m (given j note)) (false_from_ne_true (holds m (given j note)) (none 0 (omega arith) (omega arith))))
     (or_left (is_heard b m before) (now && is_recent b m before) rest)
-  where
-    not_from_ne : (h : Bool) → (h ≡ true → ⊥) → not h ≡ true
-    not_from_ne true never = absurd (never refl)
-    not_from_ne false never = refl
 heard_from b j (suc u) zero m (note ∷ T) none from got near = absurd (omega (arith, from))
 heard_from b j (suc u) (suc r) m (note ∷ T) none from got near =
     heard_from b j u r m T (λ p x y. none (suc p) (omega (arith, x)) (omega (arith, y))) (omega (arith, from)) got near

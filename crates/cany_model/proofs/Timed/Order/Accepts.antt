@@ -36,6 +36,7 @@ use Rattle.cany_model.proofs.Runs.SlotStates.{slot_state_is, trace_grows}
 use Rattle.cany_model.proofs.Bus.States.{no_note, note_at}
 use Rattle.cany_model.proofs.Runs.Waits.{Asks, waits-from_after}
 use Rattle.cany_model.proofs.Promises.EachNode.{EachRunning}
+use Rattle.cany_model.proofs.Rules.AskedFacts.{same_answer}
 use Rattle.cany_model.proofs.Timed.Order.Accepted.{accepted_done, accepted_on, heard_at, heard_from, not_vector, sees_accept, some_node}
 use Rattle.cany_model.proofs.Timed.Common.Ages.{Carried, Clean, Done, Gets, NoPlace, Sends, any_past, carried_there, carries, carries_clean, clean_carried, gave, open_from, past, some_past}
 use Rattle.cany_model.proofs.Timed.Order.AcceptanceRelays.{AcceptsLater, Answer, Answers, Hears, accepts_later, heard_holds, later_seen, many_copies}
@@ -471,11 +472,6 @@ to_closing s i c bound q at read =
     let T : List SlotNote = seen (node_at s.nodes i).present s.trace in
     let left : u + n ≡ q - bound = omega (arith, at, read) in
     ap (drop n) (history-is i s) ∙ drop-map (given i) n (drop u T) ∙ ap (map (given i)) (drop-drop n u T ∙ ap (λ k. drop k T) left)
-
-same_answer : (a b : Bool) → (a ≡ true → b ≡ true) → (b ≡ true → a ≡ true) → a ≡ b
-same_answer true b to from = sym (to refl)
-same_answer false true to from = from refl
-same_answer false false to from = refl
 
 -- Of a message whose data frame was carried Clean all nodes that have read its closing accepted it in time, or none, and no running node
 -- accepts it otherwise.

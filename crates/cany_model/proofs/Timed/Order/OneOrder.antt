@@ -1,17 +1,14 @@
 -- One order: what a correct node has delivered by TOTCAN begins the order of the slots in which it takes part.
-use Rattle.std.proofs.Common.{◌≡◌, ℕ, suc, ◌+◌, ◌-◌, ◌<◌, ◌≤◌, ◌⊎◌, ◌&&◌, inl, inr, not, Bool, true, false, List, [], ◌∷◌, length, map, drop, Option, Some, None, nat_lt, get_or, refl, ap, sym, ◌∙◌, subst, arith, drop-drop, ◌++◌}
-use Rattle.std.specs.List.{list_any, range_with_len}
+use Rattle.std.proofs.Common.{◌≡◌, ℕ, suc, ◌+◌, ◌-◌, ◌<◌, ◌≤◌, ◌⊎◌, ◌&&◌, inl, inr, not, Bool, true, false, List, [], ◌∷◌, length, map, drop, Option, Some, None, nat_lt, refl, ap, sym, ◌∙◌, subst, arith, drop-drop, ◌++◌}
 use Rattle.std.proofs.lemmas.Bool.{and_from, and_left, and_right, both_ways, cases_Bool, cases_lt, cond_both, le-ltb, not_from_false}
 use Rattle.std.proofs.lemmas.List.{drop-map, map-append}
 use Rattle.std.proofs.lemmas.List.Elements.{recursion_from_All}
-use Rattle.std.proofs.lemmas.List.Folds.{list_any_at}
-use Rattle.std.proofs.lemmas.List.FromFn.{get_or-range_with_len, length-range_with_len}
 use Rattle.cany_base.specs.declared.message.MsgKey.{MsgKey}
 use Rattle.cany_base.specs.declared.message.Service.TheVariants.{Tot}
 use Rattle.cany_base.specs.declared.notice.NoticeKind.{NoticeKind}
 use Rattle.cany_base.specs.declared.slot_note.SlotNote.{SlotNote}
 use Rattle.cany_base.specs.declared.step.Step.{Step}
-use Rattle.cany_base.specs.Frame.{FrameParts, data_class}
+use Rattle.cany_base.specs.Frame.{FrameParts}
 use Rattle.cany_base.specs.Limits.{most_nodes}
 use Rattle.cany_base.specs.Params.{Parameters}
 use Rattle.cany_base.specs.Scenario.{ScenarioParts}
@@ -25,7 +22,7 @@ use Rattle.cany_model.specs.Promises.Hypothesis.{IsWithin, is_silent_slot}
 use Rattle.cany_model.specs.Promises.Order.{Content, FollowsOrder, HasOneOrder, content_of, is_accepted_by_some, order, tot_deliveries, has_accepted}
 use Rattle.cany_model.specs.Promises.Settled.{IsCorrect, is_settled}
 use Rattle.cany_model.specs.Rules.Log.{log}
-use Rattle.cany_model.specs.Rules.Messages.{Message, data_id, is_service, message_key}
+use Rattle.cany_model.specs.Rules.Messages.{Message, is_service, message_key}
 use Rattle.cany_model.specs.Rules.Totcan.{delivered, done, is_accepted, is_among, is_clear, is_pending, is_place, is_recent, message_in, new_among, tot_in, tot_of_key, totcan}
 use Rattle.cany_model.specs.Rules.Turn.{scenario_at}
 use Rattle.cany_model.proofs.Among.{Among, Among-append_left, Among-append_right, Among-from_Contains, Among-from_any, Among-from_map, Among-weaker}
@@ -39,7 +36,7 @@ use Rattle.cany_model.proofs.Promises.SettledFacts.{settled_none_ahead, settled_
 use Rattle.cany_model.proofs.Rules.DoneFacts.{IsNamed, are_through, done_exactly, is_done, through_is_clear}
 use Rattle.cany_model.proofs.Rules.PlaceFacts.{Place}
 use Rattle.cany_model.proofs.Rules.Protocols.{totcan_is_one}
-use Rattle.cany_model.proofs.Timed.Order.Accepted.{accepted_done, accepted_on, seen_first}
+use Rattle.cany_model.proofs.Timed.Order.Accepted.{accepted_done, accepted_on, seen_first, some_node}
 use Rattle.cany_model.proofs.Timed.Order.Accepts.{AcceptedAt}
 use Rattle.cany_model.proofs.Timed.Common.Ages.{Done, carried_there, clean_carried, gave, open_from, past}
 use Rattle.cany_model.proofs.Timed.Order.AcceptanceRelays.{heard_holds}
@@ -50,13 +47,6 @@ use Rattle.cany_model.proofs.Timed.Order.TotKept.{NoSilent, TotKept}
 use Rattle.cany_model.proofs.Timed.Order.TotRun.{past_next}
 
 -- ---- a running node of a run
-
--- some of the nodes passes, and a node that passes is one of them
-some_node : (test : ℕ → Bool) (n i : ℕ) → i < n → test i ≡ true → list_any test (range_with_len 0 n) ≡ true
-some_node test n i below h =
-    let there : i < length (range_with_len 0 n) = omega (arith, length-range_with_len 0 n, below) in
-    let at : get_or (range_with_len 0 n) i 0 ≡ i = let e = get_or-range_with_len 0 n i 0 below in omega (arith, e) in
-    list_any_at test (range_with_len 0 n) i 0 there (ap test at ∙ h)
 
 -- what the argument uses of a state
 pub record Ground (scenario : ScenarioParts) (s : RunState) : Type 0 where
@@ -215,9 +205,6 @@ first_from scenario journal =
     journal
 
 -- ---- what a correct node has delivered
-
-pub tot_id : (m : Message) → m.service ≡ Tot → data_id m ≡ tot_of_key (message_key m)
-tot_id m tot = λ k. record { class = (ap data_class tot) k; number = m.seq; node = m.origin }
 
 tot_itself : (m : Message) → m.service ≡ Tot → is_service m.service Tot ≡ true
 unfolding is_service same_class

@@ -1,10 +1,10 @@
 -- The backlog of a node by places: each message has one place, and when one is asked for, those before it were sent long before.
 use Rattle.std.specs.Prelude.{slice_index_or}
-use Rattle.std.proofs.Common.{◌≡◌, ℕ, zero, suc, ◌+◌, ◌<◌, ◌≤◌, ◌==◌, ◌&&◌, ◌||◌, inl, inr, Bool, true, false, not, List, [], ◌∷◌, ◌++◌, filter, length, map, take, drop, Option, Some, None, refl, ap, sym, ◌∙◌, subst, arith, count_by, drop-drop, length-append, nat_lt}
+use Rattle.std.proofs.Common.{◌≡◌, ℕ, zero, suc, ◌+◌, ◌<◌, ◌≤◌, ◌==◌, ◌&&◌, inl, inr, Bool, true, false, not, List, [], ◌∷◌, ◌++◌, filter, length, map, take, drop, Option, Some, None, refl, ap, sym, ◌∙◌, subst, arith, count_by, drop-drop, length-append, nat_lt}
 use Rattle.std.specs.List.{AllByRecursion, last_or, list_all, list_any}
 use Rattle.std.specs.Option.{option_map_or}
 use Rattle.std.proofs.Math.ListN.{get_or-append}
-use Rattle.std.proofs.lemmas.Bool.{and_parts, cases_eq, cond_both, eq-eqb, eqb-true, false≢true, not-true, or_cases, or_left, or_right}
+use Rattle.std.proofs.lemmas.Bool.{and_parts, cases_eq, cond_both, eq-eqb, eqb-true, false≢true, not-true, or_cases, or_left, or_parts, or_right}
 use Rattle.std.proofs.lemmas.List.{drop-map}
 use Rattle.std.proofs.lemmas.List.Elements.{All-from_recursion, All-get_or}
 use Rattle.cany_base.specs.declared.message.MsgKey.{MsgKey}
@@ -168,12 +168,8 @@ any_older test wider zero xs gives none h = h
 any_older test wider (suc n) [] gives none h = h
 any_older test wider (suc n) (x ∷ xs) gives none h = elim (or_cases (test x) (list_any test xs) h) [
   | inl now ↦ absurd (false≢true (sym none ∙ or_left (wider x) (list_any wider (take n xs)) (gives x now)))
-  | inr before ↦ any_older test wider n xs gives (or_none (wider x) (list_any wider (take n xs)) none) before
+  | inr before ↦ any_older test wider n xs gives (or_parts (wider x) (list_any wider (take n xs)) none).1 before
 ]
-  where
-    or_none : (a b : Bool) → (a || b) ≡ false → b ≡ false
-    or_none true b none = absurd (false≢true (sym none))
-    or_none false b none = none
 
 -- the node has read its own transmission of the frame, so many slots ago or more
 abbrev pub IsLongSent : ℕ → List NoticeKind → Identity → Type 0
@@ -183,17 +179,18 @@ long_more : (slots : ℕ) (e : NoticeKind) (past : List NoticeKind) (x : Identit
 unfolding has_own
 long_more slots e past x h = any_drop_more (is_sent x) slots e past h
 
+-- the frame of a TOTCAN message is that of its key
+pub tot_id : (m : Message) → m.service ≡ Tot → data_id m ≡ tot_of_key (message_key m)
+tot_id m tot = λ k. record { class = ap data_class tot k; number = m.seq; node = m.origin }
+
 long_own : (slots : ℕ) (past : List NoticeKind) (m : Message) → m.service ≡ Tot → has_own (data_id m) past ≡ true
     → is_recent slots (message_key m) past ≡ false → IsLongSent slots past (data_id m)
 unfolding has_own is_recent
 long_own slots past m tot own old =
     any_older (is_sent (data_id m)) (holds (message_key m)) slots past
     (λ e sent. or_right (is_got (tot_of_key (message_key m)) e) (is_sent (tot_of_key (message_key m)) e)
-    (ap (λ x. is_sent x e) (sym (tot_named m tot)) ∙ sent))
+    (ap (λ x. is_sent x e) (sym (tot_id m tot)) ∙ sent))
     old own
-  where
-    tot_named : (m : Message) → m.service ≡ Tot → data_id m ≡ tot_of_key (message_key m)
-    tot_named m tot = λ k. record { class = ap data_class tot k; number = m.seq; node = m.origin }
 
 pub past_dropped : (i : ℕ) (T : List SlotNote) (u slots : ℕ) → drop slots (past i T u) ≡ past i T (u + slots)
 past_dropped i T u slots = drop-map (given i) slots (drop u T) ∙ ap (map (given i)) (drop-drop slots u T)

@@ -1,6 +1,6 @@
 -- Few frames that accept messages, and few data frames of TOTCAN, in a window of bound + lag slots: two for each pair of an origin and a node
 -- that accepts, and one of each origin.
-use Rattle.std.proofs.Common.{◌≡◌, ℕ, ◌+◌, ◌*◌, ◌<◌, ◌≤◌, ◌⊎◌, ◌&&◌, ◌==◌, inl, inr, Bool, true, false, List, Some, None, Option, count_by, drop, take, refl, ap, sym, ◌∙◌, subst, arith}
+use Rattle.std.proofs.Common.{◌≡◌, ℕ, ◌+◌, ◌*◌, ◌<◌, ◌≤◌, ◌⊎◌, ◌&&◌, ◌==◌, inl, inr, Bool, true, false, List, Some, count_by, drop, take, refl, ap, sym, ◌∙◌, subst, arith}
 use Rattle.std.proofs.lemmas.Bool.{and_from, and_parts, cases_order, eq-eqb, eqb-true, false≢true}
 use Rattle.std.proofs.lemmas.List.Elements.{recursion_from_All}
 use Rattle.cany_base.specs.declared.class.Class.{Class}
@@ -21,7 +21,7 @@ use Rattle.cany_model.specs.Promises.Hypothesis.{IsWithin, is_silent_slot}
 use Rattle.cany_model.specs.Promises.Windows.{HasFewAccepts, HasFewTotFrames, is_clean_of}
 use Rattle.cany_model.specs.Rules.Messages.{accept_of_key}
 use Rattle.cany_model.specs.Rules.Totcan.{tot_of_key}
-use Rattle.cany_model.proofs.Bus.Carried.{is_sent-from, is_sent-true}
+use Rattle.cany_model.proofs.Bus.Carried.{carried_frame, is_carried, is_sent-from, is_sent-true}
 use Rattle.cany_model.proofs.Bus.Identities.{same_class-true, same_class_self}
 use Rattle.cany_model.proofs.Bus.Notes.{given_idle}
 use Rattle.cany_model.proofs.Bus.States.{no_note, note_at}
@@ -30,6 +30,7 @@ use Rattle.cany_model.proofs.Timed.Common.Counting.{Passes, at_most_1, at_most_2
 use Rattle.cany_model.proofs.Timed.Order.TotKept.{NoSilent, TraceKept}
 use Rattle.cany_model.proofs.Timed.Order.TotRun.{tot_kept}
 use Rattle.cany_model.proofs.Timed.Order.TotSlots.{carries-from, carries-true, sent_carried}
+use Rattle.cany_model.proofs.Timed.Order.TotTurn.{tot_one}
 
 -- ---- tests
 
@@ -47,16 +48,6 @@ sends_accept origin (Sent f) = same_class f.class class.Accept && f.node == orig
 abbrev by_pair : ℕ → ℕ → SlotNote → Bool
 by_pair origin i note = sends_accept origin (given i note)
 
-pub test_frame : (test : FrameParts → Bool) (note : SlotNote) → carried test note ≡ true → (f : FrameParts) × (note.frame ≡ Some f) × (test f ≡ true)
-test_frame test note h = by_frame note.frame refl
-  where
-    by_frame : (o : Option FrameParts) → note.frame ≡ o → (f : FrameParts) × (note.frame ≡ Some f) × (test f ≡ true)
-    by_frame None e = absurd (false≢true (rw e at h))
-    by_frame (Some f) e = (f, e, rw e at h)
-
-pub carried_of : (test : FrameParts → Bool) (note : SlotNote) (f : FrameParts) → note.frame ≡ Some f → test f ≡ true → carried test note ≡ true
-carried_of test note f frame h = rw frame h
-
 -- the message that this frame carries or accepts, where its origin is known
 pub message_at : ℕ → FrameParts → MsgKey
 message_at origin f = record { origin = origin; seq = f.number }
@@ -69,9 +60,6 @@ accept_is f origin c n = λ k. record { class = sym (same_class-true f.class cla
 tot_is : (f : FrameParts) (origin : ℕ) → same_class f.class class.Tot ≡ true → f.node ≡ origin → tot_of_key (message_at origin f) ≡ identity_of f
 unfolding message_at
 tot_is f origin c n = λ k. record { class = sym (same_class-true f.class class.Tot c) k; number = f.number; node = sym n k }
-
-tot_one : (m k : MsgKey) → tot_of_key m ≡ tot_of_key k → m ≡ k
-tot_one m k e = λ t. record { origin = (e t).node; seq = (e t).number }
 
 -- a slot carries one message
 pub one_message : (T : List SlotNote) (a : ℕ) (m k : MsgKey) → Done T a m → Done T a k → m ≡ k
@@ -157,27 +145,27 @@ module _ (scenario : ScenarioParts) (T : List SlotNote) (t : TraceKept scenario 
   unfolding message_at
   of_origin p h =
       let parts = and_parts (carried (λ f. same_class f.class class.Accept) (note_at T p)) (is_clean (note_at T p).verdict) h in
-      let f = test_frame (λ f. same_class f.class class.Accept) (note_at T p) parts.0 in
-      let m : MsgKey = message_at f.0.node f.0 in
-      let c : Carried T p (accept_of_key m) = carries-from (accept_of_key m) (note_at T p) f.0 f.1 (accept_is f.0 f.0.node f.2 refl) in
+      let f = carried_frame (λ f. same_class f.class class.Accept) (note_at T p) parts.0 in
+      let m : MsgKey = message_at f.what.node f.what in
+      let c : Carried T p (accept_of_key m) = carries-from (accept_of_key m) (note_at T p) f.what f.frame (accept_is f.what f.what.node f.passes refl) in
       let a = t.accept_after p m c in
-      let passes = carried_of (λ g. same_class g.class class.Accept && g.node == f.0.node) (note_at T p) f.0 f.1
-      (and_from (same_class f.0.class class.Accept) (f.0.node == f.0.node) f.2 (eq-eqb f.0.node f.0.node refl)) in (
-        f.0.node,
+      let passes = is_carried (λ g. same_class g.class class.Accept && g.node == f.what.node) (note_at T p) f.what f.frame
+      (and_from (same_class f.what.class class.Accept) (f.what.node == f.what.node) f.passes (eq-eqb f.what.node f.what.node refl)) in (
+        f.what.node,
         t.origin_there a.0 m a.3,
-        and_from (carried (λ g. same_class g.class class.Accept && g.node == f.0.node) (note_at T p)) (is_clean (note_at T p).verdict) passes parts.1,
+        and_from (carried (λ g. same_class g.class class.Accept && g.node == f.what.node) (note_at T p)) (is_clean (note_at T p).verdict) passes parts.1,
       )
 
   of_pair : (o p : ℕ) → Passes (is_clean_from class.Accept o) T p → (i : ℕ) × (i < scenario.params.nodes) × Passes (by_pair o i) T p
   unfolding message_at
   of_pair o p h =
       let parts = and_parts (carried (λ g. same_class g.class class.Accept && g.node == o) (note_at T p)) (is_clean (note_at T p).verdict) h in
-      let f = test_frame (λ g. same_class g.class class.Accept && g.node == o) (note_at T p) parts.0 in
-      let inner = and_parts (same_class f.0.class class.Accept) (f.0.node == o) f.2 in
-      let n : f.0.node ≡ o = eqb-true f.0.node o inner.1 in
-      let m : MsgKey = message_at o f.0 in
-      let x : accept_of_key m ≡ identity_of f.0 = accept_is f.0 o inner.0 n in
-      let it = carries-from (accept_of_key m) (note_at T p) f.0 f.1 x in
+      let f = carried_frame (λ g. same_class g.class class.Accept && g.node == o) (note_at T p) parts.0 in
+      let inner = and_parts (same_class f.what.class class.Accept) (f.what.node == o) f.passes in
+      let n : f.what.node ≡ o = eqb-true f.what.node o inner.1 in
+      let m : MsgKey = message_at o f.what in
+      let x : accept_of_key m ≡ identity_of f.what = accept_is f.what o inner.0 n in
+      let it = carries-from (accept_of_key m) (note_at T p) f.what f.frame x in
       let clean : Clean T p (accept_of_key m) = and_from (carries (accept_of_key m) (note_at T p)) (is_clean (note_at T p).verdict) it parts.1 in
       let s = t.sender p (accept_of_key m) clean in
       let g = is_sent-true (accept_of_key m) (gave s.0 T p) s.2 in
@@ -199,23 +187,23 @@ module _ (scenario : ScenarioParts) (T : List SlotNote) (t : TraceKept scenario 
   unfolding message_at
   done_of o p h =
       let parts = and_parts (carried (λ g. same_class g.class class.Tot && g.node == o) (note_at T p)) (is_clean (note_at T p).verdict) h in
-      let f = test_frame (λ g. same_class g.class class.Tot && g.node == o) (note_at T p) parts.0 in
-      let inner = and_parts (same_class f.0.class class.Tot) (f.0.node == o) f.2 in
-      let m : MsgKey = message_at o f.0 in
-      let x : tot_of_key m ≡ identity_of f.0 = tot_is f.0 o inner.0 (eqb-true f.0.node o inner.1) in
-      let it = carries-from (tot_of_key m) (note_at T p) f.0 f.1 x in
+      let f = carried_frame (λ g. same_class g.class class.Tot && g.node == o) (note_at T p) parts.0 in
+      let inner = and_parts (same_class f.what.class class.Tot) (f.what.node == o) f.passes in
+      let m : MsgKey = message_at o f.what in
+      let x : tot_of_key m ≡ identity_of f.what = tot_is f.what o inner.0 (eqb-true f.what.node o inner.1) in
+      let it = carries-from (tot_of_key m) (note_at T p) f.what f.frame x in
       (m, refl, and_from (carries (tot_of_key m) (note_at T p)) (is_clean (note_at T p).verdict) it parts.1)
 
   of_source : (p : ℕ) → Passes (is_clean_of class.Tot) T p → (o : ℕ) × (o < scenario.params.nodes) × Passes (is_clean_from class.Tot o) T p
   of_source p h =
       let parts = and_parts (carried (λ f. same_class f.class class.Tot) (note_at T p)) (is_clean (note_at T p).verdict) h in
-      let f = test_frame (λ f. same_class f.class class.Tot) (note_at T p) parts.0 in
-      let passes : Passes (is_clean_from class.Tot f.0.node) T p =
-      and_from (carried (λ g. same_class g.class class.Tot && g.node == f.0.node) (note_at T p)) (is_clean (note_at T p).verdict)
-      (carried_of (λ g. same_class g.class class.Tot && g.node == f.0.node) (note_at T p) f.0 f.1
-      (and_from (same_class f.0.class class.Tot) (f.0.node == f.0.node) f.2 (eq-eqb f.0.node f.0.node refl))) parts.1 in
-      let m = done_of f.0.node p passes in
-      (f.0.node, subst (λ x. x < scenario.params.nodes) m.1 (t.origin_there p m.0 m.2), passes)
+      let f = carried_frame (λ f. same_class f.class class.Tot) (note_at T p) parts.0 in
+      let passes : Passes (is_clean_from class.Tot f.what.node) T p =
+      and_from (carried (λ g. same_class g.class class.Tot && g.node == f.what.node) (note_at T p)) (is_clean (note_at T p).verdict)
+      (is_carried (λ g. same_class g.class class.Tot && g.node == f.what.node) (note_at T p) f.what f.frame
+      (and_from (same_class f.what.class class.Tot) (f.what.node == f.what.node) f.passes (eq-eqb f.what.node f.what.node refl))) parts.1 in
+      let m = done_of f.what.node p passes in
+      (f.what.node, subst (λ x. x < scenario.params.nodes) m.1 (t.origin_there p m.0 m.2), passes)
 
   one_of_source : (o d : ℕ) → count_by (is_clean_from class.Tot o) (take window (drop d T)) ≤ 1
   one_of_source o d = at_most_1 (is_clean_from class.Tot o) (take window (drop d T)) (λ p q l a b.

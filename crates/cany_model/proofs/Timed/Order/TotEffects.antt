@@ -21,6 +21,7 @@ use Rattle.cany_model.specs.Rules.Totcan.{accept_effects, accept_frame, after_pl
 use Rattle.cany_model.specs.Rules.Turn.{turn_effects}
 use Rattle.cany_model.proofs.Among.{count-no, count-yes}
 use Rattle.cany_model.proofs.Bus.Identities.{same_class-true, same_class_self, same_identity-from, same_identity-true}
+use Rattle.cany_model.proofs.Promises.Diffusion.{copies_got}
 use Rattle.cany_model.proofs.Rules.PlaceFacts.{holds-place, tot_in-holds}
 use Rattle.cany_model.proofs.Timed.Common.LastEffect.{Asked, Silence, Withdrawn, Word, accept_alone, later, tot_alone, turn_waits, turn_word, waits_word, word, word-append}
 
@@ -179,10 +180,6 @@ got_after_place m Bad before h = absurd (false≢true h)
 got_after_place m (Sent f) before h = absurd (false≢true h)
 got_after_place m (Got f) before h = rw (not_held m f h) refl
 
-pub copies_more : (x : Identity) (e : NoticeKind) (before : List NoticeKind) → is_got x e ≡ true → copies x (e ∷ before) ≡ suc (copies x before)
-unfolding copies
-copies_more x e before h = count-yes (is_got x) e before h
-
 own_same : (x : Identity) (f : FrameParts) (before : List NoticeKind) → has_own x (Got f ∷ before) ≡ has_own x before
 unfolding has_own
 own_same x f before = refl
@@ -206,7 +203,7 @@ eager_word p i m f before mine in_time = by_enough (has_enough p.omit (identity_
     shape = got_after_place m (Got f) before mine
 
     count : copies (identity_of f) now ≡ suc (copies x (after_place m before))
-    count = ap (λ y. copies y now) same ∙ ap (copies x) shape ∙ copies_more x (Got f) (after_place m before) mine
+    count = ap (λ y. copies y now) same ∙ ap (copies x) shape ∙ copies_got x (Got f) (after_place m before) mine
 
     own : has_own (identity_of f) now ≡ has_own x (after_place m before)
     own = ap (λ y. has_own y now) same ∙ ap (has_own x) shape ∙ own_same x f (after_place m before)

@@ -19,12 +19,12 @@ use Rattle.cany_model.specs.Rules.Effect.{waiting_after}
 use Rattle.cany_model.specs.Rules.Turn.{scenario_for, turn_effects}
 use Rattle.cany_model.proofs.Runs.Journals.{run_push, step_is, step_refused}
 use Rattle.cany_model.proofs.Bus.Restarts.{after_restarts-trace, restarts_or_stays}
-use Rattle.cany_model.proofs.Runs.Runs.{IsOrderly, MaySlot, along_run, orderly, orderly_slot, slot_done, turn_done}
+use Rattle.cany_model.proofs.Runs.Runs.{IsOrderly, MaySlot, orderly, orderly_slot, slot_done, turn_done}
 use Rattle.cany_model.proofs.Bus.Seen.{history-is, length-seen}
 use Rattle.cany_model.proofs.Bus.States.{note_at, runs_within}
 use Rattle.cany_model.proofs.Runs.Steps.{MayTurn, after_slot-present, after_slot-trace, after_slot-unread, after_slot-waiting, after_turn-node, after_turn-other, after_turn-runs, after_turn-trace, next_notice, node_after_turn, running_before_slot}
 use Rattle.cany_model.proofs.Promises.EachNode.{IsNew, opening_new, restarted_new}
-use Rattle.cany_model.proofs.Promises.OwnSlotsAlone.{AllWaitForOwnSlots, own_slots_alone_opening, own_slots_alone_kept}
+use Rattle.cany_model.proofs.Promises.OwnSlotsAlone.{own_slots_alone_run}
 use Rattle.cany_model.proofs.Timed.Common.Ages.{Carried, Gets, Sends, clean_carried, gave, past}
 use Rattle.cany_model.proofs.Timed.Common.OwnSlots.{own_slots}
 use Rattle.cany_model.proofs.Timed.Order.TotFrames.{late_run, sound_run}
@@ -88,18 +88,13 @@ along_states scenario P first keeps journal = kept_on scenario P keeps (opening 
 
 -- ---- what is known of the state before a slot
 
-all_own_slots_alone : (scenario : ScenarioParts) (journal : List Step) → AllWaitForOwnSlots (run scenario journal)
-all_own_slots_alone scenario journal =
-    (along_run scenario (λ s. AllWaitForOwnSlots s × Unit {0}) (own_slots_alone_opening scenario.params.nodes, tt)
-    (own_slots_alone_kept scenario (λ s. Unit {0}) (record { slot = λ s o own_slots_alone h. tt; restarts = λ s o some h. tt; turn = λ s i o may h. tt })) journal).0
-
 ready_run : (scenario : ScenarioParts) → scenario.params.nodes ≤ most_nodes → (journal : List Step) → MaySlot scenario (run scenario journal)
     → IsReady scenario (run scenario journal)
 ready_run scenario few journal may = record {
   few = subst (λ n. n ≤ most_nodes) (sym (orderly scenario journal).count) few;
   o = orderly scenario journal;
   lag = may.lag;
-  own_slots_alone = all_own_slots_alone scenario journal;
+  own_slots_alone = own_slots_alone_run scenario journal;
   own = own_slots scenario journal;
   sound = sound_run scenario journal few;
   late = late_run scenario journal;
@@ -112,7 +107,7 @@ ready_before scenario few s of may =
 
 -- ---- the beginning of a run, and of a node
 
-uncarried : (T : List SlotNote) → AllByRecursion (λ note. note.frame ≡ None) T → (p : ℕ) (x : Identity) → Carried T p x → ⊥
+pub uncarried : (T : List SlotNote) → AllByRecursion (λ note. note.frame ≡ None) T → (p : ℕ) (x : Identity) → Carried T p x → ⊥
 uncarried [] blank p x h = false≢true h
 uncarried (note ∷ T) blank zero x h = false≢true (rw blank.0 at h)
 uncarried (note ∷ T) blank (suc p) x h = uncarried T blank.1 p x h

@@ -55,10 +55,12 @@ use Rattle.cany_model.proofs.Rules.Protocols.{are_lawful}
 use Rattle.cany_model.proofs.Rules.TurnFacts.{turn_cause_data, turn_effect}
 use Rattle.cany_model.proofs.Timed.Order.Accepts.{AcceptedAt}
 use Rattle.cany_model.proofs.Timed.Common.Ages.{any_past}
-use Rattle.cany_model.proofs.Timed.Order.OneOrder.{Ground, accepted_by_one, follows, ground_of, read_by, seen_by, tot_id}
+use Rattle.cany_model.proofs.Timed.Order.OneOrder.{Ground, accepted_by_one, follows, ground_of, read_by, seen_by}
 use Rattle.cany_model.proofs.Timed.Order.OrderAt.{IsOrdered, Orders, order_has, order_which, orders_carries, orders_from}
 use Rattle.cany_model.proofs.Timed.Order.OrderLog.{delivered_content}
 use Rattle.cany_model.proofs.Timed.Common.SeenAges.{gets_from}
+use Rattle.cany_model.proofs.Timed.Order.Accepted.{not_vector}
+use Rattle.cany_model.proofs.Timed.Order.TotBacklog.{tot_id}
 use Rattle.cany_model.proofs.Timed.Order.TotKept.{TotKept}
 
 -- ---- an origin that asks for a data frame waits with it until it was carried Clean
@@ -202,10 +204,6 @@ tot_is_diffused scenario m is tot = record {
 -- what the argument uses of a state
 abbrev AtRest : ScenarioParts → Message → RunState → Type 0
 AtRest scenario m s = IsAtRest scenario (data_id m) (tot_duty m) s
-
-not_vector : same_class class.Tot class.Rha ≡ false
-unfolding same_class
-not_vector = refl
 
 at_rest : (scenario : ScenarioParts) (journal : List Step) → scenario.params.nodes ≤ most_nodes
     → IsWithin scenario.params (run scenario journal).trace → (m : Message) → Contains (messages_of scenario.sends) m

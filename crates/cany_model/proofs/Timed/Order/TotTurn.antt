@@ -54,7 +54,7 @@ data_seen inc T numbered newer older m order there sees carried = elim (cases_Bo
       ]
 ]
 
-tot_one : (m k : MsgKey) → tot_of_key m ≡ tot_of_key k → m ≡ k
+pub tot_one : (m k : MsgKey) → tot_of_key m ≡ tot_of_key k → m ≡ k
 tot_one m k e = λ j. record { origin = (e j).node; seq = (e j).number }
 
 some_same : (k l : Message) → Some k ≡ Some l → k ≡ l

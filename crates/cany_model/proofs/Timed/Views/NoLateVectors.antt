@@ -1,5 +1,5 @@
 -- From a quiet slot of the exchange of a membership cycle on no vector of the cycle is carried, and nobody waits with one.
-use Rattle.std.proofs.Common.{◌≡◌, ℕ, zero, suc, ◌+◌, ◌-◌, ◌*◌, ◌/◌, ◌%◌, ◌<◌, ◌≤◌, ◌⊎◌, inl, inr, Bool, true, false, nat_lt, List, [], ◌∷◌, ◌++◌, length, map, drop, Option, Some, None, Contains, refl, ap, sym, ◌∙◌, subst, arith, append-nil, append_assoc, length-append, length-drop, mul-le-mul_left}
+use Rattle.std.proofs.Common.{◌≡◌, ℕ, suc, ◌+◌, ◌-◌, ◌*◌, ◌/◌, ◌%◌, ◌<◌, ◌≤◌, ◌⊎◌, inl, inr, Bool, true, false, nat_lt, List, [], ◌∷◌, ◌++◌, length, map, drop, Option, Some, None, Contains, refl, ap, sym, ◌∙◌, subst, arith, append-nil, append_assoc, length-append, length-drop, mul-le-mul_left}
 use Rattle.std.specs.List.{AllByRecursion, list_any}
 use Rattle.std.proofs.Math.Seq.{drop-append-add}
 use Rattle.std.proofs.lemmas.Bool.{and_from, both_ways, cases_eq, cases_lt, cases_order, lt-ltb}
@@ -34,10 +34,10 @@ use Rattle.cany_model.proofs.Runs.Journals.{run_push, step_is, step_refused}
 use Rattle.cany_model.proofs.Bus.Notes.{given-Got, note_of-offered}
 use Rattle.cany_model.proofs.Bus.Restarts.{after_restarts-trace, restarts_or_stays}
 use Rattle.cany_model.proofs.Runs.Runs.{IsOrderly, along_run, orderly, turn_done}
-use Rattle.cany_model.proofs.Bus.Seen.{Numbered, history-is, length-seen, seen_one, trace_for-is}
-use Rattle.cany_model.proofs.Bus.States.{node_at-opening, node_at_past, note_at, runs_within}
+use Rattle.cany_model.proofs.Bus.Seen.{Numbered, history-is, length-seen, seen_frame, trace_for-is}
+use Rattle.cany_model.proofs.Bus.States.{each_in_front, node_at-opening, node_at_past, note_at, runs_within}
 use Rattle.cany_model.proofs.Runs.Steps.{MayTurn, after_slot-length, after_slot-present, after_slot-trace, after_slot-unread, after_slot-waiting, after_turn-node, after_turn-other, after_turn-present, after_turn-runs, after_turn-trace, next_notice, running_before_slot}
-use Rattle.cany_model.proofs.Promises.OwnSlotsAlone.{AllWaitForOwnSlots, IsTimely, own_slots_alone_opening, own_slots_alone_kept, run_numbered}
+use Rattle.cany_model.proofs.Promises.OwnSlotsAlone.{AllWaitForOwnSlots, IsTimely, own_slots_alone_run, own_slots_alone_turns, run_numbered}
 use Rattle.cany_model.proofs.Promises.FirstCycles.{has_first_cycle}
 use Rattle.cany_model.proofs.Promises.KeptVectors.{vector_at}
 use Rattle.cany_model.proofs.Promises.LateVectors.{late_vectors}
@@ -172,11 +172,6 @@ kept_after scenario P keeps front (next ∷ rest) h =
     by_reply true done = subst P (sym (step_is scenario (run scenario front) next done)) (keeps front next done h)
     by_reply false refused = subst P (sym (step_refused scenario (run scenario front) next refused)) h
 
-front_own_slots_alone : (scenario : ScenarioParts) (front : List Step) → AllWaitForOwnSlots (run scenario front)
-front_own_slots_alone scenario front =
-    (along_run scenario (λ s. AllWaitForOwnSlots s × Unit {0}) (own_slots_alone_opening scenario.params.nodes, tt)
-    (own_slots_alone_kept scenario (λ s. Unit {0}) (record { slot = λ s o own_slots_alone h. tt; restarts = λ s o some h. tt; turn = λ s i o may h. tt })) front).0
-
 -- ---- nothing of the cycle
 
 -- the slot carried no vector of the cycle
@@ -296,12 +291,6 @@ module _ (scenario : ScenarioParts) (k i : ℕ) (c : IsCycle scenario.params k) 
             ap (λ z. by_word z (held (rha_of k r) w)) (turn_other scenario i e before k r (λ q. other (ap (λ (y : Identity). y.node) q))) ∙ free
       ]
 
-each_note_at : (P : SlotNote → Type 0) (newer older : List SlotNote) (age : ℕ) → AllByRecursion P newer → age < length newer
-    → P (note_at (newer ++ older) age)
-each_note_at P [] older age all h = absurd (omega (arith, h))
-each_note_at P (note ∷ newer) older zero all h = all.0
-each_note_at P (note ∷ newer) older (suc age) all h = each_note_at P newer older age all.1 (omega (arith, h))
-
 -- The turn of a notice of the newer slots, none of which carried a vector of the cycle, or of one of the older slots that were unread when
 -- none of their turns would have asked for a vector.
 calm_waits : (scenario : ScenarioParts) (k i : ℕ) → IsCycle scenario.params k → (newer older : List SlotNote) → AllByRecursion (NoVector k) newer
@@ -315,7 +304,7 @@ calm_waits scenario k i c newer older calm from u unread some short few asks w r
       length-map (drop u (newer ++ older)) (given i) ∙ length-drop u (newer ++ older) in
       calm_notice scenario k i c (gave i (newer ++ older) (u - 1)) (past i (newer ++ older) u)
       (omega (arith, size, length-append newer older, from, new, some))
-      (brings_none scenario.params.format i k (note_at (newer ++ older) (u - 1)) (each_note_at (NoVector k) newer older (u - 1) calm new)) w r free
+      (brings_none scenario.params.format i k (note_at (newer ++ older) (u - 1)) (each_in_front (NoVector k) newer older (u - 1) calm new)) w r free
   | inr old ↦
       let m : ℕ = u - 1 - length newer in
       let split : u - 1 ≡ length newer + m = omega (arith, old) in
@@ -330,12 +319,6 @@ calm_waits scenario k i c newer older calm from u unread some short few asks w r
 ]
 
 -- what an incarnation sees carries none either
-pub seen_frame : (inc : Incarnation) (note : SlotNote) (f : FrameParts) → (as_seen inc note).frame ≡ Some f → note.frame ≡ Some f
-seen_frame inc note f h = (seen_one (λ n. n.frame ≡ Some f) (λ n none some. never n.frame none some) inc note h).1
-  where
-    never : (o : Option FrameParts) → o ≡ None → o ≡ Some f → ⊥
-    never o a b = absurd (cc)
-
 pub calm_seen : (k : ℕ) (inc : Incarnation) (notes : List SlotNote) → AllByRecursion (NoVector k) notes → AllByRecursion (NoVector k) (seen inc notes)
 calm_seen k inc [] h = tt
 calm_seen k inc (note ∷ notes) h = (λ f frame. h.0 f (seen_frame inc note f frame), calm_seen k inc notes h.1)
@@ -454,14 +437,8 @@ calm_step scenario k c base quiet from front (step.Turn i) done h =
     let s : RunState = run scenario front in
     let o = orderly scenario front in
     let may = turn_done scenario s i o.count done in
-    calm_turn scenario k c base s quiet from i may o (turn_own_slots_alone scenario i s may o (front_own_slots_alone scenario front))
+    calm_turn scenario k c base s quiet from i may o (own_slots_alone_turns scenario i s may o (own_slots_alone_run scenario front))
     (after_cycle scenario front k i (omega (arith, c.long))) h
-  where
-    turn_own_slots_alone : (scenario : ScenarioParts) (i : ℕ) (s : RunState) → MayTurn s i → IsOrderly scenario.params.nodes s → AllWaitForOwnSlots s
-        → AllWaitForOwnSlots (after_turn scenario i s)
-    turn_own_slots_alone scenario i s may o own_slots_alone =
-        ((own_slots_alone_kept scenario (λ r. Unit {0}) (record { slot = λ r o own_slots_alone h. tt; restarts = λ r o some h. tt; turn = λ r i o may h. tt })).turn
-        s i o may (own_slots_alone, tt)).0
 
 -- so the run of a journal is calm after a quiet slot of it
 pub calm_cycle : (scenario : ScenarioParts) (k : ℕ) → IsCycle scenario.params k → (front rest : List Step) → IsQuiet scenario (run scenario front)

@@ -34,7 +34,7 @@ use Rattle.cany_model.proofs.Among.{Each-drop, Each-weaker}
 use Rattle.cany_model.proofs.Bus.EachRead.{EachRead, each_dropped, each_of_trace}
 use Rattle.cany_model.proofs.Bus.Identities.{same_class_self}
 use Rattle.cany_model.proofs.Runs.Runs.{IsOrderly, orderly}
-use Rattle.cany_model.proofs.Bus.Seen.{HearsNoEarly, IsSeenPast, hears_no_early_of, history-is, length-seen, within_seen}
+use Rattle.cany_model.proofs.Bus.Seen.{HearsNoEarly, IsSeenPast, hears_no_early_of, history-is, length-seen, seen_frame, within_seen}
 use Rattle.cany_model.proofs.Runs.SlotStates.{slot_state_is}
 use Rattle.cany_model.proofs.Bus.States.{runs_within}
 use Rattle.cany_model.proofs.Promises.WaitingIsAskable.{AllBelong, all_belong, readable_for, seen_readable}
@@ -44,12 +44,11 @@ use Rattle.cany_model.proofs.Promises.OwnSlotsAlone.{from_later, history-seen, m
 use Rattle.cany_model.proofs.Promises.KeptVectors.{vector_at}
 use Rattle.cany_model.proofs.Rules.MutedFacts.{begun_later}
 use Rattle.cany_model.proofs.Rules.KnowledgeFacts.{begun_knowledge}
-use Rattle.cany_model.proofs.Rules.KnowledgeNodes.{IsVectorOfBus, knowledge_of_bus}
+use Rattle.cany_model.proofs.Rules.KnowledgeNodes.{IsVectorOfBus, first_members, knowledge_of_bus}
 use Rattle.cany_model.proofs.Rules.VectorFacts.{carries_vector}
 use Rattle.cany_model.proofs.Timed.Common.Ages.{past}
 use Rattle.cany_model.proofs.Timed.Windows.QuietSlots.{front_trace, within_dropped}
-use Rattle.cany_model.proofs.Timed.Views.VectorBudget.{first_members}
-use Rattle.cany_model.proofs.Timed.Views.NoLateVectors.{CalmCycle, IsAfterCycle, NoVector, after_cycle, brings_none, calm_cycle, calm_seen, carried_late, seen_frame, sees_cycle, unasked_seen}
+use Rattle.cany_model.proofs.Timed.Views.NoLateVectors.{CalmCycle, IsAfterCycle, NoVector, after_cycle, brings_none, calm_cycle, calm_seen, carried_late, sees_cycle, unasked_seen}
 use Rattle.cany_model.proofs.Timed.Views.VectorQuiet.{CarriedLate, IsPlain, IsSettledNode, SeesCycle, none_held, one_vector_there, still_all}
 use Rattle.cany_model.proofs.Timed.Views.VectorSlots.{cycle_of_formulas}
 use Rattle.cany_model.proofs.Timed.Views.VectorSteps.{vector_kept}

@@ -1,7 +1,6 @@
 -- At the turn of a node at the start of a cycle all running nodes have its view, at each slot before it. Of scenarios without restart entries, where
 -- the vectors that nodes install are one.
 use Rattle.std.proofs.Common.{◌≡◌, ℕ, suc, ◌+◌, ◌-◌, ◌*◌, ◌<◌, ◌≤◌, inl, inr, Bool, true, false, List, [], ◌∷◌, ◌++◌, length, map, drop, Some, None, refl, ap, sym, ◌∙◌, subst, arith, append_assoc, length-append, length-drop}
-use Rattle.std.specs.List.{AllByRecursion}
 use Rattle.std.proofs.Math.Nat.{mul-le-mul_right}
 use Rattle.std.proofs.Math.Seq.{drop-append_seam}
 use Rattle.std.proofs.lemmas.Bool.{cases_Bool, cases_lt}
@@ -29,10 +28,6 @@ use Rattle.cany_model.proofs.Timed.Views.SameView.{end_of_rest, end_place, insta
 use Rattle.cany_model.proofs.Timed.Common.KnowledgeAges.{ended_at, full, members_next}
 use Rattle.cany_model.proofs.Timed.Views.VectorTurns.{starts_with}
 use Rattle.cany_model.proofs.Timed.Views.VectorLastEffect.{IsCycle, at_place, no_end}
-
-pub each_left : (P : SlotNote → Type 0) (xs ys : List SlotNote) → AllByRecursion P (xs ++ ys) → AllByRecursion P ys
-each_left P [] ys h = h
-each_left P (x ∷ xs) ys h = each_left P xs ys h.1
 
 -- ---- ends of cycles
 

@@ -2,18 +2,17 @@
 -- one that waits, and the size of its present vector are together no more than one more than there are nodes.
 use Rattle.std.proofs.Common.{◌≡◌, ℕ, ◌+◌, ◌*◌, ◌<◌, ◌≤◌, ◌==◌, inl, inr, Bool, true, false, List, [], ◌∷◌, length, Option, Some, None, count_by, refl, ap, sym, ◌∙◌, subst, arith}
 use Rattle.std.specs.List.{AllByRecursion}
-use Rattle.std.proofs.lemmas.Bool.{both_ways, cases_Bool, cases_eq, cond_both, eq-eqb, false≢true}
+use Rattle.std.proofs.lemmas.Bool.{both_ways, cases_Bool, cases_eq, eq-eqb}
 use Rattle.std.proofs.lemmas.List.{nil_from_length}
 use Rattle.cany_base.specs.declared.notice.NoticeKind.{NoticeKind}
 use Rattle.cany_base.specs.declared.notice.NoticeKind.TheVariants.{Sent}
 use Rattle.cany_base.specs.declared.slot_note.SlotNote.{SlotNote}
 use Rattle.cany_base.specs.Frame.{FrameParts}
-use Rattle.cany_base.specs.Nodes.{Nodes, AllBelow, nobody}
+use Rattle.cany_base.specs.Nodes.{Nodes, AllBelow}
 use Rattle.cany_base.specs.Params.{Parameters}
 use Rattle.cany_base.specs.Scenario.{ScenarioParts}
 use Rattle.cany_base.specs.Limits.{most_nodes}
 use Rattle.cany_base.specs.declared.step.Step.{Step}
-use Rattle.cany_base.proofs.NodesFacts.{has_none}
 use Rattle.cany_model.specs.Runs.Run.{run}
 use Rattle.cany_model.specs.Bus.State.{Incarnation, NodeState, RunState, node_at}
 use Rattle.cany_model.specs.Rules.Knowledge.{Knowledge}
@@ -36,7 +35,7 @@ use Rattle.cany_model.proofs.Among.{count-no, count-yes}
 use Rattle.cany_model.proofs.Bus.Carried.{is_sent-from, is_sent-true}
 use Rattle.cany_model.proofs.Runs.Steps.{kept_at}
 use Rattle.cany_model.proofs.Promises.KeptVectors.{vector_at}
-use Rattle.cany_model.proofs.Rules.KnowledgeNodes.{IsVectorOfBus, knowledge_of_bus}
+use Rattle.cany_model.proofs.Rules.KnowledgeNodes.{IsVectorOfBus, first_members, knowledge_of_bus}
 use Rattle.cany_model.proofs.Timed.Views.VectorHeld.{WaitedWith, held_none, held_slot, held_some}
 use Rattle.cany_model.proofs.Timed.Views.VectorSets.{meet_left, size, size_le, size_less, size_most}
 use Rattle.cany_model.proofs.Timed.Views.VectorTurns.{starts_with, turn_ends, turn_exchanges, turn_outside, turn_starts}
@@ -250,13 +249,6 @@ budget_new scenario k trace i node new =
     }
 
 -- ---- along a run
-
--- the first members of an incarnation are nodes of the bus, where those of the scenario are
-pub first_members : (scenario : ScenarioParts) (inc : Incarnation) → AllBelow scenario.params.nodes scenario.members
-    → AllBelow scenario.params.nodes (scenario_for scenario inc).members
-first_members scenario inc below =
-    cond_both (inc.number == 0) scenario.members nobody (AllBelow scenario.params.nodes) (λ _. below)
-    (λ _ r h. absurd (false≢true (sym (has_none r) ∙ h)))
 
 module _ (scenario : ScenarioParts) (k : ℕ) (c : IsCycle scenario.params k) (first : AllBelow scenario.params.nodes scenario.members) where
   -- of a node whose notices belong to the scenario, and whose incarnation is this

@@ -9,8 +9,7 @@ use Rattle.cany_base.specs.declared.class.Class.TheVariants as class
 use Rattle.cany_base.specs.declared.format.Format.{Format}
 use Rattle.cany_base.specs.declared.notice.NoticeKind.{NoticeKind}
 use Rattle.cany_base.specs.declared.notice.NoticeKind.TheVariants.{Idle, Got, Sent, Bad}
-use Rattle.cany_base.specs.declared.rule.Verdict.{Verdict}
-use Rattle.cany_base.specs.declared.rule.Verdict.TheVariants.{Clean, Lost, Partial, Silent}
+use Rattle.cany_base.specs.declared.rule.Verdict.TheVariants.{Clean}
 use Rattle.cany_base.specs.declared.slot_note.SlotNote.{SlotNote}
 use Rattle.cany_base.specs.Frame.{FrameParts}
 use Rattle.cany_base.specs.Layout.{layout}
@@ -19,9 +18,9 @@ use Rattle.cany_base.specs.Params.{Parameters}
 use Rattle.cany_base.specs.Scenario.{ScenarioParts}
 use Rattle.cany_model.specs.Bus.Frames.{Identity, identity_of, is_of, same_class}
 use Rattle.cany_model.specs.Bus.History.{given, is_hidden, seen}
-use Rattle.cany_model.specs.Bus.Slot.{carried, is_success, lets_accept}
+use Rattle.cany_model.specs.Bus.Slot.{carried}
 use Rattle.cany_model.specs.Bus.State.{Incarnation}
-use Rattle.cany_model.specs.Promises.Hypothesis.{count_together, is_partial, is_partial_slot_of, is_silent, is_silent_slot, partial_slots}
+use Rattle.cany_model.specs.Promises.Hypothesis.{count_together, is_partial, is_partial_slot_of, is_silent_slot, partial_slots}
 use Rattle.cany_model.specs.Promises.Quiet.{asks_for_first_class, is_top}
 use Rattle.cany_model.specs.Rules.Effect.{Effect, waiting_after}
 use Rattle.cany_model.specs.Rules.Notices.{IsPart}
@@ -29,7 +28,7 @@ use Rattle.cany_model.specs.Rules.Turn.{scenario_for, turn_effects}
 use Rattle.cany_model.specs.Rules.Vectors.{everybody, is_vector_got, met, met_with, rha_of, vector_in}
 use Rattle.cany_model.proofs.Among.{Among, Among-drop, Among-from_Contains, Among-from_map, Among-weaker, Among-which, Among-with, Each-of, Each-weaker, any-from_Among, count-grows, count-no, count-yes}
 use Rattle.cany_model.proofs.Bus.Carried.{Carries}
-use Rattle.cany_model.proofs.Bus.Counting.{Accepts, verdict_not_silent}
+use Rattle.cany_model.proofs.Bus.Counting.{Accepts, success_is_clean, verdict_cases, verdict_not_silent}
 use Rattle.cany_model.proofs.Bus.Identities.{same_class_self, same_identity-true}
 use Rattle.cany_model.proofs.Bus.Notes.{given-Got, given-Sent}
 use Rattle.cany_model.proofs.Bus.Seen.{Among-seen, Numbered, carries_frame, hidden_why, seen_plain}
@@ -121,18 +120,6 @@ pub record IsCleanVector (format : Format) (k : ℕ) (v : Nodes) (note : SlotNot
   pub carries : vector_in format k what ≡ Some v
   pub clean : note.verdict ≡ Clean
 
-accepted_clean : (v : Verdict) (i : ℕ) → lets_accept v i ≡ true → is_silent v ≡ false → (v ≡ Clean) ⊎ (is_partial v ≡ true)
-accepted_clean Clean i h plain = inl refl
-accepted_clean Lost i h plain = absurd (false≢true h)
-accepted_clean (Partial reject) i h plain = inr refl
-accepted_clean (Silent reject) i h plain = absurd (false≢true (sym plain))
-
-sent_clean : (v : Verdict) → is_success v ≡ true → is_silent v ≡ false → v ≡ Clean
-sent_clean Clean h plain = refl
-sent_clean Lost h plain = absurd (false≢true h)
-sent_clean (Partial reject) h plain = absurd (false≢true h)
-sent_clean (Silent reject) h plain = absurd (false≢true (sym plain))
-
 -- a frame of the cycle's vectors counts with all of them
 counts_together : (k : ℕ) (f : FrameParts) → f.class ≡ class.Rha → f.number ≡ k → count_together (rha_of k 0) (identity_of f) ≡ true
 unfolding count_together
@@ -163,7 +150,7 @@ module _ (format : Format) (k i : ℕ) (v : Nodes) where
       let frame : note.frame ≡ Some g.what = (given-Got i note g.what g.was).0 in
       let carries : Carries (identity_of g.what) note = record { what = g.what; frame = frame; identity = refl } in
       let is = carries_vector format k g.what v g.carries in
-      elim (accepted_clean note.verdict i (accepts g.what g.was) (verdict_not_silent (identity_of g.what) note carries plain)) [
+      elim (verdict_cases note.verdict i (accepts g.what g.was) (verdict_not_silent (identity_of g.what) note carries plain)) [
         | inl clean ↦ inl (record { what = g.what; frame = frame; carries = g.carries; clean = clean })
         | inr partial ↦ inr (and_from (carried (λ f. count_together (rha_of k 0) (identity_of f)) note) (is_partial note.verdict)
             (rw frame (counts_together k g.what is.0 is.1)) partial)
@@ -220,7 +207,7 @@ module _ (scenario : ScenarioParts) (fits : scenario.params.nodes ≤ (layout sc
         what = f;
         frame = parts.0;
         carries = own_carries scenario fits k i v below;
-        clean = sent_clean note.verdict parts.2 (verdict_not_silent (rha_of k i) note carries plain);
+        clean = success_is_clean note.verdict parts.2 (verdict_not_silent (rha_of k i) note carries plain);
       }
 
   -- a vector that does not wait was carried Clean

@@ -1,6 +1,6 @@
 -- Parts of sets of nodes, and their sizes: a part that is not the whole is smaller. And sets as the vectors of frames.
-use Rattle.std.proofs.Common.{◌≡◌, ◌≢◌, ℕ, zero, suc, ◌+◌, ◌<◌, ◌≤◌, ◌&&◌, ◌⊎◌, inl, inr, if◌then◌else◌, Bool, true, false, Option, Some, None, refl, ap, sym, ◌∙◌, subst, arith}
-use Rattle.std.proofs.lemmas.Bool.{and_parts, both_ways, cases_Bool, cases_eq, cases_lt, eqb-true, false≢true}
+use Rattle.std.proofs.Common.{◌≡◌, ◌≢◌, ℕ, zero, suc, ◌+◌, ◌<◌, ◌≤◌, ◌⊎◌, inl, inr, if◌then◌else◌, Bool, true, false, Option, Some, None, refl, ap, sym, ◌∙◌, subst, arith}
+use Rattle.std.proofs.lemmas.Bool.{both_ways, cases_Bool, cases_eq, cases_lt, eqb-true, false≢true}
 use Rattle.cany_base.specs.Limits.{most_nodes}
 use Rattle.cany_base.specs.declared.format.Format.{Format}
 use Rattle.cany_base.specs.declared.format.Format.TheVariants.{One, Two}
@@ -9,17 +9,17 @@ use Rattle.cany_base.specs.Nodes.{Nodes, AllBelow, has, meet}
 use Rattle.cany_base.specs.Payload.{vector_bytes, vector_of}
 use Rattle.cany_base.proofs.NodesFacts.{bits-lt, same_nodes}
 use Rattle.cany_base.proofs.PayloadFacts.{bits-back}
+use Rattle.cany_base.proofs.SetFacts.{meet_both}
 use Rattle.cany_model.specs.Rules.Notices.{IsPart}
 use Rattle.cany_model.specs.Rules.Vectors.{is_just}
-use Rattle.cany_model.proofs.Bus.Notes.{those_where_pass}
 
 -- ---- parts
 
 pub meet_left : (a b : Nodes) → IsPart (meet a b) a
-meet_left a b r h = (and_parts (has a r) (has b r) (those_where_pass (λ q. has a q && has b q) r h)).0
+meet_left a b r h = (meet_both a b r h).0
 
 pub meet_right : (a b : Nodes) → IsPart (meet a b) b
-meet_right a b r h = (and_parts (has a r) (has b r) (those_where_pass (λ q. has a q && has b q) r h)).1
+meet_right a b r h = (meet_both a b r h).1
 
 -- sets that are part of each other are equal
 pub same_by_parts : (v w : Nodes) → IsPart v w → IsPart w v → v ≡ w

@@ -31,9 +31,9 @@ use Rattle.cany_model.proofs.Promises.Diffusion.{Lived, Turned, past_of}
 use Rattle.cany_model.proofs.Promises.EachNode.{EachRunning, IsNew, IsNodes, each_running}
 use Rattle.cany_model.proofs.Promises.KeptVectors.{vector_at}
 use Rattle.cany_model.proofs.Rules.KnowledgeFacts.{begun_knowledge}
-use Rattle.cany_model.proofs.Rules.KnowledgeNodes.{IsVectorOfBus, knowledge_of_bus}
+use Rattle.cany_model.proofs.Rules.KnowledgeNodes.{IsVectorOfBus, first_members, knowledge_of_bus}
 use Rattle.cany_model.proofs.Rules.VectorFacts.{carries_vector}
-use Rattle.cany_model.proofs.Timed.Views.VectorBudget.{first_members, run_readable}
+use Rattle.cany_model.proofs.Timed.Views.VectorBudget.{run_readable}
 use Rattle.cany_model.proofs.Timed.Views.VectorHeld.{WaitedWith, held_none, held_slot, sent_held}
 use Rattle.cany_model.proofs.Timed.Views.VectorKept.{Answered, Covers, HasRead, HasVector, IsOpen, IsSentOf, NodeVector, SentCovers, Untouched, VectorKept, WaitCovers, own_frame}
 use Rattle.cany_model.proofs.Timed.Views.VectorSets.{just_this, meet_left, same_bits, vector_again}

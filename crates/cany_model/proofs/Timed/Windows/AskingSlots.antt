@@ -43,6 +43,7 @@ use Rattle.cany_model.specs.Rules.Turn.{protocols, scenario_for, turn_effects}
 use Rattle.cany_model.specs.Rules.Vectors.{brought, end_effects, ended, exchange_at, met, start_effects, vector_effects, vector_in}
 use Rattle.cany_base.specs.Cycles.{cycle_of, is_exchange, is_start}
 use Rattle.cany_model.proofs.Among.{Among-from_any, Among-gives, Each-append, Each-flat_map, Each-weaker}
+use Rattle.cany_model.proofs.Bus.Carried.{carried_frame, is_carried}
 use Rattle.cany_model.proofs.Bus.Identities.{same_class-true, same_class_self}
 use Rattle.cany_model.proofs.Bus.Notes.{given-Got, given-Sent, given_idle}
 use Rattle.cany_model.proofs.Runs.Runs.{IsOrderly, orderly}
@@ -65,7 +66,7 @@ use Rattle.cany_model.proofs.Timed.Common.Ages.{gave, past}
 use Rattle.cany_model.proofs.Timed.Common.Counting.{at_most_1, window_at}
 use Rattle.cany_model.proofs.Timed.Common.Pigeonhole.{count_ages, count_either, count_or, count_weaker}
 use Rattle.cany_model.proofs.Timed.Common.SeenAges.{IsOfFrame, from_seen}
-use Rattle.cany_model.proofs.Timed.Windows.TopFrames.{carried_frame, clean_or_error, is_carried, is_carried_clean, never_silent, plain_window}
+use Rattle.cany_model.proofs.Timed.Windows.TopFrames.{clean_or_error, is_carried_clean, never_silent, plain_window}
 
 -- ---- one turn
 

@@ -7,8 +7,6 @@ use Rattle.std.proofs.lemmas.List.Elements.{All-contains, All-from_recursion, Al
 use Rattle.cany_base.specs.declared.class.Class.TheVariants as class
 use Rattle.cany_base.specs.declared.notice.NoticeKind.{NoticeKind}
 use Rattle.cany_base.specs.declared.notice.NoticeKind.TheVariants.{Idle, Got, Sent, Bad}
-use Rattle.cany_base.specs.declared.rule.Verdict.{Verdict}
-use Rattle.cany_base.specs.declared.rule.Verdict.TheVariants.{Clean, Lost, Partial, Silent}
 use Rattle.cany_base.specs.declared.slot_note.SlotNote.{SlotNote}
 use Rattle.cany_base.specs.declared.step.Step.{Step}
 use Rattle.cany_base.specs.declared.step.Step.TheVariants as step
@@ -20,7 +18,7 @@ use Rattle.cany_model.specs.Bus.Frames.{Identity, identity_of, same_class}
 use Rattle.cany_model.specs.Bus.History.{as_seen, given, is_hidden, seen}
 use Rattle.cany_model.specs.Bus.Restart.{after_restarts}
 use Rattle.cany_model.specs.Runs.Run.{after_step, after_turn, is_done, proceed, reply, run}
-use Rattle.cany_model.specs.Bus.Slot.{FaultScript, after_slot, is_success, script, slot_note_of, is_clean}
+use Rattle.cany_model.specs.Bus.Slot.{FaultScript, after_slot, script, slot_note_of, is_clean}
 use Rattle.cany_model.specs.Bus.State.{Incarnation, NodeState, RunState, node_at, opening, runs}
 use Rattle.cany_model.specs.Promises.Hypothesis.{IsWithin, is_partial_slot_of, is_silent_slot}
 use Rattle.cany_model.specs.Promises.Windows.{HasFewAccepts, HasFewLifeSigns, HasFewVectors, is_clean_of}
@@ -29,18 +27,18 @@ use Rattle.cany_model.specs.Rules.Life.{is_own_sign, life_signs_sent}
 use Rattle.cany_model.specs.Rules.KnowledgeOf.{knowledge_of}
 use Rattle.cany_model.specs.Rules.Turn.{scenario_for, turn_effects}
 use Rattle.cany_model.proofs.Among.{Among-from_Contains, Among-weaker, count-from_Among, count-grows}
-use Rattle.cany_model.proofs.Bus.Carried.{is_sent-from}
+use Rattle.cany_model.proofs.Bus.Carried.{carried_frame, is_sent-from}
 use Rattle.cany_model.proofs.Runs.Journals.{run_none, run_push, step_is, step_refused}
 use Rattle.cany_model.proofs.Bus.Notes.{given-Sent, given_idle, given_sender, note_of-offered, note_of-slot, sender_waits, waiting_sends}
 use Rattle.cany_model.proofs.Bus.Restarts.{after_restarts-trace, restarts_or_stays}
-use Rattle.cany_model.proofs.Runs.Runs.{IsOrderly, MaySlot, along_run, opening_within, orderly, slot_done, turn_done}
+use Rattle.cany_model.proofs.Runs.Runs.{IsOrderly, MaySlot, opening_within, orderly, slot_done, turn_done}
 use Rattle.cany_model.proofs.Bus.Seen.{length-seen}
 use Rattle.cany_model.proofs.Bus.States.{no_note, node_at-opening, note_at, runs_within}
 use Rattle.cany_model.proofs.Runs.Steps.{MayTurn, after_slot-present, after_slot-trace, after_slot-unread, after_turn-node, after_turn-other, after_turn-present, after_turn-runs, after_turn-trace, running_before_slot}
 use Rattle.cany_model.proofs.Runs.Waits.{Each-kept}
 use Rattle.cany_model.proofs.Promises.Diffusion.{Lived, Turned, past_of}
 use Rattle.cany_model.proofs.Promises.EachNode.{EachRunning, IsNodes, each_running, slot_lived, turn_turned}
-use Rattle.cany_model.proofs.Promises.OwnSlotsAlone.{AllWaitForOwnSlots, own_slots_alone_opening, own_slots_alone_kept, sent_plain}
+use Rattle.cany_model.proofs.Promises.OwnSlotsAlone.{AllWaitForOwnSlots, own_slots_alone_run, sent_plain}
 use Rattle.cany_model.proofs.Promises.FewLifeSignsWaiting.{IsOwnSign, turn_idle, turn_more, turn_numbers}
 use Rattle.cany_model.proofs.Promises.SignCounts.{is_els, sent_one}
 use Rattle.cany_model.proofs.Rules.LifeCounts.{due_at, due_in, last_cases}
@@ -48,10 +46,11 @@ use Rattle.cany_model.proofs.Timed.Common.Ages.{gave, past}
 use Rattle.cany_model.proofs.Timed.Common.Counting.{at_most_1, cover_window, window_at}
 use Rattle.cany_model.proofs.Timed.Common.OwnSlots.{HasOwnSlots, IsLongBefore, OwnSlots, own_slots, sees_from, sent_when}
 use Rattle.cany_model.proofs.Timed.Common.SeenAges.{to_seen}
+use Rattle.cany_model.proofs.Timed.Order.TotSlots.{clean_success}
 use Rattle.cany_model.proofs.Timed.Windows.SignKept.{NodeSigns, slot_signs, turn_signs}
 use Rattle.cany_model.proofs.Timed.Windows.SignTops.{FewTops, few_tops, topped}
 use Rattle.cany_model.proofs.Timed.Windows.OwnLifeSigns.{SendsSign, last_since, sign_there}
-use Rattle.cany_model.proofs.Timed.Windows.TopFrames.{carried_frame, is_top_slot}
+use Rattle.cany_model.proofs.Timed.Windows.TopFrames.{is_top_slot}
 
 -- ---- the life signs that wait name the node
 
@@ -87,12 +86,6 @@ own_node scenario s all i running f there els =
 abbrev HasSigner : ℕ → SlotNote → Type 0
 HasSigner nodes note = is_clean_of class.Els note ≡ true → (i : ℕ) × (i < nodes) × (is_own_sign i (given i note) ≡ true)
 
-clean_succeeds : (v : Verdict) → is_clean v ≡ true → is_success v ≡ true
-clean_succeeds Clean h = refl
-clean_succeeds Lost h = absurd (false≢true h)
-clean_succeeds (Partial reject) h = absurd (false≢true h)
-clean_succeeds (Silent reject) h = absurd (false≢true h)
-
 slot_signer : (scenario : ScenarioParts) (rules : FaultScript) (s : RunState) → scenario.params.nodes ≤ most_nodes → IsOrderly scenario.params.nodes s
     → EachRunning (OwnSigns scenario) s → HasSigner scenario.params.nodes (slot_note_of rules s)
 slot_signer scenario rules s few o own h =
@@ -103,7 +96,7 @@ slot_signer scenario rules s few o own h =
     let there : offer.node < length s.nodes = runs_within s.nodes offer.node offer.running in
     let below : offer.node < scenario.params.nodes = omega (arith, there, o.count) in
     let sender = waiting_sends rules s f.what offer.node (omega (arith, below, few)) f.frame offer.running offer.waits in
-    let sent = given_sender offer.node note f.what f.frame sender (clean_succeeds note.verdict parts.1) in
+    let sent = given_sender offer.node note f.what f.frame sender (clean_success note.verdict parts.1) in
     let node : f.what.node ≡ offer.node = own_node scenario s own offer.node offer.running f.what offer.waits f.passes in (
       offer.node,
       below,
@@ -306,8 +299,7 @@ record IsKnown (scenario : ScenarioParts) (s : RunState) : Type 0 where
 known : (scenario : ScenarioParts) (journal : List Step) → IsKnown scenario (run scenario journal)
 known scenario journal = record {
   orderly = orderly scenario journal;
-  own_slots_alone = (along_run scenario (λ s. AllWaitForOwnSlots s × Unit {0}) (own_slots_alone_opening scenario.params.nodes, tt)
-      (own_slots_alone_kept scenario (λ s. Unit {0}) (record { slot = λ s o p q. tt; restarts = λ s o some p. tt; turn = λ s i o may p. tt })) journal).0;
+  own_slots_alone = own_slots_alone_run scenario journal;
   slots = own_slots scenario journal;
   signs = each_running scenario (OwnSigns scenario) (own_signs scenario) journal;
 }

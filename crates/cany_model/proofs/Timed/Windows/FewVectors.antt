@@ -1,5 +1,5 @@
 -- A window of bound + lag slots has vectors of one membership cycle alone, and of each node no more than one more than there are nodes.
-use Rattle.std.proofs.Common.{◌≡◌, ℕ, zero, suc, ◌+◌, ◌-◌, ◌*◌, ◌<◌, ◌≤◌, ◌⊎◌, ◌==◌, ◌&&◌, inl, inr, Bool, true, false, List, [], ◌∷◌, drop, take, length, Option, Some, None, count_by, refl, ap, sym, ◌∙◌, subst, arith}
+use Rattle.std.proofs.Common.{◌≡◌, ℕ, zero, suc, ◌+◌, ◌-◌, ◌*◌, ◌<◌, ◌≤◌, ◌⊎◌, ◌==◌, ◌&&◌, inl, inr, Bool, true, false, List, [], ◌∷◌, drop, take, length, Some, count_by, refl, ap, sym, ◌∙◌, subst, arith}
 use Rattle.std.proofs.Math.Nat.{mul-le-mul_left}
 use Rattle.std.proofs.lemmas.Bool.{and_from, and_parts, both_ways, cases_Bool, cases_lt, cases_order, eq-eqb, eqb-true, false≢true}
 use Rattle.cany_base.specs.Limits.{most_nodes}
@@ -23,15 +23,15 @@ use Rattle.cany_model.specs.Promises.Windows.{HasFewVectors, is_clean_of}
 use Rattle.cany_model.specs.Rules.Turn.{scenario_for}
 use Rattle.cany_model.specs.Rules.Vectors.{rha_of}
 use Rattle.cany_model.proofs.Among.{count-drop, count-grows, count-no, count-yes}
-use Rattle.cany_model.proofs.Bus.Carried.{is_sent-from, is_sent-true}
+use Rattle.cany_model.proofs.Bus.Carried.{carried_frame, is_sent-from, is_sent-true}
 use Rattle.cany_model.proofs.Bus.Identities.{same_class-true, same_class_self}
 use Rattle.cany_model.proofs.Bus.Notes.{given-Sent, given_sender, note_of-slot, sender_waits}
-use Rattle.cany_model.proofs.Runs.Runs.{along_run, orderly}
+use Rattle.cany_model.proofs.Runs.Runs.{orderly}
 use Rattle.cany_model.proofs.Bus.Seen.{early_hidden, seen_plain}
 use Rattle.cany_model.proofs.Bus.States.{no_note, note_at}
 use Rattle.cany_model.proofs.Promises.Diffusion.{past_of}
 use Rattle.cany_model.proofs.Promises.EachNode.{slot_lived}
-use Rattle.cany_model.proofs.Promises.OwnSlotsAlone.{AllWaitForOwnSlots, own_slots_alone_opening, own_slots_alone_kept, sent_plain}
+use Rattle.cany_model.proofs.Promises.OwnSlotsAlone.{own_slots_alone_run, sent_plain}
 use Rattle.cany_model.proofs.Timed.Common.Counting.{Passes, cover, total_most, window_at, window_back}
 use Rattle.cany_model.proofs.Timed.Common.OwnSlots.{HasOwnSlots, own_slots, sent_there, sent_when}
 use Rattle.cany_model.proofs.Timed.Common.SeenAges.{Sees}
@@ -82,11 +82,6 @@ one_name t by L named same = elim (newest t L) [
 ]
 
 -- ---- what a node sends of a cycle, by all its incarnations
-
-run_own_slots_alone : (scenario : ScenarioParts) (journal : List Step) → AllWaitForOwnSlots (run scenario journal)
-run_own_slots_alone scenario journal =
-    (along_run scenario (λ s. AllWaitForOwnSlots s × Unit {0}) (own_slots_alone_opening scenario.params.nodes, tt)
-    (own_slots_alone_kept scenario (λ s. Unit {0}) (record { slot = λ s o all h. tt; restarts = λ s o some h. tt; turn = λ s i o may h. tt })) journal).0
 
 spent_few : (scenario : ScenarioParts) (k i : ℕ) (trace : List SlotNote) (past : List NoticeKind) (w : List FrameParts)
     → BudgetKept scenario k i trace past w → spent k i trace w ≤ scenario.params.nodes + 1
@@ -159,7 +154,7 @@ module _ (scenario : ScenarioParts) (few : scenario.params.nodes ≤ most_nodes)
         let running = (sender_waits rules s g.what i parts.0 parts.1).0 in
         let node : NodeState = node_at s.nodes i in
         let inc : Incarnation = node.present in
-        let own_slots_alone = run_own_slots_alone scenario at.before i running in
+        let own_slots_alone = own_slots_alone_run scenario at.before i running in
         let plain : is_hidden inc note ≡ false = sent_plain rules s i own_slots_alone g.what parts.0 parts.1 in
         let number : g.what.number ≡ k = ap (λ (x : Identity). x.number) (sym g.identity) in
         let c = carried_in scenario at.before few formulas first at.may g.what parts.0 (ap (λ (x : Identity). x.class) (sym g.identity)) in
@@ -205,18 +200,11 @@ clean_is Lost h = absurd (false≢true h)
 clean_is (Partial reject) h = absurd (false≢true h)
 clean_is (Silent reject) h = absurd (false≢true h)
 
-carried_some : (test : FrameParts → Bool) (note : SlotNote) → carried test note ≡ true → (f : FrameParts) × (note.frame ≡ Some f) × (test f ≡ true)
-carried_some test note h = by_frame note.frame refl
-  where
-    by_frame : (o : Option FrameParts) → note.frame ≡ o → (f : FrameParts) × (note.frame ≡ Some f) × (test f ≡ true)
-    by_frame None e = absurd (false≢true (rw e at h))
-    by_frame (Some f) e = (f, e, rw e at h)
-
 clean_vector : (note : SlotNote) → is_clean_of class.Rha note ≡ true → IsCleanVector note
 clean_vector note h =
     let parts = and_parts (carried (λ f. same_class f.class class.Rha) note) (is_clean note.verdict) h in
-    let some = carried_some (λ f. same_class f.class class.Rha) note parts.0 in
-    record { what = some.0; frame = some.1; class = same_class-true some.0.class class.Rha some.2; clean = clean_is note.verdict parts.1 }
+    let some = carried_frame (λ f. same_class f.class class.Rha) note parts.0 in
+    record { what = some.what; frame = some.frame; class = same_class-true some.what.class class.Rha some.passes; clean = clean_is note.verdict parts.1 }
 
 -- and their numbers
 
@@ -225,10 +213,10 @@ unfolding is_clean_vector
 clean_number k note h =
     let test : FrameParts → Bool = λ f. same_class f.class class.Rha && f.number == k in
     let parts = and_parts (carried test note) (is_clean note.verdict) h in
-    let some = carried_some test note parts.0 in
-    let inner = and_parts (same_class some.0.class class.Rha) (some.0.number == k) some.2 in (
-      record { what = some.0; frame = some.1; class = same_class-true some.0.class class.Rha inner.0; clean = clean_is note.verdict parts.1 },
-      eqb-true some.0.number k inner.1,
+    let some = carried_frame test note parts.0 in
+    let inner = and_parts (same_class some.what.class class.Rha) (some.what.number == k) some.passes in (
+      record { what = some.what; frame = some.frame; class = same_class-true some.what.class class.Rha inner.0; clean = clean_is note.verdict parts.1 },
+      eqb-true some.what.number k inner.1,
     )
 
 number_clean : (k : ℕ) (note : SlotNote) (v : IsCleanVector note) → (IsCleanVector.what v).number ≡ k → is_clean_vector k note ≡ true

@@ -2,7 +2,7 @@
 -- with one.
 use Rattle.std.proofs.Common.{◌≡◌, ℕ, ◌+◌, ◌*◌, ◌≤◌, ◌⊎◌, ◌==◌, ◌||◌, inl, inr, Bool, true, false, not, nat_lt, if◌then◌else◌, List, [], ◌∷◌, Option, Some, None, count_by, drop, length, take, refl, ap, sym, ◌∙◌, arith}
 use Rattle.std.specs.List.{flat_map, list_any}
-use Rattle.std.proofs.lemmas.Bool.{and_from, both_ways, cases_lt, cond_both, false≢true, false_from_ne_true, or_cases, or_left, or_right}
+use Rattle.std.proofs.lemmas.Bool.{and_from, both_ways, cases_lt, cond_both, false_from_ne_true, or_cases, or_left, or_right}
 use Rattle.std.proofs.lemmas.Bool.Decides.{nat_tests}
 use Rattle.std.proofs.lemmas.List.{get_or_past}
 use Rattle.std.proofs.lemmas.List.Elements.{All-drop, All-get_or, All-take, recursion_from_All}
@@ -20,6 +20,7 @@ use Rattle.cany_model.specs.Promises.Hypothesis.{IsWithin, any_frame, error_slot
 use Rattle.cany_model.specs.Promises.Quiet.{is_top}
 use Rattle.cany_model.specs.Promises.Windows.{HasFew, HasFewAccepts, HasFewLifeSigns, HasFewVectors, is_clean_of}
 use Rattle.cany_model.proofs.Among.{Among, Among-flat_map, Among-from_any, Among-get_or}
+use Rattle.cany_model.proofs.Bus.Carried.{carried_frame, is_carried}
 use Rattle.cany_model.proofs.Bus.Notes.{note_of-frame}
 use Rattle.cany_model.proofs.Bus.States.{no_note, note_at, runs_within}
 use Rattle.cany_model.proofs.Timed.Common.Pigeonhole.{count_either, count_or}
@@ -30,22 +31,6 @@ abbrev pub is_top_slot : SlotNote → Bool
 is_top_slot note = carried (λ f. is_top f.class) note
 
 -- ---- a frame that was carried
-
--- the frame of the slot passes the test
-pub record CarriedFrame (test : FrameParts → Bool) (note : SlotNote) : Type 0 where
-  pub what : FrameParts
-  pub frame : note.frame ≡ Some what
-  pub passes : test what ≡ true
-
-pub carried_frame : (test : FrameParts → Bool) (note : SlotNote) → carried test note ≡ true → CarriedFrame test note
-carried_frame test note h = by_frame note.frame refl
-  where
-    by_frame : (o : Option FrameParts) → note.frame ≡ o → CarriedFrame test note
-    by_frame None e = absurd (false≢true (rw e at h))
-    by_frame (Some f) e = record { what = f; frame = e; passes = rw e at h }
-
-pub is_carried : (test : FrameParts → Bool) (note : SlotNote) (f : FrameParts) → note.frame ≡ Some f → test f ≡ true → carried test note ≡ true
-is_carried test note f frame h = rw frame h
 
 -- a slot that carried a frame and is not Silent is Clean, or Lost or Partial
 pub clean_or_error : (note : SlotNote) (f : FrameParts) → note.frame ≡ Some f → is_silent_slot note ≡ false
