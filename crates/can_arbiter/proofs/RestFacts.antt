@@ -1,6 +1,6 @@
 -- A set that is emptied node by node.
 use Rattle.std.proofs.Common.{◌≡◌, ◌≢◌, ℕ, zero, suc, ◌+◌, ◌<◌, ◌≤◌, ◌==◌, ◌&&◌, Bool, true, false, not, IsTrue, cond, inl, inr, ap, sym, ◌∙◌, arith, refl}
-use Rattle.std.proofs.lemmas.Bool.{cases_eq, eq-eqb, ne_eqb, and_parts}
+use Rattle.std.proofs.lemmas.Bool.{cases_eq, eq-eqb, ne_eqb, and_right, and_parts}
 
 -- how many of the numbers below n pass the test
 unfoldable pub left : (ℕ → Bool) → ℕ → ℕ
@@ -15,12 +15,8 @@ and_true : (b : Bool) → (b && true) ≡ b
 and_true true = refl
 and_true false = refl
 
-and_false : (b : Bool) → (b && false) ≡ false
-and_false true = refl
-and_false false = refl
-
 pub taken_out : (old new : ℕ → Bool) (node : ℕ) → IsWithout old node new → new node ≡ false
-taken_out old new node out = out node ∙ ap (λ b. old node && not b) (eq-eqb node node refl) ∙ and_false (old node)
+taken_out old new node out = out node ∙ ap (λ b. old node && not b) (eq-eqb node node refl) ∙ and_right (old node) false refl
 
 pub left_in : (old new : ℕ → Bool) (node i : ℕ) → IsWithout old node new → i ≢ node → new i ≡ old i
 left_in old new node i out other = out i ∙ ap (λ b. old i && not b) (ne_eqb i node other) ∙ and_true (old i)

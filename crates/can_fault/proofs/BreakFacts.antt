@@ -2,7 +2,7 @@
 use Rattle.std.proofs.Common.{◌≡◌, ℕ, zero, suc, ◌+◌, ◌-◌, ◌==◌, ◌&&◌, Bool, true, false, not, inl, inr, List, [], ◌∷◌, Option, Some, None, refl, ap, sym, ◌∙◌, arith, length, take, if◌then◌else◌, add-one}
 use Rattle.std.specs.Prelude.{nat_lt, slice_get}
 use Rattle.std.specs.Option.{option_map_or}
-use Rattle.std.proofs.lemmas.Bool.{cases_Bool, cases_lt, cond_both, lt-ltb, le-ltb, eq-eqb}
+use Rattle.std.proofs.lemmas.Bool.{cases_Bool, cases_lt, cond_both, lt-ltb, le-ltb, and_right, eq-eqb}
 use Rattle.cany_base.specs.declared.class.Class.TheVariants.{Rha}
 use Rattle.cany_base.specs.declared.rule.Verdict.TheVariants.{Clean, Lost, Partial, Silent}
 use Rattle.cany_base.specs.declared.slot_note.SlotNote.{SlotNote}
@@ -39,14 +39,10 @@ and_true : (b : Bool) → (b && true) ≡ b
 and_true true = refl
 and_true false = refl
 
-and_false : (b : Bool) → (b && false) ≡ false
-and_false true = refl
-and_false false = refl
-
 pub partials_same : (x : Identity) (note : SlotNote) (before : List SlotNote) (f : FrameParts) → note.frame ≡ Some f → is_partial note.verdict ≡ false
     → partial_slots x (note ∷ before) ≡ partial_slots x before
 partials_same x note before f e other =
-    count-no (is_partial_slot_of x) note before (partial_is x note f e ∙ ap (λ b. count_together x (identity_of f) && b) other ∙ and_false (count_together x (identity_of f)))
+    count-no (is_partial_slot_of x) note before (partial_is x note f e ∙ ap (λ b. count_together x (identity_of f) && b) other ∙ and_right (count_together x (identity_of f)) false refl)
 
 pub partials_more : (x : Identity) (note : SlotNote) (before : List SlotNote) (f : FrameParts) → note.frame ≡ Some f → is_partial note.verdict ≡ true
     → partial_slots x (note ∷ before) ≡ partial_slots x before + (if count_together x (identity_of f) then 1 else 0)
