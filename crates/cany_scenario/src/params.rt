@@ -60,6 +60,17 @@ fn given_params(top: &Entry) -> Result<Params, ScenarioFault>
     })
 }
 
+/// How many nodes there are, at most as many as the format has.
+#[tactic(auto, using(crate::proofs::FormatFacts::at_most_nodes))]
+fn read_nodes(format: Format, top: &Entry) -> Result<u8, ScenarioFault>
+    ensures value { result ≡ required (number_from 2 (layout format).nodes) key.Nodes (entry_of top.now) }
+    ensures in_range { IfOk result (λ n. (2 ≤ n) × (n ≤ (layout format).nodes)) }
+    ensures few { IfOk result (λ n. n ≤ most_nodes) }
+{
+    let nodes = top.number(KeyName::Nodes, 2, u64::from(format.nodes()))?;
+    Ok(nodes as u8)
+}
+
 impl FromValue for Format {
     ghost use Rattle.cany_text.specs.ParamsText.{format_from};
 
@@ -73,15 +84,4 @@ impl FromValue for Format {
             Ok(Format::Two)
         }
     }
-}
-
-/// How many nodes there are, at most as many as the format has.
-#[tactic(auto, using(crate::proofs::FormatFacts::at_most_nodes))]
-fn read_nodes(format: Format, top: &Entry) -> Result<u8, ScenarioFault>
-    ensures value { result ≡ required (number_from 2 (layout format).nodes) key.Nodes (entry_of top.now) }
-    ensures in_range { IfOk result (λ n. (2 ≤ n) × (n ≤ (layout format).nodes)) }
-    ensures few { IfOk result (λ n. n ≤ most_nodes) }
-{
-    let nodes = top.number(KeyName::Nodes, 2, u64::from(format.nodes()))?;
-    Ok(nodes as u8)
 }

@@ -32,16 +32,6 @@ impl FromEntry for Rule {
     }
 }
 
-impl Named for Verdict {
-    ghost use Rattle.cany_text.specs.TextNames.{verdict_name};
-
-    ghost word = { verdict_name };
-
-    fn name(self) -> &'static str {
-        verdict_name(self)
-    }
-}
-
 /// A verdict by which nobody rejects the frame as yet.
 impl FromValue for Verdict {
     ghost use Rattle.cany_text.specs.FaultsText.{verdict_from};
@@ -70,5 +60,15 @@ fn rejected_by(reject: NodeSet, verdict: Verdict) -> Verdict
         Verdict::Lost => Verdict::Lost,
         Verdict::Partial(_) => Verdict::Partial(reject),
         Verdict::Silent(_) => Verdict::Silent(reject),
+    }
+}
+
+impl Named for Verdict {
+    ghost use Rattle.cany_text.specs.TextNames.{verdict_name};
+
+    ghost word = { verdict_name };
+
+    fn name(self) -> &'static str {
+        verdict_name(self)
     }
 }

@@ -49,6 +49,16 @@ const CLASSES: [Class; 10] = [
     Class::Ed,
 ];
 
+impl Named for Class {
+    ghost use Rattle.cany_text.specs.TextNames.{class_name};
+
+    ghost word = { class_name };
+
+    fn name(self) -> &'static str {
+        class_name(self)
+    }
+}
+
 /// Where the rule of an entry acts: at a frame where the entry has the key `class`, whatever that
 /// holds, and at a slot elsewhere.
 #[tactic(auto, unfolding(cany_text::specs::FaultsText::place_from))]
@@ -104,16 +114,6 @@ fn read_attempt(params: &Params, entry: &Entry) -> Result<u32, ScenarioFault>
 {
     let nth = entry.number(KeyName::Nth, 1, greatest_attempt(params.format))?;
     Ok(nth as u32)
-}
-
-impl Named for Class {
-    ghost use Rattle.cany_text.specs.TextNames.{class_name};
-
-    ghost word = { class_name };
-
-    fn name(self) -> &'static str {
-        class_name(self)
-    }
 }
 
 impl FromValue for Class {

@@ -27,9 +27,6 @@ const SEND_KEYS: [KeyName; 4] = [
     KeyName::DataKey,
 ];
 
-/// The services that an entry can name.
-const SERVICES: [Service; 3] = [Service::Ed, Service::Rel, Service::Tot];
-
 /// How many digits a payload can have.
 const MOST_DIGITS: usize = 16;
 
@@ -154,7 +151,7 @@ impl FromValue for Service {
 
     #[tactic(auto, unfolding(cany_text::specs::SendsText::service_from))]
     fn from_value(at: Position, value: &Value) -> Result<Service, ScenarioFault> {
-        one_of(&SERVICES, at, value)
+        one_of(&[Service::Ed, Service::Rel, Service::Tot], at, value)
     }
 }
 
