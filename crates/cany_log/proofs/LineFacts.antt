@@ -63,11 +63,6 @@ pub word_put : (word : List ℕ) (fields : List (List ℕ)) (after row row' : Li
     → row' ≡ line_of (word ∷ fields) ++ after
 word_put word fields after row row' h put = put ∙ ap (λ r. word ++ r) h.text ∙ sym (line_before word fields after)
 
--- a field more before fields that stand before some bytes
-pub spaced_put : (field : List ℕ) (fields : List (List ℕ)) (after row row' : List ℕ) → row ≡ spaced fields ++ after → row' ≡ (32 ∷ field) ++ row
-    → row' ≡ spaced (field ∷ fields) ++ after
-spaced_put field fields after row row' are put = put ∙ ap (λ r. (32 ∷ field) ++ r) are ∙ sym (append_assoc (32 ∷ field) (spaced fields) after)
-
 -- a field of so many bytes at most
 pub length_put : (field row row' : List ℕ) (most : ℕ) → row' ≡ (32 ∷ field) ++ row → length field ≤ most → length row' ≤ length row + (1 + most)
 length_put field row row' most put short = omega (arith, short, ap length put, length-append field row)
