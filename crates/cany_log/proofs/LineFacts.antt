@@ -1,5 +1,5 @@
 -- Fields and lines that are put before what is there.
-use Rattle.std.proofs.Common.{◌≡◌, ℕ, List, [], ◌∷◌, ◌++◌, ◌+◌, ◌≤◌, length, refl, sym, ◌∙◌, ap, append_assoc, append-nil, arith}
+use Rattle.std.proofs.Common.{◌≡◌, ℕ, List, [], ◌∷◌, ◌++◌, ◌+◌, ◌≤◌, length, refl, sym, ◌∙◌, ap, append_assoc, append-nil, length-append, arith}
 use Rattle.std.specs.List.{join_with_byte}
 use Rattle.cany_log.specs.Fields.{spaced}
 use Rattle.cany_text.specs.ReportLines.{line_of}
@@ -42,6 +42,12 @@ pub field_put : (field : List ℕ) (fields : List (List ℕ)) (after row row' : 
     → HasFieldsBefore (field ∷ fields) after row'
 field_put field fields after row row' h put = record { text = put ∙ ap (λ r. 32 ∷ (field ++ r)) h.text }
 
+-- three fields, put one after another from the last one on, before some bytes
+pub three_put : (first second third after row row1 row2 row3 : List ℕ) → row ≡ after → row1 ≡ (32 ∷ third) ++ row → row2 ≡ (32 ∷ second) ++ row1
+    → row3 ≡ (32 ∷ first) ++ row2 → HasFieldsBefore (first ∷ second ∷ third ∷ []) after row3
+three_put first second third after row row1 row2 row3 none last middle front =
+    field_put _ _ _ _ _ (field_put _ _ _ _ _ (field_put _ _ _ _ _ (fields_none _ _ none) last) middle) front
+
 -- some fields more
 pub fields_put : (fields more : List (List ℕ)) (after row row' : List ℕ) → HasFieldsBefore more after row → row' ≡ spaced fields ++ row
     → HasFieldsBefore (fields ++ more) after row'
@@ -56,6 +62,10 @@ last_fields fields after row row' h put = record { text = put ∙ spaced_before 
 pub word_put : (word : List ℕ) (fields : List (List ℕ)) (after row row' : List ℕ) → HasFieldsBefore fields (10 ∷ after) row → row' ≡ word ++ row
     → row' ≡ line_of (word ∷ fields) ++ after
 word_put word fields after row row' h put = put ∙ ap (λ r. word ++ r) h.text ∙ sym (line_before word fields after)
+
+-- a field of so many bytes at most
+pub length_put : (field row row' : List ℕ) (most : ℕ) → row' ≡ (32 ∷ field) ++ row → length field ≤ most → length row' ≤ length row + (1 + most)
+length_put field row row' most put short = omega (arith, short, ap length put, length-append field row)
 
 -- a piece of one field
 pub one_spaced : (field row row' : List ℕ) → row' ≡ (32 ∷ field) ++ row → row' ≡ spaced (field ∷ []) ++ row

@@ -1,23 +1,11 @@
-ghost use Rattle.std.specs.Prelude.{◌≡◌, ◌≤◌, length};
 ghost use Rattle.cany_text.specs.ReportLines as report;
 ghost use Rattle.cany_log.specs.Written.{IsWritten};
 
 use crate::field::Field;
 use crate::line::write_line;
 use cany_io::{Failed, Sink};
-use cany_model::{Break, BreakKind};
-
-#[tactic(auto, unfolding(cany_text::specs::ReportLines::break_name))]
-fn break_name(kind: BreakKind) -> &'static str
-    ensures name { result.now ≡ report.break_name kind }
-    ensures short { length result.now ≤ 6 }
-{
-    match kind {
-        BreakKind::Silent => "silent",
-        BreakKind::Omit => "omit",
-        BreakKind::Errors => "errors",
-    }
-}
+use cany_model::Break;
+use cany_text::names::break_name;
 
 /// Writes the line of the fault hypothesis: that a run is within it, or where it leaves it first.
 /// It takes no memory.

@@ -15,14 +15,11 @@ use cany_model::{FollowFault, StepReply};
 const STEP: &str = "refused journal step";
 
 /// Writes the line of a journal that is refused.
-pub(crate) fn write_journal_refusal<K: Sink>(
-    fault: &FollowFault,
-    sink: &mut K,
-) -> Result<(), Failed>
-    ensures { IsWritten (journal_refusal_line fault.now) result
+pub(crate) fn write_journal_refusal<K: Sink>(fault: FollowFault, sink: &mut K) -> Result<(), Failed>
+    ensures { IsWritten (journal_refusal_line fault) result
         (K.taken sink.old) (K.taken sink.new) (K.faults sink.old) (K.faults sink.new) }
 {
-    match *fault {
+    match fault {
         FollowFault::Refused { place, reply } => write_refused_step(place as u64, &reply, sink),
         FollowFault::Unfinished { ran, node } => write_unfinished(ran, node, sink),
     }

@@ -35,8 +35,8 @@ pub fn write_refusal<K: Sink>(refusal: &Refusal, sink: &mut K) -> Result<(), Fai
         (K.taken sink.old) (K.taken sink.new) (K.faults sink.old) (K.faults sink.new) }
 {
     match *refusal {
-        Refusal::Scenario(fault) => write_scenario_refusal(&fault, sink),
-        Refusal::Journal(fault) => write_journal_refusal(&fault, sink),
+        Refusal::Scenario(fault) => write_scenario_refusal(fault, sink),
+        Refusal::Journal(fault) => write_journal_refusal(fault, sink),
         Refusal::JournalGiven => write_journal_given(sink),
     }
 }

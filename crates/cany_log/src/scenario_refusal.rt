@@ -16,13 +16,13 @@ use cany_text::{KeyName, ScenarioFault, TableName};
 /// Writes the line of a text that is no scenario, by its first fault. Want of memory has no line.
 #[tactic(auto, unfolding(cany_text::specs::RefusalLines::scenario_refusal_line))]
 pub(crate) fn write_scenario_refusal<K: Sink>(
-    fault: &ScenarioFault,
+    fault: ScenarioFault,
     sink: &mut K,
 ) -> Result<(), Failed>
-    ensures { IsWritten (scenario_refusal_line fault.now) result
+    ensures { IsWritten (scenario_refusal_line fault) result
         (K.taken sink.old) (K.taken sink.new) (K.faults sink.old) (K.faults sink.new) }
 {
-    match *fault {
+    match fault {
         ScenarioFault::NotText => write_words("refused not utf-8", sink),
         ScenarioFault::NotToml => write_words("refused not toml", sink),
         ScenarioFault::UnknownKey { table, place } => write_unknown_key(table, place, sink),
@@ -137,13 +137,16 @@ fn write_out_of_range<K: Sink>(
     ensures { IsWritten (scenario_refusal_line (OutOfRange table place name value)) result
         (K.taken sink.old) (K.taken sink.new) (K.faults sink.old) (K.faults sink.new) }
 {
-    let fields = [
-        Field::Text(key_name(name)),
-        Field::Text("in"),
-        Field::Text(table_name(table)),
-        Field::Number(place as u64),
-        Field::Text("value"),
-        Field::SignedNumber(value),
-    ];
-    write_line("refused out of range", &fields, sink)
+    write_line(
+        "refused out of range",
+        &[
+            Field::Text(key_name(name)),
+            Field::Text("in"),
+            Field::Text(table_name(table)),
+            Field::Number(place as u64),
+            Field::Text("value"),
+            Field::SignedNumber(value),
+        ],
+        sink,
+    )
 }

@@ -24,21 +24,26 @@ pub(crate) trait FromEntry: Drop {
         ensures { result ≡ meaning params.now (entry_of entry.now) };
 }
 
-/// What the entries of the array of tables at a key of the top table stand for, at most so many, in
-/// file order.
+/// An array of tables of the text: its key in the top table, and how many entries it can have.
+#[derive(Clone, Copy)]
+pub(crate) struct Array {
+    pub(crate) table: TableName,
+    pub(crate) name: KeyName,
+    pub(crate) most: usize,
+}
+
+/// What the entries of an array of tables stand for, in file order: none where its key is absent.
 pub(crate) fn entries_at<T: FromEntry>(
     alloc: Global,
     params: &Params,
     top: &Entry,
-    table: TableName,
-    most: usize,
-    name: KeyName,
+    array: Array,
 ) -> Result<Vec<T>, ScenarioFault>
-    ensures ok { IfOk result (λ found. toml.entries_of table most (T.meaning params.now) name (entry_of top.now) ≡ Ok found.items) }
-    ensures fault { IfErr result (λ fault. fault ≢ Memory → toml.entries_of table most (T.meaning params.now) name (entry_of top.now) ≡ Err fault) }
+    ensures ok { IfOk result (λ found. toml.entries_of array.table array.most (T.meaning params.now) array.name (entry_of top.now) ≡ Ok found.items) }
+    ensures fault { IfErr result (λ fault. fault ≢ Memory → toml.entries_of array.table array.most (T.meaning params.now) array.name (entry_of top.now) ≡ Err fault) }
 {
-    let items = items_at(top, table, most, name)?;
-    each_entry(alloc, params, table, name, items)
+    let items = items_at(top, array.table, array.most, array.name)?;
+    each_entry(alloc, params, array.table, array.name, items)
 }
 
 fn each_entry<T: FromEntry>(

@@ -3,57 +3,40 @@ ghost use Rattle.std.specs.Prelude.{◌≡◌, ◌≢◌, ◌-◌, [], count_by,
 ghost use Rattle.cany_base.specs.Scenario.{is_ask_of_node};
 ghost use Rattle.cany_text.specs.declared.scenario_fault.KeyName.TheVariants as key;
 ghost use Rattle.cany_text.specs.declared.scenario_fault.ScenarioFault.TheVariants.{Memory};
-ghost use Rattle.cany_text.specs.AsksText.{joins_of, leaves_of, restarts_of, is_one_too_many};
+ghost use Rattle.cany_text.specs.AsksText.{restarts_of, is_one_too_many};
 ghost use Rattle.cany_text.specs.TomlKeys.{required, number_from, first_after};
 ghost use Rattle.cany_scenario.specs.Entries.{entry_of};
 
-use crate::array::{FromEntry, entries_at};
+use crate::array::{Array, FromEntry, entries_at};
 use crate::entry::Entry;
 use cany_base::limits::{MOST_JOINS, MOST_LEAVES, MOST_RESTARTS, MOST_RESTARTS_OF_NODE};
 use cany_base::{NodeAsk, NodeId, Params};
 use cany_text::{KeyName, ScenarioFault, TableName};
 use std::alloc::Global;
 
+/// The scripted joins.
+pub(crate) const JOINS: Array = Array {
+    table: TableName::Join,
+    name: KeyName::Join,
+    most: MOST_JOINS,
+};
+
+/// The scripted leaves.
+pub(crate) const LEAVES: Array = Array {
+    table: TableName::Leave,
+    name: KeyName::Leave,
+    most: MOST_LEAVES,
+};
+
 /// The keys that an entry can have.
 const ASK_KEYS: [KeyName; 2] = [KeyName::Slot, KeyName::Node];
 
-/// The joins that the text lists, in file order.
-pub(crate) fn read_joins(
-    alloc: Global,
-    params: &Params,
-    top: &Entry,
-) -> Result<Vec<NodeAsk>, ScenarioFault>
-    ensures ok { IfOk result (λ asks. joins_of params.now (entry_of top.now) ≡ Ok asks.items) }
-    ensures fault { IfErr result (λ fault. fault ≢ Memory → joins_of params.now (entry_of top.now) ≡ Err fault) }
-{
-    entries_at(
-        alloc,
-        params,
-        top,
-        TableName::Join,
-        MOST_JOINS,
-        KeyName::Join,
-    )
-}
-
-/// The leaves that the text lists, in file order.
-pub(crate) fn read_leaves(
-    alloc: Global,
-    params: &Params,
-    top: &Entry,
-) -> Result<Vec<NodeAsk>, ScenarioFault>
-    ensures ok { IfOk result (λ asks. leaves_of params.now (entry_of top.now) ≡ Ok asks.items) }
-    ensures fault { IfErr result (λ fault. fault ≢ Memory → leaves_of params.now (entry_of top.now) ≡ Err fault) }
-{
-    entries_at(
-        alloc,
-        params,
-        top,
-        TableName::Leave,
-        MOST_LEAVES,
-        KeyName::Leave,
-    )
-}
+/// The scripted restarts.
+const RESTARTS: Array = Array {
+    table: TableName::Restart,
+    name: KeyName::Restart,
+    most: MOST_RESTARTS,
+};
 
 /// The restarts that the text lists, in file order, of which no node has too many.
 #[tactic(auto, unfolding(cany_text::specs::AsksText::restarts_of))]
@@ -65,14 +48,7 @@ pub(crate) fn read_restarts(
     ensures ok { IfOk result (λ asks. restarts_of params.now (entry_of top.now) ≡ Ok asks.items) }
     ensures fault { IfErr result (λ fault. fault ≢ Memory → restarts_of params.now (entry_of top.now) ≡ Err fault) }
 {
-    let restarts = entries_at(
-        alloc,
-        params,
-        top,
-        TableName::Restart,
-        MOST_RESTARTS,
-        KeyName::Restart,
-    )?;
+    let restarts = entries_at(alloc, params, top, RESTARTS)?;
     match first_too_often(&restarts) {
         Some(place) => Err(ScenarioFault::TooOften { place }),
         None => Ok(restarts),

@@ -9,6 +9,7 @@ ghost use Rattle.cany_text.specs.TextNames.{key_name};
 ghost use Rattle.cany_text.specs.TomlKeys.{has_only, only_keys, position_of, required, optional, number_from, within};
 ghost use Rattle.cany_scenario.specs.Entries.{entry_of, is_one_of};
 
+use crate::value::FromValue;
 use cany_text::names::key_name;
 use cany_text::{KeyName, Position, ScenarioFault, TableName};
 use toml::{Table, Value};
@@ -74,6 +75,28 @@ impl<'a> Entry<'a> {
             table: self.table,
             place: self.place,
         })
+    }
+
+    /// What a required key holds.
+    pub(crate) fn read<T: FromValue>(&self, name: KeyName) -> Result<T, ScenarioFault>
+        ensures { result ≡ required T.meaning name (entry_of self.now) }
+    {
+        let value = self.required(name)?;
+        T::from_value(self.position(name), value)
+    }
+
+    /// What a key holds, or the default where it is absent.
+    pub(crate) fn read_or<T: FromValue>(
+        &self,
+        name: KeyName,
+        default: T,
+    ) -> Result<T, ScenarioFault>
+        ensures { result ≡ optional T.meaning default name (entry_of self.now) }
+    {
+        match self.value(name) {
+            Some(value) => T::from_value(self.position(name), value),
+            None => Ok(default),
+        }
     }
 
     /// The integer of a required key, which lies in the range.

@@ -14,6 +14,8 @@ mod rule_place;
 mod rules;
 mod scenario;
 mod sends;
+mod value;
+mod word;
 
 pub use cany_text::{KeyName, ScenarioFault, TableName};
 pub use scenario::read_scenario;

@@ -1,14 +1,14 @@
 //! The parameters of a scenario text.
 ghost use Rattle.std.specs.Prelude.{◌≡◌, ◌≤◌, IfOk};
-ghost use Rattle.toml.specs.View.{view};
 ghost use Rattle.cany_base.specs.Layout.{layout};
 ghost use Rattle.cany_base.specs.Limits.{most_nodes};
 ghost use Rattle.cany_text.specs.declared.scenario_fault.KeyName.TheVariants as key;
-ghost use Rattle.cany_text.specs.ParamsText.{format_from, given_params, params_of};
+ghost use Rattle.cany_text.specs.ParamsText.{given_params, params_of};
 ghost use Rattle.cany_text.specs.TomlKeys.{number_from, required};
 ghost use Rattle.cany_scenario.specs.Entries.{entry_of};
 
 use crate::entry::{Entry, number_from};
+use crate::value::FromValue;
 use cany_base::limits::{
     GREATEST_ERRORS, GREATEST_GIVEN, GREATEST_LAG, GREATEST_OMIT, greatest_slots,
 };
@@ -30,7 +30,7 @@ pub(crate) fn read_params(top: &Entry) -> Result<Params, ScenarioFault>
 fn given_params(top: &Entry) -> Result<Params, ScenarioFault>
     ensures { result ≡ given_params (entry_of top.now) }
 {
-    let format = read_format(top)?;
+    let format = top.read(KeyName::Format)?;
     let nodes = read_nodes(format, top)?;
     let slots = top.number(KeyName::Slots, 1, greatest_slots(format))?;
     let lag = top.number_or(KeyName::Lag, 0, GREATEST_LAG, 0)?;
@@ -60,26 +60,6 @@ fn given_params(top: &Entry) -> Result<Params, ScenarioFault>
     })
 }
 
-fn read_format(top: &Entry) -> Result<Format, ScenarioFault>
-    ensures { result ≡ required format_from key.Format (entry_of top.now) }
-{
-    format_from(
-        top.position(KeyName::Format),
-        top.required(KeyName::Format)?,
-    )
-}
-
-/// The format of the number.
-fn format_from(at: Position, value: &Value) -> Result<Format, ScenarioFault>
-    ensures { result ≡ format_from at (view value.now) }
-{
-    if number_from(at, value, 1, 2)? == 1 {
-        Ok(Format::One)
-    } else {
-        Ok(Format::Two)
-    }
-}
-
 /// How many nodes there are, at most as many as the format has.
 #[tactic(auto, using(crate::proofs::FormatFacts::at_most_nodes))]
 fn read_nodes(format: Format, top: &Entry) -> Result<u8, ScenarioFault>
@@ -89,4 +69,19 @@ fn read_nodes(format: Format, top: &Entry) -> Result<u8, ScenarioFault>
 {
     let nodes = top.number(KeyName::Nodes, 2, u64::from(format.nodes()))?;
     Ok(nodes as u8)
+}
+
+impl FromValue for Format {
+    ghost use Rattle.cany_text.specs.ParamsText.{format_from};
+
+    ghost meaning = { format_from };
+
+    /// The format of the number.
+    fn from_value(at: Position, value: &Value) -> Result<Format, ScenarioFault> {
+        if number_from(at, value, 1, 2)? == 1 {
+            Ok(Format::One)
+        } else {
+            Ok(Format::Two)
+        }
+    }
 }

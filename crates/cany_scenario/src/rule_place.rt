@@ -1,15 +1,15 @@
 //! Where a fault rule of a scenario text acts.
 ghost use Rattle.std.specs.Prelude.{◌≡◌};
-ghost use Rattle.toml.specs.View.{view};
 ghost use Rattle.cany_base.specs.Limits.{greatest_attempt, greatest_number};
 ghost use Rattle.cany_text.specs.declared.scenario_fault.KeyName.TheVariants as key;
-ghost use Rattle.cany_text.specs.FaultsText.{classes, class_from, slot_place_from, frame_place_from, place_from};
-ghost use Rattle.cany_text.specs.TextNames.{class_name, named};
+ghost use Rattle.cany_text.specs.FaultsText.{slot_place_from, frame_place_from, place_from};
 ghost use Rattle.cany_text.specs.TomlKeys.{number_from, required};
 ghost use Rattle.cany_scenario.specs.Entries.{entry_of};
 
 use crate::asks::{node_at, slot_at};
-use crate::entry::{Entry, wrong_kind};
+use crate::entry::Entry;
+use crate::value::FromValue;
+use crate::word::{Named, one_of};
 use cany_base::limits::{greatest_attempt, greatest_number};
 use cany_base::{Class, Params, Place};
 use cany_text::names::class_name;
@@ -49,6 +49,16 @@ const CLASSES: [Class; 10] = [
     Class::Ed,
 ];
 
+impl Named for Class {
+    ghost use Rattle.cany_text.specs.TextNames.{class_name};
+
+    ghost word = { class_name };
+
+    fn name(self) -> &'static str {
+        class_name(self)
+    }
+}
+
 /// Where the rule of an entry acts: at a frame where the entry has the key `class`, whatever that
 /// holds, and at a slot elsewhere.
 #[tactic(auto, unfolding(cany_text::specs::FaultsText::place_from))]
@@ -76,7 +86,7 @@ fn frame_place_from(params: &Params, entry: &Entry) -> Result<Place, ScenarioFau
     ensures { result ≡ frame_place_from params.now (entry_of entry.now) }
 {
     entry.only_keys(&FRAME_RULE_KEYS)?;
-    let class = read_class(entry)?;
+    let class = entry.read(KeyName::Class)?;
     let number = read_number(params, entry)?;
     let node = node_at(params, entry)?;
     let nth = read_attempt(params, entry)?;
@@ -106,32 +116,13 @@ fn read_attempt(params: &Params, entry: &Entry) -> Result<u32, ScenarioFault>
     Ok(nth as u32)
 }
 
-/// The class of the frame.
-fn read_class(entry: &Entry) -> Result<Class, ScenarioFault>
-    ensures { result ≡ required class_from key.Class (entry_of entry.now) }
-{
-    class_from(
-        entry.position(KeyName::Class),
-        entry.required(KeyName::Class)?,
-    )
-}
+impl FromValue for Class {
+    ghost use Rattle.cany_text.specs.FaultsText.{class_from};
 
-#[tactic(auto, unfolding(cany_text::specs::FaultsText::class_from))]
-fn class_from(at: Position, value: &Value) -> Result<Class, ScenarioFault>
-    ensures { result ≡ class_from at (view value.now) }
-{
-    let name = value.as_str().ok_or(wrong_kind(at))?;
-    class_named(name).ok_or(wrong_kind(at))
-}
+    ghost meaning = { class_from };
 
-/// The class of the name.
-fn class_named(name: &str) -> Option<Class>
-    ensures { result ≡ named class_name classes name.now }
-{
-    for class in &CLASSES {
-        if class_name(*class) == name {
-            return Some(*class);
-        }
+    #[tactic(auto, unfolding(cany_text::specs::FaultsText::class_from))]
+    fn from_value(at: Position, value: &Value) -> Result<Class, ScenarioFault> {
+        one_of(&CLASSES, at, value)
     }
-    None
 }

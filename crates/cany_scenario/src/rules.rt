@@ -5,13 +5,20 @@ ghost use Rattle.cany_text.specs.FaultsText.{repeats, rules_of};
 ghost use Rattle.cany_text.specs.TomlKeys.{first_after};
 ghost use Rattle.cany_scenario.specs.Entries.{entry_of};
 
-use crate::array::entries_at;
+use crate::array::{Array, entries_at};
 use crate::entry::Entry;
 use cany_base::limits::MOST_RULES;
 use cany_base::{Params, Place, Rule};
 use cany_text::{KeyName, ScenarioFault, TableName};
 use std::alloc::Global;
 use std::collections::HashSet;
+
+/// The scripted fault rules.
+const RULES: Array = Array {
+    table: TableName::Fault,
+    name: KeyName::Fault,
+    most: MOST_RULES,
+};
 
 /// The rules that the text lists, in file order, of which no two are for one place.
 #[tactic(auto, unfolding(cany_text::specs::FaultsText::rules_of))]
@@ -23,14 +30,7 @@ pub(crate) fn read_rules(
     ensures ok { IfOk result (λ rules. rules_of params.now (entry_of top.now) ≡ Ok rules.items) }
     ensures fault { IfErr result (λ fault. fault ≢ Memory → rules_of params.now (entry_of top.now) ≡ Err fault) }
 {
-    let rules: Vec<Rule> = entries_at(
-        alloc,
-        params,
-        top,
-        TableName::Fault,
-        MOST_RULES,
-        KeyName::Fault,
-    )?;
+    let rules: Vec<Rule> = entries_at(alloc, params, top, RULES)?;
     match first_repeated(alloc, &rules)? {
         Some(index) => Err(ScenarioFault::RepeatedRule { index }),
         None => Ok(rules),

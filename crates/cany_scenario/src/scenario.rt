@@ -4,14 +4,15 @@ ghost use Rattle.cany_text.specs.declared.scenario_fault.ScenarioFault.TheVarian
 ghost use Rattle.cany_text.specs.ScenarioText.{scenario_from, scenario_of};
 ghost use Rattle.cany_scenario.specs.Entries.{entry_of};
 
-use crate::asks::{read_joins, read_leaves, read_restarts};
+use crate::array::entries_at;
+use crate::asks::{JOINS, LEAVES, read_restarts};
 use crate::document::read_document;
 use crate::entry::Entry;
 use crate::journal::read_journal;
 use crate::nodes::read_members;
 use crate::params::read_params;
 use crate::rules::read_rules;
-use crate::sends::read_sends;
+use crate::sends::SENDS;
 use cany_base::Scenario;
 use cany_text::{KeyName, ScenarioFault};
 use std::alloc::Global;
@@ -60,10 +61,10 @@ fn scenario_from(alloc: Global, top: &Entry) -> Result<Scenario, ScenarioFault>
     top.only_keys(&TOP_KEYS)?;
     let params = read_params(top)?;
     let members = read_members(&params, top)?;
-    let sends = read_sends(alloc, &params, top)?;
+    let sends = entries_at(alloc, &params, top, SENDS)?;
     let rules = read_rules(alloc, &params, top)?;
-    let joins = read_joins(alloc, &params, top)?;
-    let leaves = read_leaves(alloc, &params, top)?;
+    let joins = entries_at(alloc, &params, top, JOINS)?;
+    let leaves = entries_at(alloc, &params, top, LEAVES)?;
     let restarts = read_restarts(alloc, &params, top)?;
     let journal = read_journal(alloc, params.format, top)?;
     Ok(Scenario::of_parts(

@@ -1,23 +1,21 @@
 //! The scripted sends of a scenario text.
-ghost use Rattle.std.specs.Prelude.{◌≡◌, ◌≢◌, [], IfOk, IfErr, IfSome, Ok, Err};
+ghost use Rattle.std.specs.Prelude.{◌≡◌, IfSome};
 ghost use Rattle.toml.specs.Data.{member};
 ghost use Rattle.toml.specs.View.{view, members_view, table_view};
-ghost use Rattle.cany_text.specs.declared.scenario_fault.KeyName.TheVariants as key;
-ghost use Rattle.cany_text.specs.declared.scenario_fault.ScenarioFault.TheVariants.{Memory};
-ghost use Rattle.cany_text.specs.SendsText.{bytes_of, payload_from, services, service_from, send_from, sends_of};
-ghost use Rattle.cany_text.specs.TextNames.{key_name, named, service_name};
-ghost use Rattle.cany_text.specs.TomlKeys.{optional, required};
+ghost use Rattle.cany_text.specs.SendsText.{bytes_of, send_from};
+ghost use Rattle.cany_text.specs.TextNames.{key_name};
 ghost use Rattle.cany_scenario.specs.Entries.{entry_of};
 ghost use Rattle.cany_scenario.specs.SendsParts.{four_members, send_of_values};
 
-use crate::array::{FromEntry, entries_at};
+use crate::array::{Array, FromEntry};
 use crate::asks::{node_at, slot_at};
 use crate::entry::{Entry, number_from, wrong_kind};
+use crate::value::FromValue;
+use crate::word::{Named, one_of};
 use cany_base::limits::MOST_SENDS;
 use cany_base::{NodeId, Params, Payload, SendAsk, Service};
 use cany_text::names::{key_name, service_name};
 use cany_text::{KeyName, Position, ScenarioFault, TableName};
-use std::alloc::Global;
 use std::collections::btree_map::Iter;
 use toml::{Table, Value};
 
@@ -29,30 +27,15 @@ const SEND_KEYS: [KeyName; 4] = [
     KeyName::DataKey,
 ];
 
-/// The services that an entry can name.
-const SERVICES: [Service; 3] = [Service::Ed, Service::Rel, Service::Tot];
-
 /// How many digits a payload can have.
 const MOST_DIGITS: usize = 16;
 
-/// The sends that the text lists, in file order.
-pub(crate) fn read_sends(
-    alloc: Global,
-    params: &Params,
-    top: &Entry,
-) -> Result<Vec<SendAsk>, ScenarioFault>
-    ensures ok { IfOk result (λ sends. sends_of params.now (entry_of top.now) ≡ Ok sends.items) }
-    ensures fault { IfErr result (λ fault. fault ≢ Memory → sends_of params.now (entry_of top.now) ≡ Err fault) }
-{
-    entries_at(
-        alloc,
-        params,
-        top,
-        TableName::Send,
-        MOST_SENDS,
-        KeyName::Send,
-    )
-}
+/// The scripted sends.
+pub(crate) const SENDS: Array = Array {
+    table: TableName::Send,
+    name: KeyName::Send,
+    most: MOST_SENDS,
+};
 
 /// The values of an entry that has each of the four keys, and no other.
 #[derive(Clone, Copy)]
@@ -123,8 +106,8 @@ fn send_of_values(
     let slot = number_from(entry.position(KeyName::Slot), values.slot, 0, slots)?;
     let nodes = u64::from(params.nodes) - 1;
     let node = number_from(entry.position(KeyName::Node), values.node, 0, nodes)?;
-    let service = service_from(entry.position(KeyName::Service), values.service)?;
-    let payload = payload_from(entry.position(KeyName::DataKey), values.payload)?;
+    let service = Service::from_value(entry.position(KeyName::Service), values.service)?;
+    let payload = Payload::from_value(entry.position(KeyName::DataKey), values.payload)?;
     Ok(SendAsk {
         slot,
         node: NodeId::of_index(node as usize),
@@ -141,8 +124,8 @@ fn send_by_keys(params: &Params, entry: &Entry) -> Result<SendAsk, ScenarioFault
     entry.only_keys(&SEND_KEYS)?;
     let slot = slot_at(params, entry)?;
     let node = node_at(params, entry)?;
-    let service = service_at(entry)?;
-    let payload = payload_at(entry)?;
+    let service = entry.read(KeyName::Service)?;
+    let payload = entry.read_or(KeyName::DataKey, Payload::empty())?;
     Ok(SendAsk {
         slot,
         node,
@@ -151,50 +134,37 @@ fn send_by_keys(params: &Params, entry: &Entry) -> Result<SendAsk, ScenarioFault
     })
 }
 
-/// The service that an entry names.
-fn service_at(entry: &Entry) -> Result<Service, ScenarioFault>
-    ensures { result ≡ required service_from key.Service (entry_of entry.now) }
-{
-    let value = entry.required(KeyName::Service)?;
-    service_from(entry.position(KeyName::Service), value)
-}
+impl Named for Service {
+    ghost use Rattle.cany_text.specs.TextNames.{service_name};
 
-#[tactic(auto, unfolding(cany_text::specs::SendsText::service_from))]
-fn service_from(at: Position, value: &Value) -> Result<Service, ScenarioFault>
-    ensures { result ≡ service_from at (view value.now) }
-{
-    let name = value.as_str().ok_or(wrong_kind(at))?;
-    service_named(name).ok_or(wrong_kind(at))
-}
+    ghost word = { service_name };
 
-/// The service of the name.
-fn service_named(name: &str) -> Option<Service>
-    ensures { result ≡ named service_name services name.now }
-{
-    for service in &SERVICES {
-        if service_name(*service) == name {
-            return Some(*service);
-        }
-    }
-    None
-}
-
-/// The payload of an entry: no bytes where the key is absent.
-fn payload_at(entry: &Entry) -> Result<Payload, ScenarioFault>
-    ensures { result ≡ optional payload_from [] key.DataKey (entry_of entry.now) }
-{
-    match entry.value(KeyName::DataKey) {
-        Some(value) => payload_from(entry.position(KeyName::DataKey), value),
-        None => Ok(Payload::empty()),
+    fn name(self) -> &'static str {
+        service_name(self)
     }
 }
 
-#[tactic(auto, unfolding(cany_text::specs::SendsText::payload_from))]
-fn payload_from(at: Position, value: &Value) -> Result<Payload, ScenarioFault>
-    ensures { result ≡ payload_from at (view value.now) }
-{
-    let digits = value.as_str().ok_or(wrong_kind(at))?;
-    bytes_of(digits).ok_or(ScenarioFault::BadData { place: at.place })
+impl FromValue for Service {
+    ghost use Rattle.cany_text.specs.SendsText.{service_from};
+
+    ghost meaning = { service_from };
+
+    #[tactic(auto, unfolding(cany_text::specs::SendsText::service_from))]
+    fn from_value(at: Position, value: &Value) -> Result<Service, ScenarioFault> {
+        one_of(&[Service::Ed, Service::Rel, Service::Tot], at, value)
+    }
+}
+
+impl FromValue for Payload {
+    ghost use Rattle.cany_text.specs.SendsText.{payload_from};
+
+    ghost meaning = { payload_from };
+
+    #[tactic(auto, unfolding(cany_text::specs::SendsText::payload_from))]
+    fn from_value(at: Position, value: &Value) -> Result<Payload, ScenarioFault> {
+        let digits = value.as_str().ok_or(wrong_kind(at))?;
+        bytes_of(digits).ok_or(ScenarioFault::BadData { place: at.place })
+    }
 }
 
 /// The bytes that the digits write.

@@ -1,9 +1,11 @@
-//! The words by which texts name classes, services, verdicts, parameters, tables and keys.
+//! The words by which texts name classes, services, verdicts, parameters, tables, keys, and what breaks the fault hypothesis.
 ghost use Rattle.std.specs.Prelude.{◌≡◌, ◌≤◌, length};
+ghost use Rattle.cany_text.specs.ReportLines as report;
 ghost use Rattle.cany_text.specs.TextNames as text;
 
 use crate::scenario_fault::{KeyName, TableName};
 use cany_base::{Class, ParamName, Service, Verdict};
+use cany_model::BreakKind;
 
 /// The name of a class, as `ed`.
 #[tactic(auto, unfolding(crate::specs::TextNames::class_name))]
@@ -64,6 +66,19 @@ pub fn param_name(which: ParamName) -> &'static str
         ParamName::Life => "life",
         ParamName::Silence => "silence",
         ParamName::Confirm => "confirm",
+    }
+}
+
+/// The name of what breaks the fault hypothesis, as `omit`.
+#[tactic(auto, unfolding(crate::specs::ReportLines::break_name))]
+pub fn break_name(kind: BreakKind) -> &'static str
+    ensures name { result.now ≡ report.break_name kind }
+    ensures short { length result.now ≤ 6 }
+{
+    match kind {
+        BreakKind::Silent => "silent",
+        BreakKind::Omit => "omit",
+        BreakKind::Errors => "errors",
     }
 }
 
