@@ -133,7 +133,6 @@ pub record IsTextOf {S : Type 0} (text : List ℕ) (source : Stream S) : Type 0 
   pub fits : IfSome (source.bytes source.old) IsWithin
 
 module _ {S K : Type 0} (command : CommandParts) (said : List (List ℕ)) (source : Stream S) (sink : Stream K) (no_fault : NoFault command) where
-
   -- other words
   pub other_words : (command.are_words said → ⊥) → source.new ≡ source.old → sink.new ≡ sink.old → IsPerformed command said source sink OTHER_WORDS
   other_words other unread unwritten =

@@ -56,24 +56,20 @@ pub record IsPerformed {S K : Type 0} (command : CommandParts) (said : List (Lis
   -- The words alone decide on this status.
   pub words : (answer ≡ OTHER_WORDS) ↔ (command.are_words said → ⊥)
   pub unread : answer ≡ OTHER_WORDS → source.new ≡ source.old
-
   -- Where the command refuses its words, they alone decide, but for a fault of the sink and for want of memory.
   pub early : command.are_words said → IfSome (command.words_refusal said) (λ _.
       (answer ≡ REFUSED) ⊎ (answer ≡ WRITE_FAULT) ⊎ (answer ≡ NO_MEMORY))
   pub early_unread : IfSome (command.words_refusal said) (λ _. source.new ≡ source.old)
-
   -- Success.
   pub done : command.is_success answer → IfSome (source.bytes source.old) (λ bytes.
       OfChosen (command.choose said) bytes (λ chosen. IsAnswered (command.text said) chosen (sink.bytes sink.old) (sink.bytes sink.new)))
   pub success : command.is_success answer → IfSome (source.bytes source.old) (λ bytes.
       OfChosen (command.choose said) bytes (λ chosen. answer ≡ command.success said chosen (journal_of chosen)))
-
   -- The words, the text, the scenario or the journal is refused.
   pub refused : answer ≡ REFUSED → MatchOption (command.words_refusal said)
       (IfSome (source.bytes source.old) (λ bytes. IsSomeAnd (refusal_by (command.choose said) bytes) (λ line.
       Takes (sink.bytes sink.old) line (sink.bytes sink.new))))
       (λ line. Takes (sink.bytes sink.old) line (sink.bytes sink.new))
-
   -- The streams fail.
   pub read_fault : answer ≡ READ_FAULT → HasRisen (source.faults source.old) (source.faults source.new)
   pub write_fault : answer ≡ WRITE_FAULT → HasRisen (sink.faults sink.old) (sink.faults sink.new)
@@ -81,18 +77,15 @@ pub record IsPerformed {S K : Type 0} (command : CommandParts) (said : List (Lis
       (IfSome (source.bytes source.old) (λ bytes.
       TakesPrefix (sink.bytes sink.old) (answer_by (command.text said) (command.choose said) bytes) (sink.bytes sink.new)))
       (λ line. TakesPrefix (sink.bytes sink.old) line (sink.bytes sink.new))
-
   -- The source has too many bytes, or all of them were read.
   pub too_long : answer ≡ TOO_LONG → IfSome (source.bytes source.old) (λ bytes. most_text_bytes < length bytes)
   pub fits : HasEnded command.is_success answer → IfNone (command.words_refusal said)
       (IfSome (source.bytes source.old) (λ bytes. length bytes ≤ most_text_bytes))
   pub drained : HasEnded command.is_success answer → IfNone (command.words_refusal said)
       (IsAtEnd (source.bytes source.new))
-
   -- Nothing else writes.
   pub unwritten : HasNoAnswer answer → sink.new ≡ sink.old
   pub status : HasEnded command.is_success answer ⊎ HasNoAnswer answer
-
   -- Where neither stream fails, the words and the text decide, but for want of memory.
   pub complete : command.are_words said
       → StandsStill (source.faults source.old) (source.faults source.new)

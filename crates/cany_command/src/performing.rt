@@ -91,12 +91,12 @@ pub fn perform<C: Command, S: Source, K: Sink>(
     sink: &mut K,
 ) -> u8
     ensures { IsPerformed (record {
-        are_words = C.are_words;
-        words_refusal = C.words_refusal;
-        choose = C.choose;
-        text = C.text;
-        success = C.success;
-        is_success = C.is_success;
+      are_words = C.are_words;
+      words_refusal = C.words_refusal;
+      choose = C.choose;
+      text = C.text;
+      success = C.success;
+      is_success = C.is_success;
     }) (map string_bytes words.now)
         (record { bytes = S.left; faults = S.faults; old = source.old; new = source.new })
         (record { bytes = K.taken; faults = K.faults; old = sink.old; new = sink.new }) result }
