@@ -1,9 +1,9 @@
--- The command `check`: its words, what it writes, its statuses, and what they say.
-use Rattle.std.specs.Prelude.{◌≡◌, ◌⊎◌, ◌↔◌, ℕ, List, [], ◌∷◌, Option, codes}
+-- The command `check`: its parts, its statuses, and what they say.
+use Rattle.std.specs.Prelude.{◌≡◌, ◌⊎◌, ◌↔◌, ℕ, List, Option, None, codes}
 use Rattle.cany_base.specs.declared.step.Step.{Step}
 use Rattle.cany_base.specs.Scenario.{ScenarioParts}
 use Rattle.cany_command.specs.declared.status.TheConstants.{DONE}
-use Rattle.cany_command.specs.Answers.{answer_by}
+use Rattle.cany_command.specs.Performed.{AreOnly, CommandParts}
 use Rattle.cany_command.specs.Promises.{KeepsPromises}
 use Rattle.cany_command.specs.Refused.{as_read}
 use Rattle.cany_io.specs.Sink.{Takes}
@@ -15,10 +15,6 @@ use Rattle.cany_check.specs.CheckText.{check_text}
 use Rattle.cany_check.specs.Promise.{IsOpen, KeepsPromise}
 use Rattle.cany_check.specs.Verdict.{status}
 
--- the words are the one word of the command
-abbrev pub AreCheck : List (List ℕ) → Type 0
-AreCheck words = words ≡ codes "check" ∷ []
-
 -- the statuses of success
 abbrev pub IsVerdict : ℕ → Type 0
 IsVerdict given = (given ≡ DONE) ⊎ (given ≡ BROKEN) ⊎ (given ≡ OPEN)
@@ -27,10 +23,16 @@ IsVerdict given = (given ≡ DONE) ⊎ (given ≡ BROKEN) ⊎ (given ≡ OPEN)
 unfoldable pub check_status : ScenarioParts → List Step → ℕ
 check_status scenario journal = status (account_of scenario (run scenario journal))
 
--- what is written for the bytes of a text: the verdict of the run of the scenario that they stand for, by its own journal or,
--- where it has none, by its round robin journal; or the line of the refusal
-abbrev pub answer_of : List ℕ → List ℕ
-answer_of bytes = answer_by check_text as_read bytes
+-- the command: the one word, the verdict on the run, and its status
+abbrev pub check_command : CommandParts
+check_command = record {
+  are_words = AreOnly (codes "check");
+  words_refusal = λ _. None;
+  choose = λ _. as_read;
+  text = λ _. check_text;
+  success = λ _. check_status;
+  is_success = IsVerdict;
+}
 
 -- what a status of success says of the scenario and of what the sink had taken before and has taken now
 pub record IsCheck (scenario : ScenarioParts) (given : ℕ) (old new : Option (List ℕ)) : Type 0 where

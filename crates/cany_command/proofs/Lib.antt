@@ -1,7 +1,6 @@
-pub mod ExitFacts
 pub mod NumberFacts
+pub mod PerformedFacts
 pub mod PerformingFacts
 pub mod RefusedFacts
 pub mod RunFacts
-pub mod StatusFacts
 pub mod WordFacts

@@ -1,6 +1,8 @@
 pub mod Answers
 pub mod Faults
+pub mod NoFault
 pub mod Numbers
+pub mod Performed
 pub mod Promises
 pub mod Refused
 pub mod RunFaults

@@ -32,7 +32,3 @@ refusal_for choose (Ok scenario) = chosen_refusal (choose scenario)
 -- the scenario that it runs is refused
 unfoldable pub refusal_by : (ScenarioParts → Chosen) → List ℕ → Option (List ℕ)
 refusal_by choose bytes = refusal_for choose (scenario_of bytes)
-
--- the same, where the scenario that was read is run
-abbrev pub refusal_of : List ℕ → Option (List ℕ)
-refusal_of bytes = refusal_by as_read bytes

@@ -1,25 +1,18 @@
 //! What a command is.
-ghost use Rattle.std.specs.Prelude.{◌≡◌, ◌⊎◌, ◌↔◌, ℕ, List, Option, Some, None, Ok, Err, map, string_bytes, IsTrue, IfErr, IfOk, IsSomeAnd, OnOk};
+ghost use Rattle.std.specs.Prelude.{◌≡◌, ◌↔◌, ℕ, List, Option, Some, None, Ok, Err, map, string_bytes, IsTrue, IfErr, IfOk, OnOk};
 ghost use Rattle.cany_base.specs.declared.step.Step.{Step};
 ghost use Rattle.cany_base.specs.Scenario.{ScenarioParts};
-ghost use Rattle.cany_command.specs.Answers.{IsAnswered, answer_for};
 ghost use Rattle.cany_command.specs.Faults.{IfRefused};
 ghost use Rattle.cany_command.specs.Promises.{HasRun};
-ghost use Rattle.cany_command.specs.Refused.{Chosen, own_fault};
+ghost use Rattle.cany_command.specs.Refused.{Chosen};
 ghost use Rattle.cany_command.specs.Status.{IsNoFault};
 ghost use Rattle.cany_io.specs.Faults.{HasRisen};
 ghost use Rattle.cany_io.specs.Sink.{Takes, TakesPrefix};
-ghost use Rattle.cany_model.specs.Runs.Follow.{journal_of};
-ghost use Rattle.cany_text.specs.RefusalLines.{journal_refusal_line};
 
-use crate::answer::refuse;
 use crate::command_fault::{AnswerFault, CommandFault};
 use crate::refusal_line::RefusalLine;
-use crate::running::{RunFault, run};
-use crate::status::{NO_MEMORY, REFUSED, WRITE_FAULT};
 use cany_base::Scenario;
 use cany_io::Sink;
-use cany_log::Refusal;
 use cany_world::World;
 use std::alloc::Global;
 
@@ -31,15 +24,13 @@ use std::alloc::Global;
 ///
 /// 1. Define in the `specs` of its crate which words are its form, and what it writes of the run of
 ///    a scenario by a journal. The words stand for all that they ask for: what is written, what is
-///    refused and which scenario is run are functions of the words.
+///    refused and which scenario is run are functions of the words. Put them together as one value
+///    of `CommandParts`.
 /// 2. Write a type for the command, mostly `struct Name;`, and its `Command`. A command of one word
-///    has the plan `()` and `NoRefusal`; it takes the words by `is_only`, refuses nothing of its
-///    own (`λ _. None`), chooses the scenario that was read (`λ _. as_read`), and has the one
-///    status of success `DONE` and the law `done_is_no_fault`.
-/// 3. Its top call is `perform(alloc, &Name, words, source, sink)`. Each clause of `perform` is a
-///    clause of that call, with the command's own definitions in place of `C.text` and the others.
-///
-/// A command that may wait for threads has a handle in its type, and a `conclude` of its own.
+///    that refuses nothing of its own writes `OneWord` instead, and is `OneWordCommand(Name)`.
+/// 3. Its top call is `perform(alloc, &Name, words, source, sink)`. What `perform` promises is what
+///    that call promises: `IsPerformed` of the command's own parts. What success says besides is a
+///    clause of its own.
 pub trait Command {
     /// What the words ask for besides the command itself.
     type Plan: Drop;
@@ -130,56 +121,6 @@ pub trait Command {
             → TakesPrefix (K.taken sink.old) (text words world.now.scenario world.now.journal) (K.taken sink.new)) }
         ensures untouched { IfErr result (λ fault. fault ≡ AnswerFault.Memory → sink.new ≡ sink.old) };
 
-    /// Runs the scenario by its own journal or, where it has none, by its round robin journal, and
-    /// writes the text of the run, or refuses the journal. Nothing is written before the run has
-    /// ended. It answers the status of success, or the other status.
-    ///
-    /// # Errors
-    ///
-    /// `REFUSED` where the journal is refused, `WRITE_FAULT` only where the sink failed,
-    /// `NO_MEMORY` for want of memory.
-    fn conclude<K: Sink>(
-        &self,
-        alloc: Global,
-        plan: &Self::Plan,
-        scenario: Scenario,
-        sink: &mut K,
-    ) -> Result<u8, u8>
-        ensures done { OnOk result ((words : List (List ℕ)) → is_plan words plan.now
-            → IsAnswered (text words) scenario (K.taken sink.old) (K.taken sink.new)) }
-        ensures success { IfOk result (λ status. (words : List (List ℕ)) → is_plan words plan.now
-            → status ≡ success words scenario (journal_of scenario)) }
-        ensures followed { OnOk result (own_fault scenario ≡ None) }
-        ensures status { IfOk result (λ status. is_success status) }
-        ensures refused { IfErr result (λ status. status ≡ REFUSED → IsSomeAnd (own_fault scenario) (λ fault.
-            Takes (K.taken sink.old) (journal_refusal_line fault) (K.taken sink.new))) }
-        ensures write_fault { IfErr result (λ status. status ≡ WRITE_FAULT → HasRisen (K.faults sink.old) (K.faults sink.new)) }
-        ensures prefix { IfErr result (λ status. status ≡ WRITE_FAULT → (words : List (List ℕ)) → is_plan words plan.now
-            → TakesPrefix (K.taken sink.old) (answer_for (text words) scenario) (K.taken sink.new)) }
-        ensures untouched { IfErr result (λ status. status ≡ NO_MEMORY → sink.new ≡ sink.old) }
-        ensures other { IfErr result (λ status. (status ≡ REFUSED) ⊎ (status ≡ WRITE_FAULT) ⊎ (status ≡ NO_MEMORY)) }
-    {
-        match run(alloc, scenario) {
-            Ok(world) => status_of(self.answer(alloc, plan, &world, sink)),
-            Err(RunFault::Journal(fault)) => Err(refuse(&Refusal::Journal(fault), sink)),
-            Err(RunFault::Memory) => Err(NO_MEMORY),
-        }
-    }
-
     /// No status of success is one that a command answers where it does not succeed.
     ghost no_fault: { (status : ℕ) → is_success status → IsNoFault status };
-}
-
-/// The status of a command that has written its text, or of one that has not.
-fn status_of(answered: Result<u8, AnswerFault>) -> Result<u8, u8>
-    ensures ok { IfOk result (λ status. answered ≡ Ok status) }
-    ensures failed { IfErr result (λ status. status ≡ WRITE_FAULT → answered ≡ Err AnswerFault.Failed) }
-    ensures memory { IfErr result (λ status. status ≡ NO_MEMORY → answered ≡ Err AnswerFault.Memory) }
-    ensures other { IfErr result (λ status. (status ≡ WRITE_FAULT) ⊎ (status ≡ NO_MEMORY)) }
-{
-    match answered {
-        Ok(status) => Ok(status),
-        Err(AnswerFault::Failed) => Err(WRITE_FAULT),
-        Err(AnswerFault::Memory) => Err(NO_MEMORY),
-    }
 }

@@ -1,8 +1,10 @@
--- The command `media`: what it refuses, which scenario it runs, and what it writes.
+-- The command `media`: what it refuses, which scenario it runs, what it writes, and what its success says.
 use Rattle.std.specs.Prelude.{◌≡◌, ◌≤◌, ℕ, nat_le, if◌then◌else◌, List, [], length, Option, unwrap_or, option_map, option_and_then, Ok, Err}
 use Rattle.cany_base.specs.declared.step.Step.{Step}
 use Rattle.cany_base.specs.Limits.{most_rules}
 use Rattle.cany_base.specs.Scenario.{ScenarioParts}
+use Rattle.cany_command.specs.declared.status.TheConstants.{DONE}
+use Rattle.cany_command.specs.Performed.{CommandParts}
 use Rattle.cany_command.specs.Promises.{KeepsPromises}
 use Rattle.cany_command.specs.Refused.{Chosen}
 use Rattle.cany_io.specs.Sink.{Takes}
@@ -11,7 +13,7 @@ use Rattle.cany_model.specs.Runs.Run.{run}
 use Rattle.cany_media.specs.declared.refusal.MediaRefusal.TheVariants.{Overlap, TooMany}
 use Rattle.cany_media.specs.MediaRun.{media_run}
 use Rattle.cany_media.specs.MediaText.{media_refusal_line, media_text}
-use Rattle.cany_media.specs.MediaWords.{media_faults}
+use Rattle.cany_media.specs.MediaWords.{AreMedia, media_faults}
 use Rattle.cany_media.specs.Overlaps.{first_overlap}
 use Rattle.cany_media.specs.Plan.{FaultParts}
 use Rattle.cany_media.specs.Single.{single_bus, single_rules}
@@ -37,6 +39,17 @@ media_choice said scenario = chosen_for (faults_of said) scenario
 -- what is written of the run of that scenario
 unfoldable pub text_of : List (List ℕ) → ScenarioParts → List Step → List ℕ
 text_of said scenario journal = media_text (faults_of said) scenario journal
+
+-- the command
+abbrev pub media_command : CommandParts
+media_command = record {
+  are_words = AreMedia;
+  words_refusal = overlap_refusal;
+  choose = media_choice;
+  text = text_of;
+  success = λ _ _ _. DONE;
+  is_success = λ status. status ≡ DONE;
+}
 
 -- what success says of the faults, of the scenario that was read, and of what the sink had taken before and has taken now
 pub record IsMedia (faults : List FaultParts) (scenario : ScenarioParts) (old new : Option (List ℕ)) : Type 0 where

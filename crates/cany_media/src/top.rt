@@ -1,19 +1,13 @@
 //! The call behind the command `media`.
-ghost use Rattle.std.specs.Prelude.{◌≡◌, ◌⊎◌, ◌↔◌, ◌<◌, ◌≤◌, ◌++◌, Some, None, Ok, Err, map, length, string_bytes, IfErr, IfNone, IfOk, IfSome, IsOkAnd, IsSomeAnd, MatchOption, OnOk};
-ghost use Rattle.cany_base.specs.Limits.{most_text_bytes};
-ghost use Rattle.cany_command.specs.Answers.{answer_by};
-ghost use Rattle.cany_command.specs.Refused.{refusal_by};
-ghost use Rattle.cany_command.specs.Status.{HasAnswered, HasNoAnswer};
+ghost use Rattle.std.specs.Prelude.{◌≡◌, ◌++◌, Some, None, Ok, Err, map, string_bytes, IfErr, IfOk, IfSome, IsOkAnd, OnOk};
 ghost use Rattle.cany_command.specs.Faults.{IfRefused};
-ghost use Rattle.cany_io.specs.Faults.{HasRisen, StandsStill};
-ghost use Rattle.cany_io.specs.Sink.{Takes, TakesPrefix};
-ghost use Rattle.cany_io.specs.Source.{IsAtEnd};
+ghost use Rattle.cany_command.specs.Performed.{IsPerformed};
 ghost use Rattle.cany_log.specs.Written.{IsWritten};
 ghost use Rattle.cany_text.specs.Report.{report};
 ghost use Rattle.cany_text.specs.ScenarioText.{scenario_of};
 ghost use Rattle.cany_media.specs.MediaText.{media_refusal_line};
 ghost use Rattle.cany_media.specs.MediaWords.{AreMedia, media_faults};
-ghost use Rattle.cany_media.specs.Top.{IsMedia, chosen_for, faults_of, media_choice, overlap_refusal, text_of};
+ghost use Rattle.cany_media.specs.Top.{IsMedia, chosen_for, faults_of, media_command, overlap_refusal};
 
 use crate::fault_words::{are_media, media_faults};
 use crate::medium_lines::medium_lines;
@@ -21,9 +15,7 @@ use crate::plan::{MediaFault, MediaPlan};
 use crate::refusal::MediaRefusal;
 use crate::single_bus::{SingleFault, single};
 use cany_base::Scenario;
-use cany_command::status::{
-    DONE, NO_MEMORY, OTHER_WORDS, READ_FAULT, REFUSED, TOO_LONG, WRITE_FAULT,
-};
+use cany_command::status::DONE;
 use cany_command::{AnswerFault, Command, CommandFault, RefusalLine, perform};
 use cany_io::{Failed, Sink, Source, write_whole};
 use cany_log::write_report;
@@ -107,7 +99,7 @@ impl Command for Media {
 
     ghost use Rattle.std.specs.Prelude.{◌≡◌, Some};
     ghost use Rattle.cany_command.specs.declared.status.TheConstants.{DONE};
-    ghost use Rattle.cany_command.proofs.StatusFacts.{done_is_no_fault};
+    ghost use Rattle.cany_command.specs.NoFault.{done_is_no_fault};
     ghost use Rattle.cany_media.specs.MediaWords.{AreMedia, media_faults};
     ghost use Rattle.cany_media.specs.Top.{media_choice, overlap_refusal, text_of};
 
@@ -174,54 +166,14 @@ pub fn media_top<S: Source, K: Sink>(
     source: &mut S,
     sink: &mut K,
 ) -> u8
-    // The words alone decide on this status. Here and below, `said` are the words.
-    ensures words { (result ≡ OTHER_WORDS) ↔ (AreMedia (map string_bytes words.now) → ⊥) }
-    ensures unread { result ≡ OTHER_WORDS → source.new ≡ source.old }
+    // Each answer has its cause.
+    ensures answered { IsPerformed media_command (map string_bytes words.now)
+        (record { bytes = S.left; faults = S.faults; old = source.old; new = source.new })
+        (record { bytes = K.taken; faults = K.faults; old = sink.old; new = sink.new }) result }
 
-    // Where faults share a slot, the words alone decide, but for a fault of the sink and for want of memory.
-    ensures early { let said = map string_bytes words.now in AreMedia said → IfSome (overlap_refusal said) (λ _.
-        (result ≡ REFUSED) ⊎ (result ≡ WRITE_FAULT) ⊎ (result ≡ NO_MEMORY)) }
-    ensures early_unread { IfSome (overlap_refusal (map string_bytes words.now)) (λ _. source.new ≡ source.old) }
-
-    // Success: the run over two media is reported. Here and below, `bytes` are all that the source had.
+    // What success says of the run over two media. Here `said` are the words, and `bytes` all that the source had.
     ensures done { let said = map string_bytes words.now in result ≡ DONE → IfSome (S.left source.old) (λ bytes. IsOkAnd (scenario_of bytes) (λ scenario.
         IsMedia (faults_of said) scenario (K.taken sink.old) (K.taken sink.new))) }
-
-    // The words, the text, the scenario or the journal is refused.
-    ensures refused { let said = map string_bytes words.now in result ≡ REFUSED → MatchOption (overlap_refusal said)
-        (IfSome (S.left source.old) (λ bytes. IsSomeAnd (refusal_by (media_choice said) bytes) (λ line.
-        Takes (K.taken sink.old) line (K.taken sink.new))))
-        (λ line. Takes (K.taken sink.old) line (K.taken sink.new)) }
-
-    // The streams fail.
-    ensures read_fault { result ≡ READ_FAULT → HasRisen (S.faults source.old) (S.faults source.new) }
-    ensures write_fault { result ≡ WRITE_FAULT → HasRisen (K.faults sink.old) (K.faults sink.new) }
-    ensures prefix { let said = map string_bytes words.now in result ≡ WRITE_FAULT → MatchOption (overlap_refusal said)
-        (IfSome (S.left source.old) (λ bytes.
-        TakesPrefix (K.taken sink.old) (answer_by (text_of said) (media_choice said) bytes) (K.taken sink.new)))
-        (λ line. TakesPrefix (K.taken sink.old) line (K.taken sink.new)) }
-
-    // The source has too many bytes, or all of them were read.
-    ensures too_long { result ≡ TOO_LONG → IfSome (S.left source.old) (λ bytes. most_text_bytes < length bytes) }
-    ensures fits { HasAnswered result → IfNone (overlap_refusal (map string_bytes words.now))
-        (IfSome (S.left source.old) (λ bytes. length bytes ≤ most_text_bytes)) }
-    ensures drained { HasAnswered result → IfNone (overlap_refusal (map string_bytes words.now))
-        (IsAtEnd (S.left source.new)) }
-
-    // Nothing else writes.
-    ensures unwritten { HasNoAnswer result → sink.new ≡ sink.old }
-    ensures status { HasAnswered result ⊎ HasNoAnswer result }
-
-    // Where neither stream fails, the words and the text decide, but for want of memory.
-    ensures complete { let said = map string_bytes words.now in AreMedia said
-        → StandsStill (S.faults source.old) (S.faults source.new)
-        → StandsStill (K.faults sink.old) (K.faults sink.new)
-        → IfNone (overlap_refusal said) (IfSome (S.left source.old) (λ bytes. length bytes ≤ most_text_bytes
-        → (result ≡ NO_MEMORY) ⊎ MatchOption (refusal_by (media_choice said) bytes) (result ≡ DONE) (λ _. result ≡ REFUSED))) }
-    ensures complete_too_long { let said = map string_bytes words.now in AreMedia said
-        → StandsStill (S.faults source.old) (S.faults source.new)
-        → IfNone (overlap_refusal said) (IfSome (S.left source.old) (λ bytes. most_text_bytes < length bytes
-        → (result ≡ NO_MEMORY) ⊎ (result ≡ TOO_LONG))) }
 {
     perform(alloc, &Media, words, source, sink)
 }

@@ -1,20 +1,10 @@
 //! The call behind the command `replay`.
-ghost use Rattle.std.specs.Prelude.{◌≡◌, ◌⊎◌, ◌↔◌, ◌<◌, ◌≤◌, map, length, string_bytes, IfSome, IsOkAnd, IsSomeAnd, MatchOption};
-ghost use Rattle.cany_base.specs.Limits.{most_text_bytes};
-ghost use Rattle.cany_io.specs.Faults.{HasRisen, StandsStill};
-ghost use Rattle.cany_io.specs.Sink.{Takes, TakesPrefix};
-ghost use Rattle.cany_io.specs.Source.{IsAtEnd};
-ghost use Rattle.cany_text.specs.ScenarioText.{scenario_of};
-ghost use Rattle.cany_command.specs.Refused.{refusal_of};
-ghost use Rattle.cany_command.specs.Status.{HasAnswered, HasNoAnswer};
-ghost use Rattle.cany_replay.specs.Top.{AreReplay, IsReplay, answer_of};
+ghost use Rattle.std.specs.Prelude.{map, string_bytes};
+ghost use Rattle.cany_command.specs.Performed.{IsPerformed};
+ghost use Rattle.cany_replay.specs.Top.{replay_command};
 
-use cany_base::Scenario;
-use cany_command::status::{
-    DONE, NO_MEMORY, OTHER_WORDS, READ_FAULT, REFUSED, TOO_LONG, WRITE_FAULT,
-};
-use cany_command::{AnswerFault, Command, CommandFault, NoRefusal, is_only, perform};
-use cany_io::{Sink, Source};
+use cany_command::{OneWord, OneWordCommand, perform};
+use cany_io::{Failed, Sink, Source};
 use cany_log::write_report;
 use cany_world::World;
 use std::alloc::Global;
@@ -22,60 +12,21 @@ use std::alloc::Global;
 /// The command `replay`.
 struct Replay;
 
-impl Command for Replay {
-    type Plan = ();
-
-    type Refusal = NoRefusal;
-
-    ghost use Rattle.std.specs.Prelude.{None};
-    ghost use Rattle.cany_command.specs.declared.status.TheConstants.{DONE};
-    ghost use Rattle.cany_command.specs.Refused.{as_read};
-    ghost use Rattle.cany_command.proofs.StatusFacts.{done_is_no_fault};
+impl OneWord for Replay {
+    ghost use Rattle.std.specs.Prelude.{codes};
     ghost use Rattle.cany_text.specs.Report.{report};
 
-    ghost are_words = { AreReplay };
+    ghost word = { codes "replay" };
 
-    ghost is_plan = { λ _ _. Unit {0} };
+    ghost text = { report };
 
-    ghost words_refusal = { λ _. None };
-
-    ghost choose = { λ _. as_read };
-
-    ghost text = { λ _. report };
-
-    ghost success = { λ _ _ _. DONE };
-
-    ghost is_success = { λ status. status ≡ DONE };
-
-    fn are_words(&self, words: &[String]) -> bool {
-        is_only(words, "replay")
+    fn word(&self) -> &'static str {
+        "replay"
     }
 
-    fn plan(&self, _alloc: Global, _words: &[String]) -> Result<(), CommandFault<NoRefusal>> {
-        Ok(())
+    fn write<K: Sink>(&self, world: &World, sink: &mut K) -> Result<(), Failed> {
+        write_report(world, sink)
     }
-
-    fn scenario(
-        &self,
-        _alloc: Global,
-        _plan: &(),
-        scenario: Scenario,
-    ) -> Result<Scenario, CommandFault<NoRefusal>> {
-        Ok(scenario)
-    }
-
-    fn answer<K: Sink>(
-        &self,
-        _alloc: Global,
-        _plan: &(),
-        world: &World,
-        sink: &mut K,
-    ) -> Result<u8, AnswerFault> {
-        write_report(world, sink)?;
-        Ok(DONE)
-    }
-
-    ghost no_fault = { done_is_no_fault };
 }
 
 /// Replays: reads a scenario text from the source, runs the scenario by its own journal or, where
@@ -89,41 +40,9 @@ pub fn replay_top<S: Source, K: Sink>(
     source: &mut S,
     sink: &mut K,
 ) -> u8
-    // The words alone decide on this status.
-    ensures words { (result ≡ OTHER_WORDS) ↔ (AreReplay (map string_bytes words.now) → ⊥) }
-    ensures unread { result ≡ OTHER_WORDS → source.new ≡ source.old }
-
-    // Success. Here and below, `bytes` are all that the source had.
-    ensures done { result ≡ DONE → IfSome (S.left source.old) (λ bytes. IsOkAnd (scenario_of bytes) (λ scenario.
-        IsReplay scenario (K.taken sink.old) (K.taken sink.new))) }
-
-    // The text or the journal is refused.
-    ensures refused { result ≡ REFUSED → IfSome (S.left source.old) (λ bytes. IsSomeAnd (refusal_of bytes) (λ line.
-        Takes (K.taken sink.old) line (K.taken sink.new))) }
-
-    // The streams fail.
-    ensures read_fault { result ≡ READ_FAULT → HasRisen (S.faults source.old) (S.faults source.new) }
-    ensures write_fault { result ≡ WRITE_FAULT → HasRisen (K.faults sink.old) (K.faults sink.new) }
-    ensures prefix { result ≡ WRITE_FAULT → IfSome (S.left source.old) (λ bytes. TakesPrefix (K.taken sink.old) (answer_of bytes) (K.taken sink.new)) }
-
-    // The source has too many bytes, or all of them were read.
-    ensures too_long { result ≡ TOO_LONG → IfSome (S.left source.old) (λ bytes. most_text_bytes < length bytes) }
-    ensures fits { HasAnswered result → IfSome (S.left source.old) (λ bytes. length bytes ≤ most_text_bytes) }
-    ensures drained { HasAnswered result → IsAtEnd (S.left source.new) }
-
-    // Nothing else writes.
-    ensures unwritten { HasNoAnswer result → sink.new ≡ sink.old }
-    ensures status { HasAnswered result ⊎ HasNoAnswer result }
-
-    // Where neither stream fails, the text decides, but for want of memory.
-    ensures complete { AreReplay (map string_bytes words.now)
-        → StandsStill (S.faults source.old) (S.faults source.new)
-        → StandsStill (K.faults sink.old) (K.faults sink.new)
-        → IfSome (S.left source.old) (λ bytes. length bytes ≤ most_text_bytes
-        → (result ≡ NO_MEMORY) ⊎ MatchOption (refusal_of bytes) (result ≡ DONE) (λ _. result ≡ REFUSED)) }
-    ensures complete_too_long { AreReplay (map string_bytes words.now)
-        → StandsStill (S.faults source.old) (S.faults source.new)
-        → IfSome (S.left source.old) (λ bytes. most_text_bytes < length bytes → (result ≡ NO_MEMORY) ⊎ (result ≡ TOO_LONG)) }
+    ensures { IsPerformed replay_command (map string_bytes words.now)
+        (record { bytes = S.left; faults = S.faults; old = source.old; new = source.new })
+        (record { bytes = K.taken; faults = K.faults; old = sink.old; new = sink.new }) result }
 {
-    perform(alloc, &Replay, words, source, sink)
+    perform(alloc, &OneWordCommand(Replay), words, source, sink)
 }

@@ -1,9 +1,8 @@
--- The command `replica`: its words, what it writes, and what its success says.
-use Rattle.std.specs.Prelude.{◌≡◌, ℕ, List, [], ◌∷◌, Option, codes}
+-- The command `replica`: its parts, and what its success says.
+use Rattle.std.specs.Prelude.{ℕ, List, Option, codes}
 use Rattle.cany_base.specs.Scenario.{ScenarioParts}
-use Rattle.cany_command.specs.Answers.{answer_by}
+use Rattle.cany_command.specs.Performed.{CommandParts, one_word}
 use Rattle.cany_command.specs.Promises.{KeepsPromises}
-use Rattle.cany_command.specs.Refused.{as_read}
 use Rattle.cany_io.specs.Sink.{Takes}
 use Rattle.cany_model.specs.Promises.Hypothesis.{IsWithin}
 use Rattle.cany_model.specs.Runs.Follow.{journal_of}
@@ -11,14 +10,9 @@ use Rattle.cany_model.specs.Runs.Run.{run}
 use Rattle.cany_replica.specs.Agreement.{HasOneTable}
 use Rattle.cany_replica.specs.ReplicaText.{replica_text}
 
--- the words are the one word of the command
-abbrev pub AreReplica : List (List ℕ) → Type 0
-AreReplica words = words ≡ codes "replica" ∷ []
-
--- what is written for the bytes of a text: the tables of the run of the scenario that they stand for, by its own journal or, where
--- it has none, by its round robin journal; or the line of the refusal
-abbrev pub answer_of : List ℕ → List ℕ
-answer_of bytes = answer_by replica_text as_read bytes
+-- the one word, and the replies and tables of the nodes
+abbrev pub replica_command : CommandParts
+replica_command = one_word (codes "replica") replica_text
 
 -- what success says of the scenario and of what the sink had taken before and has taken now
 pub record IsReplica (scenario : ScenarioParts) (old new : Option (List ℕ)) : Type 0 where

@@ -1,10 +1,11 @@
--- The command `watch`: its words, what it refuses, what it writes, and what its success says.
-use Rattle.std.specs.Prelude.{ℕ, nat_lt, if◌then◌else◌, List, [], Option, Some, None, Ok, Err, IsSome}
+-- The command `watch`: its words, what it refuses, and what it writes.
+use Rattle.std.specs.Prelude.{◌≡◌, ℕ, nat_lt, if◌then◌else◌, List, [], Option, Some, None, Ok, Err, IsSome}
 use Rattle.std.specs.Option.{option_map_or}
 use Rattle.cany_base.specs.declared.step.Step.{Step}
 use Rattle.cany_base.specs.Scenario.{ScenarioParts}
-use Rattle.cany_command.specs.Answers.{answer_by}
-use Rattle.cany_command.specs.Refused.{Chosen, refusal_by}
+use Rattle.cany_command.specs.declared.status.TheConstants.{DONE}
+use Rattle.cany_command.specs.Performed.{CommandParts}
+use Rattle.cany_command.specs.Refused.{Chosen}
 use Rattle.cany_watch.specs.WatchText.{no_node_line, watch_text}
 use Rattle.cany_watch.specs.WatchWords.{watched_node}
 
@@ -24,10 +25,13 @@ choose words = with_node (watched_node words)
 abbrev pub text : List (List ℕ) → ScenarioParts → List Step → List ℕ
 text words scenario journal = option_map_or (λ node. watch_text node scenario journal) (watched_node words) []
 
--- what is written for the bytes of a text
-abbrev pub answer_of : List (List ℕ) → List ℕ → List ℕ
-answer_of words bytes = answer_by (text words) (choose words) bytes
-
--- the line of the refusal, where the text, the node or the journal is refused
-abbrev pub refusal_of : List (List ℕ) → List ℕ → Option (List ℕ)
-refusal_of words bytes = refusal_by (choose words) bytes
+-- the command
+abbrev pub watch_command : CommandParts
+watch_command = record {
+  are_words = AreWatch;
+  words_refusal = λ _. None;
+  choose = choose;
+  text = text;
+  success = λ _ _ _. DONE;
+  is_success = λ status. status ≡ DONE;
+}

@@ -1,16 +1,14 @@
 //! The call behind the command `watch`.
-ghost use Rattle.std.specs.Prelude.{◌≡◌, ◌⊎◌, ◌↔◌, ◌<◌, ◌≤◌, ℕ, List, map, length, string_bytes, Some, None, Ok, Err, IfErr, IfOk, IfSome, IsOkAnd, IsSomeAnd, MatchOption, OnOk};
-ghost use Rattle.cany_base.specs.Limits.{most_text_bytes};
-ghost use Rattle.cany_command.specs.Answers.{IsAnswered, OfChosen, answer_for, answer_if};
-ghost use Rattle.cany_command.specs.Refused.{chosen_refusal, own_fault};
-ghost use Rattle.cany_command.specs.Status.{HasAnswered, HasNoAnswer};
-ghost use Rattle.cany_io.specs.Faults.{HasRisen, StandsStill};
+ghost use Rattle.std.specs.Prelude.{◌≡◌, ◌⊎◌, ◌<◌, ℕ, List, map, string_bytes, Some, None, Ok, Err, IfErr, IfOk, IsOkAnd, IsSomeAnd, OnOk};
+ghost use Rattle.cany_command.specs.Answers.{IsAnswered, OfChosen, answer_by, answer_for, answer_if};
+ghost use Rattle.cany_command.specs.Performed.{IsPerformed};
+ghost use Rattle.cany_command.specs.Refused.{chosen_refusal, own_fault, refusal_by};
+ghost use Rattle.cany_io.specs.Faults.{HasRisen};
 ghost use Rattle.cany_io.specs.Sink.{Takes, TakesPrefix};
-ghost use Rattle.cany_io.specs.Source.{IsAtEnd};
 ghost use Rattle.cany_text.specs.RefusalLines.{journal_refusal_line};
 ghost use Rattle.cany_watch.specs.Lines.{nodes_of};
 ghost use Rattle.cany_watch.specs.Top as watch;
-ghost use Rattle.cany_watch.specs.Top.{AreWatch, answer_of, refusal_of};
+ghost use Rattle.cany_watch.specs.Top.{watch_command};
 ghost use Rattle.cany_watch.specs.WatchText.{no_node_line};
 ghost use Rattle.cany_watch.specs.WatchWords.{watched_node};
 
@@ -18,9 +16,7 @@ use crate::text::{write_no_node, write_watched};
 use crate::watching::watched;
 use crate::words::watched_node;
 use cany_base::{NodeId, Scenario};
-use cany_command::status::{
-    DONE, NO_MEMORY, OTHER_WORDS, READ_FAULT, REFUSED, TOO_LONG, WRITE_FAULT,
-};
+use cany_command::status::{DONE, NO_MEMORY, OTHER_WORDS, REFUSED, WRITE_FAULT};
 use cany_command::{RefusalLine, RunFault, is_memory, refuse, run, scenario_in, text_from};
 use cany_io::{Failed, Sink, Source};
 use cany_log::Refusal;
@@ -153,12 +149,12 @@ fn watch_text<R: Threads + Wait + Sync, K: Sink>(
 ) -> Result<(), u8>
     ensures done { OnOk result ((words : List (List ℕ)) → watched_node words ≡ Some node → OfChosen (watch.choose words) text.items (λ chosen.
         IsAnswered (watch.text words) chosen (K.taken sink.old) (K.taken sink.new))) }
-    ensures accepted { OnOk result ((words : List (List ℕ)) → watched_node words ≡ Some node → refusal_of words text.items ≡ None) }
+    ensures accepted { OnOk result ((words : List (List ℕ)) → watched_node words ≡ Some node → refusal_by (watch.choose words) text.items ≡ None) }
     ensures refused { IfErr result (λ status. status ≡ REFUSED → (words : List (List ℕ)) → watched_node words ≡ Some node
-        → IsSomeAnd (refusal_of words text.items) (λ line. Takes (K.taken sink.old) line (K.taken sink.new))) }
+        → IsSomeAnd (refusal_by (watch.choose words) text.items) (λ line. Takes (K.taken sink.old) line (K.taken sink.new))) }
     ensures write_fault { IfErr result (λ status. status ≡ WRITE_FAULT → HasRisen (K.faults sink.old) (K.faults sink.new)) }
     ensures prefix { IfErr result (λ status. status ≡ WRITE_FAULT → (words : List (List ℕ)) → watched_node words ≡ Some node
-        → TakesPrefix (K.taken sink.old) (answer_of words text.items) (K.taken sink.new)) }
+        → TakesPrefix (K.taken sink.old) (answer_by (watch.text words) (watch.choose words) text.items) (K.taken sink.new)) }
     ensures untouched { IfErr result (λ status. status ≡ NO_MEMORY → sink.new ≡ sink.old) }
     ensures other { IfErr result (λ status. (status ≡ REFUSED) ⊎ (status ≡ WRITE_FAULT) ⊎ (status ≡ NO_MEMORY)) }
 {
@@ -182,42 +178,9 @@ pub fn watch_top<R: Threads + Wait + Sync, S: Source, K: Sink>(
     source: &mut S,
     sink: &mut K,
 ) -> u8
-    // The words alone decide on this status.
-    ensures words { (result ≡ OTHER_WORDS) ↔ (AreWatch (map string_bytes words.now) → ⊥) }
-    ensures unread { result ≡ OTHER_WORDS → source.new ≡ source.old }
-
-    // Success. Here and below, `bytes` are all that the source had, and `said` are the words.
-    ensures done { let said = map string_bytes words.now in result ≡ DONE → IfSome (S.left source.old) (λ bytes.
-        OfChosen (watch.choose said) bytes (λ scenario. IsAnswered (watch.text said) scenario (K.taken sink.old) (K.taken sink.new))) }
-
-    // The text, the node or the journal is refused.
-    ensures refused { result ≡ REFUSED → IfSome (S.left source.old) (λ bytes. IsSomeAnd (refusal_of (map string_bytes words.now) bytes) (λ line.
-        Takes (K.taken sink.old) line (K.taken sink.new))) }
-
-    // The streams fail.
-    ensures read_fault { result ≡ READ_FAULT → HasRisen (S.faults source.old) (S.faults source.new) }
-    ensures write_fault { result ≡ WRITE_FAULT → HasRisen (K.faults sink.old) (K.faults sink.new) }
-    ensures prefix { result ≡ WRITE_FAULT → IfSome (S.left source.old) (λ bytes.
-        TakesPrefix (K.taken sink.old) (answer_of (map string_bytes words.now) bytes) (K.taken sink.new)) }
-
-    // The source has too many bytes, or all of them were read.
-    ensures too_long { result ≡ TOO_LONG → IfSome (S.left source.old) (λ bytes. most_text_bytes < length bytes) }
-    ensures fits { HasAnswered result → IfSome (S.left source.old) (λ bytes. length bytes ≤ most_text_bytes) }
-    ensures drained { HasAnswered result → IsAtEnd (S.left source.new) }
-
-    // Nothing else writes.
-    ensures unwritten { HasNoAnswer result → sink.new ≡ sink.old }
-    ensures status { HasAnswered result ⊎ HasNoAnswer result }
-
-    // Where neither stream fails, the words and the text decide, but for want of memory.
-    ensures complete { AreWatch (map string_bytes words.now)
-        → StandsStill (S.faults source.old) (S.faults source.new)
-        → StandsStill (K.faults sink.old) (K.faults sink.new)
-        → IfSome (S.left source.old) (λ bytes. length bytes ≤ most_text_bytes
-        → (result ≡ NO_MEMORY) ⊎ MatchOption (refusal_of (map string_bytes words.now) bytes) (result ≡ DONE) (λ _. result ≡ REFUSED)) }
-    ensures complete_too_long { AreWatch (map string_bytes words.now)
-        → StandsStill (S.faults source.old) (S.faults source.new)
-        → IfSome (S.left source.old) (λ bytes. most_text_bytes < length bytes → (result ≡ NO_MEMORY) ⊎ (result ≡ TOO_LONG)) }
+    ensures { IsPerformed watch_command (map string_bytes words.now)
+        (record { bytes = S.left; faults = S.faults; old = source.old; new = source.new })
+        (record { bytes = K.taken; faults = K.faults; old = sink.old; new = sink.new }) result }
 {
     let Some(node) = watched_node(words) else {
         return OTHER_WORDS;

@@ -3,7 +3,7 @@ use Rattle.std.proofs.lemmas.Result.{IfErr-weaker, IfOk-at_ok, IfOk-weaker}
 use Rattle.cany_command.specs.Promises.{HasRun}
 use Rattle.cany_command.proofs.PerformingFacts.{run_answered, run_answered_in_part}
 use Rattle.cany_world.specs.World.{WorldParts}
-use Rattle.cany_command.proofs.command.Command.conclude.Goals as goal
+use Rattle.cany_command.proofs.concluding.conclude.Goals as goal
 
 pub answer-requires : goal.answer-requires
 answer-requires g c = subst HasRun (sym c.in-Ok.ensures.ended) (record { journal = refl; promises = c.in-Ok.ensures.promises })
@@ -11,13 +11,13 @@ answer-requires g c = subst HasRun (sym c.in-Ok.ensures.ended) (record { journal
 pub returns-in-Ok-clause-done : goal.returns-in-Ok-clause-done
 returns-in-Ok-clause-done g c =
     IfOk-weaker c.status_of.result _ _ (λ status is words planned.
-    run_answered (g.Self.Command.text words) c.args.scenario c.in-Ok.world _ _ c.in-Ok.ensures.ended c.in-Ok.ensures.promises
+    run_answered (g.C.Command.text words) c.args.scenario c.in-Ok.world _ _ c.in-Ok.ensures.ended c.in-Ok.ensures.promises
     ((rw is at c.answer.ensures.written) words planned)) c.status_of.ensures.ok
 
 pub returns-in-Ok-clause-success : goal.returns-in-Ok-clause-success
 returns-in-Ok-clause-success g c =
     IfOk-weaker c.status_of.result _ _ (λ status is words planned.
-    (rw is at c.answer.ensures.success) words planned ∙ ap (λ (w : WorldParts). g.Self.Command.success words w.scenario w.journal) c.in-Ok.ensures.ended)
+    (rw is at c.answer.ensures.success) words planned ∙ ap (λ (w : WorldParts). g.C.Command.success words w.scenario w.journal) c.in-Ok.ensures.ended)
     c.status_of.ensures.ok
 
 pub returns-in-Ok-clause-followed : goal.returns-in-Ok-clause-followed
@@ -40,7 +40,7 @@ returns-in-Ok-clause-write_fault g c =
 pub returns-in-Ok-clause-prefix : goal.returns-in-Ok-clause-prefix
 returns-in-Ok-clause-prefix g c =
     IfErr-weaker c.status_of.result _ _ (λ status failed is words planned.
-    run_answered_in_part (g.Self.Command.text words) c.args.scenario c.in-Ok.world _ _ c.in-Ok.ensures.followed c.in-Ok.ensures.ended
+    run_answered_in_part (g.C.Command.text words) c.args.scenario c.in-Ok.world _ _ c.in-Ok.ensures.followed c.in-Ok.ensures.ended
     ((rw (failed is) at c.answer.ensures.prefix) refl words planned)) c.status_of.ensures.failed
 
 pub returns-in-Ok-clause-untouched : goal.returns-in-Ok-clause-untouched
