@@ -7,7 +7,7 @@ use cany_io::Failed;
 use thiserror::Error;
 
 /// Why a command does not go on with words or with a scenario.
-#[derive(Clone, Copy, Debug, PartialEq, Eq)]
+#[derive(Clone, Copy, Debug)]
 pub enum CommandFault<R> {
     /// It refuses them, with the line of this refusal.
     Refused(R),
@@ -16,7 +16,7 @@ pub enum CommandFault<R> {
 }
 
 /// Why a command has not written all of its text.
-#[derive(Clone, Copy, Debug, PartialEq, Eq, Error)]
+#[derive(Clone, Copy, Debug, Error)]
 pub enum AnswerFault {
     /// The sink failed.
     #[error("writing failed")]

@@ -31,7 +31,7 @@ impl RefusalLine for Refusal {
 ///
 /// It has a value, since a call that nothing could make would prove whatever its contract says, and
 /// the gate lets no such call pass.
-#[derive(Clone, Copy, Debug, PartialEq, Eq)]
+#[derive(Clone, Copy, Debug)]
 pub struct NoRefusal;
 
 impl RefusalLine for NoRefusal {
