@@ -284,3 +284,8 @@ module _ (a : AccountParts) (rows : List (Option ViewParting)) (has : HasRows (h
 
   pub partings_are : filter_map parting_of rows ≡ view_partings a
   partings_are = ap (filter_map parting_of) rows_are ∙ by_numbers places ∙ ap (filter_map (λ k. parting_in (views_of_number a k))) (sym numbers_by_place)
+
+-- one more is found, where there is one
+pub one_found : {X : Type 0} (so_far later : List X) (o : Option X) → (so_far ++ cons_option o []) ++ later ≡ so_far ++ cons_option o later
+one_found so_far later None = ap (λ l. l ++ later) (append-nil so_far)
+one_found so_far later (Some x) = append_assoc so_far (x ∷ []) later
