@@ -1,14 +1,12 @@
-use Rattle.std.proofs.Common.{Vec, Global, ◌≡◌, ◌+◌, List, [], ◌∷◌, ◌++◌, map, take, ap, sym, subst, ◌∙◌}
+use Rattle.std.proofs.Common.{Vec, Global, ◌≡◌, ◌+◌, List, [], ◌∷◌, ◌++◌, map, take, ap, sym, ◌∙◌}
 use Rattle.std.proofs.lemmas.List.{append-nil, map-append, take_all, take_more}
 use Rattle.std.specs.Prelude.{filter, filter_map}
 use Rattle.std.specs.List.{cons_option}
-use Rattle.cany_base.specs.Limits.{most_nodes}
 use Rattle.cany_check.specs.declared.findings.Accusation.{Accusation}
 use Rattle.cany_check.specs.declared.record.LogRecord.{LogRecord}
 use Rattle.cany_check.specs.Account.{LogParts, running}
 use Rattle.cany_check.specs.AccountFields.{log_parts}
-use Rattle.cany_check.specs.Accuracy.{accusation_of, is_failure_of}
-use Rattle.cany_check.specs.Holders.{AreHolders, since_ever}
+use Rattle.cany_check.specs.Accuracy.{accusation_of}
 use Rattle.cany_check.specs.Words.{takes_part}
 use Rattle.cany_check.proofs.AccuracyFacts.{found_more}
 use Rattle.cany_check.proofs.accuracy.accusations_by.Goals as goal

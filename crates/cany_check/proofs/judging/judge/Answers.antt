@@ -3,7 +3,6 @@ use Rattle.cany_base.specs.declared.message.Service.{Service}
 use Rattle.cany_base.specs.declared.message.Service.TheVariants.{Ed, Rel, Tot}
 use Rattle.cany_check.specs.declared.findings.Told.{Told}
 use Rattle.cany_check.specs.declared.record.MessageRecord.{MessageRecord}
-use Rattle.cany_check.specs.Fates.{message_fates}
 use Rattle.cany_check.specs.Judged.{fates_by}
 use Rattle.cany_check.specs.Verdict.{judgement, fates_of_service, of_fates}
 use Rattle.cany_check.proofs.JudgedFacts.{fates_told}
