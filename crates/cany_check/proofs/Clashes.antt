@@ -1,11 +1,11 @@
 -- Where a list of items differs from another, and where the deliveries that they are do.
-use Rattle.std.proofs.Common.{◌≡◌, ℕ, ◌+◌, ◌⊎◌, Bool, true, false, List, [], ◌∷◌, ◌++◌, map, length, refl, ap, sym, subst, ◌∙◌, arith, inl, inr}
-use Rattle.std.specs.Prelude.{if◌then◌else◌, option_map, Option, None, Some}
+use Rattle.std.proofs.Common.{◌≡◌, ℕ, ◌+◌, ◌⊎◌, false, List, [], ◌∷◌, ◌++◌, map, length, refl, ap, sym, subst, ◌∙◌, arith, inl, inr}
+use Rattle.std.specs.Prelude.{option_map, None, Some}
 use Rattle.std.proofs.lemmas.Bool.{cases_Bool}
 use Rattle.cany_base.specs.declared.message.MsgKey.{MsgKey}
 use Rattle.cany_check.specs.declared.findings.Delivery.{Delivery}
 use Rattle.cany_check.specs.declared.order.Item.{Item}
-use Rattle.cany_check.specs.OneOrder.{Difference, difference, one_later}
+use Rattle.cany_check.specs.OneOrder.{difference, one_later}
 use Rattle.cany_check.specs.Reference.{Clash, clash}
 use Rattle.cany_check.specs.Words.{same_key}
 use Rattle.cany_check.proofs.Decided.{same_key-self, same_key-true}

@@ -1,5 +1,5 @@
 -- What the head of a verdict counts.
-use Rattle.std.proofs.Common.{◌≡◌, ℕ, suc, ◌+◌, ◌<◌, ◌≤◌, min, max, Bool, true, false, cond, ◌&&◌, List, [], ◌∷◌, ◌++◌, length, map, take, get_or, Option, Some, None, refl, sym, ◌∙◌, ap, append-nil, arith, inl, inr}
+use Rattle.std.proofs.Common.{◌≡◌, ℕ, ◌+◌, ◌<◌, ◌≤◌, min, max, Bool, true, false, cond, ◌&&◌, List, [], ◌∷◌, ◌++◌, length, map, take, get_or, Option, Some, None, refl, sym, ◌∙◌, ap, append-nil, arith, inl, inr}
 use Rattle.std.specs.Prelude.{count_by, filter}
 use Rattle.std.specs.List.{flat_map}
 use Rattle.std.proofs.lemmas.Bool.{cases_Bool}
@@ -19,7 +19,7 @@ use Rattle.cany_check.specs.Account.{AccountParts, LogParts}
 use Rattle.cany_check.specs.AccountFields.{log_parts}
 use Rattle.cany_check.specs.CheckHead.{greatest, least}
 use Rattle.cany_check.specs.Counts.{fate_count, is_fate, is_tot_delivery, lengths_of, running_counts, with_length, with_log}
-use Rattle.cany_check.specs.Fates.{message_fate, message_fates, message_told}
+use Rattle.cany_check.specs.Fates.{message_fate}
 use Rattle.cany_check.specs.OneOrder.{deliveries, delivery_in}
 use Rattle.cany_check.specs.Verdict.{fates_of_service}
 

@@ -1,50 +1,58 @@
--- The head of a verdict, line by line and part by part.
-use Rattle.std.proofs.Common.{◌≡◌, ℕ, List, [], ◌∷◌, ◌++◌, map, Option, refl, append_assoc, append-nil}
+-- The head of a verdict, line by line.
+use Rattle.std.proofs.Common.{◌≡◌, ℕ, [], ◌∷◌, ◌++◌, length, map, Option, refl}
 use Rattle.std.specs.Prelude.{codes, decimal}
 use Rattle.std.specs.List.{concat}
 use Rattle.cany_base.specs.declared.format.Format.{Format}
-use Rattle.cany_base.specs.declared.message.Service.TheVariants.{Ed, Rel, Tot}
+use Rattle.cany_base.specs.declared.message.Service.{Service}
 use Rattle.cany_model.specs.declared.breaks.Break.{Break}
 use Rattle.cany_text.specs.ReportLines.{hypothesis_line, line_of}
+use Rattle.cany_text.specs.TextNames.{service_name}
 use Rattle.cany_check.specs.declared.counts.FateCounts.{FateCounts}
 use Rattle.cany_check.specs.declared.counts.Lengths.{Lengths}
-use Rattle.cany_check.specs.declared.findings.Part.TheVariants.{Order, Signs}
+use Rattle.cany_check.specs.declared.findings.Judgement.{Judgement}
+use Rattle.cany_check.specs.declared.findings.Part.TheVariants.{Integrity, Agreement, Order, Views, Signs, Accuracy}
 use Rattle.cany_check.specs.Account.{AccountParts}
 use Rattle.cany_check.specs.CheckHead.{accuracy_line, agreement_line, first_line, head_lines, integrity_line, judgement_name, order_line, signs_line, views_line}
 use Rattle.cany_check.specs.Counts.{counts_of, lengths_of, running_counts}
 use Rattle.cany_check.specs.Fates.{sign_fate}
-use Rattle.cany_check.specs.HeadParts.{agreement_lines, opening_lines, other_lines}
-use Rattle.cany_check.specs.Verdict.{judgement}
+use Rattle.cany_check.specs.HeadParts.{fate_texts, part_line}
+use Rattle.cany_check.specs.Verdict.{fates_of_service, judgement, parts}
+use Rattle.cany_check.specs.Views.{view_numbers, view_partings}
 
--- ---- lines with counts
+-- ---- the lines of the parts, by what is judged and counted of each
 
-pub order_line-put : (a : AccountParts) (name : List ℕ) (lengths : Lengths) → name ≡ judgement_name (judgement a Order) → lengths ≡ lengths_of (running_counts a.logs)
-    → order_line a ≡ line_of (codes "order" ∷ name ∷ codes "shortest" ∷ decimal lengths.shortest ∷ codes "longest" ∷ decimal lengths.longest ∷ [])
-unfolding order_line
-order_line-put a name lengths is l = rw (is, l) refl
+module _ (a : AccountParts) (judged : Judgement) where
+  pub integrity-put : judged ≡ judgement a Integrity → part_line a Integrity ≡ line_of (codes "integrity" ∷ judgement_name judged ∷ [])
+  unfolding part_line integrity_line
+  integrity-put is = rw is refl
 
-pub signs_line-put : (a : AccountParts) (name : List ℕ) (counts : FateCounts) → name ≡ judgement_name (judgement a Signs) → counts ≡ counts_of (map (sign_fate a) a.signs)
-    → signs_line a ≡ line_of (codes "signs" ∷ name ∷ codes "all" ∷ decimal counts.all ∷ codes "none" ∷ decimal counts.nobody
-    ∷ codes "apart" ∷ decimal counts.apart ∷ codes "open" ∷ decimal counts.unsettled ∷ [])
-unfolding signs_line
-signs_line-put a name counts is l = rw (is, l) refl
+  pub agreement-put : (by : Service) (counts : FateCounts) → judged ≡ judgement a (Agreement by) → counts ≡ counts_of (fates_of_service a by)
+      → part_line a (Agreement by) ≡ line_of (codes "agreement" ∷ service_name by ∷ judgement_name judged ∷ fate_texts counts)
+  unfolding part_line agreement_line
+  agreement-put by counts is counted = rw (is, counted) refl
 
--- ---- the parts
+  pub order-put : (lengths : Lengths) → judged ≡ judgement a Order → lengths ≡ lengths_of (running_counts a.logs)
+      → part_line a Order ≡ line_of (codes "order" ∷ judgement_name judged ∷ codes "shortest" ∷ decimal lengths.shortest ∷ codes "longest" ∷ decimal lengths.longest ∷ [])
+  unfolding part_line order_line
+  order-put lengths is counted = rw (is, counted) refl
 
-pub opening-is : (a : AccountParts) (found : Option Break) (format : Format) → format ≡ a.params.format
-    → concat (opening_lines a found) ≡ first_line format ++ (hypothesis_line found ++ integrity_line a)
-unfolding opening_lines
-opening-is a found format is = rw is (simp append-nil)
+  pub views-put : (numbers apart : ℕ) → judged ≡ judgement a Views → numbers ≡ length (view_numbers a) → apart ≡ length (view_partings a)
+      → part_line a Views ≡ line_of (codes "views" ∷ judgement_name judged ∷ codes "numbers" ∷ decimal numbers ∷ codes "apart" ∷ decimal apart ∷ [])
+  unfolding part_line views_line
+  views-put numbers apart is n p = rw (is, n, p) refl
 
-pub agreement-is : (a : AccountParts) → concat (agreement_lines a) ≡ agreement_line a Ed ++ (agreement_line a Rel ++ agreement_line a Tot)
-unfolding agreement_lines
-agreement-is a = simp append-nil
+  pub signs-put : (counts : FateCounts) → judged ≡ judgement a Signs → counts ≡ counts_of (map (sign_fate a) a.signs)
+      → part_line a Signs ≡ line_of (codes "signs" ∷ judgement_name judged ∷ fate_texts counts)
+  unfolding part_line signs_line
+  signs-put counts is counted = rw (is, counted) refl
 
-pub other-is : (a : AccountParts) → concat (other_lines a) ≡ order_line a ++ (views_line a ++ (signs_line a ++ accuracy_line a))
-unfolding other_lines
-other-is a = simp append-nil
+  pub accuracy-put : judged ≡ judgement a Accuracy → part_line a Accuracy ≡ line_of (codes "accuracy" ∷ judgement_name judged ∷ [])
+  unfolding part_line accuracy_line
+  accuracy-put is = rw is refl
 
-pub head-is : (a : AccountParts) (found : Option Break)
-    → concat (head_lines a found) ≡ concat (opening_lines a found) ++ (concat (agreement_lines a) ++ concat (other_lines a))
-unfolding head_lines opening_lines agreement_lines other_lines
-head-is a found = simp (append_assoc, append-nil)
+-- ---- the head
+
+pub head-is : (a : AccountParts) (found : Option Break) (format : Format) → format ≡ a.params.format
+    → concat (head_lines a found) ≡ first_line format ++ (hypothesis_line found ++ concat (map (part_line a) parts))
+unfolding head_lines part_line
+head-is a found format is = rw is refl

@@ -221,6 +221,11 @@ module _ (number : ℕ) (tells : ℕ → LogEntry → Bool) (since : ℕ → Opt
       empty : (t : LogEntry → Bool) (from : Option ℕ) → no_holders ≡ holders_in t from []
       empty t from = λ k. record { has = sym no_nodes k; had = sym no_nodes k; slots = None }
 
+  -- those of the one at a place
+  pub held_at : (logs : List LogParts) (holders : List Holders) (k : ℕ) (h : Holders) → AreHolders number tells since logs holders → k < number → h ≡ slice_index_or holders k h
+      → h ≡ holders_in (tells k) (since k) logs
+  held_at logs holders k h are below is = is ∙ get_or_from_slice_get holders k (holders_in (tells k) (since k) logs) h (are.each k below)
+
   module _ (before : List LogParts) (log : LogParts) where
     pub with_no_entry : (holders : List Holders) → AreHolders number tells since before holders → AreHolders number tells since (before ++ cut log [] ∷ []) holders
     with_no_entry holders are = record { count = are.count; each = λ k below. are.each k below ∙ ap Some (sym (no_entry (tells k) (since k) before log)) }

@@ -1,5 +1,5 @@
 -- What nodes delivered of the messages that were carried: the items of a log, their keys, and what is left of them from a slot on.
-use Rattle.std.proofs.Common.{◌≡◌, ℕ, ◌≤◌, Bool, true, false, List, [], ◌∷◌, ◌++◌, map, drop, take, length, refl, ap, sym, subst, ◌∙◌, arith, inl, inr}
+use Rattle.std.proofs.Common.{◌≡◌, ℕ, ◌≤◌, Bool, true, false, List, [], ◌∷◌, ◌++◌, map, drop, take, refl, ap, sym, subst, ◌∙◌, arith, inl, inr}
 use Rattle.std.specs.Prelude.{filter, filter_map, find, if◌then◌else◌, nat_le, option_map, option_to_list, Option, None, Some}
 use Rattle.std.specs.List.{AllByRecursion, cons_option, flat_map}
 use Rattle.std.specs.Option.{option_and_then, option_map_or}
@@ -15,9 +15,9 @@ use Rattle.cany_check.specs.declared.findings.Delivery.{Delivery}
 use Rattle.cany_check.specs.declared.order.Item.{Item}
 use Rattle.cany_check.specs.declared.record.MessageRecord.{MessageRecord}
 use Rattle.cany_check.specs.declared.record.Slots.{Slots}
-use Rattle.cany_check.specs.Account.{AccountParts, LogParts}
-use Rattle.cany_check.specs.OneOrder.{deliveries_from, delivery_in, is_carried_from, is_of_slots_from}
-use Rattle.cany_check.specs.Reference.{cut, delivery, first_slot, item_in, items_in, items_of}
+use Rattle.cany_check.specs.Account.{AccountParts}
+use Rattle.cany_check.specs.OneOrder.{delivery_in, is_carried_from, is_of_slots_from}
+use Rattle.cany_check.specs.Reference.{cut, delivery, first_slot, item_in, items_in}
 use Rattle.cany_check.specs.Words.{same_key}
 
 abbrev pub item_keys : List Item → List MsgKey

@@ -1,5 +1,5 @@
 -- Fates that are judged one after another come to what is judged of all.
-use Rattle.std.proofs.Common.{◌≡◌, ℕ, zero, suc, ◌+◌, ◌<◌, ◌==◌, ◌||◌, Bool, true, false, not, List, [], ◌∷◌, map, drop, length, refl, ap, sym, ◌∙◌, arith, inl, inr, get_or}
+use Rattle.std.proofs.Common.{◌≡◌, ℕ, ◌+◌, ◌<◌, ◌==◌, ◌||◌, Bool, true, false, not, List, [], ◌∷◌, map, drop, length, refl, ap, sym, ◌∙◌, arith, inl, inr, get_or}
 use Rattle.std.specs.Prelude.{filter, is_some, if◌then◌else◌, Option}
 use Rattle.std.specs.List.{fold, list_any}
 use Rattle.std.proofs.lemmas.Bool.{cases_Bool, ne_eqb}
@@ -21,10 +21,10 @@ use Rattle.cany_check.specs.declared.findings.ViewParting.{ViewParting}
 use Rattle.cany_check.specs.declared.record.MessageRecord.{MessageRecord}
 use Rattle.cany_check.specs.declared.record.SignRecord.{SignRecord}
 use Rattle.cany_check.specs.Account.{AccountParts}
-use Rattle.cany_check.specs.Fates.{message_fate, message_fates, message_told, sign_fate, sign_told}
+use Rattle.cany_check.specs.Fates.{message_fate, message_told, sign_fate, sign_told}
 use Rattle.cany_check.specs.Findings.{AreFindings, FoundParts}
 use Rattle.cany_check.specs.Judged.{fates_by, judged, with_fate}
-use Rattle.cany_check.specs.Verdict.{broken_if, fates_of_service, is_apart, is_broken_judgement, is_open, is_open_judgement, is_some_of, judgement, of_fates, parts, status}
+use Rattle.cany_check.specs.Verdict.{broken_if, is_apart, is_broken_judgement, is_open, is_open_judgement, is_some_of, judgement, of_fates, parts, status}
 
 -- ---- one after another
 

@@ -1,5 +1,5 @@
 -- Lines that are put together in parts.
-use Rattle.std.proofs.Common.{◌≡◌, ℕ, ◌+◌, ◌<◌, arith, get_or, length, List, Option, Some, None, refl, [], ◌∷◌, ◌++◌, append_assoc, sym, ◌∙◌, ap}
+use Rattle.std.proofs.Common.{◌≡◌, ℕ, ◌<◌, arith, get_or, length, List, Option, Some, None, refl, [], ◌∷◌, ◌++◌, append_assoc, sym, ◌∙◌, ap}
 use Rattle.std.specs.Prelude.{codes, decimal, option_map}
 use Rattle.cany_base.specs.Params.{Parameters}
 use Rattle.cany_text.specs.ReportLines.{line_of}

@@ -2,6 +2,7 @@
 use Rattle.std.proofs.Common.{◌≡◌, ℕ, ◌+◌, ◌<◌, ◌≤◌, List, [], ◌∷◌, ◌++◌, true, false, drop, length, refl, ap, sym, subst, ◌∙◌, arith, append_assoc}
 use Rattle.std.specs.Prelude.{if◌then◌else◌, is_some, nat_le, slice_get, slice_index_or, option_map, option_to_list, None, Option, Some}
 use Rattle.std.specs.Option.{option_or}
+use Rattle.std.proofs.lemmas.Bool.{le-leb, lt-leb}
 use Rattle.std.proofs.lemmas.List.{drop_all, drop_more, length-append}
 use Rattle.std.proofs.lemmas.Option.{slice_get_read}
 use Rattle.cany_base.specs.declared.log_entry.LogEntry.{LogEntry}
@@ -10,7 +11,7 @@ use Rattle.cany_check.specs.declared.order.Cursor.{Cursor}
 use Rattle.cany_check.specs.declared.order.Item.{Item}
 use Rattle.cany_check.specs.declared.record.MessageRecord.{MessageRecord}
 use Rattle.cany_check.specs.Account.{LogParts}
-use Rattle.cany_check.specs.Meeting.{ClashesBy, GoesOn, ahead}
+use Rattle.cany_check.specs.Meeting.{ClashesBy, GoesOn, ahead, entry_items}
 use Rattle.cany_check.specs.Reference.{Clash, clash, cut, first_clash, item_in, items_in, items_of, parting_at, with_items}
 use Rattle.cany_check.specs.Words.{same_key}
 use Rattle.cany_check.proofs.ItemFacts.{items_more}
@@ -81,6 +82,27 @@ pub counts_at : (from at : ℕ) (slice list : List Item) → slice ≡ list → 
     → (here : Item) → at < length list → here ≡ slice_index_or list at here → nat_le from here.carried ≡ true
 counts_at from at slice list is h here below here_is =
     h here (ap (λ (l : List Item). slice_get l at) is ∙ slice_get_read list (length list) at here refl below here_is)
+
+-- ---- what an entry delivers
+
+-- of nothing that counts the comparison stays where it is
+pub unmoved : (from : ℕ) (items : List Item) (cursor : Cursor) (list : List Item) → items ≡ [] → cursor.next ≤ length list → cursor.place ≤ cursor.next
+    → GoesOn from items cursor cursor list list
+unmoved from items cursor list none within behind =
+    subst (λ (l : List Item). GoesOn from l cursor cursor list list) (sym none)
+    (record { within = within; behind = behind; clash_is = λ others. refl; list_is = λ others. refl })
+
+module _ (messages : List MessageRecord) (log : LogParts) (entry : LogEntry) where
+  pub nothing_delivered : (o : Option Item) → o ≡ item_in messages log.node entry → o ≡ None → entry_items messages log entry ≡ []
+  nothing_delivered o is none = ap (λ (x : Option Item). cut log.from (option_to_list x)) (sym is ∙ none)
+
+  pub carried_before : (o : Option Item) (item : Item) → o ≡ item_in messages log.node entry → o ≡ Some item → item.carried < log.from → entry_items messages log entry ≡ []
+  carried_before o item is some before =
+      ap (λ (x : Option Item). cut log.from (option_to_list x)) (sym is ∙ some) ∙ ap (λ b. if b then item ∷ [] else []) (lt-leb log.from item.carried before)
+
+  pub carried_since : (o : Option Item) (item : Item) → o ≡ item_in messages log.node entry → o ≡ Some item → log.from ≤ item.carried → entry_items messages log entry ≡ item ∷ []
+  carried_since o item is some since =
+      ap (λ (x : Option Item). cut log.from (option_to_list x)) (sym is ∙ some) ∙ ap (λ b. if b then item ∷ [] else []) (le-leb log.from item.carried since)
 
 -- ---- a whole node
 

@@ -1,6 +1,6 @@
 -- The messages of an account: of which one an entry tells, and what is told of each.
 use Rattle.std.proofs.Common.{◌≡◌, ℕ, ◌<◌, ◌==◌, ◌&&◌, Bool, true, false, not, List, length, filter, refl, ap, sym, subst, ◌∙◌, inl, inr}
-use Rattle.std.specs.Prelude.{slice_get, slice_index_or, Option, None, Some, IfSome}
+use Rattle.std.specs.Prelude.{option_map, slice_get, slice_index_or, Option, None, Some, IfSome}
 use Rattle.std.specs.List.{list_any}
 use Rattle.std.specs.Option.{option_map_or}
 use Rattle.std.specs.Str.{bytes_eq}
@@ -14,12 +14,12 @@ use Rattle.cany_check.specs.declared.holders.Holders.{Holders}
 use Rattle.cany_check.specs.declared.record.MessageRecord.{MessageRecord}
 use Rattle.cany_check.specs.Account.{AccountParts, LogParts}
 use Rattle.cany_check.specs.Fates.{fate_by, message_fate, message_has, message_lacks, message_told, origin_counts, slots_where}
-use Rattle.cany_check.specs.Holders.{IsOnly, counts_since, holders_in}
-use Rattle.cany_check.specs.MessageSubjects.{delivers_at, place_named}
+use Rattle.cany_check.specs.Holders.{AreHolders, IsOnly, counts_since, holders_in}
+use Rattle.cany_check.specs.MessageSubjects.{delivers_at, place_named, since_at}
 use Rattle.cany_check.specs.Orderly.{IsOrderly}
 use Rattle.cany_check.specs.Places.{AreNumbered}
 use Rattle.cany_check.specs.Words.{counting, delivers, is_delivery, is_settled, nodes_of, same_key, since, takes_part}
-use Rattle.cany_check.proofs.HolderFacts.{both_tests, has_node, lacking_nodes, one_runs_of}
+use Rattle.cany_check.proofs.HolderFacts.{both_tests, has_node, held_at, lacking_nodes, one_runs_of}
 use Rattle.cany_check.proofs.PlacesFacts.{place_is, place_within}
 
 -- ---- of which message an entry tells
@@ -101,3 +101,12 @@ module _ (a : AccountParts) (orderly : IsOrderly a) (m : MessageRecord) (holders
       let had = ap (λ (h : Holders). h.had) are in
       let slots = ap (λ (h : Holders). h.slots) are ∙ ap (λ logs. slots_where (is_delivery m) (filter (delivers m) logs)) counted in
       λ k. record { fate = fate_by (is_settled m) (has_is k) (lacking k) (by_origin k); has = has_is k; lacks = lacking k; had = had k; slots = slots k }
+
+-- the holders of the message at a place
+pub holders_of_one : (a : AccountParts) (ms : List MessageRecord) (holders : List Holders) (i : ℕ) (m : MessageRecord) (h : Holders) → ms ≡ a.messages
+    → AreHolders (length a.messages) (delivers_at a.messages) (since_at a.messages) a.logs holders → i < length ms → m ≡ slice_index_or ms i m → h ≡ slice_index_or holders i h
+    → h ≡ holders_in (is_delivery m) (Some (since m)) a.logs
+holders_of_one a ms holders i m h is are below m_is h_is =
+    let own : Option MessageRecord → Holders = λ o. holders_in (λ e. option_map_or (λ x. is_delivery x e) o false) (option_map since o) a.logs in
+    let at : slice_get a.messages i ≡ Some m = ap (λ (l : List MessageRecord). slice_get l i) (sym is) ∙ slice_get_read ms (length ms) i m refl below m_is in
+    held_at (length a.messages) (delivers_at a.messages) (since_at a.messages) a.logs holders i h are (subst (λ (l : List MessageRecord). i < length l) is below) h_is ∙ ap own at

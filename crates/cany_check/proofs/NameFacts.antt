@@ -3,9 +3,10 @@ use Rattle.std.proofs.Common.{◌≡◌, ℕ, ◌==◌, ◌&&◌, true, ap, arit
 use Rattle.std.proofs.lemmas.Grind.{common_steps}
 use Rattle.std.proofs.lemmas.Bool.{and_parts, and_from}
 use Rattle.std.proofs.lemmas.Cmp.{tied_itself}
+use Rattle.std.proofs.lemmas.Map.Lookups.{exact_pairs, exact_unsigned}
 use Rattle.std.specs.declared.cmp.Ordering.TheVariants.{Equal}
 use Rattle.std.specs.Cmp.{IsTotalOrder, both_ways, Equal-is}
-use Rattle.std.specs.Ordering.{is_eq}
+use Rattle.std.specs.Ordering.{is_eq, nat_cmp}
 use Rattle.cany_model.specs.Bus.Frames.{Identity, same_identity}
 use Rattle.cany_model.proofs.Bus.Identities.{same_identity-true, same_identity-from}
 use Rattle.cany_check.specs.declared.frame_name.Attempt.{Attempt}
@@ -24,7 +25,9 @@ name_exact : (a b : FrameName) → name_cmp a b ≡ Equal → a ≡ b
 name_exact a b h = grind (arith, common_steps)
 
 attempt_exact : (a b : Attempt) → attempt_cmp a b ≡ Equal → a ≡ b
-attempt_exact a b h = grind (arith, common_steps)
+attempt_exact a b h =
+    let same : (a.name, a.nth) ≡ (b.name, b.nth) = exact_pairs name_cmp nat_cmp name_exact exact_unsigned (a.name, a.nth) (b.name, b.nth) h in
+    ap (λ (p : FrameName × ℕ). record { name = p.0; nth = p.1 }) same
 
 same_from_names : (x y : Identity) → frame_name x ≡ frame_name y → same_identity x y ≡ true
 same_from_names x y e = same_identity-from x y (ap (λ (n : FrameName). record { class = n.class; number = n.number; node = n.node }) e)

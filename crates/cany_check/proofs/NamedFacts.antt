@@ -14,6 +14,9 @@ use Rattle.cany_model.specs.Bus.Frames.{Identity, same_identity}
 use Rattle.cany_model.specs.Rules.Knowledge.{FailureSign, fda_frame}
 use Rattle.cany_model.proofs.Bus.Identities.{same_identity_self}
 use Rattle.cany_model.proofs.Rules.NumberFacts.{belongs_small}
+use Rattle.cany_check.specs.declared.unused_asks.Asks.{Asks}
+use Rattle.cany_check.specs.declared.unused_asks.Asks.TheVariants.{Joins, Leaves}
+use Rattle.cany_check.specs.Asks.{ask_class, asks_of}
 use Rattle.cany_check.specs.Attempts.{asked_frame, is_asked, is_named, is_ruled, names_frame}
 
 or_first : (a b : Bool) → a ≡ true → (a || b) ≡ true
@@ -43,21 +46,24 @@ asked_here scenario c asks i ask below at =
     list_any_at (λ (a : NodeAsk). same_identity (asked_frame scenario.params c a) x) asks i ask below
     (ap (λ (a : NodeAsk). same_identity (asked_frame scenario.params c a) x) (sym at) ∙ same_identity_self x)
 
--- the frame of a join
-pub join_named : (scenario : ScenarioParts) (i : ℕ) (ask : NodeAsk) → i < length scenario.joins → ask ≡ get_or scenario.joins i ask
-    → is_named scenario (asked_frame scenario.params Join ask) ≡ true
-join_named scenario i ask below at =
-    let x : Identity = asked_frame scenario.params Join ask in
-    or_first (is_ruled scenario.rules x || is_asked scenario.params Join scenario.joins x) (is_asked scenario.params Leave scenario.leaves x)
-    (or_second (is_ruled scenario.rules x) (is_asked scenario.params Join scenario.joins x) (asked_here scenario Join scenario.joins i ask below at))
+module _ (scenario : ScenarioParts) where
+  -- the asks of a legal scenario are each of it
+  pub asks_legal : IsLegalScenario scenario → (kind : Asks) → All (IsAskOf scenario.params) (asks_of kind scenario)
+  asks_legal legal Joins = legal.joins
+  asks_legal legal Leaves = legal.leaves
 
--- and of a leave
-pub leave_named : (scenario : ScenarioParts) (i : ℕ) (ask : NodeAsk) → i < length scenario.leaves → ask ≡ get_or scenario.leaves i ask
-    → is_named scenario (asked_frame scenario.params Leave ask) ≡ true
-leave_named scenario i ask below at =
-    let x : Identity = asked_frame scenario.params Leave ask in
-    or_second (is_ruled scenario.rules x || is_asked scenario.params Join scenario.joins x) (is_asked scenario.params Leave scenario.leaves x)
-    (asked_here scenario Leave scenario.leaves i ask below at)
+  -- the frame of a join or a leave
+  asks_named : (kind : Asks) (x : Identity) → is_asked scenario.params (ask_class kind) (asks_of kind scenario) x ≡ true → is_named scenario x ≡ true
+  asks_named Joins x here =
+      or_first (is_ruled scenario.rules x || is_asked scenario.params Join scenario.joins x) (is_asked scenario.params Leave scenario.leaves x)
+      (or_second (is_ruled scenario.rules x) (is_asked scenario.params Join scenario.joins x) here)
+  asks_named Leaves x here = or_second (is_ruled scenario.rules x || is_asked scenario.params Join scenario.joins x) (is_asked scenario.params Leave scenario.leaves x) here
+
+  pub ask_named : (kind : Asks) (asks : List NodeAsk) (i : ℕ) (ask : NodeAsk) → asks ≡ asks_of kind scenario → i < length asks → ask ≡ get_or asks i ask
+      → is_named scenario (asked_frame scenario.params (ask_class kind) ask) ≡ true
+  ask_named kind asks i ask e below at =
+      let x : Identity = asked_frame scenario.params (ask_class kind) ask in
+      asks_named kind x (ap (λ l. is_asked scenario.params (ask_class kind) l x) (sym e) ∙ asked_here scenario (ask_class kind) asks i ask below at)
 
 -- ---- numbers of cycles
 
@@ -87,11 +93,3 @@ one_at P xs ys i x e all below at = one_of P xs i x (subst (All P) (sym e) all) 
 pub ruled_at : (scenario : ScenarioParts) (rules : List Rule) (i : ℕ) (rule : Rule) → rules ≡ scenario.rules → i < length rules → rule ≡ get_or rules i rule
     → (x : Identity) → is_ruled (rule ∷ []) x ≡ true → is_named scenario x ≡ true
 ruled_at scenario rules i rule e below at = ruled_named scenario i rule (subst (λ l. i < length l) e below) (subst (λ l. rule ≡ get_or l i rule) e at)
-
-pub join_at : (scenario : ScenarioParts) (asks : List NodeAsk) (i : ℕ) (ask : NodeAsk) → asks ≡ scenario.joins → i < length asks → ask ≡ get_or asks i ask
-    → is_named scenario (asked_frame scenario.params Join ask) ≡ true
-join_at scenario asks i ask e below at = join_named scenario i ask (subst (λ l. i < length l) e below) (subst (λ l. ask ≡ get_or l i ask) e at)
-
-pub leave_at : (scenario : ScenarioParts) (asks : List NodeAsk) (i : ℕ) (ask : NodeAsk) → asks ≡ scenario.leaves → i < length asks → ask ≡ get_or asks i ask
-    → is_named scenario (asked_frame scenario.params Leave ask) ≡ true
-leave_at scenario asks i ask e below at = leave_named scenario i ask (subst (λ l. i < length l) e below) (subst (λ l. ask ≡ get_or l i ask) e at)

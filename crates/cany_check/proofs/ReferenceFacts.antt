@@ -1,20 +1,18 @@
 -- What one pass with a list of reference finds is the witness of one order.
-use Rattle.std.proofs.Common.{◌≡◌, ℕ, ◌+◌, ◌≤◌, ◌⊎◌, Bool, true, false, List, [], ◌∷◌, ◌++◌, map, drop, take, length, refl, ap, sym, subst, ◌∙◌, arith, inl, inr}
+use Rattle.std.proofs.Common.{◌≡◌, ℕ, ◌≤◌, ◌⊎◌, Bool, true, false, List, [], ◌∷◌, ◌++◌, map, drop, take, length, refl, ap, sym, subst, ◌∙◌, arith, inl, inr}
 use Rattle.std.specs.Prelude.{filter, max, nat_le, option_map, Option, None, Some}
 use Rattle.std.specs.List.{AllByRecursion}
 use Rattle.std.specs.Option.{option_map_or, option_or}
-use Rattle.std.proofs.lemmas.Bool.{cases_Bool, false≢true, leb-false, leb-true}
-use Rattle.std.proofs.lemmas.List.{append-nil, append_assoc, drop_all, drop_at, length-append, length-map, map-append, take-append-drop, take-map, take_at}
+use Rattle.std.proofs.lemmas.Bool.{cases_Bool, leb-false, leb-true}
+use Rattle.std.proofs.lemmas.List.{append-nil, append_assoc, drop_all, length-append, length-map, map-append, take-append-drop, take-map, take_at}
 use Rattle.std.proofs.lemmas.List.Elements.{filter-append}
 use Rattle.cany_base.specs.declared.message.MsgKey.{MsgKey}
-use Rattle.cany_check.specs.declared.findings.Delivery.{Delivery}
 use Rattle.cany_check.specs.declared.findings.Parting.{Parting}
 use Rattle.cany_check.specs.declared.order.Item.{Item}
-use Rattle.cany_check.specs.declared.record.MessageRecord.{MessageRecord}
 use Rattle.cany_check.specs.Account.{AccountParts, LogParts}
-use Rattle.cany_check.specs.OneOrder.{Difference, by_from, deliveries_from, difference, first_parting, parting, parting_from, parting_of, put_by_from}
+use Rattle.cany_check.specs.OneOrder.{by_from, deliveries_from, difference, first_parting, parting, parting_from, parting_of, put_by_from}
 use Rattle.cany_check.specs.Reference.{Clash, clash, cut, delivery, first_clash, first_slot, items_in, items_of, parting_at, with_items}
-use Rattle.cany_check.specs.Words.{correct, same_key}
+use Rattle.cany_check.specs.Words.{correct}
 use Rattle.cany_check.proofs.Clashes.{IsClash, clash_none, clash_some, difference_at, difference_none, keys}
 use Rattle.cany_check.proofs.ItemFacts.{IsOf, cut_again, cut_append, cut_whole, deliveries_are, each_append, each_cut, each_dropped, each_from, each_item, each_of_parts, each_weaker, item_keys, keys_of_cut}
 

@@ -1,5 +1,6 @@
 -- What a worked row of a verdict is written with, and what is found of a run.
-use Rattle.std.specs.Prelude.{ℕ, Bool, false, List, [], Option, Some, None, map, replicate}
+use Rattle.std.specs.Prelude.{ℕ, zero, suc, Bool, false, List, [], Option, Some, None, map, replicate}
+use Rattle.std.proofs.Common.{◌≡◌, ap, ◌∙◌, sym}
 use Rattle.cany_base.specs.declared.message.MsgKey.{MsgKey}
 use Rattle.cany_base.specs.declared.message.SendAsk.{SendAsk}
 use Rattle.cany_base.specs.declared.rule.Rule.{Rule}
@@ -10,10 +11,12 @@ use Rattle.cany_base.specs.Scenario.{ScenarioParts}
 use Rattle.cany_model.proofs.RowWords.{run_words, scenario_of}
 use Rattle.cany_model.specs.declared.breaks.Break.{Break}
 use Rattle.cany_model.specs.Bus.History.{ended_history}
+use Rattle.cany_model.specs.Bus.State.{RunState, opening}
 use Rattle.cany_model.specs.Promises.Hypothesis.{first_break}
 use Rattle.cany_model.specs.Bus.Restart.{restarted_in}
-use Rattle.cany_model.specs.Runs.RoundRobin.{round_robin}
-use Rattle.cany_model.specs.Runs.Run.{run}
+use Rattle.cany_model.specs.Runs.RoundRobin.{round, round_robin, rounds}
+use Rattle.cany_model.specs.Runs.Run.{run, run_from}
+use Rattle.cany_model.proofs.Runs.Journals.{run_none, run_then}
 use Rattle.cany_model.specs.Promises.FirstSlots.{first_carried}
 use Rattle.cany_model.specs.Runs.Incarnations.{incarnation_of}
 use Rattle.cany_world.specs.Settled.{nodes_ahead, waiting_nodes}
@@ -82,30 +85,51 @@ pub record Found : Type 0 where
 abbrev message_found : AccountParts → MessageRecord → MessageFound
 message_found a m = record { sent = m.sent; carried = m.carried; queued = m.queued; waits = m.waits; ahead = m.ahead; told = message_told a m }
 
--- of the run of a scenario by a journal; what computes it is opened here, once for all rows
-unfoldable pub found_by : ScenarioParts → List Step → Found
+-- of the state in which a run ended, and of its account
+abbrev found_with : ScenarioParts → RunState → AccountParts → Found
+found_with sc s a = record {
+  broken = first_break sc.params s.trace;
+  status = status a;
+  judgements = map (judgement a) parts;
+  wrong = wrong_entry a;
+  messages = map (message_found a) a.messages;
+  parting = parting a;
+  numbers = view_numbers a;
+  views = view_partings a;
+  signs = map (λ sign. record { sign = sign; told = sign_told a sign }) a.signs;
+  accusations = accusations a;
+  unused = unused sc s;
+}
+
+-- what computes it is opened here, once for all rows
+unfoldable pub found_in : ScenarioParts → RunState → Found
 unfolding run_words restarted_in ended_history first_carried incarnation_of nodes_ahead waiting_nodes account_of first_where last_carried least_and_greatest message_fate sign_fate ascending put_once first_wrong first_wrong_of by_from difference first_parting parting_from put_by_from attempt_slot unused with_places judgement status nodes_of
-found_by sc journal =
-    let s = run sc journal in
-    let a = account_of sc s in
-    record {
-      broken = first_break sc.params s.trace;
-      status = status a;
-      judgements = map (judgement a) parts;
-      wrong = wrong_entry a;
-      messages = map (message_found a) a.messages;
-      parting = parting a;
-      numbers = view_numbers a;
-      views = view_partings a;
-      signs = map (λ sign. record { sign = sign; told = sign_told a sign }) a.signs;
-      accusations = accusations a;
-      unused = unused sc s;
-    }
+found_in sc s = found_with sc s (account_of sc s)
+
+-- of the run of a scenario by a journal
+unfoldable pub found_by : ScenarioParts → List Step → Found
+found_by sc journal = found_in sc (run sc journal)
+
+-- After so many rounds. The round robin journal has the steps of the states to which its rounds lead, so the run of it computes each of them twice.
+unfoldable pub found_after : ScenarioParts → ℕ → RunState → Found
+found_after sc zero s = found_in sc s
+found_after sc (suc n) s = found_after sc n (run_from sc s (round sc s))
+
+found_after_is : (sc : ScenarioParts) (n : ℕ) (s : RunState) → found_after sc n s ≡ found_in sc (run_from sc s (rounds sc n s))
+unfolding found_after rounds
+found_after_is sc zero s = ap (found_in sc) (sym (run_none sc s))
+found_after_is sc (suc n) s =
+    let next : RunState = run_from sc s (round sc s) in
+    found_after_is sc n next ∙ ap (found_in sc) (sym (run_then sc s (round sc s) (rounds sc n next)))
 
 -- by the round robin journal
 unfoldable pub found_of : ScenarioParts → Found
-unfolding found_by
-found_of sc = found_by sc (round_robin sc)
+unfolding found_in found_after
+found_of sc = found_after sc sc.params.slots (opening sc.params.nodes)
+
+pub found_of_is : (sc : ScenarioParts) → found_of sc ≡ found_by sc (round_robin sc)
+unfolding found_of found_by
+found_of_is sc = found_after_is sc sc.params.slots (opening sc.params.nodes)
 
 -- nothing was sent, and nothing happened
 abbrev pub all_held : Found
@@ -143,5 +167,5 @@ abbrev pub delivered : ℕ → ℕ → ℕ → Delivery
 delivered origin seq slot = record { msg = key origin seq; slot = slot }
 
 unfoldable pub row : Unit {0}
-unfolding found_by found_of send slot_rule frame_rule asks three
+unfolding found_in found_after found_of send slot_rule frame_rule asks three
 row = tt

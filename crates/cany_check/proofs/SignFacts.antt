@@ -4,13 +4,13 @@ use Rattle.std.specs.Prelude.{Option, None, Some, if◌then◌else◌, is_none, 
 use Rattle.std.specs.Cmp.{IsTotalOrder}
 use Rattle.std.specs.List.{AllByRecursion, flat_map}
 use Rattle.std.specs.List.Sorted.{IsNonDecreasingBy, IsPartitionPoint}
-use Rattle.std.specs.Option.{option_map_or}
+use Rattle.std.specs.Option.{option_and_then, option_map_or}
 use Rattle.std.specs.Ordering.{is_lt, nat_cmp, ordering_index, ordering_then}
 use Rattle.std.proofs.lemmas.Bool.Decides.{nat_tests}
 use Rattle.std.proofs.lemmas.Bool.{and_parts, cases_Bool, cases_eq, cases_lt, cases_order, eq-eqb, eqb-true, le-ltb, ltb-true, ne_eqb, or_cases}
 use Rattle.std.proofs.lemmas.Cmp.{nat_cmp_total, on_total, ranked, then_total}
 use Rattle.std.proofs.lemmas.List.Sorted.{searchable_from_sorted}
-use Rattle.std.proofs.lemmas.Option.{get_or_from_slice_get, slice_get-get_or}
+use Rattle.std.proofs.lemmas.Option.{get_or_from_slice_get, slice_get-get_or, slice_get_read}
 use Rattle.cany_base.specs.Nodes.{Nodes, minus, nobody}
 use Rattle.cany_check.specs.declared.holders.Holders.{Holders}
 use Rattle.cany_check.specs.declared.record.SignRecord.{SignRecord}
@@ -18,12 +18,12 @@ use Rattle.cany_check.specs.declared.record.Slots.{Slots}
 use Rattle.cany_model.specs.Rules.Knowledge.{FailureSign}
 use Rattle.cany_check.specs.Account.{AccountParts, LogParts, is_sign_before, running, sign_in}
 use Rattle.cany_check.specs.Fates.{sign_fate, sign_fate_by, sign_has, sign_lacks, sign_told, slots_where}
-use Rattle.cany_check.specs.Holders.{IsOnly, counts_since, holders_in}
+use Rattle.cany_check.specs.Holders.{AreHolders, IsOnly, counts_since, holders_in}
 use Rattle.cany_check.specs.InOrder.{ascending, put_once}
 use Rattle.cany_check.specs.Orderly.{IsOrderly, sign_named}
-use Rattle.cany_check.specs.SignSubjects.{DoAscend, names_at, sign_since}
+use Rattle.cany_check.specs.SignSubjects.{DoAscend, names_at, sign_since, since_at, tells_at}
 use Rattle.cany_check.specs.Words.{counting_for_sign, counts_for_sign, is_nobody, knows, nodes_of, takes_part, takes_part_for, tells_sign}
-use Rattle.cany_check.proofs.HolderFacts.{both_tests, lacking_nodes, one_runs_of}
+use Rattle.cany_check.proofs.HolderFacts.{both_tests, held_at, lacking_nodes, one_runs_of}
 
 -- ---- one before another
 
@@ -247,3 +247,12 @@ module _ (a : AccountParts) (orderly : IsOrderly a) (sign : SignRecord) (holders
       let lacking = l ∙ lacks_is counting c in
       let slots = ap (λ (h : Holders). h.slots) are ∙ ap (λ logs. slots_where (tells_sign sign) (filter (knows sign) logs)) counted in
       λ k. record { fate = sign_fate_by (not (is_nobody sign.waits)) (not (is_none sign.carried)) (has_is k) (lacking k); has = has_is k; lacks = lacking k; had = n k; slots = slots k }
+
+-- the holders of the sign at a place
+pub holders_of_one : (a : AccountParts) (signs : List SignRecord) (holders : List Holders) (i : ℕ) (x : SignRecord) (h : Holders) → signs ≡ a.signs
+    → AreHolders (length a.signs) (tells_at a.signs) (since_at a.signs) a.logs holders → i < length signs → x ≡ slice_index_or signs i x → h ≡ slice_index_or holders i h
+    → h ≡ holders_in (tells_sign x) (sign_since x) a.logs
+holders_of_one a signs holders i x h is are below x_is h_is =
+    let own : Option SignRecord → Holders = λ o. holders_in (λ e. option_map_or (λ y. tells_sign y e) o false) (option_and_then sign_since o) a.logs in
+    let at : slice_get a.signs i ≡ Some x = ap (λ (l : List SignRecord). slice_get l i) (sym is) ∙ slice_get_read signs (length signs) i x refl below x_is in
+    held_at (length a.signs) (tells_at a.signs) (since_at a.signs) a.logs holders i h are (subst (λ (l : List SignRecord). i < length l) is below) h_is ∙ ap own at

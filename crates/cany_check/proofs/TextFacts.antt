@@ -1,6 +1,6 @@
 -- The text of a verdict, part by part.
-use Rattle.std.proofs.Common.{◌≡◌, List, [], ◌∷◌, ◌++◌, map, Option, ◌∙◌, ap, append_assoc, append-nil}
-use Rattle.std.specs.Prelude.{ℕ, codes, option_to_list}
+use Rattle.std.proofs.Common.{◌≡◌, List, [], ◌∷◌, ◌++◌, map, Option, Some, None, ◌∙◌, ap, append_assoc, append-nil}
+use Rattle.std.specs.Prelude.{ℕ, codes, option_to_list, MatchOption}
 use Rattle.std.specs.List.{concat}
 use Rattle.std.proofs.lemmas.List.Folds.{concat-append}
 use Rattle.cany_model.specs.declared.breaks.Break.{Break}
@@ -26,8 +26,16 @@ three xs ys zs = concat-append xs (ys ++ zs) ∙ ap (λ l. concat xs ++ l) (conc
 three_in_turn : (xs ys zs : List (List ℕ)) → concat ((xs ++ ys) ++ zs) ≡ concat xs ++ (concat ys ++ concat zs)
 three_in_turn xs ys zs = ap concat (append_assoc xs ys zs) ∙ three xs ys zs
 
-pub delivery-is : (a : AccountParts) (wrong : Option EntryAt) (parted : Option Parting) → wrong ≡ wrong_entry a → parted ≡ parting a → concat (delivery_lines a)
-    ≡ concat (map entry_line (option_to_list wrong)) ++ (concat (message_lines a) ++ concat (map parted_line (option_to_list parted)))
+-- the slice of a choice has what there is
+pub listed : {X : Type 0} (o all : Option X) (xs : List X) → o ≡ all → MatchOption o (xs ≡ []) (λ x. xs ≡ x ∷ []) → xs ≡ option_to_list all
+listed {X = X} o all xs is slice = by_case o slice ∙ ap option_to_list is
+  where
+    by_case : (o : Option X) → MatchOption o (xs ≡ []) (λ x. xs ≡ x ∷ []) → xs ≡ option_to_list o
+    by_case None h = h
+    by_case (Some x) h = h
+
+pub delivery-is : (a : AccountParts) (wrong : List EntryAt) (parted : List Parting) → wrong ≡ option_to_list (wrong_entry a) → parted ≡ option_to_list (parting a)
+    → concat (delivery_lines a) ≡ concat (map entry_line wrong) ++ (concat (message_lines a) ++ concat (map parted_line parted))
 unfolding delivery_lines
 delivery-is a wrong parted w p =
     rw (w, p) (three_in_turn (map entry_line (option_to_list (wrong_entry a))) (message_lines a) (map parted_line (option_to_list (parting a))))

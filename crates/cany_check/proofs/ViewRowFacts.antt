@@ -1,5 +1,5 @@
 -- The table of the views that correct nodes hold, one view after another, and all of them.
-use Rattle.std.proofs.Common.{◌≡◌, ℕ, zero, suc, ◌+◌, ◌<◌, ◌≤◌, ◌==◌, ◌||◌, ◌⊎◌, Bool, true, false, not, List, [], ◌∷◌, ◌++◌, map, length, get_or, count_by, take, drop, refl, ap, sym, subst, ◌∙◌, arith, inl, inr}
+use Rattle.std.proofs.Common.{◌≡◌, ℕ, zero, suc, ◌+◌, ◌<◌, ◌≤◌, ◌==◌, ◌||◌, ◌⊎◌, Bool, true, false, List, [], ◌∷◌, ◌++◌, map, length, get_or, count_by, take, drop, refl, ap, sym, subst, ◌∙◌, arith, inl, inr}
 use Rattle.std.specs.Prelude.{filter, filter_map, find, if◌then◌else◌, is_some, nat_lt, option_map, Option, None, Some, unwrap_or}
 use Rattle.std.specs.List.{cons_option, flat_map, list_any, range_with_len}
 use Rattle.std.specs.Option.{option_or}
@@ -284,3 +284,8 @@ module _ (a : AccountParts) (rows : List (Option ViewParting)) (has : HasRows (h
 
   pub partings_are : filter_map parting_of rows ≡ view_partings a
   partings_are = ap (filter_map parting_of) rows_are ∙ by_numbers places ∙ ap (filter_map (λ k. parting_in (views_of_number a k))) (sym numbers_by_place)
+
+-- one more is found, where there is one
+pub one_found : {X : Type 0} (so_far later : List X) (o : Option X) → (so_far ++ cons_option o []) ++ later ≡ so_far ++ cons_option o later
+one_found so_far later None = ap (λ l. l ++ later) (append-nil so_far)
+one_found so_far later (Some x) = append_assoc so_far (x ∷ []) later

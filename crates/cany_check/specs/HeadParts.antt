@@ -1,16 +1,32 @@
--- The head of a verdict in three parts.
-use Rattle.std.specs.Prelude.{ℕ, List, [], ◌∷◌, Option}
-use Rattle.cany_base.specs.declared.message.Service.TheVariants.{Ed, Rel, Tot}
-use Rattle.cany_model.specs.declared.breaks.Break.{Break}
-use Rattle.cany_text.specs.ReportLines.{hypothesis_line}
+-- The head of a verdict, as the code puts it together.
+use Rattle.std.specs.Prelude.{ℕ, List, [], ◌∷◌, Option, Some, None, codes, decimal}
+use Rattle.cany_base.specs.declared.message.Service.{Service}
+use Rattle.cany_text.specs.TextNames.{service_name}
+use Rattle.cany_check.specs.declared.counts.FateCounts.{FateCounts}
+use Rattle.cany_check.specs.declared.findings.Part.{Part}
+use Rattle.cany_check.specs.declared.findings.Part.TheVariants.{Integrity, Agreement, Order, Views, Signs, Accuracy}
+use Rattle.cany_check.specs.declared.head.Count.{Count}
 use Rattle.cany_check.specs.Account.{AccountParts}
-use Rattle.cany_check.specs.CheckHead.{accuracy_line, agreement_line, first_line, integrity_line, order_line, signs_line, views_line}
+use Rattle.cany_check.specs.CheckHead.{accuracy_line, agreement_line, integrity_line, order_line, signs_line, views_line}
 
-unfoldable pub opening_lines : AccountParts → Option Break → List (List ℕ)
-opening_lines a found = first_line a.params.format ∷ hypothesis_line found ∷ integrity_line a ∷ []
+-- the line of a part of the promise
+unfoldable pub part_line : AccountParts → Part → List ℕ
+part_line a Integrity = integrity_line a
+part_line a (Agreement by) = agreement_line a by
+part_line a Order = order_line a
+part_line a Views = views_line a
+part_line a Signs = signs_line a
+part_line a Accuracy = accuracy_line a
 
-unfoldable pub agreement_lines : AccountParts → List (List ℕ)
-agreement_lines a = agreement_line a Ed ∷ agreement_line a Rel ∷ agreement_line a Tot ∷ []
+abbrev pub count_texts : Count → List (List ℕ)
+count_texts count = count.name.now ∷ decimal count.number ∷ []
 
-unfoldable pub other_lines : AccountParts → List (List ℕ)
-other_lines a = order_line a ∷ views_line a ∷ signs_line a ∷ accuracy_line a ∷ []
+-- the name of the service, where it is of one
+abbrev pub service_texts : Option Service → List (List ℕ)
+service_texts None = []
+service_texts (Some by) = service_name by ∷ []
+
+abbrev pub fate_texts : FateCounts → List (List ℕ)
+fate_texts counts =
+    codes "all" ∷ decimal counts.all ∷ codes "none" ∷ decimal counts.nobody
+    ∷ codes "apart" ∷ decimal counts.apart ∷ codes "open" ∷ decimal counts.unsettled ∷ []

@@ -4,7 +4,6 @@ use Rattle.cany_base.specs.declared.message.Service.{Service}
 use Rattle.cany_base.specs.declared.message.Service.TheVariants as service
 use Rattle.cany_model.specs.Rules.Messages.{is_service}
 use Rattle.cany_check.specs.declared.findings.Fate.{Fate}
-use Rattle.cany_check.specs.declared.findings.Fate.TheVariants as fate
 use Rattle.cany_check.specs.declared.findings.Judgement.{Judgement}
 use Rattle.cany_check.specs.declared.findings.Judgement.TheVariants.{Held, Broken, Open}
 use Rattle.cany_check.specs.declared.findings.Part.{Part}

@@ -1,6 +1,7 @@
 pub mod Account
 pub mod AccountFields
 pub mod Accuracy
+pub mod Asks
 pub mod Attempts
 pub mod CheckHead
 pub mod CheckLines

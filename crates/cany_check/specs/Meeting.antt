@@ -1,5 +1,5 @@
 -- One node is compared with the list of reference, an item after another.
-use Rattle.std.specs.Prelude.{◌≡◌, ◌≤◌, ℕ, List, ◌++◌, drop, length, Option, Some, option_map, option_to_list}
+use Rattle.std.specs.Prelude.{◌≡◌, ◌≤◌, ℕ, List, ◌++◌, drop, length, Some, option_map, option_to_list}
 use Rattle.cany_base.specs.declared.log_entry.LogEntry.{LogEntry}
 use Rattle.cany_check.specs.declared.findings.Parting.{Parting}
 use Rattle.cany_check.specs.declared.order.Cursor.{Cursor}

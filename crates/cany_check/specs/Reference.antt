@@ -1,5 +1,5 @@
 -- One order, decided by one list of reference: what nodes delivered, one node after another, of the messages that were carried.
-use Rattle.std.specs.Prelude.{ℕ, ◌+◌, nat_le, if◌then◌else◌, List, [], ◌∷◌, ◌++◌, drop, filter, filter_map, find, length, map, Option, Some, None, option_map}
+use Rattle.std.specs.Prelude.{ℕ, ◌+◌, nat_le, if◌then◌else◌, List, [], ◌∷◌, ◌++◌, drop, filter, filter_map, find, length, Option, Some, None, option_map}
 use Rattle.std.specs.Option.{option_and_then, option_or}
 use Rattle.cany_base.specs.declared.log_entry.LogEntry.{LogEntry}
 use Rattle.cany_base.specs.declared.log_entry.LogEntry.TheVariants.{Deliver, Failed, View}
@@ -10,7 +10,7 @@ use Rattle.cany_check.specs.declared.findings.Delivery.{Delivery}
 use Rattle.cany_check.specs.declared.findings.Parting.{Parting}
 use Rattle.cany_check.specs.declared.order.Item.{Item}
 use Rattle.cany_check.specs.declared.record.MessageRecord.{MessageRecord}
-use Rattle.cany_check.specs.Account.{AccountParts, LogParts}
+use Rattle.cany_check.specs.Account.{LogParts}
 use Rattle.cany_check.specs.Words.{same_key}
 
 -- ---- what a node delivered

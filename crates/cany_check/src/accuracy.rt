@@ -69,18 +69,31 @@ fn judged_accusation(accusers: &[Holders], log: &LogRecord<'_>) -> Option<Accusa
     None
 }
 
-/// The nodes that ran all the time and were taken for failed, ascending.
-pub fn accusations(alloc: Global, account: &Account<'_>) -> Result<Vec<Accusation>, Memory>
+/// The nodes that ran all the time and were taken for failed, ascending, where these are the
+/// accusers of each node.
+fn accusations_by(
+    alloc: Global,
+    accusers: &[Holders],
+    account: &Account<'_>,
+) -> Result<Vec<Accusation>, Memory>
+    requires { AreHolders most_nodes is_failure_of since_ever account.now.logs accusers.now }
     ensures { IfOk result (λ found. found.items ≡ accusations account.now) }
 {
     let logs = account.logs();
-    let accusers = holders_of(alloc, &FailedNodes, logs)?;
     let mut found = Vec::new(alloc);
     for i in 0..logs.len() {
-        match judged_accusation(&accusers, &logs[i]) {
+        match judged_accusation(accusers, &logs[i]) {
             Some(accusation) => found.push(accusation)?,
             None => {}
         }
     }
     Ok(found)
+}
+
+/// The nodes that ran all the time and were taken for failed, ascending.
+pub fn accusations(alloc: Global, account: &Account<'_>) -> Result<Vec<Accusation>, Memory>
+    ensures { IfOk result (λ found. found.items ≡ accusations account.now) }
+{
+    let accusers = holders_of(alloc, &FailedNodes, account.logs())?;
+    accusations_by(alloc, accusers.as_slice(), account)
 }

@@ -12,7 +12,7 @@ use cany_base::{NodeSet, Slot};
 use cany_log::Field;
 
 /// No field.
-const NOTHING: Field = Field::NumberIfAny("", None);
+pub(crate) const NOTHING: Field = Field::NumberIfAny("", None);
 
 /// The pieces of a fate, one after another.
 #[derive(Clone, Copy)]

@@ -34,17 +34,3 @@ pub(crate) fn as_fault(why: Option<NoFault>) -> Option<UnusedEntry>
 {
     why.map(UnusedEntry::Fault)
 }
-
-/// What is found of a join, by why it did nothing.
-pub(crate) fn as_join(why: Option<NoAsk>) -> Option<UnusedEntry>
-    ensures { result ≡ option_map (λ w. entry.Join w) why }
-{
-    why.map(UnusedEntry::Join)
-}
-
-/// What is found of a leave, by why it did nothing.
-pub(crate) fn as_leave(why: Option<NoAsk>) -> Option<UnusedEntry>
-    ensures { result ≡ option_map (λ w. entry.Leave w) why }
-{
-    why.map(UnusedEntry::Leave)
-}

@@ -1,15 +1,19 @@
-//! The head of a verdict: ten lines that stand in every one.
-ghost use Rattle.std.specs.Prelude.{◌≡◌, ◌≤◌, length};
+//! The head of a verdict: what the text is, whether the run is within the fault hypothesis, and a
+//! line for each part of the promise.
+ghost use Rattle.std.specs.Prelude.{◌≡◌, ◌≤◌, ◌∷◌, ◌++◌, [], length, map};
 ghost use Rattle.std.specs.List.{concat};
 ghost use Rattle.cany_check.specs.CheckHead as head;
 ghost use Rattle.cany_check.specs.Findings.{AreFindings};
-ghost use Rattle.cany_check.specs.HeadParts as parts;
+ghost use Rattle.cany_check.specs.HeadParts.{count_texts, fate_texts, part_line, service_texts};
+ghost use Rattle.cany_log.specs.Fields.{most_bytes, texts_of};
 ghost use Rattle.cany_log.specs.Written.{IsWritten};
+ghost use Rattle.cany_text.specs.ReportLines.{line_of};
 
 use crate::account::Account;
-use crate::counts::{message_counts, shortest_and_longest, told_counts};
+use crate::counts::{FateCounts, message_counts, shortest_and_longest, told_counts};
+use crate::fate_fields::NOTHING;
 use crate::findings::{Judgement, Part};
-use crate::judging::Findings;
+use crate::judging::{Findings, PARTS};
 use cany_base::{Format, Service};
 use cany_io::{Failed, Sink};
 use cany_log::{Field, write_hypothesis, write_short_line};
@@ -41,37 +45,81 @@ fn write_first_line<K: Sink>(format: Format, sink: &mut K) -> Result<(), Failed>
     )
 }
 
-#[tactic(auto, unfolding(crate::specs::CheckHead::integrity_line))]
-fn write_integrity<K: Sink>(
-    account: &Account<'_>,
-    findings: &Findings,
-    sink: &mut K,
-) -> Result<(), Failed>
-    requires { AreFindings account.now findings.now }
-    ensures { IsWritten (head.integrity_line account.now) result
-        (K.taken sink.old) (K.taken sink.new) (K.faults sink.old) (K.faults sink.new) }
-{
-    let judgement = findings.judgement(Part::Integrity);
-    write_short_line("integrity", &[Field::Text(judgement_name(judgement))], sink)
+/// A number, and the name that stands before it.
+#[derive(Clone, Copy)]
+struct Count {
+    name: &'static str,
+    number: usize,
 }
 
-#[tactic(auto, unfolding(crate::specs::CheckHead::agreement_line))]
-fn write_agreement<K: Sink>(
-    account: &Account<'_>,
-    findings: &Findings,
-    by: Service,
+/// Writes the line of a part of which nothing is counted.
+fn write_bare<K: Sink>(
+    words: &'static str,
+    judgement: Judgement,
     sink: &mut K,
 ) -> Result<(), Failed>
-    requires { AreFindings account.now findings.now }
-    ensures { IsWritten (head.agreement_line account.now by) result
+    requires { length words.now ≤ 9 }
+    ensures { IsWritten (line_of (words.now ∷ head.judgement_name judgement ∷ [])) result
         (K.taken sink.old) (K.taken sink.new) (K.faults sink.old) (K.faults sink.new) }
 {
-    let judgement = findings.judgement(Part::Agreement(by));
-    let counts = message_counts(account, findings.messages(), by);
+    write_short_line(words, &[Field::Text(judgement_name(judgement))], sink)
+}
+
+/// Writes the line of a part of which two numbers are told.
+fn write_counts<K: Sink>(
+    words: &'static str,
+    judgement: Judgement,
+    first: Count,
+    second: Count,
+    sink: &mut K,
+) -> Result<(), Failed>
+    requires words { length words.now ≤ 9 }
+    requires first { length first.name.now ≤ 9 }
+    requires second { length second.name.now ≤ 9 }
+    ensures { IsWritten (line_of (words.now ∷ head.judgement_name judgement ∷ count_texts first ++ count_texts second)) result
+        (K.taken sink.old) (K.taken sink.new) (K.faults sink.old) (K.faults sink.new) }
+{
     write_short_line(
-        "agreement",
+        words,
         &[
-            Field::Text(service_name(by)),
+            Field::Text(judgement_name(judgement)),
+            Field::Text(first.name),
+            Field::Number(first.number as u64),
+            Field::Text(second.name),
+            Field::Number(second.number as u64),
+        ],
+        sink,
+    )
+}
+
+/// The name of the service, where it is of one.
+fn service_if_any(by: Option<Service>) -> Field
+    ensures texts { texts_of result ≡ service_texts by }
+    ensures short { most_bytes result ≤ 22 }
+{
+    match by {
+        Some(by) => Field::Text(service_name(by)),
+        None => NOTHING,
+    }
+}
+
+/// Writes the line of a part of which it is told how many messages, of this service, or signs have
+/// each fate.
+fn write_fates<K: Sink>(
+    words: &'static str,
+    by: Option<Service>,
+    judgement: Judgement,
+    counts: FateCounts,
+    sink: &mut K,
+) -> Result<(), Failed>
+    requires { length words.now ≤ 9 }
+    ensures { IsWritten (line_of (words.now ∷ service_texts by ++ head.judgement_name judgement ∷ fate_texts counts)) result
+        (K.taken sink.old) (K.taken sink.new) (K.faults sink.old) (K.faults sink.new) }
+{
+    write_short_line(
+        words,
+        &[
+            service_if_any(by),
             Field::Text(judgement_name(judgement)),
             Field::Text("all"),
             Field::Number(counts.all as u64),
@@ -86,143 +134,71 @@ fn write_agreement<K: Sink>(
     )
 }
 
-#[tactic(auto, unfolding(crate::specs::CheckHead::order_line))]
-fn write_order<K: Sink>(
+/// Writes the line of a part of the promise.
+fn write_part<K: Sink>(
     account: &Account<'_>,
     findings: &Findings,
+    part: Part,
     sink: &mut K,
 ) -> Result<(), Failed>
     requires { AreFindings account.now findings.now }
-    ensures { IsWritten (head.order_line account.now) result
+    ensures { IsWritten (part_line account.now part) result
         (K.taken sink.old) (K.taken sink.new) (K.faults sink.old) (K.faults sink.new) }
 {
-    let judgement = findings.judgement(Part::Order);
-    let lengths = shortest_and_longest(account.logs());
-    write_short_line(
-        "order",
-        &[
-            Field::Text(judgement_name(judgement)),
-            Field::Text("shortest"),
-            Field::Number(lengths.shortest as u64),
-            Field::Text("longest"),
-            Field::Number(lengths.longest as u64),
-        ],
-        sink,
-    )
+    let judgement = findings.judgement(part);
+    match part {
+        Part::Integrity => write_bare("integrity", judgement, sink),
+        Part::Agreement(by) => {
+            let counts = message_counts(account, findings.messages(), by);
+            write_fates("agreement", Some(by), judgement, counts, sink)
+        }
+        Part::Order => {
+            let lengths = shortest_and_longest(account.logs());
+            let shortest = Count {
+                name: "shortest",
+                number: lengths.shortest,
+            };
+            let longest = Count {
+                name: "longest",
+                number: lengths.longest,
+            };
+            write_counts("order", judgement, shortest, longest, sink)
+        }
+        Part::Views => {
+            let views = findings.views();
+            let numbers = Count {
+                name: "numbers",
+                number: views.numbers,
+            };
+            let apart = Count {
+                name: "apart",
+                number: views.apart.len(),
+            };
+            write_counts("views", judgement, numbers, apart, sink)
+        }
+        Part::Signs => {
+            let counts = told_counts(findings.signs());
+            write_fates("signs", None, judgement, counts, sink)
+        }
+        Part::Accuracy => write_bare("accuracy", judgement, sink),
+    }
 }
 
-#[tactic(auto, unfolding(crate::specs::CheckHead::views_line))]
-fn write_views<K: Sink>(
+/// Writes the lines of these parts of the promise.
+fn write_parts<K: Sink>(
     account: &Account<'_>,
     findings: &Findings,
+    parts: &[Part],
     sink: &mut K,
 ) -> Result<(), Failed>
     requires { AreFindings account.now findings.now }
-    ensures { IsWritten (head.views_line account.now) result
+    ensures { IsWritten (concat (map (part_line account.now) parts.now)) result
         (K.taken sink.old) (K.taken sink.new) (K.faults sink.old) (K.faults sink.new) }
 {
-    let judgement = findings.judgement(Part::Views);
-    let views = findings.views();
-    write_short_line(
-        "views",
-        &[
-            Field::Text(judgement_name(judgement)),
-            Field::Text("numbers"),
-            Field::Number(views.numbers as u64),
-            Field::Text("apart"),
-            Field::Number(views.apart.len() as u64),
-        ],
-        sink,
-    )
-}
-
-#[tactic(auto, unfolding(crate::specs::CheckHead::signs_line))]
-fn write_signs<K: Sink>(
-    account: &Account<'_>,
-    findings: &Findings,
-    sink: &mut K,
-) -> Result<(), Failed>
-    requires { AreFindings account.now findings.now }
-    ensures { IsWritten (head.signs_line account.now) result
-        (K.taken sink.old) (K.taken sink.new) (K.faults sink.old) (K.faults sink.new) }
-{
-    let judgement = findings.judgement(Part::Signs);
-    let counts = told_counts(findings.signs());
-    write_short_line(
-        "signs",
-        &[
-            Field::Text(judgement_name(judgement)),
-            Field::Text("all"),
-            Field::Number(counts.all as u64),
-            Field::Text("none"),
-            Field::Number(counts.nobody as u64),
-            Field::Text("apart"),
-            Field::Number(counts.apart as u64),
-            Field::Text("open"),
-            Field::Number(counts.unsettled as u64),
-        ],
-        sink,
-    )
-}
-
-#[tactic(auto, unfolding(crate::specs::CheckHead::accuracy_line))]
-fn write_accuracy<K: Sink>(
-    account: &Account<'_>,
-    findings: &Findings,
-    sink: &mut K,
-) -> Result<(), Failed>
-    requires { AreFindings account.now findings.now }
-    ensures { IsWritten (head.accuracy_line account.now) result
-        (K.taken sink.old) (K.taken sink.new) (K.faults sink.old) (K.faults sink.new) }
-{
-    let judgement = findings.judgement(Part::Accuracy);
-    write_short_line("accuracy", &[Field::Text(judgement_name(judgement))], sink)
-}
-
-/// Writes what the text is, whether the run is within the fault hypothesis, and integrity.
-fn write_opening<K: Sink>(
-    account: &Account<'_>,
-    findings: &Findings,
-    found: Option<Break>,
-    sink: &mut K,
-) -> Result<(), Failed>
-    requires { AreFindings account.now findings.now }
-    ensures { IsWritten (concat (parts.opening_lines account.now found)) result
-        (K.taken sink.old) (K.taken sink.new) (K.faults sink.old) (K.faults sink.new) }
-{
-    write_first_line(account.params().format, sink)?;
-    write_hypothesis(found, sink)?;
-    write_integrity(account, findings, sink)
-}
-
-fn write_agreements<K: Sink>(
-    account: &Account<'_>,
-    findings: &Findings,
-    sink: &mut K,
-) -> Result<(), Failed>
-    requires { AreFindings account.now findings.now }
-    ensures { IsWritten (concat (parts.agreement_lines account.now)) result
-        (K.taken sink.old) (K.taken sink.new) (K.faults sink.old) (K.faults sink.new) }
-{
-    write_agreement(account, findings, Service::Ed, sink)?;
-    write_agreement(account, findings, Service::Rel, sink)?;
-    write_agreement(account, findings, Service::Tot, sink)
-}
-
-/// Writes order, views, signs and accuracy.
-fn write_other_parts<K: Sink>(
-    account: &Account<'_>,
-    findings: &Findings,
-    sink: &mut K,
-) -> Result<(), Failed>
-    requires { AreFindings account.now findings.now }
-    ensures { IsWritten (concat (parts.other_lines account.now)) result
-        (K.taken sink.old) (K.taken sink.new) (K.faults sink.old) (K.faults sink.new) }
-{
-    write_order(account, findings, sink)?;
-    write_views(account, findings, sink)?;
-    write_signs(account, findings, sink)?;
-    write_accuracy(account, findings, sink)
+    for part in parts {
+        write_part(account, findings, *part, sink)?;
+    }
+    Ok(())
 }
 
 /// Writes the head.
@@ -236,7 +212,7 @@ pub(crate) fn write_head<K: Sink>(
     ensures { IsWritten (concat (head.head_lines account.now found)) result
         (K.taken sink.old) (K.taken sink.new) (K.faults sink.old) (K.faults sink.new) }
 {
-    write_opening(account, findings, found, sink)?;
-    write_agreements(account, findings, sink)?;
-    write_other_parts(account, findings, sink)
+    write_first_line(account.params().format, sink)?;
+    write_hypothesis(found, sink)?;
+    write_parts(account, findings, &PARTS, sink)
 }

@@ -1,11 +1,12 @@
 //! Which entries of the scenario of a run did nothing.
-ghost use Rattle.std.specs.Prelude.{◌≡◌, true, IfOk};
+ghost use Rattle.std.specs.Prelude.{◌≡◌, [], true, IfOk, OnOk};
 ghost use Rattle.cany_model.specs.Runs.Run.{has_ended};
 ghost use Rattle.cany_world.specs.World.{state_of};
+ghost use Rattle.cany_check.specs.Attempts.{AreAttemptsOf};
 ghost use Rattle.cany_check.specs.Unused.{unused};
 
 use crate::attempts::Attempts;
-use crate::unused_asks::{push_joins, push_leaves};
+use crate::unused_asks::{Asks, push_asks};
 use crate::unused_entry::Unused;
 use crate::unused_faults::push_faults;
 use crate::unused_restarts::push_restarts;
@@ -13,6 +14,26 @@ use crate::unused_sends::push_sends;
 use cany_base::Memory;
 use cany_world::World;
 use std::alloc::Global;
+
+/// Appends all of them: sends, fault rules, joins, leaves and restarts, each in file order.
+fn push_all(
+    alloc: Global,
+    world: &World,
+    attempts: &Attempts,
+    found: &mut Vec<Unused>,
+) -> Result<(), Memory>
+    requires ended { has_ended world.now.scenario (state_of world.now) ≡ true }
+    requires attempts { AreAttemptsOf world.now attempts.now }
+    requires empty { found.old.items ≡ [] }
+    ensures { OnOk result (found.new.items ≡ unused world.now.scenario (state_of world.now)) }
+{
+    push_sends(world, found)?;
+    push_faults(alloc, world, attempts, found)?;
+    push_asks(world, attempts, Asks::Joins, found)?;
+    push_asks(world, attempts, Asks::Leaves, found)?;
+    push_restarts(world, found)?;
+    Ok(())
+}
 
 /// The entries of the scenario that had no effect on the run, which has ended: sends, fault rules,
 /// joins, leaves and restarts, each in file order. A fault rule may have two: of its verdict, and
@@ -25,10 +46,6 @@ pub fn unused(alloc: Global, world: &World) -> Result<Vec<Unused>, Memory>
 {
     let attempts = Attempts::of_run(alloc, world)?;
     let mut found = Vec::new(alloc);
-    push_sends(world, &mut found)?;
-    push_faults(alloc, world, &attempts, &mut found)?;
-    push_joins(world, &attempts, &mut found)?;
-    push_leaves(world, &attempts, &mut found)?;
-    push_restarts(world, &mut found)?;
+    push_all(alloc, world, &attempts, &mut found)?;
     Ok(found)
 }

@@ -133,6 +133,26 @@ fn wrong_in(
     }
 }
 
+/// The first wrong entry of the log of a correct node, with a mark for each message.
+fn first_wrong_of(
+    account: &Account<'_>,
+    places: &Places<'_>,
+    marks: &mut [usize],
+) -> Option<EntryAt>
+    requires places { places.now ≡ account.now.messages }
+    requires marks { AreBelow account.now.messages 1 marks.old }
+    ensures { result ≡ integrity.wrong_entry account.now }
+{
+    let logs = account.logs();
+    for i in 0..logs.len() {
+        let found = wrong_in(account, places, &logs[i], i + 1, marks);
+        if found.is_some() {
+            return found;
+        }
+    }
+    None
+}
+
 /// The first wrong entry of the log of a correct node, by ascending node and then place: a second
 /// delivery of a message, a delivery of what was not sent by then, a failure sign of a node that
 /// is not there or of a cycle to come, or a view of another cycle. In the account of a run there
@@ -142,14 +162,6 @@ pub fn wrong_entry(alloc: Global, account: &Account<'_>) -> Result<Option<EntryA
 {
     let messages = account.messages();
     let places = places_of(alloc, messages)?;
-    let mut numbers = vec![in alloc; 0usize; messages.len()]?;
-    let marks = numbers.as_mut_slice();
-    let logs = account.logs();
-    for i in 0..logs.len() {
-        let found = wrong_in(account, &places, &logs[i], i + 1, marks);
-        if found.is_some() {
-            return Ok(found);
-        }
-    }
-    Ok(None)
+    let mut marks = vec![in alloc; 0usize; messages.len()]?;
+    Ok(first_wrong_of(account, &places, marks.as_mut_slice()))
 }

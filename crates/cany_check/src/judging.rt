@@ -23,8 +23,8 @@ use cany_command::status::DONE;
 use std::alloc::Global;
 use std::marker::Model;
 
-/// The parts of the promise, as they are judged.
-const PARTS: [Part; 8] = [
+/// The parts of the promise, in the order of the head of a verdict.
+pub(crate) const PARTS: [Part; 8] = [
     Part::Integrity,
     Part::Agreement(Service::Ed),
     Part::Agreement(Service::Rel),
@@ -127,15 +127,21 @@ fn of_messages(messages: &[MessageRecord], told: &[Told]) -> Agreements
 pub fn judge(alloc: Global, account: &Account<'_>) -> Result<Findings, Memory>
     ensures { IfOk result (λ found. AreFindings account.now found) }
 {
+    // What lets go of nothing comes first: an early return lets go of all that was found before it.
+    let wrong = wrong_entry(alloc, account)?;
+    let parting = parting(alloc, account)?;
     let messages = message_fates(alloc, account)?;
     let agreements = of_messages(account.messages(), messages.as_slice());
+    let signs = sign_fates(alloc, account)?;
+    let views = view_partings(alloc, account)?;
+    let accusations = accusations(alloc, account)?;
     Ok(Findings {
-        wrong: wrong_entry(alloc, account)?,
+        wrong,
         messages,
-        signs: sign_fates(alloc, account)?,
-        parting: parting(alloc, account)?,
-        views: view_partings(alloc, account)?,
-        accusations: accusations(alloc, account)?,
+        signs,
+        parting,
+        views,
+        accusations,
         ed: agreements.ed,
         rel: agreements.rel,
         tot: agreements.tot,

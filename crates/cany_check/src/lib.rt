@@ -19,6 +19,7 @@ mod idle_entries;
 mod integrity;
 mod judging;
 pub mod laws;
+mod lines;
 mod log_records;
 mod making;
 mod message_lines;

@@ -1,8 +1,8 @@
 //! What became of the messages of an account.
-ghost use Rattle.std.specs.Prelude.{◌≡◌, ℕ, Bool, Option, Some, map, IfOk};
+ghost use Rattle.std.specs.Prelude.{◌≡◌, ℕ, Bool, Option, Some, length, map, IfOk};
 ghost use Rattle.cany_check.specs.Fates.{fate_by, message_fates, message_told};
-ghost use Rattle.cany_check.specs.Holders.{holders_in};
-ghost use Rattle.cany_check.specs.MessageSubjects.{place_named};
+ghost use Rattle.cany_check.specs.Holders.{AreHolders, holders_in};
+ghost use Rattle.cany_check.specs.MessageSubjects.{delivers_at, place_named, since_at};
 ghost use Rattle.cany_check.specs.Words.{is_delivery, is_nobody, is_settled, since};
 
 use crate::account::Account;
@@ -37,9 +37,6 @@ fn place_named(places: &Places<'_>, entry: &LogEntry) -> Option<usize>
 }
 
 impl<'a> Subjects for Places<'a> {
-    ghost use Rattle.std.specs.Prelude.{length};
-    ghost use Rattle.cany_check.specs.MessageSubjects.{delivers_at, since_at};
-
     ghost number = { λ messages. length messages };
 
     ghost tells = { λ messages. delivers_at messages };
@@ -110,16 +107,35 @@ fn told(account: &Account<'_>, message: &MessageRecord, holders: Holders) -> Tol
     }
 }
 
-/// What is told of each message of the account, in its order.
-pub fn message_fates(alloc: Global, account: &Account<'_>) -> Result<Vec<Told>, Memory>
+/// Who has each message of the account.
+fn holders_of_messages(alloc: Global, account: &Account<'_>) -> Result<Vec<Holders>, Memory>
+    ensures { IfOk result (λ holders. AreHolders (length account.now.messages) (delivers_at account.now.messages) (since_at account.now.messages) account.now.logs holders.items) }
+{
+    let places = places_of(alloc, account.messages())?;
+    holders_of(alloc, &places, account.logs())
+}
+
+/// What is told of each message of the account, of which these are the holders.
+fn told_of_all(
+    alloc: Global,
+    account: &Account<'_>,
+    holders: &[Holders],
+) -> Result<Vec<Told>, Memory>
+    requires { AreHolders (length account.now.messages) (delivers_at account.now.messages) (since_at account.now.messages) account.now.logs holders.now }
     ensures { IfOk result (λ told. told.items ≡ message_fates account.now) }
 {
     let messages = account.messages();
-    let places = places_of(alloc, messages)?;
-    let holders = holders_of(alloc, &places, account.logs())?;
     let mut all = Vec::with_capacity(alloc, messages.len())?;
     for i in 0..messages.len() {
         all.push(told(account, &messages[i], holders[i]))?;
     }
     Ok(all)
+}
+
+/// What is told of each message of the account, in its order.
+pub fn message_fates(alloc: Global, account: &Account<'_>) -> Result<Vec<Told>, Memory>
+    ensures { IfOk result (λ told. told.items ≡ message_fates account.now) }
+{
+    let holders = holders_of_messages(alloc, account)?;
+    told_of_all(alloc, account, holders.as_slice())
 }

@@ -200,6 +200,29 @@ fn compare(
     Ok(None)
 }
 
+/// The first of the nodes whose logs stand at these places, in this order, that differs from the
+/// list of reference and from what those before it appended, and where.
+fn first_clash(
+    reference: &mut Vec<Item>,
+    messages: &[MessageRecord],
+    places: &Places<'_>,
+    logs: &[LogRecord<'_>],
+    order: &[usize],
+) -> Result<Option<Parting>, Memory>
+    requires messages { places.now ≡ messages.now }
+    requires places { HasPlaces (map log_parts logs.now) order.now }
+    ensures { (sorted : List LogParts) → AreAt (map log_parts logs.now) order.now sorted
+        → IfOk result (λ found. found ≡ option_map parting_at (first_clash messages.now reference.old.items sorted)) }
+{
+    for i in 0..order.len() {
+        let found = compare(reference, messages, places, &logs[order[i]])?;
+        if found.is_some() {
+            return Ok(found);
+        }
+    }
+    Ok(None)
+}
+
 /// The first of the nodes whose logs stand at these places, in this order, that differs from what
 /// those before it delivered, and where.
 fn first_parting(
@@ -215,13 +238,7 @@ fn first_parting(
 {
     let places = places_of(alloc, messages)?;
     let mut reference = Vec::new(alloc);
-    for i in 0..order.len() {
-        let found = compare(&mut reference, messages, &places, &logs[order[i]])?;
-        if found.is_some() {
-            return Ok(found);
-        }
-    }
-    Ok(None)
+    first_clash(&mut reference, messages, &places, logs, order)
 }
 
 /// Where two correct nodes part, of the messages that both take part since, if two do.

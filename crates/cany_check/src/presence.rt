@@ -1,10 +1,11 @@
 //! Whether a node ran in a slot of a run, and whether it made its asks of the slot.
 ghost use Rattle.std.specs.Prelude.{◌≡◌, ◌<◌, ◌≤◌, find, option_map, slice_get, IsSomeAnd};
+ghost use Rattle.std.specs.List.{list_any};
 ghost use Rattle.cany_model.specs.Bus.State.{EndedIncarnation, node_at};
 ghost use Rattle.cany_model.specs.Runs.Incarnations.{incarnations};
 ghost use Rattle.cany_world.specs.World.{state_of};
-ghost use Rattle.cany_check.specs.Presence.{IsStay};
-ghost use Rattle.cany_check.specs.Unused.{made_asks, missed, ran_in, read_notice};
+ghost use Rattle.cany_check.specs.Presence.{IsStay, did};
+ghost use Rattle.cany_check.specs.Unused.{missed, ran_in, read_notice};
 
 use crate::unused_entry::NoAsk;
 use cany_base::{NodeId, Slot};
@@ -15,6 +16,13 @@ use cany_world::{Span, World};
 struct Stay {
     span: Span,
     from: Slot,
+}
+
+/// What an incarnation may have done in a slot.
+#[derive(Clone, Copy)]
+enum Deed {
+    Ran,
+    MadeAsks,
 }
 
 impl Stay {
@@ -44,6 +52,16 @@ impl Stay {
     {
         self.from <= slot && self.read_notice(slot)
     }
+
+    /// Whether it did this in the slot.
+    fn did(&self, deed: Deed, slot: Slot) -> bool
+        ensures { (e : EndedIncarnation) → IsStay self.now e → result ≡ did deed slot e }
+    {
+        match deed {
+            Deed::Ran => self.ran_in(slot),
+            Deed::MadeAsks => self.made_asks(slot),
+        }
+    }
 }
 
 /// The incarnation of a node that began so many before the present one.
@@ -59,30 +77,25 @@ fn stay_at(world: &World, node: NodeId, back: usize) -> Stay
     }
 }
 
-/// Whether the node ran in the slot.
-pub(crate) fn ran_in(world: &World, slot: Slot, node: NodeId) -> bool
+/// Whether an incarnation of the node did this in the slot.
+fn any_did(world: &World, deed: Deed, slot: Slot, node: NodeId) -> bool
     requires { node < world.now.scenario.params.nodes }
-    ensures { result ≡ ran_in (state_of world.now) slot node }
+    ensures { result ≡ list_any (did deed slot) (incarnations (state_of world.now) node) }
 {
     for back in 0..usize::from(world.incarnation(node)) + 1 {
-        if stay_at(world, node, back).ran_in(slot) {
+        if stay_at(world, node, back).did(deed, slot) {
             return true;
         }
     }
     false
 }
 
-/// Whether an incarnation of the node that takes part in the slot read its notice.
-fn made_asks(world: &World, slot: Slot, node: NodeId) -> bool
+/// Whether the node ran in the slot.
+pub(crate) fn ran_in(world: &World, slot: Slot, node: NodeId) -> bool
     requires { node < world.now.scenario.params.nodes }
-    ensures { result ≡ made_asks (state_of world.now) slot node }
+    ensures { result ≡ ran_in (state_of world.now) slot node }
 {
-    for back in 0..usize::from(world.incarnation(node)) + 1 {
-        if stay_at(world, node, back).made_asks(slot) {
-            return true;
-        }
-    }
-    false
+    any_did(world, Deed::Ran, slot, node)
 }
 
 /// The slot since which the incarnation of the node that read the notice of a slot takes part, if
@@ -105,7 +118,7 @@ pub(crate) fn missed(world: &World, slot: Slot, node: NodeId) -> Option<NoAsk>
     requires { node < world.now.scenario.params.nodes }
     ensures { result ≡ missed (state_of world.now) slot node }
 {
-    if made_asks(world, slot, node) {
+    if any_did(world, Deed::MadeAsks, slot, node) {
         return None;
     }
     match reader_since(world, slot, node) {

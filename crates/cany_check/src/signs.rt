@@ -1,8 +1,8 @@
 //! What became of the failure signs of an account.
 ghost use Rattle.std.specs.Prelude.{◌≡◌, not, is_none, length, IfOk};
 ghost use Rattle.cany_check.specs.Fates.{sign_fate_by, sign_fates, sign_told};
-ghost use Rattle.cany_check.specs.Holders.{IsOnly, holders_in};
-ghost use Rattle.cany_check.specs.SignSubjects.{DoAscend, names_at, sign_since};
+ghost use Rattle.cany_check.specs.Holders.{AreHolders, IsOnly, holders_in};
+ghost use Rattle.cany_check.specs.SignSubjects.{DoAscend, names_at, sign_since, since_at, tells_at};
 ghost use Rattle.cany_check.specs.Words.{is_nobody, tells_sign};
 
 use crate::account::Account;
@@ -63,9 +63,6 @@ impl<'a> Signs<'a> {
 }
 
 impl<'a> Subjects for Signs<'a> {
-    ghost use Rattle.std.specs.Prelude.{length};
-    ghost use Rattle.cany_check.specs.SignSubjects.{since_at, tells_at};
-
     ghost number = { λ signs. length signs };
 
     ghost tells = { λ signs. tells_at signs };
@@ -120,15 +117,28 @@ fn told(account: &Account<'_>, sign: &SignRecord, holders: Holders) -> Told
     }
 }
 
+/// What is told of each failure sign of the account, of which these are the holders.
+fn told_of_all(
+    alloc: Global,
+    account: &Account<'_>,
+    holders: &[Holders],
+) -> Result<Vec<Told>, Memory>
+    requires { AreHolders (length account.now.signs) (tells_at account.now.signs) (since_at account.now.signs) account.now.logs holders.now }
+    ensures { IfOk result (λ told. told.items ≡ sign_fates account.now) }
+{
+    let signs = account.signs();
+    let mut all = Vec::with_capacity(alloc, signs.len())?;
+    for i in 0..signs.len() {
+        all.push(told(account, &signs[i], holders[i]))?;
+    }
+    Ok(all)
+}
+
 /// What is told of each failure sign of the account, in its order.
 pub fn sign_fates(alloc: Global, account: &Account<'_>) -> Result<Vec<Told>, Memory>
     ensures { IfOk result (λ told. told.items ≡ sign_fates account.now) }
 {
     let signs = account.signs();
     let holders = holders_of(alloc, &Signs { signs }, account.logs())?;
-    let mut all = Vec::with_capacity(alloc, signs.len())?;
-    for i in 0..signs.len() {
-        all.push(told(account, &signs[i], holders[i]))?;
-    }
-    Ok(all)
+    told_of_all(alloc, account, holders.as_slice())
 }

@@ -8,13 +8,10 @@ ghost use Rattle.cany_log.specs.Written.{IsWritten};
 use crate::account::Account;
 use crate::head::write_head;
 use crate::judging::Findings;
+use crate::lines::write_lines;
 use crate::message_lines::write_messages;
 use crate::sign_lines::write_signs;
 use crate::unused_entry::Unused;
-use crate::unused_lines::write_unused;
-use crate::witness_lines::{
-    write_accusations, write_parting, write_view_partings, write_wrong_entry,
-};
 use cany_io::{Failed, Sink};
 use cany_log::write_short_line;
 use cany_model::Break;
@@ -29,9 +26,11 @@ fn write_deliveries<K: Sink>(
     ensures { IsWritten (concat (parts.delivery_lines account.now)) result
         (K.taken sink.old) (K.taken sink.new) (K.faults sink.old) (K.faults sink.new) }
 {
-    write_wrong_entry(findings.wrong_entry(), sink)?;
+    let wrong = findings.wrong_entry();
+    let parting = findings.parting();
+    write_lines(wrong.as_slice(), sink)?;
     write_messages(account, findings.messages(), sink)?;
-    write_parting(findings.parting(), sink)
+    write_lines(parting.as_slice(), sink)
 }
 
 /// Writes the views that are apart, the signs, and who was taken for failed.
@@ -44,9 +43,9 @@ fn write_membership<K: Sink>(
     ensures { IsWritten (concat (parts.membership_lines account.now)) result
         (K.taken sink.old) (K.taken sink.new) (K.faults sink.old) (K.faults sink.new) }
 {
-    write_view_partings(findings.views().apart.as_slice(), sink)?;
+    write_lines(findings.views().apart.as_slice(), sink)?;
     write_signs(account, findings.signs(), sink)?;
-    write_accusations(findings.accusations(), sink)
+    write_lines(findings.accusations(), sink)
 }
 
 /// Writes the entries of the scenario that did nothing, and the end.
@@ -54,7 +53,7 @@ fn write_ending<K: Sink>(unused: &[Unused], sink: &mut K) -> Result<(), Failed>
     ensures { IsWritten (concat (parts.ending_lines unused.now)) result
         (K.taken sink.old) (K.taken sink.new) (K.faults sink.old) (K.faults sink.new) }
 {
-    write_unused(unused, sink)?;
+    write_lines(unused, sink)?;
     write_short_line("end", &[], sink)
 }
 

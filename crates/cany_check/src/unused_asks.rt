@@ -1,18 +1,56 @@
 //! The scripted joins and leaves that did nothing.
-ghost use Rattle.std.specs.Prelude.{◌≡◌, ◌++◌, true, OnOk};
-ghost use Rattle.cany_base.specs.declared.class.Class.TheVariants.{Join, Leave};
+ghost use Rattle.std.specs.Prelude.{◌≡◌, ◌++◌, true, option_map, OnOk};
 ghost use Rattle.cany_base.specs.Scenario.{IsAskOf};
 ghost use Rattle.cany_world.specs.World.{state_of};
-ghost use Rattle.cany_check.specs.declared.unused_entry.UnusedEntry.TheVariants as entry;
+ghost use Rattle.cany_check.specs.Asks.{ask_class, ask_entry, asks_of};
 ghost use Rattle.cany_check.specs.Attempts.{AreAttemptsOf, asked_frame, is_named};
 ghost use Rattle.cany_check.specs.Unused.{as_list, is_carried_later, unused_ask, with_places};
 
 use crate::attempts::{Attempts, asked_name};
-use crate::finding::{as_join, as_leave, push_found};
+use crate::finding::push_found;
 use crate::presence::missed;
-use crate::unused_entry::{NoAsk, Unused};
-use cany_base::{Class, Memory, NodeAsk};
+use crate::unused_entry::{NoAsk, Unused, UnusedEntry};
+use cany_base::{Class, Memory, NodeAsk, Scenario};
 use cany_world::World;
+
+/// Joins or leaves, which are looked at alike.
+#[derive(Clone, Copy)]
+pub(crate) enum Asks {
+    Joins,
+    Leaves,
+}
+
+impl Asks {
+    /// The class of the frames by which nodes ask.
+    fn class(self) -> Class
+        ensures { result ≡ ask_class self }
+    {
+        match self {
+            Asks::Joins => Class::Join,
+            Asks::Leaves => Class::Leave,
+        }
+    }
+
+    /// Those of a scenario.
+    fn among(self, scenario: &Scenario) -> &[NodeAsk]
+        ensures { result.now ≡ asks_of self scenario.now }
+    {
+        match self {
+            Asks::Joins => scenario.joins(),
+            Asks::Leaves => scenario.leaves(),
+        }
+    }
+
+    /// What is found of an ask, by why it did nothing.
+    fn entry(self, why: Option<NoAsk>) -> Option<UnusedEntry>
+        ensures { result ≡ option_map (ask_entry self) why }
+    {
+        match self {
+            Asks::Joins => why.map(UnusedEntry::Join),
+            Asks::Leaves => why.map(UnusedEntry::Leave),
+        }
+    }
+}
 
 /// Whether a later slot carried the frame of the join or leave.
 fn is_carried_later(world: &World, attempts: &Attempts, class: Class, ask: &NodeAsk) -> bool
@@ -41,44 +79,24 @@ fn unused_ask(world: &World, attempts: &Attempts, class: Class, ask: &NodeAsk) -
     Some(NoAsk::NeverCarried)
 }
 
-/// Appends the joins that did nothing, in file order.
-pub(crate) fn push_joins(
+/// Appends the joins, or the leaves, that did nothing, in file order.
+pub(crate) fn push_asks(
     world: &World,
     attempts: &Attempts,
+    kind: Asks,
     found: &mut Vec<Unused>,
 ) -> Result<(), Memory>
     requires { AreAttemptsOf world.now attempts.now }
     ensures { OnOk result (found.new.items ≡ found.old.items
-        ++ with_places (λ ask. as_list (unused_ask world.now.scenario (state_of world.now) Join ask)) (λ why. entry.Join why) 0 world.now.scenario.joins) }
+        ++ with_places (λ ask. as_list (unused_ask world.now.scenario (state_of world.now) (ask_class kind) ask)) (ask_entry kind) 0 (asks_of kind world.now.scenario)) }
 {
     let scenario = world.scenario();
     // It is the contract of this call that says that the scenario is legal.
     let _legal = scenario.params();
-    let joins = scenario.joins();
-    for place in 0..joins.len() {
-        let why = unused_ask(world, attempts, Class::Join, &joins[place]);
-        push_found(found, place, as_join(why))?;
-    }
-    Ok(())
-}
-
-/// Appends the leaves that did nothing, in file order.
-pub(crate) fn push_leaves(
-    world: &World,
-    attempts: &Attempts,
-    found: &mut Vec<Unused>,
-) -> Result<(), Memory>
-    requires { AreAttemptsOf world.now attempts.now }
-    ensures { OnOk result (found.new.items ≡ found.old.items
-        ++ with_places (λ ask. as_list (unused_ask world.now.scenario (state_of world.now) Leave ask)) (λ why. entry.Leave why) 0 world.now.scenario.leaves) }
-{
-    let scenario = world.scenario();
-    // It is the contract of this call that says that the scenario is legal.
-    let _legal = scenario.params();
-    let leaves = scenario.leaves();
-    for place in 0..leaves.len() {
-        let why = unused_ask(world, attempts, Class::Leave, &leaves[place]);
-        push_found(found, place, as_leave(why))?;
+    let asks = kind.among(scenario);
+    for place in 0..asks.len() {
+        let why = unused_ask(world, attempts, kind.class(), &asks[place]);
+        push_found(found, place, kind.entry(why))?;
     }
     Ok(())
 }

@@ -168,6 +168,31 @@ fn unused_rule(world: &World, script: &Script, attempts: &Attempts, rule: &Rule)
     }
 }
 
+/// Appends the fault rules that did nothing, in file order, where the script is of them.
+fn push_rules(
+    world: &World,
+    script: &Script,
+    attempts: &Attempts,
+    found: &mut Vec<Unused>,
+) -> Result<(), Memory>
+    requires ended { has_ended world.now.scenario (state_of world.now) ≡ true }
+    requires script { script.now ≡ world.now.scenario.rules }
+    requires attempts { AreAttemptsOf world.now attempts.now }
+    ensures { OnOk result (found.new.items ≡ found.old.items
+        ++ with_places (unused_rule world.now.scenario (state_of world.now)) (λ why. entry.Fault why) 0 world.now.scenario.rules) }
+{
+    let scenario = world.scenario();
+    // It is the contract of this call that says that the scenario is legal.
+    let _legal = scenario.params();
+    let rules = scenario.rules();
+    for place in 0..rules.len() {
+        let unused = unused_rule(world, script, attempts, &rules[place]);
+        push_found(found, place, as_fault(unused.verdict))?;
+        push_found(found, place, as_fault(unused.stops))?;
+    }
+    Ok(())
+}
+
 /// Appends the fault rules that did nothing, in file order.
 pub(crate) fn push_faults(
     alloc: Global,
@@ -180,15 +205,6 @@ pub(crate) fn push_faults(
     ensures { OnOk result (found.new.items ≡ found.old.items
         ++ with_places (unused_rule world.now.scenario (state_of world.now)) (λ why. entry.Fault why) 0 world.now.scenario.rules) }
 {
-    let scenario = world.scenario();
-    // It is the contract of this call that says that the scenario is legal.
-    let _legal = scenario.params();
-    let script = Script::of_scenario(alloc, scenario)?;
-    let rules = scenario.rules();
-    for place in 0..rules.len() {
-        let unused = unused_rule(world, &script, attempts, &rules[place]);
-        push_found(found, place, as_fault(unused.verdict))?;
-        push_found(found, place, as_fault(unused.stops))?;
-    }
-    Ok(())
+    let script = Script::of_scenario(alloc, world.scenario())?;
+    push_rules(world, &script, attempts, found)
 }

@@ -1,11 +1,10 @@
 //! The lines of the entries of a scenario that did nothing.
-ghost use Rattle.std.specs.Prelude.{◌≤◌, ◌∷◌, [], length, map, codes, decimal};
-ghost use Rattle.std.specs.List.{concat};
-ghost use Rattle.cany_check.specs.CheckLines as line;
+ghost use Rattle.std.specs.Prelude.{◌≤◌, ◌∷◌, [], length, codes, decimal};
 ghost use Rattle.cany_check.specs.CheckLines.{ask_fields, fault_fields};
 ghost use Rattle.cany_log.specs.Written.{IsWritten};
 ghost use Rattle.cany_text.specs.ReportLines.{line_of};
 
+use crate::lines::Line;
 use crate::unused_entry::{NoAsk, NoFault, Unused, UnusedEntry};
 use cany_base::Slot;
 use cany_io::{Failed, Sink};
@@ -79,33 +78,24 @@ fn write_fault<K: Sink>(place: u64, why: NoFault, sink: &mut K) -> Result<(), Fa
     }
 }
 
-/// Writes the line of an entry.
-#[tactic(auto, unfolding(crate::specs::CheckLines::unused_line))]
-fn write_entry<K: Sink>(unused: &Unused, sink: &mut K) -> Result<(), Failed>
-    ensures { IsWritten (line.unused_line unused.now) result
-        (K.taken sink.old) (K.taken sink.new) (K.faults sink.old) (K.faults sink.new) }
-{
-    let place = unused.place as u64;
-    match unused.entry {
-        UnusedEntry::Send(why) => write_ask("unused send", place, why, sink),
-        UnusedEntry::Fault(why) => write_fault(place, why, sink),
-        UnusedEntry::Join(why) => write_ask("unused join", place, why, sink),
-        UnusedEntry::Leave(why) => write_ask("unused leave", place, why, sink),
-        UnusedEntry::Restart => write_short_line(
-            "unused restart",
-            &[Field::Number(place), Field::Text("runs")],
-            sink,
-        ),
-    }
-}
+impl Line for Unused {
+    ghost use Rattle.cany_check.specs.CheckLines.{unused_line};
 
-/// Writes the lines of these entries.
-pub(crate) fn write_unused<K: Sink>(entries: &[Unused], sink: &mut K) -> Result<(), Failed>
-    ensures { IsWritten (concat (map line.unused_line entries.now)) result
-        (K.taken sink.old) (K.taken sink.new) (K.faults sink.old) (K.faults sink.new) }
-{
-    for unused in entries {
-        write_entry(unused, sink)?;
+    ghost line = { unused_line };
+
+    #[tactic(auto, unfolding(crate::specs::CheckLines::unused_line))]
+    fn write<K: Sink>(&self, sink: &mut K) -> Result<(), Failed> {
+        let place = self.place as u64;
+        match self.entry {
+            UnusedEntry::Send(why) => write_ask("unused send", place, why, sink),
+            UnusedEntry::Fault(why) => write_fault(place, why, sink),
+            UnusedEntry::Join(why) => write_ask("unused join", place, why, sink),
+            UnusedEntry::Leave(why) => write_ask("unused leave", place, why, sink),
+            UnusedEntry::Restart => write_short_line(
+                "unused restart",
+                &[Field::Number(place), Field::Text("runs")],
+                sink,
+            ),
+        }
     }
-    Ok(())
 }

@@ -1,4 +1,4 @@
-use Rattle.std.proofs.Common.{◌∙◌, ap, length, arith}
+use Rattle.std.proofs.Common.{ap, length, arith}
 use Rattle.cany_check.proofs.CountFacts.{messages_counted}
 use Rattle.cany_check.proofs.counts.message_count.Goals as goal
 

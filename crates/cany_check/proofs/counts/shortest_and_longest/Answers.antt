@@ -1,5 +1,5 @@
 use Rattle.std.proofs.Common.{sym, ◌∙◌}
-use Rattle.cany_check.proofs.CountFacts.{lengths-next, lengths-none, lengths-some}
+use Rattle.cany_check.proofs.CountFacts.{lengths-next, lengths-none}
 use Rattle.cany_check.proofs.counts.shortest_and_longest.Goals as goal
 
 pub loop-i-preserved : goal.loop-i-preserved

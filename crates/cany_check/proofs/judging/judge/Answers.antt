@@ -3,7 +3,6 @@ use Rattle.cany_base.specs.declared.message.Service.{Service}
 use Rattle.cany_base.specs.declared.message.Service.TheVariants.{Ed, Rel, Tot}
 use Rattle.cany_check.specs.declared.findings.Told.{Told}
 use Rattle.cany_check.specs.declared.record.MessageRecord.{MessageRecord}
-use Rattle.cany_check.specs.Fates.{message_fates}
 use Rattle.cany_check.specs.Judged.{fates_by}
 use Rattle.cany_check.specs.Verdict.{judgement, fates_of_service, of_fates}
 use Rattle.cany_check.proofs.JudgedFacts.{fates_told}
@@ -18,12 +17,12 @@ returns c =
     λ by. ap (λ (l : List MessageRecord). of_fates (fates_by by l c.as_slice.result.now)) c.messages.ensures.messages
     ∙ ap (λ (l : List Told). of_fates (fates_by by a.messages l)) told ∙ ap of_fates (fates_told by a a.messages) in
     record {
-      wrong = c.in_ok-wrong_entry.ensures;
+      wrong = c.in_ok-wrong.ensures;
       messages = c.in_ok-messages.ensures;
-      signs = c.in_ok-sign_fates.ensures;
+      signs = c.in_ok-signs.ensures;
       parting = c.in_ok-parting.ensures;
-      numbers = c.in_ok-view_partings.ensures.numbers;
-      views = c.in_ok-view_partings.ensures.apart;
+      numbers = c.in_ok-views.ensures.numbers;
+      views = c.in_ok-views.ensures.apart;
       accusations = c.in_ok-accusations.ensures;
       ed = c.of_messages-agreements.ensures.ed ∙ fates Ed;
       rel = c.of_messages-agreements.ensures.rel ∙ fates Rel;

@@ -1,23 +1,9 @@
-use Rattle.std.proofs.Common.{◌≡◌, ◌+◌, List, [], ◌∷◌, ◌++◌, map, take, ap, sym, ◌∙◌}
-use Rattle.std.proofs.lemmas.List.{map_more, take_all}
-use Rattle.cany_check.specs.declared.record.MessageRecord.{MessageRecord}
-use Rattle.cany_check.specs.declared.findings.Told.{Told}
-use Rattle.cany_check.specs.Fates.{message_told}
+use Rattle.std.proofs.Common.{length, sym, subst}
+use Rattle.cany_check.specs.Holders.{AreHolders}
+use Rattle.cany_check.specs.MessageSubjects.{delivers_at, since_at}
 use Rattle.cany_check.proofs.messages.message_fates.Goals as goal
 
-pub loop-i-preserved : goal.loop-i-preserved
-loop-i-preserved c =
-    let messages : List MessageRecord = c.messages-messages.result.now in
-    let m : MessageRecord = c.index-messages-i.result in
-    let tell : MessageRecord → Told = message_told c.args.account.now in
-    let more : map tell (take (c.loop-i.i + 1) messages) ≡ map tell (take c.loop-i.i messages) ++ tell m ∷ [] =
-    map_more tell messages c.loop-i.i m c.loop-i-test.true ∙ ap (λ (y : MessageRecord). map tell (take c.loop-i.i messages) ++ tell y ∷ []) (sym c.index-messages-i.is) in
-    c.in_ok-push.ensures.items
-    ∙ ap (λ (l : List Told). l ++ c.told.result ∷ []) c.loop-i.invariant
-    ∙ ap (λ (t : Told). map tell (take c.loop-i.i messages) ++ t ∷ []) c.told.ensures
-    ∙ sym more
-
-pub returns : goal.returns
-returns c =
-    c.loop-i.invariant
-    ∙ ap (map (message_told c.args.account.now)) (take_all c.loop-i.i c.messages-messages.result.now c.loop-i-test.false ∙ c.messages-messages.ensures.messages)
+pub told_of_all-requires : goal.told_of_all-requires
+told_of_all-requires c =
+    let a = c.args.account.now in
+    subst (AreHolders (length a.messages) (delivers_at a.messages) (since_at a.messages) a.logs) (sym c.as_slice.ensures.value) c.in_ok-holders.ensures

@@ -1,4 +1,4 @@
-use Rattle.std.proofs.Common.{◌<◌, get_or, length, sym, ◌∙◌, ap, arith}
+use Rattle.std.proofs.Common.{get_or, length, sym, ◌∙◌, ap, arith}
 use Rattle.std.proofs.lemmas.Result.{err_from_is_err_and}
 use Rattle.cany_log.proofs.WrittenFacts.{IsWritten-next, IsWritten-cut, IsWritten-all, concat-map}
 use Rattle.cany_check.proofs.LineFacts.{sign_text, sign_told-at}

@@ -1,28 +1,16 @@
-use Rattle.std.proofs.Common.{◌≡◌, ◌+◌, List, [], ◌∷◌, ◌++◌, map, take, ap, sym, ◌∙◌}
-use Rattle.std.proofs.lemmas.List.{map-append, take_all, take_more}
-use Rattle.cany_check.specs.declared.record.SignRecord.{SignRecord}
-use Rattle.cany_check.specs.declared.findings.Told.{Told}
-use Rattle.cany_check.specs.Fates.{sign_told}
+use Rattle.std.proofs.Common.{length, map, sym, subst}
+use Rattle.cany_check.specs.AccountFields.{log_parts}
+use Rattle.cany_check.specs.Holders.{AreHolders}
+use Rattle.cany_check.specs.SignSubjects.{since_at, tells_at}
 use Rattle.cany_check.proofs.SignFacts.{signs_ascend}
 use Rattle.cany_check.proofs.signs.sign_fates.Goals as goal
-
-pub loop-i-preserved : goal.loop-i-preserved
-loop-i-preserved c =
-    let signs : List SignRecord = c.signs-signs.result.now in
-    let x : SignRecord = c.index-signs-i.result in
-    let more : take (c.loop-i.i + 1) signs ≡ take c.loop-i.i signs ++ x ∷ [] =
-    take_more signs c.loop-i.i x c.loop-i-test.true ∙ ap (λ (y : SignRecord). take c.loop-i.i signs ++ y ∷ []) (sym c.index-signs-i.is) in
-    let all : map (sign_told c.args.account.now) (take (c.loop-i.i + 1) signs) ≡ map (sign_told c.args.account.now) (take c.loop-i.i signs) ++ sign_told c.args.account.now x ∷ [] =
-    ap (map (sign_told c.args.account.now)) more ∙ map-append (sign_told c.args.account.now) (take c.loop-i.i signs) (x ∷ []) in
-    c.in_ok-push.ensures.items
-    ∙ ap (λ (l : List Told). l ++ c.told.result ∷ []) c.loop-i.invariant
-    ∙ ap (λ (t : Told). map (sign_told c.args.account.now) (take c.loop-i.i signs) ++ t ∷ []) c.told.ensures
-    ∙ sym all
 
 pub invariant_of-holders_of : goal.invariant_of-holders_of
 invariant_of-holders_of c = signs_ascend c.args.account.now c.signs-signs.ensures.orderly c.signs-signs.result.now c.signs-signs.ensures.signs
 
-pub returns : goal.returns
-returns c =
-    c.loop-i.invariant
-    ∙ ap (map (sign_told c.args.account.now)) (take_all c.loop-i.i c.signs-signs.result.now c.loop-i-test.false ∙ c.signs-signs.ensures.signs)
+pub told_of_all-requires : goal.told_of_all-requires
+told_of_all-requires c =
+    let signs = c.signs-signs.result.now in
+    subst (λ l. AreHolders (length l) (tells_at l) (since_at l) c.args.account.now.logs c.as_slice.result.now) c.signs-signs.ensures.signs
+    (subst (λ l. AreHolders (length signs) (tells_at signs) (since_at signs) l c.as_slice.result.now) c.logs.ensures.logs
+    (subst (λ l. AreHolders (length signs) (tells_at signs) (since_at signs) (map log_parts c.logs.result.now) l) (sym c.as_slice.ensures.value) c.in_ok-holders.ensures))

@@ -1,4 +1,4 @@
-use Rattle.std.proofs.Common.{◌≡◌, ◌∙◌, None, ap, get_or}
+use Rattle.std.proofs.Common.{◌∙◌, None, ap, get_or}
 use Rattle.cany_check.proofs.ViewRowFacts.{row_pushed}
 use Rattle.cany_check.proofs.views.grow.Goals as goal
 

@@ -1,4 +1,4 @@
-use Rattle.std.proofs.Common.{◌∙◌, List, ap, count_by, map, sym, subst}
+use Rattle.std.proofs.Common.{◌∙◌, List, ap, count_by, subst}
 use Rattle.std.specs.Prelude.{filter_map, is_some, Option}
 use Rattle.std.specs.List.{flat_map}
 use Rattle.cany_check.specs.declared.findings.ViewParting.{ViewParting}
