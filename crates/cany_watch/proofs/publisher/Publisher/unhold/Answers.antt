@@ -24,9 +24,9 @@ invariant_of-self-2 c =
       waits_still inside.taken w.desk.shown.value new.desk.shown.value (drop w.behind w.log.items ++ held_list inside.held)
           (drop new.behind new.log.items ++ held_list c.err.result)
           (ap (λ d. d.shown.value) c.append.ensures.desk)
-          (ap (λ (o : Option Growth). drop new.behind new.log.items ++ held_list o) c.err.ensures
-              ∙ waits_held c.append.result c.in-Some.held (drop w.behind w.log.items) (drop new.behind new.log.items) c.append.ensures.pending
-              ∙ ap (λ (o : Option Growth). drop w.behind w.log.items ++ held_list o) (sym held)) is,
+          (ap (λ (o : Option Growth). drop new.behind new.log.items ++ held_list o) c.err.ensures.value
+          ∙ waits_held c.append.result c.in-Some.held (drop w.behind w.log.items) (drop new.behind new.log.items) c.append.ensures.pending
+          ∙ ap (λ (o : Option Growth). drop w.behind w.log.items ++ held_list o) (sym held)) is,
       c.self.invariant.1,
     )
 
