@@ -42,7 +42,13 @@ fn closed_gates(alloc: Global) -> Result<Vec<Closed>, AllocError>
 /// The number of the node and the slot at which a run is held.
 fn held_at(run: Result<World, CrewFault>) -> Option<(u8, Slot)> {
     match run {
-        Err(CrewFault::Held { world: _, node, slot }) => Some((node.get(), slot)),
+        Err(
+            CrewFault::Held {
+                world: _,
+                node,
+                slot,
+            },
+        ) => Some((node.get(), slot)),
         _ => None,
     }
 }
