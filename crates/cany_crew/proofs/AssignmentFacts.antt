@@ -3,7 +3,7 @@ use Rattle.std.proofs.Common.{◌≡◌, ℕ, zero, suc, ◌+◌, ◌-◌, ◌<�
 use Rattle.std.specs.Prelude.{slice_get, slice_index, slice_index_or, Option, Some, None, MatchOption, IfNone, IfSome}
 use Rattle.std.specs.List.{remove}
 use Rattle.std.proofs.lemmas.Bool.{false≢true}
-use Rattle.std.proofs.lemmas.List.{map-append, append_assoc, length-append, length-map}
+use Rattle.std.proofs.lemmas.List.{append-nil, map-append, append_assoc, length-append, length-map}
 use Rattle.cany_io.specs.Faults.{HasRisen}
 use Rattle.cany_yard.specs.Seats.{SeatParts, AreFirstSeats}
 use Rattle.cany_crew.specs.declared.assignment.Assignment.{Assignment}
@@ -132,6 +132,20 @@ emptied_node {L} {B} {G} {X} refusals bus all assignments assignments' before ga
       count = let s = now.count in omega arith;
       with_bus = now.with_bus;
     }
+
+-- where none is left, all came back
+pub emptied_all : {L B G X : Type 0} (refusals : X → ℕ) (bus : Bool) (all assignments : List (Assignment L B G)) (before gates : List X) (seats_before seats : ℕ) → length assignments ≡ 0
+    → AreEmptied refusals bus all assignments before gates seats_before seats
+    → (map refusals gates ≡ map refusals before ++ counts_of all) × (seats ≡ seats_before + length (counts_of all))
+emptied_all refusals bus all [] before gates seats_before seats none so =
+    (sym (append-nil (map refusals gates)) ∙ so.counts, (let count = so.count in omega arith))
+emptied_all refusals bus all (x ∷ xs) before gates seats_before seats none so = absurd (omega arith)
+
+-- and the seat of the bus is one of them
+pub emptied_some : {L B G X : Type 0} (refusals : X → ℕ) (bus : Bool) (all assignments : List (Assignment L B G)) (before gates : List X) (seats_before seats : ℕ) → length assignments ≡ 0
+    → AreEmptied refusals bus all assignments before gates seats_before seats → has_bus all ≡ true → bus ≡ false → ⊥
+emptied_some refusals bus all [] before gates seats_before seats none so has without = false≢true (so.with_bus has without)
+emptied_some refusals bus all (x ∷ xs) before gates seats_before seats none so has without = absurd (omega arith)
 
 -- ---- the work
 

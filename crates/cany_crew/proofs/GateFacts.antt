@@ -5,7 +5,8 @@ use Rattle.std.proofs.lemmas.Bool.{cases_eq, false≢true}
 use Rattle.std.proofs.lemmas.Grind.{get_or-set_at}
 use Rattle.std.proofs.lemmas.List.{get_or-set_other, length-map, length-set, map-set, set-get_or}
 use Rattle.cany_io.specs.Faults.{HasRisen}
-use Rattle.cany_crew.specs.Gates.{HasAnyRefused, HasRefused, IsOutcome, NoneFell}
+use Rattle.cany_command.proofs.ExitFacts.{rose}
+use Rattle.cany_crew.specs.Gates.{HasAnyRefused, HasRefused, IsOutcome, NoneFell, NoneRefused}
 
 -- ---- one count
 
@@ -61,6 +62,11 @@ pub any_refused : {E : Type 0} (old new : List ℕ) (ending : Result (Option (�
 any_refused old new (Ok None) held outcome = absurd (false≢true held)
 any_refused old new (Ok (Some found)) held outcome = (found.0, outcome.refused)
 any_refused old new (Err fault) held outcome = absurd held
+
+-- no gate refused where the counts stand
+pub none_rose : (old new : List ℕ) → NoneRefused old new → HasAnyRefused old new → ⊥
+none_rose old new none any =
+    rose (slice_index old any.0) (slice_index new any.0) any.1.1 (ap (λ (xs : List ℕ). slice_index xs any.0) none.0, none.1 any.0 0 any.1.0)
 
 -- ---- more gates behind
 

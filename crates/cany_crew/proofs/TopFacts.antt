@@ -1,5 +1,5 @@
 -- What is written for a text.
-use Rattle.std.proofs.Common.{◌≡◌, ℕ, true, false, List, Option, Some, None, Ok, Err, IsOkAnd, IsSomeAnd, refl, sym, ap, ◌∙◌, subst}
+use Rattle.std.proofs.Common.{◌≡◌, ◌⊎◌, ℕ, true, false, List, Option, Some, None, Ok, Err, IsOkAnd, IsSomeAnd, refl, sym, ap, ◌∙◌, subst, inl, inr, arith}
 use Rattle.std.specs.Prelude.{MatchOption, is_some, option_map}
 use Rattle.std.proofs.lemmas.Bool.{false≢true}
 use Rattle.cany_base.specs.declared.step.Step.{Step}
@@ -10,6 +10,11 @@ use Rattle.cany_text.specs.RefusalLines.{journal_given_line, scenario_refusal_li
 use Rattle.cany_text.specs.Report.{report}
 use Rattle.cany_text.specs.ScenarioText.{scenario_of}
 use Rattle.cany_text.specs.TomlKeys.{Read}
+use Rattle.cany_command.specs.declared.status.TheConstants.{DONE, NO_MEMORY, OTHER_WORDS, READ_FAULT, REFUSED, TOO_LONG, WRITE_FAULT}
+use Rattle.cany_command.specs.Status.{HasAnswered, HasNoAnswer}
+use Rattle.cany_command.proofs.ExitFacts.{no_answer_high, not_ended}
+use Rattle.cany_command.proofs.StatusFacts.{done_is_no_fault}
+use Rattle.cany_crew.specs.declared.status.TheConstants.{HELD}
 use Rattle.cany_crew.specs.Top.{IsReportOf, TakesReportStart, TakesStart, run_refusal, run_refusal_for}
 
 -- ---- the line of the refusal
@@ -55,3 +60,44 @@ started_report bytes scenario old new is none start =
     let P : Option (List ℕ) → Type 0 = λ o. MatchOption o (IsOkAnd (scenario_of bytes) (λ s. IsReportOf s text)) (λ l. text ≡ l) in
     let Q : Read ScenarioParts → Type 0 = λ o. IsOkAnd o (λ s. IsReportOf s text) in
     (text, subst P (sym none) (subst Q (sym is) (start.0, start.1, refl)), start.2)
+
+-- ---- statuses
+
+-- a call that wrote nothing, and was held by no gate, has made no run
+pub not_ran : (status : ℕ) → HasNoAnswer status → HasAnswered status ⊎ (status ≡ HELD) → ⊥
+not_ran status none (inl ended) = not_ended (λ s. s ≡ DONE) status done_is_no_fault none ended
+not_ran status none (inr held) = let high = no_answer_high status none in omega (arith, high, held)
+
+pub done_or_held : (status : ℕ) → (status ≡ DONE) ⊎ (status ≡ HELD) → HasAnswered status ⊎ (status ≡ HELD)
+done_or_held status (inl done) = inl (inl done)
+done_or_held status (inr held) = inr held
+
+-- a text was read, and this came of it
+abbrev pub IsOfText : ℕ → Type 0
+IsOfText status = HasAnswered status ⊎ (status ≡ NO_MEMORY) ⊎ (status ≡ HELD)
+
+-- what is no text ends a call otherwise
+abbrev pub IsOfNoText : ℕ → Type 0
+IsOfNoText status = (status ≡ OTHER_WORDS) ⊎ (status ≡ READ_FAULT) ⊎ (status ≡ TOO_LONG)
+
+pub not_both : (status : ℕ) → IsOfText status → IsOfNoText status → ⊥
+not_both status (inl (inl done)) other = elim other [ inl is ↦ omega (arith, done, is) | inr (inl is) ↦ omega (arith, done, is) | inr (inr is) ↦ omega (arith, done, is) ]
+not_both status (inl (inr (inl refused))) other = elim other [ inl is ↦ omega (arith, refused, is) | inr (inl is) ↦ omega (arith, refused, is) | inr (inr is) ↦ omega (arith, refused, is) ]
+not_both status (inl (inr (inr failed))) other = elim other [ inl is ↦ omega (arith, failed, is) | inr (inl is) ↦ omega (arith, failed, is) | inr (inr is) ↦ omega (arith, failed, is) ]
+not_both status (inr (inl memory)) other = elim other [ inl is ↦ omega (arith, memory, is) | inr (inl is) ↦ omega (arith, memory, is) | inr (inr is) ↦ omega (arith, memory, is) ]
+not_both status (inr (inr held)) other = elim other [ inl is ↦ omega (arith, held, is) | inr (inl is) ↦ omega (arith, held, is) | inr (inr is) ↦ omega (arith, held, is) ]
+
+-- a call that refused has made no run, and has written
+pub not_refusing : (status : ℕ) → (status ≡ REFUSED) ⊎ (status ≡ WRITE_FAULT) → (status ≡ DONE) ⊎ (status ≡ NO_MEMORY) ⊎ (status ≡ HELD) → ⊥
+not_refusing status (inl refused) other = elim other [ inl is ↦ omega (arith, refused, is) | inr (inl is) ↦ omega (arith, refused, is) | inr (inr is) ↦ omega (arith, refused, is) ]
+not_refusing status (inr failed) other = elim other [ inl is ↦ omega (arith, failed, is) | inr (inl is) ↦ omega (arith, failed, is) | inr (inr is) ↦ omega (arith, failed, is) ]
+
+pub ran_or_held : (status : ℕ) → (status ≡ DONE) ⊎ (status ≡ HELD) → (status ≡ DONE) ⊎ (status ≡ NO_MEMORY) ⊎ (status ≡ HELD)
+ran_or_held status (inl done) = inl done
+ran_or_held status (inr held) = inr (inr held)
+
+-- a fact of the scenario that was read
+pub of_text : (bytes : List ℕ) (scenario : ScenarioParts) (P : ScenarioParts → Type 0) → scenario_of bytes ≡ Ok scenario → P scenario → IsOkAnd (scenario_of bytes) P
+of_text bytes scenario P is p =
+    let Q : Read ScenarioParts → Type 0 = λ o. IsOkAnd o P in
+    subst Q (sym is) p

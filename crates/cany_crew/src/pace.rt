@@ -60,7 +60,7 @@ impl Pace {
         if !self.looking {
             return;
         }
-        if waited == Waited::Soon {
+        if let Waited::Soon = waited {
             self.soon = self.soon.saturating_add(1);
             return;
         }

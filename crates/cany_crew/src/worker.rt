@@ -61,7 +61,7 @@ fn take_turn<L: Course, B: Ledger, R: Wait>(
         if signals.finds_slot_beyond(counted) {
             continue;
         }
-        if signals.slots.wait_beyond(rt, counted) == Waited::InVain {
+        if let Waited::InVain = signals.slots.wait_beyond(rt, counted) {
             return None;
         }
     }
@@ -143,7 +143,7 @@ fn run_slot<L: Course, B: Ledger, R: Wait>(
         }
         if counted < signals.wanted() {
             let waited = signals.calls.wait_beyond(rt, called);
-            if waited == Waited::InVain && signals.turns() == counted {
+            if matches!(waited, Waited::InVain) && signals.turns() == counted {
                 return false;
             }
             pace.end_wait(signals, waited);

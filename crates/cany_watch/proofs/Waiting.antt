@@ -1,8 +1,9 @@
 -- The entries that wait to be published.
-use Rattle.std.proofs.Common.{◌≡◌, List, [], ◌∷◌, ◌++◌, Option, Some, None, fold, map, ap, sym, subst, ◌∙◌, append_assoc, ℕ}
+use Rattle.std.proofs.Common.{◌≡◌, List, [], ◌∷◌, ◌++◌, Option, Some, None, Result, Ok, Err, fold, map, refl, ap, sym, subst, ◌∙◌, append_assoc, ℕ}
 use Rattle.std.proofs.lemmas.List.{append-nil}
 use Rattle.std.proofs.lemmas.List.Sums.{fold-append}
 use Rattle.std.specs.Option.{IsSomeAnd}
+use Rattle.std.specs.Result.{MatchResult, result_err}
 use mathlib.Core.List.{IsPrefix}
 use Rattle.crossbeam_utils.specs.Register.{TurnsAt}
 use Rattle.cany_base.specs.declared.log_entry.LogEntry.{LogEntry}
@@ -10,7 +11,7 @@ use Rattle.cany_watch.specs.declared.published.Growth.{Growth}
 use Rattle.cany_watch.specs.declared.published.Published.{Published}
 use Rattle.cany_watch.specs.Notes.{NoteParts, Follows}
 use Rattle.cany_watch.specs.Shown.{State, Keeps, Shows, grown, state_of}
-use Rattle.cany_watch.specs.Publishers.{IsWriterOf}
+use Rattle.cany_watch.specs.Publishers.{IsWriterOf, held_list}
 use Rattle.cany_watch.proofs.Showing.{shows}
 
 pub some_map : {T : Type 0} (P Q : T → Type 0) (o : Option T) → ((x : T) → P x → Q x) → IsSomeAnd o P → IsSomeAnd o Q
@@ -57,3 +58,9 @@ now_shown taken value next waiting is after =
 -- an operation that the writer could not take waits as before
 pub waits_still : (taken : NoteParts) (value value' : Published) (waiting waiting' : List Growth) → value' ≡ value → waiting' ≡ waiting → IsWriterOf taken value waiting → IsWriterOf taken value' waiting'
 waits_still taken value value' waiting waiting' same still is = rw (same, still) is
+
+-- what waits at the writer, and the operation that came back from it, are what waited before
+pub waits_held : {U : Type 0} (taken : Result U Growth) (held : Growth) (before after : List Growth)
+    → MatchResult taken (λ _. after ≡ before ++ held ∷ []) (λ back. (back ≡ held) × (after ≡ before)) → after ++ held_list (result_err taken) ≡ before ++ held ∷ []
+waits_held (Ok done) held before after is = append-nil after ∙ is
+waits_held (Err back) held before after is = rw (is.0, is.1) refl

@@ -1,7 +1,8 @@
 -- A run whose steps a hall makes, and what is read of a line.
-use Rattle.std.proofs.Common.{◌≡◌, ℕ, ◌+◌, ◌-◌, ◌<◌, true, List, [], ◌∷◌, ◌++◌, length, map, take, drop, get_or, refl, ap, sym, subst, ◌∙◌, arith}
-use Rattle.std.specs.Prelude.{if◌then◌else◌}
+use Rattle.std.proofs.Common.{◌≡◌, ℕ, ◌+◌, ◌-◌, ◌<◌, true, List, [], ◌∷◌, ◌++◌, length, map, take, drop, get_or, Some, refl, ap, sym, subst, ◌∙◌, arith}
+use Rattle.std.specs.Prelude.{if◌then◌else◌, slice_get, slice_index_or}
 use Rattle.std.proofs.lemmas.List.{drop_more, take_more, take-append-drop, take-map}
+use Rattle.std.proofs.lemmas.Option.{slice_get_read}
 use mathlib.Core.List.{IsPrefix}
 use Rattle.cany_base.specs.Bounded.{Bounded}
 use Rattle.cany_base.specs.declared.actions.Action.{Action}
@@ -13,6 +14,9 @@ use Rattle.cany_model.specs.Bus.State.{opening}
 use Rattle.cany_model.specs.Runs.Run.{IsLegal, is_done, is_legal_from, reply, run}
 use Rattle.cany_model.proofs.Runs.Journals.{legal_next}
 use Rattle.cany_world.specs.World.{WorldParts, state_of}
+use Rattle.cany_watch.specs.Halls.{publisher_at}
+use Rattle.cany_watch.specs.Notes.{NoteParts}
+use Rattle.cany_watch.specs.Publishers.{PublisherParts, note_of}
 
 -- each step of a legal journal is done when it comes
 pub step_made : (first w w' : WorldParts) (steps : List Step) (i : ℕ) (made : Step) (r : StepReply) → IsLegal first.scenario steps → i < length steps → made ≡ get_or steps i made
@@ -44,3 +48,12 @@ line_read line told entered room old out is whole begins empty read =
     let items : out.items ≡ take (room - 0) (map Enter entered) =
     ap (λ (b : Bounded Action). b.items) read ∙ ap (λ (b : Bounded Action). b.items ++ take (b.room - length b.items) (map Enter entered)) empty in
     items ∙ ap (λ n. take n (map Enter entered)) e ∙ take-map Enter (length told) entered ∙ ap (map Enter) (prefix_taken told entered begins ∙ is)
+
+-- the reading of a node is of the book of its publisher
+pub book_of : (readings : List NoteParts) (publishers : List PublisherParts) (i node : ℕ) (reading : NoteParts) → i ≡ node → i < length readings → reading ≡ slice_index_or readings i reading
+    → slice_get readings node ≡ Some (note_of (publisher_at publishers node)) → reading.book ≡ (publisher_at publishers node).book
+book_of readings publishers i node reading at within is told =
+    let read : slice_get readings i ≡ Some reading = slice_get_read readings (length readings) i reading refl within is in
+    let same : Some reading ≡ Some (note_of (publisher_at publishers node)) = sym read ∙ ap (λ (k : ℕ). slice_get readings k) at ∙ told in
+    let e : reading ≡ note_of (publisher_at publishers node) = cc in
+    ap (λ (n : NoteParts). n.book) e

@@ -20,13 +20,22 @@ use std::marker::Model;
 use std::sync::Wait;
 
 /// Whether the line of each node is published whole.
-#[derive(Clone, Copy, PartialEq, Eq)]
+#[derive(Clone, Copy)]
 pub enum Shown {
     /// The published list of every node is its line.
     All,
     /// Memory was wanting: of some nodes a beginning of the line is published, and the next step
     /// tries again.
     Memory,
+}
+
+impl Shown {
+    /// By whether the line of each node was published.
+    fn of(is_all: bool) -> Shown
+        ensures { result ≡ shown.All → is_all ≡ true }
+    {
+        if is_all { Shown::All } else { Shown::Memory }
+    }
 }
 
 /// A world, and what is published of it. Readers in other threads read the line of a node, which is
@@ -101,10 +110,8 @@ impl Hall {
         ensures books { (i : ℕ) → (publisher_at self.new.publishers i).book ≡ (publisher_at self.old.publishers i).book }
     {
         let reply = self.world.step(step);
-        if publish_lines(rt, &self.world, &mut self.publishers) {
-            return (reply, Shown::All);
-        }
-        (reply, Shown::Memory)
+        let is_all = publish_lines(rt, &self.world, &mut self.publishers);
+        (reply, Shown::of(is_all))
     }
 
     /// A note of the list that is published for a node. It takes no memory.

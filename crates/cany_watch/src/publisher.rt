@@ -148,9 +148,7 @@ impl Publisher {
         let Some(writer) = &mut self.writer else {
             unreachable!()
         };
-        if let Err(held) = writer.append(held) {
-            self.held = Some(held);
-        }
+        self.held = writer.append(held).err();
     }
 
     /// Takes an entry, which readers do not see yet, or does not take it.

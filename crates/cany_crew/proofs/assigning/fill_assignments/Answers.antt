@@ -1,6 +1,6 @@
-use Rattle.std.proofs.Common.{◌≡◌, length, refl, ap, ◌∙◌, arith, vec_len}
+use Rattle.std.proofs.Common.{◌≡◌, length, refl, sym, ap, ◌∙◌, arith, vec_len}
 use Rattle.cany_crew.specs.Assignment.{AssignmentParts}
-use Rattle.cany_crew.proofs.AssignmentFacts.{filled_next, filled_none, first_seats}
+use Rattle.cany_crew.proofs.AssignmentFacts.{filled_next, filled_none, first_seats, next_seat}
 use Rattle.cany_crew.proofs.assigning.fill_assignments.Goals as goal
 
 pub loop-i-init : goal.loop-i-init
@@ -48,3 +48,10 @@ returns-clause-bus g c = c.loop-i.invariant.5.with_bus
 
 pub returns-clause-order : goal.returns-clause-order
 returns-clause-order g c = c.loop-i.invariant.5.order
+
+pub new-requires-after_bounds : goal.new-requires-after_bounds
+new-requires-after_bounds g c κs within =
+    let left = c.loop-i.invariant.0 in
+    let below = c.loop-i-test.true in
+    next_seat g.G.Gate.refusals c.loop-i.i c.loop-i.assignments.items c.loop-i.gates.items c.args.gates.now.items c.loop-i.seats.items c.remove-seat.new.self.items c.remove-seat.result
+    c.loop-i.invariant.5 (omega arith) c.remove-seat.ensures.value c.remove-seat.ensures.items ∙ sym c.of_index.ensures

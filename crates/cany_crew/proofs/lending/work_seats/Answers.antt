@@ -56,3 +56,18 @@ pub returns-clause-node : goal.returns-clause-node
 returns-clause-node g c =
     held_within c.fill_assignments.new.assignments.items c.work_all.new.assignments.items c.first_refused-held.result _ c.fill_assignments.ensures.order
     c.work_all.ensures c.fill_assignments.ensures.count (c.first_refused-held.ensures ∙ ap first_refused c.as_slice.ensures.value)
+
+pub fill_assignments-requires-clause-empty : goal.fill_assignments-requires-clause-empty
+fill_assignments-requires-clause-empty g c κs within = c.requires.empty.0
+
+pub fill_assignments-requires-clause-room : goal.fill_assignments-requires-clause-room
+fill_assignments-requires-clause-room g c κs within = c.requires.room.0
+
+pub fill_assignments-requires-clause-seats : goal.fill_assignments-requires-clause-seats
+fill_assignments-requires-clause-seats g c κs within = c.requires.seats
+
+pub fill_assignments-requires-clause-nodes : goal.fill_assignments-requires-clause-nodes
+fill_assignments-requires-clause-nodes g c κs within = c.requires.nodes
+
+pub fill_assignments-requires-clause-gates : goal.fill_assignments-requires-clause-gates
+fill_assignments-requires-clause-gates g c κs within = c.requires.gates

@@ -1,4 +1,4 @@
-use Rattle.std.proofs.Common.{inl, inr, arith}
+use Rattle.std.proofs.Common.{refl, inl, inr, arith}
 use Rattle.cany_command.specs.Promises.{PromisesHold}
 use Rattle.cany_crew.proofs.top.report_ending.Given as given
 use Rattle.cany_crew.proofs.top.report_ending.Goals as goal
@@ -49,3 +49,36 @@ returns-in-Some-clause-passed g c = λ done. absurd (omega (arith, done))
 
 pub returns-in-Err-clause-held : goal.returns-in-Err-clause-held
 returns-in-Err-clause-held g c = λ held. absurd (omega (arith, held))
+
+pub returns-in-None-clause-write_fault : goal.returns-in-None-clause-write_fault
+returns-in-None-clause-write_fault g c = c.report_run.ensures.write_fault
+
+pub returns-in-Some-clause-write_fault : goal.returns-in-Some-clause-write_fault
+returns-in-Some-clause-write_fault g c = λ failed. absurd (omega (arith, failed))
+
+pub returns-in-Some-clause-start : goal.returns-in-Some-clause-start
+returns-in-Some-clause-start g c = λ failed. absurd (omega (arith, failed))
+
+pub returns-in-Some-clause-untouched : goal.returns-in-Some-clause-untouched
+returns-in-Some-clause-untouched g c = λ none. refl
+
+pub returns-in-Some-clause-status : goal.returns-in-Some-clause-status
+returns-in-Some-clause-status g c = inr (inr (inr refl))
+
+pub returns-in-Err-clause-done : goal.returns-in-Err-clause-done
+returns-in-Err-clause-done g c = λ done. absurd (omega (arith, done))
+
+pub returns-in-Err-clause-passed : goal.returns-in-Err-clause-passed
+returns-in-Err-clause-passed g c = λ done. absurd (omega (arith, done))
+
+pub returns-in-Err-clause-write_fault : goal.returns-in-Err-clause-write_fault
+returns-in-Err-clause-write_fault g c = λ failed. absurd (omega (arith, failed))
+
+pub returns-in-Err-clause-start : goal.returns-in-Err-clause-start
+returns-in-Err-clause-start g c = λ failed. absurd (omega (arith, failed))
+
+pub returns-in-Err-clause-untouched : goal.returns-in-Err-clause-untouched
+returns-in-Err-clause-untouched g c = λ none. refl
+
+pub returns-in-Err-clause-status : goal.returns-in-Err-clause-status
+returns-in-Err-clause-status g c = inr (inr (inl refl))

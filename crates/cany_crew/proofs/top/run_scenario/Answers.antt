@@ -1,8 +1,8 @@
-use Rattle.std.proofs.Common.{map, ap, subst, ◌∙◌}
+use Rattle.std.proofs.Common.{map, refl, ap, subst, ◌∙◌, inl, inr, arith}
 use Rattle.cany_base.specs.Scenario.{ScenarioParts}
 use Rattle.cany_world.specs.World.{WorldParts}
 use Rattle.cany_crew.specs.Top.{IsCrewRun, TakesReportStart}
-use Rattle.cany_crew.proofs.GateFacts.{all_passed, any_refused}
+use Rattle.cany_crew.proofs.GateFacts.{all_passed, any_refused, none_fell}
 use Rattle.cany_crew.proofs.top.run_scenario.Goals as goal
 
 pub returns-clause-done : goal.returns-clause-done
@@ -24,3 +24,34 @@ pub returns-clause-held : goal.returns-clause-held
 returns-clause-held g c = λ held.
     any_refused (map g.G.Gate.refusals c.args.gates.now.items) (map g.G.Gate.refusals c.run_crew-world.new.gates.items) c.run_crew-world.result.1
     (c.report_ending.ensures.held held) c.run_crew-world.ensures.outcome
+
+pub returns-clause-count : goal.returns-clause-count
+returns-clause-count g c = c.run_crew-world.ensures.fell
+
+pub returns-clause-write_fault : goal.returns-clause-write_fault
+returns-clause-write_fault g c = c.report_ending.ensures.write_fault
+
+pub returns-clause-untouched : goal.returns-clause-untouched
+returns-clause-untouched g c = c.report_ending.ensures.untouched
+
+pub returns-clause-status : goal.returns-clause-status
+returns-clause-status g c = c.report_ending.ensures.status
+
+-- there is no memory for the world
+pub returns-in_default : goal.returns-in_default
+returns-in_default g c = record {
+  done = λ is. absurd (omega (arith, is));
+  passed = λ is. refl;
+  held = λ is. absurd (omega (arith, is));
+  count = none_fell _ _ refl;
+  write_fault = λ is. absurd (omega (arith, is));
+  start = λ is. absurd (omega (arith, is));
+  untouched = λ none. refl;
+  status = inr (inr (inl refl));
+}
+
+pub run_crew-world-requires-clause-fresh : goal.run_crew-world-requires-clause-fresh
+run_crew-world-requires-clause-fresh g c κs within = ap (λ (w : WorldParts). w.journal) c.in-Ok.ensures
+
+pub report_ending-requires-clause-ended : goal.report_ending-requires-clause-ended
+report_ending-requires-clause-ended g c = c.run_crew-world.ensures.ended

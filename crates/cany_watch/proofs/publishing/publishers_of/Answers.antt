@@ -1,4 +1,5 @@
 use Rattle.std.proofs.Common.{◌≡◌, List, ap, subst, sym, ◌∙◌, ◌+◌, ◌++◌, ◌∷◌, []}
+use Rattle.std.proofs.lemmas.Result.{err_from_is_err_and}
 use Rattle.cany_watch.specs.Halls.{AreFirst}
 use Rattle.cany_watch.specs.Notes.{NoteParts}
 use Rattle.cany_watch.specs.Publishers.{PublisherParts, note_of}
@@ -15,3 +16,11 @@ loop-preserved g c =
       publishers = rw c.push_reserved.ensures.capacity c.loop.invariant.publishers;
       readings = rw c.push_reserved-in-Ok.ensures.capacity c.loop.invariant.readings;
     }
+
+pub returns-in_err-readings : goal.returns-in_err-readings
+returns-in_err-readings g c = let p = err_from_is_err_and c.from_residual.result c.from_residual.ensures.1 in rw p.1 tt
+
+pub returns-in_err-publishers : goal.returns-in_err-publishers
+returns-in_err-publishers g c =
+    let p = err_from_is_err_and c.from_residual-in_err-publishers.result c.from_residual-in_err-publishers.ensures.1 in
+    rw p.1 tt

@@ -1,4 +1,5 @@
 use Rattle.std.proofs.Common.{◌≡◌, ℕ, List, ap, subst, sym, ◌∙◌, arith, slice_get, Some}
+use Rattle.std.proofs.lemmas.Result.{err_from_is_err_and}
 use Rattle.cany_base.specs.Params.{Parameters}
 use Rattle.cany_watch.specs.Halls.{AreFirst, publisher_at}
 use Rattle.cany_watch.specs.Lines.{nodes_of}
@@ -25,3 +26,8 @@ returns-in-Ok-clause-world g c = c.in-Ok.ensures
 
 pub returns-in-Ok-clause-nothing : goal.returns-in-Ok-clause-nothing
 returns-in-Ok-clause-nothing g c = λ i. (c.in_ok-publishers.ensures.empty i).0
+
+pub returns-in_err-publishers : goal.returns-in_err-publishers
+returns-in_err-publishers g c =
+    let p = err_from_is_err_and c.from_residual.result c.from_residual.ensures.1 in
+    rw p.1 (record { world = tt; nothing = tt; count = tt; readings = tt })
