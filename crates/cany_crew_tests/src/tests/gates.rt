@@ -28,29 +28,36 @@ impl Gate for Closed {
     }
 }
 
-/// Such a gate for each of three nodes.
+/// How many nodes the run has.
+const NODES: usize = 3;
+
+/// Such a gate for each of its nodes.
 fn closed_gates(alloc: Global) -> Result<Vec<Closed>, AllocError>
     ensures { IfOk result (λ gates. vec_len gates ≡ 3) }
 {
     let mut gates = Vec::new(alloc);
-    for _ in 0..3 {
+    for _ in 0..NODES {
         gates.push(Closed { refusals: 0 })?;
     }
     Ok(gates)
 }
 
-/// The number of the node and the slot at which a run is held.
-fn held_at(run: Result<World, CrewFault>) -> Option<(u8, Slot)> {
+/// The world of a run, and where the run is held.
+fn parts_of(run: Result<World, CrewFault>) -> (World, Option<(NodeId, Slot)>) {
     match run {
-        Err(
-            CrewFault::Held {
-                world: _,
-                node,
-                slot,
-            },
-        ) => Some((node.get(), slot)),
-        _ => None,
+        Ok(world) => (world, None),
+        Err(CrewFault::Held { world, node, slot }) => (world, Some((node, slot))),
+        Err(CrewFault::Memory { world }) => (world, None),
     }
+}
+
+/// The number of the node and the slot at which a run is held. The world is let go apart from the
+/// rest: that is cheap to prove.
+fn held_at(run: Result<World, CrewFault>) -> Option<(u8, Slot)> {
+    let (world, place) = parts_of(run);
+    drop(world);
+    let (node, slot) = place?;
+    Some((node.get(), slot))
 }
 
 /// Where a run of three nodes is held.
