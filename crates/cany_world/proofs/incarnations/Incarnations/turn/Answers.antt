@@ -1,10 +1,12 @@
-use Rattle.std.proofs.Common.{◌≡◌, List, get_or, refl, ap, sym, subst, ◌∙◌}
+use Rattle.std.proofs.Common.{◌≡◌, List, length, get_or, refl, ap, sym, subst, ◌∙◌}
 use Rattle.std.specs.Prelude.{slice_get, Some}
+use Rattle.std.proofs.lemmas.List.{length-set}
 use Rattle.cany_node.specs.Node.{NodeParts, CanTurn, IsRefused, IsTurnOf, Reads}
 use Rattle.cany_world.specs.Incarnations.{IncarnationsParts}
 use Rattle.cany_world.specs.IncarnationsFields.{incarnations_parts}
 use Rattle.cany_world.proofs.NodeFacts.{left_by, turned_by}
 use Rattle.cany_world.proofs.PlaceFacts.{one_written, read_at}
+use Rattle.cany_world.proofs.SoundFacts.{still_sound}
 use Rattle.cany_world.proofs.incarnations.Incarnations.turn.Goals as goal
 
 pub returns-clause-turn : goal.returns-clause-turn
@@ -39,3 +41,12 @@ returns-clause-refused c =
     refl refl
     (subst (λ (l : List NodeParts). IsRefused c.turn.result (get_or l c.self.inside.present c.index-nodes-self.result) c.turn.new.self c.args.ctl.now c.turn.new.ctl)
     c.as_mut_slice-nodes.ensures.value c.turn.ensures.refused)
+
+pub invariant_of-self : goal.invariant_of-self
+invariant_of-self c =
+    still_sound c.self.inside _ c.self.invariant c.self.invariant.within
+    (ap (λ (l : List NodeParts). length l)
+    (one_written c.self.inside.nodes.items c.as_mut_slice-nodes.result.now _ c.self.inside.nodes.len c.self.inside.present c.turn.new.self
+    c.as_mut_slice-nodes.ensures.value c.as_mut_slice-nodes.ensures.len)
+    ∙ length-set c.self.inside.nodes.items c.self.inside.present c.turn.new.self)
+    refl
