@@ -1,12 +1,11 @@
-use Rattle.std.proofs.Common.{◌≡◌, ◌+◌, List, length, refl, ap, sym, subst, ◌∙◌}
+use Rattle.std.proofs.Common.{◌≡◌, ◌+◌, refl, ap, sym, subst, ◌∙◌}
 use Rattle.std.specs.Prelude.{slice_get, Some}
-use Rattle.std.proofs.lemmas.List.{length-set}
 use Rattle.cany_node.specs.Node.{NodeParts}
 use Rattle.cany_world.specs.Incarnations.{IncarnationsParts}
 use Rattle.cany_world.specs.IncarnationsFields.{incarnations_parts}
 use Rattle.cany_world.proofs.Idle.PassFacts.{rested_by}
 use Rattle.cany_world.proofs.PlaceFacts.{one_written, read_at}
-use Rattle.cany_world.proofs.SoundFacts.{still_sound}
+use Rattle.cany_world.proofs.SoundFacts.{sound_where_written}
 use Rattle.cany_world.proofs.incarnations.Incarnations.rest.Goals as goal
 
 pub returns : goal.returns
@@ -23,9 +22,5 @@ returns c it at =
 
 pub invariant_of-self : goal.invariant_of-self
 invariant_of-self c =
-    still_sound c.self.inside _ c.self.invariant c.self.invariant.within
-    (ap (λ (l : List NodeParts). length l)
-    (one_written c.self.inside.nodes.items c.as_mut_slice-nodes.result.now _ c.self.inside.nodes.len c.self.inside.present c.rest.new.self
-    c.as_mut_slice-nodes.ensures.value c.as_mut_slice-nodes.ensures.len)
-    ∙ length-set c.self.inside.nodes.items c.self.inside.present c.rest.new.self)
-    refl
+    sound_where_written c.self.inside _ c.self.invariant c.as_mut_slice-nodes.result.now _ c.rest.new.self c.as_mut_slice-nodes.ensures.value
+    c.as_mut_slice-nodes.ensures.len refl refl refl
