@@ -18,6 +18,7 @@ pub mod RestartsOneByOne
 pub mod RoundFacts
 pub mod SettledFacts
 pub mod SlotFacts
+pub mod SoundFacts
 pub mod SpansAndLogs
 pub mod StepFacts
 pub mod TurnFacts

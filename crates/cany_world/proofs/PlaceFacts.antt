@@ -2,8 +2,9 @@
 use Rattle.std.proofs.Common.{◌≡◌, ◌≢◌, ℕ, zero, suc, ◌+◌, ◌<◌, ◌⊎◌, inl, inr, List, [], ◌∷◌, ◌++◌, length, get_or, take, refl, ap, sym, subst, ◌∙◌, arith}
 use Rattle.std.specs.Prelude.{Some, slice_get, slice_set}
 use Rattle.std.proofs.lemmas.List.{length-append, length-set, set-get_or, take-append-le, take_all}
-use Rattle.std.proofs.lemmas.Option.{get_or_from_slice_get, slice_get-get_or, slice_get_read}
+use Rattle.std.proofs.lemmas.Option.{get_or_from_slice_get, slice_get-get_or, slice_get_read, slice_get_within}
 use Rattle.cany_world.specs.Places.{AreOfNodes}
+use Rattle.cany_world.specs.World.{WorldParts}
 
 -- ---- what stands in a list
 
@@ -94,3 +95,22 @@ one_changed Was Is count xs i y so here others = record {
     | inr other ↦ others j x other.0 (so.each j x other.1)
   ];
 }
+
+-- where what stands at each place is known
+pub one_each : {X : Type 0} (Is : ℕ → X → Type 0) (count : ℕ) (xs : List X) → length xs ≡ count
+    → ((i : ℕ) → i < count → (x : X) × (slice_get xs i ≡ Some x) × Is i x) → AreOfNodes Is count xs
+one_each Is count xs whole all = record {
+  whole = whole;
+  each = λ i x at.
+      let here = all i (omega (arith, slice_get_within xs i x at, whole)) in
+      let some : Some here.0 ≡ Some x = sym here.1 ∙ at in
+      let same : here.0 ≡ x = cc in
+      subst (Is i) same here.2;
+}
+
+-- what was read through a slice of those of a world
+pub read_of_node : {X : Type 0} (Is : WorldParts → ℕ → X → Type 0) (u w : WorldParts) → u ≡ w → (xs ys : List X) → ys ≡ xs → AreOfNodes (Is u) u.scenario.params.nodes xs
+    → (i j : ℕ) → j ≡ i → i < w.scenario.params.nodes → (x : X) → x ≡ get_or ys j x → Is w i x
+read_of_node Is u w same xs ys value are i j at within x is =
+    let here : i < length xs = omega (arith, within, are.whole, ap (λ (v : WorldParts). v.scenario.params.nodes) same) in
+    subst (λ (v : WorldParts). Is v i x) same (are.each i x (found xs ys i j x value at here is))

@@ -1,9 +1,9 @@
 -- The restarts at the end of a slot keep the controllers and the nodes of a world those of the run.
-use Rattle.std.proofs.Common.{◌≡◌, ℕ, ◌+◌, ◌-◌, ◌<◌, ◌≤◌, ◌&&◌, Bool, true, false, not, List, length, refl, ap, sym, ◌∙◌, subst, arith}
+use Rattle.std.proofs.Common.{◌≡◌, ℕ, ◌+◌, ◌-◌, ◌<◌, ◌≤◌, ◌&&◌, Bool, true, false, not, List, length, get_or, refl, ap, sym, ◌∙◌, subst, arith}
 use Rattle.std.specs.Prelude.{MatchBool, is_none, if◌then◌else◌, slice_get, slice_set, Option, Some, None}
 use Rattle.std.proofs.lemmas.Bool.{and_parts, false≢true, not-true}
 use Rattle.std.proofs.lemmas.List.{length-set}
-use Rattle.std.proofs.lemmas.Option.{slice_get_within}
+use Rattle.std.proofs.lemmas.Option.{slice_get-get_or, slice_get_within}
 use Rattle.cany_base.specs.declared.message.NodeAsk.{NodeAsk}
 use Rattle.cany_base.specs.declared.slot_note.SlotNote.{SlotNote}
 use Rattle.cany_base.specs.declared.step.Step.{Step}
@@ -133,21 +133,33 @@ restarted_none restarts slot row nodes = record { row_length = refl; nodes_lengt
 
 -- the controller and the node at a place of such lists
 module _ (restarts : List NodeAsk) (slot i : ℕ) (row row' : List ControllerState) (nodes nodes' : List IncarnationsParts) (to : IsRestartedTo restarts slot i row row' nodes nodes')
-    (c : ControllerState) (v : IncarnationsParts) (at : slice_get row' i ≡ Some c) (at_node : slice_get nodes' i ≡ Some v) where
+    (can : CanRestartAll restarts slot row nodes) (here : i < length row') (d : ControllerState) (e : IncarnationsParts) where
+  abbrev c : ControllerState
+  c = get_or row' i d
+
+  abbrev v : IncarnationsParts
+  v = get_or nodes' i e
+
+  at : slice_get row' i ≡ Some c
+  at = slice_get-get_or row' i d here
+
+  at_node : slice_get nodes' i ≡ Some v
+  at_node = slice_get-get_or nodes' i e (omega (arith, here, to.row_length, to.nodes_length, can.controllers.whole, can.nodes.whole))
+
   module _ (scenario : ScenarioParts) (journal : List Step) (same : restarts ≡ scenario.restarts) (now : slot ≡ slots_run (run scenario journal)) (within : slot < scenario.params.slots)
       (a : AreControllersOf scenario (after_slot (script scenario.rules) (run scenario journal)) row)
       (b : AreNodesOf scenario (after_slot (script scenario.rules) (run scenario journal)) nodes) where
     abbrev s : RunState
     s = after_slot (script scenario.rules) (run scenario journal)
 
-    here : IsAtEnd scenario s slot
-    here = at_end scenario journal slot now within
+    ends : IsAtEnd scenario s slot
+    ends = at_end scenario journal slot now within
 
     mid : AreControllersOf scenario (partly scenario s i) row' × AreNodesOf scenario (partly scenario s i) nodes'
     mid = to.stand scenario journal same now within a b
 
     below : i < length s.nodes
-    below = omega (arith, slice_get_within row' i c at, to.row_length, a.whole, here.orderly.count)
+    below = omega (arith, slice_get_within row' i c at, to.row_length, a.whole, ends.orderly.count)
 
     ctl : IsKeptAs scenario s.trace i (node_at s.nodes i) c
     ctl = subst (λ (n : NodeState). IsKeptAs scenario s.trace i n c) (partly_here scenario s i) (mid.0.each i c at)
@@ -156,12 +168,12 @@ module _ (restarts : List NodeAsk) (slot i : ℕ) (row row' : List ControllerSta
     kept = subst (λ (n : NodeState). IsKeptAt scenario s.trace i n v) (partly_here scenario s i) (mid.1.each i v at_node)
 
     may_start_of : starts restarts slot i c ≡ true → MayStart slot c v
-    may_start_of = may_start scenario s slot here restarts same i below c v ctl kept
+    may_start_of = may_start scenario s slot ends restarts same i below c v ctl kept
 
     next_of : (c' : ControllerState) (v' : IncarnationsParts) → IsAfterEntries (starts restarts slot i c) slot c c' v v'
         → AreControllersOf scenario (partly scenario s (i + 1)) (slice_set row' i c') × AreNodesOf scenario (partly scenario s (i + 1)) (slice_set nodes' i v')
     next_of c' v' after =
-        let both = entries_kept scenario s slot here restarts same i below c v ctl kept c' v' after in (
+        let both = entries_kept scenario s slot ends restarts same i below c v ctl kept c' v' after in (
           one_changed (λ j z. IsKeptAs scenario s.trace j (node_at (partly scenario s i).nodes j) z) (λ j z. IsKeptAs scenario s.trace j (node_at (partly scenario s (i + 1)).nodes j) z)
               scenario.params.nodes row' i c' mid.0 (subst (λ (n : NodeState). IsKeptAs scenario s.trace i n c') (sym (partly_next scenario s i below)) both.0)
               (λ j z other h. subst (λ (n : NodeState). IsKeptAs scenario s.trace j n z) (sym (partly_other scenario s i j other)) h),
@@ -170,15 +182,18 @@ module _ (restarts : List NodeAsk) (slot i : ℕ) (row row' : List ControllerSta
               (λ j z other h. subst (λ (n : NodeState). IsKeptAt scenario s.trace j n z) (sym (partly_other scenario s i j other)) h),
         )
 
-  pub may_start_here : CanRestartAll restarts slot row nodes → starts restarts slot i c ≡ true → MayStart slot c v
-  may_start_here can = may_start_of can.scenario can.journal can.same can.now can.within can.controllers can.nodes
+  pub may_start_here : {k : ℕ} → k ≡ i → starts restarts slot k (get_or row' i d) ≡ true → MayStart slot (get_or row' i d) (get_or nodes' i e)
+  may_start_here at_place begins =
+      may_start_of can.scenario can.journal can.same can.now can.within can.controllers can.nodes (ap (λ n. starts restarts slot n c) (sym at_place) ∙ begins)
 
-  pub restarted_more : (c' : ControllerState) (v' : IncarnationsParts) → IsAfterEntries (starts restarts slot i c) slot c c' v v'
+  pub restarted_more : {k : ℕ} → k ≡ i → (c' : ControllerState) (v' : IncarnationsParts)
+      → IsAfterEntries (starts restarts slot k (get_or row' i d)) slot (get_or row' i d) c' (get_or nodes' i e) v'
       → IsRestartedTo restarts slot (i + 1) row (slice_set row' i c') nodes (slice_set nodes' i v')
-  restarted_more c' v' after = record {
+  restarted_more at_place c' v' after = record {
     row_length = length-set row' i c' ∙ to.row_length;
     nodes_length = length-set nodes' i v' ∙ to.nodes_length;
-    stand = λ scenario journal same now within a b. next_of scenario journal same now within a b c' v' after;
+    stand = λ scenario journal same now within a b. next_of scenario journal same now within a b c' v'
+        (subst (λ n. IsAfterEntries (starts restarts slot n c) slot c c' v v') at_place after);
   }
 
 pub restarted_whole : (restarts : List NodeAsk) (slot i : ℕ) (row row' : List ControllerState) (nodes nodes' : List IncarnationsParts) → IsRestartedTo restarts slot i row row' nodes nodes'

@@ -33,7 +33,9 @@ use Rattle.cany_world.specs.Controllers.{HaveFormat, IsSmallKey, awaits, has_rea
 use Rattle.cany_world.specs.Kept.{AreControllersOf, AreNodesOf, IsKeptAs, IsKeptAt, IsPresentAt, heard_of, past_of}
 use Rattle.cany_world.specs.Resting.{HaveNothingToDo}
 use Rattle.cany_world.specs.Settled.{FinishedParts, IsAbout, IsFinished, is_asked, is_finished, is_queued, has_ahead}
-use Rattle.cany_world.specs.World.{WorldParts}
+use Rattle.cany_world.specs.declared.world.World.TheInside.{Inside}
+use Rattle.cany_world.specs.World.{WorldParts, state_of}
+use Rattle.cany_world.specs.WorldFields.{IsRun, world_parts}
 use Rattle.cany_world.proofs.AlikeFacts.{all_read_same, awaited_same}
 use Rattle.cany_world.proofs.PlaceFacts.{found}
 use Rattle.cany_world.proofs.QuietFacts.{quiet_where_none_has_anything_to_do}
@@ -128,11 +130,16 @@ pub is_running : (o : Option ℕ) (b : Bool) → is_some o ≡ not b → b ≡ t
 is_running None b e h = refl
 is_running (Some slot) b e h = absurd (true≢false (rw h at e))
 
--- the three ways in which the origin is done with its message
-pub any_of_three : (scenario : ScenarioParts) (s : RunState) (m : Message) (c : ControllerState) (asked late : Bool) → IsKeptAs scenario s.trace m.origin (node_at s.nodes m.origin) c
-    → asked ≡ origin_has_asked scenario s m → late ≡ came_too_late s m → (asked || is_some c.stopped || late) ≡ is_asked scenario s m
-any_of_three scenario s m c asked late ctl a b =
-    rw (a, b, ctl.stopped) (ap (λ x. origin_has_asked scenario s m || x || came_too_late s m) (stopped (node_at s.nodes m.origin).stopped))
+-- the three ways in which the origin is done with its message: it has asked for it, has stopped, or came too late for it
+pub done_by_three : (scenario : ScenarioParts) (s : RunState) (m : Message) (key : MsgKey) (c : ControllerState) (v : IncarnationsParts) (it : NodeParts) (asked : Bool)
+    → IsKeptAs scenario s.trace m.origin (node_at s.nodes m.origin) c → IsKeptAt scenario s.trace m.origin (node_at s.nodes m.origin) v → slice_get v.nodes v.present ≡ Some it
+    → Contains (messages_of scenario.sends) m → message_key m ≡ key
+    → ((follows : ScenarioParts) (past : List NoticeKind) → IsNodeOf follows past it → (x : Message) → Contains (messages_of follows.sends) x → message_key x ≡ key
+    → x.origin ≡ it.node → asked ≡ has_asked follows x it.node past)
+    → (asked || is_some c.stopped || came_too_late s m) ≡ is_asked scenario s m
+done_by_three scenario s m key c v it asked ctl kept at stands named law =
+    rw (asked_is scenario s m.origin m key v it kept at named stands asked refl law, ctl.stopped)
+    (ap (λ x. origin_has_asked scenario s m || x || came_too_late s m) (stopped (node_at s.nodes m.origin).stopped))
   where
     stopped : (o : Option ℕ) → is_some o ≡ not (is_none o)
     stopped None = refl
@@ -257,33 +264,36 @@ told_of_send u w viewed index send key Holds it holds =
     subst (λ (x : WorldParts). IsSomeAnd (slice_get (messages_of x.scenario.sends) index) (Holds x)) viewed
     (subst (λ (o : Option Message). IsSomeAnd o (Holds u)) (sym it.at) holds)
 
--- what was read of its controllers and its nodes is about it
-module _ (scenario : ScenarioParts) (journal : List Step) (row row_read : List ControllerState) (controllers : AreControllersOf scenario (run scenario journal) row)
-    (same_row : row_read ≡ row) where
-  pub origin_within : (index : ℕ) (send : SendAsk) (key : MsgKey) → HasMessage scenario index send key → key.origin < length row_read
-  origin_within index send key it = omega (arith, it.node, ap (λ (t : List ControllerState). length t) same_row, controllers.whole)
+-- what was read of the controllers and the nodes of a world
+module _ (w : Inside) (is : IsRun w) where
+  module _ (row : List ControllerState) (same_row : row ≡ w.controllers.items) where
+    pub origin_within : (index : ℕ) (send : SendAsk) (key : MsgKey) → HasMessage w.scenario index send key → key.origin < length row
+    origin_within index send key it = omega (arith, it.node, ap (λ (t : List ControllerState). length t) same_row, is.stands.controllers.whole)
 
-  pub few_read : IsLegalScenario scenario → length row_read ≤ most_nodes
-  few_read legal =
-      omega (arith, ap (λ (t : List ControllerState). length t) same_row, controllers.whole, few_nodes scenario.params legal.in_range)
+    pub few_read : length row ≤ most_nodes
+    few_read = omega (arith, ap (λ (t : List ControllerState). length t) same_row, is.stands.controllers.whole, few_nodes w.scenario.params is.legal.in_range)
 
-  pub have_format : (params : Parameters) → params ≡ scenario.params → HaveFormat params.format row_read
-  have_format params same i x at =
-      ap (λ (p : Parameters). p.format)
-      ((controllers.each i x (subst (λ (t : List ControllerState). slice_get t i ≡ Some x) same_row at)).params ∙ sym same)
+    pub have_format : (params : Parameters) → params ≡ w.scenario.params → HaveFormat params.format row
+    have_format params same i x at =
+        ap (λ (p : Parameters). p.format)
+        ((is.stands.controllers.each i x (subst (λ (t : List ControllerState). slice_get t i ≡ Some x) same_row at)).params ∙ sym same)
 
-  module _ (kept kept_read : List IncarnationsParts) (nodes : AreNodesOf scenario (run scenario journal) kept) (same_kept : kept_read ≡ kept) where
-    pub same_count : length row_read ≡ length kept_read
-    same_count =
-        ap (λ (t : List ControllerState). length t) same_row ∙ controllers.whole ∙ sym nodes.whole ∙ sym (ap (λ (t : List IncarnationsParts). length t) same_kept)
+    pub controllers_read : AreControllersOf w.scenario (state_of (world_parts w)) row
+    controllers_read = subst (AreControllersOf w.scenario (state_of (world_parts w))) (sym same_row) is.stands.controllers
 
-    pub about : (m : Message) (key : MsgKey) → Contains (messages_of scenario.sends) m → message_key m ≡ key → IsAbout scenario journal m key row_read kept_read
-    about m key stands named = record {
-      controllers = subst (AreControllersOf scenario (run scenario journal)) (sym same_row) controllers;
-      nodes = subst (AreNodesOf scenario (run scenario journal)) (sym same_kept) nodes;
-      stands = stands;
-      key = named;
-    }
+    module _ (kept : List IncarnationsParts) (same_kept : kept ≡ w.nodes.items) where
+      pub same_count : length row ≡ length kept
+      same_count =
+          ap (λ (t : List ControllerState). length t) same_row ∙ is.stands.controllers.whole ∙ sym is.stands.nodes.whole
+          ∙ sym (ap (λ (t : List IncarnationsParts). length t) same_kept)
+
+      pub about : (m : Message) (key : MsgKey) → Contains (messages_of w.scenario.sends) m → message_key m ≡ key → IsAbout w.scenario w.journal.items m key row kept
+      about m key stands named = record {
+        controllers = controllers_read;
+        nodes = subst (AreNodesOf w.scenario (state_of (world_parts w))) (sym same_kept) is.stands.nodes;
+        stands = stands;
+        key = named;
+      }
 
 -- ---- of which services nothing more is to come
 

@@ -56,6 +56,7 @@ use Rattle.cany_world.proofs.ControllerFacts.{IsOldest, oldest, kept_turn}
 use Rattle.cany_world.proofs.HeardFacts.{heard-followed}
 use Rattle.cany_world.proofs.InOrder.{AllInOrder, in_order, turn_same}
 use Rattle.cany_world.proofs.NodeFacts.{kept_turned}
+use Rattle.cany_world.specs.Places.{AreOfNodes}
 use Rattle.cany_world.proofs.PlaceFacts.{one_changed, set_same}
 
 -- ---- the reply
@@ -370,25 +371,16 @@ turned_one scenario journal i v v' c c' notice legal within kept node running fi
     past = heard_of i s.trace (node_at s.nodes i)
 
 -- those of the other nodes are as they were
-controllers_turn : (scenario : ScenarioParts) (s : RunState) (i : ℕ) (controllers : List ControllerState) (c : ControllerState)
-    → AreControllersOf scenario s controllers → IsKeptAs scenario (after_turn scenario i s).trace i (node_at (after_turn scenario i s).nodes i) c
-    → AreControllersOf scenario (after_turn scenario i s) (slice_set controllers i c)
-controllers_turn scenario s i controllers c kept here =
-    one_changed (λ j z. IsKeptAs scenario s.trace j (node_at s.nodes j) z) (λ j z. IsKeptAs scenario (after_turn scenario i s).trace j (node_at (after_turn scenario i s).nodes j) z)
-    scenario.params.nodes controllers i c kept here
+others_turn : {X : Type 0} (Is : List SlotNote → ℕ → NodeState → X → Type 0) (scenario : ScenarioParts) (s : RunState) (i : ℕ) (xs : List X) (x : X)
+    → AreOfNodes (λ j z. Is s.trace j (node_at s.nodes j) z) scenario.params.nodes xs
+    → Is (after_turn scenario i s).trace i (node_at (after_turn scenario i s).nodes i) x
+    → AreOfNodes (λ j z. Is (after_turn scenario i s).trace j (node_at (after_turn scenario i s).nodes j) z) scenario.params.nodes (slice_set xs i x)
+others_turn Is scenario s i xs x are here =
+    one_changed (λ j z. Is s.trace j (node_at s.nodes j) z) (λ j z. Is (after_turn scenario i s).trace j (node_at (after_turn scenario i s).nodes j) z)
+    scenario.params.nodes xs i x are here
     (λ j z other there.
-    subst (λ (t : List SlotNote). IsKeptAs scenario t j (node_at (after_turn scenario i s).nodes j) z) (sym (after_turn-trace scenario i s))
-    (subst (λ (n : NodeState). IsKeptAs scenario s.trace j n z) (sym (after_turn-other scenario i s j other)) there))
-
-nodes_turn : (scenario : ScenarioParts) (s : RunState) (i : ℕ) (nodes : List IncarnationsParts) (v : IncarnationsParts)
-    → AreNodesOf scenario s nodes → IsKeptAt scenario (after_turn scenario i s).trace i (node_at (after_turn scenario i s).nodes i) v
-    → AreNodesOf scenario (after_turn scenario i s) (slice_set nodes i v)
-nodes_turn scenario s i nodes v are here =
-    one_changed (λ j z. IsKeptAt scenario s.trace j (node_at s.nodes j) z) (λ j z. IsKeptAt scenario (after_turn scenario i s).trace j (node_at (after_turn scenario i s).nodes j) z)
-    scenario.params.nodes nodes i v are here
-    (λ j z other there.
-    subst (λ (t : List SlotNote). IsKeptAt scenario t j (node_at (after_turn scenario i s).nodes j) z) (sym (after_turn-trace scenario i s))
-    (subst (λ (n : NodeState). IsKeptAt scenario s.trace j n z) (sym (after_turn-other scenario i s j other)) there))
+    subst (λ (t : List SlotNote). Is t j (node_at (after_turn scenario i s).nodes j) z) (sym (after_turn-trace scenario i s))
+    (subst (λ (n : NodeState). Is s.trace j n z) (sym (after_turn-other scenario i s j other)) there))
 
 -- the controllers and the nodes after a turn that was done are those of the run after it
 pub turned_on : (scenario : ScenarioParts) (journal : List Step) (i : ℕ) (nodes : List IncarnationsParts) (controllers : List ControllerState) (v v' : IncarnationsParts) (c c' : ControllerState) (r : StepReply) → IsLegalScenario scenario
@@ -410,7 +402,7 @@ turned_on scenario journal i nodes controllers v v' c c' r legal row nodes_are w
     turns notice running first =
         let turned : AreTurned scenario s i c' v' =
         turned_one scenario journal i v v' c c' notice legal (omega (arith, within, nodes_are.whole)) (row.each i c at) (nodes_are.each i v at_node) running first law in
-        (controllers_turn scenario s i controllers c' row turned.controller, nodes_turn scenario s i nodes v' nodes_are turned.node)
+        (others_turn (IsKeptAs scenario) scenario s i controllers c' row turned.controller, others_turn (IsKeptAt scenario) scenario s i nodes v' nodes_are turned.node)
 
     by_notice : (o : Option Notice) → slice_get c.unread 0 ≡ o → c.stopped ≡ None → Q (step_reply (reply_of c))
     by_notice None e running = rw (e, running) tt

@@ -32,10 +32,9 @@ pub(crate) struct Incarnations {
 
 impl Model for Incarnations {
     ghost use Rattle.cany_world.specs.Incarnations.{IncarnationsParts};
+    ghost use Rattle.cany_world.specs.IncarnationsFields.{incarnations_parts, IsSound};
 
     ghost Value = { IncarnationsParts };
-
-    ghost use Rattle.cany_world.specs.IncarnationsFields.{incarnations_parts, IsSound};
 
     ghost view = { incarnations_parts };
 

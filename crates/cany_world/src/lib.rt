@@ -5,6 +5,7 @@ mod began;
 mod finished;
 mod following;
 mod free_slots;
+mod gathering;
 mod incarnations;
 mod journal;
 mod opening;

@@ -1,10 +1,9 @@
 //! Why a message or a sign is not settled: which nodes wait with a frame of it, and which have
 //! something of it ahead.
-ghost use Rattle.std.specs.Prelude.{◌≡◌, ◌<◌, ◌≤◌, ◌^◌, ◌↔◌, ◌&&◌, ◌||◌, ◌==◌, ℕ, [], ◌∷◌, true, List, length, Contains};
+ghost use Rattle.std.specs.Prelude.{◌≡◌, ◌<◌, ◌≤◌, ◌^◌, ◌↔◌, [], ◌∷◌, true, List, length, Contains};
 ghost use Rattle.cany_base.specs.declared.step.Step.{Step};
 ghost use Rattle.cany_base.specs.Layout.{layout};
 ghost use Rattle.cany_base.specs.Limits.{most_nodes};
-ghost use Rattle.cany_base.specs.Nodes.{has};
 ghost use Rattle.cany_base.specs.Scenario.{ScenarioParts};
 ghost use Rattle.cany_model.specs.Rules.Knowledge.{fda_of};
 ghost use Rattle.cany_model.specs.Rules.Messages.{Message, frames_named};
@@ -13,22 +12,13 @@ ghost use Rattle.cany_world.specs.Controllers.{HaveFormat, IsSmallKey, awaits};
 ghost use Rattle.cany_world.specs.Kept.{AreControllersOf};
 ghost use Rattle.cany_world.specs.Settled.{IsAbout, nodes_ahead, waiting_nodes};
 
+use crate::gathering::insert_if;
 use crate::incarnations::Incarnations;
 use crate::settled::{awaits, has_ahead};
 use can_controller::Controller;
 use can_controller::laws::frames_fit;
 use can_frame::identifier;
 use cany_base::{Class, Format, Frame, MsgKey, NodeId, NodeSet, Payload, Service};
-
-/// Puts node i into the set, if so.
-fn insert_if(set: &mut NodeSet, i: usize, so: bool)
-    requires { i < most_nodes }
-    ensures { (k : ℕ) → has set.new k ≡ (has set.old k || (so && k == i)) }
-{
-    if so {
-        set.insert(NodeId::of_index(i));
-    }
-}
 
 /// The running nodes that wait with a frame of the message.
 pub(crate) fn waiting_nodes(

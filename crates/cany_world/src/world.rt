@@ -24,7 +24,7 @@ use crate::began::began_nodes;
 use crate::finished::{FinishedServices, finished_services};
 use crate::incarnations::Incarnations;
 use crate::journal::{Journal, push_rounds};
-use crate::opening::{build_bus, build_lists, build_nodes};
+use crate::opening::{ControllersAndLists, build_bus, build_nodes};
 use crate::resting::rest;
 use crate::settled::{is_asked, is_settled};
 use crate::slot::run_next_slot;
@@ -86,10 +86,9 @@ impl Drop for World {
 
 impl Model for World {
     ghost use Rattle.cany_world.specs.World.{WorldParts};
+    ghost use Rattle.cany_world.specs.WorldFields.{world_parts, IsRun};
 
     ghost Value = { WorldParts };
-
-    ghost use Rattle.cany_world.specs.WorldFields.{world_parts, IsRun};
 
     ghost view = { world_parts };
 
@@ -110,15 +109,15 @@ impl World {
         // reading of the text gave back is used again.
         let bus = build_bus(alloc, scenario)?;
         let nodes = build_nodes(alloc, scenario)?;
-        let lists = build_lists(alloc, scenario)?;
+        let ControllersAndLists { controllers, lists } = nodes.others;
         Ok(World {
             scenario: lists.scenario,
             script: bus.script,
-            bus: bus.bus,
-            controllers: nodes.controllers,
+            bus: bus.noted.bus,
+            controllers,
             nodes: nodes.nodes,
             actions: lists.actions,
-            journal: bus.journal,
+            journal: bus.noted.journal,
             keys: lists.keys,
         })
     }

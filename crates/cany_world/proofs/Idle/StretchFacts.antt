@@ -36,6 +36,7 @@ use Rattle.cany_world.proofs.Idle.IdleRounds.{after_rest_then, before_slot, befo
 use Rattle.cany_world.proofs.InOrder.{IsInOrder, in_order}
 use Rattle.cany_world.proofs.Idle.PassFacts.{passes_all, passes_most}
 use Rattle.cany_world.proofs.Idle.RestFacts.{IsThere, Runs, can_count, idle_notice, is_there, last_idle, may_rest, node_rests, node_waits, nothing_at, running_rests, runs_at, stopped_rests}
+use Rattle.cany_world.proofs.PlaceFacts.{one_each}
 use Rattle.cany_world.proofs.TurnFacts.{AreTurned, can_turn, turned_one}
 
 module _ (scenario : ScenarioParts) (journal : List Step) (slots : ℕ) (due : Nodes) (bus : BusParts) (row : List ControllerState)
@@ -323,20 +324,8 @@ module _ (scenario : ScenarioParts) (journal : List Step) (slots : ℕ) (due : N
         trace = trace ∙ ap (idle_trace slots) stands.bus.trace ∙ after_trace;
         follows = follows scenario.rules stands.bus.follows;
       };
-      controllers = record {
-        whole = passed.whole ∙ stands.controllers.whole;
-        each = λ i c at.
-            let a : IsAfterAt i = after_at i (omega (arith, slice_get_within row' i c at, passed.whole, stands.controllers.whole)) in
-            let same : Some a.c ≡ Some c = sym a.at ∙ at in
-            let is_c : a.c ≡ c = cc in
-            subst (IsKeptAs scenario after.trace i (node_at after.nodes i)) is_c a.is.ctl;
-      };
-      nodes = record {
-        whole = passed.nodes ∙ stands.nodes.whole;
-        each = λ i v at.
-            let a : IsAfterAt i = after_at i (omega (arith, slice_get_within kept' i v at, passed.nodes, stands.nodes.whole)) in
-            let same : Some a.v ≡ Some v = sym a.node_at ∙ at in
-            let is_v : a.v ≡ v = cc in
-            subst (IsKeptAt scenario after.trace i (node_at after.nodes i)) is_v a.is.at;
-      };
+      controllers = one_each (λ i c. IsKeptAs scenario after.trace i (node_at after.nodes i) c) scenario.params.nodes row' (passed.whole ∙ stands.controllers.whole)
+          (λ i few. let a : IsAfterAt i = after_at i few in (a.c, a.at, a.is.ctl));
+      nodes = one_each (λ i v. IsKeptAt scenario after.trace i (node_at after.nodes i) v) scenario.params.nodes kept' (passed.nodes ∙ stands.nodes.whole)
+          (λ i few. let a : IsAfterAt i = after_at i few in (a.v, a.node_at, a.is.at));
     }

@@ -1,4 +1,4 @@
-use Rattle.std.proofs.Common.{◌≡◌, refl, arith}
+use Rattle.std.proofs.Common.{◌≡◌, refl, arith, ◌∙◌}
 use Rattle.std.specs.Prelude.{slice_get, Some}
 use Rattle.std.proofs.lemmas.Option.{slice_get_read}
 use Rattle.cany_model.specs.Bus.Restart.{restarted_in}
@@ -17,8 +17,8 @@ pub loop-i-preserved : goal.loop-i-preserved
 loop-i-preserved c scenario journal are =
     let at : slice_get c.args.nodes.now c.loop-i.i ≡ Some c.index-nodes-i.result =
     slice_get_read c.args.nodes.now _ c.loop-i.i c.index-nodes-i.result refl c.loop-i-test.true c.index-nodes-i.is in
-    so_far_more _ _ _ _ _ (c.loop-i.invariant scenario journal are) c.insert_begun.ensures
-    (began_is scenario (run scenario journal).trace c.loop-i.i c.args.slot (node_at (run scenario journal).nodes c.loop-i.i) c.index-nodes-i.result (in_order scenario journal c.loop-i.i)
+    so_far_more _ _ _ _ _ (c.loop-i.invariant scenario journal are) c.insert_if.ensures
+    (c.began_in.ensures ∙ began_is scenario (run scenario journal).trace c.loop-i.i c.args.slot (node_at (run scenario journal).nodes c.loop-i.i) c.index-nodes-i.result (in_order scenario journal c.loop-i.i)
     (are.each c.loop-i.i c.index-nodes-i.result at))
 
 pub returns : goal.returns

@@ -1,13 +1,15 @@
-use Rattle.std.proofs.Common.{◌≡◌, ◌+◌, List, get_or, refl, ap, sym, subst, ◌∙◌}
+use Rattle.std.proofs.Common.{◌≡◌, ◌+◌, List, length, get_or, refl, ap, sym, subst, ◌∙◌, arith}
 use Rattle.std.specs.Prelude.{slice_get, slice_set, None, Some}
 use Rattle.std.proofs.lemmas.List.{length-set}
-use Rattle.std.proofs.lemmas.Option.{get_or_from_slice_get}
+use Rattle.std.proofs.lemmas.Option.{get_or_from_slice_get, slice_get_within}
+use Rattle.cany_base.proofs.ParamsFacts.{few_slots}
 use Rattle.cany_model.specs.declared.span.Span.{Span}
 use Rattle.cany_node.specs.Node.{NodeParts, CanBegin, IsWaiting}
 use Rattle.cany_world.specs.Incarnations.{IncarnationsParts, span_until}
 use Rattle.cany_world.specs.IncarnationsFields.{incarnations_parts}
 use Rattle.cany_world.proofs.NodeFacts.{restarted_by}
-use Rattle.cany_world.proofs.PlaceFacts.{written}
+use Rattle.cany_world.proofs.PlaceFacts.{one_written, written}
+use Rattle.cany_world.proofs.SoundFacts.{still_sound}
 use Rattle.cany_world.proofs.incarnations.Incarnations.restart.Goals as goal
 
 pub returns : goal.returns
@@ -52,3 +54,26 @@ begin-requires c =
     ap (λ (l : List NodeParts). get_or l (c.self.inside.present + 1) c.index-nodes-self.result) c.as_mut_slice-nodes.ensures.value
     ∙ get_or_from_slice_get c.self.inside.nodes.items (c.self.inside.present + 1) it c.index-nodes-self.result here in
     subst (λ (x : NodeParts). CanBegin x c.args.slot) (sym same) c.requires.can
+
+pub overflow_add-self : goal.overflow_add-self
+overflow_add-self c = omega (arith, c.self.invariant.within, c.self.invariant.few)
+
+pub overflow_add-slot : goal.overflow_add-slot
+overflow_add-slot c = omega (arith, c.requires.can.within, few_slots c.requires.can.scenario.params c.requires.can.waits.legal.in_range)
+
+pub invariant_of-self : goal.invariant_of-self
+invariant_of-self c =
+    let here : slice_get c.self.inside.nodes.items (c.self.inside.present + 1) ≡ Some c.requires.it =
+    subst (λ (x : IncarnationsParts). slice_get x.nodes (x.present + 1) ≡ Some c.requires.it) (sym c.self.view_is) c.requires.at in
+    let once : List Span = slice_set c.as_mut_slice-spans.result.now c.self.inside.present c.span_until.result in
+    still_sound c.self.inside _ c.self.invariant (slice_get_within c.self.inside.nodes.items (c.self.inside.present + 1) c.requires.it here)
+    (ap (λ (l : List NodeParts). length l)
+    (one_written c.self.inside.nodes.items c.as_mut_slice-nodes.result.now _ c.self.inside.nodes.len (c.self.inside.present + 1) c.begin.new.self
+    c.as_mut_slice-nodes.ensures.value c.as_mut_slice-nodes.ensures.len)
+    ∙ length-set c.self.inside.nodes.items (c.self.inside.present + 1) c.begin.new.self)
+    (ap (λ (l : List Span). length l)
+    (written (slice_set once (c.self.inside.present + 1) c.span_since.result) _ c.self.inside.spans.len
+    (length-set once (c.self.inside.present + 1) c.span_since.result ∙ length-set c.as_mut_slice-spans.result.now c.self.inside.present c.span_until.result
+    ∙ c.as_mut_slice-spans.ensures.len))
+    ∙ length-set once (c.self.inside.present + 1) c.span_since.result ∙ length-set c.as_mut_slice-spans.result.now c.self.inside.present c.span_until.result
+    ∙ ap (λ (l : List Span). length l) c.as_mut_slice-spans.ensures.value)

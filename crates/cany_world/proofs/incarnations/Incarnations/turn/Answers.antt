@@ -5,6 +5,7 @@ use Rattle.cany_world.specs.Incarnations.{IncarnationsParts}
 use Rattle.cany_world.specs.IncarnationsFields.{incarnations_parts}
 use Rattle.cany_world.proofs.NodeFacts.{left_by, turned_by}
 use Rattle.cany_world.proofs.PlaceFacts.{one_written, read_at}
+use Rattle.cany_world.proofs.SoundFacts.{sound_where_written}
 use Rattle.cany_world.proofs.incarnations.Incarnations.turn.Goals as goal
 
 pub returns-clause-turn : goal.returns-clause-turn
@@ -39,3 +40,8 @@ returns-clause-refused c =
     refl refl
     (subst (λ (l : List NodeParts). IsRefused c.turn.result (get_or l c.self.inside.present c.index-nodes-self.result) c.turn.new.self c.args.ctl.now c.turn.new.ctl)
     c.as_mut_slice-nodes.ensures.value c.turn.ensures.refused)
+
+pub invariant_of-self : goal.invariant_of-self
+invariant_of-self c =
+    sound_where_written c.self.inside _ c.self.invariant c.as_mut_slice-nodes.result.now _ c.turn.new.self c.as_mut_slice-nodes.ensures.value
+    c.as_mut_slice-nodes.ensures.len refl refl refl

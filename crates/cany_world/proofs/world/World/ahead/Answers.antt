@@ -13,12 +13,11 @@ use Rattle.cany_world.proofs.world.World.ahead.Goals.{After-nodes_ahead}
 
 pub nodes_ahead-requires-clause-count : goal.nodes_ahead-requires-clause-count
 nodes_ahead-requires-clause-count c =
-    same_count c.self.inside.scenario c.self.inside.journal.items _ _ c.self.invariant.stands.controllers c.as_slice-controllers.ensures.value _ _
-    c.self.invariant.stands.nodes c.as_slice-nodes.ensures.value
+    same_count c.self.inside c.self.invariant _ c.as_slice-controllers.ensures.value _ c.as_slice-nodes.ensures.value
 
 pub nodes_ahead-requires-clause-few : goal.nodes_ahead-requires-clause-few
 nodes_ahead-requires-clause-few c =
-    few_read c.self.inside.scenario c.self.inside.journal.items _ _ c.self.invariant.stands.controllers c.as_slice-controllers.ensures.value c.self.invariant.legal
+    few_read c.self.inside c.self.invariant _ c.as_slice-controllers.ensures.value
 
 it : (c : After-nodes_ahead) → HasMessage c.self.inside.scenario c.args.index c.index-sends-index.result c.key.result
 it c =
@@ -31,8 +30,7 @@ set_is c =
     let u : WorldParts = world_parts c.self.inside in
     let named = it c in
     c.nodes_ahead.ensures u.scenario u.journal named.message
-    (about u.scenario u.journal _ _ c.self.invariant.stands.controllers c.as_slice-controllers.ensures.value _ _ c.self.invariant.stands.nodes c.as_slice-nodes.ensures.value
-    named.message _ named.stands named.named)
+    (about c.self.inside c.self.invariant _ c.as_slice-controllers.ensures.value _ c.as_slice-nodes.ensures.value named.message _ named.stands named.named)
     (named.service ∙ ap (λ (x : SendAsk). x.service) c.index-sends-index.is)
 
 pub returns-clause-set : goal.returns-clause-set

@@ -1,17 +1,12 @@
-use Rattle.std.proofs.Common.{◌≡◌, ◌<◌, length, ap, subst, ◌∙◌, arith}
-use Rattle.std.specs.Prelude.{slice_get, Some}
+use Rattle.std.proofs.Common.{◌∙◌}
 use Rattle.cany_model.specs.Bus.State.{node_at}
 use Rattle.cany_world.specs.Kept.{IsKeptAs}
-use Rattle.cany_world.specs.World.{WorldParts, state_of}
-use Rattle.cany_world.proofs.PlaceFacts.{found}
+use Rattle.cany_world.specs.World.{state_of}
+use Rattle.cany_world.specs.WorldFields.{world_parts}
+use Rattle.cany_world.proofs.PlaceFacts.{read_of_node}
 use Rattle.cany_world.proofs.world.World.controller.Goals as goal
 
 pub returns : goal.returns
 returns c =
-    let at : c.from.result ≡ c.args.node = c.from.ensures ∙ c.get.ensures.value in
-    let within : c.args.node < length c.self.inside.controllers.items =
-    omega (arith, c.requires, c.self.invariant.stands.controllers.whole, ap (λ (w : WorldParts). w.scenario.params.nodes) c.self.view_is) in
-    let is : slice_get c.self.inside.controllers.items c.args.node ≡ Some c.index-controllers-from.result =
-    found c.self.inside.controllers.items c.as_slice-controllers.result.now c.args.node c.from.result c.index-controllers-from.result c.as_slice-controllers.ensures.value at within c.index-controllers-from.is in
-    subst (λ (w : WorldParts). IsKeptAs w.scenario (state_of w).trace c.args.node (node_at (state_of w).nodes c.args.node) c.index-controllers-from.result) c.self.view_is
-    (c.self.invariant.stands.controllers.each c.args.node c.index-controllers-from.result is)
+    read_of_node (λ w i x. IsKeptAs w.scenario (state_of w).trace i (node_at (state_of w).nodes i) x) (world_parts c.self.inside) _ c.self.view_is _ _
+    c.as_slice-controllers.ensures.value c.self.invariant.stands.controllers c.args.node _ (c.from.ensures ∙ c.get.ensures.value) c.requires _ c.index-controllers-from.is

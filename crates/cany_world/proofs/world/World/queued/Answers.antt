@@ -9,12 +9,11 @@ use Rattle.cany_world.proofs.world.World.queued.Goals as goal
 
 pub is_asked-requires-clause-count : goal.is_asked-requires-clause-count
 is_asked-requires-clause-count c =
-    same_count c.self.inside.scenario c.self.inside.journal.items _ _ c.self.invariant.stands.controllers c.as_slice-controllers.ensures.value _ _
-    c.self.invariant.stands.nodes c.as_slice-nodes.ensures.value
+    same_count c.self.inside c.self.invariant _ c.as_slice-controllers.ensures.value _ c.as_slice-nodes.ensures.value
 
 pub is_asked-requires-clause-origin : goal.is_asked-requires-clause-origin
 is_asked-requires-clause-origin c =
-    origin_within c.self.inside.scenario c.self.inside.journal.items _ _ c.self.invariant.stands.controllers c.as_slice-controllers.ensures.value c.args.index _ _
+    origin_within c.self.inside c.self.invariant _ c.as_slice-controllers.ensures.value c.args.index _ _
     (message_of_send (world_parts c.self.inside) _ c.self.view_is c.args.index c.sends-sends.result.now c.index-sends-index.result c.key.result c.self.invariant.legal
     c.requires c.sends-sends.ensures c.index-sends-index.is c.key.ensures)
 
@@ -25,6 +24,5 @@ returns c =
     c.sends-sends.ensures c.index-sends-index.is c.key.ensures in
     told_of_send u _ c.self.view_is c.args.index _ _ (λ w m. not c.is_asked.result ≡ is_queued w.scenario (state_of w) m) it
     (ap not (c.is_asked.ensures u.scenario u.journal it.message
-    (about u.scenario u.journal _ _ c.self.invariant.stands.controllers c.as_slice-controllers.ensures.value _ _ c.self.invariant.stands.nodes c.as_slice-nodes.ensures.value
-    it.message _ it.stands it.named)
+    (about c.self.inside c.self.invariant _ c.as_slice-controllers.ensures.value _ c.as_slice-nodes.ensures.value it.message _ it.stands it.named)
     (it.slot ∙ ap (λ (x : SendAsk). x.slot) c.index-sends-index.is)))

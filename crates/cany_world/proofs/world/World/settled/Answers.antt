@@ -9,7 +9,7 @@ use Rattle.cany_world.proofs.world.World.settled.Goals as goal
 
 pub is_settled-requires-clause-origin : goal.is_settled-requires-clause-origin
 is_settled-requires-clause-origin c =
-    origin_within c.self.inside.scenario c.self.inside.journal.items _ _ c.self.invariant.stands.controllers c.as_slice-controllers.ensures.value c.args.index _ _
+    origin_within c.self.inside c.self.invariant _ c.as_slice-controllers.ensures.value c.args.index _ _
     (message_of_send (world_parts c.self.inside) _ c.self.view_is c.args.index c.sends-sends.result.now c.index-sends-index.result c.key.result c.self.invariant.legal
     c.requires c.sends-sends.ensures c.index-sends-index.is c.key.ensures)
 
@@ -21,13 +21,11 @@ is_settled-requires-clause-key c =
 
 pub is_settled-requires-clause-format : goal.is_settled-requires-clause-format
 is_settled-requires-clause-format c =
-    have_format c.self.inside.scenario c.self.inside.journal.items _ _ c.self.invariant.stands.controllers c.as_slice-controllers.ensures.value
-    _ (c.behind-self.view_is ∙ c.params.ensures.params)
+    have_format c.self.inside c.self.invariant _ c.as_slice-controllers.ensures.value _ (c.behind-self.view_is ∙ c.params.ensures.params)
 
 pub is_settled-requires-clause-count : goal.is_settled-requires-clause-count
 is_settled-requires-clause-count c =
-    same_count c.self.inside.scenario c.self.inside.journal.items _ _ c.self.invariant.stands.controllers c.as_slice-controllers.ensures.value _ _
-    c.self.invariant.stands.nodes c.as_slice-nodes.ensures.value
+    same_count c.self.inside c.self.invariant _ c.as_slice-controllers.ensures.value _ c.as_slice-nodes.ensures.value
 
 pub returns : goal.returns
 returns c =
@@ -36,6 +34,5 @@ returns c =
     c.sends-sends.ensures c.index-sends-index.is c.key.ensures in
     told_of_send u _ c.self.view_is c.args.index _ _ (λ w m. c.is_settled.result ≡ is_settled w.scenario (state_of w) m) it
     (c.is_settled.ensures u.scenario u.journal it.message
-    (about u.scenario u.journal _ _ c.self.invariant.stands.controllers c.as_slice-controllers.ensures.value _ _ c.self.invariant.stands.nodes c.as_slice-nodes.ensures.value
-    it.message _ it.stands it.named)
+    (about c.self.inside c.self.invariant _ c.as_slice-controllers.ensures.value _ c.as_slice-nodes.ensures.value it.message _ it.stands it.named)
     it.service it.slot)

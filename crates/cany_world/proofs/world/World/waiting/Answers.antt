@@ -6,23 +6,21 @@ use Rattle.cany_base.proofs.ParamsFacts.{few_nodes}
 use Rattle.cany_model.specs.Rules.Messages.{frames_named, frames_of}
 use Rattle.cany_model.specs.Promises.Settled.{is_awaited}
 use Rattle.cany_world.specs.Controllers.{IsSmallKey}
-use Rattle.cany_world.specs.Kept.{AreControllersOf}
 use Rattle.cany_world.specs.Settled.{waiting_nodes}
 use Rattle.cany_world.specs.World.{WorldParts, state_of}
 use Rattle.cany_world.specs.WorldFields.{world_parts}
-use Rattle.cany_world.proofs.SettledFacts.{HasMessage, few_read, have_format, message_of_send, told_of_send}
+use Rattle.cany_world.proofs.SettledFacts.{HasMessage, controllers_read, few_read, have_format, message_of_send, told_of_send}
 use Rattle.cany_world.proofs.UnsettledFacts.{nobody_waits}
 use Rattle.cany_world.proofs.world.World.waiting.Goals as goal
 use Rattle.cany_world.proofs.world.World.waiting.Goals.{After-waiting_nodes}
 
 pub waiting_nodes-requires-clause-count : goal.waiting_nodes-requires-clause-count
 waiting_nodes-requires-clause-count c =
-    few_read c.self.inside.scenario c.self.inside.journal.items _ _ c.self.invariant.stands.controllers c.as_slice-controllers.ensures.value c.self.invariant.legal
+    few_read c.self.inside c.self.invariant _ c.as_slice-controllers.ensures.value
 
 pub waiting_nodes-requires-clause-format : goal.waiting_nodes-requires-clause-format
 waiting_nodes-requires-clause-format c =
-    have_format c.self.inside.scenario c.self.inside.journal.items _ _ c.self.invariant.stands.controllers c.as_slice-controllers.ensures.value
-    _ (c.behind-self.view_is ∙ c.params.ensures.params)
+    have_format c.self.inside c.self.invariant _ c.as_slice-controllers.ensures.value _ (c.behind-self.view_is ∙ c.params.ensures.params)
 
 pub waiting_nodes-requires-clause-key : goal.waiting_nodes-requires-clause-key
 waiting_nodes-requires-clause-key c =
@@ -40,7 +38,7 @@ set_is : (c : After-waiting_nodes) → c.waiting_nodes.result ≡ waiting_nodes 
 set_is c =
     let u : WorldParts = world_parts c.self.inside in
     let named = it c in
-    c.waiting_nodes.ensures u.scenario u.journal (subst (AreControllersOf u.scenario (state_of u)) (sym c.as_slice-controllers.ensures.value) c.self.invariant.stands.controllers)
+    c.waiting_nodes.ensures u.scenario u.journal (controllers_read c.self.inside c.self.invariant _ c.as_slice-controllers.ensures.value)
     ∙ ap (λ by. waiting_nodes (frames_named by c.key.result) (state_of u)) (sym (named.service ∙ ap (λ (x : SendAsk). x.service) c.index-sends-index.is))
     ∙ ap (λ k. waiting_nodes (frames_named named.message.service k) (state_of u)) (sym named.named)
 

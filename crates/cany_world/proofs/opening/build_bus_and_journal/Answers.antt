@@ -1,6 +1,6 @@
 use Rattle.std.proofs.Common.{◌+◌, ◌*◌, [], ap, ◌∙◌}
 use Rattle.cany_base.specs.Params.{Parameters}
-use Rattle.cany_world.proofs.opening.build_bus.Goals as goal
+use Rattle.cany_world.proofs.opening.build_bus_and_journal.Goals as goal
 
 pub returns-clause-journal : goal.returns-clause-journal
 returns-clause-journal c =
