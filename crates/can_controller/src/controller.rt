@@ -7,7 +7,8 @@ ghost use Rattle.cany_model.specs.Bus.Frames.{identity_of};
 ghost use Rattle.cany_model.specs.Bus.Slot.{exceeds, least_frame};
 ghost use Rattle.cany_model.specs.Bus.Waiting.{waits, with_frame, without};
 ghost use Rattle.can_frame.specs.Identifier.{FitsFormat, FitsIdentifier};
-ghost use Rattle.can_controller.specs.Controller.{HasStoppedBy, fresh_controller, node_state, restarted_at, seen, stopped_at};
+ghost use Rattle.can_controller.specs.Controller.{ControllerState, HasStoppedBy, fresh_controller, node_state, restarted_at, seen, stopped_at};
+ghost use Rattle.can_controller.specs.ControllerFields.{IsSound, controller_state};
 ghost use Rattle.can_controller.specs.Waiting.{HasRoomFor};
 ghost use Rattle.circular_buffer.specs.Buffer.{buffer};
 
@@ -38,11 +39,7 @@ pub struct Controller {
 }
 
 impl Model for Controller {
-    ghost use Rattle.can_controller.specs.Controller.{ControllerState};
-
     ghost Value = { ControllerState };
-
-    ghost use Rattle.can_controller.specs.ControllerFields.{controller_state, IsSound};
 
     ghost view = { controller_state };
 

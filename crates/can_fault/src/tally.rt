@@ -3,7 +3,8 @@ ghost use Rattle.cany_base.specs.declared.slot_note.SlotNote.{SlotNote};
 ghost use Rattle.cany_base.specs.Params.{Parameters};
 ghost use Rattle.cany_model.specs.Promises.Hypothesis.{IsWithin, first_break};
 ghost use Rattle.can_fault.specs.Breaks.{IsKeptOf, HasLimitsOf};
-ghost use Rattle.can_fault.specs.Tally.{is_partial_slot, IsTallyOf};
+ghost use Rattle.can_fault.specs.Tally.{IsTallyOf, TallyParts, is_partial_slot};
+ghost use Rattle.can_fault.specs.TallyFields.{IsSound, parts_of};
 ghost use Rattle.can_fault.specs.Window.{IsNumbered};
 
 use crate::breaks::Breaks;
@@ -29,11 +30,7 @@ pub struct Tally {
 }
 
 impl Model for Tally {
-    ghost use Rattle.can_fault.specs.Tally.{TallyParts};
-
     ghost Value = { TallyParts };
-
-    ghost use Rattle.can_fault.specs.TallyFields.{parts_of, IsSound};
 
     ghost view = { parts_of };
 

@@ -107,16 +107,16 @@ module _ (scenario : ScenarioParts) (i : ℕ) (past : List NoticeKind) (own : Op
 
   ended_acts : actions_of scenario.params.format (by_end notice.slot) ≡ end_actions notice.slot read (ended read.params notice.slot read.vector)
   ended_acts =
-      let params : read.params ≡ scenario.params = read_params scenario i past own notice v h next read reads ∙ h.params in
-      let node : read.node ≡ i = read_node scenario i past own notice v h next read reads ∙ h.node in
+      let params : read.params ≡ scenario.params = read_params scenario i past own notice v h next read reads ∙ h.limits.are_params in
+      let node : read.node ≡ i = read_node scenario i past own notice v h next read reads ∙ h.limits.is_node in
       end_acts scenario.params i notice.slot read params node (ended scenario.params notice.slot (met scenario.params own (brought scenario.params notice.slot notice.kind)))
       ∙ ap (end_actions notice.slot read)
       (sym (ap (λ p. ended p notice.slot read.vector) params ∙ ap (ended scenario.params notice.slot) (read_vector scenario i past own notice v h next read reads)))
 
   started_acts : actions_of scenario.params.format (by_start notice.slot) ≡ start_actions notice.slot end start
   started_acts =
-      start_acts scenario.params i notice.slot end (end_params scenario i past own notice v h next read reads end ends ∙ h.params)
-      (end_node scenario i past own notice v h next read reads end ends ∙ h.node) start (subst (λ p. is_start p notice.slot ≡ false → start ≡ None) h.params with_start.none)
+      start_acts scenario.params i notice.slot end (end_params scenario i past own notice v h next read reads end ends ∙ h.limits.are_params)
+      (end_node scenario i past own notice v h next read reads end ends ∙ h.limits.is_node) start (subst (λ p. is_start p notice.slot ≡ false → start ≡ None) h.limits.are_params with_start.none)
 
   pub turn_acts : (before here there after : List Action) → here ≡ before ++ read_actions notice.slot notice.kind v
       → there ≡ here ++ end_actions notice.slot read (ended read.params notice.slot read.vector)

@@ -83,16 +83,13 @@ module _ (scenario : ScenarioParts) (i : ℕ) (past : List NoticeKind) (own : Op
 
   idle_stands : is_start scenario.params (length past) ≡ false → IsHistoryOf scenario i (Idle ∷ past) own v
   idle_stands none = record {
-    legal = h.legal;
-    place = h.place;
-    node = h.node;
-    params = h.params;
+    limits = h.limits;
     vector = h.vector;
     below = h.below;
     few = omega (arith, h.few);
     unread = λ cycle early. (refl, h.unread cycle (omega (arith, early)));
     exchange = λ exchanged.
-        let cycles = has_cycles scenario h.legal in
+        let cycles = has_cycles scenario h.limits.legal in
         let before : is_exchange scenario.params (length past) ≡ true = exchanged_before scenario.params cycles (length past) exchanged none in
         rw (same_cycle scenario.params cycles (length past) exchanged) (idle_counts (cycle_of scenario.params (length past)) (h.exchange before));
   }

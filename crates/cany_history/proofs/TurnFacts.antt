@@ -63,28 +63,28 @@ pub at_own : (scenario : ScenarioParts) (i : ℕ) (past : List NoticeKind) (own 
     → IsHistoryOf scenario i past own v
     → IsHistoryOf scenario v.node past v.vector v
 at_own scenario i past own v h =
-    subst (λ n. IsHistoryOf scenario n past v.vector v) (sym h.node) (subst (λ o. IsHistoryOf scenario i past o v) (sym h.vector) h)
+    subst (λ n. IsHistoryOf scenario n past v.vector v) (sym h.limits.is_node) (subst (λ o. IsHistoryOf scenario i past o v) (sym h.vector) h)
 
 module _ (scenario : ScenarioParts) (i : ℕ) (past : List NoticeKind) (own : Option Nodes) (notice : Notice) (v : HistoryParts)
     (h : IsHistoryOf scenario i past own v) (next : IsNextAt scenario i past own notice) where
   -- the value, part by part
   pub whole : v ≡ value i scenario.params own v.copies v.sent
-  whole = λ k. record { node = h.node k; params = h.params k; vector = h.vector k; copies = v.copies; sent = v.sent }
+  whole = λ k. record { node = h.limits.is_node k; params = h.limits.are_params k; vector = h.vector k; copies = v.copies; sent = v.sent }
 
   -- ---- what the steps of the code rest on
 
   pub in_run : IsInRun notice.slot v
   in_run =
-      let small = belongs_small scenario notice.slot (rha_frame scenario.params.format 0 (cycle_of scenario.params notice.slot) i (record { bits = 0 })) h.legal next.next.within
-      (record { node = h.place; number = omega arith }) in
-      rw (h.params, h.node)
-      (record { cycle = omega (arith, h.legal.in_range.cycle.0); number = small.number; nodes = h.legal.in_range.nodes.1; place = h.place })
+      let small = belongs_small scenario notice.slot (rha_frame scenario.params.format 0 (cycle_of scenario.params notice.slot) i (record { bits = 0 })) h.limits.legal next.next.within
+      (record { node = h.limits.place; number = omega arith }) in
+      rw (h.limits.are_params, h.limits.is_node)
+      (record { cycle = omega (arith, h.limits.legal.in_range.cycle.0); number = small.number; nodes = h.limits.legal.in_range.nodes.1; place = h.limits.place })
 
   pub own_below : IfSome v.vector (AllBelow v.params.nodes)
-  own_below = rw (h.params, h.vector) h.below
+  own_below = rw (h.limits.are_params, h.vector) h.below
 
   pub few_copies : v.copies < most_slots
-  few_copies = omega (arith, h.few, next.next.slot, next.next.within, few_slots scenario.params h.legal.in_range)
+  few_copies = omega (arith, h.few, next.next.slot, next.next.within, few_slots scenario.params h.limits.legal.in_range)
 
   -- ---- after the notice
 
@@ -99,13 +99,13 @@ module _ (scenario : ScenarioParts) (i : ℕ) (past : List NoticeKind) (own : Op
     read_params = read_parts.params
 
     pub read_vector : read.vector ≡ met scenario.params own (brought scenario.params notice.slot notice.kind)
-    read_vector = read_parts.vector ∙ rw (h.params, h.vector) refl
+    read_vector = read_parts.vector ∙ rw (h.limits.are_params, h.vector) refl
 
     pub read_run : IsInRun notice.slot read
     read_run = rw (read_node, read_params) (record { cycle = in_run.cycle; number = in_run.number; nodes = in_run.nodes; place = in_run.place })
 
     pub read_below : IfSome read.vector (AllBelow read.params.nodes)
-    read_below = rw (read_params, h.params, read_vector) (met_below scenario.params own (brought scenario.params notice.slot notice.kind) h.below)
+    read_below = rw (read_params, h.limits.are_params, read_vector) (met_below scenario.params own (brought scenario.params notice.slot notice.kind) h.below)
 
     -- ---- after the end of a cycle
 
@@ -126,7 +126,7 @@ module _ (scenario : ScenarioParts) (i : ℕ) (past : List NoticeKind) (own : Op
       end_start start with_start = subst (λ p. StartsWith p notice.slot start) (sym end_params) with_start
 
       end_vector : end.vector ≡ (if is_end scenario.params notice.slot then None else met scenario.params own (brought scenario.params notice.slot notice.kind))
-      end_vector = ap (λ (x : HistoryParts). x.vector) end_is ∙ rw (read_params, h.params, read_vector) refl
+      end_vector = ap (λ (x : HistoryParts). x.vector) end_is ∙ rw (read_params, h.limits.are_params, read_vector) refl
 
       -- what the node has at the end of a cycle
       pub ended_is : (result : Option Ended)
@@ -136,14 +136,14 @@ module _ (scenario : ScenarioParts) (i : ℕ) (past : List NoticeKind) (own : Op
       ended_is result is =
           let same : option_map {T = Nodes} {U = Ended} (λ x. record { cycle = cycle_of read.params notice.slot; vector = x }) (ended read.params notice.slot read.vector)
           ≡ option_map {T = Nodes} {U = Ended} (λ x. record { cycle = cycle_of scenario.params notice.slot; vector = x })
-          (ended scenario.params notice.slot (met scenario.params own (brought scenario.params notice.slot notice.kind))) = rw (read_params, h.params, read_vector) refl in
+          (ended scenario.params notice.slot (met scenario.params own (brought scenario.params notice.slot notice.kind))) = rw (read_params, h.limits.are_params, read_vector) refl in
           is ∙ same
 
       pub ended_has_below : (result : Option Ended)
           → result ≡ option_map {T = Nodes} {U = Ended} (λ x. record { cycle = cycle_of read.params notice.slot; vector = x }) (ended read.params notice.slot read.vector)
           → IfSome result (λ e. AllBelow v.params.nodes e.vector)
       ended_has_below result is =
-          rw (is, read_params, h.params, read_vector)
+          rw (is, read_params, h.limits.are_params, read_vector)
           (ended_below scenario.params.nodes (cycle_of scenario.params notice.slot) (is_end scenario.params notice.slot)
           (met scenario.params own (brought scenario.params notice.slot notice.kind))
           (met_below scenario.params own (brought scenario.params notice.slot notice.kind) h.below))
@@ -165,17 +165,17 @@ module _ (scenario : ScenarioParts) (i : ℕ) (past : List NoticeKind) (own : Op
         after_params = ap (λ (x : HistoryParts). x.params) after_is ∙ end_params
 
         after_vector : after.vector ≡ after_exchange scenario.params notice.slot notice.kind start own
-        after_vector = ap (λ (x : HistoryParts). x.vector) after_is ∙ rw (end_params, h.params, end_vector) refl
+        after_vector = ap (λ (x : HistoryParts). x.vector) after_is ∙ rw (end_params, h.limits.are_params, end_vector) refl
 
         after_copies : after.copies ≡ (if is_start scenario.params notice.slot then 0 else read.copies)
-        after_copies = ap (λ (x : HistoryParts). x.copies) after_is ∙ rw (end_params, h.params, ap (λ (x : HistoryParts). x.copies) end_is) refl
+        after_copies = ap (λ (x : HistoryParts). x.copies) after_is ∙ rw (end_params, h.limits.are_params, ap (λ (x : HistoryParts). x.copies) end_is) refl
 
         after_sent : after.sent ≡ (if is_start scenario.params notice.slot then false else read.sent)
-        after_sent = ap (λ (x : HistoryParts). x.sent) after_is ∙ rw (end_params, h.params, ap (λ (x : HistoryParts). x.sent) end_is) refl
+        after_sent = ap (λ (x : HistoryParts). x.sent) after_is ∙ rw (end_params, h.limits.are_params, ap (λ (x : HistoryParts). x.sent) end_is) refl
 
         after_below : IfSome (after_exchange scenario.params notice.slot notice.kind start own) (AllBelow scenario.params.nodes)
         after_below = elim (cases_Bool (is_start scenario.params notice.slot)) [
-          | inl here ↦ rw here (subst (λ (p : Parameters). IfSome start (AllBelow p.nodes)) h.params with_start.below)
+          | inl here ↦ rw here (subst (λ (p : Parameters). IfSome start (AllBelow p.nodes)) h.limits.are_params with_start.below)
           | inr none ↦ elim (cases_Bool (is_end scenario.params notice.slot)) [
             | inl end_here ↦ rw (none, end_here) tt
             | inr no_end_here ↦ rw (none, no_end_here) (met_below scenario.params own (brought scenario.params notice.slot notice.kind) h.below)
@@ -200,7 +200,7 @@ module _ (scenario : ScenarioParts) (i : ℕ) (past : List NoticeKind) (own : Op
             → IsExchangeOf scenario.params (cycle_of scenario.params (suc (length past))) i (notice.kind ∷ past) start after
         from_start exchanged here =
             let cycle : ℕ = cycle_of scenario.params (suc (length past)) in
-            let first : length past ≡ cycle * scenario.params.cycle = first_slot scenario.params (has_cycles scenario h.legal) (length past) exchanged here in
+            let first : length past ≡ cycle * scenario.params.cycle = first_slot scenario.params (has_cycles scenario h.limits.legal) (length past) exchanged here in
             let none : AllByRecursion (HasNoVector scenario.params.format cycle i) (notice.kind ∷ past) = after_unread cycle (omega (arith, first)) in
             let here_too : is_start scenario.params notice.slot ≡ true = rw next.next.slot here in
             let copies : after.copies ≡ 0 = after_copies ∙ rw here_too refl in
@@ -216,7 +216,7 @@ module _ (scenario : ScenarioParts) (i : ℕ) (past : List NoticeKind) (own : Op
             → IsExchangeOf scenario.params (cycle_of scenario.params (suc (length past))) i (notice.kind ∷ past)
             (met scenario.params own (brought scenario.params (length past) notice.kind)) after
         from_exchange exchanged none =
-            let cycles = has_cycles scenario h.legal in
+            let cycles = has_cycles scenario h.limits.legal in
             let before = exchanged_before scenario.params cycles (length past) exchanged none in
             let old = same_counts scenario.params (cycle_of scenario.params (length past)) i past own v (value i scenario.params own v.copies v.sent) refl refl (h.exchange before) in
             let readable : IsReadableVector scenario.params i (length past) own notice.kind = rw next.next.slot at next.vector in
@@ -239,16 +239,18 @@ module _ (scenario : ScenarioParts) (i : ℕ) (past : List NoticeKind) (own : Op
         after_exchanging exchanged = elim (cases_Bool (is_start scenario.params (length past))) [
           | inl here ↦ rw here (from_start exchanged here)
           | inr none ↦
-              let no_end_here = no_end scenario.params (has_cycles scenario h.legal) (length past) exchanged in
+              let no_end_here = no_end scenario.params (has_cycles scenario h.limits.legal) (length past) exchanged in
               rw (none, no_end_here) (from_exchange exchanged none)
         ]
 
         pub after_stands : IsHistoryOf scenario i (notice.kind ∷ past) (after_exchange scenario.params (length past) notice.kind start own) after
         after_stands = record {
-          legal = h.legal;
-          place = h.place;
-          node = after_node ∙ h.node;
-          params = after_params ∙ h.params;
+          limits = record {
+            legal = h.limits.legal;
+            place = h.limits.place;
+            is_node = after_node ∙ h.limits.is_node;
+            are_params = after_params ∙ h.limits.are_params;
+          };
           vector = after_vector ∙ ap (λ k. after_exchange scenario.params k notice.kind start own) next.next.slot;
           below = subst (λ k. IfSome (after_exchange scenario.params k notice.kind start own) (AllBelow scenario.params.nodes)) next.next.slot after_below;
           few = after_few;

@@ -49,13 +49,17 @@ pub record IsExchangeOf (p : Parameters) (cycle i : ℕ) (past : List NoticeKind
   pub copies : IfSome vector (λ own. v.copies ≡ count_by (is_vector_got p.format cycle own) past)
   pub sent : IfSome vector (λ own. v.sent ≡ list_any (is_vector_sent p.format cycle i own) past)
 
+-- what never changes: the node is node i of the scenario, and has its parameters
+pub record HasLimitsOf (scenario : ScenarioParts) (i node : ℕ) (params : Parameters) : Type 0 where
+  pub legal : IsLegalScenario scenario
+  pub place : i < scenario.params.nodes
+  pub is_node : node ≡ i
+  pub are_params : params ≡ scenario.params
+
 -- The value is that of node i after these notices, newest first, where this is its vector. By its start nothing was read of a cycle, and
 -- while vectors are exchanged the value has what was read of the present one.
 pub record IsHistoryOf (scenario : ScenarioParts) (i : ℕ) (past : List NoticeKind) (own : Option Nodes) (v : HistoryParts) : Type 0 where
-  pub legal : IsLegalScenario scenario
-  pub place : i < scenario.params.nodes
-  pub node : v.node ≡ i
-  pub params : v.params ≡ scenario.params
+  pub limits : HasLimitsOf scenario i v.node v.params
   pub vector : v.vector ≡ own
   pub below : IfSome own (AllBelow scenario.params.nodes)
   pub few : v.copies ≤ length past

@@ -17,22 +17,21 @@ module _ (scenario : ScenarioParts) (i : ℕ) (past : List NoticeKind) (knowledg
       → last ≡ (if has newly i then slot else v.last)
       → IsLifeOf scenario i past (after_admitting i slot newly knowledge) (record v { failed = failed; shown = shown; last = last })
   admitted failed shown last fewer nodes same latest = record {
-    legal = h.legal;
-    node = h.node;
-    params = h.params;
+    limits = h.limits;
     failed = λ r.
         ap (λ s. has s r) fewer
         ∙ has-those_where (λ q. has v.failed q && not (has newly q)) r
         ∙ ap (λ b. nat_lt r most_nodes && (b && not (has newly r))) (h.failed r)
         ∙ sym (has-those_where (λ q. has knowledge.failed q && not (has newly q)) r);
-    cycles = h.cycles;
-    known = h.known;
+    signs = h.signs;
     copies = h.copies;
-    nodes = nodes;
-    shown = λ r below.
-        same r (omega (arith, below, few_nodes scenario.params h.legal.in_range))
-        ∙ ap (λ n. if has newly r then slot else n) (h.shown r below);
-    last = latest ∙ ap (λ n. if has newly i then slot else n) h.last;
-    sent = h.sent;
-    few = h.few;
+    lives = record {
+      nodes = nodes;
+      are_shown = λ r below.
+          same r (omega (arith, below, few_nodes scenario.params h.limits.legal.in_range))
+          ∙ ap (λ n. if has newly r then slot else n) (h.lives.are_shown r below);
+      is_last = latest ∙ ap (λ n. if has newly i then slot else n) h.lives.is_last;
+      are_sent = h.lives.are_sent;
+      few = h.lives.few;
+    };
   }

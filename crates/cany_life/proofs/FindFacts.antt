@@ -53,18 +53,18 @@ module _ (scenario : ScenarioParts) (i : ℕ) (counted past : List NoticeKind) (
       ∙ ap (λ signs. signs_below n ++ signs) (one n (silent n) (knows (sign_in p slot n) knowledge) refl)
 
   sign_of_run : (n : ℕ) → n < scenario.params.nodes → IsSignOf scenario (sign_in scenario.params slot n)
-  sign_of_run n below = record { node = below; cycle = cycle_of_run scenario slot (slot / scenario.params.cycle) h.legal within (omega arith) }
+  sign_of_run n below = record { node = below; cycle = cycle_of_run scenario slot (slot / scenario.params.cycle) h.limits.legal within (omega arith) }
 
   silent_is : (n : ℕ) → n < scenario.params.nodes → has_timed_out_at v members slot n ≡ has_timed_out scenario.params i slot knowledge n
-  silent_is n below = rw (same, h.node, h.failed n, h.params, h.shown n below) refl
+  silent_is n below = rw (same, h.limits.is_node, h.failed n, h.limits.are_params, h.lives.are_shown n below) refl
 
   found_at-is : (n : ℕ) → n < scenario.params.nodes → found_at v members slot n
       ≡ (if has_timed_out scenario.params i slot knowledge n then (if knows (sign_in scenario.params slot n) knowledge then [] else sign_in scenario.params slot n ∷ []) else [])
   found_at-is n below =
       ap (λ b. if b then (if is_known (sign_in v.params slot n) v then [] else sign_in v.params slot n ∷ []) else []) (silent_is n below)
-      ∙ ap (λ (p : Parameters). if has_timed_out scenario.params i slot knowledge n then (if is_known (sign_in p slot n) v then [] else sign_in p slot n ∷ []) else []) h.params
+      ∙ ap (λ (p : Parameters). if has_timed_out scenario.params i slot knowledge n then (if is_known (sign_in p slot n) v then [] else sign_in p slot n ∷ []) else []) h.limits.are_params
       ∙ ap (λ b. if has_timed_out scenario.params i slot knowledge n then (if b then [] else sign_in scenario.params slot n ∷ []) else [])
-      (h.known (sign_in scenario.params slot n) (sign_of_run n below))
+      (h.signs.known (sign_in scenario.params slot n) (sign_of_run n below))
 
   below_is : (n : ℕ) → n ≤ scenario.params.nodes → found_below v members slot n ≡ signs_below n
   unfolding found_below
@@ -76,14 +76,14 @@ module _ (scenario : ScenarioParts) (i : ℕ) (counted past : List NoticeKind) (
 
   pub found_is : found_below v members slot v.params.nodes ≡ found scenario.params i slot knowledge
   unfolding found
-  found_is = ap (λ (p : Parameters). found_below v members slot p.nodes) h.params ∙ below_is scenario.params.nodes (omega arith)
+  found_is = ap (λ (p : Parameters). found_below v members slot p.nodes) h.limits.are_params ∙ below_is scenario.params.nodes (omega arith)
 
   each_found : AllByRecursion (IsSignOf scenario) (found_below v members slot v.params.nodes)
   each_found =
       Each-weaker (IsBelow v.params.nodes (slot / v.params.cycle)) (IsSignOf scenario)
       (λ sign is. record {
-        node = omega (arith, is.0, ap (λ (p : Parameters). p.nodes) h.params);
-        cycle = cycle_of_run scenario slot sign.cycle h.legal within (omega (arith, is.1, ap (λ (p : Parameters). slot / p.cycle) h.params));
+        node = omega (arith, is.0, ap (λ (p : Parameters). p.nodes) h.limits.are_params);
+        cycle = cycle_of_run scenario slot sign.cycle h.limits.legal within (omega (arith, is.1, ap (λ (p : Parameters). slot / p.cycle) h.limits.are_params));
       })
       (found_below v members slot v.params.nodes) (found_below-below v members slot v.params.nodes)
 
@@ -99,5 +99,5 @@ module _ (scenario : ScenarioParts) (i : ℕ) (counted past : List NoticeKind) (
       sym (ap (λ xs. actions_of scenario.params.format (flat_map (sign_effects scenario.params.omit at counted) xs)) (sym found_is)
       ∙ all_acts scenario.params.format scenario.params.omit at counted (has_enough_of v) signs
       (Each-weaker (IsSignOf scenario) (λ sign. has_enough_of v sign ≡ has_enough scenario.params.omit (fda_of sign) counted)
-      (λ sign of. enough_of scenario i counted past knowledge v sign h (omega (arith, of.node, few_nodes scenario.params h.legal.in_range))) signs each_found)
+      (λ sign of. enough_of scenario i counted past knowledge v sign h (omega (arith, of.node, few_nodes scenario.params h.limits.legal.in_range))) signs each_found)
       ∙ ap (λ n. found_actions v n signs) (sym is))

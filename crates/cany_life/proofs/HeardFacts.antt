@@ -34,35 +34,28 @@ module _ (scenario : ScenarioParts) (i : ℕ) (past : List NoticeKind) (knowledg
       → ((r : ℕ) → r < scenario.params.nodes → get_or shown r 0 ≡ by r) → sent ≡ life_signs_sent i (kind ∷ past) → HasFewSigns scenario i (kind ∷ past) (length past)
       → Reads kind (record (with_members members knowledge) { shown = by; last = last }) (record v { shown = shown; last = last; sent = sent })
   reads kind shown by last sent nodes same count few = record {
-    legal = h.legal;
-    node = h.node;
-    params = h.params;
+    limits = h.limits;
     failed = h.failed;
-    cycles = h.cycles;
-    known = h.known;
+    signs = h.signs;
     copies = h.copies;
-    nodes = nodes;
-    shown = same;
-    last = refl;
-    sent = count;
-    few = few_more kind few;
+    lives = record { nodes = nodes; are_shown = same; is_last = refl; are_sent = count; few = few_more kind few };
   }
 
   sent_no : (kind : NoticeKind) → is_own_sign i kind ≡ false → v.sent ≡ life_signs_sent i (kind ∷ past)
   unfolding life_signs_sent
-  sent_no kind none = h.sent ∙ sym (count-no (is_own_sign i) kind past none)
+  sent_no kind none = h.lives.are_sent ∙ sym (count-no (is_own_sign i) kind past none)
 
   sent_yes : (kind : NoticeKind) → is_own_sign i kind ≡ true → v.sent + 1 ≡ life_signs_sent i (kind ∷ past)
   unfolding life_signs_sent
-  sent_yes kind own = omega (arith, h.sent, count-yes (is_own_sign i) kind past own)
+  sent_yes kind own = omega (arith, h.lives.are_sent, count-yes (is_own_sign i) kind past own)
 
   same_last : record (with_members members knowledge) { last = v.last } ≡ with_members members knowledge
-  same_last = ap (λ n. record (with_members members knowledge) { last = n }) h.last
+  same_last = ap (λ n. record (with_members members knowledge) { last = n }) h.lives.is_last
 
   -- nothing is heard
   reads_none : (kind : NoticeKind) → is_own_sign i kind ≡ false → HasFewSigns scenario i (kind ∷ past) (length past) → Reads kind (with_members members knowledge) v
   reads_none kind none few =
-      subst (λ st. Reads kind st v) same_last (reads kind v.shown knowledge.shown v.last v.sent h.nodes h.shown (sent_no kind none) few)
+      subst (λ st. Reads kind st v) same_last (reads kind v.shown knowledge.shown v.last v.sent h.lives.nodes h.lives.are_shown (sent_no kind none) few)
 
   -- another node shows life
   shown_now : (f : FrameParts) (slot r : ℕ) → f.node < most_nodes → r < scenario.params.nodes
@@ -70,8 +63,8 @@ module _ (scenario : ScenarioParts) (i : ℕ) (past : List NoticeKind) (knowledg
   shown_now f slot r near below = elim (cases_eq r f.node) [
     | inl same ↦
         rw (eq-eqb r f.node same)
-        (ap (λ n. get_or (set v.shown f.node slot) n 0) same ∙ get_or-set_same v.shown f.node slot 0 (omega (arith, near, h.nodes)))
-    | inr apart ↦ rw (ne_eqb r f.node apart) (get_or-set_other v.shown f.node r slot 0 apart ∙ h.shown r below)
+        (ap (λ n. get_or (set v.shown f.node slot) n 0) same ∙ get_or-set_same v.shown f.node slot 0 (omega (arith, near, h.lives.nodes)))
+    | inr apart ↦ rw (ne_eqb r f.node apart) (get_or-set_other v.shown f.node r slot 0 apart ∙ h.lives.are_shown r below)
   ]
 
   reads_got : (f : FrameParts) (slot : ℕ) → slot ≡ length past → f.node < most_nodes → HasFewSigns scenario i (Got f ∷ past) (length past)
@@ -82,7 +75,7 @@ module _ (scenario : ScenarioParts) (i : ℕ) (past : List NoticeKind) (knowledg
         rw (shows, at)
         (subst (λ st. Reads (Got f) (record st { shown = λ q. if q == f.node then length past else knowledge.shown q }) (record v { shown = set v.shown f.node (length past) })) same_last
         (reads (Got f) (set v.shown f.node (length past)) (λ q. if q == f.node then length past else knowledge.shown q) v.last v.sent
-        (length-set v.shown f.node (length past) ∙ h.nodes) (λ r below. shown_now f (length past) r near below) (sent_no (Got f) refl) few))
+        (length-set v.shown f.node (length past) ∙ h.lives.nodes) (λ r below. shown_now f (length past) r near below) (sent_no (Got f) refl) few))
     | inr not ↦ rw not (reads_none (Got f) refl few)
   ]
 
@@ -102,11 +95,11 @@ module _ (scenario : ScenarioParts) (i : ℕ) (past : List NoticeKind) (knowledg
   reads_own f slot at own few = elim (cases_Bool (shows_life f)) [
     | inl shows ↦
         rw (shows, own, at)
-        (reads (Sent f) v.shown knowledge.shown (length past) (v.sent + (if same_class f.class class.Els then 1 else 0)) h.nodes h.shown (sent_own f own) few)
+        (reads (Sent f) v.shown knowledge.shown (length past) (v.sent + (if same_class f.class class.Els then 1 else 0)) h.lives.nodes h.lives.are_shown (sent_own f own) few)
     | inr not ↦
         rw not
         (subst (λ st. Reads (Sent f) st (record v { sent = v.sent + (if same_class f.class class.Els then 1 else 0) })) same_last
-        (reads (Sent f) v.shown knowledge.shown v.last (v.sent + (if same_class f.class class.Els then 1 else 0)) h.nodes h.shown (sent_own f own) few))
+        (reads (Sent f) v.shown knowledge.shown v.last (v.sent + (if same_class f.class class.Els then 1 else 0)) h.lives.nodes h.lives.are_shown (sent_own f own) few))
   ]
 
   not_own : (f : FrameParts) (shows own : Bool) → own ≡ false → (shows && own) ≡ false
@@ -118,10 +111,10 @@ module _ (scenario : ScenarioParts) (i : ℕ) (past : List NoticeKind) (knowledg
   unfolding heard after_life
   reads_sent f slot at few = elim (cases_Bool (f.node == v.node)) [
     | inl own ↦
-        let own_i : (f.node == i) ≡ true = ap (λ n. f.node == n) (sym h.node) ∙ own in
+        let own_i : (f.node == i) ≡ true = ap (λ n. f.node == n) (sym h.limits.is_node) ∙ own in
         rw own (reads_own f slot at own_i few)
     | inr other ↦
-        let other_i : (f.node == i) ≡ false = ap (λ n. f.node == n) (sym h.node) ∙ other in
+        let other_i : (f.node == i) ≡ false = ap (λ n. f.node == n) (sym h.limits.is_node) ∙ other in
         rw (other, not_own f (shows_life f) (f.node == i) other_i) (reads_none (Sent f) (not_own f (same_class f.class class.Els) (f.node == i) other_i) few)
   ]
 
@@ -132,6 +125,6 @@ module _ (scenario : ScenarioParts) (i : ℕ) (past : List NoticeKind) (knowledg
   heard_stands Idle slot at within readable few = reads_none Idle refl (rw (← at) few)
   heard_stands Bad slot at within readable few = reads_none Bad refl (rw (← at) few)
   heard_stands (Got f) slot at within readable few =
-      let small = belongs_small scenario slot f h.legal within readable in
-      reads_got f slot at (omega (arith, small.node, few_nodes scenario.params h.legal.in_range)) (rw (← at) few)
+      let small = belongs_small scenario slot f h.limits.legal within readable in
+      reads_got f slot at (omega (arith, small.node, few_nodes scenario.params h.limits.legal.in_range)) (rw (← at) few)
   heard_stands (Sent f) slot at within readable few = reads_sent f slot at (rw (← at) few)

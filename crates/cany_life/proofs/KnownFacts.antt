@@ -31,8 +31,8 @@ module _ (scenario : ScenarioParts) (i : ℕ) (counted past : List NoticeKind) w
       → (q : FailureSign) → IsSignOf scenario q → has (known_in (marked sign v).known q.cycle) q.node ≡ knows q (with_sign sign knowledge)
   unfolding marked
   known_marked knowledge v sign h of q of_q =
-      let near : q.node < most_nodes = omega (arith, of_q.node, few_nodes scenario.params h.legal.in_range) in
-      let within : sign.cycle < length v.known = omega (arith, of.cycle, h.cycles) in
+      let near : q.node < most_nodes = omega (arith, of_q.node, few_nodes scenario.params h.limits.legal.in_range) in
+      let within : sign.cycle < length v.known = omega (arith, of.cycle, h.signs.cycles) in
       let sets : List Nodes = set v.known sign.cycle (with_node sign.node (known_in v.known sign.cycle)) in
       elim (cases_eq q.cycle sign.cycle) [
         | inl same ↦
@@ -40,11 +40,11 @@ module _ (scenario : ScenarioParts) (i : ℕ) (counted past : List NoticeKind) w
             ∙ ap (λ s. has s q.node) (get_or-set_same v.known sign.cycle (with_node sign.node (known_in v.known sign.cycle)) nobody within)
             ∙ has-with_node q.node sign.node (known_in v.known sign.cycle) near
             ∙ ap (λ c. has (known_in v.known c) q.node || q.node == sign.node) (sym same)
-            ∙ ap (λ b. b || q.node == sign.node) (h.known q of_q)
+            ∙ ap (λ b. b || q.node == sign.node) (h.signs.known q of_q)
             ∙ swapped (knows q knowledge) (q.node == sign.node) (q.cycle == sign.cycle) (eq-eqb q.cycle sign.cycle same)
         | inr apart ↦
             ap (λ s. has s q.node) (get_or-set_other v.known sign.cycle q.cycle (with_node sign.node (known_in v.known sign.cycle)) nobody apart)
-            ∙ h.known q of_q ∙ other (knows q knowledge) (q.node == sign.node) (q.cycle == sign.cycle) (ne_eqb q.cycle sign.cycle apart)
+            ∙ h.signs.known q of_q ∙ other (knows q knowledge) (q.node == sign.node) (q.cycle == sign.cycle) (ne_eqb q.cycle sign.cycle apart)
       ]
     where
       swapped : (known node cycle : Bool) → cycle ≡ true → (known || node) ≡ ((node && cycle) || known)
@@ -63,18 +63,11 @@ module _ (scenario : ScenarioParts) (i : ℕ) (counted past : List NoticeKind) w
       → IsReading scenario i counted past (with_sign sign knowledge) (marked sign v)
   unfolding marked all_marked
   stands_marked knowledge v sign h of = record {
-    legal = h.legal;
-    node = h.node;
-    params = h.params;
+    limits = h.limits;
     failed = λ r. same_failed v.failed knowledge.failed sign.node r (h.failed r);
-    cycles = length-marked (sign ∷ []) v ∙ h.cycles;
-    known = known_marked knowledge v sign h of;
+    signs = record { cycles = length-marked (sign ∷ []) v ∙ h.signs.cycles; known = known_marked knowledge v sign h of };
     copies = h.copies;
-    nodes = h.nodes;
-    shown = h.shown;
-    last = h.last;
-    sent = h.sent;
-    few = h.few;
+    lives = h.lives;
   }
 
   -- one sign after another
@@ -87,17 +80,5 @@ module _ (scenario : ScenarioParts) (i : ℕ) (counted past : List NoticeKind) w
 -- with another table of copies
 pub stands_counted : (scenario : ScenarioParts) (i : ℕ) (counted more past : List NoticeKind) (knowledge : Knowledge) (v : LifeParts) (table : EagerParts)
     → AreCopies scenario more table → IsReading scenario i counted past knowledge v → IsReading scenario i more past knowledge (record v { copies = table })
-stands_counted scenario i counted more past knowledge v table copies h = record {
-  legal = h.legal;
-  node = h.node;
-  params = h.params;
-  failed = h.failed;
-  cycles = h.cycles;
-  known = h.known;
-  copies = copies;
-  nodes = h.nodes;
-  shown = h.shown;
-  last = h.last;
-  sent = h.sent;
-  few = h.few;
-}
+stands_counted scenario i counted more past knowledge v table copies h =
+    record { limits = h.limits; failed = h.failed; signs = h.signs; copies = copies; lives = h.lives }

@@ -84,7 +84,7 @@ withdraws_if format false f = refl
 pub enough_of : (scenario : ScenarioParts) (i : ℕ) (counted past : List NoticeKind) (knowledge : Knowledge) (v : LifeParts) (sign : FailureSign)
     → IsReading scenario i counted past knowledge v → sign.node < most_nodes → has_enough_of v sign ≡ has_enough scenario.params.omit (fda_of sign) counted
 enough_of scenario i counted past knowledge v sign h near =
-    ap (λ (p : Parameters). nat_le (p.omit + 1) (copies_of v.copies (sign_number sign))) h.params
+    ap (λ (p : Parameters). nat_le (p.omit + 1) (copies_of v.copies (sign_number sign))) h.limits.are_params
     ∙ ap (nat_le (scenario.params.omit + 1)) (h.copies.copies sign near)
 
 -- ---- a copy of the frame of a sign
@@ -97,13 +97,13 @@ module _ (scenario : ScenarioParts) (i : ℕ) (past : List NoticeKind) (knowledg
     (h : IsReading scenario i past (Got f ∷ past) knowledge v) (is : same_class f.class class.Fda ≡ true) (of : IsSignOf scenario (sign_of f)) where
   told_is : told (Got f) knowledge ≡ unknown (sign_of f) v
   unfolding told
-  told_is = rw (is, ← h.known (sign_of f) of) (told_if (is_known (sign_of f) v) (sign_of f))
+  told_is = rw (is, ← h.signs.known (sign_of f) of) (told_if (is_known (sign_of f) v) (sign_of f))
 
   each_told : AllByRecursion (IsSignOf scenario) (unknown (sign_of f) v)
   each_told = cond_both (is_known (sign_of f) v) [] (sign_of f ∷ []) (AllByRecursion (IsSignOf scenario)) (λ _. tt) (λ _. (of, tt))
 
   near : f.node < most_nodes
-  near = omega (arith, of.node, few_nodes scenario.params h.legal.in_range)
+  near = omega (arith, of.node, few_nodes scenario.params h.limits.legal.in_range)
 
   pub copy_stands : length past < most_slots → IsLearnt (sign_number (sign_of f)) v.copies w.copies → w ≡ all_marked (unknown (sign_of f) v) (record v { copies = w.copies })
       → IsReading scenario i (Got f ∷ past) (Got f ∷ past) (with_signs (told (Got f) knowledge) knowledge) w
@@ -139,7 +139,7 @@ module _ (scenario : ScenarioParts) (i : ℕ) (past : List NoticeKind) (knowledg
       ap (λ b. actions_of format (if b && has_enough omit (identity_of f) (Got f ∷ past) then Withdraw (identity_of f) ∷ [] else [])) is
       ∙ withdraws_if format (has_enough omit (identity_of f) (Got f ∷ past)) f
       ∙ ap (λ b. withdraw_actions format b f) enough_now
-      ∙ ap (λ (p : Parameters). withdraw_actions p.format e f) (sym h.params) in
+      ∙ ap (λ (p : Parameters). withdraw_actions p.format e f) (sym h.limits.are_params) in
       acts
       ∙ both_actions format before (flat_map (sign_effects omit (length past) (Got f ∷ past)) (told (Got f) knowledge)) (fda_copy_effects omit (Got f) (Got f ∷ past)) _ _ known withdrawn
 

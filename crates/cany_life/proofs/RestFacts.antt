@@ -23,7 +23,7 @@ module _ (scenario : ScenarioParts) (i : ℕ) (past : List NoticeKind) (knowledg
   before = with_members members knowledge
 
   few : HasFewSigns scenario i (Idle ∷ past) (length past)
-  few = few_other scenario i Idle past (length past) refl h.few
+  few = few_other scenario i Idle past (length past) refl h.lives.few
 
   idle_heard : IsReading scenario i past (Idle ∷ past) before v
   unfolding after_life heard
@@ -38,10 +38,10 @@ module _ (scenario : ScenarioParts) (i : ℕ) (past : List NoticeKind) (knowledg
     nobody_found =
         sym (found_is scenario i (Idle ∷ past) (Idle ∷ past) before v (length past) idle_reads within members refl)
         ∙ none_found v members (length past) some idle_until v.params.nodes
-        (omega (arith, few_nodes scenario.params h.legal.in_range, ap (λ (p : Parameters). p.nodes) h.params))
+        (omega (arith, few_nodes scenario.params h.limits.legal.in_range, ap (λ (p : Parameters). p.nodes) h.limits.are_params))
       where
         some : 0 < v.params.silence
-        some = omega (arith, h.legal.in_range.silence.0, ap (λ (p : Parameters). p.silence) h.params)
+        some = omega (arith, h.limits.legal.in_range.silence.0, ap (λ (p : Parameters). p.silence) h.limits.are_params)
 
     no_failures : failures_at scenario.params i Idle past before ≡ []
     unfolding failures_at told with_signs after_life fda_copy_effects
@@ -57,5 +57,5 @@ module _ (scenario : ScenarioParts) (i : ℕ) (past : List NoticeKind) (knowledg
       stands = idle_reads;
       failures = no_failures;
       found = as_before;
-      sign = rw (← h.node, ← h.params, ← h.last, none) refl;
+      sign = rw (← h.limits.is_node, ← h.limits.are_params, ← h.lives.is_last, none) refl;
     }

@@ -47,7 +47,7 @@ learnt_members i slot e knowledge = signs_keep_members (told_in i slot e knowled
 
 pub at_own_node : (scenario : ScenarioParts) (i : ℕ) (past : List NoticeKind) (knowledge : Knowledge) (v : LifeParts) → IsLifeOf scenario i past knowledge v
     → IsLifeOf scenario v.node past knowledge v
-at_own_node scenario i past knowledge v h = subst (λ n. IsLifeOf scenario n past knowledge v) (sym h.node) h
+at_own_node scenario i past knowledge v h = subst (λ n. IsLifeOf scenario n past knowledge v) (sym h.limits.is_node) h
 
 -- what learning ensures, at each history that the value stands for
 abbrev pub Learns : Notice → LifeParts → LifeParts → Type 0
@@ -59,7 +59,7 @@ Learns notice w x =
 pub few_sent : (scenario : ScenarioParts) (i : ℕ) (past : List NoticeKind) (knowledge : Knowledge) (notice : Notice) (v : LifeParts)
     → IsLifeOf scenario i past knowledge v → IsNextNotice scenario past notice → v.sent < most_slots
 few_sent scenario i past knowledge notice v h next =
-    omega (arith, h.sent, life_signs_sent-few i past, next.slot, next.within, few_slots scenario.params h.legal.in_range)
+    omega (arith, h.lives.are_sent, life_signs_sent-few i past, next.slot, next.within, few_slots scenario.params h.limits.legal.in_range)
 
 module _ (scenario : ScenarioParts) (i : ℕ) (past : List NoticeKind) (knowledge : Knowledge) (members : Nodes) (notice : Notice) (v w : LifeParts)
     (h : IsLifeOf scenario i past knowledge v) (next : IsNextAt scenario i past notice) (hears : w ≡ heard notice.slot notice.kind v) where
@@ -73,7 +73,7 @@ module _ (scenario : ScenarioParts) (i : ℕ) (past : List NoticeKind) (knowledg
       (heard_stands scenario i past knowledge members v h notice.kind notice.slot next.next.slot next.next.within next.next.readable next.few)
 
   pub heard_node : w.node ≡ i
-  heard_node = heard_reads.node
+  heard_node = heard_reads.limits.is_node
 
   pub heard_own : IsReading scenario w.node past (notice.kind ∷ past) (after_hearing i (length past) notice.kind before) w
   heard_own = subst (λ n. IsReading scenario n past (notice.kind ∷ past) (after_hearing i (length past) notice.kind before) w) (sym heard_node) heard_reads
@@ -101,31 +101,31 @@ module _ (scenario : ScenarioParts) (i : ℕ) (past : List NoticeKind) (knowledg
     learnt = after_learning i (length past) notice.kind before
 
     pub own_params : x.params ≡ v.params
-    own_params = learnt_reads.params ∙ sym h.params
+    own_params = learnt_reads.limits.are_params ∙ sym h.limits.are_params
 
     -- what finding rests on
     pub some_cycle : 0 < x.params.cycle
-    some_cycle = rw learnt_reads.params (omega (arith, h.legal.in_range.cycle.0))
+    some_cycle = rw learnt_reads.limits.are_params (omega (arith, h.limits.legal.in_range.cycle.0))
 
     pub some_silence : 0 < x.params.silence
-    some_silence = rw learnt_reads.params (omega (arith, h.legal.in_range.silence.0))
+    some_silence = rw learnt_reads.limits.are_params (omega (arith, h.limits.legal.in_range.silence.0))
 
     pub few_cycles : notice.slot / x.params.cycle < most_numbers
     few_cycles =
         let sign : FailureSign = record { node = 0; cycle = notice.slot / scenario.params.cycle } in
-        let small = belongs_small scenario notice.slot (fda_frame sign) h.legal next.next.within (record {
-          node = omega (arith, h.legal.in_range.nodes.0);
+        let small = belongs_small scenario notice.slot (fda_frame sign) h.limits.legal next.next.within (record {
+          node = omega (arith, h.limits.legal.in_range.nodes.0);
           number = omega arith;
         }) in
-        rw learnt_reads.params small.number
+        rw learnt_reads.limits.are_params small.number
 
     pub has_cycle : notice.slot / x.params.cycle < length x.known
     has_cycle =
-        rw learnt_reads.params
-        (omega (arith, learnt_reads.cycles, cycle_of_run scenario notice.slot (notice.slot / scenario.params.cycle) h.legal next.next.within (omega arith)))
+        rw learnt_reads.limits.are_params
+        (omega (arith, learnt_reads.signs.cycles, cycle_of_run scenario notice.slot (notice.slot / scenario.params.cycle) h.limits.legal next.next.within (omega arith)))
 
     pub placed : x.params.nodes ≤ most_nodes
-    placed = rw learnt_reads.params (few_nodes scenario.params h.legal.in_range)
+    placed = rw learnt_reads.limits.are_params (few_nodes scenario.params h.limits.legal.in_range)
 
     -- and finds
     pub turn_stands : (y : LifeParts) → y ≡ all_marked (found_below x members notice.slot x.params.nodes) x

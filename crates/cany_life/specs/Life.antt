@@ -1,5 +1,6 @@
 -- What a value of life signs and failure signs stands for.
 use Rattle.std.specs.Prelude.{◌≡◌, ℕ, ◌+◌, ◌*◌, ◌<◌, ◌≤◌, true, List, [], ◌∷◌, length, slice_index_or}
+use Rattle.std.specs.List.{list_any}
 use Rattle.cany_base.specs.declared.notice.Notice.{Notice}
 use Rattle.cany_base.specs.declared.notice.NoticeKind.{NoticeKind}
 use Rattle.cany_base.specs.declared.notice.NoticeKind.TheVariants.{Idle}
@@ -12,7 +13,7 @@ use Rattle.cany_model.specs.Bus.History.{copies}
 use Rattle.cany_model.specs.Rules.Life.{failures_at, life_sign, life_signs_sent}
 use Rattle.cany_model.specs.Rules.Notices.{HasFewSigns, IsNextNotice}
 use Rattle.cany_model.specs.Rules.Rooms.{cycles}
-use Rattle.cany_model.specs.Rules.Knowledge.{FailureSign, Knowledge, fda_of, after_finding, knows}
+use Rattle.cany_model.specs.Rules.Knowledge.{FailureSign, Knowledge, fda_of, after_finding, knows, same_sign}
 
 -- the node, the parameters, the nodes that have failed here, for each cycle the nodes whose sign of that cycle is known, the copies of
 -- the frames of signs, for each node the slot in which it last showed life, that of the node's own last life, and how many life signs
@@ -54,21 +55,35 @@ pub record AreCopies (scenario : ScenarioParts) (past : List NoticeKind) (table 
 abbrev pub known_in : List Nodes → ℕ → Nodes
 known_in known cycle = slice_index_or known cycle nobody
 
+-- what never changes: the node is node i of the scenario, and has its parameters
+pub record HasLimitsOf (scenario : ScenarioParts) (i node : ℕ) (params : Parameters) : Type 0 where
+  pub legal : IsLegalScenario scenario
+  pub is_node : node ≡ i
+  pub are_params : params ≡ scenario.params
+
+-- the sets, one for each cycle of the run, have the signs that are known
+pub record AreKnown (scenario : ScenarioParts) (signs : List FailureSign) (sets : List Nodes) : Type 0 where
+  pub cycles : length sets ≡ cycles scenario + 1
+  pub known : (sign : FailureSign) → IsSignOf scenario sign → has (known_in sets sign.cycle) sign.node ≡ list_any (same_sign sign) signs
+
+-- What is kept of lives is what is known of them, for each other node the slot in which it last showed life, and that of the node's own
+-- last life; and the node has sent so many life signs of its own in these notices.
+pub record AreLives (scenario : ScenarioParts) (i : ℕ) (past : List NoticeKind) (shown : ℕ → ℕ) (last : ℕ)
+    (slots : List ℕ) (own sent : ℕ) : Type 0 where
+  pub nodes : length slots ≡ most_nodes
+  pub are_shown : (r : ℕ) → r < scenario.params.nodes → slice_index_or slots r 0 ≡ shown r
+  pub is_last : own ≡ last
+  pub are_sent : sent ≡ life_signs_sent i past
+  pub few : HasFewSigns scenario i past (length past)
+
 -- The value is that of node i after these notices, newest first, where it knows what this knowledge knows, its members left aside: they
 -- are given to each call. The copies are those in notices of their own, since they are counted in the middle of a turn.
 pub record IsReading (scenario : ScenarioParts) (i : ℕ) (counted past : List NoticeKind) (knowledge : Knowledge) (v : LifeParts) : Type 0 where
-  pub legal : IsLegalScenario scenario
-  pub node : v.node ≡ i
-  pub params : v.params ≡ scenario.params
+  pub limits : HasLimitsOf scenario i v.node v.params
   pub failed : (r : ℕ) → has v.failed r ≡ has knowledge.failed r
-  pub cycles : length v.known ≡ cycles scenario + 1
-  pub known : (sign : FailureSign) → IsSignOf scenario sign → has (known_in v.known sign.cycle) sign.node ≡ knows sign knowledge
+  pub signs : AreKnown scenario knowledge.signs v.known
   pub copies : AreCopies scenario counted v.copies
-  pub nodes : length v.shown ≡ most_nodes
-  pub shown : (r : ℕ) → r < scenario.params.nodes → slice_index_or v.shown r 0 ≡ knowledge.shown r
-  pub last : v.last ≡ knowledge.last
-  pub sent : v.sent ≡ life_signs_sent i past
-  pub few : HasFewSigns scenario i past (length past)
+  pub lives : AreLives scenario i past knowledge.shown knowledge.last v.shown v.last v.sent
 
 -- the same between two turns
 abbrev pub IsLifeOf : ScenarioParts → ℕ → List NoticeKind → Knowledge → LifeParts → Type 0

@@ -1,12 +1,9 @@
 ghost use Rattle.std.specs.Prelude.{◌≡◌, ◌<◌};
-ghost use Rattle.cany_base.specs.declared.class.Class.TheVariants as class;
 ghost use Rattle.cany_base.specs.Limits.{most_nodes};
-ghost use Rattle.cany_model.specs.Bus.Frames.{same_class};
 ghost use Rattle.cany_model.specs.Rules.Knowledge.{shows_life, sign_of};
 
 use cany_base::{Class, Frame, NodeId, Payload};
 use cany_diffuse::Diffused;
-use cany_message::is_of_class;
 use std::marker::Model;
 
 /// That a node has failed, as it was found out in a membership cycle. It is told of by a frame
@@ -70,20 +67,6 @@ impl Diffused for DiffusedSign {
     }
 
     ghost one_name_one_key = { λ a b in_a in_b. (λ one. Prim.omega (arith, one.number, one.node), λ e. record { class = refl; number = Prim.omega (arith, e, in_a, in_b); node = Prim.omega (arith, e, in_a, in_b) }) };
-}
-
-/// Whether the frame tells of a failure sign.
-pub(crate) fn is_failure_sign(frame: &Frame) -> bool
-    ensures { result ≡ same_class frame.now.class class.Fda }
-{
-    is_of_class(frame, Class::Fda)
-}
-
-/// Whether the frame is a life sign.
-pub(crate) fn is_life_sign(frame: &Frame) -> bool
-    ensures { result ≡ same_class frame.now.class class.Els }
-{
-    is_of_class(frame, Class::Els)
 }
 
 /// Whether the frame shows that the node lives which it names.

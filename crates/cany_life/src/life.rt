@@ -19,14 +19,14 @@ ghost use Rattle.cany_model.specs.Rules.Life.{els_frame, failures_at, fda_copy_e
 ghost use Rattle.cany_model.specs.Rules.Notices.{IsNextNotice};
 ghost use Rattle.cany_model.specs.Rules.Knowledge.{Knowledge, after_admitting, after_finding, shows_life, sign_of, knowledge_at_first, told, with_members, with_signs};
 
-use crate::frames::{DiffusedSign, is_failure_sign, is_life_sign, shows_life};
+use crate::frames::{DiffusedSign, shows_life};
 use cany_base::cycle::cycle_of;
 use cany_base::{
     Action, Actions, BoundedVec, Class, Format, Frame, LogEntry, Memory, NodeId, NodeSet, Notice,
     NoticeKind, Params, Payload, Scenario, Slot,
 };
 use cany_diffuse::{Diffused, Eager};
-use cany_message::withdraw;
+use cany_message::{is_of_class, withdraw};
 use std::alloc::Global;
 use std::marker::Model;
 
@@ -67,16 +67,7 @@ impl Model for Life {
 
     ghost Value = { LifeParts };
 
-    ghost view = { λ l. record {
-      node = l.node;
-      params = l.params;
-      failed = l.failed;
-      known = l.known.items;
-      copies = l.copies;
-      shown = l.shown;
-      last = l.last;
-      sent = l.sent;
-    } };
+    ghost view = { parts_of };
 
     ghost invariant = { λ l. IsIdleUntil l.idle_until l.watched (parts_of l) };
 }
@@ -238,7 +229,7 @@ impl Life {
         if shows_life(frame) {
             self.last = slot;
         }
-        if is_life_sign(frame) {
+        if is_of_class(frame, Class::Els) {
             self.sent += 1;
         }
     }
@@ -262,7 +253,7 @@ impl Life {
     {
         match &notice.kind {
             NoticeKind::Got(frame) => {
-                if is_failure_sign(frame) {
+                if is_of_class(frame, Class::Fda) {
                     self.on_copy(notice.slot, frame, out);
                 }
             }

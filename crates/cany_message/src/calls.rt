@@ -3,7 +3,8 @@ ghost use Rattle.cany_message.specs.Calls.{actions_called, frame_actions};
 ghost use Rattle.cany_model.specs.Rules.Relcan.{confirm_frame};
 
 use crate::actions::deliver;
-use cany_base::{Action, Actions, Class, Frame, Notice, NoticeKind, Payload, Service, Slot};
+use crate::frame::bare_frame;
+use cany_base::{Action, Actions, Class, Frame, Notice, NoticeKind, Service, Slot};
 
 /// What a node does with a data frame that it reads, or for its message.
 #[derive(Clone, Copy)]
@@ -40,13 +41,7 @@ impl Calls {
 pub fn confirmation_frame(frame: &Frame) -> Frame
     ensures { result ≡ confirm_frame frame.now }
 {
-    Frame {
-        class: Class::Confirm,
-        number: frame.number,
-        node: frame.node,
-        inc: 0,
-        payload: Payload::empty(),
-    }
+    bare_frame(Class::Confirm, frame)
 }
 
 /// Appends what a notice calls for by a service to the actions.

@@ -1,5 +1,6 @@
-ghost use Rattle.std.specs.Prelude.{◌≡◌, ◌<◌};
+ghost use Rattle.std.specs.Prelude.{◌≡◌, ◌<◌, []};
 ghost use Rattle.cany_base.specs.declared.class.Class.{Class};
+ghost use Rattle.cany_base.specs.Frame.{FitsClass};
 ghost use Rattle.cany_base.specs.Limits.{most_nodes};
 ghost use Rattle.cany_model.specs.Bus.Frames.{same_class};
 
@@ -56,7 +57,6 @@ impl<C: FrameClass> MessageFrame<C> {
 
 impl<C: FrameClass> Diffused for MessageFrame<C> {
     ghost use Rattle.cany_message.specs.Numbers.{message_number};
-    ghost use Rattle.cany_base.specs.Frame.{FitsClass};
     ghost use Rattle.std.proofs.Common.{arith, refl};
 
     ghost key = { λ d. message_number d.msg.seq d.msg.origin };
@@ -83,6 +83,20 @@ impl<C: FrameClass> Diffused for MessageFrame<C> {
       λ one. Prim.omega (arith, one.number, one.node),
       λ e. record { class = refl; number = Prim.omega (arith, e, in_a.0, in_b.0); node = Prim.omega (arith, e, in_a.0, in_b.0) },
     ) };
+}
+
+/// The frame of a class that names the message of this frame, and carries nothing.
+pub fn bare_frame(class: Class, frame: &Frame) -> Frame
+    requires { FitsClass class [] }
+    ensures { result ≡ record { class = class; number = frame.now.number; node = frame.now.node; inc = 0; payload = [] } }
+{
+    Frame {
+        class,
+        number: frame.number,
+        node: frame.node,
+        inc: 0,
+        payload: Payload::empty(),
+    }
 }
 
 /// Whether the frame is of a class.

@@ -14,7 +14,7 @@ mod threads;
 
 pub use actions::{bare_identifier, deliver, relay, withdraw};
 pub use calls::{Calls, Reply, confirmation_frame, put};
-pub use frame::{FrameClass, MessageFrame, is_of_class};
+pub use frame::{FrameClass, MessageFrame, bare_frame, is_of_class};
 pub use keys::keys_of;
 pub use number::message_number;
 pub use sends::sends_by;

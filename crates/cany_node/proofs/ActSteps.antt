@@ -115,7 +115,7 @@ module _ (scenario : ScenarioParts) (past : List NoticeKind) (notice : Notice) (
 
   names : AllByRecursion (NamesAskable scenario v.node) effects
   names =
-      turn_names scenario read stands.legal (readable, stands.readable) (omega (arith, next.next.slot, next.next.within)) v.node stands.membership.history.place
+      turn_names scenario read stands.legal (readable, stands.readable) (omega (arith, next.next.slot, next.next.within)) v.node stands.membership.history.limits.place
       (omega (arith, next.few, next.next.within))
 
   plain_names : AllByRecursion (NamesAskable scenario v.node) plain

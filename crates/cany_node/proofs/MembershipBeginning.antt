@@ -37,12 +37,9 @@ site_opens scenario i v rest = record {
 life_for : (scenario : ScenarioParts) (inc : Incarnation) (i : ℕ) (past : List NoticeKind) (knowledge : Knowledge) (v : LifeParts)
     → IsLegalScenario (scenario_for scenario inc) → IsLifeOf scenario i past knowledge v → IsLifeOf (scenario_for scenario inc) i past knowledge v
 life_for scenario inc i past knowledge v legal h = record {
-  legal = legal;
-  node = h.node;
-  params = h.params;
+  limits = record { legal = legal; is_node = h.limits.is_node; are_params = h.limits.are_params };
   failed = h.failed;
-  cycles = h.cycles;
-  known = λ sign of. h.known sign (record { node = of.node; cycle = of.cycle });
+  signs = record { cycles = h.signs.cycles; known = λ sign of. h.signs.known sign (record { node = of.node; cycle = of.cycle }) };
   copies = record {
     omit = h.copies.omit;
     room = h.copies.room;
@@ -51,21 +48,14 @@ life_for scenario inc i past knowledge v legal h = record {
         let is = h.copies.signs number there in
         record { sign = is.sign; of = record { node = is.of.node; cycle = is.of.cycle }; stands = is.stands };
   };
-  nodes = h.nodes;
-  shown = h.shown;
-  last = h.last;
-  sent = h.sent;
-  few = h.few;
+  lives = record { nodes = h.lives.nodes; are_shown = h.lives.are_shown; is_last = h.lives.is_last; are_sent = h.lives.are_sent; few = h.lives.few };
 }
 
 -- a value of the exchange of vectors does too
 history_for : (scenario : ScenarioParts) (inc : Incarnation) (i : ℕ) (past : List NoticeKind) (v : HistoryParts)
     → IsLegalScenario (scenario_for scenario inc) → IsHistoryOf scenario i past None v → IsHistoryOf (scenario_for scenario inc) i past None v
 history_for scenario inc i past v legal h = record {
-  legal = legal;
-  place = h.place;
-  node = h.node;
-  params = h.params;
+  limits = record { legal = legal; place = h.limits.place; is_node = h.limits.is_node; are_params = h.limits.are_params };
   vector = h.vector;
   below = h.below;
   few = h.few;
@@ -77,15 +67,13 @@ history_for scenario inc i past v legal h = record {
 views_for : (scenario : ScenarioParts) (inc : Incarnation) (i : ℕ) (knowledge : Knowledge) (v : ViewsParts)
     → IsLegalScenario (scenario_for scenario inc) → IsViewsOf scenario i knowledge v → IsViewsOf (scenario_for scenario inc) i knowledge v
 views_for scenario inc i knowledge v legal h = record {
-  legal = legal;
-  node = h.node;
-  params = h.params;
+  limits =
+      let told = h.limits in
+      record { legal = legal; is_node = told.is_node; are_params = told.are_params; are_joins = told.are_joins; are_leaves = told.are_leaves };
   members = h.members;
   joiners = h.joiners;
   leavers = h.leavers;
   below = h.below;
-  joins = h.joins;
-  leaves = h.leaves;
 }
 
 -- ---- a node that is at first no member
@@ -126,6 +114,6 @@ site_begins scenario inc i n old new rest became legal outside begun = record {
     known = begun_knowledge followed i past begun ∙ ap knowledge_at_first outside
 
     seen : IsViewsOf scenario i (knowledge_at_first nobody) new.views
-    seen = subst (λ k. IsViewsOf scenario k (knowledge_at_first nobody) new.views) rest.views.node
+    seen = subst (λ k. IsViewsOf scenario k (knowledge_at_first nobody) new.views) rest.views.limits.is_node
         (became.views scenario (knowledge_at_first scenario.members)
-        (subst (λ k. IsViewsOf scenario k (knowledge_at_first scenario.members) old.views) (sym rest.views.node) rest.views))
+        (subst (λ k. IsViewsOf scenario k (knowledge_at_first scenario.members) old.views) (sym rest.views.limits.is_node) rest.views))

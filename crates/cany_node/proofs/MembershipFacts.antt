@@ -41,31 +41,26 @@ pub record SameViews (a b : Knowledge) : Type 0 where
 module _ (scenario : ScenarioParts) (i : ℕ) (a b : Knowledge) where
   pub life_moved : (past : List NoticeKind) (v : LifeParts) → SameLife a b → IsLifeOf scenario i past a v → IsLifeOf scenario i past b v
   life_moved past v same h = record {
-    legal = h.legal;
-    node = h.node;
-    params = h.params;
+    limits = h.limits;
     failed = λ r. h.failed r ∙ ap (λ nodes. has nodes r) same.failed;
-    cycles = h.cycles;
-    known = λ sign is. h.known sign is ∙ ap (list_any (same_sign sign)) same.signs;
+    signs = record { cycles = h.signs.cycles; known = λ sign is. h.signs.known sign is ∙ ap (list_any (same_sign sign)) same.signs };
     copies = h.copies;
-    nodes = h.nodes;
-    shown = λ r below. h.shown r below ∙ same.shown r;
-    last = h.last ∙ same.last;
-    sent = h.sent;
-    few = h.few;
+    lives = record {
+      nodes = h.lives.nodes;
+      are_shown = λ r below. h.lives.are_shown r below ∙ same.shown r;
+      is_last = h.lives.is_last ∙ same.last;
+      are_sent = h.lives.are_sent;
+      few = h.lives.few;
+    };
   }
 
   pub views_moved : (v : ViewsParts) → SameViews a b → IsViewsOf scenario i a v → IsViewsOf scenario i b v
   views_moved v same h = record {
-    legal = h.legal;
-    node = h.node;
-    params = h.params;
+    limits = h.limits;
     members = h.members ∙ same.members;
     joiners = h.joiners ∙ same.joiners;
     leavers = h.leavers ∙ same.leavers;
     below = h.below;
-    joins = h.joins;
-    leaves = h.leaves;
   }
 
   pub knows_moved : (past : List NoticeKind) (v : MembershipParts) → SameLife a b → SameViews a b → KnowsOf scenario i past a v

@@ -37,15 +37,15 @@ module _ (scenario : ScenarioParts) (i : ℕ) (past : List NoticeKind) (notice :
   before = knowledge_of scenario i past
 
   pub life_stands : IsLifeOf scenario v.life.node past (knowledge_of scenario i past) v.life
-  life_stands = subst (λ n. IsLifeOf scenario n past before v.life) (sym h.life.node) h.life
+  life_stands = subst (λ n. IsLifeOf scenario n past before v.life) (sym h.life.limits.is_node) h.life
 
   pub life_next : life.IsNextAt scenario v.life.node past notice
   life_next =
       let here : life.IsNextAt scenario i past notice = record { next = next.next; few = next.few } in
-      subst (λ n. life.IsNextAt scenario n past notice) (sym h.life.node) here
+      subst (λ n. life.IsNextAt scenario n past notice) (sym h.life.limits.is_node) here
 
   pub views_stand : IsViewsOf scenario v.views.node (knowledge_of scenario i past) v.views
-  views_stand = subst (λ n. IsViewsOf scenario n before v.views) (sym h.views.node) h.views
+  views_stand = subst (λ n. IsViewsOf scenario n before v.views) (sym h.views.limits.is_node) h.views
 
   -- the views have heard who asks, and these are the members
   module _ (views : ViewsParts) (heard : IsViewsOf scenario v.views.node (after_ask notice.kind (knowledge_of scenario i past)) views)
@@ -61,7 +61,7 @@ module _ (scenario : ScenarioParts) (i : ℕ) (past : List NoticeKind) (notice :
     failures_listed old new acts =
         let listed : ℕ → Knowledge → List Action =
         λ n st. old ++ actions_of scenario.params.format (failures_at scenario.params n notice.kind past st) in
-        acts ∙ ap (λ n. listed n (with_members members before)) h.life.node ∙ ap (listed i) own_members
+        acts ∙ ap (λ n. listed n (with_members members before)) h.life.limits.is_node ∙ ap (listed i) own_members
 
     -- life has heard the notice too, and so knows all that it tells but the vector
     pub all_heard : (heard_life : LifeParts)
@@ -73,8 +73,8 @@ module _ (scenario : ScenarioParts) (i : ℕ) (past : List NoticeKind) (notice :
         let slot : ℕ = length past in
         let read : List NoticeKind = notice.kind ∷ past in
         let stands : ℕ → Knowledge → Type 0 = λ n st. IsLifeOf scenario n read (after_finding p n slot notice.kind st) heard_life in
-        let known = subst (stands i) own_members (subst (λ n. stands n (with_members members before)) h.life.node found) in
-        let seen = subst (λ n. IsViewsOf scenario n (after_ask notice.kind before) views) h.views.node heard in
+        let known = subst (stands i) own_members (subst (λ n. stands n (with_members members before)) h.life.limits.is_node found) in
+        let seen = subst (λ n. IsViewsOf scenario n (after_ask notice.kind before) views) h.views.limits.is_node heard in
         record {
           knows = record {
             params = h.params;
@@ -98,12 +98,12 @@ module _ (scenario : ScenarioParts) (i : ℕ) (past : List NoticeKind) (notice :
   known = knowledge_of scenario i past
 
   pub history_stands : IsHistoryOf scenario v.history.node past (knowledge_of scenario i past).vector v.history
-  history_stands = subst (λ n. IsHistoryOf scenario n past known.vector v.history) (sym h.history.node) h.history
+  history_stands = subst (λ n. IsHistoryOf scenario n past known.vector v.history) (sym h.history.limits.is_node) h.history
 
   pub history_next : history.IsNextAt scenario v.history.node past (knowledge_of scenario i past).vector notice
   history_next =
       let here : history.IsNextAt scenario i past known.vector notice = record { next = h.next.next; vector = h.next.vector } in
-      subst (λ n. history.IsNextAt scenario n past known.vector notice) (sym h.history.node) here
+      subst (λ n. history.IsNextAt scenario n past known.vector notice) (sym h.history.limits.is_node) here
 
   -- the vector with which a cycle ends
   pub ended_met : (result : Option Ended)
@@ -113,14 +113,14 @@ module _ (scenario : ScenarioParts) (i : ℕ) (past : List NoticeKind) (notice :
       is ∙ ap (λ slot. ended_as scenario.params slot (ended_in scenario.params slot notice.kind known)) h.next.next.slot
 
   pub ended_of_bus : (result : Option Ended) → IfSome result (λ e. AllBelow v.history.params.nodes e.vector) → IsOfBus v.params result
-  ended_of_bus result below = subst (λ p. IsOfBus p result) (h.history.params ∙ sym h.knows.params) below
+  ended_of_bus result below = subst (λ p. IsOfBus p result) (h.history.limits.are_params ∙ sym h.knows.params) below
 
   -- what the node has found that it can start with, the exchange can be given
   pub start_fits : (start : Option Nodes) → (is_start v.params notice.slot ≡ false → start ≡ None) → IfSome start (AllBelow v.views.params.nodes)
       → history.StartsWith v.history.params notice.slot start
   start_fits start none below = record {
-    none = λ no. none (ap (λ (p : Parameters). is_start p notice.slot) (h.knows.params ∙ sym h.history.params) ∙ no);
-    below = subst (λ (p : Parameters). IfSome start (AllBelow p.nodes)) (h.knows.views.params ∙ sym h.history.params) below;
+    none = λ no. none (ap (λ (p : Parameters). is_start p notice.slot) (h.knows.params ∙ sym h.history.limits.are_params) ∙ no);
+    below = subst (λ (p : Parameters). IfSome start (AllBelow p.nodes)) (h.knows.views.limits.are_params ∙ sym h.history.limits.are_params) below;
   }
 
   -- what the node starts with
@@ -130,7 +130,7 @@ module _ (scenario : ScenarioParts) (i : ℕ) (past : List NoticeKind) (notice :
     start_is =
         starts
         ∙ ap (λ slot. if is_start scenario.params slot then start_of i (met_by scenario i notice past) else None) h.next.next.slot
-        ∙ starts_as_met scenario.params i (length past) notice.kind known (omega (arith, h.history.legal.in_range.bound.0))
+        ∙ starts_as_met scenario.params i (length past) notice.kind known (omega (arith, h.history.limits.legal.in_range.bound.0))
 
     pub exchange_listed : (old new : List Action)
         → new ≡ old ++ actions_of scenario.params.format
@@ -139,7 +139,7 @@ module _ (scenario : ScenarioParts) (i : ℕ) (past : List NoticeKind) (notice :
     exchange_listed old new acts =
         let listed : ℕ → Option Nodes → List Action =
         λ n s. old ++ actions_of scenario.params.format (exchange_at scenario.params 0 n notice.kind past known.vector s) in
-        acts ∙ ap (λ n. listed n start) h.history.node ∙ ap (listed i) start_is
+        acts ∙ ap (λ n. listed n start) h.history.limits.is_node ∙ ap (listed i) start_is
 
     pub exchanged : (new : HistoryParts)
         → IsHistoryOf scenario v.history.node (notice.kind ∷ past)
@@ -148,7 +148,7 @@ module _ (scenario : ScenarioParts) (i : ℕ) (past : List NoticeKind) (notice :
     exchanged new stands =
         let read : List NoticeKind = notice.kind ∷ past in
         let after : Option Nodes → Option Nodes = λ s. after_exchange scenario.params (length past) notice.kind s known.vector in
-        let here = subst (λ n. IsHistoryOf scenario n read (after start) new) h.history.node stands in
+        let here = subst (λ n. IsHistoryOf scenario n read (after start) new) h.history.limits.is_node stands in
         subst (λ own. IsHistoryOf scenario i read own new) (ap after start_is ∙ sym (knowledge_vector scenario i notice.kind past)) here
 
 -- ---- the end of a cycle
@@ -156,10 +156,10 @@ module _ (scenario : ScenarioParts) (i : ℕ) (past : List NoticeKind) (notice :
 module _ (scenario : ScenarioParts) (i : ℕ) (past : List NoticeKind) (knowledge : Knowledge) (v : MembershipParts)
     (h : KnowsOf scenario i past knowledge v) where
   pub known_life : IsLifeOf scenario v.life.node past knowledge v.life
-  known_life = subst (λ n. IsLifeOf scenario n past knowledge v.life) (sym h.life.node) h.life
+  known_life = subst (λ n. IsLifeOf scenario n past knowledge v.life) (sym h.life.limits.is_node) h.life
 
   pub known_views : IsViewsOf scenario v.views.node knowledge v.views
-  known_views = subst (λ n. IsViewsOf scenario n knowledge v.views) (sym h.views.node) h.views
+  known_views = subst (λ n. IsViewsOf scenario n knowledge v.views) (sym h.views.limits.is_node) h.views
 
   module _ (slot : ℕ) (vector : Option Nodes) where
     -- none ended
@@ -186,9 +186,9 @@ module _ (scenario : ScenarioParts) (i : ℕ) (past : List NoticeKind) (knowledg
       view_installed newly life views new admitted seen =
           let admits : Nodes = minus e.vector knowledge.members in
           let stands : ℕ → Nodes → Type 0 = λ n nodes. IsLifeOf scenario n past (after_admitting n slot nodes knowledge) life in
-          let here = subst (λ n. stands n newly) h.life.node admitted in
+          let here = subst (λ n. stands n newly) h.life.limits.is_node admitted in
           let lives = subst (stands i) (new ∙ ap (minus e.vector) h.views.members) here in
-          let sees = subst (λ n. IsViewsOf scenario n (with_view n slot e.vector knowledge) views) h.views.node seen in
+          let sees = subst (λ n. IsViewsOf scenario n (with_view n slot e.vector knowledge) views) h.views.limits.is_node seen in
           subst (λ o. KnowsOf scenario i past (with_ended i slot o knowledge)
           (record { params = v.params; life = life; history = v.history; views = views }))
           (sym (ended_vector scenario.params slot vector e is))
@@ -207,7 +207,7 @@ module _ (scenario : ScenarioParts) (i : ℕ) (past : List NoticeKind) (knowledg
       view_listed old new acts =
           let listed : ℕ → Option Nodes → List Action =
           λ n o. old ++ actions_of scenario.params.format (view_effects scenario.params scenario.joins scenario.leaves n slot o) in
-          acts ∙ ap (λ n. listed n (Some e.vector)) h.views.node ∙ ap (listed i) (sym (ended_vector scenario.params slot vector e is))
+          acts ∙ ap (λ n. listed n (Some e.vector)) h.views.limits.is_node ∙ ap (listed i) (sym (ended_vector scenario.params slot vector e is))
 
 -- ---- the whole turn
 

@@ -41,12 +41,12 @@ module _ (scenario : ScenarioParts) (past : List NoticeKind) (notice : NoticeKin
 
   pub joins_now : AreAsksOf scenario v.membership.views.node slot (asks_of Join scenario) v.joins
   joins_now =
-      subst (λ i. AreAsksOf scenario i slot scenario.joins v.joins) (sym heard.membership.views.node)
+      subst (λ i. AreAsksOf scenario i slot scenario.joins v.joins) (sym heard.membership.views.limits.is_node)
       (subst (λ n. AreAsksOf scenario v.node n scenario.joins v.joins) (sym now) heard.joins)
 
   pub leaves_now : AreAsksOf scenario v.membership.views.node slot (asks_of Leave scenario) v.leaves
   leaves_now =
-      subst (λ i. AreAsksOf scenario i slot scenario.leaves v.leaves) (sym heard.membership.views.node)
+      subst (λ i. AreAsksOf scenario i slot scenario.leaves v.leaves) (sym heard.membership.views.limits.is_node)
       (subst (λ n. AreAsksOf scenario v.node n scenario.leaves v.leaves) (sym now) heard.leaves)
 
   sends_are : actions_of scenario.params.format (sent_asks v.node slot (sendable scenario slot)) ≡ actions_of scenario.params.format (send_effects scenario v.node read)
@@ -55,15 +55,15 @@ module _ (scenario : ScenarioParts) (past : List NoticeKind) (notice : NoticeKin
 
   joins_are : join_actions scenario v.membership.views.params v.membership.views.node slot v.membership.views.members ≡ join_actions scenario scenario.params v.node (length past) members
   joins_are =
-      ap (λ p. join_actions scenario p v.membership.views.node slot v.membership.views.members) heard.membership.views.params
-      ∙ ap (λ i. join_actions scenario scenario.params i slot v.membership.views.members) heard.membership.views.node
+      ap (λ p. join_actions scenario p v.membership.views.node slot v.membership.views.members) heard.membership.views.limits.are_params
+      ∙ ap (λ i. join_actions scenario scenario.params i slot v.membership.views.members) heard.membership.views.limits.is_node
       ∙ ap (λ n. join_actions scenario scenario.params v.node n v.membership.views.members) now
       ∙ ap (λ m. join_actions scenario scenario.params v.node (length past) m) heard.membership.views.members
 
   leaves_are : leave_actions scenario v.membership.views.params v.membership.views.node slot v.membership.views.members ≡ leave_actions scenario scenario.params v.node (length past) members
   leaves_are =
-      ap (λ p. leave_actions scenario p v.membership.views.node slot v.membership.views.members) heard.membership.views.params
-      ∙ ap (λ i. leave_actions scenario scenario.params i slot v.membership.views.members) heard.membership.views.node
+      ap (λ p. leave_actions scenario p v.membership.views.node slot v.membership.views.members) heard.membership.views.limits.are_params
+      ∙ ap (λ i. leave_actions scenario scenario.params i slot v.membership.views.members) heard.membership.views.limits.is_node
       ∙ ap (λ n. leave_actions scenario scenario.params v.node n v.membership.views.members) now
       ∙ ap (λ m. leave_actions scenario scenario.params v.node (length past) m) heard.membership.views.members
 
@@ -102,9 +102,9 @@ module _ (scenario : ScenarioParts) (past : List NoticeKind) (notice : NoticeKin
     totcan = scripted_totcan t tot;
     membership = heard.membership;
     agenda = subst (λ n. IsAgendaOf scenario v.node (n + 1) agenda) now plan;
-    joins = subst (λ i. AreAsksOf scenario i (length past + 1) scenario.joins joins) heard.membership.views.node
+    joins = subst (λ i. AreAsksOf scenario i (length past + 1) scenario.joins joins) heard.membership.views.limits.is_node
         (subst (λ n. AreAsksOf scenario v.membership.views.node (n + 1) scenario.joins joins) now joining);
-    leaves = subst (λ i. AreAsksOf scenario i (length past + 1) scenario.leaves leaves) heard.membership.views.node
+    leaves = subst (λ i. AreAsksOf scenario i (length past + 1) scenario.leaves leaves) heard.membership.views.limits.is_node
         (subst (λ n. AreAsksOf scenario v.membership.views.node (n + 1) scenario.leaves leaves) now leaving);
     room_to_give = room;
   }

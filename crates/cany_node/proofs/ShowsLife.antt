@@ -182,7 +182,7 @@ module _ (scenario : ScenarioParts) (i : ℕ) (past : List NoticeKind) (e : Noti
   learnt = ap (λ signs. with_signs signs after) (only.sign after)
 
   found_none : found_in scenario.params i (length past) e (knowledge_of scenario i past) ≡ []
-  found_none = ap (found p i slot) learnt ∙ found_later p i slot before after (omega (arith, h.life.legal.in_range.silence.0)) lives found_idle
+  found_none = ap (found p i slot) learnt ∙ found_later p i slot before after (omega (arith, h.life.limits.legal.in_range.silence.0)) lives found_idle
 
   finds : after_finding scenario.params i (length past) e (knowledge_of scenario i past) ≡ after_life i (length past) e (knowledge_of scenario i past)
   unfolding with_signs
@@ -259,7 +259,7 @@ module _ (scenario : ScenarioParts) (i : ℕ) (past : List NoticeKind) (e : Noti
   no_sign =
       let idle = not_if _ _ (ap (λ st. life_sign p.life 0 i slot st (life_signs_sent i (Idle ∷ past))) (sym rests.knowledge) ∙ idle_parts.2) in
       ap (λ st. life_sign p.life 0 i slot st (life_signs_sent i (e ∷ past))) (knows_who_lives ∙ lives.is)
-      ∙ (rw (still_not_due _ slot before.last lives.last p.life (omega (arith, h.life.legal.in_range.life.0)) lives.own idle) refl)
+      ∙ (rw (still_not_due _ slot before.last lives.last p.life (omega (arith, h.life.limits.legal.in_range.life.0)) lives.own idle) refl)
 
   pub nothing_done : membership_effects scenario i (e ∷ past) ≡ []
   nothing_done =

@@ -247,10 +247,7 @@ module _ (scenario : ScenarioParts) (i : ℕ) (past : List NoticeKind) (e : Noti
 
   pub history_same : (own : Option Nodes) (v : HistoryParts) → IsHistoryOf scenario i (Idle ∷ past) own v → IsHistoryOf scenario i (e ∷ past) own v
   history_same own v h = record {
-    legal = h.legal;
-    place = h.place;
-    node = h.node;
-    params = h.params;
+    limits = h.limits;
     vector = h.vector;
     below = h.below;
     few = h.few;
@@ -320,23 +317,22 @@ module _ (scenario : ScenarioParts) (i : ℕ) (past : List NoticeKind) (e : Noti
 
   life_same : (st : Knowledge) (v : LifeParts) → IsLifeOf scenario i (Idle ∷ past) st v → IsLifeOf scenario i (e ∷ past) st v
   life_same st v h = record {
-    legal = h.legal;
-    node = h.node;
-    params = h.params;
+    limits = h.limits;
     failed = h.failed;
-    cycles = h.cycles;
-    known = h.known;
+    signs = h.signs;
     copies = record {
       omit = h.copies.omit;
       room = h.copies.room;
       copies = λ sign below. h.copies.copies sign below ∙ sym (copies_same sign);
       signs = h.copies.signs;
     };
-    nodes = h.nodes;
-    shown = h.shown;
-    last = h.last;
-    sent = h.sent ∙ sym signs_same;
-    few = subst (λ n. n * scenario.params.life ≤ length (e ∷ past)) (sym signs_same) h.few;
+    lives = record {
+      nodes = h.lives.nodes;
+      are_shown = h.lives.are_shown;
+      is_last = h.lives.is_last;
+      are_sent = h.lives.are_sent ∙ sym signs_same;
+      few = subst (λ n. n * scenario.params.life ≤ length (e ∷ past)) (sym signs_same) h.lives.few;
+    };
   }
 
   -- the value stands for the notice as for an idle slot

@@ -1,9 +1,8 @@
 ghost use Rattle.std.specs.Prelude.{◌≡◌, []};
 ghost use Rattle.cany_base.specs.declared.class.Class.TheVariants as class;
-ghost use Rattle.cany_model.specs.Bus.Frames.{same_class};
 
-use cany_base::{Class, Frame, MsgKey, Payload};
-use cany_message::{FrameClass, MessageFrame, is_of_class};
+use cany_base::{Class, MsgKey, Payload};
+use cany_message::{FrameClass, MessageFrame};
 
 /// The class of the frames that carry messages of RELCAN.
 #[derive(Drop)]
@@ -34,20 +33,6 @@ pub(crate) type Data = MessageFrame<RelClass>;
 
 /// That the origin of a message has sent it, which it tells in a frame without payload.
 pub(crate) type Confirmation = MessageFrame<ConfirmClass>;
-
-/// Whether the frame is the data frame of a RELCAN message.
-pub(crate) fn is_data(frame: &Frame) -> bool
-    ensures { result ≡ same_class frame.now.class class.Rel }
-{
-    is_of_class(frame, Class::Rel)
-}
-
-/// Whether the frame confirms a message.
-pub(crate) fn is_confirmation(frame: &Frame) -> bool
-    ensures { result ≡ same_class frame.now.class class.Confirm }
-{
-    is_of_class(frame, Class::Confirm)
-}
 
 /// The confirmation of a message.
 pub(crate) fn confirmation_of(msg: MsgKey) -> Confirmation

@@ -23,14 +23,14 @@ ghost use Rattle.cany_model.specs.Rules.Relcan.{has_timer_ahead, relcan_at, relc
 ghost use Rattle.cany_relcan.specs.Relcan.{IsRelcanOf, HasRead, CanRead, Rests, brings_no_relcan};
 ghost use Rattle.cany_relcan.specs.RelcanSteps.{due_frame, holds_own, is_awaited, is_confirmed, is_fallen, starts_timer, timer_actions, timers_with, was_delivered, without_due, AreMarksAfter};
 
-use crate::frames::{Confirmation, Data, confirmation_of, is_confirmation, is_data};
+use crate::frames::{Confirmation, Data, confirmation_of};
 use crate::timers::{Timer, Timers};
 use cany_base::{
-    Action, Actions, Format, Frame, Memory, MsgKey, NodeId, Notice, NoticeKind, Payload, Scenario,
-    Service, Slot,
+    Action, Actions, Class, Format, Frame, Memory, MsgKey, NodeId, Notice, NoticeKind, Payload,
+    Scenario, Service, Slot,
 };
 use cany_diffuse::{Diffused, Eager, Learnt};
-use cany_message::{Calls, Reply, bare_identifier, put, sends_by};
+use cany_message::{Calls, Reply, bare_identifier, is_of_class, put, sends_by};
 use std::alloc::Global;
 use std::marker::Model;
 
@@ -192,9 +192,9 @@ impl Relcan {
     {
         match &notice.kind {
             NoticeKind::Got(frame) => {
-                if is_data(frame) {
+                if is_of_class(frame, Class::Rel) {
                     self.on_copy(notice.slot, frame)
-                } else if is_confirmation(frame) {
+                } else if is_of_class(frame, Class::Confirm) {
                     self.on_confirmation(frame);
                     Calls::NOTHING
                 } else {
@@ -388,7 +388,7 @@ impl Relcan {
     fn is_own(&self, frame: &Frame) -> bool
         ensures { result ≡ (same_class frame.now.class class.Rel && frame.now.node == self.now.node) }
     {
-        is_data(frame) && frame.node.get() == self.node.get()
+        is_of_class(frame, Class::Rel) && frame.node.get() == self.node.get()
     }
 
     /// Whether the node is the origin of a data frame and has noted a copy or its own transmission.

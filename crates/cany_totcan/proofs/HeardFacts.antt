@@ -33,7 +33,7 @@ use Rattle.cany_totcan.specs.declared.queue.Placed.{Placed}
 use Rattle.cany_totcan.specs.Acceptances.{IsNoted, forgotten, noted_of, with_copy, with_own}
 use Rattle.cany_totcan.specs.Queue.{AreOnce, is_at, moved, placed_in, without_key}
 use Rattle.cany_totcan.specs.Totcan.{AreAcceptances, AreDone, CanRead, HasHeard, IsBacklogOf, IsTotcanOf, TotcanParts}
-use Rattle.cany_totcan.specs.TotcanSteps.{has_open, noted_if, origin_actions}
+use Rattle.cany_totcan.specs.TotcanSteps.{CanHold, has_open, held, noted_if, origin_actions}
 use Rattle.cany_totcan.proofs.AcceptanceFacts.{AcceptsNone, acceptances_learnt, acceptances_moved, acceptances_owned, acceptances_same, accepts_none-bad, accepts_none-got, accepts_none-got_closed, accepts_none-idle, accepts_none-sent, accepts_none-sent_closed, not_accepting, not_carrying}
 use Rattle.cany_totcan.proofs.AcceptedFacts.{accepted_stays}
 use Rattle.cany_totcan.proofs.KnownFacts.{own_named, number_below}
@@ -126,7 +126,7 @@ module _ (scenario : ScenarioParts) (i : ℕ) (notice : NoticeKind) (before : Li
     pub heard_data : IsBacklogOf scenario i (notice ∷ before) messages count (noted_if (f.node == v.node) f slot is_own v.backlog)
         → AcceptsNone scenario.params.bound notice before
         → IsNoted forgotten (message_in f) v.acceptances w.acceptances
-        → w ≡ record v { queue = moved f slot v.queue; acceptances = w.acceptances; backlog = noted_if (f.node == v.node) f slot is_own v.backlog }
+        → w ≡ held f slot is_own w.acceptances v
         → HasHeard scenario i notice before messages count w
     heard_data backlog other gone state = subst (HasHeard scenario i notice before messages count) (sym state) (record {
       limits =
@@ -147,13 +147,13 @@ module _ (scenario : ScenarioParts) (i : ℕ) (before : List NoticeKind) (messag
   -- there is room for a message of the scenario
   module _ (named : NamesMessage scenario service.Tot f) where
     -- the open messages have their places before the slot that is read
-    pub placed_before : (slot : ℕ) → slot ≡ length before → AllByRecursion (λ x. x.place < slot) v.queue.items
+    placed_before : (slot : ℕ) → slot ≡ length before → AllByRecursion (λ x. x.place < slot) v.queue.items
     placed_before slot at =
         rw (h.queue.places, at)
         (Each-weaker (IsWithin scenario.params.bound before) (λ x. x.place < length before) (λ x within. within.1) (placed_in scenario.params.bound before)
         (placed_within scenario.params.bound before))
 
-    pub can_place : length (without_key (message_in f) v.queue.items) < v.queue.room
+    can_place : length (without_key (message_in f) v.queue.items) < v.queue.room
     can_place =
         both_less (length (without_key (message_in f) v.queue.items)) (sends_by scenario service.Tot) (scenario.params.bound + 1) v.queue.room h.limits.at_once
         (room_to_place scenario service.Tot f v.queue.items named h.queue.messages
@@ -165,11 +165,14 @@ module _ (scenario : ScenarioParts) (i : ℕ) (before : List NoticeKind) (messag
           ap length h.queue.places,
         ))
 
-    pub can_number : f.number < v.queue.numbers
+    can_number : f.number < v.queue.numbers
     can_number = omega (arith, number_below scenario f h.limits.legal named, h.limits.numbers)
 
-    pub can_note : f.node ≡ v.node → f.number < length v.backlog.own
+    can_note : f.node ≡ v.node → f.number < length v.backlog.own
     can_note own = omega (arith, own_named scenario f h.limits.legal named i (own ∙ h.limits.node), h.backlog.own)
+
+    pub can_hold : (slot : ℕ) → slot ≡ length before → CanHold v f slot
+    can_hold slot at = record { number = can_number; room = can_place; later = placed_before slot at; own = can_note }
 
     -- a data frame
     module _ (slot : ℕ) (is : same_class f.class class.Tot ≡ true) (at : slot ≡ length before)
@@ -180,7 +183,7 @@ module _ (scenario : ScenarioParts) (i : ℕ) (before : List NoticeKind) (messag
       own_at_node : f.node ≡ i → f.number < length v.backlog.own
       own_at_node own = can_note (own ∙ sym h.limits.node)
 
-      pub heard_got : w ≡ record v { queue = moved f slot v.queue; acceptances = w.acceptances; backlog = noted_if (f.node == v.node) f slot false v.backlog }
+      pub heard_got : w ≡ held f slot false w.acceptances v
           → HasHeard scenario i (Got f) before messages count w
       heard_got state =
           heard_data scenario i (Got f) before messages count v w h f slot false (tot_in-got f is) at named
@@ -189,7 +192,7 @@ module _ (scenario : ScenarioParts) (i : ℕ) (before : List NoticeKind) (messag
           (λ other. ap (λ b. same_class f.class class.Tot && b) other ∙ and_none (same_class f.class class.Tot))))
           (accepts_none-got scenario.params.bound f before (not_accepting f tot)) gone state
 
-      pub heard_sent : w ≡ record v { queue = moved f slot v.queue; acceptances = w.acceptances; backlog = noted_if (f.node == v.node) f slot true v.backlog }
+      pub heard_sent : w ≡ held f slot true w.acceptances v
           → HasHeard scenario i (Sent f) before messages count w
       heard_sent state =
           heard_data scenario i (Sent f) before messages count v w h f slot true (tot_in-sent f is) at named

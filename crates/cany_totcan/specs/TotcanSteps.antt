@@ -19,7 +19,7 @@ use Rattle.cany_totcan.specs.declared.queue.Placed.{Placed}
 use Rattle.cany_totcan.specs.Acceptances.{noted_of}
 use Rattle.cany_totcan.specs.Backlog.{BacklogParts, own_at}
 use Rattle.cany_totcan.specs.MessageSet.{MessageSetParts, HasRoomOf, has_message}
-use Rattle.cany_totcan.specs.Queue.{AreOnce, is_at, oldest_from, without_oldest}
+use Rattle.cany_totcan.specs.Queue.{AreOnce, is_at, moved, oldest_from, without_key, without_oldest}
 use Rattle.cany_totcan.specs.Totcan.{TotcanParts}
 
 -- ---- a frame
@@ -37,6 +37,11 @@ noted f slot is_sent v =
 -- the backlog after a data frame was read, which may be the node's
 abbrev pub noted_if : Bool → FrameParts → ℕ → Bool → BacklogParts → BacklogParts
 noted_if own f slot is_sent v = if own then noted f slot is_sent v else v
+
+-- the value after it, with what is noted of acceptances then
+abbrev pub held : FrameParts → ℕ → Bool → List Open → TotcanParts → TotcanParts
+held f slot is_sent acceptances v =
+    record v { queue = moved f slot v.queue; acceptances = acceptances; backlog = noted_if (f.node == v.node) f slot is_sent v.backlog }
 
 -- the origin accepts its message
 abbrev pub origin_actions : Bool → FrameParts → List Action
@@ -73,6 +78,14 @@ tot_actions slot frames = map (λ f. Enter (delivery slot service.Tot f)) frames
 
 abbrev pub is_named : (seq origin : ℕ) → FrameParts → Bool
 is_named seq origin f = seq == f.number && origin == f.node
+
+-- The message of the data frame can have its place in the slot: there is room for it, the places of the open messages are before, and
+-- the node keeps something of it if it is its own.
+pub record CanHold (v : TotcanParts) (f : FrameParts) (slot : ℕ) : Type 0 where
+  pub number : f.number < v.queue.numbers
+  pub room : length (without_key (message_in f) v.queue.items) < v.queue.room
+  pub later : AllByRecursion (λ x. x.place < slot) v.queue.items
+  pub own : f.node ≡ v.node → f.number < length v.backlog.own
 
 -- the messages of these frames were delivered besides
 pub record AreAdded (frames : List FrameParts) (old new : MessageSetParts) : Type 0 where

@@ -4,7 +4,6 @@
 #![tactic(auto)]
 
 mod backlog;
-mod frames;
 mod message_set;
 mod queue;
 mod threads;

@@ -16,21 +16,19 @@ ghost use Rattle.cany_model.specs.Rules.Messages.{Message, messages_of, message_
 ghost use Rattle.cany_model.specs.Rules.Notices.{IsNextNotice};
 ghost use Rattle.cany_model.specs.Rules.Totcan.{accept_effects, accept_frame, has_closing_ahead, message_in, totcan_effects};
 ghost use Rattle.cany_totcan.specs.Acceptances.{IsNoted, forgotten, noted_of, with_copy, with_own};
-ghost use Rattle.cany_totcan.specs.Queue.{moved, without_key};
 ghost use Rattle.cany_totcan.specs.Rests.{Rests};
 ghost use Rattle.cany_totcan.specs.Totcan.{CanRead, HasHeard, IsOwnTot, IsTotcanOf, has_seq};
-ghost use Rattle.cany_totcan.specs.TotcanSteps.{AreAdded, AreKnown, AreStillNoted, HaveGone, closing_accepted, closing_actions, closing_frame, due, first_of, fresh_of, has_open, if_accepted, is_accepted_by, noted_if, origin_actions, tot_actions, without_closing};
+ghost use Rattle.cany_totcan.specs.TotcanSteps.{AreAdded, AreKnown, AreStillNoted, CanHold, HaveGone, closing_accepted, closing_actions, closing_frame, due, first_of, fresh_of, has_open, held, if_accepted, is_accepted_by, origin_actions, tot_actions, without_closing};
 
 use crate::backlog::Backlog;
-use crate::frames::{Data, acceptance_of, is_acceptance, is_data};
 use crate::message_set::{MessageSet, numbers_of};
 use crate::queue::{Noted, OpenMessages};
 use cany_base::{
-    Action, Actions, Format, Frame, Memory, MsgKey, NodeId, Notice, NoticeKind, Payload, Scenario,
-    Service, Slot,
+    Action, Actions, Class, Format, Frame, Memory, MsgKey, NodeId, Notice, NoticeKind, Payload,
+    Scenario, Service, Slot,
 };
-use cany_diffuse::{Diffused, Learnt};
-use cany_message::{deliver, relay, sends_by, withdraw};
+use cany_diffuse::Learnt;
+use cany_message::{bare_frame, deliver, is_of_class, relay, sends_by, withdraw};
 use std::alloc::Global;
 use std::marker::Model;
 
@@ -159,12 +157,13 @@ impl Totcan {
         ensures room { out.new.room ≡ out.old.room }
     {
         if let Some(given) = self.backlog.next(now, self.spacing) {
-            let msg = MsgKey {
-                origin: self.node,
-                seq: given.seq,
-            };
-            let data = Data::new(msg, given.payload);
-            out.push(Action::Ask(data.form()));
+            out.push(Action::Ask(Frame {
+                class: Class::Tot,
+                number: given.seq,
+                node: self.node,
+                inc: 0,
+                payload: given.payload,
+            }));
         }
     }
 
@@ -229,14 +228,14 @@ impl Totcan {
     {
         match &notice.kind {
             NoticeKind::Got(frame) => {
-                if is_data(frame) {
+                if is_of_class(frame, Class::Tot) {
                     self.hold(notice.slot, frame, false);
                 } else if self.accepts_open(frame) {
                     self.on_acceptance(frame, out);
                 }
             }
             NoticeKind::Sent(frame) => {
-                if is_data(frame) {
+                if is_of_class(frame, Class::Tot) {
                     self.on_own_data(notice.slot, frame, out);
                 } else if self.accepts_open(frame) {
                     self.on_own_acceptance(frame);
@@ -250,17 +249,10 @@ impl Totcan {
     /// A data frame was read: its message has its place here, and is accepted by what is read from
     /// now on.
     fn hold(&mut self, slot: Slot, frame: &Frame, is_sent: bool)
-        requires number { frame.now.number < self.old.queue.numbers }
-        requires room { length (without_key (message_in frame.now) self.old.queue.items) < self.old.queue.room }
-        requires later { AllByRecursion (λ x. x.place < slot) self.old.queue.items }
-        requires own { frame.now.node ≡ self.old.node → frame.now.number < length self.old.backlog.own }
+        requires { CanHold self.old frame.now slot }
         ensures forgotten { IsNoted forgotten (message_in frame.now) self.old.acceptances self.new.acceptances }
         ensures in_range { frame.now.node < most_nodes }
-        ensures state { self.new ≡ record self.old {
-          queue = moved frame.now slot self.old.queue;
-          acceptances = self.new.acceptances;
-          backlog = noted_if (frame.now.node == self.old.node) frame.now slot is_sent self.old.backlog;
-        } }
+        ensures state { self.new ≡ held frame.now slot is_sent self.new.acceptances self.old }
     {
         self.queue.place(frame, slot);
         if frame.node.get() == self.node.get() {
@@ -270,26 +262,18 @@ impl Totcan {
 
     /// The node's own transmission of a data frame was read: the origin accepts the message.
     fn on_own_data(&mut self, slot: Slot, frame: &Frame, out: &mut Actions)
-        requires number { frame.now.number < self.old.queue.numbers }
-        requires place { length (without_key (message_in frame.now) self.old.queue.items) < self.old.queue.room }
-        requires later { AllByRecursion (λ x. x.place < slot) self.old.queue.items }
-        requires own { frame.now.node ≡ self.old.node → frame.now.number < length self.old.backlog.own }
+        requires holds { CanHold self.old frame.now slot }
         requires room { length out.old.items < out.old.room }
         ensures forgotten { IsNoted forgotten (message_in frame.now) self.old.acceptances self.new.acceptances }
         ensures in_range { frame.now.node < most_nodes }
-        ensures state { self.new ≡ record self.old {
-          queue = moved frame.now slot self.old.queue;
-          acceptances = self.new.acceptances;
-          backlog = noted_if (frame.now.node == self.old.node) frame.now slot true self.old.backlog;
-        } }
+        ensures state { self.new ≡ held frame.now slot true self.new.acceptances self.old }
         ensures actions { out.new.items ≡ out.old.items ++ origin_actions (frame.now.node == self.old.node) frame.now }
         ensures few { length out.new.items ≤ length out.old.items + 1 }
         ensures room { out.new.room ≡ out.old.room }
     {
         self.hold(slot, frame, true);
         if frame.node.get() == self.node.get() {
-            let acceptance = acceptance_of(key_of(frame));
-            out.push(Action::Ask(acceptance.form()));
+            out.push(Action::Ask(bare_frame(Class::Accept, frame)));
         }
     }
 
@@ -297,7 +281,7 @@ impl Totcan {
     fn accepts_open(&self, frame: &Frame) -> bool
         ensures { result ≡ (same_class frame.now.class class.Accept && has_open self.now frame.now) }
     {
-        is_acceptance(frame) && self.queue.has(&key_of(frame))
+        is_of_class(frame, Class::Accept) && self.queue.has(&key_of(frame))
     }
 
     /// A copy of a frame that accepts an open message was read: the node relays it by the eager
@@ -367,8 +351,8 @@ impl Totcan {
         ensures few { length out.new.items ≤ length out.old.items + 2 }
         ensures room { out.new.room ≡ out.old.room }
     {
-        let form = acceptance_of(key_of(frame)).form();
-        withdraw(self.format, &form, true, out);
+        let acceptance = bare_frame(Class::Accept, frame);
+        withdraw(self.format, &acceptance, true, out);
         if self.is_accepted(frame, noted) {
             self.deliver(slot, frame, out);
         }

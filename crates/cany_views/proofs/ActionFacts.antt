@@ -57,8 +57,9 @@ module _ (scenario : ScenarioParts) (i slot : ℕ) (vector : Nodes) (v : ViewsPa
   module _ (knowledge : Knowledge) (h : IsViewsOf scenario i knowledge v) where
     is_told : installed_actions slot (cycle_of v.params slot) vector v ≡ installed_actions slot (cycle_of scenario.params slot) vector as_told
     is_told =
-        λ k. installed_actions slot (cycle_of (h.params k) slot) vector
-        (record v { node = h.node k; params = h.params k; joins = h.joins k; leaves = h.leaves k })
+        let told = h.limits in
+        λ k. installed_actions slot (cycle_of (told.are_params k) slot) vector
+        (record v { node = told.is_node k; params = told.are_params k; joins = told.are_joins k; leaves = told.are_leaves k })
 
     pub view_acts : (start end : List Action)
         → end ≡ start ++ installed_actions slot (cycle_of v.params slot) vector (installed vector v)

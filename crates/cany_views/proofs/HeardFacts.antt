@@ -63,10 +63,10 @@ module _ (scenario : ScenarioParts) (i : ℕ) (knowledge : Knowledge) (v : Views
 
   module _ (slot : ℕ) (f : FrameParts) (of : BelongsTo scenario slot f.class f) where
     pub joiner_near : same_class f.class class.Join ≡ true → f.node < v.params.nodes
-    joiner_near join = rw h.params (asker_of_bus scenario slot f class.Join of join (λ names. names.node))
+    joiner_near join = rw h.limits.are_params (asker_of_bus scenario slot f class.Join of join (λ names. names.node))
 
     pub leaver_near : same_class f.class class.Leave ≡ true → f.node < v.params.nodes
-    leaver_near leave = rw h.params (asker_of_bus scenario slot f class.Leave of leave (λ names. names.node))
+    leaver_near leave = rw h.limits.are_params (asker_of_bus scenario slot f class.Leave of leave (λ names. names.node))
 
     module _ (kind : NoticeKind) (w : ViewsParts) where
       pub got_join : kind ≡ Got f → same_class f.class class.Join ≡ true → w ≡ heard_join f.node v

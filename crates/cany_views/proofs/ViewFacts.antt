@@ -27,17 +27,8 @@ pub stands_with : (scenario : ScenarioParts) (i : ℕ) (knowledge after : Knowle
     → IsViewsOf scenario i knowledge v → HasNodesOfBus (with_sets members joiners leavers v)
     → members ≡ after.members → joiners ≡ after.joiners → leavers ≡ after.leavers
     → IsViewsOf scenario i after (with_sets members joiners leavers v)
-stands_with scenario i knowledge after v members joiners leavers h below is_members is_joiners is_leavers = record {
-  legal = h.legal;
-  node = h.node;
-  params = h.params;
-  members = is_members;
-  joiners = is_joiners;
-  leavers = is_leavers;
-  below = below;
-  joins = h.joins;
-  leaves = h.leaves;
-}
+stands_with scenario i knowledge after v members joiners leavers h below is_members is_joiners is_leavers =
+    record { limits = h.limits; members = is_members; joiners = is_joiners; leavers = is_leavers; below = below }
 
 -- ---- before anything is heard
 
@@ -72,9 +63,7 @@ first_views scenario i = record {
 pub first_stands : (scenario : ScenarioParts) (i : ℕ) → IsLegalScenario scenario
     → IsViewsOf scenario i (knowledge_at_first scenario.members) (first_views scenario i)
 first_stands scenario i legal = record {
-  legal = legal;
-  node = refl;
-  params = refl;
+  limits = record { legal = legal; is_node = refl; are_params = refl; are_joins = refl; are_leaves = refl };
   members = refl;
   joiners = refl;
   leavers = refl;
@@ -83,8 +72,6 @@ first_stands scenario i legal = record {
     joiners = nobody_below scenario.params.nodes;
     leavers = nobody_below scenario.params.nodes;
   };
-  joins = refl;
-  leaves = refl;
 }
 
 pub first_bounds : (scenario : ScenarioParts) (i : ℕ) → IsLegalScenario scenario → i < scenario.params.nodes

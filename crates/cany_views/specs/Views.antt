@@ -45,17 +45,21 @@ pub record IsInBounds (v : ViewsParts) : Type 0 where
 abbrev pub asked_cycles : Parameters → ℕ → List NodeAsk → List ℕ
 asked_cycles p i asks = map (λ ask. cycle_of p ask.slot) (filter (λ ask. ask.node == i) asks)
 
+-- what never changes: what the scenario tells of node i
+pub record HasLimitsOf (scenario : ScenarioParts) (i node : ℕ) (params : Parameters) (joins leaves : List ℕ) : Type 0 where
+  pub legal : IsLegalScenario scenario
+  pub is_node : node ≡ i
+  pub are_params : params ≡ scenario.params
+  pub are_joins : joins ≡ asked_cycles scenario.params i scenario.joins
+  pub are_leaves : leaves ≡ asked_cycles scenario.params i scenario.leaves
+
 -- The value is that of node i where it knows what this knowledge knows of members, and of who has asked.
 pub record IsViewsOf (scenario : ScenarioParts) (i : ℕ) (knowledge : Knowledge) (v : ViewsParts) : Type 0 where
-  pub legal : IsLegalScenario scenario
-  pub node : v.node ≡ i
-  pub params : v.params ≡ scenario.params
+  pub limits : HasLimitsOf scenario i v.node v.params v.joins v.leaves
   pub members : v.members ≡ knowledge.members
   pub joiners : v.joiners ≡ knowledge.joiners
   pub leavers : v.leavers ≡ knowledge.leavers
   pub below : HasNodesOfBus v
-  pub joins : v.joins ≡ asked_cycles scenario.params i scenario.joins
-  pub leaves : v.leaves ≡ asked_cycles scenario.params i scenario.leaves
 
 -- there is a scenario, and what is known in it, that the value stands for, and its nodes can read the notice
 pub record CanHear (v : ViewsParts) (notice : Notice) : Type 0 where

@@ -37,10 +37,10 @@ module _ (scenario : ScenarioParts) (i : ℕ) (past : List NoticeKind) (v : Memb
 
   -- as life names the node itself
   pub life_now : IsLifeOf scenario v.life.node past (knowledge_of scenario i past) v.life
-  life_now = subst (λ n. IsLifeOf scenario n past known v.life) (sym h.life.node) h.life
+  life_now = subst (λ n. IsLifeOf scenario n past known v.life) (sym h.life.limits.is_node) h.life
 
   pub history_now : IsHistoryOf scenario v.history.node past (knowledge_of scenario i past).vector v.history
-  history_now = subst (λ n. IsHistoryOf scenario n past known.vector v.history) (sym h.history.node) h.history
+  history_now = subst (λ n. IsHistoryOf scenario n past known.vector v.history) (sym h.history.limits.is_node) h.history
 
   module _ (members : Nodes) (are : members ≡ v.views.members)
       (lives : life.Rests scenario v.life.node past (with_members members (knowledge_of scenario i past)) v.life)
@@ -51,10 +51,10 @@ module _ (scenario : ScenarioParts) (i : ℕ) (past : List NoticeKind) (v : Memb
     life_rests : life.Rests scenario i past known v.life
     life_rests =
         subst (λ st. life.Rests scenario i past st v.life) own_members
-        (subst (λ n. life.Rests scenario n past (with_members members known) v.life) h.life.node lives)
+        (subst (λ n. life.Rests scenario n past (with_members members known) v.life) h.life.limits.is_node lives)
 
     history_rests : history.Rests scenario i past known.vector v.history
-    history_rests = subst (λ n. history.Rests scenario n past known.vector v.history) h.history.node exchanges
+    history_rests = subst (λ n. history.Rests scenario n past known.vector v.history) h.history.limits.is_node exchanges
 
     -- ---- what the node knows
 

@@ -9,8 +9,8 @@ use Rattle.cany_history.proofs.history.History.wake.Goals as goal
 pub returns : goal.returns
 returns c = record {
   rests = λ scenario past vector h after before.
-      let params : c.self.inside.params ≡ scenario.params = ap (λ (v : HistoryParts). v.params) c.self.view_is ∙ h.params in
-      let cycles = has_cycles scenario h.legal in
+      let params : c.self.inside.params ≡ scenario.params = ap (λ (v : HistoryParts). v.params) c.self.view_is ∙ h.limits.are_params in
+      let cycles = has_cycles scenario h.limits.legal in
       let none : IsPlain scenario.params (length past) = rw params at c.next_start_or_end.ensures cycles.long (length past) after before in
       rests scenario c.args.self.now.node past vector c.args.self.now h none;
 }

@@ -19,21 +19,23 @@ returns c = λ n members.
     let known : c.in_ok-known.known.items ≡ replicate (cycles c.args.scenario.now + 1) nobody =
     c.in_ok-known.ensures ∙ ap (λ k. replicate k nobody) rooms in
     record {
-      legal = c.params-params.ensures.legal;
-      node = refl;
-      params = c.params-params.ensures.params;
+      limits = record { legal = c.params-params.ensures.legal; is_node = refl; are_params = c.params-params.ensures.params };
       failed = λ r. c.empty.ensures.has r ∙ sym (has_none r);
-      cycles = ap length known ∙ length-replicate (cycles c.args.scenario.now + 1) nobody;
-      known = λ sign of.
-          ap (λ sets. has (known_in sets sign.cycle) sign.node) known
-          ∙ ap (λ s. has s sign.node) (get_or-replicate (cycles c.args.scenario.now + 1) sign.cycle nobody nobody (omega (arith, of.cycle)))
-          ∙ has_none sign.node;
+      signs = record {
+        cycles = ap length known ∙ length-replicate (cycles c.args.scenario.now + 1) nobody;
+        known = λ sign of.
+            ap (λ sets. has (known_in sets sign.cycle) sign.node) known
+            ∙ ap (λ s. has s sign.node) (get_or-replicate (cycles c.args.scenario.now + 1) sign.cycle nobody nobody (omega (arith, of.cycle)))
+            ∙ has_none sign.node;
+      };
       copies =
           copies_fresh c.args.scenario.now n _ _ c.in_ok-copies.copies c.in_ok-copies.ensures (ap (λ (p : Parameters). p.omit) params)
           (ap (λ n. n * (c.params.inside.slots / c.params.inside.cycle + 1)) c.from.ensures ∙ ap (λ (p : Parameters). p.nodes * (p.slots / p.cycle + 1)) params);
-      nodes = refl;
-      shown = λ r below. get_or-replicate most_nodes r 0 0 (omega (arith, below, few_nodes c.args.scenario.now.params c.params-params.ensures.legal.in_range));
-      last = refl;
-      sent = sym (life_signs_sent-idle c.args.node n);
-      few = few-idle c.args.scenario.now c.args.node n;
+      lives = record {
+        nodes = refl;
+        are_shown = λ r below. get_or-replicate most_nodes r 0 0 (omega (arith, below, few_nodes c.args.scenario.now.params c.params-params.ensures.legal.in_range));
+        is_last = refl;
+        are_sent = sym (life_signs_sent-idle c.args.node n);
+        few = few-idle c.args.scenario.now c.args.node n;
+      };
     }

@@ -18,7 +18,7 @@ use Rattle.cany_life.proofs.life.Life.sign.Goals as goal
 due_is : (scenario : ScenarioParts) (past : List NoticeKind) (knowledge : Knowledge) (v : LifeParts) (members : Nodes) (slot : ℕ)
     → IsLifeOf scenario v.node past knowledge v
     → is_due scenario.params.life v.node slot (with_members members knowledge) ≡ (has members v.node && slot == v.last + v.params.life)
-due_is scenario past knowledge v members slot h = λ k. has members v.node && slot == sym h.last k + (sym h.params k).life
+due_is scenario past knowledge v members slot h = λ k. has members v.node && slot == sym h.lives.is_last k + (sym h.limits.are_params k).life
 
 pub returns-then-is_due-clause-actions : goal.returns-then-is_due-clause-actions
 returns-then-is_due-clause-actions c = λ scenario past knowledge h.
@@ -26,7 +26,7 @@ returns-then-is_due-clause-actions c = λ scenario past knowledge h.
     let out = c.args.out.now.items in
     let due = due_is scenario past knowledge v c.args.members c.args.now h ∙ sym c.is_due.ensures ∙ c.if-is_due.true in
     ap (λ (list : Bounded Action). list.items) c.push.ensures
-    ∙ ap (λ (f : FrameParts). out ++ action.Ask f ∷ []) (c.life_sign.ensures ∙ ap (els_frame 0 v.node) h.sent)
+    ∙ ap (λ (f : FrameParts). out ++ action.Ask f ∷ []) (c.life_sign.ensures ∙ ap (els_frame 0 v.node) h.lives.are_sent)
     ∙ ap (λ b. out ++ actions_of scenario.params.format (if b then Ask (els_frame 0 v.node (life_signs_sent v.node past)) ∷ [] else [])) (sym due)
 
 pub returns-else-is_due-clause-actions : goal.returns-else-is_due-clause-actions

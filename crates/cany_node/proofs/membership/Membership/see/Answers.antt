@@ -48,7 +48,7 @@ returns-clause-rests c = λ scenario i past h later early within. c.wake.ensures
 pub overflow_add-notice : goal.overflow_add-notice
 overflow_add-notice c =
     let at = c.requires.hears in
-    omega (arith, at.next.next.within, few_slots at.scenario.params at.stands.history.legal.in_range)
+    omega (arith, at.next.next.within, few_slots at.scenario.params at.stands.history.limits.legal.in_range)
 
 pub returns-clause-sooner : goal.returns-clause-sooner
 returns-clause-sooner c = omega (arith, c.min.ensures)

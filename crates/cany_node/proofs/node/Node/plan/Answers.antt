@@ -30,7 +30,7 @@ pub ask_due-requires-clause-slot : goal.ask_due-requires-clause-slot
 ask_due-requires-clause-slot c =
     let scripts = c.requires.scripts in
     let heard = subst (HasHeard scripts.scenario scripts.past scripts.notice) (sym c.self.view_is) scripts.stands in
-    subst (λ (p : Parameters). c.args.slot < p.slots) (sym heard.membership.views.params) scripts.within
+    subst (λ (p : Parameters). c.args.slot < p.slots) (sym heard.membership.views.limits.are_params) scripts.within
 
 pub ask_due-requires-clause-room : goal.ask_due-requires-clause-room
 ask_due-requires-clause-room c = omega (arith, c.requires.room, ap script_room c.self.view_is, c.send_due.ensures.few, c.send_due.ensures.room)
@@ -40,7 +40,7 @@ ask_due-requires-2-clause-slot c =
     let scripts = c.requires.scripts in
     let heard = subst (HasHeard scripts.scenario scripts.past scripts.notice) (sym c.self.view_is) scripts.stands in
     subst (λ (m : MembershipParts). c.args.slot < m.views.params.slots) (sym c.ask_due.ensures.kept)
-    (subst (λ (p : Parameters). c.args.slot < p.slots) (sym heard.membership.views.params) scripts.within)
+    (subst (λ (p : Parameters). c.args.slot < p.slots) (sym heard.membership.views.limits.are_params) scripts.within)
 
 pub ask_due-requires-2-clause-room : goal.ask_due-requires-2-clause-room
 ask_due-requires-2-clause-room c =

@@ -22,7 +22,7 @@ pub on_copy-requires-clause-takes : goal.on_copy-requires-clause-takes
 on_copy-requires-clause-takes c =
     let reads = c.requires in
     can_take reads.scenario service.Rel class.Rel (of_own c.args.self.now.node) reads.past c.args.self.now.copies c.in-Got.frame reads.stands.tables.data_frames
-    (got_names reads.scenario reads.past c.args.notice.now c.in-Got.frame reads.next service.Rel c.in-Got.is (same_class-true c.in-Got.frame.class class.Rel (sym c.is_data.ensures ∙ c.if-is_data.true)))
+    (got_names reads.scenario reads.past c.args.notice.now c.in-Got.frame reads.next service.Rel c.in-Got.is (same_class-true c.in-Got.frame.class class.Rel (sym c.is_of_class.ensures ∙ c.if-is_of_class.true)))
 
 pub on_copy-requires-clause-small : goal.on_copy-requires-clause-small
 on_copy-requires-clause-small c =
@@ -49,7 +49,7 @@ pub on_confirmation-requires : goal.on_confirmation-requires
 on_confirmation-requires c =
     let reads = c.requires in
     can_take reads.scenario service.Rel class.Confirm of_none reads.past c.args.self.now.confirms c.in-Got.frame reads.stands.tables.confirmations
-    (confirm_names reads.scenario reads.past c.args.notice.now c.in-Got.frame reads.next c.in-Got.is (same_class-true c.in-Got.frame.class class.Confirm (sym c.is_confirmation.ensures ∙ c.if-is_confirmation.true)))
+    (confirm_names reads.scenario reads.past c.args.notice.now c.in-Got.frame reads.next c.in-Got.is (same_class-true c.in-Got.frame.class class.Confirm (sym c.is_of_class-else-is_of_class.ensures ∙ c.if-is_of_class-2.true)))
 
 pub on_own-requires : goal.on_own-requires
 on_own-requires c =
@@ -61,46 +61,46 @@ on_own-requires c =
           (sent_names reads.scenario reads.past c.args.notice.now c.in-Sent.frame reads.next service.Rel c.in-Sent.is (same_class-true c.in-Sent.frame.class class.Rel own.0));
     }
 
-pub returns-then-is_data-clause-stands : goal.returns-then-is_data-clause-stands
-returns-then-is_data-clause-stands c = λ scenario past h next.
-    let is : same_class c.in-Got.frame.class class.Rel ≡ true = sym c.is_data.ensures ∙ c.if-is_data.true in
+pub returns-then-is_of_class-clause-stands : goal.returns-then-is_of_class-clause-stands
+returns-then-is_of_class-clause-stands c = λ scenario past h next.
+    let is : same_class c.in-Got.frame.class class.Rel ≡ true = sym c.is_of_class.ensures ∙ c.if-is_of_class.true in
     let rel = same_class-true c.in-Got.frame.class class.Rel is in
     rw c.in-Got.is
     (read_copy scenario c.args.self.now.node past c.args.self.now c.on_copy.new.self c.in-Got.frame h c.on_copy.ensures.in_range
     (got_names scenario past c.args.notice.now c.in-Got.frame next service.Rel c.in-Got.is rel) c.args.notice.now.slot rel is next.slot next.within
     c.on_copy.ensures.learnt c.on_copy.ensures.state)
 
-pub returns-then-is_data-clause-actions : goal.returns-then-is_data-clause-actions
-returns-then-is_data-clause-actions c = λ scenario past h next.
-    let is : same_class c.in-Got.frame.class class.Rel ≡ true = sym c.is_data.ensures ∙ c.if-is_data.true in
+pub returns-then-is_of_class-clause-actions : goal.returns-then-is_of_class-clause-actions
+returns-then-is_of_class-clause-actions c = λ scenario past h next.
+    let is : same_class c.in-Got.frame.class class.Rel ≡ true = sym c.is_of_class.ensures ∙ c.if-is_of_class.true in
     let read : HasRead scenario c.args.self.now.node (Got c.in-Got.frame) past c.on_copy.new.self =
-    subst (λ kind. HasRead scenario c.args.self.now.node kind past c.on_copy.new.self) c.in-Got.is (returns-then-is_data-clause-stands c scenario past h next) in
+    subst (λ kind. HasRead scenario c.args.self.now.node kind past c.on_copy.new.self) c.in-Got.is (returns-then-is_of_class-clause-stands c scenario past h next) in
     rw c.in-Got.is
     ((λ j. delivery_actions service.Rel c.args.notice.now.slot (c.on_copy.ensures.delivers j) c.in-Got.frame ++ c.on_copy.ensures.reply j)
     ∙ got_actions scenario c.args.self.now.node c.args.notice.now.slot past c.args.self.now c.on_copy.new.self c.in-Got.frame []
     h (same_class-true c.in-Got.frame.class class.Rel is) is c.on_copy.ensures.in_range next.slot read)
 
-pub returns-then-is_confirmation-clause-stands : goal.returns-then-is_confirmation-clause-stands
-returns-then-is_confirmation-clause-stands c = λ scenario past h next.
-    let confirm = same_class-true c.in-Got.frame.class class.Confirm (sym c.is_confirmation.ensures ∙ c.if-is_confirmation.true) in
+pub returns-then-is_of_class-2-clause-stands : goal.returns-then-is_of_class-2-clause-stands
+returns-then-is_of_class-2-clause-stands c = λ scenario past h next.
+    let confirm = same_class-true c.in-Got.frame.class class.Confirm (sym c.is_of_class-else-is_of_class.ensures ∙ c.if-is_of_class-2.true) in
     rw c.in-Got.is
     (read_confirmation scenario c.args.self.now.node past c.args.self.now c.on_confirmation.new.self c.in-Got.frame h c.on_confirmation.ensures.in_range
-    (confirm_names scenario past c.args.notice.now c.in-Got.frame next c.in-Got.is confirm) confirm (sym c.is_data.ensures ∙ c.if-is_data.false)
+    (confirm_names scenario past c.args.notice.now c.in-Got.frame next c.in-Got.is confirm) confirm (sym c.is_of_class.ensures ∙ c.if-is_of_class.false)
     (omega (arith, next.slot, next.within)) c.on_confirmation.ensures.learnt c.on_confirmation.ensures.state)
 
-pub returns-then-is_confirmation-clause-actions : goal.returns-then-is_confirmation-clause-actions
-returns-then-is_confirmation-clause-actions c = λ scenario past h next.
-    rw c.in-Got.is (no_actions scenario.params.format [] _ (none_at scenario.params c.args.self.now.node (Got c.in-Got.frame) past (sym c.is_data.ensures ∙ c.if-is_data.false)))
+pub returns-then-is_of_class-2-clause-actions : goal.returns-then-is_of_class-2-clause-actions
+returns-then-is_of_class-2-clause-actions c = λ scenario past h next.
+    rw c.in-Got.is (no_actions scenario.params.format [] _ (none_at scenario.params c.args.self.now.node (Got c.in-Got.frame) past (sym c.is_of_class.ensures ∙ c.if-is_of_class.false)))
 
-pub returns-else-is_confirmation-clause-stands : goal.returns-else-is_confirmation-clause-stands
-returns-else-is_confirmation-clause-stands c = λ scenario past h next.
+pub returns-else-is_of_class-2-clause-stands : goal.returns-else-is_of_class-2-clause-stands
+returns-else-is_of_class-2-clause-stands c = λ scenario past h next.
     rw c.in-Got.is
-    (read_other scenario c.args.self.now.node (Got c.in-Got.frame) past c.args.self.now (sym c.is_data.ensures ∙ c.if-is_data.false)
-    (sym c.is_confirmation.ensures ∙ c.if-is_confirmation.false) h)
+    (read_other scenario c.args.self.now.node (Got c.in-Got.frame) past c.args.self.now (sym c.is_of_class.ensures ∙ c.if-is_of_class.false)
+    (sym c.is_of_class-else-is_of_class.ensures ∙ c.if-is_of_class-2.false) h)
 
-pub returns-else-is_confirmation-clause-actions : goal.returns-else-is_confirmation-clause-actions
-returns-else-is_confirmation-clause-actions c = λ scenario past h next.
-    rw c.in-Got.is (no_actions scenario.params.format [] _ (none_at scenario.params c.args.self.now.node (Got c.in-Got.frame) past (sym c.is_data.ensures ∙ c.if-is_data.false)))
+pub returns-else-is_of_class-2-clause-actions : goal.returns-else-is_of_class-2-clause-actions
+returns-else-is_of_class-2-clause-actions c = λ scenario past h next.
+    rw c.in-Got.is (no_actions scenario.params.format [] _ (none_at scenario.params c.args.self.now.node (Got c.in-Got.frame) past (sym c.is_of_class.ensures ∙ c.if-is_of_class.false)))
 
 pub returns-then-is_own-clause-stands : goal.returns-then-is_own-clause-stands
 returns-then-is_own-clause-stands c = λ scenario past h next.

@@ -15,66 +15,25 @@ use Rattle.cany_model.specs.Rules.Totcan.{message_in}
 use Rattle.cany_totcan.specs.Acceptances.{noted_of}
 use Rattle.cany_totcan.specs.Totcan.{HasHeard}
 use Rattle.cany_totcan.specs.TotcanSteps.{has_open}
-use Rattle.cany_totcan.proofs.HeardFacts.{can_note, can_number, can_place, got_accepts, heard_acceptance, heard_bad, heard_got, heard_got_other, heard_idle, heard_own_acceptance, heard_sent, heard_sent_other, nothing_bad, nothing_data, nothing_got, nothing_idle, nothing_sent, open_now, origin_is, placed_before, relay_is, sent_accepts}
+use Rattle.cany_totcan.proofs.HeardFacts.{can_hold, got_accepts, heard_acceptance, heard_bad, heard_got, heard_got_other, heard_idle, heard_own_acceptance, heard_sent, heard_sent_other, nothing_bad, nothing_data, nothing_got, nothing_idle, nothing_sent, open_now, origin_is, relay_is, sent_accepts}
 use Rattle.cany_totcan.proofs.totcan.Totcan.hear.Goals as goal
 
 -- ---- what the parts require
 
-pub hold-requires-clause-room : goal.hold-requires-clause-room
-hold-requires-clause-room c =
+pub hold-requires : goal.hold-requires
+hold-requires c =
     let reads = c.requires.reads in
-    can_place reads.scenario c.args.self.now.node reads.past reads.messages reads.count c.args.self.now c.args.self.now reads.stands c.in-Got.frame
+    let is = sym c.is_of_class.ensures ∙ c.if-is_of_class.true in
+    can_hold reads.scenario c.args.self.now.node reads.past reads.messages reads.count c.args.self.now c.args.self.now reads.stands c.in-Got.frame
     (got_names reads.scenario reads.past c.args.notice.now c.in-Got.frame reads.next service.Tot c.in-Got.is
-    (same_class-true c.in-Got.frame.class class.Tot (sym c.is_data.ensures ∙ c.if-is_data.true)))
+    (same_class-true c.in-Got.frame.class class.Tot is)) c.args.notice.now.slot reads.next.slot
 
-pub hold-requires-clause-number : goal.hold-requires-clause-number
-hold-requires-clause-number c =
+pub on_own_data-requires-clause-holds : goal.on_own_data-requires-clause-holds
+on_own_data-requires-clause-holds c =
     let reads = c.requires.reads in
-    can_number reads.scenario c.args.self.now.node reads.past reads.messages reads.count c.args.self.now c.args.self.now reads.stands c.in-Got.frame
-    (got_names reads.scenario reads.past c.args.notice.now c.in-Got.frame reads.next service.Tot c.in-Got.is
-    (same_class-true c.in-Got.frame.class class.Tot (sym c.is_data.ensures ∙ c.if-is_data.true)))
-
-pub hold-requires-clause-own : goal.hold-requires-clause-own
-hold-requires-clause-own c =
-    let reads = c.requires.reads in
-    can_note reads.scenario c.args.self.now.node reads.past reads.messages reads.count c.args.self.now c.args.self.now reads.stands c.in-Got.frame
-    (got_names reads.scenario reads.past c.args.notice.now c.in-Got.frame reads.next service.Tot c.in-Got.is
-    (same_class-true c.in-Got.frame.class class.Tot (sym c.is_data.ensures ∙ c.if-is_data.true)))
-
-pub hold-requires-clause-later : goal.hold-requires-clause-later
-hold-requires-clause-later c =
-    let reads = c.requires.reads in
-    placed_before reads.scenario c.args.self.now.node reads.past reads.messages reads.count c.args.self.now c.args.self.now reads.stands c.in-Got.frame
-    (got_names reads.scenario reads.past c.args.notice.now c.in-Got.frame reads.next service.Tot c.in-Got.is
-    (same_class-true c.in-Got.frame.class class.Tot (sym c.is_data.ensures ∙ c.if-is_data.true))) c.args.notice.now.slot reads.next.slot
-
-pub on_own_data-requires-clause-later : goal.on_own_data-requires-clause-later
-on_own_data-requires-clause-later c =
-    let reads = c.requires.reads in
-    placed_before reads.scenario c.args.self.now.node reads.past reads.messages reads.count c.args.self.now c.args.self.now reads.stands c.in-Sent.frame
+    can_hold reads.scenario c.args.self.now.node reads.past reads.messages reads.count c.args.self.now c.args.self.now reads.stands c.in-Sent.frame
     (sent_names reads.scenario reads.past c.args.notice.now c.in-Sent.frame reads.next service.Tot c.in-Sent.is
-    (same_class-true c.in-Sent.frame.class class.Tot (sym c.is_data-in-Sent.ensures ∙ c.if-is_data-2.true))) c.args.notice.now.slot reads.next.slot
-
-pub on_own_data-requires-clause-place : goal.on_own_data-requires-clause-place
-on_own_data-requires-clause-place c =
-    let reads = c.requires.reads in
-    can_place reads.scenario c.args.self.now.node reads.past reads.messages reads.count c.args.self.now c.args.self.now reads.stands c.in-Sent.frame
-    (sent_names reads.scenario reads.past c.args.notice.now c.in-Sent.frame reads.next service.Tot c.in-Sent.is
-    (same_class-true c.in-Sent.frame.class class.Tot (sym c.is_data-in-Sent.ensures ∙ c.if-is_data-2.true)))
-
-pub on_own_data-requires-clause-number : goal.on_own_data-requires-clause-number
-on_own_data-requires-clause-number c =
-    let reads = c.requires.reads in
-    can_number reads.scenario c.args.self.now.node reads.past reads.messages reads.count c.args.self.now c.args.self.now reads.stands c.in-Sent.frame
-    (sent_names reads.scenario reads.past c.args.notice.now c.in-Sent.frame reads.next service.Tot c.in-Sent.is
-    (same_class-true c.in-Sent.frame.class class.Tot (sym c.is_data-in-Sent.ensures ∙ c.if-is_data-2.true)))
-
-pub on_own_data-requires-clause-own : goal.on_own_data-requires-clause-own
-on_own_data-requires-clause-own c =
-    let reads = c.requires.reads in
-    can_note reads.scenario c.args.self.now.node reads.past reads.messages reads.count c.args.self.now c.args.self.now reads.stands c.in-Sent.frame
-    (sent_names reads.scenario reads.past c.args.notice.now c.in-Sent.frame reads.next service.Tot c.in-Sent.is
-    (same_class-true c.in-Sent.frame.class class.Tot (sym c.is_data-in-Sent.ensures ∙ c.if-is_data-2.true)))
+    (same_class-true c.in-Sent.frame.class class.Tot (sym c.is_of_class-in-Sent.ensures ∙ c.if-is_of_class-2.true))) c.args.notice.now.slot reads.next.slot
 
 pub on_acceptance-requires-clause-small : goal.on_acceptance-requires-clause-small
 on_acceptance-requires-clause-small c =
@@ -88,37 +47,37 @@ on_acceptance-requires-clause-there c =
 pub on_own_acceptance-requires : goal.on_own_acceptance-requires
 on_own_acceptance-requires c =
     (and_parts (same_class c.in-Sent.frame.class class.Accept) (has_open c.args.self.now c.in-Sent.frame)
-    (sym c.accepts_open-else-is_data-2.ensures ∙ c.if-accepts_open-2.true)).1
+    (sym c.accepts_open-else-is_of_class-2.ensures ∙ c.if-accepts_open-2.true)).1
 
 -- ---- a data frame
 
-pub returns-then-is_data-clause-stands : goal.returns-then-is_data-clause-stands
-returns-then-is_data-clause-stands c = λ scenario past messages count h next.
-    let is : same_class c.in-Got.frame.class class.Tot ≡ true = sym c.is_data.ensures ∙ c.if-is_data.true in
+pub returns-then-is_of_class-clause-stands : goal.returns-then-is_of_class-clause-stands
+returns-then-is_of_class-clause-stands c = λ scenario past messages count h next.
+    let is : same_class c.in-Got.frame.class class.Tot ≡ true = sym c.is_of_class.ensures ∙ c.if-is_of_class.true in
     rw c.in-Got.is
     (heard_got scenario c.args.self.now.node past messages count c.args.self.now c.hold.new.self h c.in-Got.frame
     (got_names scenario past c.args.notice.now c.in-Got.frame next service.Tot c.in-Got.is (same_class-true c.in-Got.frame.class class.Tot is))
     c.args.notice.now.slot is next.slot c.hold.ensures.forgotten c.hold.ensures.state)
 
-pub returns-then-is_data-clause-actions : goal.returns-then-is_data-clause-actions
-returns-then-is_data-clause-actions c = λ scenario past messages count h next.
+pub returns-then-is_of_class-clause-actions : goal.returns-then-is_of_class-clause-actions
+returns-then-is_of_class-clause-actions c = λ scenario past messages count h next.
     rw c.in-Got.is
     (no_actions scenario.params.format c.args.out.now.items _
-    (nothing_data scenario c.args.self.now.node c.in-Got.frame past (same_class-true c.in-Got.frame.class class.Tot (sym c.is_data.ensures ∙ c.if-is_data.true))))
+    (nothing_data scenario c.args.self.now.node c.in-Got.frame past (same_class-true c.in-Got.frame.class class.Tot (sym c.is_of_class.ensures ∙ c.if-is_of_class.true))))
 
-pub returns-then-is_data-2-clause-stands : goal.returns-then-is_data-2-clause-stands
-returns-then-is_data-2-clause-stands c = λ scenario past messages count h next.
-    let is : same_class c.in-Sent.frame.class class.Tot ≡ true = sym c.is_data-in-Sent.ensures ∙ c.if-is_data-2.true in
+pub returns-then-is_of_class-2-clause-stands : goal.returns-then-is_of_class-2-clause-stands
+returns-then-is_of_class-2-clause-stands c = λ scenario past messages count h next.
+    let is : same_class c.in-Sent.frame.class class.Tot ≡ true = sym c.is_of_class-in-Sent.ensures ∙ c.if-is_of_class-2.true in
     rw c.in-Sent.is
     (heard_sent scenario c.args.self.now.node past messages count c.args.self.now c.on_own_data.new.self h c.in-Sent.frame
     (sent_names scenario past c.args.notice.now c.in-Sent.frame next service.Tot c.in-Sent.is (same_class-true c.in-Sent.frame.class class.Tot is))
     c.args.notice.now.slot is next.slot c.on_own_data.ensures.forgotten c.on_own_data.ensures.state)
 
-pub returns-then-is_data-2-clause-actions : goal.returns-then-is_data-2-clause-actions
-returns-then-is_data-2-clause-actions c = λ scenario past messages count h next.
+pub returns-then-is_of_class-2-clause-actions : goal.returns-then-is_of_class-2-clause-actions
+returns-then-is_of_class-2-clause-actions c = λ scenario past messages count h next.
     rw c.in-Sent.is
     (c.on_own_data.ensures.actions
-    ∙ ap (λ actions. c.args.out.now.items ++ actions) (origin_is scenario c.args.self.now.node c.in-Sent.frame past (sym c.is_data-in-Sent.ensures ∙ c.if-is_data-2.true)))
+    ∙ ap (λ actions. c.args.out.now.items ++ actions) (origin_is scenario c.args.self.now.node c.in-Sent.frame past (sym c.is_of_class-in-Sent.ensures ∙ c.if-is_of_class-2.true)))
 
 -- ---- a frame that accepts an open message
 
@@ -153,7 +112,7 @@ returns-then-accepts_open-clause-actions c = λ scenario past messages count h n
 pub returns-then-accepts_open-2-clause-stands : goal.returns-then-accepts_open-2-clause-stands
 returns-then-accepts_open-2-clause-stands c = λ scenario past messages count h next.
     let accepts = and_parts (same_class c.in-Sent.frame.class class.Accept) (has_open c.args.self.now c.in-Sent.frame)
-    (sym c.accepts_open-else-is_data-2.ensures ∙ c.if-accepts_open-2.true) in
+    (sym c.accepts_open-else-is_of_class-2.ensures ∙ c.if-accepts_open-2.true) in
     let accept = same_class-true c.in-Sent.frame.class class.Accept accepts.0 in
     rw c.in-Sent.is
     (heard_own_acceptance scenario c.args.self.now.node past messages count c.args.self.now c.on_own_acceptance.new.self h c.in-Sent.frame
@@ -164,7 +123,7 @@ pub returns-then-accepts_open-2-clause-actions : goal.returns-then-accepts_open-
 returns-then-accepts_open-2-clause-actions c = λ scenario past messages count h next.
     rw c.in-Sent.is
     (no_actions scenario.params.format c.args.out.now.items _
-    (nothing_sent scenario c.args.self.now.node c.in-Sent.frame past (sym c.is_data-in-Sent.ensures ∙ c.if-is_data-2.false)))
+    (nothing_sent scenario c.args.self.now.node c.in-Sent.frame past (sym c.is_of_class-in-Sent.ensures ∙ c.if-is_of_class-2.false)))
 
 -- ---- any other frame
 
@@ -172,7 +131,7 @@ pub returns-else-accepts_open-clause-stands : goal.returns-else-accepts_open-cla
 returns-else-accepts_open-clause-stands c = λ scenario past messages count h next.
     rw c.in-Got.is
     (heard_got_other scenario c.args.self.now.node past messages count c.args.self.now c.args.self.now h c.in-Got.frame
-    (sym c.is_data.ensures ∙ c.if-is_data.false) (sym c.accepts_open.ensures ∙ c.if-accepts_open.false))
+    (sym c.is_of_class.ensures ∙ c.if-is_of_class.false) (sym c.accepts_open.ensures ∙ c.if-accepts_open.false))
 
 pub returns-else-accepts_open-clause-actions : goal.returns-else-accepts_open-clause-actions
 returns-else-accepts_open-clause-actions c = λ scenario past messages count h next.
@@ -185,13 +144,13 @@ pub returns-else-accepts_open-2-clause-stands : goal.returns-else-accepts_open-2
 returns-else-accepts_open-2-clause-stands c = λ scenario past messages count h next.
     rw c.in-Sent.is
     (heard_sent_other scenario c.args.self.now.node past messages count c.args.self.now c.args.self.now h c.in-Sent.frame
-    (sym c.is_data-in-Sent.ensures ∙ c.if-is_data-2.false) (sym c.accepts_open-else-is_data-2.ensures ∙ c.if-accepts_open-2.false))
+    (sym c.is_of_class-in-Sent.ensures ∙ c.if-is_of_class-2.false) (sym c.accepts_open-else-is_of_class-2.ensures ∙ c.if-accepts_open-2.false))
 
 pub returns-else-accepts_open-2-clause-actions : goal.returns-else-accepts_open-2-clause-actions
 returns-else-accepts_open-2-clause-actions c = λ scenario past messages count h next.
     rw c.in-Sent.is
     (no_actions scenario.params.format c.args.out.now.items _
-    (nothing_sent scenario c.args.self.now.node c.in-Sent.frame past (sym c.is_data-in-Sent.ensures ∙ c.if-is_data-2.false)))
+    (nothing_sent scenario c.args.self.now.node c.in-Sent.frame past (sym c.is_of_class-in-Sent.ensures ∙ c.if-is_of_class-2.false)))
 
 -- ---- no frame
 

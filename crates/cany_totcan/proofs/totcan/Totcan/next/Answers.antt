@@ -2,7 +2,6 @@
 use Rattle.std.proofs.Common.{◌≡◌, ◌++◌, ◌∷◌, [], ap, sym, ◌∙◌, subst}
 use Rattle.std.proofs.lemmas.List.{append-nil}
 use Rattle.cany_base.specs.declared.actions.Action.TheVariants as action
-use Rattle.cany_base.specs.declared.class.Class.TheVariants as class
 use Rattle.cany_model.specs.Rules.Actions.{actions_of}
 use Rattle.cany_model.specs.Rules.Backlog.{ask_for, asked_after, next_after}
 use Rattle.cany_totcan.specs.Backlog.{after_next, next_given}
@@ -25,18 +24,8 @@ returns-clause-actions c = λ scenario past messages count h turn.
     elim c.match-next.branch [
       | in-Some w ↦
           let given = w.in-Some.given in
-          let frame : w.form.result ≡ tot_frame v.node given =
-          w.form.ensures
-          ∙ (λ k. record {
-            class = class.Tot;
-            number = (w.new-data.ensures.msg k).seq;
-            node = (w.new-data.ensures.msg k).origin;
-            inc = 0;
-            payload = w.new-data.ensures.payload k;
-          })
-          ∙ ap (λ (u : TotcanParts). tot_frame u.node given) c.self.view_is in
           ap (λ out. out.items) (w.out-is ∙ w.push.ensures)
-          ∙ ap (λ f. before ++ action.Ask f ∷ []) frame
+          ∙ ap (λ (u : TotcanParts). before ++ action.Ask (tot_frame u.node given) ∷ []) c.self.view_is
           ∙ ap (λ o. before ++ asked_actions v.node o) (sym w.in-Some.is) ∙ actions
       | in_default w ↦
           ap (λ out. out.items) w.out-is ∙ sym (append-nil before) ∙ ap (λ o. before ++ asked_actions v.node o) (sym w.in_default.is) ∙ actions
