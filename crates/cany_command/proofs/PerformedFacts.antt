@@ -27,15 +27,15 @@ pub not_some : {A : Type 0} (o : Option A) (P : A → Type 0) → o ≡ None →
 not_some o P none = subst (λ x. IfSome x P) (sym none) tt
 
 -- a fact of the text, which is all that is told
-of_all : (told : Option (List ℕ)) (text : List ℕ) (P : List ℕ → Type 0) → IfSome told (λ bytes. text ≡ bytes) → P text → IfSome told P
+pub of_all : (told : Option (List ℕ)) (text : List ℕ) (P : List ℕ → Type 0) → IfSome told (λ bytes. text ≡ bytes) → P text → IfSome told P
 of_all None text P same p = tt
 of_all (Some bytes) text P same p = subst P same p
 
-told_then : (told : Option (List ℕ)) (P Q : List ℕ → Type 0) → IfSome told P → ((bytes : List ℕ) → P bytes → Q bytes) → IfSome told Q
+pub told_then : (told : Option (List ℕ)) (P Q : List ℕ → Type 0) → IfSome told P → ((bytes : List ℕ) → P bytes → Q bytes) → IfSome told Q
 told_then None P Q p h = tt
 told_then (Some bytes) P Q p h = h bytes p
 
-told_then_any : (told : Option (List ℕ)) (Q : List ℕ → Type 0) → ((bytes : List ℕ) → Q bytes) → IfSome told Q
+pub told_then_any : (told : Option (List ℕ)) (Q : List ℕ → Type 0) → ((bytes : List ℕ) → Q bytes) → IfSome told Q
 told_then_any None Q h = tt
 told_then_any (Some bytes) Q h = h bytes
 
@@ -44,10 +44,10 @@ refusal_then None P Q p h = tt
 refusal_then (Some line) P Q p h = h p
 
 -- a fact where no words are refused
-unrefused : {A : Type 0} (o : Option A) (P : Type 0) (Q : A → Type 0) → o ≡ None → P → MatchOption o P Q
+pub unrefused : {A : Type 0} (o : Option A) (P : Type 0) (Q : A → Type 0) → o ≡ None → P → MatchOption o P Q
 unrefused o P Q none p = subst (λ x. MatchOption x P Q) (sym none) p
 
-line_decides : (o : Option (List ℕ)) (P : List ℕ → Type 0) (Q R : Type 0) → IsSomeAnd o P → R → MatchOption o Q (λ _. R)
+pub line_decides : (o : Option (List ℕ)) (P : List ℕ → Type 0) (Q R : Type 0) → IsSomeAnd o P → R → MatchOption o Q (λ _. R)
 line_decides None P Q R line r = absurd line
 line_decides (Some line) P Q R taken r = r
 
@@ -60,25 +60,25 @@ past_line o line P some = subst (λ x. IfNone x P) (sym some) tt
 -- ---- statuses
 
 -- what is no answer of a stream lies between these two
-no_answer_low : (answer : ℕ) → HasNoAnswer answer → OTHER_WORDS ≤ answer
+pub no_answer_low : (answer : ℕ) → HasNoAnswer answer → OTHER_WORDS ≤ answer
 no_answer_low answer (inl words) = omega (arith, words)
 no_answer_low answer (inr (inl read)) = omega (arith, read)
 no_answer_low answer (inr (inr (inl memory))) = omega (arith, memory)
 no_answer_low answer (inr (inr (inr long))) = omega (arith, long)
 
-no_answer_high : (answer : ℕ) → HasNoAnswer answer → answer ≤ TOO_LONG
+pub no_answer_high : (answer : ℕ) → HasNoAnswer answer → answer ≤ TOO_LONG
 no_answer_high answer (inl words) = omega (arith, words)
 no_answer_high answer (inr (inl read)) = omega (arith, read)
 no_answer_high answer (inr (inr (inl memory))) = omega (arith, memory)
 no_answer_high answer (inr (inr (inr long))) = omega (arith, long)
 
-not_refused : (answer : ℕ) → HasNoAnswer answer → answer ≡ REFUSED → ⊥
+pub not_refused : (answer : ℕ) → HasNoAnswer answer → answer ≡ REFUSED → ⊥
 not_refused answer (inl words) is = omega (arith, words, is)
 not_refused answer (inr (inl read)) is = omega (arith, read, is)
 not_refused answer (inr (inr (inl memory))) is = omega (arith, memory, is)
 not_refused answer (inr (inr (inr long))) is = omega (arith, long, is)
 
-not_failed : (answer : ℕ) → HasNoAnswer answer → answer ≡ WRITE_FAULT → ⊥
+pub not_failed : (answer : ℕ) → HasNoAnswer answer → answer ≡ WRITE_FAULT → ⊥
 not_failed answer (inl words) is = omega (arith, words, is)
 not_failed answer (inr (inl read)) is = omega (arith, read, is)
 not_failed answer (inr (inr (inl memory))) is = omega (arith, memory, is)
@@ -88,7 +88,7 @@ is_not_below : (a b : ℕ) → a ≡ b → a < b → ⊥
 is_not_below a b same below = omega (arith, same, below)
 
 -- a stream that failed does not stand still
-rose : (old new : ℕ) → HasRisen old new → StandsStill old new → ⊥
+pub rose : (old new : ℕ) → HasRisen old new → StandsStill old new → ⊥
 rose old new risen still = is_not_below old new (sym still.0) (risen (λ last. is_not_below new _ last still.1))
 
 -- no status of success is one that a command answers where it does not succeed

@@ -5,7 +5,7 @@ use Rattle.std.proofs.lemmas.Bool.{cases_eq, false≢true}
 use Rattle.std.proofs.lemmas.Grind.{get_or-set_at}
 use Rattle.std.proofs.lemmas.List.{get_or-set_other, length-map, length-set, map-set, set-get_or}
 use Rattle.cany_io.specs.Faults.{HasRisen}
-use Rattle.cany_command.proofs.ExitFacts.{rose}
+use Rattle.cany_command.proofs.PerformedFacts.{rose}
 use Rattle.cany_crew.specs.Gates.{HasAnyRefused, HasRefused, IsOutcome, NoneFell, NoneRefused}
 
 -- ---- one count

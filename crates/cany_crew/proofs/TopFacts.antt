@@ -12,8 +12,7 @@ use Rattle.cany_text.specs.ScenarioText.{scenario_of}
 use Rattle.cany_text.specs.TomlKeys.{Read}
 use Rattle.cany_command.specs.declared.status.TheConstants.{DONE, NO_MEMORY, OTHER_WORDS, READ_FAULT, REFUSED, TOO_LONG, WRITE_FAULT}
 use Rattle.cany_command.specs.Status.{HasAnswered, HasNoAnswer}
-use Rattle.cany_command.proofs.ExitFacts.{no_answer_high, not_ended}
-use Rattle.cany_command.proofs.StatusFacts.{done_is_no_fault}
+use Rattle.cany_command.proofs.PerformedFacts.{no_answer_high, no_answer_low, not_failed, not_refused}
 use Rattle.cany_crew.specs.declared.status.TheConstants.{HELD}
 use Rattle.cany_crew.specs.Top.{IsReportOf, TakesReportStart, TakesStart, run_refusal, run_refusal_for}
 
@@ -65,7 +64,9 @@ started_report bytes scenario old new is none start =
 
 -- a call that wrote nothing, and was held by no gate, has made no run
 pub not_ran : (status : ℕ) → HasNoAnswer status → HasAnswered status ⊎ (status ≡ HELD) → ⊥
-not_ran status none (inl ended) = not_ended (λ s. s ≡ DONE) status done_is_no_fault none ended
+not_ran status none (inl (inl done)) = let low = no_answer_low status none in omega (arith, low, done)
+not_ran status none (inl (inr (inl refused))) = not_refused status none refused
+not_ran status none (inl (inr (inr failed))) = not_failed status none failed
 not_ran status none (inr held) = let high = no_answer_high status none in omega (arith, high, held)
 
 pub done_or_held : (status : ℕ) → (status ≡ DONE) ⊎ (status ≡ HELD) → HasAnswered status ⊎ (status ≡ HELD)

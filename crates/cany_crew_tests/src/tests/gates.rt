@@ -1,45 +1,78 @@
-//! A gate that refuses.
-ghost use Rattle.std.specs.Prelude.{◌≡◌, ◌≤◌, IfOk, vec_len};
+//! Gates that wait for one another, and one that refuses.
+ghost use Rattle.std.specs.Prelude.{◌≡◌, ◌≤◌, [], IfOk, vec_len};
+ghost use Rattle.cany_base.specs.Limits.{most_nodes};
 
 use super::three_nodes;
-use cany_base::{Memory, NodeId, Slot};
+use cany_base::limits::MOST_NODES;
+use cany_base::{NodeId, Slot, Step};
 use cany_crew::{CrewFault, Gate, crew_run};
 use cany_world::World;
 use std::alloc::{AllocError, Global};
 use std::sync::Wait;
+use std::sync::atomic::{AtomicU64, Ordering};
 use std::test::Fail;
-use std::thread::Threads;
+use std::thread::{self, Threads};
 
-/// A gate that refuses node 1 slot 1, and passes all else.
+/// How often a gate looks for the other before it refuses.
+const MOST_LOOKS: u32 = 20_000_000;
+
+/// Counts a gate that was asked, and looks until another was.
+fn meets(asked: &AtomicU64) -> bool {
+    asked.fetch_add(1, Ordering::SeqCst);
+    for _ in 0..MOST_LOOKS {
+        if asked.load(Ordering::SeqCst) > 1 {
+            return true;
+        }
+        thread::yield_now();
+    }
+    false
+}
+
+/// A gate that passes nodes 0 and 1 in slot 0 once both have been asked, refuses node 1 slot 1, and
+/// passes all else at once.
 #[derive(Drop)]
-struct Closed {
+struct Meeting<'a> {
+    asked: &'a AtomicU64,
     refusals: u64,
 }
 
-impl Gate for Closed {
+impl Gate for Meeting<'_> {
     ghost refusals = { λ gate. gate.refusals };
 
     fn pass(&mut self, node: NodeId, slot: Slot) -> bool {
-        if node.get() != 1 || slot != 1 {
-            return true;
+        let passes = match (node.get(), slot) {
+            (0 | 1, 0) => meets(self.asked),
+            (1, 1) => false,
+            _ => true,
+        };
+        if !passes {
+            self.refusals = self.refusals.saturating_add(1);
         }
-        self.refusals = self.refusals.saturating_add(1);
-        false
+        passes
     }
 }
 
-/// How many nodes the run has.
-const NODES: usize = 3;
-
-/// Such a gate for each of its nodes.
-fn closed_gates(alloc: Global) -> Result<Vec<Closed>, AllocError>
-    ensures { IfOk result (λ gates. vec_len gates ≡ 3) }
+fn meetings(alloc: Global, asked: &AtomicU64) -> Result<Vec<Meeting<'_>>, AllocError>
+    ensures { IfOk result (λ gates. vec_len gates ≡ most_nodes) }
 {
     let mut gates = Vec::new(alloc);
-    for _ in 0..NODES {
-        gates.push(Closed { refusals: 0 })?;
+    for _ in 0..MOST_NODES {
+        gates.push(Meeting { asked, refusals: 0 })?;
     }
     Ok(gates)
+}
+
+/// Nothing but the call, whose contract is long.
+fn work<G: Gate, R: Threads + Wait + Sync>(
+    rt: &R,
+    alloc: Global,
+    world: World,
+    gates: &mut Vec<G>,
+) -> Result<World, CrewFault>
+    requires fresh { world.journal ≡ [] }
+    requires gates { world.scenario.params.nodes ≤ vec_len gates.old }
+{
+    crew_run(rt, alloc, world, gates)
 }
 
 /// The world of a run, and where the run is held.
@@ -51,32 +84,27 @@ fn parts_of(run: Result<World, CrewFault>) -> (World, Option<(NodeId, Slot)>) {
     }
 }
 
-/// The number of the node and the slot at which a run is held. The world is let go apart from the
-/// rest: that is cheap to prove.
-fn held_at(run: Result<World, CrewFault>) -> Option<(u8, Slot)> {
-    let (world, place) = parts_of(run);
-    drop(world);
+/// The number of the node, the slot, and whether the node has made a turn.
+fn told(world: &World, place: Option<(NodeId, Slot)>) -> Option<(u8, Slot, bool)> {
     let (node, slot) = place?;
-    Some((node.get(), slot))
+    let has_turned = world.journal().contains(&Step::Turn(node));
+    Some((node.get(), slot, has_turned))
 }
 
-/// Where a run of three nodes is held.
-fn run_held_at<R: Threads + Wait + Sync, G: Gate>(
-    rt: &R,
-    alloc: Global,
-    gates: &mut Vec<G>,
-) -> Result<Option<(u8, Slot)>, Memory>
-    requires { 3 ≤ vec_len gates.old }
-{
-    let world = three_nodes(alloc)?;
-    Ok(held_at(crew_run(rt, alloc, world, gates)))
+/// Where a run is held. The world is let go apart from the rest: that is cheap to prove.
+fn held_at(run: Result<World, CrewFault>) -> Option<(u8, Slot, bool)> {
+    let (world, place) = parts_of(run);
+    told(&world, place)
 }
 
-/// Each pass but one is granted, so a run in which a turn is made without one ends.
+/// A body that works the nodes one after another is held in slot 0, by a gate that waits for the
+/// other in vain. Node 1 has read slot 0 when its gate refuses slot 1.
 #[test]
-fn a_gate_holds_the_run(rt: HostRuntime) -> Result<(), Fail> {
-    let mut gates = closed_gates(rt.alloc())?;
-    let place = run_held_at(&rt, rt.alloc(), &mut gates)?;
-    assert_eq!(rt; place, Some((1, 1)));
+fn gates_overlap_and_one_refuses(rt: HostRuntime) -> Result<(), Fail> {
+    let alloc = rt.alloc();
+    let asked = AtomicU64::new(0);
+    let mut gates = meetings(alloc, &asked)?;
+    let run = work(&rt, alloc, three_nodes(alloc)?, &mut gates);
+    assert_eq!(rt; held_at(run), Some((1, 1, true)));
     Ok(())
 }

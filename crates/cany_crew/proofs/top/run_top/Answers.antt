@@ -3,7 +3,7 @@ use Rattle.std.specs.Prelude.{MatchOption}
 use Rattle.cany_base.specs.Limits.{most_text_bytes}
 use Rattle.cany_command.specs.declared.status.TheConstants.{DONE, NO_MEMORY, OTHER_WORDS, REFUSED, TOO_LONG}
 use Rattle.cany_command.specs.Status.{HasNoAnswer}
-use Rattle.cany_command.proofs.ExitFacts.{line_decides, none_decides, of_all, rose, told_then, told_then_any}
+use Rattle.cany_command.proofs.PerformedFacts.{line_decides, of_all, rose, told_then, told_then_any, unrefused}
 use Rattle.cany_crew.specs.Top.{AreRun, run_refusal}
 use Rattle.cany_crew.proofs.GateFacts.{none_fell, none_rose}
 use Rattle.cany_crew.proofs.TopFacts.{done_or_held, not_both, not_ran}
@@ -112,7 +112,7 @@ returns-in-Ok g c =
       ];
       complete = λ again still still_too passed. elim made.status [
         | inl (inl is) ↦ of_all told text (λ bytes. length bytes ≤ most_text_bytes → (answer ≡ NO_MEMORY) ⊎ MatchOption (run_refusal bytes) (answer ≡ DONE) (λ _. answer ≡ REFUSED)) read.whole
-            (λ within. inr (none_decides (run_refusal text) _ _ (made.not_refused (inl is)) is))
+            (λ within. inr (unrefused (run_refusal text) _ _ (made.not_refused (inl is)) is))
         | inl (inr (inl is)) ↦ of_all told text (λ bytes. length bytes ≤ most_text_bytes → (answer ≡ NO_MEMORY) ⊎ MatchOption (run_refusal bytes) (answer ≡ DONE) (λ _. answer ≡ REFUSED)) read.whole
             (λ within. inr (line_decides (run_refusal text) _ _ _ (made.refused is) is))
         | inl (inr (inr is)) ↦ absurd (rose _ _ (made.write_fault is) still_too)
