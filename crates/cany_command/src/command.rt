@@ -29,9 +29,8 @@ use std::alloc::Global;
 /// 2. Write a type for the command, mostly `struct Name;`, and its `Command`. A command of one word
 ///    that refuses nothing of its own writes `OneWord` instead, and is `OneWordCommand(Name)`.
 /// 3. Its top call is `perform(alloc, &Name, words, source, sink)`, of one word with
-///    `&OneWordCommand(Name)`. What `perform` promises is what
-///    that call promises: `IsPerformed` of the command's own parts. What success says besides is a
-///    clause of its own.
+///    `&OneWordCommand(Name)`. What `perform` promises is what that call promises: `IsPerformed` of
+///    the command's own parts. What success says besides is a clause of its own.
 pub trait Command {
     /// What the words ask for besides the command itself.
     type Plan: Drop;

@@ -121,12 +121,12 @@ fn run_text<R: Threads + Wait + Sync, K: Sink, G: Gate>(
 }
 
 /// Runs by threads: reads a scenario text from the source, runs the scenario by a thread for each
-/// node and one for the bus, and writes the report to the sink, a page of lines at a time. The journal is
-/// the one that the threads made, and the report prints it. It answers the status of the program,
-/// one of those in `status` here and in `cany_command`. The words are the one word `run`; causes
-/// are looked at in this order: the words, the reading, the text, a journal in the scenario, the
-/// gates, the writing. The gate at place i is that of node i, and after the call the counts of the
-/// gates stand at their old places. The call may wait for its threads.
+/// node and one for the bus, and writes the report to the sink, a page of lines at a time. The
+/// journal is the one that the threads made, and the report prints it. It answers the status of the
+/// program, one of those in `status` here and in `cany_command`. The words are the one word `run`;
+/// causes are looked at in this order: the words, the reading, the text, a journal in the scenario,
+/// the gates, the writing. The gate at place i is that of node i, and after the call the counts of
+/// the gates stand at their old places. The call may wait for its threads.
 pub fn run_top<R: Threads + Wait + Sync, S: Source, K: Sink, G: Gate>(
     rt: &R,
     alloc: Global,

@@ -30,10 +30,10 @@ impl OneWord for Replay {
 }
 
 /// Replays: reads a scenario text from the source, runs the scenario by its own journal or, where
-/// it has none, by its round robin journal, and writes the report to the sink, a page of lines at a time. It
-/// answers the status of the program, one of those in `cany_command::status`. The words are the one
-/// word `replay`; causes are looked at in this order: the words, the reading, the text, the
-/// journal, the writing.
+/// it has none, by its round robin journal, and writes the report to the sink, a page of lines at a
+/// time. It answers the status of the program, one of those in `cany_command::status`. The words
+/// are the one word `replay`; causes are looked at in this order: the words, the reading, the text,
+/// the journal, the writing.
 pub fn replay_top<S: Source, K: Sink>(
     alloc: Global,
     words: &[String],
