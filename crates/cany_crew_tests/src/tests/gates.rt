@@ -1,10 +1,10 @@
 //! Gates that wait for one another, and one that refuses.
-ghost use Rattle.std.specs.Prelude.{◌≡◌, ◌≤◌, [], IfOk, vec_len};
+ghost use Rattle.std.specs.Prelude.{◌≡◌, ◌≤◌, IfOk, vec_len};
 ghost use Rattle.cany_base.specs.Limits.{most_nodes};
 
 use super::three_nodes;
 use cany_base::limits::MOST_NODES;
-use cany_base::{NodeId, Slot, Step};
+use cany_base::{Memory, NodeId, Slot, Step};
 use cany_crew::{CrewFault, Gate, crew_run};
 use cany_world::World;
 use std::alloc::{AllocError, Global};
@@ -62,17 +62,17 @@ fn meetings(alloc: Global, asked: &AtomicU64) -> Result<Vec<Meeting<'_>>, AllocE
     Ok(gates)
 }
 
-/// Nothing but the call, whose contract is long.
-fn work<G: Gate, R: Threads + Wait + Sync>(
+/// A run of three nodes with these gates. It is a function of its own since the contract of the call
+/// is long.
+fn run_of_three<R: Threads + Wait + Sync>(
     rt: &R,
     alloc: Global,
-    world: World,
-    gates: &mut Vec<G>,
-) -> Result<World, CrewFault>
-    requires fresh { world.journal ≡ [] }
-    requires gates { world.scenario.params.nodes ≤ vec_len gates.old }
+    gates: &mut Vec<Meeting<'_>>,
+) -> Result<Result<World, CrewFault>, Memory>
+    requires { 3 ≤ vec_len gates.old }
 {
-    crew_run(rt, alloc, world, gates)
+    let world = three_nodes(alloc)?;
+    Ok(crew_run(rt, alloc, world, gates))
 }
 
 /// The world of a run, and where the run is held.
@@ -104,7 +104,7 @@ fn gates_overlap_and_one_refuses(rt: HostRuntime) -> Result<(), Fail> {
     let alloc = rt.alloc();
     let asked = AtomicU64::new(0);
     let mut gates = meetings(alloc, &asked)?;
-    let run = work(&rt, alloc, three_nodes(alloc)?, &mut gates);
+    let run = run_of_three(&rt, alloc, &mut gates)?;
     assert_eq!(rt; held_at(run), Some((1, 1, true)));
     Ok(())
 }
