@@ -93,21 +93,13 @@ one_more : {X : Type 0} (xs : List X) (x : X) → length (xs ++ x ∷ []) ≡ le
 one_more xs x = omega (arith, length-append xs (x ∷ []))
 
 -- a share ends no incarnation
-share_present : (share : Share) (node : NodeState) → (after_share share node).present ≡ node.present
+share_keeps : (share : Share) (node : NodeState) → ((after_share share node).present ≡ node.present) × ((after_share share node).ended ≡ node.ended)
 unfolding after_share
-share_present share.Idle node = refl
-share_present (share.Took f) node = refl
-share_present share.Rejected node = refl
-share_present (share.Confirmed f) node = refl
-share_present share.Errored node = refl
-
-share_ended : (share : Share) (node : NodeState) → (after_share share node).ended ≡ node.ended
-unfolding after_share
-share_ended share.Idle node = refl
-share_ended (share.Took f) node = refl
-share_ended share.Rejected node = refl
-share_ended (share.Confirmed f) node = refl
-share_ended share.Errored node = refl
+share_keeps share.Idle node = (refl, refl)
+share_keeps (share.Took f) node = (refl, refl)
+share_keeps share.Rejected node = (refl, refl)
+share_keeps (share.Confirmed f) node = (refl, refl)
+share_keeps share.Errored node = (refl, refl)
 
 -- a share, and then a stop or none
 with_stop : (slot : ℕ) (share : Share) (c : ControllerState) (b : Bool) → (exceeds (after_share share (node_state c)) ≡ true → b ≡ true)
@@ -117,12 +109,12 @@ with_stop slot share c true stops =
     rw (
       one_more c.unread (record { slot = slot; kind = notice_of share }),
       stop_kept (exceeds (after_share share (node_state c))) slot,
-      share_present share (node_state c),
-      share_ended share (node_state c),
+      (share_keeps share (node_state c)).0,
+      (share_keeps share (node_state c)).1,
     ) refl
 with_stop slot share c false stops =
     let low : exceeds (after_share share (node_state c)) ≡ false = not_true (exceeds (after_share share (node_state c))) stops in
-    rw (one_more c.unread (record { slot = slot; kind = notice_of share }), low, share_present share (node_state c), share_ended share (node_state c)) refl
+    rw (one_more c.unread (record { slot = slot; kind = notice_of share }), low, (share_keeps share (node_state c)).0, (share_keeps share (node_state c)).1) refl
 
 -- a share, and the stop where the note has it, make the node after the slot
 pub seen_is_after : (i : ℕ) (note : SlotNote) (c : ControllerState) → SeenIsNodeAfter i note c

@@ -4,7 +4,7 @@ ghost use Rattle.cany_base.specs.declared.notice.NoticeKind.TheVariants.{Idle, G
 ghost use Rattle.cany_base.specs.Limits.{most_nodes, most_slots};
 ghost use Rattle.cany_base.specs.Nodes.{AllBelow, Nodes};
 ghost use Rattle.cany_base.specs.Scenario.{ScenarioParts};
-ghost use Rattle.cany_history.specs.History.{CanRead, IsHistoryOf, IsNextAt, Rests, StartsWith};
+ghost use Rattle.cany_history.specs.History.{HistoryParts, CanRead, IsHistoryOf, IsNextAt, Rests, StartsWith};
 ghost use Rattle.cany_history.specs.HistorySteps.{IsInRun, end_actions, frame_at, got_actions, having_ended, having_read, after_starting, is_covered_by, is_own_vector, met_by, is_just_own, read_actions, start_actions, with_vector, withdrawal_at};
 ghost use Rattle.cany_model.specs.Rules.Actions.{actions_of};
 ghost use Rattle.cany_model.specs.Rules.Vectors.{after_exchange, brought, ended, everybody, exchange_at, is_new, met, met_with, vector_in};
@@ -43,17 +43,9 @@ pub struct History {
 }
 
 impl Model for History {
-    ghost use Rattle.cany_history.specs.History.{HistoryParts};
-
     ghost Value = { HistoryParts };
 
-    ghost view = { λ h. record {
-      node = h.node;
-      params = h.params;
-      vector = h.vector;
-      copies = h.copies;
-      sent = h.sent;
-    } };
+    ghost view = { λ h. record { node = h.node; params = h.params; vector = h.vector; copies = h.copies; sent = h.sent } };
 }
 
 impl History {

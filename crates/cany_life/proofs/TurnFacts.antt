@@ -18,7 +18,7 @@ use Rattle.cany_model.specs.Rules.Notices.{IsNextNotice}
 use Rattle.cany_model.specs.Rules.Knowledge.{FailureSign, Knowledge, after_life, fda_frame, found, after_finding, after_hearing, after_learning, shows_life, told, told_in, with_members, with_shown, with_signs}
 use Rattle.cany_model.proofs.Rules.NumberFacts.{belongs_small}
 use Rattle.cany_life.specs.Life.{IsLifeOf, IsNextAt, IsReading, LifeParts}
-use Rattle.cany_life.specs.LifeSteps.{CanLearn, all_marked, found_actions, found_below, heard}
+use Rattle.cany_life.specs.LifeSteps.{CanFind, CanLearn, all_marked, found_actions, found_below, heard}
 use Rattle.cany_life.proofs.FindFacts.{find_acts, find_stands}
 use Rattle.cany_life.proofs.HeardFacts.{heard_stands}
 use Rattle.cany_life.proofs.LearnFacts.{cycle_of_run}
@@ -104,13 +104,10 @@ module _ (scenario : ScenarioParts) (i : ℕ) (past : List NoticeKind) (knowledg
     own_params = learnt_reads.limits.are_params ∙ sym h.limits.are_params
 
     -- what finding rests on
-    pub some_cycle : 0 < x.params.cycle
+    some_cycle : 0 < x.params.cycle
     some_cycle = rw learnt_reads.limits.are_params (omega (arith, h.limits.legal.in_range.cycle.0))
 
-    pub some_silence : 0 < x.params.silence
-    some_silence = rw learnt_reads.limits.are_params (omega (arith, h.limits.legal.in_range.silence.0))
-
-    pub few_cycles : notice.slot / x.params.cycle < most_numbers
+    few_cycles : notice.slot / x.params.cycle < most_numbers
     few_cycles =
         let sign : FailureSign = record { node = 0; cycle = notice.slot / scenario.params.cycle } in
         let small = belongs_small scenario notice.slot (fda_frame sign) h.limits.legal next.next.within (record {
@@ -119,13 +116,19 @@ module _ (scenario : ScenarioParts) (i : ℕ) (past : List NoticeKind) (knowledg
         }) in
         rw learnt_reads.limits.are_params small.number
 
-    pub has_cycle : notice.slot / x.params.cycle < length x.known
+    has_cycle : notice.slot / x.params.cycle < length x.known
     has_cycle =
         rw learnt_reads.limits.are_params
         (omega (arith, learnt_reads.signs.cycles, cycle_of_run scenario notice.slot (notice.slot / scenario.params.cycle) h.limits.legal next.next.within (omega arith)))
 
-    pub placed : x.params.nodes ≤ most_nodes
-    placed = rw learnt_reads.limits.are_params (few_nodes scenario.params h.limits.legal.in_range)
+    few_enough : x.params.nodes ≤ most_nodes
+    few_enough = rw learnt_reads.limits.are_params (few_nodes scenario.params h.limits.legal.in_range)
+
+    pub can_find : CanFind x notice.slot
+    can_find = record { cycle = some_cycle; number = few_cycles; known = has_cycle; nodes = few_enough }
+
+    pub some_silence : 0 < x.params.silence
+    some_silence = rw learnt_reads.limits.are_params (omega (arith, h.limits.legal.in_range.silence.0))
 
     -- and finds
     pub turn_stands : (y : LifeParts) → y ≡ all_marked (found_below x members notice.slot x.params.nodes) x

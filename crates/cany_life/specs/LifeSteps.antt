@@ -1,6 +1,7 @@
 -- What a notice, and a sign that becomes known, do to a value of life signs and failure signs, and the actions that a sign calls for.
-use Rattle.std.specs.Prelude.{◌≡◌, ℕ, zero, suc, ◌+◌, ◌-◌, ◌<◌, ◌≤◌, ◌==◌, ◌&&◌, Bool, true, not, nat_le, if◌then◌else◌, List, [], ◌∷◌, ◌++◌, slice_index_or, slice_set}
+use Rattle.std.specs.Prelude.{◌≡◌, ℕ, zero, suc, ◌+◌, ◌-◌, ◌<◌, ◌≤◌, ◌==◌, ◌&&◌, Bool, true, not, nat_le, if◌then◌else◌, List, [], ◌∷◌, ◌++◌, length, slice_index_or, slice_set}
 use Rattle.std.specs.List.{flat_map}
+use Rattle.cany_base.specs.Cycles.{cycle_of}
 use Rattle.cany_base.specs.declared.actions.Action.{Action}
 use Rattle.cany_base.specs.declared.actions.Action.TheVariants.{Ask, Enter}
 use Rattle.cany_base.specs.declared.class.Class.TheVariants as class
@@ -8,7 +9,7 @@ use Rattle.cany_base.specs.declared.log_entry.LogEntry.TheVariants.{Failed}
 use Rattle.cany_base.specs.declared.notice.Notice.{Notice}
 use Rattle.cany_base.specs.declared.notice.NoticeKind.{NoticeKind}
 use Rattle.cany_base.specs.declared.notice.NoticeKind.TheVariants.{Idle, Got, Sent, Bad}
-use Rattle.cany_base.specs.Limits.{most_nodes}
+use Rattle.cany_base.specs.Limits.{most_nodes, most_numbers}
 use Rattle.cany_base.specs.Nodes.{Nodes, has, with_node}
 use Rattle.cany_base.specs.Scenario.{ScenarioParts}
 use Rattle.cany_diffuse.specs.Eager.{copies_of}
@@ -89,6 +90,13 @@ found_below v members slot (suc n) = found_below v members slot n ++ found_at v 
 -- what they call for
 abbrev pub found_actions : LifeParts → ℕ → List FailureSign → List Action
 found_actions v slot signs = flat_map (λ sign. sign_actions slot (has_enough_of v sign) sign) signs
+
+-- the value can have signs of a slot by silence: the cycle of the slot is one of the run, and each node has its bit
+pub record CanFind (v : LifeParts) (slot : ℕ) : Type 0 where
+  pub cycle : 0 < v.params.cycle
+  pub number : cycle_of v.params slot < most_numbers
+  pub known : cycle_of v.params slot < length v.known
+  pub nodes : v.params.nodes ≤ most_nodes
 
 -- ---- in the middle of a turn
 

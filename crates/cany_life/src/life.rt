@@ -10,7 +10,7 @@ ghost use Rattle.cany_base.specs.Nodes.{AllBelow, Nodes, has, nobody};
 ghost use Rattle.cany_base.specs.Scenario.{ScenarioParts};
 ghost use Rattle.cany_diffuse.specs.Eager.{IsLearnt};
 ghost use Rattle.cany_life.specs.Life.{CanRead, HasReadSlot, IsLifeOf, IsNextAt, IsReading, Rests, sign_number};
-ghost use Rattle.cany_life.specs.LifeSteps.{CanLearn, IsIdleUntil, all_marked, found_actions, found_at, found_below, has_enough_of, has_timed_out_at, heard, is_known, is_watched, known_actions, marked, unknown};
+ghost use Rattle.cany_life.specs.LifeSteps.{CanFind, CanLearn, IsIdleUntil, all_marked, found_actions, found_at, found_below, has_enough_of, has_timed_out_at, heard, is_known, is_watched, known_actions, marked, unknown};
 ghost use Rattle.cany_message.specs.Actions.{withdraw_actions};
 ghost use Rattle.cany_message.specs.Table.{CanTake};
 ghost use Rattle.cany_model.specs.Bus.Frames.{same_class};
@@ -303,11 +303,8 @@ impl Life {
     /// The signs that silence brings, by ascending node. In most slots it is known that there are
     /// none.
     fn find(&mut self, slot: Slot, members: NodeSet, out: &mut Actions)
-        requires cycle { 0 < self.old.params.cycle }
+        requires finds { CanFind self.old slot }
         requires silence { 0 < self.old.params.silence }
-        requires number { cycle_of self.old.params slot < most_numbers }
-        requires known { cycle_of self.old.params slot < length self.old.known }
-        requires nodes { self.old.params.nodes ≤ most_nodes }
         requires room { length out.old.items + 2 * self.old.params.nodes ≤ out.old.room }
         ensures state { self.new ≡ all_marked (found_below self.old members slot self.old.params.nodes) self.old }
         ensures actions { out.new.items ≡ out.old.items ++ found_actions self.old slot (found_below self.old members slot self.old.params.nodes) }
@@ -322,10 +319,7 @@ impl Life {
 
     /// The signs that silence brings, as the nodes are looked at one after another.
     fn find_among(&mut self, slot: Slot, members: NodeSet, out: &mut Actions)
-        requires cycle { 0 < self.old.params.cycle }
-        requires number { cycle_of self.old.params slot < most_numbers }
-        requires known { cycle_of self.old.params slot < length self.old.known }
-        requires nodes { self.old.params.nodes ≤ most_nodes }
+        requires finds { CanFind self.old slot }
         requires room { length out.old.items + 2 * self.old.params.nodes ≤ out.old.room }
         ensures state { self.new ≡ all_marked (found_below self.old members slot self.old.params.nodes) self.old }
         ensures actions { out.new.items ≡ out.old.items ++ found_actions self.old slot (found_below self.old members slot self.old.params.nodes) }

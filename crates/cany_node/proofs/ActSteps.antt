@@ -1,5 +1,5 @@
 -- A turn from its parts: what the protocols and the script list is done, and the node stands for the notice too.
-use Rattle.std.proofs.Common.{◌≡◌, ℕ, ◌+◌, ◌≤◌, Bool, true, false, List, [], ◌∷◌, ◌++◌, count_by, length, refl, ap, sym, subst, ◌∙◌, arith}
+use Rattle.std.proofs.Common.{◌≡◌, ℕ, ◌+◌, ◌≤◌, List, [], ◌∷◌, ◌++◌, count_by, length, refl, ap, sym, subst, ◌∙◌, arith}
 use Rattle.std.specs.List.{AllByRecursion}
 use Rattle.std.proofs.lemmas.List.{length-append}
 use Rattle.cany_base.specs.declared.actions.Action.{Action}
@@ -16,7 +16,7 @@ use Rattle.cany_model.specs.Rules.Log.{log_from}
 use Rattle.cany_model.specs.Rules.Notices.{IsReadable}
 use Rattle.cany_model.specs.Rules.Rooms.{waiting_room}
 use Rattle.cany_model.specs.Rules.Turn.{turn_effects}
-use Rattle.cany_model.proofs.Among.{one_if}
+use Rattle.cany_model.proofs.Among.{one_at_most}
 use Rattle.cany_model.proofs.Promises.SignCounts.{turn_asks}
 use Rattle.cany_model.proofs.Rules.LifeCounts.{due_in}
 use Rattle.can_controller.specs.Controller.{ControllerState}
@@ -29,10 +29,10 @@ use Rattle.cany_node.specs.Membership.{IsNextOf}
 use Rattle.cany_node.specs.Stamping.{AreStamped}
 use Rattle.cany_node.specs.Turning.{CanScript, HasHeard, HasScripted, IsActed, heard_effects, plain_effects, script_effects}
 use Rattle.cany_node.proofs.Askable.{turn_names}
-use Rattle.cany_node.proofs.NextAction.{signs_asked}
+use Rattle.cany_node.proofs.NextAction.{entered_stamped, signs_asked}
 use Rattle.cany_node.proofs.RoomsSuffice.{log_within}
 use Rattle.cany_node.proofs.HeardTurn.{listed_more, same_room}
-use Rattle.cany_node.proofs.StampedEffects.{entered_plain, names_plain, signs_plain, turn_stamped}
+use Rattle.cany_node.proofs.StampedEffects.{names_plain, signs_plain, turn_stamped}
 
 -- what the parts of a turn leave as it was
 pub record IsSame (v w : NodeParts) : Type 0 where
@@ -132,13 +132,9 @@ module _ (scenario : ScenarioParts) (past : List NoticeKind) (notice : Notice) (
         turn_asks scenario v.node notice.kind past,
         one_at_most (due_in scenario v.node notice.kind past),
       )
-    where
-      one_at_most : (b : Bool) → one_if b ≤ 1
-      one_at_most true = omega arith
-      one_at_most false = omega arith
 
   entered_is : entered plain ≡ entered effects
-  entered_is = sym (entered_plain scenario.inc plain) ∙ ap entered stamped
+  entered_is = sym (entered_stamped scenario.inc plain) ∙ ap entered stamped
 
   -- the log after the turn, and that there is room for it
   logged : log_from scenario v.node past ++ entered effects ≡ log_from scenario v.node read

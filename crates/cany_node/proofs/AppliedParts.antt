@@ -13,7 +13,8 @@ use Rattle.cany_model.proofs.Rules.DeliveryFacts.{entered-append}
 use Rattle.can_controller.specs.Controller.{ControllerState}
 use Rattle.cany_node.specs.Apply.{AreApplied, AreAskable, AreDone, CanApply, NamesAskable, all_stamped, asks_sign, is_sign}
 use Rattle.cany_node.specs.Stamping.{AreStamped, stamped_effect}
-use Rattle.cany_node.proofs.Applying.{done-none, done-then, each-front}
+use Rattle.cany_model.proofs.Among.{Each-first, Each-second}
+use Rattle.cany_node.proofs.Applying.{done-none, done-then}
 use Rattle.cany_node.proofs.NextAction.{entered_stamped, signs_asked, signs_stamped, still_askable, still_stamped}
 
 -- ---- the effects of each part
@@ -40,10 +41,6 @@ parts format (e ∷ effects) (x ∷ xs) ys are =
       rest = more.rest;
     }
 
-each-back : (P : Effect → Type 0) (front back : List Effect) → AllByRecursion P (front ++ back) → AllByRecursion P back
-each-back P [] back h = h
-each-back P (e ∷ front) back h = each-back P front back h.1
-
 none_of : (format : Format) (effects : List Effect) → [] ≡ actions_of format effects → effects ≡ []
 none_of format [] are = refl
 none_of format (e ∷ effects) are = absurd (cc)
@@ -58,7 +55,7 @@ module _ (inc : ℕ) (xs ys : List Action) (start : ControllerState) (before : B
 
   names_front : AllByRecursion (NamesAskable can.scenario can.node) split.front
   names_front =
-      each-front (NamesAskable can.scenario can.node) split.front split.back (subst (AllByRecursion (NamesAskable can.scenario can.node)) split.whole can.names)
+      Each-first (NamesAskable can.scenario can.node) split.front split.back (subst (AllByRecursion (NamesAskable can.scenario can.node)) split.whole can.names)
 
   signs_all : count_by asks_sign can.effects ≡ els_asks split.front + els_asks split.back
   signs_all = signs_asked can.effects ∙ ap els_asks split.whole ∙ asks_more split.front split.back
@@ -104,7 +101,7 @@ module _ (inc : ℕ) (xs ys : List Action) (start : ControllerState) (before : B
       number = can.number;
       format = ap (λ (s : ControllerState). s.params.format) done.controller ∙ can.format;
       are = split.rest;
-      names = each-back (NamesAskable can.scenario can.node) split.front split.back (subst (AllByRecursion (NamesAskable can.scenario can.node)) split.whole can.names);
+      names = Each-second (NamesAskable can.scenario can.node) split.front split.back (subst (AllByRecursion (NamesAskable can.scenario can.node)) split.whole can.names);
       waiting = subst (AreAskable can.scenario can.node) left (still_askable can.scenario can.node inc split.front start.waiting names_front can.waiting);
       stamped = subst (AreStamped inc) left (still_stamped inc split.front start.waiting can.stamped);
       signs = omega (
@@ -126,11 +123,11 @@ pub both_applied : (inc : ℕ) (xs ys : List Action) (a b c : ControllerState) (
 both_applied inc xs ys a b c x y z one two = λ scenario i effects legal format are names stamped.
     let split = parts scenario.params.format effects xs ys are in
     let named = subst (AllByRecursion (NamesAskable scenario i)) split.whole names in
-    let first = one scenario i split.front legal format split.first (each-front (NamesAskable scenario i) split.front split.back named) stamped in
+    let first = one scenario i split.front legal format split.first (Each-first (NamesAskable scenario i) split.front split.back named) stamped in
     let tells : AreStamped inc b.waiting =
     subst (AreStamped inc) (sym (ap (λ (s : ControllerState). s.waiting) first.controller)) (still_stamped inc split.front a.waiting stamped) in
     let rest =
     two scenario i split.back legal (ap (λ (s : ControllerState). s.params.format) first.controller ∙ format) split.rest
-    (each-back (NamesAskable scenario i) split.front split.back named) tells in
+    (Each-second (NamesAskable scenario i) split.front split.back named) tells in
     subst (λ es. AreDone es a c x z) (sym (ap (all_stamped inc) split.whole ∙ map-append (stamped_effect inc) split.front split.back))
     (done-then (all_stamped inc split.front) (all_stamped inc split.back) a b c x y z first rest)

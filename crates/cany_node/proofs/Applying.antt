@@ -1,6 +1,5 @@
 -- One action after another.
 use Rattle.std.proofs.Common.{◌≡◌, ℕ, zero, suc, ◌+◌, ◌<◌, List, [], ◌∷◌, ◌++◌, length, take, drop, get_or, refl, ap, sym, ◌∙◌, arith, append_assoc, append-nil}
-use Rattle.std.specs.List.{AllByRecursion}
 use Rattle.cany_base.specs.declared.actions.Action.{Action}
 use Rattle.cany_base.specs.declared.actions.Action.TheVariants as action
 use Rattle.cany_base.specs.declared.format.Format.{Format}
@@ -110,12 +109,3 @@ stands format (first ∷ effects) (suc i) a within is =
       taken = ap (λ n. take n (first ∷ effects)) next ∙ ap (λ t. first ∷ t) rest.taken;
       whole = ap (λ t. first ∷ t) rest.whole ∙ ap (λ n. first ∷ (take i effects ++ rest.effect ∷ drop n (first ∷ effects))) (sym next);
     }
-
-module _ (P : Effect → Type 0) where
-  pub each-front : (front back : List Effect) → AllByRecursion P (front ++ back) → AllByRecursion P front
-  each-front [] back h = tt
-  each-front (e ∷ front) back h = (h.0, each-front front back h.1)
-
-  pub each-at : (front back : List Effect) (e : Effect) → AllByRecursion P (front ++ e ∷ back) → P e
-  each-at [] back e h = h.0
-  each-at (x ∷ front) back e h = each-at front back e h.1

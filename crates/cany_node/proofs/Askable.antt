@@ -16,12 +16,13 @@ use Rattle.cany_base.specs.Frame.{FrameParts, data_class}
 use Rattle.cany_base.specs.Limits.{most_numbers, most_slots}
 use Rattle.cany_base.specs.Scenario.{ScenarioParts, IsAskOf, IsLegalScenario}
 use Rattle.cany_base.proofs.ParamsFacts.{few_slots}
+use Rattle.cany_message.proofs.NoticeFacts.{data_names}
 use Rattle.cany_model.specs.Bus.Frames.{Identity, bare, identity_of}
 use Rattle.cany_model.specs.Bus.History.{copies, is_got}
 use Rattle.cany_model.specs.Rules.Effect.{Effect, Ask, Withdraw, Enter}
 use Rattle.cany_model.specs.Rules.Life.{els_frame, life_signs_sent}
-use Rattle.cany_model.specs.Rules.Messages.{IsOfMessage, Message, messages_of, data_frame, accept_of_key}
-use Rattle.cany_model.specs.Rules.Notices.{BelongsTo, HasFewSigns, IsDataOf, IsReadable}
+use Rattle.cany_model.specs.Rules.Messages.{Message, messages_of, data_frame, accept_of_key}
+use Rattle.cany_model.specs.Rules.Notices.{BelongsTo, HasFewSigns, IsReadable}
 use Rattle.cany_model.specs.Rules.Protocol.{Protocol}
 use Rattle.cany_model.specs.Rules.Relcan.{confirm_frame}
 use Rattle.cany_model.specs.Rules.Rooms.{IsAskable, IsAskableAs, IsOfAsk, IsOfNode}
@@ -123,15 +124,6 @@ pub read_belongs : (scenario : ScenarioParts) (past : List NoticeKind) (f : Fram
     → (slot : ℕ) × BelongsTo scenario slot f.class f
 read_belongs scenario past f readable h = let read = read_in_time scenario past f readable h in (read.0, read.2)
 
-data_askable : (scenario : ScenarioParts) (by : Service) (f : FrameParts) → IsDataOf scenario by f → IsOfMessage scenario by (identity_of f)
-data_askable scenario by f h = record {
-  message = h.message;
-  stands = h.stands;
-  sent_by = h.sent_by;
-  number = ap (λ (g : FrameParts). g.number) h.frame;
-  origin = ap (λ (g : FrameParts). g.node) h.frame;
-}
-
 -- what is known to a node that has read no more slots than the run has
 module _ (scenario : ScenarioParts) (past : List NoticeKind) (legal : IsLegalScenario scenario) (readable : AreReadable scenario past)
     (within : length past ≤ scenario.params.slots) where
@@ -154,8 +146,8 @@ module _ (scenario : ScenarioParts) (past : List NoticeKind) (legal : IsLegalSce
     belongs_askable slot f class.Leave relayed early h = absurd (false≢true relayed)
     belongs_askable slot f class.Confirm relayed early h = absurd (false≢true relayed)
     belongs_askable slot f class.Tot relayed early h = absurd (false≢true relayed)
-    belongs_askable slot f class.Rel relayed early h = data_askable scenario service.Rel f h
-    belongs_askable slot f class.Ed relayed early h = data_askable scenario service.Ed f h
+    belongs_askable slot f class.Rel relayed early h = data_names scenario service.Rel f h
+    belongs_askable slot f class.Ed relayed early h = data_names scenario service.Ed f h
 
     read_askable : (f : FrameParts) → Among (Has f) past → is_relayed f.class ≡ true → IsAskable scenario i (identity_of f)
     read_askable f h relayed =
@@ -176,13 +168,13 @@ module _ (scenario : ScenarioParts) (past : List NoticeKind) (legal : IsLegalSce
     confirm_askable : (g : FrameParts) → Among (Has g) past → g.class ≡ class.Rel → IsAskable scenario i (identity_of (confirm_frame g))
     confirm_askable g h rel =
         let read = read_belongs scenario past g readable h in
-        let m = data_askable scenario service.Rel g (subst (λ c. BelongsTo scenario read.0 c g) rel read.1) in
+        let m = data_names scenario service.Rel g (subst (λ c. BelongsTo scenario read.0 c g) rel read.1) in
         record { message = m.message; stands = m.stands; sent_by = m.sent_by; number = m.number; origin = m.origin }
 
     accept_askable : (g : FrameParts) → Among (Has g) past → g.class ≡ class.Tot → IsAskable scenario i (accept_of_key (message_in g))
     accept_askable g h tot =
         let read = read_belongs scenario past g readable h in
-        let m = data_askable scenario service.Tot g (subst (λ c. BelongsTo scenario read.0 c g) tot read.1) in
+        let m = data_names scenario service.Tot g (subst (λ c. BelongsTo scenario read.0 c g) tot read.1) in
         record { message = m.message; stands = m.stands; sent_by = m.sent_by; number = m.number; origin = m.origin }
 
     -- a failure sign names a node of the bus, and a cycle that has come

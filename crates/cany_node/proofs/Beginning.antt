@@ -1,6 +1,6 @@
 -- A node before its first turn.
 use Rattle.std.proofs.Common.{◌≡◌, ℕ, zero, suc, ◌+◌, ◌<◌, ◌≤◌, inl, inr, List, [], ◌∷◌, filter, length, map, nat_lt, replicate, refl, ap, sym, subst, ◌∙◌, arith}
-use Rattle.std.proofs.lemmas.Bool.{cases_Bool, le-ltb, lt-ltb, ltb-false, ltb-true, ne_eqb}
+use Rattle.std.proofs.lemmas.Bool.{cases_Bool, lt-ltb, ltb-false, ltb-true, ne_eqb}
 use Rattle.std.proofs.lemmas.List.{length-replicate}
 use Rattle.cany_base.specs.declared.notice.NoticeKind.{NoticeKind}
 use Rattle.cany_base.specs.declared.notice.NoticeKind.TheVariants.{Idle}
@@ -11,8 +11,6 @@ use Rattle.cany_model.specs.Bus.State.{Incarnation}
 use Rattle.cany_model.specs.Rules.Backlog.{asked, backlog}
 use Rattle.cany_model.specs.Rules.Effect.{entered}
 use Rattle.cany_model.specs.Rules.Log.{log_from}
-use Rattle.cany_model.specs.Rules.Messages.{messages_of}
-use Rattle.cany_model.specs.Rules.Sends.{sendable}
 use Rattle.cany_model.specs.Rules.Turn.{scenario_for}
 use Rattle.cany_model.proofs.Promises.OwnSlotsAlone.{from_later, members_later}
 use Rattle.cany_model.proofs.Rules.Begun.{AreIdle, IsBegun, begun_before}
@@ -28,17 +26,14 @@ use Rattle.cany_node.specs.Node.{AreReadable, IsNodeOf, IsWaiting, NodeParts}
 use Rattle.cany_node.specs.Membership.{MembershipParts}
 use Rattle.cany_node.proofs.AgendaFacts.{rising-earlier}
 use Rattle.cany_node.proofs.AskFacts.{passed_asks, whole_asks}
+use Rattle.cany_model.proofs.Rules.SendFacts.{sendable_late}
 use Rattle.cany_node.proofs.SendFacts.{none_for}
 use Rattle.cany_node.proofs.MembershipBeginning.{IsOutside, site_begins, site_opens}
-
--- from the first slot on whose scripted asks are made, all are
-all_sendable : (scenario : ScenarioParts) (s : ℕ) → scenario.from ≤ s → sendable scenario s ≡ messages_of scenario.sends
-all_sendable scenario s late = rw (le-ltb s scenario.from late) refl
 
 whole_agenda : (scenario : ScenarioParts) (i : ℕ) (a : AgendaParts) → scenario.from ≡ 0 → IsPlanOf scenario i a → IsAgendaOf scenario i 0 a
 whole_agenda scenario i a first plan = record {
   planned = plan.planned;
-  left = λ s later. plan.left s ∙ ap (filter (is_due i s)) (sym (all_sendable scenario s (omega (arith, first))));
+  left = λ s later. plan.left s ∙ ap (filter (is_due i s)) (sym (sendable_late scenario s (omega (arith, first))));
   rising = plan.rising;
   few = plan.few;
 }
@@ -121,7 +116,7 @@ passed_agenda scenario i slot old new plan passed early = record {
         ∙ sym (rw before refl)
     | inr from ↦
         let late = ltb-false s scenario.from from in
-        ap (map (message_from i)) (passed.later s late) ∙ plan.left s ∙ ap (filter (is_due i s)) (sym (all_sendable scenario s late))
+        ap (map (message_from i)) (passed.later s late) ∙ plan.left s ∙ ap (filter (is_due i s)) (sym (sendable_late scenario s late))
   ];
   rising = rising-earlier slot scenario.from new.left early rising;
   few = omega (arith, passed.few, plan.few);

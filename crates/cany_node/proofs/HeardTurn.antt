@@ -18,6 +18,7 @@ use Rattle.cany_totcan.specs.Totcan.{IsTotcanOf, TotcanParts}
 use Rattle.cany_node.specs.Node.{IsNodeOf, NodeParts}
 use Rattle.cany_node.specs.Membership.{IsMembershipOf, MembershipParts, membership_effects}
 use Rattle.cany_node.specs.Turning.{HasHeard, heard_effects}
+use Rattle.cany_node.proofs.OwnNode.{totcan_now}
 
 -- what is listed after this
 pub listed_more : (scenario : ScenarioParts) (before after : List Action) (first rest : List Effect) → after ≡ before ++ actions_of scenario.params.format first
@@ -46,16 +47,6 @@ module _ (scenario : ScenarioParts) (past : List NoticeKind) (notice : Notice) (
   abbrev count : ℕ
   count = asked scenario v.node past
 
-  -- each protocol, as it names the node itself
-  pub edcan_stands : IsEdcanOf scenario v.edcan.node past v.edcan
-  edcan_stands = subst (λ i. IsEdcanOf scenario i past v.edcan) (sym stands.edcan.node) stands.edcan
-
-  pub relcan_stands : IsRelcanOf scenario v.relcan.node past v.relcan
-  relcan_stands = subst (λ i. IsRelcanOf scenario i past v.relcan) (sym stands.relcan.limits.node) stands.relcan
-
-  pub totcan_stands : IsTotcanOf scenario v.totcan.node past messages count v.totcan
-  totcan_stands = subst (λ i. IsTotcanOf scenario i past messages count v.totcan) (sym stands.totcan.limits.node) stands.totcan
-
   pub heard_listed : (out ed rel tot membership : List Action)
       → ed ≡ out ++ actions_of scenario.params.format (edcan_effects scenario v.edcan.node heard)
       → rel ≡ ed ++ actions_of scenario.params.format (relcan_effects scenario v.relcan.node heard)
@@ -80,7 +71,7 @@ module _ (scenario : ScenarioParts) (past : List NoticeKind) (notice : Notice) (
       → IsTotcanOf scenario v.totcan.node heard messages count totcan → IsMembershipOf scenario v.node heard membership
       → HasHeard scenario past notice.kind (record v { edcan = edcan; relcan = relcan; totcan = totcan; membership = membership })
   has_heard edcan relcan totcan membership ed rel tot knows =
-      let same = same_room scenario v.totcan.node v.totcan.node past heard messages count count v.totcan totcan refl totcan_stands tot in
+      let same = same_room scenario v.totcan.node v.totcan.node past heard messages count count v.totcan totcan refl (totcan_now scenario past v stands) tot in
       record {
         edcan = subst (λ i. IsEdcanOf scenario i heard edcan) stands.edcan.node ed;
         relcan = subst (λ i. IsRelcanOf scenario i heard relcan) stands.relcan.limits.node rel;

@@ -9,6 +9,7 @@ pub mod AskedFacts
 pub mod BacklogFacts
 pub mod BacklogWaits
 pub mod Beginning
+pub mod Classes
 pub mod FrameTurn
 pub mod GiveFacts
 pub mod HeardTurn
@@ -18,6 +19,7 @@ pub mod MembershipFacts
 pub mod MembershipSteps
 pub mod MessageLists
 pub mod NextAction
+pub mod OwnNode
 pub mod RelayTurn
 pub mod RoomsSuffice
 pub mod ScriptSteps

@@ -1,5 +1,5 @@
 -- What life, the exchange of vectors and the views stand for after each step of a turn.
-use Rattle.std.proofs.Common.{◌≡◌, ℕ, zero, suc, inl, inr, ◌+◌, ◌%◌, ◌<◌, ◌==◌, ◌&&◌, Bool, true, false, not, nat_lt, if◌then◌else◌, List, [], ◌∷◌, filter, map, Option, Some, None, option_map, refl, ap, sym, ◌∙◌, subst, arith}
+use Rattle.std.proofs.Common.{◌≡◌, ℕ, inl, inr, ◌+◌, ◌%◌, ◌<◌, ◌==◌, ◌&&◌, Bool, true, false, not, nat_lt, if◌then◌else◌, List, [], ◌∷◌, filter, map, Option, Some, None, option_map, refl, ap, sym, ◌∙◌, subst, arith}
 use Rattle.std.specs.List.{AllByRecursion, list_any, range_with_len}
 use Rattle.std.proofs.lemmas.Bool.{and_parts, cases_Bool, cond-false, cond_both, eqb-true, false_from_ne_true}
 use Rattle.cany_base.specs.declared.class.Class.TheVariants as class
@@ -16,6 +16,7 @@ use Rattle.cany_model.specs.Rules.KnowledgeOf.{ended_in, after_installing, after
 use Rattle.cany_model.specs.Rules.Knowledge.{FailureSign, Knowledge, found, found_in, after_finding, after_hearing, after_learning, has_timed_out, knows, same_sign, sign_in, sign_of, told, told_in, with_sign, with_signs}
 use Rattle.cany_base.specs.Cycles.{cycle_of, is_end, is_start}
 use Rattle.cany_model.specs.Rules.Views.{after_ask, start_of, with_ended, with_joiner, with_leaver}
+use Rattle.cany_model.proofs.Rules.LifeFacts.{numbers_below}
 use Rattle.cany_model.proofs.Among.{Each-filter, Each-map, Each-weaker}
 use Rattle.cany_model.proofs.Bus.Identities.{same_class-true}
 use Rattle.cany_model.proofs.Rules.KnowledgeSteps.{IgnoresAsks, IgnoresLife, IgnoresSigns, IgnoresVector, asks_keep, found_keeps, life_keeps, met_keeps}
@@ -160,12 +161,6 @@ unfolding with_signs
 signs_below n [] st each below = below
 signs_below n (sign ∷ signs) st each below =
     signs_below n signs (with_sign sign st) each.1 (below_with n sign.node st.failed each.0 below)
-
-numbers_below : (a n : ℕ) → AllByRecursion (λ r. r < a + n) (range_with_len a n)
-numbers_below a zero = tt
-numbers_below a (suc n) =
-    let rest = numbers_below (a + 1) n in
-    (omega arith, Each-weaker (λ r. r < a + 1 + n) (λ r. r < a + suc n) (λ r h. omega (arith, h)) (range_with_len (a + 1) n) rest)
 
 found_below : (p : Parameters) (i slot : ℕ) (st : Knowledge) → AllByRecursion (HasNodeBelow p.nodes) (found p i slot st)
 unfolding found

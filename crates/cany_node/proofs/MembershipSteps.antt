@@ -263,6 +263,20 @@ module _ (scenario : ScenarioParts) (i : ℕ) (past : List NoticeKind) (notice :
       known_started v
       (subst (λ slot. KnowsOf scenario i heard (with_ended i slot ended (met_by scenario i notice past)) v) next.next.slot h)
 
+  -- the exchange, and then the new view, as their contracts have them
+  module _ (x y z : MembershipParts) (history : HistoryParts) (result : Option Ended) (h : Exchanges scenario i past notice x)
+      (state : y ≡ record x { history = history })
+      (ends : result ≡ ended_as scenario.params (length past) (ended_in scenario.params (length past) notice.kind (knowledge_of scenario i past)))
+      (installs : (vector : Option Nodes) → KnowsOf scenario i (notice.kind ∷ past) (met_by scenario i notice past) y → result ≡ ended_as scenario.params notice.slot vector
+      → KnowsOf scenario i (notice.kind ∷ past) (with_ended i notice.slot vector (met_by scenario i notice past)) z) where
+    pub known_then : KnowsOf scenario i (notice.kind ∷ past)
+        (with_ended i notice.slot (ended_in scenario.params (length past) notice.kind (knowledge_of scenario i past)) (met_by scenario i notice past)) z
+    known_then =
+        installs (ended_in scenario.params (length past) notice.kind (knowledge_of scenario i past)) (known_exchanged x y history h state) (ended_now result ends)
+
+    pub installed_then : KnowsOf scenario i (notice.kind ∷ past) (knowledge_of scenario i (notice.kind ∷ past)) z
+    installed_then = known_installed z known_then
+
   -- ---- what is listed
 
   four_listed : (format : Format) (a b c d e : List Action) (first second third fourth : List Effect) → b ≡ a ++ actions_of format first

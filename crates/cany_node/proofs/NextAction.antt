@@ -13,7 +13,7 @@ use Rattle.cany_model.specs.Rules.Actions.{action_of, actions_of}
 use Rattle.cany_model.specs.Rules.Effect.{Effect, Ask, Withdraw, Enter, waiting_after, entered}
 use Rattle.cany_model.specs.Bus.Frames.{identity_of}
 use Rattle.cany_model.specs.Rules.Rooms.{IsAskable, waiting_room}
-use Rattle.cany_model.proofs.Among.{count-cons}
+use Rattle.cany_model.proofs.Among.{Each-first, Each-second, count-cons}
 use Rattle.cany_model.proofs.Runs.Waits.{AsksOnly, Each-after}
 use Rattle.cany_model.proofs.Promises.SignCounts.{asks_more, els_asks, waiting_few}
 use Rattle.cany_model.proofs.Rules.DeliveryFacts.{entered-append}
@@ -22,7 +22,7 @@ use Rattle.can_controller.specs.Controller.{ControllerState}
 use Rattle.can_controller.specs.Waiting.{IsAscending}
 use Rattle.cany_node.specs.Apply.{AreAskable, NamesAskable, AreDone, CanApply, CanDo, WithdrawsFitting, all_stamped, asks_sign, is_sign}
 use Rattle.cany_node.specs.Stamping.{AreStamped, IsStamped, stamped_effect, with_incarnation}
-use Rattle.cany_node.proofs.Applying.{Stands, stands, each-front, each-at, done-then}
+use Rattle.cany_node.proofs.Applying.{Stands, stands, done-then}
 use Rattle.cany_node.proofs.Askable.{askable_fits}
 use Rattle.cany_node.proofs.RoomsSuffice.{waiting_below}
 use Rattle.cany_node.proofs.StampedIdentifiers.{ident_small}
@@ -120,7 +120,7 @@ can_do inc actions start ctl before log can place a at done up =
     let left : waiting_after (all_stamped inc front) start.waiting ≡ ctl.waiting = sym (ap (λ (s : ControllerState). s.waiting) done.controller) in
     let waiting : AreAskable can.scenario i ctl.waiting =
     subst (AreAskable can.scenario i) left
-    (still_askable can.scenario i inc front start.waiting (each-front (NamesAskable can.scenario i) front (at.effect ∷ back) names) can.waiting) in
+    (still_askable can.scenario i inc front start.waiting (Each-first (NamesAskable can.scenario i) front (at.effect ∷ back) names) can.waiting) in
     let signs : count_by is_sign ctl.waiting ≤ 3 =
     subst (λ w. count_by is_sign w ≤ 3) left (signs_so_far inc can.effects front back at.effect start.waiting 3 at.whole can.signs) in
     let format : ctl.params.format ≡ can.scenario.params.format = ap (λ (s : ControllerState). s.params.format) done.controller ∙ can.format in
@@ -132,7 +132,7 @@ can_do inc actions start ctl before log can place a at done up =
     ap length done.entries ∙ length-append before.items (entered (all_stamped inc front))
     ∙ ap (λ entries. length before.items + length entries) (entered_stamped inc front) in
     subst (λ x. CanDo inc x ctl log) at.action
-    (can_do_effect can.scenario i inc at.effect ctl log can.legal can.number (each-at (NamesAskable can.scenario i) front back at.effect names) format waiting up signs
+    (can_do_effect can.scenario i inc at.effect ctl log can.legal can.number (Each-second (NamesAskable can.scenario i) front (at.effect ∷ back) names).0 format waiting up signs
     room (omega (arith, all, made, can.entries, done.room)))
 
 -- the effect of the next action
@@ -154,7 +154,7 @@ pub next_done : (scenario : ScenarioParts) (i inc : ℕ) (effects : List Effect)
 next_done scenario i inc effects place a start ctl ctl' before log log' legal same names stamped at one done =
     let front : List Effect = take place effects in
     let format : ctl.params.format ≡ scenario.params.format = ap (λ (s : ControllerState). s.params.format) done.controller ∙ same in
-    let named = each-at (NamesAskable scenario i) front (drop (place + 1) effects) at.effect (subst (AllByRecursion (NamesAskable scenario i)) at.whole names) in
+    let named = (Each-second (NamesAskable scenario i) front (at.effect ∷ drop (place + 1) effects) (subst (AllByRecursion (NamesAskable scenario i)) at.whole names)).0 in
     let tells : AreStamped inc ctl.waiting =
     subst (AreStamped inc) (sym (ap (λ (s : ControllerState). s.waiting) done.controller)) (still_stamped inc front start.waiting stamped) in
     subst (λ es. AreDone es start ctl' before log') (sym (ap (all_stamped inc) at.taken ∙ map-append (stamped_effect inc) front (at.effect ∷ [])))

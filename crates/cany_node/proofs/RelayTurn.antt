@@ -1,11 +1,11 @@
 -- The turn of a notice that nothing but EDCAN and RELCAN hears, in a slot for which nothing else is due: what these two do is all of it.
-use Rattle.std.proofs.Common.{◌≡◌, ◌+◌, ◌≤◌, inl, inr, true, false, List, [], ◌∷◌, ◌++◌, refl, ap, sym, ◌∙◌, subst, append-nil, arith}
-use Rattle.std.proofs.lemmas.Bool.{cases_Bool}
+use Rattle.std.proofs.Common.{◌≡◌, ◌+◌, ◌≤◌, true, false, List, [], ◌∷◌, ◌++◌, refl, ap, sym, ◌∙◌, subst, append-nil, arith}
 use Rattle.std.proofs.lemmas.List.{map-append}
 use Rattle.can_frame.specs.Classes.{is_of_site}
 use Rattle.cany_base.specs.declared.actions.Action.{Action}
 use Rattle.cany_base.specs.declared.class.Class.{Class}
 use Rattle.cany_base.specs.declared.class.Class.TheVariants as class
+use Rattle.cany_base.specs.declared.log_entry.LogEntry.{LogEntry}
 use Rattle.cany_base.specs.declared.notice.Notice.{Notice}
 use Rattle.cany_base.specs.declared.notice.NoticeKind.{NoticeKind}
 use Rattle.cany_base.specs.declared.notice.NoticeKind.TheVariants.{Idle, Got, Sent, Bad}
@@ -20,15 +20,17 @@ use Rattle.cany_model.specs.Rules.Edcan.{edcan_effects}
 use Rattle.cany_model.specs.Rules.Effect.{Effect}
 use Rattle.cany_model.specs.Rules.Relcan.{relcan_effects}
 use Rattle.cany_model.specs.Rules.Notices.{IsNextNotice}
-use Rattle.cany_model.proofs.Bus.Identities.{same_class-true}
 use Rattle.cany_relcan.specs.Relcan.{IsRelcanOf, RelcanParts}
-use Rattle.cany_node.specs.Apply.{CanApply}
+use Rattle.cany_node.specs.Apply.{AreApplied, CanApply}
 use Rattle.cany_node.specs.Node.{CanAct, IsNodeOf, NodeParts}
-use Rattle.cany_node.specs.Resting.{IsIdleUntil, is_for_relays, is_of_relays}
+use Rattle.cany_node.specs.Resting.{IsIdleUntil, is_for_edcan, is_for_relays, is_of_relays}
 use Rattle.cany_node.specs.Turning.{HasScripted, plain_effects}
+use Rattle.cany_node.proofs.Classes.{of_three}
 use Rattle.cany_node.proofs.ActSteps.{AlwaysListed, listed_apply}
 use Rattle.cany_node.proofs.FrameTurn.{after_none, later_none, none_asked_for, scripted_with}
-use Rattle.cany_node.proofs.HeardTurn.{edcan_stands, relcan_stands}
+use Rattle.cany_node.proofs.AppliedParts.{can_back}
+use Rattle.cany_node.proofs.OwnNode.{edcan_now, relcan_now}
+use Rattle.cany_node.proofs.TellsNothingToRelays.{edcan_none, edcan_still}
 use Rattle.cany_node.proofs.Idle.IdleFacts.{others_in_turn}
 use Rattle.cany_node.proofs.Idle.IdleTurn.{OthersRest}
 use Rattle.cany_node.proofs.TellsNothingOfPlaces.{IsUnplaced, is_of_totcan, unplaced_bad, unplaced_got, unplaced_idle, unplaced_sent}
@@ -36,23 +38,12 @@ use Rattle.cany_node.proofs.TellsNothingOfTheSite.{IsUnheard, unheard}
 
 -- ---- what the others find in the notice
 
-by_class : (P : Class → Type 0) → P class.Ed → P class.Rel → P class.Confirm → (c : Class) → is_of_relays c ≡ true → P c
-by_class P ed rel confirm c is = elim (cases_Bool (same_class c class.Ed)) [
-  | inl same ↦ subst P (sym (same_class-true c class.Ed same)) ed
-  | inr other ↦ elim (cases_Bool (same_class c class.Rel)) [
-    | inl same ↦ subst P (sym (same_class-true c class.Rel same)) rel
-    | inr neither ↦
-        let same : same_class c class.Confirm ≡ true = rw (other, neither) at is in
-        subst P (sym (same_class-true c class.Confirm same)) confirm
-  ]
-]
-
 not_totcan : (c : Class) → is_of_relays c ≡ true → is_of_totcan c ≡ false
 unfolding same_class
-not_totcan = by_class (λ c. is_of_totcan c ≡ false) refl refl refl
+not_totcan = of_three (λ c. is_of_totcan c ≡ false) class.Ed class.Rel class.Confirm refl refl refl
 
 not_site : (c : Class) → is_of_relays c ≡ true → is_of_site c ≡ false
-not_site = by_class (λ c. is_of_site c ≡ false) refl refl refl
+not_site = of_three (λ c. is_of_site c ≡ false) class.Ed class.Rel class.Confirm refl refl refl
 
 tells_nothing : (e : NoticeKind) → is_for_relays e ≡ true → IsUnheard e
 tells_nothing Idle is = unheard Idle refl
@@ -123,8 +114,8 @@ module _ (notice : Notice) (u v : NodeParts) (viewed : v ≡ u) (is : is_for_rel
   relay_turn = λ scenario past stands next.
       let others =
       others_in_turn scenario past notice (notice.slot + 1) v (subst (IsIdleUntil (notice.slot + 1)) (sym viewed) idle) (omega arith) stands next in
-      let of_ed = edcan_stands scenario past notice v stands in
-      let of_rel = relcan_stands scenario past notice v stands in
+      let of_ed = edcan_now scenario past v stands in
+      let of_rel = relcan_now scenario past v stands in
       record {
         same = record { node = refl; inc = refl; from = refl; cycle = refl; log = refl; room = refl };
         scripted =
@@ -139,3 +130,24 @@ module _ (notice : Notice) (u v : NodeParts) (viewed : v ≡ u) (is : is_for_rel
   pub relay_apply : (ctl : ControllerState) (out : Bounded Action) → CanAct u notice ctl out → v.inc ≤ most_restarts_of_node
       → CanApply v.inc (ed ++ rel) ctl (record { items = v.log; room = v.room })
   relay_apply ctl out acts number = listed_apply notice u v _ viewed _ (ed ++ rel) ctl out acts relay_turn number
+
+  -- and the second part of it once the first is done
+  pub relay_rest : (ctl : ControllerState) (out : Bounded Action) → CanAct u notice ctl out → v.inc ≤ most_restarts_of_node → (after : ControllerState) (log : Bounded LogEntry)
+      → AreApplied v.inc ed ctl after (record { items = v.log; room = v.room }) log → CanApply v.inc rel after log
+  relay_rest ctl out acts number after log = can_back v.inc ed rel ctl (record { items = v.log; room = v.room }) (relay_apply ctl out acts number) after log
+
+-- where EDCAN does not hear the notice
+module _ (notice : Notice) (u v : NodeParts) (viewed : v ≡ u) (is : is_for_relays notice.kind ≡ true) (idle : IsIdleUntil (notice.slot + 1) u)
+    (other : is_for_edcan notice.kind ≡ false) (relcan : RelcanParts) (rel : List Action)
+    (acts : (scenario : ScenarioParts) (past : List NoticeKind) → IsRelcanOf scenario v.relcan.node past v.relcan → IsNextNotice scenario past notice
+    → rel ≡ actions_of scenario.params.format (relcan_effects scenario v.relcan.node (notice.kind ∷ past)))
+    (heard : (scenario : ScenarioParts) (past : List NoticeKind) → IsRelcanOf scenario v.relcan.node past v.relcan → IsNextNotice scenario past notice
+    → IsRelcanOf scenario v.relcan.node (notice.kind ∷ past) relcan) where
+  pub relcan_turn : AlwaysListed notice v (record v { relcan = relcan }) v.totcan rel
+  relcan_turn =
+      relay_turn notice u v viewed is idle v.edcan relcan [] rel (λ scenario past h next. edcan_none notice v.edcan other scenario past h)
+      (λ scenario past h next. edcan_still notice v.edcan other scenario past h) acts heard
+
+  pub relcan_apply : (ctl : ControllerState) (out : Bounded Action) → CanAct u notice ctl out → v.inc ≤ most_restarts_of_node
+      → CanApply v.inc rel ctl (record { items = v.log; room = v.room })
+  relcan_apply ctl out can number = listed_apply notice u v _ viewed _ rel ctl out can relcan_turn number

@@ -53,19 +53,14 @@ module _ (scenario : ScenarioParts) (past : List NoticeKind) (notice : NoticeKin
   unfolding send_effects
   sends_are = ap (λ n. actions_of scenario.params.format (sent_asks v.node n (sendable scenario n))) now
 
-  joins_are : join_actions scenario v.membership.views.params v.membership.views.node slot v.membership.views.members ≡ join_actions scenario scenario.params v.node (length past) members
-  joins_are =
-      ap (λ p. join_actions scenario p v.membership.views.node slot v.membership.views.members) heard.membership.views.limits.are_params
-      ∙ ap (λ i. join_actions scenario scenario.params i slot v.membership.views.members) heard.membership.views.limits.is_node
-      ∙ ap (λ n. join_actions scenario scenario.params v.node n v.membership.views.members) now
-      ∙ ap (λ m. join_actions scenario scenario.params v.node (length past) m) heard.membership.views.members
-
-  leaves_are : leave_actions scenario v.membership.views.params v.membership.views.node slot v.membership.views.members ≡ leave_actions scenario scenario.params v.node (length past) members
-  leaves_are =
-      ap (λ p. leave_actions scenario p v.membership.views.node slot v.membership.views.members) heard.membership.views.limits.are_params
-      ∙ ap (λ i. leave_actions scenario scenario.params i slot v.membership.views.members) heard.membership.views.limits.is_node
-      ∙ ap (λ n. leave_actions scenario scenario.params v.node n v.membership.views.members) now
-      ∙ ap (λ m. leave_actions scenario scenario.params v.node (length past) m) heard.membership.views.members
+  -- what the parameters, the node, the slot and the members make is the same as of those of the scenario
+  same_asks : (asks : Parameters → ℕ → ℕ → Nodes → List Action)
+      → asks v.membership.views.params v.membership.views.node slot v.membership.views.members ≡ asks scenario.params v.node (length past) members
+  same_asks asks =
+      ap (λ p. asks p v.membership.views.node slot v.membership.views.members) heard.membership.views.limits.are_params
+      ∙ ap (λ i. asks scenario.params i slot v.membership.views.members) heard.membership.views.limits.is_node
+      ∙ ap (λ n. asks scenario.params v.node n v.membership.views.members) now
+      ∙ ap (λ m. asks scenario.params v.node (length past) m) heard.membership.views.members
 
   pub script_listed : (out sent joined left : List Action)
       → sent ≡ out ++ actions_of scenario.params.format (sent_asks v.node slot (sendable scenario slot))
@@ -77,8 +72,8 @@ module _ (scenario : ScenarioParts) (past : List NoticeKind) (notice : NoticeKin
   script_listed out sent joined left one two three =
       let joins : List Effect = flat_map (λ ask. join_asked scenario.params 0 v.node (length past) members) (asks_in scenario v.node (length past) scenario.joins) in
       let leaves : List Effect = flat_map (λ ask. leave_asked scenario.params 0 v.node (length past) members) (asks_in scenario v.node (length past) scenario.leaves) in
-      three ∙ ap (λ xs. joined ++ xs) leaves_are
-      ∙ listed_more scenario sent joined joins leaves (two ∙ ap (λ xs. sent ++ xs) joins_are)
+      three ∙ ap (λ xs. joined ++ xs) (same_asks (leave_actions scenario))
+      ∙ listed_more scenario sent joined joins leaves (two ∙ ap (λ xs. sent ++ xs) (same_asks (join_actions scenario)))
       ∙ listed_more scenario out sent (send_effects scenario v.node read) (joins ++ leaves) (one ∙ ap (λ xs. out ++ xs) sends_are)
 
   -- what has joined the backlog by now

@@ -14,7 +14,7 @@ use Rattle.cany_base.specs.Params.{Parameters}
 use Rattle.cany_base.specs.Scenario.{ScenarioParts}
 use Rattle.cany_model.specs.Rules.Backlog.{backlog_effects, tot_backlog}
 use Rattle.cany_model.specs.Rules.Edcan.{edcan, edcan_effects}
-use Rattle.cany_model.specs.Rules.Effect.{Effect, Ask, Withdraw, Enter, entered}
+use Rattle.cany_model.specs.Rules.Effect.{Effect, Ask, Withdraw, Enter}
 use Rattle.cany_model.specs.Rules.Life.{els_frame, failure_effects, failure_signs, is_due, life_effects, life_sign, life_signs_sent}
 use Rattle.cany_model.specs.Rules.Membership.{ask_effects, asks_in, exchange_effects, install_effects, views}
 use Rattle.cany_model.specs.Rules.Messages.{data_frame}
@@ -260,14 +260,6 @@ names_plain scenario i inc [] h = tt
 names_plain scenario i inc (Ask f ∷ es) h = (h.0, names_plain scenario i inc es h.1)
 names_plain scenario i inc (Withdraw x ∷ es) h = (h.0, names_plain scenario i inc es h.1)
 names_plain scenario i inc (Enter entry ∷ es) h = (h.0, names_plain scenario i inc es h.1)
-
--- so is what is entered
-pub entered_plain : (inc : ℕ) (es : List Effect) → entered (all_stamped inc es) ≡ entered es
-unfolding entered
-entered_plain inc [] = refl
-entered_plain inc (Ask f ∷ es) = entered_plain inc es
-entered_plain inc (Withdraw x ∷ es) = entered_plain inc es
-entered_plain inc (Enter entry ∷ es) = ap (λ rest. entry ∷ rest) (entered_plain inc es)
 
 -- and so are the life signs that are asked for
 pub signs_plain : (inc : ℕ) (es : List Effect) → count_by asks_sign (all_stamped inc es) ≡ count_by asks_sign es

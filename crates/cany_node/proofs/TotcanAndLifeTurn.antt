@@ -1,7 +1,6 @@
 -- The turn of a frame of TOTCAN or of a life sign, in a slot for which nothing is due: EDCAN, RELCAN, the script and the backlog have
 -- nothing to do, so what TOTCAN does and what is done for the site is all of it.
-use Rattle.std.proofs.Common.{◌≡◌, ℕ, ◌+◌, ◌||◌, true, false, not, inl, inr, List, [], ◌∷◌, ◌++◌, length, None, refl, ap, sym, ◌∙◌, subst, append-nil, arith}
-use Rattle.std.proofs.lemmas.Bool.{cases_Bool}
+use Rattle.std.proofs.Common.{◌≡◌, ℕ, ◌+◌, ◌||◌, true, false, not, List, [], ◌∷◌, ◌++◌, length, None, refl, ap, sym, ◌∙◌, subst, append-nil, arith}
 use Rattle.cany_base.specs.declared.actions.Action.{Action}
 use Rattle.cany_base.specs.declared.class.Class.{Class}
 use Rattle.cany_base.specs.declared.class.Class.TheVariants as class
@@ -20,7 +19,6 @@ use Rattle.cany_model.specs.Rules.Messages.{Message}
 use Rattle.cany_model.specs.Rules.Notices.{IsNextNotice}
 use Rattle.cany_model.specs.Rules.Relcan.{relcan_effects}
 use Rattle.cany_model.specs.Rules.Totcan.{totcan_effects}
-use Rattle.cany_model.proofs.Bus.Identities.{same_class-true}
 use Rattle.cany_relcan.specs.Relcan.{IsRelcanOf, brings_no_relcan}
 use Rattle.cany_totcan.specs.Rests as totcan
 use Rattle.cany_totcan.specs.Totcan.{IsTotcanOf, TotcanParts}
@@ -28,9 +26,11 @@ use Rattle.cany_node.specs.Membership.{IsMembershipOf, IsNextOf, MembershipParts
 use Rattle.cany_node.specs.Node.{IsNodeOf, NodeParts}
 use Rattle.cany_node.specs.Resting.{IsIdleUntil, MembershipRests, RelcanRestsUntil, brings_totcan_or_life, is_for_edcan, is_of_totcan_or_life}
 use Rattle.cany_node.specs.Turning.{HasScripted, plain_effects, script_effects}
+use Rattle.cany_node.proofs.Classes.{of_three}
 use Rattle.cany_node.proofs.ActSteps.{AlwaysListed}
 use Rattle.cany_node.proofs.BacklogWaits.{none_asked_next}
-use Rattle.cany_node.proofs.HeardTurn.{edcan_stands, listed_more, relcan_stands, same_room, totcan_stands}
+use Rattle.cany_node.proofs.HeardTurn.{listed_more, same_room}
+use Rattle.cany_node.proofs.OwnNode.{edcan_now, relcan_now, totcan_now}
 use Rattle.cany_node.proofs.Idle.IdleFacts.{others_in_turn}
 use Rattle.cany_node.proofs.Idle.IdleTurn.{OthersRest, agenda_later, asks_later, no_script, same_backlog, tot_rests}
 use Rattle.cany_node.proofs.Idle.MembershipRest.{both_none}
@@ -39,24 +39,13 @@ use Rattle.cany_node.proofs.TellsNothingToRelays.{edcan_none, edcan_still, relca
 
 -- ---- what EDCAN and RELCAN find in the notice
 
-by_class : (P : Class → Type 0) → P class.Tot → P class.Accept → P class.Els → (c : Class) → is_of_totcan_or_life c ≡ true → P c
-by_class P tot accept els c is = elim (cases_Bool (same_class c class.Tot)) [
-  | inl same ↦ subst P (sym (same_class-true c class.Tot same)) tot
-  | inr other ↦ elim (cases_Bool (same_class c class.Accept)) [
-    | inl same ↦ subst P (sym (same_class-true c class.Accept same)) accept
-    | inr neither ↦
-        let same : same_class c class.Els ≡ true = rw (other, neither) at is in
-        subst P (sym (same_class-true c class.Els same)) els
-  ]
-]
-
 not_edcan : (c : Class) → is_of_totcan_or_life c ≡ true → same_class c class.Ed ≡ false
 unfolding same_class
-not_edcan = by_class (λ c. same_class c class.Ed ≡ false) refl refl refl
+not_edcan = of_three (λ c. same_class c class.Ed ≡ false) class.Tot class.Accept class.Els refl refl refl
 
 not_relcan : (c : Class) → is_of_totcan_or_life c ≡ true → not (same_class c class.Rel || same_class c class.Confirm) ≡ true
 unfolding same_class
-not_relcan = by_class (λ c. not (same_class c class.Rel || same_class c class.Confirm) ≡ true) refl refl refl
+not_relcan = of_three (λ c. not (same_class c class.Rel || same_class c class.Confirm) ≡ true) class.Tot class.Accept class.Els refl refl refl
 
 is_no_edcan : (e : NoticeKind) → brings_totcan_or_life e ≡ true → is_for_edcan e ≡ false
 is_no_edcan Idle is = refl
@@ -72,7 +61,7 @@ is_no_relcan Bad is = refl
 
 not_more : (c : Class) → is_of_totcan_or_life c ≡ true → tells_more c ≡ false
 unfolding same_class
-not_more = by_class (λ c. tells_more c ≡ false) refl refl refl
+not_more = of_three (λ c. tells_more c ≡ false) class.Tot class.Accept class.Els refl refl refl
 
 -- and it tells no more of the site than who lives
 pub life_at_most : (e : NoticeKind) → brings_totcan_or_life e ≡ true → IsLifeAtMost e
@@ -164,9 +153,9 @@ totcan_and_life_turn notice u v viewed is idle rests t membership out tot free t
     let no_relcan = is_no_relcan e is in
     let no_edcan = is_no_edcan e is in
     let resting : RelcanRestsUntil (notice.slot + 1) v.relcan = subst (λ (x : NodeParts). RelcanRestsUntil (notice.slot + 1) x.relcan) (sym viewed) rests in
-    let of_ed = edcan_stands scenario past notice v stands in
-    let of_rel = relcan_stands scenario past notice v stands in
-    let of_tot = totcan_stands scenario past notice v stands in
+    let of_ed = edcan_now scenario past v stands in
+    let of_rel = relcan_now scenario past v stands in
+    let of_tot = totcan_now scenario past v stands in
     let ed_none = subst (λ n. edcan_effects scenario n (e ∷ past) ≡ []) stands.edcan.node
     (no_effects scenario.params.format (edcan_effects scenario v.edcan.node (e ∷ past)) (edcan_none notice v.edcan no_edcan scenario past of_ed)) in
     let rel_none = subst (λ n. relcan_effects scenario n (e ∷ past) ≡ []) stands.relcan.limits.node

@@ -1,5 +1,7 @@
 -- What a node keeps of the site: life signs and failure signs, the exchange of vectors, and the view.
-use Rattle.std.specs.Prelude.{◌≡◌, ℕ, ◌+◌, ◌*◌, ◌<◌, Bool, false, [], ◌∷◌, ◌++◌, List, length, Option, None, IfSome, option_map, replicate}
+use Rattle.std.specs.Prelude.{◌≡◌, ℕ, ◌+◌, ◌*◌, ◌<◌, ◌≤◌, Bool, false, [], ◌∷◌, ◌++◌, List, length, Option, None, IfSome, option_map, replicate}
+use Rattle.cany_base.specs.Bounded.{Bounded}
+use Rattle.cany_base.specs.declared.actions.Action.{Action}
 use Rattle.cany_base.specs.declared.notice.Notice.{Notice}
 use Rattle.cany_base.specs.declared.notice.NoticeKind.{NoticeKind}
 use Rattle.cany_base.specs.declared.notice.NoticeKind.TheVariants.{Idle, Got, Sent, Bad}
@@ -7,6 +9,7 @@ use Rattle.cany_base.specs.Nodes.{AllBelow, Nodes}
 use Rattle.cany_base.specs.Params.{Parameters}
 use Rattle.cany_base.specs.Scenario.{ScenarioParts}
 use Rattle.can_frame.specs.Classes.{is_of_site}
+use Rattle.cany_model.specs.Rules.Actions.{actions_of}
 use Rattle.cany_model.specs.Rules.Effect.{TurnRule}
 use Rattle.cany_model.specs.Rules.Life.{failure_effects, life_sign, life_signs_sent}
 use Rattle.cany_model.specs.Rules.Membership.{install_effects}
@@ -131,3 +134,12 @@ membership_effects scenario i past =
 -- the most actions of it
 abbrev pub membership_room : MembershipParts → ℕ
 membership_room v = 2 * v.life.params.nodes + length v.views.joins + length v.views.leaves + 8
+
+-- What is done for the site at a notice, what the value stands for then, and that there is no more of it than there may be.
+pub record IsFollowed (old new : MembershipParts) (notice : Notice) (before after : Bounded Action) : Type 0 where
+  pub actions : (scenario : ScenarioParts) (i : ℕ) (past : List NoticeKind) → IsMembershipOf scenario i past old → IsNextOf scenario i past notice
+      → after.items ≡ before.items ++ actions_of scenario.params.format (membership_effects scenario i (notice.kind ∷ past))
+  pub stands : (scenario : ScenarioParts) (i : ℕ) (past : List NoticeKind) → IsMembershipOf scenario i past old → IsNextOf scenario i past notice
+      → IsMembershipOf scenario i (notice.kind ∷ past) new
+  pub few : length after.items ≤ length before.items + membership_room old
+  pub room : after.room ≡ before.room

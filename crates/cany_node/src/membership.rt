@@ -11,7 +11,7 @@ ghost use Rattle.cany_base.specs.Cycles.{is_start};
 ghost use Rattle.cany_model.specs.Rules.Views.{start_of, view_effects, with_ended};
 ghost use Rattle.cany_views.specs.Views.{IsViewsOf};
 ghost use Rattle.cany_node.specs.Asks.{asked_as};
-ghost use Rattle.cany_node.specs.Membership.{CanExchange, CanHear, Exchanges, HasKnown, IsNextOf, IsMembershipAtRest, IsMembershipOf, IsOfBus, KnowsOf, ended_as, exchange_plain, membership_effects, membership_room};
+ghost use Rattle.cany_node.specs.Membership.{MembershipParts, CanExchange, CanHear, Exchanges, HasKnown, IsFollowed, IsNextOf, IsMembershipAtRest, IsMembershipOf, IsOfBus, KnowsOf, ended_as, exchange_plain, membership_effects, membership_room};
 ghost use Rattle.cany_node.specs.Resting.{MembershipRests, SiteRestsUntil, brings_totcan_or_life};
 
 use crate::asks::AskKind;
@@ -35,8 +35,6 @@ pub(crate) struct Membership {
 }
 
 impl Model for Membership {
-    ghost use Rattle.cany_node.specs.Membership.{MembershipParts};
-
     ghost Value = { MembershipParts };
 
     ghost view = { λ s. record { params = s.params; life = s.life; history = s.history; views = s.views } };
@@ -81,12 +79,7 @@ impl Membership {
     pub(crate) fn on(&mut self, notice: &Notice, out: &mut Actions)
         requires hears { CanHear self.old notice.now }
         requires room { length out.old.items + membership_room self.old ≤ out.old.room }
-        ensures actions { (scenario : ScenarioParts) (i : ℕ) (past : List NoticeKind) → IsMembershipOf scenario i past self.old → IsNextOf scenario i past notice.now →
-            out.new.items ≡ out.old.items ++ actions_of scenario.params.format (membership_effects scenario i (notice.now.kind ∷ past)) }
-        ensures stands { (scenario : ScenarioParts) (i : ℕ) (past : List NoticeKind) → IsMembershipOf scenario i past self.old → IsNextOf scenario i past notice.now →
-            IsMembershipOf scenario i (notice.now.kind ∷ past) self.new }
-        ensures few { length out.new.items ≤ length out.old.items + membership_room self.old }
-        ensures room { out.new.room ≡ out.old.room }
+        ensures { IsFollowed self.old self.new notice.now out.old out.new }
     {
         if tells_of_site(&notice.kind) || notice.slot >= self.wake(notice.slot) {
             self.follow(notice, out);
@@ -120,12 +113,7 @@ impl Membership {
     fn follow(&mut self, notice: &Notice, out: &mut Actions)
         requires hears { CanHear self.old notice.now }
         requires room { length out.old.items + membership_room self.old ≤ out.old.room }
-        ensures actions { (scenario : ScenarioParts) (i : ℕ) (past : List NoticeKind) → IsMembershipOf scenario i past self.old → IsNextOf scenario i past notice.now →
-            out.new.items ≡ out.old.items ++ actions_of scenario.params.format (membership_effects scenario i (notice.now.kind ∷ past)) }
-        ensures stands { (scenario : ScenarioParts) (i : ℕ) (past : List NoticeKind) → IsMembershipOf scenario i past self.old → IsNextOf scenario i past notice.now →
-            IsMembershipOf scenario i (notice.now.kind ∷ past) self.new }
-        ensures few { length out.new.items ≤ length out.old.items + membership_room self.old }
-        ensures room { out.new.room ≡ out.old.room }
+        ensures { IsFollowed self.old self.new notice.now out.old out.new }
     {
         self.hear(notice, out);
         let ended = self.exchange(notice, out);

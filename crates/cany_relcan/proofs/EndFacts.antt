@@ -7,6 +7,7 @@ use Rattle.cany_base.specs.declared.actions.Action.{Action}
 use Rattle.cany_base.specs.declared.class.Class.TheVariants as class
 use Rattle.cany_base.specs.declared.format.Format.{Format}
 use Rattle.cany_base.specs.declared.message.Service.TheVariants as service
+use Rattle.cany_base.specs.declared.notice.Notice.{Notice}
 use Rattle.cany_base.specs.declared.notice.NoticeKind.{NoticeKind}
 use Rattle.cany_base.specs.Frame.{FrameParts}
 use Rattle.cany_base.specs.Params.{Parameters}
@@ -21,10 +22,10 @@ use Rattle.cany_model.specs.Rules.Eager.{has_enough}
 use Rattle.cany_model.specs.Rules.Effect.{Ask}
 use Rattle.cany_model.specs.Bus.Frames.{identity_of}
 use Rattle.cany_model.specs.Bus.History.{copies}
-use Rattle.cany_model.specs.Rules.Notices.{NamesMessage}
+use Rattle.cany_model.specs.Rules.Notices.{IsNextNotice, NamesMessage}
 use Rattle.cany_model.specs.Rules.Relcan.{fell_back, has_confirm, has_copy, relcan_at, relcan_effects, timer_effects}
 use Rattle.cany_relcan.specs.declared.timers.Timer.{Timer}
-use Rattle.cany_relcan.specs.Relcan.{RelcanParts, AreMarksOf, AreTablesOf, HasRead, IsRelcanOf, data_identity}
+use Rattle.cany_relcan.specs.Relcan.{RelcanParts, AreMarksOf, AreTablesOf, CanRead, HasRead, IsRelcanOf, data_identity}
 use Rattle.cany_relcan.specs.RelcanSteps.{AreMarksAfter, ask_actions, asks_at_end, due_frame, is_confirmed, timer_actions, without_due}
 use Rattle.cany_relcan.specs.Timers.{without_from, started_by, started_since}
 use Rattle.cany_relcan.proofs.MarkFacts.{can_mark, falls_is, there_after}
@@ -96,7 +97,7 @@ due_named scenario i slot n notice past v h e f is =
     let read : has_copy (identity_of f) past ≡ true = dropped_copy (identity_of f) n past (due_read i (drop n past) f (sym e.due ∙ is)) in
     h.tables.named f (due_rel scenario i slot n notice past v e f is) (grind (arith, nat_tests, read))
 
-pub can_end : (scenario : ScenarioParts) (i slot : ℕ) (notice : NoticeKind) (past : List NoticeKind) (v : RelcanParts) → HasRead scenario i notice past v → slot ≡ length past
+can_end : (scenario : ScenarioParts) (i slot : ℕ) (notice : NoticeKind) (past : List NoticeKind) (v : RelcanParts) → HasRead scenario i notice past v → slot ≡ length past
     → IfSome (due_frame slot v) (λ f. CanTake (frame_number f) v.fallen)
 can_end scenario i slot notice past v h at = go (due_frame slot v) refl
   where
@@ -104,6 +105,14 @@ can_end scenario i slot notice past v h at = go (due_frame slot v) refl
     go None is = tt
     go (Some f) is =
         can_mark scenario i past v.fallen f h.fallen (due_named scenario i slot (scenario.params.confirm - 1) notice past v h (ends scenario i slot notice past v h at) f is)
+
+-- so it is once a notice was read that could be
+pub can_end_after : (v w : RelcanParts) (notice : Notice) → CanRead v notice
+    → ((scenario : ScenarioParts) (past : List NoticeKind) → IsRelcanOf scenario v.node past v → IsNextNotice scenario past notice
+    → HasRead scenario v.node notice.kind past w)
+    → IfSome (due_frame notice.slot w) (λ f. CanTake (frame_number f) w.fallen)
+can_end_after v w notice reads stands =
+    can_end reads.scenario v.node notice.slot notice.kind reads.past w (stands reads.scenario reads.past reads.stands reads.next) reads.next.slot
 
 marks_are : (scenario : ScenarioParts) (i slot n : ℕ) (notice : NoticeKind) (past : List NoticeKind) (v : RelcanParts) (fallen : EagerParts) → HasRead scenario i notice past v
     → Ends scenario i slot n notice past v → IfSome (due_frame slot v) (λ f. f.node < most_nodes) → AreMarksAfter (due_frame slot v) v.confirms v.fallen fallen

@@ -195,29 +195,33 @@ module _ (n : ℕ) (before : List NoticeKind) (old : List Open) (h : AreAcceptan
     noted_then : (key : MsgKey) (b : Bool) → holds key notice ≡ b → noted_of new key ≡ (if b then nothing else noted_of old key)
     noted_then key b is = gone.noted key ∙ ap (λ b. if b then nothing else noted_of old key) (sym (holds-some key notice f brings) ∙ is)
 
+    -- so each part of what is noted is what is read of it since the place, where it is so before the notice, which changes nothing of it
+    part_moved : {X : Type 0} (part : Noted → X) (read : Identity → List NoticeKind → X)
+        → ((key : MsgKey) → read (accept_of_key key) [] ≡ part nothing)
+        → ((key : MsgKey) → is_recent n key before ≡ true → part (noted_of old key) ≡ read (accept_of_key key) (after_place key before))
+        → ((key : MsgKey) → is_recent n key before ≡ true
+        → read (accept_of_key key) (notice ∷ after_place key before) ≡ read (accept_of_key key) (after_place key before))
+        → (key : MsgKey) → is_recent (n + 1) key (notice ∷ before) ≡ true
+        → part (noted_of new key) ≡ read (accept_of_key key) (after_place key (notice ∷ before))
+    part_moved part read empty is still key recent = elim (cases_Bool (holds key notice)) [
+      | inl here ↦
+          ap part (noted_then key true here)
+          ∙ sym (ap (read (accept_of_key key)) (after_held key notice before here) ∙ empty key)
+      | inr apart ↦
+          let was = recent_still key apart recent in
+          ap part (noted_then key false apart)
+          ∙ is key was
+          ∙ sym (ap (read (accept_of_key key)) (after_other key notice before apart) ∙ still key was)
+    ]
+
     pub acceptances_moved : AreAcceptances (n + 1) (notice ∷ before) new
     acceptances_moved = record {
-      copies = λ key recent. elim (cases_Bool (holds key notice)) [
-        | inl here ↦
-            ap (λ (x : Noted). x.copies) (noted_then key true here)
-            ∙ sym (ap (copies (accept_of_key key)) (after_held key notice before here) ∙ copies-empty key.seq key.origin)
-        | inr apart ↦
-            let was = recent_still key apart recent in
-            ap (λ (x : Noted). x.copies) (noted_then key false apart)
-            ∙ h.copies key was
-            ∙ sym (ap (copies (accept_of_key key)) (after_other key notice before apart)
-            ∙ copies-no (accept_of_key key) notice (after_place key before) (other.got key.seq key.origin was))
-      ];
-      owned = λ key recent. elim (cases_Bool (holds key notice)) [
-        | inl here ↦
-            ap (λ (x : Noted). x.owned) (noted_then key true here)
-            ∙ sym (ap (has_own (accept_of_key key)) (after_held key notice before here) ∙ has_own-empty key.seq key.origin)
-        | inr apart ↦
-            let was = recent_still key apart recent in
-            ap (λ (x : Noted). x.owned) (noted_then key false apart)
-            ∙ h.owned key was
-            ∙ sym (ap (has_own (accept_of_key key)) (after_other key notice before apart)
-            ∙ has_own-more (accept_of_key key) notice (after_place key before)
-            ∙ ap (λ b. b || has_own (accept_of_key key) (after_place key before)) (other.sent key.seq key.origin was))
-      ];
+      copies =
+          part_moved (λ (x : Noted). x.copies) copies (λ key. copies-empty key.seq key.origin) h.copies
+          (λ key was. copies-no (accept_of_key key) notice (after_place key before) (other.got key.seq key.origin was));
+      owned =
+          part_moved (λ (x : Noted). x.owned) has_own (λ key. has_own-empty key.seq key.origin) h.owned
+          (λ key was.
+          has_own-more (accept_of_key key) notice (after_place key before)
+          ∙ ap (λ b. b || has_own (accept_of_key key) (after_place key before)) (other.sent key.seq key.origin was));
     }

@@ -18,13 +18,13 @@ use Rattle.cany_base.specs.Params.{Parameters}
 use Rattle.cany_message.proofs.HistoryFacts.{identity_is}
 use Rattle.cany_model.specs.Bus.Frames.{Identity, identity_of, same_identity}
 use Rattle.cany_model.specs.Rules.Totcan.{delivered, delivered_now, done, done_at, done_from, holds, is_accepted, is_among, is_clear, is_pending, is_recent, message_in, new_among, tot_in, tot_of_key, with_new}
-use Rattle.cany_model.proofs.Among.{Each-append, Each-weaker}
+use Rattle.cany_model.proofs.Among.{Each-append, Each-filter, Each-weaker}
 use Rattle.cany_model.proofs.Bus.Identities.{same_identity-from, same_identity-true, same_identity_self}
 use Rattle.cany_totcan.specs.declared.queue.Placed.{Placed}
 use Rattle.cany_totcan.specs.Queue.{AreOnce, is_at, oldest_from, placed_at, placed_from, placed_in}
 use Rattle.cany_totcan.proofs.AcceptedFacts.{accepted_before, accepted_placed}
 use Rattle.cany_totcan.proofs.PlaceFacts.{IsAtAge, IsWithin, at_age, at_age_cases, first_frame, oldest_is, open_is, placed_once, placed_split, placed_whole, placed_within, recent_more, recent_none, recent_weaker, tot_in-class}
-use Rattle.cany_totcan.proofs.QueueFacts.{same_key, same_key-true, same_key_self, each-filter}
+use Rattle.cany_totcan.proofs.QueueFacts.{same_key, same_key-true, same_key_self}
 
 -- ---- the walk over the messages that have a place
 
@@ -295,7 +295,7 @@ once-filter p [] once = tt
 once-filter p (f ∷ frames) once = elim (cases_Bool (p f)) [
   | inl kept ↦
       let test : FrameParts → Bool = λ g. same_identity (identity_of f) (identity_of g) in
-      rw kept (any_none test (filter p frames) (each-filter (λ g. test g ≡ false) p frames (none_of test frames once.0)), once-filter p frames once.1)
+      rw kept (any_none test (filter p frames) (Each-filter (λ g. test g ≡ false) p frames (none_of test frames once.0)), once-filter p frames once.1)
   | inr gone ↦ rw gone (once-filter p frames once.1)
 ]
 

@@ -12,21 +12,13 @@ use Rattle.cany_base.specs.declared.message.Service.TheVariants as service
 use Rattle.cany_base.specs.Frame.{FrameParts}
 use Rattle.cany_base.specs.Limits.{most_nodes}
 use Rattle.cany_message.specs.Actions.{delivery_actions}
-use Rattle.cany_model.proofs.Among.{Each-drop}
+use Rattle.cany_model.proofs.Among.{Each-drop, Each-first, Each-second}
 use Rattle.cany_totcan.specs.declared.queue.Placed.{Placed}
 use Rattle.cany_totcan.specs.MessageSet.{MessageSetParts, has_message}
 use Rattle.cany_totcan.specs.Acceptances.{RingParts}
 use Rattle.cany_totcan.specs.Queue.{AreOnce, is_at}
 use Rattle.cany_totcan.specs.Totcan.{TotcanParts}
 use Rattle.cany_totcan.specs.TotcanSteps.{AreAdded, HaveGone, accepted_first, due, first_of, fresh_of, is_accepted_by, is_named, tot_actions}
-
-pub each-left : {X : Type 0} (P : X → Type 0) (xs ys : List X) → AllByRecursion P (xs ++ ys) → AllByRecursion P xs
-each-left P [] ys each = tt
-each-left P (x ∷ xs) ys each = (each.0, each-left P xs ys each.1)
-
-pub each-right : {X : Type 0} (P : X → Type 0) (xs ys : List X) → AllByRecursion P (xs ++ ys) → AllByRecursion P ys
-each-right P [] ys each = each
-each-right P (x ∷ xs) ys each = each-right P xs ys each.1
 
 -- ---- what is added to the deliveries
 
@@ -86,27 +78,24 @@ added_more xs ys u v w first second = record {
 -- ---- which are to be done
 
 -- the message at the index is the first that is to be done, if it is accepted
-pub due-at : (v : TotcanParts) (n : ℕ) (items : List Placed) (f : FrameParts) → option_map (λ x. x.frame) (slice_get items n) ≡ Some f → is_accepted_by v f ≡ true
-    → accepted_first v (drop n items) ≡ f ∷ accepted_first v (drop (n + 1) items)
+due-from : (v : TotcanParts) (n : ℕ) (items : List Placed) (f : FrameParts) (b : Bool) → option_map (λ x. x.frame) (slice_get items n) ≡ Some f
+    → is_accepted_by v f ≡ b → accepted_first v (drop n items) ≡ (if b then f ∷ accepted_first v (drop (n + 1) items) else [])
 unfolding accepted_first
-due-at v zero [] f at accepted = absurd (cc)
-due-at v (suc n) [] f at accepted = absurd (cc)
-due-at v zero (x ∷ items) f at accepted =
+due-from v zero [] f b at accepted = absurd (cc)
+due-from v (suc n) [] f b at accepted = absurd (cc)
+due-from v zero (x ∷ items) f b at accepted =
     let same : x.frame ≡ f = cc in
-    let is : is_accepted_by v x.frame ≡ true = ap (is_accepted_by v) same ∙ accepted in
-    rw is (ap (λ g. g ∷ accepted_first v items) same)
-due-at v (suc n) (x ∷ items) f at accepted = let next : suc n + 1 ≡ suc (n + 1) = omega arith in rw next (due-at v n items f at accepted)
+    let is : is_accepted_by v x.frame ≡ b = ap (is_accepted_by v) same ∙ accepted in
+    rw is (ap (λ g. if b then g ∷ accepted_first v items else []) same)
+due-from v (suc n) (x ∷ items) f b at accepted = let next : suc n + 1 ≡ suc (n + 1) = omega arith in rw next (due-from v n items f b at accepted)
+
+due-at : (v : TotcanParts) (n : ℕ) (items : List Placed) (f : FrameParts) → option_map (λ x. x.frame) (slice_get items n) ≡ Some f → is_accepted_by v f ≡ true
+    → accepted_first v (drop n items) ≡ f ∷ accepted_first v (drop (n + 1) items)
+due-at v n items f at accepted = due-from v n items f true at accepted
 
 pub due-none : (v : TotcanParts) (n : ℕ) (items : List Placed) (f : FrameParts) → option_map (λ x. x.frame) (slice_get items n) ≡ Some f → is_accepted_by v f ≡ false
     → accepted_first v (drop n items) ≡ []
-unfolding accepted_first
-due-none v zero [] f at other = absurd (cc)
-due-none v (suc n) [] f at other = absurd (cc)
-due-none v zero (x ∷ items) f at other =
-    let same : x.frame ≡ f = cc in
-    let is : is_accepted_by v x.frame ≡ false = ap (is_accepted_by v) same ∙ other in
-    rw is refl
-due-none v (suc n) (x ∷ items) f at other = due-none v n items f at other
+due-none v n items f at other = due-from v n items f false at other
 
 pub due-end : (v : TotcanParts) (n : ℕ) (items : List Placed) → slice_get items n ≡ None → accepted_first v (drop n items) ≡ []
 unfolding accepted_first
@@ -280,8 +269,8 @@ module _ (slot : ℕ) (u v w : TotcanParts) (a b c : List Action) (first : HaveG
   second_small =
       let near : AllByRecursion (λ f. f.node < most_nodes) (due u) =
       each-due (λ f. f.node < most_nodes) u (drop u.queue.done u.queue.items) (Each-drop (λ x. x.frame.node < most_nodes) u.queue.done u.queue.items small) in
-      each-right (λ f. f.node < most_nodes) first.gone second.gone
-      (each-left (λ f. f.node < most_nodes) (first.gone ++ second.gone) (due w) (subst (AllByRecursion (λ f. f.node < most_nodes)) all near))
+      Each-second (λ f. f.node < most_nodes) first.gone second.gone
+      (Each-first (λ f. f.node < most_nodes) (first.gone ++ second.gone) (due w) (subst (AllByRecursion (λ f. f.node < most_nodes)) all near))
 
   fresh_is : fresh_of v.deliveries second.gone ≡ fresh_of u.deliveries second.gone
   fresh_is = fresh-same u.deliveries v.deliveries first.gone second.gone first.added second_small (once-apart first.gone second.gone all_once)

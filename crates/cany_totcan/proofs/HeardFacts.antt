@@ -183,23 +183,23 @@ module _ (scenario : ScenarioParts) (i : ℕ) (before : List NoticeKind) (messag
       own_at_node : f.node ≡ i → f.number < length v.backlog.own
       own_at_node own = can_note (own ∙ sym h.limits.node)
 
-      pub heard_got : w ≡ held f slot false w.acceptances v
-          → HasHeard scenario i (Got f) before messages count w
-      heard_got state =
-          heard_data scenario i (Got f) before messages count v w h f slot false (tot_in-got f is) at named
-          (subst (λ n. IsBacklogOf scenario i (Got f ∷ before) messages count (noted_if (f.node == n) f slot false v.backlog)) (sym h.limits.node)
-          (backlog_then scenario i (Got f) before messages count v w h f slot false (tot_in-got f is) at named (got_own i f tot) own_at_node
-          (λ other. ap (λ b. same_class f.class class.Tot && b) other ∙ and_none (same_class f.class class.Tot))))
-          (accepts_none-got scenario.params.bound f before (not_accepting f tot)) gone state
+      -- a frame of another node brings no message of this one
+      none_own : (f.node == i) ≡ false → (same_class f.class class.Tot && f.node == i) ≡ false
+      none_own other = ap (λ b. same_class f.class class.Tot && b) other ∙ and_none (same_class f.class class.Tot)
 
-      pub heard_sent : w ≡ held f slot true w.acceptances v
-          → HasHeard scenario i (Sent f) before messages count w
-      heard_sent state =
-          heard_data scenario i (Sent f) before messages count v w h f slot true (tot_in-sent f is) at named
-          (subst (λ n. IsBacklogOf scenario i (Sent f ∷ before) messages count (noted_if (f.node == n) f slot true v.backlog)) (sym h.limits.node)
-          (backlog_then scenario i (Sent f) before messages count v w h f slot true (tot_in-sent f is) at named (sent_own i f tot) own_at_node
-          (λ other. ap (λ b. same_class f.class class.Tot && b) other ∙ and_none (same_class f.class class.Tot))))
-          (accepts_none-sent scenario.params.bound f before (not_accepting f tot)) gone state
+      heard_tot : (notice : NoticeKind) (is_own : Bool) → tot_in notice ≡ Some f → (f.node ≡ i → IsOfOwn i f.number is_own notice)
+          → ((f.node == i) ≡ false → brings_own i notice ≡ false) → AcceptsNone scenario.params.bound notice before → w ≡ held f slot is_own w.acceptances v
+          → HasHeard scenario i notice before messages count w
+      heard_tot notice is_own brings own apart none state =
+          heard_data scenario i notice before messages count v w h f slot is_own brings at named
+          (subst (λ n. IsBacklogOf scenario i (notice ∷ before) messages count (noted_if (f.node == n) f slot is_own v.backlog)) (sym h.limits.node)
+          (backlog_then scenario i notice before messages count v w h f slot is_own brings at named own own_at_node apart)) none gone state
+
+      pub heard_got : w ≡ held f slot false w.acceptances v → HasHeard scenario i (Got f) before messages count w
+      heard_got = heard_tot (Got f) false (tot_in-got f is) (got_own i f tot) none_own (accepts_none-got scenario.params.bound f before (not_accepting f tot))
+
+      pub heard_sent : w ≡ held f slot true w.acceptances v → HasHeard scenario i (Sent f) before messages count w
+      heard_sent = heard_tot (Sent f) true (tot_in-sent f is) (sent_own i f tot) none_own (accepts_none-sent scenario.params.bound f before (not_accepting f tot))
 
     -- a frame that accepts an open message
     module _ (is : f.class ≡ class.Accept) (state : w ≡ record v { acceptances = w.acceptances }) where
@@ -226,27 +226,28 @@ module _ (scenario : ScenarioParts) (i : ℕ) (before : List NoticeKind) (messag
     closed_if : f.class ≡ class.Accept → same_class f.class class.Accept ≡ true → is_recent scenario.params.bound (message_in f) before ≡ false
     closed_if is same = sym (ap (λ b. b && is_recent scenario.params.bound (message_in f) before) same) ∙ not_open
 
+    -- a notice of the frame says nothing of an open message where that of one that accepts a closed message, or is of another class, does not
+    heard_apart : (notice : NoticeKind) → tot_in notice ≡ None → brings_own i notice ≡ false
+        → (f.class ≡ class.Accept → is_recent scenario.params.bound (message_in f) before ≡ false → AcceptsNone scenario.params.bound notice before)
+        → (same_class f.class class.Accept ≡ false → AcceptsNone scenario.params.bound notice before)
+        → HasHeard scenario i notice before messages count v
+    heard_apart notice no_data not_own closed apart =
+        heard_other scenario i notice before messages count v v h no_data not_own
+        (acceptances_same scenario.params.bound before v.acceptances h.acceptances notice no_data
+        (elim (cases_Bool (same_class f.class class.Accept)) [
+          | inl same ↦ let is = same_class-true f.class class.Accept same in closed is (closed_if is same)
+          | inr differs ↦ apart differs
+        ])) refl
+
     pub heard_got_other : HasHeard scenario i (Got f) before messages count v
     heard_got_other =
-        heard_other scenario i (Got f) before messages count v v h (tot_in-got_other f other) (ap (λ b. b && f.node == i) other)
-        (acceptances_same scenario.params.bound before v.acceptances h.acceptances (Got f) (tot_in-got_other f other)
-        (elim (cases_Bool (same_class f.class class.Accept)) [
-          | inl same ↦
-              let is = same_class-true f.class class.Accept same in
-              accepts_none-got_closed scenario.params.bound f before is (closed_if is same)
-          | inr apart ↦ accepts_none-got scenario.params.bound f before apart
-        ])) refl
+        heard_apart (Got f) (tot_in-got_other f other) (ap (λ b. b && f.node == i) other)
+        (accepts_none-got_closed scenario.params.bound f before) (accepts_none-got scenario.params.bound f before)
 
     pub heard_sent_other : HasHeard scenario i (Sent f) before messages count v
     heard_sent_other =
-        heard_other scenario i (Sent f) before messages count v v h (tot_in-sent_other f other) (ap (λ b. b && f.node == i) other)
-        (acceptances_same scenario.params.bound before v.acceptances h.acceptances (Sent f) (tot_in-sent_other f other)
-        (elim (cases_Bool (same_class f.class class.Accept)) [
-          | inl same ↦
-              let is = same_class-true f.class class.Accept same in
-              accepts_none-sent_closed scenario.params.bound f before is (closed_if is same)
-          | inr apart ↦ accepts_none-sent scenario.params.bound f before apart
-        ])) refl
+        heard_apart (Sent f) (tot_in-sent_other f other) (ap (λ b. b && f.node == i) other)
+        (accepts_none-sent_closed scenario.params.bound f before) (accepts_none-sent scenario.params.bound f before)
 
 -- no frame
 module _ (scenario : ScenarioParts) (i : ℕ) (before : List NoticeKind) (messages : List Message) (count : ℕ) (v : TotcanParts)

@@ -18,12 +18,12 @@ use Rattle.cany_model.specs.Bus.History.{is_got}
 use Rattle.cany_model.specs.Rules.Effect.{Effect, Withdraw}
 use Rattle.cany_model.specs.Rules.Messages.{accept_of_key}
 use Rattle.cany_model.specs.Rules.Totcan.{closing_effects, closing_of, holds, is_recent, message_in, tot_in, tot_of_key}
-use Rattle.cany_model.proofs.Among.{Among, Each-append, Each-weaker}
+use Rattle.cany_model.proofs.Among.{Among, Each-append, Each-filter, Each-weaker}
 use Rattle.cany_model.proofs.Bus.Carried.{Has}
 use Rattle.cany_model.proofs.Bus.Identities.{same_class-true}
 use Rattle.cany_totcan.specs.declared.queue.Placed.{Placed}
 use Rattle.cany_totcan.specs.Queue.{AreAscending, AreOnce, OpenParts, is_at, oldest_from, placed_at, placed_from, placed_in, without_key, without_oldest, without_oldest_from}
-use Rattle.cany_totcan.proofs.QueueFacts.{any-append_one, any-without, any-without_self, ascending-append_one, ascending-filter, each-filter, once-append_one, once-without, same_key, same_key-true, same_key_self, length-without-le}
+use Rattle.cany_totcan.proofs.QueueFacts.{any-append_one, any-without, any-without_self, ascending-append_one, ascending-filter, once-append_one, once-without, same_key, same_key-true, same_key_self, length-without-le}
 
 -- ---- what a notice brings
 
@@ -300,7 +300,7 @@ placed_read n past =
     (λ n notice before items f brings all.
     Each-append (WasRead (notice ∷ before)) (without_key (message_in f) items) (record { frame = f; place = length before } ∷ [])
     (Each-weaker (WasRead before) (WasRead (notice ∷ before)) (read_more notice before) (without_key (message_in f) items)
-    (each-filter (WasRead before) (λ x. not (is_at (message_in f) x)) items all))
+    (Each-filter (WasRead before) (λ x. not (is_at (message_in f) x)) items all))
     ((tot_in-class notice f brings, inl (tot_in-has notice f brings)), tt))
     n past
 
@@ -335,7 +335,7 @@ placed_within n past =
     (λ n notice before items f brings all.
     Each-append (IsWithin (suc n) (notice ∷ before)) (without_key (message_in f) items) (record { frame = f; place = length before } ∷ [])
     (Each-weaker (IsWithin n before) (IsWithin (suc n) (notice ∷ before)) (within_more n notice before) (without_key (message_in f) items)
-    (each-filter (IsWithin n before) (λ x. not (is_at (message_in f) x)) items all))
+    (Each-filter (IsWithin n before) (λ x. not (is_at (message_in f) x)) items all))
     ((omega arith, omega arith), tt))
     n past
 
@@ -355,7 +355,7 @@ placed_ascending n past = (by_places IsAscendingBelow (λ past. (tt, tt)) (λ n.
         → IsAscendingBelow (suc n) (notice ∷ before) (without_key (message_in f) items ++ record { frame = f; place = length before } ∷ [])
     moved_up n notice before items f brings up =
         let left : AllByRecursion (λ x. x.place < length before) (without_key (message_in f) items) =
-        each-filter (λ x. x.place < length before) (λ x. not (is_at (message_in f) x)) items up.1 in (
+        Each-filter (λ x. x.place < length before) (λ x. not (is_at (message_in f) x)) items up.1 in (
           ascending-append_one (without_key (message_in f) items) (record { frame = f; place = length before })
               (ascending-filter (λ x. not (is_at (message_in f) x)) items up.0) left,
           Each-append (λ x. x.place < suc (length before)) (without_key (message_in f) items) (record { frame = f; place = length before } ∷ [])

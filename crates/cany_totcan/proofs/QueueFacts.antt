@@ -20,7 +20,7 @@ use Rattle.cany_model.specs.Rules.Messages.{Message, is_service, message_key, me
 use Rattle.cany_model.specs.Rules.Notices.{NamesMessage}
 use Rattle.cany_model.specs.Rules.Rooms.{sends_by}
 use Rattle.cany_model.specs.Rules.Totcan.{message_in}
-use Rattle.cany_model.proofs.Among.{Among, Among-from_Contains, Among-weaker, Each-append, Each-weaker, count-cons, count-no, count-yes}
+use Rattle.cany_model.proofs.Among.{Among, Among-from_Contains, Among-weaker, Each-append, Each-filter, Each-weaker, count-cons, count-no, count-yes}
 use Rattle.cany_model.proofs.Rules.MessageKeys.{is_service-from}
 use Rattle.cany_model.proofs.Rules.RoomFacts.{count_messages, pigeonhole}
 use Rattle.cany_totcan.specs.declared.queue.Placed.{Placed}
@@ -39,9 +39,7 @@ same_key_self key = and_from (key.seq == key.seq) (key.origin == key.origin) (eq
 pub same_key-true : (a b : MsgKey) → same_key a b ≡ true → a ≡ b
 same_key-true a b h =
     let parts = and_parts (a.seq == b.seq) (a.origin == b.origin) h in
-    let seq : a.seq ≡ b.seq = eqb-true a.seq b.seq parts.0 in
-    let origin : a.origin ≡ b.origin = eqb-true a.origin b.origin parts.1 in
-    λ k. record { origin = origin k; seq = seq k }
+    λ k. record { origin = eqb-true a.origin b.origin parts.1 k; seq = eqb-true a.seq b.seq parts.0 k }
 
 -- the message that stands here has this key
 pub is_at-true : (key : MsgKey) (x : Placed) → is_at key x ≡ true → key ≡ message_in x.frame
@@ -176,18 +174,10 @@ once_here key x items once here = ap (λ k. list_any (is_at k) items) (is_at-tru
 
 -- ---- in the order of their places
 
--- what is true of each element is true of each that a filter keeps
-pub each-filter : {X : Type 0} (P : X → Type 0) (p : X → Bool) (xs : List X) → AllByRecursion P xs → AllByRecursion P (filter p xs)
-each-filter P p [] all = tt
-each-filter P p (x ∷ xs) all = elim (cases_Bool (p x)) [
-  | inl kept ↦ rw kept (all.0, each-filter P p xs all.1)
-  | inr gone ↦ rw gone (each-filter P p xs all.1)
-]
-
 pub ascending-filter : (p : Placed → Bool) (items : List Placed) → AreAscending items → AreAscending (filter p items)
 ascending-filter p [] up = tt
 ascending-filter p (x ∷ items) up = elim (cases_Bool (p x)) [
-  | inl kept ↦ rw kept (each-filter (λ y. x.place < y.place) p items up.0, ascending-filter p items up.1)
+  | inl kept ↦ rw kept (Each-filter (λ y. x.place < y.place) p items up.0, ascending-filter p items up.1)
   | inr gone ↦ rw gone (ascending-filter p items up.1)
 ]
 
@@ -339,7 +329,7 @@ kept-place f slot v items done room capacity old new kept is spare later more =
     let same : room ≡ v.room = ap (λ (w : OpenParts). w.room) is in
     kept-append_one items f slot done room capacity old new kept
     (ap (list_any (is_at (message_in f))) left ∙ any-without_self (message_in f) v.items)
-    (subst (AllByRecursion (λ x. x.place < slot)) (sym left) (each-filter (λ x. x.place < slot) (λ x. not (is_at (message_in f) x)) v.items later))
+    (subst (AllByRecursion (λ x. x.place < slot)) (sym left) (Each-filter (λ x. x.place < slot) (λ x. not (is_at (message_in f) x)) v.items later))
     (omega (arith, ap length left)) more
 
 -- ---- those that are done

@@ -1,4 +1,4 @@
-ghost use Rattle.std.specs.Prelude.{◌≡◌, ℕ, ◌<◌, ◌++◌, ◌||◌, [], ◌∷◌, None, Some, count_by, false, length, replicate, slice_set, IfOk};
+ghost use Rattle.std.specs.Prelude.{◌≡◌, ℕ, ◌<◌, ◌++◌, ◌&&◌, ◌||◌, [], ◌∷◌, None, Some, count_by, false, length, replicate, slice_set, IfOk};
 ghost use Rattle.cany_model.specs.Rules.Messages.{is_from};
 ghost use Rattle.cany_totcan.specs.Backlog.{after_next, blank, is_asked, is_free, is_past, next_given, own_at};
 
@@ -139,10 +139,9 @@ impl Backlog {
         if self.asked == 0 {
             return 0;
         }
-        let last = self.given.get(self.asked - 1);
-        let own = self.own.get(usize::from(last.seq));
-        if own.sent {
-            past_from(own.place, spacing)
+        let last = self.last_asked();
+        if last.sent {
+            past_from(last.place, spacing)
         } else {
             Slot::MAX
         }
@@ -155,9 +154,17 @@ impl Backlog {
         if self.asked == 0 {
             return true;
         }
+        let last = self.last_asked();
+        last.sent && is_past(last.place, now, spacing)
+    }
+
+    /// What became of the last message that was asked for.
+    fn last_asked(&self) -> OwnMessage
+        requires { 0 < self.now.asked }
+        ensures { (now spacing : ℕ) → is_free now spacing self.now ≡ (result.sent && is_past now spacing result.place) }
+    {
         let last = self.given.get(self.asked - 1);
-        let own = self.own.get(usize::from(last.seq));
-        own.sent && is_past(own.place, now, spacing)
+        self.own.get(usize::from(last.seq))
     }
 
     /// Whether the data frame of a message was asked for.

@@ -1,8 +1,9 @@
 ghost use Rattle.std.specs.Prelude.{◌≡◌, ℕ, ◌<◌, ◌≤◌, ◌+◌, ◌-◌, [], None, length, option_map, slice_get, true, false, IfOk, IfSome, IfNone};
 ghost use Rattle.std.specs.List.{AllByRecursion, list_any};
+ghost use Rattle.std.specs.VecDeque.{deque_capacity};
 ghost use Rattle.cany_model.specs.Rules.Totcan.{message_in};
-ghost use Rattle.cany_totcan.specs.Acceptances.{IsNoted, forgotten, noted_of, nothing, placed_of, with_copy, with_own};
-ghost use Rattle.cany_totcan.specs.Queue.{IsIndexOf, is_at, is_removed, moved, oldest_from, without_first, without_key};
+ghost use Rattle.cany_totcan.specs.Acceptances.{IsNoted, RingParts, forgotten, noted_of, nothing, placed_of, with_copy, with_own};
+ghost use Rattle.cany_totcan.specs.Queue.{IsIndexOf, IsKept, is_at, is_removed, moved, oldest_from, without_first, without_key};
 
 use crate::message_set::MessageSet;
 use cany_base::{Frame, Memory, MsgKey, Slot};
@@ -72,11 +73,6 @@ pub(crate) struct OpenMessages {
 }
 
 impl Model for OpenMessages {
-    ghost use Rattle.std.specs.Prelude.{length};
-    ghost use Rattle.std.specs.VecDeque.{deque_capacity};
-    ghost use Rattle.cany_totcan.specs.Acceptances.{RingParts, placed_of};
-    ghost use Rattle.cany_totcan.specs.Queue.{IsKept};
-
     ghost Value = { RingParts };
 
     ghost view = { λ q. record {

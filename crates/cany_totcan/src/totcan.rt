@@ -17,7 +17,7 @@ ghost use Rattle.cany_model.specs.Rules.Notices.{IsNextNotice};
 ghost use Rattle.cany_model.specs.Rules.Totcan.{accept_effects, accept_frame, has_closing_ahead, message_in, totcan_effects};
 ghost use Rattle.cany_totcan.specs.Acceptances.{IsNoted, forgotten, noted_of, with_copy, with_own};
 ghost use Rattle.cany_totcan.specs.Rests.{Rests};
-ghost use Rattle.cany_totcan.specs.Totcan.{CanRead, HasHeard, IsOwnTot, IsTotcanOf, has_seq};
+ghost use Rattle.cany_totcan.specs.Totcan.{TotcanParts, CanRead, HasHeard, IsOwnTot, IsTotcanOf, has_seq};
 ghost use Rattle.cany_totcan.specs.TotcanSteps.{AreAdded, AreKnown, AreStillNoted, CanHold, HaveGone, closing_accepted, closing_actions, closing_frame, due, first_of, fresh_of, has_open, held, if_accepted, is_accepted_by, origin_actions, tot_actions, without_closing};
 
 use crate::backlog::Backlog;
@@ -61,8 +61,6 @@ pub struct Totcan {
 }
 
 impl Model for Totcan {
-    ghost use Rattle.cany_totcan.specs.Totcan.{TotcanParts};
-
     ghost Value = { TotcanParts };
 
     ghost view = { λ t. record {

@@ -9,7 +9,7 @@ ghost use Rattle.cany_model.specs.Rules.Knowledge.{Knowledge, knowledge_at_first
 ghost use Rattle.cany_base.specs.Cycles.{cycle_of};
 ghost use Rattle.cany_model.specs.Rules.Views.{after_ask, join_asked, leave_asked, start_of, view_effects, with_view};
 ghost use Rattle.cany_views.specs.Views.{CanHear, IsViewsOf};
-ghost use Rattle.cany_views.specs.ViewsSteps.{heard_join, heard_leave, installed, installed_actions, withdrawals};
+ghost use Rattle.cany_views.specs.ViewsSteps.{heard_join, heard_leave, installed, installed_actions};
 
 use crate::asks::{ask_frame, asked_cycles, withdraw_asks};
 use cany_base::cycle::cycle_of;
@@ -243,7 +243,7 @@ impl Views {
         self.leavers = self.leavers.meet(vector);
     }
 
-    /// A node of the view enters it and withdraws its asks to join, another node withdraws its asks to leave.
+    /// A node of the view enters it and withdraws its asks to join, another node withdraws its asks to leave, whatever their cycle.
     fn act_on_view(&self, vector: NodeSet, now: Slot, out: &mut Actions)
         requires now { now < self.now.params.slots }
         requires room { length out.old.items + 1 + length self.now.joins + length self.now.leaves ≤ out.old.room }
@@ -253,9 +253,21 @@ impl Views {
     {
         if vector.has(self.node) {
             out.push(Action::Enter(self.entry(vector, now)));
-            self.withdraw_joins(out);
+            withdraw_asks(
+                self.params.format,
+                Class::Join,
+                self.node,
+                self.joins.as_slice(),
+                out,
+            );
         } else {
-            self.withdraw_leaves(out);
+            withdraw_asks(
+                self.params.format,
+                Class::Leave,
+                self.node,
+                self.leaves.as_slice(),
+                out,
+            );
         }
     }
 
@@ -269,37 +281,5 @@ impl Views {
             number: cycle_of(&self.params, now),
             members: vector,
         }
-    }
-
-    /// The node's asks to join wait no longer, whatever their cycle.
-    fn withdraw_joins(&self, out: &mut Actions)
-        requires { length out.old.items + length self.now.joins ≤ out.old.room }
-        ensures actions { out.new.items ≡ out.old.items ++ withdrawals self.now.params.format class.Join self.now.node self.now.joins }
-        ensures few { length out.new.items ≤ length out.old.items + length self.now.joins }
-        ensures room { out.new.room ≡ out.old.room }
-    {
-        withdraw_asks(
-            self.params.format,
-            Class::Join,
-            self.node,
-            self.joins.as_slice(),
-            out,
-        );
-    }
-
-    /// The node's asks to leave wait no longer, whatever their cycle.
-    fn withdraw_leaves(&self, out: &mut Actions)
-        requires { length out.old.items + length self.now.leaves ≤ out.old.room }
-        ensures actions { out.new.items ≡ out.old.items ++ withdrawals self.now.params.format class.Leave self.now.node self.now.leaves }
-        ensures few { length out.new.items ≤ length out.old.items + length self.now.leaves }
-        ensures room { out.new.room ≡ out.old.room }
-    {
-        withdraw_asks(
-            self.params.format,
-            Class::Leave,
-            self.node,
-            self.leaves.as_slice(),
-            out,
-        );
     }
 }

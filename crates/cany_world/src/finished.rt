@@ -8,7 +8,7 @@ ghost use Rattle.cany_model.specs.Promises.Settled.{is_ahead, is_settled};
 ghost use Rattle.cany_model.specs.Rules.Messages.{Message, messages_of};
 ghost use Rattle.cany_model.specs.Runs.Run.{run};
 ghost use Rattle.cany_world.specs.Kept.{IsKeptAs, IsKeptAt};
-ghost use Rattle.cany_world.specs.Settled.{IsAbout, IsFinished, has_ahead, is_asked, is_finished};
+ghost use Rattle.cany_world.specs.Settled.{FinishedParts, IsAbout, IsFinished, has_ahead, is_asked, is_finished};
 
 use crate::incarnations::Incarnations;
 use crate::unread::none_has_anything_to_do;
@@ -26,8 +26,6 @@ pub struct FinishedServices {
 }
 
 impl Model for FinishedServices {
-    ghost use Rattle.cany_world.specs.Settled.{FinishedParts};
-
     ghost Value = { FinishedParts };
 
     ghost view = { λ f. record { ed = f.ed; rel = f.rel; tot = f.tot } };

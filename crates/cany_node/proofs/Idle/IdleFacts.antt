@@ -15,7 +15,8 @@ use Rattle.cany_relcan.specs.Relcan.{IsRelcanOf, RelcanParts}
 use Rattle.cany_node.specs.Membership.{IsNextOf}
 use Rattle.cany_node.specs.Node.{CanAct, IsNodeOf, NodeParts}
 use Rattle.cany_node.specs.Resting.{IsIdleUntil, RestsUntil}
-use Rattle.cany_node.proofs.Idle.IdleTurn.{OthersRest, edcan_now, node_rests, relcan_now, totcan_now}
+use Rattle.cany_node.proofs.Idle.IdleTurn.{OthersRest, node_rests}
+use Rattle.cany_node.proofs.OwnNode.{edcan_now, relcan_now, totcan_now}
 
 -- EDCAN has nothing to do in any idle slot, and RELCAN in none before its next timer is due
 abbrev pub EdcanRests : EdcanParts → Type 0

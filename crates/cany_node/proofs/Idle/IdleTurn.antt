@@ -95,16 +95,6 @@ module _ (scenario : ScenarioParts) (past : List NoticeKind) (v : NodeParts) (h 
   abbrev count : ℕ
   count = asked scenario i past
 
-  -- each part, as it names the node itself
-  pub edcan_now : IsEdcanOf scenario v.edcan.node past v.edcan
-  edcan_now = subst (λ n. IsEdcanOf scenario n past v.edcan) (sym h.edcan.node) h.edcan
-
-  pub relcan_now : IsRelcanOf scenario v.relcan.node past v.relcan
-  relcan_now = subst (λ n. IsRelcanOf scenario n past v.relcan) (sym h.relcan.limits.node) h.relcan
-
-  pub totcan_now : IsTotcanOf scenario v.totcan.node past (backlog scenario v.node past) (asked scenario v.node past) v.totcan
-  totcan_now = subst (λ n. IsTotcanOf scenario n past messages count v.totcan) (sym h.totcan.limits.node) h.totcan
-
   module _ (others : OthersRest scenario past v) where
     pub tot_rests : totcan.Rests scenario i past messages count v.totcan
     tot_rests = subst (λ n. totcan.Rests scenario n past messages count v.totcan) h.totcan.limits.node others.totcan

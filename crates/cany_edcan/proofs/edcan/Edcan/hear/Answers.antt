@@ -69,13 +69,11 @@ returns-in-Idle-clause-stands c = λ scenario past h next. other_stands scenario
 
 pub returns-in-Idle-clause-actions : goal.returns-in-Idle-clause-actions
 returns-in-Idle-clause-actions c = λ scenario past h next.
-    nothing_called service.Ed c.args.notice.now.slot c.args.notice.now.kind
-    ∙ other_acts scenario c.args.self.now.node past c.args.notice.now.kind Idle c.in-Idle.is tt []
+    nothing_called service.Ed c.args.notice.now.slot _ ∙ other_acts scenario c.args.self.now.node past _ Idle c.in-Idle.is tt []
 
 pub returns-in-Bad-clause-stands : goal.returns-in-Bad-clause-stands
 returns-in-Bad-clause-stands c = λ scenario past h next. other_stands scenario c.args.self.now.node past c.args.notice.now.kind Bad c.in-Bad.is tt c.args.self.now h
 
 pub returns-in-Bad-clause-actions : goal.returns-in-Bad-clause-actions
 returns-in-Bad-clause-actions c = λ scenario past h next.
-    nothing_called service.Ed c.args.notice.now.slot c.args.notice.now.kind
-    ∙ other_acts scenario c.args.self.now.node past c.args.notice.now.kind Bad c.in-Bad.is tt []
+    nothing_called service.Ed c.args.notice.now.slot _ ∙ other_acts scenario c.args.self.now.node past _ Bad c.in-Bad.is tt []

@@ -10,10 +10,10 @@ unfolding all_marked found_below
 loop-n-init c = record { state = refl; actions = sym (append-nil c.args.out.now.items); few = omega arith; room = refl }
 
 pub find_node-requires-clause-cycle : goal.find_node-requires-clause-cycle
-find_node-requires-clause-cycle c = rw (params_found c.args.self.now c.args.members c.args.slot c.loop-n.n c.loop-n.self c.loop-n.invariant.state) c.requires.cycle
+find_node-requires-clause-cycle c = rw (params_found c.args.self.now c.args.members c.args.slot c.loop-n.n c.loop-n.self c.loop-n.invariant.state) c.requires.finds.cycle
 
 pub find_node-requires-clause-number : goal.find_node-requires-clause-number
-find_node-requires-clause-number c = rw (params_found c.args.self.now c.args.members c.args.slot c.loop-n.n c.loop-n.self c.loop-n.invariant.state) c.requires.number
+find_node-requires-clause-number c = rw (params_found c.args.self.now c.args.members c.args.slot c.loop-n.n c.loop-n.self c.loop-n.invariant.state) c.requires.finds.number
 
 pub find_node-requires-clause-known : goal.find_node-requires-clause-known
 find_node-requires-clause-known c =
@@ -21,18 +21,18 @@ find_node-requires-clause-known c =
       params_found c.args.self.now c.args.members c.args.slot c.loop-n.n c.loop-n.self c.loop-n.invariant.state,
       length_found c.args.self.now c.args.members c.args.slot c.loop-n.n c.loop-n.self c.loop-n.invariant.state,
     )
-    c.requires.known
+    c.requires.finds.known
 
 pub loop-n-preserved : goal.loop-n-preserved
 loop-n-preserved c =
-    let near : c.loop-n.n < most_nodes = omega (arith, c.loop-n-test.true, c.requires.nodes) in
+    let near : c.loop-n.n < most_nodes = omega (arith, c.loop-n-test.true, c.requires.finds.nodes) in
     let at : c.loop-n.self ≡ all_marked (found_below c.args.self.now c.args.members c.args.slot c.loop-n.n) c.args.self.now = c.loop-n.invariant.state in
     record {
       state =
-          state_more c.args.self.now c.args.members c.args.slot c.loop-n.n near c.requires.known c.loop-n.self at c.find_node.new.self
+          state_more c.args.self.now c.args.members c.args.slot c.loop-n.n near c.requires.finds.known c.loop-n.self at c.find_node.new.self
           (rw c.of_index.ensures at c.find_node.ensures.state);
       actions =
-          actions_more c.args.self.now c.args.members c.args.slot c.loop-n.n near c.requires.known c.loop-n.self at c.args.out.now.items c.loop-n.out.items
+          actions_more c.args.self.now c.args.members c.args.slot c.loop-n.n near c.requires.finds.known c.loop-n.self at c.args.out.now.items c.loop-n.out.items
           c.find_node.new.out.items c.loop-n.invariant.actions (rw c.of_index.ensures at c.find_node.ensures.actions);
       few = omega (arith, c.find_node.ensures.few, c.loop-n.invariant.few);
       room = c.find_node.ensures.room ∙ c.loop-n.invariant.room;

@@ -16,8 +16,8 @@ use Rattle.cany_life.proofs.life.Life.learn.Goals as goal
 
 pub on_copy-requires-clause-small : goal.on_copy-requires-clause-small
 on_copy-requires-clause-small c =
-    let learns = c.requires.learns in
-    rw learns.stands.limits.are_params (got_small learns.scenario learns.past c.args.notice.now c.in-Got.frame learns.next learns.stands.limits.legal c.in-Got.is)
+    rw c.requires.learns.stands.limits.are_params
+    (got_small c.requires.learns.scenario c.requires.learns.past c.args.notice.now c.in-Got.frame c.requires.learns.next c.requires.learns.stands.limits.legal c.in-Got.is)
 
 pub on_copy-requires-clause-takes : goal.on_copy-requires-clause-takes
 on_copy-requires-clause-takes c =
@@ -85,16 +85,14 @@ returns-in-Sent-clause-actions c = λ scenario past knowledge h next.
     none_acts scenario c.args.self.now.node past knowledge c.args.notice.now.kind (Sent c.in-Sent.field-0) c.in-Sent.is tt (length past) c.args.out.now.items
 
 pub returns-in-Idle-clause-stands : goal.returns-in-Idle-clause-stands
-returns-in-Idle-clause-stands c = λ scenario past knowledge h next.
-    none_stands scenario c.args.self.now.node past knowledge c.args.notice.now.kind Idle c.in-Idle.is tt c.args.self.now h
+returns-in-Idle-clause-stands c = λ scenario past knowledge h next. none_stands _ _ _ _ _ Idle c.in-Idle.is tt _ h
 
 pub returns-in-Idle-clause-actions : goal.returns-in-Idle-clause-actions
 returns-in-Idle-clause-actions c = λ scenario past knowledge h next.
     none_acts scenario c.args.self.now.node past knowledge c.args.notice.now.kind Idle c.in-Idle.is tt (length past) c.args.out.now.items
 
 pub returns-in-Bad-clause-stands : goal.returns-in-Bad-clause-stands
-returns-in-Bad-clause-stands c = λ scenario past knowledge h next.
-    none_stands scenario c.args.self.now.node past knowledge c.args.notice.now.kind Bad c.in-Bad.is tt c.args.self.now h
+returns-in-Bad-clause-stands c = λ scenario past knowledge h next. none_stands _ _ _ _ _ Bad c.in-Bad.is tt _ h
 
 pub returns-in-Bad-clause-actions : goal.returns-in-Bad-clause-actions
 returns-in-Bad-clause-actions c = λ scenario past knowledge h next.

@@ -8,19 +8,15 @@ pub returns-clause-actions : goal.returns-clause-actions
 returns-clause-actions c = λ scenario i past h next.
     let stands = subst (IsMembershipOf scenario i past) (sym c.self.view_is) h in
     let notice = c.args.notice.now in
-    let known = knowledge_of scenario i past in
-    let heard = c.hear.ensures.stands scenario known (views_stand scenario i past notice _ stands next) next.next.readable in
-    let lives = life_stands scenario i past notice _ stands next in
+    let heard = c.hear.ensures.stands scenario (knowledge_of scenario i past) (views_stand scenario i past notice _ stands next) next.next.readable in
     failures_listed scenario i past notice _ stands next c.hear.new.self heard _ c.members-members.ensures.members
     c.args.out.now.items c.on.new.out.items
-    (c.on.ensures.actions scenario past known lives (life_next scenario i past notice _ stands next))
+    (c.on.ensures.actions scenario past _ (life_stands scenario i past notice _ stands next) (life_next scenario i past notice _ stands next))
 
 pub returns-clause-exchanges : goal.returns-clause-exchanges
 returns-clause-exchanges c = λ scenario i past h next.
     let stands = subst (IsMembershipOf scenario i past) (sym c.self.view_is) h in
     let notice = c.args.notice.now in
-    let known = knowledge_of scenario i past in
-    let heard = c.hear.ensures.stands scenario known (views_stand scenario i past notice _ stands next) next.next.readable in
-    let lives = life_stands scenario i past notice _ stands next in
+    let heard = c.hear.ensures.stands scenario (knowledge_of scenario i past) (views_stand scenario i past notice _ stands next) next.next.readable in
     all_heard scenario i past notice _ stands next c.hear.new.self heard _ c.members-members.ensures.members c.on.new.self
-    (c.on.ensures.stands scenario past known lives (life_next scenario i past notice _ stands next))
+    (c.on.ensures.stands scenario past _ (life_stands scenario i past notice _ stands next) (life_next scenario i past notice _ stands next))

@@ -1,10 +1,8 @@
 use Rattle.std.proofs.Common.{◌||◌, ◌≡◌, false, true, Bool, refl, ap, ◌∙◌, sym, subst}
-use Rattle.cany_model.specs.Rules.Backlog.{asked, backlog}
 use Rattle.cany_model.specs.Rules.Relcan.{has_timer_ahead}
 use Rattle.cany_model.specs.Rules.Totcan.{has_closing_ahead}
-use Rattle.cany_relcan.specs.Relcan.{IsRelcanOf}
-use Rattle.cany_totcan.specs.Totcan.{IsTotcanOf}
 use Rattle.cany_node.specs.Node.{NodeParts, IsNodeOf}
+use Rattle.cany_node.proofs.OwnNode.{relcan_now, totcan_now}
 use Rattle.cany_node.proofs.node.Node.ahead.Goals as goal
 
 -- of the protocols RELCAN and TOTCAN alone have something ahead
@@ -22,25 +20,22 @@ pub returns-then-ahead-clause-message : goal.returns-then-ahead-clause-message
 returns-then-ahead-clause-message c = λ scenario past is m stands named.
     let kept = subst (IsNodeOf scenario past) (sym c.self.view_is) is in
     let i = c.args.self.now.node in
-    let ours =
-    subst (λ k. IsTotcanOf scenario k past (backlog scenario c.self.inside.node past) (asked scenario c.self.inside.node past) c.self.inside.totcan) (sym kept.totcan.limits.node) kept.totcan in
+    let ours = totcan_now scenario past _ kept in
     let closing = c.ahead.ensures.message scenario past _ _ m ours stands named in
     closing ∙ closing_ahead (has_timer_ahead scenario m i past) (has_closing_ahead scenario m i past) (sym closing ∙ c.if-ahead.true)
 
 pub returns-then-ahead-clause-no_message : goal.returns-then-ahead-clause-no_message
 returns-then-ahead-clause-no_message c = λ scenario past is none.
     let kept = subst (IsNodeOf scenario past) (sym c.self.view_is) is in
-    let ours =
-    subst (λ k. IsTotcanOf scenario k past (backlog scenario c.self.inside.node past) (asked scenario c.self.inside.node past) c.self.inside.totcan) (sym kept.totcan.limits.node) kept.totcan in
+    let ours = totcan_now scenario past _ kept in
     c.ahead.ensures.no_message scenario past _ _ ours none
 
 pub returns-else-ahead-clause-message : goal.returns-else-ahead-clause-message
 returns-else-ahead-clause-message c = λ scenario past is m stands named.
     let kept = subst (IsNodeOf scenario past) (sym c.self.view_is) is in
     let i = c.args.self.now.node in
-    let ours =
-    subst (λ k. IsTotcanOf scenario k past (backlog scenario c.self.inside.node past) (asked scenario c.self.inside.node past) c.self.inside.totcan) (sym kept.totcan.limits.node) kept.totcan in
-    let his = subst (λ k. IsRelcanOf scenario k past c.self.inside.relcan) (sym kept.relcan.limits.node) kept.relcan in
+    let ours = totcan_now scenario past _ kept in
+    let his = relcan_now scenario past _ kept in
     let closing = c.ahead.ensures.message scenario past _ _ m ours stands named in
     c.ahead-else-ahead.ensures.message scenario past m his stands named
     ∙ ap (λ k. has_timer_ahead scenario m k past) (kept.relcan.limits.node ∙ ap (λ (v : NodeParts). v.node) c.self.view_is)
@@ -49,5 +44,5 @@ returns-else-ahead-clause-message c = λ scenario past is m stands named.
 pub returns-else-ahead-clause-no_message : goal.returns-else-ahead-clause-no_message
 returns-else-ahead-clause-no_message c = λ scenario past is none.
     let kept = subst (IsNodeOf scenario past) (sym c.self.view_is) is in
-    let his = subst (λ k. IsRelcanOf scenario k past c.self.inside.relcan) (sym kept.relcan.limits.node) kept.relcan in
+    let his = relcan_now scenario past _ kept in
     c.ahead-else-ahead.ensures.no_message scenario past his none

@@ -1,10 +1,8 @@
 use Rattle.std.proofs.Common.{ap, ◌∙◌, sym, subst}
-use Rattle.cany_model.specs.Rules.Backlog.{asked, backlog}
 use Rattle.cany_model.specs.Rules.Relcan.{has_timer_ahead}
-use Rattle.cany_relcan.specs.Relcan.{IsRelcanOf}
-use Rattle.cany_totcan.specs.Totcan.{IsTotcanOf}
 use Rattle.cany_node.specs.Node.{NodeParts, IsNodeOf}
 use Rattle.cany_node.proofs.AheadFacts.{of_edcan, of_relcan, of_totcan}
+use Rattle.cany_node.proofs.OwnNode.{relcan_now, totcan_now}
 use Rattle.cany_node.proofs.node.Node.ahead_by.Goals as goal
 
 pub returns-in-Ed : goal.returns-in-Ed
@@ -14,7 +12,7 @@ pub returns-in-Rel : goal.returns-in-Rel
 returns-in-Rel c = λ scenario past is m stands named by.
     let kept = subst (IsNodeOf scenario past) (sym c.self.view_is) is in
     let i = c.args.self.now.node in
-    let his = subst (λ k. IsRelcanOf scenario k past c.self.inside.relcan) (sym kept.relcan.limits.node) kept.relcan in
+    let his = relcan_now scenario past _ kept in
     c.ahead.ensures.message scenario past m his stands named
     ∙ ap (λ k. has_timer_ahead scenario m k past) (kept.relcan.limits.node ∙ ap (λ (v : NodeParts). v.node) c.self.view_is)
     ∙ of_relcan scenario m i past (by ∙ c.in-Rel.is)
@@ -23,6 +21,5 @@ pub returns-in-Tot : goal.returns-in-Tot
 returns-in-Tot c = λ scenario past is m stands named by.
     let kept = subst (IsNodeOf scenario past) (sym c.self.view_is) is in
     let i = c.args.self.now.node in
-    let ours =
-    subst (λ k. IsTotcanOf scenario k past (backlog scenario c.self.inside.node past) (asked scenario c.self.inside.node past) c.self.inside.totcan) (sym kept.totcan.limits.node) kept.totcan in
+    let ours = totcan_now scenario past _ kept in
     c.ahead-in-Tot.ensures.message scenario past _ _ m ours stands named ∙ of_totcan scenario m i past (by ∙ c.in-Tot.is)

@@ -25,10 +25,7 @@ apply_called-requires c =
     c.args.ctl.now c.args.out.now c.requires.acts c.self.invariant.few)
 
 pub invariant_of-self : goal.invariant_of-self
-invariant_of-self c = record {
-  few = c.self.invariant.few;
-  idle_until = idle_after _ c.args.notice.now _ _ _ _ c.self.view_is c.requires.acts c.self.invariant.idle_until _ _ _ _;
-}
+invariant_of-self c = record { few = c.self.invariant.few; idle_until = idle_after _ c.args.notice.now _ _ _ _ c.self.view_is c.requires.acts c.self.invariant.idle_until _ _ _ _ }
 
 pub returns-else-notice-wake : goal.returns-else-notice-wake
 returns-else-notice-wake c =

@@ -3,7 +3,7 @@ use Rattle.cany_base.proofs.ParamsFacts.{few_slots}
 use Rattle.cany_node.specs.Membership.{IsNextOf}
 use Rattle.cany_node.specs.Node.{IsNodeOf, NodeParts}
 use Rattle.cany_node.proofs.ActSteps.{acted_cleared, listed_acted, listed_apply}
-use Rattle.cany_node.proofs.Idle.IdleTurn.{totcan_now}
+use Rattle.cany_node.proofs.OwnNode.{totcan_now}
 use Rattle.cany_node.proofs.RoomsSuffice.{actions_within}
 use Rattle.cany_node.proofs.TotcanAndLifeTurn.{totcan_and_life_turn}
 use Rattle.cany_node.proofs.node.Node.follow_totcan_and_life.Goals as goal

@@ -1,13 +1,10 @@
 -- The turn is the notice, and then the timer that ends in it.
 use Rattle.std.proofs.Common.{◌++◌, ap, ◌∙◌}
-use Rattle.cany_relcan.proofs.EndFacts.{can_end, ended_stands, turn_actions}
+use Rattle.cany_relcan.proofs.EndFacts.{can_end_after, ended_stands, turn_actions}
 use Rattle.cany_relcan.proofs.relcan.Relcan.on.Goals as goal
 
 pub end_timer-requires-clause-takes : goal.end_timer-requires-clause-takes
-end_timer-requires-clause-takes c =
-    let reads = c.requires.reads in
-    can_end reads.scenario c.args.self.now.node c.args.notice.now.slot c.args.notice.now.kind reads.past c.on_notice-calls.new.self
-    (c.on_notice-calls.ensures.stands reads.scenario reads.past reads.stands reads.next) reads.next.slot
+end_timer-requires-clause-takes c = can_end_after c.args.self.now c.on_notice-calls.new.self c.args.notice.now c.requires.reads c.on_notice-calls.ensures.stands
 
 pub returns-clause-actions : goal.returns-clause-actions
 returns-clause-actions c = λ scenario past h next.

@@ -1,9 +1,13 @@
 -- A notice, before what closes and what is delivered in its turn.
-use Rattle.std.proofs.Common.{◌≡◌, ◌++◌, ◌&&◌, true, ap, sym, ◌∙◌, arith}
+use Rattle.std.proofs.Common.{◌≡◌, ◌++◌, ◌&&◌, ℕ, List, false, true, ap, sym, ◌∙◌, arith}
 use Rattle.std.proofs.lemmas.Bool.{and_parts}
+use Rattle.cany_base.specs.declared.actions.Action.{Action}
 use Rattle.cany_base.specs.declared.class.Class.TheVariants as class
 use Rattle.cany_base.specs.declared.message.Service.TheVariants as service
-use Rattle.cany_base.specs.declared.notice.NoticeKind.TheVariants.{Got}
+use Rattle.cany_base.specs.declared.notice.NoticeKind.{NoticeKind}
+use Rattle.cany_base.specs.declared.notice.NoticeKind.TheVariants.{Got, Sent}
+use Rattle.cany_base.specs.Frame.{FrameParts}
+use Rattle.cany_base.specs.Scenario.{ScenarioParts}
 use Rattle.cany_diffuse.specs.declared.learnt.Learnt.{Learnt}
 use Rattle.cany_diffuse.specs.Eager.{learnt_of}
 use Rattle.cany_message.specs.Actions.{relay_actions}
@@ -11,12 +15,18 @@ use Rattle.cany_message.proofs.DeliveryFacts.{no_actions}
 use Rattle.cany_message.proofs.NoticeFacts.{got_names, got_small, sent_names}
 use Rattle.cany_model.specs.Bus.Frames.{same_class}
 use Rattle.cany_model.proofs.Bus.Identities.{same_class-true}
-use Rattle.cany_model.specs.Rules.Totcan.{message_in}
+use Rattle.cany_model.specs.Rules.Actions.{actions_of}
+use Rattle.cany_model.specs.Rules.Totcan.{accept_effects, message_in}
 use Rattle.cany_totcan.specs.Acceptances.{noted_of}
 use Rattle.cany_totcan.specs.Totcan.{HasHeard}
 use Rattle.cany_totcan.specs.TotcanSteps.{has_open}
 use Rattle.cany_totcan.proofs.HeardFacts.{can_hold, got_accepts, heard_acceptance, heard_bad, heard_got, heard_got_other, heard_idle, heard_own_acceptance, heard_sent, heard_sent_other, nothing_bad, nothing_data, nothing_got, nothing_idle, nothing_sent, open_now, origin_is, relay_is, sent_accepts}
 use Rattle.cany_totcan.proofs.totcan.Totcan.hear.Goals as goal
+
+-- nothing is done at a frame of the node's own that is no data frame
+sent_acts : (scenario : ScenarioParts) (i : ℕ) (f : FrameParts) (before : List NoticeKind) (out : List Action) → same_class f.class class.Tot ≡ false
+    → out ≡ out ++ actions_of scenario.params.format (accept_effects scenario.params i (Sent f) before)
+sent_acts scenario i f before out other = no_actions scenario.params.format out _ (nothing_sent scenario i f before other)
 
 -- ---- what the parts require
 
@@ -121,9 +131,7 @@ returns-then-accepts_open-2-clause-stands c = λ scenario past messages count h 
 
 pub returns-then-accepts_open-2-clause-actions : goal.returns-then-accepts_open-2-clause-actions
 returns-then-accepts_open-2-clause-actions c = λ scenario past messages count h next.
-    rw c.in-Sent.is
-    (no_actions scenario.params.format c.args.out.now.items _
-    (nothing_sent scenario c.args.self.now.node c.in-Sent.frame past (sym c.is_of_class-in-Sent.ensures ∙ c.if-is_of_class-2.false)))
+    rw c.in-Sent.is (sent_acts scenario c.args.self.now.node c.in-Sent.frame past c.args.out.now.items (sym c.is_of_class-in-Sent.ensures ∙ c.if-is_of_class-2.false))
 
 -- ---- any other frame
 
@@ -148,9 +156,7 @@ returns-else-accepts_open-2-clause-stands c = λ scenario past messages count h 
 
 pub returns-else-accepts_open-2-clause-actions : goal.returns-else-accepts_open-2-clause-actions
 returns-else-accepts_open-2-clause-actions c = λ scenario past messages count h next.
-    rw c.in-Sent.is
-    (no_actions scenario.params.format c.args.out.now.items _
-    (nothing_sent scenario c.args.self.now.node c.in-Sent.frame past (sym c.is_of_class-in-Sent.ensures ∙ c.if-is_of_class-2.false)))
+    rw c.in-Sent.is (sent_acts scenario c.args.self.now.node c.in-Sent.frame past c.args.out.now.items (sym c.is_of_class-in-Sent.ensures ∙ c.if-is_of_class-2.false))
 
 -- ---- no frame
 

@@ -38,16 +38,12 @@ returns-clause-few c =
 
 pub returns-clause-actions : goal.returns-clause-actions
 returns-clause-actions c = λ scenario past messages count h next.
+    let gone = subst (λ (w : TotcanParts). HaveGone c.args.notice.now.slot w c.deliver_done.new.self c.close.new.out.items c.deliver_done.new.out.items) c.close.ensures.state c.deliver_done.ensures.gone in
     turn_actions scenario c.args.self.now.node c.args.notice.now.kind past messages count c.hear.new.self (c.hear.ensures.stands scenario past messages count h next)
-    c.args.notice.now.slot next.slot c.close.new.self.acceptances c.close.ensures.noted c.close.new.self.deliveries c.close.ensures.added c.deliver_done.new.self c.close.new.out.items c.deliver_done.new.out.items
-    (subst (λ (w : TotcanParts). HaveGone c.args.notice.now.slot w c.deliver_done.new.self c.close.new.out.items c.deliver_done.new.out.items) c.close.ensures.state
-    c.deliver_done.ensures.gone)
-    c.deliver_done.ensures.all c.hear.new.out.items c.args.out.now.items (c.hear.ensures.actions scenario past messages count h next) c.close.ensures.actions
+    c.args.notice.now.slot next.slot c.close.new.self.acceptances c.close.ensures.noted c.close.new.self.deliveries c.close.ensures.added c.deliver_done.new.self c.close.new.out.items c.deliver_done.new.out.items gone c.deliver_done.ensures.all c.hear.new.out.items c.args.out.now.items (c.hear.ensures.actions scenario past messages count h next) c.close.ensures.actions
 
 pub returns-clause-stands : goal.returns-clause-stands
 returns-clause-stands c = λ scenario past messages count h next.
+    let gone = subst (λ (w : TotcanParts). HaveGone c.args.notice.now.slot w c.deliver_done.new.self c.close.new.out.items c.deliver_done.new.out.items) c.close.ensures.state c.deliver_done.ensures.gone in
     turn_stands scenario c.args.self.now.node c.args.notice.now.kind past messages count c.hear.new.self (c.hear.ensures.stands scenario past messages count h next)
-    c.args.notice.now.slot next.slot c.close.new.self.acceptances c.close.ensures.noted c.close.new.self.deliveries c.close.ensures.added c.deliver_done.new.self c.close.new.out.items c.deliver_done.new.out.items
-    (subst (λ (w : TotcanParts). HaveGone c.args.notice.now.slot w c.deliver_done.new.self c.close.new.out.items c.deliver_done.new.out.items) c.close.ensures.state
-    c.deliver_done.ensures.gone)
-    c.deliver_done.ensures.all
+    c.args.notice.now.slot next.slot c.close.new.self.acceptances c.close.ensures.noted c.close.new.self.deliveries c.close.ensures.added c.deliver_done.new.self c.close.new.out.items c.deliver_done.new.out.items gone c.deliver_done.ensures.all

@@ -1,34 +1,36 @@
-use Rattle.std.proofs.Common.{subst, sym, ◌∙◌}
+use Rattle.std.proofs.Common.{◌≡◌, ◌<◌, true, subst, sym, ◌∙◌}
+use Rattle.cany_base.specs.declared.class.Class.TheVariants as class
+use Rattle.cany_base.specs.declared.notice.Notice.{Notice}
+use Rattle.cany_base.specs.declared.notice.NoticeKind.TheVariants.{Got, Sent}
+use Rattle.cany_base.specs.Frame.{FrameParts}
+use Rattle.cany_model.specs.Bus.Frames.{same_class}
 use Rattle.cany_model.specs.Rules.Notices.{IsReadable}
-use Rattle.cany_views.proofs.HeardFacts.{bad_asks, got_join, got_leave, got_other, idle_asks, sent_leave, sent_other}
-use Rattle.cany_views.proofs.HeardFacts.{joiner_near, leaver_near}
+use Rattle.cany_views.specs.Views.{CanHear, ViewsParts}
+use Rattle.cany_views.proofs.HeardFacts.{bad_asks, got_join, got_leave, got_other, idle_asks, joiner_near, leaver_near, sent_leave, sent_other}
 use Rattle.cany_views.proofs.views.Views.hear.Goals as goal
 
 -- ---- who asks is a node of the bus
 
+module _ (v : ViewsParts) (notice : Notice) (can : CanHear v notice) (f : FrameParts) where
+  joiner_got : notice.kind ≡ Got f → same_class f.class class.Join ≡ true → f.node < v.params.nodes
+  joiner_got is join = joiner_near can.scenario v.node can.knowledge v can.stands notice.slot f (subst (IsReadable can.scenario notice.slot) is can.readable) join
+
+  leaver_got : notice.kind ≡ Got f → same_class f.class class.Leave ≡ true → f.node < v.params.nodes
+  leaver_got is leave = leaver_near can.scenario v.node can.knowledge v can.stands notice.slot f (subst (IsReadable can.scenario notice.slot) is can.readable) leave
+
+  leaver_sent : notice.kind ≡ Sent f → same_class f.class class.Leave ≡ true → f.node < v.params.nodes
+  leaver_sent is leave = leaver_near can.scenario v.node can.knowledge v can.stands notice.slot f (subst (IsReadable can.scenario notice.slot) is can.readable) leave
+
 pub hear_join-requires : goal.hear_join-requires
-hear_join-requires c =
-    let can = c.requires in
-    let slot = c.args.notice.now.slot in
-    joiner_near can.scenario c.args.self.now.node can.knowledge c.args.self.now can.stands slot c.in-Got.frame
-    (subst (IsReadable can.scenario slot) c.in-Got.is can.readable)
-    (sym c.is_of_class.ensures ∙ c.if-is_of_class.true)
+hear_join-requires c = joiner_got c.args.self.now c.args.notice.now c.requires c.in-Got.frame c.in-Got.is (sym c.is_of_class.ensures ∙ c.if-is_of_class.true)
 
 pub hear_leave-requires : goal.hear_leave-requires
 hear_leave-requires c =
-    let can = c.requires in
-    let slot = c.args.notice.now.slot in
-    leaver_near can.scenario c.args.self.now.node can.knowledge c.args.self.now can.stands slot c.in-Got.frame
-    (subst (IsReadable can.scenario slot) c.in-Got.is can.readable)
-    (sym c.is_of_class-else-is_of_class.ensures ∙ c.if-is_of_class-2.true)
+    leaver_got c.args.self.now c.args.notice.now c.requires c.in-Got.frame c.in-Got.is (sym c.is_of_class-else-is_of_class.ensures ∙ c.if-is_of_class-2.true)
 
 pub hear_leave-requires-then-is_of_class-3 : goal.hear_leave-requires-then-is_of_class-3
 hear_leave-requires-then-is_of_class-3 c =
-    let can = c.requires in
-    let slot = c.args.notice.now.slot in
-    leaver_near can.scenario c.args.self.now.node can.knowledge c.args.self.now can.stands slot c.in-Sent.frame
-    (subst (IsReadable can.scenario slot) c.in-Sent.is can.readable)
-    (sym c.is_of_class-in-Sent.ensures ∙ c.if-is_of_class-3.true)
+    leaver_sent c.args.self.now c.args.notice.now c.requires c.in-Sent.frame c.in-Sent.is (sym c.is_of_class-in-Sent.ensures ∙ c.if-is_of_class-3.true)
 
 -- ---- what is got
 
