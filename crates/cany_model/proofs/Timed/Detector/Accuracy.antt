@@ -36,7 +36,7 @@ use Rattle.cany_model.proofs.Bus.Identities.{same_class-true}
 use Rattle.cany_model.proofs.Bus.Notes.{given-Got, note_of-offered}
 use Rattle.cany_model.proofs.Runs.Runs.{IsOrderly, opening_within, orderly}
 use Rattle.cany_model.proofs.Bus.States.{node_at-opening, runs_within}
-use Rattle.cany_model.proofs.Runs.Steps.{MayTurn, after_slot-trace, after_slot-unread, after_slot-waiting, after_turn-other, after_turn-runs, after_turn-trace, running_before_slot}
+use Rattle.cany_model.proofs.Runs.Steps.{MayTurn, after_slot-trace, after_slot-unread, after_slot-waiting, after_turn-trace, running_before_slot, each_turned}
 use Rattle.cany_model.proofs.Runs.Waits.{Asks, AsksOnly, Each-after, Each-kept}
 use Rattle.cany_model.proofs.Promises.Diffusion.{Turned, past_of}
 use Rattle.cany_model.proofs.Promises.EachNode.{turn_turned}
@@ -252,18 +252,8 @@ no_sign_turn scenario r s o all i may heard h =
     (turn_asks_none scenario i r (past_of i s.trace after) now) (h.waits i may.running)) in
     record {
       carried = subst (AllByRecursion (NoFrameIn r)) (sym (after_turn-trace scenario i s)) h.carried;
-      waits = λ j running. elim (cases_eq j i) [
-        | inl same ↦ subst (λ m. AllByRecursion (NoFrame r) (node_at (after_turn scenario i s).nodes m).waiting) (sym same) waits
-        | inr other ↦ rw (after_turn-other scenario i s j other) (h.waits j (sym (after_turn-runs scenario i s j may (o.unread i)) ∙ running))
-      ];
-      unsigned = λ j running.
-          subst (λ trace. IsUnsigned r (knowledge_of scenario j (past_of j trace (node_at (after_turn scenario i s).nodes j))))
-          (sym (after_turn-trace scenario i s))
-          (elim (cases_eq j i) [
-            | inl same ↦
-                subst (λ m. IsUnsigned r (knowledge_of scenario m (past_of m s.trace (node_at (after_turn scenario i s).nodes m)))) (sym same) now
-            | inr other ↦ rw (after_turn-other scenario i s j other) (h.unsigned j (sym (after_turn-runs scenario i s j may (o.unread i)) ∙ running))
-          ]);
+      waits = each_turned scenario i s may (o.unread i) (λ trace j (n : NodeState). AllByRecursion (NoFrame r) n.waiting) waits h.waits;
+      unsigned = each_turned scenario i s may (o.unread i) (λ trace j n. IsUnsigned r (knowledge_of scenario j (past_of j trace n))) now h.unsigned;
     }
 
 -- ---- a running node is not silent for another

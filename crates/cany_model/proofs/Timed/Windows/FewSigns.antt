@@ -1,7 +1,7 @@
 -- Few life signs: each node, whatever its incarnations, sends at most one in any bound + lag consecutive slots.
 use Rattle.std.proofs.Common.{◌≡◌, ℕ, zero, suc, ◌+◌, ◌-◌, ◌<◌, ◌≤◌, ◌⊎◌, ◌==◌, inl, inr, Bool, true, false, List, [], ◌∷◌, ◌++◌, Contains, count_by, drop, length, take, refl, ap, sym, ◌∙◌, subst, arith, length-drop}
 use Rattle.std.specs.List.{AllByRecursion}
-use Rattle.std.proofs.lemmas.Bool.{and_from, and_parts, cases_Bool, cases_eq, eq-eqb, false≢true}
+use Rattle.std.proofs.lemmas.Bool.{and_from, and_parts, cases_Bool, eq-eqb, false≢true}
 use Rattle.std.proofs.lemmas.List.{append-nil, append_assoc, length-map}
 use Rattle.std.proofs.lemmas.List.Elements.{All-contains, All-from_recursion, All-tail}
 use Rattle.cany_base.specs.declared.class.Class.TheVariants as class
@@ -34,7 +34,7 @@ use Rattle.cany_model.proofs.Bus.Restarts.{after_restarts-trace, restarts_or_sta
 use Rattle.cany_model.proofs.Runs.Runs.{IsOrderly, MaySlot, opening_within, orderly, slot_done, turn_done}
 use Rattle.cany_model.proofs.Bus.Seen.{length-seen}
 use Rattle.cany_model.proofs.Bus.States.{no_note, node_at-opening, note_at, runs_within}
-use Rattle.cany_model.proofs.Runs.Steps.{MayTurn, after_slot-present, after_slot-trace, after_slot-unread, after_turn-node, after_turn-other, after_turn-present, after_turn-runs, after_turn-trace, running_before_slot}
+use Rattle.cany_model.proofs.Runs.Steps.{MayTurn, after_slot-present, after_slot-trace, after_slot-unread, after_turn-node, after_turn-present, after_turn-trace, running_before_slot, each_turned}
 use Rattle.cany_model.proofs.Runs.Waits.{Each-kept}
 use Rattle.cany_model.proofs.Promises.Diffusion.{Lived, Turned, past_of}
 use Rattle.cany_model.proofs.Promises.EachNode.{EachRunning, IsNodes, each_running, slot_lived, turn_turned}
@@ -342,13 +342,7 @@ signs_turn : (scenario : ScenarioParts) → MeetsFormulas scenario.params → (s
 signs_turn scenario formulas s i may o few h = record {
   signers = subst (AllByRecursion (HasSigner scenario.params.nodes)) (sym (after_turn-trace scenario i s)) h.signers;
   apart = subst (Apart scenario.params) (sym (after_turn-trace scenario i s)) h.apart;
-  nodes = λ j running.
-      subst (λ trace. SignNode scenario trace j (node_at (after_turn scenario i s).nodes j)) (sym (after_turn-trace scenario i s))
-      (elim (cases_eq j i) [
-        | inl same ↦ subst (λ m. SignNode scenario s.trace m (node_at (after_turn scenario i s).nodes m)) (sym same) own
-        | inr other ↦
-            rw (after_turn-other scenario i s j other) (h.nodes j (sym (after_turn-runs scenario i s j may (o.unread i)) ∙ running))
-      ]);
+  nodes = each_turned scenario i s may (o.unread i) (SignNode scenario) own h.nodes;
 }
   where
     own : SignNode scenario s.trace i (node_at (after_turn scenario i s).nodes i)
