@@ -44,20 +44,14 @@ kept_cases (Got f) w v e = inl e
 kept_cases (Sent f) w v e = inr (f, refl, e)
 kept_cases Bad w v e = inl e
 
-pub clean_success : (v : Verdict) → v ≡ Clean → is_success v ≡ true
-clean_success v e = rw e refl
-
-clean_lets : (v : Verdict) (i : ℕ) → v ≡ Clean → lets_accept v i ≡ true
-clean_lets v i e = rw e refl
-
 slot_heard : (rules : FaultScript) (s : RunState) (i : ℕ) → runs (node_at s.nodes i) ≡ true → Heard i (slot_note_of rules s)
 slot_heard rules s i running = record {
   accepts = λ f got.
       let parts = given-Got i (slot_note_of rules s) f got in
       (taker_accepts rules s f i parts.0 parts.2).1;
   clean = λ few f frame clean. elim (cases_Bool (has (slot_note_of rules s).senders i)) [
-    | inl sent ↦ inr (given_sender i (slot_note_of rules s) f frame sent (clean_success (slot_note_of rules s).verdict clean))
-    | inr silent ↦ inl (given_taker i (slot_note_of rules s) f frame silent (running_takes rules s f i few frame running silent (clean_lets (slot_note_of rules s).verdict i clean)))
+    | inl sent ↦ inr (given_sender i (slot_note_of rules s) f frame sent (ap is_success clean))
+    | inr silent ↦ inl (given_taker i (slot_note_of rules s) f frame silent (running_takes rules s f i few frame running silent (ap (λ v. lets_accept v i) clean)))
   ];
 }
 

@@ -38,6 +38,7 @@ use Rattle.cany_model.proofs.Runs.Steps.{MayTurn, after_slot-present, after_slot
 use Rattle.cany_model.proofs.Runs.Waits.{Each-kept}
 use Rattle.cany_model.proofs.Promises.Diffusion.{Lived, Turned, past_of}
 use Rattle.cany_model.proofs.Promises.EachNode.{EachRunning, IsNodes, each_running, slot_lived, turn_turned}
+use Rattle.cany_model.proofs.Promises.FewLifeSigns.{last_life}
 use Rattle.cany_model.proofs.Promises.OwnSlotsAlone.{AllWaitForOwnSlots, own_slots_alone_run, sent_plain}
 use Rattle.cany_model.proofs.Promises.FewLifeSignsWaiting.{IsOwnSign, turn_idle, turn_more, turn_numbers}
 use Rattle.cany_model.proofs.Promises.SignCounts.{is_els, sent_one}
@@ -131,15 +132,11 @@ few_here p trace signers apart newest =
 
 -- ---- what is kept
 
--- the slot of the last life of node i, where its incarnation has read this
-abbrev last_of : ScenarioParts → Incarnation → ℕ → List NoticeKind → ℕ
-last_of scenario inc i read = (knowledge_of (scenario_for scenario inc) i read).last
-
 -- of a running node, by the whole trace
 abbrev SignNode : ScenarioParts → List SlotNote → ℕ → NodeState → Type 0
 SignNode scenario trace i node =
     let own = seen node.present trace in
-    let last : ℕ = last_of scenario node.present i (past_of i own node) in
+    let last : ℕ = last_life scenario node.present i (past_of i own node) in
     NodeSigns scenario.params i trace own node.unread last (count_by is_els node.waiting)
 
 record SignsKept (scenario : ScenarioParts) (s : RunState) : Type 0 where
@@ -161,10 +158,10 @@ sign_slot scenario note trace i node after same unread l top lag h =
     let inc = node.present in
     let own = seen inc trace in
     let shown = as_seen inc note in
-    let last : ℕ = last_of scenario inc i (past_of i own node) in
+    let last : ℕ = last_life scenario inc i (past_of i own node) in
     let seen_same : seen after.present (note ∷ trace) ≡ shown ∷ own = ap (λ (k : Incarnation). seen k (note ∷ trace)) same in
-    let last_same : last_of scenario after.present i (past_of i (seen after.present (note ∷ trace)) after) ≡ last =
-    ap (λ (k : Incarnation). last_of scenario k i (past_of i (seen k (note ∷ trace)) after)) same ∙ ap (last_of scenario inc i) l.past in
+    let last_same : last_life scenario after.present i (past_of i (seen after.present (note ∷ trace)) after) ≡ last =
+    ap (λ (k : Incarnation). last_life scenario k i (past_of i (seen k (note ∷ trace)) after)) same ∙ ap (last_life scenario inc i) l.past in
     signs_as scenario.params i (note ∷ trace) seen_same unread last_same
     (slot_signs scenario.params i note shown trace own node.unread last (count_by is_els node.waiting) (count_by is_els after.waiting)
     top (sent_one shown own i node after l) lag h)
@@ -178,11 +175,11 @@ sign_turn scenario formulas trace i node after same unread there t few h =
     let sc : ScenarioParts = scenario_for scenario inc in
     let own = seen inc trace in
     let before = past_of i own node in
-    let last : ℕ = last_of scenario inc i before in
-    let now : ℕ = last_of scenario inc i (t.notice ∷ before) in
+    let last : ℕ = last_life scenario inc i before in
+    let now : ℕ = last_life scenario inc i (t.notice ∷ before) in
     let seen_same : seen after.present trace ≡ own = ap (λ (k : Incarnation). seen k trace) same in
-    let last_same : last_of scenario after.present i (past_of i (seen after.present trace) after) ≡ now =
-    ap (λ (k : Incarnation). last_of scenario k i (past_of i (seen k trace) after)) same ∙ ap (last_of scenario inc i) t.past in
+    let last_same : last_life scenario after.present i (past_of i (seen after.present trace) after) ≡ now =
+    ap (λ (k : Incarnation). last_life scenario k i (past_of i (seen k trace) after)) same ∙ ap (last_life scenario inc i) t.past in
     let size : length before + node.unread ≡ length trace =
     let l = length-map (drop node.unread own) (given i) ∙ length-drop node.unread own in
     omega (arith, l, length-seen inc trace, there) in
@@ -203,7 +200,7 @@ sign_turn scenario formulas trace i node after same unread there t few h =
     ])
     (λ a from s.
     let since = last_since sc i own after.unread a from s in
-    let read : last_of scenario inc i (past i own after.unread) ≡ now = ap (last_of scenario inc i) t.past in
+    let read : last_life scenario inc i (past i own after.unread) ≡ now = ap (last_life scenario inc i) t.past in
     omega (arith, since, read, length-seen inc trace))
     older)
 
