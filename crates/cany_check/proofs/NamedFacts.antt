@@ -11,9 +11,8 @@ use Rattle.cany_base.specs.Cycles.{cycle_of}
 use Rattle.cany_base.specs.Limits.{most_numbers}
 use Rattle.cany_base.specs.Scenario.{IsAskOf, IsLegalScenario, ScenarioParts}
 use Rattle.cany_model.specs.Bus.Frames.{Identity, same_identity}
-use Rattle.cany_model.specs.Rules.Knowledge.{FailureSign, fda_frame}
 use Rattle.cany_model.proofs.Bus.Identities.{same_identity_self}
-use Rattle.cany_model.proofs.Rules.NumberFacts.{belongs_small}
+use Rattle.cany_model.proofs.Rules.NumberFacts.{cycle_small}
 use Rattle.cany_check.specs.declared.unused_asks.Asks.{Asks}
 use Rattle.cany_check.specs.declared.unused_asks.Asks.TheVariants.{Joins, Leaves}
 use Rattle.cany_check.specs.Asks.{ask_class, asks_of}
@@ -66,15 +65,6 @@ module _ (scenario : ScenarioParts) where
       asks_named kind x (ap (λ l. is_asked scenario.params (ask_class kind) l x) (sym e) ∙ asked_here scenario (ask_class kind) asks i ask below at)
 
 -- ---- numbers of cycles
-
-pub cycle_small : (scenario : ScenarioParts) → IsLegalScenario scenario → (slot : ℕ) → slot < scenario.params.slots → cycle_of scenario.params slot < most_numbers
-cycle_small scenario legal slot within =
-    let sign : FailureSign = record { node = 0; cycle = cycle_of scenario.params slot } in
-    let small = belongs_small scenario slot (fda_frame sign) legal within (record {
-      node = omega (arith, legal.in_range.nodes.0);
-      number = omega arith;
-    }) in
-    small.number
 
 pub cycles_small : (scenario : ScenarioParts) → IsLegalScenario scenario → (asks : List NodeAsk) → All (IsAskOf scenario.params) asks
     → All (λ ask. cycle_of scenario.params ask.slot < most_numbers) asks

@@ -31,8 +31,9 @@ use Rattle.cany_model.proofs.Bus.Carried.{Carries}
 use Rattle.cany_model.proofs.Bus.Identities.{same_class-true}
 use Rattle.cany_model.proofs.Promises.Firsts.{first_is_first}
 use Rattle.cany_model.proofs.Promises.OwnSlotsAlone.{run_numbered}
-use Rattle.cany_model.proofs.Promises.Sources.{IsSent, carries_data, sourced}
+use Rattle.cany_model.proofs.Promises.Sources.{IsSent, sourced}
 use Rattle.cany_model.proofs.Rules.MessageKeys.{same_message}
+use Rattle.cany_model.proofs.Rules.ProtocolFacts.{is_data}
 use Rattle.cany_model.proofs.Runs.Runs.{orderly}
 use Rattle.cany_check.specs.declared.record.MessageRecord.{MessageRecord}
 use Rattle.cany_check.specs.declared.record.Slots.{Slots}
@@ -142,7 +143,7 @@ module _ (scenario : ScenarioParts) (journal : List Step) (few : scenario.params
   -- a data frame of TOTCAN is that of the message that its number and node name
   module _ (note : SlotNote) (f : FrameParts) (stands : Contains s.trace note) (frame : note.frame ≡ Some f) (tot : f.class ≡ class.Tot) where
     sent : IsSent scenario s.trace f note.slot
-    sent = (sourced scenario journal few).carried note f stands frame (ap carries_data tot)
+    sent = (sourced scenario journal few).carried note f stands frame (ap is_data tot)
 
     carries_it : (m : Message) → Among (λ y. y ≡ m) (messages_of scenario.sends) → message_key m ≡ message_in f → Carries (data_id m) note
     carries_it m among named =

@@ -14,7 +14,7 @@ use Rattle.cany_base.specs.declared.step.Step.{Step}
 use Rattle.cany_base.specs.declared.step.Step.TheVariants.{Slot, Turn}
 use Rattle.cany_base.specs.Params.{default_parameters}
 use Rattle.cany_base.specs.Scenario.{ScenarioParts}
-use Rattle.cany_model.proofs.RowWords.{run_words, scenario_of}
+use Rattle.cany_model.proofs.RowWords.{run_words, scenario_of, after_rounds, after_rounds_is}
 use Rattle.cany_model.specs.declared.breaks.Break.{Break}
 use Rattle.cany_model.specs.Bus.History.{ended_history}
 use Rattle.cany_model.specs.Bus.State.{EndedIncarnation, RunState, opening}
@@ -24,9 +24,8 @@ use Rattle.cany_model.specs.Promises.Order.{order_by}
 use Rattle.cany_model.specs.Promises.Settled.{is_settled}
 use Rattle.cany_model.specs.Rules.Messages.{Message}
 use Rattle.cany_model.specs.Runs.Incarnations.{incarnation_of, incarnations}
-use Rattle.cany_model.specs.Runs.RoundRobin.{round, round_robin, rounds}
-use Rattle.cany_model.specs.Runs.Run.{run, run_from}
-use Rattle.cany_model.proofs.Runs.Journals.{run_none, run_then}
+use Rattle.cany_model.specs.Runs.RoundRobin.{round_robin}
+use Rattle.cany_model.specs.Runs.Run.{run}
 use Rattle.cany_laws.specs.Logs.{log_as}
 -- ---- scenarios
 
@@ -93,17 +92,6 @@ seen_in ask sc s = record { broken = first_break sc.params s.trace; seen = ask s
 -- by a journal
 unfoldable pub seen_by : {A : Type 0} → (RunState → A) → ScenarioParts → List Step → Seen A
 seen_by ask sc journal = seen_in ask sc (run sc journal)
-
--- Where so many rounds lead. The round robin journal has the steps of the states to which its rounds lead, so the run of it computes each of them twice.
-unfoldable pub after_rounds : ScenarioParts → ℕ → RunState → RunState
-after_rounds sc zero s = s
-after_rounds sc (suc n) s = after_rounds sc n (run_from sc s (round sc s))
-
-after_rounds_is : (sc : ScenarioParts) (n : ℕ) (s : RunState) → after_rounds sc n s ≡ run_from sc s (rounds sc n s)
-unfolding after_rounds rounds
-after_rounds_is sc zero s = sym (run_none sc s)
-after_rounds_is sc (suc n) s =
-    after_rounds_is sc n (run_from sc s (round sc s)) ∙ sym (run_then sc s (round sc s) (rounds sc n (run_from sc s (round sc s))))
 
 -- by the round robin journal
 unfoldable pub seen_of : {A : Type 0} → (RunState → A) → ScenarioParts → Seen A

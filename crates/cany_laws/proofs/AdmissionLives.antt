@@ -20,7 +20,7 @@ use Rattle.cany_model.proofs.Runs.Runs.{orderly}
 use Rattle.cany_model.proofs.Runs.Steps.{MayTurn, after_slot-present, after_slot-trace, after_turn-present}
 use Rattle.cany_laws.specs.Logs.{IsIncarnation}
 use Rattle.cany_laws.proofs.EqualMembers.{first_read}
-use Rattle.cany_laws.proofs.Fronts.{after_slot-ended, after_turn-ended, along_rest, drop-map, pushed}
+use Rattle.cany_laws.proofs.Fronts.{after_slot-ended, after_turn-ended, drop-map, IsKeptOn, kept_on}
 use Rattle.cany_laws.proofs.Lives.{lived}
 use Rattle.cany_model.proofs.Timed.Views.StartViews.{front_split}
 
@@ -28,15 +28,13 @@ use Rattle.cany_model.proofs.Timed.Views.StartViews.{front_split}
 abbrev GoesOn : ℕ → Incarnation → ℕ → RunState → Type 0
 GoesOn i inc n s = Among (λ (e : EndedIncarnation). (e.incarnation ≡ inc) × (n ≤ e.next)) (incarnations s i)
 
-module _ (scenario : ScenarioParts) (i : ℕ) (there : i < scenario.params.nodes) (inc : Incarnation) (n : ℕ) where
-  by_turn : (journal : List Step) (next : Step) (j : ℕ) → MayTurn (run scenario journal) j
-      → run scenario (journal ++ next ∷ []) ≡ after_turn scenario j (run scenario journal) → GoesOn i inc n (run scenario journal)
-      → GoesOn i inc n (run scenario (journal ++ next ∷ []))
-  by_turn journal next j may is h =
+goes_on : (scenario : ScenarioParts) (i : ℕ) → i < scenario.params.nodes → (inc : Incarnation) (n : ℕ) → IsKeptOn scenario (GoesOn i inc n)
+goes_on scenario i there inc n = record {
+  turn = λ journal j may h.
       let s : RunState = run scenario journal in
       let o = orderly scenario journal in
       let to : RunState = after_turn scenario j s in
-      subst (GoesOn i inc n) (sym is) (elim h [
+      elim h [
         | inl now ↦ inl (
           after_turn-present scenario j s i may (o.unread j) ∙ now.0,
           elim (cases_eq i j) [
@@ -48,12 +46,8 @@ module _ (scenario : ScenarioParts) (i : ℕ) (there : i < scenario.params.nodes
         )
         | inr before ↦ inr (subst (Among (λ (e : EndedIncarnation). (e.incarnation ≡ inc) × (n ≤ e.next)))
             (sym (after_turn-ended scenario j s i may (o.unread j))) before)
-      ])
-
-  by_slot : (journal : List Step) (next : Step)
-      → run scenario (journal ++ next ∷ []) ≡ after_restarts scenario (after_slot (script scenario.rules) (run scenario journal))
-      → GoesOn i inc n (run scenario journal) → GoesOn i inc n (run scenario (journal ++ next ∷ []))
-  by_slot journal next is h =
+      ];
+  slot = λ journal may h.
       let s : RunState = run scenario journal in
       let rules : FaultScript = script scenario.rules in
       let slot : RunState = after_slot rules s in
@@ -65,7 +59,7 @@ module _ (scenario : ScenarioParts) (i : ℕ) (there : i < scenario.params.nodes
         | inr before ↦ inr (subst (Among (λ (e : EndedIncarnation). (e.incarnation ≡ inc) × (n ≤ e.next))) (sym ended) before)
       ] in
       let long : length slot.trace ≡ length s.trace + 1 = omega (arith, ap length (after_slot-trace rules s)) in
-      subst (GoesOn i inc n) (sym is) (elim (restarts_or_stays scenario slot i) [
+      elim (restarts_or_stays scenario slot i) [
         | inr stays ↦
             let same : incarnations slot i ≡ incarnations (after_restarts scenario slot) i =
             ap
@@ -81,14 +75,8 @@ module _ (scenario : ScenarioParts) (i : ℕ) (there : i < scenario.params.nodes
               | inl now ↦ inl (now.0, omega (arith, now.1, long))
               | inr before ↦ inr before
             ]))
-      ])
-
-  goes_on : (front rest : List Step) → GoesOn i inc n (run scenario front) → GoesOn i inc n (run scenario (front ++ rest))
-  goes_on = along_rest (λ journal. GoesOn i inc n (run scenario journal)) (λ journal next h. elim (pushed scenario journal next).is [
-    | inl refused ↦ subst (GoesOn i inc n) (sym refused) h
-    | inr (inl slot) ↦ by_slot journal next slot.1 h
-    | inr (inr turn) ↦ by_turn journal next turn.0 turn.1 turn.2 h
-  ])
+      ];
+}
 
 -- the incarnation of the whole run that ran after the front
 pub record WasPresent (scenario : ScenarioParts) (journal front : List Step) (i : ℕ) : Type 0 where
@@ -104,7 +92,7 @@ was_present scenario journal front rest whole i there =
     let inc : Incarnation = (node_at s.nodes i).present in
     let first : GoesOn i inc (reads s i) s = inl (refl, omega arith) in
     let last : GoesOn i inc (reads s i) (run scenario journal) =
-    subst (λ j. GoesOn i inc (reads s i) (run scenario j)) (sym whole) (goes_on scenario i there inc (reads s i) front rest first) in
+    subst (λ j. GoesOn i inc (reads s i) (run scenario j)) (sym whole) (kept_on scenario (GoesOn i inc (reads s i)) (goes_on scenario i there inc (reads s i)) front rest first) in
     let w = Among-which (λ (e : EndedIncarnation). (e.incarnation ≡ inc) × (reads s i ≤ e.next)) (incarnations (run scenario journal) i) last in
     record {
       life = w.0;

@@ -40,7 +40,7 @@ use Rattle.cany_model.proofs.Runs.Runs.{history-length, orderly}
 use Rattle.cany_model.proofs.Runs.Steps.{after_slot-trace, after_turn-trace}
 use Rattle.cany_model.proofs.Timed.Detector.VectorsAgreeOn.{FrameSays, Says, brings_says, met_says, none_says, some_says}
 use Rattle.cany_model.proofs.Timed.Views.OneVector.{installed_before, installed_here}
-use Rattle.cany_model.proofs.Timed.Views.VectorBudget.{run_readable}
+use Rattle.cany_model.proofs.Timed.Views.ReadableNodes.{run_readable}
 use Rattle.cany_model.proofs.Timed.Views.VectorLastEffect.{IsCycle, at_place, brings, no_end}
 use Rattle.cany_model.proofs.Timed.Views.VectorSets.{vector_again}
 use Rattle.cany_model.proofs.Timed.Views.VectorTurns.{turn_ends, turn_exchanges}

@@ -28,7 +28,7 @@ use Rattle.cany_laws.specs.Logs.{IsIncarnation, followed_by, log_as, past_of, pr
 use Rattle.cany_laws.proofs.AlarmSigns.{unsigned_or_stopped}
 use Rattle.cany_laws.proofs.EachView.{past_length}
 use Rattle.cany_laws.proofs.EqualMembers.{first_read}
-use Rattle.cany_laws.proofs.Fronts.{after_slot-ended, after_turn-ended, along_pushes, pushed}
+use Rattle.cany_laws.proofs.Fronts.{after_slot-ended, after_turn-ended, kept_always}
 use Rattle.cany_laws.proofs.IntegralLogs.{sent_as}
 use Rattle.cany_laws.proofs.Lives.{lived}
 
@@ -80,20 +80,14 @@ module _ (scenario : ScenarioParts) (r : ℕ) (there : r < scenario.params.nodes
   EndsNone s = (node_at s.nodes r).present.number ≡ 0 → (node_at s.nodes r).ended ≡ []
 
   pub none_ended : (journal : List Step) → EndsNone (run scenario journal)
-  none_ended = along_pushes (λ journal. EndsNone (run scenario journal)) at_first (λ journal next h. elim (pushed scenario journal next).is [
-    | inl refused ↦ subst EndsNone (sym refused) h
-    | inr (inl slot) ↦ subst EndsNone (sym slot.1) (through_slot journal h)
-    | inr (inr turn) ↦ subst EndsNone (sym turn.2) (λ first.
-        let o = orderly scenario journal in
-        after_turn-ended scenario turn.0 (run scenario journal) r turn.1 (o.unread turn.0)
-        ∙ h (ap (λ (n : Incarnation). n.number) (sym (after_turn-present scenario turn.0 (run scenario journal) r turn.1 (o.unread turn.0))) ∙ first))
-  ])
+  none_ended = kept_always scenario EndsNone (record {
+    slot = λ journal may h. through_slot journal h;
+    turn = λ journal j may h first.
+        let short : (node_at (run scenario journal).nodes j).unread ≤ length (run scenario journal).trace = (orderly scenario journal).unread j in
+        after_turn-ended scenario j (run scenario journal) r may short
+        ∙ h (ap (λ (n : Incarnation). n.number) (sym (after_turn-present scenario j (run scenario journal) r may short)) ∙ first);
+  }) (λ first. ap (λ (n : NodeState). n.ended) (node_at-opening scenario.params.nodes r there))
     where
-      at_first : EndsNone (run scenario [])
-      at_first first =
-          ap (λ (n : NodeState). n.ended)
-          (ap (λ (s : RunState). node_at s.nodes r) (run_none scenario (opening scenario.params.nodes)) ∙ node_at-opening scenario.params.nodes r there)
-
       through_slot : (journal : List Step) → EndsNone (run scenario journal)
           → EndsNone (after_restarts scenario (after_slot (script scenario.rules) (run scenario journal)))
       through_slot journal h first =

@@ -33,6 +33,7 @@ use Rattle.cany_model.proofs.Bus.States.{no_note, runs_within}
 use Rattle.cany_model.proofs.Promises.Diffusion.{past_of}
 use Rattle.cany_model.proofs.Promises.DiffusionRun.{run_diffuses}
 use Rattle.cany_model.proofs.Promises.SignAgrees.{sign_duty, sign_is_diffused}
+use Rattle.cany_model.proofs.Rules.KnowledgeFacts.{HasTimedOut, timed_out}
 use Rattle.cany_model.proofs.Runs.Runs.{orderly}
 use Rattle.cany_model.proofs.Runs.Waits.{waits-from_with}
 use Rattle.cany_model.proofs.Runs.SlotStates.{slot_has_state, slot_state-trace, slot_state_is}
@@ -229,15 +230,14 @@ module _ (scenario : ScenarioParts) (legal : IsLegalScenario scenario) (journal 
 
     -- nor is it silent
     silent : (st : Knowledge) → st ≡ after_learning i (length past) notice (knowledge_of sc i past)
-        → (has st.members r ≡ true) × ((r == i) ≡ false) × (scenario.params.silence ≤ length past - st.shown r) → StoppedFor (n + 1)
+        → HasTimedOut scenario.params i (length past) st r → StoppedFor (n + 1)
     silent st is_st h =
         let p : Parameters = scenario.params in
         let member : has (known_at scenario journal i e (lived scenario journal i e is) n).members r ≡ true =
-        ap (λ m. has m r) (sym (ap (λ (k : Knowledge). k.members) is_st ∙ learnt_members sc i notice past)) ∙ h.0 in
-        let other : r ≡ i → ⊥ = λ same. both_ways (r == i) h.1 (eq-eqb r i same) in
+        ap (λ m. has m r) (sym (ap (λ (k : Knowledge). k.members) is_st ∙ learnt_members sc i notice past)) ∙ h.member in
         let first : ℕ = n - p.silence + p.life + p.lag + 1 in
         let more_silence : p.life + p.lag + p.bound + 1 ≤ p.silence = omega (arith, legal.formulas.silence) in
-        let enough : p.silence ≤ n = omega (arith, h.2, size) in
+        let enough : p.silence ≤ n = omega (arith, h.silent, size) in
         let found = slots_are_quiet scenario journal (few_nodes p legal.in_range) legal.formulas legal.members within first
         (omega (arith, more_silence, enough, ran)) in
         let t : ℕ = found.0 in
@@ -246,12 +246,12 @@ module _ (scenario : ScenarioParts) (legal : IsLegalScenario scenario) (journal 
         elim (runs_or_stopped scenario r there q.front) [
           | inl ran_then ↦
               let g =
-              gap scenario legal journal within r i other e is t q there ran_then.0 ran_then.1 n (omega (arith, found.2, more_silence, enough))
+              gap scenario legal journal within r i h.other e is t q there ran_then.0 ran_then.1 n (omega (arith, found.2, more_silence, enough))
               (omega (arith, read)) member in
               let same = ap (λ (k : Knowledge). k.shown r) is_st in
               absurd (elim (learnt_shown sc i notice past r) [
-                | inl now ↦ omega (arith, same, now, h.2, more_silence)
-                | inr kept ↦ omega (arith, same, kept, h.2, g, found.1, size, enough, more_silence)
+                | inl now ↦ omega (arith, same, now, h.silent, more_silence)
+                | inr kept ↦ omega (arith, same, kept, h.silent, g, found.1, size, enough, more_silence)
               ])
           | inr stopped ↦ stopped_then q.front q.rest q.whole t n number (omega (arith, found.2, enough, more_silence)) stopped
         ]
@@ -263,14 +263,7 @@ module _ (scenario : ScenarioParts) (legal : IsLegalScenario scenario) (journal 
         let st : Knowledge = after_learning i (length past) notice (knowledge_of sc i past) in
         elim (cases_Bool (has_timed_out scenario.params i (length past) st r)) [
           | inr heard ↦ inl heard
-          | inl gone ↦
-              let member : Bool = has st.members r in
-              let other : Bool = not (r == i) in
-              let lives : Bool = not (has st.failed r) in
-              let all = and_parts (member && other && lives) (nat_le scenario.params.silence (length past - st.shown r)) gone in
-              let three = and_parts (member && other) lives all.0 in
-              let two = and_parts member other three.0 in
-              inr (silent st refl (two.0, not-true (r == i) two.1, leb-true scenario.params.silence (length past - st.shown r) all.1))
+          | inl gone ↦ inr (silent st refl (timed_out scenario.params i (length past) st r gone))
         ]
 
     next : IsUnsigned r (knowledge_of (followed_by scenario e) i (first_read (n + 1) (run scenario journal) i e)) ⊎ StoppedFor (n + 1)

@@ -19,7 +19,7 @@ use Rattle.cany_model.proofs.Runs.Journals.{reads_other, reads_slot, reads_turn,
 use Rattle.cany_model.proofs.Runs.Runs.{orderly}
 use Rattle.cany_model.proofs.Runs.Steps.{MayTurn, after_slot-node, after_slot-present, after_slot-trace, after_turn-other, after_turn-present, after_turn-runs, after_turn-trace, stopped_after_slot}
 use Rattle.cany_laws.specs.Logs.{present_of}
-use Rattle.cany_laws.proofs.Fronts.{after_slot-ended, after_turn-ended, along_pushes, along_rest, pushed}
+use Rattle.cany_laws.proofs.Fronts.{after_slot-ended, after_turn-ended, along_pushes, pushed, IsKeptOn, kept_on}
 
 -- the same incarnation, later
 pub record Grows (e f : EndedIncarnation) : Type 0 where
@@ -109,17 +109,12 @@ module _ (scenario : ScenarioParts) (i : ℕ) (there : i < scenario.params.nodes
           | inr before ↦ inr (subst (Among P) (sym (after_turn-ended scenario j s i may (o.unread j))) before)
         ]
 
-    through_step : (journal : List Step) (next : Step) → Among P (incarnations (run scenario journal) i)
-        → Among P (incarnations (run scenario (journal ++ next ∷ [])) i)
-    through_step journal next h = elim (pushed scenario journal next).is [
-      | inl refused ↦ subst (λ (r : RunState). Among P (incarnations r i)) (sym refused) h
-      | inr (inl slot) ↦ subst (λ (r : RunState). Among P (incarnations r i)) (sym slot.1) (through_slot journal h)
-      | inr (inr turn) ↦ subst (λ (r : RunState). Among P (incarnations r i)) (sym turn.2) (through_turn journal turn.0 turn.1 h)
-    ]
+    through_steps : IsKeptOn scenario (λ s. Among P (incarnations s i))
+    through_steps = record { slot = λ journal may h. through_slot journal h; turn = λ journal j may h. through_turn journal j may h }
 
     -- so what one of them has that only grows, one has later
     pub stays_among : (front rest : List Step) → Among P (incarnations (run scenario front) i) → Among P (incarnations (run scenario (front ++ rest)) i)
-    stays_among = along_rest (λ journal. Among P (incarnations (run scenario journal) i)) through_step
+    stays_among = kept_on scenario (λ s. Among P (incarnations s i)) through_steps
 
   -- ---- the first stop
 

@@ -19,7 +19,7 @@ use Rattle.cany_model.specs.Rules.Turn.{scenario_at, turn_effects}
 use Rattle.cany_model.specs.Rules.Views.{ask_of}
 use Rattle.cany_model.specs.Runs.Run.{after_turn, run}
 use Rattle.cany_model.proofs.Among.{Among, Among-from_Contains, Among-weaker, count-grows, count-no, count-yes}
-use Rattle.cany_model.proofs.Rules.ProtocolFacts.{IsScripted, MayAsk, MayRequest, accepts, ask_of as asked_frame, confirms, data_requests_none, exchanges, is_relayed, lives, originates, relays, requests, signals}
+use Rattle.cany_model.proofs.Rules.ProtocolFacts.{IsScripted, MayRequest, ask_of as asked_frame, request_asked}
 use Rattle.cany_model.proofs.Rules.TurnFacts.{turn_effect}
 use Rattle.cany_model.proofs.Runs.Runs.{IsOrderly, history-length}
 use Rattle.cany_model.proofs.Runs.Steps.{MayTurn, next_notice}
@@ -65,32 +65,13 @@ record IsRequested (scenario : ScenarioParts) (i : ℕ) (past : List NoticeKind)
   may : MayRequest scenario i past slot class
   is : x ≡ ask_of class (cycle_of scenario.params slot) i
 
-not_relayed : (c : Class) → IsAsk c → is_relayed c ≡ true → ⊥
-not_relayed c (inl join) h = false≢true (sym (ap is_relayed join) ∙ h)
-not_relayed c (inr leave) h = false≢true (sym (ap is_relayed leave) ∙ h)
-
 requested : (scenario : ScenarioParts) (i : ℕ) (past : List NoticeKind) (x : Identity) → IsAsk x.class → Among (Asks x) (turn_effects scenario i past)
     → IsRequested scenario i past x
 requested scenario i past x ask h =
     let w = turn_effect (Asks x) scenario i past h in
     let a = asked_frame scenario w.protocol i past x w.effect w.is w.founded in
-    by_reason a.0 a.1 (subst IsAsk (ap (λ (y : Identity). y.class) a.1) ask) a.2
-  where
-    other : (c d : Class) → (d ≡ Join → ⊥) → (d ≡ Leave → ⊥) → d ≡ c → IsAsk c → ⊥
-    other c d no_join no_leave e (inl join) = no_join (e ∙ join)
-    other c d no_join no_leave e (inr leave) = no_leave (e ∙ leave)
-
-    by_reason : (f : FrameParts) → x ≡ identity_of f → IsAsk f.class → MayAsk scenario i past f → IsRequested scenario i past x
-    by_reason f is asks (relays relayed got) = absurd (not_relayed f.class asks relayed)
-    by_reason f is asks (originates m one origin slot late frame) =
-        absurd (data_requests_none m.service f.class asks (ap (λ (k : FrameParts). k.class) frame))
-    by_reason f is asks (confirms g sent rel own frame) = absurd (other f.class _ (λ e. cc) (λ e. cc) (ap (λ (k : FrameParts). k.class) frame) asks)
-    by_reason f is asks (accepts g sent tot own frame) = absurd (other f.class _ (λ e. cc) (λ e. cc) (ap (λ (k : FrameParts). k.class) frame) asks)
-    by_reason f is asks (signals sign slot now known frame) = absurd (other f.class _ (λ e. cc) (λ e. cc) (ap (λ (k : FrameParts). k.class) frame) asks)
-    by_reason f is asks (lives slot now due frame) = absurd (other f.class _ (λ e. cc) (λ e. cc) (ap (λ (k : FrameParts). k.class) frame) asks)
-    by_reason f is asks (exchanges slot v sends frame) = absurd (other f.class _ (λ e. cc) (λ e. cc) (ap (λ (k : FrameParts). k.class) frame) asks)
-    by_reason f is asks (requests slot c request frame) =
-        record { slot = slot; class = c; may = request; is = is ∙ sym (ap (λ (k : FrameParts). identity_of k) frame) }
+    let r = request_asked scenario i past a.0 a.2 (subst IsAsk (ap (λ (y : Identity). y.class) a.1) ask) in
+    record { slot = r.slot; class = r.class; may = r.may; is = a.1 ∙ sym (ap identity_of r.frame) }
 
 -- ---- one class of asks
 

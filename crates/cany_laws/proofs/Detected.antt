@@ -19,8 +19,8 @@ use Rattle.cany_model.specs.Runs.Run.{run}
 use Rattle.cany_model.proofs.Bus.EachRead.{EachRead, each_dropped}
 use Rattle.cany_model.proofs.Bus.Seen.{history-is}
 use Rattle.cany_model.proofs.Timed.Detector.SilentNode.{known_begun, shown_by}
-use Rattle.cany_model.proofs.Timed.Views.VectorBudget.{run_readable}
 use Rattle.cany_model.proofs.Timed.Detector.SilentNode.{failed_next}
+use Rattle.cany_model.proofs.Timed.Views.ReadableNodes.{run_readable}
 use Rattle.cany_laws.specs.Detection.{HasFailedBy, HearsNothingOf, IsDetected, hears_life}
 use Rattle.cany_laws.specs.Logs.{followed_by, past_of, past_to}
 use Rattle.cany_laws.proofs.EqualMembers.{first_read, first_read-length, first_read-more, next_read}

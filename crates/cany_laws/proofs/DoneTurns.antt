@@ -29,13 +29,13 @@ use Rattle.cany_model.specs.Rules.Turn.{asks_for, has_asked, origin_effects, pro
 use Rattle.cany_model.proofs.Among.{Among, Among-from_any, Among-place, Among-weaker, Each-append, Each-flat_map}
 use Rattle.cany_model.proofs.Bus.Carried.{Has}
 use Rattle.cany_model.proofs.Bus.Identities.{same_class-true, same_identity-true}
-use Rattle.cany_model.proofs.Promises.Sources.{carries_data}
 use Rattle.cany_model.proofs.Rules.AskedFacts.{asked_of_backlog}
 use Rattle.cany_model.proofs.Rules.BacklogFacts.{HasJoined, asked-few, backlog_joined, next_is, next_joined}
 use Rattle.cany_model.proofs.Rules.Begun.{AreIdle, IsBegun, begun_copy}
 use Rattle.cany_model.proofs.Rules.LifeFacts.{failures_are_lawful, life_is_lawful}
 use Rattle.cany_model.proofs.Rules.MessageKeys.{IsOneOf, is_service-true, same_message}
 use Rattle.cany_model.proofs.Rules.MessageClasses.{data_of_message, is_of_message, others_of, request_other, same_other}
+use Rattle.cany_model.proofs.Rules.ProtocolFacts.{is_data}
 use Rattle.cany_model.proofs.Rules.SendFacts.{is_sent_in-true, sendable_one}
 use Rattle.cany_model.proofs.Rules.VectorFacts.{vectors_are_lawful}
 use Rattle.cany_model.proofs.Rules.ViewFacts.{asks_are_lawful, views_are_lawful}
@@ -56,7 +56,7 @@ FreeNotice m e = (f : FrameParts) → Has f e → Free m f
 -- what a notice brings that carries data is a message of the scenario
 abbrev pub IsSourcedNotice : ScenarioParts → NoticeKind → Type 0
 IsSourcedNotice scenario e =
-    (f : FrameParts) → Has f e → carries_data f.class ≡ true → (k : Message) × IsOneOf (messages_of scenario.sends) k × (data_frame k ≡ f)
+    (f : FrameParts) → Has f e → is_data f.class ≡ true → (k : Message) × IsOneOf (messages_of scenario.sends) k × (data_frame k ≡ f)
 
 class_of : (f : FrameParts) (x : Identity) → x ≡ identity_of f → x.class ≡ f.class
 class_of f x h = ap (λ (y : Identity). y.class) h
@@ -88,7 +88,7 @@ same_of scenario m k mi ki (inr (inr (inr never))) = absurd never
 
 -- a frame that confirms or accepts a message that the notice brings is none of this one
 answer_free : (scenario : ScenarioParts) (m : Message) (e : NoticeKind) (f g : FrameParts) → IsOneOf (messages_of scenario.sends) m → FreeNotice m e
-    → IsSourcedNotice scenario e → Has f e → carries_data f.class ≡ true → ((by : Service) → g.class ≡ data_class by → ⊥) → g.node ≡ f.node → g.number ≡ f.number → Free m g
+    → IsSourcedNotice scenario e → Has f e → is_data f.class ≡ true → ((by : Service) → g.class ≡ data_class by → ⊥) → g.node ≡ f.node → g.number ≡ f.number → Free m g
 answer_free scenario m e f g is free sourced has_f carries other node number h =
     let k = sourced f has_f carries in
     let key = named h in
@@ -144,19 +144,22 @@ pub record IsDone (scenario : ScenarioParts) (m : Message) (i : ℕ) (past : Lis
   pub closing : has_closing_ahead scenario m i past ≡ false
   pub asked : m.origin ≡ i → (has_asked scenario m i past ≡ true) ⊎ (m.slot < scenario.from)
 
+-- what it brings is none of the message's frames
+no_frame : (m : Message) (e : NoticeKind) → FreeNotice m e → (x : Identity) → Among (λ y. y ≡ x) (frames_of m) → (f : FrameParts) → Has f e → is_of x f ≡ false
+no_frame m e free x among f has_f = false_from_ne_true (is_of x f) (λ h.
+    free f has_f (Among-weaker (λ y. y ≡ x) (λ y. y ≡ identity_of f) (λ y e. e ∙ same_identity-true x (identity_of f) h) (frames_of m) among))
+
 pub no_got : (m : Message) (e : NoticeKind) → FreeNotice m e → (x : Identity) → Among (λ y. y ≡ x) (frames_of m) → is_got x e ≡ false
 no_got m Idle free x among = refl
 no_got m Bad free x among = refl
 no_got m (Sent f) free x among = refl
-no_got m (Got f) free x among = false_from_ne_true (is_of x f) (λ h.
-    free f (inl refl) (Among-weaker (λ y. y ≡ x) (λ y. y ≡ identity_of f) (λ y e. e ∙ same_identity-true x (identity_of f) h) (frames_of m) among))
+no_got m (Got f) free x among = no_frame m (Got f) free x among f (inl refl)
 
 pub no_sent : (m : Message) (e : NoticeKind) → FreeNotice m e → (x : Identity) → Among (λ y. y ≡ x) (frames_of m) → is_sent x e ≡ false
 no_sent m Idle free x among = refl
 no_sent m Bad free x among = refl
 no_sent m (Got f) free x among = refl
-no_sent m (Sent f) free x among = false_from_ne_true (is_of x f) (λ h.
-    free f (inr refl) (Among-weaker (λ y. y ≡ x) (λ y. y ≡ identity_of f) (λ y e. e ∙ same_identity-true x (identity_of f) h) (frames_of m) among))
+no_sent m (Sent f) free x among = no_frame m (Sent f) free x among f (inr refl)
 
 pub no_holds : (m : Message) (e : NoticeKind) → FreeNotice m e → m.service ≡ Tot → holds (message_key m) e ≡ false
 no_holds m e free tot =
@@ -263,7 +266,7 @@ module _ (scenario : ScenarioParts) (m : Message) (is : IsOneOf (messages_of sce
       (delivery_free m Rel i f (Sent f) before)
       (cond_both (f.node == i) (Ask (confirm_frame f) ∷ []) [] (AskFree m)
       (λ _. (
-        answer_free scenario m (Sent f) f (confirm_frame f) is free sourced (inr refl) (ap carries_data (same_class-true f.class class.Rel rel)) not_confirm refl refl,
+        answer_free scenario m (Sent f) f (confirm_frame f) is free sourced (inr refl) (ap is_data (same_class-true f.class class.Rel rel)) not_confirm refl refl,
         tt,
       )) (λ _. tt)))
       (λ _. tt)
@@ -340,7 +343,7 @@ module _ (scenario : ScenarioParts) (m : Message) (is : IsOneOf (messages_of sce
       cond_both (same_class f.class class.Tot && f.node == i) (Ask (accept_frame f) ∷ []) [] (AskFree m)
       (λ own. (
         answer_free scenario m (Sent f) f (accept_frame f) is free sourced (inr refl)
-            (ap carries_data (same_class-true f.class class.Tot (and_parts (same_class f.class class.Tot) (f.node == i) own).0)) not_accept refl refl,
+            (ap is_data (same_class-true f.class class.Tot (and_parts (same_class f.class class.Tot) (f.node == i) own).0)) not_accept refl refl,
         tt,
       )) (λ _. tt)
 

@@ -3,6 +3,7 @@ use Rattle.std.proofs.Common.{◌≡◌, ℕ, zero, suc, ◌+◌, ◌-◌, ◌*�
 use Rattle.std.specs.Prelude.{Option, Some, None}
 use Rattle.std.proofs.Math.Seq.{drop-append_seam}
 use Rattle.std.proofs.lemmas.Bool.{cases_lt}
+use Rattle.std.proofs.lemmas.Option.{same_Some}
 use Rattle.cany_base.proofs.ParamsFacts.{few_nodes}
 use Rattle.cany_base.specs.declared.message.MsgKey.{MsgKey}
 use Rattle.cany_base.specs.declared.notice.NoticeKind.{NoticeKind}
@@ -120,11 +121,8 @@ module _ (scenario : ScenarioParts) (legal : IsLegalScenario scenario) (journal 
   each_has_one_view i j e f ie if' number here there members others le lf =
       let we = (view_installed (followed_by scenario e) i (past_of s i e) here number members le).1 in
       let wf = (view_installed (followed_by scenario f) j (past_of s j f) there number others lf).1 in
-      same_members members others
+      same_Some members others
       (sym we ∙ (each_installs_one number).alike i j e f (view_read i e ie number members we) (view_read j f if' number others wf) ∙ wf)
-    where
-      same_members : (a b : Nodes) → Some a ≡ Some b → a ≡ b
-      same_members a b e = cc
 
   -- ---- acceptance
 

@@ -12,9 +12,10 @@ use Rattle.cany_model.specs.Bus.Slot.{FaultScript, after_slot, script, slot_note
 use Rattle.cany_model.specs.Bus.State.{EndedIncarnation, NodeState, RunState, node_at, opening}
 use Rattle.cany_model.specs.Runs.Run.{after_turn, is_done, proceed, reply, run}
 use Rattle.cany_model.proofs.Among.{Among-append_right, Among-from_Contains, Contains-from_Among}
-use Rattle.cany_model.proofs.Runs.Journals.{run_push, step_is, step_refused}
+use Rattle.cany_model.proofs.Bus.Restarts.{after_restarts-trace}
+use Rattle.cany_model.proofs.Runs.Journals.{run_push, step_is, step_refused, run_none}
 use Rattle.cany_model.proofs.Runs.Runs.{MaySlot, orderly, slot_done, turn_done, turn_is_done}
-use Rattle.cany_model.proofs.Runs.Steps.{MayTurn, after_slot-node, after_turn-node, after_turn-other, node_after-ended}
+use Rattle.cany_model.proofs.Runs.Steps.{MayTurn, after_slot-node, after_turn-node, after_turn-other, node_after-ended, after_slot-trace}
 
 -- ---- along a journal
 
@@ -52,6 +53,32 @@ pushed scenario front next = record {
         ⊎ ((i : ℕ) × MayTurn (run scenario front) i × (run scenario (front ++ next ∷ []) ≡ after_turn scenario i (run scenario front)))
     by_step step.Slot is done = inl (slot_done scenario (run scenario front) done, is)
     by_step (step.Turn i) is done = inr (i, turn_done scenario (run scenario front) i (orderly scenario front).count done, is)
+
+-- what each slot with the restarts at its end keeps, and each turn
+pub record IsKeptOn (scenario : ScenarioParts) (P : RunState → Type 0) : Type 0 where
+  pub slot : (journal : List Step) → MaySlot scenario (run scenario journal) → P (run scenario journal)
+      → P (after_restarts scenario (after_slot (script scenario.rules) (run scenario journal)))
+  pub turn : (journal : List Step) (i : ℕ) → MayTurn (run scenario journal) i → P (run scenario journal) → P (after_turn scenario i (run scenario journal))
+
+-- what holds of a front, and is kept so, holds of all that begin with the front
+pub kept_on : (scenario : ScenarioParts) (P : RunState → Type 0) → IsKeptOn scenario P → (front rest : List Step) → P (run scenario front)
+    → P (run scenario (front ++ rest))
+kept_on scenario P keeps = along_rest (λ journal. P (run scenario journal)) (λ journal next h. elim (pushed scenario journal next).is [
+  | inl refused ↦ subst P (sym refused) h
+  | inr (inl slot) ↦ subst P (sym slot.1) (keeps.slot journal slot.0 h)
+  | inr (inr turn) ↦ subst P (sym turn.2) (keeps.turn journal turn.0 turn.1 h)
+])
+
+-- so what holds after no step holds after each journal
+pub kept_always : (scenario : ScenarioParts) (P : RunState → Type 0) → IsKeptOn scenario P → P (opening scenario.params.nodes) → (journal : List Step)
+    → P (run scenario journal)
+kept_always scenario P keeps first journal = kept_on scenario P keeps [] journal (subst P (sym (run_none scenario (opening scenario.params.nodes))) first)
+
+-- the trace is longer by one after a slot with the restarts at its end
+pub one_longer : (scenario : ScenarioParts) (s : RunState)
+    → length (after_restarts scenario (after_slot (script scenario.rules) s)).trace ≡ suc (length s.trace)
+one_longer scenario s =
+    ap length (after_restarts-trace scenario (after_slot (script scenario.rules) s)) ∙ ap length (after_slot-trace (script scenario.rules) s)
 
 -- a turn that may be made is made
 pub turn_made : (scenario : ScenarioParts) (front : List Step) (i : ℕ) → MayTurn (run scenario front) i

@@ -16,6 +16,7 @@ use Rattle.cany_model.specs.Rules.KnowledgeOf.{after_asking, knowledge_of}
 use Rattle.cany_model.specs.Runs.Run.{run}
 use Rattle.cany_model.proofs.Promises.KeptVectors.{vector_at}
 use Rattle.cany_model.proofs.Rules.KnowledgeSteps.{members_by}
+use Rattle.cany_model.proofs.Runs.PresentIncarnations.{each_present}
 use Rattle.cany_model.proofs.Timed.Detector.Removal.{member_no_joiner}
 use Rattle.cany_model.proofs.Timed.Detector.SilentNode.{lacks_says}
 use Rattle.cany_model.proofs.Timed.Detector.VectorsAgreeOn.{Says}
@@ -41,14 +42,14 @@ use Rattle.cany_laws.proofs.LeftOut.{left_out}
 use Rattle.cany_laws.proofs.Lives.{Lived, lived}
 use Rattle.cany_laws.proofs.RemovalJoiners.{asks_not, gets_none, none_first, still_none}
 use Rattle.cany_laws.proofs.RemovalMembers.{NobodyInstalls, member_installs, nobody_next, view_changes}
-use Rattle.cany_laws.proofs.Since.{begins, of_present}
+use Rattle.cany_laws.proofs.Since.{begins}
 
 -- an incarnation of a later number does not take part since slot 0
 begins_late : (scenario : ScenarioParts) (journal : List Step) (i : ℕ) (e : EndedIncarnation) → Lived scenario journal i e → 0 < e.incarnation.number
     → 0 < e.incarnation.from
 begins_late scenario journal i e l =
     subst (λ (inc : Incarnation). 0 < inc.number → 0 < inc.from) l.present
-    (of_present scenario (λ inc. 0 < inc.number → 0 < inc.from) (λ later. absurd (omega (arith, later))) (λ slot inc later. omega arith) l.front i)
+    (each_present scenario (λ inc. 0 < inc.number → 0 < inc.from) (λ later. absurd (omega (arith, later))) (λ slot inc later. omega arith) l.front i)
 
 -- the first cycle that does not start before a slot
 first_start : (T from : ℕ) → 0 < T → (c : ℕ) × (from ≤ c * T) × (c * T < from + T)
@@ -64,9 +65,6 @@ module _ (scenario : ScenarioParts) (legal : IsLegalScenario scenario) (journal 
     (silent : NobodyGotJoin scenario (run scenario journal) r t (k * scenario.params.cycle)) where
   abbrev s : RunState
   s = run scenario journal
-
-  abbrev p : Parameters
-  p = scenario.params
 
   abbrev T : ℕ
   T = scenario.params.cycle

@@ -37,7 +37,7 @@ use Rattle.cany_laws.specs.Removal.{HadItLongBefore, HearsNoLifeOf, NobodyGotJoi
 use Rattle.cany_laws.proofs.AdmissionHeard.{notice_is}
 use Rattle.cany_laws.proofs.EachView.{past_length}
 use Rattle.cany_laws.proofs.EqualMembers.{next_read}
-use Rattle.cany_laws.proofs.Fronts.{along_pushes, pushed}
+use Rattle.cany_laws.proofs.Fronts.{kept_always}
 use Rattle.cany_laws.proofs.Lives.{Lived, lived}
 use Rattle.cany_laws.proofs.RemovalJoiners.{note_of}
 use Rattle.cany_laws.proofs.RemovalOut.{removed}
@@ -127,14 +127,8 @@ module _ (scenario : ScenarioParts) (life : 0 < scenario.params.life) (r : ℕ) 
 
   silent_after : (journal : List Step) → Kept (run scenario journal)
   silent_after =
-      along_pushes (λ front. Kept (run scenario front))
-      (λ t stopped note stands. absurd (Contains-none note
-      (subst (λ (s : RunState). Contains s.trace note) (run_none scenario (opening scenario.params.nodes)) stands)))
-      (λ front next before. elim (pushed scenario front next).is [
-        | inl refused ↦ subst Kept (sym refused) before
-        | inr (inl slot) ↦ subst Kept (sym slot.1) (by_slot front before)
-        | inr (inr turn) ↦ subst Kept (sym turn.2) (by_turn front turn.0 turn.1 before)
-      ])
+      kept_always scenario Kept (record { slot = λ front may before. by_slot front before; turn = λ front j may before. by_turn front j may before })
+      (λ t stopped note stands. absurd (Contains-none note stands))
 
 -- ---- what is heard of it
 

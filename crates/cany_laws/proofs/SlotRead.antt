@@ -23,104 +23,74 @@ use Rattle.cany_model.proofs.Runs.Runs.{orderly}
 use Rattle.cany_model.proofs.Runs.SlotStates.{slot_has_state, slot_state_is}
 use Rattle.cany_model.proofs.Runs.Steps.{MayTurn, after_slot-present, after_slot-trace, after_slot-unread, after_turn-other, after_turn-present, after_turn-runs, after_turn-trace, running_before_slot}
 use Rattle.cany_laws.specs.Logs.{IsIncarnation, past_to}
-use Rattle.cany_laws.proofs.Fronts.{after_slot-ended, after_turn-ended, along_rest, drop-map, pushed}
+use Rattle.cany_laws.proofs.Fronts.{after_slot-ended, after_turn-ended, drop-map, IsKeptOn, kept_on}
 use Rattle.cany_laws.proofs.Lives.{Lived, each_lived, lived}
 use Rattle.cany_model.proofs.Timed.Views.StartViews.{front_split}
 use Rattle.cany_laws.proofs.CaughtUp.{CaughtUp, caught_up, still_present, still_read, still_runs}
+use Rattle.cany_laws.proofs.WaitFronts.{IsSince, since_kept}
 
 -- the incarnation began later, or it was the present one of a node that ran
 abbrev pub LaterOrThen : RunState → ℕ → ℕ → Incarnation → Type 0
 LaterOrThen then t i inc = (t < inc.since) ⊎ ((runs (node_at then.nodes i) ≡ true) × (inc ≡ (node_at then.nodes i).present))
 
+-- an incarnation that has read the slot
+abbrev pub WasThere : RunState → ℕ → ℕ → EndedIncarnation → Type 0
+WasThere then t i e = t < e.next → LaterOrThen then t i e.incarnation
+
 -- of node i, after a journal that goes on from a state in which slot t had run
 pub record ReadSince (then : RunState) (t i : ℕ) (s : RunState) : Type 0 where
-  pub ran : t < length s.trace
-  pub present : (t < (node_at s.nodes i).present.since)
-      ⊎ (((node_at s.nodes i).present ≡ (node_at then.nodes i).present) × (runs (node_at s.nodes i) ≡ true → runs (node_at then.nodes i) ≡ true)
-      × (t < reads s i → runs (node_at then.nodes i) ≡ true))
-  pub ended : AllByRecursion (λ e. t < e.next → LaterOrThen then t i e.incarnation) (node_at s.nodes i).ended
+  pub since : IsSince then t i s
+  pub present : t < reads s i → LaterOrThen then t i (node_at s.nodes i).present
+  pub ended : AllByRecursion (WasThere then t i) (node_at s.nodes i).ended
 
-present_read : (then : RunState) (t i : ℕ) (s : RunState) → ReadSince then t i s → t < reads s i → LaterOrThen then t i (node_at s.nodes i).present
-present_read then t i s h read = elim h.present [
-  | inl later ↦ inl later
-  | inr same ↦ inr (same.2 read, same.0)
-]
-
-module _ (scenario : ScenarioParts) (then : RunState) (t i : ℕ) (there : i < scenario.params.nodes) where
-  after_turns : (journal : List Step) (next : Step) (j : ℕ) → MayTurn (run scenario journal) j
-      → run scenario (journal ++ next ∷ []) ≡ after_turn scenario j (run scenario journal) → ReadSince then t i (run scenario journal)
-      → ReadSince then t i (run scenario (journal ++ next ∷ []))
-  after_turns journal next j may is h =
-      let s : RunState = run scenario journal in
-      let o = orderly scenario journal in
-      let to : RunState = after_turn scenario j s in
-      let present : (node_at to.nodes i).present ≡ (node_at s.nodes i).present = after_turn-present scenario j s i may (o.unread j) in
-      let running : runs (node_at to.nodes i) ≡ runs (node_at s.nodes i) = after_turn-runs scenario j s i may (o.unread j) in
-      subst (ReadSince then t i) (sym is) (record {
-        ran = subst (λ trace. t < length trace) (sym (after_turn-trace scenario j s)) h.ran;
-        present = elim h.present [
-          | inl later ↦ inl (subst (λ (inc : Incarnation). t < inc.since) (sym present) later)
-          | inr same ↦ inr (
-            present ∙ same.0,
-            λ r. same.1 (sym running ∙ r),
-            λ read. elim (cases_eq i j) [
-              | inl this ↦ same.1 (subst (λ k. runs (node_at s.nodes k) ≡ true) (sym this) may.running)
-              | inr other ↦
-                  let node : node_at to.nodes i ≡ node_at s.nodes i = after_turn-other scenario j s i other in
-                  same.2 (omega (arith, read, ap (λ (n : NodeState). n.unread) node, ap length (after_turn-trace scenario j s)))
-            ],
-          )
-        ];
-        ended = subst (AllByRecursion (λ e. t < e.next → LaterOrThen then t i e.incarnation)) (sym (after_turn-ended scenario j s i may (o.unread j))) h.ended;
-      })
-
-  after_slots : (journal : List Step) (next : Step)
-      → run scenario (journal ++ next ∷ []) ≡ after_restarts scenario (after_slot (script scenario.rules) (run scenario journal))
-      → ReadSince then t i (run scenario journal) → ReadSince then t i (run scenario (journal ++ next ∷ []))
-  after_slots journal next is h =
+-- what goes on keeps it
+read_kept : (scenario : ScenarioParts) (then : RunState) (t i : ℕ) → i < scenario.params.nodes → IsKeptOn scenario (ReadSince then t i)
+read_kept scenario then t i there = record {
+  slot = λ journal may h.
       let s : RunState = run scenario journal in
       let rules : FaultScript = script scenario.rules in
       let slot : RunState = after_slot rules s in
-      let later : RunState = after_restarts scenario slot in
       let o = orderly scenario journal in
       let below : i < length s.nodes = omega (arith, there, o.count) in
       let long : length slot.trace ≡ suc (length s.trace) = ap length (after_slot-trace rules s) in
-      let size : length later.trace ≡ length slot.trace = ap length (after_restarts-trace scenario slot) in
       let unread : (node_at slot.nodes i).unread ≡ (node_at s.nodes i).unread + 1 = after_slot-unread rules s i below in
       let short : (node_at s.nodes i).unread ≤ length s.trace = o.unread i in
       let present : (node_at slot.nodes i).present ≡ (node_at s.nodes i).present = after_slot-present rules s i below in
-      let ended : (node_at slot.nodes i).ended ≡ (node_at s.nodes i).ended = after_slot-ended rules s i below in
-      let ran : t < length later.trace = omega (arith, long, size, h.ran) in
-      subst (ReadSince then t i) (sym is) (elim (restarts_or_stays scenario slot i) [
+      let was : t < reads slot i → LaterOrThen then t i (node_at slot.nodes i).present =
+      λ read. subst (LaterOrThen then t i) (sym present) (h.present (omega (arith, read, unread, long, short))) in
+      let ended : AllByRecursion (WasThere then t i) (node_at slot.nodes i).ended =
+      subst (AllByRecursion (WasThere then t i)) (sym (after_slot-ended rules s i below)) h.ended in
+      let since : IsSince then t i (after_restarts scenario slot) = (since_kept scenario then t i there).slot journal may h.since in
+      elim (restarts_or_stays scenario slot i) [
         | inr stays ↦ record {
-          ran = ran;
-          present = elim h.present [
-            | inl after ↦ inl (subst (λ (inc : Incarnation). t < inc.since) (sym (ap (λ (n : NodeState). n.present) stays ∙ present)) after)
-            | inr same ↦ inr (
-              ap (λ (n : NodeState). n.present) stays ∙ present ∙ same.0,
-              λ r. same.1 (running_before_slot rules s i (sym (ap (λ (n : NodeState). runs n) stays) ∙ r)).0,
-              λ read. same.2 (omega (arith, read, ap (λ (n : NodeState). n.unread) stays, unread, long, size, short)),
-            )
-          ];
-          ended = subst (AllByRecursion (λ e. t < e.next → LaterOrThen then t i e.incarnation)) (sym (ap (λ (n : NodeState). n.ended) stays ∙ ended)) h.ended;
+          since = since;
+          present = λ read. subst (LaterOrThen then t i) (sym (ap (λ (n : NodeState). n.present) stays))
+              (was (omega (arith, read, ap (λ (n : NodeState). n.unread) stays, ap length (after_restarts-trace scenario slot))));
+          ended = subst (AllByRecursion (WasThere then t i)) (sym (ap (λ (n : NodeState). n.ended) stays)) ended;
         }
         | inl new ↦ record {
-          ran = ran;
-          present = inl (subst (λ (inc : Incarnation). t < inc.since) (sym (ap (λ (n : NodeState). n.present) new.is)) (omega (arith, long, h.ran)));
-          ended = subst (AllByRecursion (λ e. t < e.next → LaterOrThen then t i e.incarnation)) (sym (ap (λ (n : NodeState). n.ended) new.is)) (
-            λ read. subst (LaterOrThen then t i) (sym present) (present_read then t i s h (omega (arith, read, unread, long, short))),
-            subst (AllByRecursion (λ e. t < e.next → LaterOrThen then t i e.incarnation)) (sym ended) h.ended,
-          );
+          since = since;
+          present = λ read. inl (subst (λ (inc : Incarnation). t < inc.since) (sym (ap (λ (n : NodeState). n.present) new.is)) (omega (arith, long, h.since.grown)));
+          ended = subst (AllByRecursion (WasThere then t i)) (sym (ap (λ (n : NodeState). n.ended) new.is)) (λ read. was (omega (arith, read, long)), ended);
         }
-      ])
-
-  -- what goes on keeps it
-  pub read_since : (front rest : List Step) → ReadSince then t i (run scenario front) → ReadSince then t i (run scenario (front ++ rest))
-  read_since = along_rest (λ journal. ReadSince then t i (run scenario journal)) (λ journal next h. elim (pushed scenario journal next).is [
-    | inl refused ↦ subst (ReadSince then t i) (sym refused) h
-    | inr (inl slot) ↦ after_slots journal next slot.1 h
-    | inr (inr turn) ↦ after_turns journal next turn.0 turn.1 turn.2 h
-  ])
+      ];
+  turn = λ journal j may h.
+      let s : RunState = run scenario journal in
+      let short : (node_at s.nodes j).unread ≤ length s.trace = (orderly scenario journal).unread j in
+      let present : (node_at (after_turn scenario j s).nodes i).present ≡ (node_at s.nodes i).present = after_turn-present scenario j s i may short in
+      record {
+        since = (since_kept scenario then t i there).turn journal j may h.since;
+        present = λ read. subst (LaterOrThen then t i) (sym present) (elim (cases_eq i j) [
+          | inl this ↦ elim h.since.present [
+            | inl later ↦ inl later
+            | inr same ↦ inr (same.1 (subst (λ k. runs (node_at s.nodes k) ≡ true) (sym this) may.running), same.0)
+          ]
+          | inr other ↦
+              h.present (omega (arith, read, ap (λ (n : NodeState). n.unread) (after_turn-other scenario j s i other), ap length (after_turn-trace scenario j s)))
+        ]);
+        ended = subst (AllByRecursion (WasThere then t i)) (sym (after_turn-ended scenario j s i may short)) h.ended;
+      };
+}
 
 -- ---- the slot itself
 
@@ -159,29 +129,30 @@ front_of scenario journal t ran =
           let unread : (node_at slot.nodes i).unread ≡ (node_at s.nodes i).unread + 1 = after_slot-unread rules s i below in
           let present : (node_at slot.nodes i).present ≡ (node_at s.nodes i).present = after_slot-present rules s i below in
           let all = each_lived scenario i there way.before in
-          let none : AllByRecursion (λ e. t < e.next → LaterOrThen (run scenario front) t i e.incarnation) (node_at s.nodes i).ended =
-          Each-weaker (Lived scenario way.before i) (λ e. t < e.next → LaterOrThen (run scenario front) t i e.incarnation)
+          let none : AllByRecursion (WasThere (run scenario front) t i) (node_at s.nodes i).ended =
+          Each-weaker (Lived scenario way.before i) (WasThere (run scenario front) t i)
           (λ e l read. absurd (omega (arith, l.short, read, number))) (node_at s.nodes i).ended all.1 in
           let ended : (node_at slot.nodes i).ended ≡ (node_at s.nodes i).ended = after_slot-ended rules s i below in
+          let since : IsSince (run scenario front) t i (run scenario front) = record { grown = omega (arith, size); present = inr (refl, λ r. r) } in
           elim (restarts_or_stays scenario slot i) [
             | inr stays ↦
                 let node : node_at (run scenario front).nodes i ≡ node_at slot.nodes i = ap (λ (r : RunState). node_at r.nodes i) is ∙ stays in
                 record {
-                  ran = omega (arith, size);
-                  present = inr (refl, λ r. r, λ read. absurd (omega (arith, read, size, ap (λ (n : NodeState). n.unread) node, unread)));
-                  ended = subst (AllByRecursion (λ e. t < e.next → LaterOrThen (run scenario front) t i e.incarnation))
+                  since = since;
+                  present = λ read. absurd (omega (arith, read, size, ap (λ (n : NodeState). n.unread) node, unread));
+                  ended = subst (AllByRecursion (WasThere (run scenario front) t i))
                       (sym (ap (λ (n : NodeState). n.ended) node ∙ ended)) none;
                 }
             | inl new ↦
                 let node : node_at (run scenario front).nodes i ≡ restarted scenario.params (slots_run slot - 1) (node_at slot.nodes i) =
                 ap (λ (r : RunState). node_at r.nodes i) is ∙ new.is in
                 record {
-                  ran = omega (arith, size);
-                  present = inr (refl, λ r. r, λ read. ap (λ (n : NodeState). runs n) node);
-                  ended = subst (AllByRecursion (λ e. t < e.next → LaterOrThen (run scenario front) t i e.incarnation))
+                  since = since;
+                  present = λ read. inr (ap (λ (n : NodeState). runs n) node, refl);
+                  ended = subst (AllByRecursion (WasThere (run scenario front) t i))
                       (sym (ap (λ (n : NodeState). n.ended) node)) (
                         λ read. absurd (omega (arith, read, unread, long, number)),
-                        subst (AllByRecursion (λ e. t < e.next → LaterOrThen (run scenario front) t i e.incarnation)) (sym ended) none,
+                        subst (AllByRecursion (WasThere (run scenario front) t i)) (sym ended) none,
                       );
                 }
           ];
@@ -193,10 +164,10 @@ pub ran_then : (scenario : ScenarioParts) (journal : List Step) (t i : ℕ) (e :
     → (runs (node_at (run scenario f.front).nodes i) ≡ true) × (e.incarnation ≡ (node_at (run scenario f.front).nodes i).present)
 ran_then scenario journal t i e is read begun f =
     let h = subst (λ j. ReadSince (run scenario f.front) t i (run scenario j)) (sym f.whole)
-    (read_since scenario (run scenario f.front) t i is.there f.front f.rest (f.since i is.there)) in
-    let each : AllByRecursion (λ x. t < x.next → LaterOrThen (run scenario f.front) t i x.incarnation) (incarnations (run scenario journal) i) =
-    (λ r. present_read (run scenario f.front) t i (run scenario journal) h r, h.ended) in
-    elim (Each-of (λ x. t < x.next → LaterOrThen (run scenario f.front) t i x.incarnation) e (incarnations (run scenario journal) i) each
+    (kept_on scenario (ReadSince (run scenario f.front) t i) (read_kept scenario (run scenario f.front) t i is.there) f.front f.rest (f.since i is.there)) in
+    let each : AllByRecursion (WasThere (run scenario f.front) t i) (incarnations (run scenario journal) i) =
+    (h.present, h.ended) in
+    elim (Each-of (WasThere (run scenario f.front) t i) e (incarnations (run scenario journal) i) each
     (Among-from_Contains (incarnations (run scenario journal) i) e is.stands) read) [
       | inl later ↦ absurd (omega (arith, later, begun))
       | inr then ↦ then

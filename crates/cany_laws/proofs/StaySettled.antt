@@ -33,7 +33,7 @@ use Rattle.cany_model.proofs.Bus.Seen.{Numbered, history-is, seen_frame}
 use Rattle.cany_model.proofs.Bus.States.{each_in_front, no_note, note_at, runs_within}
 use Rattle.cany_model.proofs.Promises.Diffusion.{past_of}
 use Rattle.cany_model.proofs.Promises.EachNode.{restarted_new}
-use Rattle.cany_model.proofs.Promises.SettledFacts.{parts, settled_asked_or_late, settled_none_ahead, settled_read}
+use Rattle.cany_model.proofs.Promises.SettledFacts.{parts, settled_asked_or_late, settled_none_ahead, settled_read, none_awaited}
 use Rattle.cany_model.proofs.Promises.Sources.{IsSourced, sourced}
 use Rattle.cany_model.proofs.Rules.MessageKeys.{IsOneOf}
 use Rattle.cany_model.proofs.Rules.Protocols.{relcan_is_one, totcan_is_one}
@@ -341,16 +341,6 @@ waits_none m w free h = among_none (frames_of m) (λ x among. among) (Among-from
         Each-of (Free m) f.0 w free (Among-from_Contains w f.0 f.1)
         (Among-weaker (λ y. y ≡ x) (λ y. y ≡ identity_of f.0) (λ y e. e ∙ f.2) (frames_of m) (all x (inl refl)))
 
-none_awaited : (s : RunState) (m : Message) → ((i : ℕ) → runs (node_at s.nodes i) ≡ true → AllByRecursion (Free m) (node_at s.nodes i).waiting)
-    → is_awaited (frames_of m) s ≡ false
-unfolding node_at
-none_awaited s m free =
-    let test : NodeState → Bool = λ node. runs node && list_any (λ x. waits x node.waiting) (frames_of m) in
-    false_from_ne_true (list_any test s.nodes) (λ h.
-    let at = Among-place (λ node. test node ≡ true) absent 0 s.nodes (Among-from_any test s.nodes h) in
-    let both = and_parts (runs (node_at s.nodes at.0)) (list_any (λ x. waits x (node_at s.nodes at.0).waiting) (frames_of m)) at.3 in
-    waits_none m (node_at s.nodes at.0).waiting (free at.0 both.0) both.1)
-
 none_is_ahead : (scenario : ScenarioParts) (s : RunState) (m : Message)
     → ((i : ℕ) → runs (node_at s.nodes i) ≡ true → IsDone (scenario_at scenario s i) m i (history i s)) → is_ahead scenario s m ≡ false
 none_is_ahead scenario s m done =
@@ -376,7 +366,7 @@ done_is_settled scenario m old s h all =
     let quiet : Bool = not (is_awaited (frames_of m) s) in
     and_from (asked && quiet && all_read s) (not (is_ahead scenario s m))
     (and_from (asked && quiet) (all_read s)
-    (and_from asked quiet is_asked (not_from_false (is_awaited (frames_of m) s) (none_awaited s m (λ i running. (h.nodes i running).waits)))) all)
+    (and_from asked quiet is_asked (not_from_false (is_awaited (frames_of m) s) (none_awaited (frames_of m) s (λ i running. waits_none m (node_at s.nodes i).waiting (h.nodes i running).waits)))) all)
     (not_from_false (is_ahead scenario s m) (none_is_ahead scenario s m (λ i running. (h.nodes i running).done)))
   where
     is_asked : (origin_has_asked scenario s m || not (runs (node_at s.nodes m.origin)) || came_too_late s m) ≡ true

@@ -44,9 +44,9 @@ use Rattle.cany_model.proofs.Runs.Runs.{history-length, orderly}
 use Rattle.cany_model.proofs.Timed.Detector.Leaving.{HeedsNone, NoLeaveIn, asked_leavers, heeds_none, no_leaver, start_stays}
 use Rattle.cany_model.proofs.Timed.Detector.SilentNode.{asked_members, no_installed}
 use Rattle.cany_model.proofs.Timed.Detector.VectorsAgreeOn.{Says, met_says, none_says}
+use Rattle.cany_model.proofs.Timed.Views.ReadableNodes.{run_readable}
 use Rattle.cany_model.proofs.Timed.Views.StartViews.{no_end_within, start_no_end}
 use Rattle.cany_model.proofs.Timed.Views.SameView.{end_place}
-use Rattle.cany_model.proofs.Timed.Views.VectorBudget.{run_readable}
 use Rattle.cany_model.proofs.Timed.Views.VectorLastEffect.{IsCycle, brings}
 use Rattle.cany_model.proofs.Timed.Views.VectorSets.{vector_again}
 use Rattle.cany_model.proofs.Timed.Views.VectorSlots.{cycle_of_formulas}

@@ -43,7 +43,7 @@ use Rattle.cany_model.proofs.Bus.Notes.{given_sender, given_taker, running_takes
 use Rattle.cany_model.proofs.Bus.Seen.{carries_other, history-is, hidden_not, seen_plain}
 use Rattle.cany_model.proofs.Bus.States.{no_note, note_at}
 use Rattle.cany_model.proofs.Promises.Diffusion.{copies_grow, past_of}
-use Rattle.cany_model.proofs.Promises.EachNode.{EachRunning, clean_success, each_running}
+use Rattle.cany_model.proofs.Promises.EachNode.{EachRunning, each_running}
 use Rattle.cany_model.proofs.Promises.OneFrame.{only_frame}
 use Rattle.cany_model.proofs.Promises.Sources.{sourced}
 use Rattle.cany_model.proofs.Bus.Carried.{Has, carried_frame}
@@ -109,7 +109,7 @@ brought_now m rules s i f few running frame same clean why =
           given_taker i note f frame silent (running_takes rules s f i few frame running silent (ap (λ v. lets_accept v i) clean)) in
           inl (or_left (is_got x (given i note)) (x.node == i && is_sent x (given i note)) (ap (is_got x) got ∙ same))
       | inl sent ↦
-          let own : given i note ≡ Sent f = given_sender i note f frame sent (clean_success note.verdict clean) in
+          let own : given i note ≡ Sent f = given_sender i note f frame sent (ap is_success clean) in
           let waited = (sender_waits rules s f i frame sent).1 in
           let waiting : waits x (node_at s.nodes i).waiting ≡ true =
           any-from_Among (is_of x) (node_at s.nodes i).waiting

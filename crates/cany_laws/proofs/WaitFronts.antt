@@ -9,76 +9,54 @@ use Rattle.cany_model.specs.Bus.Slot.{FaultScript, after_slot, script}
 use Rattle.cany_model.specs.Bus.State.{Incarnation, NodeState, RunState, node_at, reads, runs}
 use Rattle.cany_model.specs.Promises.Acceptance.{history_to}
 use Rattle.cany_model.specs.Runs.Run.{after_turn, run}
-use Rattle.cany_model.proofs.Bus.Restarts.{after_restarts-trace, restarts_or_stays}
+use Rattle.cany_model.proofs.Bus.Restarts.{restarts_or_stays}
 use Rattle.cany_model.proofs.Bus.Seen.{drop_seen, history-is}
 use Rattle.cany_model.proofs.Runs.Runs.{orderly}
 use Rattle.cany_model.proofs.Runs.Steps.{MayTurn, after_slot-present, after_slot-trace, after_turn-present, after_turn-runs, after_turn-trace, running_before_slot}
-use Rattle.cany_laws.proofs.Fronts.{along_rest, drop-map, pushed}
+use Rattle.cany_laws.proofs.Fronts.{drop-map, IsKeptOn, kept_on, one_longer}
 use Rattle.cany_model.proofs.Timed.Views.StartViews.{front_split}
 
--- node i began again since then, or is in the incarnation that it was in, and ran then if it runs
-pub record IsSince (then : RunState) (i : ℕ) (s : RunState) : Type 0 where
-  pub grown : length then.trace ≤ length s.trace
-  pub present : (length then.trace < (node_at s.nodes i).present.since)
+-- node i began again after slot t, or is in the incarnation that it was in then, and ran then if it runs
+pub record IsSince (then : RunState) (t i : ℕ) (s : RunState) : Type 0 where
+  pub grown : t ≤ length s.trace
+  pub present : (t < (node_at s.nodes i).present.since)
       ⊎ (((node_at s.nodes i).present ≡ (node_at then.nodes i).present) × (runs (node_at s.nodes i) ≡ true → runs (node_at then.nodes i) ≡ true))
 
-module _ (scenario : ScenarioParts) (then : RunState) (i : ℕ) (there : i < scenario.params.nodes) where
-  after_turns : (journal : List Step) (next : Step) (j : ℕ) → MayTurn (run scenario journal) j
-      → run scenario (journal ++ next ∷ []) ≡ after_turn scenario j (run scenario journal) → IsSince then i (run scenario journal)
-      → IsSince then i (run scenario (journal ++ next ∷ []))
-  after_turns journal next j may is h =
-      let s : RunState = run scenario journal in
-      let o = orderly scenario journal in
-      let to : RunState = after_turn scenario j s in
-      let present : (node_at to.nodes i).present ≡ (node_at s.nodes i).present = after_turn-present scenario j s i may (o.unread j) in
-      let running : runs (node_at to.nodes i) ≡ runs (node_at s.nodes i) = after_turn-runs scenario j s i may (o.unread j) in
-      subst (IsSince then i) (sym is) (record {
-        grown = subst (λ trace. length then.trace ≤ length trace) (sym (after_turn-trace scenario j s)) h.grown;
-        present = elim h.present [
-          | inl later ↦ inl (subst (λ (inc : Incarnation). length then.trace < inc.since) (sym present) later)
-          | inr same ↦ inr (present ∙ same.0, λ r. same.1 (sym running ∙ r))
-        ];
-      })
-
-  after_slots : (journal : List Step) (next : Step)
-      → run scenario (journal ++ next ∷ []) ≡ after_restarts scenario (after_slot (script scenario.rules) (run scenario journal))
-      → IsSince then i (run scenario journal) → IsSince then i (run scenario (journal ++ next ∷ []))
-  after_slots journal next is h =
+-- what goes on keeps it
+pub since_kept : (scenario : ScenarioParts) (then : RunState) (t i : ℕ) → i < scenario.params.nodes → IsKeptOn scenario (IsSince then t i)
+since_kept scenario then t i there = record {
+  slot = λ journal may h.
       let s : RunState = run scenario journal in
       let rules : FaultScript = script scenario.rules in
       let slot : RunState = after_slot rules s in
-      let later : RunState = after_restarts scenario slot in
-      let o = orderly scenario journal in
-      let below : i < length s.nodes = omega (arith, there, o.count) in
-      let long : length slot.trace ≡ suc (length s.trace) = ap length (after_slot-trace rules s) in
-      let size : length later.trace ≡ length slot.trace = ap length (after_restarts-trace scenario slot) in
+      let below : i < length s.nodes = omega (arith, there, (orderly scenario journal).count) in
       let present : (node_at slot.nodes i).present ≡ (node_at s.nodes i).present = after_slot-present rules s i below in
-      let grown : length then.trace ≤ length later.trace = omega (arith, long, size, h.grown) in
-      subst (IsSince then i) (sym is) (elim (restarts_or_stays scenario slot i) [
-        | inr stays ↦ record {
-          grown = grown;
-          present = elim h.present [
-            | inl after ↦ inl (subst (λ (inc : Incarnation). length then.trace < inc.since) (sym (ap (λ (n : NodeState). n.present) stays ∙ present)) after)
+      record {
+        grown = omega (arith, one_longer scenario s, h.grown);
+        present = elim (restarts_or_stays scenario slot i) [
+          | inl new ↦ inl (subst (λ (inc : Incarnation). t < inc.since) (sym (ap (λ (n : NodeState). n.present) new.is))
+              (omega (arith, ap length (after_slot-trace rules s), h.grown)))
+          | inr stays ↦ elim h.present [
+            | inl after ↦ inl (subst (λ (inc : Incarnation). t < inc.since) (sym (ap (λ (n : NodeState). n.present) stays ∙ present)) after)
             | inr same ↦ inr (
               ap (λ (n : NodeState). n.present) stays ∙ present ∙ same.0,
               λ r. same.1 (running_before_slot rules s i (sym (ap (λ (n : NodeState). runs n) stays) ∙ r)).0,
             )
-          ];
-        }
-        | inl new ↦ record {
-          grown = grown;
-          present = inl (subst (λ (inc : Incarnation). length then.trace < inc.since) (sym (ap (λ (n : NodeState). n.present) new.is))
-              (omega (arith, long, h.grown)));
-        }
-      ])
-
-  -- what goes on keeps it
-  pub is_since : (front rest : List Step) → IsSince then i (run scenario front) → IsSince then i (run scenario (front ++ rest))
-  is_since = along_rest (λ journal. IsSince then i (run scenario journal)) (λ journal next h. elim (pushed scenario journal next).is [
-    | inl refused ↦ subst (IsSince then i) (sym refused) h
-    | inr (inl slot) ↦ after_slots journal next slot.1 h
-    | inr (inr turn) ↦ after_turns journal next turn.0 turn.1 turn.2 h
-  ])
+          ]
+        ];
+      };
+  turn = λ journal j may h.
+      let s : RunState = run scenario journal in
+      let short : (node_at s.nodes j).unread ≤ length s.trace = (orderly scenario journal).unread j in
+      let present : (node_at (after_turn scenario j s).nodes i).present ≡ (node_at s.nodes i).present = after_turn-present scenario j s i may short in
+      record {
+        grown = subst (λ trace. t ≤ length trace) (sym (after_turn-trace scenario j s)) h.grown;
+        present = elim h.present [
+          | inl later ↦ inl (subst (λ (inc : Incarnation). t < inc.since) (sym present) later)
+          | inr same ↦ inr (present ∙ same.0, λ r. same.1 (sym (after_turn-runs scenario j s i may short) ∙ r))
+        ];
+      };
+}
 
 -- after a front of the journal the node was in its incarnation, where that began before, and ran
 pub ran_in : (scenario : ScenarioParts) (journal front rest : List Step) → journal ≡ front ++ rest → (i : ℕ) → i < scenario.params.nodes
@@ -86,8 +64,9 @@ pub ran_in : (scenario : ScenarioParts) (journal front rest : List Step) → jou
     → ((node_at (run scenario journal).nodes i).present ≡ (node_at (run scenario front).nodes i).present) × (runs (node_at (run scenario front).nodes i) ≡ true)
 ran_in scenario journal front rest whole i there running begun =
     let then : RunState = run scenario front in
-    let h = subst (λ j. IsSince then i (run scenario j)) (sym whole)
-    (is_since scenario then i there front rest (record { grown = omega arith; present = inr (refl, λ r. r) })) in
+    let t : ℕ = length then.trace in
+    let h = subst (λ j. IsSince then t i (run scenario j)) (sym whole)
+    (kept_on scenario (IsSince then t i) (since_kept scenario then t i there) front rest (record { grown = omega arith; present = inr (refl, λ r. r) })) in
     elim h.present [
       | inl later ↦ absurd (omega (arith, later, begun))
       | inr same ↦ (same.0, same.1 running)

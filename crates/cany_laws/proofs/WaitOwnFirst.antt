@@ -44,11 +44,12 @@ use Rattle.cany_model.proofs.Bus.Carried.{is_got-true, is_sent-true}
 use Rattle.cany_model.proofs.Bus.Notes.{given-Got, given-Sent, sender_waits}
 use Rattle.cany_model.proofs.Bus.Seen.{seen_idle}
 use Rattle.cany_model.proofs.Promises.EachNode.{restarted_new}
-use Rattle.cany_model.proofs.Promises.Sources.{IsSourced, MayHold, carries_data, sourced}
+use Rattle.cany_model.proofs.Promises.Sources.{IsSourced, MayHold, sourced}
 use Rattle.cany_model.proofs.Rules.MessageKeys.{same_message}
+use Rattle.cany_model.proofs.Rules.ProtocolFacts.{is_data}
 use Rattle.cany_model.proofs.Runs.Journals.{run_none}
 use Rattle.cany_model.proofs.Runs.Runs.{orderly, orderly_slot}
-use Rattle.cany_laws.proofs.Fronts.{along_pushes, pushed}
+use Rattle.cany_laws.proofs.Fronts.{kept_always}
 use Rattle.cany_laws.proofs.WaitUnsent.{IsReadOrUnsent, IsUnsent, read_or_unsent, waited_or_asked}
 use Rattle.cany_model.proofs.Timed.Order.TotSlots.{waiting_frame}
 
@@ -111,7 +112,7 @@ own_frame scenario m is ed s sourced i running f there same =
     let w : List FrameParts = (node_at s.nodes i).waiting in
     let may = Each-of (MayHold scenario s.trace i) f w (sourced.waiting i running) (Among-from_Contains w f there) in
     let class : f.class ≡ class.Ed = sym (ap (λ (y : Identity). y.class) same) ∙ ap data_class ed in
-    let held = may (ap carries_data class) in
+    let held = may (ap is_data class) in
     let k : Message = held.message in
     let id : data_id m ≡ data_id k = same ∙ sym (ap identity_of held.is) in
     let one : k ≡ m =
@@ -275,20 +276,14 @@ module _ (scenario : ScenarioParts) (m : Message) (is : IsOneOf (messages_of sce
 pub asked_once : (scenario : ScenarioParts) → scenario.params.nodes ≤ most_nodes → (m : Message) → IsOneOf (messages_of scenario.sends) m → m.service ≡ Ed
     → (journal : List Step) → EachAskedOnce m (run scenario journal)
 asked_once scenario few m is ed =
-    along_pushes (λ front. EachAskedOnce m (run scenario front))
-    (subst (EachAskedOnce m) (sym (run_none scenario (opening scenario.params.nodes))) (λ i running. inr (λ h. tt)))
-    (λ front next all. elim (pushed scenario front next).is [
-      | inl refused ↦ subst (EachAskedOnce m) (sym refused) all
-      | inr (inl slot) ↦
+    kept_always scenario (EachAskedOnce m) (record {
+      slot = λ front may all.
           let s : RunState = run scenario front in
           let o = orderly scenario front in
           let rules : FaultScript = script scenario.rules in
           let after : RunState = after_slot rules s in
           let some : 0 < length after.trace = omega (arith, ap length (after_slot-trace rules s)) in
-          subst (EachAskedOnce m) (sym slot.1)
-          (restarts_once scenario m after (orderly_slot scenario.params.nodes rules s o) some
-          (λ i running. slot_once scenario m is ed rules s o few (sourced scenario front few) i running (all i (running_before_slot rules s i running).0)))
-      | inr (inr turn) ↦
-          subst (EachAskedOnce m) (sym turn.2)
-          (turns_once scenario m is ed (run scenario front) (orderly scenario front) turn.0 turn.1 (read_or_unsent scenario m is ed front) all)
-    ])
+          restarts_once scenario m after (orderly_slot scenario.params.nodes rules s o) some
+          (λ i running. slot_once scenario m is ed rules s o few (sourced scenario front few) i running (all i (running_before_slot rules s i running).0));
+      turn = λ front i may all. turns_once scenario m is ed (run scenario front) (orderly scenario front) i may (read_or_unsent scenario m is ed front) all;
+    }) (λ i running. inr (λ h. tt))

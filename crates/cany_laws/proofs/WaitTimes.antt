@@ -23,7 +23,7 @@ use Rattle.cany_model.proofs.Runs.Journals.{run_none}
 use Rattle.cany_model.proofs.Runs.Steps.{MayTurn, after_slot-trace, after_turn-trace}
 use Rattle.cany_model.proofs.Timed.Common.Counting.{total}
 use Rattle.cany_laws.specs.Carried.{incarnations_of_first, times_clean}
-use Rattle.cany_laws.proofs.Fronts.{along_pushes, pushed}
+use Rattle.cany_laws.proofs.Fronts.{kept_always}
 use Rattle.cany_laws.proofs.WaitSlots.{is_clean_frame}
 use Rattle.cany_laws.proofs.WaitTotals.{total_both, total_less, total_most}
 
@@ -105,13 +105,9 @@ module _ (scenario : ScenarioParts) (x : Identity) (Q : RunState → Type 0) (le
   pub few_times : ((journal : List Step) → Q (run scenario journal)) → Few (opening n) → (journal : List Step)
       → times_clean x (run scenario journal).trace ≤ incarnations_of_first (run scenario journal) n + more
   few_times known few journal =
-      let h = along_pushes (λ front. Few (run scenario front)) (subst Few (sym (run_none scenario (opening n))) few)
-      (λ front next h. elim (pushed scenario front next).is [
-        | inl refused ↦ subst Few (sym refused) h
-        | inr (inl slot) ↦
-            subst Few (sym slot.1)
-            (few_restarts (after_slot (script scenario.rules) (run scenario front))
-            (few_slot (run scenario front) (orderly scenario front) slot.0 (known front) h))
-        | inr (inr turn) ↦ subst Few (sym turn.2) (few_turn (run scenario front) turn.0 (orderly scenario front) turn.1 (known front) h)
-      ]) journal in
+      let h = kept_always scenario Few (record {
+        slot = λ front may h.
+            few_restarts (after_slot (script scenario.rules) (run scenario front)) (few_slot (run scenario front) (orderly scenario front) may (known front) h);
+        turn = λ front i may h. few_turn (run scenario front) i (orderly scenario front) may (known front) h;
+      }) few journal in
       omega (arith, h, below_is n (run scenario journal))

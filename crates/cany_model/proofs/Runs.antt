@@ -3,6 +3,7 @@ pub mod FollowFacts
 pub mod Following
 pub mod FrameInvariants
 pub mod Journals
+pub mod PresentIncarnations
 pub mod RoundRobinEnds
 pub mod Rounds
 pub mod Runs

@@ -27,7 +27,7 @@ use Rattle.cany_model.proofs.Bus.Carried.{is_got-true}
 use Rattle.cany_model.proofs.Bus.Identities.{same_class-true}
 use Rattle.cany_model.proofs.Bus.Seen.{history-is}
 use Rattle.cany_model.proofs.Promises.EachNode.{EachRunning}
-use Rattle.cany_model.proofs.Promises.SettledFacts.{each_has_read}
+use Rattle.cany_model.proofs.Promises.SettledFacts.{each_has_read, none_awaited}
 use Rattle.cany_model.proofs.Rules.AskedFacts.{asked_at_once, asked_of_backlog}
 use Rattle.cany_model.proofs.Rules.MessageKeys.{IsOneOf, is_service-from}
 use Rattle.cany_model.proofs.Runs.Runs.{IsOrderly, history-length}
@@ -61,17 +61,6 @@ any_waits_not w others m h =
         | inr last ↦ elim (or_cases (waits z w) false last) [ inl accept ↦ waits_not w others z refl accept | inr never ↦ false≢true never ]
       ]
     ]
-
-none_awaited : (s : RunState) (m : Message) → ((i : ℕ) → runs (node_at s.nodes i) ≡ true → AllByRecursion IsOther (node_at s.nodes i).waiting)
-    → is_awaited (frames_of m) s ≡ false
-unfolding node_at
-none_awaited s m others =
-    let test : NodeState → Bool = λ node. runs node && list_any (λ x. waits x node.waiting) (frames_of m) in
-    false_from_ne_true (list_any test s.nodes) (λ h.
-    let at = Among-place (λ node. test node ≡ true) absent 0 s.nodes (Among-from_any test s.nodes h) in
-    let node : NodeState = node_at s.nodes at.0 in
-    let parts = and_parts (runs node) (list_any (λ x. waits x node.waiting) (frames_of m)) at.3 in
-    any_waits_not node.waiting (others at.0 parts.0) m parts.1)
 
 -- ---- nothing is ahead
 
@@ -225,5 +214,5 @@ module _ (scenario : ScenarioParts) (last : ℕ) (s : RunState) (o : IsOrderly s
       let quiet : Bool = not (is_awaited (frames_of m) s) in
       and_from (asked && quiet && all_read s) (not (is_ahead scenario s m))
       (and_from (asked && quiet) (all_read s)
-      (and_from asked quiet is_asked (not_from_false (is_awaited (frames_of m) s) (none_awaited s m (λ i running. (rest i running).waits)))) all)
+      (and_from asked quiet is_asked (not_from_false (is_awaited (frames_of m) s) (none_awaited (frames_of m) s (λ i running. any_waits_not (node_at s.nodes i).waiting (rest i running).waits m)))) all)
       (not_from_false (is_ahead scenario s m) none_is_ahead)

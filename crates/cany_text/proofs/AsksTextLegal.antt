@@ -13,7 +13,7 @@ use Rattle.cany_text.specs.declared.scenario_fault.TableName.TheVariants as tabl
 use Rattle.cany_text.specs.AsksText.{ask_keys, ask_from, joins_of, leaves_of, is_one_too_many, restarts_of}
 use Rattle.cany_text.specs.TomlKeys.{Entry, has_only, required, number_from, entries_of, first_after}
 use Rattle.cany_text.proofs.FirstAfter.{count_by-reverse, holds_at, none_after}
-use Rattle.cany_text.proofs.TomlSteps.{bind_ok, same_ok, fault_unless-true, required-below, AreFew, entries_of-few, fault_at_first-none}
+use Rattle.cany_text.proofs.TomlSteps.{bind_ok, same_ok, fault_unless-true, required-below, AreFew, entries_of-few, entries_of-none}
 
 pub some_node : (p : Parameters) → IsInRange p → 1 ≤ p.nodes
 some_node p r = let n = r.nodes in omega (arith, n)
@@ -90,12 +90,5 @@ pub restarts_of-legal : (p : Parameters) → IsInRange p → (top : Entry) (rest
     → AreRestartsOf p restarts
 unfolding restarts_of
 restarts_of-legal p r top restarts h =
-    let each = bind_ok (entries_of table.Restart most_restarts (ask_from p) key.Restart top) _ restarts h in
-    let few = entries_of-few (IsAskOf p) table.Restart most_restarts (ask_from p) (ask_from-legal p r) key.Restart top each.0 each.1 in
-    let seldom = fault_at_first-none is_one_too_many TooOften each.0 _ restarts each.2 in
-    let same = same_ok each.0 restarts seldom.1 in
-    rw (← same) (record {
-      all = few.0;
-      few = few.1;
-      few_of_node = few_of_each each.0 seldom.0;
-    })
+    let read = entries_of-none (IsAskOf p) table.Restart most_restarts (ask_from p) (ask_from-legal p r) key.Restart top is_one_too_many TooOften restarts h in
+    record { all = read.0.0; few = read.0.1; few_of_node = few_of_each restarts read.1 }

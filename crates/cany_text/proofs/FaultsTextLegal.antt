@@ -23,7 +23,7 @@ use Rattle.cany_text.specs.TomlKeys.{Read, Entry, has_only, required, optional, 
 use Rattle.cany_text.proofs.AsksTextLegal.{some_node}
 use Rattle.cany_text.proofs.FirstAfter.{holds_at, list_any-reverse, none_after}
 use Rattle.cany_text.proofs.NodesTextLegal.{nobody-below, nodes_at-below}
-use Rattle.cany_text.proofs.TomlSteps.{bind_ok, same_ok, fault_unless-true, required-range, required-below, entries_of-few, fault_at_first-none}
+use Rattle.cany_text.proofs.TomlSteps.{bind_ok, same_ok, fault_unless-true, required-range, required-below, entries_of-few, entries_of-none}
 
 -- ---- a rule
 
@@ -134,12 +134,5 @@ pub record AreRulesOf (p : Parameters) (rules : List Rule) : Type 0 where
 pub rules_of-legal : (p : Parameters) → IsInRange p → (top : Entry) (rules : List Rule) → rules_of p top ≡ Ok rules → AreRulesOf p rules
 unfolding rules_of
 rules_of-legal p r top rules h =
-    let each = bind_ok (entries_of table.Fault most_rules (rule_from p) key.Fault top) _ rules h in
-    let few = entries_of-few (IsRuleOf p) table.Fault most_rules (rule_from p) (rule_from-of p r) key.Fault top each.0 each.1 in
-    let once = fault_at_first-none repeats RepeatedRule each.0 _ rules each.2 in
-    let same = same_ok each.0 rules once.1 in
-    rw (← same) (record {
-      all = few.0;
-      few = few.1;
-      apart = distinct_after [] each.0 once.0;
-    })
+    let read = entries_of-none (IsRuleOf p) table.Fault most_rules (rule_from p) (rule_from-of p r) key.Fault top repeats RepeatedRule rules h in
+    record { all = read.0.0; few = read.0.1; apart = distinct_after [] rules read.1 }

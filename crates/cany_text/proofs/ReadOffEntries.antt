@@ -17,7 +17,7 @@ use Rattle.cany_text.specs.ReportLines.{line_of, byte_text, hexadecimal_digit, p
 use Rattle.cany_text.specs.TextNames.{service_name}
 use Rattle.cany_model.proofs.Among.{Among, Each-filter}
 use Rattle.cany_text.proofs.ReadOffLines.{payload_lacks, set_lacks}
-use Rattle.cany_text.proofs.ReadOffLists.{among_numbers, at_number, cons_same, stands_in, tests_same}
+use Rattle.cany_text.proofs.ReadOffLists.{among_numbers, at_number, cons_same, stands_in, tests_same, lists_same}
 use Rattle.cany_text.proofs.ReadOffText.{Lacks, decimals_lack, fields_same, join_lacks, lacks_itself, line_fields, no_space}
 
 abbrev pub AreBytes : List ℕ → Type 0
@@ -74,17 +74,6 @@ payload_same p q a b e = bytes_same p q a b (cons_same 120 120 (flat_map byte_te
 
 -- ---- sets
 
-decimals_same : (ms ns : List ℕ) → AllByRecursion (λ n. n < 2 ^ 64) ms → AllByRecursion (λ n. n < 2 ^ 64) ns
-    → map decimal ms ≡ map decimal ns → ms ≡ ns
-decimals_same [] [] a b e = refl
-decimals_same [] (n ∷ ns) a b e = absurd (cc)
-decimals_same (m ∷ ms) [] a b e = absurd (cc)
-decimals_same (m ∷ ms) (n ∷ ns) a b e =
-    let parts = cons_same (decimal m) (decimal n) (map decimal ms) (map decimal ns) e in
-    let first : m ≡ n = decimal_injective m n a.0 b.0 parts.0 in
-    let rest = decimals_same ms ns a.1 b.1 parts.1 in
-    cc
-
 -- a set with a node is not written by a dash
 no_dash : (n : ℕ) (ns : List ℕ) → codes "-" ≡ join_with_byte 44 (map decimal (n ∷ ns)) → ⊥
 no_dash n ns e =
@@ -97,7 +86,7 @@ numbers_same [] [] a b e = refl
 numbers_same [] (n ∷ ns) a b e = absurd (no_dash n ns e)
 numbers_same (m ∷ ms) [] a b e = absurd (no_dash m ms (sym e))
 numbers_same (m ∷ ms) (n ∷ ns) a b e =
-    decimals_same (m ∷ ms) (n ∷ ns) a b
+    lists_same decimal (λ n. n < 2 ^ 64) decimal_injective (m ∷ ms) (n ∷ ns) a b
     (fields_same 44 (decimal m) (decimal n) (map decimal ms) (map decimal ns) (decimals_lack 44 (omega arith) (m ∷ ms))
     (decimals_lack 44 (omega arith) (n ∷ ns)) e)
 
@@ -240,11 +229,4 @@ entry_same x y a b e = by_kind x y a b e (sym (starts x) ∙ ap (λ l. slice_ind
 
 pub logs_same : (xs ys : List LogEntry) → AllByRecursion IsWritable xs → AllByRecursion IsWritable ys
     → map entry_line xs ≡ map entry_line ys → xs ≡ ys
-logs_same [] [] a b e = refl
-logs_same [] (y ∷ ys) a b e = absurd (cc)
-logs_same (x ∷ xs) [] a b e = absurd (cc)
-logs_same (x ∷ xs) (y ∷ ys) a b e =
-    let parts = cons_same (entry_line x) (entry_line y) (map entry_line xs) (map entry_line ys) e in
-    let first = entry_same x y a.0 b.0 parts.0 in
-    let rest = logs_same xs ys a.1 b.1 parts.1 in
-    cc
+logs_same = lists_same entry_line IsWritable entry_same

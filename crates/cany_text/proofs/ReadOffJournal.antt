@@ -24,7 +24,7 @@ use Rattle.cany_model.specs.Bus.State.{RunState}
 use Rattle.cany_text.specs.JournalText.{step_of}
 use Rattle.cany_text.specs.ReportLines.{line_of, first_line, params_line, journal_line, journal_lines, step_letter}
 use Rattle.cany_text.proofs.JournalLetters.{IsStepIn, step_of-letter}
-use Rattle.cany_text.proofs.ReadOffLists.{cons_same}
+use Rattle.cany_text.proofs.ReadOffLists.{cons_same, lists_same}
 use Rattle.cany_text.proofs.ReadOffText.{Lacks, Told, line_fields, no_space, number, texts_lack, word}
 
 -- ---- letters
@@ -34,14 +34,7 @@ abbrev pub HasLetter : Step → Type 0
 HasLetter step = IsStepIn Two step
 
 letters_same : (j k : List Step) → AllByRecursion HasLetter j → AllByRecursion HasLetter k → map step_letter j ≡ map step_letter k → j ≡ k
-letters_same [] [] a b e = refl
-letters_same [] (y ∷ k) a b e = absurd (cc)
-letters_same (x ∷ j) [] a b e = absurd (cc)
-letters_same (x ∷ j) (y ∷ k) a b e =
-    let parts = cons_same (step_letter x) (step_letter y) (map step_letter j) (map step_letter k) e in
-    let first : x ≡ y = same_Some x y (sym (step_of-letter Two x a.0) ∙ ap (step_of Two) parts.0 ∙ step_of-letter Two y b.0) in
-    let rest = letters_same j k a.1 b.1 parts.1 in
-    cc
+letters_same = lists_same step_letter HasLetter (λ x y a b e. same_Some x y (sym (step_of-letter Two x a) ∙ ap (step_of Two) e ∙ step_of-letter Two y b))
 
 -- each step of a legal journal has a letter
 done_below : (b : Bool) (i : ℕ) (otherwise : StepReply) → is_done (if b then NoNode i else otherwise) ≡ true → b ≡ false

@@ -1,5 +1,5 @@
 -- Lists that are read off: by what their elements have, and where they end.
-use Rattle.std.proofs.Common.{◌≡◌, ℕ, zero, suc, ◌+◌, ◌<◌, ◌≤◌, Bool, true, false, List, [], ◌∷◌, ◌++◌, refl, ap, sym, ◌∙◌, subst, inl, inr, arith}
+use Rattle.std.proofs.Common.{◌≡◌, ℕ, zero, suc, ◌+◌, ◌<◌, ◌≤◌, Bool, true, false, List, [], ◌∷◌, ◌++◌, refl, ap, sym, ◌∙◌, subst, inl, inr, arith, map}
 use Rattle.std.specs.Prelude.{filter}
 use Rattle.std.specs.List.{AllByRecursion, flat_map, list_all, range_with_len}
 use Rattle.std.proofs.lemmas.Bool.{and_parts, cases_eq, cond_both, false≢true}
@@ -8,6 +8,18 @@ use Rattle.cany_model.proofs.Among.{Among, Each-of}
 
 pub cons_same : {X : Type 0} (x y : X) (xs ys : List X) → x ∷ xs ≡ y ∷ ys → (x ≡ y) × (xs ≡ ys)
 cons_same x y xs ys e = (cc, cc)
+
+-- lists whose elements are told apart by what a function makes of them are told apart by the lists that it makes
+pub lists_same : {X Y : Type 0} (f : X → Y) (P : X → Type 0) → ((x y : X) → P x → P y → f x ≡ f y → x ≡ y) → (xs ys : List X)
+    → AllByRecursion P xs → AllByRecursion P ys → map f xs ≡ map f ys → xs ≡ ys
+lists_same f P one [] [] a b e = refl
+lists_same f P one [] (y ∷ ys) a b e = absurd (cc)
+lists_same f P one (x ∷ xs) [] a b e = absurd (cc)
+lists_same f P one (x ∷ xs) (y ∷ ys) a b e =
+    let parts = cons_same (f x) (f y) (map f xs) (map f ys) e in
+    let first = one x y a.0 b.0 parts.0 in
+    let rest = lists_same f P one xs ys a.1 b.1 parts.1 in
+    cc
 
 -- ---- lists of which the front has a property, and what comes next has not
 

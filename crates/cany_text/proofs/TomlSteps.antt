@@ -155,3 +155,16 @@ pub fault_at_first-none : {A B : Type 0} (test : List A → A → Bool) (fault :
 fault_at_first-none test fault items f y h =
     let step = bind_ok (fault_at_first test fault items) f y h in
     (none_from_ok fault (first_after test [] items) tt step.1, step.2)
+
+-- the entries of an array, where the test holds of none after those before it
+pub entries_of-none : {A : Type 0} (P : A → Type 0) (table : TableName) (most : ℕ) (read : Entry → Read A)
+    → ((entry : Entry) (x : A) → read entry ≡ Ok x → P x)
+    → (name : KeyName) (top : Entry) (test : List A → A → Bool) (fault : ℕ → ScenarioFault) (all : List A)
+    → (entries_of table most read name top >>= (λ items. fault_at_first test fault items >>= (λ _. Ok items))) ≡ Ok all
+    → AreFew P most all × (first_after test [] all ≡ None)
+entries_of-none P table most read each name top test fault all h =
+    let items = bind_ok (entries_of table most read name top) _ all h in
+    let few = entries_of-few P table most read each name top items.0 items.1 in
+    let none = fault_at_first-none test fault items.0 _ all items.2 in
+    let same = same_ok items.0 all none.1 in
+    rw (← same) (few, none.0)

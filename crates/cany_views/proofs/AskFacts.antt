@@ -7,9 +7,8 @@ use Rattle.cany_base.specs.declared.message.NodeAsk.{NodeAsk}
 use Rattle.cany_base.specs.Limits.{most_numbers}
 use Rattle.cany_base.specs.Params.{Parameters}
 use Rattle.cany_base.specs.Scenario.{ScenarioParts, IsAskOf, IsLegalScenario}
-use Rattle.cany_model.specs.Rules.Knowledge.{FailureSign, fda_frame}
 use Rattle.cany_base.specs.Cycles.{cycle_of}
-use Rattle.cany_model.proofs.Rules.NumberFacts.{belongs_small}
+use Rattle.cany_model.proofs.Rules.NumberFacts.{cycle_small}
 use Rattle.cany_views.specs.Views.{AreNumbers, asked_cycles}
 
 -- there are no more of them than the script has asks
@@ -19,18 +18,7 @@ few_asked p i asks =
     let is_own : NodeAsk → Bool = λ ask. ask.node == i in
     omega (arith, length-map (filter is_own asks) cycle, length-filter is_own asks, count_by-le-length is_own asks)
 
--- frames can have the number of each cycle of the run
-pub cycle_small : (scenario : ScenarioParts) → IsLegalScenario scenario → (slot : ℕ) → slot < scenario.params.slots
-    → cycle_of scenario.params slot < most_numbers
-cycle_small scenario legal slot within =
-    let sign : FailureSign = record { node = 0; cycle = cycle_of scenario.params slot } in
-    let small = belongs_small scenario slot (fda_frame sign) legal within (record {
-      node = omega (arith, legal.in_range.nodes.0);
-      number = omega arith;
-    }) in
-    small.number
-
--- and so those of the cycles of all asks
+-- frames can have the numbers of the cycles of all asks
 pub asks_small : (scenario : ScenarioParts) → IsLegalScenario scenario → (asks : List NodeAsk) → All (IsAskOf scenario.params) asks
     → All (λ ask. cycle_of scenario.params ask.slot < most_numbers) asks
 asks_small scenario legal asks all =

@@ -8,8 +8,9 @@ use Rattle.cany_model.specs.Rules.Knowledge.{Knowledge, knowledge_at_first}
 use Rattle.cany_model.specs.Rules.Views.{with_view}
 use Rattle.cany_views.specs.Views.{HasNodesOfBus, IsInBounds, IsViewsOf, ViewsParts, asked_cycles}
 use Rattle.cany_views.specs.ViewsSteps.{installed}
-use Rattle.cany_views.proofs.AskFacts.{asked_small, cycle_small}
+use Rattle.cany_views.proofs.AskFacts.{asked_small}
 use Rattle.cany_base.proofs.SetFacts.{below_meet, below_minus}
+use Rattle.cany_model.proofs.Rules.NumberFacts.{cycle_small}
 
 -- ---- with other sets
 

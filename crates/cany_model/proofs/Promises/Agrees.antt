@@ -38,7 +38,7 @@ use Rattle.cany_model.proofs.Promises.OwnSlotsAlone.{run_numbered}
 use Rattle.cany_model.proofs.Promises.Firsts.{carried_has_first, first_some}
 use Rattle.cany_model.proofs.Promises.OneFrame.{data_carries, only_frame}
 use Rattle.cany_model.proofs.Promises.SettledFacts.{settled_asked_or_late, settled_read, settled_waits}
-use Rattle.cany_model.proofs.Promises.Sources.{IsSourced, carries_data, sourced}
+use Rattle.cany_model.proofs.Promises.Sources.{IsSourced, sourced}
 use Rattle.cany_model.proofs.Rules.AskedFacts.{asked_at_once}
 use Rattle.cany_model.proofs.Rules.DeliveryFacts.{DeliversAtOnce, entry_from_brought}
 use Rattle.cany_model.proofs.Rules.LogFacts.{log_has, log_split, made_by}
@@ -46,7 +46,7 @@ use Rattle.cany_model.proofs.Rules.MessageKeys.{IsOneOf}
 use Rattle.cany_model.proofs.Runs.FrameInvariants.{history_note}
 use Rattle.cany_model.proofs.Runs.Runs.{orderly}
 use Rattle.cany_model.proofs.Rules.Begun.{IsBegun}
-use Rattle.cany_model.proofs.Rules.ProtocolFacts.{IsFoundedEntry, MayStart}
+use Rattle.cany_model.proofs.Rules.ProtocolFacts.{IsFoundedEntry, MayStart, is_data}
 use Rattle.cany_model.proofs.Rules.Protocols.{IsProtocol}
 
 -- a data frame carries no vector
@@ -112,7 +112,7 @@ pub origin_sent : (scenario : ScenarioParts) (m : Message) (s : RunState) → Is
     → Among (SentBy m.origin (data_id m)) s.trace
 origin_sent scenario m s sourced carried =
     let w = Among-which (Carries (data_id m)) s.trace carried in
-    let sent = sourced.carried w.0 w.2.what w.1 w.2.frame (ap (λ (y : Identity). carries_data y.class) (sym w.2.identity) ∙ data_carries m.service) in
+    let sent = sourced.carried w.0 w.2.what w.1 w.2.frame (ap (λ (y : Identity). is_data y.class) (sym w.2.identity) ∙ data_carries m.service) in
     let id : data_id m ≡ identity_of (data_frame sent.message) = w.2.identity ∙ sym (ap identity_of sent.is) in
     let origin : m.origin ≡ sent.message.origin = ap (λ (y : Identity). y.node) id in
     Among-weaker (λ n. n ≡ sent.sent.note) (SentBy m.origin (data_id m))

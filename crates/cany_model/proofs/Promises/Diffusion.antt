@@ -44,15 +44,19 @@ pub record Duty : Type 1 where
   -- what a node has read that has only begun, at the opening or by a restart
   pub begins : List NoticeKind → Type 0
 
+-- in the turn of the notice the node asks for the frame, unless the copies are enough or it has sent the frame
+abbrev pub IsAnswered : (turn : ℕ → List NoticeKind → List Effect) (omit : ℕ) (x : Identity) (i : ℕ) (e : NoticeKind) (past : List NoticeKind) → Type 0
+IsAnswered turn omit x i e past =
+    Among (Asks x) (turn i (e ∷ past)) ⊎ ((omit < copies x (e ∷ past)) ⊎ (has_own x (e ∷ past) ≡ true))
+
 -- the rules of a protocol do their duty for the frame x
 pub record IsDiffused (turn : ℕ → List NoticeKind → List Effect) (omit : ℕ) (x : Identity) (duty : Duty) : Type 0 where
   pub at_first : (i : ℕ) (past : List NoticeKind) → duty.begins past → duty.owes i past → ⊥
   pub stays : (i : ℕ) (e : NoticeKind) (past : List NoticeKind) → duty.owes i past → duty.owes i (e ∷ past)
   -- a node that owes the frame may start, or has read a copy
   pub known : (i : ℕ) (past : List NoticeKind) → duty.owes i past → duty.starts i past ⊎ (0 < copies x past)
-  -- a node that comes to owe the frame asks for it, unless the copies are enough or it has sent the frame
-  pub asked : (i : ℕ) (e : NoticeKind) (past : List NoticeKind) → duty.owes i (e ∷ past)
-      → duty.owes i past ⊎ (Among (Asks x) (turn i (e ∷ past)) ⊎ ((omit < copies x (e ∷ past)) ⊎ (has_own x (e ∷ past) ≡ true)))
+  -- a node that comes to owe the frame answers in that turn
+  pub asked : (i : ℕ) (e : NoticeKind) (past : List NoticeKind) → duty.owes i (e ∷ past) → duty.owes i past ⊎ IsAnswered turn omit x i e past
   -- it is withdrawn only with more than omit copies
   pub withdrawn : (i : ℕ) (past : List NoticeKind) → Among (Withdraws x) (turn i past) → omit < copies x past
   -- it is asked for only by a node that owes it

@@ -2,7 +2,7 @@
 -- node; and of what a turn makes of it. It speaks of the trace as the node's incarnation sees it.
 use Rattle.std.proofs.Common.{◌≡◌, ℕ, ◌+◌, ◌-◌, ◌<◌, ◌≤◌, ◌⊎◌, inl, inr, true, List, [], ◌∷◌, Some, None, map, drop, length, refl, ap, sym, ◌∙◌, subst, add-one, arith}
 use Rattle.std.specs.List.{AllByRecursion}
-use Rattle.std.proofs.lemmas.Bool.{both_ways, cases_Bool, cases_eq}
+use Rattle.std.proofs.lemmas.Bool.{both_ways, cases_Bool}
 use Rattle.std.proofs.lemmas.List.{length-map}
 use Rattle.cany_base.specs.declared.notice.NoticeKind.{NoticeKind}
 use Rattle.cany_base.specs.declared.notice.NoticeKind.TheVariants.{Idle, Got, Sent, Bad}
@@ -27,7 +27,7 @@ use Rattle.cany_model.proofs.Bus.Restarts.{Restarts, after_restarts-trace, resta
 use Rattle.cany_model.proofs.Runs.Runs.{IsKept, IsOrderly, along_run, opening_within}
 use Rattle.cany_model.proofs.Bus.Seen.{Numbered, early_hidden, history-is, length-seen, seen_hidden, seen_idle, seen_one, seen_past, seen_plain}
 use Rattle.cany_model.proofs.Bus.States.{node_at-opening, runs_within}
-use Rattle.cany_model.proofs.Runs.Steps.{MayTurn, after_slot-present, after_slot-trace, after_slot-unread, after_slot-waiting, after_turn-history, after_turn-node, after_turn-other, after_turn-present, after_turn-runs, after_turn-trace, kept_at, next_notice, running_before_slot}
+use Rattle.cany_model.proofs.Runs.Steps.{MayTurn, after_slot-present, after_slot-trace, after_slot-unread, after_slot-waiting, after_turn-history, after_turn-node, after_turn-present, after_turn-trace, each_turned, kept_at, next_notice, running_before_slot}
 use Rattle.cany_model.proofs.Runs.Waits.{Each-after, Each-kept, waits-from_with}
 use Rattle.cany_model.proofs.Promises.Diffusion.{Heard, Lived, Turned, past_of}
 use Rattle.cany_model.proofs.Promises.OwnSlotsAlone.{AllWaitForOwnSlots, WaitsForOwnSlots, own_slots_alone_opening, own_slots_alone_kept, from_later, members_later, run_numbered, sent_plain}
@@ -44,20 +44,14 @@ kept_cases (Got f) w v e = inl e
 kept_cases (Sent f) w v e = inr (f, refl, e)
 kept_cases Bad w v e = inl e
 
-pub clean_success : (v : Verdict) → v ≡ Clean → is_success v ≡ true
-clean_success v e = rw e refl
-
-clean_lets : (v : Verdict) (i : ℕ) → v ≡ Clean → lets_accept v i ≡ true
-clean_lets v i e = rw e refl
-
 slot_heard : (rules : FaultScript) (s : RunState) (i : ℕ) → runs (node_at s.nodes i) ≡ true → Heard i (slot_note_of rules s)
 slot_heard rules s i running = record {
   accepts = λ f got.
       let parts = given-Got i (slot_note_of rules s) f got in
       (taker_accepts rules s f i parts.0 parts.2).1;
   clean = λ few f frame clean. elim (cases_Bool (has (slot_note_of rules s).senders i)) [
-    | inl sent ↦ inr (given_sender i (slot_note_of rules s) f frame sent (clean_success (slot_note_of rules s).verdict clean))
-    | inr silent ↦ inl (given_taker i (slot_note_of rules s) f frame silent (running_takes rules s f i few frame running silent (clean_lets (slot_note_of rules s).verdict i clean)))
+    | inl sent ↦ inr (given_sender i (slot_note_of rules s) f frame sent (ap is_success clean))
+    | inr silent ↦ inl (given_taker i (slot_note_of rules s) f frame silent (running_takes rules s f i few frame running silent (ap (λ v. lets_accept v i) clean)))
   ];
 }
 
@@ -232,17 +226,22 @@ each_restarts scenario P is_new s o some all i running =
       | inr same ↦ rw same (all i (sym (ap (λ node. runs node) same) ∙ running))
     ])
 
+-- what holds of the node that took the turn, by what its incarnation saw before it, and held of each that ran, holds of each that runs after it
+pub each_turn : (scenario : ScenarioParts) (P : List SlotNote → ℕ → NodeState → Type 0) (s : RunState) (i : ℕ) → MayTurn s i
+    → (node_at s.nodes i).unread ≤ length s.trace
+    → P (seen (node_at s.nodes i).present s.trace) i (node_at (after_turn scenario i s).nodes i)
+    → EachRunning P s → EachRunning P (after_turn scenario i s)
+each_turn scenario P s i may short own all =
+    let after : NodeState = node_at (after_turn scenario i s).nodes i in
+    each_turned scenario i s may short (λ trace j node. P (seen node.present trace) j node)
+    (subst (λ (inc : Incarnation). P (seen inc s.trace) i after) (sym (after_turn-present scenario i s i may short)) own) all
+
 nodes_turn : (scenario : ScenarioParts) (P : List SlotNote → ℕ → NodeState → Type 0) → IsNodes scenario P → (s : RunState) (i : ℕ) → MayTurn s i
     → (node_at s.nodes i).unread ≤ length s.trace → EachRunning P s → EachRunning P (after_turn scenario i s)
-nodes_turn scenario P is s i may short all j running =
-    let after : NodeState = node_at (after_turn scenario i s).nodes j in
-    subst (λ t. P (seen after.present t) j after) (sym (after_turn-trace scenario i s)) (elim (cases_eq j i) [
-      | inl same ↦ subst (λ k. P (seen (node_at (after_turn scenario i s).nodes k).present s.trace) k (node_at (after_turn scenario i s).nodes k)) (sym same)
-          (subst (λ (inc : Incarnation). P (seen inc s.trace) i (node_at (after_turn scenario i s).nodes i)) (sym (after_turn-present scenario i s i may short))
-          (is.turn (seen (node_at s.nodes i).present s.trace) i (node_at s.nodes i) (node_at (after_turn scenario i s).nodes i)
-          (after_turn-present scenario i s i may short) (turn_turned scenario i s may short) (all i may.running)))
-      | inr other ↦ rw (after_turn-other scenario i s j other) (all j (sym (after_turn-runs scenario i s j may short) ∙ running))
-    ])
+nodes_turn scenario P is s i may short all =
+    each_turn scenario P s i may short
+    (is.turn (seen (node_at s.nodes i).present s.trace) i (node_at s.nodes i) (node_at (after_turn scenario i s).nodes i)
+    (after_turn-present scenario i s i may short) (turn_turned scenario i s may short) (all i may.running)) all
 
 -- what holds of a node that begins, and is kept by its slots and its turns, is kept of each running node by each step
 pub nodes_kept : (scenario : ScenarioParts) (P : List SlotNote → ℕ → NodeState → Type 0) → IsNodes scenario P

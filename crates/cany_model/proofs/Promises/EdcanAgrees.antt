@@ -21,7 +21,7 @@ use Rattle.cany_model.specs.Rules.Turn.{scenario_for, turn_effects}
 use Rattle.cany_model.proofs.Promises.Agreement.{owed_carried}
 use Rattle.cany_model.proofs.Promises.Agrees.{Owes, Rules, duty_of, run_agrees}
 use Rattle.cany_model.proofs.Among.{Among, count-no}
-use Rattle.cany_model.proofs.Promises.Diffusion.{IsDiffused, copies_got, copies_grow}
+use Rattle.cany_model.proofs.Promises.Diffusion.{IsDiffused, copies_got, copies_grow, IsAnswered}
 use Rattle.cany_model.proofs.Rules.MessageKeys.{IsOneOf}
 use Rattle.cany_model.proofs.Rules.TurnFacts.{asks_at_its_slot, turn_withdraws, turn_cause_data, turn_relays}
 use Rattle.cany_model.proofs.Runs.Waits.{Asks}
@@ -39,16 +39,11 @@ pub copies_other : (x : Identity) (e : NoticeKind) (past : List NoticeKind) → 
 unfolding copies
 copies_other x e past h = count-no (is_got x) e past h
 
-abbrev Asked : ScenarioParts → Message → ℕ → NoticeKind → List NoticeKind → Type 0
-Asked scenario m i e past =
-    Among (Asks (data_id m)) (turn_effects scenario i (e ∷ past))
-    ⊎ ((scenario.params.omit < copies (data_id m) (e ∷ past)) ⊎ (has_own (data_id m) (e ∷ past) ≡ true))
-
 class_of_ed : (m : Message) → m.service ≡ Ed → (data_id m).class ≡ class.Ed
 class_of_ed m ed = ap data_class ed
 
 asked_got : (scenario : ScenarioParts) (m : Message) → m.service ≡ Ed → (i : ℕ) (e : NoticeKind) (past : List NoticeKind) → 0 < copies (data_id m) (e ∷ past)
-    → (0 < copies (data_id m) past) ⊎ Asked scenario m i e past
+    → (0 < copies (data_id m) past) ⊎ IsAnswered (turn_effects scenario) scenario.params.omit (data_id m) i e past
 asked_got scenario m ed i e past some = elim (cases_Bool (is_got (data_id m) e)) [
   | inr other ↦ inl (omega (arith, some, copies_other (data_id m) e past other))
   | inl got ↦ elim (cases_lt 0 (copies (data_id m) past)) [

@@ -60,7 +60,7 @@ record AreTwo (i number : ℕ) (trace : List SlotNote) (node : NodeState) : Type
   pub numbers : AllByRecursion (IsOwnSign i number) node.waiting
 
 -- the slot of the node's own last life
-abbrev last_life : ScenarioParts → Incarnation → ℕ → List NoticeKind → ℕ
+abbrev pub last_life : ScenarioParts → Incarnation → ℕ → List NoticeKind → ℕ
 last_life scenario inc i past = (knowledge_of (scenario_for scenario inc) i past).last
 
 -- What holds since the last ask. It was made in the turn of this slot, when no more slots than the lag has had run past it, and so many ran

@@ -4,6 +4,7 @@ use Rattle.std.specs.Prelude.{Option, Some, None, if◌then◌else◌}
 use Rattle.std.specs.List.{AllByRecursion, flat_map}
 use Rattle.std.proofs.lemmas.Bool.{false≢true}
 use Rattle.std.proofs.lemmas.Bool.Decides.{nat_tests}
+use Rattle.std.proofs.lemmas.Option.{same_Some}
 use Rattle.cany_base.specs.Frame.{FrameParts, class_number}
 use Rattle.cany_model.specs.Bus.Frames.{is_before, same_class}
 use Rattle.cany_model.specs.Bus.Slot.{FaultScript, better, least_frame, offered, slot_note_of, winner}
@@ -75,9 +76,6 @@ unfolding least_frame
 least_first [] m h = tt
 least_first (f ∷ fs) m h = by_rest (least_frame fs) refl (least_first fs)
   where
-    same : (x y : FrameParts) → Some x ≡ Some y → x ≡ y
-    same x y e = cc
-
     by_order : (k : FrameParts) (b : Bool) → is_before k f ≡ b → NoneBefore k fs → (if b then k else f) ≡ m → NoneBefore m (f ∷ fs)
     by_order k true e rest h' = subst (λ (x : FrameParts). NoneBefore x (f ∷ fs)) h' (before_one_way k f e, rest)
     by_order k false e rest h' = subst (λ (x : FrameParts). NoneBefore x (f ∷ fs)) h'
@@ -85,10 +83,10 @@ least_first (f ∷ fs) m h = by_rest (least_frame fs) refl (least_first fs)
 
     by_rest : (o : Option FrameParts) → least_frame fs ≡ o → ((x : FrameParts) → o ≡ Some x → NoneBefore x fs) → NoneBefore m (f ∷ fs)
     by_rest None e all =
-        let first : f ≡ m = same f m (sym (ap (λ o. Some (better f o)) e) ∙ h) in
+        let first : f ≡ m = same_Some f m (sym (ap (λ o. Some (better f o)) e) ∙ h) in
         subst (λ (x : FrameParts). NoneBefore x (f ∷ fs)) first (not_before_itself f, subst (NoneBefore f) (sym (least_none fs e)) tt)
     by_rest (Some k) e all =
-        by_order k (is_before k f) refl (all k refl) (same (better f (Some k)) m (sym (ap (λ o. Some (better f o)) e) ∙ h))
+        by_order k (is_before k f) refl (all k refl) (same_Some (better f (Some k)) m (sym (ap (λ o. Some (better f o)) e) ∙ h))
 
 all_offered : (P : FrameParts → Type 0) (node : NodeState) (rest : List FrameParts) → AllByRecursion P (offered node ++ rest)
     → (runs node ≡ true → AllByRecursion P node.waiting) × AllByRecursion P rest

@@ -1,7 +1,6 @@
 -- How a fact about each running node is proved of every run, where its proof rests on two things more: that a node sends the first of its
 -- waiting frames, and that it has few notices unread after a turn.
-use Rattle.std.proofs.Common.{◌≡◌, ℕ, ◌≤◌, inl, inr, true, List, ◌∷◌, Some, None, ap, sym, ◌∙◌, subst, arith}
-use Rattle.std.proofs.lemmas.Bool.{cases_eq}
+use Rattle.std.proofs.Common.{◌≡◌, ℕ, ◌≤◌, true, List, ◌∷◌, Some, None, ap, arith}
 use Rattle.cany_base.specs.declared.notice.NoticeKind.TheVariants.{Sent}
 use Rattle.cany_base.specs.declared.slot_note.SlotNote.{SlotNote}
 use Rattle.cany_base.specs.declared.step.Step.{Step}
@@ -16,9 +15,9 @@ use Rattle.cany_model.proofs.Runs.Journals.{FewUnread, unread_at_first, unread_k
 use Rattle.cany_model.proofs.Bus.Notes.{given-Sent}
 use Rattle.cany_model.proofs.Runs.Runs.{IsOrderly, along_run}
 use Rattle.cany_model.proofs.Bus.Seen.{seen_one}
-use Rattle.cany_model.proofs.Runs.Steps.{MayTurn, after_turn-node, after_turn-other, after_turn-present, after_turn-runs, after_turn-trace}
+use Rattle.cany_model.proofs.Runs.Steps.{MayTurn, after_turn-node, after_turn-present}
 use Rattle.cany_model.proofs.Promises.Diffusion.{Lived, Turned}
-use Rattle.cany_model.proofs.Promises.EachNode.{EachRunning, IsNew, each_restarts, each_slot, opening_new, slot_lived, turn_turned}
+use Rattle.cany_model.proofs.Promises.EachNode.{EachRunning, IsNew, each_restarts, each_slot, each_turn, opening_new, slot_lived, turn_turned}
 use Rattle.cany_model.proofs.Promises.OwnSlotsAlone.{AllWaitForOwnSlots, own_slots_alone_opening, own_slots_alone_steps}
 use Rattle.cany_model.proofs.Promises.FewLifeSignsOrder.{NoneBefore, carried_first}
 
@@ -53,17 +52,13 @@ module _ (scenario : ScenarioParts) (P : List SlotNote → ℕ → NodeState →
 
   within_turn : (s : RunState) (i : ℕ) → MayTurn s i → IsOrderly scenario.params.nodes s → FewUnread scenario s → EachRunning P s
       → EachRunning P (after_turn scenario i s)
-  within_turn s i may o few all j running =
-      let t : RunState = after_turn scenario i s in
-      let left : (node_at t.nodes i).unread ≤ scenario.params.lag =
+  within_turn s i may o few all =
+      let after : NodeState = node_at (after_turn scenario i s).nodes i in
+      let left : after.unread ≤ scenario.params.lag =
       omega (arith, ap (λ (node : NodeState). node.unread) (after_turn-node scenario i s may (o.unread i)), few i may.running) in
-      subst (λ notes. P (seen (node_at t.nodes j).present notes) j (node_at t.nodes j)) (sym (after_turn-trace scenario i s)) (elim (cases_eq j i) [
-        | inl same ↦ subst (λ k. P (seen (node_at t.nodes k).present s.trace) k (node_at t.nodes k)) (sym same)
-            (subst (λ (inc : Incarnation). P (seen inc s.trace) i (node_at t.nodes i)) (sym (after_turn-present scenario i s i may (o.unread i)))
-            (is.turn (seen (node_at s.nodes i).present s.trace) i (node_at s.nodes i) (node_at t.nodes i)
-            (after_turn-present scenario i s i may (o.unread i)) left (turn_turned scenario i s may (o.unread i)) (all i may.running)))
-        | inr other ↦ rw (after_turn-other scenario i s j other) (all j (sym (after_turn-runs scenario i s j may (o.unread i)) ∙ running))
-      ])
+      each_turn scenario P s i may (o.unread i)
+      (is.turn (seen (node_at s.nodes i).present s.trace) i (node_at s.nodes i) after
+      (after_turn-present scenario i s i may (o.unread i)) left (turn_turned scenario i s may (o.unread i)) (all i may.running)) all
 
   abbrev Known : RunState → Type 0
   Known s = AllWaitForOwnSlots s × (FewUnread scenario s × EachRunning P s)

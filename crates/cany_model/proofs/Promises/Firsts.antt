@@ -3,6 +3,7 @@ use Rattle.std.proofs.Common.{◌≡◌, ℕ, ◌<◌, ◌≤◌, ◌⊎◌, inl
 use Rattle.std.specs.List.{AllByRecursion}
 use Rattle.std.specs.Option.{option_or}
 use Rattle.std.proofs.lemmas.Bool.{false≢true}
+use Rattle.std.proofs.lemmas.Option.{same_Some}
 use Rattle.cany_base.specs.declared.slot_note.SlotNote.{SlotNote}
 use Rattle.cany_base.specs.Frame.{FrameParts}
 use Rattle.cany_model.specs.Bus.Frames.{Identity, identity_of, is_of}
@@ -15,9 +16,6 @@ use Rattle.cany_model.proofs.Bus.Seen.{Numbered}
 
 some_is_none : (o : Option ℕ) (n : ℕ) → o ≡ Some n → o ≡ None → ⊥
 some_is_none o n some none = absurd (cc)
-
-same_slot : (m n : ℕ) → Some m ≡ Some n → m ≡ n
-same_slot m n e = cc
 
 -- ---- one slot
 
@@ -35,7 +33,7 @@ slot_carried x note first h = by_frame note.frame refl (carried (is_of x) note) 
     by_frame o frame false test e = absurd (cc)
     by_frame None frame true test e = absurd (false≢true (rw frame at test))
     by_frame (Some f) frame true test e =
-        (record { what = f; frame = frame; identity = same_identity-true x (identity_of f) (rw frame at test) }, same_slot note.slot first e)
+        (record { what = f; frame = frame; identity = same_identity-true x (identity_of f) (rw frame at test) }, same_Some note.slot first e)
 
 -- ---- a trace
 

@@ -32,10 +32,10 @@ use Rattle.cany_model.proofs.Bus.Seen.{seen_frame}
 use Rattle.cany_model.proofs.Bus.States.{no_note, note_at}
 use Rattle.cany_model.proofs.Promises.WaitingIsAskable.{AllBelong, all_belong, fda_names, readable_later}
 use Rattle.cany_model.proofs.Promises.OneFrame.{data_carries, one_service}
-use Rattle.cany_model.proofs.Promises.Sources.{carries_data, IsSent, IsSourced, sourced}
+use Rattle.cany_model.proofs.Promises.Sources.{IsSent, IsSourced, sourced}
 use Rattle.cany_model.proofs.Rules.LogFacts.{log_once, log_split, made_by}
 use Rattle.cany_model.proofs.Rules.MessageKeys.{data_class-one}
-use Rattle.cany_model.proofs.Rules.ProtocolFacts.{IsFoundedEntry, IsLawful, IsSignal, log_by}
+use Rattle.cany_model.proofs.Rules.ProtocolFacts.{IsFoundedEntry, IsLawful, IsSignal, log_by, is_data}
 
 -- ---- what was read by some slot, was carried by then
 
@@ -100,7 +100,7 @@ signal_sound scenario s i o all place slot sign r = elim r.because [
 sent_of : (scenario : ScenarioParts) (s : RunState) → IsSourced scenario s → (f : FrameParts) (by : Service) (slot : ℕ) → f.class ≡ data_class by → (w : WasCarried s f slot)
     → IsSent scenario s.trace f (note_at s.trace w.age).slot
 sent_of scenario s h f by slot class w =
-    h.carried (note_at s.trace w.age) f (Contains-get_or s.trace w.age no_note w.below) w.frame (ap (λ c. carries_data c) class ∙ data_carries by)
+    h.carried (note_at s.trace w.age) f (Contains-get_or s.trace w.age no_note w.below) w.frame (ap (λ c. is_data c) class ∙ data_carries by)
 
 sound : (scenario : ScenarioParts) (s : RunState) (i : ℕ) → IsOrderly scenario.params.nodes s → IsSourced scenario s → AllBelong scenario s → (p : Protocol)
     (place : ℕ) (entry : LogEntry)

@@ -24,7 +24,7 @@ use Rattle.cany_model.proofs.Bus.Seen.{Numbered, seen_idle, seen_plain}
 use Rattle.cany_model.proofs.Runs.Steps.{MayTurn, after_turn-history, after_turn-trace, next_notice}
 use Rattle.cany_model.proofs.Promises.OwnSlotsAlone.{run_numbered}
 use Rattle.cany_model.proofs.Rules.CycleFacts.{cycle_before}
-use Rattle.cany_model.proofs.Rules.ProtocolFacts.{MayAsk, accepts, confirms, data_is_no_other, exchanges, is_relayed, lives, originates, relays, request_class, requests, signals}
+use Rattle.cany_model.proofs.Rules.ProtocolFacts.{MayAsk, accepts, confirms, data_is_no_other, exchanges, is_relayed, lives, originates, relays, request_class, requests, signals, vector_asked}
 use Rattle.cany_model.proofs.Rules.TurnFacts.{turn_only}
 
 -- ---- what may be asked for
@@ -33,20 +33,11 @@ use Rattle.cany_model.proofs.Rules.TurnFacts.{turn_only}
 pub asks_in_cycle : (scenario : ScenarioParts) (i : ℕ) (past : List NoticeKind) (f : FrameParts) → MayAsk scenario i past f
     → f.class ≡ class.Rha
     → f.number * scenario.params.cycle < length past
-asks_in_cycle scenario i past f (relays relayed got) rha = absurd (false≢true (ap is_relayed (sym rha) ∙ relayed))
-asks_in_cycle scenario i past f (originates m is origin slot late frame) rha =
-    absurd (data_is_no_other m.service class.Rha refl (ap (λ (g : FrameParts). g.class) frame ∙ rha))
-asks_in_cycle scenario i past f (confirms g sent rel own frame) rha = let class = ap (λ (g : FrameParts). g.class) frame in absurd (cc)
-asks_in_cycle scenario i past f (accepts g sent tot own frame) rha = let class = ap (λ (g : FrameParts). g.class) frame in absurd (cc)
-asks_in_cycle scenario i past f (signals sign slot now known frame) rha = let class = ap (λ (g : FrameParts). g.class) frame in absurd (cc)
-asks_in_cycle scenario i past f (lives slot now due frame) rha = let class = ap (λ (g : FrameParts). g.class) frame in absurd (cc)
-asks_in_cycle scenario i past f (requests slot c request frame) rha =
-    let class = ap (λ (g : FrameParts). g.class) frame in
-    elim (request_class scenario i past slot c request) [ inl join ↦ absurd (cc) | inr leave ↦ absurd (cc) ]
-asks_in_cycle scenario i past f (exchanges slot v sends frame) rha =
-    let number : cycle_of scenario.params slot * scenario.params.cycle ≡ f.number * scenario.params.cycle =
-    ap (λ (g : FrameParts). g.number * scenario.params.cycle) frame in
-    omega (arith, number, cycle_before scenario.params slot, sends.now)
+asks_in_cycle scenario i past f may rha =
+    let v = vector_asked scenario i past f may rha in
+    let number : cycle_of scenario.params v.slot * scenario.params.cycle ≡ f.number * scenario.params.cycle =
+    ap (λ (g : FrameParts). g.number * scenario.params.cycle) v.frame in
+    omega (arith, number, cycle_before scenario.params v.slot, v.sends.now)
 
 -- ---- every run
 

@@ -12,9 +12,10 @@ use Rattle.cany_model.specs.Bus.State.{RunState}
 use Rattle.cany_model.proofs.Among.{Among, Among-which, Among-from_Contains}
 use Rattle.cany_model.proofs.Bus.Carried.{Carries}
 use Rattle.cany_model.proofs.Rules.MessageKeys.{IsOneOf, data_class-one, same_message}
-use Rattle.cany_model.proofs.Promises.Sources.{carries_data, IsSent, IsSourced}
+use Rattle.cany_model.proofs.Promises.Sources.{IsSent, IsSourced}
+use Rattle.cany_model.proofs.Rules.ProtocolFacts.{is_data}
 
-pub data_carries : (by : Service) → carries_data (data_class by) ≡ true
+pub data_carries : (by : Service) → is_data (data_class by) ≡ true
 data_carries Ed = refl
 data_carries Rel = refl
 data_carries Tot = refl
@@ -28,7 +29,7 @@ same_data_frame scenario k m isk is e =
 pub only_frame : (scenario : ScenarioParts) (s : RunState) (m : Message) → IsSourced scenario s → IsOneOf (messages_of scenario.sends) m
     → (note : SlotNote) (f : FrameParts) → Contains s.trace note → note.frame ≡ Some f → identity_of (data_frame m) ≡ identity_of f → f ≡ data_frame m
 only_frame scenario s m h is note f c frame e =
-    let carries : carries_data f.class ≡ true = ap (λ (x : Identity). carries_data x.class) (sym e) ∙ data_carries m.service in
+    let carries : is_data f.class ≡ true = ap (λ (x : Identity). is_data x.class) (sym e) ∙ data_carries m.service in
     let sent : IsSent scenario s.trace f note.slot = h.carried note f c frame carries in
     sym sent.is
     ∙ same_data_frame scenario sent.message m (Among-from_Contains (messages_of scenario.sends) sent.message sent.stands) is (e ∙ sym (ap identity_of sent.is))
@@ -43,7 +44,7 @@ message_of_carried : (scenario : ScenarioParts) (s : RunState) → IsSourced sce
     → Among (Carries (data_of by key)) s.trace → IsOf scenario by key
 message_of_carried scenario s h by key c =
     let w = Among-which (Carries (data_of by key)) s.trace c in
-    let carries : carries_data w.2.what.class ≡ true = ap (λ (x : Identity). carries_data x.class) (sym w.2.identity) ∙ data_carries by in
+    let carries : is_data w.2.what.class ≡ true = ap (λ (x : Identity). is_data x.class) (sym w.2.identity) ∙ data_carries by in
     let sent = h.carried w.0 w.2.what w.1 w.2.frame carries in
     record {
       message = sent.message;

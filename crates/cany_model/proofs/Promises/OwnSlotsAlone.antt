@@ -2,7 +2,7 @@
 -- sends, its incarnation sees.
 use Rattle.std.proofs.Common.{◌≡◌, ℕ, suc, ◌-◌, ◌<◌, inl, inr, true, false, List, [], ◌∷◌, Some, length, Contains, refl, ap, sym, ◌∙◌, subst, arith}
 use Rattle.std.specs.List.{AllByRecursion}
-use Rattle.std.proofs.lemmas.Bool.{both_ways, cases_eq, false_from_ne_true, ne_eqb}
+use Rattle.std.proofs.lemmas.Bool.{both_ways, false_from_ne_true, ne_eqb}
 use Rattle.cany_base.specs.declared.notice.NoticeKind.{NoticeKind}
 use Rattle.cany_base.specs.declared.notice.NoticeKind.TheVariants.{Idle, Got, Sent, Bad}
 use Rattle.cany_base.specs.declared.slot_note.SlotNote.{SlotNote}
@@ -24,7 +24,7 @@ use Rattle.cany_model.proofs.Bus.Restarts.{after_restarts-trace, restarts_or_sta
 use Rattle.cany_model.proofs.Runs.Runs.{IsKept, IsOrderly, along_run, history-length, opening_within}
 use Rattle.cany_model.proofs.Bus.Seen.{HearsNoEarly, IsSeenPast, Numbered, carries_frame, hears_no_early_of, hidden_why, history-is, seen_past_of}
 use Rattle.cany_model.proofs.Bus.States.{node_at-opening, note_at, runs_within}
-use Rattle.cany_model.proofs.Runs.Steps.{MayTurn, after_slot-present, after_slot-trace, after_slot-waiting, after_turn-history, after_turn-node, after_turn-other, after_turn-present, after_turn-runs, after_turn-trace, kept_at, next_notice, running_before_slot}
+use Rattle.cany_model.proofs.Runs.Steps.{MayTurn, after_slot-present, after_slot-trace, after_slot-waiting, after_turn-history, after_turn-node, after_turn-present, after_turn-trace, kept_at, next_notice, running_before_slot, each_turned}
 use Rattle.cany_model.proofs.Runs.Waits.{AsksOnly, Each-after, Each-kept}
 use Rattle.cany_model.proofs.Rules.FirstCycle.{asks_late}
 use Rattle.cany_model.proofs.Rules.MutedFacts.{does_nothing}
@@ -164,11 +164,8 @@ own_slots_alone_turn scenario i s may_turn o all =
 
 pub own_slots_alone_turns : (scenario : ScenarioParts) (i : ℕ) (s : RunState) → MayTurn s i → IsOrderly scenario.params.nodes s → AllWaitForOwnSlots s
     → AllWaitForOwnSlots (after_turn scenario i s)
-own_slots_alone_turns scenario i s may o all j running =
-    subst (λ trace. WaitsForOwnSlots trace (node_at (after_turn scenario i s).nodes j)) (sym (after_turn-trace scenario i s)) (elim (cases_eq j i) [
-      | inl same ↦ subst (λ k. WaitsForOwnSlots s.trace (node_at (after_turn scenario i s).nodes k)) (sym same) (own_slots_alone_turn scenario i s may o all)
-      | inr other ↦ rw (after_turn-other scenario i s j other) (all j (sym (after_turn-runs scenario i s j may (o.unread i)) ∙ running))
-    ])
+own_slots_alone_turns scenario i s may o all =
+    each_turned scenario i s may (o.unread i) (λ trace j node. WaitsForOwnSlots trace node) (own_slots_alone_turn scenario i s may o all) all
 
 -- ---- every run
 

@@ -27,7 +27,7 @@ use Rattle.cany_model.proofs.Bus.Carried.{Carries, CarriesClean, Carries-from_go
 use Rattle.cany_model.proofs.Runs.FrameInvariants.{history_among}
 use Rattle.cany_model.proofs.Promises.Confirms.{IsConfirmed, confirm_carried, confirmed}
 use Rattle.cany_model.proofs.Bus.Counting.{clean_from_success}
-use Rattle.cany_model.proofs.Promises.Diffusion.{IsDiffused}
+use Rattle.cany_model.proofs.Promises.Diffusion.{IsDiffused, IsAnswered}
 use Rattle.cany_model.proofs.Bus.Identities.{same_class_self}
 use Rattle.cany_model.proofs.Rules.MessageKeys.{IsOneOf}
 use Rattle.cany_model.proofs.Promises.SettledFacts.{settled_none_ahead}
@@ -44,13 +44,9 @@ use Rattle.cany_model.proofs.Rules.RelcanFacts.{fell_copies, fell_stays, relcan_
 abbrev pub OwesRel : Message → Owes
 OwesRel m scenario i past = (fell_back scenario.params.confirm i (data_id m) past ≡ true) ⊎ MayStart scenario m i past
 
-abbrev Asked : ScenarioParts → Message → ℕ → NoticeKind → List NoticeKind → Type 0
-Asked scenario m i e past =
-    Among (Asks (data_id m)) (turn_effects scenario i (e ∷ past)) ⊎ ((scenario.params.omit < copies (data_id m) (e ∷ past)) ⊎ (has_own (data_id m) (e ∷ past) ≡ true))
-
 asked_late : (scenario : ScenarioParts) (m : Message) (i : ℕ) (e : NoticeKind) (past : List NoticeKind)
     → fell_back scenario.params.confirm i (data_id m) (e ∷ past) ≡ true
-    → (fell_back scenario.params.confirm i (data_id m) past ≡ true) ⊎ Asked scenario m i e past
+    → (fell_back scenario.params.confirm i (data_id m) past ≡ true) ⊎ IsAnswered (turn_effects scenario) scenario.params.omit (data_id m) i e past
 unfolding fell_back
 asked_late scenario m i e past h =
     elim (or_cases (falls_back scenario.params.confirm i (data_id m) (e ∷ past)) (fell_back scenario.params.confirm i (data_id m) past) h) [

@@ -15,7 +15,7 @@ use Rattle.cany_model.specs.Runs.Run.{all_read}
 use Rattle.cany_model.specs.Promises.Settled.{IsCorrect, came_too_late, is_settled, is_awaited, is_ahead, origin_has_asked}
 use Rattle.cany_model.specs.Bus.State.{NodeState, RunState, absent, node_at, runs}
 use Rattle.cany_model.specs.Bus.Waiting.{waits}
-use Rattle.cany_model.proofs.Among.{Among-weaker, any-from_Among}
+use Rattle.cany_model.proofs.Among.{Among-weaker, any-from_Among, Among-from_any, Among-place}
 use Rattle.cany_model.proofs.Bus.States.{runs_within}
 use Rattle.cany_model.proofs.Rules.Protocols.{IsProtocol}
 
@@ -39,6 +39,17 @@ parts scenario s m h =
       read = outer.1;
       none_ahead = not-true (is_ahead scenario s m) whole.1;
     }
+
+-- where no running node waits with one of these frames, none is awaited
+pub none_awaited : (frames : List Identity) (s : RunState)
+    → ((i : ℕ) → runs (node_at s.nodes i) ≡ true → list_any (λ x. waits x (node_at s.nodes i).waiting) frames ≡ true → ⊥) → is_awaited frames s ≡ false
+unfolding node_at
+none_awaited frames s none =
+    let test : NodeState → Bool = λ node. runs node && list_any (λ x. waits x node.waiting) frames in
+    false_from_ne_true (list_any test s.nodes) (λ h.
+    let at = Among-place (λ node. test node ≡ true) absent 0 s.nodes (Among-from_any test s.nodes h) in
+    let both = and_parts (runs (node_at s.nodes at.0)) (list_any (λ x. waits x (node_at s.nodes at.0).waiting) frames) at.3 in
+    none at.0 both.0 both.1)
 
 -- an origin that runs has asked for it, or came too late
 pub settled_asked : (scenario : ScenarioParts) (s : RunState) (m : Message) → is_settled scenario s m ≡ true → runs (node_at s.nodes m.origin) ≡ true

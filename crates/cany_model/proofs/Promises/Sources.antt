@@ -23,22 +23,9 @@ use Rattle.cany_model.proofs.Bus.Carried.{Has}
 use Rattle.cany_model.proofs.Runs.FrameInvariants.{HoldsOfFrames, IsKeptByFrames, frames_alone, nothing_known, slot_of_note, turn_note}
 use Rattle.cany_model.proofs.Runs.Runs.{IsOrderly}
 use Rattle.cany_model.proofs.Runs.Steps.{MayTurn, next_notice}
-use Rattle.cany_model.proofs.Rules.ProtocolFacts.{MayAsk, MayRequest, accepts, confirms, exchanges, lives, originates, relays, request_class, requests, signals}
+use Rattle.cany_model.proofs.Rules.ProtocolFacts.{MayAsk, MayRequest, accepts, confirms, exchanges, lives, originates, relays, request_class, requests, signals, is_data}
 use Rattle.cany_model.proofs.Rules.TurnFacts.{turn_only}
 use Rattle.cany_model.proofs.Runs.Waits.{AsksOnly}
-
--- whether the frames of a class carry messages
-abbrev pub carries_data : Class → Bool
-carries_data Accept = false
-carries_data Rha = false
-carries_data Els = false
-carries_data Fda = false
-carries_data Join = false
-carries_data Leave = false
-carries_data Confirm = false
-carries_data Tot = true
-carries_data Rel = true
-carries_data Ed = true
 
 -- the frame is that of a message which its origin had sent by then
 pub record IsSent (scenario : ScenarioParts) (trace : List SlotNote) (f : FrameParts) (slot : ℕ) : Type 0 where
@@ -56,11 +43,11 @@ pub record MayWait (scenario : ScenarioParts) (trace : List SlotNote) (i : ℕ) 
 
 -- the frame, if it carries a message, may wait at node i
 abbrev pub MayHold : ScenarioParts → List SlotNote → ℕ → FrameParts → Type 0
-MayHold scenario trace i f = carries_data f.class ≡ true → MayWait scenario trace i f
+MayHold scenario trace i f = is_data f.class ≡ true → MayWait scenario trace i f
 
 -- the frame, if it carries a message, was that of one that its origin had sent
 abbrev pub WasData : ScenarioParts → List SlotNote → ℕ → FrameParts → Type 0
-WasData scenario trace slot f = carries_data f.class ≡ true → IsSent scenario trace f slot
+WasData scenario trace slot f = is_data f.class ≡ true → IsSent scenario trace f slot
 
 abbrev pub IsSourced : ScenarioParts → RunState → Type 0
 IsSourced scenario s = HoldsOfFrames (MayHold scenario) (WasData scenario) s
@@ -138,10 +125,10 @@ may_hold_got scenario s i f o may h got carries =
 
 -- what asks to join or to leave carries no message
 request_carries_none : (scenario : ScenarioParts) (s : RunState) (i slot : ℕ) (c : Class)
-    → MayRequest (scenario_at scenario s i) i (next_notice s i ∷ history i s) slot c → carries_data c ≡ false
+    → MayRequest (scenario_at scenario s i) i (next_notice s i ∷ history i s) slot c → is_data c ≡ false
 request_carries_none scenario s i slot c request = elim (request_class (scenario_at scenario s i) i (next_notice s i ∷ history i s) slot c request) [
-  | inl join ↦ ap carries_data join
-  | inr leave ↦ ap carries_data leave
+  | inl join ↦ ap is_data join
+  | inr leave ↦ ap is_data leave
 ]
 
 may_hold_asked : (scenario : ScenarioParts) (s : RunState) (i : ℕ) → IsOrderly scenario.params.nodes s → MayTurn s i → IsSourced scenario s
@@ -153,15 +140,15 @@ may_hold_asked scenario s i o may h =
     by_reason f (relays relayed got) = may_hold_got scenario s i f o may h got
     by_reason f (originates m is origin slot late frame) = λ carries.
         record { message = m; stands = Contains-from_Among (messages_of scenario.sends) m is; is = frame; why = inl origin }
-    by_reason f (confirms g sent rel own frame) = λ carries. absurd (false≢true (ap (λ (x : FrameParts). carries_data x.class) frame ∙ carries))
-    by_reason f (accepts g sent tot own frame) = λ carries. absurd (false≢true (ap (λ (x : FrameParts). carries_data x.class) frame ∙ carries))
-    by_reason f (signals sign slot now known frame) = λ carries. absurd (false≢true (ap (λ (x : FrameParts). carries_data x.class) frame ∙ carries))
-    by_reason f (lives slot now due frame) = λ carries. absurd (false≢true (ap (λ (x : FrameParts). carries_data x.class) frame ∙ carries))
+    by_reason f (confirms g sent rel own frame) = λ carries. absurd (false≢true (ap (λ (x : FrameParts). is_data x.class) frame ∙ carries))
+    by_reason f (accepts g sent tot own frame) = λ carries. absurd (false≢true (ap (λ (x : FrameParts). is_data x.class) frame ∙ carries))
+    by_reason f (signals sign slot now known frame) = λ carries. absurd (false≢true (ap (λ (x : FrameParts). is_data x.class) frame ∙ carries))
+    by_reason f (lives slot now due frame) = λ carries. absurd (false≢true (ap (λ (x : FrameParts). is_data x.class) frame ∙ carries))
     by_reason f (exchanges slot v sends frame) = λ carries.
-        absurd (false≢true (ap (λ (x : FrameParts). carries_data x.class) frame ∙ carries))
+        absurd (false≢true (ap (λ (x : FrameParts). is_data x.class) frame ∙ carries))
     by_reason f (requests slot c request frame) = λ carries.
         absurd (false≢true (sym (request_carries_none scenario s i slot c request)
-        ∙ ap (λ (x : FrameParts). carries_data x.class) frame ∙ carries))
+        ∙ ap (λ (x : FrameParts). is_data x.class) frame ∙ carries))
 
 -- ---- every run
 

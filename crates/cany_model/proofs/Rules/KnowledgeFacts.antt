@@ -1,7 +1,7 @@
 -- What a node knows of the site: nothing while it has only begun, and a sign that becomes known stays known.
-use Rattle.std.proofs.Common.{◌≡◌, ℕ, zero, suc, ◌==◌, ◌&&◌, ◌||◌, inl, inr, Bool, true, false, not, List, [], ◌∷◌, ◌++◌, map, filter, drop, length, None, refl, ap, sym, ◌∙◌, subst, arith}
+use Rattle.std.proofs.Common.{◌≡◌, ℕ, zero, suc, ◌==◌, ◌&&◌, ◌||◌, inl, inr, Bool, true, false, not, List, [], ◌∷◌, ◌++◌, map, filter, drop, length, None, refl, ap, sym, ◌∙◌, subst, arith, ◌≢◌, ◌≤◌, ◌-◌, nat_le}
 use Rattle.std.specs.List.{AllByRecursion, list_any, range_with_len}
-use Rattle.std.proofs.lemmas.Bool.{false≢true, and_from, and_parts, cases_Bool, cond_both, eq-eqb, eqb-true, not_from_false, or_cases, or_left, or_right}
+use Rattle.std.proofs.lemmas.Bool.{false≢true, and_from, and_parts, cases_Bool, cond_both, eq-eqb, eqb-true, not_from_false, or_cases, or_left, or_right, both_ways, leb-true, not-true}
 use Rattle.cany_base.specs.declared.class.Class.TheVariants as class
 use Rattle.cany_base.specs.declared.notice.NoticeKind.{NoticeKind}
 use Rattle.cany_base.specs.declared.notice.NoticeKind.TheVariants.{Idle, Got, Sent, Bad}
@@ -10,7 +10,7 @@ use Rattle.cany_base.specs.Scenario.{ScenarioParts}
 use Rattle.cany_base.proofs.NodesFacts.{has_none}
 use Rattle.cany_model.specs.Bus.Frames.{Identity, identity_of, same_class}
 use Rattle.cany_model.specs.Bus.History.{is_got}
-use Rattle.cany_base.specs.Nodes.{nobody}
+use Rattle.cany_base.specs.Nodes.{nobody, has}
 use Rattle.cany_model.specs.Rules.KnowledgeOf.{after_notice, after_installing, after_meeting, knowledge_of}
 use Rattle.cany_model.specs.Rules.Knowledge.{FailureSign, Knowledge, after_life, fda_of, found, found_in, after_finding, after_hearing, after_learning, has_timed_out, knows, same_sign, shows_life, sign_in, sign_of, knowledge_at_first, told, told_in, with_shown, with_sign, with_signs}
 use Rattle.cany_model.specs.Rules.Vectors.{brought, met}
@@ -30,6 +30,25 @@ none_kept p none (x ∷ xs) = rw (none x) (none_kept p none xs)
 
 silent_none : (p : Parameters) (i slot : ℕ) (st : Knowledge) → st.members ≡ nobody → (r : ℕ) → has_timed_out p i slot st r ≡ false
 silent_none p i slot st none r = rw (none, has_none r) refl
+
+-- one that timed out is another node and a member, and has shown no life for as many slots as the silence has
+pub record HasTimedOut (p : Parameters) (i slot : ℕ) (st : Knowledge) (r : ℕ) : Type 0 where
+  pub member : has st.members r ≡ true
+  pub other : r ≢ i
+  pub silent : p.silence ≤ slot - st.shown r
+
+pub timed_out : (p : Parameters) (i slot : ℕ) (st : Knowledge) (r : ℕ) → has_timed_out p i slot st r ≡ true → HasTimedOut p i slot st r
+timed_out p i slot st r h =
+    let member : Bool = has st.members r in
+    let other : Bool = not (r == i) in
+    let lives : Bool = not (has st.failed r) in
+    let all = and_parts (member && other && lives) (nat_le p.silence (slot - st.shown r)) h in
+    let two = and_parts member other (and_parts (member && other) lives all.0).0 in
+    record {
+      member = two.0;
+      other = λ same. both_ways (r == i) (not-true (r == i) two.1) (eq-eqb r i same);
+      silent = leb-true p.silence (slot - st.shown r) all.1;
+    }
 
 -- where there are no members nobody is found to have failed
 pub found_none : (p : Parameters) (i slot : ℕ) (st : Knowledge) → st.members ≡ nobody → found p i slot st ≡ []

@@ -9,12 +9,14 @@ use Rattle.cany_base.specs.declared.class.Class.TheVariants as class
 use Rattle.cany_base.specs.declared.message.SendAsk.{SendAsk}
 use Rattle.cany_base.specs.declared.message.Service.{Service}
 use Rattle.cany_base.specs.declared.message.Service.TheVariants.{Ed, Rel, Tot}
+use Rattle.cany_base.specs.Cycles.{cycle_of}
 use Rattle.cany_base.specs.Frame.{FrameParts}
 use Rattle.cany_base.specs.Limits.{most_numbers, most_sends, most_slots}
 use Rattle.cany_base.specs.Params.{Parameters}
 use Rattle.cany_base.specs.Scenario.{ScenarioParts, IsLegalScenario, IsSendOf}
 use Rattle.cany_base.proofs.ParamsFacts.{few_slots}
 use Rattle.cany_model.specs.Bus.Frames.{Identity, identity_of}
+use Rattle.cany_model.specs.Rules.Knowledge.{FailureSign, fda_frame}
 use Rattle.cany_model.specs.Rules.Messages.{IsOfMessage, Message, is_from, messages_after, messages_of}
 use Rattle.cany_model.specs.Rules.Notices.{BelongsTo, IsDataOf, NamesNode}
 use Rattle.cany_model.proofs.Among.{Among, Among-from_Contains}
@@ -115,3 +117,10 @@ belongs_small scenario slot f legal within h = by_class f.class h
     by_class class.Tot d = of_data Tot d
     by_class class.Rel d = of_data Rel d
     by_class class.Ed d = of_data Ed d
+
+-- frames can have the number of each cycle of the run
+pub cycle_small : (scenario : ScenarioParts) → IsLegalScenario scenario → (slot : ℕ) → slot < scenario.params.slots
+    → cycle_of scenario.params slot < most_numbers
+cycle_small scenario legal slot within =
+    let sign : FailureSign = record { node = 0; cycle = cycle_of scenario.params slot } in
+    (belongs_small scenario slot (fda_frame sign) legal within (record { node = omega (arith, legal.in_range.nodes.0); number = omega arith })).number

@@ -277,6 +277,37 @@ vector_asked scenario i past f may rha = by_reason may
         other _ frame (λ is. elim (request_class scenario i past slot c request) [ inl join ↦ cc | inr leave ↦ cc ])
     by_reason (exchanges slot v sends frame) = record { slot = slot; what = v; sends = sends; frame = frame }
 
+-- the frame is that of a scripted ask, to join or to leave
+pub record IsRequested (scenario : ScenarioParts) (i : ℕ) (past : List NoticeKind) (f : FrameParts) : Type 0 where
+  pub slot : ℕ
+  pub class : Class
+  pub may : MayRequest scenario i past slot class
+  pub frame : ask_frame class scenario.inc (cycle_of scenario.params slot) i ≡ f
+
+-- for no other reason may a node ask for the frame of a join or a leave
+pub request_asked : (scenario : ScenarioParts) (i : ℕ) (past : List NoticeKind) (f : FrameParts) → MayAsk scenario i past f
+    → (f.class ≡ class.Join) ⊎ (f.class ≡ class.Leave) → IsRequested scenario i past f
+request_asked scenario i past f may is = by_reason may
+  where
+    other : (g : FrameParts) → g ≡ f → (g.class ≡ class.Join → ⊥) → (g.class ≡ class.Leave → ⊥) → IsRequested scenario i past f
+    other g frame no_join no_leave =
+        let same = ap (λ (h : FrameParts). h.class) frame in
+        absurd (elim is [ inl join ↦ no_join (same ∙ join) | inr leave ↦ no_leave (same ∙ leave) ])
+
+    unrelayed : (f.class ≡ class.Join) ⊎ (f.class ≡ class.Leave) → is_relayed f.class ≡ false
+    unrelayed (inl join) = ap is_relayed join
+    unrelayed (inr leave) = ap is_relayed leave
+
+    by_reason : MayAsk scenario i past f → IsRequested scenario i past f
+    by_reason (relays relayed got) = absurd (false≢true (sym (unrelayed is) ∙ relayed))
+    by_reason (originates m stands origin slot late frame) = absurd (data_requests_none m.service f.class is (ap (λ (h : FrameParts). h.class) frame))
+    by_reason (confirms g sent rel own frame) = other _ frame (λ c. cc) (λ c. cc)
+    by_reason (accepts g sent tot own frame) = other _ frame (λ c. cc) (λ c. cc)
+    by_reason (signals sign slot now known frame) = other _ frame (λ c. cc) (λ c. cc)
+    by_reason (lives slot now due frame) = other _ frame (λ c. cc) (λ c. cc)
+    by_reason (exchanges slot v sends frame) = other _ frame (λ c. cc) (λ c. cc)
+    by_reason (requests slot c request frame) = record { slot = slot; class = c; may = request; frame = frame }
+
 -- and its slot
 pub request_now : (scenario : ScenarioParts) (i : ℕ) (past : List NoticeKind) (slot : ℕ) (c : Class) → MayRequest scenario i past slot c
     → length past ≡ suc slot

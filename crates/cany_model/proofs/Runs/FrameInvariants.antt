@@ -3,7 +3,6 @@ use Rattle.std.specs.Prelude.{◌≡◌, ℕ, ◌<◌, ◌≤◌, true, List, �
 use Rattle.cany_base.specs.Limits.{most_nodes}
 use Rattle.std.specs.List.{AllByRecursion}
 use Rattle.std.proofs.Common.{sym, ap, ◌∙◌, subst, inl, inr, arith}
-use Rattle.std.proofs.lemmas.Bool.{cases_eq}
 use Rattle.std.proofs.lemmas.List.{get_or_default}
 use Rattle.std.proofs.lemmas.List.Elements.{All-contains, All-from_recursion}
 use Rattle.cany_base.specs.declared.notice.NoticeKind.{NoticeKind}
@@ -25,7 +24,7 @@ use Rattle.cany_model.proofs.Bus.Restarts.{after_restarts-trace, restarts_or_sta
 use Rattle.cany_model.proofs.Runs.Runs.{IsKept, IsOrderly, along_run, opening_within}
 use Rattle.cany_model.proofs.Bus.Seen.{Among-seen, history-is}
 use Rattle.cany_model.proofs.Bus.States.{no_note, note_at, node_at-opening, runs_within}
-use Rattle.cany_model.proofs.Runs.Steps.{MayTurn, next_notice, after_slot-trace, after_slot-waiting, running_before_slot, after_turn-trace, after_turn-node, after_turn-other, after_turn-runs, after_turn-history}
+use Rattle.cany_model.proofs.Runs.Steps.{MayTurn, next_notice, after_slot-trace, after_slot-waiting, running_before_slot, after_turn-trace, after_turn-node, after_turn-history, each_turned}
 use Rattle.cany_model.proofs.Runs.Waits.{AsksOnly, Each-kept, Each-after}
 
 -- what is said of a frame that waits at a node, and of one that a slot carried
@@ -159,15 +158,11 @@ waiting_turn scenario J W C keeps s i o may known h =
 holds_turn : (scenario : ScenarioParts) (J : RunState → Type 0) (W : OfWaiting) (C : OfCarried) → IsKeptByFrames scenario J W C → (s : RunState) (i : ℕ) → IsOrderly scenario.params.nodes s
     → MayTurn s i → J s → HoldsOfFrames W C s → HoldsOfFrames W C (after_turn scenario i s)
 holds_turn scenario J W C keeps s i o may known h =
-    let at : s.trace ≡ (after_turn scenario i s).trace = sym (after_turn-trace scenario i s) in
     record {
-      waiting = λ j running. subst (λ trace. AllByRecursion (W trace j) (node_at (after_turn scenario i s).nodes j).waiting) at
-          (elim (cases_eq j i) [
-            | inl same ↦ subst (λ k. AllByRecursion (W s.trace k) (node_at (after_turn scenario i s).nodes k).waiting) (sym same)
-                (waiting_turn scenario J W C keeps s i o may known h)
-            | inr other ↦ rw (after_turn-other scenario i s j other) (h.waiting j (sym (after_turn-runs scenario i s j may (o.unread i)) ∙ running))
-          ]);
-      carried = subst (λ trace. (note : SlotNote) (f : FrameParts) → Contains trace note → note.frame ≡ Some f → C trace note.slot f) at h.carried;
+      waiting = each_turned scenario i s may (o.unread i) (λ trace j node. AllByRecursion (W trace j) node.waiting)
+          (waiting_turn scenario J W C keeps s i o may known h) h.waiting;
+      carried = subst (λ trace. (note : SlotNote) (f : FrameParts) → Contains trace note → note.frame ≡ Some f → C trace note.slot f)
+          (sym (after_turn-trace scenario i s)) h.carried;
     }
 
 -- ---- every run

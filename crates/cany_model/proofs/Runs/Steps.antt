@@ -176,6 +176,10 @@ pub record MayTurn (s : RunState) (i : ℕ) : Type 0 where
   pub running : runs (node_at s.nodes i) ≡ true
   pub unread : 0 < (node_at s.nodes i).unread
 
+-- it has one more unread than after its turn
+pub one_less : (s : RunState) (i : ℕ) → MayTurn s i → (node_at s.nodes i).unread ≡ suc ((node_at s.nodes i).unread - 1)
+one_less s i may = let some = may.unread in omega (arith, some)
+
 -- the age of the oldest note that node i has not read, and what its slot gave the present incarnation
 abbrev pub next_age : RunState → ℕ → ℕ
 next_age s i = (node_at s.nodes i).unread - 1
@@ -267,6 +271,18 @@ after_turn-runs scenario i s j may short =
           (ap (λ (node : NodeState). runs node) (after_turn-node scenario i s may short))
       | inr other ↦ ap (λ node. runs node) (after_turn-other scenario i s j other)
     ]
+
+-- what holds after a turn of the node whose turn it was, and held before it of each that runs, holds of each that runs after it
+pub each_turned : (scenario : ScenarioParts) (i : ℕ) (s : RunState) → MayTurn s i → (node_at s.nodes i).unread ≤ length s.trace
+    → (P : List SlotNote → ℕ → NodeState → Type 0) → P s.trace i (node_at (after_turn scenario i s).nodes i)
+    → ((j : ℕ) → runs (node_at s.nodes j) ≡ true → P s.trace j (node_at s.nodes j))
+    → (j : ℕ) → runs (node_at (after_turn scenario i s).nodes j) ≡ true → P (after_turn scenario i s).trace j (node_at (after_turn scenario i s).nodes j)
+each_turned scenario i s may short P own all j running =
+    let after : ℕ → NodeState = λ m. node_at (after_turn scenario i s).nodes m in
+    subst (λ trace. P trace j (after j)) (sym (after_turn-trace scenario i s)) (elim (cases_eq j i) [
+      | inl same ↦ subst (λ m. P s.trace m (after m)) (sym same) own
+      | inr other ↦ rw (after_turn-other scenario i s j other) (all j (sym (after_turn-runs scenario i s j may short) ∙ running))
+    ])
 
 pub after_turn-history : (scenario : ScenarioParts) (i : ℕ) (s : RunState) → MayTurn s i → (node_at s.nodes i).unread ≤ length s.trace
     → history i (after_turn scenario i s) ≡ next_notice s i ∷ history i s

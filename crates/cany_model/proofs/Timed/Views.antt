@@ -3,6 +3,7 @@ pub mod LoggedViews
 pub mod NoLateVectors
 pub mod OneVector
 pub mod OneView
+pub mod ReadableNodes
 pub mod SameView
 pub mod StartViews
 pub mod VectorBudget

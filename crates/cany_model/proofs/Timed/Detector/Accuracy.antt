@@ -36,12 +36,12 @@ use Rattle.cany_model.proofs.Bus.Identities.{same_class-true}
 use Rattle.cany_model.proofs.Bus.Notes.{given-Got, note_of-offered}
 use Rattle.cany_model.proofs.Runs.Runs.{IsOrderly, opening_within, orderly}
 use Rattle.cany_model.proofs.Bus.States.{node_at-opening, runs_within}
-use Rattle.cany_model.proofs.Runs.Steps.{MayTurn, after_slot-trace, after_slot-unread, after_slot-waiting, after_turn-other, after_turn-runs, after_turn-trace, running_before_slot}
+use Rattle.cany_model.proofs.Runs.Steps.{MayTurn, after_slot-trace, after_slot-unread, after_slot-waiting, after_turn-trace, running_before_slot, each_turned}
 use Rattle.cany_model.proofs.Runs.Waits.{Asks, AsksOnly, Each-after, Each-kept}
 use Rattle.cany_model.proofs.Promises.Diffusion.{Turned, past_of}
 use Rattle.cany_model.proofs.Promises.EachNode.{turn_turned}
 use Rattle.cany_model.proofs.Rules.SignFacts.{asked_is_known}
-use Rattle.cany_model.proofs.Rules.KnowledgeFacts.{known_after, newly, same_sign-true, tells}
+use Rattle.cany_model.proofs.Rules.KnowledgeFacts.{known_after, newly, same_sign-true, tells, HasTimedOut, timed_out}
 use Rattle.cany_model.proofs.Rules.KnowledgeSteps.{failed_after, failed_by, life_keeps}
 use Rattle.cany_model.proofs.Rules.TurnFacts.{fda_cause}
 use Rattle.cany_model.proofs.Timed.Common.StepsWithoutRestarts.{along_fronts}
@@ -252,18 +252,8 @@ no_sign_turn scenario r s o all i may heard h =
     (turn_asks_none scenario i r (past_of i s.trace after) now) (h.waits i may.running)) in
     record {
       carried = subst (AllByRecursion (NoFrameIn r)) (sym (after_turn-trace scenario i s)) h.carried;
-      waits = λ j running. elim (cases_eq j i) [
-        | inl same ↦ subst (λ m. AllByRecursion (NoFrame r) (node_at (after_turn scenario i s).nodes m).waiting) (sym same) waits
-        | inr other ↦ rw (after_turn-other scenario i s j other) (h.waits j (sym (after_turn-runs scenario i s j may (o.unread i)) ∙ running))
-      ];
-      unsigned = λ j running.
-          subst (λ trace. IsUnsigned r (knowledge_of scenario j (past_of j trace (node_at (after_turn scenario i s).nodes j))))
-          (sym (after_turn-trace scenario i s))
-          (elim (cases_eq j i) [
-            | inl same ↦
-                subst (λ m. IsUnsigned r (knowledge_of scenario m (past_of m s.trace (node_at (after_turn scenario i s).nodes m)))) (sym same) now
-            | inr other ↦ rw (after_turn-other scenario i s j other) (h.unsigned j (sym (after_turn-runs scenario i s j may (o.unread i)) ∙ running))
-          ]);
+      waits = each_turned scenario i s may (o.unread i) (λ trace j (n : NodeState). AllByRecursion (NoFrame r) n.waiting) waits h.waits;
+      unsigned = each_turned scenario i s may (o.unread i) (λ trace j n. IsUnsigned r (knowledge_of scenario j (past_of j trace n))) now h.unsigned;
     }
 
 -- ---- a running node is not silent for another
@@ -280,7 +270,7 @@ pub not_silent : (scenario : ScenarioParts) → scenario.restarts ≡ [] → sce
     → (e : NoticeKind) → let past = past_of i (run scenario journal).trace (node_at (run scenario journal).nodes i) in
     has_timed_out scenario.params i (length past) (after_learning i (length past) e (knowledge_of scenario i past)) r ≡ false
 not_silent scenario none few formulas journal known r i running_r running_i e =
-    false_from_ne_true (has_timed_out scenario.params i (length past) st r) (λ silent. silence (parts silent) (cases_eq r i))
+    false_from_ne_true (has_timed_out scenario.params i (length past) st r) (λ silent. silence (timed_out scenario.params i (length past) st r silent))
   where
     past : List NoticeKind
     past = past_of i (run scenario journal).trace (node_at (run scenario journal).nodes i)
@@ -288,26 +278,14 @@ not_silent scenario none few formulas journal known r i running_r running_i e =
     st : Knowledge
     st = after_learning i (length past) e (knowledge_of scenario i past)
 
-    parts : has_timed_out scenario.params i (length past) st r ≡ true
-        → (has st.members r ≡ true) × ((r == i) ≡ false) × (scenario.params.silence ≤ length past - st.shown r)
-    parts h =
-        let member : Bool = has st.members r in
-        let other : Bool = not (r == i) in
-        let lives : Bool = not (has st.failed r) in
-        let all = and_parts (member && other && lives) (nat_le scenario.params.silence (length past - st.shown r)) h in
-        let three = and_parts (member && other) lives all.0 in
-        let two = and_parts member other three.0 in
-        (two.0, not-true (r == i) two.1, leb-true scenario.params.silence (length past - st.shown r) all.1)
-
-    silence : (has st.members r ≡ true) × ((r == i) ≡ false) × (scenario.params.silence ≤ length past - st.shown r) → (r ≡ i) ⊎ (r ≢ i) → ⊥
-    silence h (inl same) = both_ways (r == i) h.1 (eq-eqb r i same)
-    silence h (inr other) =
-        let member : has (knowledge_of scenario i past).members r ≡ true = ap (λ m. has m r) (sym (learnt_members scenario i e past)) ∙ h.0 in
+    silence : HasTimedOut scenario.params i (length past) st r → ⊥
+    silence h =
+        let member : has (knowledge_of scenario i past).members r ≡ true = ap (λ m. has m r) (sym (learnt_members scenario i e past)) ∙ h.member in
         let heard = heard_in_time scenario none few (omega (arith, formulas.bound, formulas.life)) journal known.within known.quiet known.one
-        r i other running_r running_i member in
+        r i h.other running_r running_i member in
         elim (learnt_shown scenario i e past r) [
-          | inl now ↦ omega (arith, h.2, now, formulas.bound, formulas.silence)
-          | inr kept ↦ omega (arith, h.2, kept, heard, formulas.silence)
+          | inl now ↦ omega (arith, h.silent, now, formulas.bound, formulas.silence)
+          | inr kept ↦ omega (arith, h.silent, kept, heard, formulas.silence)
         ]
 
 -- ---- every run without restarts

@@ -41,7 +41,7 @@ use Rattle.cany_model.proofs.Runs.Waits.{Each-after, Each-kept}
 use Rattle.cany_model.proofs.Promises.Diffusion.{past_of}
 use Rattle.cany_model.proofs.Promises.EachNode.{EachRunning, IsNodes, nodes_at_first, nodes_kept}
 use Rattle.cany_model.proofs.Promises.OwnSlotsAlone.{AllWaitForOwnSlots}
-use Rattle.cany_model.proofs.Rules.ProtocolFacts.{IsScripted, MayAsk, MayRequest, accepts, confirms, data_is_no_other, exchanges, is_relayed, lives, originates, relays, requests, signals}
+use Rattle.cany_model.proofs.Rules.ProtocolFacts.{IsScripted, MayAsk, MayRequest, accepts, confirms, data_is_no_other, exchanges, is_relayed, lives, originates, relays, requests, signals, request_asked}
 use Rattle.cany_model.proofs.Rules.TurnFacts.{turn_only}
 use Rattle.cany_model.proofs.Timed.Detector.NoRestarts.{restarts_none}
 use Rattle.cany_model.proofs.Rules.KnowledgeSteps.{found_keeps, leavers_after, leavers_by, life_keeps, met_keeps}
@@ -105,23 +105,11 @@ leave_requested scenario i (e ∷ past) slot c (inr leave) is =
     (leave_asks scenario i e past slot leave.1 leave.2)
 
 pub leave_may : (scenario : ScenarioParts) (i : ℕ) (past : List NoticeKind) (f : FrameParts) → MayAsk scenario i past f → LeaveAsked scenario i past f
-leave_may scenario i past f (relays relayed got) is = absurd (false≢true (sym (ap is_relayed is) ∙ relayed))
-leave_may scenario i past f (originates m stands origin read late frame) is =
-    absurd (data_is_no_other m.service class.Leave refl (ap (λ (g : FrameParts). g.class) frame ∙ is))
-leave_may scenario i past f (confirms g sent rel mine frame) is =
-    let e : class.Confirm ≡ class.Leave = ap (λ (h : FrameParts). h.class) frame ∙ is in absurd (cc)
-leave_may scenario i past f (accepts g sent tot mine frame) is =
-    let e : class.Accept ≡ class.Leave = ap (λ (h : FrameParts). h.class) frame ∙ is in absurd (cc)
-leave_may scenario i past f (signals sign slot now known frame) is =
-    let e : class.Fda ≡ class.Leave = ap (λ (h : FrameParts). h.class) frame ∙ is in absurd (cc)
-leave_may scenario i past f (lives slot now due frame) is =
-    let e : class.Els ≡ class.Leave = ap (λ (h : FrameParts). h.class) frame ∙ is in absurd (cc)
-leave_may scenario i past f (exchanges slot v sends frame) is =
-    let e : class.Rha ≡ class.Leave = ap (λ (h : FrameParts). h.class) frame ∙ is in absurd (cc)
-leave_may scenario i past f (requests slot c may frame) is = (
-  sym (ap (λ (h : FrameParts). h.node) frame),
-  leave_requested scenario i past slot c may (ap (λ (h : FrameParts). h.class) frame ∙ is),
-)
+leave_may scenario i past f may is =
+    let r = request_asked scenario i past f may (inr is) in (
+      sym (ap (λ (h : FrameParts). h.node) r.frame),
+      leave_requested scenario i past r.slot r.class r.may (ap (λ (h : FrameParts). h.class) r.frame ∙ is),
+    )
 
 -- ---- so one that waits was asked for by the node at which it waits
 

@@ -3,6 +3,7 @@ use Rattle.std.proofs.Common.{◌≡◌, ℕ, ◌<◌, ◌≤◌, ◌⊎◌, inl
 use Rattle.std.specs.List.{AllByRecursion}
 use Rattle.std.proofs.lemmas.Bool.{both_ways, cases_Bool, cases_eq, cond_both}
 use Rattle.std.proofs.lemmas.List.{length-replicate}
+use Rattle.std.proofs.lemmas.Option.{same_Some}
 use Rattle.cany_base.specs.declared.class.Class.TheVariants as class
 use Rattle.cany_base.specs.declared.notice.NoticeKind.{NoticeKind}
 use Rattle.cany_base.specs.declared.notice.NoticeKind.TheVariants.{Got}
@@ -23,7 +24,7 @@ use Rattle.cany_model.proofs.Runs.Runs.{orderly}
 use Rattle.cany_model.proofs.Bus.States.{node_at-opening}
 use Rattle.cany_model.proofs.Runs.Steps.{MayTurn, after_slot-length, after_slot-node, after_slot-trace, after_turn-length, after_turn-node, after_turn-other, after_turn-runs, after_turn-trace, running_before_slot, stopped_after_slot}
 use Rattle.cany_model.proofs.Promises.EachNode.{EachRunning, each_running, waiting_has}
-use Rattle.cany_model.proofs.Rules.ProtocolFacts.{MayAsk, accepts, confirms, data_requests_none, exchanges, is_relayed, lives, originates, relays, requests, signals}
+use Rattle.cany_model.proofs.Rules.ProtocolFacts.{MayAsk, request_asked}
 use Rattle.cany_model.proofs.Timed.Common.StepsWithoutRestarts.{along_fronts}
 use Rattle.cany_model.proofs.Timed.Detector.ShowsInTime.{shows_life_in_time}
 
@@ -36,18 +37,7 @@ abbrev JoinsItself : ℕ → FrameParts → Type 0
 JoinsItself i f = f.class ≡ class.Join → f.node ≡ i
 
 join_asked : (scenario : ScenarioParts) (i : ℕ) (past : List NoticeKind) (f : FrameParts) → MayAsk scenario i past f → JoinsItself i f
-join_asked scenario i past f (relays relayed got) join = absurd (both_ways (is_relayed f.class) (ap is_relayed join) relayed)
-join_asked scenario i past f (originates m is origin read late frame) join =
-    absurd (data_requests_none m.service class.Join (inl refl) (ap (λ (g : FrameParts). g.class) frame ∙ join))
-join_asked scenario i past f (confirms g sent rel own frame) join =
-    let e : class.Confirm ≡ class.Join = ap (λ (g : FrameParts). g.class) frame ∙ join in absurd (cc)
-join_asked scenario i past f (accepts g sent tot own frame) join =
-    let e : class.Accept ≡ class.Join = ap (λ (g : FrameParts). g.class) frame ∙ join in absurd (cc)
-join_asked scenario i past f (signals sign slot now known frame) join =
-    let e : class.Fda ≡ class.Join = ap (λ (g : FrameParts). g.class) frame ∙ join in absurd (cc)
-join_asked scenario i past f (lives slot now due frame) join = ap (λ (g : FrameParts). g.node) (sym frame)
-join_asked scenario i past f (exchanges slot v sends frame) join = ap (λ (g : FrameParts). g.node) (sym frame)
-join_asked scenario i past f (requests slot c may frame) join = ap (λ (g : FrameParts). g.node) (sym frame)
+join_asked scenario i past f may join = ap (λ (g : FrameParts). g.node) (sym (request_asked scenario i past f may (inl join)).frame)
 
 abbrev WaitsJoining : List SlotNote → ℕ → NodeState → Type 0
 WaitsJoining trace i node = AllByRecursion (JoinsItself i) node.waiting
@@ -96,9 +86,6 @@ record StopsKept (s : RunState) : Type 0 where
 none_stopped : (t : ℕ) → None ≡ Some t → ⊥
 none_stopped t e = cc
 
-some_slot : (a b : ℕ) → Some a ≡ Some b → a ≡ b
-some_slot a b e = cc
-
 pub node_after-stops : (i : ℕ) (note : SlotNote) (node : NodeState) → runs node ≡ true
     → (node_after i note node).stopped ≡ (if has note.stops i then Some note.slot else None)
 unfolding node_after
@@ -145,7 +132,7 @@ stops_slot rules s own h = record {
           ap (λ (node : NodeState). node.stopped) (after_slot-node rules s i there) ∙ node_after-stops i note (node_at s.nodes i) ran in
           cond_both (has note.stops i) (Some note.slot) None
           (λ o. o ≡ Some t → ((has note.stops i ≡ true) × (length s.trace ≡ t)) ⊎ StopsAt i t s.trace)
-          (λ stops some. inl (stops, sym (note_of-slot rules s) ∙ some_slot note.slot t some))
+          (λ stops some. inl (stops, sym (note_of-slot rules s) ∙ same_Some note.slot t some))
           (λ _ never. absurd (none_stopped t never)) (sym after ∙ e)
     ]
 

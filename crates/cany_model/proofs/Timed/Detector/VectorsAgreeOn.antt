@@ -56,8 +56,8 @@ use Rattle.cany_model.proofs.Rules.KnowledgeNodes.{IsVectorOfBus, everybody_belo
 use Rattle.cany_model.proofs.Rules.VectorFacts.{brought_exchanged, carries_vector, vector_starts}
 use Rattle.cany_model.proofs.Timed.Common.StepsWithoutRestarts.{along_fronts}
 use Rattle.cany_model.proofs.Timed.Detector.NoRestarts.{AllOriginal, all_original, follows, sees_all}
+use Rattle.cany_model.proofs.Timed.Views.ReadableNodes.{run_readable}
 pub use Rattle.cany_model.proofs.Timed.Views.OneVector.{installed_before, installed_here as installed_now}
-use Rattle.cany_model.proofs.Timed.Views.VectorBudget.{run_readable}
 use Rattle.cany_model.proofs.Timed.Views.VectorSets.{vector_again}
 use Rattle.cany_model.proofs.Timed.Views.VectorTurns.{starts_with, turn_ends, turn_exchanges, turn_starts}
 use Rattle.cany_model.proofs.Timed.Views.VectorLastEffect.{IsCycle, brings, brought_in}

@@ -1,6 +1,5 @@
 -- Every run keeps the answers of each running node, by what its incarnation sees.
-use Rattle.std.proofs.Common.{◌≡◌, ℕ, suc, ◌-◌, ◌<◌, ◌≤◌, inl, inr, true, List, [], ◌∷◌, length, ap, sym, ◌∙◌, subst, arith}
-use Rattle.std.proofs.lemmas.Bool.{cases_eq}
+use Rattle.std.proofs.Common.{◌≡◌, ℕ, suc, ◌-◌, ◌<◌, ◌≤◌, true, List, [], ◌∷◌, length, ap, sym, ◌∙◌, subst, arith}
 use Rattle.cany_base.specs.declared.notice.NoticeKind.{NoticeKind}
 use Rattle.cany_base.specs.declared.slot_note.SlotNote.{SlotNote}
 use Rattle.cany_base.specs.declared.step.Step.{Step}
@@ -15,12 +14,12 @@ use Rattle.cany_model.specs.Bus.State.{Incarnation, NodeState, RunState, node_at
 use Rattle.cany_model.specs.Rules.Effect.{waiting_after}
 use Rattle.cany_model.specs.Rules.Totcan.{tot_of_key}
 use Rattle.cany_model.specs.Rules.Turn.{scenario_for, turn_effects}
-use Rattle.cany_model.proofs.Bus.Restarts.{after_restarts-trace, restarts_or_stays}
+use Rattle.cany_model.proofs.Bus.Restarts.{after_restarts-trace}
 use Rattle.cany_model.proofs.Runs.Runs.{IsOrderly}
 use Rattle.cany_model.proofs.Bus.Seen.{history-is, length-seen}
 use Rattle.cany_model.proofs.Bus.States.{note_at, runs_within}
-use Rattle.cany_model.proofs.Runs.Steps.{MayTurn, after_slot-present, after_slot-trace, after_slot-unread, after_turn-node, after_turn-other, after_turn-runs, after_turn-trace, next_notice, node_after_turn, running_before_slot}
-use Rattle.cany_model.proofs.Promises.EachNode.{EachRunning, IsNew, opening_new, restarted_new, slot_lived}
+use Rattle.cany_model.proofs.Runs.Steps.{MayTurn, after_slot-present, after_slot-trace, after_slot-unread, after_turn-node, after_turn-trace, next_notice, node_after_turn, running_before_slot, one_less}
+use Rattle.cany_model.proofs.Promises.EachNode.{EachRunning, IsNew, opening_new, slot_lived, each_restarts, each_turn}
 use Rattle.cany_model.proofs.Promises.OwnSlotsAlone.{AllWaitForOwnSlots, own_slots_alone_run}
 use Rattle.cany_model.proofs.Timed.Common.Ages.{clean_carried, gave, past}
 use Rattle.cany_model.proofs.Timed.Order.AcceptanceRelays.{AcceptsLater, Answers, Hears, accepts_later, answers_slot, answers_turn, later_before, later_seen}
@@ -67,13 +66,9 @@ answers_after_slot scenario s of h plain later i running =
 
 answers_restarts : (scenario : ScenarioParts) (s : RunState) → IsOrderly scenario.params.nodes s → 0 < length s.trace → KeptAnswers scenario s
     → KeptAnswers scenario (after_restarts scenario s)
-answers_restarts scenario s o some h plain later i running =
-    let k = h (subst NoSilent (after_restarts-trace scenario s) plain) (subst AcceptsLater (after_restarts-trace scenario s) later) in
-    let after : NodeState = node_at (after_restarts scenario s).nodes i in
-    subst (λ T. AnswerNode scenario (seen after.present T) i after) (sym (after_restarts-trace scenario s)) (elim (restarts_or_stays scenario s i) [
-      | inl new ↦ answers_new scenario (seen after.present s.trace) i after (restarted_new scenario s i o some new)
-      | inr same ↦ rw same (k i (sym (ap (λ node. runs node) same) ∙ running))
-    ])
+answers_restarts scenario s o some h plain later =
+    each_restarts scenario (AnswerNode scenario) (answers_new scenario) s o some
+    (h (subst NoSilent (after_restarts-trace scenario s) plain) (subst AcceptsLater (after_restarts-trace scenario s) later))
 
 -- ---- a turn
 
@@ -97,19 +92,11 @@ answers_after_turn scenario few s i of may h plain later =
     let tot : TotKept scenario s = subst (λ t. NoSilent t.trace → TotKept scenario t) of.1 (tot_kept scenario few of.0) plains in
     let node = node_at s.nodes i in
     let short : node.unread ≤ length s.trace = (run_orderly scenario s of).unread i in
-    let some = may.unread in
-    let next : node.unread ≡ suc (node.unread - 1) = omega (arith, some) in
     let own : AnswerNode scenario (seen node.present s.trace) i (node_after_turn scenario i (next_notice s i ∷ history i s) node) =
-    turn_answers scenario i node.present s.trace node.unread (node.unread - 1) node.waiting (history i s) next short (history-is i s) laters
+    turn_answers scenario i node.present s.trace node.unread (node.unread - 1) node.waiting (history i s) (one_less s i may) short (history-is i s) laters
     (tot.nodes i may.running).heard (k i may.running) in
-    λ j running.
-    let after : ℕ → NodeState = λ m. node_at (after_turn scenario i s).nodes m in
-    subst (λ T. AnswerNode scenario (seen (after j).present T) j (after j)) (sym (after_turn-trace scenario i s)) (elim (cases_eq j i) [
-      | inl same ↦
-          subst (λ m. AnswerNode scenario (seen (after m).present s.trace) m (after m)) (sym same)
-          (subst (λ (n : NodeState). AnswerNode scenario (seen n.present s.trace) i n) (sym (after_turn-node scenario i s may short)) own)
-      | inr other ↦ rw (after_turn-other scenario i s j other) (k j (sym (after_turn-runs scenario i s j may short) ∙ running))
-    ])
+    each_turn scenario (AnswerNode scenario) s i may short
+    (subst (AnswerNode scenario (seen node.present s.trace) i) (sym (after_turn-node scenario i s may short)) own) k
 
 -- ---- every run
 

@@ -1,7 +1,7 @@
 -- What is kept of TOTCAN, of every run without a Silent slot.
 use Rattle.std.proofs.Common.{◌≡◌, ℕ, zero, suc, ◌-◌, ◌<◌, ◌≤◌, inl, inr, true, List, [], ◌∷◌, ◌++◌, None, length, refl, ap, sym, ◌∙◌, subst, arith}
 use Rattle.std.specs.List.{AllByRecursion}
-use Rattle.std.proofs.lemmas.Bool.{cases_Bool, cases_eq, false≢true}
+use Rattle.std.proofs.lemmas.Bool.{cases_Bool, false≢true}
 use Rattle.cany_base.specs.declared.notice.NoticeKind.{NoticeKind}
 use Rattle.cany_base.specs.declared.slot_note.SlotNote.{SlotNote}
 use Rattle.cany_base.specs.declared.step.Step.{Step}
@@ -18,12 +18,12 @@ use Rattle.cany_model.specs.Bus.State.{Incarnation, NodeState, RunState, node_at
 use Rattle.cany_model.specs.Rules.Effect.{waiting_after}
 use Rattle.cany_model.specs.Rules.Turn.{scenario_for, turn_effects}
 use Rattle.cany_model.proofs.Runs.Journals.{run_push, step_is, step_refused}
-use Rattle.cany_model.proofs.Bus.Restarts.{after_restarts-trace, restarts_or_stays}
+use Rattle.cany_model.proofs.Bus.Restarts.{after_restarts-trace}
 use Rattle.cany_model.proofs.Runs.Runs.{IsOrderly, MaySlot, orderly, orderly_slot, slot_done, turn_done}
 use Rattle.cany_model.proofs.Bus.Seen.{history-is, length-seen}
 use Rattle.cany_model.proofs.Bus.States.{note_at, runs_within}
-use Rattle.cany_model.proofs.Runs.Steps.{MayTurn, after_slot-present, after_slot-trace, after_slot-unread, after_slot-waiting, after_turn-node, after_turn-other, after_turn-runs, after_turn-trace, next_notice, node_after_turn, running_before_slot}
-use Rattle.cany_model.proofs.Promises.EachNode.{IsNew, opening_new, restarted_new}
+use Rattle.cany_model.proofs.Runs.Steps.{MayTurn, after_slot-present, after_slot-trace, after_slot-unread, after_slot-waiting, after_turn-node, after_turn-trace, next_notice, node_after_turn, running_before_slot, one_less}
+use Rattle.cany_model.proofs.Promises.EachNode.{IsNew, opening_new, each_restarts, each_turn}
 use Rattle.cany_model.proofs.Promises.OwnSlotsAlone.{own_slots_alone_run}
 use Rattle.cany_model.proofs.Timed.Common.Ages.{Carried, Gets, Sends, clean_carried, gave, past}
 use Rattle.cany_model.proofs.Timed.Common.OwnSlots.{own_slots}
@@ -192,12 +192,7 @@ kept_restarts scenario s o some h plain =
     let k = h (subst NoSilent (after_restarts-trace scenario s) plain) in
     record {
       trace = subst (TraceKept scenario) (sym (after_restarts-trace scenario s)) k.trace;
-      nodes = λ i running.
-          let node : NodeState = node_at (after_restarts scenario s).nodes i in
-          subst (λ T. KeptNode scenario (seen node.present T) i node) (sym (after_restarts-trace scenario s)) (elim (restarts_or_stays scenario s i) [
-            | inl new ↦ new_kept scenario (seen node.present s.trace) i node (restarted_new scenario s i o some new)
-            | inr same ↦ rw same (k.nodes i (sym (ap (λ node. runs node) same) ∙ running))
-          ]);
+      nodes = each_restarts scenario (KeptNode scenario) (new_kept scenario) s o some k.nodes;
     }
 
 -- what is kept of the trace speaks of no incarnation
@@ -238,22 +233,14 @@ kept_turn scenario s i of may h plain =
     let plains = subst NoSilent (after_turn-trace scenario i s) plain in
     let k = h plains in
     let node = node_at s.nodes i in
-    let short : node.unread ≤ length s.trace = (run_orderly scenario s of).unread i in
-    let some = may.unread in
-    let next : node.unread ≡ suc (node.unread - 1) = omega (arith, some) in
+    let o = run_orderly scenario s of in
     let own : KeptNode scenario (seen node.present s.trace) i (node_after_turn scenario i (next_notice s i ∷ history i s) node) =
-    turn_kept scenario i node.present s.trace node.unread (node.unread - 1) node.waiting (history i s) next short (history-is i s) plains
-    (run_orderly scenario s of).numbered k.trace (k.nodes i may.running) in
+    turn_kept scenario i node.present s.trace node.unread (node.unread - 1) node.waiting (history i s) (one_less s i may) (o.unread i) (history-is i s)
+    plains o.numbered k.trace (k.nodes i may.running) in
     record {
       trace = subst (TraceKept scenario) (sym (after_turn-trace scenario i s)) k.trace;
-      nodes = λ j running.
-          let after : ℕ → NodeState = λ m. node_at (after_turn scenario i s).nodes m in
-          subst (λ T. KeptNode scenario (seen (after j).present T) j (after j)) (sym (after_turn-trace scenario i s)) (elim (cases_eq j i) [
-            | inl same ↦
-                subst (λ m. KeptNode scenario (seen (after m).present s.trace) m (after m)) (sym same)
-                (subst (λ (n : NodeState). KeptNode scenario (seen n.present s.trace) i n) (sym (after_turn-node scenario i s may short)) own)
-            | inr other ↦ rw (after_turn-other scenario i s j other) (k.nodes j (sym (after_turn-runs scenario i s j may short) ∙ running))
-          ]);
+      nodes = each_turn scenario (KeptNode scenario) s i may (o.unread i)
+          (subst (KeptNode scenario (seen node.present s.trace) i) (sym (after_turn-node scenario i s may (o.unread i))) own) k.nodes;
     }
 
 pub tot_kept : (scenario : ScenarioParts) → scenario.params.nodes ≤ most_nodes → (journal : List Step) → NoSilent (run scenario journal).trace

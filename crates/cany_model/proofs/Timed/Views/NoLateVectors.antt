@@ -1,10 +1,11 @@
 -- From a quiet slot of the exchange of a membership cycle on no vector of the cycle is carried, and nobody waits with one.
 use Rattle.std.proofs.Common.{◌≡◌, ℕ, suc, ◌+◌, ◌-◌, ◌*◌, ◌/◌, ◌%◌, ◌<◌, ◌≤◌, ◌⊎◌, inl, inr, Bool, true, false, nat_lt, List, [], ◌∷◌, ◌++◌, length, map, drop, Option, Some, None, Contains, refl, ap, sym, ◌∙◌, subst, arith, append-nil, append_assoc, length-append, length-drop, mul-le-mul_left}
+use Rattle.std.proofs.Math.Nat.{div-lt_iff_lt-mul}
 use Rattle.std.specs.List.{AllByRecursion, list_any}
 use Rattle.std.proofs.Math.Seq.{drop-append-add}
 use Rattle.std.proofs.lemmas.Bool.{and_from, both_ways, cases_eq, cases_lt, cases_order, lt-ltb}
 use Rattle.std.proofs.lemmas.List.{length-map, length-replicate, map-append}
-use Rattle.std.proofs.lemmas.Nat.{div-add-mod', mod_below}
+use Rattle.std.proofs.lemmas.Nat.{le-div}
 use Rattle.cany_base.specs.Limits.{most_nodes}
 use Rattle.cany_base.specs.declared.class.Class.TheVariants as class
 use Rattle.cany_base.specs.declared.format.Format.{Format}
@@ -43,6 +44,7 @@ use Rattle.cany_model.proofs.Promises.KeptVectors.{vector_at}
 use Rattle.cany_model.proofs.Promises.LateVectors.{late_vectors}
 use Rattle.cany_model.proofs.Rules.IncarnationFacts.{effects_for-is}
 use Rattle.cany_model.proofs.Rules.VectorFacts.{carries_vector}
+use Rattle.cany_model.proofs.Runs.PresentIncarnations.{each_present}
 use Rattle.cany_model.proofs.Timed.Common.Ages.{gave, past}
 use Rattle.cany_model.proofs.Timed.Order.NoLateAcceptances.{IsStaying}
 use Rattle.cany_model.proofs.Timed.Order.TotRun.{past_next}
@@ -54,61 +56,24 @@ use Rattle.cany_model.proofs.Timed.Common.LastEffect.{Silence, Withdrawn, by_wor
 
 -- ---- incarnations
 
--- what the incarnation of the opening has, and each next one, each present one of a run has
-present_has : (scenario : ScenarioParts) (Q : Incarnation → Type 0) → Q original
-    → ((slot : ℕ) (inc : Incarnation) → Q (next_incarnation scenario.params slot inc)) → (journal : List Step) (i : ℕ)
-    → Q (node_at (run scenario journal).nodes i).present
-present_has scenario Q first next journal =
-    along_run scenario (λ s. (i : ℕ) → Q (node_at s.nodes i).present)
-    (λ i. elim (cases_lt i scenario.params.nodes) [
-      | inl below ↦ rw (node_at-opening scenario.params.nodes i below) first
-      | inr above ↦ outside (opening scenario.params.nodes) i (subst (λ n. n ≤ i) (sym (length-replicate scenario.params.nodes fresh)) above)
-    ])
-    (record {
-      slot = λ s o may all i. elim (cases_lt i (length s.nodes)) [
-        | inl below ↦ subst Q (sym (after_slot-present (script scenario.rules) s i below)) (all i)
-        | inr above ↦ outside (after_slot (script scenario.rules) s) i (subst (λ n. n ≤ i) (sym (after_slot-length (script scenario.rules) s)) above)
-      ];
-      restarts = λ s o some all i. elim (restarts_or_stays scenario s i) [
-        | inl new ↦ rw new.is (next (slots_run s - 1) (node_at s.nodes i).present)
-        | inr same ↦ subst (λ (node : NodeState). Q node.present) (sym same) (all i)
-      ];
-      turn = λ s i o may all j. subst Q (sym (after_turn-present scenario i s j may (o.unread i))) (all j);
-    })
-    journal
-  where
-    outside : (s : RunState) (i : ℕ) → length s.nodes ≤ i → Q (node_at s.nodes i).present
-    outside s i above = rw (node_at_past s.nodes i above) first
-
 -- one that is not from the first slot on is that of a restarted node
 pub later_from : (scenario : ScenarioParts) (journal : List Step) (i : ℕ) → 0 < (node_at (run scenario journal).nodes i).present.from
     → 0 < (node_at (run scenario journal).nodes i).present.number
 later_from scenario journal i some =
-    present_has scenario (λ inc. 0 < inc.from → 0 < inc.number) (λ from. absurd (omega (arith, from))) (λ slot inc from. omega arith) journal i some
+    each_present scenario (λ inc. 0 < inc.from → 0 < inc.number) (λ from. absurd (omega (arith, from))) (λ slot inc from. omega arith) journal i some
 
 -- the first cycle of a slot is the first that does not start before it
 first_after : (p : Parameters) (slot k : ℕ) → 0 < p.cycle → k * p.cycle < slot → k < first_cycle p slot
 first_after p slot k some after =
-    let n : ℕ = slot + (p.cycle - 1) in
-    let whole : n / p.cycle * p.cycle + n % p.cycle ≡ n = div-add-mod' n p.cycle in
-    elim (cases_lt k (n / p.cycle)) [
-      | inl less ↦ less
-      | inr more ↦
-          let grows : n / p.cycle * p.cycle ≤ k * p.cycle = grind (arith, mul-le-mul_left p.cycle more) in
-          absurd (omega (arith, whole, grows, mod_below n p.cycle some, after, some))
-    ]
+    let next : suc k * p.cycle ≡ k * p.cycle + p.cycle = grind arith in
+    let least : suc k ≤ first_cycle p slot = le-div (suc k) (slot + (p.cycle - 1)) p.cycle some (omega (arith, next, after, some)) in
+    omega (arith, least)
 
 first_before : (p : Parameters) (slot k : ℕ) → 0 < p.cycle → slot ≤ k * p.cycle → first_cycle p slot ≤ k
 first_before p slot k some before =
-    let n : ℕ = slot + (p.cycle - 1) in
-    let whole : n / p.cycle * p.cycle + n % p.cycle ≡ n = div-add-mod' n p.cycle in
-    elim (cases_lt k (n / p.cycle)) [
-      | inr more ↦ more
-      | inl less ↦
-          let step : suc k * p.cycle ≤ n / p.cycle * p.cycle = grind (arith, mul-le-mul_left p.cycle less) in
-          let size : suc k * p.cycle ≡ k * p.cycle + p.cycle = grind arith in
-          absurd (omega (arith, whole, step, size, before, some))
-    ]
+    let next : suc k * p.cycle ≡ k * p.cycle + p.cycle = grind arith in
+    let below : first_cycle p slot < suc k = (div-lt_iff_lt-mul some).1 (omega (arith, next, before, some)) in
+    omega (arith, below)
 
 -- so an incarnation that takes part at the start of a cycle sees its vectors, and one that takes part only later does not
 pub sees_cycle : (scenario : ScenarioParts) (journal : List Step) (k i : ℕ) → 0 < scenario.params.cycle

@@ -4,6 +4,7 @@ use Rattle.std.proofs.Common.{◌≡◌, ℕ, ◌+◌, ◌*◌, ◌%◌, ◌<◌
 use Rattle.std.specs.List.{AllByRecursion}
 use Rattle.std.proofs.lemmas.Bool.{and_from, and_parts, cases_Bool, cases_lt, cond-false, cond_both, eq-eqb, eqb-true}
 use Rattle.std.proofs.lemmas.Nat.{div-add-mod'}
+use Rattle.std.proofs.lemmas.Option.{same_Some}
 use Rattle.cany_base.specs.Limits.{most_nodes}
 use Rattle.cany_base.specs.declared.class.Class.TheVariants as class
 use Rattle.cany_base.specs.declared.log_entry.LogEntry.{LogEntry}
@@ -152,13 +153,10 @@ one_view scenario journal few fits formulas first within slots i j ci cj number 
     let wi = was i members here li in
     let wj = was j others there lj in
     let alike = (one_vector scenario journal few fits formulas first within slots number).alike i j (ended i ci members wi) (ended j cj others wj) in
-    same_members members others (sym wi.vector ∙ alike ∙ wj.vector)
+    same_Some members others (sym wi.vector ∙ alike ∙ wj.vector)
   where
     s : RunState
     s = run scenario journal
-
-    same_members : (a b : Nodes) → Some a ≡ Some b → a ≡ b
-    same_members a b e = cc
 
     none_some : (o : Option Nodes) (v : Nodes) → o ≡ None → o ≡ Some v → ⊥
     none_some o v a b = absurd (cc)

@@ -14,21 +14,16 @@ use Rattle.cany_base.specs.Scenario.{ScenarioParts}
 use Rattle.cany_base.specs.Limits.{most_nodes}
 use Rattle.cany_base.specs.declared.step.Step.{Step}
 use Rattle.cany_model.specs.Runs.Run.{run}
-use Rattle.cany_model.specs.Bus.State.{Incarnation, NodeState, RunState, node_at}
+use Rattle.cany_model.specs.Bus.State.{NodeState}
 use Rattle.cany_model.specs.Rules.Knowledge.{Knowledge}
-use Rattle.cany_model.proofs.Bus.EachRead.{EachRead, each_of_history}
 use Rattle.cany_model.proofs.Bus.Notes.{given_idle}
-use Rattle.cany_model.proofs.Runs.Runs.{orderly}
-use Rattle.cany_model.proofs.Bus.Seen.{history-is}
-use Rattle.cany_model.proofs.Promises.WaitingIsAskable.{AllBelong, all_belong, readable_for, seen_readable}
-use Rattle.cany_model.proofs.Promises.Diffusion.{Lived, Turned, past_of}
-use Rattle.cany_model.proofs.Promises.EachNode.{EachRunning, IsNew, IsNodes, each_running}
-use Rattle.cany_model.proofs.Promises.OwnSlotsAlone.{run_numbered}
+use Rattle.cany_model.proofs.Promises.Diffusion.{past_of}
+use Rattle.cany_model.proofs.Promises.EachNode.{EachRunning, IsNew}
 use Rattle.cany_model.proofs.Rules.KnowledgeFacts.{begun_knowledge}
 use Rattle.cany_model.specs.Bus.Frames.{Identity, identity_of}
-use Rattle.cany_model.specs.Bus.History.{given, is_sent, seen}
+use Rattle.cany_model.specs.Bus.History.{given, is_sent}
 use Rattle.cany_model.specs.Rules.Effect.{waiting_after}
-use Rattle.cany_model.specs.Rules.Notices.{IsPart, IsReadable}
+use Rattle.cany_model.specs.Rules.Notices.{IsPart}
 use Rattle.cany_model.specs.Rules.Turn.{scenario_for, turn_effects}
 use Rattle.cany_model.specs.Rules.Vectors.{is_covered, is_new, met, met_with, rha_frame, rha_of}
 use Rattle.cany_model.proofs.Among.{count-no, count-yes}
@@ -41,6 +36,7 @@ use Rattle.cany_model.proofs.Timed.Views.VectorSets.{meet_left, size, size_le, s
 use Rattle.cany_model.proofs.Timed.Views.VectorTurns.{starts_with, turn_ends, turn_exchanges, turn_outside, turn_starts}
 use Rattle.cany_model.proofs.Timed.Views.VectorLastEffect.{IsCycle, brings, brought_word, met_word, start_word}
 use Rattle.cany_model.proofs.Timed.Common.LastEffect.{Word, Silence, Asked, Withdrawn, by_word, held, held_after, word}
+use Rattle.cany_model.proofs.Timed.Views.ReadableNodes.{IsReadableNodes, each_readable}
 
 -- ---- what a node may still send
 
@@ -250,55 +246,21 @@ budget_new scenario k trace i node new =
 
 -- ---- along a run
 
-module _ (scenario : ScenarioParts) (k : ℕ) (c : IsCycle scenario.params k) (first : AllBelow scenario.params.nodes scenario.members) where
-  -- of a node whose notices belong to the scenario, and whose incarnation is this
-  abbrev HasBudget : Incarnation → List SlotNote → ℕ → NodeState → Type 0
-  HasBudget inc trace i node =
-      EachRead (IsReadable (scenario_for scenario inc)) (past_of i trace node)
-      → BudgetKept (scenario_for scenario inc) k i trace (past_of i trace node) node.waiting
-
-  slot_keeps : (note : SlotNote) (trace : List SlotNote) (i : ℕ) (node after : NodeState) → Lived note trace i node after
-      → HasBudget node.present trace i node → HasBudget node.present (note ∷ trace) i after
-  slot_keeps note trace i node after l h read =
-      let sc : ScenarioParts = scenario_for scenario node.present in
-      rw (l.past, l.kept)
-      (budget_slot sc k i note trace (past_of i trace node) node.waiting l.sends (h (subst (EachRead (IsReadable sc)) l.past read)))
-
-  turn_keeps : (trace : List SlotNote) (i : ℕ) (node after : NodeState)
-      → Turned (turn_effects (scenario_for scenario node.present)) trace i node after → HasBudget node.present trace i node → HasBudget node.present trace i after
-  turn_keeps trace i node after t h read =
-      let sc : ScenarioParts = scenario_for scenario node.present in
-      let past : List NoticeKind = past_of i trace node in
-      let read' : EachRead (IsReadable sc) (t.notice ∷ past) = subst (EachRead (IsReadable sc)) t.past read in
-      let members = first_members scenario node.present first in
-      rw (t.waiting, t.past)
-      (budget_turn sc k i c trace t.notice past node.waiting (knowledge_of_bus sc i members past read'.1).vector
-      (knowledge_of_bus sc i members (t.notice ∷ past) read').vector (h read'.1))
-
-  budget_nodes : IsNodes scenario (λ trace i node. HasBudget node.present trace i node)
-  budget_nodes = record {
-    new = λ trace i node new read. budget_new scenario k trace i node new;
-    slot = λ note trace i node after same l h.
-        subst (λ (inc : Incarnation). HasBudget inc (note ∷ trace) i after) (sym same) (slot_keeps note trace i node after l h);
-    turn = λ trace i node after same t h. subst (λ (inc : Incarnation). HasBudget inc trace i after) (sym same) (turn_keeps trace i node after t h);
-  }
-
--- what a node has read in a run belongs to the scenario
-pub run_readable : (scenario : ScenarioParts) (journal : List Step) → scenario.params.nodes ≤ most_nodes → (i : ℕ)
-    → let s = run scenario journal in
-    let node = node_at s.nodes i in
-    EachRead (IsReadable (scenario_for scenario node.present)) (past_of i (seen node.present s.trace) node)
-run_readable scenario journal few i =
-    let s : RunState = run scenario journal in
-    let inc : Incarnation = (node_at s.nodes i).present in
-    let belong : AllBelong scenario s = all_belong scenario journal few in
-    subst (EachRead (IsReadable (scenario_for scenario inc))) (history-is i s)
-    (each_of_history (IsReadable (scenario_for scenario inc)) i s (run_numbered scenario.params.nodes s (orderly scenario journal))
-    (λ note stands. readable_for scenario inc note.slot _ (seen_readable scenario s i inc note belong stands)))
+budget_nodes : (scenario : ScenarioParts) (k : ℕ) → IsCycle scenario.params k → AllBelow scenario.params.nodes scenario.members
+    → IsReadableNodes scenario (λ sc i trace past waiting. BudgetKept sc k i trace past waiting)
+budget_nodes scenario k c first = record {
+  new = λ trace i node new. budget_new scenario k trace i node new;
+  slot = λ sc i note trace past waiting sends h. budget_slot sc k i note trace past waiting sends h;
+  turn = λ inc i trace e past waiting all read h.
+      let sc : ScenarioParts = scenario_for scenario inc in
+      let members = first_members scenario inc first in
+      budget_turn sc k i c trace e past waiting (knowledge_of_bus sc i members past read.1).vector
+      (knowledge_of_bus sc i members (e ∷ past) read).vector h;
+}
 
 -- so it holds of each running node of every run
 pub budget_kept : (scenario : ScenarioParts) (journal : List Step) → scenario.params.nodes ≤ most_nodes → (k : ℕ) → IsCycle scenario.params k
     → AllBelow scenario.params.nodes scenario.members
     → EachRunning (NodeBudget scenario k) (run scenario journal)
-budget_kept scenario journal few k c first i running =
-    each_running scenario _ (budget_nodes scenario k c first) journal i running (run_readable scenario journal few i)
+budget_kept scenario journal few k c first =
+    each_readable scenario (λ sc i trace past waiting. BudgetKept sc k i trace past waiting) (budget_nodes scenario k c first) journal few

@@ -1,5 +1,5 @@
 -- What is kept of a node's vector is kept by each slot and each turn, and so holds of every run.
-use Rattle.std.proofs.Common.{◌≡◌, ℕ, ◌+◌, ◌*◌, ◌<◌, ◌≤◌, ◌⊎◌, ◌==◌, ◌&&◌, inl, inr, Bool, true, false, List, [], ◌∷◌, length, drop, Option, Some, None, count_by, nat_lt, refl, ap, sym, ◌∙◌, subst, arith}
+use Rattle.std.proofs.Common.{◌≡◌, ℕ, ◌+◌, ◌*◌, ◌<◌, ◌≤◌, ◌⊎◌, ◌==◌, ◌&&◌, inl, inr, Bool, true, false, List, [], ◌∷◌, length, Option, Some, None, count_by, nat_lt, refl, ap, sym, ◌∙◌, subst, arith}
 use Rattle.std.specs.List.{AllByRecursion, list_any}
 use Rattle.std.proofs.lemmas.Bool.{and_parts, cases_eq, cond_both, eqb-true, false≢true, ltb-true, not-false, or_cases}
 use Rattle.cany_base.specs.Limits.{most_nodes}
@@ -17,29 +17,28 @@ use Rattle.cany_base.specs.Scenario.{ScenarioParts}
 use Rattle.cany_model.specs.Bus.Frames.{Identity, identity_of, same_class}
 use Rattle.cany_model.specs.Bus.History.{given}
 use Rattle.cany_model.specs.Runs.Run.{run}
-use Rattle.cany_model.specs.Bus.State.{Incarnation, NodeState}
+use Rattle.cany_model.specs.Bus.State.{NodeState}
 use Rattle.cany_model.specs.Rules.Effect.{waiting_after}
-use Rattle.cany_model.specs.Rules.Notices.{IsPart, IsReadable}
+use Rattle.cany_model.specs.Rules.Notices.{IsPart}
 use Rattle.cany_model.specs.Rules.Knowledge.{Knowledge}
 use Rattle.cany_model.specs.Rules.Turn.{scenario_for, turn_effects}
 use Rattle.cany_model.specs.Rules.Vectors.{is_covered, is_just, is_new, is_vector_got, is_vector_sent, met, met_with, rha_of, vector_in}
-use Rattle.cany_model.proofs.Among.{Among, Among-drop, Among-from_any, Among-from_map, Among-weaker, Among-with, Each-weaker, count-grows}
-use Rattle.cany_model.proofs.Bus.EachRead.{EachRead}
+use Rattle.cany_model.proofs.Among.{Among, Among-from_any, Among-weaker, Among-with, Each-weaker, count-grows}
 use Rattle.cany_model.proofs.Bus.Notes.{given-Sent}
 use Rattle.cany_model.proofs.Runs.Steps.{kept_at}
-use Rattle.cany_model.proofs.Promises.Diffusion.{Lived, Turned, past_of}
-use Rattle.cany_model.proofs.Promises.EachNode.{EachRunning, IsNew, IsNodes, each_running}
+use Rattle.cany_model.proofs.Promises.Diffusion.{past_of}
+use Rattle.cany_model.proofs.Promises.EachNode.{EachRunning, IsNew}
 use Rattle.cany_model.proofs.Promises.KeptVectors.{vector_at}
 use Rattle.cany_model.proofs.Rules.KnowledgeFacts.{begun_knowledge}
 use Rattle.cany_model.proofs.Rules.KnowledgeNodes.{IsVectorOfBus, first_members, knowledge_of_bus}
 use Rattle.cany_model.proofs.Rules.VectorFacts.{carries_vector}
-use Rattle.cany_model.proofs.Timed.Views.VectorBudget.{run_readable}
 use Rattle.cany_model.proofs.Timed.Views.VectorHeld.{WaitedWith, held_none, held_slot, sent_held}
 use Rattle.cany_model.proofs.Timed.Views.VectorKept.{Answered, Covers, HasRead, HasVector, IsOpen, IsSentOf, NodeVector, SentCovers, Untouched, VectorKept, WaitCovers, own_frame}
 use Rattle.cany_model.proofs.Timed.Views.VectorSets.{just_this, meet_left, same_bits, vector_again}
 use Rattle.cany_model.proofs.Timed.Views.VectorTurns.{starts_with, turn_ends, turn_exchanges, turn_other, turn_outside, turn_starts}
 use Rattle.cany_model.proofs.Timed.Views.VectorLastEffect.{IsCycle, brings, brought_word, met_word, start_word}
 use Rattle.cany_model.proofs.Timed.Common.LastEffect.{by_word, held, held_after, word}
+use Rattle.cany_model.proofs.Timed.Views.ReadableNodes.{IsReadableNodes, each_readable}
 
 -- ---- a slot
 
@@ -358,47 +357,21 @@ vector_new scenario k trace i node new =
 
 -- ---- every run
 
-pub past_read : (i : ℕ) (trace : List SlotNote) (node : NodeState) → HasRead i trace (past_of i trace node)
-past_read i trace node P h =
-    Among-drop (λ note. P (given i note)) node.unread trace (Among-from_map (given i) P (drop node.unread trace) h)
-
-module _ (scenario : ScenarioParts) (fits : scenario.params.nodes ≤ (layout scenario.params.format).nodes)
-    (first : AllBelow scenario.params.nodes scenario.members) (k : ℕ) (c : IsCycle scenario.params k)
-  where
-    -- of a node whose notices belong to the scenario, and whose incarnation is this
-    abbrev KeptAs : Incarnation → List SlotNote → ℕ → NodeState → Type 0
-    KeptAs inc trace i node =
-        EachRead (IsReadable (scenario_for scenario inc)) (past_of i trace node)
-        → VectorKept (scenario_for scenario inc) k i trace (past_of i trace node) node.waiting
-
-    kept_slot : (note : SlotNote) (trace : List SlotNote) (i : ℕ) (node after : NodeState) → Lived note trace i node after
-        → KeptAs node.present trace i node → KeptAs node.present (note ∷ trace) i after
-    kept_slot note trace i node after l h read =
-        let sc : ScenarioParts = scenario_for scenario node.present in
-        rw (l.past, l.kept)
-        (vector_slot sc k i note trace (past_of i trace node) node.waiting l.sends (h (subst (EachRead (IsReadable sc)) l.past read)))
-
-    kept_turn : (trace : List SlotNote) (i : ℕ) (node after : NodeState) → Turned (turn_effects (scenario_for scenario node.present)) trace i node after
-        → KeptAs node.present trace i node → KeptAs node.present trace i after
-    kept_turn trace i node after t h read =
-        let sc : ScenarioParts = scenario_for scenario node.present in
-        let past : List NoticeKind = past_of i trace node in
-        let read' : EachRead (IsReadable sc) (t.notice ∷ past) = subst (EachRead (IsReadable sc)) t.past read in
-        let known = knowledge_of_bus sc i (first_members scenario node.present first) (t.notice ∷ past) read' in
-        rw (t.waiting, t.past)
-        (vector_turn sc fits k i trace c t.notice past (subst (HasRead i trace) t.past (past_read i trace after)) known.vector node.waiting (h read'.1))
-
-    kept_nodes : IsNodes scenario (λ trace i node. KeptAs node.present trace i node)
-    kept_nodes = record {
-      new = λ trace i node new read. vector_new scenario k trace i node new;
-      slot = λ note trace i node after same l h.
-          subst (λ (inc : Incarnation). KeptAs inc (note ∷ trace) i after) (sym same) (kept_slot note trace i node after l h);
-      turn = λ trace i node after same t h. subst (λ (inc : Incarnation). KeptAs inc trace i after) (sym same) (kept_turn trace i node after t h);
-    }
+kept_nodes : (scenario : ScenarioParts) → scenario.params.nodes ≤ (layout scenario.params.format).nodes
+    → AllBelow scenario.params.nodes scenario.members → (k : ℕ) → IsCycle scenario.params k
+    → IsReadableNodes scenario (λ sc i trace past waiting. VectorKept sc k i trace past waiting)
+kept_nodes scenario fits first k c = record {
+  new = λ trace i node new. vector_new scenario k trace i node new;
+  slot = λ sc i note trace past waiting sends h. vector_slot sc k i note trace past waiting sends h;
+  turn = λ inc i trace e past waiting all read h.
+      let sc : ScenarioParts = scenario_for scenario inc in
+      let known = knowledge_of_bus sc i (first_members scenario inc first) (e ∷ past) read in
+      vector_turn sc fits k i trace c e past all known.vector waiting h;
+}
 
 -- so it holds of each running node of every run
 pub vector_kept : (scenario : ScenarioParts) (journal : List Step) → scenario.params.nodes ≤ most_nodes
     → scenario.params.nodes ≤ (layout scenario.params.format).nodes → AllBelow scenario.params.nodes scenario.members
     → (k : ℕ) → IsCycle scenario.params k → EachRunning (NodeVector scenario k) (run scenario journal)
-vector_kept scenario journal few fits first k c i running =
-    each_running scenario _ (kept_nodes scenario fits first k c) journal i running (run_readable scenario journal few i)
+vector_kept scenario journal few fits first k c =
+    each_readable scenario (λ sc i trace past waiting. VectorKept sc k i trace past waiting) (kept_nodes scenario fits first k c) journal few

@@ -1,7 +1,7 @@
 -- Few life signs: each node, whatever its incarnations, sends at most one in any bound + lag consecutive slots.
 use Rattle.std.proofs.Common.{◌≡◌, ℕ, zero, suc, ◌+◌, ◌-◌, ◌<◌, ◌≤◌, ◌⊎◌, ◌==◌, inl, inr, Bool, true, false, List, [], ◌∷◌, ◌++◌, Contains, count_by, drop, length, take, refl, ap, sym, ◌∙◌, subst, arith, length-drop}
 use Rattle.std.specs.List.{AllByRecursion}
-use Rattle.std.proofs.lemmas.Bool.{and_from, and_parts, cases_Bool, cases_eq, eq-eqb, false≢true}
+use Rattle.std.proofs.lemmas.Bool.{and_from, and_parts, cases_Bool, eq-eqb, false≢true}
 use Rattle.std.proofs.lemmas.List.{append-nil, append_assoc, length-map}
 use Rattle.std.proofs.lemmas.List.Elements.{All-contains, All-from_recursion, All-tail}
 use Rattle.cany_base.specs.declared.class.Class.TheVariants as class
@@ -34,10 +34,11 @@ use Rattle.cany_model.proofs.Bus.Restarts.{after_restarts-trace, restarts_or_sta
 use Rattle.cany_model.proofs.Runs.Runs.{IsOrderly, MaySlot, opening_within, orderly, slot_done, turn_done}
 use Rattle.cany_model.proofs.Bus.Seen.{length-seen}
 use Rattle.cany_model.proofs.Bus.States.{no_note, node_at-opening, note_at, runs_within}
-use Rattle.cany_model.proofs.Runs.Steps.{MayTurn, after_slot-present, after_slot-trace, after_slot-unread, after_turn-node, after_turn-other, after_turn-present, after_turn-runs, after_turn-trace, running_before_slot}
+use Rattle.cany_model.proofs.Runs.Steps.{MayTurn, after_slot-present, after_slot-trace, after_slot-unread, after_turn-node, after_turn-present, after_turn-trace, running_before_slot, each_turned}
 use Rattle.cany_model.proofs.Runs.Waits.{Each-kept}
 use Rattle.cany_model.proofs.Promises.Diffusion.{Lived, Turned, past_of}
 use Rattle.cany_model.proofs.Promises.EachNode.{EachRunning, IsNodes, each_running, slot_lived, turn_turned}
+use Rattle.cany_model.proofs.Promises.FewLifeSigns.{last_life}
 use Rattle.cany_model.proofs.Promises.OwnSlotsAlone.{AllWaitForOwnSlots, own_slots_alone_run, sent_plain}
 use Rattle.cany_model.proofs.Promises.FewLifeSignsWaiting.{IsOwnSign, turn_idle, turn_more, turn_numbers}
 use Rattle.cany_model.proofs.Promises.SignCounts.{is_els, sent_one}
@@ -131,15 +132,11 @@ few_here p trace signers apart newest =
 
 -- ---- what is kept
 
--- the slot of the last life of node i, where its incarnation has read this
-abbrev last_of : ScenarioParts → Incarnation → ℕ → List NoticeKind → ℕ
-last_of scenario inc i read = (knowledge_of (scenario_for scenario inc) i read).last
-
 -- of a running node, by the whole trace
 abbrev SignNode : ScenarioParts → List SlotNote → ℕ → NodeState → Type 0
 SignNode scenario trace i node =
     let own = seen node.present trace in
-    let last : ℕ = last_of scenario node.present i (past_of i own node) in
+    let last : ℕ = last_life scenario node.present i (past_of i own node) in
     NodeSigns scenario.params i trace own node.unread last (count_by is_els node.waiting)
 
 record SignsKept (scenario : ScenarioParts) (s : RunState) : Type 0 where
@@ -161,10 +158,10 @@ sign_slot scenario note trace i node after same unread l top lag h =
     let inc = node.present in
     let own = seen inc trace in
     let shown = as_seen inc note in
-    let last : ℕ = last_of scenario inc i (past_of i own node) in
+    let last : ℕ = last_life scenario inc i (past_of i own node) in
     let seen_same : seen after.present (note ∷ trace) ≡ shown ∷ own = ap (λ (k : Incarnation). seen k (note ∷ trace)) same in
-    let last_same : last_of scenario after.present i (past_of i (seen after.present (note ∷ trace)) after) ≡ last =
-    ap (λ (k : Incarnation). last_of scenario k i (past_of i (seen k (note ∷ trace)) after)) same ∙ ap (last_of scenario inc i) l.past in
+    let last_same : last_life scenario after.present i (past_of i (seen after.present (note ∷ trace)) after) ≡ last =
+    ap (λ (k : Incarnation). last_life scenario k i (past_of i (seen k (note ∷ trace)) after)) same ∙ ap (last_life scenario inc i) l.past in
     signs_as scenario.params i (note ∷ trace) seen_same unread last_same
     (slot_signs scenario.params i note shown trace own node.unread last (count_by is_els node.waiting) (count_by is_els after.waiting)
     top (sent_one shown own i node after l) lag h)
@@ -178,11 +175,11 @@ sign_turn scenario formulas trace i node after same unread there t few h =
     let sc : ScenarioParts = scenario_for scenario inc in
     let own = seen inc trace in
     let before = past_of i own node in
-    let last : ℕ = last_of scenario inc i before in
-    let now : ℕ = last_of scenario inc i (t.notice ∷ before) in
+    let last : ℕ = last_life scenario inc i before in
+    let now : ℕ = last_life scenario inc i (t.notice ∷ before) in
     let seen_same : seen after.present trace ≡ own = ap (λ (k : Incarnation). seen k trace) same in
-    let last_same : last_of scenario after.present i (past_of i (seen after.present trace) after) ≡ now =
-    ap (λ (k : Incarnation). last_of scenario k i (past_of i (seen k trace) after)) same ∙ ap (last_of scenario inc i) t.past in
+    let last_same : last_life scenario after.present i (past_of i (seen after.present trace) after) ≡ now =
+    ap (λ (k : Incarnation). last_life scenario k i (past_of i (seen k trace) after)) same ∙ ap (last_life scenario inc i) t.past in
     let size : length before + node.unread ≡ length trace =
     let l = length-map (drop node.unread own) (given i) ∙ length-drop node.unread own in
     omega (arith, l, length-seen inc trace, there) in
@@ -203,7 +200,7 @@ sign_turn scenario formulas trace i node after same unread there t few h =
     ])
     (λ a from s.
     let since = last_since sc i own after.unread a from s in
-    let read : last_of scenario inc i (past i own after.unread) ≡ now = ap (last_of scenario inc i) t.past in
+    let read : last_life scenario inc i (past i own after.unread) ≡ now = ap (last_life scenario inc i) t.past in
     omega (arith, since, read, length-seen inc trace))
     older)
 
@@ -342,13 +339,7 @@ signs_turn : (scenario : ScenarioParts) → MeetsFormulas scenario.params → (s
 signs_turn scenario formulas s i may o few h = record {
   signers = subst (AllByRecursion (HasSigner scenario.params.nodes)) (sym (after_turn-trace scenario i s)) h.signers;
   apart = subst (Apart scenario.params) (sym (after_turn-trace scenario i s)) h.apart;
-  nodes = λ j running.
-      subst (λ trace. SignNode scenario trace j (node_at (after_turn scenario i s).nodes j)) (sym (after_turn-trace scenario i s))
-      (elim (cases_eq j i) [
-        | inl same ↦ subst (λ m. SignNode scenario s.trace m (node_at (after_turn scenario i s).nodes m)) (sym same) own
-        | inr other ↦
-            rw (after_turn-other scenario i s j other) (h.nodes j (sym (after_turn-runs scenario i s j may (o.unread i)) ∙ running))
-      ]);
+  nodes = each_turned scenario i s may (o.unread i) (SignNode scenario) own h.nodes;
 }
   where
     own : SignNode scenario s.trace i (node_at (after_turn scenario i s).nodes i)
