@@ -9,7 +9,7 @@ use Rattle.std.specs.Cmp.{IsTotalOrder, both_ways, Equal-is}
 use Rattle.std.specs.Ordering.{is_eq, nat_cmp}
 use Rattle.can_fault.specs.declared.identity.FrameIdentity.{FrameIdentity}
 use Rattle.can_fault.specs.declared.identity.Attempt.{Attempt}
-use Rattle.can_fault.specs.Identities.{identity_cmp, attempt_cmp, frame_identity, attempt_of}
+use Rattle.can_fault.specs.Identities.{identity_cmp, attempt_cmp, frame_identity, named_identity, attempt_of}
 use Rattle.can_fault.specs.contracts.identity.FrameIdentityOrd.TheImpl.Laws as identity_laws
 use Rattle.can_fault.specs.contracts.identity.AttemptOrd.TheImpl.Laws as attempt_laws
 use Rattle.cany_model.specs.Bus.Frames.{Identity, same_identity}
@@ -30,7 +30,7 @@ attempt_exact a b h =
     ap (λ (p : FrameIdentity × ℕ). record { identity = p.0; nth = p.1 }) same
 
 pub same_from_keys : (x y : Identity) → frame_identity x ≡ frame_identity y → same_identity x y ≡ true
-same_from_keys x y e = same_identity-from x y (ap (λ (n : FrameIdentity). record { class = n.class; number = n.number; node = n.node }) e)
+same_from_keys x y e = same_identity-from x y (ap named_identity e)
 
 -- names are compared by the identities that they stand for
 pub identity_test : (x y : Identity) → is_eq (identity_cmp (frame_identity x) (frame_identity y)) ≡ same_identity x y

@@ -18,5 +18,9 @@ attempt_cmp = (attempt_ord.ghosts).cmp
 abbrev pub frame_identity : Identity → FrameIdentity
 frame_identity x = record { class = x.class; number = x.number; node = x.node }
 
+-- what the key of an identity stands for
+abbrev pub named_identity : FrameIdentity → Identity
+named_identity key = record { class = key.class; number = key.number; node = key.node }
+
 abbrev pub attempt_of : Identity → ℕ → Attempt
 attempt_of x nth = record { identity = frame_identity x; nth = nth }

@@ -1,3 +1,4 @@
+//! What tells frames and attempts to carry them apart, as keys.
 ghost use Rattle.std.specs.Prelude.{◌≡◌};
 ghost use Rattle.cany_model.specs.Bus.Frames.{identity_of};
 
@@ -5,16 +6,16 @@ use cany_base::{Class, Frame, NodeId};
 
 /// What tells frames apart: one frame has one class, number and node, in each of its attempts.
 #[derive(Clone, Copy, PartialEq, Eq, PartialOrd, Ord, Hash)]
-pub(crate) struct FrameIdentity {
-    pub(crate) class: Class,
-    pub(crate) number: u16,
-    pub(crate) node: NodeId,
+pub struct FrameIdentity {
+    pub class: Class,
+    pub number: u16,
+    pub node: NodeId,
 }
 
 impl FrameIdentity {
     ghost use Rattle.can_fault.specs.Identities.{frame_identity};
 
-    pub(crate) fn new(class: Class, number: u16, node: NodeId) -> FrameIdentity
+    pub fn new(class: Class, number: u16, node: NodeId) -> FrameIdentity
         ensures { result ≡ record { class = class; number = number; node = node } }
     {
         FrameIdentity {
@@ -24,7 +25,7 @@ impl FrameIdentity {
         }
     }
 
-    pub(crate) fn of(frame: &Frame) -> FrameIdentity
+    pub fn of(frame: &Frame) -> FrameIdentity
         ensures { result ≡ frame_identity (identity_of frame.now) }
     {
         FrameIdentity::new(frame.class, frame.number, frame.node)
@@ -33,7 +34,7 @@ impl FrameIdentity {
 
 /// An attempt to carry a frame, counted from 1.
 #[derive(Clone, Copy, PartialEq, Eq, PartialOrd, Ord)]
-pub(crate) struct Attempt {
-    pub(crate) identity: FrameIdentity,
-    pub(crate) nth: u32,
+pub struct Attempt {
+    pub identity: FrameIdentity,
+    pub nth: u64,
 }

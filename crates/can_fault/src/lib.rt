@@ -15,5 +15,6 @@ mod window;
 
 pub use attempts::Attempts;
 pub use cany_model::{Break, BreakKind};
+pub use identity::{Attempt, FrameIdentity};
 pub use script::{Script, ScriptFault};
 pub use tally::Tally;

@@ -41,6 +41,7 @@ impl RuleTable {
                 nth,
             } => {
                 let identity = FrameIdentity::new(class, number, node);
+                let nth = u64::from(nth);
                 Ok(self.by_attempt.insert(Attempt { identity, nth }, *rule)?)
             }
         }
@@ -58,6 +59,7 @@ impl RuleTable {
         ensures { result ≡ entry_at self.now (FrameNth frame.now.class frame.now.number frame.now.node nth) }
     {
         let identity = FrameIdentity::of(frame);
+        let nth = u64::from(nth);
         self.by_attempt.get(&Attempt { identity, nth }).copied()
     }
 }

@@ -6,6 +6,7 @@ use Rattle.std.proofs.lemmas.Bool.{cases_Bool}
 use Rattle.std.proofs.lemmas.List.Elements.{filter-append}
 use Rattle.std.proofs.lemmas.Option.{get_or_from_slice_get}
 use Rattle.cany_base.specs.Limits.{most_nodes}
+use Rattle.cany_base.specs.Nodes.{Nodes}
 use Rattle.cany_check.specs.declared.findings.Accusation.{Accusation}
 use Rattle.cany_check.specs.declared.holders.Holders.{Holders}
 use Rattle.cany_check.specs.declared.record.Slots.{Slots}
@@ -54,15 +55,18 @@ all_that_run (x ∷ logs) = by_test x.runs (filter (counts_since None) logs) (ru
     by_test true ps qs same = ap (λ l. x ∷ l) same
     by_test false ps qs same = same
 
-abbrev pub accusation_by : (node : ℕ) → Holders → Option Accusation
-accusation_by node h = option_map (λ slots. record { node = node; by = h.has; first = slots.first }) h.slots
+abbrev accusation_by : (node : ℕ) → Nodes → Option Slots → Option Accusation
+accusation_by node by slots = option_map (λ (s : Slots). record { node = node; by = by; first = s.first }) slots
 
-pub accused_by : (a : AccountParts) (log : LogParts) (accusers : List Holders) (i : ℕ) (h : Holders) → AreHolders most_nodes is_failure_of since_ever a.logs accusers
-    → i ≡ log.node → log.node < most_nodes → h ≡ slice_index_or accusers i h → accusation_by log.node h ≡ accusation_of a log
+-- it is read off those that accuse the node, if they did so in some slots
+pub accused_by : (a : AccountParts) (log : LogParts) (accusers : List Holders) (i : ℕ) (h : Holders) (slots : Option Slots)
+    → AreHolders most_nodes is_failure_of since_ever a.logs accusers
+    → i ≡ log.node → log.node < most_nodes → h ≡ slice_index_or accusers i h → h.slots ≡ slots → accusation_by log.node h.has slots ≡ accusation_of a log
 unfolding holders_in
-accused_by a log accusers i h are here below is =
+accused_by a log accusers i h slots are here below is told =
     let of_all = holders_in (is_failure_of log.node) None a.logs in
     let same : h ≡ of_all = is ∙ ap (λ k. slice_index_or accusers k h) here ∙ get_or_from_slice_get accusers log.node of_all h (are.each log.node below) in
-    ap (accusation_by log.node) same
+    ap (accusation_by log.node h.has) (sym told)
+    ∙ ap (λ (x : Holders). accusation_by log.node x.has x.slots) same
     ∙ ap (λ logs. option_map (λ (slots : Slots). record { node = log.node; by = nodes_of (filter (accuses log.node) logs); first = slots.first }) (slots_where (is_failure_of log.node) (filter (accuses log.node) logs)))
     (all_that_run a.logs)

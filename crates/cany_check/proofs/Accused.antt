@@ -1,8 +1,8 @@
 -- Nobody is accused in the account of a run exactly where no log of a correct node has a failure entry of one that ran all the time; and in
 -- a run within the fault hypothesis of a scenario without restart entries none has one of a node that runs.
 use Rattle.std.proofs.Common.{◌≡◌, ℕ, ◌↔◌, true, false, List, [], ◌∷◌, ◌++◌, map, refl, ap, sym, subst, ◌∙◌, inl, inr}
-use Rattle.std.specs.Prelude.{min, max, filter, filter_map, option_map, Option, Some, None}
-use Rattle.std.specs.List.{AllByRecursion, cons_option, flat_map, fold, list_any}
+use Rattle.std.specs.Prelude.{min, max, filter, option_map, Some, None}
+use Rattle.std.specs.List.{AllByRecursion, flat_map, fold, list_any}
 use Rattle.std.proofs.lemmas.Bool.{cases_Bool, eq-eqb, eqb-true, false≢true, le-leb, leb-true}
 use Rattle.cany_base.specs.declared.log_entry.LogEntry.{LogEntry}
 use Rattle.cany_base.specs.declared.log_entry.LogEntry.TheVariants.{Deliver, Failed, View}
@@ -30,6 +30,7 @@ use Rattle.cany_check.specs.Fates.{least_and_greatest, slots_where, with_slot}
 use Rattle.cany_check.specs.Promise.{StandsInNone}
 use Rattle.cany_check.specs.Words.{correct, entry_slot, nodes_of, takes_part}
 use Rattle.cany_check.proofs.CorrectLogs.{IsLogOfCorrect, among_filter, each_correct, each_filter, has_correct, log_at, unread_fits}
+use Rattle.cany_check.proofs.ListFacts.{made_none, no_map, none_made}
 
 -- ---- within the hypothesis, without restarts
 
@@ -72,25 +73,6 @@ none_in_nil P xs e h = subst (λ (l : List _). Among P l) e h
 all_empty : {X Y : Type 0} (f : X → List Y) (xs : List X) → AllByRecursion (λ x. f x ≡ []) xs → flat_map f xs ≡ []
 all_empty f [] h = refl
 all_empty f (x ∷ xs) h = ap (λ l. l ++ flat_map f xs) h.0 ∙ all_empty f xs h.1
-
-none_made : {X Y : Type 0} (f : X → Option Y) (xs : List X) → AllByRecursion (λ x. f x ≡ None) xs → filter_map f xs ≡ []
-none_made f [] h = refl
-none_made f (x ∷ xs) h = ap (λ o. cons_option o (filter_map f xs)) h.0 ∙ none_made f xs h.1
-
-made_none : {X Y : Type 0} (f : X → Option Y) (xs : List X) → filter_map f xs ≡ [] → AllByRecursion (λ x. f x ≡ None) xs
-made_none f [] h = tt
-made_none {X = X} {Y = Y} f (x ∷ xs) h = by_first (λ rest. made_none f xs rest) (f x) refl
-  where
-    cons_nil : (y : Y) (ys : List Y) → y ∷ ys ≡ [] → ⊥
-    cons_nil y ys e = absurd (cc)
-
-    by_first : (filter_map f xs ≡ [] → AllByRecursion (λ z. f z ≡ None) xs) → (o : Option Y) → f x ≡ o → AllByRecursion (λ z. f z ≡ None) (x ∷ xs)
-    by_first later None e = (e, later (sym (ap (λ o. cons_option o (filter_map f xs)) e) ∙ h))
-    by_first later (Some y) e = absurd (cons_nil y (filter_map f xs) (sym (ap (λ o. cons_option o (filter_map f xs)) e) ∙ h))
-
-no_map : {X Y : Type 0} (f : X → Y) (o : Option X) → option_map f o ≡ None → o ≡ None
-no_map f None e = refl
-no_map f (Some x) e = absurd (cc)
 
 -- an entry of a failure of node r
 failure_is : (r : ℕ) (entry : LogEntry) → is_failure_of r entry ≡ true → (slot : ℕ) × (cycle : ℕ) × (entry ≡ Failed slot r cycle)

@@ -4,7 +4,6 @@ use Rattle.std.specs.Prelude.{if◌then◌else◌, nat_lt}
 use Rattle.std.specs.BTreeMap.{BTreeMap, get, is_at}
 use Rattle.std.specs.List.{list_any}
 use Rattle.std.specs.Option.{option_map_or}
-use Rattle.std.specs.Cmp.{both_ways}
 use Rattle.std.proofs.lemmas.Bool.{cases_Bool, cases_lt, eq-eqb, false≢true, le-ltb, lt-ltb}
 use Rattle.std.proofs.lemmas.List.{length-reverse, length-take-le, reverse-append, take_all, take_more}
 use Rattle.std.proofs.lemmas.List.Folds.{list_any-append}
@@ -23,48 +22,44 @@ use Rattle.cany_model.specs.Bus.Frames.{Identity, identity_of, is_of, same_ident
 use Rattle.cany_model.specs.Bus.Slot.{attempts, carried}
 use Rattle.cany_model.specs.Runs.Run.{run}
 use Rattle.cany_model.proofs.Among.{count-no, count-yes}
-use Rattle.cany_model.proofs.Bus.Identities.{same_identity-true, same_identity_self}
+use Rattle.cany_model.proofs.Bus.Identities.{same_identity-true}
 use Rattle.cany_model.proofs.Bus.Seen.{Numbered}
 use Rattle.cany_model.proofs.Promises.OwnSlotsAlone.{run_numbered}
 use Rattle.cany_model.proofs.Runs.Runs.{orderly}
 use Rattle.cany_check.specs.declared.attempts.Attempts.{Attempts}
-use Rattle.cany_check.specs.declared.frame_name.Attempt.{Attempt}
-use Rattle.cany_check.specs.declared.frame_name.FrameName.{FrameName}
-use Rattle.cany_check.specs.Attempts.{AreAttempts, AreZero, asked_frame, count_of, is_asked, is_named, is_ruled, names_frame, raised, slot_of}
-use Rattle.cany_check.specs.FrameNames.{attempt_cmp, attempt_of, frame_name, name_cmp}
+use Rattle.can_fault.specs.declared.identity.Attempt.{Attempt}
+use Rattle.can_fault.specs.declared.identity.FrameIdentity.{FrameIdentity}
+use Rattle.cany_check.specs.Attempts.{AreAttempts, AreZero, asked_frame, count_of, is_asked, is_named, is_ruled, raised, slot_of}
+use Rattle.can_fault.specs.Identities.{attempt_cmp, attempt_of, frame_identity, identity_cmp}
 use Rattle.cany_check.specs.Unused.{attempt_slot, is_carried_later}
-use Rattle.cany_check.proofs.NameFacts.{attempt_test, name_test}
+use Rattle.can_fault.specs.Rules.{names_frame}
+use Rattle.can_fault.proofs.AttemptFacts.{same_identity_turned}
+use Rattle.can_fault.proofs.KeyFacts.{attempt_test, identity_test}
 use Rattle.cany_check.proofs.NamedFacts.{or_none}
-
-same_turned : (x y : Identity) → same_identity x y ≡ same_identity y x
-same_turned x y =
-    both_ways (same_identity x y) (same_identity y x)
-    (λ h. rw (same_identity-true x y h) (same_identity_self y))
-    (λ h. rw (same_identity-true y x h) (same_identity_self x))
 
 -- ---- the frames that are entered
 
-pub fewer_zero : (named less : Identity → Bool) (counts : List (FrameName × ℕ)) → ((x : Identity) → less x ≡ true → named x ≡ true) → AreZero named counts → AreZero less counts
+pub fewer_zero : (named less : Identity → Bool) (counts : List (FrameIdentity × ℕ)) → ((x : Identity) → less x ≡ true → named x ≡ true) → AreZero named counts → AreZero less counts
 fewer_zero named less counts within zero x h = zero x (within x h)
 
-pub entered : (named : Identity → Bool) (y : Identity) (old new : BTreeMap FrameName ℕ) → AreZero named old.entries
-    → ((q : FrameName) → get name_cmp new q ≡ (if is_at (name_cmp (frame_name y)) q then Some 0 else get name_cmp old q))
+pub entered : (named : Identity → Bool) (y : Identity) (old new : BTreeMap FrameIdentity ℕ) → AreZero named old.entries
+    → ((q : FrameIdentity) → get identity_cmp new q ≡ (if is_at (identity_cmp (frame_identity y)) q then Some 0 else get identity_cmp old q))
     → AreZero (λ x. named x || (same_identity y x || false)) new.entries
 entered named y old new zero updates x h =
-    updates (frame_name x) ∙ ap (λ b. if b then Some 0 else count_of old.entries x) (name_test y x) ∙ elim (cases_Bool (same_identity y x)) [
+    updates (frame_identity x) ∙ ap (λ b. if b then Some 0 else count_of old.entries x) (identity_test y x) ∙ elim (cases_Bool (same_identity y x)) [
       | inl same ↦ rw same refl
       | inr other ↦ rw other (zero x (or_none (named x) (rw other at h)))
     ]
 
-pub entered_rule : (named : Identity → Bool) (y : Identity) (nth : ℕ) (rule : Rule) (old new : BTreeMap FrameName ℕ) → rule.place ≡ FrameNth y.class y.number y.node nth → AreZero named old.entries
-    → ((q : FrameName) → get name_cmp new q ≡ (if is_at (name_cmp (frame_name y)) q then Some 0 else get name_cmp old q))
+pub entered_rule : (named : Identity → Bool) (y : Identity) (nth : ℕ) (rule : Rule) (old new : BTreeMap FrameIdentity ℕ) → rule.place ≡ FrameNth y.class y.number y.node nth → AreZero named old.entries
+    → ((q : FrameIdentity) → get identity_cmp new q ≡ (if is_at (identity_cmp (frame_identity y)) q then Some 0 else get identity_cmp old q))
     → AreZero (λ x. named x || is_ruled (rule ∷ []) x) new.entries
 entered_rule named y nth rule old new e zero updates =
     fewer_zero (λ x. named x || (same_identity y x || false)) (λ x. named x || is_ruled (rule ∷ []) x) new.entries
     (λ x h. sym (ap (λ p. named x || (names_frame x p || false)) e) ∙ h)
     (entered named y old new zero updates)
 
-pub entered_slot : (named : Identity → Bool) (slot : ℕ) (rule : Rule) (counts : List (FrameName × ℕ)) → rule.place ≡ At slot → AreZero named counts → AreZero (λ x. named x || is_ruled (rule ∷ []) x) counts
+pub entered_slot : (named : Identity → Bool) (slot : ℕ) (rule : Rule) (counts : List (FrameIdentity × ℕ)) → rule.place ≡ At slot → AreZero named counts → AreZero (λ x. named x || is_ruled (rule ∷ []) x) counts
 entered_slot named slot rule counts e zero =
     fewer_zero named (λ x. named x || is_ruled (rule ∷ []) x) counts
     (λ x h. or_none (named x) (sym (ap (λ p. named x || (names_frame x p || false)) e) ∙ h)) zero
@@ -82,14 +77,14 @@ pub asks_more : (named : Identity → Bool) (p : Parameters) (c : Class) (asks :
 asks_more named p c asks ask x =
     ap (λ b. named x || b) (list_any-append (λ (a : NodeAsk). same_identity (asked_frame p c a) x) asks (ask ∷ [])) ∙ or_assoc (named x) (is_asked p c asks x) (is_asked p c (ask ∷ []) x)
 
-pub rules_next : (named : Identity → Bool) (rules : List Rule) (i : ℕ) (rule : Rule) (counts : List (FrameName × ℕ)) → i < length rules → rule ≡ get_or rules i rule
+pub rules_next : (named : Identity → Bool) (rules : List Rule) (i : ℕ) (rule : Rule) (counts : List (FrameIdentity × ℕ)) → i < length rules → rule ≡ get_or rules i rule
     → AreZero (λ x. (named x || is_ruled (take i rules) x) || is_ruled (rule ∷ []) x) counts → AreZero (λ x. named x || is_ruled (take (i + 1) rules) x) counts
 rules_next named rules i rule counts below at zero =
     let here : take (i + 1) rules ≡ take i rules ++ rule ∷ [] = take_more rules i rule below ∙ ap (λ y. take i rules ++ y ∷ []) (sym at) in
     fewer_zero (λ x. (named x || is_ruled (take i rules) x) || is_ruled (rule ∷ []) x) (λ x. named x || is_ruled (take (i + 1) rules) x) counts
     (λ x h. sym (rules_more named (take i rules) rule x) ∙ ap (λ l. named x || is_ruled l x) (sym here) ∙ h) zero
 
-pub asks_next : (named : Identity → Bool) (p : Parameters) (c : Class) (asks : List NodeAsk) (i : ℕ) (ask : NodeAsk) (counts : List (FrameName × ℕ)) → i < length asks → ask ≡ get_or asks i ask
+pub asks_next : (named : Identity → Bool) (p : Parameters) (c : Class) (asks : List NodeAsk) (i : ℕ) (ask : NodeAsk) (counts : List (FrameIdentity × ℕ)) → i < length asks → ask ≡ get_or asks i ask
     → AreZero (λ x. (named x || is_asked p c (take i asks) x) || is_asked p c (ask ∷ []) x) counts → AreZero (λ x. named x || is_asked p c (take (i + 1) asks) x) counts
 asks_next named p c asks i ask counts below at zero =
     let here : take (i + 1) asks ≡ take i asks ++ ask ∷ [] = take_more asks i ask below ∙ ap (λ y. take i asks ++ y ∷ []) (sym at) in
@@ -97,7 +92,7 @@ asks_next named p c asks i ask counts below at zero =
     (λ x h. sym (asks_more named p c (take i asks) ask x) ∙ ap (λ l. named x || is_asked p c l x) (sym here) ∙ h) zero
 
 -- all that a scenario names
-pub all_entered : (scenario : ScenarioParts) (p : Parameters) (rules : List Rule) (joins leaves : List NodeAsk) (none first second third : List (FrameName × ℕ))
+pub all_entered : (scenario : ScenarioParts) (p : Parameters) (rules : List Rule) (joins leaves : List NodeAsk) (none first second third : List (FrameIdentity × ℕ))
     → p ≡ scenario.params → rules ≡ scenario.rules → joins ≡ scenario.joins → leaves ≡ scenario.leaves
     → ((named : Identity → Bool) → AreZero named none → AreZero (λ x. named x || is_ruled rules x) first)
     → ((named : Identity → Bool) → AreZero named first → AreZero (λ x. named x || is_asked p Join joins x) second)
@@ -147,7 +142,7 @@ none-some n h = cc
 
 -- of a frame that no entry names
 pub unnamed_slot : (named : Identity → Bool) (trace : List SlotNote) (note : SlotNote) (f : FrameParts) (kept : Attempts) → note.frame ≡ Some f → AreAttempts named trace kept
-    → None ≡ get name_cmp kept.counts (frame_name (identity_of f)) → AreAttempts named (note ∷ trace) kept
+    → None ≡ get identity_cmp kept.counts (frame_identity (identity_of f)) → AreAttempts named (note ∷ trace) kept
 unnamed_slot named trace note f kept e are none =
     let y = identity_of f in
     let unlike : (x : Identity) → named x ≡ true → same_identity x y ≡ false =
@@ -164,8 +159,8 @@ raised_once n h = omega (arith, h)
 
 -- of a frame that is kept: its count was this, and is raised
 pub named_slot : (named : Identity → Bool) (trace : List SlotNote) (note : SlotNote) (f : FrameParts) (before nth : ℕ) (old new : Attempts) → length trace + 1 < 2 ^ 64 → note.frame ≡ Some f → AreAttempts named trace old
-    → Some before ≡ get name_cmp old.counts (frame_name (identity_of f)) → nth ≡ raised before
-    → ((q : FrameName) → get name_cmp new.counts q ≡ (if is_at (name_cmp (frame_name (identity_of f))) q then Some nth else get name_cmp old.counts q))
+    → Some before ≡ get identity_cmp old.counts (frame_identity (identity_of f)) → nth ≡ raised before
+    → ((q : FrameIdentity) → get identity_cmp new.counts q ≡ (if is_at (identity_cmp (frame_identity (identity_of f))) q then Some nth else get identity_cmp old.counts q))
     → ((q : Attempt) → get attempt_cmp new.slots q ≡ (if is_at (attempt_cmp (attempt_of (identity_of f) nth)) q then Some note.slot else get attempt_cmp old.slots q))
     → AreAttempts named (note ∷ trace) new
 named_slot named trace note f before nth old new short e are found raise counted placed = grown named trace note old new are counts slots
@@ -181,13 +176,13 @@ named_slot named trace note f before nth old new short e are found raise counted
         raise ∙ ap raised count ∙ raised_once (attempts x trace) (omega (arith, short, count_by-le-length (carried (is_of x)) trace))
 
     counts : (x : Identity) → named x ≡ true → count_of new.counts.entries x ≡ (if carried (is_of x) note then Some (attempts x trace + 1) else count_of old.counts.entries x)
-    counts x h = counted (frame_name x) ∙ rw (name_test y x, same_turned y x, carries x note f e) (elim (cases_Bool (same_identity x y)) [
+    counts x h = counted (frame_identity x) ∙ rw (identity_test y x, same_identity_turned y x, carries x note f e) (elim (cases_Bool (same_identity x y)) [
       | inl here ↦ rw here (ap (λ n. Some n) (number x h here))
       | inr other ↦ rw other refl
     ])
 
     slots : (x : Identity) → named x ≡ true → (k : ℕ) → slot_of new.slots.entries x k ≡ (if carried (is_of x) note && attempts x trace + 1 == k then Some note.slot else slot_of old.slots.entries x k)
-    slots x h k = placed (attempt_of x k) ∙ rw (attempt_test y x nth k, same_turned y x, carries x note f e) (elim (cases_Bool (same_identity x y)) [
+    slots x h k = placed (attempt_of x k) ∙ rw (attempt_test y x nth k, same_identity_turned y x, carries x note f e) (elim (cases_Bool (same_identity x y)) [
       | inl here ↦ rw (here, number x h here) refl
       | inr other ↦ rw other refl
     ])

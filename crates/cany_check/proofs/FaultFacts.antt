@@ -11,11 +11,12 @@ use Rattle.cany_base.specs.declared.slot_note.SlotNote.{SlotNote}
 use Rattle.cany_base.specs.Limits.{most_nodes}
 use Rattle.cany_base.specs.Nodes.{AllBelow, Nodes, has, meet, those_where}
 use Rattle.cany_base.proofs.NodesFacts.{AllBelow-bits, bits_where-lt, has_lowest, has_none}
+use Rattle.cany_model.specs.Bus.Slot.{is_clean}
 use Rattle.cany_model.specs.Bus.State.{RunState}
 use Rattle.cany_model.proofs.Bus.Seen.{Numbered}
 use Rattle.cany_check.specs.declared.unused_entry.NoFault.{NoFault}
 use Rattle.cany_check.specs.declared.unused_entry.NoFault.TheVariants.{Idle, RejectsNobody, StopsNobody}
-use Rattle.cany_check.specs.Unused.{is_clean_verdict, is_receiver, note_of, reject_set, some_node_of, unused_stops, unused_verdict}
+use Rattle.cany_check.specs.Unused.{is_receiver, note_of, reject_set, some_node_of, unused_stops, unused_verdict}
 use Rattle.cany_check.specs.Words.{is_nobody}
 
 -- ---- the note of a slot
@@ -118,22 +119,22 @@ module _ (s : RunState) (slot : ℕ) (v : Verdict) (n : SlotNote) (carries : is_
   abbrev rejects_there : List NoFault
   rejects_there = RejectsNobody slot ∷ []
 
-  carried_first : unused_verdict s slot v (Some n) ≡ picked (is_clean_verdict v) false (is_nobody (reject_set v)) rejecting idle_there rejects_there
-  carried_first = ap (λ b. picked (is_clean_verdict v) (not b) (is_nobody (reject_set v)) rejecting idle_there rejects_there) carries
+  carried_first : unused_verdict s slot v (Some n) ≡ picked (is_clean v) false (is_nobody (reject_set v)) rejecting idle_there rejects_there
+  carried_first = ap (λ b. picked (is_clean v) (not b) (is_nobody (reject_set v)) rejecting idle_there rejects_there) carries
 
   pub verdict_none : is_nobody (reject_set v) ≡ true → [] ≡ unused_verdict s slot v (Some n)
   verdict_none none =
-      sym (carried_first ∙ ap (λ b. picked (is_clean_verdict v) false b rejecting idle_there rejects_there) none ∙ pick_none (is_clean_verdict v) rejecting idle_there rejects_there)
+      sym (carried_first ∙ ap (λ b. picked (is_clean v) false b rejecting idle_there rejects_there) none ∙ pick_none (is_clean v) rejecting idle_there rejects_there)
 
   pub verdict_some : rejecting ≡ true → [] ≡ unused_verdict s slot v (Some n)
   verdict_some some =
-      sym (carried_first ∙ ap (λ b. picked (is_clean_verdict v) false (is_nobody (reject_set v)) b idle_there rejects_there) some
-      ∙ pick_some (is_clean_verdict v) (is_nobody (reject_set v)) idle_there rejects_there)
+      sym (carried_first ∙ ap (λ b. picked (is_clean v) false (is_nobody (reject_set v)) b idle_there rejects_there) some
+      ∙ pick_some (is_clean v) (is_nobody (reject_set v)) idle_there rejects_there)
 
   pub verdict_rejects : is_nobody (reject_set v) ≡ false → rejecting ≡ false → RejectsNobody slot ∷ [] ≡ unused_verdict s slot v (Some n)
   verdict_rejects any none =
-      sym (carried_first ∙ ap (λ b. picked (is_clean_verdict v) false b rejecting idle_there rejects_there) any
-      ∙ ap (λ b. picked (is_clean_verdict v) false false b idle_there rejects_there) none ∙ pick_rejects (is_clean_verdict v) idle_there rejects_there)
+      sym (carried_first ∙ ap (λ b. picked (is_clean v) false b rejecting idle_there rejects_there) any
+      ∙ ap (λ b. picked (is_clean v) false false b idle_there rejects_there) none ∙ pick_rejects (is_clean v) idle_there rejects_there)
 
 -- ---- which is said of stops
 

@@ -1,16 +1,17 @@
 -- What nodes delivered of the messages that were carried: the items of a log, their keys, and what is left of them from a slot on.
-use Rattle.std.proofs.Common.{◌≡◌, ℕ, ◌≤◌, Bool, true, false, List, [], ◌∷◌, ◌++◌, map, drop, take, refl, ap, sym, subst, ◌∙◌, arith, inl, inr}
+use Rattle.std.proofs.Common.{◌≡◌, ℕ, ◌≤◌, Bool, true, false, List, [], ◌∷◌, ◌++◌, map, refl, ap, sym, subst, ◌∙◌, arith, inl, inr}
 use Rattle.std.specs.Prelude.{filter, filter_map, find, if◌then◌else◌, nat_le, option_map, option_to_list, Option, None, Some}
 use Rattle.std.specs.List.{AllByRecursion, cons_option, flat_map}
 use Rattle.std.specs.Option.{option_and_then, option_map_or}
 use Rattle.std.proofs.lemmas.Bool.{cases_Bool, false≢true, le-leb, leb-true}
-use Rattle.std.proofs.lemmas.List.{map-append, take-append-drop}
+use Rattle.std.proofs.lemmas.List.{map-append}
 use Rattle.std.proofs.lemmas.List.Elements.{filter-append}
 use Rattle.cany_base.specs.declared.log_entry.LogEntry.{LogEntry}
 use Rattle.cany_base.specs.declared.log_entry.LogEntry.TheVariants.{Deliver, Failed, View}
 use Rattle.cany_base.specs.declared.message.MsgKey.{MsgKey}
 use Rattle.cany_base.specs.declared.message.Service.TheVariants.{Tot}
 use Rattle.cany_model.specs.Rules.Messages.{is_service}
+use Rattle.cany_model.proofs.Among.{Each-filter, Each-first, Each-second}
 use Rattle.cany_check.specs.declared.findings.Delivery.{Delivery}
 use Rattle.cany_check.specs.declared.order.Item.{Item}
 use Rattle.cany_check.specs.declared.record.MessageRecord.{MessageRecord}
@@ -25,27 +26,8 @@ item_keys items = map (λ (item : Item). item.msg) items
 
 -- ---- lists
 
-pub each_append : {X : Type 0} (P : X → Type 0) (xs ys : List X) → AllByRecursion P xs → AllByRecursion P ys → AllByRecursion P (xs ++ ys)
-each_append P [] ys h k = k
-each_append P (x ∷ xs) ys h k = (h.0, each_append P xs ys h.1 k)
-
 pub each_of_parts : {X : Type 0} (P : X → Type 0) (xs ys : List X) → AllByRecursion P (xs ++ ys) → AllByRecursion P xs × AllByRecursion P ys
-each_of_parts P [] ys h = (tt, h)
-each_of_parts P (x ∷ xs) ys h = let rest = each_of_parts P xs ys h.1 in ((h.0, rest.0), rest.1)
-
-pub each_weaker : {X : Type 0} (P Q : X → Type 0) → ((x : X) → P x → Q x) → (xs : List X) → AllByRecursion P xs → AllByRecursion Q xs
-each_weaker P Q f [] h = tt
-each_weaker P Q f (x ∷ xs) h = (f x h.0, each_weaker P Q f xs h.1)
-
-pub each_dropped : {X : Type 0} (P : X → Type 0) (n : ℕ) (xs : List X) → AllByRecursion P xs → AllByRecursion P (drop n xs)
-each_dropped P n xs h = (each_of_parts P (take n xs) (drop n xs) (rw take-append-drop h)).1
-
-each_filtered : {X : Type 0} (P : X → Type 0) (test : X → Bool) (xs : List X) → AllByRecursion P xs → AllByRecursion P (filter test xs)
-each_filtered P test [] h = tt
-each_filtered P test (x ∷ xs) h = elim (cases_Bool (test x)) [
-  | inl passes ↦ rw passes (h.0, each_filtered P test xs h.1)
-  | inr fails ↦ rw fails (each_filtered P test xs h.1)
-]
+each_of_parts P xs ys h = (Each-first P xs ys h, Each-second P xs ys h)
 
 each_made : {X Y : Type 0} (P : Y → Type 0) (f : X → Option Y) → ((x : X) (y : Y) → f x ≡ Some y → P y) → (xs : List X) → AllByRecursion P (filter_map f xs)
 each_made P f h [] = tt
@@ -108,7 +90,7 @@ module _ (messages : List MessageRecord) where
       ]
 
   pub each_cut : (P : Item → Type 0) (t : ℕ) (items : List Item) → AllByRecursion P items → AllByRecursion P (cut t items)
-  each_cut P t items h = each_filtered P (λ item. nat_le t item.carried) items h
+  each_cut P t items h = Each-filter P (λ item. nat_le t item.carried) items h
 
   -- ---- the items of a log
 

@@ -16,13 +16,13 @@ pub mod IntegrityRows
 pub mod ItemFacts
 pub mod JudgedFacts
 pub mod LineFacts
+pub mod ListFacts
 pub mod LogRecordFacts
 pub mod MarkFacts
 pub mod MeetingFacts
 pub mod MessageFacts
 pub mod MessageFateFacts
 pub mod NamedFacts
-pub mod NameFacts
 pub mod NodeOrderFacts
 pub mod NumberedFacts
 pub mod OrderlyRun

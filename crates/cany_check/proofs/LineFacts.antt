@@ -4,14 +4,14 @@ use Rattle.std.specs.Prelude.{codes, decimal, option_map}
 use Rattle.cany_base.specs.Params.{Parameters}
 use Rattle.cany_text.specs.ReportLines.{line_of}
 use Rattle.cany_text.specs.TextNames.{service_name}
-use Rattle.cany_log.specs.Fields.{texts_of}
+use Rattle.cany_log.specs.Fields.{number_if_any, texts_of}
 use Rattle.cany_check.specs.declared.fate_fields.FateFields.{FateFields}
 use Rattle.cany_check.specs.declared.findings.Told.{Told}
 use Rattle.cany_check.specs.declared.record.MessageRecord.{MessageRecord}
 use Rattle.cany_check.specs.declared.record.SignRecord.{SignRecord}
 use Rattle.cany_check.specs.declared.record.Slots.{Slots}
 use Rattle.cany_check.specs.Account.{AccountParts}
-use Rattle.cany_check.specs.CheckLines.{message_fate_fields, message_line, sign_fate_fields, sign_line, number_if_any, slots_if_any, slots_or_dash}
+use Rattle.cany_check.specs.CheckLines.{message_fate_fields, message_line, sign_fate_fields, sign_line, slots_if_any, slots_or_dash}
 use Rattle.cany_check.specs.FateParts.{fate_texts, first_or_dash, last_if_any}
 use Rattle.cany_check.specs.Fates.{message_fates, message_told, sign_fates, sign_told}
 use Rattle.cany_check.proofs.CountFacts.{mapped_at}

@@ -16,7 +16,8 @@ use Rattle.cany_model.proofs.Rules.NumberFacts.{cycle_small}
 use Rattle.cany_check.specs.declared.unused_asks.Asks.{Asks}
 use Rattle.cany_check.specs.declared.unused_asks.Asks.TheVariants.{Joins, Leaves}
 use Rattle.cany_check.specs.Asks.{ask_class, asks_of}
-use Rattle.cany_check.specs.Attempts.{asked_frame, is_asked, is_named, is_ruled, names_frame}
+use Rattle.can_fault.specs.Rules.{names_frame}
+use Rattle.cany_check.specs.Attempts.{asked_frame, is_asked, is_named, is_ruled}
 
 or_first : (a b : Bool) → a ≡ true → (a || b) ≡ true
 or_first a b h = rw h refl

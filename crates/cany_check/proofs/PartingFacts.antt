@@ -11,12 +11,9 @@ use Rattle.cany_check.specs.Account.{AccountParts, LogParts}
 use Rattle.cany_check.specs.OneOrder.{Difference, NobodyParts, by_from, deliveries_from, difference, first_parting, one_later, parting, parting_from, parting_of, put_by_from}
 use Rattle.cany_check.specs.Words.{correct, same_key}
 use Rattle.cany_check.proofs.Decided.{same_key-self, same_key-true}
+use Rattle.cany_check.proofs.ListFacts.{no_map}
 
 -- ---- two lists
-
-no_map : {X Y : Type 0} (f : X → Y) (o : Option X) → option_map f o ≡ None → o ≡ None
-no_map f None e = refl
-no_map f (Some x) e = absurd (cc)
 
 none_itself : (xs : List Delivery) → difference xs xs ≡ None
 unfolding difference

@@ -7,6 +7,7 @@ use Rattle.std.proofs.lemmas.Bool.{cases_Bool, leb-false, leb-true}
 use Rattle.std.proofs.lemmas.List.{append-nil, append_assoc, drop_all, length-append, length-map, map-append, take-append-drop, take-map, take_at}
 use Rattle.std.proofs.lemmas.List.Elements.{filter-append}
 use Rattle.cany_base.specs.declared.message.MsgKey.{MsgKey}
+use Rattle.cany_model.proofs.Among.{Each-append, Each-drop, Each-weaker}
 use Rattle.cany_check.specs.declared.findings.Parting.{Parting}
 use Rattle.cany_check.specs.declared.order.Item.{Item}
 use Rattle.cany_check.specs.Account.{AccountParts, LogParts}
@@ -14,7 +15,7 @@ use Rattle.cany_check.specs.OneOrder.{by_from, deliveries_from, difference, firs
 use Rattle.cany_check.specs.Reference.{Clash, clash, cut, delivery, first_clash, first_slot, items_in, items_of, parting_at, with_items}
 use Rattle.cany_check.specs.Words.{correct}
 use Rattle.cany_check.proofs.Clashes.{IsClash, clash_none, clash_some, difference_at, difference_none, keys}
-use Rattle.cany_check.proofs.ItemFacts.{IsOf, cut_again, cut_append, cut_whole, deliveries_are, each_append, each_cut, each_dropped, each_from, each_item, each_of_parts, each_weaker, item_keys, keys_of_cut}
+use Rattle.cany_check.proofs.ItemFacts.{IsOf, cut_again, cut_append, cut_whole, deliveries_are, each_cut, each_from, each_item, each_of_parts, item_keys, keys_of_cut}
 
 -- ---- lists
 
@@ -86,12 +87,12 @@ module _ (a : AccountParts) where
   keeps t key = option_map_or (nat_le t) (first_slot a.messages key) false
 
   all_of : (x : LogParts) → AllByRecursion (IsOf a.messages) (all_items x)
-  all_of x = each_weaker (λ item. IsOf a.messages item × (item.node ≡ x.node)) (IsOf a.messages) (λ item h. h.0) (all_items x) (each_item a.messages x.node x.entries)
+  all_of x = Each-weaker (λ item. IsOf a.messages item × (item.node ≡ x.node)) (IsOf a.messages) (λ item h. h.0) (all_items x) (each_item a.messages x.node x.entries)
 
   all_by : (x : LogParts) → AllByRecursion (λ (item : Item). item.node ≡ x.node) (items_of a.messages x)
   all_by x =
       each_cut a.messages (λ item. item.node ≡ x.node) x.from (all_items x)
-      (each_weaker (λ item. IsOf a.messages item × (item.node ≡ x.node)) (λ item. item.node ≡ x.node) (λ item h. h.1) (all_items x) (each_item a.messages x.node x.entries))
+      (Each-weaker (λ item. IsOf a.messages item × (item.node ≡ x.node)) (λ item. item.node ≡ x.node) (λ item h. h.1) (all_items x) (each_item a.messages x.node x.entries))
 
   -- ---- beginnings
 
@@ -165,7 +166,7 @@ module _ (a : AccountParts) where
     mine_from = each_from j.from (all_items j)
 
     new_from : cut j.from new ≡ new
-    new_from = cut_whole j.from new (each_dropped (λ (item : Item). nat_le j.from item.carried ≡ true) known mine mine_from)
+    new_from = cut_whole j.from new (Each-drop (λ (item : Item). nat_le j.from item.carried ≡ true) known mine mine_from)
 
     list_keys : item_keys (cut j.from (list ++ new)) ≡ item_keys (cut j.from list) ++ item_keys new
     list_keys =
@@ -229,9 +230,9 @@ module _ (a : AccountParts) where
     brought_now front back item second =
         let between = second.between in
         let parts = each_of_parts (λ (x : Item). x.node ≡ j.node) between (item ∷ back)
-        (subst (AllByRecursion (λ (x : Item). x.node ≡ j.node)) second.is (each_dropped (λ (x : Item). x.node ≡ j.node) known mine (all_by j))) in
+        (subst (AllByRecursion (λ (x : Item). x.node ≡ j.node)) second.is (Each-drop (λ (x : Item). x.node ≡ j.node) known mine (all_by j))) in
         let since = each_of_parts (λ (x : Item). nat_le j.from x.carried ≡ true) between (item ∷ back)
-        (subst (AllByRecursion (λ (x : Item). nat_le j.from x.carried ≡ true)) second.is (each_dropped (λ (x : Item). nat_le j.from x.carried ≡ true) known mine mine_from)) in
+        (subst (AllByRecursion (λ (x : Item). nat_le j.from x.carried ≡ true)) second.is (Each-drop (λ (x : Item). nat_le j.from x.carried ≡ true) known mine mine_from)) in
         record {
           before = done;
           by = j;
@@ -246,14 +247,14 @@ module _ (a : AccountParts) where
               ∙ ap (λ l. item_keys (cut j.from list) ++ item_keys l) (sym (cut_whole j.from between since.0))
               ∙ sym (map-append (λ (x : Item). x.msg) (cut j.from list) (cut j.from between))
               ∙ ap item_keys (sym (cut_append j.from list between) ∙ ap (cut j.from) (sym second.before_is));
-          others = each_weaker (Begins list) (Begins front)
+          others = Each-weaker (Begins list) (Begins front)
               (λ x b. subst (λ l. Begins l x) (sym second.before_is) (begins_more list between x b)) done reached.begins;
         }
 
     goes_on : Reached (list ++ new) (done ++ j ∷ [])
     goes_on = record {
-      of = each_append (IsOf a.messages) list new reached.of (each_dropped (IsOf a.messages) known mine (each_cut a.messages (IsOf a.messages) j.from (all_items j) (all_of j)));
-      begins = each_append (Begins (list ++ new)) done (j ∷ []) (each_weaker (Begins list) (Begins (list ++ new)) (λ x b. begins_more list new x b) done reached.begins) (begins_own, tt);
+      of = Each-append (IsOf a.messages) list new reached.of (Each-drop (IsOf a.messages) known mine (each_cut a.messages (IsOf a.messages) j.from (all_items j) (all_of j)));
+      begins = Each-append (Begins (list ++ new)) done (j ∷ []) (Each-weaker (Begins list) (Begins (list ++ new)) (λ x b. begins_more list new x b) done reached.begins) (begins_own, tt);
       brought = λ front back item e. elim (where_it_is list new front back item e) [
         | inl first ↦ brought_before front back item first
         | inr second ↦ brought_now front back item second
@@ -298,7 +299,7 @@ module _ (a : AccountParts) where
 
     none_found : clash 0 (cut j.from list) (items_of a.messages j) ≡ None → parting_from a done j ≡ None
     none_found agrees =
-        none_parts done j (each_weaker (λ x. Begins list x × (x.from ≤ j.from)) (λ x. parting_of a x j ≡ None) one done (both (Begins list) (λ x. x.from ≤ j.from) done reached.begins earlier))
+        none_parts done j (Each-weaker (λ x. Begins list x × (x.from ≤ j.from)) (λ x. parting_of a x j ≡ None) one done (both (Begins list) (λ x. x.from ≤ j.from) done reached.begins earlier))
       where
         one : (x : LogParts) → Begins list x × (x.from ≤ j.from) → parting_of a x j ≡ None
         one x h =
@@ -343,7 +344,7 @@ module _ (a : AccountParts) where
 
         earlier_agree : AllByRecursion (λ x. parting_of a x j ≡ None) from.before
         earlier_agree =
-            each_weaker (λ x. Begins at.front x × (x.from ≤ j.from)) (λ x. parting_of a x j ≡ None) one from.before (both (Begins at.front) (λ x. x.from ≤ j.from) from.before from.others parts_before.0)
+            Each-weaker (λ x. Begins at.front x × (x.from ≤ j.from)) (λ x. parting_of a x j ≡ None) one from.before (both (Begins at.front) (λ x. x.from ≤ j.from) from.before from.others parts_before.0)
           where
             one : (x : LogParts) → Begins at.front x × (x.from ≤ j.from) → parting_of a x j ≡ None
             one x h =
@@ -427,12 +428,12 @@ module _ (a : AccountParts) where
       (clash 0 (cut j.from list) (items_of a.messages j)) refl
     where
       before_j : AllByRecursion (λ (x : LogParts). x.from ≤ j.from) done
-      before_j = each_weaker (λ x. AllByRecursion (λ (y : LogParts). x.from ≤ y.from) (j ∷ logs)) (λ x. x.from ≤ j.from) (λ x h. h.0) done earlier
+      before_j = Each-weaker (λ x. AllByRecursion (λ (y : LogParts). x.from ≤ y.from) (j ∷ logs)) (λ x. x.from ≤ j.from) (λ x h. h.0) done earlier
 
       before_rest : AllByRecursion (λ x. AllByRecursion (λ (y : LogParts). x.from ≤ y.from) logs) (done ++ j ∷ [])
       before_rest =
-          each_append (λ x. AllByRecursion (λ (y : LogParts). x.from ≤ y.from) logs) done (j ∷ [])
-          (each_weaker (λ x. AllByRecursion (λ (y : LogParts). x.from ≤ y.from) (j ∷ logs)) (λ x. AllByRecursion (λ (y : LogParts). x.from ≤ y.from) logs) (λ x h. h.1) done earlier)
+          Each-append (λ x. AllByRecursion (λ (y : LogParts). x.from ≤ y.from) logs) done (j ∷ [])
+          (Each-weaker (λ x. AllByRecursion (λ (y : LogParts). x.from ≤ y.from) (j ∷ logs)) (λ x. AllByRecursion (λ (y : LogParts). x.from ≤ y.from) logs) (λ x h. h.1) done earlier)
           (ascends.0, tt)
 
       by_clash : (clash 0 (cut j.from list) (items_of a.messages j) ≡ None
@@ -453,7 +454,7 @@ module _ (a : AccountParts) where
   put_ascends x (y ∷ logs) h = elim (cases_Bool (nat_le x.from y.from)) [
     | inl first ↦
         let le : x.from ≤ y.from = leb-true x.from y.from first in
-        rw first ((le, each_weaker (λ (z : LogParts). y.from ≤ z.from) (λ z. x.from ≤ z.from) (λ z k. omega (arith, le, k)) logs h.0), h)
+        rw first ((le, Each-weaker (λ (z : LogParts). y.from ≤ z.from) (λ z. x.from ≤ z.from) (λ z k. omega (arith, le, k)) logs h.0), h)
     | inr later ↦
         rw later (put_each (λ (z : LogParts). y.from ≤ z.from) x logs (below later) h.0, put_ascends x logs h.1)
   ]

@@ -1,17 +1,26 @@
 -- Worked rows of verdicts.
-use Rattle.std.specs.Prelude.{◌≡◌, true, [], ◌∷◌, Some, None, refl}
+use Rattle.std.specs.Prelude.{◌≡◌, ℕ, true, [], ◌∷◌, Some, None, refl}
 use Rattle.cany_base.specs.declared.class.Class.TheVariants as class
 use Rattle.cany_base.specs.declared.message.Service.TheVariants.{Ed, Tot}
 use Rattle.cany_base.specs.declared.rule.Verdict.TheVariants.{Clean, Lost, Partial, Silent}
+use Rattle.cany_base.specs.Scenario.{ScenarioParts}
 use Rattle.cany_model.specs.declared.breaks.BreakKind.TheVariants as kind
 use Rattle.cany_check.specs.declared.findings.Fate.TheVariants.{All, Nobody, Apart, Open}
 use Rattle.cany_check.specs.declared.findings.Judgement.TheVariants as judged
 use Rattle.cany_check.specs.declared.unused_entry.NoAsk.TheVariants.{From, Stopped, NeverCarried}
 use Rattle.cany_check.specs.declared.unused_entry.NoFault.TheVariants.{Attempts, Ruled, Idle, RejectsNobody, StopsNobody}
 use Rattle.cany_check.specs.declared.unused_entry.UnusedEntry.TheVariants as entry
-use Rattle.cany_check.proofs.RowWords.{all_held, asks, delivered, found_of, frame_rule, never_sent, row, send, set, settled, slot_rule, slots, tells, three}
+use Rattle.cany_check.proofs.RowWords.{Found, all_held, asks, delivered, found_of, frame_rule, never_sent, row, send, set, settled, slot_rule, slots, tells, three}
 
 -- ---- runs in which nothing is amiss, or more may come
+
+-- two messages of node 0 by TOTCAN, of which the second is sent while the first is open
+abbrev two_at_once : ℕ → ScenarioParts
+two_at_once slots = three slots (send Tot 0 0 (1 ∷ []) ∷ send Tot 1 0 (2 ∷ []) ∷ []) []
+
+-- that messages agree by TOTCAN is open, and nothing is amiss
+abbrev tot_open : Found
+tot_open = record all_held { status = 10; judgements = judged.Held ∷ judged.Held ∷ judged.Held ∷ judged.Open ∷ judged.Held ∷ judged.Held ∷ judged.Held ∷ judged.Held ∷ [] }
 
 -- Row `one_message_no_fault`.
 one_message_no_fault :
@@ -44,9 +53,7 @@ silent_omission_alone = refl
 
 -- Row `totcan_late_copy_moves_the_place`: all delivered, and all have closings ahead.
 totcan_late_copy_moves_the_place :
-    found_of (three 10 (send Tot 0 1 (10 ∷ []) ∷ send Tot 1 0 (11 ∷ []) ∷ []) (slot_rule 1 (Partial (set 4)) 0 ∷ [])) ≡ record all_held {
-      status = 10;
-      judgements = judged.Held ∷ judged.Held ∷ judged.Held ∷ judged.Open ∷ judged.Held ∷ judged.Held ∷ judged.Held ∷ judged.Held ∷ [];
+    found_of (three 10 (send Tot 0 1 (10 ∷ []) ∷ send Tot 1 0 (11 ∷ []) ∷ []) (slot_rule 1 (Partial (set 4)) 0 ∷ [])) ≡ record tot_open {
       messages = record (settled 1 (slots 1 5) (tells Open 7 0 7 (slots 5 6))) { ahead = set 7 }
           ∷ record (settled 2 (slots 2 2) (tells Open 7 0 7 (slots 3 5))) { ahead = set 7 } ∷ [];
     }
@@ -55,9 +62,7 @@ totcan_late_copy_moves_the_place = refl
 
 -- Row `second_message_is_queued`: its origin asks for it only when the first is closed.
 second_message_is_queued :
-    found_of (three 20 (send Tot 0 0 (1 ∷ []) ∷ send Tot 1 0 (2 ∷ []) ∷ []) []) ≡ record all_held {
-      status = 10;
-      judgements = judged.Held ∷ judged.Held ∷ judged.Held ∷ judged.Open ∷ judged.Held ∷ judged.Held ∷ judged.Held ∷ judged.Held ∷ [];
+    found_of (two_at_once 20) ≡ record tot_open {
       messages = record (settled 1 (slots 1 1) (tells Open 7 0 7 (slots 1 2))) { ahead = set 7 } ∷ record (never_sent (tells Open 0 7 0 None)) { queued = true } ∷ [];
     }
 unfolding row
@@ -65,9 +70,7 @@ second_message_is_queued = refl
 
 -- and then waits with it
 second_message_waits :
-    found_of (three 40 (send Tot 0 0 (1 ∷ []) ∷ send Tot 1 0 (2 ∷ []) ∷ []) []) ≡ record all_held {
-      status = 10;
-      judgements = judged.Held ∷ judged.Held ∷ judged.Held ∷ judged.Open ∷ judged.Held ∷ judged.Held ∷ judged.Held ∷ judged.Held ∷ [];
+    found_of (two_at_once 40) ≡ record tot_open {
       messages = settled 1 (slots 1 1) (tells All 7 0 7 (slots 1 2)) ∷ record (never_sent (tells Open 0 7 0 None)) { waits = set 1 } ∷ [];
     }
 unfolding row

@@ -18,7 +18,7 @@ use Rattle.cany_model.specs.Rules.Knowledge.{FailureSign, same_sign}
 use Rattle.cany_model.specs.Rules.Log.{log}
 use Rattle.cany_model.specs.Rules.Messages.{Message, is_service, messages_of}
 use Rattle.cany_model.specs.Runs.Run.{all_read, run}
-use Rattle.cany_model.proofs.Among.{Among, Among-from_Contains, Among-from_any, Among-from_map, Among-map, Among-weaker, Among-which, Among-with, Contains-from_Among, Each-filter, Each-flat_map, Each-map, Each-weaker, any-from_Among}
+use Rattle.cany_model.proofs.Among.{Among, Among-from_Contains, Among-from_any, Among-from_map, Among-map, Among-weaker, Among-which, Among-with, Each-filter, Each-flat_map, Each-map, Each-weaker, any-from_Among}
 use Rattle.cany_model.proofs.Rules.KnowledgeFacts.{same_sign-true}
 use Rattle.cany_check.specs.declared.record.MessageRecord.{MessageRecord}
 use Rattle.cany_check.specs.declared.record.SignRecord.{SignRecord}
@@ -41,6 +41,7 @@ use Rattle.cany_check.proofs.CorrectLogs.{IsLogOfCorrect, among_filter, each_run
 use Rattle.cany_check.proofs.InOrderFacts.{each_ascending}
 use Rattle.cany_check.proofs.Decided.{is_service-self}
 use Rattle.cany_check.proofs.FatesOfRun.{agreed_unless_apart, open_where, sign_agreed, sign_open_where, signs_are_told, unlisted_agreed}
+use Rattle.cany_check.proofs.ListFacts.{each_of_list}
 use Rattle.cany_check.proofs.PartingFacts.{parting_found}
 use Rattle.cany_check.proofs.ViewsOfRun.{none_apart}
 use Rattle.cany_check.proofs.Within.{none_breaks}
@@ -249,10 +250,6 @@ module _ (scenario : ScenarioParts) (journal : List Step) (few : scenario.params
   )
 
   -- ---- what is open
-
-  each_of_list : {X : Type 0} (P : X → Type 0) (all xs : List X) → ((x : X) → Among (λ y. y ≡ x) xs → Among (λ y. y ≡ x) all) → ((x : X) → Contains all x → P x) → AllByRecursion P xs
-  each_of_list P all [] within f = tt
-  each_of_list P all (x ∷ xs) within f = (f x (Contains-from_Among all x (within x (inl refl))), each_of_list P all xs (λ y c. within y (inr c)) f)
 
   abbrev OpensMessage : MessageRecord → Type 0
   OpensMessage r = message_fate a r ≡ fate.Open → HasOpenMessage scenario s

@@ -1,7 +1,7 @@
 -- No number is apart in the account of a run exactly where correct nodes hold one view of each number.
 use Rattle.std.proofs.Common.{◌≡◌, ℕ, ◌↔◌, ◌==◌, true, false, not, List, [], ◌∷◌, map, refl, ap, sym, subst, ◌∙◌, arith, inl, inr, Contains}
-use Rattle.std.specs.Prelude.{filter_map, find, nat_lt, option_map, Option, Some, None}
-use Rattle.std.specs.List.{AllByRecursion, cons_option, flat_map}
+use Rattle.std.specs.Prelude.{find, nat_lt, option_map, Option, Some, None}
+use Rattle.std.specs.List.{AllByRecursion, flat_map}
 use Rattle.std.proofs.lemmas.Bool.{cases_Bool, eq-eqb, eqb-true, ltb-false}
 use Rattle.cany_base.specs.declared.log_entry.LogEntry.{LogEntry}
 use Rattle.cany_base.specs.declared.log_entry.LogEntry.TheVariants.{Deliver, Failed, View}
@@ -14,12 +14,12 @@ use Rattle.cany_model.specs.Promises.Settled.{IsCorrect}
 use Rattle.cany_model.specs.Rules.Log.{log}
 use Rattle.cany_model.specs.Runs.Run.{run}
 use Rattle.cany_model.proofs.Among.{Among, Among-flat_map, Among-from_Contains, Among-map, Among-weaker, Contains-from_Among, Each-flat_map, Each-of}
-use Rattle.cany_check.specs.declared.findings.ViewParting.{ViewParting}
 use Rattle.cany_check.specs.Account.{AccountParts, LogParts, account_of}
 use Rattle.cany_check.specs.Views.{HeldView, as_parting, held_views, parting_in, same_members, view_in, view_numbers, view_partings, views_of_number}
 use Rattle.cany_check.specs.Words.{correct}
 use Rattle.cany_check.proofs.CorrectLogs.{IsLogOfCorrect, among_filter, each_correct, each_filter, has_correct, log_at, unread_fits}
 use Rattle.cany_check.proofs.InOrderFacts.{among_ascending}
+use Rattle.cany_check.proofs.ListFacts.{made_none, none_made}
 
 -- ---- one number
 
@@ -147,27 +147,11 @@ module _ (scenario : ScenarioParts) (journal : List Step) where
       pairs : (views : List HeldView) → AllByRecursion (λ w. IsHeld w × (w.number ≡ number)) views → AllByRecursion (λ v. AllByRecursion (λ w. v.members ≡ w.members) views) views
       pairs views h = each_with views views h h
 
-  -- a list that is made of options is empty exactly where each is None
-  nothing_made : (f : ℕ → Option ViewParting) (numbers : List ℕ) → AllByRecursion (λ n. f n ≡ None) numbers → filter_map f numbers ≡ []
-  nothing_made f [] h = refl
-  nothing_made f (n ∷ numbers) h = ap (λ o. cons_option o (filter_map f numbers)) h.0 ∙ nothing_made f numbers h.1
-
-  made_nothing : (f : ℕ → Option ViewParting) (numbers : List ℕ) → filter_map f numbers ≡ [] → AllByRecursion (λ n. f n ≡ None) numbers
-  made_nothing f [] h = tt
-  made_nothing f (n ∷ numbers) h = by_first (λ rest. made_nothing f numbers rest) (f n) refl
-    where
-      cons_nil : (p : ViewParting) (ps : List ViewParting) → p ∷ ps ≡ [] → ⊥
-      cons_nil p ps e = absurd (cc)
-
-      by_first : (filter_map f numbers ≡ [] → AllByRecursion (λ k. f k ≡ None) numbers) → (o : Option ViewParting) → f n ≡ o → AllByRecursion (λ k. f k ≡ None) (n ∷ numbers)
-      by_first later None e = (e, later (sym (ap (λ o. cons_option o (filter_map f numbers)) e) ∙ h))
-      by_first later (Some p) e = absurd (cons_nil p (filter_map f numbers) (sym (ap (λ o. cons_option o (filter_map f numbers)) e) ∙ h))
-
   pub none_apart : (view_partings a ≡ []) ↔ HasOneView scenario s
   none_apart = (to, from)
     where
       from : HasOneView scenario s → view_partings a ≡ []
-      from one = nothing_made (λ n. parting_in (views_of_number a n)) (view_numbers a) (all_numbers (view_numbers a))
+      from one = none_made (λ n. parting_in (views_of_number a n)) (view_numbers a) (all_numbers (view_numbers a))
         where
           all_numbers : (numbers : List ℕ) → AllByRecursion (λ n. parting_in (views_of_number a n) ≡ None) numbers
           all_numbers [] = tt
@@ -183,7 +167,7 @@ module _ (scenario : ScenarioParts) (journal : List Step) where
           among_ascending nat_lt same_unless_less number (map (λ (x : HeldView). x.number) (held_views a))
           (Among-map (λ (x : HeldView). x.number) (λ n. n ≡ number) (held_views a)
           (Among-weaker (λ x. x ≡ v) (λ (x : HeldView). x.number ≡ number) (λ x e. ap (λ (y : HeldView). y.number) e) (held_views a) first)) in
-          let quiet = Each-of (λ n. parting_in (views_of_number a n) ≡ None) number (view_numbers a) (made_nothing (λ n. parting_in (views_of_number a n)) (view_numbers a) none) listed in
+          let quiet = Each-of (λ n. parting_in (views_of_number a n) ≡ None) number (view_numbers a) (made_none (λ n. parting_in (views_of_number a n)) (view_numbers a) none) listed in
           none_parts (views_of_number a number) quiet v w (of_number v first refl) (of_number w second refl)
         where
           same_unless_less : (x y : ℕ) → nat_lt x y ≡ false → nat_lt y x ≡ false → x ≡ y

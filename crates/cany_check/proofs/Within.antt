@@ -14,7 +14,7 @@ use Rattle.cany_model.specs.Promises.Settled.{IsCorrectFrom}
 use Rattle.cany_model.specs.Rules.Knowledge.{FailureSign}
 use Rattle.cany_model.specs.Rules.Messages.{Message, is_service, messages_of}
 use Rattle.cany_model.specs.Runs.Run.{all_read, run}
-use Rattle.cany_model.proofs.Among.{Among, Contains-from_Among, Each-filter, Each-map}
+use Rattle.cany_model.proofs.Among.{Each-filter, Each-map}
 use Rattle.cany_check.specs.declared.findings.Fate.{Fate}
 use Rattle.cany_check.specs.declared.findings.Fate.TheVariants.{Apart}
 use Rattle.cany_check.specs.declared.findings.Judgement.{Judgement}
@@ -32,6 +32,7 @@ use Rattle.cany_check.proofs.Accused.{nobody_accused}
 use Rattle.cany_check.proofs.FateFacts.{apart_by}
 use Rattle.cany_check.proofs.FatesOfRun.{apart_where, sign_apart_where}
 use Rattle.cany_check.proofs.IntegrityOfRun.{nothing_wrong}
+use Rattle.cany_check.proofs.ListFacts.{each_of_list}
 use Rattle.cany_check.proofs.OrderOfRun.{nobody_parts}
 use Rattle.cany_check.proofs.ViewsOfRun.{none_apart}
 
@@ -75,10 +76,6 @@ module _ (scenario : ScenarioParts) (journal : List Step) (few : scenario.params
 
   abbrev a : AccountParts
   a = account_of scenario s
-
-  each_of_list : {X : Type 0} (P : X → Type 0) (all xs : List X) → ((x : X) → Among (λ y. y ≡ x) xs → Among (λ y. y ≡ x) all) → ((x : X) → Contains all x → P x) → AllByRecursion P xs
-  each_of_list P all [] within f = tt
-  each_of_list P all (x ∷ xs) within f = (f x (Contains-from_Among all x (within x (inl refl))), each_of_list P all xs (λ y c. within y (inr c)) f)
 
   all_agree : AllByRecursion (λ m. message_fate (account_of scenario s) m ≡ Apart → ⊥) (account_of scenario s).messages
   unfolding account_of

@@ -64,18 +64,22 @@ slots_of x trace = first_and_last (first_carried x trace) (last_carried x trace)
 abbrev pub sends_data : Message → SlotNote → Bool
 sends_data m note = carried (same_frame (data_frame m)) note && has note.senders m.origin
 
-abbrev pub message_record : ScenarioParts → RunState → Message → MessageRecord
-message_record scenario s m = record {
+-- the record of a message, but for the slots that carried it
+abbrev pub unsent_record : ScenarioParts → RunState → Message → MessageRecord
+unsent_record scenario s m = record {
   key = message_key m;
   service = m.service;
   payload = m.payload;
   slot = m.slot;
-  sent = first_where (sends_data m) s.trace;
-  carried = slots_of (data_id m) s.trace;
+  sent = None;
+  carried = None;
   queued = is_queued scenario s m;
   waits = waiting_nodes (frames_of m) s;
   ahead = nodes_ahead scenario s m;
 }
+
+abbrev pub message_record : ScenarioParts → RunState → Message → MessageRecord
+message_record scenario s m = record (unsent_record scenario s m) { sent = first_where (sends_data m) s.trace; carried = slots_of (data_id m) s.trace }
 
 -- ---- logs
 

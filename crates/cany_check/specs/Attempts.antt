@@ -1,13 +1,11 @@
 -- The attempts to carry the frames that entries of a scenario name, as they are kept.
-use Rattle.std.specs.Prelude.{◌≡◌, ℕ, ◌+◌, ◌^◌, ◌||◌, ◌-◌, Bool, false, true, min, List, Option, Some}
+use Rattle.std.specs.Prelude.{◌≡◌, ℕ, ◌+◌, ◌^◌, ◌||◌, ◌-◌, Bool, true, min, List, Option, Some}
 use Rattle.std.specs.BTreeMap.{is_at}
 use Rattle.std.specs.List.{list_any}
 use Rattle.std.specs.Map.{lookup}
 use Rattle.cany_base.specs.declared.class.Class.{Class}
 use Rattle.cany_base.specs.declared.class.Class.TheVariants.{Join, Leave}
 use Rattle.cany_base.specs.declared.message.NodeAsk.{NodeAsk}
-use Rattle.cany_base.specs.declared.rule.Place.{Place}
-use Rattle.cany_base.specs.declared.rule.Place.TheVariants.{At, FrameNth}
 use Rattle.cany_base.specs.declared.rule.Rule.{Rule}
 use Rattle.cany_base.specs.declared.slot_note.SlotNote.{SlotNote}
 use Rattle.cany_base.specs.Cycles.{cycle_of}
@@ -17,14 +15,15 @@ use Rattle.cany_model.specs.Bus.Frames.{Identity, same_identity}
 use Rattle.cany_model.specs.Bus.Slot.{attempts}
 use Rattle.cany_world.specs.World.{WorldParts, state_of}
 use Rattle.cany_check.specs.declared.attempts.Attempts.{Attempts}
-use Rattle.cany_check.specs.declared.frame_name.Attempt.{Attempt}
-use Rattle.cany_check.specs.declared.frame_name.FrameName.{FrameName}
-use Rattle.cany_check.specs.FrameNames.{attempt_cmp, attempt_of, frame_name, name_cmp}
+use Rattle.can_fault.specs.declared.identity.Attempt.{Attempt}
+use Rattle.can_fault.specs.declared.identity.FrameIdentity.{FrameIdentity}
+use Rattle.can_fault.specs.Identities.{attempt_cmp, attempt_of, frame_identity, identity_cmp}
+use Rattle.can_fault.specs.Rules.{names_frame}
 use Rattle.cany_check.specs.Unused.{attempt_slot}
 
 -- the count of the attempts to carry a frame, if it is kept
-abbrev pub count_of : List (FrameName × ℕ) → Identity → Option ℕ
-count_of counts x = lookup (is_at (name_cmp (frame_name x))) counts
+abbrev pub count_of : List (FrameIdentity × ℕ) → Identity → Option ℕ
+count_of counts x = lookup (is_at (identity_cmp (frame_identity x))) counts
 
 -- the slot of an attempt, if it is kept
 abbrev pub slot_of : List (Attempt × ℕ) → Identity → ℕ → Option ℕ
@@ -38,10 +37,6 @@ abbrev pub raised : ℕ → ℕ
 raised count = min (count + 1) greatest
 
 -- ---- which frames are named
-
-abbrev pub names_frame : Identity → Place → Bool
-names_frame x (At slot) = false
-names_frame x (FrameNth class number node nth) = same_identity (record { class = class; number = number; node = node }) x
 
 -- whether a rule names the frames of this identity
 abbrev pub is_ruled : List Rule → Identity → Bool
@@ -63,7 +58,7 @@ is_named scenario x =
 -- ---- what is kept
 
 -- the frames that pass the test have the count 0
-abbrev pub AreZero : (Identity → Bool) → List (FrameName × ℕ) → Type 0
+abbrev pub AreZero : (Identity → Bool) → List (FrameIdentity × ℕ) → Type 0
 AreZero named counts = (x : Identity) → named x ≡ true → count_of counts x ≡ Some 0
 
 -- the attempts to carry the frames that pass the test are those of these slots, newest first

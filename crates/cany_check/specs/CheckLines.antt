@@ -8,6 +8,7 @@ use Rattle.cany_base.specs.Params.{Parameters}
 use Rattle.cany_model.specs.Rules.Messages.{is_service}
 use Rattle.cany_text.specs.ReportLines.{line_of, set_text}
 use Rattle.cany_text.specs.TextNames.{service_name}
+use Rattle.cany_log.specs.Fields.{number_if_any}
 use Rattle.cany_check.specs.declared.findings.Accusation.{Accusation}
 use Rattle.cany_check.specs.declared.findings.Delivery.{Delivery}
 use Rattle.cany_check.specs.declared.findings.EntryAt.{EntryAt}
@@ -32,11 +33,6 @@ use Rattle.cany_check.specs.Words.{is_nobody}
 
 abbrev pub text_if : Bool → List ℕ → List (List ℕ)
 text_if test text = if test then text ∷ [] else []
-
--- the word and the number, where there is one
-abbrev pub number_if_any : List ℕ → Option ℕ → List (List ℕ)
-number_if_any word None = []
-number_if_any word (Some n) = word ∷ decimal n ∷ []
 
 -- the word and the set, where it has a node
 abbrev pub set_if_any : List ℕ → Nodes → List (List ℕ)

@@ -11,7 +11,6 @@ pub mod FateParts
 pub mod Fates
 pub mod Findings
 pub mod FindingsFields
-pub mod FrameNames
 pub mod HeadParts
 pub mod Holders
 pub mod InOrder

@@ -7,13 +7,12 @@ use Rattle.cany_base.specs.declared.log_entry.LogEntry.TheVariants.{Deliver, Fai
 use Rattle.cany_base.specs.declared.slot_note.SlotNote.{SlotNote}
 use Rattle.cany_base.specs.Frame.{FrameParts, data_class}
 use Rattle.cany_base.specs.Nodes.{has}
-use Rattle.cany_base.specs.Scenario.{ScenarioParts}
 use Rattle.cany_model.specs.Bus.Frames.{Identity, is_of, same_frame}
 use Rattle.cany_model.specs.Bus.Slot.{carried}
 use Rattle.cany_model.specs.Bus.State.{RunState}
 use Rattle.cany_model.specs.Rules.Knowledge.{FailureSign, fda_of}
-use Rattle.cany_model.specs.Rules.Messages.{Message, data_of, frames_of, message_key}
-use Rattle.cany_world.specs.Settled.{is_queued, nodes_ahead, waiting_nodes}
+use Rattle.cany_model.specs.Rules.Messages.{data_of}
+use Rattle.cany_world.specs.Settled.{waiting_nodes}
 use Rattle.cany_check.specs.declared.message_slots.MessageSlots.{MessageSlots}
 use Rattle.cany_check.specs.declared.record.MessageRecord.{MessageRecord}
 use Rattle.cany_check.specs.declared.record.SignRecord.{SignRecord}
@@ -49,21 +48,7 @@ slots_after m note slots = record {
   carried = if carried (is_of (record_id m)) note then with_last slots.carried note.slot else slots.carried;
 }
 
--- the record of a message, but for these slots
-abbrev pub unsent_record : ScenarioParts → RunState → Message → MessageRecord
-unsent_record scenario s m = record {
-  key = message_key m;
-  service = m.service;
-  payload = m.payload;
-  slot = m.slot;
-  sent = None;
-  carried = None;
-  queued = is_queued scenario s m;
-  waits = waiting_nodes (frames_of m) s;
-  ahead = nodes_ahead scenario s m;
-}
-
--- and with them
+-- the record of a message with these slots
 abbrev pub with_slots : MessageRecord → MessageSlots → MessageRecord
 with_slots m slots = record m { sent = slots.sent; carried = slots.carried }
 

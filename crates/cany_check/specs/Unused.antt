@@ -17,7 +17,7 @@ use Rattle.cany_base.specs.Nodes.{Nodes, has, nobody}
 use Rattle.cany_base.specs.Scenario.{ScenarioParts}
 use Rattle.cany_model.specs.Bus.Frames.{Identity, is_of}
 use Rattle.cany_model.specs.Bus.Restart.{restarted_in}
-use Rattle.cany_model.specs.Bus.Slot.{attempts, carried, slot_rule}
+use Rattle.cany_model.specs.Bus.Slot.{attempts, carried, is_clean, slot_rule}
 use Rattle.cany_model.specs.Bus.State.{EndedIncarnation, RunState}
 use Rattle.cany_model.specs.Runs.Incarnations.{incarnations}
 use Rattle.cany_check.specs.declared.unused_entry.NoAsk.{NoAsk}
@@ -90,12 +90,6 @@ note_of slot trace = find (λ note. note.slot == slot) trace
 abbrev pub is_idle : Option SlotNote → Bool
 is_idle note = option_map_or (λ n. not (is_some n.frame)) note true
 
-abbrev pub is_clean_verdict : Verdict → Bool
-is_clean_verdict Clean = true
-is_clean_verdict Lost = false
-is_clean_verdict (Partial reject) = false
-is_clean_verdict (Silent reject) = false
-
 -- the set of a Partial or Silent verdict
 abbrev pub reject_set : Verdict → Nodes
 reject_set Clean = nobody
@@ -113,7 +107,7 @@ some_node_of nodes test = list_any (λ i. has nodes i && test i) (range_with_len
 -- why the verdict of a rule that acts in this slot had no effect, where it had none
 abbrev pub unused_verdict : RunState → ℕ → Verdict → Option SlotNote → List NoFault
 unused_verdict s slot verdict note =
-    if not (is_clean_verdict verdict) && is_idle note then Idle slot ∷ []
+    if not (is_clean verdict) && is_idle note then Idle slot ∷ []
     else if not (is_nobody (reject_set verdict)) && not (is_idle note)
     && not (some_node_of (reject_set verdict) (λ i. option_map_or (λ n. is_receiver s n i) note false))
     then RejectsNobody slot ∷ []

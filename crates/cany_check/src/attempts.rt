@@ -1,15 +1,15 @@
 //! The attempts to carry the frames that entries of a scenario name.
 ghost use Rattle.std.specs.Prelude.{◌≡◌, ◌∷◌, ◌||◌, ◌<◌, ◌+◌, ◌^◌, [], ℕ, Bool, true, List, All, IfOk, OnOk, length};
+ghost use Rattle.can_fault.specs.Identities.{frame_identity};
 ghost use Rattle.cany_base.specs.declared.slot_note.SlotNote.{SlotNote as AnyNote};
 ghost use Rattle.cany_base.specs.Cycles.{cycle_of};
 ghost use Rattle.cany_base.specs.Limits.{most_numbers};
 ghost use Rattle.cany_model.specs.Bus.Frames.{Identity};
 ghost use Rattle.cany_model.specs.Bus.Slot.{attempts};
 ghost use Rattle.cany_check.specs.Attempts.{AreAttempts, AreAttemptsOf, AreZero, asked_frame, is_asked, is_named, is_ruled};
-ghost use Rattle.cany_check.specs.FrameNames.{frame_name};
 ghost use Rattle.cany_check.specs.Unused.{attempt_slot};
 
-use crate::frame_name::{Attempt, FrameName};
+use can_fault::{Attempt, FrameIdentity};
 use cany_base::cycle::cycle_of;
 use cany_base::{Class, Memory, NodeAsk, Params, Place, Rule, Scenario, Slot, SlotNote};
 use cany_world::World;
@@ -20,7 +20,7 @@ use std::collections::BTreeMap;
 /// which slots.
 #[derive(Drop)]
 pub(crate) struct Attempts {
-    counts: BTreeMap<FrameName, u64>,
+    counts: BTreeMap<FrameIdentity, u64>,
     slots: BTreeMap<Attempt, Slot>,
 }
 
@@ -48,43 +48,44 @@ impl Attempts {
         let Some(frame) = note.frame else {
             return Ok(());
         };
-        let name = FrameName::of(&frame);
-        let Some(before) = self.counts.get(&name).copied() else {
+        let identity = FrameIdentity::of(&frame);
+        let Some(before) = self.counts.get(&identity).copied() else {
             return Ok(());
         };
         let nth = before.saturating_add(1);
-        self.counts.insert(name, nth)?;
-        self.slots.insert(Attempt { name, nth }, note.slot)?;
+        self.counts.insert(identity, nth)?;
+        self.slots.insert(Attempt { identity, nth }, note.slot)?;
         Ok(())
     }
 
     /// How many attempts there were to carry a frame that is named.
-    pub(crate) fn count(&self, name: &FrameName) -> u64
+    pub(crate) fn count(&self, identity: &FrameIdentity) -> u64
         ensures { (named : Identity → Bool) (trace : List AnyNote) (x : Identity) → AreAttempts named trace self.now → named x ≡ true
-            → name.now ≡ frame_name x → result ≡ attempts x trace }
+            → identity.now ≡ frame_identity x → result ≡ attempts x trace }
     {
-        self.counts.get(name).copied().unwrap_or(0)
+        self.counts.get(identity).copied().unwrap_or(0)
     }
 
     /// The slot of an attempt to carry a frame that is named, if there was that attempt.
-    pub(crate) fn slot(&self, name: &FrameName, nth: u64) -> Option<Slot>
+    pub(crate) fn slot(&self, identity: &FrameIdentity, nth: u64) -> Option<Slot>
         ensures { (named : Identity → Bool) (trace : List AnyNote) (x : Identity) → AreAttempts named trace self.now → named x ≡ true
-            → name.now ≡ frame_name x → result ≡ attempt_slot x nth trace }
+            → identity.now ≡ frame_identity x → result ≡ attempt_slot x nth trace }
     {
-        self.slots.get(&Attempt { name: *name, nth }).copied()
+        let identity = *identity;
+        self.slots.get(&Attempt { identity, nth }).copied()
     }
 
     /// The slot of the last attempt to carry a frame that is named, if there was one.
-    pub(crate) fn last(&self, name: &FrameName) -> Option<Slot>
+    pub(crate) fn last(&self, identity: &FrameIdentity) -> Option<Slot>
         ensures { (named : Identity → Bool) (trace : List AnyNote) (x : Identity) → AreAttempts named trace self.now → named x ≡ true
-            → name.now ≡ frame_name x → result ≡ attempt_slot x (attempts x trace) trace }
+            → identity.now ≡ frame_identity x → result ≡ attempt_slot x (attempts x trace) trace }
     {
-        self.slot(name, self.count(name))
+        self.slot(identity, self.count(identity))
     }
 }
 
 /// The count 0 for each frame that a rule, a join or a leave names.
-fn named_counts(alloc: Global, scenario: &Scenario) -> Result<BTreeMap<FrameName, u64>, Memory>
+fn named_counts(alloc: Global, scenario: &Scenario) -> Result<BTreeMap<FrameIdentity, u64>, Memory>
     ensures { IfOk result (λ counts. AreZero (is_named scenario.now) counts.entries) }
 {
     let params = scenario.params();
@@ -96,7 +97,7 @@ fn named_counts(alloc: Global, scenario: &Scenario) -> Result<BTreeMap<FrameName
 }
 
 /// Enters the frames that rules name.
-fn enter_rules(counts: &mut BTreeMap<FrameName, u64>, rules: &[Rule]) -> Result<(), Memory>
+fn enter_rules(counts: &mut BTreeMap<FrameIdentity, u64>, rules: &[Rule]) -> Result<(), Memory>
     ensures { (named : Identity → Bool) → AreZero named counts.old.entries
         → OnOk result (AreZero (λ x. named x || is_ruled rules.now x) counts.new.entries) }
 {
@@ -107,7 +108,7 @@ fn enter_rules(counts: &mut BTreeMap<FrameName, u64>, rules: &[Rule]) -> Result<
 }
 
 /// Enters the frame that a rule names, if it names one.
-fn enter_rule(counts: &mut BTreeMap<FrameName, u64>, rule: &Rule) -> Result<(), Memory>
+fn enter_rule(counts: &mut BTreeMap<FrameIdentity, u64>, rule: &Rule) -> Result<(), Memory>
     ensures { (named : Identity → Bool) → AreZero named counts.old.entries
         → OnOk result (AreZero (λ x. named x || is_ruled (rule.now ∷ []) x) counts.new.entries) }
 {
@@ -119,35 +120,24 @@ fn enter_rule(counts: &mut BTreeMap<FrameName, u64>, rule: &Rule) -> Result<(), 
             node,
             ..
         } => {
-            counts.insert(
-                FrameName {
-                    class,
-                    number,
-                    node,
-                },
-                0,
-            )?;
+            counts.insert(FrameIdentity::new(class, number, node), 0)?;
             Ok(())
         }
     }
 }
 
 /// The frame by which a node asks to join or to leave.
-pub(crate) fn asked_name(params: &Params, class: Class, ask: &NodeAsk) -> FrameName
+pub(crate) fn asked_identity(params: &Params, class: Class, ask: &NodeAsk) -> FrameIdentity
     requires some { 0 < params.now.cycle }
     requires number { cycle_of params.now ask.now.slot < most_numbers }
-    ensures { result ≡ frame_name (asked_frame params.now class ask.now) }
+    ensures { result ≡ frame_identity (asked_frame params.now class ask.now) }
 {
-    FrameName {
-        class,
-        number: cycle_of(params, ask.slot),
-        node: ask.node,
-    }
+    FrameIdentity::new(class, cycle_of(params, ask.slot), ask.node)
 }
 
 /// Enters the frames by which nodes ask to join or to leave.
 fn enter_asks(
-    counts: &mut BTreeMap<FrameName, u64>,
+    counts: &mut BTreeMap<FrameIdentity, u64>,
     params: &Params,
     class: Class,
     asks: &[NodeAsk],
@@ -158,7 +148,7 @@ fn enter_asks(
         → OnOk result (AreZero (λ x. named x || is_asked params.now class asks.now x) counts.new.entries) }
 {
     for i in 0..asks.len() {
-        counts.insert(asked_name(params, class, &asks[i]), 0)?;
+        counts.insert(asked_identity(params, class, &asks[i]), 0)?;
     }
     Ok(())
 }

@@ -1,8 +1,8 @@
 //! The records of the messages of a run.
 ghost use Rattle.std.specs.Prelude.{◌≡◌, ◌<◌, length, map, slice_get, Some, IfOk};
 ghost use Rattle.cany_model.specs.Rules.Messages.{messages_of};
-ghost use Rattle.cany_check.specs.Account.{message_record};
-ghost use Rattle.cany_check.specs.Records.{unsent_record, with_slots};
+ghost use Rattle.cany_check.specs.Account.{message_record, unsent_record};
+ghost use Rattle.cany_check.specs.Records.{with_slots};
 ghost use Rattle.cany_world.specs.World.{state_of};
 
 use crate::message_slots::{MessageSlots, slots_of_messages};

@@ -12,6 +12,7 @@ use crate::holders::{Holders, Subjects, counting, holders_of};
 use crate::places::{Places, places_of};
 use crate::record::MessageRecord;
 use crate::sets::is_nobody;
+use crate::told::{HasFate, told_of_all};
 use cany_base::{LogEntry, Memory, NodeSet, Slot};
 use std::alloc::Global;
 
@@ -107,6 +108,16 @@ fn told(account: &Account<'_>, message: &MessageRecord, holders: Holders) -> Tol
     }
 }
 
+impl HasFate for MessageRecord {
+    ghost held = { λ a m. holders_in (is_delivery m) (Some (since m)) a.logs };
+
+    ghost told = { message_told };
+
+    fn told(&self, account: &Account<'_>, holders: Holders) -> Told {
+        told(account, self, holders)
+    }
+}
+
 /// Who has each message of the account.
 fn holders_of_messages(alloc: Global, account: &Account<'_>) -> Result<Vec<Holders>, Memory>
     ensures { IfOk result (λ holders. AreHolders (length account.now.messages) (delivers_at account.now.messages) (since_at account.now.messages) account.now.logs holders.items) }
@@ -115,27 +126,10 @@ fn holders_of_messages(alloc: Global, account: &Account<'_>) -> Result<Vec<Holde
     holders_of(alloc, &places, account.logs())
 }
 
-/// What is told of each message of the account, of which these are the holders.
-fn told_of_all(
-    alloc: Global,
-    account: &Account<'_>,
-    holders: &[Holders],
-) -> Result<Vec<Told>, Memory>
-    requires { AreHolders (length account.now.messages) (delivers_at account.now.messages) (since_at account.now.messages) account.now.logs holders.now }
-    ensures { IfOk result (λ told. told.items ≡ message_fates account.now) }
-{
-    let messages = account.messages();
-    let mut all = Vec::with_capacity(alloc, messages.len())?;
-    for i in 0..messages.len() {
-        all.push(told(account, &messages[i], holders[i]))?;
-    }
-    Ok(all)
-}
-
 /// What is told of each message of the account, in its order.
 pub fn message_fates(alloc: Global, account: &Account<'_>) -> Result<Vec<Told>, Memory>
     ensures { IfOk result (λ told. told.items ≡ message_fates account.now) }
 {
     let holders = holders_of_messages(alloc, account)?;
-    told_of_all(alloc, account, holders.as_slice())
+    told_of_all(alloc, account, account.messages(), holders.as_slice())
 }

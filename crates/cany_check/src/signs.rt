@@ -1,7 +1,7 @@
 //! What became of the failure signs of an account.
 ghost use Rattle.std.specs.Prelude.{◌≡◌, not, is_none, length, IfOk};
 ghost use Rattle.cany_check.specs.Fates.{sign_fate_by, sign_fates, sign_told};
-ghost use Rattle.cany_check.specs.Holders.{AreHolders, IsOnly, holders_in};
+ghost use Rattle.cany_check.specs.Holders.{IsOnly, holders_in};
 ghost use Rattle.cany_check.specs.SignSubjects.{DoAscend, names_at, sign_since, since_at, tells_at};
 ghost use Rattle.cany_check.specs.Words.{is_nobody, tells_sign};
 
@@ -10,6 +10,7 @@ use crate::findings::{Fate, Told};
 use crate::holders::{Holders, Subjects, counting, holders_of};
 use crate::record::SignRecord;
 use crate::sets::is_nobody;
+use crate::told::{HasFate, told_of_all};
 use cany_base::{LogEntry, Memory, NodeId, NodeSet, Slot};
 use std::alloc::Global;
 use std::marker::Model;
@@ -117,21 +118,14 @@ fn told(account: &Account<'_>, sign: &SignRecord, holders: Holders) -> Told
     }
 }
 
-/// What is told of each failure sign of the account, of which these are the holders.
-fn told_of_all(
-    alloc: Global,
-    account: &Account<'_>,
-    holders: &[Holders],
-) -> Result<Vec<Told>, Memory>
-    requires { AreHolders (length account.now.signs) (tells_at account.now.signs) (since_at account.now.signs) account.now.logs holders.now }
-    ensures { IfOk result (λ told. told.items ≡ sign_fates account.now) }
-{
-    let signs = account.signs();
-    let mut all = Vec::with_capacity(alloc, signs.len())?;
-    for i in 0..signs.len() {
-        all.push(told(account, &signs[i], holders[i]))?;
+impl HasFate for SignRecord {
+    ghost held = { λ a sign. holders_in (tells_sign sign) (sign_since sign) a.logs };
+
+    ghost told = { sign_told };
+
+    fn told(&self, account: &Account<'_>, holders: Holders) -> Told {
+        told(account, self, holders)
     }
-    Ok(all)
 }
 
 /// What is told of each failure sign of the account, in its order.
@@ -140,5 +134,5 @@ pub fn sign_fates(alloc: Global, account: &Account<'_>) -> Result<Vec<Told>, Mem
 {
     let signs = account.signs();
     let holders = holders_of(alloc, &Signs { signs }, account.logs())?;
-    told_of_all(alloc, account, holders.as_slice())
+    told_of_all(alloc, account, signs, holders.as_slice())
 }

@@ -6,7 +6,7 @@ ghost use Rattle.cany_check.specs.Asks.{ask_class, ask_entry, asks_of};
 ghost use Rattle.cany_check.specs.Attempts.{AreAttemptsOf, asked_frame, is_named};
 ghost use Rattle.cany_check.specs.Unused.{as_list, is_carried_later, unused_ask, with_places};
 
-use crate::attempts::{Attempts, asked_name};
+use crate::attempts::{Attempts, asked_identity};
 use crate::finding::push_found;
 use crate::presence::missed;
 use crate::unused_entry::{NoAsk, Unused, UnusedEntry};
@@ -59,7 +59,7 @@ fn is_carried_later(world: &World, attempts: &Attempts, class: Class, ask: &Node
     requires named { is_named world.now.scenario (asked_frame world.now.scenario.params class ask.now) ≡ true }
     ensures { result ≡ is_carried_later world.now.scenario (state_of world.now) class ask.now }
 {
-    match attempts.last(&asked_name(world.scenario().params(), class, ask)) {
+    match attempts.last(&asked_identity(world.scenario().params(), class, ask)) {
         Some(last) => ask.slot < last,
         None => false,
     }

@@ -1,22 +1,22 @@
 //! The fault rules that did nothing, or of which a part did nothing.
 ghost use Rattle.std.specs.Prelude.{◌≡◌, ◌++◌, ◌∷◌, ◌<◌, [], true, length, OnOk, Some};
+ghost use Rattle.can_fault.specs.Identities.{named_identity};
 ghost use Rattle.cany_base.specs.Nodes.{AllBelow};
 ghost use Rattle.cany_base.specs.Scenario.{IsRuleOf, IsVerdictOf};
 ghost use Rattle.cany_model.specs.Bus.Frames.{Identity};
+ghost use Rattle.cany_model.specs.Bus.Slot.{is_clean};
 ghost use Rattle.cany_model.specs.Runs.Run.{has_ended};
 ghost use Rattle.cany_world.specs.World.{state_of};
 ghost use Rattle.cany_check.specs.declared.unused_entry.UnusedEntry.TheVariants as entry;
 ghost use Rattle.cany_check.specs.Attempts.{AreAttemptsOf, is_named, is_ruled};
-ghost use Rattle.cany_check.specs.FrameNames.{named_identity};
-ghost use Rattle.cany_check.specs.Unused.{as_list, attempt_slot, is_clean_verdict, is_receiver, reject_set, some_node_of, unused_in, unused_of_frame, unused_rule, unused_stops, unused_verdict, with_places};
+ghost use Rattle.cany_check.specs.Unused.{as_list, attempt_slot, is_receiver, reject_set, some_node_of, unused_in, unused_of_frame, unused_rule, unused_stops, unused_verdict, with_places};
 
 use crate::attempts::Attempts;
 use crate::finding::{as_fault, push_found};
-use crate::frame_name::FrameName;
 use crate::presence::ran_in;
 use crate::sets::is_nobody;
 use crate::unused_entry::{NoFault, Unused};
-use can_fault::Script;
+use can_fault::{FrameIdentity, Script};
 use cany_base::{Memory, NodeId, NodeSet, Place, Rule, Slot, SlotNote, Verdict};
 use cany_world::World;
 use std::alloc::Global;
@@ -29,7 +29,7 @@ struct NoEffects {
 }
 
 fn is_clean(verdict: &Verdict) -> bool
-    ensures { result ≡ is_clean_verdict verdict.now }
+    ensures { result ≡ is_clean verdict.now }
 {
     matches!(verdict, Verdict::Clean)
 }
@@ -114,21 +114,21 @@ fn unused_of_frame(
     world: &World,
     script: &Script,
     attempts: &Attempts,
-    name: &FrameName,
+    identity: &FrameIdentity,
     nth: u64,
     rule: &Rule,
 ) -> NoEffects
     requires script { script.now ≡ world.now.scenario.rules }
     requires attempts { AreAttemptsOf world.now attempts.now }
     requires rule { IsRuleOf world.now.scenario.params rule.now }
-    requires named { is_named world.now.scenario (named_identity name.now) ≡ true }
+    requires named { is_named world.now.scenario (named_identity identity.now) ≡ true }
     ensures { as_list result.verdict ++ as_list result.stops
-        ≡ unused_of_frame world.now.scenario (state_of world.now) (named_identity name.now) rule.now
-        (attempt_slot (named_identity name.now) nth (state_of world.now).trace) }
+        ≡ unused_of_frame world.now.scenario (state_of world.now) (named_identity identity.now) rule.now
+        (attempt_slot (named_identity identity.now) nth (state_of world.now).trace) }
 {
-    let Some(slot) = attempts.slot(name, nth) else {
+    let Some(slot) = attempts.slot(identity, nth) else {
         return NoEffects {
-            verdict: Some(NoFault::Attempts(attempts.count(name))),
+            verdict: Some(NoFault::Attempts(attempts.count(identity))),
             stops: None,
         };
     };
@@ -158,12 +158,8 @@ fn unused_rule(world: &World, script: &Script, attempts: &Attempts, rule: &Rule)
             node,
             nth,
         } => {
-            let name = FrameName {
-                class,
-                number,
-                node,
-            };
-            unused_of_frame(world, script, attempts, &name, u64::from(nth), rule)
+            let identity = FrameIdentity::new(class, number, node);
+            unused_of_frame(world, script, attempts, &identity, u64::from(nth), rule)
         }
     }
 }

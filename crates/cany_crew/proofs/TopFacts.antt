@@ -1,9 +1,10 @@
 -- What is written for a text.
 use Rattle.std.proofs.Common.{◌≡◌, ◌⊎◌, ℕ, true, false, List, Option, Some, None, Ok, Err, IsOkAnd, IsSomeAnd, refl, sym, ap, ◌∙◌, subst, inl, inr, arith}
-use Rattle.std.specs.Prelude.{MatchOption, is_some, option_map}
+use Rattle.std.specs.Prelude.{MatchOption, Result, is_some, option_map}
 use Rattle.std.proofs.lemmas.Bool.{false≢true}
 use Rattle.cany_base.specs.declared.step.Step.{Step}
 use Rattle.cany_base.specs.Scenario.{ScenarioParts}
+use Rattle.cany_io.specs.Faults.{HasRisen}
 use Rattle.cany_io.specs.Sink.{Takes, TakesPrefix}
 use Rattle.cany_text.specs.declared.scenario_fault.ScenarioFault.{ScenarioFault}
 use Rattle.cany_text.specs.RefusalLines.{journal_given_line, scenario_refusal_line}
@@ -11,10 +12,13 @@ use Rattle.cany_text.specs.Report.{report}
 use Rattle.cany_text.specs.ScenarioText.{scenario_of}
 use Rattle.cany_text.specs.TomlKeys.{Read}
 use Rattle.cany_command.specs.declared.status.TheConstants.{DONE, NO_MEMORY, OTHER_WORDS, READ_FAULT, REFUSED, TOO_LONG, WRITE_FAULT}
+use Rattle.cany_command.specs.Performed.{Stream}
 use Rattle.cany_command.specs.Status.{HasAnswered, HasNoAnswer}
 use Rattle.cany_command.proofs.PerformedFacts.{no_answer_high, no_answer_low, not_failed, not_refused}
 use Rattle.cany_crew.specs.declared.status.TheConstants.{HELD}
+use Rattle.cany_crew.specs.TextRun.{IsReported, IsTextRun}
 use Rattle.cany_crew.specs.Top.{IsReportOf, TakesReportStart, TakesStart, run_refusal, run_refusal_for}
+use Rattle.cany_crew.proofs.GateFacts.{none_fell}
 
 -- ---- the line of the refusal
 
@@ -41,13 +45,13 @@ no_refusal bytes scenario is none = ap run_refusal_for is ∙ no_line scenario.j
 
 -- ---- what the sink took
 
-pub refused_by : (bytes line : List ℕ) (old new : Option (List ℕ)) → run_refusal bytes ≡ Some line → Takes old line new
+refused_by : (bytes line : List ℕ) (old new : Option (List ℕ)) → run_refusal bytes ≡ Some line → Takes old line new
     → IsSomeAnd (run_refusal bytes) (λ l. Takes old l new)
 refused_by bytes line old new is taken =
     let P : Option (List ℕ) → Type 0 = λ o. IsSomeAnd o (λ l. Takes old l new) in
     subst P (sym is) taken
 
-pub started_line : (bytes line : List ℕ) (old new : Option (List ℕ)) → run_refusal bytes ≡ Some line → TakesPrefix old line new → TakesStart bytes old new
+started_line : (bytes line : List ℕ) (old new : Option (List ℕ)) → run_refusal bytes ≡ Some line → TakesPrefix old line new → TakesStart bytes old new
 started_line bytes line old new is taken =
     let P : Option (List ℕ) → Type 0 = λ o. MatchOption o (IsOkAnd (scenario_of bytes) (λ scenario. IsReportOf scenario line)) (λ l. line ≡ l) in
     (line, subst P (sym is) refl, taken)
@@ -89,11 +93,11 @@ not_both status (inr (inl memory)) other = elim other [ inl is ↦ omega (arith,
 not_both status (inr (inr held)) other = elim other [ inl is ↦ omega (arith, held, is) | inr (inl is) ↦ omega (arith, held, is) | inr (inr is) ↦ omega (arith, held, is) ]
 
 -- a call that refused has made no run, and has written
-pub not_refusing : (status : ℕ) → (status ≡ REFUSED) ⊎ (status ≡ WRITE_FAULT) → (status ≡ DONE) ⊎ (status ≡ NO_MEMORY) ⊎ (status ≡ HELD) → ⊥
+not_refusing : (status : ℕ) → (status ≡ REFUSED) ⊎ (status ≡ WRITE_FAULT) → (status ≡ DONE) ⊎ (status ≡ NO_MEMORY) ⊎ (status ≡ HELD) → ⊥
 not_refusing status (inl refused) other = elim other [ inl is ↦ omega (arith, refused, is) | inr (inl is) ↦ omega (arith, refused, is) | inr (inr is) ↦ omega (arith, refused, is) ]
 not_refusing status (inr failed) other = elim other [ inl is ↦ omega (arith, failed, is) | inr (inl is) ↦ omega (arith, failed, is) | inr (inr is) ↦ omega (arith, failed, is) ]
 
-pub ran_or_held : (status : ℕ) → (status ≡ DONE) ⊎ (status ≡ HELD) → (status ≡ DONE) ⊎ (status ≡ NO_MEMORY) ⊎ (status ≡ HELD)
+ran_or_held : (status : ℕ) → (status ≡ DONE) ⊎ (status ≡ HELD) → (status ≡ DONE) ⊎ (status ≡ NO_MEMORY) ⊎ (status ≡ HELD)
 ran_or_held status (inl done) = inl done
 ran_or_held status (inr held) = inr (inr held)
 
@@ -102,3 +106,37 @@ pub of_text : (bytes : List ℕ) (scenario : ScenarioParts) (P : ScenarioParts �
 of_text bytes scenario P is p =
     let Q : Read ScenarioParts → Type 0 = λ o. IsOkAnd o P in
     subst Q (sym is) p
+
+-- ---- a text that is refused
+
+-- its line is written, or not all of it, and no gate is passed
+pub refused_text : {K : Type 0} (bytes line gates : List ℕ) (sink : Stream K) (answer : ℕ) → run_refusal bytes ≡ Some line → (answer ≡ REFUSED) ⊎ (answer ≡ WRITE_FAULT)
+    → (answer ≡ REFUSED → Takes (sink.bytes sink.old) line (sink.bytes sink.new)) → (answer ≡ WRITE_FAULT → HasRisen (sink.faults sink.old) (sink.faults sink.new))
+    → (answer ≡ WRITE_FAULT → TakesPrefix (sink.bytes sink.old) line (sink.bytes sink.new)) → IsTextRun bytes gates gates sink answer
+refused_text bytes line gates sink answer is ended written failed begun = record {
+  done = λ done. absurd (not_refusing answer ended (inl done));
+  not_refused = λ ran. absurd (not_refusing answer ended (ran_or_held answer ran));
+  passed = λ done. refl;
+  held = λ held. absurd (not_refusing answer ended (inr (inr held)));
+  count = none_fell gates gates refl;
+  refused = λ refused. refused_by bytes line (sink.bytes sink.old) (sink.bytes sink.new) is (written refused);
+  write_fault = failed;
+  start = λ fault. started_line bytes line (sink.bytes sink.old) (sink.bytes sink.new) is (begun fault);
+  untouched = λ none. absurd (not_refusing answer ended (inr none));
+  status = elim ended [ inl refused ↦ inl (inr (inl refused)) | inr fault ↦ inl (inr (inr fault)) ];
+}
+
+-- ---- a run that is not reported
+
+-- it was held, or there was no memory for it, and nothing was written
+pub not_reported : {A E K : Type 0} (scenario : ScenarioParts) (ending : Result (Option A) E) (sink : Stream K) (answer : ℕ) → (answer ≡ NO_MEMORY) ⊎ (answer ≡ HELD)
+    → (answer ≡ HELD → IsOkAnd ending (λ held. is_some held ≡ true)) → sink.new ≡ sink.old → IsReported scenario ending sink answer
+not_reported scenario ending sink answer none held same = record {
+  done = λ done. absurd (elim none [ inl memory ↦ omega (arith, done, memory) | inr held ↦ omega (arith, done, held) ]);
+  passed = λ done. absurd (elim none [ inl memory ↦ omega (arith, done, memory) | inr held ↦ omega (arith, done, held) ]);
+  held = held;
+  write_fault = λ fault. absurd (elim none [ inl memory ↦ omega (arith, fault, memory) | inr held ↦ omega (arith, fault, held) ]);
+  start = λ fault. absurd (elim none [ inl memory ↦ omega (arith, fault, memory) | inr held ↦ omega (arith, fault, held) ]);
+  untouched = λ _. same;
+  status = inr (inr none);
+}

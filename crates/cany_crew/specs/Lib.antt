@@ -4,3 +4,4 @@ pub mod Ending
 pub mod Assignment
 pub mod Assignments
 pub mod Top
+pub mod TextRun

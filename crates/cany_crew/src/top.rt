@@ -1,7 +1,8 @@
 //! The call behind the command `run`.
-ghost use Rattle.std.specs.Prelude.{◌≡◌, ◌⊎◌, ◌↔◌, ◌<◌, ◌≤◌, map, length, string_bytes, None, Ok, true, is_some, IfNone, IfOk, IfSome, IsOkAnd, IsSomeAnd, MatchOption, vec_len};
+ghost use Rattle.std.specs.Prelude.{◌≡◌, ◌⊎◌, ◌↔◌, ◌<◌, ◌≤◌, map, length, string_bytes, None, is_some, IfNone, IfOk, IfSome, IsOkAnd, IsSomeAnd, MatchOption, vec_len};
 ghost use Rattle.cany_base.specs.Limits.{most_nodes, most_text_bytes};
 ghost use Rattle.cany_crew.specs.Gates.{HasAnyRefused, NoneFell, NoneRefused};
+ghost use Rattle.cany_crew.specs.TextRun.{IsReported, IsTextRun};
 ghost use Rattle.cany_crew.specs.Top.{AreRun, HasNoAnswer, IsCrewRun, TakesReportStart, TakesStart, run_refusal};
 ghost use Rattle.cany_io.specs.Faults.{HasRisen, StandsStill};
 ghost use Rattle.cany_io.specs.Sink.{Takes};
@@ -34,13 +35,8 @@ fn report_ending<K: Sink>(
 ) -> u8
     requires none { world.now.scenario.journal ≡ None }
     requires ended { IfOk ending (λ held. IfNone held (IsLegal world.now.scenario world.now.journal × IsWhole world.now.scenario world.now.journal)) }
-    ensures done { result ≡ DONE → IsCrewRun world.now.scenario (K.taken sink.old) (K.taken sink.new) }
-    ensures passed { result ≡ DONE → ending ≡ Ok None }
-    ensures held { result ≡ HELD → IsOkAnd ending (λ held. is_some held ≡ true) }
-    ensures write_fault { result ≡ WRITE_FAULT → HasRisen (K.faults sink.old) (K.faults sink.new) }
-    ensures start { result ≡ WRITE_FAULT → TakesReportStart world.now.scenario (K.taken sink.old) (K.taken sink.new) }
-    ensures untouched { (result ≡ NO_MEMORY) ⊎ (result ≡ HELD) → sink.new ≡ sink.old }
-    ensures status { (result ≡ DONE) ⊎ (result ≡ WRITE_FAULT) ⊎ (result ≡ NO_MEMORY) ⊎ (result ≡ HELD) }
+    ensures { IsReported world.now.scenario ending
+        (record { bytes = K.taken; faults = K.faults; old = sink.old; new = sink.new }) result }
 {
     match ending {
         Ok(held) => match held {
@@ -101,16 +97,8 @@ fn run_text<R: Threads + Wait + Sync, K: Sink, G: Gate>(
     gates: &mut Vec<G>,
 ) -> u8
     requires gates { most_nodes ≤ vec_len gates.old }
-    ensures done { result ≡ DONE → IsOkAnd (scenario_of text.items) (λ scenario. IsCrewRun scenario (K.taken sink.old) (K.taken sink.new)) }
-    ensures not_refused { (result ≡ DONE) ⊎ (result ≡ HELD) → run_refusal text.items ≡ None }
-    ensures passed { result ≡ DONE → map G.refusals gates.new.items ≡ map G.refusals gates.old.items }
-    ensures held { result ≡ HELD → HasAnyRefused (map G.refusals gates.old.items) (map G.refusals gates.new.items) }
-    ensures count { NoneFell (map G.refusals gates.old.items) (map G.refusals gates.new.items) }
-    ensures refused { result ≡ REFUSED → IsSomeAnd (run_refusal text.items) (λ line. Takes (K.taken sink.old) line (K.taken sink.new)) }
-    ensures write_fault { result ≡ WRITE_FAULT → HasRisen (K.faults sink.old) (K.faults sink.new) }
-    ensures start { result ≡ WRITE_FAULT → TakesStart text.items (K.taken sink.old) (K.taken sink.new) }
-    ensures untouched { (result ≡ NO_MEMORY) ⊎ (result ≡ HELD) → sink.new ≡ sink.old }
-    ensures status { HasAnswered result ⊎ (result ≡ NO_MEMORY) ⊎ (result ≡ HELD) }
+    ensures { IsTextRun text.items (map G.refusals gates.old.items) (map G.refusals gates.new.items)
+        (record { bytes = K.taken; faults = K.faults; old = sink.old; new = sink.new }) result }
 {
     match scenario_in(alloc, text) {
         Ok(scenario) if brings_journal(&scenario) => refuse(&Refusal::JournalGiven, sink),

@@ -1,7 +1,8 @@
 -- The letters of a journal by their places in its alphabet.
-use Rattle.std.proofs.Common.{◌≡◌, ℕ, ◌+◌, ◌<◌, List, get_or, map, refl, sym, ◌∙◌, ap, arith, nat_lt}
+use Rattle.std.proofs.Common.{◌≡◌, ℕ, ◌+◌, ◌<◌, ◌≤◌, List, get_or, map, refl, sym, ◌∙◌, ap, arith, nat_lt}
 use Rattle.std.specs.Prelude.{codes, if◌then◌else◌}
 use Rattle.std.specs.List.{range_with_len}
+use Rattle.std.proofs.lemmas.Bool.{le-ltb}
 use Rattle.std.proofs.lemmas.List.FromFn.{get_or-map-range_with_len}
 use Rattle.cany_base.specs.declared.step.Step.TheVariants.{Slot, Turn}
 use Rattle.cany_log.specs.Letters.{letter_of}
@@ -26,6 +27,11 @@ letter_by_offset n few =
     ∙ ap (λ xs. get_or xs n 0) all_offsets
     ∙ get_or-map-range_with_len (λ n. get_or letters n 0 + 19) 0 65 n n 0 few at
     )
+
+-- past the letters of both cases
+pub letter_past_62 : (n : ℕ) → n < 65 → 62 ≤ n → letter_of n + 19 ≡ n + (if nat_lt n 63 then 0 else 1)
+letter_past_62 n few past =
+    rw (le-ltb n 10 (omega (arith, past)), le-ltb n 36 (omega (arith, past)), le-ltb n 62 past) at (letter_by_offset n few)
 
 all_turns : map letter_of (range_with_len 0 64) ≡ map (λ n. step_letter (Turn n)) (range_with_len 0 64)
 unfolding letter_of step_letter

@@ -134,7 +134,7 @@ pub HasRun-short : (nodes : Nodes) (k : ℕ) (after row : List ℕ) → HasRun n
 HasRun-short nodes k after row h few = omega (arith, ap length h.row_is, ap length h.listed_is, length-append h.text after, listed-short nodes k few)
 
 -- there are more to come: a comma
-pub HasListed-comma : (nodes : Nodes) (k e : ℕ) (after row : List ℕ) → HasRun nodes k after row → 0 < e → e ≤ k → k ≤ most_nodes
+HasListed-comma : (nodes : Nodes) (k e : ℕ) (after row : List ℕ) → HasRun nodes k after row → 0 < e → e ≤ k → k ≤ most_nodes
     → ((i : ℕ) → e ≤ i → i < k → has nodes i ≡ false) → HasListed nodes e after (44 ∷ row)
 HasListed-comma nodes k e after row h some order few has_none = record {
   more = λ (more : 0 < e). ap (λ r. 44 ∷ r) h.row_is ∙ ap (λ r. r ++ after) (sym h.listed_is) ∙ ap (λ r. r ++ after) (sym (listed-none nodes e k order few has_none));
@@ -142,7 +142,7 @@ HasListed-comma nodes k e after row h some order few has_none = record {
 }
 
 -- there are none
-pub HasListed-last : (nodes : Nodes) (k e : ℕ) (after row : List ℕ) → HasRun nodes k after row → e ≡ 0 → k ≤ most_nodes
+HasListed-last : (nodes : Nodes) (k e : ℕ) (after row : List ℕ) → HasRun nodes k after row → e ≡ 0 → k ≤ most_nodes
     → ((i : ℕ) → e ≤ i → i < k → has nodes i ≡ false) → HasListed nodes e after row
 unfolding set_text
 HasListed-last nodes k e after row h first few has_none =
@@ -155,3 +155,17 @@ HasListed-last nodes k e after row h first few has_none =
     of_numbers : (ns text : List ℕ) → flat_map with_comma ns ≡ 44 ∷ text → numbers_text ns ≡ text
     of_numbers [] text e = absurd (cc)
     of_numbers (n ∷ ns) text e = numbers_text-cons n ns ∙ ap (drop 1) e
+
+-- one run more, with a comma before it
+pub HasListed-more : (nodes : Nodes) (k b e : ℕ) (after row row' : List ℕ) → HasListed nodes e after row → k < e → e ≤ most_nodes
+    → ((i : ℕ) → k ≤ i → i < e → has nodes i ≡ true) → row' ≡ numbers_text (range_with_len k (e - k)) ++ row
+    → 0 < b → b ≤ k → ((i : ℕ) → b ≤ i → i < k → has nodes i ≡ false) → HasListed nodes b after (44 ∷ row')
+HasListed-more nodes k b e after row row' h order few has_all put some within has_none =
+    HasListed-comma nodes k b after row' (HasListed-run nodes k e after row row' h order few has_all put) some within (omega (arith, order, few)) has_none
+
+-- and the first run of all
+pub HasListed-first : (nodes : Nodes) (k b e : ℕ) (after row row' : List ℕ) → HasListed nodes e after row → k < e → e ≤ most_nodes
+    → ((i : ℕ) → k ≤ i → i < e → has nodes i ≡ true) → row' ≡ numbers_text (range_with_len k (e - k)) ++ row
+    → b ≡ 0 → ((i : ℕ) → b ≤ i → i < k → has nodes i ≡ false) → HasListed nodes b after row'
+HasListed-first nodes k b e after row row' h order few has_all put first has_none =
+    HasListed-last nodes k b after row' (HasListed-run nodes k e after row row' h order few has_all put) first (omega (arith, order, few)) has_none

@@ -52,7 +52,8 @@ IsWritten-short a b e s0 s1 n0 n1 first = record {
 
 -- Texts of the items of a list, one after another.
 module _ {X : Type 0} (f : X → List ℕ) where
-  next_item : (xs : List X) (i : ℕ) (x : X) → i < length xs → x ≡ get_or xs i x → flat_map f (take (i + 1) xs) ≡ flat_map f (take i xs) ++ f x
+  -- the items up to one more
+  pub next_item : (xs : List X) (i : ℕ) (x : X) → i < length xs → x ≡ get_or xs i x → flat_map f (take (i + 1) xs) ≡ flat_map f (take i xs) ++ f x
   next_item xs i x inside is =
       ap (flat_map f) (take_more xs i x inside ∙ ap (λ y. take i xs ++ y ∷ []) (sym is))
       ∙ flat_map-append f (take i xs) (x ∷ [])

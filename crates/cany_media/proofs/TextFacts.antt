@@ -1,14 +1,12 @@
 -- Texts that are put together field by field.
-use Rattle.std.proofs.Common.{◌≡◌, ℕ, zero, suc, ◌+◌, ◌<◌, Bool, true, false, List, [], ◌∷◌, ◌++◌, refl, ap, sym, ◌∙◌, inl, inr, append_assoc, append-nil, arith, cond, take, length, get_or}
+use Rattle.std.proofs.Common.{◌≡◌, ℕ, zero, suc, ◌+◌, Bool, true, false, List, [], ◌∷◌, ◌++◌, refl, ap, sym, ◌∙◌, inl, inr, append_assoc, append-nil, arith, cond}
 use Rattle.std.specs.Prelude.{codes, decimal, filter, if◌then◌else◌}
 use Rattle.std.specs.List.{join_with_byte, range_with_len}
 use Rattle.std.proofs.lemmas.Bool.{cases_Bool}
-use Rattle.std.proofs.lemmas.List.{take_more}
-use Rattle.std.proofs.lemmas.List.Concat.{flat_map-append}
 use Rattle.cany_base.specs.Limits.{most_nodes}
 use Rattle.cany_base.specs.Nodes.{Nodes, has}
 use Rattle.cany_text.specs.ReportLines.{line_of, numbers_text, set_text}
-use Rattle.cany_media.specs.MediaText.{medium_line, medium_lines, state_fields}
+use Rattle.cany_media.specs.MediaText.{medium_line, state_fields}
 use Rattle.cany_media.specs.Plan.{FaultParts}
 use Rattle.cany_media.specs.Spaced.{spaced}
 
@@ -33,13 +31,6 @@ medium_is old fault =
     let fields = decimal fault.line ∷ decimal fault.from ∷ decimal fault.to ∷ state_fields fault.state in
     seven_parts old (codes "medium") (32 ∷ decimal fault.line) (32 ∷ decimal fault.from) (32 ∷ decimal fault.to) (spaced (state_fields fault.state)) (10 ∷ [])
     ∙ ap (λ r. old ++ (r ++ 10 ∷ [])) (sym (joined (codes "medium") fields))
-
-pub lines_more : (faults : List FaultParts) (i : ℕ) (fault : FaultParts) → i < length faults → fault ≡ get_or faults i fault
-    → medium_lines (take (i + 1) faults) ≡ medium_lines (take i faults) ++ medium_line fault
-lines_more faults i fault below is =
-    ap medium_lines (take_more faults i fault below ∙ ap (λ f. take i faults ++ f ∷ []) (sym is))
-    ∙ flat_map-append medium_line (take i faults) (fault ∷ [])
-    ∙ ap (λ r. medium_lines (take i faults) ++ r) (append-nil (medium_line fault))
 
 -- ---- sets
 

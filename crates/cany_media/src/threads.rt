@@ -9,10 +9,14 @@ use crate::single_bus::SingleFault;
 fn is_thread_safe<T: Send + Sync>() {}
 
 fn all_are_thread_safe() {
-    is_thread_safe::<Line>();
-    is_thread_safe::<LineFault>();
-    is_thread_safe::<MediaFault>();
-    is_thread_safe::<MediaOutcome>();
-    is_thread_safe::<MediaPlan>();
-    is_thread_safe::<SingleFault>();
+    is_thread_safe::<
+        (
+            Line,
+            LineFault,
+            MediaFault,
+            MediaOutcome,
+            MediaPlan,
+            SingleFault,
+        ),
+    >();
 }

@@ -1,9 +1,8 @@
 -- Folds of messages one after another.
-use Rattle.std.proofs.Common.{◌≡◌, ℕ, ◌+◌, ◌<◌, List, [], ◌∷◌, ◌++◌, length, take, get_or, refl, ap, sym, ◌∙◌, append-nil}
-use Rattle.std.proofs.lemmas.List.{take_more}
-use Rattle.std.proofs.lemmas.Grind.{flat_map-append}
+use Rattle.std.proofs.Common.{◌≡◌, ℕ, ◌+◌, ◌<◌, List, [], ◌∷◌, ◌++◌, length, take, get_or, refl, ap, sym, ◌∙◌}
 use Rattle.cany_base.specs.declared.log_entry.LogEntry.{LogEntry}
 use Rattle.cany_model.specs.Promises.Order.{Content, tot_content, tot_deliveries}
+use Rattle.cany_log.proofs.WrittenFacts.{next_item}
 use Rattle.cany_replica.specs.Fold.{replies_after, table_after}
 use Rattle.cany_replica.specs.Table.{TableParts, apply}
 
@@ -19,16 +18,8 @@ answers-append table [] ys = refl
 answers-append table (x ∷ xs) ys =
     ap (λ later. record { msg = x.msg; reply = (apply table x.payload).1 } ∷ later) (answers-append (apply table x.payload).0 xs ys)
 
--- what the first entries of a log deliver, and one entry more
-pub next_delivery : (entries : List LogEntry) (i : ℕ) (entry : LogEntry) → i < length entries → entry ≡ get_or entries i entry
-    → tot_deliveries (take (i + 1) entries) ≡ tot_deliveries (take i entries) ++ tot_content entry
-next_delivery entries i entry inside is =
-    ap tot_deliveries (take_more entries i entry inside ∙ ap (λ e. take i entries ++ e ∷ []) (sym is))
-    ∙ flat_map-append tot_content (take i entries) (entry ∷ [])
-    ∙ ap (λ r. tot_deliveries (take i entries) ++ r) (append-nil (tot_content entry))
-
 pub next_table : (table : TableParts) (entries : List LogEntry) (i : ℕ) (entry : LogEntry) → i < length entries → entry ≡ get_or entries i entry
     → table_after (table_after table (tot_deliveries (take i entries))) (tot_content entry) ≡ table_after table (tot_deliveries (take (i + 1) entries))
 next_table table entries i entry inside is =
-    sym (ap (table_after table) (next_delivery entries i entry inside is)
+    sym (ap (table_after table) (next_item tot_content entries i entry inside is)
     ∙ table-append table (tot_deliveries (take i entries)) (tot_content entry))

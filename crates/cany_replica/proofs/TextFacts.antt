@@ -15,7 +15,7 @@ use Rattle.cany_base.specs.Scenario.{ScenarioParts}
 use Rattle.cany_io.specs.declared.failed.Failed.{Failed}
 -- no contract speaks of two writes, one after another
 use Rattle.cany_log.proofs.ReportFacts.{concat-flat_map}
-use Rattle.cany_log.proofs.WrittenFacts.{IsWritten-nothing, IsWritten-short, IsWritten-then}
+use Rattle.cany_log.proofs.WrittenFacts.{next_item, IsWritten-nothing, IsWritten-short, IsWritten-then}
 use Rattle.cany_log.specs.Written.{IsWritten}
 use Rattle.cany_model.proofs.Among.{count-no, count-yes}
 use Rattle.cany_model.specs.Bus.State.{node_at}
@@ -30,7 +30,7 @@ use Rattle.cany_replica.specs.declared.answer.Answer.{Answer}
 use Rattle.cany_replica.specs.Fold.{replies_after, replies_of, is_applied, table_after, table_of}
 use Rattle.cany_replica.specs.ReplicaText.{first_line, key_lines, last_line, node_line, node_lines, replica_lines, replica_text, reply_line, value_lines}
 use Rattle.cany_replica.specs.Table.{TableParts, empty_table, value_at}
-use Rattle.cany_replica.proofs.FoldFacts.{answers-append, next_delivery}
+use Rattle.cany_replica.proofs.FoldFacts.{answers-append}
 
 -- ---- how many messages a log applies
 
@@ -75,7 +75,7 @@ replies-nothing table entries old n = IsWritten-nothing old n
 next_replies : (table : TableParts) (entries : List LogEntry) (i : ℕ) (entry : LogEntry) → i < length entries → entry ≡ get_or entries i entry
     → first_replies table entries (i + 1) ≡ first_replies table entries i ++ replies (table_after table (tot_deliveries (take i entries))) (tot_content entry)
 next_replies table entries i entry inside is =
-    ap (replies table) (next_delivery entries i entry inside is) ∙ replies-append table (tot_deliveries (take i entries)) (tot_content entry)
+    ap (replies table) (next_item tot_content entries i entry inside is) ∙ replies-append table (tot_deliveries (take i entries)) (tot_content entry)
 
 -- the table is the one after the entries before
 pub replies-next : (table now : TableParts) (entries : List LogEntry) (i : ℕ) (entry : LogEntry) (s0 s1 s2 : Option (List ℕ)) (n0 n1 n2 : ℕ)

@@ -75,7 +75,8 @@ entries_of-items table most read name top items there =
 abbrev pub from_place : {A : Type 0} → TableName → KeyName → (Entry → Read A) → List Value → ℕ → Read (List A)
 from_place table name read values place = each_entry table name read place (items_view (drop place values))
 
-after-first : {A : Type 0} (found : List A) (first : Read A) (rest : Read (List A))
+-- what was found, then the first of what is left, and the others
+pub after-first : {A : Type 0} (found : List A) (first : Read A) (rest : Read (List A))
     → after found (first >>= (λ x. rest >>= (λ others. Ok (x ∷ others)))) ≡ (first >>= (λ x. after (found ++ x ∷ []) rest))
 after-first found (Err fault) rest = refl
 after-first found (Ok x) (Err fault) = refl

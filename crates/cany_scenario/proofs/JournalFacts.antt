@@ -17,7 +17,9 @@ use Rattle.cany_text.specs.declared.scenario_fault.ScenarioFault.{ScenarioFault}
 use Rattle.cany_text.specs.declared.scenario_fault.ScenarioFault.TheVariants.{BadJournal, WrongKind}
 use Rattle.cany_text.specs.JournalText.{step_of, steps_from, journal_from}
 use Rattle.cany_text.specs.TomlKeys.{Read, ◌>>=◌, or_fault, of_kind, each_of}
-use Rattle.cany_scenario.specs.JournalParts.{after, are_texts, texts_in_order}
+use Rattle.cany_scenario.specs.Arrays.{after}
+use Rattle.cany_scenario.specs.JournalParts.{are_texts, texts_in_order}
+use Rattle.cany_scenario.proofs.ArraysFacts.{after-first}
 use Rattle.cany_scenario.proofs.KindsFacts.{each_of-is_some, each_of-none}
 
 -- no steps, but a fault
@@ -33,13 +35,6 @@ after-nothing (Ok others) = refl
 after-after : {A : Type 0} (a b : List A) (rest : Read (List A)) → after a (after b rest) ≡ after (a ++ b) rest
 after-after a b (Err fault) = refl
 after-after a b (Ok others) = ap Ok (sym (append_assoc a b others))
-
--- what was found, then the first of what is left, and the others
-after-first : {A : Type 0} (found : List A) (first : Read A) (rest : Read (List A))
-    → after found (first >>= (λ x. rest >>= (λ others. Ok (x ∷ others)))) ≡ (first >>= (λ x. after (found ++ x ∷ []) rest))
-after-first found (Err fault) rest = refl
-after-first found (Ok x) (Err fault) = refl
-after-first found (Ok x) (Ok others) = ap Ok (sym (append_assoc found (x ∷ []) others))
 
 -- ---- bytes
 

@@ -1,4 +1,5 @@
 pub mod Arrays
+pub mod AsksParts
 pub mod Entries
 pub mod JournalParts
 pub mod NodesParts

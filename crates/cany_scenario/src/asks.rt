@@ -3,8 +3,9 @@ ghost use Rattle.std.specs.Prelude.{◌≡◌, ◌≢◌, ◌-◌, [], count_by,
 ghost use Rattle.cany_base.specs.Scenario.{is_ask_of_node};
 ghost use Rattle.cany_text.specs.declared.scenario_fault.KeyName.TheVariants as key;
 ghost use Rattle.cany_text.specs.declared.scenario_fault.ScenarioFault.TheVariants.{Memory};
-ghost use Rattle.cany_text.specs.AsksText.{restarts_of, is_one_too_many};
+ghost use Rattle.cany_text.specs.AsksText.{joins_of, leaves_of, restarts_of, is_one_too_many};
 ghost use Rattle.cany_text.specs.TomlKeys.{required, number_from, first_after};
+ghost use Rattle.cany_scenario.specs.AsksParts.{asks_of};
 ghost use Rattle.cany_scenario.specs.Entries.{entry_of};
 
 use crate::array::{Array, FromEntry, entries_at};
@@ -15,14 +16,14 @@ use cany_text::{KeyName, ScenarioFault, TableName};
 use std::alloc::Global;
 
 /// The scripted joins.
-pub(crate) const JOINS: Array = Array {
+const JOINS: Array = Array {
     table: TableName::Join,
     name: KeyName::Join,
     most: MOST_JOINS,
 };
 
 /// The scripted leaves.
-pub(crate) const LEAVES: Array = Array {
+const LEAVES: Array = Array {
     table: TableName::Leave,
     name: KeyName::Leave,
     most: MOST_LEAVES,
@@ -38,21 +39,54 @@ const RESTARTS: Array = Array {
     most: MOST_RESTARTS,
 };
 
-/// The restarts that the text lists, in file order, of which no node has too many.
-#[tactic(auto, unfolding(cany_text::specs::AsksText::restarts_of))]
-pub(crate) fn read_restarts(
+/// The joins, leaves and restarts, each in file order.
+pub(crate) struct NodeAsks {
+    pub(crate) joins: Vec<NodeAsk>,
+    pub(crate) leaves: Vec<NodeAsk>,
+    pub(crate) restarts: Vec<NodeAsk>,
+}
+
+/// The joins, leaves and restarts that the text lists. Of the restarts no node has too many.
+pub(crate) fn read_asks(
     alloc: Global,
     params: &Params,
     top: &Entry,
-) -> Result<Vec<NodeAsk>, ScenarioFault>
-    ensures ok { IfOk result (λ asks. restarts_of params.now (entry_of top.now) ≡ Ok asks.items) }
-    ensures fault { IfErr result (λ fault. fault ≢ Memory → restarts_of params.now (entry_of top.now) ≡ Err fault) }
+) -> Result<NodeAsks, ScenarioFault>
+    ensures joins { IfOk result (λ asks. joins_of params.now (entry_of top.now) ≡ Ok asks.joins.items) }
+    ensures leaves { IfOk result (λ asks. leaves_of params.now (entry_of top.now) ≡ Ok asks.leaves.items) }
+    ensures restarts { IfOk result (λ asks. restarts_of params.now (entry_of top.now) ≡ Ok asks.restarts.items) }
+    ensures fault { IfErr result (λ fault. fault ≢ Memory → asks_of params.now (entry_of top.now) ≡ Err fault) }
 {
+    let joins = entries_at(alloc, params, top, JOINS)?;
+    let leaves = entries_at(alloc, params, top, LEAVES)?;
     let restarts = entries_at(alloc, params, top, RESTARTS)?;
     match first_too_often(&restarts) {
         Some(place) => Err(ScenarioFault::TooOften { place }),
-        None => Ok(restarts),
+        None => Ok(NodeAsks {
+            joins,
+            leaves,
+            restarts,
+        }),
     }
+}
+
+/// The place of the first entry that is one too many for its node.
+fn first_too_often(restarts: &[NodeAsk]) -> Option<usize>
+    ensures { result ≡ first_after is_one_too_many [] restarts.now }
+{
+    for (place, restart) in restarts.iter().enumerate() {
+        if count_of_node(&restarts[..place], restart.node) >= MOST_RESTARTS_OF_NODE {
+            return Some(place);
+        }
+    }
+    None
+}
+
+/// How many of the entries are of the node.
+fn count_of_node(asks: &[NodeAsk], node: NodeId) -> usize
+    ensures { result ≡ count_by (is_ask_of_node node) asks.now }
+{
+    asks.iter().filter(|ask| ask.node == node).count()
 }
 
 impl FromEntry for NodeAsk {
@@ -82,23 +116,4 @@ pub(crate) fn node_at(params: &Params, entry: &Entry) -> Result<NodeId, Scenario
 {
     let number = entry.number(KeyName::Node, 0, u64::from(params.nodes) - 1)?;
     Ok(NodeId::of_index(number as usize))
-}
-
-/// The place of the first entry that is one too many for its node.
-fn first_too_often(restarts: &[NodeAsk]) -> Option<usize>
-    ensures { result ≡ first_after is_one_too_many [] restarts.now }
-{
-    for (place, restart) in restarts.iter().enumerate() {
-        if count_of_node(&restarts[..place], restart.node) >= MOST_RESTARTS_OF_NODE {
-            return Some(place);
-        }
-    }
-    None
-}
-
-/// How many of the entries are of the node.
-fn count_of_node(asks: &[NodeAsk], node: NodeId) -> usize
-    ensures { result ≡ count_by (is_ask_of_node node) asks.now }
-{
-    asks.iter().filter(|ask| ask.node == node).count()
 }

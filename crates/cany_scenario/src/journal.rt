@@ -3,8 +3,9 @@ ghost use Rattle.std.specs.Prelude.{◌≡◌, ◌≢◌, length, option_map, Ok
 ghost use Rattle.toml.specs.View.{view, items_view};
 ghost use Rattle.cany_text.specs.declared.scenario_fault.ScenarioFault.TheVariants.{Memory};
 ghost use Rattle.cany_text.specs.JournalText.{journal_from, journal_of_text, node_of, step_of, steps_from, turn_in};
+ghost use Rattle.cany_scenario.specs.Arrays.{after};
 ghost use Rattle.cany_scenario.specs.Entries.{entry_of};
-ghost use Rattle.cany_scenario.specs.JournalParts.{after, are_texts, texts_in_order};
+ghost use Rattle.cany_scenario.specs.JournalParts.{are_texts, texts_in_order};
 
 use crate::entry::{Entry, wrong_kind};
 use cany_base::{Format, NodeId, Step};

@@ -5,7 +5,7 @@ ghost use Rattle.cany_text.specs.ScenarioText.{scenario_from, scenario_of};
 ghost use Rattle.cany_scenario.specs.Entries.{entry_of};
 
 use crate::array::entries_at;
-use crate::asks::{JOINS, LEAVES, read_restarts};
+use crate::asks::{NodeAsks, read_asks};
 use crate::document::read_document;
 use crate::entry::Entry;
 use crate::journal::read_journal;
@@ -63,9 +63,11 @@ fn scenario_from(alloc: Global, top: &Entry) -> Result<Scenario, ScenarioFault>
     let members = read_members(&params, top)?;
     let sends = entries_at(alloc, &params, top, SENDS)?;
     let rules = read_rules(alloc, &params, top)?;
-    let joins = entries_at(alloc, &params, top, JOINS)?;
-    let leaves = entries_at(alloc, &params, top, LEAVES)?;
-    let restarts = read_restarts(alloc, &params, top)?;
+    let NodeAsks {
+        joins,
+        leaves,
+        restarts,
+    } = read_asks(alloc, &params, top)?;
     let journal = read_journal(alloc, params.format, top)?;
     Ok(Scenario::of_parts(
         params, members, sends, rules, joins, leaves, restarts, journal,

@@ -1,6 +1,6 @@
 //! The last event of a run: the last scripted ask, and the last slot that ended in a stop, met an
 //! error, or carried a frame that is not of the classes that win over all others.
-ghost use Rattle.std.specs.Prelude.{◌≡◌, if◌then◌else◌};
+ghost use Rattle.std.specs.Prelude.{◌≡◌, ℕ, if◌then◌else◌, map};
 ghost use Rattle.cany_model.specs.Promises.Hypothesis.{is_error_slot};
 ghost use Rattle.cany_model.specs.Promises.Quiet.{is_top};
 ghost use Rattle.cany_settle.specs.LastEvent as event;
@@ -71,24 +71,39 @@ fn last_slot(trace: &[SlotNote]) -> Slot
     last
 }
 
-#[tactic(auto, using(crate::proofs::LastSlotFacts::none_greater, crate::proofs::LastSlotFacts::greatest_done))]
-fn last_send(sends: &[SendAsk]) -> Slot
-    ensures { result ≡ event.greatest (event.send_slots sends.now) }
-{
-    let mut last = 0;
-    for i in 0..sends.len() {
-        last = later(last, sends[i].slot);
+/// What a scenario scripts for a slot.
+trait Scripted {
+    /// The slot.
+    ghost slot: { Self → ℕ };
+
+    /// The slot.
+    fn slot(&self) -> Slot
+        ensures { result ≡ slot self.now };
+}
+
+impl Scripted for SendAsk {
+    ghost slot = { λ send. send.slot };
+
+    fn slot(&self) -> Slot {
+        self.slot
     }
-    last
+}
+
+impl Scripted for NodeAsk {
+    ghost slot = { λ ask. ask.slot };
+
+    fn slot(&self) -> Slot {
+        self.slot
+    }
 }
 
 #[tactic(auto, using(crate::proofs::LastSlotFacts::none_greater, crate::proofs::LastSlotFacts::greatest_done))]
-fn last_of(asks: &[NodeAsk]) -> Slot
-    ensures { result ≡ event.greatest (event.ask_slots asks.now) }
+fn last_of<A: Scripted>(asks: &[A]) -> Slot
+    ensures { result ≡ event.greatest (map A.slot asks.now) }
 {
     let mut last = 0;
     for i in 0..asks.len() {
-        last = later(last, asks[i].slot);
+        last = later(last, asks[i].slot());
     }
     last
 }
@@ -98,7 +113,7 @@ fn last_ask(scenario: &Scenario) -> Slot
     ensures { result ≡ event.last_ask scenario.now }
 {
     later(
-        last_send(scenario.sends()),
+        last_of(scenario.sends()),
         later(last_of(scenario.joins()), last_of(scenario.leaves())),
     )
 }

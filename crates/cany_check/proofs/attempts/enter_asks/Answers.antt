@@ -15,4 +15,4 @@ loop-i-preserved c =
     let before : Identity → Bool = λ x. named x || is_asked p c.args.class (take i asks) x in
     asks_next named p c.args.class asks i ask c.insert.new.self.entries c.loop-i-test.true c.index-asks-i.is
     (entered before (asked_frame p c.args.class ask) c.loop-i.counts c.insert.new.self (c.loop-i.invariant named zero)
-    (λ q. rw c.asked_name.ensures at (c.in_ok-insert.ensures.updates.0 q)))
+    (λ q. rw c.asked_identity.ensures at (c.in_ok-insert.ensures.updates.0 q)))

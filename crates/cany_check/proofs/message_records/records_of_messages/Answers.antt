@@ -6,7 +6,8 @@ use Rattle.cany_model.specs.Rules.Messages.{messages_of}
 use Rattle.cany_model.specs.Runs.Run.{run}
 use Rattle.cany_check.specs.declared.record.MessageRecord.{MessageRecord}
 use Rattle.cany_check.specs.Places.{AreNumbered}
-use Rattle.cany_check.specs.Records.{message_slots, unsent_record, with_slots}
+use Rattle.cany_check.specs.Account.{unsent_record}
+use Rattle.cany_check.specs.Records.{message_slots, with_slots}
 use Rattle.cany_check.proofs.NumberedFacts.{are_numbered}
 use Rattle.cany_check.proofs.RecordFacts.{whole_records}
 use Rattle.cany_check.proofs.message_records.records_of_messages.Goals as goal

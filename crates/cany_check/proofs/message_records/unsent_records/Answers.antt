@@ -7,7 +7,7 @@ use Rattle.cany_model.specs.Rules.Messages.{messages_of}
 use Rattle.cany_model.specs.Runs.Run.{run}
 use Rattle.cany_model.proofs.Rules.MessageKeys.{length-messages_of}
 use Rattle.cany_check.specs.declared.record.MessageRecord.{MessageRecord}
-use Rattle.cany_check.specs.Records.{unsent_record}
+use Rattle.cany_check.specs.Account.{unsent_record}
 use Rattle.cany_check.proofs.message_records.unsent_records.Goals as goal
 
 pub loop-i-preserved : goal.loop-i-preserved

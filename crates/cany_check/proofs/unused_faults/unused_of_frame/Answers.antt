@@ -3,7 +3,7 @@ use Rattle.cany_model.specs.Bus.Frames.{Identity}
 use Rattle.cany_world.specs.World.{state_of}
 use Rattle.cany_check.specs.declared.unused_entry.NoFault.TheVariants.{Attempts}
 use Rattle.cany_check.specs.Attempts.{is_named}
-use Rattle.cany_check.specs.FrameNames.{named_identity}
+use Rattle.can_fault.specs.Identities.{named_identity}
 use Rattle.cany_check.specs.Unused.{unused_of_frame}
 use Rattle.cany_check.proofs.AttemptFacts.{attempt_ran, trace_numbered}
 use Rattle.cany_check.proofs.unused_faults.unused_of_frame.Goals as goal
@@ -12,7 +12,7 @@ pub returns-in_default : goal.returns-in_default
 returns-in_default c =
     let scenario = c.args.world.now.scenario in
     let s = state_of c.args.world.now in
-    let x : Identity = named_identity c.args.name.now in
+    let x : Identity = named_identity c.args.identity.now in
     ap (λ (n : ℕ). Attempts n ∷ []) (c.count.ensures (is_named scenario) s.trace x c.requires.attempts c.requires.named refl)
     ∙ ap (unused_of_frame scenario s x c.args.rule.now) (sym c.in_default.is ∙ c.slot.ensures (is_named scenario) s.trace x c.requires.attempts c.requires.named refl)
 
@@ -20,6 +20,6 @@ pub unused_in-requires-clause-ran : goal.unused_in-requires-clause-ran
 unused_in-requires-clause-ran c =
     let scenario = c.args.world.now.scenario in
     let s = state_of c.args.world.now in
-    let x : Identity = named_identity c.args.name.now in
+    let x : Identity = named_identity c.args.identity.now in
     attempt_ran x c.args.nth c.in-Some.slot s.trace (trace_numbered scenario c.args.world.now.journal)
     (sym (c.slot.ensures (is_named scenario) s.trace x c.requires.attempts c.requires.named refl) ∙ c.in-Some.is)

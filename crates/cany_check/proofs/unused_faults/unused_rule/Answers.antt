@@ -2,7 +2,7 @@ use Rattle.std.proofs.Common.{◌||◌, false, ap, sym, ◌∙◌}
 use Rattle.cany_model.specs.Bus.Frames.{Identity}
 use Rattle.cany_model.proofs.Bus.Identities.{same_identity_self}
 use Rattle.cany_world.specs.World.{state_of}
-use Rattle.cany_check.specs.Attempts.{names_frame}
+use Rattle.can_fault.specs.Rules.{names_frame}
 use Rattle.cany_check.specs.Unused.{attempt_slot, unused_by_place, unused_of_frame}
 use Rattle.cany_check.proofs.unused_faults.unused_rule.Goals as goal
 

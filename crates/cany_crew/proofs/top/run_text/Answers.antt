@@ -1,31 +1,17 @@
-use Rattle.std.proofs.Common.{◌≡◌, ◌≢◌, ◌⊎◌, None, false, refl, sym, ◌∙◌, inl, inr, arith}
+use Rattle.std.proofs.Common.{◌≡◌, ◌≢◌, None, false, refl, sym, ◌∙◌, inl, inr, arith}
 use Rattle.std.proofs.lemmas.Bool.{false≢true}
 use Rattle.cany_base.specs.Scenario.{ScenarioParts}
-use Rattle.cany_command.specs.declared.status.TheConstants.{NO_MEMORY}
 use Rattle.cany_text.specs.declared.scenario_fault.ScenarioFault.TheVariants.{Memory}
 use Rattle.cany_crew.specs.Top.{IsCrewRun, run_refusal}
 use Rattle.cany_crew.proofs.GateFacts.{none_fell}
-use Rattle.cany_crew.proofs.TopFacts.{no_refusal, not_refusing, of_text, ran_or_held, refusal_of_fault, refusal_of_journal, refused_by, started_line, started_report}
+use Rattle.cany_crew.proofs.TopFacts.{no_refusal, of_text, refusal_of_fault, refusal_of_journal, refused_text, started_report}
 use Rattle.cany_crew.proofs.top.run_text.Goals as goal
 
 -- the scenario brings a journal
 pub returns-in-Ok : goal.returns-in-Ok
 returns-in-Ok g c =
-    let answer = c.refuse.result in
-    let ended = c.refuse.ensures.status in
     let line = refusal_of_journal c.args.text.items c.in-Ok.scenario c.in-Ok.ensures.ok (sym c.brings_journal.ensures ∙ c.if-brings_journal.true) in
-    record {
-      done = λ is. absurd (not_refusing answer ended (inl is));
-      not_refused = λ ran. absurd (not_refusing answer ended (ran_or_held answer ran));
-      passed = λ is. refl;
-      held = λ is. absurd (not_refusing answer ended (inr (inr is)));
-      count = none_fell _ _ refl;
-      refused = λ is. refused_by c.args.text.items _ _ _ line (c.refuse.ensures.refused is);
-      write_fault = c.refuse.ensures.write_fault;
-      start = λ is. started_line c.args.text.items _ _ _ line c.refuse.ensures.prefix;
-      untouched = λ none. absurd (not_refusing answer ended (inr none));
-      status = elim ended [ inl is ↦ inl (inr (inl is)) | inr is ↦ inl (inr (inr is)) ];
-    }
+    refused_text c.args.text.items _ _ _ c.refuse.result line c.refuse.ensures.status c.refuse.ensures.refused c.refuse.ensures.write_fault c.refuse.ensures.prefix
 
 -- it is run
 pub returns-in-Ok-2 : goal.returns-in-Ok-2
@@ -73,19 +59,6 @@ returns-in-Err g c = record {
 -- the text is refused
 pub returns-in-Err-2 : goal.returns-in-Err-2
 returns-in-Err-2 g c =
-    let answer = c.refuse-in-Err-2.result in
-    let ended = c.refuse-in-Err-2.ensures.status in
+    let made = c.refuse-in-Err-2.ensures in
     let other : c.in-Err.fault ≢ Memory = λ e. false≢true (sym c.if-is_memory.false ∙ c.is_memory.ensures.1 e) in
-    let line = refusal_of_fault c.args.text.items c.in-Err.fault (c.in-Err.ensures.fault other) in
-    record {
-      done = λ is. absurd (not_refusing answer ended (inl is));
-      not_refused = λ ran. absurd (not_refusing answer ended (ran_or_held answer ran));
-      passed = λ is. refl;
-      held = λ is. absurd (not_refusing answer ended (inr (inr is)));
-      count = none_fell _ _ refl;
-      refused = λ is. refused_by c.args.text.items _ _ _ line (c.refuse-in-Err-2.ensures.refused is);
-      write_fault = c.refuse-in-Err-2.ensures.write_fault;
-      start = λ is. started_line c.args.text.items _ _ _ line c.refuse-in-Err-2.ensures.prefix;
-      untouched = λ none. absurd (not_refusing answer ended (inr none));
-      status = elim ended [ inl is ↦ inl (inr (inl is)) | inr is ↦ inl (inr (inr is)) ];
-    }
+    refused_text c.args.text.items _ _ _ c.refuse-in-Err-2.result (refusal_of_fault c.args.text.items c.in-Err.fault (c.in-Err.ensures.fault other)) made.status made.refused made.write_fault made.prefix

@@ -1,7 +1,7 @@
 use Rattle.std.proofs.Common.{◌≡◌, ◌∙◌, sym, ap, drop, length, arith}
 use Rattle.cany_text.specs.declared.scenario_fault.ScenarioFault.TheVariants.{BadJournal}
 use Rattle.cany_text.specs.JournalText.{steps_from}
-use Rattle.cany_scenario.specs.JournalParts.{after}
+use Rattle.cany_scenario.specs.Arrays.{after}
 use Rattle.cany_scenario.proofs.JournalFacts.{failed, bytes_next, bytes_done}
 use Rattle.cany_scenario.proofs.journal.push_steps.Goals as goal
 

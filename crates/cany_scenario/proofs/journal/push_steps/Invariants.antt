@@ -1,6 +1,6 @@
 use Rattle.std.proofs.Common.{◌≡◌, drop, length}
 use Rattle.cany_text.specs.JournalText.{steps_from}
-use Rattle.cany_scenario.specs.JournalParts.{after}
+use Rattle.cany_scenario.specs.Arrays.{after}
 use Rattle.cany_scenario.proofs.journal.push_steps.Given as goal
 
 -- the steps so far, and those of the bytes that are left

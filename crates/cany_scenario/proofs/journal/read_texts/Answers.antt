@@ -3,7 +3,8 @@ use Rattle.std.proofs.lemmas.Result.{err_from_is_err_and}
 use Rattle.toml.specs.Data.{as_str}
 use Rattle.toml.specs.View.{view, items_view}
 use Rattle.cany_text.specs.JournalText.{steps_from}
-use Rattle.cany_scenario.specs.JournalParts.{after, texts_in_order}
+use Rattle.cany_scenario.specs.Arrays.{after}
+use Rattle.cany_scenario.specs.JournalParts.{texts_in_order}
 use Rattle.cany_scenario.proofs.JournalFacts.{failed, after-nothing, texts_at, texts_next, texts_done}
 use Rattle.cany_scenario.proofs.journal.read_texts.Goals as goal
 

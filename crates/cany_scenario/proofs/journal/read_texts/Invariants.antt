@@ -1,6 +1,7 @@
 use Rattle.std.proofs.Common.{◌≡◌, length}
 use Rattle.toml.specs.View.{items_view}
-use Rattle.cany_scenario.specs.JournalParts.{after, texts_in_order}
+use Rattle.cany_scenario.specs.Arrays.{after}
+use Rattle.cany_scenario.specs.JournalParts.{texts_in_order}
 use Rattle.cany_scenario.proofs.JournalFacts.{texts_at}
 use Rattle.cany_scenario.proofs.journal.read_texts.Given as goal
 

@@ -1,8 +1,9 @@
 use Rattle.std.proofs.Common.{◌≡◌, Global, Vec, refl, sym, rules}
 use Rattle.std.proofs.lemmas.Result.{err_from_is_err_and}
-use Rattle.std.specs.Prelude.{option_map, Ok}
+use Rattle.std.specs.Prelude.{option_map, Ok, Err}
 use Rattle.cany_base.specs.declared.step.Step.{Step}
 use Rattle.cany_text.specs.declared.scenario_fault.KeyName.TheVariants as key
+use Rattle.cany_text.specs.AsksText.{joins_of, leaves_of, restarts_of}
 use Rattle.cany_text.specs.JournalText.{journal_of_text}
 use Rattle.cany_text.specs.NodesText.{all_nodes, nodes_from}
 use Rattle.cany_text.specs.ParamsText.{params_of}
@@ -11,7 +12,7 @@ use Rattle.cany_text.specs.TomlKeys.{only_keys, optional}
 -- no law says that a text stands for a legal scenario alone
 use Rattle.cany_text.proofs.ScenarioTextLegal.{scenario_from-legal}
 use Rattle.cany_scenario.specs.Entries.{entry_of}
-use Rattle.cany_scenario.proofs.ScenarioFacts.{scenario_from-parts}
+use Rattle.cany_scenario.proofs.ScenarioFacts.{scenario_from-parts, three_fault}
 use Rattle.cany_scenario.proofs.scenario.scenario_from.Goals as goal
 
 pub of_parts-requires : goal.of_parts-requires
@@ -24,8 +25,8 @@ of_parts-requires c =
     let named : optional (nodes_from params) (all_nodes params) key.Members top ≡ Ok c.in_ok-members.members = sym c.in_ok-members.ensures in
     let given : journal_of_text params.format top ≡ Ok journal = search rules in
     scenario_from-legal top _
-    (scenario_from-parts top _ known read named c.in_ok-sends.ensures.ok c.in_ok-rules.ensures.ok c.in_ok-joins.ensures.ok c.in_ok-leaves.ensures.ok
-    c.in_ok-restarts.ensures.ok given refl refl)
+    (scenario_from-parts top _ known read named c.in_ok-sends.ensures.ok c.in_ok-rules.ensures.ok c.in_ok-joins.ensures.joins c.in_ok-joins.ensures.leaves
+    c.in_ok-joins.ensures.restarts given refl refl)
 
 pub returns-in_err-only_keys-clause-fault : goal.returns-in_err-only_keys-clause-fault
 unfolding scenario_from
@@ -61,16 +62,12 @@ pub returns-in_err-joins-clause-fault : goal.returns-in_err-joins-clause-fault
 unfolding scenario_from
 returns-in_err-joins-clause-fault c =
     let p = err_from_is_err_and c.from_residual-in_err-joins.result c.from_residual-in_err-joins.ensures.1 in
-    rw (p.1, p.2) (λ other. rw (← c.in_ok-only_keys.ensures, ← c.in_ok-params.ensures, ← c.in_ok-members.ensures, c.in_ok-sends.ensures.ok, c.in_ok-rules.ensures.ok, c.in_err-joins.ensures.fault other) refl)
+    rw (p.1, p.2) (λ other. rw (← c.in_ok-only_keys.ensures, ← c.in_ok-params.ensures, ← c.in_ok-members.ensures, c.in_ok-sends.ensures.ok, c.in_ok-rules.ensures.ok) (three_fault (joins_of c.in_ok-params.params (entry_of c.args.top.now)) (leaves_of c.in_ok-params.params (entry_of c.args.top.now)) (restarts_of c.in_ok-params.params (entry_of c.args.top.now)) _ _ (c.in_err-joins.ensures.fault other)))
 
-pub returns-in_err-leaves-clause-fault : goal.returns-in_err-leaves-clause-fault
+pub returns-in_err-journal-clause-fault : goal.returns-in_err-journal-clause-fault
 unfolding scenario_from
-returns-in_err-leaves-clause-fault c =
-    let p = err_from_is_err_and c.from_residual-in_err-leaves.result c.from_residual-in_err-leaves.ensures.1 in
-    rw (p.1, p.2) (λ other. rw (← c.in_ok-only_keys.ensures, ← c.in_ok-params.ensures, ← c.in_ok-members.ensures, c.in_ok-sends.ensures.ok, c.in_ok-rules.ensures.ok, c.in_ok-joins.ensures.ok, c.in_err-leaves.ensures.fault other) refl)
-
-pub returns-in_err-restarts-clause-fault : goal.returns-in_err-restarts-clause-fault
-unfolding scenario_from
-returns-in_err-restarts-clause-fault c =
-    let p = err_from_is_err_and c.from_residual-in_err-restarts.result c.from_residual-in_err-restarts.ensures.1 in
-    rw (p.1, p.2) (λ other. rw (← c.in_ok-only_keys.ensures, ← c.in_ok-params.ensures, ← c.in_ok-members.ensures, c.in_ok-sends.ensures.ok, c.in_ok-rules.ensures.ok, c.in_ok-joins.ensures.ok, c.in_ok-leaves.ensures.ok, c.in_err-restarts.ensures.fault other) refl)
+returns-in_err-journal-clause-fault c =
+    let p = err_from_is_err_and c.from_residual-in_err-journal.result c.from_residual-in_err-journal.ensures.1 in
+    rw (p.1, p.2) (λ other.
+    let bad : journal_of_text c.in_ok-params.params.format (entry_of c.args.top.now) ≡ Err c.in_err-journal.field-0.0 = search (rules, c.in_err-journal.ensures.fault other) in
+    rw (← c.in_ok-only_keys.ensures, ← c.in_ok-params.ensures, ← c.in_ok-members.ensures, c.in_ok-sends.ensures.ok, c.in_ok-rules.ensures.ok, c.in_ok-joins.ensures.joins, c.in_ok-joins.ensures.leaves, c.in_ok-joins.ensures.restarts, bad) refl)

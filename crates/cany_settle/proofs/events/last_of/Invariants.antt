@@ -1,7 +1,7 @@
-use Rattle.std.proofs.Common.{◌≡◌, drop}
-use Rattle.cany_settle.specs.LastEvent.{greater, greatest, ask_slots}
+use Rattle.std.proofs.Common.{◌≡◌, drop, map}
+use Rattle.cany_settle.specs.LastEvent.{greater, greatest}
 use Rattle.cany_settle.proofs.events.last_of.Given as goal
 
 -- the last so far and the last of what is left make the last of all
 abbrev pub invariant-loop-i : goal.invariant-loop-i
-invariant-loop-i l = greater l.last (greatest (ask_slots (drop l.i l.asks))) ≡ greatest (ask_slots l.asks)
+invariant-loop-i g l = greater l.last (greatest (map g.A.Scripted.slot (drop l.i l.asks))) ≡ greatest (map g.A.Scripted.slot l.asks)

@@ -1,7 +1,7 @@
-use Rattle.std.proofs.Common.{◌-◌, ◌≤◌, ◌++◌, length, length-append, refl, sym, ◌∙◌, ap, arith, rules}
+use Rattle.std.proofs.Common.{◌-◌, ◌++◌, length, length-append, refl, sym, ◌∙◌, ap, arith, rules}
 use Rattle.std.specs.List.{range_with_len}
 use Rattle.cany_text.specs.ReportLines.{numbers_text}
-use Rattle.cany_log.proofs.SetTextFacts.{HasListed-start, HasListed-run, HasListed-comma, HasListed-last, HasRun-short, nobody_text, set_text-short}
+use Rattle.cany_log.proofs.SetTextFacts.{HasListed-start, HasListed-run, HasListed-more, HasListed-first, HasRun-short, nobody_text, set_text-short}
 use Rattle.cany_log.proofs.line_buffer.LineBuffer.put_numbers.Goals as goal
 
 pub returns-then-end-eq0-clause-text : goal.returns-then-end-eq0-clause-text
@@ -35,27 +35,24 @@ put_byte-requires-then-end-gt0 g c =
 
 pub loop-end-preserved-then-end-gt0 : goal.loop-end-preserved-then-end-gt0
 loop-end-preserved-then-end-gt0 g c =
-    let put = c.put_bytes.ensures ∙ ap (λ r. r ++ c.loop-end.self) c.numbers_from_to.ensures in
-    let few : c.start_of_run-start.result ≤ 64 = omega (arith, c.start_of_run-start.ensures.before, c.loop-end.invariant.few) in
     let next = c.end_of_run-end-in-loop-end.ensures in
-    let run = HasListed-run c.args.set _ _ c.args.self.now c.loop-end.self _ c.loop-end.invariant.listed c.start_of_run-start.ensures.before c.loop-end.invariant.few
-    c.start_of_run-start.ensures.all put in
     record {
-      listed = rw c.put_byte-then-end-gt0.ensures (HasListed-comma _ _ _ _ _ run c.if-end-gt0.true next.within few next.none);
-      few = omega (arith, next.within, few);
+      listed =
+          rw c.put_byte-then-end-gt0.ensures
+          (HasListed-more c.args.set _ _ _ c.args.self.now c.loop-end.self _ c.loop-end.invariant.listed c.start_of_run-start.ensures.before c.loop-end.invariant.few
+          c.start_of_run-start.ensures.all (c.put_bytes.ensures ∙ ap (λ r. r ++ c.loop-end.self) c.numbers_from_to.ensures) c.if-end-gt0.true next.within next.none);
+      few = omega (arith, next.within, c.start_of_run-start.ensures.before, c.loop-end.invariant.few);
       last = next.last;
     }
 
 pub loop-end-preserved : goal.loop-end-preserved
 loop-end-preserved g c =
-    let put = c.put_bytes.ensures ∙ ap (λ r. r ++ c.loop-end.self) c.numbers_from_to.ensures in
-    let few : c.start_of_run-start.result ≤ 64 = omega (arith, c.start_of_run-start.ensures.before, c.loop-end.invariant.few) in
     let next = c.end_of_run-end-in-loop-end.ensures in
-    let run = HasListed-run c.args.set _ _ c.args.self.now c.loop-end.self _ c.loop-end.invariant.listed c.start_of_run-start.ensures.before c.loop-end.invariant.few
-    c.start_of_run-start.ensures.all put in
     record {
-      listed = HasListed-last _ _ _ _ _ run (omega (arith, c.if-end-gt0.false)) few next.none;
-      few = omega (arith, next.within, few);
+      listed =
+          HasListed-first c.args.set _ _ _ c.args.self.now c.loop-end.self _ c.loop-end.invariant.listed c.start_of_run-start.ensures.before c.loop-end.invariant.few
+          c.start_of_run-start.ensures.all (c.put_bytes.ensures ∙ ap (λ r. r ++ c.loop-end.self) c.numbers_from_to.ensures) (omega (arith, c.if-end-gt0.false)) next.none;
+      few = omega (arith, next.within, c.start_of_run-start.ensures.before, c.loop-end.invariant.few);
       last = next.last;
     }
 
