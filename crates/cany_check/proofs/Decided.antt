@@ -15,7 +15,7 @@ use Rattle.cany_base.specs.Scenario.{ScenarioParts}
 use Rattle.cany_base.proofs.NodesFacts.{has-those_where, has_none, same_as_those_where}
 use Rattle.cany_model.specs.Bus.Frames.{same_class}
 use Rattle.cany_model.specs.Bus.State.{RunState}
-use Rattle.cany_model.specs.Promises.Entries.{HasDelivered, HasSigned, is_delivery_of, tells_of}
+use Rattle.cany_model.specs.Promises.Entries.{HasDelivered, HasLoggedFailure, is_delivery_of, tells_of}
 use Rattle.cany_model.specs.Rules.Knowledge.{FailureSign}
 use Rattle.cany_model.specs.Rules.Log.{log}
 use Rattle.cany_model.specs.Rules.Messages.{Message, is_service, message_key}
@@ -95,14 +95,14 @@ module _ (scenario : ScenarioParts) (s : RunState) (i : ℕ) (m : Message) where
 -- ---- signs
 
 module _ (scenario : ScenarioParts) (s : RunState) (i : ℕ) (sign : FailureSign) where
-  entry_tells : (entry : LogEntry) → tells_sign (sign_record s sign) entry ≡ true → Contains (log scenario s i) entry → HasSigned scenario s i sign
+  entry_tells : (entry : LogEntry) → tells_sign (sign_record s sign) entry ≡ true → Contains (log scenario s i) entry → HasLoggedFailure scenario s i sign
   entry_tells (Deliver slot by msg payload) h stands = absurd (false≢true h)
   entry_tells (Failed slot node cycle) h stands =
       let parts = and_parts (node == sign.node) (cycle == sign.cycle) h in
       record { entry = Failed slot node cycle; stands = stands; tells = (eqb-true node sign.node parts.0, eqb-true cycle sign.cycle parts.1) }
   entry_tells (View slot number members) h stands = absurd (false≢true h)
 
-  pub has_signed : knows (sign_record s sign) (log_at scenario s i) ≡ true → HasSigned scenario s i sign
+  pub has_signed : knows (sign_record s sign) (log_at scenario s i) ≡ true → HasLoggedFailure scenario s i sign
   has_signed h =
       let some = Among-which (λ entry. tells_sign (sign_record s sign) entry ≡ true) (log scenario s i)
       (Among-from_any (tells_sign (sign_record s sign)) (log scenario s i) h) in
@@ -113,7 +113,7 @@ module _ (scenario : ScenarioParts) (s : RunState) (i : ℕ) (sign : FailureSign
   telling_passes (Failed slot node cycle) is = and_from (node == sign.node) (cycle == sign.cycle) (eq-eqb node sign.node is.0) (eq-eqb cycle sign.cycle is.1)
   telling_passes (View slot number members) is = absurd is
 
-  pub knows_from : HasSigned scenario s i sign → knows (sign_record s sign) (log_at scenario s i) ≡ true
+  pub knows_from : HasLoggedFailure scenario s i sign → knows (sign_record s sign) (log_at scenario s i) ≡ true
   knows_from d =
       any-from_Among (tells_sign (sign_record s sign)) (log scenario s i)
       (Among-weaker (λ entry. entry ≡ d.entry) (λ entry. tells_sign (sign_record s sign) entry ≡ true)

@@ -15,7 +15,7 @@ use Rattle.cany_base.specs.Scenario.{ScenarioParts}
 use Rattle.cany_model.specs.Bus.Frames.{Identity, is_of}
 use Rattle.cany_model.specs.Bus.Slot.{carried}
 use Rattle.cany_model.specs.Bus.State.{RunState, node_at}
-use Rattle.cany_model.specs.Promises.Entries.{HasDelivered, HasSigned, is_delivery_of, tells_of}
+use Rattle.cany_model.specs.Promises.Entries.{HasDelivered, HasLoggedFailure, is_delivery_of, tells_of}
 use Rattle.cany_model.specs.Promises.FirstSlots.{first_carried, first_of_message, first_of_sign}
 use Rattle.cany_model.specs.Promises.Safe.{IsAgreedFrom, IsAgreedOn, IsSignAgreedFrom, IsSignAgreedOn, IsSound, WasSent}
 use Rattle.cany_model.specs.Promises.Settled.{IsCorrect, IsCorrectFrom, is_ahead, is_awaited, is_settled, nobody_waits_with_sign}
@@ -321,7 +321,7 @@ module _ (scenario : ScenarioParts) (journal : List Step) (few : scenario.params
     waited_is : waited ≡ not (nobody_waits_with_sign s sign)
     waited_is = ap not (decides (waiting_nodes (fda_of sign ∷ []) s) (is_awaited (fda_of sign ∷ []) s) (nobody_waits scenario journal few (fda_of sign ∷ [])))
 
-    known_by : (i : ℕ) → knows r' (log_at scenario s i) ≡ true → HasSigned scenario s i sign
+    known_by : (i : ℕ) → knows r' (log_at scenario s i) ≡ true → HasLoggedFailure scenario s i sign
     known_by i h = has_signed scenario s i sign h
 
     -- the fate, where these are the nodes that count
@@ -335,7 +335,7 @@ module _ (scenario : ScenarioParts) (journal : List Step) (few : scenario.params
       abbrev fate : Fate
       fate = sign_fate_of waited was_carried none_knows none_lacks_it
 
-      knows_all : (fate ≡ Apart → ⊥) → nobody_waits_with_sign s sign ≡ true → (i : ℕ) → Counts i → HasSigned scenario s i sign → (j : ℕ) → Counts j → HasSigned scenario s j sign
+      knows_all : (fate ≡ Apart → ⊥) → nobody_waits_with_sign s sign ≡ true → (i : ℕ) → Counts i → HasLoggedFailure scenario s i sign → (j : ℕ) → Counts j → HasLoggedFailure scenario s j sign
       knows_all whole nobody' i c had j d = elim (cases_Bool none_lacks_it) [
         | inl none ↦ known_by j (all_have scenario s Counts logs are small (knows r') none j d)
         | inr some ↦ absurd (whole (sign_apart_if waited was_carried none_knows none_lacks_it (record {
@@ -345,7 +345,7 @@ module _ (scenario : ScenarioParts) (journal : List Step) (few : scenario.params
         })))
       ]
 
-      nobody_knows : (fate ≡ Apart → ⊥) → was_carried ≡ false → nobody_waits_with_sign s sign ≡ true → (i : ℕ) → Counts i → HasSigned scenario s i sign → ⊥
+      nobody_knows : (fate ≡ Apart → ⊥) → was_carried ≡ false → nobody_waits_with_sign s sign ≡ true → (i : ℕ) → Counts i → HasLoggedFailure scenario s i sign → ⊥
       nobody_knows whole never nobody' i c had =
           whole (sign_apart_if waited was_carried none_knows none_lacks_it (record {
             nobody_waits = waited_is ∙ ap not nobody';
@@ -357,8 +357,8 @@ module _ (scenario : ScenarioParts) (journal : List Step) (few : scenario.params
         nobody_waits' : nobody_waits_with_sign s sign ≡ true
         i : ℕ
         counts : Counts i
-        had : HasSigned scenario s i sign
-        lacking : ((j : ℕ) × Counts j × (HasSigned scenario s j sign → ⊥)) ⊎ (was_carried ≡ false)
+        had : HasLoggedFailure scenario s i sign
+        lacking : ((j : ℕ) × Counts j × (HasLoggedFailure scenario s j sign → ⊥)) ⊎ (was_carried ≡ false)
 
       sign_parted : fate ≡ Apart → HasSignParted
       sign_parted h =
@@ -475,7 +475,7 @@ module _ (scenario : ScenarioParts) (journal : List Step) (few : scenario.params
     )
 
     -- a sign that no correct node knows is agreed on
-    agreed_where_unknown : ((i : ℕ) → IsCorrect scenario s i → HasSigned scenario s i sign → ⊥) → IsSignAgreedOn scenario s sign
+    agreed_where_unknown : ((i : ℕ) → IsCorrect scenario s i → HasLoggedFailure scenario s i sign → ⊥) → IsSignAgreedOn scenario s sign
     agreed_where_unknown none = by_first (first_of_sign sign s.trace)
       where
         by_first : (o : Option ℕ) → IsSignAgreedFrom scenario s sign o
@@ -483,7 +483,7 @@ module _ (scenario : ScenarioParts) (journal : List Step) (few : scenario.params
         by_first None = λ quiet i c had. none i c had
 
   -- the account has each sign that a correct node knows
-  pub signs_are_told : (sign : FailureSign) (i : ℕ) → IsCorrect scenario s i → HasSigned scenario s i sign → Among (λ x. x ≡ sign) (signs_told (logs_of scenario s))
+  pub signs_are_told : (sign : FailureSign) (i : ℕ) → IsCorrect scenario s i → HasLoggedFailure scenario s i sign → Among (λ x. x ≡ sign) (signs_told (logs_of scenario s))
   signs_are_told sign i c had =
       among_ascending is_sign_before same_unless_before sign (flat_map (λ log. flat_map sign_in log.entries) (running (logs_of scenario s)))
       (Among-flat_map (λ log. flat_map sign_in log.entries) (λ x. x ≡ sign) (running (logs_of scenario s))

@@ -11,7 +11,7 @@ use Rattle.cany_base.specs.declared.step.Step.{Step}
 use Rattle.cany_base.specs.Limits.{most_nodes}
 use Rattle.cany_base.specs.Scenario.{ScenarioParts}
 use Rattle.cany_model.specs.Bus.State.{RunState}
-use Rattle.cany_model.specs.Promises.Entries.{HasSigned}
+use Rattle.cany_model.specs.Promises.Entries.{HasLoggedFailure}
 use Rattle.cany_model.specs.Promises.Safe.{IsSignAgreedOn}
 use Rattle.cany_model.specs.Promises.Settled.{IsCorrect}
 use Rattle.cany_model.specs.Rules.Knowledge.{FailureSign, same_sign}
@@ -262,25 +262,25 @@ module _ (scenario : ScenarioParts) (journal : List Step) (few : scenario.params
       (λ m stands h. record { message = m; stands = stands; unsettled = (open_where scenario journal few read m).0 h }))
 
   -- a correct node that knows each sign of the account
-  told_signs : AllByRecursion (λ sign. (i : ℕ) × IsCorrect scenario s i × HasSigned scenario s i sign) (signs_told (logs_of scenario s))
+  told_signs : AllByRecursion (λ sign. (i : ℕ) × IsCorrect scenario s i × HasLoggedFailure scenario s i sign) (signs_told (logs_of scenario s))
   told_signs =
-      each_ascending is_sign_before (λ sign. (i : ℕ) × IsCorrect scenario s i × HasSigned scenario s i sign) (flat_map (λ (l : LogParts). flat_map sign_in l.entries) (running (logs_of scenario s)))
-      (Each-flat_map (λ (l : LogParts). flat_map sign_in l.entries) (λ sign. (i : ℕ) × IsCorrect scenario s i × HasSigned scenario s i sign) (running (logs_of scenario s))
+      each_ascending is_sign_before (λ sign. (i : ℕ) × IsCorrect scenario s i × HasLoggedFailure scenario s i sign) (flat_map (λ (l : LogParts). flat_map sign_in l.entries) (running (logs_of scenario s)))
+      (Each-flat_map (λ (l : LogParts). flat_map sign_in l.entries) (λ sign. (i : ℕ) × IsCorrect scenario s i × HasLoggedFailure scenario s i sign) (running (logs_of scenario s))
       (along (running (logs_of scenario s)) (each_running scenario s (unread_fits scenario journal))))
     where
       of_entry : (i : ℕ) → IsCorrect scenario s i → (entry : LogEntry) → Contains (log scenario s i) entry
-          → AllByRecursion (λ sign. (j : ℕ) × IsCorrect scenario s j × HasSigned scenario s j sign) (sign_in entry)
+          → AllByRecursion (λ sign. (j : ℕ) × IsCorrect scenario s j × HasLoggedFailure scenario s j sign) (sign_in entry)
       of_entry i c (Deliver slot by msg payload) stands = tt
       of_entry i c (Failed slot node cycle) stands = ((i, c, record { entry = Failed slot node cycle; stands = stands; tells = (refl, refl) }), tt)
       of_entry i c (View slot number members) stands = tt
 
       along : (logs : List LogParts) → AllByRecursion (IsLogOfCorrect scenario s (unread_fits scenario journal)) logs
-          → AllByRecursion (λ (l : LogParts). AllByRecursion (λ sign. (i : ℕ) × IsCorrect scenario s i × HasSigned scenario s i sign) (flat_map sign_in l.entries)) logs
+          → AllByRecursion (λ (l : LogParts). AllByRecursion (λ sign. (i : ℕ) × IsCorrect scenario s i × HasLoggedFailure scenario s i sign) (flat_map sign_in l.entries)) logs
       along [] h = tt
       along (x ∷ logs) h = (
-        subst (λ (l : LogParts). AllByRecursion (λ sign. (i : ℕ) × IsCorrect scenario s i × HasSigned scenario s i sign) (flat_map sign_in l.entries)) (sym h.0.2)
-            (Each-flat_map sign_in (λ sign. (i : ℕ) × IsCorrect scenario s i × HasSigned scenario s i sign) (log scenario s h.0.0)
-            (each_of_list (λ entry. AllByRecursion (λ sign. (i : ℕ) × IsCorrect scenario s i × HasSigned scenario s i sign) (sign_in entry)) (log scenario s h.0.0) (log scenario s h.0.0) (λ y c. c)
+        subst (λ (l : LogParts). AllByRecursion (λ sign. (i : ℕ) × IsCorrect scenario s i × HasLoggedFailure scenario s i sign) (flat_map sign_in l.entries)) (sym h.0.2)
+            (Each-flat_map sign_in (λ sign. (i : ℕ) × IsCorrect scenario s i × HasLoggedFailure scenario s i sign) (log scenario s h.0.0)
+            (each_of_list (λ entry. AllByRecursion (λ sign. (i : ℕ) × IsCorrect scenario s i × HasLoggedFailure scenario s i sign) (sign_in entry)) (log scenario s h.0.0) (log scenario s h.0.0) (λ y c. c)
             (of_entry h.0.0 h.0.1))),
         along logs h.1,
       )
@@ -292,7 +292,7 @@ module _ (scenario : ScenarioParts) (journal : List Step) (few : scenario.params
   unfolding account_of
   each_sign =
       Each-map (sign_record s) OpensSign (signs_told (logs_of scenario s))
-      (Each-weaker (λ sign. (i : ℕ) × IsCorrect scenario s i × HasSigned scenario s i sign) (λ sign. OpensSign (sign_record s sign))
+      (Each-weaker (λ sign. (i : ℕ) × IsCorrect scenario s i × HasLoggedFailure scenario s i sign) (λ sign. OpensSign (sign_record s sign))
       (λ sign known h. record { sign = sign; node = known.0; correct = known.1; knows = known.2; awaited = (sign_open_where scenario journal few read sign).0 h })
       (signs_told (logs_of scenario s)) told_signs)
 

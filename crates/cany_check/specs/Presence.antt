@@ -2,8 +2,8 @@
 use Rattle.std.specs.Prelude.{◌≡◌, ℕ, Bool}
 use Rattle.cany_model.specs.Bus.State.{EndedIncarnation}
 use Rattle.cany_model.specs.Runs.Incarnations.{span_from}
-use Rattle.cany_check.specs.declared.presence.Deed.{Deed}
-use Rattle.cany_check.specs.declared.presence.Deed.TheVariants.{Ran, MadeAsks}
+use Rattle.cany_check.specs.declared.presence.Activity.{Activity}
+use Rattle.cany_check.specs.declared.presence.Activity.TheVariants.{Ran, MadeAsks}
 use Rattle.cany_check.specs.declared.presence.Stay.{Stay}
 use Rattle.cany_check.specs.Unused.{made_asks_as, ran_as}
 
@@ -12,6 +12,6 @@ pub record IsStay (stay : Stay) (e : EndedIncarnation) : Type 0 where
   pub span : stay.span ≡ span_from e
   pub from : stay.from ≡ e.incarnation.from
 
-abbrev pub did : Deed → ℕ → EndedIncarnation → Bool
+abbrev pub did : Activity → ℕ → EndedIncarnation → Bool
 did Ran slot e = ran_as slot e
 did MadeAsks slot e = made_asks_as slot e

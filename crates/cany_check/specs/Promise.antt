@@ -6,7 +6,7 @@ use Rattle.cany_model.specs.Bus.State.{RunState}
 use Rattle.cany_model.specs.Promises.OneView.{HasOneView}
 use Rattle.cany_model.specs.Promises.Safe.{IsAgreedOn, IsSignAgreedOn}
 use Rattle.cany_model.specs.Promises.Settled.{IsCorrect, IsCorrectFrom, is_settled, nobody_waits_with_sign}
-use Rattle.cany_model.specs.Promises.Entries.{HasSigned}
+use Rattle.cany_model.specs.Promises.Entries.{HasLoggedFailure}
 use Rattle.cany_model.specs.Rules.Knowledge.{FailureSign}
 use Rattle.cany_model.specs.Rules.Log.{log}
 use Rattle.cany_model.specs.Rules.Messages.{Message, messages_of}
@@ -37,7 +37,7 @@ pub record HasOpenSign (scenario : ScenarioParts) (s : RunState) : Type 0 where
   pub sign : FailureSign
   pub node : ℕ
   pub correct : IsCorrect scenario s node
-  pub knows : HasSigned scenario s node sign
+  pub knows : HasLoggedFailure scenario s node sign
   pub awaited : nobody_waits_with_sign s sign ≡ false
 
 -- more may come of a message or of a sign

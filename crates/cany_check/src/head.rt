@@ -53,7 +53,7 @@ struct Count {
 }
 
 /// Writes the line of a part of which nothing is counted.
-fn write_bare<K: Sink>(
+fn write_judgement<K: Sink>(
     words: &'static str,
     judgement: Judgement,
     sink: &mut K,
@@ -147,7 +147,7 @@ fn write_part<K: Sink>(
 {
     let judgement = findings.judgement(part);
     match part {
-        Part::Integrity => write_bare("integrity", judgement, sink),
+        Part::Integrity => write_judgement("integrity", judgement, sink),
         Part::Agreement(by) => {
             let counts = message_counts(account, findings.messages(), by);
             write_fates("agreement", Some(by), judgement, counts, sink)
@@ -180,7 +180,7 @@ fn write_part<K: Sink>(
             let counts = told_counts(findings.signs());
             write_fates("signs", None, judgement, counts, sink)
         }
-        Part::Accuracy => write_bare("accuracy", judgement, sink),
+        Part::Accuracy => write_judgement("accuracy", judgement, sink),
     }
 }
 

@@ -20,7 +20,7 @@ struct Stay {
 
 /// What an incarnation may have done in a slot.
 #[derive(Clone, Copy)]
-enum Deed {
+enum Activity {
     Ran,
     MadeAsks,
 }
@@ -54,12 +54,12 @@ impl Stay {
     }
 
     /// Whether it did this in the slot.
-    fn did(&self, deed: Deed, slot: Slot) -> bool
-        ensures { (e : EndedIncarnation) → IsStay self.now e → result ≡ did deed slot e }
+    fn did(&self, activity: Activity, slot: Slot) -> bool
+        ensures { (e : EndedIncarnation) → IsStay self.now e → result ≡ did activity slot e }
     {
-        match deed {
-            Deed::Ran => self.ran_in(slot),
-            Deed::MadeAsks => self.made_asks(slot),
+        match activity {
+            Activity::Ran => self.ran_in(slot),
+            Activity::MadeAsks => self.made_asks(slot),
         }
     }
 }
@@ -78,12 +78,12 @@ fn stay_at(world: &World, node: NodeId, back: usize) -> Stay
 }
 
 /// Whether an incarnation of the node did this in the slot.
-fn any_did(world: &World, deed: Deed, slot: Slot, node: NodeId) -> bool
+fn any_did(world: &World, activity: Activity, slot: Slot, node: NodeId) -> bool
     requires { node < world.now.scenario.params.nodes }
-    ensures { result ≡ list_any (did deed slot) (incarnations (state_of world.now) node) }
+    ensures { result ≡ list_any (did activity slot) (incarnations (state_of world.now) node) }
 {
     for back in 0..usize::from(world.incarnation(node)) + 1 {
-        if stay_at(world, node, back).did(deed, slot) {
+        if stay_at(world, node, back).did(activity, slot) {
             return true;
         }
     }
@@ -95,7 +95,7 @@ pub(crate) fn ran_in(world: &World, slot: Slot, node: NodeId) -> bool
     requires { node < world.now.scenario.params.nodes }
     ensures { result ≡ ran_in (state_of world.now) slot node }
 {
-    any_did(world, Deed::Ran, slot, node)
+    any_did(world, Activity::Ran, slot, node)
 }
 
 /// The slot since which the incarnation of the node that read the notice of a slot takes part, if
@@ -118,7 +118,7 @@ pub(crate) fn missed(world: &World, slot: Slot, node: NodeId) -> Option<NoAsk>
     requires { node < world.now.scenario.params.nodes }
     ensures { result ≡ missed (state_of world.now) slot node }
 {
-    if any_did(world, Deed::MadeAsks, slot, node) {
+    if any_did(world, Activity::MadeAsks, slot, node) {
         return None;
     }
     match reader_since(world, slot, node) {

@@ -26,7 +26,7 @@ use cany_base::{
     Service,
 };
 use cany_diffuse::{Diffused, Eager, Learnt};
-use cany_message::{Calls, Reply, bare_identifier, put, sends_by};
+use cany_message::{Calls, Reply, identifier_without_incarnation, put, sends_by};
 use std::alloc::Global;
 use std::marker::Model;
 
@@ -192,7 +192,7 @@ fn reply_to_copy(format: Format, learnt: &Learnt, frame: &Frame) -> Reply
         Learnt::First => Reply::Asks,
         Learnt::Again { .. } => Reply::Nothing,
         Learnt::Enough { .. } => Reply::Withdraws {
-            ident: bare_identifier(format, frame),
+            ident: identifier_without_incarnation(format, frame),
         },
     }
 }

@@ -66,7 +66,7 @@ pub record AreKnown (scenario : ScenarioParts) (signs : List FailureSign) (sets 
   pub cycles : length sets ≡ cycles scenario + 1
   pub known : (sign : FailureSign) → IsSignOf scenario sign → has (known_in sets sign.cycle) sign.node ≡ list_any (same_sign sign) signs
 
--- What is kept of lives is what is known of them, for each other node the slot in which it last showed life, and that of the node's own
+-- What is kept of lives is what is known of them, for each node the slot in which it last showed life, and that of the node's own
 -- last life; and the node has sent so many life signs of its own in these notices.
 pub record AreLives (scenario : ScenarioParts) (i : ℕ) (past : List NoticeKind) (shown : ℕ → ℕ) (last : ℕ)
     (slots : List ℕ) (own sent : ℕ) : Type 0 where

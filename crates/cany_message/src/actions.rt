@@ -30,7 +30,7 @@ pub fn deliver(service: Service, slot: Slot, frame: &Frame, delivers: bool, out:
 
 /// The identifier of a frame, in which no incarnation is named.
 #[inline(never)]
-pub fn bare_identifier(format: Format, frame: &Frame) -> u32
+pub fn identifier_without_incarnation(format: Format, frame: &Frame) -> u32
     requires { HasSmallNumbers format frame.now }
     ensures { result ≡ ident_of format (identity_of frame.now) }
 {
@@ -50,7 +50,7 @@ pub fn withdraw(format: Format, frame: &Frame, withdraws: bool, out: &mut Action
 {
     if withdraws {
         out.push(Action::Withdraw {
-            ident: bare_identifier(format, frame),
+            ident: identifier_without_incarnation(format, frame),
         });
     }
 }

@@ -26,6 +26,7 @@ pub enum Reply {
 pub struct Calls {
     /// Whether the message of the frame is delivered.
     pub delivers: bool,
+    /// What the node does after the delivery.
     pub reply: Reply,
 }
 

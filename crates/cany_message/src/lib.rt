@@ -12,7 +12,7 @@ mod sends;
 mod sequence;
 mod threads;
 
-pub use actions::{bare_identifier, deliver, relay, withdraw};
+pub use actions::{identifier_without_incarnation, deliver, relay, withdraw};
 pub use calls::{Calls, Reply, confirmation_frame, put};
 pub use frame::{FrameClass, MessageFrame, bare_frame, is_of_class};
 pub use keys::keys_of;

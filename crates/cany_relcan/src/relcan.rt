@@ -30,7 +30,7 @@ use cany_base::{
     Scenario, Service, Slot,
 };
 use cany_diffuse::{Diffused, Eager, Learnt};
-use cany_message::{Calls, Reply, bare_identifier, is_of_class, put, sends_by};
+use cany_message::{Calls, Reply, identifier_without_incarnation, is_of_class, put, sends_by};
 use std::alloc::Global;
 use std::marker::Model;
 
@@ -422,7 +422,7 @@ fn reply_to_copy(format: Format, frame: &Frame, is_late: bool) -> Reply
         return Reply::Nothing;
     }
     Reply::Withdraws {
-        ident: bare_identifier(format, frame),
+        ident: identifier_without_incarnation(format, frame),
     }
 }
 

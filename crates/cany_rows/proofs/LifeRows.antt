@@ -19,7 +19,7 @@ use Rattle.cany_model.specs.Bus.Frames.{identity_of}
 use Rattle.cany_model.specs.Runs.Run.{all_read, run}
 use Rattle.cany_model.specs.Bus.State.{Incarnation, original}
 use Rattle.cany_model.specs.Promises.Hypothesis.{IsWithin}
-use Rattle.cany_model.specs.Promises.Entries.{HasSigned}
+use Rattle.cany_model.specs.Promises.Entries.{HasLoggedFailure}
 use Rattle.cany_model.specs.Promises.FirstSlots.{first_carried}
 use Rattle.cany_model.specs.Promises.Settled.{IsCorrectFrom, nobody_waits_with_sign}
 use Rattle.cany_model.specs.Rules.Effect.{Effect, Ask, Withdraw, Enter}
@@ -264,7 +264,7 @@ premises_are_met :
     (let s = run silence_at_lag_1 (steps one_reads_late) in
     IsWithin silence_at_lag_1.params s.trace × ((nobody_waits_with_sign s (sign 1 0) && all_read s) ≡ true)
     × (first_carried (fda_of (sign 1 0)) s.trace ≡ Some 7) × IsCorrectFrom silence_at_lag_1 s 7 0
-    × HasSigned silence_at_lag_1 s 0 (sign 1 0) × IsCorrectFrom silence_at_lag_1 s 7 2)
+    × HasLoggedFailure silence_at_lag_1 s 0 (sign 1 0) × IsCorrectFrom silence_at_lag_1 s 7 2)
 unfolding life_run silence_at_lag_1 one_reads_late first_carried
 premises_are_met = (
   (first_break_exact silence_at_lag_1.params (run silence_at_lag_1 (steps one_reads_late)).trace).0 refl,
@@ -280,7 +280,7 @@ premises_are_met_after_a_restart :
     (let s = run_of (two_stop 0) in
     IsWithin (two_stop 0).params s.trace × ((nobody_waits_with_sign s (sign 0 0) && all_read s) ≡ true)
     × (first_carried (fda_of (sign 0 0)) s.trace ≡ Some 7) × IsCorrectFrom (two_stop 0) s 7 0
-    × HasSigned (two_stop 0) s 0 (sign 0 0) × IsCorrectFrom (two_stop 0) s 7 2)
+    × HasLoggedFailure (two_stop 0) s 0 (sign 0 0) × IsCorrectFrom (two_stop 0) s 7 2)
 unfolding life_run two_stop first_carried
 premises_are_met_after_a_restart = (
   (first_break_exact (two_stop 0).params (run_of (two_stop 0)).trace).0 refl,

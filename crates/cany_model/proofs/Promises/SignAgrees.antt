@@ -14,7 +14,7 @@ use Rattle.cany_model.specs.Runs.Run.{all_read, run}
 use Rattle.cany_model.specs.Bus.State.{RunState, node_at, runs}
 use Rattle.cany_model.specs.Bus.Waiting.{waits}
 use Rattle.cany_model.specs.Promises.Hypothesis.{IsWithin}
-use Rattle.cany_model.specs.Promises.Entries.{HasSigned, tells_of}
+use Rattle.cany_model.specs.Promises.Entries.{HasLoggedFailure, tells_of}
 use Rattle.cany_model.specs.Promises.FirstSlots.{first_carried}
 use Rattle.cany_model.specs.Promises.Safe.{IsSignAgreedFrom, IsSignAgreedOn}
 use Rattle.cany_model.specs.Promises.Settled.{IsCorrect, IsCorrectFrom, is_awaited, nobody_waits_with_sign}
@@ -79,7 +79,7 @@ founded_known sign scenario p i past (Failed slot node cycle) is k =
 founded_known sign scenario p i past (View slot number members) is k = absurd is
 
 -- a sign that stands in a log is known
-pub signed_known : (scenario : ScenarioParts) (s : RunState) (i : ℕ) (sign : FailureSign) → HasSigned scenario s i sign
+pub signed_known : (scenario : ScenarioParts) (s : RunState) (i : ℕ) (sign : FailureSign) → HasLoggedFailure scenario s i sign
     → knows sign (knowledge_of (scenario_at scenario s i) i (history i s)) ≡ true
 signed_known scenario s i sign h =
     let sc : ScenarioParts = scenario_at scenario s i in
@@ -90,7 +90,7 @@ signed_known scenario s i sign h =
 
 -- and one that is known stands there
 known_signed : (scenario : ScenarioParts) (s : RunState) (i : ℕ) (sign : FailureSign) → knows sign (knowledge_of (scenario_at scenario s i) i (history i s)) ≡ true
-    → HasSigned scenario s i sign
+    → HasLoggedFailure scenario s i sign
 known_signed scenario s i sign h =
     let sc : ScenarioParts = scenario_at scenario s i in
     let w = Among-which (tells_of sign) (log scenario s i)
@@ -109,7 +109,7 @@ quiet_waits s sign h i running = none_waits s (fda_of sign) [] (not-true (is_awa
 -- a sign that a node knows and nobody waits with was carried Clean
 signed_carried : (scenario : ScenarioParts) (s : RunState) (sign : FailureSign) → IsWithin scenario.params s.trace
     → EachRunning (NodeDiffuses scenario scenario.params.omit (fda_of sign) (sign_duty sign)) s → nobody_waits_with_sign s sign ≡ true
-    → (i : ℕ) → IsCorrect scenario s i → HasSigned scenario s i sign → Among (CarriesClean (fda_of sign)) s.trace
+    → (i : ℕ) → IsCorrect scenario s i → HasLoggedFailure scenario s i sign → Among (CarriesClean (fda_of sign)) s.trace
 signed_carried scenario s sign within diffuses quiet i correct signed =
     let inc = (node_at s.nodes i).present in
     seen_clean (fda_of sign) s i

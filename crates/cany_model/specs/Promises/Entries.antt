@@ -32,7 +32,7 @@ tells_of sign (Deliver slot service msg payload) = ⊥
 tells_of sign (Failed slot node cycle) = (node ≡ sign.node) × (cycle ≡ sign.cycle)
 tells_of sign (View slot number members) = ⊥
 
-pub record HasSigned (scenario : ScenarioParts) (s : RunState) (i : ℕ) (sign : FailureSign) : Type 0 where
+pub record HasLoggedFailure (scenario : ScenarioParts) (s : RunState) (i : ℕ) (sign : FailureSign) : Type 0 where
   pub entry : LogEntry
   pub stands : Contains (log scenario s i) entry
   pub tells : tells_of sign entry

@@ -10,7 +10,7 @@ use Rattle.cany_base.specs.Nodes.{has}
 use Rattle.cany_base.specs.Scenario.{ScenarioParts}
 use Rattle.cany_model.specs.Runs.Run.{all_read}
 use Rattle.cany_model.specs.Bus.State.{RunState}
-use Rattle.cany_model.specs.Promises.Entries.{delivers_key, HasDelivered, HasSigned}
+use Rattle.cany_model.specs.Promises.Entries.{delivers_key, HasDelivered, HasLoggedFailure}
 use Rattle.cany_model.specs.Promises.FirstSlots.{first_of_message, first_of_sign}
 use Rattle.cany_model.specs.Promises.OneView.{HasOneView}
 use Rattle.cany_model.specs.Promises.Order.{HasOneOrder}
@@ -68,10 +68,10 @@ IsAgreedOn scenario s m = IsAgreedFrom scenario s m (first_of_message m s.trace)
 abbrev pub IsSignAgreedFrom : ScenarioParts → RunState → FailureSign → Option ℕ → Type 0
 IsSignAgreedFrom scenario s sign (Some first) =
     (nobody_waits_with_sign s sign && all_read s) ≡ true
-    → (i : ℕ) → IsCorrectFrom scenario s first i → HasSigned scenario s i sign
-    → (j : ℕ) → IsCorrectFrom scenario s first j → HasSigned scenario s j sign
+    → (i : ℕ) → IsCorrectFrom scenario s first i → HasLoggedFailure scenario s i sign
+    → (j : ℕ) → IsCorrectFrom scenario s first j → HasLoggedFailure scenario s j sign
 IsSignAgreedFrom scenario s sign None =
-    nobody_waits_with_sign s sign ≡ true → (i : ℕ) → IsCorrect scenario s i → HasSigned scenario s i sign → ⊥
+    nobody_waits_with_sign s sign ≡ true → (i : ℕ) → IsCorrect scenario s i → HasLoggedFailure scenario s i sign → ⊥
 
 abbrev pub IsSignAgreedOn : ScenarioParts → RunState → FailureSign → Type 0
 IsSignAgreedOn scenario s sign = IsSignAgreedFrom scenario s sign (first_of_sign sign s.trace)

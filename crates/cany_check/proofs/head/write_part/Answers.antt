@@ -11,7 +11,7 @@ pub returns-in-Integrity : goal.returns-in-Integrity
 returns-in-Integrity g c =
     let a = c.args.account.now in
     let judged = c.judgement-judgement.ensures a c.requires ∙ ap (judgement a) c.in-Integrity.is in
-    rw (c.in-Integrity.is, integrity-put a c.judgement-judgement.result judged) c.write_bare.ensures
+    rw (c.in-Integrity.is, integrity-put a c.judgement-judgement.result judged) c.write_judgement.ensures
 
 pub returns-in-Agreement : goal.returns-in-Agreement
 returns-in-Agreement g c =
@@ -54,4 +54,4 @@ pub returns-in-Accuracy : goal.returns-in-Accuracy
 returns-in-Accuracy g c =
     let a = c.args.account.now in
     let judged = c.judgement-judgement.ensures a c.requires ∙ ap (judgement a) c.in-Accuracy.is in
-    rw (c.in-Accuracy.is, accuracy-put a c.judgement-judgement.result judged) c.write_bare-in-Accuracy.ensures
+    rw (c.in-Accuracy.is, accuracy-put a c.judgement-judgement.result judged) c.write_judgement-in-Accuracy.ensures

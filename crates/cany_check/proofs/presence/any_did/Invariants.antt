@@ -7,4 +7,4 @@ use Rattle.cany_check.proofs.presence.any_did.Given as goal
 
 abbrev pub invariant-loop-back : goal.invariant-loop-back
 invariant-loop-back l =
-    list_any (did l.deed l.slot) (drop l.back (incarnations (state_of l.world) l.node)) ≡ list_any (did l.deed l.slot) (incarnations (state_of l.world) l.node)
+    list_any (did l.activity l.slot) (drop l.back (incarnations (state_of l.world) l.node)) ≡ list_any (did l.activity l.slot) (incarnations (state_of l.world) l.node)
