@@ -47,7 +47,7 @@ module _ (scenario : ScenarioParts) (P : ScenarioParts → ℕ → List SlotNote
   AtNode trace i node = P (scenario_for scenario node.present) i trace (past_of i trace node) node.waiting
 
   -- what is shown of a node: that it holds of a new one, and is kept by a slot and by a turn
-  pub record IsReadableNodes : Type 0 where
+  pub record IsReadableNodes : Type 1 where
     pub new : (trace : List SlotNote) (i : ℕ) (node : NodeState) → IsNew scenario trace i node → AtNode trace i node
     pub slot : (sc : ScenarioParts) (i : ℕ) (note : SlotNote) (trace : List SlotNote) (past : List NoticeKind) (waiting : List FrameParts)
         → WaitedWith i note waiting → P sc i trace past waiting → P sc i (note ∷ trace) past (kept_at (given i note) waiting)
