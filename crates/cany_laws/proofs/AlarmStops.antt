@@ -137,7 +137,7 @@ module _ (scenario : ScenarioParts) (i : ℕ) (there : i < scenario.params.nodes
       let m : ℕ = length (run scenario (journal ++ next ∷ [])).trace in
       inr (Among-weaker (StoppedBefore n) (StoppedBefore m) (λ e h. (h.0, h.1, omega (arith, h.2, longer)))
       (incarnations (run scenario (journal ++ next ∷ [])) i)
-      (through_step (StoppedBefore n) (stop_kept n) journal next h))
+      (stays_among (StoppedBefore n) (stop_kept n) journal (next ∷ []) h))
 
   first_slot : (journal : List Step) → runs (node_at (run scenario journal).nodes i) ≡ true → (node_at (run scenario journal).nodes i).present.number ≡ 0
       → RunsOrStopped (after_restarts scenario (after_slot (script scenario.rules) (run scenario journal)))

@@ -23,7 +23,7 @@ use Rattle.cany_base.specs.Nodes.{has}
 use Rattle.cany_base.specs.Scenario.{ScenarioParts}
 use Rattle.cany_model.specs.Bus.Frames.{Identity, identity_of, is_of, same_class}
 use Rattle.cany_model.specs.Bus.History.{as_seen, copies, given, history, is_got, is_sent, seen}
-use Rattle.cany_model.specs.Bus.Slot.{FaultScript, lets_accept, script, slot_note_of}
+use Rattle.cany_model.specs.Bus.Slot.{FaultScript, is_success, lets_accept, script, slot_note_of}
 use Rattle.cany_model.specs.Bus.State.{Incarnation, NodeState, RunState, node_at, reads, runs, slots_run}
 use Rattle.cany_model.specs.Bus.Waiting.{waits}
 use Rattle.cany_model.specs.Promises.Acceptance.{history_to}
