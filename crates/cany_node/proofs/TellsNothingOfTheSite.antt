@@ -86,24 +86,26 @@ no_more c other =
     more_is c (apart is_of_site c class.Fda other refl) (apart is_of_site c class.Rha other refl) (apart is_of_site c class.Join other refl)
     (apart is_of_site c class.Leave other refl)
 
-tells_fda : tells_more class.Fda ≡ true
-unfolding same_class
-tells_fda = refl
+-- a class that tells no more is none of the four that do
+record IsNoneOfFour (c : Class) : Type 0 where
+  fda : same_class c class.Fda ≡ false
+  from_fda : same_class class.Fda c ≡ false
+  rha : same_class c class.Rha ≡ false
+  join : same_class c class.Join ≡ false
+  leave : same_class c class.Leave ≡ false
 
-tells_rha : tells_more class.Rha ≡ true
+none_of_four : (c : Class) → tells_more c ≡ false → IsNoneOfFour c
 unfolding same_class
-tells_rha = refl
-
-tells_join : tells_more class.Join ≡ true
-unfolding same_class
-tells_join = refl
-
-tells_leave : tells_more class.Leave ≡ true
-unfolding same_class
-tells_leave = refl
+none_of_four c other = record {
+  fda = apart tells_more c class.Fda other refl;
+  from_fda = apart_from tells_more c class.Fda other refl;
+  rha = apart tells_more c class.Rha other refl;
+  join = apart tells_more c class.Join other refl;
+  leave = apart tells_more c class.Leave other refl;
+}
 
 no_vector : (format : Format) (cycle : ℕ) (f : FrameParts) → tells_more f.class ≡ false → vector_in format cycle f ≡ None
-no_vector format cycle f other = rw (apart tells_more f.class class.Rha other tells_rha) refl
+no_vector format cycle f other = rw (none_of_four f.class other).rha refl
 
 no_life : (f : FrameParts) → is_of_site f.class ≡ false → shows_life f ≡ false
 unfolding shows_life
@@ -116,17 +118,19 @@ nothing_just v x none = ap (is_just v) none
 
 pub life_at_most_got : (f : FrameParts) → tells_more f.class ≡ false → IsLifeAtMost (Got f)
 unfolding told fda_copy_effects after_ask brought same_identity
-life_at_most_got f other = record {
-  no_copy = apart tells_more f.class class.Fda other tells_fda;
-  sign = λ st. rw (apart tells_more f.class class.Fda other tells_fda) refl;
-  copy = λ omit past. rw (apart tells_more f.class class.Fda other tells_fda) refl;
-  counted = λ sign. rw (apart_from tells_more f.class class.Fda other tells_fda) refl;
-  ask = λ st. rw (apart tells_more f.class class.Join other tells_join, apart tells_more f.class class.Leave other tells_leave) refl;
-  vector = λ p slot. rw (no_vector p.format (slot / p.cycle) f other) (either (Option Nodes) (is_exchange p slot) None);
-  read = λ format cycle i. no_vector format cycle f other;
-  got = λ format cycle v. nothing_just v (vector_in format cycle f) (no_vector format cycle f other);
-  sent = λ format cycle i v. refl;
-}
+life_at_most_got f other =
+    let none = none_of_four f.class other in
+    record {
+      no_copy = none.fda;
+      sign = λ st. rw none.fda refl;
+      copy = λ omit past. rw none.fda refl;
+      counted = λ sign. rw none.from_fda refl;
+      ask = λ st. rw (none.join, none.leave) refl;
+      vector = λ p slot. rw (no_vector p.format (slot / p.cycle) f other) (either (Option Nodes) (is_exchange p slot) None);
+      read = λ format cycle i. no_vector format cycle f other;
+      got = λ format cycle v. nothing_just v (vector_in format cycle f) (no_vector format cycle f other);
+      sent = λ format cycle i v. refl;
+    }
 
 pub life_at_most_sent : (f : FrameParts) → tells_more f.class ≡ false → IsLifeAtMost (Sent f)
 unfolding told fda_copy_effects after_ask brought
@@ -135,7 +139,7 @@ life_at_most_sent f other = record {
   sign = λ st. refl;
   copy = λ omit past. refl;
   counted = λ sign. refl;
-  ask = λ st. rw (apart tells_more f.class class.Leave other tells_leave) refl;
+  ask = λ st. rw (none_of_four f.class other).leave refl;
   vector = λ p slot. refl;
   read = λ format cycle i. ap (λ w. if f.node == i then w else None) (no_vector format cycle f other) ∙ either (Option Nodes) (f.node == i) None;
   got = λ format cycle v. refl;
@@ -143,33 +147,14 @@ life_at_most_sent f other = record {
       ap (λ b. f.node == i && b) (nothing_just v (vector_in format cycle f) (no_vector format cycle f other)) ∙ neither (f.node == i);
 }
 
+-- where no frame is read, each field computes
 pub life_at_most_idle : IsLifeAtMost Idle
 unfolding told fda_copy_effects after_ask brought
-life_at_most_idle = record {
-  no_copy = tt;
-  sign = λ st. refl;
-  copy = λ omit past. refl;
-  counted = λ sign. refl;
-  ask = λ st. refl;
-  vector = λ p slot. refl;
-  read = λ format cycle i. refl;
-  got = λ format cycle v. refl;
-  sent = λ format cycle i v. refl;
-}
+life_at_most_idle = search
 
 pub life_at_most_bad : IsLifeAtMost Bad
 unfolding told fda_copy_effects after_ask brought
-life_at_most_bad = record {
-  no_copy = tt;
-  sign = λ st. refl;
-  copy = λ omit past. refl;
-  counted = λ sign. refl;
-  ask = λ st. refl;
-  vector = λ p slot. refl;
-  read = λ format cycle i. refl;
-  got = λ format cycle v. refl;
-  sent = λ format cycle i v. refl;
-}
+life_at_most_bad = search
 
 pub unheard : (e : NoticeKind) → tells_of_site e ≡ false → IsUnheard e
 unfolding after_life

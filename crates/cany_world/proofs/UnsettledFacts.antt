@@ -1,10 +1,11 @@
 -- Why a message is not settled: what the controllers and the nodes tell of it, and that nobody waits, or has anything ahead, exactly
 -- where the set of those that do is empty.
-use Rattle.std.proofs.Common.{◌≡◌, ℕ, zero, suc, ◌+◌, ◌^◌, ◌<◌, ◌≤◌, ◌↔◌, ◌&&◌, ◌||◌, ◌==◌, Bool, true, false, not, nat_lt, List, [], ◌∷◌, length, All, refl, ap, sym, subst, ◌∙◌, arith, inl, inr}
-use Rattle.std.specs.Prelude.{Some, None, Option, is_none, is_some, slice_get}
+use Rattle.std.proofs.Common.{◌≡◌, ℕ, zero, suc, ◌+◌, ◌^◌, ◌<◌, ◌≤◌, ◌↔◌, ◌&&◌, ◌||◌, ◌==◌, Bool, true, false, not, nat_lt, List, [], ◌∷◌, length, get_or, All, refl, ap, sym, subst, ◌∙◌, arith, inl, inr}
+use Rattle.std.specs.Prelude.{Some, None, Option, is_none, is_some}
 use Rattle.std.specs.List.{list_any, range_with_len}
 use Rattle.std.proofs.lemmas.Bool.{cases_Bool, cases_lt, lt-ltb, true≢false}
 use Rattle.std.proofs.lemmas.List.Elements.{All-head, All-tail}
+use Rattle.std.proofs.lemmas.Option.{slice_get_read}
 use Rattle.cany_base.specs.declared.format.Format.{Format}
 use Rattle.cany_base.specs.declared.format.Format.TheVariants.{One, Two}
 use Rattle.cany_base.specs.declared.step.Step.{Step}
@@ -29,7 +30,7 @@ use Rattle.cany_model.proofs.Runs.Runs.{orderly}
 use Rattle.can_bus.proofs.SetFacts.{SetSoFar, so_far_all, so_far_more}
 use Rattle.can_controller.specs.Controller.{ControllerState}
 use Rattle.can_frame.specs.Identifier.{FitsIdentifier}
-use Rattle.cany_world.specs.Controllers.{awaits}
+use Rattle.cany_world.specs.Controllers.{HaveFormat, awaits}
 use Rattle.cany_world.specs.Kept.{AreControllersOf, IsKeptAs}
 use Rattle.cany_world.specs.Settled.{has_ahead, is_waiting, nodes_ahead, waiting_nodes}
 
@@ -44,13 +45,20 @@ waiting_is scenario s i frames c it = rw (it.stopped, it.waiting) refl
 pub none_waiting : (frames : List Identity) (s : RunState) (i : ℕ) → length s.nodes ≤ i → is_waiting frames s i ≡ false
 none_waiting frames s i past = ap (λ node. runs node && list_any (λ x. waits x node.waiting) frames) (node_at_past s.nodes i past)
 
+-- the controller that is read at a place keeps the format
+pub format_at : (format : Format) (controllers : List ControllerState) (i : ℕ) (c : ControllerState) → HaveFormat format controllers → i < length controllers
+    → c ≡ get_or controllers i c → c.params.format ≡ format
+format_at format controllers i c have within at = have i c (slice_get_read controllers (length controllers) i c refl within at)
+
 -- the set of those that wait, filled node by node
 module _ (scenario : ScenarioParts) (journal : List Step) (frames : List Identity) (controllers : List ControllerState)
     (are : AreControllersOf scenario (run scenario journal) controllers) where
-  pub waiting_more : (old new : Nodes) (i : ℕ) (c : ControllerState) (so : Bool) → slice_get controllers i ≡ Some c → SetSoFar old i (is_waiting frames (run scenario journal))
-      → ((k : ℕ) → has new k ≡ (has old k || (so && k == i))) → so ≡ awaits frames c → SetSoFar new (i + 1) (is_waiting frames (run scenario journal))
-  waiting_more old new i c so at before step is =
-      so_far_more old new i _ so before step (is ∙ waiting_is scenario (run scenario journal) i frames c (are.each i c at))
+  pub waiting_more : (old new : Nodes) (i : ℕ) (c : ControllerState) (so : Bool) → i < length controllers → c ≡ get_or controllers i c
+      → SetSoFar old i (is_waiting frames (run scenario journal)) → ((k : ℕ) → has new k ≡ (has old k || (so && k == i))) → so ≡ awaits frames c
+      → SetSoFar new (i + 1) (is_waiting frames (run scenario journal))
+  waiting_more old new i c so within at before step is =
+      so_far_more old new i _ so before step
+      (is ∙ waiting_is scenario (run scenario journal) i frames c (are.each i c (slice_get_read controllers (length controllers) i c refl within at)))
 
   pub waiting_all : (set : Nodes) (i : ℕ) → i ≤ most_nodes → length controllers ≤ i → SetSoFar set i (is_waiting frames (run scenario journal))
       → set ≡ waiting_nodes frames (run scenario journal)

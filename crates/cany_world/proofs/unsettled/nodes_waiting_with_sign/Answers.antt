@@ -1,23 +1,20 @@
-use Rattle.std.proofs.Common.{◌∷◌, [], refl, arith}
-use Rattle.std.proofs.lemmas.Option.{slice_get_read}
+use Rattle.std.proofs.Common.{◌∷◌, [], arith}
 use Rattle.cany_model.specs.Rules.Knowledge.{fda_of}
 use Rattle.can_bus.proofs.SetFacts.{so_far_none}
-use Rattle.cany_world.proofs.UnsettledFacts.{waiting_all, waiting_more}
+use Rattle.cany_world.proofs.UnsettledFacts.{format_at, waiting_all, waiting_more}
 use Rattle.cany_world.proofs.unsettled.nodes_waiting_with_sign.Goals as goal
 
 pub awaits_sign-requires-clause-format : goal.awaits_sign-requires-clause-format
 awaits_sign-requires-clause-format c =
-    c.requires.format c.loop-i.i c.index-controllers-i.result
-    (slice_get_read c.args.controllers.now _ c.loop-i.i c.index-controllers-i.result refl c.loop-i-test.true c.index-controllers-i.is)
-
-pub loop-i-init : goal.loop-i-init
-loop-i-init c scenario journal are = so_far_none _ _ c.empty-set.ensures.set
+    format_at c.args.format c.args.controllers.now c.loop-i.i c.index-controllers-i.result c.requires.format c.loop-i-test.true c.index-controllers-i.is
 
 pub loop-i-preserved : goal.loop-i-preserved
 loop-i-preserved c scenario journal are =
     waiting_more scenario journal (fda_of (record { node = c.args.node; cycle = c.args.cycle }) ∷ []) c.args.controllers.now are _ _ c.loop-i.i c.index-controllers-i.result _
-    (slice_get_read c.args.controllers.now _ c.loop-i.i c.index-controllers-i.result refl c.loop-i-test.true c.index-controllers-i.is)
-    (c.loop-i.invariant scenario journal are) c.insert_if.ensures c.awaits_sign.ensures
+    c.loop-i-test.true c.index-controllers-i.is (c.loop-i.invariant scenario journal are) c.insert_if.ensures c.awaits_sign.ensures
+
+pub loop-i-init : goal.loop-i-init
+loop-i-init c scenario journal are = so_far_none _ _ c.empty-set.ensures.set
 
 pub returns : goal.returns
 returns c scenario journal are =
