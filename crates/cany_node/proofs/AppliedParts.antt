@@ -8,12 +8,12 @@ use Rattle.cany_base.specs.declared.log_entry.LogEntry.{LogEntry}
 use Rattle.cany_base.specs.Bounded.{Bounded}
 use Rattle.cany_model.specs.Rules.Actions.{action_of, actions_of}
 use Rattle.cany_model.specs.Rules.Effect.{Effect, waiting_after, entered}
+use Rattle.cany_model.proofs.Among.{Each-first, Each-second}
 use Rattle.cany_model.proofs.Promises.SignCounts.{asks_more, els_asks, waiting_few}
 use Rattle.cany_model.proofs.Rules.DeliveryFacts.{entered-append}
 use Rattle.can_controller.specs.Controller.{ControllerState}
 use Rattle.cany_node.specs.Apply.{AreApplied, AreAskable, AreDone, CanApply, NamesAskable, all_stamped, asks_sign, is_sign}
 use Rattle.cany_node.specs.Stamping.{AreStamped, stamped_effect}
-use Rattle.cany_model.proofs.Among.{Each-first, Each-second}
 use Rattle.cany_node.proofs.Applying.{done-none, done-then}
 use Rattle.cany_node.proofs.NextAction.{entered_stamped, signs_asked, signs_stamped, still_askable, still_stamped}
 

@@ -26,9 +26,9 @@ use Rattle.cany_node.specs.Membership.{IsMembershipOf, IsNextOf, MembershipParts
 use Rattle.cany_node.specs.Node.{IsNodeOf, NodeParts}
 use Rattle.cany_node.specs.Resting.{IsIdleUntil, MembershipRests, RelcanRestsUntil, brings_totcan_or_life, is_for_edcan, is_of_totcan_or_life}
 use Rattle.cany_node.specs.Turning.{HasScripted, plain_effects, script_effects}
-use Rattle.cany_node.proofs.Classes.{of_three}
 use Rattle.cany_node.proofs.ActSteps.{AlwaysListed}
 use Rattle.cany_node.proofs.BacklogWaits.{none_asked_next}
+use Rattle.cany_node.proofs.Classes.{of_three}
 use Rattle.cany_node.proofs.HeardTurn.{listed_more, same_room}
 use Rattle.cany_node.proofs.OwnNode.{edcan_now, relcan_now, totcan_now}
 use Rattle.cany_node.proofs.Idle.IdleFacts.{others_in_turn}
